@@ -1,0 +1,5 @@
+pub mod Networks
+pub mod Strategies
+pub mod Bounds
+pub mod Read
+pub mod Drafts
