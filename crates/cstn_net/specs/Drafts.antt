@@ -1,7 +1,6 @@
 -- What a builder holds, and what keeps it from being a network.
 use Rattle.std.specs.Prelude.{ℕ, ◌≡◌, ◌≢◌, ◌<◌, ◌≤◌, ◌+◌, ◌⊎◌, List, [], ◌∷◌, length, map, take}
 use Rattle.std.specs.List.{All, HoldsAt}
-use Rattle.std.specs.declared.alloc.AllocError.{AllocError}
 use Rattle.cstn_label.specs.declared.marks.Mark.TheVariants.{Absent}
 use Rattle.cstn_label.specs.Labels.{Label, IsPlain}
 use Rattle.cstn_label.specs.Read.{marks}
@@ -10,7 +9,7 @@ use Rattle.cstn_net.specs.declared.points.TimePoint.{TimePoint}
 use Rattle.cstn_net.specs.declared.drafts.Draft.{Draft}
 use Rattle.cstn_net.specs.declared.errors.NetError.{NetError}
 use Rattle.cstn_net.specs.declared.errors.NetError.TheVariants.{TooManyNodes, NoOrigin, TooManyConstraints, DeadlineRange, ValueRange, NotObserved, TwoObservers, NotPlain, Memory}
-use Rattle.cstn_net.specs.Networks.{Network, Observes, IsValue, count}
+use Rattle.cstn_net.specs.Networks.{Network, Observes, IsValue}
 use Rattle.cstn_net.specs.Read.{the_constraint, observed, reaction_of}
 
 -- the deadline, the time-points and the constraints that were handed in

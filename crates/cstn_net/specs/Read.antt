@@ -1,5 +1,5 @@
 -- How the values of the program are read.
-use Rattle.std.specs.Prelude.{ℕ, Bool, true, false, ◌==◌, ◌≤◌, ◌<◌, List, [], ◌∷◌, Option, Some, None, map, option_map, if◌then◌else◌, ℤ}
+use Rattle.std.specs.Prelude.{ℕ, Bool, false, ◌==◌, ◌<◌, List, [], ◌∷◌, Option, Some, None, map, option_map, if◌then◌else◌, ℤ}
 use Rattle.cstn_label.specs.Read.{marks}
 use Rattle.cstn_net.specs.declared.constraints.Constraint.{Constraint}
 use Rattle.cstn_net.specs.declared.points.TimePoint.{TimePoint}
