@@ -2,3 +2,4 @@ pub mod Knowledge
 pub mod Dynamic
 pub mod Plain
 pub mod Branch
+mod ObserverLemmas

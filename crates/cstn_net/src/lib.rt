@@ -7,6 +7,7 @@ mod drafts;
 mod errors;
 mod laws;
 mod networks;
+mod observers;
 mod points;
 
 pub use builders::Builder;
