@@ -1,18 +1,18 @@
 -- The table of observers, a time-point at a time.
-use Rattle.std.proofs.Common.{ℕ, zero, suc, ◌≡◌, ◌≢◌, ◌⊎◌, inl, inr, ◌+◌, ◌<◌, ◌≤◌, Option, Some, None, List, [], ◌∷◌, ◌++◌, length, get_or, set, take, map, replicate, arith, refl, sym, subst, ◌∙◌, ap, cond}
+use Rattle.std.proofs.Common.{ℕ, zero, suc, ◌≡◌, ◌⊎◌, inl, inr, ◌+◌, ◌<◌, ◌≤◌, Option, Some, None, List, [], ◌∷◌, ◌++◌, length, get_or, set, take, map, replicate, arith, refl, sym, subst, ◌∙◌, ap, cond, false}
 use Rattle.std.specs.Prelude.{is_some}
 use Rattle.std.specs.Option.{option_map}
-use Rattle.std.proofs.lemmas.Bool.{cases_lt, cases_eq}
+use Rattle.std.proofs.lemmas.Bool.{cases_lt, cases_eq, eq-eqb, ne_eqb}
 use Rattle.std.proofs.lemmas.List.{map_more, length-map, get_or_past, length-take-le, get_or-set_same, get_or-set_other, length-set}
 use Rattle.cstn_label.specs.declared.nodes.NodeId.{NodeId}
 use Rattle.cstn_label.specs.declared.props.Prop.{Prop}
 use Rattle.cstn_label.specs.declared.labels.Label.{Label}
 use Rattle.cstn_label.specs.declared.marks.Mark.TheVariants.{Absent}
-use Rattle.cstn_label.specs.Read.{marks, mark_of}
+use Rattle.cstn_label.specs.Read.{marks}
 use Rattle.cstn_label.proofs.WordLemmas.{has_bit_above}
 use Rattle.cstn_net.specs.declared.points.TimePoint.{TimePoint}
-use Rattle.cstn_net.specs.Read.{observed}
-use Rattle.cstn_net.specs.Observers.{KnowsObservers, IsUnseen, noted}
+use Rattle.cstn_net.specs.Read.{observed, is_prop, reaction_of}
+use Rattle.cstn_net.specs.Observers.{KnowsObservers, noted}
 
 -- a proposition is below 52
 pub prop_below : (o : Option Prop) (q : ℕ) → option_map (λ p. p.index) o ≡ Some q → q < 52
@@ -149,3 +149,43 @@ observers_turn points table new i x t inside at_i is long h made =
     let more = noted_more (map observed (take i points)) table x at_end h (observed t)
     (λ p e. let below = prop_below t.observes p e in omega arith) in
     rw (made, map_more observed points i t inside, sym is) more
+
+is_prop_other : (p : ℕ) (o : Option ℕ) → (o ≡ Some p → ⊥) → is_prop p o ≡ false
+is_prop_other p None other = refl
+is_prop_other p (Some q) other = ne_eqb q p (λ e. other (ap Some e))
+
+-- the reaction of a proposition is that of its first observer
+pub reaction_at : (points : List TimePoint) (p x : ℕ) (d : TimePoint) → get_or (map observed points) x None ≡ Some p →
+    ((y : ℕ) → get_or (map observed points) y None ≡ Some p → x ≤ y) →
+    reaction_of points p ≡ (get_or points x d).reaction
+reaction_at [] p x d e first = cc
+reaction_at (t ∷ ts) p zero d e first = rw (e, eq-eqb p p refl) refl
+reaction_at (t ∷ ts) p (suc x) d e first =
+    rw (is_prop_other p (observed t) (λ here. let upto = first 0 here in absurd (omega arith)))
+    (reaction_at ts p x d e (λ y there. let upto = first (suc y) there in omega arith))
+
+pub reaction_none : (points : List TimePoint) (p : ℕ) → ((x : ℕ) → get_or (map observed points) x None ≡ Some p → ⊥) →
+    reaction_of points p ≡ 1
+reaction_none [] p none = refl
+reaction_none (t ∷ ts) p none =
+    rw (is_prop_other p (observed t) (none 0)) (reaction_none ts p (λ x there. none (suc x) there))
+
+-- the reaction by the table of observers
+pub reaction_by : (points : List TimePoint) (table : List (Option NodeId)) (p : ℕ) (x : NodeId) (d : TimePoint) →
+    KnowsObservers (map observed points) table → get_or table p None ≡ Some x →
+    reaction_of points p ≡ (get_or points x.0 d).reaction
+reaction_by points table p x d h there = reaction_at points p x.0 d (h.right p x there) (λ y at_y.
+    let found = h.first p y at_y in
+    let other = found.1 in
+    let same : found.0 ≡ x = cc in
+    subst (λ z. z.0 ≤ y) same found.2)
+
+pub no_reaction_by : (points : List TimePoint) (table : List (Option NodeId)) (p : ℕ) →
+    KnowsObservers (map observed points) table → get_or table p None ≡ None → reaction_of points p ≡ 1
+no_reaction_by points table p h free = reaction_none points p (λ x there. let found = h.first p x there in let at_p = found.1 in cc)
+
+-- an observer in the table is a time-point
+pub observer_inside : (points : List TimePoint) (table : List (Option NodeId)) (p : ℕ) (x : NodeId) →
+    KnowsObservers (map observed points) table → get_or table p None ≡ Some x → x.0 < length points
+observer_inside points table p x h there =
+    subst (λ n. x.0 < n) (length-map points observed) (stands_within (map observed points) x.0 p (h.right p x there))
