@@ -1,0 +1,35 @@
+// Checks conditional simple temporal networks.
+#![tactic(auto)]
+
+use cstn_io::{FileShelf, InputSource, OutputSink};
+use cstn_top::run;
+use std::alloc::{AllocError, Global};
+use std::process::ExitCode;
+use std::{env, io};
+
+// Memory was refused before a request was read.
+const NO_MEMORY: u8 = 7;
+
+// The system refused the words. No status has this number.
+const NO_WORDS: u8 = 11;
+
+fn main(rt: HostRuntime) -> ExitCode {
+    let words = match env::args(&rt) {
+        Ok(words) => words,
+        Err(e) if e.kind() == io::ErrorKind::OutOfMemory => return ExitCode::from(NO_MEMORY),
+        Err(_) => return ExitCode::from(NO_WORDS),
+    };
+    let Ok(words) = after_first(rt.alloc(), words) else {
+        return ExitCode::from(NO_MEMORY);
+    };
+    let mut shelf = FileShelf::new(rt);
+    let mut live = InputSource::new(rt.stdin());
+    let mut out = OutputSink::new(io::writer(&rt));
+    let status = run(rt.alloc(), &words, &mut shelf, &mut live, &mut out);
+    ExitCode::from(status.number())
+}
+
+// The words after the program's name.
+fn after_first(alloc: Global, args: env::Args) -> Result<Vec<String>, AllocError> {
+    args.skip(1).collect(alloc)
+}

@@ -1,0 +1,14 @@
+use Rattle.std.proofs.Common.{ap}
+use Rattle.std.specs.Prelude.{Err}
+use Rattle.cstn_top.specs.Read.{the_asked}
+use Rattle.cstn_top.proofs.Contents.{is_content}
+use Rattle.cstn_top.proofs.Endings.{file_plan, long_plan}
+use Rattle.cstn_top.proofs.commands.check.check_file.Goals as goal
+
+pub returns-in-Err-TooLong-clause-plan : goal.returns-in-Err-TooLong-clause-plan
+returns-in-Err-TooLong-clause-plan g c =
+    long_plan (the_asked c.args.asked) (g.F.Shelf.files c.args.shelf.now) c.refuse.result (c.in-Err-TooLong.ensures.long (ap Err c.in-Err-TooLong.field-0-is)) c.refuse.ensures.said
+
+pub returns-clause-plan : goal.returns-clause-plan
+returns-clause-plan g c =
+    file_plan (the_asked c.args.asked) (g.F.Shelf.files c.args.shelf.now) c.in-Ok.bytes.items c.decide.result (is_content (g.F.Shelf.files c.args.shelf.now) _ _ c.in-Ok.ensures.file) c.decide.ensures.said

@@ -1,0 +1,19 @@
+-- What was read of the files that words name.
+use Rattle.std.specs.Prelude.{◌≡◌, ℕ, List, [], Option, None, Some, map}
+
+-- the bytes that are there, or none
+abbrev pub bytes_or_none : Option (List ℕ) → List ℕ
+bytes_or_none None = []
+bytes_or_none (Some bytes) = bytes
+
+-- the bytes of a file: none where it isn't there
+abbrev pub file_at : (List ℕ → Option (List ℕ)) → List ℕ → List ℕ
+file_at files name = bytes_or_none (files name)
+
+-- the bytes are those of the named file, where files are told
+abbrev pub IsContent : Option (List ℕ → Option (List ℕ)) → List ℕ → List ℕ → Type 0
+IsContent told name bytes = (files : List ℕ → Option (List ℕ)) → told ≡ Some files → bytes ≡ file_at files name
+
+-- the contents are those of the named files, one after another, where files are told
+abbrev pub AreContents : Option (List ℕ → Option (List ℕ)) → List (List ℕ) → List (List ℕ) → Type 0
+AreContents told names contents = (files : List ℕ → Option (List ℕ)) → told ≡ Some files → contents ≡ map (file_at files) names

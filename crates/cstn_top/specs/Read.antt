@@ -1,0 +1,19 @@
+-- How values of the program are read.
+use Rattle.std.specs.Prelude.{string_bytes}
+use Rattle.cstn_top.specs.Plans.{Said}
+use Rattle.cstn_top.specs.Requests.{Asked, Request, check}
+use Rattle.cstn_top.specs.declared.output.Said.{Said as SaidText}
+use Rattle.cstn_top.specs.declared.words.Asked.{Asked as AskedWords}
+use Rattle.cstn_top.specs.declared.words.Request.{Request as RequestWords}
+use Rattle.cstn_top.specs.declared.words.Request.TheVariants.{Check}
+
+-- what is said
+abbrev pub the_said : SaidText → Said
+the_said said = record { outcome = said.outcome; text = string_bytes said.text }
+
+-- what is asked
+abbrev pub the_asked : AskedWords → Asked
+the_asked asked = record { file = asked.file.now; deadline = asked.deadline }
+
+abbrev pub the_request : RequestWords → Request
+the_request (Check asked) = check (the_asked asked)

@@ -1,0 +1,14 @@
+// One request: its words, its files, and what is written for it.
+#![tactic(auto)]
+
+mod commands;
+mod output;
+mod status;
+mod top;
+mod words;
+
+pub use status::Status;
+pub use top::run;
+
+#[cfg(test)]
+mod tests;

@@ -1,0 +1,51 @@
+// The top call.
+ghost use Rattle.std.specs.Prelude.{◌≡◌, ◌≢◌, ◌⊎◌, ℕ, List, map, string_bytes, IsTrue, IsNone, length, codes};
+ghost use Rattle.std.specs.Option.{option_map};
+ghost use Rattle.std.specs.List.{list_all};
+ghost use Rattle.cstn_io.specs.Causes.{Rose};
+ghost use Rattle.cstn_io.specs.Contents.{with_bytes};
+ghost use Rattle.cstn_top.specs.Texts.{line};
+ghost use Rattle.cstn_top.specs.Requests.{request_of, names_of};
+ghost use Rattle.cstn_top.specs.Files.{AreContents};
+ghost use Rattle.cstn_top.specs.Plans.{Live, Ends, Untouched};
+ghost use Rattle.cstn_top.specs.Outputs.{plan_of, ReadsLive, MayStop};
+
+use crate::Status;
+use crate::commands::{Refused, prepare};
+use crate::output::finish;
+use crate::words::parse;
+use cstn_io::{Shelf, Sink, Source};
+use std::alloc::Global;
+
+/// Answers one request: writes what it says to `out`, and tells how it ended.
+pub fn run<F: Shelf, S: Source, K: Sink>(
+    alloc: Global,
+    words: &[String],
+    shelf: &mut F,
+    live: &mut S,
+    out: &mut K,
+) -> Status
+    requires may_ask { IsTrue (list_all (F.may_ask shelf.old) (names_of (request_of (map string_bytes words.now)))) }
+    ensures output { let before : Live = record { left = S.left live.old; faults = S.faults live.old } in
+        let after : Live = record { left = S.left live.new; faults = S.faults live.new } in
+        (contents : List (List ℕ)) × AreContents (F.files shelf.old) (names_of (request_of (map string_bytes words.now))) contents ×
+        Ends (plan_of (request_of (map string_bytes words.now)) contents) before after (K.written out.old) (K.written out.new) result ×
+        Untouched (plan_of (request_of (map string_bytes words.now)) contents) live.old live.new }
+    ensures flushed { result ≢ Status.WriteFault → K.flushed out.new ≡ option_map length (K.written out.new) }
+    ensures read_fault { result ≡ Status.ReadFault → Rose (F.faults shelf.old) (F.faults shelf.new) ⊎ (ReadsLive (request_of (map string_bytes words.now)) × Rose (S.faults live.old) (S.faults live.new)) }
+    ensures write_fault { result ≡ Status.WriteFault → Rose (K.faults out.old) (K.faults out.new) }
+    ensures live { ReadsLive (request_of (map string_bytes words.now)) ⊎ (live.new ≡ live.old) }
+    ensures memory { result ≡ Status.Memory → MayStop (request_of (map string_bytes words.now)) ⊎ (K.written out.new ≡ with_bytes (K.written out.old) (line (codes "memory"))) }
+    ensures words { IsNone (request_of (map string_bytes words.now)) → (result ≡ Status.Words) ⊎ (result ≡ Status.WriteFault) }
+    ensures words_only { result ≡ Status.Words → IsNone (request_of (map string_bytes words.now)) }
+    ensures words_stand { IsNone (request_of (map string_bytes words.now)) → shelf.new ≡ shelf.old }
+{
+    let Some(request) = parse(words) else {
+        return finish(out, b"words\n", Status::Words);
+    };
+    match prepare(alloc, request, shelf) {
+        Ok(said) => finish(out, said.text.as_bytes(), said.outcome.status()),
+        Err(Refused::ReadFault) => finish(out, b"read fault\n", Status::ReadFault),
+        Err(Refused::Memory) => finish(out, b"memory\n", Status::Memory),
+    }
+}
