@@ -2,3 +2,11 @@ pub mod Numbers
 pub mod Written
 pub mod Contents
 pub mod Endings
+mod LogSteps
+mod LogSound
+mod LogTops
+mod LogAnswered
+mod LogKept
+mod LogLatest
+mod LogTurns
+mod LogDecides

@@ -5,3 +5,5 @@ pub mod Files
 pub mod Plans
 pub mod Outputs
 pub mod Read
+pub mod Growth
+pub mod Logs

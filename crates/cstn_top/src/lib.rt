@@ -2,6 +2,7 @@
 #![tactic(auto)]
 
 mod commands;
+mod growth;
 mod output;
 mod status;
 mod top;
