@@ -105,7 +105,7 @@ impl Names {
 }
 
 // Whether a text has 1 to 64 bytes.
-fn has_shape(name: &str) -> bool
+pub(crate) fn has_shape(name: &str) -> bool
     ensures { result ≡ (nat_lt 0 (length name.now) && nat_le (length name.now) 64) }
 {
     !name.is_empty() && name.len() <= 64
