@@ -1,0 +1,4 @@
+pub mod Knowledge
+pub mod Dynamic
+pub mod Plain
+pub mod Branch
