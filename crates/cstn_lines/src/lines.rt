@@ -5,6 +5,7 @@ ghost use Rattle.cstn_io.specs.Contents.{after_bytes, IsAtEnd};
 ghost use Rattle.cstn_lines.specs.Pieces.{IsCut, HasEnd, HasNoEnd};
 ghost use Rattle.cstn_lines.specs.Steps.{LinesState, Steps, IsPast, wrong_at};
 
+use crate::places::first_place;
 use cstn_io::{Failed, Source};
 use std::alloc::{AllocError, Global};
 use std::marker::Model;
@@ -223,14 +224,10 @@ impl Lines {
 }
 
 // Where the first line ends.
+#[tactic(auto, using(crate::proofs::PieceLemmas::cut_if, crate::proofs::PieceLemmas::open_if))]
 fn find_end(bytes: &[u8]) -> Option<usize>
     ensures cut { IfSome result (IsCut bytes.now) }
     ensures none { IfNone result (HasNoEnd bytes.now) }
 {
-    for (i, b) in bytes.iter().enumerate() {
-        if *b == b'\n' {
-            return Some(i);
-        }
-    }
-    None
+    first_place(bytes, b'\n')
 }
