@@ -7,3 +7,6 @@ mod places;
 
 pub use lines::{Lines, Next};
 pub use live::{LiveLine, read_live};
+
+#[cfg(test)]
+mod tests;

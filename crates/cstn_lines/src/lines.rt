@@ -213,13 +213,11 @@ impl Lines {
         ensures later { S.faults source.old ≤ S.faults source.new }
         ensures fault { result ≡ Next.Fault → Rose (S.faults source.old) (S.faults source.new) }
     {
-        if let Some(next) = self.cut() {
-            return next;
+        match self.cut() {
+            Some(next) => next,
+            None if self.ended => self.finish(),
+            None => self.read_on(source),
         }
-        if self.ended {
-            return self.finish();
-        }
-        self.read_on(source)
     }
 }
 
