@@ -1,0 +1,36 @@
+// A sink of bytes.
+ghost use Rattle.std.specs.Prelude.{◌≡◌, ◌<◌, ℕ, List, Option, length, is_some, OnOk, OnErr};
+ghost use Rattle.std.specs.Option.{option_map};
+ghost use Rattle.cstn_io.specs.Causes.{HasCause};
+ghost use Rattle.cstn_io.specs.Contents.{Adds};
+
+use crate::Failed;
+
+/// A sink of bytes. Its failures are counted, and the bytes written are told or not: no call changes which.
+pub trait Sink {
+    /// How many calls failed. The count stands at 2^64 - 1.
+    ghost faults: { Self → ℕ };
+
+    /// The bytes written, where they are told.
+    ghost written: { Self → Option (List ℕ) };
+
+    /// How many of them were flushed, where that is told.
+    ghost flushed: { Self → Option ℕ };
+
+    /// Adds bytes from the front of the piece, at least one, and says how many.
+    fn write(&mut self, piece: &[u8]) -> Result<usize, Failed>
+        requires { 0 < length piece.now }
+        ensures bytes { Adds (written self.old) (written self.new) result piece.now }
+        ensures flushed { flushed self.new ≡ flushed self.old }
+        ensures cause { HasCause (faults self.old) (faults self.new) result };
+
+    /// After it all written bytes are flushed.
+    fn flush(&mut self) -> Result<(), Failed>
+        ensures bytes { written self.new ≡ written self.old }
+        ensures flushed { OnOk result (flushed self.new ≡ option_map length (written self.new)) }
+        ensures refused { OnErr result (flushed self.new ≡ flushed self.old) }
+        ensures cause { HasCause (faults self.old) (faults self.new) result };
+
+    /// A sink that tells what was written tells how much of it was flushed.
+    ghost told: { (sink : Self) → is_some (flushed sink) ≡ is_some (written sink) };
+}

@@ -1,0 +1,21 @@
+// A live source of bytes.
+ghost use Rattle.std.specs.Prelude.{◌<◌, ℕ, List, Option, length};
+ghost use Rattle.cstn_io.specs.Causes.{HasCause};
+ghost use Rattle.cstn_io.specs.Contents.{Takes};
+
+use crate::Failed;
+
+/// A live source of bytes. Its failures are counted, and the bytes left are told or not: no call changes which.
+pub trait Source {
+    /// How many calls failed. The count stands at 2^64 - 1.
+    ghost faults: { Self → ℕ };
+
+    /// The bytes left, where they are told.
+    ghost left: { Self → Option (List ℕ) };
+
+    /// Takes bytes into the front of `into`, and says how many. 0 is the end.
+    fn read(&mut self, into: &mut [u8]) -> Result<usize, Failed>
+        requires { 0 < length into.old }
+        ensures bytes { Takes (left self.old) (left self.new) result into.new }
+        ensures cause { HasCause (faults self.old) (faults self.new) result };
+}

@@ -1,0 +1,40 @@
+-- Bytes as lines.
+use Rattle.std.specs.Prelude.{◌≡◌, ◌≢◌, ℕ, ◌<◌, ◌^◌, Bool, nat_lt, ◌||◌, ◌==◌, if◌then◌else◌, List, [], ◌∷◌, length, get_or}
+
+-- the byte begins the first line
+abbrev pub onto : ℕ → List (List ℕ) → List (List ℕ)
+onto b [] = (b ∷ []) ∷ []
+onto b (line ∷ lines) = (b ∷ line) ∷ lines
+
+-- The lines of some bytes. Each ends with LF, but the last may lack it.
+abbrev pub lines_of : List ℕ → List (List ℕ)
+lines_of [] = []
+lines_of (b ∷ bs) = if b == 10 then [] ∷ lines_of bs else onto b (lines_of bs)
+
+-- the byte begins the first line, if there is one
+abbrev pub onto_some : ℕ → List (List ℕ) → List (List ℕ)
+onto_some b [] = []
+onto_some b (line ∷ lines) = (b ∷ line) ∷ lines
+
+-- the lines of some bytes that end with LF
+abbrev pub whole_lines : List ℕ → List (List ℕ)
+whole_lines [] = []
+whole_lines (b ∷ bs) = if b == 10 then [] ∷ whole_lines bs else onto_some b (whole_lines bs)
+
+-- the bytes are cut at i, by the first LF
+pub record IsCut (bs : List ℕ) (i : ℕ) : Type 0 where
+  pub inside : i < length bs
+  pub ends : get_or bs i 0 ≡ 10
+  pub before : (k : ℕ) → k < i → get_or bs k 0 ≢ 10
+
+-- a byte is LF
+abbrev pub HasEnd : List ℕ → Type 0
+HasEnd bs = (k : ℕ) × (k < length bs) × (get_or bs k 0 ≡ 10)
+
+-- no byte is LF
+abbrev pub HasNoEnd : List ℕ → Type 0
+HasNoEnd bs = (k : ℕ) → k < length bs → get_or bs k 0 ≢ 10
+
+-- a line of that number is of no grammar: it is too long, or comes too late
+abbrev pub is_past : ℕ → List ℕ → Bool
+is_past number line = nat_lt 4096 (length line) || nat_lt (2 ^ 24) number

@@ -1,0 +1,57 @@
+-- Steps through the lines of a source.
+use Rattle.std.specs.Prelude.{◌≡◌, ℕ, ◌+◌, Bool, true, false, List, [], ◌∷◌, ◌++◌}
+use Rattle.cstn_lines.specs.Pieces.{lines_of, whole_lines, is_past}
+use Rattle.cstn_lines.specs.declared.lines.Next.{Next}
+use Rattle.cstn_lines.specs.declared.lines.Next.TheVariants.{Line, End, Wrong, Fault}
+
+-- the line handed out last, what was taken and not handed out, how many lines were, and whether the source has ended
+pub record LinesState : Type 0 where
+  pub line : List ℕ
+  pub kept : List ℕ
+  pub count : ℕ
+  pub ended : Bool
+
+-- the first line of these bytes, after so many lines, was handed out, whatever follows
+pub record HandsOut (bytes : List ℕ) (count : ℕ) (after : LinesState) (number : ℕ) : Type 0 where
+  pub is_number : number ≡ count + 1
+  pub counts : after.count ≡ count + 1
+  pub lines : (rest : List ℕ) → (after.ended ≡ true → rest ≡ []) → lines_of (bytes ++ rest) ≡ after.line ∷ lines_of (after.kept ++ rest)
+  pub whole : (rest : List ℕ) → after.ended ≡ false → whole_lines (bytes ++ rest) ≡ after.line ∷ whole_lines (after.kept ++ rest)
+  pub short : is_past number after.line ≡ false
+
+-- the next line is of no grammar, whatever follows what is kept of it
+abbrev pub IsPast : LinesState → Type 0
+IsPast state = (line : List ℕ) × (lines : List (List ℕ)) × (lines_of state.kept ≡ line ∷ lines) × (is_past (state.count + 1) line ≡ true)
+
+-- what is said of such a line
+abbrev pub wrong_at : ℕ → Next
+wrong_at number = Wrong number
+
+-- there is no line left
+pub record IsOver (bytes : List ℕ) (count : ℕ) (after : LinesState) : Type 0 where
+  pub none : bytes ≡ []
+  pub kept : after.kept ≡ []
+  pub counts : after.count ≡ count
+  pub ended : after.ended ≡ true
+
+-- the first line of these bytes is of no grammar, whatever follows
+pub record IsRefused (bytes : List ℕ) (count : ℕ) (after : LinesState) (number : ℕ) : Type 0 where
+  pub is_number : number ≡ count + 1
+  pub next : (rest : List ℕ) → (line : List ℕ) × (lines : List (List ℕ)) × (lines_of (bytes ++ rest) ≡ line ∷ lines) × (is_past number line ≡ true)
+  pub kept : after.kept ≡ bytes
+  pub counts : after.count ≡ count
+  pub stays : IsPast after
+
+-- the source failed in the first line of these bytes
+pub record IsBroken (bytes : List ℕ) (count : ℕ) (after : LinesState) : Type 0 where
+  pub kept : after.kept ≡ bytes
+  pub none : whole_lines bytes ≡ []
+  pub counts : after.count ≡ count
+  pub ended : after.ended ≡ false
+
+-- what a step says of these bytes, after so many lines
+abbrev pub Steps : List ℕ → ℕ → LinesState → Next → Type 0
+Steps bytes count after (Line number) = HandsOut bytes count after number
+Steps bytes count after End = IsOver bytes count after
+Steps bytes count after (Wrong number) = IsRefused bytes count after number
+Steps bytes count after Fault = IsBroken bytes count after

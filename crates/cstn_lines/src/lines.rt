@@ -1,0 +1,231 @@
+// The lines of a live source.
+ghost use Rattle.std.specs.Prelude.{◌≡◌, ◌≢◌, ◌≤◌, ◌<◌, ◌+◌, ◌^◌, ◌++◌, ℕ, List, Some, None, [], true, false, length, take, drop, IfOk, IfSome, IfNone, OnOk, OnErr, MatchResult};
+ghost use Rattle.cstn_io.specs.Causes.{Rose, HasCause};
+ghost use Rattle.cstn_io.specs.Contents.{after_bytes, IsAtEnd};
+ghost use Rattle.cstn_lines.specs.Pieces.{IsCut, HasEnd, HasNoEnd};
+ghost use Rattle.cstn_lines.specs.Steps.{LinesState, Steps, IsPast, wrong_at};
+
+use crate::places::first_place;
+use cstn_io::{Failed, Source};
+use std::alloc::{AllocError, Global};
+use std::marker::Model;
+
+// How many bytes a line has at most, without its LF.
+const LONGEST: usize = 4096;
+
+// How many lines there are at most.
+const MOST: u32 = 16_777_216;
+
+/// What a step through the lines of a source says. Lines are numbered from 1.
+#[derive(Clone, Copy, Debug, PartialEq, Eq)]
+pub enum Next {
+    /// The next line, which `Lines::line` lends.
+    Line { number: u32 },
+    /// There is no line left.
+    End,
+    /// The next line has more than 4,096 bytes, or would be line 16,777,217.
+    Wrong { number: u32 },
+    /// A read failed, and was counted. What was taken of the line is kept.
+    Fault,
+}
+
+/// Cuts a source into lines. Each ends with LF, but the last may lack it.
+#[derive(Drop)]
+pub struct Lines {
+    bytes: Vec<u8>,
+    first: usize,
+    last: usize,
+    start: usize,
+    count: u32,
+    ended: bool,
+}
+
+impl Model for Lines {
+    ghost use Rattle.std.specs.Prelude.{◌≤◌, ◌-◌, ◌^◌, take, drop, length, vec_len, vec_capacity};
+    ghost use Rattle.cstn_lines.specs.Steps.{LinesState};
+
+    ghost Value = { LinesState };
+
+    ghost view = { λ s. record { line = take (s.last - s.first) (drop s.first s.bytes.items); kept = drop s.start s.bytes.items; count = s.count; ended = s.ended } };
+
+    ghost invariant = { λ s. (s.first ≤ s.last) × (s.last ≤ s.start) × (s.start ≤ length s.bytes.items) × (length s.bytes.items ≤ 4097) × (4097 ≤ vec_capacity s.bytes) × (s.count ≤ 2 ^ 24) };
+}
+
+impl Lines {
+    /// Takes the room for a line, and none later.
+    pub fn start(alloc: Global) -> Result<Lines, AllocError>
+        ensures { IfOk result (λ s. s ≡ record { line = []; kept = []; count = 0; ended = false }) }
+    {
+        let bytes = Vec::with_capacity(alloc, LONGEST + 1)?;
+        Ok(Lines {
+            bytes,
+            first: 0,
+            last: 0,
+            start: 0,
+            count: 0,
+            ended: false,
+        })
+    }
+
+    /// The line that was handed out last, without its LF.
+    pub fn line(&self) -> &[u8]
+        ensures { result.now ≡ self.now.line }
+    {
+        &self.bytes[self.first..self.last]
+    }
+
+    fn kept(&self) -> &[u8]
+        ensures { result.now ≡ self.now.kept }
+    {
+        &self.bytes[self.start..]
+    }
+
+    // The next line of what is kept, where it is whole or past what a grammar has.
+    fn cut(&mut self) -> Option<Next>
+        ensures past { IsPast self.old → (result ≡ Some (wrong_at (self.old.count + 1))) × (self.new ≡ self.old) }
+        ensures steps { IfSome result (Steps self.old.kept self.old.count self.new) }
+        ensures some { IfSome result (λ _. 0 < length self.old.kept) }
+        ensures same { IfNone result (self.new ≡ self.old) }
+        ensures none { IfNone result (HasNoEnd self.old.kept) }
+        ensures short { IfNone result (length self.old.kept ≤ 4096) }
+        ensures count { IfNone result (0 < length self.old.kept → self.old.count < 2 ^ 24) }
+        ensures ended { self.new.ended ≡ self.old.ended }
+        ensures fault { result ≢ Some Next.Fault }
+    {
+        let kept = self.kept();
+        if kept.is_empty() {
+            return None;
+        }
+        if self.count == MOST {
+            return Some(Next::Wrong { number: MOST + 1 });
+        }
+        match find_end(kept) {
+            Some(i) => {
+                let start = self.start;
+                self.first = start;
+                self.last = start + i;
+                self.start = start + i + 1;
+                self.count += 1;
+                Some(Next::Line { number: self.count })
+            }
+            None if kept.len() > LONGEST => Some(Next::Wrong {
+                number: self.count + 1,
+            }),
+            None => None,
+        }
+    }
+
+    // The last line, which has no end.
+    fn finish(&mut self) -> Next
+        requires none { HasNoEnd self.old.kept }
+        requires short { length self.old.kept ≤ 4096 }
+        requires count { 0 < length self.old.kept → self.old.count < 2 ^ 24 }
+        requires ended { self.old.ended ≡ true }
+        ensures steps { Steps self.old.kept self.old.count self.new result }
+        ensures ended { self.new.ended ≡ true }
+        ensures again { self.old.kept ≡ [] → (result ≡ Next.End) × (self.new ≡ self.old) }
+        ensures fault { result ≢ Next.Fault }
+    {
+        let start = self.start;
+        let len = self.bytes.len();
+        if start == len {
+            return Next::End;
+        }
+        self.first = start;
+        self.last = len;
+        self.start = len;
+        self.count += 1;
+        Next::Line { number: self.count }
+    }
+
+    // Takes more bytes.
+    fn fill<S: Source>(&mut self, source: &mut S) -> Result<usize, Failed>
+        requires short { length self.old.kept ≤ 4096 }
+        requires ended { self.old.ended ≡ false }
+        ensures taken { (taken : List ℕ) × (self.new.kept ≡ self.old.kept ++ taken) × (S.left source.old ≡ after_bytes taken (S.left source.new)) × MatchResult result (λ n. n ≡ length taken) (λ _. taken ≡ []) }
+        ensures count { self.new.count ≡ self.old.count }
+        ensures ended { self.new.ended ≡ true → IsAtEnd (S.left source.new) }
+        ensures zero { IfOk result (λ n. n ≡ 0 → self.new.ended ≡ true) }
+        ensures more { IfOk result (λ n. 0 < n → self.new.ended ≡ false) }
+        ensures going { OnErr result (self.new.ended ≡ false) }
+        ensures cause { HasCause (S.faults source.old) (S.faults source.new) result }
+    {
+        let len = self.bytes.len();
+        let start = self.start;
+        self.bytes.copy_within(start..len, 0);
+        self.bytes.truncate(len - start);
+        self.first = 0;
+        self.last = 0;
+        self.start = 0;
+        let mut piece = [0u8; LONGEST + 1];
+        let room = LONGEST + 1 - self.bytes.len();
+        match source.read(&mut piece[..room]) {
+            Ok(0) => {
+                self.ended = true;
+                Ok(0)
+            }
+            Ok(count) => {
+                self.bytes.extend_from_slice(&piece[..count]).unwrap();
+                Ok(count)
+            }
+            Err(Failed) => Err(Failed),
+        }
+    }
+
+    // Reads until the next line is whole, or past what a grammar has, or the last.
+    fn read_on<S: Source>(&mut self, source: &mut S) -> Next
+        requires none { HasNoEnd self.old.kept }
+        requires short { length self.old.kept ≤ 4096 }
+        requires count { 0 < length self.old.kept → self.old.count < 2 ^ 24 }
+        requires ended { self.old.ended ≡ false }
+        ensures steps { (taken : List ℕ) × (S.left source.old ≡ after_bytes taken (S.left source.new)) × Steps (self.old.kept ++ taken) self.old.count self.new result }
+        ensures ended { self.new.ended ≡ true → IsAtEnd (S.left source.new) }
+        ensures later { S.faults source.old ≤ S.faults source.new }
+        ensures fault { result ≡ Next.Fault → Rose (S.faults source.old) (S.faults source.new) }
+    {
+        'pieces: loop {
+            match self.fill(source) {
+                Ok(0) => return self.finish(),
+                Ok(_) => {}
+                Err(Failed) => return Next::Fault,
+            }
+            if let Some(next) = self.cut() {
+                return next;
+            }
+        }
+    }
+
+    /// The next line. It is kept whole, or past what a grammar has, or the source has ended: then nothing is
+    /// read. After `End` and `Wrong` each step says the same again.
+    pub fn step<S: Source>(&mut self, source: &mut S) -> Next
+        ensures steps { (taken : List ℕ) × (S.left source.old ≡ after_bytes taken (S.left source.new)) × (self.old.ended ≡ true → taken ≡ []) × Steps (self.old.kept ++ taken) self.old.count self.new result }
+
+        ensures stays { self.old.ended ≡ true → self.new.ended ≡ true }
+        ensures ended { (self.old.ended ≡ true → IsAtEnd (S.left source.old)) → self.new.ended ≡ true → IsAtEnd (S.left source.new) }
+
+        ensures idle { self.old.ended ≡ true → source.new ≡ source.old }
+        ensures idle_whole { HasEnd self.old.kept → source.new ≡ source.old }
+        ensures idle_past { IsPast self.old → source.new ≡ source.old }
+
+        ensures end_again { self.old.ended ≡ true → self.old.kept ≡ [] → (result ≡ Next.End) × (self.new ≡ self.old) }
+        ensures wrong_again { IsPast self.old → (result ≡ wrong_at (self.old.count + 1)) × (self.new ≡ self.old) }
+
+        ensures later { S.faults source.old ≤ S.faults source.new }
+        ensures fault { result ≡ Next.Fault → Rose (S.faults source.old) (S.faults source.new) }
+    {
+        match self.cut() {
+            Some(next) => next,
+            None if self.ended => self.finish(),
+            None => self.read_on(source),
+        }
+    }
+}
+
+// Where the first line ends.
+#[tactic(auto, using(crate::proofs::PieceLemmas::cut_if, crate::proofs::PieceLemmas::open_if))]
+fn find_end(bytes: &[u8]) -> Option<usize>
+    ensures cut { IfSome result (IsCut bytes.now) }
+    ensures none { IfNone result (HasNoEnd bytes.now) }
+{
+    first_place(bytes, b'\n')
+}

@@ -1,0 +1,101 @@
+ghost use Rattle.std.specs.Prelude.{◌<◌};
+
+use crate::{LiveLine, Lines, Next, read_live};
+use cstn_io::MemorySource;
+use cstn_label::Prop;
+use std::alloc::{AllocError, Global};
+use std::process::Abort;
+use std::test::Fail;
+
+// A source of these bytes, of which these calls fail.
+fn source_of(
+    alloc: Global,
+    bytes: &[u8],
+    failing: &[u64],
+    most: usize,
+) -> Result<MemorySource, AllocError>
+    requires { 0 < most }
+{
+    Ok(MemorySource::new(
+        bytes.to_vec(alloc)?,
+        failing.to_vec(alloc)?,
+        most,
+    ))
+}
+
+// The next step hands out this line.
+fn expect_line(
+    rt: &impl Abort,
+    lines: &mut Lines,
+    source: &mut MemorySource,
+    number: u32,
+    line: &[u8],
+) {
+    assert_eq!(rt; lines.step(source), Next::Line { number });
+    assert_eq!(rt; lines.line(), line);
+}
+
+#[test]
+fn lines_in_any_pieces(rt: HostRuntime) -> Result<(), Fail> {
+    let alloc = rt.alloc();
+    for most in [1, 3, 100] {
+        let mut source = source_of(alloc, b"due\n\nmoment 0", &[], most)?;
+        let mut lines = Lines::start(alloc)?;
+        expect_line(&rt, &mut lines, &mut source, 1, b"due");
+        expect_line(&rt, &mut lines, &mut source, 2, b"");
+        expect_line(&rt, &mut lines, &mut source, 3, b"moment 0");
+        assert_eq!(rt; lines.step(&mut source), Next::End);
+        assert_eq!(rt; lines.step(&mut source), Next::End);
+    }
+    Ok(())
+}
+
+#[test]
+fn longest_line(rt: HostRuntime) -> Result<(), Fail> {
+    let alloc = rt.alloc();
+    let longest = vec![in alloc; b'x'; 4096]?;
+    let mut source = source_of(alloc, &longest, &[], 1000)?;
+    let mut lines = Lines::start(alloc)?;
+    expect_line(&rt, &mut lines, &mut source, 1, &longest);
+    assert_eq!(rt; lines.step(&mut source), Next::End);
+
+    let longer = vec![in alloc; b'x'; 4097]?;
+    let mut source = source_of(alloc, &longer, &[], 1000)?;
+    let mut lines = Lines::start(alloc)?;
+    assert_eq!(rt; lines.step(&mut source), Next::Wrong { number: 1 });
+    assert_eq!(rt; lines.step(&mut source), Next::Wrong { number: 1 });
+    Ok(())
+}
+
+#[test]
+fn fault_in_a_line(rt: HostRuntime) -> Result<(), Fail> {
+    let alloc = rt.alloc();
+    let mut source = source_of(alloc, b"see p true\n", &[1], 5)?;
+    let mut lines = Lines::start(alloc)?;
+    assert_eq!(rt; lines.step(&mut source), Next::Fault);
+    expect_line(&rt, &mut lines, &mut source, 1, b"see p true");
+    Ok(())
+}
+
+// These bytes are no live line.
+fn expect_none(rt: &impl Abort, bytes: &[u8]) {
+    assert_eq!(rt; read_live(bytes), None);
+}
+
+#[test]
+fn live_lines(rt: HostRuntime) -> Result<(), Fail> {
+    assert_eq!(rt; read_live(b"due"), Some(LiveLine::Due));
+    assert_eq!(rt; read_live(b"moment 4294967295"), Some(LiveLine::Moment { t: 4_294_967_295 }));
+    let seen = Prop::from_letter(b'p').map(|prop| LiveLine::See { prop, value: false });
+    assert_eq!(rt; read_live(b"see p false"), seen);
+    expect_none(&rt, b"moment");
+    expect_none(&rt, b"moment 00");
+    expect_none(&rt, b"moment 4294967296");
+    expect_none(&rt, b"moment 1 ");
+    expect_none(&rt, b"see pp true");
+    expect_none(&rt, b"see p yes");
+    expect_none(&rt, b"");
+    expect_none(&rt, b" due");
+    expect_none(&rt, b"due\r");
+    Ok(())
+}
