@@ -116,15 +116,16 @@ taken_born {T} births slot value slots inside born = record {
   before = λ i e is. elim (there i e is) [ inl new ↦ omega (arith, new.1) | inr old ↦ omega (arith, born.before i e old) ];
   apart = λ i j e f is others same.
       elim (there i e is) [
-        inl new ↦ elim (there j f others) [ inl also ↦ new.0 ∙ sym also.0 | inr old ↦ absurd (omega (arith, born.before j f old, new.1, same)) ]
-      | inr old ↦ elim (there j f others) [ inl new ↦ absurd (omega (arith, born.before i e old, new.1, same)) | inr older ↦ born.apart i j e f old older same ]
+        | inl new ↦ elim (there j f others) [ inl also ↦ new.0 ∙ sym also.0 | inr old ↦ absurd (omega (arith, born.before j f old, new.1, same)) ]
+        | inr old ↦ elim (there j f others) [ inl new ↦ absurd (omega (arith, born.before i e old, new.1, same)) | inr older ↦ born.apart i j e f old older same ]
       ];
 }
   where
     there : (i : ℕ) (e : ℕ × T) → get_or (set slots slot (Some (births, value))) i None ≡ Some e → ((i ≡ slot) × (e.0 ≡ births)) ⊎ (get_or slots i None ≡ Some e)
     there i e is = elim (cases_eq i slot) [
-        inl same ↦ inl (same, let here : Some (births, value) ≡ Some e = sym (get_or-set_same slots slot (Some (births, value)) None inside) ∙ rw same at is in ap (λ p. p.0) (sym (same_Some (births, value) e here)))
-      | inr other ↦ inr (sym (get_or-set_other slots slot i (Some (births, value)) None other) ∙ is) ]
+      | inl same ↦ inl (same, let here : Some (births, value) ≡ Some e = sym (get_or-set_same slots slot (Some (births, value)) None inside) ∙ rw same at is in ap (λ p. p.0) (sym (same_Some (births, value) e here)))
+      | inr other ↦ inr (sym (get_or-set_other slots slot i (Some (births, value)) None other) ∙ is)
+    ]
 
 -- no slot is in use
 pub none_born : {T : Type 0} (births : ℕ) (slots : List (Option (ℕ × T))) → ((i : ℕ) → get_or slots i None ≡ None) → IsBorn births slots
@@ -144,3 +145,7 @@ emptied {T} slots n len none =
 pub none_more : {T : Type 0} (slots : List (Option (ℕ × T))) (i : ℕ) → i < length slots → ((k : ℕ) → k < i → get_or slots k None ≡ None) → (k : ℕ) → k < i + 1 → get_or (set slots i None) k None ≡ None
 none_more slots i inside none k h =
     elim (cases_eq k i) [ inl same ↦ rw same (get_or-set_same slots i None None inside) | inr other ↦ get_or-set_other slots i k None None other ∙ none k (omega arith) ]
+
+-- where a slot is free there is room
+pub room_of : {T : Type 0} (slots : List (Option (ℕ × T))) (rest : List ℕ) (slot : ℕ) → IsFree slots (rest ++ slot ∷ []) → live_of slots < length slots
+room_of slots rest slot free = omega (arith, free.count, length-append rest (slot ∷ []))

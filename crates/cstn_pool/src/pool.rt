@@ -1,11 +1,11 @@
-ghost use Rattle.std.specs.Prelude.{◌≡◌, ◌<◌, ◌≤◌, ◌+◌, ◌^◌, ◌↔◌, Some, None, length, IfOk, OnErr, IsErr, IsSome, IfNone, IfSome, [], slice_set, slice_get, replicate};
+ghost use Rattle.std.specs.Prelude.{◌≡◌, ◌<◌, ◌≤◌, ◌+◌, ◌^◌, ◌↔◌, Some, None, length, IfOk, OnErr, IsErr, IsOk, IsSome, ℕ, List, IfNone, IfSome, [], slice_set, slice_get, replicate};
 ghost use Rattle.cstn_pool.specs.Slots.{Slots, IsBorn, live_of, value_at};
+ghost use Rattle.cstn_pool.specs.Calls.{Call, AfterCalls};
 
+use crate::slot_id::SlotId;
 use std::alloc::{AllocError, Global};
 use std::marker::Model;
 use thiserror::Error;
-
-use crate::slot_id::SlotId;
 
 /// Every slot of the pool is in use.
 #[derive(Clone, Copy, Debug, PartialEq, Eq, Error)]
@@ -64,6 +64,9 @@ impl<T: Copy> Pool<T> {
         ensures empty { IfOk result (λ id. slice_get self.old.slots id.slot ≡ Some None) }
         ensures birth { IfOk result (λ id. id.birth ≡ self.old.births) }
         ensures taken { IfOk result (λ id. self.new ≡ record { slots = slice_set self.old.slots id.slot (Some (id.birth, value)); births = self.old.births + 1 }) }
+
+        // Whichever slots were given back: after any calls there is room up to the capacity.
+        ensures after_calls { (capacity : ℕ) (calls : List (Call T)) → AfterCalls calls (record { slots = replicate capacity None; births = 0 }) self.old → (IsOk result ↔ (live_of self.old.slots < capacity)) }
     {
         let Some(slot) = self.free.pop() else {
             return Err(Full);
@@ -114,5 +117,48 @@ impl<T: Copy> Pool<T> {
             self.slots[slot] = None;
             self.free.push(slot as u32).unwrap();
         }
+    }
+}
+
+#[cfg(test)]
+mod tests {
+    use super::*;
+
+    #[test]
+    fn one_slot_is_taken_again_under_a_new_birth(rt: HostRuntime) -> Result<(), AllocError> {
+        let mut pool = Pool::start(rt.alloc(), 1)?;
+        let seven = pool.take(7);
+        let first = SlotId { slot: 0, birth: 0 };
+        assert_eq!(rt; seven, Ok(first));
+        assert_eq!(rt; pool.take(9), Err(Full));
+        assert_eq!(rt; pool.give(first), Some(7));
+        let second = SlotId { slot: 0, birth: 1 };
+        assert_eq!(rt; pool.take(8), Ok(second));
+        assert_eq!(rt; pool.get(first), None);
+        assert_eq!(rt; pool.give(first), None);
+        assert_eq!(rt; pool.get(second), Some(8));
+        assert_eq!(rt; pool.live(), 1);
+        pool.clear();
+        assert_eq!(rt; pool.live(), 0);
+        assert_eq!(rt; pool.take(6), Ok(SlotId { slot: 0, birth: 2 }));
+        Ok(())
+    }
+
+    #[test]
+    fn slots_that_came_back_are_taken_again(rt: HostRuntime) -> Result<(), AllocError> {
+        let mut pool = Pool::start(rt.alloc(), 3)?;
+        let one = pool.take(1).unwrap();
+        let two = pool.take(2).unwrap();
+        let three = pool.take(3).unwrap();
+        assert_eq!(rt; pool.give(two), Some(2));
+        assert_eq!(rt; pool.give(two), None);
+        assert_eq!(rt; pool.give(one), Some(1));
+        assert_eq!(rt; pool.live(), 1);
+        assert!(rt; pool.take(4).is_ok());
+        assert!(rt; pool.take(5).is_ok());
+        assert_eq!(rt; pool.take(6), Err(Full));
+        assert_eq!(rt; pool.live(), 3);
+        assert_eq!(rt; pool.get(three), Some(3));
+        Ok(())
     }
 }
