@@ -1,0 +1,5 @@
+//! Minimal sets: the bounds that no other kept bound dominates, in slots whose memory is taken
+//! once.
+#![tactic(auto)]
+
+mod links;
