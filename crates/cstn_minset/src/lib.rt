@@ -3,3 +3,6 @@
 #![tactic(auto)]
 
 mod links;
+mod min_set;
+
+pub use min_set::MinSet;

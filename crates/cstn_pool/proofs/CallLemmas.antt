@@ -1,7 +1,7 @@
-use Rattle.std.proofs.Common.{◌≡◌, inl, inr, ℕ, List, [], ◌∷◌, length, set, replicate, Option, None, Some, ap, sym, ◌∙◌, length-set}
+use Rattle.std.proofs.Common.{◌≡◌, inl, inr, ℕ, List, [], ◌∷◌, length, replicate, Option, None, Some, ap, sym, ◌∙◌, length-set}
 use Rattle.std.proofs.lemmas.List.{length-replicate}
 use Rattle.cstn_pool.specs.Slots.{Slots}
-use Rattle.cstn_pool.specs.Calls.{Call, AfterCall, AfterCalls, filled, emptied_at}
+use Rattle.cstn_pool.specs.Calls.{Call, AfterCall, AfterCalls}
 use Rattle.cstn_pool.specs.Calls.Call.{Take, Give}
 
 -- a call leaves the number of slots

@@ -1,4 +1,4 @@
-use Rattle.std.proofs.Common.{◌≡◌, ◌≢◌, ◌⊎◌, inl, inr, ℕ, ◌+◌, ◌<◌, ◌≤◌, List, [], ◌∷◌, ◌++◌, length, get_or, set, replicate, true, false, cond, zero, suc, refl, ap, sym, ◌∙◌, subst, arith, length-append}
+use Rattle.std.proofs.Common.{◌≡◌, ◌≢◌, ◌⊎◌, inl, inr, ℕ, ◌+◌, ◌<◌, List, [], ◌∷◌, ◌++◌, length, get_or, set, replicate, true, cond, zero, suc, refl, ap, sym, ◌∙◌, arith, length-append}
 use Rattle.std.specs.Prelude.{Option, None, Some, is_some, slice_get, All, AllPairs}
 use Rattle.std.proofs.lemmas.List.{get_or_append_left, get_or-set_other, get_or-set_same, length-set, length-replicate, ext_get_or}
 use Rattle.std.proofs.lemmas.List.Elements.{All-push, All-weaker}
@@ -7,7 +7,7 @@ use Rattle.std.proofs.lemmas.List.Sums.{sum_by-set}
 use Rattle.std.proofs.Math.Seq.{get_or-append_seam}
 use Rattle.std.proofs.lemmas.Bool.{cases_eq}
 use Rattle.std.proofs.lemmas.Option.{same_Some, slice_get-get_or}
-use Rattle.cstn_pool.specs.Slots.{IsFree, IsBorn, live_of, value_at, held}
+use Rattle.cstn_pool.specs.Slots.{IsFree, IsBorn, live_of, value_at}
 
 pub count_filled : {T : Type 0} (slots : List (Option (ℕ × T))) (slot : ℕ) (entry : ℕ × T) → slot < length slots → get_or slots slot None ≡ None → live_of (set slots slot (Some entry)) ≡ live_of slots + 1
 count_filled slots slot entry inside none =

@@ -1,5 +1,4 @@
-use Rattle.std.proofs.Common.{◌≡◌, ◌<◌, true, length, get_or, arith, ap, length-set, Some, None, is_some}
-use Rattle.cstn_pool.specs.Slots.{value_at}
+use Rattle.std.proofs.Common.{arith, ap, length-set, None}
 use Rattle.cstn_pool.proofs.PoolLemmas.{given_born, given_free, held_live, room_left}
 use Rattle.cstn_pool.proofs.pool.Pool.give.Goals as goal
 

@@ -1,4 +1,4 @@
-use Rattle.std.proofs.Common.{◌≡◌, ◌<◌, arith, length, length-set, Some, ap, ◌∙◌, refl}
+use Rattle.std.proofs.Common.{◌≡◌, ◌<◌, arith, length, length-set, Some, ap, refl}
 use Rattle.cstn_pool.specs.Slots.{live_of}
 use Rattle.cstn_pool.proofs.PoolLemmas.{taken_free, taken_born, last_inside, last_empty, room_of}
 use Rattle.cstn_pool.proofs.CallLemmas.{calls_keep_capacity}
