@@ -1,12 +1,13 @@
 use Rattle.std.proofs.Common.{◌≡◌, ◌≢◌, ◌⊎◌, inl, inr, ℕ, zero, suc, ◌+◌, ◌<◌, ◌≤◌, ◌^◌, List, [], ◌∷◌, ◌++◌, length, get_or, set, map, take, drop, replicate, nat_eq, Bool, true, false, refl, ap, sym, ◌∙◌, subst, arith}
-use Rattle.std.specs.Prelude.{Option, None, Some, IsSome, IsTrue, ◌↔◌, MatchOption, slice_get}
+use Rattle.std.specs.Prelude.{Option, None, Some, IsSome, IsTrue, ◌↔◌}
 use Rattle.std.proofs.lemmas.List.{get_or-set_other, get_or-set_same, length-set, length-replicate, map-set, drop_all, take_all, append-nil}
 use Rattle.std.proofs.lemmas.Bool.{cases_eq}
 use Rattle.std.proofs.lemmas.Option.{some_pair_parts, none-some, same_Some}
 use Rattle.cstn_label.specs.declared.bounds.Bound.{Bound}
+use Rattle.cstn_pool.specs.declared.slot_id.SlotId.{SlotId}
 use Rattle.cstn_minset.specs.Chains.{Table, IsIn, IsFirstKey}
 use Rattle.cstn_minset.specs.Links.{Ring, IsLinked, IsPrev, AreLinks, SameSize}
-use Rattle.cstn_minset.specs.Sets.{Entries, IsPlaced, IsOver, IsCovered, AllBornBefore, IsAt, IsFirstSlot, by_birth, IsMinimal, IsChained}
+use Rattle.cstn_minset.specs.Sets.{Entries, IsPlaced, IsOver, IsCovered, AllBornBefore, IsAt, IsLeast, IsFirstSlot, by_birth, IsMinimal, IsChained}
 use Rattle.cstn_minset.proofs.LinkLemmas.{narrowed}
 
 pub at_map : (f : Option (ℕ × Bound) → Option (ℕ × ℕ)) → f None ≡ None → (T : Entries) (u : ℕ) → get_or (map f T) u None ≡ f (get_or T u None)
@@ -153,16 +154,19 @@ all_free ring nodes n T sizes linked free =
       });
     }
 
--- what a slot holds is read by its birth
-pub there_read : (T : Entries) (slot : ℕ) (e : ℕ × Bound) → slice_get T slot ≡ Some (Some e) → IsPlaced T slot e
-there_read [] slot e is = absurd (cc)
-there_read (x ∷ T) zero e is = same_Some x (Some e) is
-there_read (x ∷ T) (suc slot) e is = there_read T slot e is
-
-pub none_read : (T : Entries) (slot : ℕ) → ((e : ℕ × Bound) → slice_get T slot ≡ Some (Some e) → ⊥) → (e : ℕ × Bound) → ¬ IsPlaced T slot e
-none_read [] slot not e is = none-some e is
-none_read (x ∷ T) zero not e is = not e (ap (λ (o : Option (ℕ × Bound)). some_of o) is)
+-- whether a slot holds the birth
+pub holds_there : (T : Entries) (slot birth asked : ℕ) (b : Bound) → IsPlaced T slot (birth, b) → (IsTrue (nat_eq birth asked) → (x : Bound) × IsPlaced T slot (asked, x)) × ((x : Bound) × IsPlaced T slot (asked, x) → IsTrue (nat_eq birth asked))
+holds_there T slot birth asked b here =
+    (λ same. (b, here ∙ ap (λ (n : ℕ). some_entry n b) (equal birth asked same)), λ there. alike birth asked (ap (λ z. z.0) (same_Some (birth, b) (asked, there.0) (sym here ∙ there.1))))
   where
-    some_of : Option (ℕ × Bound) → Option (Option (ℕ × Bound))
-    some_of o = Some o
-none_read (x ∷ T) (suc slot) not e is = none_read T slot not e is
+    equal : (m n : ℕ) → nat_eq m n ≡ true → m ≡ n
+    equal m n is = grind arith
+
+    alike : (m n : ℕ) → m ≡ n → nat_eq m n ≡ true
+    alike m n is = grind arith
+
+-- the id of the first slot
+pub first_id : (T : Entries) (Kind : Bound → Type 0) (low slot : ℕ) (id : SlotId) → (birth : ℕ) × IsLeast T Kind low slot birth → id.slot ≡ slot → ((e : ℕ × Bound) → IsPlaced T slot e → id.birth ≡ e.0) → IsLeast T Kind low id.slot id.birth
+first_id T Kind low slot id found slot_is birth_is =
+    let same = birth_is (found.0, found.1.bound) found.1.there in
+    rw (slot_is, same) found.1

@@ -41,7 +41,7 @@ abbrev pub Tests : Entries → ℕ → (Bound → Type 0) → Bool → Type 0
 Tests T slot P test = (e : ℕ × Bound) → IsPlaced T slot e → (IsTrue test ↔ P e.1)
 
 false_not : (t : Bool) (P : Type 0) → (IsTrue t ↔ P) → t ≡ false → ¬ P
-false_not t P is no p = let yes' = is.1 p in cc
+false_not t P is not p = let sure = is.1 p in cc
 
 -- what follows the slot
 abbrev pub Follows : Entries → ℕ → Option ℕ → Type 0

@@ -134,7 +134,8 @@ impl MinSet {
 
     // The time-point's slot with the least birth.
     fn first_slot(&self, node: NodeId) -> Option<u32>
-        ensures { IsFirstSlot self.now.table (IsAt node.0) 0 result }
+        ensures first { IsFirstSlot self.now.table (IsAt node.0) 0 result }
+        ensures minimal { IsMinimal self.now.nodes self.now.table }
     {
         if node.0 < self.nodes {
             self.links.first(node.0 as u32)
@@ -201,11 +202,23 @@ impl MinSet {
 
     /// Whether a bound is placed under this id.
     pub fn holds(&self, id: SlotId) -> bool
-        ensures { IsTrue result ↔ IsThere self.now.table id }
+        ensures holds { IsTrue result ↔ IsThere self.now.table id }
+        ensures minimal { IsMinimal self.now.nodes self.now.table }
     {
-        match self.table.get(id.slot as usize) {
-            Some(Some((birth, _))) => *birth == id.birth,
-            _ => false,
+        match self.entry(id.slot) {
+            Some((birth, _)) => birth == id.birth,
+            None => false,
+        }
+    }
+
+    // The birth and the bound in a slot, which may be any number.
+    fn entry(&self, slot: u32) -> Option<(u64, Bound)>
+        ensures entry { result ≡ entry_at self.now.table slot }
+        ensures minimal { IsMinimal self.now.nodes self.now.table }
+    {
+        match self.table.get(slot as usize) {
+            Some(Some(entry)) => Some(*entry),
+            _ => None,
         }
     }
 

@@ -1,6 +1,7 @@
 use Rattle.std.proofs.Common.{◌≡◌, ℕ, List, Option, length, replicate, None, ap, ◌∙◌, arith}
 use Rattle.cstn_label.specs.declared.bounds.Bound.{Bound}
-use Rattle.cstn_minset.proofs.TableLemmas.{all_free, whole}
+use Rattle.cstn_minset.proofs.LinkLemmas.{whole}
+use Rattle.cstn_minset.proofs.TableLemmas.{all_free}
 use Rattle.cstn_minset.proofs.min_set.MinSet.clear.Goals as goal
 
 pub invariant_of-self : goal.invariant_of-self

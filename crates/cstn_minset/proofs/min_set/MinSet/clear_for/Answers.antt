@@ -4,7 +4,7 @@ use Rattle.cstn_minset.proofs.WalkLemmas.{IsSwept, rank, swept_start, swept_out_
 use Rattle.cstn_minset.proofs.min_set.MinSet.clear_for.Goals as goal
 
 pub loop-place-init : goal.loop-place-init
-loop-place-init c = swept_start _ _ _ _ c.first_slot-place.ensures
+loop-place-init c = swept_start _ _ _ _ c.first_slot-place.ensures.first
 
 pub loop-place-smaller-then-is_under : goal.loop-place-smaller-then-is_under
 loop-place-smaller-then-is_under c =
