@@ -21,7 +21,7 @@ pub struct MinSet {
 }
 
 impl Model for MinSet {
-    ghost use Rattle.cstn_minset.specs.Sets.{Places, IsChained};
+ghost use Rattle.cstn_minset.specs.Sets.{Places, IsChained};
 
     ghost Value = { Places };
 
@@ -49,6 +49,7 @@ impl MinSet {
     pub fn covers(&self, b: &Bound) -> bool
         ensures covers { IsTrue result ↔ IsCovered self.now.table b.now }
         ensures minimal { IsMinimal self.now.nodes self.now.table }
+        ensures one_for_each { (s t : ℕ) (e f : ℕ × Bound) → IsPlaced self.now.table s e → IsPlaced self.now.table t f → e.1.node.0 ≡ f.1.node.0 → e.1.label ≡ f.1.label → s ≡ t }
     {
         let mut place = self.first_slot(b.node);
         while let Some(slot) = place {
@@ -68,6 +69,7 @@ impl MinSet {
         requires free { entry_at self.old.table id.slot ≡ None }
         requires birth { AllBornBefore self.old.table id.birth }
         ensures placed { (cleared : Entries) × IsCleared b.now self.old.table cleared × (self.new ≡ record self.old { table = slice_set cleared id.slot (Some (id.birth, b.now)) }) }
+        ensures covering_grows { (c : Bound) → IsCovered self.old.table c → IsCovered self.new.table c }
     {
         self.clear_for(b);
         self.put(b, id.slot, id.birth);

@@ -1,4 +1,5 @@
 use Rattle.std.proofs.Common.{refl}
+use Rattle.cstn_minset.proofs.CoverLemmas.{one_for_each}
 use Rattle.cstn_minset.proofs.WalkLemmas.{passed_more, passed_over, passed_end}
 use Rattle.cstn_minset.proofs.min_set.MinSet.covers.Goals as goal
 
@@ -19,3 +20,9 @@ pub returns-clause-covers : goal.returns-clause-covers
 returns-clause-covers c =
     let uncovered = passed_end c.args.self.now.table c.args.b.now c.loop-place.place c.in_default.not-Some c.loop-place.invariant in
     (λ no. absurd (cc), λ covered. absurd (uncovered covered))
+
+pub returns-then-is_over-clause-one_for_each : goal.returns-then-is_over-clause-one_for_each
+returns-then-is_over-clause-one_for_each c = λ s t e f. one_for_each c.args.self.now.nodes c.args.self.now.table s t e f c.first_slot-place.ensures.minimal
+
+pub returns-clause-one_for_each : goal.returns-clause-one_for_each
+returns-clause-one_for_each c = λ s t e f. one_for_each c.args.self.now.nodes c.args.self.now.table s t e f c.first_slot-place.ensures.minimal
