@@ -1,6 +1,6 @@
-use Rattle.std.proofs.Common.{◌≡◌, ◌≢◌, ◌⊎◌, inl, inr, ℕ, zero, suc, ◌+◌, ◌<◌, ◌≤◌, ◌^◌, List, [], ◌∷◌, ◌++◌, length, get_or, set, take, drop, replicate, true, false, refl, ap, sym, ◌∙◌, subst, arith}
-use Rattle.std.specs.Prelude.{Option, None, Some, IsSome, All}
-use Rattle.std.proofs.lemmas.List.{get_or-set_other, get_or-set_same, length-set, length-replicate, get_or_read, get_or_past, drop_all, take_all, append-nil, get_or_default}
+use Rattle.std.proofs.Common.{◌≡◌, ◌≢◌, ◌⊎◌, inl, inr, ℕ, zero, suc, ◌+◌, ◌<◌, ◌≤◌, ◌^◌, List, [], ◌∷◌, ◌++◌, length, get_or, set, take, drop, replicate, refl, sym, ◌∙◌, arith}
+use Rattle.std.specs.Prelude.{None, Some, All}
+use Rattle.std.proofs.lemmas.List.{get_or-set_other, get_or-set_same, length-set, length-replicate, get_or_read, drop_all, take_all, append-nil, get_or_default}
 use Rattle.std.proofs.lemmas.Bool.{cases_eq, cases_lt}
 use Rattle.std.proofs.lemmas.Option.{some_pair_parts, none-some}
 use Rattle.cstn_minset.specs.Chains.{Table, IsIn, HasLeastKey}
@@ -440,7 +440,6 @@ pub next_answers : (T : Table) (n heads h slot k len l : ℕ) (next prev : List 
 next_answers T n heads h slot k len l next prev linked there size read =
     let N : IsNext T n heads h (k + 1) l = next_of T n heads slot h (k + 1) l next prev linked (inl (k, there, refl)) read in
     ((λ h'. next_least T n heads h (k + 1) l N (omega arith)), (λ h'. next_none T n heads h (k + 1) l linked.size linked.keyed N (omega arith)))
-
 
 pub narrowed : (T : Table) (n heads h high key slot : ℕ) → IsPrev T n heads h high slot → key ≤ high → ((u : ℕ) → IsIn T h u key → ⊥) → ((k : ℕ) → IsIn T h slot k → k ≤ key) → IsPrev T n heads h key slot
 narrowed T n heads h high key slot is le new small = record {

@@ -1,6 +1,6 @@
-use Rattle.std.proofs.Common.{◌≡◌, ◌≢◌, ◌⊎◌, inl, inr, ℕ, zero, suc, ◌+◌, ◌<◌, ◌≤◌, ◌^◌, List, [], ◌∷◌, ◌++◌, length, get_or, set, map, take, drop, replicate, nat_eq, Bool, true, false, refl, ap, sym, ◌∙◌, subst, arith}
-use Rattle.std.specs.Prelude.{Option, None, Some, IsSome, IsTrue, ◌↔◌}
-use Rattle.std.proofs.lemmas.List.{get_or-set_other, get_or-set_same, length-set, length-replicate, map-set, drop_all, take_all, append-nil}
+use Rattle.std.proofs.Common.{◌≡◌, ◌≢◌, ◌⊎◌, inl, inr, ℕ, zero, suc, ◌+◌, ◌<◌, ◌^◌, List, [], ◌∷◌, length, get_or, set, map, replicate, nat_eq, true, refl, ap, sym, ◌∙◌, subst, arith}
+use Rattle.std.specs.Prelude.{Option, None, Some, IsSome, IsTrue}
+use Rattle.std.proofs.lemmas.List.{get_or-set_other, get_or-set_same, length-set, length-replicate, map-set}
 use Rattle.std.proofs.lemmas.Bool.{cases_eq}
 use Rattle.std.proofs.lemmas.Option.{some_pair_parts, none-some, same_Some}
 use Rattle.cstn_label.specs.declared.bounds.Bound.{Bound}
@@ -170,3 +170,9 @@ pub first_id : (T : Entries) (Kind : Bound → Type 0) (low slot : ℕ) (id : Sl
 first_id T Kind low slot id found slot_is birth_is =
     let same = birth_is (found.0, found.1.bound) found.1.there in
     rw (slot_is, same) found.1
+
+-- a new table holds nothing
+pub none_of : (n u : ℕ) → get_or (replicate {A = Option (ℕ × Bound)} n None) u None ≡ None
+none_of zero u = refl
+none_of (suc n) zero = refl
+none_of (suc n) (suc u) = none_of n u

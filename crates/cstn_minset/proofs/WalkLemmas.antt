@@ -1,10 +1,10 @@
-use Rattle.std.proofs.Common.{◌≡◌, ◌≢◌, ◌⊎◌, inl, inr, ℕ, ◌+◌, ◌-◌, ◌<◌, ◌≤◌, ◌^◌, length, set, Bool, true, false, refl, ap, sym, ◌∙◌, subst, arith}
+use Rattle.std.proofs.Common.{◌≡◌, ◌≢◌, inl, inr, ℕ, ◌+◌, ◌-◌, ◌<◌, ◌≤◌, ◌^◌, length, set, Bool, true, false, refl, ap, sym, ◌∙◌, subst, arith}
 use Rattle.std.specs.Prelude.{Option, None, Some, IsTrue, ◌↔◌}
 use Rattle.std.proofs.lemmas.List.{get_or-set_other, length-set}
 use Rattle.std.proofs.lemmas.Bool.{cases_eq}
 use Rattle.std.proofs.lemmas.Option.{same_Some}
 use Rattle.cstn_label.specs.declared.bounds.Bound.{Bound}
-use Rattle.cstn_minset.specs.Sets.{Places, Entries, entry_at, IsPlaced, IsOver, IsCovered, IsCleared, IsAt, IsLeast, IsFirstSlot, IsMinimal}
+use Rattle.cstn_minset.specs.Sets.{Entries, entry_at, IsPlaced, IsOver, IsCovered, IsCleared, IsAt, IsLeast, IsFirstSlot, IsMinimal}
 use Rattle.cstn_minset.proofs.TableLemmas.{placed_less, less_placed}
 
 abbrev pub entry_rank : Option (ℕ × Bound) → ℕ

@@ -1,10 +1,9 @@
 -- Minimal sets of bounds, each bound in a slot with its birth.
-use Rattle.std.specs.Prelude.{◌≡◌, ◌≢◌, ◌⊎◌, ℕ, ◌+◌, ◌<◌, ◌≤◌, ◌^◌, List, map, length, Option, None, Some, slice_index_or, MatchOption}
+use Rattle.std.specs.Prelude.{◌≡◌, ◌≢◌, ◌⊎◌, ℕ, ◌<◌, ◌≤◌, ◌^◌, List, map, length, Option, None, Some, slice_index_or, MatchOption}
 use Rattle.cstn_label.specs.declared.bounds.Bound.{Bound}
 use Rattle.cstn_label.specs.Bounds.{Dominates}
 use Rattle.cstn_label.specs.Read.{the_bound}
 use Rattle.cstn_pool.specs.declared.slot_id.SlotId.{SlotId}
-use Rattle.cstn_minset.specs.Chains.{Table}
 use Rattle.cstn_minset.specs.Links.{IsLinked}
 
 -- what each slot holds: nothing, or a birth and a bound

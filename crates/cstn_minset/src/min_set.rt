@@ -1,12 +1,11 @@
 ghost use Rattle.std.specs.Prelude.{◌≡◌, ◌<◌, ◌≤◌, ◌+◌, ◌^◌, ◌↔◌, ℕ, Some, None, length, IsTrue, IfOk, IsSome, slice_set, slice_index_or, replicate, if◌then◌else◌};
 ghost use Rattle.cstn_minset.specs.Sets.{Places, Entries, entry_at, IsPlaced, IsThere, IsOver, IsCovered, IsCleared, AllBornBefore, IsAt, IsFirst, IsFirstSlot, IsMinimal};
 
+use crate::links::Links;
 use cstn_label::{Bound, NodeId};
 use cstn_pool::SlotId;
 use std::alloc::{AllocError, Global};
 use std::marker::Model;
-
-use crate::links::Links;
 
 /// Bounds of which none dominates another, each under the id of a pool's slot.
 ///
@@ -21,7 +20,7 @@ pub struct MinSet {
 }
 
 impl Model for MinSet {
-ghost use Rattle.cstn_minset.specs.Sets.{Places, IsChained};
+    ghost use Rattle.cstn_minset.specs.Sets.{Places, IsChained};
 
     ghost Value = { Places };
 
@@ -250,3 +249,6 @@ fn empty(table: &mut [Option<(u64, Bound)>])
         *entry = None;
     }
 }
+
+#[cfg(test)]
+mod tests;

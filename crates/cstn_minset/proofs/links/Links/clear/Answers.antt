@@ -1,4 +1,4 @@
-use Rattle.std.proofs.Common.{◌≡◌, ◌+◌, ◌∙◌, ℕ, length, ap, arith}
+use Rattle.std.proofs.Common.{◌≡◌, ◌+◌, ◌∙◌, length, ap, arith}
 use Rattle.cstn_minset.proofs.LinkLemmas.{all_free, whole, own_inside}
 use Rattle.cstn_minset.proofs.links.Links.clear.Goals as goal
 

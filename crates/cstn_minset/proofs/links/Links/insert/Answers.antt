@@ -1,4 +1,4 @@
-use Rattle.std.proofs.Common.{◌≡◌, ◌+◌, ◌<◌, ℕ, length, Some, set, subst, sym, arith}
+use Rattle.std.proofs.Common.{◌+◌, ◌<◌, Some, set, subst, sym, arith}
 use Rattle.std.proofs.lemmas.List.{get_or_read}
 use Rattle.cstn_minset.specs.Links.{Ring, IsLinked, IsPrev}
 use Rattle.cstn_minset.proofs.LinkLemmas.{inserted}

@@ -1,4 +1,4 @@
-use Rattle.std.proofs.Common.{◌≡◌, ◌+◌, ◌<◌, ℕ, length, None, set, get_or, subst, sym, arith}
+use Rattle.std.proofs.Common.{◌<◌, None, set, subst, sym, arith}
 use Rattle.std.proofs.lemmas.List.{get_or_read}
 use Rattle.cstn_minset.specs.Links.{Ring, IsLinked}
 use Rattle.cstn_minset.proofs.LinkLemmas.{removed}

@@ -1,4 +1,3 @@
-use Rattle.cstn_minset.specs.Sets.{IsMinimal}
 use Rattle.cstn_minset.proofs.WalkLemmas.{IsPassed, rank}
 use Rattle.cstn_minset.proofs.min_set.MinSet.covers.Given as goal
 

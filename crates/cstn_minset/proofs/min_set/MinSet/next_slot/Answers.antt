@@ -1,5 +1,5 @@
-use Rattle.std.proofs.Common.{◌≡◌, ℕ, ◌+◌, map, subst, sym, ap}
-use Rattle.cstn_minset.specs.Sets.{Places, IsFirstSlot, IsPlaced, IsMinimal, IsAt, by_birth}
+use Rattle.std.proofs.Common.{◌+◌, map, subst, ap}
+use Rattle.cstn_minset.specs.Sets.{Places, IsFirstSlot, IsMinimal, IsAt, by_birth}
 use Rattle.cstn_minset.proofs.TableLemmas.{first_of, placed_in}
 use Rattle.cstn_minset.proofs.min_set.MinSet.next_slot.Goals as goal
 

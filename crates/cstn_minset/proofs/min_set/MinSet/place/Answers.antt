@@ -1,4 +1,4 @@
-use Rattle.std.proofs.Common.{◌<◌, arith, sym, subst}
+use Rattle.std.proofs.Common.{arith, sym, subst}
 use Rattle.cstn_minset.specs.Sets.{Places, IsCovered}
 use Rattle.cstn_minset.proofs.CoverLemmas.{covering_grows, emptied_at}
 use Rattle.cstn_minset.proofs.min_set.MinSet.place.Goals as goal

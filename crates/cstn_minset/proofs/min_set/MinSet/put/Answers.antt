@@ -1,4 +1,4 @@
-use Rattle.std.proofs.Common.{◌≡◌, ℕ, ◌<◌, length, None, subst, sym, ap, arith}
+use Rattle.std.proofs.Common.{◌≡◌, ℕ, ◌<◌, length, None, subst, sym, arith}
 use Rattle.cstn_label.specs.declared.bounds.Bound.{Bound}
 use Rattle.cstn_minset.specs.Sets.{Places, entry_at, IsPlaced, IsOver, IsCovered, AllBornBefore}
 use Rattle.cstn_minset.proofs.TableLemmas.{put_step}
