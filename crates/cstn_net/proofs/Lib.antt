@@ -1,0 +1,8 @@
+pub mod Knowledge
+pub mod Dynamic
+pub mod Plain
+pub mod Branch
+pub mod WellFormed
+mod ListLemmas
+mod ObserverLemmas
+mod ChangeLemmas
