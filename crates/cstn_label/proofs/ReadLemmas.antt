@@ -2,8 +2,7 @@
 use Rattle.std.proofs.Common.{ℕ, ◌≡◌, ◌≤◌, Bool, true, false, ◌||◌, ◌&&◌, arith, refl, sym, subst, ◌<◌, ◌^◌, ◌∙◌, bit_or, bit_and, IsTrue}
 use Rattle.std.specs.Coded.{le_prop}
 use Rattle.cstn_label.specs.declared.labels.Label.{Label}
-use Rattle.cstn_label.specs.declared.marks.Mark.{Mark}
-use Rattle.cstn_label.specs.declared.marks.Mark.TheVariants.{Absent, Yes, No, Unknown}
+use Rattle.cstn_label.specs.declared.marks.Mark.TheVariants.{Absent}
 use Rattle.cstn_label.specs.Labels.{joined_mark, MarkFits}
 use Rattle.cstn_label.specs.Words.{has_bit, IsApart, IsInside}
 use Rattle.cstn_label.specs.Read.{mark_of, marks}

@@ -109,6 +109,9 @@ has_bit_set word i within k = elim (cases_eq k i) [
       (ap (λ b. eqb b 1) (bit_at_set_other w64 word i (let h : i < 64 = omega arith in h) k other))
 ]
 
+pub or_in_range : (a b : ℕ) → a < 2 ^ 52 → b < 2 ^ 52 → bit_or a b < 2 ^ 52
+or_in_range a b h k = or_lt 52 a b h k
+
 -- with a bit below 52 set, a word below 2 ^ 52 stays so
 pub set_in_range : (word i : ℕ) → i < 52 → word < 2 ^ 52 → bit_or word (1 * 2 ^ i % 2 ^ 64) < 2 ^ 52
 set_in_range word i within small =

@@ -17,7 +17,11 @@ fn only(prop: Prop, mark: Mark) -> Label {
 }
 
 fn bound(node: u16, least: i32, label: Label) -> Bound {
-    Bound { node: NodeId(node), least, label }
+    Bound {
+        node: NodeId(node),
+        least,
+        label,
+    }
 }
 
 #[test]
@@ -62,14 +66,18 @@ fn is_ruled_out_by_what_is_known(rt: HostRuntime) {
     assert_eq!(rt; not_so.value(q()), None);
 }
 
+fn holds(label: Label, s: Scenario) -> bool {
+    label.is_plain() && label.holds(s)
+}
+
 #[test]
 fn holds_where_its_literals_are_true(rt: HostRuntime) {
     let p_alone = Scenario { bits: 0 }.with(p(), true);
     let label = only(p(), Mark::Yes).with(q(), Mark::No);
     assert!(rt; p_alone.is_true(p()) && !p_alone.is_true(q()));
-    assert!(rt; label.holds(p_alone) && !label.holds(p_alone.with(q(), true)));
-    assert!(rt; Label::empty().holds(p_alone));
-    assert!(rt; !only(z(), Mark::Yes).holds(p_alone));
+    assert!(rt; holds(label, p_alone) && !holds(label, p_alone.with(q(), true)));
+    assert!(rt; holds(Label::empty(), p_alone));
+    assert!(rt; !holds(only(z(), Mark::Yes), p_alone));
 }
 
 #[test]
