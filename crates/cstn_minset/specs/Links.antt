@@ -1,0 +1,72 @@
+-- How the links of chains lie: places below n are slots, and n + h is the end of chain h. An end leads to the chain's
+-- first slot and back to its last.
+use Rattle.std.specs.Prelude.{◌≡◌, ◌⊎◌, ℕ, ◌+◌, ◌<◌, ◌≤◌, ◌^◌, List, length, slice_index_or, All}
+use Rattle.cstn_minset.specs.Chains.{Table, IsIn}
+
+-- what stands at the place is followed by keys from `low` on
+abbrev pub IsStart : Table → ℕ → ℕ → ℕ → ℕ → ℕ → Type 0
+IsStart table n heads i h low = ((k : ℕ) × IsIn table h i k × (low ≡ k + 1)) ⊎ ((i ≡ n + h) × (h < heads) × (low ≡ 0))
+
+-- what stands at the place comes after keys below `high`
+abbrev pub IsStop : Table → ℕ → ℕ → ℕ → ℕ → ℕ → Type 0
+IsStop table n heads i h high = IsIn table h i high ⊎ ((i ≡ n + h) × (h < heads) × (high ≡ 2 ^ 128))
+
+-- no key of the chain is from `low` to below `high`
+abbrev pub IsGap : Table → ℕ → ℕ → ℕ → Type 0
+IsGap table h low high = (u j : ℕ) → IsIn table h u j → (j < low) ⊎ (high ≤ j)
+
+-- the place is the next one of the chain for keys from `low` on
+pub record IsNext (table : Table) (n heads h low i : ℕ) : Type 0 where
+  pub high : ℕ
+  pub stop : IsStop table n heads i h high
+  pub up : low ≤ high
+  pub gap : IsGap table h low high
+
+-- the place is the one before for keys below `high`
+pub record IsPrev (table : Table) (n heads h high i : ℕ) : Type 0 where
+  pub low : ℕ
+  pub start : IsStart table n heads i h low
+  pub up : low ≤ high
+  pub gap : IsGap table h low high
+
+-- no chain has two slots of one key
+pub record IsKeyed (heads : ℕ) (table : Table) : Type 0 where
+  pub in_range : (s h k : ℕ) → IsIn table h s k → (h < heads) × (k < 2 ^ 128)
+  pub apart : (s t h k : ℕ) → IsIn table h s k → IsIn table h t k → s ≡ t
+
+-- the places lead through the chains of the table in ascending key, there and back
+pub record IsLinked (n heads : ℕ) (table : Table) (next prev : List ℕ) : Type 0 where
+  pub size : length table ≡ n
+  pub next_size : length next ≡ n + heads
+  pub prev_size : length prev ≡ n + heads
+  pub small : n + heads < 2 ^ 32
+  pub keyed : IsKeyed heads table
+  pub after : (i h low : ℕ) → IsStart table n heads i h low → IsNext table n heads h low (slice_index_or next i 0)
+  pub before : (i h high : ℕ) → IsStop table n heads i h high → IsPrev table n heads h high (slice_index_or prev i 0)
+
+-- each place leads to itself
+abbrev pub IsOwn : List ℕ → Type 0
+IsOwn places = (i : ℕ) → i < length places → slice_index_or places i 0 ≡ i
+
+-- what contracts see of links alone
+pub record Ring : Type 0 where
+  pub slots : ℕ
+  pub heads : ℕ
+  pub next : List ℕ
+  pub prev : List ℕ
+
+-- the links are those of the table's chains
+abbrev pub AreLinks : Ring → Table → Type 0
+AreLinks ring table = IsLinked ring.slots ring.heads table ring.next ring.prev
+
+-- the rings have as many slots and chains
+abbrev pub SameSize : Ring → Ring → Type 0
+SameSize old new = (new.slots ≡ old.slots) × (new.heads ≡ old.heads)
+
+-- each place leads to a place
+pub record IsRing (slots heads : ℕ) (next prev : List ℕ) : Type 0 where
+  pub next_size : length next ≡ slots + heads
+  pub prev_size : length prev ≡ slots + heads
+  pub small : slots + heads < 2 ^ 32
+  pub next_inside : All (λ x. x < slots + heads) next
+  pub prev_inside : All (λ x. x < slots + heads) prev

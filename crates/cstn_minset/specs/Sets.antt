@@ -1,0 +1,89 @@
+-- Minimal sets of bounds, each bound in a slot with its birth.
+use Rattle.std.specs.Prelude.{◌≡◌, ◌≢◌, ◌⊎◌, ℕ, ◌<◌, ◌≤◌, ◌^◌, List, map, length, Option, None, Some, slice_index_or, MatchOption}
+use Rattle.cstn_label.specs.declared.bounds.Bound.{Bound}
+use Rattle.cstn_label.specs.Bounds.{Dominates}
+use Rattle.cstn_label.specs.Read.{the_bound}
+use Rattle.cstn_pool.specs.declared.slot_id.SlotId.{SlotId}
+use Rattle.cstn_minset.specs.Links.{IsLinked}
+
+-- what each slot holds: nothing, or a birth and a bound
+abbrev pub Entries : Type 0
+Entries = List (Option (ℕ × Bound))
+
+-- what contracts see of a minimal set: the number of time-points, and the slots
+pub record Places : Type 0 where
+  pub nodes : ℕ
+  pub table : Entries
+
+-- what a slot holds
+abbrev pub entry_at : Entries → ℕ → Option (ℕ × Bound)
+entry_at table slot = slice_index_or table slot None
+
+-- the slot holds the entry
+abbrev pub IsPlaced : Entries → ℕ → ℕ × Bound → Type 0
+IsPlaced table slot entry = entry_at table slot ≡ Some entry
+
+-- a bound is placed under the id
+abbrev pub IsThere : Entries → SlotId → Type 0
+IsThere table id = (bound : Bound) × IsPlaced table id.slot (id.birth, bound)
+
+-- the first bound dominates the second
+abbrev pub IsOver : Bound → Bound → Type 0
+IsOver a b = Dominates (the_bound a) (the_bound b)
+
+-- some entry dominates the bound
+abbrev pub IsCovered : Entries → Bound → Type 0
+IsCovered table b = (slot : ℕ) × (entry : ℕ × Bound) × IsPlaced table slot entry × IsOver entry.1 b
+
+-- exactly the entries stay that the bound doesn't dominate, each in its slot
+pub record IsCleared (b : Bound) (old new : Entries) : Type 0 where
+  pub size : length new ≡ length old
+  pub was : (slot : ℕ) (entry : ℕ × Bound) → IsPlaced new slot entry → IsPlaced old slot entry
+  pub none_under : (slot : ℕ) (entry : ℕ × Bound) → IsPlaced new slot entry → ¬ IsOver b entry.1
+  pub kept : (slot : ℕ) (entry : ℕ × Bound) → IsPlaced old slot entry → ¬ IsOver b entry.1 → IsPlaced new slot entry
+
+-- each birth of the table is below this one
+abbrev pub AllBornBefore : Entries → ℕ → Type 0
+AllBornBefore table birth = (slot : ℕ) (entry : ℕ × Bound) → IsPlaced table slot entry → entry.0 < birth
+
+-- the bound is at the time-point
+abbrev pub IsAt : ℕ → Bound → Type 0
+IsAt node b = b.node.0 ≡ node
+
+-- of the bounds of a kind, the one with the least birth from `low` on
+pub record IsLeast (table : Entries) (Kind : Bound → Type 0) (low slot birth : ℕ) : Type 0 where
+  pub bound : Bound
+  pub there : IsPlaced table slot (birth, bound)
+  pub kind : Kind bound
+  pub above : low ≤ birth
+  pub least : (u : ℕ) (e : ℕ × Bound) → IsPlaced table u e → Kind e.1 → (e.0 < low) ⊎ (birth ≤ e.0)
+
+-- all bounds of a kind have births below `low`
+abbrev pub IsNone : Entries → (Bound → Type 0) → ℕ → Type 0
+IsNone table Kind low = (u : ℕ) (e : ℕ × Bound) → IsPlaced table u e → Kind e.1 → e.0 < low
+
+-- the answer is the id of the bound of a kind with the least birth from `low` on, and none only where there is none
+abbrev pub IsFirst : Entries → (Bound → Type 0) → ℕ → Option SlotId → Type 0
+IsFirst table Kind low answer = MatchOption answer (IsNone table Kind low) (λ id. IsLeast table Kind low id.slot id.birth)
+
+-- the same of a slot alone
+abbrev pub IsFirstSlot : Entries → (Bound → Type 0) → ℕ → Option ℕ → Type 0
+IsFirstSlot table Kind low answer = MatchOption answer (IsNone table Kind low) (λ slot. (birth : ℕ) × IsLeast table Kind low slot birth)
+
+-- the chain of an entry is its time-point's, and its key there is its birth
+abbrev pub by_birth : Option (ℕ × Bound) → Option (ℕ × ℕ)
+by_birth None = None
+by_birth (Some entry) = Some (entry.1.node.0, entry.0)
+
+-- no entry dominates another, no two have the same birth, and each is at a time-point of the set
+pub record IsMinimal (nodes : ℕ) (table : Entries) : Type 0 where
+  pub minimal : (s t : ℕ) (e f : ℕ × Bound) → IsPlaced table s e → IsPlaced table t f → s ≢ t → ¬ IsOver e.1 f.1
+  pub apart : (s t : ℕ) (e f : ℕ × Bound) → IsPlaced table s e → IsPlaced table t f → e.0 ≡ f.0 → s ≡ t
+  pub in_range : (s : ℕ) (e : ℕ × Bound) → IsPlaced table s e → (e.1.node.0 < nodes) × (e.0 < 2 ^ 64)
+
+-- a minimal set whose links run through each time-point's entries by birth
+pub record IsChained (slots count : ℕ) (next prev : List ℕ) (nodes : ℕ) (table : Entries) : Type 0 where
+  pub size : slots ≡ length table
+  pub heads : count ≡ nodes
+  pub linked : IsLinked slots count (map by_birth table) next prev
+  pub minimal : IsMinimal nodes table

@@ -1,0 +1,254 @@
+ghost use Rattle.std.specs.Prelude.{◌≡◌, ◌<◌, ◌≤◌, ◌+◌, ◌^◌, ◌↔◌, ℕ, Some, None, length, IsTrue, IfOk, IsSome, slice_set, slice_index_or, replicate, if◌then◌else◌};
+ghost use Rattle.cstn_minset.specs.Sets.{Places, Entries, entry_at, IsPlaced, IsThere, IsOver, IsCovered, IsCleared, AllBornBefore, IsAt, IsFirst, IsFirstSlot, IsMinimal};
+
+use crate::links::Links;
+use cstn_label::{Bound, NodeId};
+use cstn_pool::SlotId;
+use std::alloc::{AllocError, Global};
+use std::marker::Model;
+
+/// Bounds of which none dominates another, each under the id of a pool's slot.
+///
+/// All memory is taken by [`MinSet::start`]: 40 bytes a slot for the bounds and 8 for the links,
+/// and 8 for each time-point. No other call takes any.
+#[derive(Drop)]
+pub struct MinSet {
+    table: Vec<Option<(u64, Bound)>>,
+    // The slots of each time-point by birth.
+    links: Links,
+    nodes: u16,
+}
+
+impl Model for MinSet {
+    ghost use Rattle.cstn_minset.specs.Sets.{Places, IsChained};
+
+    ghost Value = { Places };
+
+    ghost view = { λ m. record { nodes = m.nodes; table = m.table.items } };
+
+    ghost invariant = { λ m. IsChained m.links.slots m.links.heads m.links.next m.links.prev m.nodes m.table.items };
+}
+
+impl MinSet {
+    /// An empty set over this many time-points and slots. Fails for want of memory alone.
+    pub fn start(alloc: Global, nodes: u16, capacity: u32) -> Result<MinSet, AllocError>
+        requires { capacity ≤ 4194304 }
+        ensures empty { IfOk result (λ set. set ≡ record { nodes = nodes; table = replicate capacity None }) }
+    {
+        let table = free(alloc, capacity)?;
+        let links = Links::start(alloc, nodes as u32, capacity)?;
+        Ok(MinSet {
+            table,
+            links,
+            nodes,
+        })
+    }
+
+    /// Whether some entry dominates the bound.
+    pub fn covers(&self, b: &Bound) -> bool
+        ensures covers { IsTrue result ↔ IsCovered self.now.table b.now }
+        ensures minimal { IsMinimal self.now.nodes self.now.table }
+        ensures one_for_each { (s t : ℕ) (e f : ℕ × Bound) → IsPlaced self.now.table s e → IsPlaced self.now.table t f → e.1.node.0 ≡ f.1.node.0 → e.1.label ≡ f.1.label → s ≡ t }
+    {
+        let mut place = self.first_slot(b.node);
+        while let Some(slot) = place {
+            if self.is_over(slot, b) {
+                return true;
+            }
+            place = self.next_slot(slot);
+        }
+        false
+    }
+
+    /// Puts a bound in under a new id, and takes those out that it dominates.
+    pub fn place(&mut self, b: &Bound, id: SlotId)
+        requires uncovered { ¬ IsCovered self.old.table b.now }
+        requires node { b.now.node.0 < self.old.nodes }
+        requires slot { id.slot < length self.old.table }
+        requires free { entry_at self.old.table id.slot ≡ None }
+        requires birth { AllBornBefore self.old.table id.birth }
+        ensures placed { (cleared : Entries) × IsCleared b.now self.old.table cleared × (self.new ≡ record self.old { table = slice_set cleared id.slot (Some (id.birth, b.now)) }) }
+        ensures covering_grows { (c : Bound) → IsCovered self.old.table c → IsCovered self.new.table c }
+    {
+        self.clear_for(b);
+        self.put(b, id.slot, id.birth);
+    }
+
+    // Takes out what the bound dominates.
+    fn clear_for(&mut self, b: &Bound)
+        ensures nodes { self.new.nodes ≡ self.old.nodes }
+        ensures cleared { IsCleared b.now self.old.table self.new.table }
+    {
+        let mut place = self.first_slot(b.node);
+        while let Some(slot) = place {
+            place = self.next_slot(slot);
+            if self.is_under(slot, b) {
+                self.take_out(slot);
+            }
+        }
+    }
+
+    fn put(&mut self, b: &Bound, slot: u32, birth: u64)
+        requires uncovered { ¬ IsCovered self.old.table b.now }
+        requires none_under { (u : ℕ) (e : ℕ × Bound) → IsPlaced self.old.table u e → ¬ IsOver b.now e.1 }
+        requires node { b.now.node.0 < self.old.nodes }
+        requires slot { slot < length self.old.table }
+        requires free { entry_at self.old.table slot ≡ None }
+        requires birth { AllBornBefore self.old.table birth }
+        ensures { self.new ≡ record self.old { table = slice_set self.old.table slot (Some (birth, b.now)) } }
+    {
+        let end = self.table.len() as u32 + b.node.0 as u32;
+        let before = self.links.before(end);
+        self.links.insert(slot, before);
+        self.table[slot as usize] = Some((birth, *b));
+    }
+
+    fn take_out(&mut self, slot: u32)
+        requires { IsSome (entry_at self.old.table slot) }
+        ensures { self.new ≡ record self.old { table = slice_set self.old.table slot None } }
+    {
+        self.links.remove(slot);
+        self.table[slot as usize] = None;
+    }
+
+    // Whether the bound in the slot dominates this one.
+    fn is_over(&self, slot: u32, b: &Bound) -> bool
+        requires { slot < length self.now.table }
+        ensures { (e : ℕ × Bound) → IsPlaced self.now.table slot e → (IsTrue result ↔ IsOver e.1 b.now) }
+    {
+        match &self.table[slot as usize] {
+            Some((_, kept)) => kept.dominates(b),
+            None => false,
+        }
+    }
+
+    // Whether this bound dominates the one in the slot.
+    fn is_under(&self, slot: u32, b: &Bound) -> bool
+        requires { slot < length self.now.table }
+        ensures { (e : ℕ × Bound) → IsPlaced self.now.table slot e → (IsTrue result ↔ IsOver b.now e.1) }
+    {
+        match &self.table[slot as usize] {
+            Some((_, kept)) => b.dominates(kept),
+            None => false,
+        }
+    }
+
+    // The time-point's slot with the least birth.
+    fn first_slot(&self, node: NodeId) -> Option<u32>
+        ensures first { IsFirstSlot self.now.table (IsAt node.0) 0 result }
+        ensures minimal { IsMinimal self.now.nodes self.now.table }
+    {
+        if node.0 < self.nodes {
+            self.links.first(node.0 as u32)
+        } else {
+            None
+        }
+    }
+
+    // The slot of the same time-point with the next birth.
+    fn next_slot(&self, slot: u32) -> Option<u32>
+        requires { IsSome (entry_at self.now.table slot) }
+        ensures next { (e : ℕ × Bound) → IsPlaced self.now.table slot e → IsFirstSlot self.now.table (IsAt e.1.node.0) (e.0 + 1) result }
+        ensures minimal { IsMinimal self.now.nodes self.now.table }
+    {
+        self.links.next(slot)
+    }
+
+    // The id of a slot.
+    fn id(&self, slot: u32) -> SlotId
+        requires { slot < length self.now.table }
+        ensures slot { result.slot ≡ slot }
+        ensures birth { (e : ℕ × Bound) → IsPlaced self.now.table slot e → result.birth ≡ e.0 }
+    {
+        let birth = match &self.table[slot as usize] {
+            Some((birth, _)) => *birth,
+            None => 0,
+        };
+        SlotId { slot, birth }
+    }
+
+    /// The id of the time-point's entry with the least birth.
+    pub fn first(&self, node: NodeId) -> Option<SlotId>
+        ensures first { IsFirst self.now.table (IsAt node.0) 0 result }
+    {
+        match self.first_slot(node) {
+            Some(slot) => Some(self.id(slot)),
+            None => None,
+        }
+    }
+
+    /// The id of the same time-point's entry with the next birth.
+    pub fn next(&self, id: SlotId) -> Option<SlotId>
+        requires { IsThere self.now.table id }
+        ensures next { (b : Bound) → IsPlaced self.now.table id.slot (id.birth, b) → IsFirst self.now.table (IsAt b.node.0) (id.birth + 1) result }
+    {
+        match self.next_slot(id.slot) {
+            Some(slot) => Some(self.id(slot)),
+            None => None,
+        }
+    }
+
+    /// Takes out the bound under this id; false where none is placed under it.
+    pub fn lift(&mut self, id: SlotId) -> bool
+        ensures placed { IsTrue result ↔ IsThere self.old.table id }
+        ensures lifted { self.new ≡ (if result then record self.old { table = slice_set self.old.table id.slot None } else self.old) }
+    {
+        if self.holds(id) {
+            self.take_out(id.slot);
+            true
+        } else {
+            false
+        }
+    }
+
+    /// Whether a bound is placed under this id.
+    pub fn holds(&self, id: SlotId) -> bool
+        ensures holds { IsTrue result ↔ IsThere self.now.table id }
+        ensures minimal { IsMinimal self.now.nodes self.now.table }
+    {
+        match self.entry(id.slot) {
+            Some((birth, _)) => birth == id.birth,
+            None => false,
+        }
+    }
+
+    // The birth and the bound in a slot, which may be any number.
+    fn entry(&self, slot: u32) -> Option<(u64, Bound)>
+        ensures entry { result ≡ entry_at self.now.table slot }
+        ensures minimal { IsMinimal self.now.nodes self.now.table }
+    {
+        match self.table.get(slot as usize) {
+            Some(Some(entry)) => Some(*entry),
+            _ => None,
+        }
+    }
+
+    /// Takes all bounds out.
+    pub fn clear(&mut self)
+        ensures { self.new ≡ record self.old { table = replicate (length self.old.table) None } }
+    {
+        self.links.clear();
+        empty(&mut self.table);
+    }
+}
+
+fn free(alloc: Global, slots: u32) -> Result<Vec<Option<(u64, Bound)>>, AllocError>
+    ensures { IfOk result (λ v. v.items ≡ replicate slots None) }
+{
+    let mut table = Vec::with_capacity(alloc, slots as usize)?;
+    for _slot in 0..slots {
+        table.push(None)?;
+    }
+    Ok(table)
+}
+
+fn empty(table: &mut [Option<(u64, Bound)>])
+    ensures { table.new ≡ replicate (length table.old) None }
+{
+    for entry in table.iter_mut() {
+        *entry = None;
+    }
+}
+
+#[cfg(test)]
+mod tests;

@@ -1,0 +1,39 @@
+-- A pool as its slots.
+use Rattle.std.specs.Prelude.{◌≡◌, ◌≢◌, ℕ, ◌+◌, ◌<◌, ◌≤◌, ◌^◌, is_some, List, length, Option, None, Some, slice_get, slice_index_or, All, AllPairs, count_by, ◌==◌, if◌then◌else◌}
+
+-- what contracts see of a pool: what each slot holds, a birth and a value, and how many births there were
+pub record Slots (T : Type 0) : Type 0 where
+  pub slots : List (Option (ℕ × T))
+  pub births : ℕ
+
+-- how many slots are in use
+abbrev pub live_of : {T : Type 0} → List (Option (ℕ × T)) → ℕ
+live_of slots = count_by is_some slots
+
+-- what a slot holds, where it was born by that birth
+abbrev pub held : {T : Type 0} → ℕ → Option (Option (ℕ × T)) → Option T
+held birth None = None
+held birth (Some None) = None
+held birth (Some (Some entry)) = if entry.0 == birth then Some entry.1 else None
+
+-- the value under the id of that slot and birth
+abbrev pub value_at : {T : Type 0} → List (Option (ℕ × T)) → ℕ → ℕ → Option T
+value_at slots slot birth = held birth (slice_get slots slot)
+
+-- each birth in use was answered before, and no two slots have the same
+pub record IsBorn {T : Type 0} (births : ℕ) (slots : List (Option (ℕ × T))) : Type 0 where
+  pub before : (i : ℕ) (e : ℕ × T) → slice_index_or slots i None ≡ Some e → e.0 < births
+  pub apart : (i j : ℕ) (e f : ℕ × T) → slice_index_or slots i None ≡ Some e → slice_index_or slots j None ≡ Some f → e.0 ≡ f.0 → i ≡ j
+
+-- these are the empty slots
+pub record IsFree {T : Type 0} (slots : List (Option (ℕ × T))) (free : List ℕ) : Type 0 where
+  pub empty : All (λ i. (i < length slots) × (slice_index_or slots i None ≡ None)) free
+  pub distinct : AllPairs (λ i j. i ≢ j) free
+  pub count : live_of slots + length free ≡ length slots
+
+-- a pool that is in order: its free list has all empty slots, and room for every slot
+pub record IsPool {T : Type 0} (slots : List (Option (ℕ × T))) (free : List ℕ) (room births : ℕ) : Type 0 where
+  pub empty : IsFree slots free
+  pub room_for_all : length slots ≤ room
+  pub short : length slots < 2 ^ 32
+  pub born : IsBorn births slots

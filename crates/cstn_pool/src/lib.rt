@@ -1,0 +1,12 @@
+//! A fixed region of slots, taken once, with ids that never name two values.
+//!
+//! A [`Pool`] takes all its memory when it starts. A value goes into a free slot and is
+//! answered an id of that slot and of its birth, and no birth is ever answered twice, so an id
+//! that was given back never reads the value that came after it.
+#![tactic(auto)]
+
+mod pool;
+mod slot_id;
+
+pub use pool::{Full, Pool};
+pub use slot_id::SlotId;

@@ -1,0 +1,164 @@
+ghost use Rattle.std.specs.Prelude.{◌≡◌, ◌<◌, ◌≤◌, ◌+◌, ◌^◌, ◌↔◌, Some, None, length, IfOk, OnErr, IsErr, IsOk, IsSome, ℕ, List, IfNone, IfSome, [], slice_set, slice_get, replicate};
+ghost use Rattle.cstn_pool.specs.Slots.{Slots, IsBorn, live_of, value_at};
+ghost use Rattle.cstn_pool.specs.Calls.{Call, AfterCalls};
+
+use crate::slot_id::SlotId;
+use std::alloc::{AllocError, Global};
+use std::marker::Model;
+use thiserror::Error;
+
+/// Every slot of the pool is in use.
+#[derive(Clone, Copy, Debug, PartialEq, Eq, Error)]
+#[error("every slot of the pool is in use")]
+pub struct Full;
+
+/// A fixed number of slots, each free or holding one value under its [`SlotId`].
+///
+/// All memory is taken by [`Pool::start`]: a slot takes the bytes of `Option<(u64, T)>` and 4
+/// for the free list. Every other call takes none, and `take`, `get` and `give` cost the same
+/// however full the pool is.
+#[derive(Drop)]
+pub struct Pool<T: Copy> {
+    slots: Vec<Option<(u64, T)>>,
+    free: Vec<u32>,
+    births: u64,
+}
+
+impl<T: Copy> Model for Pool<T> {
+    ghost use Rattle.std.specs.Prelude.{vec_capacity};
+    ghost use Rattle.cstn_pool.specs.Slots.{Slots, IsPool};
+
+    ghost Value = { Slots T };
+
+    ghost view = { λ p. record { slots = p.slots.items; births = p.births } };
+
+    ghost invariant = { λ p. IsPool p.slots.items p.free.items (vec_capacity p.free) p.births };
+}
+
+impl<T: Copy> Pool<T> {
+    /// An empty pool of this many slots, which may be 0. Fails for want of memory alone.
+    pub fn start(alloc: Global, capacity: u32) -> Result<Pool<T>, AllocError>
+        ensures empty { IfOk result (λ pool. pool ≡ record { slots = replicate capacity None; births = 0 }) }
+    {
+        let size = capacity as usize;
+        let mut slots = Vec::with_capacity(alloc, size)?;
+        let mut free = Vec::with_capacity(alloc, size)?;
+        for slot in 0..capacity {
+            slots.push(None)?;
+            free.push(slot)?;
+        }
+        Ok(Pool {
+            slots,
+            free,
+            births: 0,
+        })
+    }
+
+    /// Puts a value into a free slot, under a birth that was never answered before.
+    pub fn take(&mut self, value: T) -> Result<SlotId, Full>
+        requires { self.old.births < 2 ^ 63 }
+
+        ensures full { IsErr result ↔ (live_of self.old.slots ≡ length self.old.slots) }
+        ensures refused { OnErr result (self.new ≡ self.old) }
+
+        ensures empty { IfOk result (λ id. slice_get self.old.slots id.slot ≡ Some None) }
+        ensures birth { IfOk result (λ id. id.birth ≡ self.old.births) }
+        ensures taken { IfOk result (λ id. self.new ≡ record { slots = slice_set self.old.slots id.slot (Some (id.birth, value)); births = self.old.births + 1 }) }
+
+        // Whichever slots were given back: after any calls there is room up to the capacity.
+        ensures after_calls { (capacity : ℕ) (calls : List (Call T)) → AfterCalls calls (record { slots = replicate capacity None; births = 0 }) self.old → (IsOk result ↔ (live_of self.old.slots < capacity)) }
+    {
+        let Some(slot) = self.free.pop() else {
+            return Err(Full);
+        };
+        let birth = self.births;
+        self.births += 1;
+        self.slots[slot as usize] = Some((birth, value));
+        Ok(SlotId { slot, birth })
+    }
+
+    /// The value under this id; `None` exactly where this slot doesn't hold one of this birth.
+    pub fn get(&self, id: SlotId) -> Option<T>
+        ensures value { result ≡ value_at self.now.slots id.slot id.birth }
+        ensures births { IsBorn self.now.births self.now.slots }
+    {
+        match self.slots.get(id.slot as usize) {
+            Some(Some((birth, value))) if *birth == id.birth => Some(*value),
+            _ => None,
+        }
+    }
+
+    /// Gives the slot back and answers the value; `None` exactly where `get` answers it.
+    pub fn give(&mut self, id: SlotId) -> Option<T>
+        ensures value { result ≡ value_at self.old.slots id.slot id.birth }
+        ensures none { IfNone result (self.new ≡ self.old) }
+        ensures given { IsSome result → self.new ≡ record self.old { slots = slice_set self.old.slots id.slot None } }
+    {
+        let value = self.get(id)?;
+        self.slots[id.slot as usize] = None;
+        self.free.push(id.slot).unwrap();
+        Some(value)
+    }
+
+    /// How many values there are.
+    pub fn live(&self) -> u32
+        ensures live { result ≡ live_of self.now.slots }
+        ensures at_most { result ≤ length self.now.slots }
+    {
+        (self.slots.len() - self.free.len()) as u32
+    }
+
+    /// Empties the pool. Births go on from where they were.
+    pub fn clear(&mut self)
+        ensures { self.new ≡ record self.old { slots = replicate (length self.old.slots) None } }
+    {
+        self.free.clear();
+        for slot in 0..self.slots.len() {
+            self.slots[slot] = None;
+            self.free.push(slot as u32).unwrap();
+        }
+    }
+}
+
+#[cfg(test)]
+mod tests {
+    use super::*;
+
+    #[test]
+    fn one_slot_is_taken_again_under_a_new_birth(rt: HostRuntime) -> Result<(), AllocError> {
+        let mut pool = Pool::start(rt.alloc(), 1)?;
+        let seven = pool.take(7);
+        let first = SlotId { slot: 0, birth: 0 };
+        assert_eq!(rt; seven, Ok(first));
+        assert_eq!(rt; pool.take(9), Err(Full));
+        assert_eq!(rt; pool.give(first), Some(7));
+        let second = SlotId { slot: 0, birth: 1 };
+        assert_eq!(rt; pool.take(8), Ok(second));
+        assert_eq!(rt; pool.get(first), None);
+        assert_eq!(rt; pool.give(first), None);
+        assert_eq!(rt; pool.get(second), Some(8));
+        assert_eq!(rt; pool.live(), 1);
+        pool.clear();
+        assert_eq!(rt; pool.live(), 0);
+        assert_eq!(rt; pool.take(6), Ok(SlotId { slot: 0, birth: 2 }));
+        Ok(())
+    }
+
+    #[test]
+    fn slots_that_came_back_are_taken_again(rt: HostRuntime) -> Result<(), AllocError> {
+        let mut pool = Pool::start(rt.alloc(), 3)?;
+        let one = pool.take(1).unwrap();
+        let two = pool.take(2).unwrap();
+        let three = pool.take(3).unwrap();
+        assert_eq!(rt; pool.give(two), Some(2));
+        assert_eq!(rt; pool.give(two), None);
+        assert_eq!(rt; pool.give(one), Some(1));
+        assert_eq!(rt; pool.live(), 1);
+        assert!(rt; pool.take(4).is_ok());
+        assert!(rt; pool.take(5).is_ok());
+        assert_eq!(rt; pool.take(6), Err(Full));
+        assert_eq!(rt; pool.live(), 3);
+        assert_eq!(rt; pool.get(three), Some(3));
+        Ok(())
+    }
+}
