@@ -1,10 +1,10 @@
 -- What a piece gives: a comment, a tag or a text, with each reference of its form.
-use Rattle.std.proofs.Common.{◌≡◌, ℕ, zero, suc, inl, inr, Bool, true, false, not, List, [], ◌∷◌, take, drop, refl, ap, subst, Option, Some, None, IsSome}
+use Rattle.std.proofs.Common.{◌≡◌, ℕ, zero, suc, inl, inr, Bool, true, false, not, List, [], ◌∷◌, take, drop, refl, ap, subst, Option, Some, None, IsSome, IfSome, option_map, Bor, sym}
 use Rattle.std.specs.Prelude.{codes, ◌==◌, ◌||◌}
 use Rattle.std.specs.List.{prefix_len, AllByRecursion}
 use Rattle.std.proofs.lemmas.Bool.{false≢true}
-use Rattle.cstn_markup.specs.Bytes.{◌>>=◌, when, begins, past, past_white, past_first, resolved}
-use Rattle.cstn_markup.specs.Tokens.{Attribute, Tail, Kind, name_at, value_at, attribute_at, tag_end_at, tail_at, with_front, ended_or, start_tag_at, end_tag_at, text_at, piece_at}
+use Rattle.cstn_markup.specs.Bytes.{◌>>=◌, when, is_same, begins, past, past_white, past_first, resolved}
+use Rattle.cstn_markup.specs.Tokens.{Attribute, Tail, Kind, name_at, value_at, attribute_at, tag_end_at, tail_at, raw_with, attributes_of, attributes_at, with_front, ended_or, start_tag_at, end_tag_at, text_at, piece_at}
 use Rattle.cstn_markup.proofs.Rests.{bind_some, when_some, some_is, which, attribute_parts}
 
 -- a piece is a comment, a tag or a text
@@ -78,6 +78,27 @@ tail_right (suc room) bytes tail e =
     let b = bind_some (tail_at room a.0.1) _ t a.2 in
     subst (λ (w : Tail). AreRight w.attributes) (when_some _ _ t b.2) (attribute_right bytes a.0 a.1, tail_right room a.0.1 b.0 b.1))
     e
+
+right_of : (room : ℕ) (bytes : List ℕ) (o : Option Tail) → tail_at room bytes ≡ o → AreRight (attributes_of o)
+right_of room bytes None e = tt
+right_of room bytes (Some tail) e = tail_right room bytes tail e
+
+pub attributes_right : (room : ℕ) (bytes : List ℕ) → AreRight (attributes_at room bytes)
+attributes_right room bytes = right_of room bytes (tail_at room bytes) refl
+
+-- the value of an attribute is as the values of all are
+pub raw_found : (P : List ℕ → Type 0) (name raw : List ℕ) (attributes : List Attribute) → AllByRecursion (λ a. P a.raw) attributes → Some raw ≡ raw_with name attributes → P raw
+raw_found P name raw [] h e = absurd (cc)
+raw_found P name raw (a ∷ attributes) h e =
+    elim (which (is_same a.name name) (Some a.raw) (raw_with name attributes) (Some raw) (sym e)) [
+      | inl k ↦ subst P (some_is k.1) h.0
+      | inr k ↦ raw_found P name raw attributes h.1 (sym k.1)
+    ]
+
+pub value_found : (P : List ℕ → Type 0) (name : List ℕ) (attributes : List Attribute) (found : Option (Bor (List ℕ))) → AllByRecursion (λ a. P a.raw) attributes
+    → option_map (λ raw. raw.now) found ≡ raw_with name attributes → IfSome found (λ raw. P raw.now)
+value_found P name attributes (Some raw) h e = raw_found P name raw.now attributes h e
+value_found P name attributes None h e = tt
 
 text_when : (b : Bool) (raw rest : List ℕ) (x : Kind × List ℕ) → (b ≡ true → IsSome (resolved raw)) → when b (Kind.text_run raw, rest) ≡ Some x → IsGiven x.0
 text_when true raw rest x h e = subst IsGiven (ap (λ p. p.0) (some_is e)) (h refl)

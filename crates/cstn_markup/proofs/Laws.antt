@@ -1,5 +1,5 @@
 -- The tokens of a text stand in it in order.
-use Rattle.std.proofs.Common.{◌≡◌, ℕ, zero, suc, ◌+◌, ◌-◌, ◌<◌, ◌≤◌, Bool, true, false, cond, List, [], ◌∷◌, ◌++◌, length, length-drop, take, drop, refl, ap, sym, ◌∙◌, subst, arith, Option, Some, None, inl, inr, ◌⊎◌}
+use Rattle.std.proofs.Common.{◌≡◌, ℕ, zero, suc, ◌+◌, ◌-◌, ◌<◌, ◌≤◌, Bool, true, false, cond, List, [], ◌∷◌, ◌++◌, length, length-drop, take, drop, refl, ap, sym, ◌∙◌, subst, arith, Option, Some, None, inl, inr}
 use Rattle.std.specs.Prelude.{codes}
 use Rattle.std.specs.List.{AllByRecursion}
 use Rattle.std.specs.Str.{IsUtf8}
@@ -7,12 +7,13 @@ use Rattle.std.specs.Char.{encode_utf8}
 use Rattle.std.proofs.lemmas.Bool.{cases_lt, and_parts, eqb-true, false≢true}
 use Rattle.std.proofs.lemmas.List.{drop-drop, length-append}
 use Rattle.std.proofs.lemmas.Str.{IsUtf8-past_char, length-encode}
-use Rattle.cstn_markup.specs.Bytes.{◌>>=◌, begins, past_first}
+use Rattle.cstn_markup.specs.Bytes.{begins, past_first}
 use Rattle.cstn_markup.specs.Tokens.{Token, Kind, tokens, tokens_after, tokens_behind, piece_at, mark_len, declaration_len}
 use Rattle.cstn_markup.specs.Spans.{LiesBetween, spans, AreInPlace}
 use Rattle.cstn_markup.proofs.Rests.{IsRest, bind_some, some_is, which, begun_rest, first_rest, no_longer, rest_is, then_rest}
-use Rattle.cstn_markup.proofs.Places.{Spans, all_by, loosen, shift, piece_spans}
-use Rattle.cstn_markup.proofs.Stepping.{Piece, piece_of, token_told, comment_told, wrong_told, finish_told, started}
+use Rattle.cstn_markup.proofs.Places.{all_by, loosen, shift, piece_spans}
+use Rattle.cstn_markup.proofs.Skips.{take_rest}
+use Rattle.cstn_markup.proofs.Stepping.{piece_of, token_told, comment_told, wrong_told, finish_told, started}
 
 -- the first token stands at a place or behind it
 abbrev pub Begins : ℕ → List Token → Type 0
@@ -103,10 +104,10 @@ pub declaration_utf8 : (bytes : List ℕ) (n : ℕ) → declaration_len bytes �
 declaration_utf8 bytes n e u =
     elim (which (begins (codes "<?xml") bytes) _ _ _ e) [
       | inl h ↦
-        let a = bind_some (past_first (codes "?>") (drop 5 bytes)) _ n h.1 in
-        let rests : IsRest bytes a.0 = then_rest bytes _ _ (begun_rest (codes "<?xml") bytes refl h.0) (first_rest 63 (codes ">") _ a.0 refl a.1) in
-        let is : length bytes - length a.0 ≡ n = some_is a.2 in
-        (omega arith, subst (λ k. IsUtf8 (drop k bytes)) is (subst IsUtf8 (sym (rest_is bytes a.0 rests)) (rests.keeps u)))
+          let a = bind_some (past_first (codes "?>") (drop 5 bytes)) _ n h.1 in
+          let rests : IsRest bytes a.0 = then_rest bytes _ _ (begun_rest (codes "<?xml") bytes refl h.0) (first_rest 63 (codes ">") _ a.0 refl a.1) in
+          let is : length bytes - length a.0 ≡ n = some_is a.2 in
+          (omega arith, subst (λ k. IsUtf8 (drop k bytes)) is (subst IsUtf8 (sym (rest_is bytes a.0 rests)) (rests.keeps u)))
       | inr h ↦ subst (λ k. (k ≤ length bytes) × IsUtf8 (drop k bytes)) (some_is h.1) (omega arith, u)
     ]
 
@@ -139,3 +140,14 @@ few text (t ∷ later) h = omega (arith, few_by text t later h)
 
 pub tokens_few : (text : List ℕ) → IsUtf8 text → length (tokens text) ≤ length text + 1
 tokens_few text u = few text (tokens text) (tokens_in_place text u)
+
+pub mark_start : (text : List ℕ) (mark : ℕ) → mark ≡ mark_len text → IsUtf8 text → (mark ≤ length text) × IsUtf8 (drop mark text)
+mark_start text mark is u = rw is (mark_utf8 text u)
+
+-- the same, by the slice that the program reads
+pub started_slice : (text : List ℕ) (mark n : ℕ) → mark ≡ mark_len text → Some n ≡ declaration_len (take (length text - mark) (drop mark text)) → IsUtf8 text → (mark + n ≤ length text) × IsUtf8 (drop (mark + n) text)
+started_slice text mark n is e u = started_utf8 text mark n is (sym (e ∙ ap declaration_len (take_rest mark text))) u
+
+-- what a scanner says at its start, by the tokens it was found to have
+pub told_so : (text : List ℕ) (ts : List Token) → IsUtf8 text → ts ≡ tokens text → (AreInPlace text ts × (length ts ≤ length text + 1))
+told_so text ts u e = rw e (tokens_in_place text u, tokens_few text u)

@@ -1,13 +1,13 @@
 -- The spans of a piece stand in its bytes, from one character on and up to another.
-use Rattle.std.proofs.Common.{◌≡◌, ℕ, zero, suc, ◌+◌, ◌-◌, ◌<◌, ◌≤◌, Bool, true, false, not, List, [], ◌∷◌, length, length-drop, take, drop, refl, ap, sym, ◌∙◌, subst, arith, Option, Some, None, inl, inr}
+use Rattle.std.proofs.Common.{◌≡◌, ℕ, zero, suc, ◌+◌, ◌-◌, ◌≤◌, Bool, not, List, [], ◌∷◌, length, length-drop, take, drop, refl, ap, sym, ◌∙◌, subst, arith, Option, Some, None}
 use Rattle.std.specs.Prelude.{codes, ◌==◌, ◌||◌}
 use Rattle.std.specs.List.{prefix_len, AllByRecursion}
 use Rattle.std.specs.Str.{IsUtf8, IsCharBoundary}
 use Rattle.std.proofs.lemmas.List.{drop-drop}
 use Rattle.std.proofs.lemmas.List.Sums.{prefix_len-le-length}
 use Rattle.std.proofs.lemmas.Str.{IsCharBoundary-start, IsCharBoundary-from_drop, IsCharBoundary-from_rest, IsUtf8-between}
-use Rattle.cstn_markup.specs.Bytes.{◌>>=◌, when, begins, past, is_of_name, past_white, past_first}
-use Rattle.cstn_markup.specs.Tokens.{Attribute, Tail, Kind, name_at, value_at, attribute_at, tag_end_at, tail_at, with_front, ended_or, start_tag_at, end_tag_at, text_at, piece_at}
+use Rattle.cstn_markup.specs.Bytes.{◌>>=◌, past, is_of_name, past_white}
+use Rattle.cstn_markup.specs.Tokens.{Attribute, Tail, Kind, name_at, value_at, attribute_at, tag_end_at, tail_at, attributes_of, attributes_at, with_front, ended_or, start_tag_at, end_tag_at, text_at, piece_at}
 use Rattle.cstn_markup.specs.Spans.{LiesBetween, spans, attribute_spans}
 use Rattle.cstn_markup.proofs.Rests.{IsRest, bind_some, when_some, some_is, then_rest, white_rest, past_rest, name_rest, value_rest, attribute_rest, tail_rest, start_tag_rest, end_tag_rest, text_rest, value_parts, attribute_parts, begun_rest, no_longer, rest_is}
 use Rattle.cstn_markup.proofs.Given.{given_by}
@@ -85,9 +85,10 @@ attribute_span bytes x e u =
     let front : IsRest bytes (past_white p.equals) = then_rest bytes _ _ equals (white_rest p.equals) in
     let valued = value_rest (past_white p.equals) p.value p.valued in
     let behind : IsRest p.name.1 p.value.1 = then_rest _ _ _ p.sign (then_rest _ _ _ (white_rest p.equals) valued) in
-    subst (λ (y : Attribute × List ℕ). Holds bytes y.1 y.0) p.is
-    ( within bytes p.spaced p.name.1 p.value.1 p.name.0 p.white (no_longer _ _ named) (no_longer _ _ behind) (name_span p.spaced p.name p.named (p.white.keeps u))
-    , within bytes (past_white p.equals) p.value.1 p.value.1 p.value.0 front (no_longer _ _ valued) (omega arith) (value_span (past_white p.equals) p.value p.valued (front.keeps u)) )
+    subst (λ (y : Attribute × List ℕ). Holds bytes y.1 y.0) p.is (
+      within bytes p.spaced p.name.1 p.value.1 p.name.0 p.white (no_longer _ _ named) (no_longer _ _ behind) (name_span p.spaced p.name p.named (p.white.keeps u)),
+      within bytes (past_white p.equals) p.value.1 p.value.1 p.value.0 front (no_longer _ _ valued) (omega arith) (value_span (past_white p.equals) p.value p.valued (front.keeps u)),
+    )
 
 abbrev AllHold : List ℕ → Tail → Type 0
 AllHold bytes tail = AllByRecursion (LiesBetween bytes 0 (length bytes - length tail.rest)) (attribute_spans tail.attributes)
@@ -108,10 +109,13 @@ tail_spans (suc room) bytes tail e u =
     let short = no_longer _ _ (tail_rest room a.0.1 b.0 b.1) in
     let own = attribute_span bytes a.0 a.1 u in
     let wide : length bytes - length a.0.1 ≤ length bytes - length b.0.rest = omega arith in
-    subst (λ (w : Tail). AllHold bytes w) (when_some _ _ tail b.2)
-    ( loosen bytes a.0.0.name 0 _ 0 _ (omega arith) wide own.0
-    , ( loosen bytes a.0.0.raw 0 _ 0 _ (omega arith) wide own.1
-      , all_by (attribute_spans b.0.attributes) (λ s. within bytes a.0.1 b.0.rest b.0.rest s rests short (omega arith)) (tail_spans room a.0.1 b.0 b.1 (rests.keeps u)) ) ))
+    subst (λ (w : Tail). AllHold bytes w) (when_some _ _ tail b.2) (
+      loosen bytes a.0.0.name 0 _ 0 _ (omega arith) wide own.0,
+      (
+        loosen bytes a.0.0.raw 0 _ 0 _ (omega arith) wide own.1,
+        all_by (attribute_spans b.0.attributes) (λ s. within bytes a.0.1 b.0.rest b.0.rest s rests short (omega arith)) (tail_spans room a.0.1 b.0 b.1 (rests.keeps u)),
+      ),
+    ))
     e
 
 -- the spans of a token
@@ -125,9 +129,10 @@ start_spans bytes x e u =
     let named = name_rest bytes a.0 a.1 in
     let short = no_longer _ _ (tail_rest 32 a.0.1 b.0 b.1) in
     let len = no_longer _ _ named in
-    subst (λ (y : Kind × List ℕ). Spans bytes y.0 y.1) (some_is b.2)
-    ( loosen bytes a.0.0 0 _ 0 _ (omega arith) (omega arith) (name_span bytes a.0 a.1 u)
-    , all_by (attribute_spans b.0.attributes) (λ s. within bytes a.0.1 b.0.rest b.0.rest s named short (omega arith)) (tail_spans 32 a.0.1 b.0 b.1 (named.keeps u)) )
+    subst (λ (y : Kind × List ℕ). Spans bytes y.0 y.1) (some_is b.2) (
+      loosen bytes a.0.0 0 _ 0 _ (omega arith) (omega arith) (name_span bytes a.0 a.1 u),
+      all_by (attribute_spans b.0.attributes) (λ s. within bytes a.0.1 b.0.rest b.0.rest s named short (omega arith)) (tail_spans 32 a.0.1 b.0 b.1 (named.keeps u)),
+    )
 
 end_spans : (bytes : List ℕ) (x : Kind × List ℕ) → end_tag_at bytes ≡ Some x → IsUtf8 bytes → Spans bytes x.0 x.1
 end_spans bytes x e u =
@@ -158,3 +163,18 @@ piece_spans bytes k rest e u =
 -- a span of UTF-8 is UTF-8
 pub span_utf8 : (text span : List ℕ) (from to : ℕ) → IsUtf8 text → LiesBetween text from to span → IsUtf8 span
 span_utf8 text span from to u s = subst IsUtf8 (sym s.is) (IsUtf8-between text s.begin s.end u s.ordered s.begins s.ends)
+
+-- the spans of UTF-8 are UTF-8
+pub spans_utf8 : (text : List ℕ) (from to : ℕ) (xs : List (List ℕ)) → IsUtf8 text → AllByRecursion (LiesBetween text from to) xs → AllByRecursion IsUtf8 xs
+spans_utf8 text from to xs u h = all_by xs (λ x s. span_utf8 text x from to u s) h
+
+raws_utf8 : (attributes : List Attribute) → AllByRecursion IsUtf8 (attribute_spans attributes) → AllByRecursion (λ a. IsUtf8 a.raw) attributes
+raws_utf8 [] h = tt
+raws_utf8 (a ∷ attributes) h = (h.1.0, raws_utf8 attributes h.1.1)
+
+tail_utf8 : (room : ℕ) (bytes : List ℕ) (o : Option Tail) → tail_at room bytes ≡ o → IsUtf8 bytes → AllByRecursion (λ a. IsUtf8 a.raw) (attributes_of o)
+tail_utf8 room bytes None e u = tt
+tail_utf8 room bytes (Some tail) e u = raws_utf8 tail.attributes (spans_utf8 bytes 0 _ (attribute_spans tail.attributes) u (tail_spans room bytes tail e u))
+
+pub attributes_utf8 : (room : ℕ) (bytes : List ℕ) → IsUtf8 bytes → AllByRecursion (λ a. IsUtf8 a.raw) (attributes_at room bytes)
+attributes_utf8 room bytes u = tail_utf8 room bytes (tail_at room bytes) refl u

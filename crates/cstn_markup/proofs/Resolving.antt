@@ -1,11 +1,11 @@
 -- What references put in: UTF-8 from UTF-8, and the same bytes where there is none.
-use Rattle.std.proofs.Common.{◌≡◌, ℕ, zero, suc, ◌+◌, ◌-◌, ◌<◌, ◌≤◌, ◌≢◌, ◌⊎◌, inl, inr, Bool, true, false, not, List, [], ◌∷◌, ◌++◌, length, take, drop, get_or, refl, ap, sym, ◌∙◌, subst, arith, Option, Some, None, append_assoc, length-drop}
-use Rattle.std.specs.Prelude.{codes, ◌==◌, nat_lt, nat_le, ◌&&◌, if◌then◌else◌}
+use Rattle.std.proofs.Common.{◌≡◌, ℕ, zero, suc, ◌+◌, ◌<◌, ◌≤◌, ◌≢◌, ◌⊎◌, inl, inr, true, false, not, List, [], ◌∷◌, ◌++◌, length, take, drop, get_or, refl, ap, sym, ◌∙◌, subst, arith, Some, None, append_assoc, length-drop}
+use Rattle.std.specs.Prelude.{codes, ◌==◌, nat_lt, nat_le, ◌&&◌}
 use Rattle.std.specs.List.{prefix_len, list_all}
 use Rattle.std.specs.Str.{IsUtf8}
 use Rattle.std.specs.Char.{IsScalar, encode_utf8}
 use Rattle.std.proofs.Math.Seq.{drop-cons, drop-append_seam, take-append_seam, get_or-append_seam}
-use Rattle.std.proofs.lemmas.Bool.{and_parts, cases_Bool, eqb-true, ltb-true, not_from_true}
+use Rattle.std.proofs.lemmas.Bool.{and_parts, eqb-true, ltb-true}
 use Rattle.std.proofs.lemmas.List.{length-append, append-nil}
 use Rattle.std.proofs.lemmas.List.Sums.{prefix_len_stops}
 use Rattle.std.proofs.lemmas.Str.{IsUtf8-take, IsUtf8-drop, IsUtf8-append, IsUtf8-encode, IsCharBoundary-before_ascii}
@@ -86,21 +86,22 @@ unfolding piece_at
 piece_found b bytes piece n e =
     elim (which (b == 38) _ _ _ e) [
       | inl h ↦
-        let a = bind_some (reference_at bytes) _ (piece, n) h.1 in
-        let pair = some_is a.2 in
-        record { case = inl (eqb-true b 38 h.0, a.0.0, a.1 ∙ ap (λ k. Some (a.0.0, k)) (ap (λ p. p.1) pair), sym (ap (λ p. p.0) pair)) }
+          let a = bind_some (reference_at bytes) _ (piece, n) h.1 in
+          let pair = some_is a.2 in
+          record { case = inl (eqb-true b 38 h.0, a.0.0, a.1 ∙ ap (λ k. Some (a.0.0, k)) (ap (λ p. p.1) pair), sym (ap (λ p. p.0) pair)) }
       | inr h ↦
-        let pair = some_is h.1 in
-        record { case = inr (grind arith, sym (ap (λ p. p.1) pair), sym (ap (λ p. p.0) pair)) }
+          let pair = some_is h.1 in
+          record { case = inr (grind arith, sym (ap (λ p. p.1) pair), sym (ap (λ p. p.0) pair)) }
     ]
 
 -- UTF-8 is cut before ASCII
 cut : (head bytes : List ℕ) (b : ℕ) → b < 128 → IsUtf8 (head ++ (b ∷ bytes)) → IsUtf8 head × IsUtf8 (b ∷ bytes)
 cut head bytes b low u =
     let first : get_or (head ++ (b ∷ bytes)) (length head) 0 ≡ b = get_or-append_seam head b bytes 0 in
-    let at = IsCharBoundary-before_ascii (head ++ (b ∷ bytes)) (length head) (omega (arith, length-append head (b ∷ bytes))) (omega (arith, first)) in
-    ( subst IsUtf8 (take-append_seam head (b ∷ bytes)) (IsUtf8-take (head ++ (b ∷ bytes)) (length head) u at)
-    , subst IsUtf8 (drop-append_seam head (b ∷ bytes)) (IsUtf8-drop (head ++ (b ∷ bytes)) (length head) u at) )
+    let at = IsCharBoundary-before_ascii (head ++ (b ∷ bytes)) (length head) (omega (arith, length-append head (b ∷ bytes))) (omega (arith, first)) in (
+      subst IsUtf8 (take-append_seam head (b ∷ bytes)) (IsUtf8-take (head ++ (b ∷ bytes)) (length head) u at),
+      subst IsUtf8 (drop-append_seam head (b ∷ bytes)) (IsUtf8-drop (head ++ (b ∷ bytes)) (length head) u at),
+    )
 
 after_reference : (bytes head more : List ℕ) (b c n : ℕ) → b ≡ 38 → reference_at bytes ≡ Some (c, n) → IsUtf8 (head ++ (b ∷ bytes))
     → ((front : List ℕ) → IsUtf8 (front ++ drop n bytes) → IsUtf8 (front ++ more)) → IsUtf8 (head ++ (encode_utf8 c ++ more))
@@ -151,3 +152,9 @@ resolved_plain [] h = refl
 resolved_plain (b ∷ raw) h =
     let p = and_parts _ (list_all (λ b. not (b == 38)) raw) h in
     rw (plain_piece b raw p.0, resolved_plain raw p.1) refl
+
+-- where nothing is left to put in
+pub all_put : (raw rest put : List ℕ) → length rest ≡ 0 → resolved_after 0 raw ≡ (resolved_after 0 rest >>= λ more. Some (put ++ more)) → resolved raw ≡ Some put
+unfolding resolved_after
+all_put raw [] put h e = e ∙ ap Some (append-nil put)
+all_put raw (b ∷ rest) put h e = absurd (omega arith)
