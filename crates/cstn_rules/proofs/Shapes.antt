@@ -1,14 +1,14 @@
 -- Where conclusions are, and what they mark.
-use Rattle.std.proofs.Common.{ℕ, ◌≡◌, ◌+◌, ◌<◌, Option, None, Some, arith, refl, sym, subst, ap, ◌∙◌}
-use Rattle.std.specs.Prelude.{pos, ◌≤ℤ◌, slice_index_or}
+use Rattle.std.proofs.Common.{ℕ, zero, suc, ◌≡◌, ◌+◌, ◌<◌, ◌≤◌, Option, None, Some, arith, refl, sym, subst, ap, ◌∙◌}
+use Rattle.std.specs.Prelude.{ℤ, pos, ◌≤ℤ◌, slice_index_or}
 use Rattle.std.proofs.lemmas.Int.{ints, clamps}
 use Rattle.cstn_label.specs.declared.marks.Mark.TheVariants.{Absent}
 use Rattle.cstn_label.specs.Labels.{Label, joined, without}
 use Rattle.cstn_label.specs.Bounds.{Bound, Dominates}
 use Rattle.cstn_label.proofs.LabelLemmas.{kept_without, absent_joined}
-use Rattle.cstn_net.specs.Networks.{Network, IsConstraint, Constraint, count, limit}
+use Rattle.cstn_net.specs.Networks.{Network, IsWellFormed, IsConstraint, Constraint, count, limit}
 use Rattle.cstn_net.proofs.Knowledge.{one_observed}
-use Rattle.cstn_rules.specs.Rules.{base, finished, carried, awaited, without_own, IsChain, IsWait}
+use Rattle.cstn_rules.specs.Rules.{base, finished, carried, awaited, without_own, IsChain, IsWait, IsBoundOf}
 
 pub finished_high : (net : Network) (b : Bound) → (finished net b).least ≤ℤ pos (limit net b.node + 1)
 finished_high net b = omega (arith, ints, clamps)
@@ -61,3 +61,23 @@ pub one_wait : (net : Network) (p q : ℕ) (seen b r s : Bound) → IsWait net p
 one_wait net p q seen b r s one other =
     one.gives ∙ ap (λ o. finished net (awaited net o seen b)) (one_observed net seen.node p q one.observes other.observes)
     ∙ sym other.gives
+
+-- a limit is at most 1,000,000
+pub limit_small : (net : Network) (x : ℕ) → IsWellFormed net → limit net x ≤ 1000000
+limit_small net zero good = omega arith
+limit_small net (suc x) good = good.in_time
+
+pub same_bound : (node : ℕ) (d e : ℤ) (a b : Label) → d ≡ e → a ≡ b →
+    ◌≡◌ {A = Bound} (record { node = node; least = d; label = a }) (record { node = node; least = e; label = b })
+same_bound node d e a b same alike = cc
+
+-- wait gives a bound of the network from bounds of it
+pub wait_bound : (net : Network) (p : ℕ) (seen b r : Bound) → IsBoundOf net seen → IsBoundOf net b →
+    IsWait net p seen b r → IsBoundOf net r
+wait_bound net p seen b r first second wait =
+    let within = wait_within net p seen b r second.node wait in
+    record {
+      node = within.0;
+      low = wait_low net p seen b r first.low second.low wait;
+      high = within.1;
+    }

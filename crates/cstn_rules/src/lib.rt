@@ -4,6 +4,7 @@
 mod counters;
 mod entries;
 mod laws;
+mod rules;
 
 pub use counters::Tries;
 pub use entries::{Entry, Why};
@@ -11,3 +12,4 @@ pub use laws::{
     conclusions_stay_within, derivations_are_sound, derivations_move, rules_are_sound,
     waits_are_at_observers,
 };
+pub use rules::{chain, refutes, wait};
