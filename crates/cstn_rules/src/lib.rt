@@ -13,3 +13,6 @@ pub use laws::{
     waits_are_at_observers,
 };
 pub use rules::{chain, refutes, wait};
+
+#[cfg(test)]
+mod tests;

@@ -13,8 +13,8 @@ use crate::counters::Tries;
 use cstn_label::{Bound, Label, Mark, NodeId, Prop};
 use cstn_net::{Constraint, Network};
 
-/// What chain gives from the constraint and the bound, or None where it gives nothing. The conclusion may ask for less
-/// than 0; base dominates it then. One more try is counted.
+/// What chain gives from a constraint of the network and a bound of it, or None where it gives nothing. The conclusion may
+/// ask for less than 0; base dominates it then. One more try is counted.
 pub fn chain(net: &Network, c: &Constraint, b: &Bound, tries: &mut Tries) -> Option<Bound>
     requires constraint { Contains net.now.constraints c.now }
     requires bound { IsBoundOf (the_network net.now) (the_bound b.now) }
@@ -43,7 +43,8 @@ pub fn chain(net: &Network, c: &Constraint, b: &Bound, tries: &mut Tries) -> Opt
     }
 }
 
-/// What wait gives from a bound at an observer and another, or None where it gives nothing. One more try is counted.
+/// What wait gives from two bounds of the network, the first at an observer and the other marking what that observes, or
+/// None where it gives nothing. One more try is counted.
 pub fn wait(net: &Network, seen: &Bound, b: &Bound, tries: &mut Tries) -> Option<Bound>
     requires seen { IsBoundOf (the_network net.now) (the_bound seen.now) }
     requires bound { IsBoundOf (the_network net.now) (the_bound b.now) }
