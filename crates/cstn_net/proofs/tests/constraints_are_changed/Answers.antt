@@ -1,4 +1,4 @@
-use Rattle.std.proofs.Common.{rules, ◌≡◌, ◌<◌, refl, subst, sym}
+use Rattle.std.proofs.Common.{rules, refl, subst, sym}
 use Rattle.cstn_label.specs.Labels.{IsPlain}
 use Rattle.cstn_net.specs.Networks.{IsOnObserved}
 use Rattle.cstn_net.specs.Read.{the_network}
