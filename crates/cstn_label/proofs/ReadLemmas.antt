@@ -1,9 +1,12 @@
 -- A label's marks by the bits of its two words.
-use Rattle.std.proofs.Common.{ℕ, ◌≡◌, Bool, true, false, ◌||◌, ◌&&◌, arith, sym, ◌∙◌, bit_or, bit_and, IsTrue}
+use Rattle.std.proofs.Common.{ℕ, ◌≡◌, ◌≤◌, Bool, true, false, ◌||◌, ◌&&◌, arith, refl, sym, subst, ◌<◌, ◌^◌, ◌∙◌, bit_or, bit_and, IsTrue}
+use Rattle.std.specs.Coded.{le_prop}
+use Rattle.cstn_label.specs.declared.labels.Label.{Label}
+use Rattle.cstn_label.specs.declared.marks.Mark.TheVariants.{Absent}
 use Rattle.cstn_label.specs.Labels.{joined_mark, MarkFits}
 use Rattle.cstn_label.specs.Words.{has_bit, IsApart, IsInside}
-use Rattle.cstn_label.specs.Read.{mark_of}
-use Rattle.cstn_label.proofs.WordLemmas.{has_bit_or, has_bit_and}
+use Rattle.cstn_label.specs.Read.{mark_of, marks}
+use Rattle.cstn_label.proofs.WordLemmas.{has_bit_or, has_bit_and, has_bit_above, same_word}
 
 joined_bits : (y n z m : Bool) → mark_of (y || z) (n || m) ≡ joined_mark (mark_of y n) (mark_of z m)
 joined_bits y n z m = grind arith
@@ -44,3 +47,35 @@ pub apart_from_possible : (y n seen bits : ℕ) →
 apart_from_possible y n seen bits h p e =
     bits_possible_no (has_bit seen p) (has_bit bits p) (has_bit y p) (has_bit n p) (h p)
     (sym (has_bit_and n seen p) ∙ e)
+
+bits_same_yes : (y n z m : Bool) → mark_of y n ≡ mark_of z m → y ≡ z
+bits_same_yes y n z m e = grind arith
+
+bits_same_no : (y n z m : Bool) → mark_of y n ≡ mark_of z m → n ≡ m
+bits_same_no y n z m e = grind arith
+
+same_built : (y n : ℕ) (h k : y < 2 ^ 52) (i j : n < 2 ^ 52) →
+    ◌≡◌ {A = Label} (record { yes = y; no = n; yes_in_range = h; no_in_range = i })
+    (record { yes = y; no = n; yes_in_range = k; no_in_range = j })
+same_built y n h k i j =
+    let e : h ≡ k = le_prop h k in
+    let f : i ≡ j = le_prop i j in
+    cc
+
+same_words : (a b : Label) → a.yes ≡ b.yes → a.no ≡ b.no → a ≡ b
+same_words a b e f =
+    subst (λ z. (k : z < 2 ^ 52) → a ≡ record { yes = z; no = b.no; yes_in_range = k; no_in_range = b.no_in_range }) e
+    (subst (λ m. (j : m < 2 ^ 52) (k : a.yes < 2 ^ 52) →
+    a ≡ record { yes = a.yes; no = m; yes_in_range = k; no_in_range = j }) f
+    (λ j k. same_built a.yes a.no a.yes_in_range k a.no_in_range j) b.no_in_range) b.yes_in_range
+
+-- labels with the same marks are equal
+pub same_label : (a b : Label) → ((p : ℕ) → marks a p ≡ marks b p) → a ≡ b
+same_label a b same = same_words a b
+    (same_word a.yes b.yes (λ p. bits_same_yes (has_bit a.yes p) (has_bit a.no p) (has_bit b.yes p) (has_bit b.no p) (same p)))
+    (same_word a.no b.no (λ p. bits_same_no (has_bit a.yes p) (has_bit a.no p) (has_bit b.yes p) (has_bit b.no p) (same p)))
+
+-- a label marks no proposition above 51
+pub unmarked_above : (a : Label) (p : ℕ) → 52 ≤ p → marks a p ≡ Absent
+unmarked_above a p above =
+    rw (has_bit_above a.yes 52 p a.yes_in_range above, has_bit_above a.no 52 p a.no_in_range above) refl

@@ -1,5 +1,5 @@
 -- Laws of words as sets of their bits.
-use Rattle.std.proofs.Common.{ℕ, ◌≡◌, inl, inr, ◌*◌, ◌%◌, ◌^◌, ◌<◌, ◌≤◌, min, max, true, false, cond, ◌||◌, ◌&&◌, eqb, arith, sym, subst, ◌∙◌, ap, bit_and, bit_or, w64}
+use Rattle.std.proofs.Common.{ℕ, ◌≡◌, inl, inr, ◌*◌, ◌%◌, ◌^◌, ◌<◌, ◌≤◌, min, max, Bool, true, false, cond, ◌||◌, ◌&&◌, eqb, arith, sym, subst, ◌∙◌, ap, bit_and, bit_or, w64}
 use Rattle.std.specs.Int.{bit_at, bit_not}
 use Rattle.std.proofs.Math.Pow.{pow-lt}
 use Rattle.std.proofs.lemmas.Bool.{cases_lt, cases_eq, eqb-true, eqb-false, eq-eqb, ne_eqb}
@@ -109,6 +109,9 @@ has_bit_set word i within k = elim (cases_eq k i) [
       (ap (λ b. eqb b 1) (bit_at_set_other w64 word i (let h : i < 64 = omega arith in h) k other))
 ]
 
+pub or_in_range : (a b : ℕ) → a < 2 ^ 52 → b < 2 ^ 52 → bit_or a b < 2 ^ 52
+or_in_range a b h k = or_lt 52 a b h k
+
 -- with a bit below 52 set, a word below 2 ^ 52 stays so
 pub set_in_range : (word i : ℕ) → i < 52 → word < 2 ^ 52 → bit_or word (1 * 2 ^ i % 2 ^ 64) < 2 ^ 52
 set_in_range word i within small =
@@ -123,3 +126,14 @@ and_again a b = same_from_bits (bit_and (bit_and a b) b) (bit_and a b) (λ i.
     let outer = bit_at_and (bit_and a b) b i in
     let inner = bit_at_and a b i in
     omega arith)
+
+inside_bits : (on b s v : Bool) → (b && s) ≡ b → (cond on v b && cond on true s) ≡ cond on v b
+inside_bits on b s v e = grind arith
+
+-- a word among another stays so where a bit is set there
+pub still_among : (bits seen wide more i : ℕ) (v : Bool) → bit_and bits seen ≡ bits →
+    ((k : ℕ) → has_bit wide k ≡ cond (eqb k i) v (has_bit bits k)) →
+    ((k : ℕ) → has_bit more k ≡ cond (eqb k i) true (has_bit seen k)) → bit_and wide more ≡ wide
+still_among bits seen wide more i v among widened grown = same_word (bit_and wide more) wide (λ k.
+    let both : (has_bit bits k && has_bit seen k) ≡ has_bit bits k = sym (has_bit_and bits seen k) ∙ ap (λ w. has_bit w k) among in
+    has_bit_and wide more k ∙ rw (widened k, grown k) (inside_bits (eqb k i) (has_bit bits k) (has_bit seen k) v both))

@@ -1,11 +1,15 @@
 -- Labels: what a constraint or a bound supposes of each proposition.
-use Rattle.std.specs.Prelude.{ℕ, Bool, true, false, cond, ◌==◌}
+use Rattle.std.specs.Prelude.{ℕ, ◌≢◌, Bool, true, false, cond, ◌==◌}
 use Rattle.cstn_label.specs.declared.marks.Mark.{Mark}
 use Rattle.cstn_label.specs.declared.marks.Mark.TheVariants.{Absent, Yes, No, Unknown}
 
 -- a label gives each proposition a mark
 abbrev pub Label : Type 0
 Label = ℕ → Mark
+
+-- a label marks p where its mark isn't absent
+abbrev pub IsMarked : Label → ℕ → Type 0
+IsMarked a p = a p ≢ Absent
 
 -- a scenario says of each proposition whether it is true
 abbrev pub Scenario : Type 0

@@ -12,8 +12,8 @@ pub struct Known {
 }
 
 impl Known {
-    ghost use Rattle.std.specs.Prelude.{ℕ, ◌≡◌, ◌<◌, ◌==◌, cond, ◌^◌, Option, Some, None, if◌then◌else◌, bit_and, ◌||◌, true, false, ◌≢◌};
-    ghost use Rattle.cstn_label.specs.Read.{is_known, the_values, the_scenario};
+    ghost use Rattle.std.specs.Prelude.{ℕ, ◌≡◌, ◌==◌, true, cond, Option, Some, None, if◌then◌else◌, bit_and};
+    ghost use Rattle.cstn_label.specs.Read.{the_values};
     ghost use Rattle.cstn_label.specs.Words.{has_bit};
 
     /// Nothing is known.
@@ -31,6 +31,17 @@ impl Known {
         Known {
             seen,
             bits: scenario.bits & seen,
+        }
+    }
+
+    /// What is known here, and that p has this value.
+    pub fn with(self, p: Prop, value: bool) -> Known
+        ensures seen { (q : ℕ) → has_bit result.seen q ≡ cond (q == p.index) true (has_bit self.seen q) }
+        ensures values { (q : ℕ) → the_values result q ≡ cond (q == p.index) value (the_values self q) }
+    {
+        Known {
+            seen: with_bit(self.seen, p.index, true),
+            bits: with_bit(self.bits, p.index, value),
         }
     }
 

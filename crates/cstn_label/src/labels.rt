@@ -59,6 +59,7 @@ impl Label {
     }
 
     /// The two labels, joined mark by mark.
+    #[tactic(auto, using(crate::proofs::ReadLemmas::joined_at, crate::proofs::WordLemmas::or_in_range))]
     pub fn join(self, other: Label) -> Label
         ensures join { marks result ≡ joined (marks self) (marks other) }
     {

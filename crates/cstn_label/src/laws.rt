@@ -1,9 +1,17 @@
 // Laws of labels and bounds, for callers to rest on.
-ghost use Rattle.std.specs.Prelude.{ℕ, ◌≡◌, ◌<◌, ◌↔◌, ◌≢◌, Some, Bool, IsTrue};
-ghost use Rattle.cstn_label.specs.Labels.{Label, Scenario, empty, joined, IsPlain, IsWithin, Holds, IsPossible};
+ghost use Rattle.std.specs.Prelude.{ℕ, ◌≡◌, ◌<◌, ◌≤◌, ◌⊎◌, ◌↔◌, Some, Bool, IsTrue};
+ghost use Rattle.cstn_label.specs.declared.labels.Label.{Label as Words};
 ghost use Rattle.cstn_label.specs.declared.marks.Mark.TheVariants.{Absent};
+ghost use Rattle.cstn_label.specs.Labels.{Label, Scenario, empty, joined, IsMarked, IsPlain, IsWithin, Holds, IsPossible};
 ghost use Rattle.cstn_label.specs.Bounds.{Bound, Dominates};
 ghost use Rattle.cstn_label.specs.Letters.{letter_of, prop_of};
+ghost use Rattle.cstn_label.specs.Read.{marks};
+
+/// A label is its marks: equal marks are equal labels, and no proposition above 51 is marked.
+pub fn labels_are_their_marks()
+    ensures same { (a b : Words) → marks a ≡ marks b → a ≡ b }
+    ensures above { (a : Words) (p : ℕ) → 52 ≤ p → marks a p ≡ Absent }
+{}
 
 /// Within is a partial order, with the empty label below all.
 pub fn within_is_an_order()
@@ -23,22 +31,23 @@ pub fn joined_is_the_least_above()
     ensures itself { (a : Label) → joined a a ≡ a }
     ensures empty { (a : Label) → joined a empty ≡ a }
     ensures holds { (s : Scenario) (a b : Label) → (Holds s (joined a b) ↔ (Holds s a × Holds s b)) }
+    ensures plain { (s : Scenario) (a b : Label) → Holds s a → Holds s b → IsPlain (joined a b) }
 {}
 
-/// What is within a possible label is possible, and what was ruled out stays ruled out. A label that holds is possible,
-/// and where all that it marks is known, it is possible only where it holds.
+/// What is within a possible label is possible, and what was ruled out stays ruled out. A label that holds in a scenario
+/// is possible by what is known there, and where all that it marks is known, it is possible only where it holds.
 pub fn possible_until_ruled_out()
     ensures within { (known : ℕ → Bool) (s : Scenario) (a b : Label) → IsWithin a b → IsPossible (λ p. IsTrue (known p)) s b → IsPossible (λ p. IsTrue (known p)) s a }
-    ensures earlier { (known later : ℕ → Bool) (s : Scenario) (a : Label) → ((p : ℕ) → IsTrue (known p) → IsTrue (later p)) → IsPossible (λ p. IsTrue (later p)) s a → IsPossible (λ p. IsTrue (known p)) s a }
-    ensures holds { (known : ℕ → Bool) (s : Scenario) (a : Label) → Holds s a → IsPossible (λ p. IsTrue (known p)) s a }
-    ensures only { (known : ℕ → Bool) (s : Scenario) (a : Label) → ((p : ℕ) → a p ≢ Absent → IsTrue (known p)) → IsPossible (λ p. IsTrue (known p)) s a → Holds s a }
-    ensures plain { (s : Scenario) (a : Label) → Holds s a → IsPlain a }
+    ensures earlier { (known later : ℕ → Bool) (r s : Scenario) (a : Label) → ((p : ℕ) → IsTrue (known p) → IsTrue (later p) × (r p ≡ s p)) → IsPossible (λ p. IsTrue (later p)) s a → IsPossible (λ p. IsTrue (known p)) r a }
+    ensures holds { (known : ℕ → Bool) (r s : Scenario) (a : Label) → ((p : ℕ) → IsTrue (known p) → r p ≡ s p) → Holds s a → IsPossible (λ p. IsTrue (known p)) r a }
+    ensures only { (known : ℕ → Bool) (r s : Scenario) (a : Label) → ((p : ℕ) → IsTrue (known p) → r p ≡ s p) → ((p : ℕ) → IsMarked a p → IsTrue (known p)) → IsPossible (λ p. IsTrue (known p)) r a → Holds s a }
 {}
 
-/// Domination is reflexive and transitive.
+/// Domination is reflexive and transitive, and of two bounds with one label on one time-point, one dominates the other.
 pub fn domination_is_an_order()
     ensures itself { (a : Bound) → Dominates a a }
     ensures through { (a b c : Bound) → Dominates a b → Dominates b c → Dominates a c }
+    ensures one { (a b : Bound) → a.node ≡ b.node → a.label ≡ b.label → Dominates a b ⊎ Dominates b a }
 {}
 
 /// The letter of a proposition stands for that proposition alone.

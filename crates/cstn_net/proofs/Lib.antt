@@ -2,3 +2,9 @@ pub mod Knowledge
 pub mod Dynamic
 pub mod Plain
 pub mod Branch
+pub mod WellFormed
+mod ListLemmas
+mod ObserverLemmas
+mod ChangeLemmas
+mod DraftLemmas
+mod FaultLemmas

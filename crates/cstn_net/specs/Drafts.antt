@@ -1,5 +1,5 @@
 -- What a builder holds, and what keeps it from being a network.
-use Rattle.std.specs.Prelude.{ℕ, ◌≡◌, ◌≢◌, ◌<◌, ◌≤◌, ◌+◌, ◌⊎◌, List, [], ◌∷◌, length, map, take}
+use Rattle.std.specs.Prelude.{ℕ, ◌≡◌, ◌≢◌, ◌<◌, ◌≤◌, ◌+◌, ◌⊎◌, List, [], ◌∷◌, length, map, take, Option, None, Some, slice_index_or}
 use Rattle.std.specs.List.{All, HoldsAt}
 use Rattle.cstn_label.specs.declared.marks.Mark.TheVariants.{Absent}
 use Rattle.cstn_label.specs.Labels.{Label, IsPlain}
@@ -9,14 +9,18 @@ use Rattle.cstn_net.specs.declared.points.TimePoint.{TimePoint}
 use Rattle.cstn_net.specs.declared.drafts.Draft.{Draft}
 use Rattle.cstn_net.specs.declared.errors.NetError.{NetError}
 use Rattle.cstn_net.specs.declared.errors.NetError.TheVariants.{TooManyNodes, NoOrigin, TooManyConstraints, DeadlineRange, ValueRange, NotObserved, TwoObservers, NotPlain, Memory}
-use Rattle.cstn_net.specs.Networks.{Network, Observes, IsValue}
-use Rattle.cstn_net.specs.Read.{the_constraint, observed, reaction_of}
+use Rattle.cstn_net.specs.Networks.{IsValue}
+use Rattle.cstn_net.specs.Read.{observed}
 
 -- the deadline, the time-points and the constraints that were handed in
 pub record BuilderParts : Type 0 where
   pub deadline : ℕ
   pub points : List TimePoint
   pub drafts : List Draft
+
+-- what each time-point observes
+abbrev pub observations : BuilderParts → List (Option ℕ)
+observations b = map observed b.points
 
 -- the constraint of a draft, under its id
 abbrev pub constraint_of : ℕ → Draft → Constraint
@@ -26,15 +30,6 @@ constraint_of id d = record { id = id; from = record { 0 = d.from }; to = record
 abbrev pub constraints_from : ℕ → List Draft → List Constraint
 constraints_from k [] = []
 constraints_from k (d ∷ ds) = constraint_of k d ∷ constraints_from (k + 1) ds
-
--- the network that a builder stands for
-abbrev pub the_draft : BuilderParts → Network
-the_draft b = record {
-  deadline = b.deadline;
-  observes = map observed b.points;
-  reaction = reaction_of b.points;
-  constraints = map the_constraint (constraints_from 0 b.drafts);
-}
 
 -- the ends are two of the first n time-points
 abbrev pub IsDraftAmong : ℕ → Draft → Type 0
@@ -46,24 +41,34 @@ pub record IsFirst {X : Type 0} (P : X → Type 0) (xs : List X) (k : ℕ) : Typ
   pub here : HoldsAt P xs k
   pub before : All (λ x. P x → ⊥) (take k xs)
 
--- the label names p, which no time-point observes
-pub record LacksObserver (net : Network) (p : ℕ) (a : Label) : Type 0 where
-  pub named : a p ≢ Absent
-  pub unobserved : (x : ℕ) → Observes net x p → ⊥
+-- p is the least number at which the fact holds of the first x at which it holds of some number
+pub record IsLeastOfFirst {X : Type 0} (P : ℕ → X → Type 0) (xs : List X) (p : ℕ) : Type 0 where
+  pub place : ℕ
+  pub first : IsFirst (λ x. (q : ℕ) × P q x) xs place
+  pub has : HoldsAt (P p) xs place
+  pub least : (q : ℕ) → q < p → HoldsAt (λ x. P q x → ⊥) xs place
 
--- p is the least unobserved proposition of the first constraint that names one
-pub record IsFirstUnobserved (net : Network) (drafts : List Draft) (p : ℕ) : Type 0 where
-  pub constraint : ℕ
-  pub first : IsFirst (λ d. (q : ℕ) × LacksObserver net q (marks d.label)) drafts constraint
-  pub lacks : HoldsAt (λ d. LacksObserver net p (marks d.label)) drafts constraint
-  pub least : (q : ℕ) → q < p → HoldsAt (λ d. LacksObserver net q (marks d.label) → ⊥) drafts constraint
+-- the label names p, which no time-point observes
+pub record LacksObserver (observes : List (Option ℕ)) (a : Label) (p : ℕ) : Type 0 where
+  pub named : a p ≢ Absent
+  pub unobserved : (x : ℕ) → slice_index_or observes x None ≡ Some p → ⊥
+
+-- two time-points before n observe one proposition
+pub record HasTwins (observes : List (Option ℕ)) (n : ℕ) : Type 0 where
+  pub x : ℕ
+  pub y : ℕ
+  pub p : ℕ
+  pub ordered : x < y
+  pub before : y < n
+  pub one : slice_index_or observes x None ≡ Some p
+  pub other : slice_index_or observes y None ≡ Some p
 
 -- `second` is the first time-point whose proposition p an earlier one, `first`, observes
-pub record IsFirstTwin (net : Network) (p first second : ℕ) : Type 0 where
-  pub earlier : first < second
-  pub one : Observes net first p
-  pub other : Observes net second p
-  pub least : (x y q : ℕ) → x < y → y < second → Observes net x q → Observes net y q → ⊥
+pub record AreFirstTwins (observes : List (Option ℕ)) (p first second : ℕ) : Type 0 where
+  pub ordered : first < second
+  pub one : slice_index_or observes first None ≡ Some p
+  pub other : slice_index_or observes second None ≡ Some p
+  pub none_before : HasTwins observes second → ⊥
 
 -- what each refusal says of a builder
 abbrev pub HasFault : BuilderParts → NetError → Type 0
@@ -72,10 +77,25 @@ HasFault b NoOrigin = length b.points ≡ 0
 HasFault b TooManyConstraints = 16384 < length b.drafts
 HasFault b (DeadlineRange deadline) = (deadline ≡ b.deadline) × (1000000 < b.deadline)
 HasFault b (ValueRange constraint) = IsFirst (λ d. IsValue d.most → ⊥) b.drafts constraint
-HasFault b (NotObserved prop) = IsFirstUnobserved (the_draft b) b.drafts prop.index
-HasFault b (TwoObservers prop first second) = IsFirstTwin (the_draft b) prop.index first.0 second.0
+HasFault b (NotObserved prop) =
+    IsLeastOfFirst (λ q d. LacksObserver (observations b) (marks d.label) q) b.drafts prop.index
+HasFault b (TwoObservers prop first second) = AreFirstTwins (observations b) prop.index first.0 second.0
 HasFault b (NotPlain constraint) = IsFirst (λ d. IsPlain (marks d.label) → ⊥) b.drafts constraint
 HasFault b (Memory e) = ⊥
+
+-- a builder without the faults of N1 to N4
+pub record IsSized (b : BuilderParts) : Type 0 where
+  pub few_points : length b.points ≤ 1024
+  pub origin : 0 < length b.points
+  pub few_constraints : length b.drafts ≤ 16384
+  pub in_time : b.deadline ≤ 1000000
+
+-- a builder without the faults of N5 to N8
+pub record IsSound (b : BuilderParts) : Type 0 where
+  pub values : All (λ d. IsValue d.most) b.drafts
+  pub observed : All (λ d. (q : ℕ) → LacksObserver (observations b) (marks d.label) q → ⊥) b.drafts
+  pub no_twins : HasTwins (observations b) (length b.points) → ⊥
+  pub plain : All (λ d. IsPlain (marks d.label)) b.drafts
 
 -- the number of a refusal, and 0 for want of memory
 abbrev pub number : NetError → ℕ

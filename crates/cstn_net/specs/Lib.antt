@@ -2,5 +2,6 @@ pub mod Networks
 pub mod Strategies
 pub mod Bounds
 pub mod Read
+pub mod Observers
 pub mod Examples
 pub mod Drafts

@@ -1,13 +1,15 @@
 -- A printed name is text, and gives the name back.
-use Rattle.std.proofs.Common.{◌≡◌, ◌≢◌, ℕ, zero, suc, ◌+◌, ◌*◌, ◌/◌, ◌%◌, ◌<◌, ◌≤◌, List, [], ◌∷◌, ◌++◌, length, get_or, drop, refl, ap, sym, ◌∙◌, subst, arith, Bool, true, false, not, ◌&&◌, append_assoc, append-nil, ⊎_elim, ◌⊎◌}
+use Rattle.std.proofs.Common.{◌≡◌, ◌≢◌, ℕ, zero, suc, ◌+◌, ◌*◌, ◌/◌, ◌%◌, ◌<◌, ◌≤◌, List, [], ◌∷◌, ◌++◌, length, get_or, drop, refl, ap, sym, ◌∙◌, subst, arith, Bool, true, false, not, ◌&&◌, append_assoc, append-nil, ⊎_elim, ◌⊎◌, length-append}
 use Rattle.std.specs.Prelude.{◌==◌, nat_lt, nat_le, Some, None, if◌then◌else◌, bytes_eq}
 use Rattle.std.specs.Fmt.{digit_glyph}
 use Rattle.std.specs.Str.{IsUtf8, IsAscii, is_utf8, encode_utf8_all, all_scalars}
 use Rattle.std.proofs.Math.Utf8.{encode, scalar}
 use Rattle.std.proofs.lemmas.Bool.{false≢true}
+use Rattle.std.proofs.lemmas.Slice.Eq.{bytes_eq-Decides}
 use Rattle.std.proofs.lemmas.Grind.{flat_map-append}
 use Rattle.std.proofs.lemmas.Str.{inside_one, encode_ascii, IsUtf8-nil, IsUtf8-append, IsUtf8-from_ascii, IsUtf8-encode, is_utf8-from_IsUtf8, IsUtf8-from_is_utf8}
-use Rattle.cstn_text.specs.PrintedNames.{is_plain_byte, printed_byte, printed_name, hex_value, escaped_byte, unprinted_after, unprinted, is_name, name_read}
+use Rattle.cstn_text.specs.PrintedNames.{is_plain_byte, printed_byte, printed_name, hex_value, escaped_byte, unprinted_after, unprinted, name_read}
+use Rattle.cstn_text.specs.Names.{IsName, is_name}
 
 not_true : (b : Bool) → (b ≡ true → ⊥) → b ≡ false
 not_true true wrong = absurd (wrong refl)
@@ -134,3 +136,48 @@ no_text bytes text is not_text =
 pub true_from_not : (b : Bool) → not b ≡ false → b ≡ true
 true_from_not true e = refl
 true_from_not false e = sym e
+
+shape_true : (n : ℕ) → 1 ≤ n → n ≤ 64 → (nat_lt 0 n && nat_le n 64) ≡ true
+shape_true n some few = grind arith
+
+-- the text of a name is told back
+told_back : (text : List ℕ) → unprinted (printed_name text) ≡ text
+unfolding unprinted_after
+told_back text = ap unprinted (sym (append-nil (printed_name text))) ∙ text_back text [] ∙ append-nil text
+
+-- a printed name is read again
+pub name_back : (name : List ℕ) → IsName name → name_read (printed_name name) ≡ Some name
+name_back name is =
+    sym (accepted (printed_name name) name (printed_name name) (sym (told_back name)) (IsUtf8-from_is_utf8 name is.utf8) (shape_true (length name) is.some is.few) refl
+    ((bytes_eq-Decides (printed_name name) (printed_name name)).1 refl))
+
+-- no two texts are printed alike
+pub printed_once : (one other : List ℕ) → printed_name one ≡ printed_name other → one ≡ other
+printed_once one other same = sym (told_back one) ∙ ap unprinted same ∙ told_back other
+
+chosen_is : {A : Type 0} (utf8 some few same : Bool) (x y : A) → (if (utf8 && (some && few)) && same then Some x else None) ≡ Some y → (utf8 ≡ true) × (some ≡ true) × (few ≡ true) × (same ≡ true) × (x ≡ y)
+chosen_is utf8 some few same x y e = grind arith
+
+shape_is : (n : ℕ) → nat_lt 0 n ≡ true → nat_le n 64 ≡ true → (1 ≤ n) × (n ≤ 64)
+shape_is n some few = grind arith
+
+-- what is read is a name, and its printed form stood there
+pub name_printed : (bytes name : List ℕ) → name_read bytes ≡ Some name → (printed_name name ≡ bytes) × IsName name
+name_printed bytes name e =
+    let text = unprinted bytes in
+    let found = chosen_is (is_utf8 text) (nat_lt 0 (length text)) (nat_le (length text) 64) (bytes_eq (printed_name text) bytes) text name e in
+    let sizes = shape_is (length text) found.1 found.2 in
+    subst (λ (t : List ℕ). (printed_name t ≡ bytes) × IsName t) found.4
+    ((bytes_eq-Decides (printed_name text) bytes).0 found.3, record { some = sizes.0; few = sizes.1; utf8 = found.0 })
+
+byte_length : (b : ℕ) (plain : Bool) → is_plain_byte b ≡ plain → (1 ≤ length (printed_byte b)) × (length (printed_byte b) ≤ 3)
+byte_length b true e = rw e (omega arith, omega arith)
+byte_length b false e = rw e (omega arith, omega arith)
+
+-- a printed name is at least as long as the name, and at most three times as long
+pub name_length : (text : List ℕ) → (length text ≤ length (printed_name text)) × (length (printed_name text) ≤ 3 * length text)
+name_length [] = (omega arith, omega arith)
+name_length (b ∷ text) =
+    let more = name_length text in
+    let here = byte_length b (is_plain_byte b) refl in
+    rw length-append (omega arith, omega arith)

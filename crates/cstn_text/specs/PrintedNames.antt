@@ -1,7 +1,7 @@
 -- Names as they stand in lines.
-use Rattle.std.specs.Prelude.{ℕ, zero, suc, ◌+◌, ◌-◌, ◌*◌, ◌/◌, ◌%◌, Bool, true, ◌&&◌, ◌||◌, not, ◌==◌, nat_lt, nat_le, List, [], ◌∷◌, length, slice_index, flat_map, Option, Some, None, if◌then◌else◌, bytes_eq}
+use Rattle.std.specs.Prelude.{ℕ, zero, suc, ◌+◌, ◌-◌, ◌*◌, ◌/◌, ◌%◌, Bool, true, ◌&&◌, ◌||◌, not, ◌==◌, nat_le, List, [], ◌∷◌, slice_index, flat_map, Option, Some, None, if◌then◌else◌, bytes_eq}
 use Rattle.std.specs.Fmt.{digit_glyph}
-use Rattle.std.specs.Str.{is_utf8}
+use Rattle.cstn_text.specs.Names.{is_name}
 
 -- a byte that stands for itself: from 21 to 7E hexadecimal but for `%`, and from 80 on
 abbrev pub is_plain_byte : ℕ → Bool
@@ -32,10 +32,6 @@ unprinted_after (suc skip) (b ∷ bytes) = unprinted_after skip bytes
 -- the text that was printed, if one was
 abbrev pub unprinted : List ℕ → List ℕ
 unprinted bytes = unprinted_after 0 bytes
-
--- a text of UTF-8 of 1 to 64 bytes
-abbrev pub is_name : List ℕ → Bool
-is_name text = is_utf8 text && (nat_lt 0 (length text) && nat_le (length text) 64)
 
 -- the name of which these bytes are the printed form
 abbrev pub name_read : List ℕ → Option (List ℕ)

@@ -1,8 +1,9 @@
 //! The names of a network's time-points.
 
-ghost use Rattle.std.specs.Prelude.{◌≡◌, ◌<◌, ◌^◌, ◌-◌, ◌++◌, ◌∷◌, ◌↔◌, ◌⊎◌, [], Contains, length, IfOk, IsTrue, OnErr, IsErrOf, ◌&&◌, nat_lt, nat_le};
+ghost use Rattle.std.specs.Prelude.{◌≡◌, ◌<◌, ◌^◌, ◌-◌, ◌++◌, ◌∷◌, ◌↔◌, ◌⊎◌, [], Contains, length, IfOk, IsTrue, OnErr, IsErrOf, ◌&&◌, nat_lt, nat_le, slice_get, Some};
 ghost use Rattle.cstn_text.specs.Names.{AreNames, number_of};
 
+use cstn_label::NodeId;
 use indexmap::IndexSet;
 use std::alloc::{AllocError, Global};
 use std::marker::Model;
@@ -68,6 +69,15 @@ impl Names {
             Some(i) => Some(i as u32),
             None => None,
         }
+    }
+
+    /// The name of a number.
+    pub fn name(&self, x: NodeId) -> &str
+        requires { x.0 < length self.now }
+        ensures name { slice_get self.now x.0 ≡ Some result.now }
+    {
+        let name = self.set.get_index(x.index()).unwrap();
+        name.as_str()
     }
 
     fn is_known(&self, name: &str) -> bool
