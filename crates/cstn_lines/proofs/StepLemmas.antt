@@ -1,5 +1,6 @@
 use Rattle.std.proofs.Common.{◌≡◌, ◌≢◌, ℕ, ◌+◌, ◌-◌, ◌^◌, ◌<◌, ◌≤◌, List, [], ◌∷◌, ◌++◌, length, take, drop, get_or, refl, ap, sym, ◌∙◌, subst, arith, zero, suc, append_assoc, append-nil, length-drop}
-use Rattle.std.specs.Prelude.{Bool, true, false, Option, None, Some}
+use Rattle.std.specs.Prelude.{true, false, Option, None, Some}
+use Rattle.std.proofs.lemmas.Bool.{false≢true}
 use Rattle.std.proofs.lemmas.Grind.{common_steps}
 use Rattle.cstn_io.specs.Contents.{after_bytes}
 use Rattle.cstn_lines.specs.Pieces.{lines_of, whole_lines, IsCut, HasNoEnd, is_past}
@@ -61,13 +62,10 @@ refuse_long kept shown count n after same none long number stays counts =
 one_first : (kept line other : List ℕ) (lines others : List (List ℕ)) (n : ℕ) → lines_of kept ≡ line ∷ lines → lines_of kept ≡ other ∷ others → is_past n other ≡ false → is_past n line ≡ true → ⊥
 one_first kept line other lines others n is its fits past =
     let same : line ≡ other = heads line other lines others (sym is ∙ its) in
-    differ (is_past n other) fits (subst (λ (x : List ℕ). is_past n x ≡ true) same past)
+    false≢true (sym fits ∙ subst (λ (x : List ℕ). is_past n x ≡ true) same past)
   where
     heads : (x y : List ℕ) (xs ys : List (List ℕ)) → x ∷ xs ≡ y ∷ ys → x ≡ y
     heads x y xs ys e = cc
-
-    differ : (b : Bool) → b ≡ false → b ≡ true → ⊥
-    differ b f t = absurd (cc)
 
 -- a line that is whole and short enough isn't past what a grammar has
 pub whole_not_past : (state : LinesState) (shown bytes : List ℕ) (start i : ℕ) → shown ≡ state.kept → IsCut shown i → state.kept ≡ drop start bytes → length bytes ≤ 4097 → state.count < 2 ^ 24 → IsPast state → ⊥

@@ -1,8 +1,8 @@
 -- Live lines.
-use Rattle.std.specs.Prelude.{ℕ, ◌+◌, ◌^◌, Bool, true, false, ◌==◌, nat_lt, if◌then◌else◌, List, [], ◌∷◌, take, drop, position, Option, None, Some, codes, bytes_eq}
+use Rattle.std.specs.Prelude.{ℕ, ◌+◌, ◌^◌, ◌<◌, ◌++◌, Bool, true, false, ◌==◌, nat_lt, if◌then◌else◌, List, [], ◌∷◌, take, drop, position, Option, None, Some, codes, bytes_eq}
 use Rattle.std.specs.Option.{option_map, option_and_then}
-use Rattle.cstn_label.specs.Letters.{prop_of}
-use Rattle.cstn_text.specs.Numbers.{number_read}
+use Rattle.cstn_label.specs.Letters.{letter_of, prop_of}
+use Rattle.cstn_text.specs.Numbers.{number_read, printed_number}
 use Rattle.cstn_lines.specs.declared.live.LiveLine.{LiveLine}
 use Rattle.cstn_lines.specs.declared.live.LiveLine.TheVariants.{Moment, See, Due}
 
@@ -45,3 +45,19 @@ operands_read parts = if bytes_eq parts.0 (codes "moment") then moment_read part
 -- a live line is `due`, or `moment` or `see`, a space, and what follows that word
 abbrev pub live_read : List ℕ → Option Live
 live_read bytes = if bytes_eq bytes (codes "due") then Some due_now else option_and_then operands_read (cut_at_space bytes)
+
+-- a number below 2^32, or a proposition's number
+abbrev pub IsLive : Live → Type 0
+IsLive (moment_at t) = t < 2 ^ 32
+IsLive (seen p value) = p < 52
+IsLive due_now = Unit {0}
+
+abbrev pub printed_truth : Bool → List ℕ
+printed_truth true = codes "true"
+printed_truth false = codes "false"
+
+-- the text of a live line: its parts, with one space between
+abbrev pub printed_live : Live → List ℕ
+printed_live (moment_at t) = codes "moment" ++ 32 ∷ printed_number t
+printed_live (seen p value) = codes "see" ++ 32 ∷ letter_of p ∷ 32 ∷ printed_truth value
+printed_live due_now = codes "due"

@@ -1,5 +1,5 @@
 -- Bytes as lines.
-use Rattle.std.specs.Prelude.{◌≡◌, ◌≢◌, ℕ, ◌<◌, ◌^◌, Bool, nat_lt, ◌||◌, ◌==◌, if◌then◌else◌, List, [], ◌∷◌, length, get_or}
+use Rattle.std.specs.Prelude.{◌≡◌, ◌≢◌, ℕ, ◌<◌, ◌^◌, Bool, nat_lt, ◌||◌, ◌==◌, if◌then◌else◌, List, [], ◌∷◌, ◌++◌, length, get_or}
 
 -- the byte begins the first line
 abbrev pub onto : ℕ → List (List ℕ) → List (List ℕ)
@@ -10,6 +10,11 @@ onto b (line ∷ lines) = (b ∷ line) ∷ lines
 abbrev pub lines_of : List ℕ → List (List ℕ)
 lines_of [] = []
 lines_of (b ∷ bs) = if b == 10 then [] ∷ lines_of bs else onto b (lines_of bs)
+
+-- the lines, each with its LF
+abbrev pub joined : List (List ℕ) → List ℕ
+joined [] = []
+joined (line ∷ lines) = line ++ 10 ∷ joined lines
 
 -- the byte begins the first line, if there is one
 abbrev pub onto_some : ℕ → List (List ℕ) → List (List ℕ)

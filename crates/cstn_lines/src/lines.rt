@@ -30,6 +30,7 @@ pub enum Next {
 }
 
 /// Cuts a source into lines. Each ends with LF, but the last may lack it.
+// The line handed out last stands from `first` to `last`, and what is kept from `start` on.
 #[derive(Drop)]
 pub struct Lines {
     bytes: Vec<u8>,
@@ -195,8 +196,8 @@ impl Lines {
         }
     }
 
-    /// The next line. It is kept whole, or past what a grammar has, or the source has ended: then nothing is
-    /// read. After `End` and `Wrong` each step says the same again.
+    /// The next line. Nothing is read where it is kept whole or is already too long, or where the source has
+    /// ended. After `End` and `Wrong` each step says the same again.
     pub fn step<S: Source>(&mut self, source: &mut S) -> Next
         ensures steps { (taken : List ℕ) × (S.left source.old ≡ after_bytes taken (S.left source.new)) × (self.old.ended ≡ true → taken ≡ []) × Steps (self.old.kept ++ taken) self.old.count self.new result }
 

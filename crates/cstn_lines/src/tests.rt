@@ -1,6 +1,6 @@
 ghost use Rattle.std.specs.Prelude.{◌<◌};
 
-use crate::{LiveLine, Lines, Next, read_live};
+use crate::{Lines, LiveLine, Next, read_live};
 use cstn_io::MemorySource;
 use cstn_label::Prop;
 use std::alloc::{AllocError, Global};
@@ -16,11 +16,7 @@ fn source_of(
 ) -> Result<MemorySource, AllocError>
     requires { 0 < most }
 {
-    Ok(MemorySource::new(
-        bytes.to_vec(alloc)?,
-        failing.to_vec(alloc)?,
-        most,
-    ))
+    Ok(MemorySource::new(bytes.to_vec(alloc)?, failing.to_vec(alloc)?, most))
 }
 
 // The next step hands out this line.
@@ -85,7 +81,10 @@ fn expect_none(rt: &impl Abort, bytes: &[u8]) {
 #[test]
 fn live_lines(rt: HostRuntime) -> Result<(), Fail> {
     assert_eq!(rt; read_live(b"due"), Some(LiveLine::Due));
-    assert_eq!(rt; read_live(b"moment 4294967295"), Some(LiveLine::Moment { t: 4_294_967_295 }));
+    assert_eq!(rt;
+        read_live(b"moment 4294967295"),
+        Some(LiveLine::Moment { t: 4_294_967_295 })
+    );
     let seen = Prop::from_letter(b'p').map(|prop| LiveLine::See { prop, value: false });
     assert_eq!(rt; read_live(b"see p false"), seen);
     expect_none(&rt, b"moment");

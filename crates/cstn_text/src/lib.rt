@@ -15,3 +15,6 @@ pub use names::{NameError, Names};
 pub use numbers::{read_number, read_value};
 pub use printed_labels::{print_label, read_label};
 pub use printed_names::{print_name, read_name};
+
+#[cfg(test)]
+mod tests;

@@ -1,0 +1,128 @@
+use crate::{
+    NameError, Names, print_label, print_name, read_label, read_name, read_number, read_value,
+};
+use cstn_label::NodeId;
+use std::alloc::Global;
+use std::process::Abort;
+use std::test::Fail;
+
+// The number of a name that was pushed.
+fn pushed(rt: &impl Abort, names: &mut Names, name: &str) -> Option<u32> {
+    assert!(rt; names.count() < 1000);
+    names.push(name).ok()
+}
+
+#[test]
+fn names_are_numbered_in_order(rt: HostRuntime) -> Result<(), Fail> {
+    let mut names = Names::new(rt.alloc());
+    assert_eq!(rt; pushed(&rt, &mut names, "Z"), Some(0));
+    assert_eq!(rt; pushed(&rt, &mut names, "X"), Some(1));
+    assert_eq!(rt; names.find("X"), Some(1));
+    assert_eq!(rt; names.find("Y"), None);
+    assert_eq!(rt; names.find(""), None);
+    assert_eq!(rt; names.count(), 2);
+    assert_eq!(rt; names.name(NodeId(0)), "Z");
+    assert!(rt; matches!(names.push("Z"), Err(NameError::Twice)));
+    assert!(rt; names.count() < 1000);
+    assert!(rt; matches!(names.push(""), Err(NameError::Shape)));
+    let long = "é123456789012345678901234567890123456789012345678901234567890123";
+    assert_eq!(rt; pushed(&rt, &mut names, long), None);
+    assert_eq!(rt; pushed(&rt, &mut names, &long[2..]), Some(2));
+    assert_eq!(rt; pushed(&rt, &mut names, &long[..64]), Some(3));
+    Ok(())
+}
+
+// The name is printed so, and read again.
+fn printed(rt: &impl Abort, alloc: Global, name: &str, text: &str) -> Result<(), Fail> {
+    let found = print_name(alloc, name)?;
+    assert_eq!(rt; found.as_str(), text);
+    let back = read_name(alloc, text.as_bytes())?.expect(rt, text);
+    assert_eq!(rt; back.as_str(), name);
+    Ok(())
+}
+
+fn no_name(rt: &impl Abort, alloc: Global, bytes: &[u8]) -> Result<(), Fail> {
+    assert!(rt; read_name(alloc, bytes)?.is_none());
+    Ok(())
+}
+
+#[test]
+fn names_are_printed_and_read(rt: HostRuntime) -> Result<(), Fail> {
+    let alloc = rt.alloc();
+    printed(&rt, alloc, "Z", "Z")?;
+    printed(&rt, alloc, "a b", "a%20b")?;
+    printed(&rt, alloc, "100%", "100%25")?;
+    printed(&rt, alloc, "\u{7F}\0/é", "%7F%00/é")?;
+    no_name(&rt, alloc, b"")?;
+    no_name(&rt, alloc, b"%2f")?;
+    no_name(&rt, alloc, b"%2F")?;
+    no_name(&rt, alloc, b"%41")?;
+    no_name(&rt, alloc, b"a b")?;
+    no_name(&rt, alloc, b"%2")?;
+    no_name(&rt, alloc, b"%C3%A9")?;
+    no_name(&rt, alloc, b"\xFF")?;
+    no_name(&rt, alloc, &[b'a'; 65])?;
+    assert_eq!(rt; print_name(alloc, "")?.as_str(), "");
+    Ok(())
+}
+
+// The text is a label, which is printed so.
+fn label(rt: &impl Abort, alloc: Global, text: &[u8], found: &str) -> Result<(), Fail> {
+    let label = read_label(text).expect(rt, found);
+    assert_eq!(rt; print_label(alloc, label)?.as_str(), found);
+    Ok(())
+}
+
+#[test]
+fn labels_are_printed_and_read(rt: HostRuntime) -> Result<(), Fail> {
+    let alloc = rt.alloc();
+    label(&rt, alloc, b"-", "-")?;
+    label(&rt, alloc, b"!p!q", "!p!q")?;
+    label(&rt, alloc, b"qp", "pq")?;
+    label(&rt, alloc, b"z?aA", "A?az")?;
+    for text in [
+        b"" as &[u8],
+        b"p!p",
+        b"pp",
+        b"!",
+        b"!!p",
+        b"--",
+        b"-p",
+        b"p q",
+        b"1",
+    ] {
+        assert!(rt; read_label(text).is_none());
+    }
+    Ok(())
+}
+
+#[test]
+fn numbers_and_values_are_read(rt: HostRuntime) {
+    assert_eq!(rt; read_number(b"0"), Some(0));
+    assert_eq!(rt; read_number(b"18446744073709551615"), Some(u64::MAX));
+    for text in [
+        b"" as &[u8],
+        b"00",
+        b"07",
+        b"-1",
+        b"+1",
+        b"1 ",
+        b"18446744073709551616",
+    ] {
+        assert_eq!(rt; read_number(text), None);
+    }
+    assert_eq!(rt; read_value(b"0"), Some(0));
+    assert_eq!(rt; read_value(b"2147483647"), Some(i32::MAX));
+    assert_eq!(rt; read_value(b"-2147483648"), Some(i32::MIN));
+    for text in [
+        b"" as &[u8],
+        b"-0",
+        b"+5",
+        b"05",
+        b"-",
+        b"2147483648",
+        b"-2147483649",
+    ] {
+        assert_eq!(rt; read_value(text), None);
+    }
+}
