@@ -10,3 +10,7 @@ mod LogKept
 mod LogLatest
 mod LogTurns
 mod LogDecides
+pub mod Many
+pub mod Building
+pub mod Verdicts
+pub mod Decisions

@@ -3,7 +3,8 @@ pub mod Requests
 pub mod Statuses
 pub mod Files
 pub mod Plans
-pub mod Outputs
-pub mod Read
+pub mod Documents
 pub mod Growth
 pub mod Logs
+pub mod Outputs
+pub mod Read

@@ -1,32 +1,61 @@
 -- What each request says.
-use Rattle.std.specs.Prelude.{◌≡◌, ℕ, List, [], get_or, Option, None, Some, codes}
+use Rattle.std.specs.Prelude.{◌≡◌, ℕ, not, if◌then◌else◌, List, [], ◌++◌, get_or, Option, None, Some, IsSomeAnd, codes, decimal}
+use Rattle.cstn_net.specs.Networks.{Network}
+use Rattle.cstn_net.specs.Strategies.{IsConsistent}
 use Rattle.cstn_top.specs.Texts.{line}
 use Rattle.cstn_top.specs.Requests.{Request, check, files_of}
 use Rattle.cstn_top.specs.Files.{AreContents}
 use Rattle.cstn_top.specs.Plans.{Said, Plan, says}
+use Rattle.cstn_top.specs.Growth.{is_refuted, log_of, load_of}
+use Rattle.cstn_top.specs.Documents.{document_of}
 use Rattle.cstn_top.specs.declared.output.Outcome.{Outcome}
-use Rattle.cstn_top.specs.declared.output.Outcome.TheVariants.{Words, Document}
+use Rattle.cstn_top.specs.declared.output.Outcome.TheVariants.{Good, Bad, Words, Document}
 
 -- a line, and how the request ends
 abbrev pub say : Outcome → List ℕ → Said
 say outcome text = record { outcome = outcome; text = line text }
 
--- what is said of a document with this deadline
-abbrev pub checked : List ℕ → ℕ → Said
-checked bytes deadline = say Document (codes "document later")
+-- the verdict on a network: yes where its log isn't refuted, and its load
+abbrev pub verdict : Network → Said
+verdict net =
+    if not (is_refuted net (log_of net)) then say Good (codes "yes " ++ decimal (load_of net)) else say Bad (codes "no " ++ decimal (load_of net))
+
+-- what is said of a document, if it is accepted
+abbrev pub checked : Option Network → Said
+checked None = say Document (codes "document later")
+checked (Some net) = verdict net
 
 -- the plan of a request whose files have these contents
 abbrev pub plan_at : Request → List (List ℕ) → Plan
-plan_at (check asked) contents = says (checked (get_or contents 0 []) asked.deadline)
+plan_at (check asked) contents = says (checked (document_of (get_or contents 0 []) asked.deadline))
 
 -- the plan of words
 abbrev pub plan_of : Option Request → List (List ℕ) → Plan
 plan_of None contents = says (say Words (codes "words"))
 plan_of (Some request) contents = plan_at request contents
 
--- the plan is that of the request, with the contents of its files
-abbrev pub Planned : Request → Option (List ℕ → Option (List ℕ)) → Plan → Type 0
-Planned request told plan = (contents : List (List ℕ)) × AreContents told (files_of request) contents × (plan_at request contents ≡ plan)
+-- a network that is said to be good is consistent, and one that is said to be bad isn't
+abbrev pub IsRight : Outcome → Option Network → Type 0
+IsRight Good net = IsSomeAnd net IsConsistent
+IsRight Bad net = IsSomeAnd net (λ n. IsConsistent n → ⊥)
+IsRight Words net = Unit {0}
+IsRight Document net = Unit {0}
+
+-- the network that a request asks about
+abbrev pub network_at : Request → List (List ℕ) → Option Network
+network_at (check asked) contents = document_of (get_or contents 0 []) asked.deadline
+
+-- the text is that of the request, with the contents of its files, and its verdict is right
+pub record Planned (request : Request) (told : Option (List ℕ → Option (List ℕ))) (said : Said) : Type 0 where
+  pub contents : List (List ℕ)
+  pub are : AreContents told (files_of request) contents
+  pub plan : plan_at request contents ≡ says said
+  pub right : IsRight said.outcome (network_at request contents)
+
+-- where files are told, the network that words ask about has the property
+abbrev pub AsksAbout : Option Request → Option (List ℕ → Option (List ℕ)) → (Network → Type 0) → Type 0
+AsksAbout None told holds = ⊥
+AsksAbout (Some request) told holds = (contents : List (List ℕ)) × AreContents told (files_of request) contents × IsSomeAnd (network_at request contents) holds
 
 -- the request reads the live source
 abbrev pub ReadsLive : Option Request → Type 0

@@ -2,6 +2,8 @@
 use Rattle.std.specs.Prelude.{string_bytes}
 use Rattle.cstn_top.specs.Plans.{Said}
 use Rattle.cstn_top.specs.Requests.{Asked, Request, check}
+use Rattle.cstn_top.specs.Documents.{Compact}
+use Rattle.cstn_top.specs.declared.document.Compact.{Compact as CompactParts}
 use Rattle.cstn_top.specs.declared.output.Said.{Said as SaidText}
 use Rattle.cstn_top.specs.declared.words.Asked.{Asked as AskedWords}
 use Rattle.cstn_top.specs.declared.words.Request.{Request as RequestWords}
@@ -17,3 +19,7 @@ the_asked asked = record { file = asked.file.now; deadline = asked.deadline }
 
 abbrev pub the_request : RequestWords → Request
 the_request (Check asked) = check (the_asked asked)
+
+-- what a document says
+abbrev pub the_document : CompactParts → Compact
+the_document document = record { count = document.count; edges = document.edges.items }

@@ -4,7 +4,6 @@ ghost use Rattle.std.specs.List.{list_all};
 ghost use Rattle.cstn_io.specs.Causes.{Rose};
 ghost use Rattle.cstn_top.specs.Requests.{files_of};
 ghost use Rattle.cstn_top.specs.Read.{the_request, the_said};
-ghost use Rattle.cstn_top.specs.Plans.{says};
 ghost use Rattle.cstn_top.specs.Outputs.{Planned};
 
 mod check;
@@ -29,7 +28,7 @@ pub(crate) fn prepare<F: Shelf>(
     shelf: &mut F,
 ) -> Result<Said, Refused>
     requires may_ask { IsTrue (list_all (F.may_ask shelf.old) (files_of (the_request request))) }
-    ensures plan { IfOk result (λ said. Planned (the_request request.entry) (F.files shelf.old) (says (the_said said))) }
+    ensures plan { IfOk result (λ said. Planned (the_request request.entry) (F.files shelf.old) (the_said said)) }
     ensures fault { IsErrOf result Refused.ReadFault → Rose (F.faults shelf.old) (F.faults shelf.new) }
 {
     match request {

@@ -2,7 +2,9 @@
 #![tactic(auto)]
 
 mod commands;
+mod document;
 mod growth;
+mod networks;
 mod output;
 mod status;
 mod top;

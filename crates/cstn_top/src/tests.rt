@@ -15,6 +15,11 @@ struct Setting<'a> {
 const PAIR: &str =
     "<graphml><graph><node id=\"Z\"/><node id=\"X\"/><edge source=\"X\" target=\"Z\"><data key=\"LabeledValues\">{(-5, ⊡)}</data></edge></graph></graphml>";
 
+const LOOP: &str =
+    "<graphml><graph><node id=\"Z\"/><node id=\"X\"/><edge source=\"X\" target=\"X\"><data key=\"LabeledValues\">{(-1, ⊡)}</data></edge></graph></graphml>";
+
+const ORIGIN: &str = "<graphml><graph><node id=\"Z\"/></graph></graphml>";
+
 fn quiet(document: &[u8]) -> Setting<'_> {
     Setting {
         document,
@@ -58,6 +63,36 @@ fn expect(
     Ok(())
 }
 
+// A check of this document with this deadline answers and writes this.
+fn expect_check(
+    rt: &impl Abort,
+    alloc: Global,
+    document: &[u8],
+    deadline: &str,
+    status: Status,
+    text: &str,
+) -> Result<(), Fail> {
+    let words = ["check", "pair", "--deadline", deadline];
+    expect(rt, alloc, &words, quiet(document), status, text)
+}
+
+#[test]
+fn checks(rt: HostRuntime) -> Result<(), Fail> {
+    let alloc = rt.alloc();
+    expect_check(&rt, alloc, PAIR.as_bytes(), "5", Status::Good, "yes 3\n")?;
+    expect_check(&rt, alloc, PAIR.as_bytes(), "4", Status::Bad, "no 3\n")?;
+    expect_check(&rt, alloc, LOOP.as_bytes(), "3", Status::Bad, "no 6\n")?;
+    expect_check(&rt, alloc, ORIGIN.as_bytes(), "0", Status::Good, "yes 1\n")?;
+    expect_check(
+        &rt,
+        alloc,
+        b"\xff",
+        "5",
+        Status::Document,
+        "document later\n",
+    )
+}
+
 #[test]
 fn refuses_words(rt: HostRuntime) -> Result<(), Fail> {
     let alloc = rt.alloc();
@@ -65,20 +100,6 @@ fn refuses_words(rt: HostRuntime) -> Result<(), Fail> {
     expect(&rt, alloc, &["check"], pair, Status::Words, "words\n")?;
     let words = ["check", "pair", "--deadline", "1001"];
     expect(&rt, alloc, &words, pair, Status::Words, "words\n")
-}
-
-#[test]
-fn refuses_documents(rt: HostRuntime) -> Result<(), Fail> {
-    let alloc = rt.alloc();
-    let words = ["check", "pair", "--deadline", "5"];
-    expect(
-        &rt,
-        alloc,
-        &words,
-        quiet(b"\xff"),
-        Status::Document,
-        "document later\n",
-    )
 }
 
 #[test]

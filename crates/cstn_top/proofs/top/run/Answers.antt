@@ -1,6 +1,7 @@
 use Rattle.cstn_top.specs.Plans.{Live}
 use Rattle.cstn_top.specs.Read.{the_request, the_said}
-use Rattle.cstn_top.proofs.Endings.{words_end, fault_end, memory_end, says_end, only_words}
+use Rattle.cstn_top.specs.declared.output.Outcome.TheVariants.{Good, Bad, Words}
+use Rattle.cstn_top.proofs.Endings.{words_end, fault_end, memory_end, says_end, only_words, outcome_of, good_is_consistent, bad_is_inconsistent}
 use Rattle.cstn_top.proofs.top.run.Goals as goal
 
 pub returns-in_default-clause-output : goal.returns-in_default-clause-output
@@ -16,7 +17,18 @@ returns-in-Ok-clause-output g c =
 
 pub returns-in-Ok-clause-words_only : goal.returns-in-Ok-clause-words_only
 returns-in-Ok-clause-words_only g c = λ is.
-    absurd (only_words (the_request c.in-Some.request) (g.F.Shelf.files c.args.shelf.now) (the_said c.in-Ok.said) c.status.result _ c.in-Ok.ensures.plan c.status.ensures.status c.finish-in-Ok.ensures.status is)
+    absurd (only_words (the_request c.in-Some.request) (g.F.Shelf.files c.args.shelf.now) (the_said c.in-Ok.said) c.in-Ok.ensures.plan
+    (outcome_of c.in-Ok.said.outcome Words c.status.result _ c.status.ensures.status c.finish-in-Ok.ensures.status is))
+
+pub returns-in-Ok-clause-consistent : goal.returns-in-Ok-clause-consistent
+returns-in-Ok-clause-consistent g c = λ is.
+    good_is_consistent _ (the_request c.in-Some.request) (g.F.Shelf.files c.args.shelf.now) (the_said c.in-Ok.said) c.in-Some.ensures.request c.in-Ok.ensures.plan
+    (outcome_of c.in-Ok.said.outcome Good c.status.result _ c.status.ensures.status c.finish-in-Ok.ensures.status is)
+
+pub returns-in-Ok-clause-inconsistent : goal.returns-in-Ok-clause-inconsistent
+returns-in-Ok-clause-inconsistent g c = λ is.
+    bad_is_inconsistent _ (the_request c.in-Some.request) (g.F.Shelf.files c.args.shelf.now) (the_said c.in-Ok.said) c.in-Some.ensures.request c.in-Ok.ensures.plan
+    (outcome_of c.in-Ok.said.outcome Bad c.status.result _ c.status.ensures.status c.finish-in-Ok.ensures.status is)
 
 pub returns-in-Err-ReadFault-clause-output : goal.returns-in-Err-ReadFault-clause-output
 returns-in-Err-ReadFault-clause-output g c =
