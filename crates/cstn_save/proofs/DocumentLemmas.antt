@@ -1,0 +1,45 @@
+-- The lines of a document, one after the other.
+use Rattle.std.proofs.Common.{◌≡◌, ℕ, ◌+◌, ◌<◌, List, [], ◌∷◌, ◌++◌, ◌∙◌, ap, sym, append-nil, add-one, length, take, map, get_or, Option, Some, None}
+use Rattle.std.specs.Prelude.{slice_get, slice_index_or}
+use Rattle.std.proofs.lemmas.Grind.{flat_map-append}
+use Rattle.std.proofs.lemmas.List.{take_more, map-append}
+use Rattle.std.proofs.lemmas.Option.{get_or_from_slice_get}
+use Rattle.cstn_net.specs.Networks.{Constraint}
+use Rattle.cstn_net.specs.declared.constraints.Constraint.{Constraint as NetConstraint}
+use Rattle.cstn_net.specs.Read.{the_constraint}
+use Rattle.cstn_save.specs.Canonical.{node_line, nodes_below, edge_tag, edge_data, edge_line, edges}
+use Rattle.cstn_save.proofs.JoinLemmas.{two}
+
+-- a constraint's line is put
+pub edge_put : (names : List (List ℕ)) (c : Constraint) (source target old t1 t2 : List ℕ) → slice_get names c.from ≡ Some source → slice_get names c.to ≡ Some target
+    → t1 ≡ old ++ edge_tag source target → t2 ≡ t1 ++ edge_data c.most c.label → t2 ≡ old ++ edge_line names c
+edge_put names c source target old t1 t2 from to e1 e2 =
+    let s : source ≡ get_or names c.from [] = sym (get_or_from_slice_get names c.from source [] from) in
+    let t : target ≡ get_or names c.to [] = sym (get_or_from_slice_get names c.to target [] to) in
+    let tag : edge_tag source target ≡ edge_tag (get_or names c.from []) (get_or names c.to []) = ap (λ (x : List ℕ). edge_tag x target) s ∙ ap (λ (x : List ℕ). edge_tag (get_or names c.from []) x) t in
+    two old (edge_tag (get_or names c.from []) (get_or names c.to [])) (edge_data c.most c.label) t1 t2 (e1 ∙ ap (λ (x : List ℕ). old ++ x) tag) e2
+
+-- the lines of one more constraint
+pub edges_more : (names : List (List ℕ)) (xs : List NetConstraint) (i : ℕ) (x : NetConstraint) (old text new : List ℕ) → i < length xs → x ≡ get_or xs i x
+    → text ≡ old ++ edges names (map the_constraint (take i xs)) → new ≡ text ++ edge_line names (the_constraint x) → new ≡ old ++ edges names (map the_constraint (take (i + 1) xs))
+edges_more names xs i x old text new inside is so_far put =
+    let more : take (i + 1) xs ≡ take i xs ++ x ∷ [] = take_more xs i x inside ∙ ap (λ (y : NetConstraint). take i xs ++ y ∷ []) (sym is) in
+    let lines : edges names (map the_constraint (take (i + 1) xs)) ≡ edges names (map the_constraint (take i xs)) ++ edge_line names (the_constraint x) =
+    ap (λ (ys : List NetConstraint). edges names (map the_constraint ys)) more
+    ∙ ap (edges names) (map-append the_constraint (take i xs) (x ∷ []))
+    ∙ flat_map-append (edge_line names) (map the_constraint (take i xs)) (the_constraint x ∷ [])
+    ∙ ap (λ (ys : List ℕ). edges names (map the_constraint (take i xs)) ++ ys) (append-nil (edge_line names (the_constraint x))) in
+    two old (edges names (map the_constraint (take i xs))) (edge_line names (the_constraint x)) text new so_far put ∙ ap (λ (ys : List ℕ). old ++ ys) (sym lines)
+
+pub nodes_none : (names : List (List ℕ)) (observes : List (Option ℕ)) (old : List ℕ) → old ≡ old ++ nodes_below names observes 0
+unfolding nodes_below
+nodes_none names observes old = sym (append-nil old)
+
+-- the lines of one more time-point
+pub nodes_more : (names : List (List ℕ)) (observes : List (Option ℕ)) (n : ℕ) (name : List ℕ) (o : Option ℕ) (old text new : List ℕ) → slice_get names n ≡ Some name → o ≡ slice_index_or observes n None
+    → text ≡ old ++ nodes_below names observes n → new ≡ text ++ node_line name o → new ≡ old ++ nodes_below names observes (n + 1)
+unfolding nodes_below
+nodes_more names observes n name o old text new named observed so_far put =
+    let same : node_line name o ≡ node_line (get_or names n []) (slice_index_or observes n None) =
+    ap (λ (x : List ℕ). node_line x o) (sym (get_or_from_slice_get names n name [] named)) ∙ ap (λ (y : Option ℕ). node_line (get_or names n []) y) observed in
+    rw add-one (two old (nodes_below names observes n) (node_line (get_or names n []) (slice_index_or observes n None)) text new so_far (put ∙ ap (λ (x : List ℕ). text ++ x) same))

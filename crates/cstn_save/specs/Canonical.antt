@@ -1,0 +1,92 @@
+-- The canonical document of a network.
+use Rattle.std.specs.Prelude.{ℕ, zero, suc, Bool, ◌&&◌, ◌||◌, ◌==◌, nat_le, List, [], ◌∷◌, ◌++◌, slice_index_or, flat_map, Option, Some, None, if◌then◌else◌, codes, ℤ}
+use Rattle.cstn_label.specs.declared.marks.Mark.{Mark}
+use Rattle.cstn_label.specs.declared.marks.Mark.TheVariants.{Absent, Yes, No, Unknown}
+use Rattle.cstn_label.specs.Labels.{Label}
+use Rattle.cstn_label.specs.Letters.{letter_of}
+use Rattle.cstn_net.specs.Networks.{Network, Constraint, count}
+use Rattle.cstn_text.specs.Numbers.{printed_number, printed_value}
+
+-- a byte that is written by its number: from 01 to 1F hexadecimal, and 7F
+abbrev pub is_numbered : ℕ → Bool
+is_numbered b = nat_le 1 b && nat_le b 31 || b == 127
+
+-- the bytes that stand for a byte of a name
+abbrev pub escaped_byte : ℕ → List ℕ
+escaped_byte b =
+    if b == 38 then codes "&amp;"
+    else if b == 60 then codes "&lt;"
+    else if b == 62 then codes "&gt;"
+    else if b == 34 then codes "&quot;"
+    else if is_numbered b then codes "&#" ++ printed_number b ++ codes ";"
+    else b ∷ []
+
+-- a name is escaped byte by byte
+abbrev pub escaped_name : List ℕ → List ℕ
+escaped_name name = flat_map escaped_byte name
+
+-- a literal: its letter, after the two bytes of U+00AC where it is negated; a constraint has no unknown mark
+abbrev pub literal : ℕ → Mark → List ℕ
+literal letter Absent = []
+literal letter Yes = letter ∷ []
+literal letter No = 194 ∷ 172 ∷ letter ∷ []
+literal letter Unknown = []
+
+-- the literals of the propositions below n, in ascending order
+unfoldable pub literals_below : Label → ℕ → List ℕ
+literals_below a zero = []
+literals_below a (suc n) = literals_below a n ++ literal (letter_of n) (a n)
+
+-- the three bytes of U+22A1 stand for no literal
+abbrev pub or_empty : List ℕ → List ℕ
+or_empty [] = 226 ∷ 138 ∷ 161 ∷ []
+or_empty (b ∷ bytes) = b ∷ bytes
+
+-- the label of a document
+abbrev pub document_label : Label → List ℕ
+document_label a = or_empty (literals_below a 52)
+
+-- the first four lines
+abbrev pub head : ℕ → List ℕ
+head deadline =
+    codes "<?xml version=\"1.0\" encoding=\"UTF-8\"?>\n<graphml>\n<graph edgedefault=\"directed\">\n<data key=\"Deadline\">"
+    ++ printed_number deadline ++ codes "</data>\n"
+
+-- what follows the name in the line of a time-point, by what it observes
+abbrev pub node_end : Option ℕ → List ℕ
+node_end None = codes "\"/>\n"
+node_end (Some p) = codes "\"><data key=\"Obs\">" ++ letter_of p ∷ codes "</data></node>\n"
+
+-- the line of a time-point
+abbrev pub node_line : List ℕ → Option ℕ → List ℕ
+node_line name observes = codes "<node id=\"" ++ escaped_name name ++ node_end observes
+
+-- the lines of the first n time-points
+unfoldable pub nodes_below : List (List ℕ) → List (Option ℕ) → ℕ → List ℕ
+nodes_below names observes zero = []
+nodes_below names observes (suc n) = nodes_below names observes n ++ node_line (slice_index_or names n []) (slice_index_or observes n None)
+
+-- the start tag of a constraint's edge
+abbrev pub edge_tag : List ℕ → List ℕ → List ℕ
+edge_tag source target = codes "<edge source=\"" ++ escaped_name source ++ codes "\" target=\"" ++ escaped_name target ++ codes "\">"
+
+-- what the edge of a constraint holds
+abbrev pub edge_data : ℤ → Label → List ℕ
+edge_data most label =
+    codes "<data key=\"Type\">requirement</data><data key=\"LabeledValues\">{(" ++ printed_value most ++ codes ", " ++ document_label label ++ codes ")}</data></edge>\n"
+
+-- the line of a constraint
+abbrev pub edge_line : List (List ℕ) → Constraint → List ℕ
+edge_line names c = edge_tag (slice_index_or names c.from []) (slice_index_or names c.to []) ++ edge_data c.most c.label
+
+-- the lines of constraints
+abbrev pub edges : List (List ℕ) → List Constraint → List ℕ
+edges names constraints = flat_map (edge_line names) constraints
+
+-- the last two lines
+abbrev pub tail : List ℕ
+tail = codes "</graph>\n</graphml>\n"
+
+-- the canonical document: the deadline, the time-points by number, and the constraints by id
+abbrev pub canonical : Network → List (List ℕ) → List ℕ
+canonical net names = head net.deadline ++ nodes_below names net.observes (count net) ++ edges names net.constraints ++ tail

@@ -1,0 +1,87 @@
+use crate::write;
+use cstn_label::{Label, Mark, NodeId, Prop};
+use cstn_net::{Builder, Network};
+use cstn_text::Names;
+use std::alloc::Global;
+use std::process::Abort;
+use std::test::Fail;
+
+fn prop(rt: &impl Abort, letter: u8) -> Prop {
+    Prop::from_letter(letter).expect(rt, "a letter")
+}
+
+fn name(rt: &impl Abort, names: &mut Names, name: &str) -> Result<(), Fail> {
+    assert!(rt; names.count() < 1000);
+    names.push(name)?;
+    Ok(())
+}
+
+// The document of a network under its names.
+fn document(rt: &impl Abort, alloc: Global, net: &Network, names: &Names) -> Result<String, Fail> {
+    assert!(rt; names.count() == net.count() as u32);
+    assert!(rt; names.count() > 0);
+    assert!(rt; names.name(NodeId(0)) == "Z");
+    let bytes = write(alloc, net, names)?;
+    Ok(String::from_utf8_lossy(alloc, &bytes)?)
+}
+
+const BRANCH: &str = "<?xml version=\"1.0\" encoding=\"UTF-8\"?>
+<graphml>
+<graph edgedefault=\"directed\">
+<data key=\"Deadline\">10</data>
+<node id=\"Z\"/>
+<node id=\"P\"><data key=\"Obs\">p</data></node>
+<node id=\"X\"/>
+<edge source=\"X\" target=\"Z\"><data key=\"Type\">requirement</data><data key=\"LabeledValues\">{(-10, p)}</data></edge>
+<edge source=\"Z\" target=\"X\"><data key=\"Type\">requirement</data><data key=\"LabeledValues\">{(3, ¬p)}</data></edge>
+</graph>
+</graphml>
+";
+
+#[test]
+fn the_branch_network(rt: HostRuntime) -> Result<(), Fail> {
+    let alloc = rt.alloc();
+    let p = prop(&rt, b'p');
+    let mut names = Names::new(alloc);
+    name(&rt, &mut names, "Z")?;
+    name(&rt, &mut names, "P")?;
+    name(&rt, &mut names, "X")?;
+    let mut builder = Builder::new(alloc, 10);
+    builder.node(None)?;
+    builder.node(Some(p))?;
+    builder.node(None)?;
+    builder.constrain(2, 0, -10, Label::empty().with(p, Mark::Yes))?;
+    builder.constrain(0, 2, 3, Label::empty().with(p, Mark::No))?;
+    let net = builder.close()?;
+    let text = document(&rt, alloc, &net, &names)?;
+    assert_eq!(rt; text.len(), 434);
+    assert_eq!(rt; text.as_str(), BRANCH);
+    Ok(())
+}
+
+const ESCAPED: &str = "<?xml version=\"1.0\" encoding=\"UTF-8\"?>
+<graphml>
+<graph edgedefault=\"directed\">
+<data key=\"Deadline\">0</data>
+<node id=\"Z\"/>
+<node id=\"a&amp;&lt;&gt;&quot;'&#10;&#9;&#127;\0é\"/>
+<edge source=\"Z\" target=\"a&amp;&lt;&gt;&quot;'&#10;&#9;&#127;\0é\"><data key=\"Type\">requirement</data><data key=\"LabeledValues\">{(-5, ⊡)}</data></edge>
+</graph>
+</graphml>
+";
+
+#[test]
+fn names_are_escaped(rt: HostRuntime) -> Result<(), Fail> {
+    let alloc = rt.alloc();
+    let mut names = Names::new(alloc);
+    name(&rt, &mut names, "Z")?;
+    name(&rt, &mut names, "a&<>\"'\n\t\u{7F}\0é")?;
+    let mut builder = Builder::new(alloc, 0);
+    builder.node(None)?;
+    builder.node(None)?;
+    builder.constrain(0, 1, -5, Label::empty())?;
+    let net = builder.close()?;
+    let text = document(&rt, alloc, &net, &names)?;
+    assert_eq!(rt; text.as_str(), ESCAPED);
+    Ok(())
+}
