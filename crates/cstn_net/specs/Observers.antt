@@ -24,6 +24,12 @@ pub record IsUnseen (table : List (Option NodeId)) (a : Label) (p : ℕ) : Type 
   pub named : a p ≢ Absent
   pub unseen : slice_index_or table p None ≡ None
 
+-- the time-point x observes p, whose first observer y is another
+pub record IsTwin (table : List (Option NodeId)) (observes : Option ℕ) (x : NodeId) (p : ℕ) (y : NodeId) : Type 0 where
+  pub observed : observes ≡ Some p
+  pub first : slice_index_or table p None ≡ Some y
+  pub other : y ≢ x
+
 -- what a network of the program keeps
 pub record IsKept (deadline : ℕ) (points : List TimePoint) (table : List (Option NodeId)) (constraints : List Constraint) : Type 0 where
   pub observers : KnowsObservers (map observed points) table

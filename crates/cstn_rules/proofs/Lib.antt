@@ -1,0 +1,4 @@
+pub mod Sound
+pub mod Derived
+pub mod Shapes
+mod OptionLemmas

@@ -1,0 +1,4 @@
+pub mod Rules
+pub mod Derivations
+pub mod Closed
+pub mod Read

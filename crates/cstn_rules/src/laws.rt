@@ -1,0 +1,49 @@
+// Laws of the rules.
+ghost use Rattle.std.specs.Prelude.{ℕ, ◌≡◌, ◌+◌, ◌<◌, ◌≤ℤ◌, ◌<ℤ◌, pos, List, ◌++◌, Some, slice_get};
+ghost use Rattle.std.specs.List.{Contains};
+ghost use Rattle.cstn_label.specs.declared.marks.Mark.TheVariants.{Absent};
+ghost use Rattle.cstn_label.specs.Labels.{IsMarked, Scenario, Holds};
+ghost use Rattle.cstn_label.specs.Bounds.{Bound, Dominates};
+ghost use Rattle.cstn_net.specs.Networks.{Network, IsNetwork, IsConstraint, Constraint, Observes, count, limit};
+ghost use Rattle.cstn_net.specs.Strategies.{Table, IsDynamic, IsStrategy, IsConsistent, Meets};
+ghost use Rattle.cstn_net.specs.Bounds.{HoldsIn};
+ghost use Rattle.cstn_rules.specs.declared.entries.Why.TheVariants.{Chain};
+ghost use Rattle.cstn_rules.specs.Rules.{base, IsBase, IsChain, IsWait, Refutes};
+ghost use Rattle.cstn_rules.specs.Derivations.{Entry, IsDerivation, IsRefutation};
+
+/// Base holds in every table, and what wait gives holds in each table in which its premises hold; what chain gives does in
+/// each dynamic table that meets its constraint. A bound that refutes a network holds in none of its strategies.
+pub fn rules_are_sound()
+    ensures base { (net : Network) (table : Table) (r : Bound) → IsBase net r → HoldsIn net table r }
+    ensures chain { (net : Network) (table : Table) (c : Constraint) (b r : Bound) → IsNetwork net → IsDynamic net table → ((s : Scenario) → Holds s c.label → Meets (table s) c) → c.from < count net → IsChain net c b r → HoldsIn net table b → HoldsIn net table r }
+    ensures wait { (net : Network) (table : Table) (p : ℕ) (seen b r : Bound) → IsNetwork net → IsWait net p seen b r → HoldsIn net table seen → HoldsIn net table b → HoldsIn net table r }
+    ensures refuting { (net : Network) (table : Table) (b : Bound) → IsStrategy net table → Refutes net b → HoldsIn net table b → ⊥ }
+{}
+
+/// Each bound of a derivation holds in every strategy, and a network with a refutation has no strategy.
+pub fn derivations_are_sound()
+    ensures each { (net : Network) (table : Table) (steps : List Entry) (k : ℕ) (e : Entry) → IsNetwork net → IsStrategy net table → IsDerivation net steps → slice_get steps k ≡ Some e → HoldsIn net table e.bound }
+    ensures refuted { (net : Network) (steps : List Entry) → IsNetwork net → IsRefutation net steps → IsConsistent net → ⊥ }
+{}
+
+/// A conclusion is at a time-point of the network, asks for at most the limit + 1, and marks only what its premises or its
+/// constraint mark. One that asks for less than 0 is dominated by base.
+pub fn conclusions_stay_within()
+    ensures chain { (net : Network) (c : Constraint) (b r : Bound) → IsConstraint net c → IsChain net c b r → (r.node < count net) × (r.least ≤ℤ pos (limit net r.node + 1)) }
+    ensures chain_marks { (net : Network) (c : Constraint) (b r : Bound) (p : ℕ) → IsChain net c b r → b.label p ≡ Absent → c.label p ≡ Absent → r.label p ≡ Absent }
+    ensures wait { (net : Network) (p : ℕ) (seen b r : Bound) → b.node < count net → IsWait net p seen b r → (r.node < count net) × (r.least ≤ℤ pos (limit net r.node + 1)) }
+    ensures wait_marks { (net : Network) (p : ℕ) (seen b r : Bound) (q : ℕ) → IsWait net p seen b r → seen.label q ≡ Absent → b.label q ≡ Absent → r.label q ≡ Absent }
+    ensures below { (r : Bound) → r.least ≤ℤ pos 0 → Dominates (base r.node) r }
+{}
+
+/// A wait of two bounds has a conclusion only where the one is at the observer of a proposition that the other marks.
+pub fn waits_are_at_observers()
+    ensures { (net : Network) (p : ℕ) (seen b r : Bound) → IsWait net p seen b r → Observes net seen.node p × IsMarked b.label p }
+{}
+
+/// The first entries of a derivation are one, and a derivation is one of each network that differs in constraints alone and
+/// has those that it uses.
+pub fn derivations_move()
+    ensures first { (net : Network) (steps more : List Entry) → IsDerivation net (steps ++ more) → IsDerivation net steps }
+    ensures elsewhere { (net : Network) (constraints : List Constraint) (steps : List Entry) → ((c : Constraint) (b : Bound) (k i : ℕ) → Contains net.constraints c → slice_get steps k ≡ Some (record { bound = b; why = Chain c.id i }) → Contains constraints c) → IsDerivation net steps → IsDerivation (record net { constraints = constraints }) steps }
+{}
