@@ -1,0 +1,5 @@
+pub mod ListLemmas
+pub mod LiveLemmas
+pub mod KeptLemmas
+pub mod PushLemmas
+pub mod DerivedLemmas

@@ -1,0 +1,32 @@
+-- Lists with one more at the end.
+use Rattle.std.proofs.Common.{◌≡◌, ◌⊎◌, inl, inr, ℕ, zero, suc, ◌<◌, List, [], ◌∷◌, ◌++◌, length, map, refl, ap, sym, ◌∙◌}
+use Rattle.std.specs.Prelude.{Option, None, Some, slice_get}
+use Rattle.std.proofs.lemmas.Option.{none-some, same_Some}
+
+pub get_left : {X : Type 0} (xs : List X) (y : X) (k : ℕ) (x : X) → slice_get xs k ≡ Some x → slice_get (xs ++ y ∷ []) k ≡ Some x
+get_left [] y k x is = absurd (none-some x is)
+get_left (z ∷ xs) y zero x is = is
+get_left (z ∷ xs) y (suc k) x is = get_left xs y k x is
+
+pub get_last : {X : Type 0} (xs : List X) (y : X) → slice_get (xs ++ y ∷ []) (length xs) ≡ Some y
+get_last [] y = refl
+get_last (z ∷ xs) y = get_last xs y
+
+pub get_more : {X : Type 0} (xs : List X) (y : X) (k : ℕ) (x : X) → slice_get (xs ++ y ∷ []) k ≡ Some x → (slice_get xs k ≡ Some x) ⊎ ((k ≡ length xs) × (y ≡ x))
+get_more [] y zero x is = inr (refl, same_Some y x is)
+get_more [] y (suc k) x is = absurd (none-some x is)
+get_more (z ∷ xs) y zero x is = inl is
+get_more (z ∷ xs) y (suc k) x is = elim (get_more xs y k x is) [ inl p ↦ inl p | inr p ↦ inr (ap suc p.0, p.1) ]
+
+pub map_same : {X Y : Type 0} (f g : X → Y) (xs : List X) → ((k : ℕ) (x : X) → slice_get xs k ≡ Some x → f x ≡ g x) → map f xs ≡ map g xs
+map_same f g [] same = refl
+map_same f g (x ∷ xs) same = rw (same zero x refl, map_same f g xs (λ k y is. same (suc k) y is)) refl
+
+-- what stands in a list of images is the image of what stands there
+pub get_map : {X Y : Type 0} (f : X → Y) (xs : List X) (k : ℕ) (y : Y) → slice_get (map f xs) k ≡ Some y → (x : X) × (slice_get xs k ≡ Some x) × (f x ≡ y)
+get_map f [] k y is = absurd (none-some y is)
+get_map f (x ∷ xs) zero y is = (x, refl, same_Some (f x) y is)
+get_map f (x ∷ xs) (suc k) y is = get_map f xs k y is
+
+pub one_there : {X : Type 0} (xs : List X) (k : ℕ) (x y : X) → slice_get xs k ≡ Some x → slice_get xs k ≡ Some y → x ≡ y
+one_there xs k x y is also = same_Some x y (sym is ∙ also)

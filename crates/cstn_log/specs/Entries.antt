@@ -1,0 +1,45 @@
+-- Lists of entries.
+use Rattle.std.specs.Prelude.{◌≡◌, ℕ, zero, suc, ◌<◌, List, [], ◌∷◌, ◌++◌, map, Some, nat_lt, slice_get, if◌then◌else◌}
+use Rattle.cstn_label.specs.declared.bounds.Bound.{Bound}
+use Rattle.cstn_net.specs.Networks.{Network, count}
+use Rattle.cstn_rules.specs.declared.entries.Entry.{Entry}
+use Rattle.cstn_rules.specs.declared.entries.Why.TheVariants.{Base}
+use Rattle.cstn_rules.specs.Rules.{base}
+use Rattle.cstn_rules.specs.Derivations.{Entry as TheEntry}
+use Rattle.cstn_rules.specs.Read.{the_entry}
+use Rattle.cstn_pool.specs.declared.slot_id.SlotId.{SlotId}
+use Rattle.cstn_minset.specs.Sets.{IsOver}
+
+-- what contracts see of a log: its entries with their ids in the pool, how many births the pool answered, how many entries
+-- there may be, and the number of time-points
+pub record State : Type 0 where
+  pub entries : List Entry
+  pub ids : List SlotId
+  pub births : ℕ
+  pub cap : ℕ
+  pub nodes : ℕ
+
+-- the bounds and rules of entries
+abbrev pub the_entries : List Entry → List TheEntry
+the_entries entries = map the_entry entries
+
+-- some entry dominates the bound
+abbrev pub IsCoveredBy : List Entry → Bound → Type 0
+IsCoveredBy entries b = (k : ℕ) × (e : Entry) × (slice_get entries k ≡ Some e) × IsOver e.bound b
+
+-- an entry is live while no later one dominates it
+pub record IsLive (entries : List Entry) (k : ℕ) : Type 0 where
+  pub none_over : (j : ℕ) (e f : Entry) → k < j → slice_get entries k ≡ Some e → slice_get entries j ≡ Some f → ¬ IsOver f.bound e.bound
+
+-- no entry is dominated by an earlier one
+pub record AllNew (entries : List Entry) : Type 0 where
+  pub none_over : (j k : ℕ) (e f : Entry) → j < k → slice_get entries j ≡ Some e → slice_get entries k ≡ Some f → ¬ IsOver e.bound f.bound
+
+-- the base bounds of the first n time-points, in order
+abbrev pub bases : ℕ → List TheEntry
+bases zero = []
+bases (suc n) = bases n ++ record { bound = base n; why = Base } ∷ []
+
+-- the list that a log of at most `cap` entries starts with: the base bounds, or nothing where they are too many
+abbrev pub first_entries : Network → ℕ → List TheEntry
+first_entries net cap = if nat_lt cap (count net) then [] else bases (count net)

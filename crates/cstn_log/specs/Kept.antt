@@ -1,0 +1,59 @@
+-- How a log keeps its entries.
+use Rattle.std.specs.Prelude.{◌≡◌, ℕ, ◌<◌, ◌≤◌, List, map, length, Option, None, Some, pos, slice_get, slice_index_or}
+use Rattle.std.proofs.Common.{lit<}
+use Rattle.cstn_label.specs.declared.bounds.Bound.{Bound}
+use Rattle.cstn_rules.specs.declared.entries.Entry.{Entry}
+use Rattle.cstn_rules.specs.declared.entries.Why.TheVariants.{Base}
+use Rattle.cstn_pool.specs.declared.slot_id.SlotId.{SlotId}
+use Rattle.cstn_pool.specs.Slots.{live_of}
+use Rattle.cstn_minset.specs.Sets.{Entries, IsPlaced, IsCovered}
+use Rattle.cstn_log.specs.Entries.{State, IsCoveredBy, IsLive, AllNew}
+
+-- what stands for the entry of an id that the pool doesn't hold, which no log has
+abbrev pub no_entry : Entry
+no_entry = record {
+  bound = record {
+    node = record { 0 = 0 };
+    least = pos 0;
+    label = record { yes = 0; no = 0; yes_in_range = lit< tt; no_in_range = lit< tt };
+  };
+  why = Base;
+}
+
+abbrev pub entry_or : Option (ℕ × Entry) → Entry
+entry_or None = no_entry
+entry_or (Some e) = e.1
+
+-- the entry in the slot of an id
+abbrev pub stored : List (Option (ℕ × Entry)) → SlotId → Entry
+stored slots id = entry_or (slice_index_or slots id.slot None)
+
+abbrev pub entries_of : List (Option (ℕ × Entry)) → List SlotId → List Entry
+entries_of slots ids = map (stored slots) ids
+
+abbrev pub state_of : List (Option (ℕ × Entry)) → List SlotId → ℕ → ℕ → State
+state_of slots ids births nodes = record { entries = entries_of slots ids; ids = ids; births = births; cap = length slots; nodes = nodes }
+
+-- the id of that slot and birth stands at the place
+pub record IsIdAt (ids : List SlotId) (slot birth k : ℕ) : Type 0 where
+  pub there : slice_get ids k ≡ Some (record { slot = slot; birth = birth })
+
+-- the pool holds exactly the entries of the ids, and the minimal set exactly the bounds of the live ones
+pub record IsKept (slots : List (Option (ℕ × Entry))) (births : ℕ) (table : Entries) (ids : List SlotId) (nodes : ℕ) : Type 0 where
+  pub held : (k : ℕ) (id : SlotId) → slice_get ids k ≡ Some id → (e : Entry) × (slice_index_or slots id.slot None ≡ Some (id.birth, e))
+  pub used : live_of slots ≡ length ids
+  pub found : (s : ℕ) (e : ℕ × Entry) → slice_index_or slots s None ≡ Some e → (k : ℕ) × IsIdAt ids s e.0 k
+  pub ascending : (k j : ℕ) (id jd : SlotId) → k < j → slice_get ids k ≡ Some id → slice_get ids j ≡ Some jd → id.birth < jd.birth
+  pub before : (k : ℕ) (id : SlotId) → slice_get ids k ≡ Some id → id.birth < births
+  pub room : length table ≡ length slots
+  pub covers : (b : Bound) → ¬ IsCovered table b → ¬ IsCoveredBy (entries_of slots ids) b
+  pub placed : (s : ℕ) (e : ℕ × Bound) → IsPlaced table s e → (k : ℕ) × IsIdAt ids s e.0 k × IsLive (entries_of slots ids) k × ((stored slots (record { slot = s; birth = e.0 })).bound ≡ e.1)
+  pub live : (k : ℕ) (id : SlotId) → slice_get ids k ≡ Some id → IsLive (entries_of slots ids) k → IsPlaced table id.slot (id.birth, (stored slots id).bound)
+  pub fresh : AllNew (entries_of slots ids)
+  pub inside : (k : ℕ) (e : Entry) → slice_get (entries_of slots ids) k ≡ Some e → e.bound.node.0 < nodes
+
+-- and there is room for an id of each slot
+pub record IsLog (slots : List (Option (ℕ × Entry))) (births : ℕ) (table : Entries) (ids : List SlotId) (room nodes : ℕ) : Type 0 where
+  pub kept : IsKept slots births table ids nodes
+  pub room_for_all : length slots ≤ room
+  pub few : length slots ≤ 4194304

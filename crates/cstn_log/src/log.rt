@@ -1,0 +1,194 @@
+ghost use Rattle.std.specs.Prelude.{◌≡◌, ◌<◌, ◌≤◌, ◌+◌, ◌^◌, ◌++◌, ◌∷◌, [], ◌↔◌, ℕ, Some, None, length, IsTrue, IfOk, IsErr, IsOk, OnErr, slice_get, slice_index_or};
+ghost use Rattle.cstn_label.specs.Read.{the_bound};
+ghost use Rattle.cstn_net.specs.Networks.{Network as TheNetwork, IsNetwork, count};
+ghost use Rattle.cstn_net.specs.Strategies.{Table, IsStrategy};
+ghost use Rattle.cstn_net.specs.Bounds.{HoldsIn};
+ghost use Rattle.cstn_net.specs.Read.{the_network};
+ghost use Rattle.cstn_rules.specs.Rules.{base};
+ghost use Rattle.cstn_rules.specs.Derivations.{Follows, IsDerivation};
+ghost use Rattle.cstn_minset.specs.Sets.{IsPlaced};
+ghost use Rattle.cstn_log.specs.Entries.{State, the_entries, IsCoveredBy, IsLive, AllNew, bases, first_entries};
+ghost use Rattle.cstn_log.specs.Kept.{IsIdAt};
+
+use cstn_label::{Bound, Label, NodeId};
+use cstn_minset::MinSet;
+use cstn_net::Network;
+use cstn_pool::{Full, Pool, SlotId};
+use cstn_rules::{Entry, Why};
+use std::alloc::{AllocError, Global};
+use std::marker::Model;
+
+/// Entries in the order in which they were pushed, none dominated by an earlier one.
+///
+/// An entry is live while no later one dominates it. The entries lie in a pool, and the bounds of
+/// the live ones in a minimal set, each under the id that [`Log::slot`] answers. All memory is
+/// taken by [`Log::start`]: 124 bytes for each entry that there may be, so 520 MB for the largest
+/// cap of 4,194,304, and 8 bytes for each time-point.
+#[derive(Drop)]
+pub struct Log {
+    pool: Pool<Entry>,
+    minimal: MinSet,
+    ids: Vec<SlotId>,
+}
+
+impl Model for Log {
+    ghost use Rattle.std.specs.Prelude.{vec_capacity};
+    ghost use Rattle.cstn_log.specs.Entries.{State};
+    ghost use Rattle.cstn_log.specs.Kept.{IsLog, state_of};
+
+    ghost Value = { State };
+
+    ghost view = { λ l. state_of l.pool.slots l.ids.items l.pool.births l.minimal.nodes };
+
+    ghost invariant = { λ l. IsLog l.pool.slots l.pool.births l.minimal.table l.ids.items (vec_capacity l.ids) l.minimal.nodes };
+}
+
+impl Log {
+    /// The log that has the base bounds of the network, or nothing where `cap` is below their
+    /// number. Fails for want of memory alone.
+    pub fn start(alloc: Global, net: &Network, cap: u32) -> Result<Log, AllocError>
+        requires some { 1 ≤ cap }
+        requires most { cap ≤ 4194304 }
+        ensures start { IfOk result (λ log. the_entries log.entries ≡ first_entries (the_network net.now) cap) }
+        ensures size { IfOk result (λ log. (log.cap ≡ cap) × (log.nodes ≡ count (the_network net.now))) }
+        ensures births { IfOk result (λ log. log.births ≤ count (the_network net.now)) }
+        ensures derivation { IfOk result (λ log. IsDerivation (the_network net.now) (the_entries log.entries)) }
+    {
+        let nodes = net.count();
+        let mut log = Log::empty(alloc, nodes, cap)?;
+        if nodes as u32 <= cap {
+            log.push_bases(net);
+        }
+        Ok(log)
+    }
+
+    // A log with no entry.
+    fn empty(alloc: Global, nodes: u16, cap: u32) -> Result<Log, AllocError>
+        requires { cap ≤ 4194304 }
+        ensures { IfOk result (λ log. log ≡ record { entries = []; ids = []; births = 0; cap = cap; nodes = nodes }) }
+    {
+        let pool = Pool::start(alloc, cap)?;
+        let minimal = MinSet::start(alloc, nodes, cap)?;
+        let ids = Vec::with_capacity(alloc, cap as usize)?;
+        Ok(Log { pool, minimal, ids })
+    }
+
+    // Pushes the base bound of each time-point, in order.
+    fn push_bases(&mut self, net: &Network)
+        requires net { self.old.nodes ≡ count (the_network net.now) }
+        requires room { count (the_network net.now) ≤ self.old.cap }
+        requires empty { self.old.entries ≡ [] }
+        requires births { self.old.births < 2 ^ 61 }
+        ensures bases { the_entries self.new.entries ≡ bases (count (the_network net.now)) }
+        ensures size { (self.new.cap ≡ self.old.cap) × (self.new.nodes ≡ self.old.nodes) }
+        ensures births { self.new.births ≡ self.old.births + count (the_network net.now) }
+        ensures derivation { IsDerivation (the_network net.now) (the_entries self.new.entries) }
+    {
+        for node in 0..net.count() {
+            self.push(net, base_entry(NodeId(node))).unwrap();
+        }
+    }
+
+    /// Appends an entry that follows by its rule, and answers its place.
+    pub fn push(&mut self, net: &Network, e: Entry) -> Result<u32, Full>
+        requires net { self.old.nodes ≡ count (the_network net.now) }
+        requires follows { Follows (the_network net.now) (the_entries self.old.entries) (length self.old.entries) e.why (the_bound e.bound) }
+        requires uncovered { ¬ IsCoveredBy self.old.entries e.bound }
+        requires births { self.old.births < 2 ^ 62 }
+
+        ensures full { IsErr result ↔ (length self.old.entries ≡ self.old.cap) }
+        ensures refused { OnErr result (self.new ≡ self.old) }
+
+        ensures place { IfOk result (λ k. k ≡ length self.old.entries) }
+        ensures pushed { IsOk result → (slot : ℕ) × (self.new ≡ record self.old { entries = self.old.entries ++ e ∷ []; ids = self.old.ids ++ record { slot = slot; birth = self.old.births } ∷ []; births = self.old.births + 1 }) }
+        ensures derivation { IsDerivation (the_network net.now) (the_entries self.old.entries) → IsDerivation (the_network net.now) (the_entries self.new.entries) }
+    {
+        let count = net.count();
+        let id = self.pool.take(e)?;
+        // What follows is at a time-point of the network.
+        prove!(e.bound.node.0 < count);
+        self.minimal.place(&e.bound, id);
+        let place = self.ids.len() as u32;
+        self.ids.push(id).unwrap();
+        Ok(place)
+    }
+
+    /// Whether some entry dominates the bound.
+    pub fn covered(&self, b: &Bound) -> bool
+        ensures covered { IsTrue result ↔ IsCoveredBy self.now.entries b.now }
+    {
+        self.minimal.covers(b)
+    }
+
+    /// Whether no later entry dominates the one at this place.
+    pub fn live(&self, k: u32) -> bool
+        requires { k < length self.now.entries }
+        ensures live { IsTrue result ↔ IsLive self.now.entries k }
+    {
+        self.minimal.holds(self.ids[k as usize])
+    }
+
+    /// How many entries there are.
+    pub fn len(&self) -> u32
+        ensures len { result ≡ length self.now.entries }
+        ensures at_most { result ≤ self.now.cap }
+        ensures largest { self.now.cap ≤ 4194304 }
+        ensures all_new { AllNew self.now.entries }
+    {
+        self.ids.len() as u32
+    }
+
+    /// The entry at a place. It holds in every strategy of each network of which the log is a
+    /// derivation.
+    pub fn entry(&self, k: u32) -> Entry
+        requires { k < length self.now.entries }
+        ensures entry { slice_get self.now.entries k ≡ Some result }
+        ensures node { result.bound.node.0 < self.now.nodes }
+        ensures holds { (net : TheNetwork) (table : Table) → IsNetwork net → IsStrategy net table → IsDerivation net (the_entries self.now.entries) → HoldsIn net table (the_bound result.bound) }
+    {
+        self.pool.get(self.ids[k as usize]).unwrap()
+    }
+
+    /// The id under which the pool keeps an entry.
+    pub fn slot(&self, k: u32) -> SlotId
+        requires { k < length self.now.entries }
+        ensures slot { slice_get self.now.ids k ≡ Some result }
+        ensures ascending { (j : ℕ) (jd : SlotId) → k < j → slice_get self.now.ids j ≡ Some jd → result.birth < jd.birth }
+        ensures born { result.birth < self.now.births }
+    {
+        self.ids[k as usize]
+    }
+
+    /// The pool, which holds exactly the entries, each under its id.
+    pub fn pool(&self) -> &Pool<Entry>
+        ensures births { result.now.births ≡ self.now.births }
+        ensures held { (k : ℕ) (id : SlotId) → slice_get self.now.ids k ≡ Some id → (e : Entry) × (slice_get self.now.entries k ≡ Some e) × (slice_index_or result.now.slots id.slot None ≡ Some (id.birth, e)) }
+        ensures exactly { (s : ℕ) (e : ℕ × Entry) → slice_index_or result.now.slots s None ≡ Some e → (k : ℕ) × IsIdAt self.now.ids s e.0 k }
+    {
+        &self.pool
+    }
+
+    /// The minimal set, which holds exactly the bounds of the live entries, each under its id.
+    pub fn minimal(&self) -> &MinSet
+        ensures nodes { result.now.nodes ≡ self.now.nodes }
+        ensures live { (k : ℕ) (id : SlotId) (e : Entry) → slice_get self.now.ids k ≡ Some id → slice_get self.now.entries k ≡ Some e → IsLive self.now.entries k → IsPlaced result.now.table id.slot (id.birth, e.bound) }
+        ensures exactly { (s : ℕ) (b : ℕ × Bound) → IsPlaced result.now.table s b → (k : ℕ) × (e : Entry) × IsIdAt self.now.ids s b.0 k × (slice_get self.now.entries k ≡ Some e) × IsLive self.now.entries k × (e.bound ≡ b.1) }
+    {
+        &self.minimal
+    }
+}
+
+// The base bound of a time-point.
+fn base_entry(node: NodeId) -> Entry
+    ensures bound { the_bound result.bound ≡ base node.0 }
+    ensures why { result.why ≡ Why.Base }
+{
+    Entry {
+        bound: Bound {
+            node,
+            least: 0,
+            label: Label::empty(),
+        },
+        why: Why::Base,
+    }
+}
