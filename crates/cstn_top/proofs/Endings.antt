@@ -1,15 +1,15 @@
 -- How a call ends: what was written is a text of the plan.
-use Rattle.std.proofs.Common.{◌≡◌, ℕ, List, [], ◌∷◌, ◌++◌, ◌<◌, length, take, get_or, refl, ap, sym, ◌∙◌, subst, inl, inr, arith}
+use Rattle.std.proofs.Common.{◌≡◌, ℕ, List, [], ◌∷◌, ◌++◌, ◌<◌, length, get_or, refl, ap, sym, ◌∙◌, subst, inl, inr, arith}
 use Rattle.std.specs.Prelude.{◌⊎◌, IsTrue, Option, None, Some, Result, Ok, Err, IfOk, codes, decimal, Bool, true, false, not, nat_le, if◌then◌else◌}
 use Rattle.std.specs.List.{list_all}
-use Rattle.cstn_io.specs.Contents.{with_bytes, IsAllOf, IsLongFile}
+use Rattle.cstn_io.specs.Contents.{IsAllOf, IsLongFile}
 use Rattle.std.specs.Option.{option_map}
 use Rattle.cstn_net.specs.Networks.{Network}
 use Rattle.cstn_net.specs.Strategies.{IsConsistent}
 use Rattle.cstn_top.specs.Texts.{line}
 use Rattle.cstn_top.specs.Documents.{compact, network_of, document_of}
 use Rattle.cstn_top.specs.Growth.{is_refuted, log_of, load_of}
-use Rattle.cstn_top.specs.Requests.{Asked, Request, files_of, names_of, check}
+use Rattle.cstn_top.specs.Requests.{Asked, Request, names_of, check}
 use Rattle.cstn_top.specs.Files.{IsContent, AreContents}
 use Rattle.cstn_top.specs.Plans.{Said, Plan, says, output, Live, IsText, is_output, is_file_fault, is_memory, IsWritten, Ends, Untouched}
 use Rattle.cstn_top.specs.Outputs.{say, verdict, checked, plan_of, plan_at, network_at, IsRight, Planned, AsksAbout}
