@@ -3,7 +3,7 @@ ghost use Rattle.std.specs.Prelude.{◌≡◌, ◌<◌, ◌≤◌, [], length};
 use crate::{Builder, Constraint, NetError};
 use cstn_label::{Label, Mark, NodeId, Prop};
 use std::alloc::Global;
-use std::rt::{Abort, HostRuntime};
+use std::process::Abort;
 
 // The proposition `p`.
 fn p(rt: &impl Abort) -> Prop {
