@@ -1,0 +1,4 @@
+pub mod WordLemmas
+pub mod MarkLemmas
+pub mod LabelLemmas
+pub mod ReadLemmas

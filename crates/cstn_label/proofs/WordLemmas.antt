@@ -1,0 +1,125 @@
+-- Laws of words as sets of their bits.
+use Rattle.std.proofs.Common.{ℕ, ◌≡◌, inl, inr, ◌*◌, ◌%◌, ◌^◌, ◌<◌, ◌≤◌, min, max, true, false, cond, ◌||◌, ◌&&◌, eqb, arith, sym, subst, ◌∙◌, ap, bit_and, bit_or, w64}
+use Rattle.std.specs.Int.{bit_at, bit_not}
+use Rattle.std.proofs.Math.Pow.{pow-lt}
+use Rattle.std.proofs.lemmas.Bool.{cases_lt, cases_eq, eqb-true, eqb-false, eq-eqb, ne_eqb}
+use Rattle.std.proofs.lemmas.Bool.Decides.{nat_tests}
+use Rattle.std.proofs.lemmas.Nat.Bits.{bit_at_and, bit_at_or, bit_at_not, bit_at-lt, bit_at_above, same_from_bits, bit_at-zero, bit_at_clear_same, bit_at_clear_other, bit_at_set_same, bit_at_set_other}
+use Rattle.std.specs.Int.Bits.{or_lt}
+use Rattle.cstn_label.specs.Words.{has_bit, IsApart, IsInside}
+
+-- tests of bits, over numbers below 2
+or_bit : (a b : ℕ) → a < 2 → b < 2 → eqb (max a b) 1 ≡ (eqb a 1 || eqb b 1)
+or_bit a b h k = grind (arith, nat_tests)
+
+and_bit : (a b : ℕ) → a < 2 → b < 2 → eqb (min a b) 1 ≡ (eqb a 1 && eqb b 1)
+and_bit a b h k = grind (arith, nat_tests)
+
+same_bit : (a b : ℕ) → a < 2 → b < 2 → eqb a 1 ≡ eqb b 1 → a ≡ b
+same_bit a b h k e = grind (arith, nat_tests)
+
+pub has_bit_or : (a b i : ℕ) → has_bit (bit_or a b) i ≡ (has_bit a i || has_bit b i)
+has_bit_or a b i = ap (λ n. eqb n 1) (bit_at_or a b i) ∙ or_bit (bit_at a i) (bit_at b i) (bit_at-lt a i) (bit_at-lt b i)
+
+pub has_bit_and : (a b i : ℕ) → has_bit (bit_and a b) i ≡ (has_bit a i && has_bit b i)
+has_bit_and a b i = ap (λ n. eqb n 1) (bit_at_and a b i) ∙ and_bit (bit_at a i) (bit_at b i) (bit_at-lt a i) (bit_at-lt b i)
+
+pub has_bit-zero : (i : ℕ) → has_bit 0 i ≡ false
+has_bit-zero i = ap (λ n. eqb n 1) (bit_at-zero i)
+
+pub has_bit_above : (word k i : ℕ) → word < 2 ^ k → k ≤ i → has_bit word i ≡ false
+has_bit_above word k i fits above = ap (λ n. eqb n 1) (bit_at_above word k i fits above)
+
+-- words with the same bits are equal
+pub same_word : (a b : ℕ) → ((i : ℕ) → has_bit a i ≡ has_bit b i) → a ≡ b
+same_word a b same = same_from_bits a b (λ i. same_bit (bit_at a i) (bit_at b i) (bit_at-lt a i) (bit_at-lt b i) (same i))
+
+pub apart_zero : (a b : ℕ) → IsApart a b → bit_and a b ≡ 0
+apart_zero a b h = same_from_bits (bit_and a b) 0 (λ i.
+    let both = bit_at_and a b i in
+    let none = bit_at-zero i in
+    let a_lt = bit_at-lt a i in
+    let b_lt = bit_at-lt b i in
+    elim (cases_lt (bit_at a i) 1) [
+      | inl clear ↦ omega arith
+      | inr set ↦
+          let out = eqb-false (bit_at b i) 1 (h i (eq-eqb (bit_at a i) 1 (omega arith))) in
+          let ne : bit_at b i ≡ 1 → ⊥ = out in
+          let zero : bit_at b i ≡ 0 = omega arith in
+          omega arith
+    ])
+
+pub zero_apart : (a b : ℕ) → bit_and a b ≡ 0 → IsApart a b
+zero_apart a b e i set =
+    let both = bit_at_and a b i in
+    let here = eqb-true (bit_at a i) 1 set in
+    let none : bit_at (bit_and a b) i ≡ 0 = rw e (bit_at-zero i) in
+    ne_eqb (bit_at b i) 1 (λ one. omega arith)
+
+pub inside_zero : (a b : ℕ) → a < 2 ^ 64 → b < 2 ^ 64 → IsInside a b → bit_and a (bit_not w64 b) ≡ 0
+inside_zero a b a_fits b_fits h = same_from_bits (bit_and a (bit_not w64 b)) 0 (λ i.
+    let both = bit_at_and a (bit_not w64 b) i in
+    let none = bit_at-zero i in
+    let a_lt = bit_at-lt a i in
+    elim (cases_lt i 64) [
+      | inl below ↦
+          let flipped = bit_at_not w64 b i b_fits below in
+          elim (cases_lt (bit_at a i) 1) [
+            | inl clear ↦ omega arith
+            | inr set ↦
+                let other : bit_at b i ≡ 1 = eqb-true (bit_at b i) 1 (h i (eq-eqb (bit_at a i) 1 (omega arith))) in
+                omega arith
+          ]
+      | inr above ↦ let clear = bit_at_above a 64 i a_fits above in omega arith
+    ])
+
+pub zero_inside : (a b : ℕ) → a < 2 ^ 64 → b < 2 ^ 64 → bit_and a (bit_not w64 b) ≡ 0 → IsInside a b
+zero_inside a b a_fits b_fits e i set =
+    let both = bit_at_and a (bit_not w64 b) i in
+    let here = eqb-true (bit_at a i) 1 set in
+    let none : bit_at (bit_and a (bit_not w64 b)) i ≡ 0 = rw e (bit_at-zero i) in
+    let b_lt = bit_at-lt b i in
+    elim (cases_lt i 64) [
+      | inl below ↦ let flipped = bit_at_not w64 b i b_fits below in eq-eqb (bit_at b i) 1 (omega arith)
+      | inr above ↦ let clear = bit_at_above a 64 i a_fits above in absurd (omega arith)
+    ]
+
+-- `word & !(1 << i)` has no bit i, and the other bits of the word
+pub has_bit_clear : (word i : ℕ) → word < 2 ^ 64 → i < 52 → (k : ℕ) →
+    has_bit (bit_and word (bit_not w64 (1 * 2 ^ i % 2 ^ 64))) k ≡ cond (eqb k i) false (has_bit word k)
+has_bit_clear word i fits within k = elim (cases_eq k i) [
+  | inl e ↦ rw (eq-eqb k i e) (subst (λ j. has_bit (bit_and word (bit_not w64 (1 * 2 ^ i % 2 ^ 64))) j ≡ false) (sym e)
+      (ap (λ b. eqb b 1) (bit_at_clear_same w64 word i (let h : i < 64 = omega arith in h))))
+  | inr other ↦ rw (ne_eqb k i other) (elim (cases_lt k 64) [
+    | inl below ↦ ap (λ b. eqb b 1) (bit_at_clear_other w64 word i (let h : i < 64 = omega arith in h) k below other)
+    | inr above ↦
+        let none : bit_at word k ≡ 0 = bit_at_above word 64 k fits above in
+        let both = bit_at_and word (bit_not w64 (1 * 2 ^ i % 2 ^ 64)) k in
+        ap (λ b. eqb b 1) (let z : bit_at (bit_and word (bit_not w64 (1 * 2 ^ i % 2 ^ 64))) k ≡ bit_at word k = omega arith in z)
+  ])
+]
+
+-- `word | 1 << i` has bit i, and the other bits of the word
+pub has_bit_set : (word i : ℕ) → i < 52 → (k : ℕ) →
+    has_bit (bit_or word (1 * 2 ^ i % 2 ^ 64)) k ≡ cond (eqb k i) true (has_bit word k)
+has_bit_set word i within k = elim (cases_eq k i) [
+  | inl e ↦ rw (eq-eqb k i e) (subst (λ j. has_bit (bit_or word (1 * 2 ^ i % 2 ^ 64)) j ≡ true) (sym e)
+      (ap (λ b. eqb b 1) (bit_at_set_same w64 word i (let h : i < 64 = omega arith in h))))
+  | inr other ↦ rw (ne_eqb k i other)
+      (ap (λ b. eqb b 1) (bit_at_set_other w64 word i (let h : i < 64 = omega arith in h) k other))
+]
+
+-- with a bit below 52 set, a word below 2 ^ 52 stays so
+pub set_in_range : (word i : ℕ) → i < 52 → word < 2 ^ 52 → bit_or word (1 * 2 ^ i % 2 ^ 64) < 2 ^ 52
+set_in_range word i within small =
+    let up : 2 ^ i < 2 ^ 52 = pow-lt within in
+    let wide : 2 ^ i < 2 ^ 64 = pow-lt {i = i} {j = 64} (omega arith) in
+    let same : 1 * 2 ^ i % 2 ^ 64 ≡ 2 ^ i = omega arith in
+    or_lt 52 word _ small (omega arith)
+
+-- what is taken from a word is there
+pub and_again : (a b : ℕ) → bit_and (bit_and a b) b ≡ bit_and a b
+and_again a b = same_from_bits (bit_and (bit_and a b) b) (bit_and a b) (λ i.
+    let outer = bit_at_and (bit_and a b) b i in
+    let inner = bit_at_and a b i in
+    omega arith)

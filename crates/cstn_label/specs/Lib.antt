@@ -1,0 +1,5 @@
+pub mod Labels
+pub mod Bounds
+pub mod Letters
+pub mod Words
+pub mod Read

@@ -1,0 +1,23 @@
+ghost use Rattle.std.specs.Prelude.{◌↔◌, IsTrue};
+
+use crate::{Label, NodeId};
+
+/// The time-point is executed at `least` ticks or later, or the label isn't possible at its moment.
+#[derive(Clone, Copy, Debug, PartialEq, Eq, Hash)]
+pub struct Bound {
+    pub node: NodeId,
+    pub least: i32,
+    pub label: Label,
+}
+
+impl Bound {
+    ghost use Rattle.cstn_label.specs.Bounds.{Dominates};
+    ghost use Rattle.cstn_label.specs.Read.{the_bound};
+
+    /// Whether this bound asks of the same time-point for no less, in no fewer cases, than the other.
+    pub fn dominates(&self, other: &Bound) -> bool
+        ensures dominates { IsTrue result ↔ Dominates (the_bound self.now) (the_bound other.now) }
+    {
+        self.node == other.node && self.least >= other.least && self.label.is_within(other.label)
+    }
+}

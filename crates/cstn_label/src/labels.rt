@@ -1,0 +1,100 @@
+ghost use Rattle.std.specs.Prelude.{ℕ, ◌≡◌, ◌<◌, ◌^◌, ◌↔◌, IsTrue};
+
+use crate::words::{are_apart, has_bit, is_inside, with_bit};
+use crate::{Known, Mark, Prop, Scenario};
+
+/// A mark for each proposition. Bit p of `yes` alone is yes, of `no` alone is no, of both is unknown, of neither is absent.
+#[derive(Clone, Copy, Debug, PartialEq, Eq, Hash)]
+pub struct Label {
+    yes: u64,
+    no: u64,
+    pub ghost yes_in_range: { yes < 2 ^ 52 },
+    pub ghost no_in_range: { no < 2 ^ 52 },
+}
+
+impl Label {
+    ghost use Rattle.cstn_label.specs.Labels.{empty, joined, with_mark, without, IsPlain, IsWithin, Holds, IsPossible};
+    ghost use Rattle.cstn_label.specs.Read.{marks, the_scenario, is_known, the_values};
+
+    /// The label with no mark.
+    pub fn empty() -> Label
+        ensures empty { marks result ≡ empty }
+    {
+        Label { yes: 0, no: 0 }
+    }
+
+    /// The mark of p.
+    pub fn mark(self, p: Prop) -> Mark
+        ensures mark { result ≡ marks self p.index }
+    {
+        match (has_bit(self.yes, p.index), has_bit(self.no, p.index)) {
+            (true, true) => Mark::Unknown,
+            (true, false) => Mark::Yes,
+            (false, true) => Mark::No,
+            (false, false) => Mark::Absent,
+        }
+    }
+
+    /// The label in which p's mark is m, and every other mark is as here.
+    pub fn with(self, p: Prop, m: Mark) -> Label
+        ensures with { marks result ≡ with_mark (marks self) p.index m }
+    {
+        let (yes, no) = match m {
+            Mark::Absent => (false, false),
+            Mark::Yes => (true, false),
+            Mark::No => (false, true),
+            Mark::Unknown => (true, true),
+        };
+        Label {
+            yes: with_bit(self.yes, p.index, yes),
+            no: with_bit(self.no, p.index, no),
+        }
+    }
+
+    /// The label in which p's mark is absent, and every other mark is as here.
+    pub fn without(self, p: Prop) -> Label
+        ensures without { marks result ≡ without (marks self) p.index }
+    {
+        self.with(p, Mark::Absent)
+    }
+
+    /// The two labels, joined mark by mark.
+    pub fn join(self, other: Label) -> Label
+        ensures join { marks result ≡ joined (marks self) (marks other) }
+    {
+        Label {
+            yes: self.yes | other.yes,
+            no: self.no | other.no,
+        }
+    }
+
+    /// Whether no mark is unknown.
+    pub fn is_plain(self) -> bool
+        ensures plain { IsTrue result ↔ IsPlain (marks self) }
+    {
+        are_apart(self.yes, self.no)
+    }
+
+    /// Whether each mark is absent, the other's, or met by an unknown mark there.
+    pub fn is_within(self, other: Label) -> bool
+        ensures within { IsTrue result ↔ IsWithin (marks self) (marks other) }
+    {
+        is_inside(self.yes, other.yes) && is_inside(self.no, other.no)
+    }
+
+    /// Whether each literal is true in the scenario. A label with an unknown mark has to be told apart before.
+    pub fn holds(self, s: Scenario) -> bool
+        requires plain { IsPlain (marks self) }
+        ensures holds { IsTrue result ↔ Holds (the_scenario s) (marks self) }
+    {
+        is_inside(self.yes, s.bits) && are_apart(self.no, s.bits)
+    }
+
+    /// Whether what is known rules out no mark: a literal that is known false is ruled out, and an unknown mark of a
+    /// proposition that is known.
+    pub fn possible(self, k: Known) -> bool
+        ensures possible { IsTrue result ↔ IsPossible (is_known k) (the_values k) (marks self) }
+    {
+        is_inside(self.yes & k.seen, k.bits) && are_apart(self.no & k.seen, k.bits)
+    }
+}

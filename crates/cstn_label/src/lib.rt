@@ -1,0 +1,24 @@
+//! Marks, labels, scenarios, what is known, and bounds: what is said of 52 propositions, in two machine words.
+#![tactic(auto)]
+
+mod bounds;
+mod knowledge;
+mod labels;
+mod laws;
+mod marks;
+mod nodes;
+mod props;
+mod scenarios;
+mod words;
+
+pub use bounds::Bound;
+pub use knowledge::Known;
+pub use labels::Label;
+pub use laws::{
+    domination_is_an_order, joined_is_the_least_above, letters_are_numbered,
+    possible_until_ruled_out, within_is_an_order,
+};
+pub use marks::Mark;
+pub use nodes::NodeId;
+pub use props::Prop;
+pub use scenarios::Scenario;

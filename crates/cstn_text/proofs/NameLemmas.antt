@@ -1,0 +1,62 @@
+-- Names of a set of texts, as lists of bytes.
+use Rattle.std.proofs.Common.{◌≡◌, ◌≢◌, ℕ, ◌+◌, ◌<◌, ◌≤◌, ◌^◌, List, [], ◌∷◌, ◌++◌, map, length, Bool, true, false, not, ◌||◌, refl, ap, sym, ◌∙◌, arith, length-append}
+use Rattle.std.specs.Prelude.{String, string_bytes, position, if◌then◌else◌, Contains, ◌↔◌, ◌&&◌, nat_lt, nat_le}
+use Rattle.std.specs.String.{string_eq}
+use Rattle.std.specs.Str.{bytes_eq, IsUtf8}
+use Rattle.std.specs.List.{list_any, prefix_len}
+use Rattle.std.specs.declared.alloc.Global.{Global}
+use Rattle.std.proofs.lemmas.List.{length-map, map-append, get_or_default}
+use Rattle.std.proofs.lemmas.List.Elements.{All-push}
+use Rattle.std.proofs.lemmas.List.Quantifiers.{all_pairs_push}
+use Rattle.std.proofs.lemmas.Map.Views.{Contains-from_any, list_any-from_Contains}
+use Rattle.std.proofs.lemmas.Slice.Eq.{bytes_eq-Decides}
+use Rattle.std.proofs.lemmas.Str.{is_utf8-from_IsUtf8}
+use Rattle.std.proofs.lemmas.Cmp.{nat_list_eq_equiv}
+use Rattle.cstn_text.specs.Names.{IsName, AreNames}
+
+any_map : (p : List ℕ → Bool) (xs : List (String Global)) → list_any p (map string_bytes xs) ≡ list_any (λ s. p (string_bytes s)) xs
+any_map p [] = refl
+any_map p (x ∷ xs) = ap (λ b. p (string_bytes x) || b) (any_map p xs)
+
+prefix_map : (p : List ℕ → Bool) (xs : List (String Global)) → prefix_len p (map string_bytes xs) ≡ prefix_len (λ s. p (string_bytes s)) xs
+prefix_map p [] = refl
+prefix_map p (x ∷ xs) = rw (prefix_map p xs) refl
+
+pub position_map : (p : List ℕ → Bool) (xs : List (String Global)) → position p (map string_bytes xs) ≡ position (λ s. p (string_bytes s)) xs
+position_map p xs = rw (prefix_map (λ b. not (p b)) xs, length-map) refl
+
+-- a text that a look-up finds is one of the names, and the other way round
+pub known : (keys : List (String Global)) (name : List ℕ) → (list_any (λ s. bytes_eq name (string_bytes s)) keys ≡ true) ↔ Contains (map string_bytes keys) name
+known keys name = (
+  (λ e. Contains-from_any {eq = bytes_eq} (λ x y. (bytes_eq-Decides x y).0) name (map string_bytes keys) (any_map (bytes_eq name) keys ∙ e)),
+  (λ there. sym (any_map (bytes_eq name) keys) ∙ list_any-from_Contains {eq = bytes_eq} nat_list_eq_equiv name (map string_bytes keys) there),
+)
+
+not_true : (b : Bool) → (b ≡ true → ⊥) → b ≡ false
+not_true true wrong = absurd (wrong refl)
+not_true false wrong = refl
+
+-- the texts of a set with one more
+pub pushed : (keys new : List (String Global)) (owned : String Global) (name : List ℕ) → string_bytes owned ≡ name → (Contains (map string_bytes keys) name → ⊥)
+    → new ≡ (if list_any (string_eq owned) keys then keys else keys ++ owned ∷ []) → map string_bytes new ≡ map string_bytes keys ++ name ∷ []
+pushed keys new owned name text unknown is =
+    let absent : list_any (λ s. bytes_eq name (string_bytes s)) keys ≡ false = not_true _ (λ e. unknown ((known keys name).0 e)) in
+    let absent_too : list_any (string_eq owned) keys ≡ false = ap (λ b. list_any (λ k. bytes_eq b (string_bytes k)) keys) text ∙ absent in
+    rw (is, absent_too, ← text) (map-append string_bytes keys (owned ∷ []))
+
+-- names stay names with a new one at the end
+pub names_more : (names : List (List ℕ)) (name : List ℕ) → AreNames names → IsName name → (Contains names name → ⊥) → length names + 1 < 2 ^ 32 → AreNames (names ++ name ∷ [])
+names_more names name are is unknown few = record {
+  each = All-push IsName names name are.each is;
+  different = all_pairs_push (λ a b. a ≢ b) names name are.different (λ k d inside same. unknown (k, inside, get_or_default names k name d inside ∙ same));
+  few = rw length-append few;
+}
+
+shaped_is : (n : ℕ) → (nat_lt 0 n && nat_le n 64) ≡ true → (1 ≤ n) × (n ≤ 64)
+shaped_is n shape = grind arith
+
+-- a text of 1 to 64 bytes is a name
+pub shaped : (name : List ℕ) → (nat_lt 0 (length name) && nat_le (length name) 64) ≡ true → IsUtf8 name → IsName name
+shaped name shape text =
+    let sizes = shaped_is (length name) shape in
+    record { some = sizes.0; few = sizes.1; utf8 = is_utf8-from_IsUtf8 name text }
