@@ -1,0 +1,5 @@
+pub mod Knowledge
+pub mod Dynamic
+pub mod Plain
+pub mod Branch
+mod ObserverLemmas

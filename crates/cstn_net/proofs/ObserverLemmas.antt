@@ -1,0 +1,151 @@
+-- The table of observers, a time-point at a time.
+use Rattle.std.proofs.Common.{ℕ, zero, suc, ◌≡◌, ◌≢◌, ◌⊎◌, inl, inr, ◌+◌, ◌<◌, ◌≤◌, Option, Some, None, List, [], ◌∷◌, ◌++◌, length, get_or, set, take, map, replicate, arith, refl, sym, subst, ◌∙◌, ap, cond}
+use Rattle.std.specs.Prelude.{is_some}
+use Rattle.std.specs.Option.{option_map}
+use Rattle.std.proofs.lemmas.Bool.{cases_lt, cases_eq}
+use Rattle.std.proofs.lemmas.List.{map_more, length-map, get_or_past, length-take-le, get_or-set_same, get_or-set_other, length-set}
+use Rattle.cstn_label.specs.declared.nodes.NodeId.{NodeId}
+use Rattle.cstn_label.specs.declared.props.Prop.{Prop}
+use Rattle.cstn_label.specs.declared.labels.Label.{Label}
+use Rattle.cstn_label.specs.declared.marks.Mark.TheVariants.{Absent}
+use Rattle.cstn_label.specs.Read.{marks, mark_of}
+use Rattle.cstn_label.proofs.WordLemmas.{has_bit_above}
+use Rattle.cstn_net.specs.declared.points.TimePoint.{TimePoint}
+use Rattle.cstn_net.specs.Read.{observed}
+use Rattle.cstn_net.specs.Observers.{KnowsObservers, IsUnseen, noted}
+
+-- a proposition is below 52
+pub prop_below : (o : Option Prop) (q : ℕ) → option_map (λ p. p.index) o ≡ Some q → q < 52
+prop_below None q e = cc
+prop_below (Some p) q e =
+    let below = p.in_range in
+    let same : q ≡ p.index = cc in
+    omega arith
+
+-- no label has a mark from 52 on
+pub marks_above : (a : Label) (p : ℕ) → 52 ≤ p → marks a p ≡ Absent
+marks_above a p above =
+    rw (has_bit_above a.yes 52 p a.yes_in_range above, has_bit_above a.no 52 p a.no_in_range above) refl
+
+none_there : (n p : ℕ) → get_or {A = Option NodeId} (replicate n None) p None ≡ None
+none_there zero p = refl
+none_there (suc n) zero = refl
+none_there (suc n) (suc p) = none_there n p
+
+pub no_observers : KnowsObservers [] (replicate 52 None)
+no_observers = record {
+  right = λ p x e. let none = none_there 52 p in cc;
+  first = λ p x e. cc;
+}
+
+-- what stands in a list stands there still when one more is appended
+old_there : (xs : List (Option ℕ)) (o : Option ℕ) (y p : ℕ) → get_or xs y None ≡ Some p → get_or (xs ++ o ∷ []) y None ≡ Some p
+old_there [] o y p e = cc
+old_there (x ∷ xs) o zero p e = e
+old_there (x ∷ xs) o (suc y) p e = old_there xs o y p e
+
+new_there : (xs : List (Option ℕ)) (o : Option ℕ) → get_or (xs ++ o ∷ []) (length xs) None ≡ o
+new_there [] o = refl
+new_there (x ∷ xs) o = new_there xs o
+
+old_or_new : (xs : List (Option ℕ)) (o : Option ℕ) (y p : ℕ) → get_or (xs ++ o ∷ []) y None ≡ Some p →
+    (get_or xs y None ≡ Some p) ⊎ ((y ≡ length xs) × (o ≡ Some p))
+old_or_new [] o zero p e = inr (refl, e)
+old_or_new [] o (suc y) p e = cc
+old_or_new (x ∷ xs) o zero p e = inl e
+old_or_new (x ∷ xs) o (suc y) p e = elim (old_or_new xs o y p e) [
+  | inl old ↦ inl old
+  | inr new ↦ inr (ap suc new.0, new.1)
+]
+
+stands_within : (xs : List (Option ℕ)) (y p : ℕ) → get_or xs y None ≡ Some p → y < length xs
+stands_within xs y p e = elim (cases_lt y (length xs)) [
+  | inl h ↦ h
+  | inr past ↦ let none = get_or_past xs y None past in cc
+]
+
+module _ (observes : List (Option ℕ)) (table : List (Option NodeId)) (x : NodeId) (at_end : length observes ≡ x.0) (h : KnowsObservers observes table) where
+  noted_none : KnowsObservers (observes ++ None ∷ []) table
+  noted_none = record {
+    right = λ p y e. old_there observes None y.0 p (h.right p y e);
+    first = λ p y e. elim (old_or_new observes None y p e) [
+      | inl old ↦ h.first p y old
+      | inr new ↦ let none = new.1 in cc
+    ];
+  }
+
+  noted_known : (p : ℕ) (z : NodeId) → get_or table p None ≡ Some z → KnowsObservers (observes ++ Some p ∷ []) table
+  noted_known p z there = record {
+    right = λ q y e. old_there observes (Some p) y.0 q (h.right q y e);
+    first = λ q y e. elim (old_or_new observes (Some p) y q e) [
+      | inl old ↦ h.first q y old
+      | inr new ↦
+          let other = new.1 in
+          let same : p ≡ q = cc in
+          let before = stands_within observes z.0 p (h.right p z there) in
+          let last = new.0 in
+          (z, subst (λ q. get_or table q None ≡ Some z) same there, omega arith)
+    ];
+  }
+
+  noted_new : (p : ℕ) → p < length table → get_or table p None ≡ None →
+      KnowsObservers (observes ++ Some p ∷ []) (set table p (Some x))
+  noted_new p within free = record {
+    right = λ q y e. elim (cases_eq q p) [
+      | inl here ↦
+          let put = get_or-set_same table p (Some x) None within in
+          let there = subst (λ q. get_or (set table p (Some x)) q None ≡ Some y) here e in
+          let same : y ≡ x = cc in
+          subst (λ n. get_or (observes ++ Some p ∷ []) n None ≡ Some q)
+          (let places : length observes ≡ y.0 = at_end ∙ ap (λ n. n.0) (sym same) in places)
+          (new_there observes (Some p) ∙ ap Some (sym here))
+      | inr other ↦
+          old_there observes (Some p) y.0 q (h.right q y (sym (get_or-set_other table p q (Some x) None other) ∙ e))
+    ];
+    first = λ q y e. elim (old_or_new observes (Some p) y q e) [
+      | inl old ↦
+          let found = h.first q y old in
+          let there = found.1 in
+          let other : q ≡ p → ⊥ = λ same. let at_p = subst (λ q. get_or table q None ≡ Some found.0) same there in cc in
+          (found.0, get_or-set_other table p q (Some x) None other ∙ there, found.2)
+      | inr new ↦
+          let other = new.1 in
+          let same : p ≡ q = cc in
+          let last = new.0 in (
+            x,
+            subst (λ q. get_or (set table p (Some x)) q None ≡ Some x) same (get_or-set_same table p (Some x) None within),
+            omega arith,
+          )
+    ];
+  }
+
+  noted_some : (p : ℕ) → p < length table → (o : Option NodeId) → get_or table p None ≡ o →
+      KnowsObservers (observes ++ Some p ∷ []) (noted table x (Some p))
+  noted_some p within (Some z) there = rw there (noted_known p z there)
+  noted_some p within None there = rw there (noted_new p within there)
+
+  pub noted_more : (o : Option ℕ) → ((p : ℕ) → o ≡ Some p → p < length table) →
+      KnowsObservers (observes ++ o ∷ []) (noted table x o)
+  noted_more None below = noted_none
+  noted_more (Some p) below = noted_some p (below p refl) (get_or table p None) refl
+
+noted_length : (table : List (Option NodeId)) (x : NodeId) (o : Option ℕ) → length (noted table x o) ≡ length table
+noted_length table x None = refl
+noted_length table x (Some p) = elim (get_or table p None) as (λ o. length (cond (is_some o) table (set table p (Some x))) ≡ length table) [
+  | Some z ↦ refl
+  | None ↦ length-set table p (Some x)
+]
+
+-- a turn of the loop: the next time-point is noted
+pub observers_turn : (points : List TimePoint) (table new : List (Option NodeId)) (i : ℕ) (x : NodeId) (t : TimePoint) →
+    i < length points → x.0 ≡ i → t ≡ get_or points i t → length new ≡ 52 →
+    KnowsObservers (map observed (take i points)) table → new ≡ noted table x (observed t) →
+    KnowsObservers (map observed (take (i + 1) points)) new
+observers_turn points table new i x t inside at_i is long h made =
+    let at_end : length (map observed (take i points)) ≡ x.0 =
+    length-map (take i points) observed ∙ length-take-le i points (omega arith) ∙ sym at_i in
+    let same = noted_length table x (observed t) in
+    let long_there : length (noted table x (observed t)) ≡ 52 = sym (ap length made) ∙ long in
+    let more = noted_more (map observed (take i points)) table x at_end h (observed t)
+    (λ p e. let below = prop_below t.observes p e in omega arith) in
+    rw (made, map_more observed points i t inside, sym is) more

@@ -1,0 +1,105 @@
+-- What a builder holds, and what keeps it from being a network.
+use Rattle.std.specs.Prelude.{ℕ, ◌≡◌, ◌≢◌, ◌<◌, ◌≤◌, ◌+◌, ◌⊎◌, List, [], ◌∷◌, length, map, take, Option, None, Some, slice_index_or}
+use Rattle.std.specs.List.{All, HoldsAt}
+use Rattle.cstn_label.specs.declared.marks.Mark.TheVariants.{Absent}
+use Rattle.cstn_label.specs.Labels.{Label, IsPlain}
+use Rattle.cstn_label.specs.Read.{marks}
+use Rattle.cstn_net.specs.declared.constraints.Constraint.{Constraint}
+use Rattle.cstn_net.specs.declared.points.TimePoint.{TimePoint}
+use Rattle.cstn_net.specs.declared.drafts.Draft.{Draft}
+use Rattle.cstn_net.specs.declared.errors.NetError.{NetError}
+use Rattle.cstn_net.specs.declared.errors.NetError.TheVariants.{TooManyNodes, NoOrigin, TooManyConstraints, DeadlineRange, ValueRange, NotObserved, TwoObservers, NotPlain, Memory}
+use Rattle.cstn_net.specs.Networks.{Network, Observes, IsValue}
+use Rattle.cstn_net.specs.Read.{observed}
+
+-- the deadline, the time-points and the constraints that were handed in
+pub record BuilderParts : Type 0 where
+  pub deadline : ℕ
+  pub points : List TimePoint
+  pub drafts : List Draft
+
+-- what each time-point observes
+abbrev pub observations : BuilderParts → List (Option ℕ)
+observations b = map observed b.points
+
+-- the constraint of a draft, under its id
+abbrev pub constraint_of : ℕ → Draft → Constraint
+constraint_of id d = record { id = id; from = record { 0 = d.from }; to = record { 0 = d.to }; most = d.most; label = d.label }
+
+-- the constraints of drafts in their order, under ids from k on
+abbrev pub constraints_from : ℕ → List Draft → List Constraint
+constraints_from k [] = []
+constraints_from k (d ∷ ds) = constraint_of k d ∷ constraints_from (k + 1) ds
+
+-- the ends are two of the first n time-points
+abbrev pub IsDraftAmong : ℕ → Draft → Type 0
+IsDraftAmong n d = (d.from < n) × (d.to < n)
+
+-- the fact holds at the place k, and at no earlier one
+pub record IsFirst {X : Type 0} (P : X → Type 0) (xs : List X) (k : ℕ) : Type 0 where
+  pub inside : k < length xs
+  pub here : HoldsAt P xs k
+  pub before : All (λ x. P x → ⊥) (take k xs)
+
+-- p is the least number at which the fact holds of the first x at which it holds of some number
+pub record IsLeastOfFirst {X : Type 0} (P : ℕ → X → Type 0) (xs : List X) (p : ℕ) : Type 0 where
+  pub place : ℕ
+  pub first : IsFirst (λ x. (q : ℕ) × P q x) xs place
+  pub has : HoldsAt (P p) xs place
+  pub least : (q : ℕ) → q < p → HoldsAt (λ x. P q x → ⊥) xs place
+
+-- the label names p, which no time-point observes
+pub record LacksObserver (observes : List (Option ℕ)) (a : Label) (p : ℕ) : Type 0 where
+  pub named : a p ≢ Absent
+  pub unobserved : (x : ℕ) → slice_index_or observes x None ≡ Some p → ⊥
+
+-- two time-points before n observe one proposition
+pub record HasTwins (observes : List (Option ℕ)) (n : ℕ) : Type 0 where
+  pub x : ℕ
+  pub y : ℕ
+  pub p : ℕ
+  pub ordered : x < y
+  pub before : y < n
+  pub one : slice_index_or observes x None ≡ Some p
+  pub other : slice_index_or observes y None ≡ Some p
+
+-- `second` is the first time-point whose proposition p an earlier one, `first`, observes
+pub record AreFirstTwins (observes : List (Option ℕ)) (p first second : ℕ) : Type 0 where
+  pub ordered : first < second
+  pub one : slice_index_or observes first None ≡ Some p
+  pub other : slice_index_or observes second None ≡ Some p
+  pub none_before : HasTwins observes second → ⊥
+
+-- what each refusal says of a builder
+abbrev pub HasFault : BuilderParts → NetError → Type 0
+HasFault b TooManyNodes = 1024 < length b.points
+HasFault b NoOrigin = length b.points ≡ 0
+HasFault b TooManyConstraints = 16384 < length b.drafts
+HasFault b (DeadlineRange deadline) = (deadline ≡ b.deadline) × (1000000 < b.deadline)
+HasFault b (ValueRange constraint) = IsFirst (λ d. IsValue d.most → ⊥) b.drafts constraint
+HasFault b (NotObserved prop) =
+    IsLeastOfFirst (λ q d. LacksObserver (observations b) (marks d.label) q) b.drafts prop.index
+HasFault b (TwoObservers prop first second) = AreFirstTwins (observations b) prop.index first.0 second.0
+HasFault b (NotPlain constraint) = IsFirst (λ d. IsPlain (marks d.label) → ⊥) b.drafts constraint
+HasFault b (Memory e) = ⊥
+
+-- the number of a refusal, and 0 for want of memory
+abbrev pub number : NetError → ℕ
+number (Memory e) = 0
+number TooManyNodes = 1
+number NoOrigin = 2
+number TooManyConstraints = 3
+number (DeadlineRange deadline) = 4
+number (ValueRange constraint) = 5
+number (NotObserved prop) = 6
+number (TwoObservers prop first second) = 7
+number (NotPlain constraint) = 8
+
+-- the builder has this fault, and none with a lower number
+pub record IsLowestFault (b : BuilderParts) (e : NetError) : Type 0 where
+  pub has : HasFault b e
+  pub lowest : (f : NetError) → HasFault b f → number e ≤ number f
+
+-- want of memory, or the lowest fault
+abbrev pub IsRefusal : BuilderParts → NetError → Type 0
+IsRefusal b e = (number e ≡ 0) ⊎ IsLowestFault b e

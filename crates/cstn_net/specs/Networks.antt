@@ -1,0 +1,69 @@
+-- Networks: time-points, what they observe, and constraints between them.
+use Rattle.std.specs.Prelude.{ℕ, zero, suc, ◌≡◌, ◌≢◌, ◌<◌, ◌≤◌, List, Option, None, Some, length, slice_index_or, ℤ, pos, negsuc, ◌≤ℤ◌}
+use Rattle.std.specs.List.{All, AllPairs}
+use Rattle.cstn_label.specs.declared.marks.Mark.TheVariants.{Absent}
+use Rattle.cstn_label.specs.Labels.{Label, IsPlain}
+
+-- in each scenario in which the label holds, `to` is executed at most `most` ticks after `from`
+pub record Constraint : Type 0 where
+  pub id : ℕ
+  pub from : ℕ
+  pub to : ℕ
+  pub most : ℤ
+  pub label : Label
+
+-- the time-points are numbered from 0, the origin; `observes` has the proposition that each of them observes, if any, and
+-- `reaction` the ticks after its observer at which a proposition is known
+pub record Network : Type 0 where
+  pub deadline : ℕ
+  pub observes : List (Option ℕ)
+  pub reaction : ℕ → ℕ
+  pub constraints : List Constraint
+
+-- how many time-points there are
+abbrev pub count : Network → ℕ
+count net = length net.observes
+
+-- the time-point x observes the proposition p
+pub record Observes (net : Network) (x p : ℕ) : Type 0 where
+  pub what : slice_index_or net.observes x None ≡ Some p
+
+-- the last moment at which a time-point may be executed: 0 for the origin, the deadline for every other
+abbrev pub limit : Network → ℕ → ℕ
+limit net zero = 0
+limit net (suc x) = net.deadline
+
+-- the label names observed propositions alone
+abbrev pub IsOnObserved : Network → Label → Type 0
+IsOnObserved net a = (p : ℕ) → a p ≢ Absent → (x : ℕ) × Observes net x p
+
+-- the ends are time-points, and the label is plain and names observed propositions alone
+pub record IsConstraint (net : Network) (c : Constraint) : Type 0 where
+  pub from : c.from < count net
+  pub to : c.to < count net
+  pub plain : IsPlain c.label
+  pub observed : IsOnObserved net c.label
+
+-- there is an origin, a proposition has at most one observer and a reaction of a tick or more, and each constraint is one
+-- of the network
+pub record IsNetwork (net : Network) : Type 0 where
+  pub origin : 0 < count net
+  pub one_observer : (x y p : ℕ) → Observes net x p → Observes net y p → x ≡ y
+  pub reacts : (x p : ℕ) → Observes net x p → 0 < net.reaction p
+  pub constraints : All (IsConstraint net) net.constraints
+
+-- the value of a constraint is from -1,000,000,000 to 1,000,000,000 ticks
+abbrev pub IsValue : ℤ → Type 0
+IsValue most = (negsuc 999999999 ≤ℤ most) × (most ≤ℤ pos 1000000000)
+
+-- a network with ascending ids and with all numbers in range: 1,024 time-points, 52 propositions, reactions of 1,000 ticks,
+-- 16,384 constraints and a deadline of 1,000,000 ticks at most
+pub record IsWellFormed (net : Network) : Type 0 where
+  pub network : IsNetwork net
+  pub few_points : count net ≤ 1024
+  pub letters : (x p : ℕ) → Observes net x p → p < 52
+  pub soon : (x p : ℕ) → Observes net x p → net.reaction p ≤ 1000
+  pub few_constraints : length net.constraints ≤ 16384
+  pub ascending : AllPairs (λ b c. b.id < c.id) net.constraints
+  pub values : All (λ c. IsValue c.most) net.constraints
+  pub in_time : net.deadline ≤ 1000000

@@ -1,0 +1,21 @@
+-- The table of the time-points that observe each proposition.
+use Rattle.std.specs.Prelude.{ℕ, ◌≡◌, ◌≢◌, ◌≤◌, List, Option, None, Some, is_some, slice_index_or, slice_set, if◌then◌else◌}
+use Rattle.cstn_label.specs.declared.marks.Mark.TheVariants.{Absent}
+use Rattle.cstn_label.specs.declared.nodes.NodeId.{NodeId}
+use Rattle.cstn_label.specs.Labels.{Label}
+
+-- the table has the first observer of each proposition
+pub record KnowsObservers (observes : List (Option ℕ)) (table : List (Option NodeId)) : Type 0 where
+  pub right : (p : ℕ) (x : NodeId) → slice_index_or table p None ≡ Some x → slice_index_or observes x.0 None ≡ Some p
+  pub first : (p x : ℕ) → slice_index_or observes x None ≡ Some p →
+      (y : NodeId) × (slice_index_or table p None ≡ Some y) × (y.0 ≤ x)
+
+-- the table after a further time-point
+abbrev pub noted : List (Option NodeId) → NodeId → Option ℕ → List (Option NodeId)
+noted table x None = table
+noted table x (Some p) = if is_some (slice_index_or table p None) then table else slice_set table p (Some x)
+
+-- the label names p, for which the table has no observer
+pub record IsUnseen (table : List (Option NodeId)) (a : Label) (p : ℕ) : Type 0 where
+  pub named : a p ≢ Absent
+  pub unseen : slice_index_or table p None ≡ None

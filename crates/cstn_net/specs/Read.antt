@@ -1,0 +1,54 @@
+-- How the values of the program are read.
+use Rattle.std.specs.Prelude.{ℕ, Bool, false, ◌==◌, ◌<◌, List, [], ◌∷◌, Option, Some, None, map, option_map, if◌then◌else◌, ℤ}
+use Rattle.cstn_label.specs.Read.{marks}
+use Rattle.cstn_net.specs.declared.constraints.Constraint.{Constraint}
+use Rattle.cstn_net.specs.declared.points.TimePoint.{TimePoint}
+use Rattle.cstn_net.specs.Networks.{Constraint as TheConstraint, Network, IsValue}
+
+-- what a network holds; `spare` is how many constraints can still be put in without taking memory
+pub record NetworkParts : Type 0 where
+  pub deadline : ℕ
+  pub points : List TimePoint
+  pub constraints : List Constraint
+  pub spare : ℕ
+
+-- a constraint's parts and marks
+abbrev pub the_constraint : Constraint → TheConstraint
+the_constraint c = record { id = c.id; from = c.from.0; to = c.to.0; most = c.most; label = marks c.label }
+
+-- the number of the proposition that a time-point observes
+abbrev pub observed : TimePoint → Option ℕ
+observed t = option_map (λ p. p.index) t.observes
+
+-- the proposition is p
+abbrev pub is_prop : ℕ → Option ℕ → Bool
+is_prop p None = false
+is_prop p (Some q) = q == p
+
+-- the reaction of the time-point that observes p, and 1 where none does
+abbrev pub reaction_of : List TimePoint → ℕ → ℕ
+reaction_of [] p = 1
+reaction_of (t ∷ ts) p = if is_prop p (observed t) then t.reaction else reaction_of ts p
+
+-- the network that a program's network stands for
+abbrev pub the_network : NetworkParts → Network
+the_network n = record {
+  deadline = n.deadline;
+  observes = map observed n.points;
+  reaction = reaction_of n.points;
+  constraints = map the_constraint n.constraints;
+}
+
+-- a constraint between the first n time-points, with its value in range
+pub record IsInRange (n : ℕ) (c : Constraint) : Type 0 where
+  pub from : c.from.0 < n
+  pub to : c.to.0 < n
+  pub value : IsValue c.most
+
+-- the constraint has this id
+abbrev pub has_id : ℕ → Constraint → Bool
+has_id id c = c.id == id
+
+-- the constraint, with another value where it has this id
+abbrev pub with_most : ℕ → ℤ → Constraint → Constraint
+with_most id most c = if has_id id c then record c { most = most } else c

@@ -1,0 +1,62 @@
+-- Tables of moments, what is known in them, and strategies.
+use Rattle.std.specs.Prelude.{ℕ, ◌≡◌, ◌+◌, ◌<◌, ◌≤◌, pos, ◌-ℤ◌, ◌≤ℤ◌}
+use Rattle.std.specs.List.{Contains}
+use Rattle.cstn_label.specs.Labels.{Scenario, Holds}
+use Rattle.cstn_net.specs.Networks.{Network, Constraint, Observes, count, limit}
+
+-- a schedule has a moment, in ticks, for each time-point
+abbrev pub Schedule : Type 0
+Schedule = ℕ → ℕ
+
+-- a table has a schedule for each scenario
+abbrev pub Table : Type 0
+Table = Scenario → Schedule
+
+-- a table is one of the network where each moment is within the time-point's limit
+abbrev pub IsTable : Network → Table → Type 0
+IsTable net table = (s : Scenario) (x : ℕ) → x < count net → table s x ≤ limit net x
+
+-- the proposition p is known at the moment t of a schedule: its observer was executed, and its reaction has passed
+pub record IsKnown (net : Network) (at : Schedule) (t p : ℕ) : Type 0 where
+  pub observer : ℕ
+  pub observes : Observes net observer p
+  pub passed : at observer + net.reaction p ≤ t
+
+-- the scenario r agrees with what is known at t in the scenario s
+abbrev pub Agrees : Network → Schedule → ℕ → Scenario → Scenario → Type 0
+Agrees net at t s r = (p : ℕ) → IsKnown net at t p → r p ≡ s p
+
+-- a table is dynamic where a moment rests on what is known then alone: a scenario that agrees with what is known when x is
+-- executed has x at that moment too
+abbrev pub IsDynamic : Network → Table → Type 0
+IsDynamic net table =
+    (s r : Scenario) (x : ℕ) → x < count net → Agrees net (table s) (table s x) s r → table r x ≡ table s x
+
+-- a scenario that agrees with what is known when x is executed has x no later
+abbrev pub IsNeverLater : Network → Table → Type 0
+IsNeverLater net table =
+    (s r : Scenario) (x : ℕ) → x < count net → Agrees net (table s) (table s x) s r → table r x ≤ table s x
+
+-- in the schedule, `to` is at most `most` after `from`
+abbrev pub Meets : Schedule → Constraint → Type 0
+Meets at c = (pos (at c.to) -ℤ pos (at c.from)) ≤ℤ c.most
+
+-- a strategy is a dynamic table of the network that meets, in each scenario, each constraint whose label holds there
+pub record IsStrategy (net : Network) (table : Table) : Type 0 where
+  pub within : IsTable net table
+  pub dynamic : IsDynamic net table
+  pub meets : (s : Scenario) (c : Constraint) → Contains net.constraints c → Holds s c.label → Meets (table s) c
+
+-- a network is consistent where it has a strategy
+abbrev pub IsConsistent : Network → Type 0
+IsConsistent net = (table : Table) × IsStrategy net table
+
+-- t is the least moment of x in the scenario s: some strategy has x at t there, and none has x earlier
+pub record IsLeast (net : Network) (s : Scenario) (x t : ℕ) : Type 0 where
+  pub reached : (table : Table) × IsStrategy net table × (table s x ≡ t)
+  pub least : (table : Table) → IsStrategy net table → t ≤ table s x
+
+-- a schedule that is within the limits and meets every constraint
+pub record IsSchedule (net : Network) (at : Schedule) : Type 0 where
+  pub within : (x : ℕ) → x < count net → at x ≤ limit net x
+  pub meets : (c : Constraint) → Contains net.constraints c → Meets at c

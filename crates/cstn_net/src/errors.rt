@@ -1,0 +1,46 @@
+use cstn_label::{NodeId, Prop};
+use std::alloc::AllocError;
+use thiserror::Error;
+
+/// Why a builder isn't closed: the lowest number that applies, and under it the first time-point or constraint.
+#[derive(Clone, Copy, Debug, PartialEq, Eq, Error)]
+pub enum NetError {
+    /// N1: there are more than 1,024 time-points.
+    #[error("more than 1024 time-points")]
+    TooManyNodes,
+    /// N2: there is no time-point.
+    #[error("no time-point")]
+    NoOrigin,
+    /// N3: there are more than 16,384 constraints.
+    #[error("more than 16384 constraints")]
+    TooManyConstraints,
+    /// N4: the deadline is above 1,000,000 ticks.
+    #[error("the deadline {deadline} is above 1000000")]
+    DeadlineRange {
+        deadline: u32,
+    },
+    /// N5: the value of the first such constraint is below -1,000,000,000 or above 1,000,000,000 ticks.
+    #[error("the value of constraint {constraint} is out of range")]
+    ValueRange {
+        constraint: u32,
+    },
+    /// N6: the least proposition that nothing observes, of the first constraint that names one.
+    #[error("nothing observes the proposition {}", prop.index)]
+    NotObserved {
+        prop: Prop,
+    },
+    /// N7: `second` is the first time-point whose proposition an earlier one, `first`, observes.
+    #[error("the time-points {} and {} observe the proposition {}", first.0, second.0, prop.index)]
+    TwoObservers {
+        prop: Prop,
+        first: NodeId,
+        second: NodeId,
+    },
+    /// N8: the label of the first such constraint isn't plain.
+    #[error("the label of constraint {constraint} isn't plain")]
+    NotPlain {
+        constraint: u32,
+    },
+    #[error("out of memory")]
+    Memory(AllocError),
+}

@@ -1,0 +1,20 @@
+//! Networks of time-points and constraints, how they are built and changed, and what they mean.
+#![tactic(auto)]
+
+mod builders;
+mod constraints;
+mod drafts;
+mod errors;
+mod laws;
+mod networks;
+mod observers;
+mod points;
+
+pub use builders::Builder;
+pub use constraints::Constraint;
+pub use errors::NetError;
+pub use laws::{
+    bounds_hold, branch_has_a_strategy, dynamic_is_one_sided, knowledge_grows, least_moment_is_one,
+    past_is_common, plain_strategy_is_a_schedule, unobserved_is_unseen,
+};
+pub use networks::Network;

@@ -1,0 +1,56 @@
+// Which time-point observes each proposition.
+ghost use Rattle.std.specs.Prelude.{ℕ, ◌≡◌, ◌<◌, ◌≤◌, ◌↔◌, length, map, None, Some, IsTrue, MatchOption, slice_index_or};
+ghost use Rattle.std.specs.Option.{option_map};
+ghost use Rattle.cstn_label.specs.Read.{marks};
+ghost use Rattle.cstn_net.specs.Read.{observed};
+ghost use Rattle.cstn_net.specs.Drafts.{HasTwins, AreFirstTwins};
+ghost use Rattle.cstn_net.specs.Observers.{KnowsObservers, IsUnseen, noted};
+
+use crate::points::TimePoint;
+use cstn_label::{Label, Mark, NodeId, Prop};
+
+/// For each proposition the first time-point that observes it.
+pub type Observers = [Option<NodeId>; 52];
+
+pub fn observers_of(points: &[TimePoint]) -> Observers
+    requires { length points.now ≤ 1024 }
+    ensures { KnowsObservers (map observed points.now) result }
+{
+    let mut table = [None; 52];
+    for (i, point) in points.iter().enumerate() {
+        note(&mut table, NodeId(i as u16), point.observes);
+    }
+    table
+}
+
+fn note(table: &mut Observers, x: NodeId, observes: Option<Prop>)
+    ensures { table.new ≡ noted table.old x (option_map (λ p. p.index) observes) }
+{
+    if let Some(p) = observes {
+        if table[p.index as usize].is_none() {
+            table[p.index as usize] = Some(x);
+        }
+    }
+}
+
+fn is_unseen(table: &Observers, label: Label, p: Prop) -> bool
+    ensures { IsTrue result ↔ IsUnseen table.now (marks label) p.index }
+{
+    match label.mark(p) {
+        Mark::Absent => false,
+        _ => table[p.index as usize].is_none(),
+    }
+}
+
+// The least proposition that the label names and nothing observes.
+pub fn unobserved(table: &Observers, label: Label) -> Option<Prop>
+    ensures { MatchOption result ((q : ℕ) → IsUnseen table.now (marks label) q → ⊥) (λ p. IsUnseen table.now (marks label) p.index × ((q : ℕ) → q < p.index → IsUnseen table.now (marks label) q → ⊥)) }
+{
+    for index in 0..52 {
+        let p = Prop { index };
+        if is_unseen(table, label, p) {
+            return Some(p);
+        }
+    }
+    None
+}
