@@ -1,2 +1,5 @@
 pub mod NameLemmas
 pub mod NumberLemmas
+pub mod PrintedNameLemmas
+pub mod PrintedLabelLemmas
+pub mod PartLemmas

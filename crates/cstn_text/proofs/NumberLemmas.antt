@@ -1,14 +1,13 @@
 -- What is printed of a number or a value is read again, and nothing else is read.
-use Rattle.std.proofs.Common.{◌≡◌, ◌≢◌, ℕ, zero, suc, ◌+◌, ◌*◌, ◌<◌, ◌≤◌, ◌^◌, List, [], ◌∷◌, ◌++◌, length, get_or, refl, ap, sym, ◌∙◌, arith, rules, subst, Bool, true, false, not, ◌&&◌, ◌||◌}
+use Rattle.std.proofs.Common.{◌≡◌, ℕ, zero, suc, ◌<◌, ◌≤◌, ◌^◌, List, [], ◌∷◌, length, get_or, refl, ap, sym, ◌∙◌, arith, rules, subst, Bool, true, false, not, ◌&&◌, ◌||◌}
 use Rattle.std.specs.Prelude.{◌==◌, nat_lt, nat_le, Option, Some, None, Result, Ok, Err, if◌then◌else◌, decimal, ℤ, pos, negsuc, neg_ℤ, FitsSigned}
 use Rattle.std.specs.Char.{is_ascii_digit}
 use Rattle.std.specs.List.{list_all}
 use Rattle.std.specs.Int.{w32}
 use Rattle.std.specs.Option.{option_and_then}
 use Rattle.std.specs.Result.{result_ok, OkIff}
-use Rattle.std.specs.Fmt.{signed_decimal}
 use Rattle.std.specs.Str.{IsUtf8}
-use Rattle.std.specs.Str.Parse.{digits_value, AllDigits, ParsesUnsigned}
+use Rattle.std.specs.Str.Parse.{digits_value, ParsesUnsigned}
 use Rattle.std.proofs.lemmas.Bool.{false≢true}
 use Rattle.std.proofs.lemmas.Str.{IsUtf8-from_ascii}
 use Rattle.std.proofs.lemmas.Str.Parse.{IsDigitsTest, IsNumeralModel, numerals_by_value, parse_digits}
@@ -81,9 +80,10 @@ chosen_is numeral v n e = grind arith
 pub number_printed : (text : List ℕ) (n : ℕ) → number_read text ≡ Some n → (printed_number n ≡ text) × (n < 2 ^ 64)
 number_printed text n e =
     let found = chosen_is (is_numeral text) (digits_value 10 text) n e in
-    let is = numeral_text text found.0 in
-    ( ap decimal (sym found.2) ∙ decimal-digits_value digits text is.digits is.some is.lone_zero found.1
-    , rw (← found.2) found.1)
+    let is = numeral_text text found.0 in (
+      ap decimal (sym found.2) ∙ decimal-digits_value digits text is.digits is.some is.lone_zero found.1,
+      rw (← found.2) found.1,
+    )
 
 abbrev from_zero : ℕ → Option ℤ
 from_zero n = if nat_lt n (2 ^ 31) then Some (pos n) else None

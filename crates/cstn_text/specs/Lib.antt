@@ -1,2 +1,6 @@
 pub mod Names
 pub mod Numbers
+pub mod PrintedNames
+pub mod PrintedLabels
+pub mod Readings
+pub mod Parts

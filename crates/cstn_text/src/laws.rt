@@ -1,8 +1,14 @@
 //! What is printed is read again, and nothing else is read. The calls do nothing: their contracts are the laws.
 
-ghost use Rattle.std.specs.Prelude.{◌≡◌, ◌<◌, ◌^◌, ℕ, ℤ, List, Some, FitsSigned};
+ghost use Rattle.std.specs.Prelude.{◌≡◌, ◌<◌, ◌≤◌, ◌*◌, ◌^◌, ℕ, ℤ, List, Some, FitsSigned, length};
 ghost use Rattle.std.specs.Int.{w32};
+ghost use Rattle.cstn_label.specs.declared.marks.Mark.TheVariants.{Absent};
+ghost use Rattle.cstn_label.specs.Labels.{Label};
+ghost use Rattle.cstn_text.specs.Names.{IsName};
 ghost use Rattle.cstn_text.specs.Numbers.{number_read, printed_number, value_read, printed_value};
+ghost use Rattle.cstn_text.specs.PrintedLabels.{label_read, printed_label};
+ghost use Rattle.cstn_text.specs.PrintedNames.{name_read, printed_name};
+ghost use Rattle.cstn_text.specs.Parts.{IsOnePart};
 
 /// Each number below 2^64 has one text.
 #[tactic(auto, using(crate::proofs::NumberLemmas::number_back, crate::proofs::NumberLemmas::number_printed))]
@@ -18,4 +24,35 @@ pub fn values_have_one_text()
     ensures back { (v : ℤ) → FitsSigned w32 v → value_read (printed_value v) ≡ Some v }
     ensures only { (text : List ℕ) (v : ℤ) → value_read text ≡ Some v → printed_value v ≡ text }
     ensures fits { (text : List ℕ) (v : ℤ) → value_read text ≡ Some v → FitsSigned w32 v }
+{}
+
+/// Each name has one text, and only names have one that is read.
+#[tactic(auto, using(crate::proofs::PrintedNameLemmas::name_back, crate::proofs::PrintedNameLemmas::name_printed, crate::proofs::PrintedNameLemmas::printed_once))]
+pub fn names_have_one_text()
+    ensures back { (name : List ℕ) → IsName name → name_read (printed_name name) ≡ Some name }
+    ensures only { (text name : List ℕ) → name_read text ≡ Some name → printed_name name ≡ text }
+    ensures named { (text name : List ℕ) → name_read text ≡ Some name → IsName name }
+    ensures once { (one other : List ℕ) → printed_name one ≡ printed_name other → one ≡ other }
+{}
+
+/// A printed name is at least as long as the name, and at most three times as long.
+#[tactic(auto, using(crate::proofs::PrintedNameLemmas::name_length))]
+pub fn printed_names_are_short()
+    ensures least { (name : List ℕ) → length name ≤ length (printed_name name) }
+    ensures most { (name : List ℕ) → length (printed_name name) ≤ 3 * length name }
+{}
+
+/// A printed label is read again. The proposition numbers end at 51.
+#[tactic(auto, using(crate::proofs::PrintedLabelLemmas::label_back))]
+pub fn labels_are_read_back()
+    ensures back { (a : Label) → ((p : ℕ) → 52 ≤ p → a p ≡ Absent) → label_read (printed_label a) ≡ Some a }
+{}
+
+/// What is printed has no space and no byte below it, so a line is cut at spaces without loss.
+#[tactic(auto, using(crate::proofs::PartLemmas::number_part, crate::proofs::PartLemmas::value_part, crate::proofs::PartLemmas::name_part, crate::proofs::PartLemmas::label_part))]
+pub fn printed_texts_are_parts()
+    ensures number { (n : ℕ) → n < 2 ^ 64 → IsOnePart (printed_number n) }
+    ensures value { (v : ℤ) → FitsSigned w32 v → IsOnePart (printed_value v) }
+    ensures name { (name : List ℕ) → IsOnePart (printed_name name) }
+    ensures label { (a : Label) → IsOnePart (printed_label a) }
 {}

@@ -1,8 +1,9 @@
 //! The names of a network's time-points.
 
-ghost use Rattle.std.specs.Prelude.{◌≡◌, ◌<◌, ◌^◌, ◌-◌, ◌++◌, ◌∷◌, ◌↔◌, ◌⊎◌, [], Contains, length, IfOk, IsTrue, OnErr, IsErrOf, ◌&&◌, nat_lt, nat_le};
+ghost use Rattle.std.specs.Prelude.{◌≡◌, ◌<◌, ◌^◌, ◌-◌, ◌++◌, ◌∷◌, ◌↔◌, ◌⊎◌, [], Contains, length, IfOk, IsTrue, OnErr, IsErrOf, ◌&&◌, nat_lt, nat_le, slice_get, Some};
 ghost use Rattle.cstn_text.specs.Names.{AreNames, number_of};
 
+use cstn_label::NodeId;
 use indexmap::IndexSet;
 use std::alloc::{AllocError, Global};
 use std::marker::Model;
@@ -70,6 +71,15 @@ impl Names {
         }
     }
 
+    /// The name of a number.
+    pub fn name(&self, x: NodeId) -> &str
+        requires { x.0 < length self.now }
+        ensures name { slice_get self.now x.0 ≡ Some result.now }
+    {
+        let name = self.set.get_index(x.index()).unwrap();
+        name.as_str()
+    }
+
     fn is_known(&self, name: &str) -> bool
         ensures { IsTrue result ↔ Contains self.now name.now }
     {
@@ -105,7 +115,7 @@ impl Names {
 }
 
 // Whether a text has 1 to 64 bytes.
-fn has_shape(name: &str) -> bool
+pub(crate) fn has_shape(name: &str) -> bool
     ensures { result ≡ (nat_lt 0 (length name.now) && nat_le (length name.now) 64) }
 {
     !name.is_empty() && name.len() <= 64

@@ -1,4 +1,4 @@
-use Rattle.std.proofs.Common.{sym, ◌∙◌, ap}
+use Rattle.std.proofs.Common.{sym, ◌∙◌}
 use Rattle.cstn_text.proofs.NumberLemmas.{numeral_utf8, parsed}
 use Rattle.cstn_text.proofs.numbers.read_number.Goals as goal
 

@@ -1,0 +1,74 @@
+-- Labels as they stand in lines.
+use Rattle.std.specs.Prelude.{ℕ, zero, suc, ◌&&◌, ◌==◌, List, [], ◌∷◌, ◌++◌, length, Option, Some, None, if◌then◌else◌}
+use Rattle.std.specs.Option.{option_and_then}
+use Rattle.cstn_label.specs.declared.marks.Mark.{Mark}
+use Rattle.cstn_label.specs.declared.marks.Mark.TheVariants.{Absent, Yes, No, Unknown}
+use Rattle.cstn_label.specs.Labels.{Label, empty, with_mark}
+use Rattle.cstn_label.specs.Letters.{letter_of, prop_of}
+
+-- the mark of a letter: the letter, after `!` for no and `?` for unknown
+abbrev pub printed_mark : ℕ → Mark → List ℕ
+printed_mark letter Absent = []
+printed_mark letter Yes = letter ∷ []
+printed_mark letter No = 33 ∷ letter ∷ []
+printed_mark letter Unknown = 63 ∷ letter ∷ []
+
+-- the marks of the propositions below n, in ascending order
+unfoldable pub marks_below : Label → ℕ → List ℕ
+marks_below a zero = []
+marks_below a (suc n) = marks_below a n ++ printed_mark (letter_of n) (a n)
+
+-- `-` stands for no mark
+abbrev pub or_dash : List ℕ → List ℕ
+or_dash [] = 45 ∷ []
+or_dash (b ∷ bytes) = b ∷ bytes
+
+-- a label is printed by its marks
+abbrev pub printed_label : Label → List ℕ
+printed_label a = or_dash (marks_below a 52)
+
+-- the marks read so far, and the mark that the next letter gets: yes where no sign was read
+pub record Reading : Type 0 where
+  pub label : Label
+  pub sign : Mark
+
+abbrev pub nothing_read : Reading
+nothing_read = record { label = empty; sign = Yes }
+
+-- a sign stands after no other sign
+abbrev pub signed : Label → Mark → Mark → Option Reading
+signed a Absent sign = None
+signed a Yes sign = Some (record { label = a; sign = sign })
+signed a No sign = None
+signed a Unknown sign = None
+
+-- a proposition that has no mark yet gets one
+abbrev pub marked : Label → Mark → Mark → ℕ → Option Reading
+marked a sign Absent p = Some (record { label = with_mark a p sign; sign = Yes })
+marked a sign Yes p = None
+marked a sign No p = None
+marked a sign Unknown p = None
+
+-- what is read after one more byte: a sign, or a letter
+abbrev pub after_byte : Reading → ℕ → Option Reading
+after_byte r b =
+    if b == 33 then signed r.label r.sign No
+    else if b == 63 then signed r.label r.sign Unknown
+    else option_and_then (λ p. marked r.label r.sign (r.label p) p) (prop_of b)
+
+-- no sign is left without its letter
+abbrev pub ended : Label → Mark → Option Label
+ended a Absent = None
+ended a Yes = Some a
+ended a No = None
+ended a Unknown = None
+
+-- the label of one mark after the other
+abbrev pub marks_read : Reading → List ℕ → Option Label
+marks_read r [] = ended r.label r.sign
+marks_read r (b ∷ bytes) = option_and_then (λ next. marks_read next bytes) (after_byte r b)
+
+-- the label of a text: `-` alone, or one or more marks, of each letter at most one
+abbrev pub label_read : List ℕ → Option Label
+label_read [] = None
+label_read (b ∷ bytes) = if b == 45 && length bytes == 0 then Some empty else marks_read nothing_read (b ∷ bytes)

@@ -1,0 +1,7 @@
+-- How a reading of the program is read.
+use Rattle.cstn_label.specs.Read.{marks}
+use Rattle.cstn_text.specs.declared.printed_labels.Reading.{Reading}
+use Rattle.cstn_text.specs.PrintedLabels.{Reading as TheReading}
+
+abbrev pub the_reading : Reading → TheReading
+the_reading r = record { label = marks r.label; sign = r.sign }

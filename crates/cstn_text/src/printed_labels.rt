@@ -1,0 +1,136 @@
+//! Labels as they stand in lines.
+
+ghost use Rattle.std.specs.Prelude.{◌≡◌, ◌<◌, ◌++◌, ◌∷◌, [], IfOk, OnOk, string_bytes};
+ghost use Rattle.std.specs.Option.{option_map};
+ghost use Rattle.cstn_label.specs.Read.{marks};
+ghost use Rattle.cstn_label.specs.Letters.{letter_of};
+ghost use Rattle.cstn_text.specs.PrintedLabels.{printed_mark, printed_label, marks_below, nothing_read, signed, marked, after_byte, ended, marks_read, label_read};
+ghost use Rattle.cstn_text.specs.Readings.{the_reading};
+
+use cstn_label::{Label, Mark, Prop};
+use std::alloc::{AllocError, Global};
+
+/// The printed form of a label: `-`, or its marks in ascending proposition.
+pub fn print_label(alloc: Global, label: Label) -> Result<String, AllocError>
+    ensures printed { IfOk result (λ text. string_bytes text ≡ printed_label (marks label)) }
+{
+    let text = print_marks(alloc, label)?;
+    if text.is_empty() {
+        return String::from_str(alloc, "-");
+    }
+    Ok(text)
+}
+
+/// The label of a text, if it is one: `-`, or marks in any order with a letter at most once.
+pub fn read_label(bytes: &[u8]) -> Option<Label>
+    ensures read { option_map marks result ≡ label_read bytes.now }
+{
+    match bytes {
+        [] => None,
+        [b'-'] => Some(Label::empty()),
+        _ => read_marks(bytes),
+    }
+}
+
+fn print_marks(alloc: Global, label: Label) -> Result<String, AllocError>
+    ensures { IfOk result (λ text. string_bytes text ≡ marks_below (marks label) 52) }
+{
+    let mut text = String::new(alloc);
+    for index in 0..52 {
+        push_mark(&mut text, label, index)?;
+    }
+    Ok(text)
+}
+
+fn push_mark(text: &mut String, label: Label, index: u8) -> Result<(), AllocError>
+    requires { index < 52 }
+    ensures { OnOk result (string_bytes text.new ≡ string_bytes text.old ++ printed_mark (letter_of index) (marks label index)) }
+{
+    let p = Prop::new(index).unwrap();
+    match label.mark(p) {
+        Mark::Absent => Ok(()),
+        Mark::Yes => push_letter(text, p.letter()),
+        Mark::No => {
+            text.push('!')?;
+            push_letter(text, p.letter())
+        }
+        Mark::Unknown => {
+            text.push('?')?;
+            push_letter(text, p.letter())
+        }
+    }
+}
+
+fn push_letter(text: &mut String, letter: u8) -> Result<(), AllocError>
+    requires { letter < 128 }
+    ensures { OnOk result (string_bytes text.new ≡ string_bytes text.old ++ letter ∷ []) }
+{
+    text.push(char::from(letter))
+}
+
+fn read_marks(bytes: &[u8]) -> Option<Label>
+    ensures { option_map marks result ≡ marks_read nothing_read bytes.now }
+{
+    let mut reading = Reading {
+        label: Label::empty(),
+        sign: Mark::Yes,
+    };
+    let mut left = bytes;
+    while let Some((b, rest)) = left.split_first() {
+        reading = reading.after(*b)?;
+        left = rest;
+    }
+    reading.end()
+}
+
+// The marks read so far, and the mark that the next letter gets.
+#[derive(Clone, Copy)]
+struct Reading {
+    label: Label,
+    sign: Mark,
+}
+
+impl Reading {
+    fn after(self, b: u8) -> Option<Reading>
+        ensures { option_map the_reading result ≡ after_byte (the_reading self) b }
+    {
+        match b {
+            b'!' => self.signed(Mark::No),
+            b'?' => self.signed(Mark::Unknown),
+            _ => self.marked(Prop::from_letter(b)?),
+        }
+    }
+
+    fn signed(self, sign: Mark) -> Option<Reading>
+        ensures { option_map the_reading result ≡ signed (marks self.label) self.sign sign }
+    {
+        match self.sign {
+            Mark::Yes => Some(Reading {
+                label: self.label,
+                sign,
+            }),
+            _ => None,
+        }
+    }
+
+    fn marked(self, p: Prop) -> Option<Reading>
+        ensures { option_map the_reading result ≡ marked (marks self.label) self.sign (marks self.label p.index) p.index }
+    {
+        match self.label.mark(p) {
+            Mark::Absent => Some(Reading {
+                label: self.label.with(p, self.sign),
+                sign: Mark::Yes,
+            }),
+            _ => None,
+        }
+    }
+
+    fn end(self) -> Option<Label>
+        ensures { option_map marks result ≡ ended (marks self.label) self.sign }
+    {
+        match self.sign {
+            Mark::Yes => Some(self.label),
+            _ => None,
+        }
+    }
+}
