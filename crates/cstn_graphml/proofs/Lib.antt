@@ -1,0 +1,10 @@
+pub mod Examples
+pub mod Places
+pub mod PassedOver
+pub mod Folds
+pub mod ChildRead
+pub mod DatumRead
+pub mod Wholes
+pub mod TenDigits
+pub mod PairTexts
+pub mod TextsRead

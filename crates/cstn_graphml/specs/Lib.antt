@@ -1,0 +1,13 @@
+pub mod Results
+pub mod Numbers
+pub mod LabelTexts
+pub mod ValueTexts
+pub mod TextsSeen
+pub mod Contents
+pub mod Elements
+pub mod Draft
+pub mod DraftSeen
+pub mod Judged
+pub mod Document
+pub mod Reads
+pub mod Data
