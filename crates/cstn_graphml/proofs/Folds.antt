@@ -104,7 +104,7 @@ module _ {S A : Type 0} (r : Reading S A) (start : S) where
 
 -- an element that was refused, closed at once or not
 module _ {S A X : Type 0} (r : Reading S A) (start : S) (view : X → A) where
-  element_fails : (q : Bool) (s : S) (e : DocError) (names : List (List ℕ)) (at : ℕ) (name : List ℕ) (attributes : List Attribute) (after : List Token) → Fails e (r.elements s (tag_of at name attributes) (inside q at name names after))
+  pub element_fails : (q : Bool) (s : S) (e : DocError) (names : List (List ℕ)) (at : ℕ) (name : List ℕ) (attributes : List Attribute) (after : List Token) → Fails e (r.elements s (tag_of at name attributes) (inside q at name names after))
       → Fails e (read_by r s (inner (opened true q names (tag_of at name attributes) (λ o. contents o after))))
   unfolding read_by
   element_fails true s e names at name attributes after f = fails_through e _ (λ u. read_by r u (inner (contents names after))) f

@@ -5,6 +5,8 @@ pub mod Folds
 pub mod ChildRead
 pub mod DatumRead
 pub mod Wholes
+pub mod Judging
+pub mod Tops
 pub mod TenDigits
 pub mod PairTexts
 pub mod TextsRead

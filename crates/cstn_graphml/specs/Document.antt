@@ -1,5 +1,6 @@
 -- What a document means: its network with names, or the first refusal.
-use Rattle.std.specs.Prelude.{ℕ, Bool, true, false, List, [], ◌∷◌, Option, Some, None, is_some, Result, Ok, Err, if◌then◌else◌, codes}
+use Rattle.std.specs.Prelude.{ℕ, Bool, true, false, List, [], ◌∷◌, Option, Some, None, Result, Ok, Err, if◌then◌else◌, codes}
+use Rattle.std.specs.List.{list_any}
 use Rattle.std.specs.Str.{is_utf8}
 use Rattle.std.specs.Str.Lossy.{utf8_valid_len}
 use Rattle.cstn_markup.specs.Bytes.{is_same}
@@ -25,7 +26,7 @@ part_of name =
 
 -- an element in the graph
 abbrev pub graph_child : Part → Draft → Tag → Content → Result Draft Refusal
-graph_child a_datum draft tag inside = datum (codes "Deadline" ∷ []) (λ key. is_some draft.deadline) tag inside >>= judged_deadline draft
+graph_child a_datum draft tag inside = datum (codes "Deadline" ∷ []) (λ key. list_any (λ d. is_same d.key key) draft.own) tag inside >>= judged_deadline draft
 graph_child a_node draft tag inside = data_of (codes "Obs" ∷ (codes "Label" ∷ [])) inside >>= judged_node tag draft
 graph_child an_edge draft tag inside = data_of (codes "Type" ∷ (codes "LabeledValues" ∷ [])) inside >>= judged_edge tag draft
 graph_child another draft tag inside = passed inside >>= λ same. Ok draft

@@ -86,4 +86,4 @@ judged_edge tag draft found =
 -- the deadline is judged when its data element ends
 abbrev pub judged_deadline : Draft → Option Datum → Result Draft Refusal
 judged_deadline draft None = Ok draft
-judged_deadline draft (Some d) = or_refused (short_number 4294967296 d.value) (bad_value d.at) >>= λ n. Ok (with_deadline n draft)
+judged_deadline draft (Some d) = or_refused (short_number 4294967296 d.value) (bad_value d.at) >>= λ n. Ok (with_deadline d n draft)

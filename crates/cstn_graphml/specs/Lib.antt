@@ -5,9 +5,10 @@ pub mod ValueTexts
 pub mod TextsSeen
 pub mod Contents
 pub mod Elements
+pub mod Data
 pub mod Draft
 pub mod DraftSeen
 pub mod Judged
 pub mod Document
 pub mod Reads
-pub mod Data
+pub mod GraphSeen

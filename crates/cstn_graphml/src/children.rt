@@ -54,7 +54,7 @@ fn read_child(
 }
 
 /// Whether a text is white space only.
-fn is_blank(raw: &[u8]) -> bool
+pub fn is_blank(raw: &[u8]) -> bool
     ensures { result ≡ list_all is_white raw.now }
 {
     raw.iter().all(|b| is_white(*b))

@@ -1,9 +1,11 @@
 //! What was read of a graph so far.
 
 ghost use Rattle.std.specs.Prelude.{◌≡◌, IfOk, OnOk};
-ghost use Rattle.cstn_graphml.specs.Draft.{node_of, with_node, with_constraint, empty_draft};
+ghost use Rattle.cstn_graphml.specs.Draft.{node_of, with_node, with_constraint, with_deadline, empty_draft};
+ghost use Rattle.cstn_graphml.specs.Data.{datum_seen};
 ghost use Rattle.cstn_graphml.specs.DraftSeen.{drawn_seen, prop_seen, draft_seen};
 
+use crate::data_element::Datum;
 use cstn_label::{Label, Prop};
 use cstn_text::Names;
 use std::alloc::{AllocError, Global};
@@ -17,10 +19,11 @@ pub struct Drawn {
     pub label: Label,
 }
 
-/// What was read of a graph so far: what the origin observes, once its node was read, the names of the time-points, of
-/// which the origin's stands first, and what those after the origin observe.
+/// What was read of a graph so far: its own data, what the origin observes, once its node was read, the names of the
+/// time-points, of which the origin's stands first, and what those after the origin observe.
 #[derive(Drop)]
 pub struct Draft {
+    pub own: Vec<Datum>,
     pub deadline: Option<u32>,
     pub origin: Option<Option<Prop>>,
     pub names: Names,
@@ -37,6 +40,7 @@ pub fn empty_draft(alloc: Global) -> Result<Draft, AllocError>
         return Err(AllocError);
     };
     Ok(Draft {
+        own: Vec::new(alloc),
         deadline: None,
         origin: None,
         names,
@@ -81,5 +85,14 @@ pub fn put_constraint(draft: &mut Draft, constraint: Drawn) -> Result<(), AllocE
     ensures { OnOk result (draft_seen draft.new ≡ with_constraint (drawn_seen constraint) (draft_seen draft.old)) }
 {
     draft.constraints.push(constraint)?;
+    Ok(())
+}
+
+/// Puts in the deadline of a data element.
+pub fn put_deadline(draft: &mut Draft, datum: Datum, deadline: u32) -> Result<(), AllocError>
+    ensures { OnOk result (draft_seen draft.new ≡ with_deadline (datum_seen datum) deadline (draft_seen draft.old)) }
+{
+    draft.own.push(datum)?;
+    draft.deadline = Some(deadline);
     Ok(())
 }

@@ -5,13 +5,17 @@ mod attributes;
 mod children;
 mod data;
 mod data_element;
+mod deadlines;
+mod document;
 mod draft;
 mod edges;
 mod errors;
+mod graph;
 mod label_texts;
 mod nodes;
 mod numbers;
 mod passing;
+mod root;
 mod value_texts;
 mod values;
 
