@@ -1,18 +1,19 @@
 -- The table of observers, a time-point at a time.
-use Rattle.std.proofs.Common.{ℕ, zero, suc, ◌≡◌, ◌≢◌, ◌⊎◌, inl, inr, ◌+◌, ◌<◌, ◌≤◌, Option, Some, None, List, [], ◌∷◌, ◌++◌, length, get_or, set, take, map, replicate, arith, refl, sym, subst, ◌∙◌, ap, cond}
+use Rattle.std.proofs.Common.{ℕ, zero, suc, ◌≡◌, ◌⊎◌, inl, inr, ◌+◌, ◌<◌, ◌≤◌, Option, Some, None, List, [], ◌∷◌, ◌++◌, length, get_or, set, take, map, replicate, arith, refl, sym, subst, ◌∙◌, ap, cond, false}
 use Rattle.std.specs.Prelude.{is_some}
 use Rattle.std.specs.Option.{option_map}
-use Rattle.std.proofs.lemmas.Bool.{cases_lt, cases_eq}
-use Rattle.std.proofs.lemmas.List.{map_more, length-map, get_or_past, length-take-le, get_or-set_same, get_or-set_other, length-set}
+use Rattle.std.proofs.lemmas.Bool.{cases_lt, cases_eq, eq-eqb, ne_eqb}
+use Rattle.std.proofs.lemmas.List.{map_more, get_or-map, length-map, get_or_past, length-take-le, get_or-set_same, get_or-set_other, length-set}
 use Rattle.cstn_label.specs.declared.nodes.NodeId.{NodeId}
 use Rattle.cstn_label.specs.declared.props.Prop.{Prop}
 use Rattle.cstn_label.specs.declared.labels.Label.{Label}
 use Rattle.cstn_label.specs.declared.marks.Mark.TheVariants.{Absent}
-use Rattle.cstn_label.specs.Read.{marks, mark_of}
+use Rattle.cstn_label.specs.Read.{marks}
 use Rattle.cstn_label.proofs.WordLemmas.{has_bit_above}
 use Rattle.cstn_net.specs.declared.points.TimePoint.{TimePoint}
-use Rattle.cstn_net.specs.Read.{observed}
-use Rattle.cstn_net.specs.Observers.{KnowsObservers, IsUnseen, noted}
+use Rattle.cstn_net.specs.Read.{observed, is_prop, reaction_of}
+use Rattle.cstn_net.specs.Drafts.{HasTwins, AreFirstTwins}
+use Rattle.cstn_net.specs.Observers.{KnowsObservers, IsTwin, noted}
 
 -- a proposition is below 52
 pub prop_below : (o : Option Prop) (q : ℕ) → option_map (λ p. p.index) o ≡ Some q → q < 52
@@ -149,3 +150,91 @@ observers_turn points table new i x t inside at_i is long h made =
     let more = noted_more (map observed (take i points)) table x at_end h (observed t)
     (λ p e. let below = prop_below t.observes p e in omega arith) in
     rw (made, map_more observed points i t inside, sym is) more
+
+is_prop_other : (p : ℕ) (o : Option ℕ) → (o ≡ Some p → ⊥) → is_prop p o ≡ false
+is_prop_other p None other = refl
+is_prop_other p (Some q) other = ne_eqb q p (λ e. other (ap Some e))
+
+-- the reaction of a proposition is that of its first observer
+pub reaction_at : (points : List TimePoint) (p x : ℕ) (d : TimePoint) → get_or (map observed points) x None ≡ Some p →
+    ((y : ℕ) → get_or (map observed points) y None ≡ Some p → x ≤ y) →
+    reaction_of points p ≡ (get_or points x d).reaction
+reaction_at [] p x d e first = cc
+reaction_at (t ∷ ts) p zero d e first = rw (e, eq-eqb p p refl) refl
+reaction_at (t ∷ ts) p (suc x) d e first =
+    rw (is_prop_other p (observed t) (λ here. let upto = first 0 here in absurd (omega arith)))
+    (reaction_at ts p x d e (λ y there. let upto = first (suc y) there in omega arith))
+
+pub reaction_none : (points : List TimePoint) (p : ℕ) → ((x : ℕ) → get_or (map observed points) x None ≡ Some p → ⊥) →
+    reaction_of points p ≡ 1
+reaction_none [] p none = refl
+reaction_none (t ∷ ts) p none =
+    rw (is_prop_other p (observed t) (none 0)) (reaction_none ts p (λ x there. none (suc x) there))
+
+-- the reaction by the table of observers
+pub reaction_by : (points : List TimePoint) (table : List (Option NodeId)) (p : ℕ) (x : NodeId) (d : TimePoint) →
+    KnowsObservers (map observed points) table → get_or table p None ≡ Some x →
+    reaction_of points p ≡ (get_or points x.0 d).reaction
+reaction_by points table p x d h there = reaction_at points p x.0 d (h.right p x there) (λ y at_y.
+    let found = h.first p y at_y in
+    let other = found.1 in
+    let same : found.0 ≡ x = cc in
+    subst (λ z. z.0 ≤ y) same found.2)
+
+pub no_reaction_by : (points : List TimePoint) (table : List (Option NodeId)) (p : ℕ) →
+    KnowsObservers (map observed points) table → get_or table p None ≡ None → reaction_of points p ≡ 1
+no_reaction_by points table p h free = reaction_none points p (λ x there. let found = h.first p x there in let at_p = found.1 in cc)
+
+-- an observer in the table is a time-point
+pub observer_inside : (points : List TimePoint) (table : List (Option NodeId)) (p : ℕ) (x : NodeId) →
+    KnowsObservers (map observed points) table → get_or table p None ≡ Some x → x.0 < length points
+observer_inside points table p x h there =
+    subst (λ n. x.0 < n) (length-map points observed) (stands_within (map observed points) x.0 p (h.right p x there))
+
+same_node : (x y : NodeId) → x.0 ≡ y.0 → x ≡ y
+same_node x y e = ap {B = NodeId} (λ n. record { 0 = n }) e
+
+module _ (observes : List (Option ℕ)) (table : List (Option NodeId)) (h : KnowsObservers observes table) (x : NodeId) (o : Option ℕ) (at_x : get_or observes x.0 None ≡ o) where
+  -- a time-point that isn't the first observer of its proposition is the second of the first twins, where none are before
+  pub twins_here : (p : ℕ) (y : NodeId) → (HasTwins observes x.0 → ⊥) → IsTwin table o x p y →
+      AreFirstTwins observes p y.0 x.0
+  twins_here p y none twin =
+      let here = at_x ∙ twin.observed in
+      let found = h.first p x.0 here in
+      let at_p = found.1 in
+      let first = twin.first in
+      let same : found.0 ≡ y = cc in
+      let upto = subst (λ z. z.0 ≤ x.0) same found.2 in
+      let other : y.0 ≡ x.0 → ⊥ = λ e. twin.other (same_node y x e) in
+      record { ordered = omega arith; one = h.right p y first; other = here; none_before = none }
+
+  pub no_twins_here : ((p : ℕ) (y : NodeId) → IsTwin table o x p y → ⊥) → (HasTwins observes x.0 → ⊥) →
+      HasTwins observes (x.0 + 1) → ⊥
+  no_twins_here no_twin none twins = elim (cases_lt twins.y x.0) [
+    | inl before ↦ none (record {
+      x = twins.x;
+      y = twins.y;
+      p = twins.p;
+      ordered = twins.ordered;
+      before = before;
+      one = twins.one;
+      other = twins.other;
+    })
+    | inr after ↦
+        let upto = twins.before in
+        let here : twins.y ≡ x.0 = omega arith in
+        let found = h.first twins.p twins.x twins.one in
+        let early = found.2 in
+        let ordered = twins.ordered in
+        let seen : o ≡ Some twins.p = sym at_x ∙ subst (λ n. get_or observes n None ≡ Some twins.p) here twins.other in
+        no_twin twins.p found.0 (record {
+          observed = seen;
+          first = found.1;
+          other = λ e. let same = ap (λ n. n.0) e in omega arith;
+        })
+  ]
+
+-- what a time-point observes
+pub observed_at : (points : List TimePoint) (i : ℕ) (t : TimePoint) → i < length points → t ≡ get_or points i t →
+    get_or (map observed points) i None ≡ observed t
+observed_at points i t inside is = get_or-map observed points i t None inside ∙ ap observed (sym is)

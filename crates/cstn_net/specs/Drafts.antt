@@ -9,7 +9,7 @@ use Rattle.cstn_net.specs.declared.points.TimePoint.{TimePoint}
 use Rattle.cstn_net.specs.declared.drafts.Draft.{Draft}
 use Rattle.cstn_net.specs.declared.errors.NetError.{NetError}
 use Rattle.cstn_net.specs.declared.errors.NetError.TheVariants.{TooManyNodes, NoOrigin, TooManyConstraints, DeadlineRange, ValueRange, NotObserved, TwoObservers, NotPlain, Memory}
-use Rattle.cstn_net.specs.Networks.{Network, Observes, IsValue}
+use Rattle.cstn_net.specs.Networks.{IsValue}
 use Rattle.cstn_net.specs.Read.{observed}
 
 -- the deadline, the time-points and the constraints that were handed in

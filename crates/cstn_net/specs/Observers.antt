@@ -1,8 +1,12 @@
 -- The table of the time-points that observe each proposition.
-use Rattle.std.specs.Prelude.{ℕ, ◌≡◌, ◌≢◌, ◌≤◌, List, Option, None, Some, is_some, slice_index_or, slice_set, if◌then◌else◌}
+use Rattle.std.specs.Prelude.{ℕ, ◌≡◌, ◌≢◌, ◌≤◌, List, Option, None, Some, is_some, slice_index_or, slice_set, map, if◌then◌else◌}
 use Rattle.cstn_label.specs.declared.marks.Mark.TheVariants.{Absent}
 use Rattle.cstn_label.specs.declared.nodes.NodeId.{NodeId}
 use Rattle.cstn_label.specs.Labels.{Label}
+use Rattle.cstn_net.specs.declared.constraints.Constraint.{Constraint}
+use Rattle.cstn_net.specs.declared.points.TimePoint.{TimePoint}
+use Rattle.cstn_net.specs.Networks.{IsWellFormed}
+use Rattle.cstn_net.specs.Read.{the_network, observed}
 
 -- the table has the first observer of each proposition
 pub record KnowsObservers (observes : List (Option ℕ)) (table : List (Option NodeId)) : Type 0 where
@@ -19,3 +23,14 @@ noted table x (Some p) = if is_some (slice_index_or table p None) then table els
 pub record IsUnseen (table : List (Option NodeId)) (a : Label) (p : ℕ) : Type 0 where
   pub named : a p ≢ Absent
   pub unseen : slice_index_or table p None ≡ None
+
+-- the time-point x observes p, whose first observer y is another
+pub record IsTwin (table : List (Option NodeId)) (observes : Option ℕ) (x : NodeId) (p : ℕ) (y : NodeId) : Type 0 where
+  pub observed : observes ≡ Some p
+  pub first : slice_index_or table p None ≡ Some y
+  pub other : y ≢ x
+
+-- what a network of the program keeps
+pub record IsKept (deadline : ℕ) (points : List TimePoint) (table : List (Option NodeId)) (constraints : List Constraint) : Type 0 where
+  pub observers : KnowsObservers (map observed points) table
+  pub well_formed : IsWellFormed (the_network (record { deadline = deadline; points = points; constraints = constraints; spare = 0 }))

@@ -1,5 +1,6 @@
 -- How the values of the program are read.
-use Rattle.std.specs.Prelude.{ℕ, Bool, false, ◌==◌, ◌<◌, List, [], ◌∷◌, Option, Some, None, map, option_map, if◌then◌else◌, ℤ}
+use Rattle.std.specs.Prelude.{ℕ, Bool, false, ◌==◌, ◌<◌, List, [], ◌∷◌, Option, Some, None, map, option_map, if◌then◌else◌, not, ℤ}
+use Rattle.std.specs.List.{filter}
 use Rattle.cstn_label.specs.Read.{marks}
 use Rattle.cstn_net.specs.declared.constraints.Constraint.{Constraint}
 use Rattle.cstn_net.specs.declared.points.TimePoint.{TimePoint}
@@ -48,6 +49,10 @@ pub record IsInRange (n : ℕ) (c : Constraint) : Type 0 where
 -- the constraint has this id
 abbrev pub has_id : ℕ → Constraint → Bool
 has_id id c = c.id == id
+
+-- the constraints without the one of this id
+abbrev pub without_id : ℕ → List Constraint → List Constraint
+without_id id cs = filter (λ c. not (has_id id c)) cs
 
 -- the constraint, with another value where it has this id
 abbrev pub with_most : ℕ → ℤ → Constraint → Constraint

@@ -9,6 +9,7 @@ mod laws;
 mod networks;
 mod observers;
 mod points;
+mod scans;
 
 pub use builders::Builder;
 pub use constraints::Constraint;

@@ -1,4 +1,4 @@
-use Rattle.std.proofs.Common.{arith, refl}
+use Rattle.std.proofs.Common.{refl}
 use Rattle.cstn_net.proofs.ObserverLemmas.{no_observers, observers_turn}
 use Rattle.cstn_net.proofs.observers.observers_of.Goals as goal
 

@@ -1,4 +1,4 @@
-use Rattle.std.proofs.Common.{ℕ, inl, inr, arith}
+use Rattle.std.proofs.Common.{inl, inr, arith}
 use Rattle.std.proofs.lemmas.Bool.{cases_lt}
 use Rattle.cstn_net.proofs.ObserverLemmas.{marks_above}
 use Rattle.cstn_net.proofs.observers.unobserved.Goals as goal

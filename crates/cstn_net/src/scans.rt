@@ -1,0 +1,82 @@
+// The first constraint or time-point at which something is wrong.
+ghost use Rattle.std.specs.Prelude.{ℕ, ◌≡◌, ◌<◌, ◌≤◌, ◌↔◌, length, map, None, IsTrue, MatchOption};
+ghost use Rattle.std.specs.List.{All};
+ghost use Rattle.std.specs.Option.{option_map};
+ghost use Rattle.cstn_label.specs.Labels.{IsPlain};
+ghost use Rattle.cstn_label.specs.Read.{marks};
+ghost use Rattle.cstn_net.specs.Networks.{IsValue};
+ghost use Rattle.cstn_net.specs.Read.{observed};
+ghost use Rattle.cstn_net.specs.Drafts.{IsFirst, IsLeastOfFirst, HasTwins, AreFirstTwins};
+ghost use Rattle.cstn_net.specs.Observers.{KnowsObservers, IsUnseen, IsTwin};
+
+use crate::drafts::Draft;
+use crate::observers::{Observers, unobserved};
+use crate::points::TimePoint;
+use cstn_label::{NodeId, Prop};
+
+const MOST_VALUE: i32 = 1_000_000_000;
+
+fn is_in_range(draft: Draft) -> bool
+    ensures { IsTrue result ↔ IsValue draft.most }
+{
+    -MOST_VALUE <= draft.most && draft.most <= MOST_VALUE
+}
+
+pub fn first_out_of_range(drafts: &[Draft]) -> Option<u32>
+    requires { length drafts.now ≤ 16384 }
+    ensures { MatchOption result (All (λ d. IsValue d.most) drafts.now) (IsFirst (λ d. IsValue d.most → ⊥) drafts.now) }
+{
+    for (i, draft) in drafts.iter().enumerate() {
+        if !is_in_range(*draft) {
+            return Some(i as u32);
+        }
+    }
+    None
+}
+
+pub fn first_not_plain(drafts: &[Draft]) -> Option<u32>
+    requires { length drafts.now ≤ 16384 }
+    ensures { MatchOption result (All (λ d. IsPlain (marks d.label)) drafts.now) (IsFirst (λ d. IsPlain (marks d.label) → ⊥) drafts.now) }
+{
+    for (i, draft) in drafts.iter().enumerate() {
+        if !draft.label.is_plain() {
+            return Some(i as u32);
+        }
+    }
+    None
+}
+
+// The least unobserved proposition of the first constraint that names one.
+pub fn first_unobserved(table: &Observers, drafts: &[Draft]) -> Option<Prop>
+    ensures { MatchOption result (All (λ d. (q : ℕ) → IsUnseen table.now (marks d.label) q → ⊥) drafts.now) (λ p. IsLeastOfFirst (λ q d. IsUnseen table.now (marks d.label) q) drafts.now p.index) }
+{
+    for draft in drafts {
+        if let Some(p) = unobserved(table, draft.label) {
+            return Some(p);
+        }
+    }
+    None
+}
+
+// The proposition of a time-point that isn't the first to observe it, with the one that is and its own number.
+fn twin(table: &Observers, x: NodeId, observes: Option<Prop>) -> Option<(Prop, NodeId, NodeId)>
+    ensures { MatchOption result ((p : ℕ) (y : NodeId) → IsTwin table.now (option_map (λ p. p.index) observes) x p y → ⊥) (λ t. IsTwin table.now (option_map (λ p. p.index) observes) x t.0.index t.1 × (t.2 ≡ x)) }
+{
+    let p = observes?;
+    let first = table[p.index as usize]?;
+    if first == x { None } else { Some((p, first, x)) }
+}
+
+// The first time-point whose proposition an earlier one observes.
+pub fn first_twins(table: &Observers, points: &[TimePoint]) -> Option<(Prop, NodeId, NodeId)>
+    requires few { length points.now ≤ 1024 }
+    requires observers { KnowsObservers (map observed points.now) table.now }
+    ensures { MatchOption result (HasTwins (map observed points.now) (length points.now) → ⊥) (λ t. AreFirstTwins (map observed points.now) t.0.index t.1.0 t.2.0) }
+{
+    for (i, point) in points.iter().enumerate() {
+        if let Some(found) = twin(table, NodeId(i as u16), point.observes) {
+            return Some(found);
+        }
+    }
+    None
+}
