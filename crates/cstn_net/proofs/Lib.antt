@@ -6,3 +6,5 @@ pub mod WellFormed
 mod ListLemmas
 mod ObserverLemmas
 mod ChangeLemmas
+mod DraftLemmas
+mod FaultLemmas

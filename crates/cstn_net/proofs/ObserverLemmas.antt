@@ -59,7 +59,7 @@ old_or_new (x ∷ xs) o (suc y) p e = elim (old_or_new xs o y p e) [
   | inr new ↦ inr (ap suc new.0, new.1)
 ]
 
-stands_within : (xs : List (Option ℕ)) (y p : ℕ) → get_or xs y None ≡ Some p → y < length xs
+pub stands_within : (xs : List (Option ℕ)) (y p : ℕ) → get_or xs y None ≡ Some p → y < length xs
 stands_within xs y p e = elim (cases_lt y (length xs)) [
   | inl h ↦ h
   | inr past ↦ let none = get_or_past xs y None past in cc

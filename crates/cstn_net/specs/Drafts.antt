@@ -83,6 +83,20 @@ HasFault b (TwoObservers prop first second) = AreFirstTwins (observations b) pro
 HasFault b (NotPlain constraint) = IsFirst (λ d. IsPlain (marks d.label) → ⊥) b.drafts constraint
 HasFault b (Memory e) = ⊥
 
+-- a builder without the faults of N1 to N4
+pub record IsSized (b : BuilderParts) : Type 0 where
+  pub few_points : length b.points ≤ 1024
+  pub origin : 0 < length b.points
+  pub few_constraints : length b.drafts ≤ 16384
+  pub in_time : b.deadline ≤ 1000000
+
+-- a builder without the faults of N5 to N8
+pub record IsSound (b : BuilderParts) : Type 0 where
+  pub values : All (λ d. IsValue d.most) b.drafts
+  pub observed : All (λ d. (q : ℕ) → LacksObserver (observations b) (marks d.label) q → ⊥) b.drafts
+  pub no_twins : HasTwins (observations b) (length b.points) → ⊥
+  pub plain : All (λ d. IsPlain (marks d.label)) b.drafts
+
 -- the number of a refusal, and 0 for want of memory
 abbrev pub number : NetError → ℕ
 number (Memory e) = 0

@@ -1,7 +1,17 @@
-ghost use Rattle.std.specs.Prelude.{◌≡◌, ◌<◌, ◌-◌, ◌^◌, ◌++◌, ◌∷◌, [], length, IfOk, OnErr};
+ghost use Rattle.std.specs.Prelude.{ℕ, ◌≡◌, ◌<◌, ◌≤◌, ◌-◌, ◌^◌, ◌++◌, ◌∷◌, [], length, map, IfOk, IfErr, OnErr, MatchOption};
+ghost use Rattle.std.specs.List.{All};
+ghost use Rattle.cstn_net.specs.declared.errors.NetError.{NetError};
+ghost use Rattle.cstn_net.specs.Networks.{IsWellFormed};
+ghost use Rattle.cstn_net.specs.Read.{the_network, observed};
+ghost use Rattle.cstn_net.specs.Observers.{KnowsObservers};
+ghost use Rattle.cstn_net.specs.Drafts.{IsSized, IsSound, IsLowestFault, IsRefusal, HasFault, constraints_from};
 
-use crate::drafts::Draft;
+use crate::drafts::{Draft, constraints_of};
+use crate::errors::NetError;
+use crate::networks::Network;
+use crate::observers::{Observers, observers_of};
 use crate::points::TimePoint;
+use crate::scans::{first_not_plain, first_out_of_range, first_twins, first_unobserved};
 use cstn_label::{Label, Prop};
 use std::alloc::{AllocError, Global};
 use std::marker::Model;
@@ -26,6 +36,12 @@ impl Model for Builder {
 
     ghost invariant = { λ b. All (λ t. t.reaction ≡ 1) b.points.items × All (IsDraftAmong (length b.points.items)) b.drafts.items };
 }
+
+const MOST_NODES: usize = 1024;
+
+const MOST_CONSTRAINTS: usize = 16384;
+
+const MOST_TICKS: u32 = 1_000_000;
 
 impl Builder {
     /// No time-points and no constraints yet. The deadline is in ticks.
@@ -78,5 +94,76 @@ impl Builder {
             label,
         })?;
         Ok(id)
+    }
+
+    /// Makes the network of exactly what was handed in, with ids from 0 in the order of the constraints.
+    pub fn close(self) -> Result<Network, NetError>
+        ensures deadline { IfOk result (λ n. n.deadline ≡ self.deadline) }
+        ensures points { IfOk result (λ n. n.points ≡ self.points) }
+        ensures constraints { IfOk result (λ n. n.constraints ≡ constraints_from 0 self.drafts) }
+        ensures well_formed { IfOk result (λ n. IsWellFormed (the_network n)) }
+
+        // It is refused exactly where it has a fault, and then for the lowest, but for want of memory.
+        ensures faultless { IfOk result (λ _. (e : NetError) → HasFault self e → ⊥) }
+        ensures refused { IfErr result (IsRefusal self) }
+    {
+        if let Some(fault) = self.size_fault() {
+            return Err(fault);
+        }
+        let observers = observers_of(&self.points);
+        if let Some(fault) = self.other_fault(&observers) {
+            return Err(fault);
+        }
+        let count = self.points.len() as u16;
+        match constraints_of(self.alloc, count, &self.drafts) {
+            Ok(constraints) => Ok(Network::new(self.deadline, self.points, observers, constraints)),
+            Err(e) => Err(NetError::Memory(e)),
+        }
+    }
+
+    // The lowest fault of the numbers of things.
+    fn size_fault(&self) -> Option<NetError>
+        ensures { MatchOption result (IsSized self.now) (IsLowestFault self.now) }
+    {
+        if self.points.len() > MOST_NODES {
+            return Some(NetError::TooManyNodes);
+        }
+        if self.points.is_empty() {
+            return Some(NetError::NoOrigin);
+        }
+        if self.drafts.len() > MOST_CONSTRAINTS {
+            return Some(NetError::TooManyConstraints);
+        }
+        if self.deadline > MOST_TICKS {
+            return Some(NetError::DeadlineRange {
+                deadline: self.deadline,
+            });
+        }
+        None
+    }
+
+    // The lowest fault of the constraints and the observers.
+    fn other_fault(&self, observers: &Observers) -> Option<NetError>
+        requires sized { IsSized self.now }
+        requires observers { KnowsObservers (map observed self.now.points) observers.now }
+        ensures { MatchOption result (IsSound self.now) (IsLowestFault self.now) }
+    {
+        if let Some(constraint) = first_out_of_range(&self.drafts) {
+            return Some(NetError::ValueRange { constraint });
+        }
+        if let Some(prop) = first_unobserved(observers, &self.drafts) {
+            return Some(NetError::NotObserved { prop });
+        }
+        if let Some((prop, first, second)) = first_twins(observers, &self.points) {
+            return Some(NetError::TwoObservers {
+                prop,
+                first,
+                second,
+            });
+        }
+        if let Some(constraint) = first_not_plain(&self.drafts) {
+            return Some(NetError::NotPlain { constraint });
+        }
+        None
     }
 }

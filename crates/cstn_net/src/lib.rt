@@ -19,3 +19,6 @@ pub use laws::{
     past_is_common, plain_strategy_is_a_schedule, unobserved_is_unseen,
 };
 pub use networks::Network;
+
+#[cfg(test)]
+mod tests;

@@ -64,7 +64,11 @@ fn twin(table: &Observers, x: NodeId, observes: Option<Prop>) -> Option<(Prop, N
 {
     let p = observes?;
     let first = table[p.index as usize]?;
-    if first == x { None } else { Some((p, first, x)) }
+    if first == x {
+        None
+    } else {
+        Some((p, first, x))
+    }
 }
 
 // The first time-point whose proposition an earlier one observes.

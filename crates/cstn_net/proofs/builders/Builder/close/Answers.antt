@@ -1,0 +1,22 @@
+use Rattle.std.proofs.Common.{map, subst, sym, ◌∙◌, ap}
+use Rattle.cstn_net.specs.Networks.{IsWellFormed}
+use Rattle.cstn_net.specs.Read.{observed}
+use Rattle.cstn_net.specs.Observers.{KnowsObservers}
+use Rattle.cstn_net.specs.Drafts.{IsSized, IsSound, constraints_from}
+use Rattle.cstn_net.proofs.ChangeLemmas.{net_of}
+use Rattle.cstn_net.proofs.FaultLemmas.{no_fault, made_well_formed}
+use Rattle.cstn_net.proofs.builders.Builder.close.Goals as goal
+
+pub new-requires-clause-well_formed : goal.new-requires-clause-well_formed
+new-requires-clause-well_formed c =
+    let inside = c.self.inside in
+    let sized = subst IsSized (sym c.self.view_is) c.in_default.ensures in
+    let sound = subst IsSound (sym c.self.view_is) c.in_default-other_fault.ensures in
+    let knows = subst (λ ps. KnowsObservers (map observed ps) c.observers_of-observers.result) c.deref.ensures.value c.observers_of-observers.ensures in
+    let items = c.in-Ok.ensures ∙ ap (constraints_from 0) c.deref-2.ensures.value in
+    subst (λ cs. IsWellFormed (net_of inside.deadline inside.points.items cs)) (sym items)
+    (made_well_formed (record { deadline = inside.deadline; points = inside.points.items; drafts = inside.drafts.items }) _
+    knows sized sound c.self.invariant.0 c.self.invariant.1)
+
+pub returns-in-Ok-clause-faultless : goal.returns-in-Ok-clause-faultless
+returns-in-Ok-clause-faultless c = no_fault c.args.self c.in_default.ensures c.in_default-other_fault.ensures
