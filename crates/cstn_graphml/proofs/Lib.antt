@@ -7,6 +7,8 @@ pub mod DatumRead
 pub mod Wholes
 pub mod Judging
 pub mod Tops
+pub mod DraftLaws
+pub mod Built
 pub mod TenDigits
 pub mod PairTexts
 pub mod TextsRead

@@ -9,7 +9,7 @@ use Rattle.cstn_graphml.specs.Contents.Content.{done}
 use Rattle.cstn_graphml.specs.Elements.{passed}
 use Rattle.cstn_graphml.specs.Reads.{Reads, Continues, Fails}
 use Rattle.cstn_graphml.specs.declared.errors.DocError.{DocError}
-use Rattle.cstn_graphml.specs.declared.errors.DocError.TheVariants.{NotUtf8, Shape, NameTwice, UnknownNode, Value, LabelText, Contingent, EdgeType, NoDeadline, NodeLabel, Memory}
+use Rattle.cstn_graphml.specs.declared.errors.DocError.TheVariants.{NotUtf8, Shape, NameTwice, UnknownNode, Value, LabelText, Contingent, EdgeType, NoDeadline, Net, NodeLabel, Memory}
 use Rattle.cstn_graphml.proofs.Places.{run_is, closed_is, open_is}
 
 -- a token that isn't allowed
@@ -61,6 +61,7 @@ fails_through (LabelText at) told f h = rw h refl
 fails_through (Contingent at) told f h = rw h refl
 fails_through (EdgeType at) told f h = rw h refl
 fails_through NoDeadline told f h = rw h refl
+fails_through (Net error names) told f h = absurd h
 fails_through (NodeLabel at) told f h = rw h refl
 fails_through (Memory e) told f h = tt
 

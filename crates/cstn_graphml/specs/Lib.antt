@@ -8,7 +8,10 @@ pub mod Elements
 pub mod Data
 pub mod Draft
 pub mod DraftSeen
+pub mod DraftLaws
 pub mod Judged
 pub mod Document
+pub mod Networks
 pub mod Reads
 pub mod GraphSeen
+pub mod Answers

@@ -65,5 +65,12 @@ pub fn read_datum(
 pub fn datum_of<'a>(found: &'a [Datum], key: &[u8]) -> Option<&'a Datum>
     ensures { lent_datum result ≡ datum_of key.now (map datum_seen found.now) }
 {
-    found.iter().find(|d| d.key.as_slice() == key)
+    let mut rest = found;
+    while let Some((datum, next)) = rest.split_first() {
+        if datum.key.as_slice() == key {
+            return Some(datum);
+        }
+        rest = next;
+    }
+    None
 }

@@ -12,6 +12,7 @@ mod edges;
 mod errors;
 mod graph;
 mod label_texts;
+mod networks;
 mod nodes;
 mod numbers;
 mod passing;
