@@ -5,7 +5,8 @@ use Rattle.cstn_net.specs.declared.points.TimePoint.{TimePoint}
 use Rattle.cstn_net.specs.declared.drafts.Draft.{Draft as LentDraft}
 use Rattle.cstn_net.specs.declared.errors.NetError.{NetError}
 use Rattle.cstn_net.specs.Networks.{Constraint, Network}
-use Rattle.cstn_net.specs.Drafts.{BuilderParts, observations, IsLowestFault}
+use Rattle.cstn_net.specs.Drafts.{BuilderParts, observations, constraints_from, IsLowestFault}
+use Rattle.cstn_net.specs.Read.{NetworkParts}
 use Rattle.cstn_label.specs.Read.{marks}
 use Rattle.cstn_graphml.specs.declared.draft.Drawn.{Drawn as Lent}
 use Rattle.cstn_graphml.specs.declared.draft.Draft.{Draft as LentGraph}
@@ -64,3 +65,9 @@ pub record IsUnfit (parts : Parts) (error : NetError) : Type 0 where
   pub builder : BuilderParts
   pub parts_are : HasParts builder parts
   pub fault : IsLowestFault builder error
+
+-- a network was made of a builder
+pub record IsBuilt (b : BuilderParts) (n : NetworkParts) : Type 0 where
+  pub deadline : n.deadline ≡ b.deadline
+  pub points : n.points ≡ b.points
+  pub constraints : n.constraints ≡ constraints_from 0 b.drafts

@@ -1,12 +1,12 @@
 //! The network of a draft.
 
-ghost use Rattle.std.specs.Prelude.{◌≡◌, ◌<◌, ◌+◌, ◌^◌, length, OnOk, IfOk, IfErr, All};
-ghost use Rattle.cstn_net.specs.Drafts.{IsRefusal, constraints_from};
+ghost use Rattle.std.specs.Prelude.{◌≡◌, ◌<◌, ◌+◌, ◌-◌, ◌^◌, ◌++◌, ◌∷◌, [], length, OnOk, IfOk, IfErr, All};
+ghost use Rattle.cstn_net.specs.Drafts.{IsRefusal};
 ghost use Rattle.cstn_net.specs.Networks.{IsWellFormed};
 ghost use Rattle.cstn_net.specs.Read.{the_network};
 ghost use Rattle.cstn_graphml.specs.DraftSeen.{draft_seen};
 ghost use Rattle.cstn_graphml.specs.DraftLaws.{IsDraft};
-ghost use Rattle.cstn_graphml.specs.Networks.{with_points, with_drafts, builder_of, or_no_prop};
+ghost use Rattle.cstn_graphml.specs.Networks.{with_points, with_drafts, draft_of, builder_of, IsBuilt};
 
 use crate::draft::{Draft, Drawn};
 use cstn_label::Prop;
@@ -26,6 +26,17 @@ fn put_points(builder: &mut Builder, observes: &[Option<Prop>]) -> Result<(), Al
     Ok(())
 }
 
+/// Hands in a constraint.
+fn put_constraint(builder: &mut Builder, c: Drawn) -> Result<(), AllocError>
+    requires room { length builder.old.drafts < 2 ^ 32 - 1 }
+    requires from { c.from < length builder.old.points }
+    requires to { c.to < length builder.old.points }
+    ensures { OnOk result (builder.new ≡ record builder.old { drafts = builder.old.drafts ++ draft_of c ∷ [] }) }
+{
+    builder.constrain(c.from, c.to, c.most, c.label)?;
+    Ok(())
+}
+
 /// Hands in the constraints.
 fn put_constraints(builder: &mut Builder, constraints: &[Drawn]) -> Result<(), AllocError>
     requires room { length builder.old.drafts + length constraints.now < 2 ^ 32 }
@@ -34,7 +45,7 @@ fn put_constraints(builder: &mut Builder, constraints: &[Drawn]) -> Result<(), A
 {
     let mut rest = constraints;
     while let Some((c, next)) = rest.split_first() {
-        builder.constrain(c.from, c.to, c.most, c.label)?;
+        put_constraint(builder, *c)?;
         rest = next;
     }
     Ok(())
@@ -62,7 +73,7 @@ fn builder_of(alloc: Global, deadline: u32, draft: &Draft) -> Result<Builder, Al
 /// The network of a draft with this deadline.
 pub fn network_of(alloc: Global, deadline: u32, draft: &Draft) -> Result<Network, NetError>
     requires { IsDraft (draft_seen draft.now) }
-    ensures accepted { IfOk result (λ n. (n.deadline ≡ deadline) × (n.points ≡ (builder_of deadline draft.now).points) × (n.constraints ≡ constraints_from 0 (builder_of deadline draft.now).drafts)) }
+    ensures accepted { IfOk result (IsBuilt (builder_of deadline draft.now)) }
     ensures well_formed { IfOk result (λ n. IsWellFormed (the_network n)) }
     ensures refused { IfErr result (IsRefusal (builder_of deadline draft.now)) }
 {
