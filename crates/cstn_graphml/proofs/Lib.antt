@@ -9,6 +9,7 @@ pub mod Judging
 pub mod Tops
 pub mod DraftLaws
 pub mod Built
+pub mod Refusing
 pub mod TenDigits
 pub mod PairTexts
 pub mod TextsRead

@@ -16,8 +16,10 @@ mod networks;
 mod nodes;
 mod numbers;
 mod passing;
+mod reading;
 mod root;
 mod value_texts;
 mod values;
 
 pub use errors::DocError;
+pub use reading::read;
