@@ -7,6 +7,7 @@ pub mod DatumRead
 pub mod Wholes
 pub mod Judging
 pub mod Tops
+pub mod GraphRead
 pub mod DraftLaws
 pub mod Built
 pub mod Refusing

@@ -46,11 +46,11 @@ pub fn read_document(alloc: Global, scanner: &mut Scanner) -> Result<Draft, DocE
         let Token { at, kind } = scanner.step();
         match kind {
             Kind::Start {
-                name,
+                name: child,
                 attributes: _,
                 closed,
             } => {
-                read_document_child(alloc, scanner, at, name, closed, &mut seen)?;
+                read_document_child(alloc, scanner, at, child, closed, &mut seen)?;
             }
             Kind::End { name: _ } => return Err(DocError::Shape { at }),
             Kind::Text { raw } => {

@@ -22,8 +22,8 @@ returns-then-depth-ge32-clause-reads c = λ others l.
     fold_cut graph_reading empty_draft draft_seen (draft_seen c.loop-child.draft) _ others _ _ _ _ (c.loop-child.invariant.same others l)
     (deep_is _ _ _ _ _ _ _ (step_of _ _ _ _ c.step-at.ensures.steps c.in-Start.is) (omega (arith, l)))
 
-pub loop-child-preserved-in-Continue-1 : goal.loop-child-preserved-in-Continue-1
-loop-child-preserved-in-Continue-1 c =
+pub loop-child-preserved-in-Continue-branch-2 : goal.loop-child-preserved-in-Continue-branch-2
+loop-child-preserved-in-Continue-branch-2 c =
     let h = step_of _ _ _ _ c.step-at.ensures.steps c.in-Start.is in
     record {
       same = λ others l.
@@ -34,7 +34,7 @@ loop-child-preserved-in-Continue-1 c =
 
 pub returns-in_err-read_graph_child-in-Start-clause-reads : goal.returns-in_err-read_graph_child-in-Start-clause-reads
 returns-in_err-read_graph_child-in-Start-clause-reads c = λ others l.
-    let p = err_from_is_err_and c.from_residual.result c.from_residual.ensures.1 in
+    let p = err_from_is_err_and c.from_residual-in_err-read_graph_child-in-Start.result c.from_residual-in_err-read_graph_child-in-Start.ensures.1 in
     let h = step_of _ _ _ _ c.step-at.ensures.steps c.in-Start.is in
     let q = c.in_err-read_graph_child-in-Start.ensures.reads (c.args.name.now ∷ others) (omega (arith, l)) in
     rw (p.1, p.2) (fold_whole_fails graph_reading empty_draft draft_seen (draft_seen c.loop-child.draft) _ _ _ others _ _ _ _ _ _ _ (c.loop-child.invariant.same others l) h (omega (arith, l)) q.told)

@@ -8,7 +8,12 @@ use Rattle.cstn_graphml.specs.Draft.{empty_draft}
 use Rattle.cstn_graphml.specs.DraftSeen.{draft_seen}
 use Rattle.cstn_graphml.proofs.Places.{step_of, ended_is, misnamed_is, wrong_is, unfinished_is, deep_is}
 use Rattle.cstn_graphml.proofs.Folds.{fold_cut, fold_end, fold_run, fold_run_fails, fold_whole, fold_whole_fails}
+use Rattle.std.proofs.lemmas.Bool.{not-false}
+use Rattle.cstn_graphml.specs.Results.{or_refused}
+use Rattle.cstn_graphml.specs.Results.Refusal.{shape}
+use Rattle.cstn_graphml.proofs.ChildRead.{not_false}
 use Rattle.cstn_graphml.proofs.Judging.{blank_refused, blank_passed}
+use Rattle.cstn_graphml.proofs.GraphRead.{end_fails}
 use Rattle.cstn_graphml.proofs.root.read_root.Goals as goal
 
 pub returns-then-depth-ge32-clause-reads : goal.returns-then-depth-ge32-clause-reads
@@ -36,7 +41,17 @@ returns-in_err-read_root_child-in-Start-clause-reads c = λ others l.
 pub returns-then-ne-clause-reads : goal.returns-then-ne-clause-reads
 returns-then-ne-clause-reads c = λ others l.
     fold_cut root_reading None draft_seen (option_map draft_seen c.loop-child.seen) _ others _ _ _ _ (c.loop-child.invariant.same others l)
-    (misnamed_is _ _ _ _ _ _ (step_of _ _ _ _ c.step-at.ensures.steps c.in-End.is) ?)
+    (misnamed_is _ _ _ _ _ _ (step_of _ _ _ _ c.step-at.ensures.steps c.in-End.is) (sym (not_false _ c.if-ne.ensures)))
+
+pub returns-in-Some-clause-reads : goal.returns-in-Some-clause-reads
+returns-in-Some-clause-reads c = λ others l.
+    fold_end root_reading None draft_seen (option_map draft_seen c.loop-child.seen) c.in-Some.draft _ others _ _ _ _ (c.loop-child.invariant.same others l)
+    (ended_is _ _ _ _ _ _ (step_of _ _ _ _ c.step-at.ensures.steps c.in-End.is) (sym (not-false _ (sym c.if-ne.ensures)))) (ap (λ o. or_refused (option_map draft_seen o) (shape c.step-at.result.at)) c.in-Some.is)
+
+pub returns-in-None-clause-reads : goal.returns-in-None-clause-reads
+returns-in-None-clause-reads c = λ others l.
+    end_fails root_reading None draft_seen (option_map draft_seen c.loop-child.seen) _ others _ _ _ _ (c.loop-child.invariant.same others l)
+    (ended_is _ _ _ _ _ _ (step_of _ _ _ _ c.step-at.ensures.steps c.in-End.is) (sym (not-false _ (sym c.if-ne.ensures)))) (ap (λ o. or_refused (option_map draft_seen o) (shape c.step-at.result.at)) c.in-None.is)
 
 pub returns-then-not-is_blank-clause-reads : goal.returns-then-not-is_blank-clause-reads
 returns-then-not-is_blank-clause-reads c = λ others l.
