@@ -5,6 +5,7 @@ use Rattle.cstn_graphml.specs.Document.{document_reading}
 use Rattle.cstn_graphml.specs.Results.{or_refused}
 use Rattle.cstn_graphml.specs.Results.Refusal.{shape}
 use Rattle.cstn_graphml.specs.DraftSeen.{draft_seen}
+use Rattle.cstn_graphml.specs.declared.errors.DocError.TheVariants.{Shape}
 use Rattle.cstn_graphml.proofs.Places.{step_of, wrong_is}
 use Rattle.cstn_graphml.proofs.Folds.{fold_run, fold_whole}
 use Rattle.cstn_graphml.proofs.Judging.{blank_refused, blank_passed}
@@ -28,7 +29,7 @@ pub returns-in-End : goal.returns-in-End
 returns-in-End c = top_cut document_reading None (option_map draft_seen c.loop-child.seen) _ _ _ c.loop-child.invariant.same (ends_none _ _ _ _ (step_of _ _ _ _ c.step-at.ensures.steps c.in-End.is))
 
 pub returns-then-not-is_blank : goal.returns-then-not-is_blank
-returns-then-not-is_blank c = top_run_fails document_reading None (option_map draft_seen c.loop-child.seen) _ _ _ _ _ _ c.loop-child.invariant.same
+returns-then-not-is_blank c = top_run_fails document_reading None (option_map draft_seen c.loop-child.seen) (Shape c.step-at.result.at) _ _ _ _ _ c.loop-child.invariant.same
     (step_of _ _ _ _ c.step-at.ensures.steps c.in-Text.is) (blank_refused (option_map draft_seen c.loop-child.seen) c.step-at.result.at c.in-Text.raw.now (sym c.is_blank.ensures ∙ c.if-not-is_blank.true))
 
 pub loop-child-preserved : goal.loop-child-preserved
