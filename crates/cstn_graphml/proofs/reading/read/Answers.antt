@@ -30,7 +30,7 @@ pub returns-in-Ok-clause-accepted : goal.returns-in-Ok-clause-accepted
 returns-in-Ok-clause-accepted c =
     let told = ap (λ (ts : List Token). in_document (content_of ts)) (sym c.new-scanner.ensures.new) ∙ c.in_ok-draft.ensures in
     made_document (document c.args.bytes.now c.args.deadline) c.in-Some.deadline c.in_ok-draft.draft c.in-Ok.network c.names_of.result
-      (has_deadline c.args.bytes.now c.args.deadline c.in-Some.deadline c.in_ok-draft.draft c.in_default.ensures.cases.1 told (sym c.first_of_two.ensures ∙ c.in-Some.is)) c.in-Ok.ensures.accepted c.names_of.ensures
+    (has_deadline c.args.bytes.now c.args.deadline c.in-Some.deadline c.in_ok-draft.draft c.in_default.ensures.cases.1 told (sym c.first_of_two.ensures ∙ c.in-Some.is)) c.in-Ok.ensures.accepted c.names_of.ensures
 
 pub returns-in-Ok-clause-named : goal.returns-in-Ok-clause-named
 returns-in-Ok-clause-named c =
@@ -48,5 +48,5 @@ pub returns-in-Err-network_of-clause-refused : goal.returns-in-Err-network_of-cl
 returns-in-Err-network_of-clause-refused c =
     let told = ap (λ (ts : List Token). in_document (content_of ts)) (sym c.new-scanner.ensures.new) ∙ c.in_ok-draft.ensures in
     unfit_is_refused (document c.args.bytes.now c.args.deadline) c.in-Some.deadline c.in_ok-draft.draft c.names_of-in-Err-network_of.result c.refusal.result
-      (has_deadline c.args.bytes.now c.args.deadline c.in-Some.deadline c.in_ok-draft.draft c.in_default.ensures.cases.1 told (sym c.first_of_two.ensures ∙ c.in-Some.is)) c.names_of-in-Err-network_of.ensures
-      c.in-Err-network_of.error c.in-Err-network_of.ensures.refused c.refusal.ensures
+    (has_deadline c.args.bytes.now c.args.deadline c.in-Some.deadline c.in_ok-draft.draft c.in_default.ensures.cases.1 told (sym c.first_of_two.ensures ∙ c.in-Some.is)) c.names_of-in-Err-network_of.ensures
+    c.in-Err-network_of.error c.in-Err-network_of.ensures.refused c.refusal.ensures
