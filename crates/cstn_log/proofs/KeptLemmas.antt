@@ -1,18 +1,18 @@
 -- What a log keeps.
-use Rattle.std.proofs.Common.{◌≡◌, ◌≢◌, ◌⊎◌, inl, inr, ℕ, zero, suc, ◌+◌, ◌<◌, ◌≤◌, List, [], ◌∷◌, ◌++◌, length, get_or, set, map, replicate, Bool, true, false, nat_eq, refl, ap, sym, ◌∙◌, subst, arith}
+use Rattle.std.proofs.Common.{◌≡◌, ◌≢◌, inl, inr, ℕ, zero, suc, ◌<◌, ◌≤◌, List, [], ◌∷◌, ◌++◌, length, get_or, set, Bool, true, false, nat_eq, refl, ap, sym, ◌∙◌, subst, arith}
 use Rattle.std.specs.Prelude.{Option, None, Some, IsTrue, ◌↔◌, is_some, slice_get, if◌then◌else◌}
 use Rattle.std.proofs.lemmas.List.{get_or-set_other, get_or-set_same, length-map, map-append}
 use Rattle.std.proofs.lemmas.Bool.{cases_lt, cases_Bool}
-use Rattle.std.proofs.lemmas.Option.{none-some, same_Some, slice_get-map, slice_get-get_or}
+use Rattle.std.proofs.lemmas.Option.{none-some, slice_get-map, slice_get-get_or}
 use Rattle.std.proofs.lemmas.List.Sums.{count_by-le-length}
 use Rattle.cstn_label.specs.declared.bounds.Bound.{Bound}
 use Rattle.cstn_rules.specs.declared.entries.Entry.{Entry}
 use Rattle.cstn_pool.specs.declared.slot_id.SlotId.{SlotId}
 use Rattle.cstn_pool.specs.Slots.{value_at}
-use Rattle.cstn_minset.specs.Sets.{Entries, IsPlaced, IsThere, IsOver, IsCovered}
+use Rattle.cstn_minset.specs.Sets.{Entries, IsThere, IsOver, IsCovered}
 use Rattle.cstn_log.specs.Entries.{IsCoveredBy, IsLive}
-use Rattle.cstn_log.specs.Kept.{IsKept, IsIdAt, entries_of, stored, entry_or}
-use Rattle.cstn_log.proofs.ListLemmas.{map_same, one_there}
+use Rattle.cstn_log.specs.Kept.{IsKept, entries_of, stored, entry_or}
+use Rattle.cstn_log.proofs.ListLemmas.{map_same}
 
 -- no id has an empty slot
 pub other_slot : (slots : List (Option (ℕ × Entry))) (births : ℕ) (table : Entries) (ids : List SlotId) (nodes slot : ℕ) → IsKept slots births table ids nodes → get_or slots slot None ≡ None → (k : ℕ) (id : SlotId) → slice_get ids k ≡ Some id → id.slot ≢ slot

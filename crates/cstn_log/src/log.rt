@@ -192,3 +192,6 @@ fn base_entry(node: NodeId) -> Entry
         why: Why::Base,
     }
 }
+
+#[cfg(test)]
+mod tests;

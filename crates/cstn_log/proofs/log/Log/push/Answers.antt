@@ -1,14 +1,12 @@
 use Rattle.std.proofs.Common.{◌≡◌, ◌++◌, ◌∷◌, [], ◌+◌, ◌<◌, ℕ, length, Some, None, arith, ap, subst, sym, ◌∙◌, length-set}
 use Rattle.std.specs.Prelude.{slice_get}
-use Rattle.std.proofs.lemmas.List.{length-map}
 use Rattle.std.proofs.lemmas.Option.{slice_get_within, get_or_from_slice_get}
 use Rattle.cstn_label.specs.Read.{the_bound}
-use Rattle.cstn_net.specs.Networks.{count}
 use Rattle.cstn_net.specs.Read.{the_network}
 use Rattle.cstn_rules.specs.declared.entries.Entry.{Entry}
-use Rattle.cstn_rules.specs.Derivations.{Follows, IsDerivation}
+use Rattle.cstn_rules.specs.Derivations.{IsDerivation}
 use Rattle.cstn_log.specs.Entries.{State, the_entries, IsCoveredBy}
-use Rattle.cstn_log.specs.Kept.{stored, state_of, entries_of}
+use Rattle.cstn_log.specs.Kept.{state_of, entries_of}
 use Rattle.cstn_log.proofs.KeptLemmas.{few, unplaced, uncovered_there}
 use Rattle.cstn_log.proofs.PushLemmas.{push_step, push_entries, push_state}
 use Rattle.cstn_log.proofs.DerivedLemmas.{follows_inside, pushed_derivation}

@@ -1,7 +1,7 @@
-use Rattle.std.proofs.Common.{◌≡◌, ◌≤◌, length, ap, arith}
+use Rattle.std.proofs.Common.{◌≡◌, length, ap, arith}
 use Rattle.std.proofs.lemmas.List.{length-map}
 use Rattle.cstn_rules.specs.Read.{the_entry}
-use Rattle.cstn_log.proofs.DerivedLemmas.{bases_uncovered, length_bases, ok_unless, bases_more}
+use Rattle.cstn_log.proofs.DerivedLemmas.{bases_uncovered, length_bases, ok_unless}
 use Rattle.cstn_log.proofs.log.Log.push_bases.Goals as goal
 
 pub push-requires-clause-uncovered : goal.push-requires-clause-uncovered
