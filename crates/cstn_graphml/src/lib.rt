@@ -23,3 +23,6 @@ mod values;
 
 pub use errors::DocError;
 pub use reading::read;
+
+#[cfg(test)]
+mod tests;

@@ -10,7 +10,7 @@ use Rattle.cstn_top.specs.Documents.{compact, network_of, document_of}
 use Rattle.cstn_top.specs.Growth.{is_refuted, log_of, load_of}
 use Rattle.cstn_top.specs.Requests.{Asked, Request, names_of, check}
 use Rattle.cstn_top.specs.Files.{IsContent, AreContents}
-use Rattle.cstn_top.specs.Plans.{Said, Plan, says, output, Live, IsText, is_output, is_file_fault, is_memory, IsWritten, Ends, Untouched}
+use Rattle.cstn_top.specs.Plans.{Said, Plan, says, talks, output, Live, IsText, is_output, is_file_fault, is_memory, IsWritten, Ends, Untouched}
 use Rattle.cstn_top.specs.Outputs.{say, verdict, checked, plan_of, plan_at, network_at, IsRight, Planned, HoldsOf, IsGood, IsBad}
 use Rattle.cstn_top.specs.Statuses.{status_of}
 use Rattle.cstn_top.specs.declared.status.Status.{Status}
@@ -43,6 +43,7 @@ memory_text plan seen = is_memory (given seen.left) [] (output plan (given seen.
 
 stands : {S : Type 0} (plan : Plan) (source : S) → Untouched plan source source
 stands (says said) source = refl
+stands (talks opening whole heard) source = tt
 
 -- the words are no request
 pub words_end : {S : Type 0} (words : Option Request) (told : Option (List ℕ → Option (List ℕ))) (source : S) (seen : Live) (old new : Option (List ℕ)) (result : Status) → None ≡ words → IsWritten old new (line (codes "words")) IsWords result → Answered words told source source seen seen old new result

@@ -1,6 +1,8 @@
 -- What a request says, and what is written for it, also after a fault.
 use Rattle.std.specs.Prelude.{◌≡◌, ◌⊎◌, ℕ, List, [], ◌++◌, take, Option, codes}
-use Rattle.cstn_io.specs.Contents.{with_bytes, IsAllOf}
+use Rattle.cstn_io.specs.Causes.{Rose}
+use Rattle.cstn_io.specs.Contents.{after_bytes, with_bytes, IsAllOf}
+use Rattle.cstn_lines.specs.Pieces.{lines_of, whole_lines}
 use Rattle.cstn_top.specs.Texts.{line}
 use Rattle.cstn_top.specs.Statuses.{status_of}
 use Rattle.cstn_top.specs.declared.status.Status.{Status}
@@ -12,13 +14,25 @@ pub record Said : Type 0 where
   pub outcome : Outcome
   pub text : List ℕ
 
--- What a request says: a text and no more.
+-- after a text
+abbrev pub after_text : List ℕ → Said → Said
+after_text text said = record { outcome = said.outcome; text = text ++ said.text }
+
+-- What a request says: a text and no more, or an opening and then a session over the lines of the live source, of which is
+-- told what it says of all lines, and what it answers to some of them alone.
 pub data Plan : Type 0 where
   says : Said → Plan
+  talks : List ℕ → (List (List ℕ) → Said) → (List (List ℕ) → List ℕ) → Plan
 
 -- the whole output, where the live source has these bytes
 abbrev pub output : Plan → List ℕ → Said
 output (says said) live = said
+output (talks opening whole heard) live = after_text opening (whole (lines_of live))
+
+-- what is said before a fault of the live source that has given these bytes
+abbrev pub before_fault : Plan → List ℕ → List ℕ
+before_fault (says said) taken = []
+before_fault (talks opening whole heard) taken = opening ++ heard (whole_lines taken)
 
 -- the text is empty or ends with LF
 abbrev pub EndsLine : List ℕ → Type 0
@@ -33,6 +47,7 @@ pub record Live : Type 0 where
 pub data IsText (plan : Plan) (before after : Live) : Status → List ℕ → Type 0 where
   is_output : (live : List ℕ) → IsAllOf before.left live → IsText plan before after (status_of (output plan live).outcome) (output plan live).text
   is_file_fault : after ≡ before → IsText plan before after ReadFault (line (codes "read fault"))
+  is_live_fault : (taken : List ℕ) → before.left ≡ after_bytes taken after.left → Rose before.faults after.faults → IsText plan before after ReadFault (before_fault plan taken ++ line (codes "read fault"))
   is_memory : (live text rest : List ℕ) → IsAllOf before.left live → (output plan live).text ≡ text ++ rest → EndsLine text → IsText plan before after Memory (text ++ line (codes "memory"))
 
 -- The text was written whole with its status, or after a fault of the sink a prefix of it.
@@ -47,3 +62,4 @@ Ends plan before after old new result =
 -- the live source stands as it was, where a request says a text and no more
 abbrev pub Untouched : {S : Type 0} → Plan → S → S → Type 0
 Untouched (says said) before after = after ≡ before
+Untouched (talks opening whole heard) before after = Unit {0}
