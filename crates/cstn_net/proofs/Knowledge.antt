@@ -31,6 +31,10 @@ known_later net at t u p upto k =
     let passed = k.passed in
     record { observer = k.observer; observes = k.observes; passed = omega arith }
 
+-- a scenario agrees with what is known in itself
+pub agrees_itself : (net : Network) (at : Schedule) (t : ℕ) (s : Scenario) → Agrees net at t s s
+agrees_itself net at t s = λ p k. refl
+
 pub agrees_earlier : (net : Network) (at : Schedule) (t u : ℕ) (s r : Scenario) → t ≤ u →
     Agrees net at u s r → Agrees net at t s r
 agrees_earlier net at t u s r upto agrees = λ p k. agrees p (known_later net at t u p upto k)

@@ -2,6 +2,7 @@ pub mod Knowledge
 pub mod Dynamic
 pub mod Plain
 pub mod Branch
+pub mod Late
 pub mod WellFormed
 mod ListLemmas
 mod ObserverLemmas

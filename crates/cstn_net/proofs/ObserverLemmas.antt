@@ -6,10 +6,6 @@ use Rattle.std.proofs.lemmas.Bool.{cases_lt, cases_eq, eq-eqb, ne_eqb}
 use Rattle.std.proofs.lemmas.List.{map_more, get_or-map, length-map, get_or_past, length-take-le, get_or-set_same, get_or-set_other, length-set}
 use Rattle.cstn_label.specs.declared.nodes.NodeId.{NodeId}
 use Rattle.cstn_label.specs.declared.props.Prop.{Prop}
-use Rattle.cstn_label.specs.declared.labels.Label.{Label}
-use Rattle.cstn_label.specs.declared.marks.Mark.TheVariants.{Absent}
-use Rattle.cstn_label.specs.Read.{marks}
-use Rattle.cstn_label.proofs.WordLemmas.{has_bit_above}
 use Rattle.cstn_net.specs.declared.points.TimePoint.{TimePoint}
 use Rattle.cstn_net.specs.Read.{observed, is_prop, reaction_of}
 use Rattle.cstn_net.specs.Drafts.{HasTwins, AreFirstTwins}
@@ -22,11 +18,6 @@ prop_below (Some p) q e =
     let below = p.in_range in
     let same : q ≡ p.index = cc in
     omega arith
-
--- no label has a mark from 52 on
-pub marks_above : (a : Label) (p : ℕ) → 52 ≤ p → marks a p ≡ Absent
-marks_above a p above =
-    rw (has_bit_above a.yes 52 p a.yes_in_range above, has_bit_above a.no 52 p a.no_in_range above) refl
 
 none_there : (n p : ℕ) → get_or {A = Option NodeId} (replicate n None) p None ≡ None
 none_there zero p = refl

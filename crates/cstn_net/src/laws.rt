@@ -5,13 +5,14 @@ ghost use Rattle.cstn_label.specs.Bounds.{Bound, Dominates};
 ghost use Rattle.cstn_net.specs.Networks.{Network, IsNetwork, IsWellFormed, Observes, count};
 ghost use Rattle.cstn_net.specs.Strategies.{Schedule, Table, IsKnown, Agrees, IsDynamic, IsNeverLater, IsStrategy, IsConsistent, IsSchedule, IsLeast};
 ghost use Rattle.cstn_net.specs.Bounds.{HoldsIn};
-ghost use Rattle.cstn_net.specs.Examples.{branch, branch_table};
+ghost use Rattle.cstn_net.specs.Examples.{branch, branch_table, late};
 
-/// What is known stays known, but a proposition isn't known at its own observer's moment. Where a plain label is possible,
-/// it holds in a scenario that agrees with what is known.
+/// What is known stays known, but a proposition isn't known at its own observer's moment. A scenario agrees with what is known
+/// in itself. Where a plain label is possible, it holds in a scenario that agrees with what is known.
 pub fn knowledge_grows()
     ensures later { (net : Network) (at : Schedule) (t u p : ℕ) → t ≤ u → IsKnown net at t p → IsKnown net at u p }
     ensures observer { (net : Network) (at : Schedule) (x p : ℕ) → IsNetwork net → Observes net x p → IsKnown net at (at x) p → ⊥ }
+    ensures itself { (net : Network) (at : Schedule) (t : ℕ) (s : Scenario) → Agrees net at t s s }
     ensures flipped { (net : Network) (at : Schedule) (t : ℕ) (s : Scenario) (a : Label) → IsPlain a → IsPossible (IsKnown net at t) s a → (r : Scenario) × Agrees net at t s r × Holds r a }
 {}
 
@@ -56,4 +57,11 @@ pub fn least_moment_is_one()
 pub fn branch_has_a_strategy()
     ensures network { IsWellFormed branch }
     ensures strategy { IsStrategy branch branch_table }
+{}
+
+/// The branch network with P at 3 or later is well-formed and has no strategy: where p is false X is due at 3, and p isn't
+/// known before 4.
+pub fn late_has_no_strategy()
+    ensures network { IsWellFormed late }
+    ensures strategy { IsConsistent late → ⊥ }
 {}

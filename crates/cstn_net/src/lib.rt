@@ -15,8 +15,9 @@ pub use builders::Builder;
 pub use constraints::Constraint;
 pub use errors::NetError;
 pub use laws::{
-    bounds_hold, branch_has_a_strategy, dynamic_is_one_sided, knowledge_grows, least_moment_is_one,
-    past_is_common, plain_strategy_is_a_schedule, unobserved_is_unseen,
+    bounds_hold, branch_has_a_strategy, dynamic_is_one_sided, knowledge_grows,
+    late_has_no_strategy, least_moment_is_one, past_is_common, plain_strategy_is_a_schedule,
+    unobserved_is_unseen,
 };
 pub use networks::Network;
 

@@ -118,6 +118,7 @@ impl Network {
         ensures same { self.new ≡ record self.old { spare = self.new.spare } }
         ensures spare { self.old.spare ≤ self.new.spare }
         ensures refused { OnErr result (self.new ≡ self.old) }
+        ensures well_formed { IsWellFormed (the_network self.new) }
     {
         let held = self.constraints.len();
         self.constraints
@@ -133,6 +134,7 @@ impl Network {
         requires value { IsValue c.most }
         ensures insert { self.new ≡ record self.old { constraints = self.old.constraints ++ c ∷ []; spare = self.new.spare } }
         ensures spare { self.new.spare + 1 ≡ self.old.spare }
+        ensures well_formed { IsWellFormed (the_network self.new) }
     {
         self.constraints.push_reserved(c);
     }
@@ -143,6 +145,7 @@ impl Network {
         ensures same { IfNone result (self.new ≡ self.old) }
         ensures taken { IfSome result (λ c. (c.id ≡ id) × Contains self.old.constraints c) }
         ensures gone { IfSome result (λ _. self.new ≡ record self.old { constraints = without_id id self.old.constraints; spare = self.old.spare + 1 }) }
+        ensures well_formed { IsWellFormed (the_network self.new) }
     {
         let Some(at) = place_of(&self.constraints, id) else {
             return None;
@@ -154,7 +157,9 @@ impl Network {
     pub fn set_most(&mut self, id: u32, most: i32) -> bool
         requires { IsValue most }
         ensures absent { (result ≡ false) ↔ All (λ c. c.id ≢ id) self.old.constraints }
+        ensures same { result ≡ false → self.new ≡ self.old }
         ensures set { self.new ≡ record self.old { constraints = map (with_most id most) self.old.constraints } }
+        ensures well_formed { IsWellFormed (the_network self.new) }
     {
         let Some(at) = place_of(&self.constraints, id) else {
             return false;

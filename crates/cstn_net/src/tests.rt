@@ -36,8 +36,8 @@ fn constrained(rt: &impl Abort, alloc: Global, count: u32, most: i32) -> Option<
     builder.close().err()
 }
 
-// What closing says of Z, which observes `first`, and of another time-point, which observes `second`, with a constraint of
-// this label from Z to itself.
+// What closing says of Z, which observes `first`, and of another time-point, which observes `second`, with a constraint from Z
+// to it whose label has this mark on `p`.
 fn labelled(
     rt: &impl Abort,
     alloc: Global,
@@ -127,6 +127,17 @@ fn labels_and_observers_are_judged(rt: HostRuntime) {
             Mark::Unknown
         ),
         Some(NetError::ValueRange { constraint: 0 })
+    );
+    let mut builder = nodes(&rt, alloc, 9, 1);
+    builder.node(Some(prop)).expect(&rt, "memory");
+    builder.node(Some(prop)).expect(&rt, "memory");
+    assert_eq!(rt;
+        builder.close().err(),
+        Some(NetError::TwoObservers {
+            prop,
+            first: NodeId(1),
+            second: NodeId(2)
+        })
     );
 }
 

@@ -20,3 +20,6 @@ invariant_of-self c =
       well_formed = subst (λ cs. IsWellFormed (net_of inside.deadline inside.points.items cs)) (sym c.push_reserved.ensures.items)
           (changed inside.deadline inside.points.items inside.constraints.items _ old.well_formed kept);
     }
+
+pub returns-clause-well_formed : goal.returns-clause-well_formed
+returns-clause-well_formed c = (invariant_of-self c).well_formed

@@ -69,3 +69,6 @@ returns-clause-set c =
     let same : to_z w32 (of_z w32 c.args.most) ≡ c.args.most = omega (arith, ints) in
     same_parts inside.deadline inside.points.items _ _ _ _ (set_made c _ same) refl
     ∙ ap {A = NetworkParts} (λ v. record v { constraints = map (with_most c.args.id c.args.most) v.constraints }) c.self.view_is
+
+pub returns-clause-well_formed : goal.returns-clause-well_formed
+returns-clause-well_formed c = (invariant_of-self c).well_formed

@@ -64,3 +64,6 @@ returns-clause-gone c =
     omega arith in
     same_parts inside.deadline inside.points.items _ _ _ _ (removed c) spare
     ∙ ap {A = NetworkParts} (λ v. record v { constraints = without_id c.args.id v.constraints; spare = v.spare + 1 }) c.self.view_is
+
+pub returns-clause-well_formed : goal.returns-clause-well_formed
+returns-clause-well_formed c = (invariant_of-self c).well_formed
