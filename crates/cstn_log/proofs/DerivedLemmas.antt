@@ -1,17 +1,18 @@
 -- The entries of a log as a derivation.
 use Rattle.std.proofs.Common.{◌≡◌, inl, inr, ℕ, zero, suc, ◌+◌, ◌<◌, ◌≤◌, List, [], ◌∷◌, ◌++◌, length, map, refl, ap, sym, ◌∙◌, subst, arith, add-one, length-append}
 use Rattle.std.specs.Prelude.{Some, Result, Ok, Err, IsOk, IsErr, slice_get}
-use Rattle.std.proofs.lemmas.Option.{none-some, slice_get-map}
+use Rattle.std.proofs.lemmas.Option.{none-some, slice_get-map, slice_get_within}
 use Rattle.std.proofs.lemmas.List.{length-map, map-append}
 use Rattle.std.proofs.lemmas.List.Elements.{All-contains}
 use Rattle.cstn_label.specs.declared.bounds.Bound.{Bound as DeclaredBound}
+use Rattle.std.specs.List.{Contains}
 use Rattle.cstn_label.specs.Bounds.{Bound}
 use Rattle.cstn_label.specs.Read.{the_bound}
-use Rattle.cstn_net.specs.Networks.{Network, IsConstraint, IsWellFormed, count}
+use Rattle.cstn_net.specs.Networks.{Network, Constraint, IsConstraint, IsWellFormed, count}
 use Rattle.cstn_rules.specs.declared.entries.Entry.{Entry}
 use Rattle.cstn_rules.specs.declared.entries.Why.{Why}
 use Rattle.cstn_rules.specs.declared.entries.Why.TheVariants.{Base, Chain, Wait}
-use Rattle.cstn_rules.specs.Rules.{base, IsBase}
+use Rattle.cstn_rules.specs.Rules.{base, IsBase, IsChain, IsWait}
 use Rattle.cstn_rules.specs.Derivations.{Entry as TheEntry, IsEarlier, Follows, IsDerivation}
 use Rattle.cstn_rules.specs.Read.{the_entry}
 use Rattle.cstn_rules.proofs.Derived.{grown_derivation}
@@ -70,3 +71,19 @@ bases_more n L x are bound why =
 pub ok_unless : {A E : Type 0} (r : Result A E) → ¬ IsErr r → IsOk r
 ok_unless (Ok x) not = refl
 ok_unless (Err e) not = absurd (not refl)
+
+earlier : (L : List Entry) (k : ℕ) (e : Entry) → slice_get L k ≡ Some e → IsEarlier (the_entries L) (length L) k (the_bound e.bound)
+earlier L k e there = record {
+  before = slice_get_within L k e there;
+  entry = the_entry e;
+  there = slice_get-map the_entry L k ∙ rw there refl;
+  bound = refl;
+}
+
+-- what chain gives from an entry of the list follows
+pub chain_follows : (net : Network) (L : List Entry) (c : Constraint) (k : ℕ) (e : Entry) (r : Bound) → Contains net.constraints c → slice_get L k ≡ Some e → IsChain net c (the_bound e.bound) r → Follows net (the_entries L) (length L) (Chain c.id k) r
+chain_follows net L c k e r has there is = (c, the_bound e.bound, has, refl, earlier L k e there, is)
+
+-- and so does what wait gives from two
+pub wait_follows : (net : Network) (L : List Entry) (p i j : ℕ) (e f : Entry) (r : Bound) → slice_get L i ≡ Some e → slice_get L j ≡ Some f → IsWait net p (the_bound e.bound) (the_bound f.bound) r → Follows net (the_entries L) (length L) (Wait i j) r
+wait_follows net L p i j e f r one other is = (p, the_bound e.bound, the_bound f.bound, earlier L i e one, earlier L j f other, is)

@@ -1,18 +1,17 @@
 -- How a call ends: what was written is a text of the plan.
-use Rattle.std.proofs.Common.{◌≡◌, ℕ, List, [], ◌∷◌, ◌++◌, ◌<◌, length, take, get_or, refl, ap, sym, ◌∙◌, subst, inl, inr, arith}
+use Rattle.std.proofs.Common.{◌≡◌, ℕ, List, [], ◌∷◌, ◌++◌, ◌<◌, length, get_or, refl, ap, sym, ◌∙◌, subst, inl, inr, arith}
 use Rattle.std.specs.Prelude.{◌⊎◌, IsTrue, Option, None, Some, Result, Ok, Err, IfOk, codes, decimal, Bool, true, false, not, nat_le, if◌then◌else◌}
 use Rattle.std.specs.List.{list_all}
-use Rattle.cstn_io.specs.Contents.{with_bytes, IsAllOf, IsLongFile}
+use Rattle.cstn_io.specs.Contents.{IsAllOf, IsLongFile}
 use Rattle.std.specs.Option.{option_map}
 use Rattle.cstn_net.specs.Networks.{Network}
-use Rattle.cstn_net.specs.Strategies.{IsConsistent}
 use Rattle.cstn_top.specs.Texts.{line}
 use Rattle.cstn_top.specs.Documents.{compact, network_of, document_of}
 use Rattle.cstn_top.specs.Growth.{is_refuted, log_of, load_of}
-use Rattle.cstn_top.specs.Requests.{Asked, Request, files_of, names_of, check}
+use Rattle.cstn_top.specs.Requests.{Asked, Request, names_of, check}
 use Rattle.cstn_top.specs.Files.{IsContent, AreContents}
 use Rattle.cstn_top.specs.Plans.{Said, Plan, says, output, Live, IsText, is_output, is_file_fault, is_memory, IsWritten, Ends, Untouched}
-use Rattle.cstn_top.specs.Outputs.{say, verdict, checked, plan_of, plan_at, network_at, IsRight, Planned, AsksAbout}
+use Rattle.cstn_top.specs.Outputs.{say, verdict, checked, plan_of, plan_at, network_at, IsRight, Planned, HoldsOf, IsGood, IsBad}
 use Rattle.cstn_top.specs.Statuses.{status_of}
 use Rattle.cstn_top.specs.declared.status.Status.{Status}
 use Rattle.cstn_top.specs.declared.status.Status.TheVariants.{Words as IsWords, ReadFault, WriteFault, Memory}
@@ -116,16 +115,16 @@ pub only_words : (r : Request) (told : Option (List ℕ → Option (List ℕ))) 
 only_words r told said planned words = not_words r planned.contents said planned.plan words
 
 -- yes is said of a network that is consistent
-pub good_is_consistent : (words : Option Request) (r : Request) (told : Option (List ℕ → Option (List ℕ))) (said : Said) → Some r ≡ words → Planned r told said → said.outcome ≡ Good → AsksAbout words told IsConsistent
-good_is_consistent words r told said there planned good =
-    subst (λ (w : Option Request). AsksAbout w told IsConsistent) there
-    (planned.contents, planned.are, subst (λ (o : Outcome). IsRight o (network_at r planned.contents)) good planned.right)
+pub good_is_consistent : (words : Option Request) (r : Request) (told : Option (List ℕ → Option (List ℕ))) (said : Said) → Some r ≡ words → Planned r told said → said.outcome ≡ Good → HoldsOf words told IsGood
+good_is_consistent words (check asked) told said there planned good =
+    subst (λ (w : Option Request). HoldsOf w told IsGood) there
+    (planned.contents, planned.are, subst (λ (o : Outcome). IsRight o (network_at (check asked) planned.contents)) good planned.right)
 
 -- no is said of a network that is inconsistent
-pub bad_is_inconsistent : (words : Option Request) (r : Request) (told : Option (List ℕ → Option (List ℕ))) (said : Said) → Some r ≡ words → Planned r told said → said.outcome ≡ Bad → AsksAbout words told (λ net. IsConsistent net → ⊥)
-bad_is_inconsistent words r told said there planned bad =
-    subst (λ (w : Option Request). AsksAbout w told (λ net. IsConsistent net → ⊥)) there
-    (planned.contents, planned.are, subst (λ (o : Outcome). IsRight o (network_at r planned.contents)) bad planned.right)
+pub bad_is_inconsistent : (words : Option Request) (r : Request) (told : Option (List ℕ → Option (List ℕ))) (said : Said) → Some r ≡ words → Planned r told said → said.outcome ≡ Bad → HoldsOf words told IsBad
+bad_is_inconsistent words (check asked) told said there planned bad =
+    subst (λ (w : Option Request). HoldsOf w told IsBad) there
+    (planned.contents, planned.are, subst (λ (o : Outcome). IsRight o (network_at (check asked) planned.contents)) bad planned.right)
 
 -- what is said of one file
 pub file_plan : {E : Type 0} (asked : Asked) (told : Option (List ℕ → Option (List ℕ))) (bytes : List ℕ) (r : Result SaidText E) → IsContent told asked.file bytes → IfOk r (λ said. the_said said ≡ checked (document_of bytes asked.deadline)) → IfOk r (λ said. IsRight said.outcome (document_of bytes asked.deadline)) → IfOk r (λ said. Planned (check asked) told (the_said said))

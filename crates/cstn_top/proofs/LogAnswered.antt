@@ -1,5 +1,5 @@
 -- Every entry of a log that is not refuted was used with every constraint.
-use Rattle.std.proofs.Common.{◌≡◌, ◌⊎◌, inl, inr, ℕ, ◌+◌, ◌<◌, ◌≤◌, List, [], ◌∷◌, ◌++◌, length, drop, Bool, true, false, not, refl, ap, sym, ◌∙◌, subst, arith, All, ℤ, pos, nat_eq, ◌&&◌, ◌||◌, zero, suc}
+use Rattle.std.proofs.Common.{◌≡◌, ◌⊎◌, inl, inr, ℕ, ◌+◌, ◌<◌, List, [], ◌∷◌, ◌++◌, length, drop, Bool, true, false, not, refl, ap, sym, ◌∙◌, subst, arith, All, ℤ, nat_eq, ◌&&◌, ◌||◌, zero, suc}
 use Rattle.std.specs.Prelude.{Some, None, Option, slice_get, int_le, if◌then◌else◌}
 use Rattle.std.specs.List.{list_any}
 use Rattle.std.proofs.lemmas.Int.{ints}

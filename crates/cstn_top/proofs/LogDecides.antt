@@ -1,20 +1,18 @@
 -- The log is refuted exactly where no schedule exists: else the greatest entries are one.
-use Rattle.std.proofs.Common.{◌≡◌, ◌⊎◌, inl, inr, ℕ, ◌+◌, ◌<◌, ◌≤◌, List, [], ◌∷◌, ◌++◌, length, get_or, Bool, true, false, not, refl, ap, sym, ◌∙◌, subst, arith, All, ℤ, pos, negsuc, ◌≤ℤ◌, ◌-ℤ◌, ◌+ℤ◌, nat_eq, ◌&&◌, ◌||◌, drop, zero, suc}
-use Rattle.std.specs.Prelude.{IsTrue, ◌↔◌, Some, slice_get, int_lt, int_le, if◌then◌else◌, slice_index_or}
-use Rattle.std.specs.List.{Contains}
-use Rattle.std.specs.Int.{int_min, int_max}
+use Rattle.std.proofs.Common.{◌≡◌, inl, inr, ℕ, ◌<◌, ◌≤◌, List, get_or, Bool, true, false, not, sym, ◌∙◌, subst, arith, All, ℤ, pos, ◌≤ℤ◌, ◌-ℤ◌, ◌+ℤ◌, nat_eq}
+use Rattle.std.specs.Prelude.{IsTrue, ◌↔◌, int_lt}
+use Rattle.std.specs.Int.{int_min}
 use Rattle.std.proofs.lemmas.Int.{ints}
 use Rattle.std.proofs.lemmas.Option.{slice_get_within, slice_get-get_or}
 use Rattle.std.proofs.lemmas.List.Elements.{All-weaker, Contains-get_or}
 use Rattle.cstn_net.specs.Networks.{Network, Constraint, IsConstraint, IsWellFormed, count, limit}
 use Rattle.cstn_net.specs.Strategies.{Schedule, IsSchedule, Meets}
 use Rattle.cstn_top.specs.declared.growth.Entry.{Entry}
-use Rattle.cstn_top.specs.Growth.{is_refuted, is_covered, refutes, chained, grown, log_of, most_entries}
-use Rattle.cstn_top.specs.Logs.{top, has_base, InRange, IsKept}
-use Rattle.cstn_top.proofs.LogSteps.{refuted_stays, closed_stays}
-use Rattle.cstn_top.proofs.LogSound.{HasEnds, HoldsOf, grown_holds, holds_unrefuted}
+use Rattle.cstn_top.specs.Growth.{is_refuted, refutes, chained, log_of, most_entries}
+use Rattle.cstn_top.specs.Logs.{top}
+use Rattle.cstn_top.proofs.LogSound.{HasEnds, grown_holds, holds_unrefuted}
 use Rattle.cstn_top.proofs.LogTops.{top_nonneg, covered_top, Attained, attained, node_is}
-use Rattle.cstn_top.proofs.LogAnswered.{Answered, IsDone, grown_done}
+use Rattle.cstn_top.proofs.LogAnswered.{Answered, grown_done}
 use Rattle.cstn_top.proofs.LogKept.{grown_kept, kept_short, moment, moment_is, none_at, false_at}
 
 -- every constraint of the network has ends that are time-points

@@ -1,24 +1,24 @@
 -- What every log keeps: its entries are of the network's time-points and in range, those of one time-point ascend,
 -- and each time-point has one. So there are only so many.
-use Rattle.std.proofs.Common.{◌≡◌, ◌≢◌, ◌⊎◌, inl, inr, ℕ, ◌+◌, ◌*◌, ◌<◌, ◌≤◌, List, [], ◌∷◌, ◌++◌, length, get_or, Bool, true, false, not, refl, ap, sym, ◌∙◌, subst, arith, All, ℤ, pos, negsuc, ◌≤ℤ◌, ◌<ℤ◌, ◌-ℤ◌, ◌+ℤ◌, nat_eq, ◌&&◌, ◌||◌, zero, suc, map, add-one}
-use Rattle.std.specs.Prelude.{Some, None, Option, slice_get, int_lt, int_le, if◌then◌else◌}
-use Rattle.std.specs.List.{list_any, range_with_len, IsDistinct, AllByRecursion}
+use Rattle.std.proofs.Common.{◌≡◌, ◌⊎◌, inl, inr, ℕ, ◌+◌, ◌*◌, ◌<◌, ◌≤◌, List, [], ◌∷◌, ◌++◌, length, get_or, Bool, true, false, not, refl, ap, sym, ◌∙◌, subst, arith, All, ℤ, pos, negsuc, ◌≤ℤ◌, ◌<ℤ◌, ◌-ℤ◌, ◌+ℤ◌, nat_eq, ◌&&◌, ◌||◌, zero, suc, map}
+use Rattle.std.specs.Prelude.{Some, None, Option, slice_get, int_le, if◌then◌else◌}
+use Rattle.std.specs.List.{list_any, IsDistinct, AllByRecursion}
 use Rattle.std.specs.Int.{int_min}
 use Rattle.std.proofs.Math.Dec.{eqb}
 use Rattle.std.proofs.Math.Nat.{mul-le-mul_right, suc-mul}
 use Rattle.std.proofs.lemmas.Bool.{cases_lt, cases_order}
 use Rattle.std.proofs.lemmas.Int.{ints}
-use Rattle.std.proofs.lemmas.Option.{get_or_from_slice_get, slice_get_within, slice_get-get_or}
+use Rattle.std.proofs.lemmas.Option.{get_or_from_slice_get, slice_get_within}
 use Rattle.std.proofs.lemmas.List.Elements.{All-head, All-tail}
-use Rattle.std.proofs.lemmas.List.Folds.{list_any_at, list_any-append, Any-from_list_any}
+use Rattle.std.proofs.lemmas.List.Folds.{list_any_at}
 use Rattle.std.proofs.lemmas.List.FromFn.{get_or-map-range_with_len, length-map-range_with_len}
 use Rattle.std.proofs.lemmas.List.{length-append, length-map}
 use Rattle.std.proofs.lemmas.Map.Steps.{length-le_from_distinct_below}
 use Rattle.cstn_net.specs.Networks.{Network, Constraint, count, limit}
 use Rattle.cstn_top.specs.declared.growth.Entry.{Entry}
-use Rattle.cstn_top.specs.Growth.{after_turn, with_instance, is_used, is_refuted, is_covered, covers, refutes, chained, turn, base, bases, grown, log_of, most_entries}
+use Rattle.cstn_top.specs.Growth.{after_turn, with_instance, is_used, is_refuted, is_covered, covers, chained, turn, base, bases, grown, most_entries}
 use Rattle.cstn_top.proofs.LogSteps.{any_longer, slice_get_left}
-use Rattle.cstn_top.specs.Logs.{has_base, InRange, Ascends, IsKept}
+use Rattle.cstn_top.specs.Logs.{has_base, InRange, IsKept}
 
 pub eq_is : (a b : ℕ) → a ≡ b → nat_eq a b ≡ true
 eq_is a b is = grind arith

@@ -1,20 +1,20 @@
 -- What the latest entries tell of the log: which entries are covered, and which are live.
-use Rattle.std.proofs.Common.{◌≡◌, ◌≢◌, ◌⊎◌, inl, inr, ℕ, ◌+◌, ◌-◌, ◌<◌, ◌≤◌, List, [], ◌∷◌, ◌++◌, length, drop, get_or, set, Bool, true, false, not, refl, ap, sym, ◌∙◌, subst, arith, ℤ, pos, ◌≤ℤ◌, ◌<ℤ◌, ◌+ℤ◌, ◌-ℤ◌, nat_eq, ◌&&◌, ◌||◌, zero, suc}
-use Rattle.std.specs.Prelude.{Some, Option, slice_get, int_le, int_lt, if◌then◌else◌}
-use Rattle.std.specs.List.{list_any, Any}
+use Rattle.std.proofs.Common.{◌≡◌, ◌⊎◌, inl, inr, ℕ, ◌+◌, ◌-◌, ◌<◌, ◌≤◌, List, [], ◌∷◌, ◌++◌, length, drop, get_or, set, Bool, true, false, not, refl, ap, sym, ◌∙◌, subst, arith, ℤ, pos, ◌≤ℤ◌, ◌<ℤ◌, ◌+ℤ◌, ◌-ℤ◌, nat_eq, ◌&&◌}
+use Rattle.std.specs.Prelude.{Some, Option, slice_get, int_le, if◌then◌else◌}
+use Rattle.std.specs.List.{list_any}
 use Rattle.std.specs.Int.{int_max, int_min}
 use Rattle.std.proofs.lemmas.Int.{ints}
 use Rattle.std.proofs.lemmas.Bool.{cases_order, cond-true, cond-false}
 use Rattle.std.proofs.lemmas.Option.{get_or_from_slice_get, slice_get_within, slice_get-get_or}
-use Rattle.std.proofs.lemmas.List.Folds.{list_any_at, list_any-append, Any-from_list_any}
+use Rattle.std.proofs.lemmas.List.Folds.{list_any_at, Any-from_list_any}
 use Rattle.std.proofs.lemmas.List.{length-drop, get_or-drop, get_or-set_same, get_or-set_other}
 use Rattle.std.proofs.Math.ListN.{length-set}
 use Rattle.cstn_net.specs.Networks.{Network, Constraint, count, limit}
 use Rattle.cstn_top.specs.declared.growth.Entry.{Entry}
-use Rattle.cstn_top.specs.Growth.{is_covered, covers, is_refuted, refutes, chained, is_used, with_instance}
-use Rattle.cstn_top.specs.Logs.{top, has_base, IsKept, IsLog, InRange}
+use Rattle.cstn_top.specs.Growth.{is_covered, covers, is_refuted, chained, is_used, with_instance}
+use Rattle.cstn_top.specs.Logs.{top, IsKept, IsLog}
 use Rattle.cstn_top.proofs.LogTops.{Attained, attained, covered_top, node_is, top_nonneg}
-use Rattle.cstn_top.proofs.LogKept.{limit_le, false_at, eq_is, le_is, push_kept, uncovered_above, base_of}
+use Rattle.cstn_top.proofs.LogKept.{limit_le, false_at, eq_is, push_kept}
 
 le_from : (a b : ℤ) → a ≤ℤ b → int_le a b ≡ true
 le_from a b le = grind (arith, ints)

@@ -1,15 +1,15 @@
 -- Each entry of the log holds of every schedule, so a network with a refuted log has none.
-use Rattle.std.proofs.Common.{◌≡◌, ℕ, ◌+◌, ◌<◌, ◌≤◌, List, [], ◌∷◌, ◌++◌, length, get_or, Bool, true, false, not, refl, ap, sym, ◌∙◌, subst, arith, All, ℤ, pos, ◌≤ℤ◌, ◌-ℤ◌, ◌+ℤ◌, nat_eq, ◌&&◌, zero, suc}
-use Rattle.std.specs.Prelude.{Some, None, Option, slice_get, int_lt, int_le, if◌then◌else◌}
+use Rattle.std.proofs.Common.{◌≡◌, ℕ, ◌<◌, ◌≤◌, List, [], ◌∷◌, ◌++◌, get_or, Bool, true, false, not, refl, sym, subst, arith, All, ℤ, pos, ◌≤ℤ◌, ◌-ℤ◌, ◌+ℤ◌, nat_eq, ◌&&◌, zero, suc}
+use Rattle.std.specs.Prelude.{Some, None, Option, slice_get, int_lt, if◌then◌else◌}
 use Rattle.std.specs.Int.{int_min}
 use Rattle.std.proofs.lemmas.Int.{ints}
 use Rattle.std.proofs.lemmas.Option.{get_or_from_slice_get, slice_get_within}
 use Rattle.std.proofs.lemmas.List.Elements.{All-push, All-head, All-tail}
 use Rattle.std.proofs.lemmas.List.FromFn.{get_or-map-range_with_len, length-map-range_with_len}
 use Rattle.cstn_net.specs.Networks.{Network, Constraint, count, limit}
-use Rattle.cstn_net.specs.Strategies.{Schedule, IsSchedule, Meets}
+use Rattle.cstn_net.specs.Strategies.{Schedule, Meets}
 use Rattle.cstn_top.specs.declared.growth.Entry.{Entry}
-use Rattle.cstn_top.specs.Growth.{after_turn, with_instance, is_used, is_refuted, is_covered, refutes, chained, turn, base, bases, grown, log_of}
+use Rattle.cstn_top.specs.Growth.{after_turn, with_instance, is_used, is_refuted, refutes, chained, turn, base, bases, grown}
 
 -- the schedule has the entry's time-point at its least value or later
 abbrev pub HoldsOf : Schedule → Entry → Type 0

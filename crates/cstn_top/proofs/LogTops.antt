@@ -1,8 +1,7 @@
 -- The greatest entry of each time-point: what it says, and where it stands.
-use Rattle.std.proofs.Common.{◌≡◌, ◌⊎◌, inl, inr, ℕ, ◌+◌, ◌<◌, ◌≤◌, List, [], ◌∷◌, ◌++◌, length, drop, Bool, true, false, not, refl, ap, sym, ◌∙◌, subst, arith, ℤ, pos, ◌≤ℤ◌, ◌<ℤ◌, ◌-ℤ◌, ◌+ℤ◌, nat_eq, ◌&&◌, ◌||◌, zero, suc, add-one}
-use Rattle.std.specs.Prelude.{Some, slice_get, int_lt, int_le, if◌then◌else◌}
-use Rattle.std.specs.List.{list_any}
-use Rattle.std.specs.Int.{int_min, int_max}
+use Rattle.std.proofs.Common.{◌≡◌, ℕ, ◌+◌, List, [], ◌∷◌, drop, Bool, true, false, refl, ap, sym, ◌∙◌, arith, ℤ, pos, ◌≤ℤ◌, nat_eq, ◌&&◌, ◌||◌, suc, add-one}
+use Rattle.std.specs.Prelude.{Some, slice_get, int_le, if◌then◌else◌}
+use Rattle.std.specs.Int.{int_max}
 use Rattle.std.proofs.lemmas.Int.{ints}
 use Rattle.cstn_top.specs.declared.growth.Entry.{Entry}
 use Rattle.cstn_top.specs.Growth.{is_covered, covers}

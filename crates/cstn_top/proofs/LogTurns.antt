@@ -1,6 +1,6 @@
 -- How the log grows as the code does it, constraint by constraint and turn by turn.
-use Rattle.std.proofs.Common.{◌≡◌, ◌⊎◌, inl, inr, add-one, ℕ, ◌+◌, ◌-◌, ◌<◌, ◌≤◌, List, [], ◌∷◌, ◌++◌, length, take, drop, get_or, map, Bool, true, false, not, refl, ap, sym, ◌∙◌, subst, arith, ℤ, pos, ◌≤ℤ◌, nat_eq, zero, suc}
-use Rattle.std.specs.Prelude.{Some, slice_get, fold, int_lt}
+use Rattle.std.proofs.Common.{◌≡◌, ◌⊎◌, inl, inr, add-one, ℕ, ◌+◌, ◌-◌, ◌<◌, ◌≤◌, List, [], ◌∷◌, ◌++◌, length, take, drop, get_or, map, true, false, refl, ap, sym, ◌∙◌, arith, ℤ, pos, zero, suc}
+use Rattle.std.specs.Prelude.{Some, slice_get, int_lt}
 use Rattle.std.specs.List.{range_with_len, list_any}
 use Rattle.std.proofs.lemmas.Int.{ints}
 use Rattle.std.proofs.lemmas.List.{take_more, map-append, take-append-drop, length-append}
@@ -14,7 +14,7 @@ use Rattle.cstn_top.specs.declared.growth.Entry.{Entry}
 use Rattle.cstn_top.specs.Growth.{with_instance, after_turn, turn, base, bases, grown, refutes, is_refuted, log_of, most_entries}
 use Rattle.cstn_top.specs.Logs.{top, IsKept, IsLog}
 use Rattle.cstn_top.proofs.LogSteps.{turn_refuted, refuted_stays, closed_stays, instance_longer, turn_longer, slice_get_left}
-use Rattle.cstn_top.proofs.LogTops.{top_nonneg, Attained, attained}
+use Rattle.cstn_top.proofs.LogTops.{attained}
 use Rattle.cstn_top.proofs.LogKept.{bases_kept, get_base, kept_short}
 
 -- one more time-point

@@ -1,5 +1,5 @@
 -- Verdicts on networks that observe nothing.
-use Rattle.std.proofs.Common.{◌≡◌, ℕ, Bool, true, false, refl, sym, ◌∙◌}
+use Rattle.std.proofs.Common.{◌≡◌, ℕ, Bool, true, false, sym, ◌∙◌}
 use Rattle.std.specs.Prelude.{◌↔◌, IsTrue}
 use Rattle.cstn_net.specs.Networks.{Network, IsWellFormed, Observes}
 use Rattle.cstn_net.specs.Strategies.{Schedule, IsSchedule, IsConsistent}

@@ -1,5 +1,5 @@
 -- Compact documents of networks without propositions.
-use Rattle.std.specs.Prelude.{ℕ, ◌<◌, zero, suc, ◌+◌, Bool, true, false, ◌&&◌, not, nat_le, nat_lt, nat_eq, ℤ, pos, ◌-ℤ◌, List, [], ◌∷◌, ◌++◌, length, take, drop, get_or, position, is_some, replicate, Option, None, Some, codes, if◌then◌else◌}
+use Rattle.std.specs.Prelude.{ℕ, ◌<◌, zero, suc, ◌+◌, ◌&&◌, not, nat_le, nat_lt, nat_eq, ℤ, pos, ◌-ℤ◌, List, [], ◌∷◌, ◌++◌, length, take, drop, position, is_some, replicate, Option, None, Some, codes, if◌then◌else◌}
 use Rattle.std.specs.List.{prefix_len}
 use Rattle.std.specs.Char.{is_ascii_digit, is_ascii_alphanumeric}
 use Rattle.std.specs.Option.{option_map}

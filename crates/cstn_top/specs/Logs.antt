@@ -1,8 +1,8 @@
 -- What the code keeps of a log beside its entries.
-use Rattle.std.specs.Prelude.{◌≡◌, ℕ, ◌<◌, ◌≤◌, ◌+◌, Bool, true, false, ℤ, pos, negsuc, ◌≤ℤ◌, ◌<ℤ◌, ◌+ℤ◌, List, [], ◌∷◌, length, Some, slice_get, nat_eq, int_le, ◌&&◌, if◌then◌else◌}
+use Rattle.std.specs.Prelude.{◌≡◌, ℕ, ◌<◌, Bool, true, ℤ, pos, ◌≤ℤ◌, ◌<ℤ◌, ◌+ℤ◌, List, [], ◌∷◌, length, Some, slice_get, nat_eq, int_le, ◌&&◌, if◌then◌else◌}
 use Rattle.std.specs.List.{list_any}
 use Rattle.std.specs.Int.{int_max}
-use Rattle.cstn_net.specs.Networks.{Network, Constraint, count, limit}
+use Rattle.cstn_net.specs.Networks.{Network, count, limit}
 use Rattle.cstn_top.specs.declared.growth.Entry.{Entry}
 
 -- the greatest least value of a time-point's entries, or 0

@@ -52,10 +52,18 @@ pub record Planned (request : Request) (told : Option (List ℕ → Option (List
   pub plan : plan_at request contents ≡ says said
   pub right : IsRight said.outcome (network_at request contents)
 
--- where files are told, the network that words ask about has the property
-abbrev pub AsksAbout : Option Request → Option (List ℕ → Option (List ℕ)) → (Network → Type 0) → Type 0
-AsksAbout None told holds = ⊥
-AsksAbout (Some request) told holds = (contents : List (List ℕ)) × AreContents told (files_of request) contents × IsSomeAnd (network_at request contents) holds
+-- what the status Good tells of a request
+abbrev pub IsGood : Request → List (List ℕ) → Type 0
+IsGood (check asked) contents = IsSomeAnd (network_at (check asked) contents) IsConsistent
+
+-- what the status Bad tells of it
+abbrev pub IsBad : Request → List (List ℕ) → Type 0
+IsBad (check asked) contents = IsSomeAnd (network_at (check asked) contents) (λ net. IsConsistent net → ⊥)
+
+-- the words are a request, and it holds of the request and the contents of its files
+abbrev pub HoldsOf : Option Request → Option (List ℕ → Option (List ℕ)) → (Request → List (List ℕ) → Type 0) → Type 0
+HoldsOf None told holds = ⊥
+HoldsOf (Some request) told holds = (contents : List (List ℕ)) × AreContents told (files_of request) contents × holds request contents
 
 -- the request reads the live source
 abbrev pub ReadsLive : Option Request → Type 0

@@ -1,5 +1,5 @@
 -- What a request says, and what is written for it, also after a fault.
-use Rattle.std.specs.Prelude.{◌≡◌, ◌⊎◌, ℕ, List, [], ◌∷◌, ◌++◌, take, Option, codes}
+use Rattle.std.specs.Prelude.{◌≡◌, ◌⊎◌, ℕ, List, [], ◌++◌, take, Option, codes}
 use Rattle.cstn_io.specs.Contents.{with_bytes, IsAllOf}
 use Rattle.cstn_top.specs.Texts.{line}
 use Rattle.cstn_top.specs.Statuses.{status_of}

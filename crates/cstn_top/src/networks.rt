@@ -29,6 +29,7 @@ pub(crate) fn network_of(
     let mut builder = Builder::new(alloc, deadline);
     add_points(&mut builder, document.count)?;
     add_edges(&mut builder, &document.edges)?;
+    // A compact document gives no fault, so a builder of it lacks memory where it isn't closed.
     let Ok(net) = builder.close() else {
         return Err(AllocError);
     };

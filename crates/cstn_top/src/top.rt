@@ -4,12 +4,11 @@ ghost use Rattle.std.specs.Option.{option_map};
 ghost use Rattle.std.specs.List.{list_all};
 ghost use Rattle.cstn_io.specs.Causes.{Rose};
 ghost use Rattle.cstn_io.specs.Contents.{with_bytes};
-ghost use Rattle.cstn_net.specs.Strategies.{IsConsistent};
 ghost use Rattle.cstn_top.specs.Texts.{line};
 ghost use Rattle.cstn_top.specs.Requests.{request_of, names_of};
 ghost use Rattle.cstn_top.specs.Files.{AreContents};
 ghost use Rattle.cstn_top.specs.Plans.{Live, Ends, Untouched};
-ghost use Rattle.cstn_top.specs.Outputs.{plan_of, AsksAbout, ReadsLive, MayStop};
+ghost use Rattle.cstn_top.specs.Outputs.{plan_of, HoldsOf, IsGood, IsBad, ReadsLive, MayStop};
 
 use crate::Status;
 use crate::commands::{Refused, prepare};
@@ -32,8 +31,8 @@ pub fn run<F: Shelf, S: Source, K: Sink>(
         (contents : List (List ℕ)) × AreContents (F.files shelf.old) (names_of (request_of (map string_bytes words.now))) contents ×
         Ends (plan_of (request_of (map string_bytes words.now)) contents) before after (K.written out.old) (K.written out.new) result ×
         Untouched (plan_of (request_of (map string_bytes words.now)) contents) live.old live.new }
-    ensures consistent { result ≡ Status.Good → AsksAbout (request_of (map string_bytes words.now)) (F.files shelf.old) IsConsistent }
-    ensures inconsistent { result ≡ Status.Bad → AsksAbout (request_of (map string_bytes words.now)) (F.files shelf.old) (λ net. IsConsistent net → ⊥) }
+    ensures good { result ≡ Status.Good → HoldsOf (request_of (map string_bytes words.now)) (F.files shelf.old) IsGood }
+    ensures bad { result ≡ Status.Bad → HoldsOf (request_of (map string_bytes words.now)) (F.files shelf.old) IsBad }
     ensures flushed { result ≢ Status.WriteFault → K.flushed out.new ≡ option_map length (K.written out.new) }
     ensures read_fault { result ≡ Status.ReadFault → Rose (F.faults shelf.old) (F.faults shelf.new) ⊎ (ReadsLive (request_of (map string_bytes words.now)) × Rose (S.faults live.old) (S.faults live.new)) }
     ensures write_fault { result ≡ Status.WriteFault → Rose (K.faults out.old) (K.faults out.new) }

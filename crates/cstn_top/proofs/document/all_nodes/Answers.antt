@@ -1,4 +1,4 @@
-use Rattle.std.proofs.Common.{◌≡◌, ℕ, ◌+◌, ◌-◌, ◌<◌, List, [], ◌∷◌, ◌++◌, map, sym, ap, ◌∙◌, arith, Bor, vec_len}
+use Rattle.std.proofs.Common.{◌≡◌, ℕ, ◌+◌, ◌-◌, ◌<◌, List, [], ◌∷◌, map, sym, ap, ◌∙◌, arith, Bor, vec_len}
 use Rattle.std.proofs.lemmas.List.{map-append}
 use Rattle.cstn_top.specs.Documents.{many_at, node_word, node_at}
 use Rattle.cstn_top.proofs.Many.{many_end, many_more, many_wrong, many_full}

@@ -1,4 +1,4 @@
-use Rattle.std.proofs.Common.{◌≡◌, ℕ, ◌+◌, ◌-◌, ◌<◌, List, [], ◌∷◌, ◌++◌, All, length, map, sym, ap, subst, ◌∙◌, arith, Bor, vec_len}
+use Rattle.std.proofs.Common.{◌≡◌, ℕ, ◌+◌, ◌-◌, ◌<◌, List, All, length, map, sym, ap, subst, ◌∙◌, arith, Bor, vec_len}
 use Rattle.std.proofs.lemmas.List.Elements.{All-push}
 use Rattle.cstn_top.specs.declared.document.Edge.{Edge}
 use Rattle.cstn_top.specs.Documents.{many_at, edge_word, edge_after, IsAmong}

@@ -1,4 +1,4 @@
-use Rattle.std.proofs.Common.{◌≡◌, ◌<◌, ◌≤◌, ◌⊎◌, inl, inr, List, length, true, false, sym, ◌∙◌, ap, subst, refl, not, arith}
+use Rattle.std.proofs.Common.{◌≡◌, ◌<◌, ◌≤◌, ◌⊎◌, inl, inr, List, length, true, sym, ◌∙◌, ap, subst, not, arith}
 use Rattle.cstn_net.specs.Read.{the_network}
 use Rattle.cstn_top.specs.declared.growth.Entry.{Entry}
 use Rattle.cstn_top.specs.Growth.{bases, is_refuted, most_entries, log_of}

@@ -1,9 +1,7 @@
-use Rattle.std.proofs.Common.{◌≡◌, ◌<◌, set, ◌++◌, ◌∷◌, ◌≤◌, ◌≤ℤ◌, ◌+ℤ◌, pos, true, false, sym, ◌∙◌, ap, subst, refl, arith, List, []}
-use Rattle.std.proofs.lemmas.Int.{ints}
-use Rattle.cstn_net.specs.Networks.{Network, count, limit}
+use Rattle.std.proofs.Common.{◌<◌, set, sym, ◌∙◌, subst, List}
+use Rattle.cstn_net.specs.Networks.{count}
 use Rattle.cstn_net.specs.Read.{the_network, the_constraint}
 use Rattle.cstn_top.specs.declared.growth.Entry.{Entry}
-use Rattle.cstn_top.specs.Growth.{covers, chained}
 use Rattle.cstn_top.specs.Logs.{IsLog}
 use Rattle.cstn_top.proofs.LogLatest.{not_live, not_new, is_new, log_pushed, chained_high, entry_small}
 use Rattle.cstn_top.proofs.growth.use_with.Goals as goal

@@ -20,13 +20,13 @@ returns-in-Ok-clause-words_only g c = λ is.
     absurd (only_words (the_request c.in-Some.request) (g.F.Shelf.files c.args.shelf.now) (the_said c.in-Ok.said) c.in-Ok.ensures.plan
     (outcome_of c.in-Ok.said.outcome Words c.status.result _ c.status.ensures.status c.finish-in-Ok.ensures.status is))
 
-pub returns-in-Ok-clause-consistent : goal.returns-in-Ok-clause-consistent
-returns-in-Ok-clause-consistent g c = λ is.
+pub returns-in-Ok-clause-good : goal.returns-in-Ok-clause-good
+returns-in-Ok-clause-good g c = λ is.
     good_is_consistent _ (the_request c.in-Some.request) (g.F.Shelf.files c.args.shelf.now) (the_said c.in-Ok.said) c.in-Some.ensures.request c.in-Ok.ensures.plan
     (outcome_of c.in-Ok.said.outcome Good c.status.result _ c.status.ensures.status c.finish-in-Ok.ensures.status is)
 
-pub returns-in-Ok-clause-inconsistent : goal.returns-in-Ok-clause-inconsistent
-returns-in-Ok-clause-inconsistent g c = λ is.
+pub returns-in-Ok-clause-bad : goal.returns-in-Ok-clause-bad
+returns-in-Ok-clause-bad g c = λ is.
     bad_is_inconsistent _ (the_request c.in-Some.request) (g.F.Shelf.files c.args.shelf.now) (the_said c.in-Ok.said) c.in-Some.ensures.request c.in-Ok.ensures.plan
     (outcome_of c.in-Ok.said.outcome Bad c.status.result _ c.status.ensures.status c.finish-in-Ok.ensures.status is)
 

@@ -32,5 +32,5 @@ returns-clause-node c =
 pub returns-clause-holds : goal.returns-clause-holds
 returns-clause-holds c = λ net table good strategy derivation.
     let there : slice_get (the_entries c.args.self.now.entries) c.args.k ≡ Some (the_entry c.unwrap.result) =
-        slice_get-map the_entry c.args.self.now.entries c.args.k ∙ rw (returns-clause-entry c) refl in
+    slice_get-map the_entry c.args.self.now.entries c.args.k ∙ rw (returns-clause-entry c) refl in
     each_holds net table (the_entries c.args.self.now.entries) good strategy derivation c.args.k (the_entry c.unwrap.result) there

@@ -13,6 +13,6 @@ pub returns-clause-exactly : goal.returns-clause-exactly
 returns-clause-exactly c =
     subst (λ (v : State). (s : ℕ) (b : ℕ × Bound) → IsPlaced c.self.inside.minimal.table s b → (k : ℕ) × (e : Entry) × IsIdAt v.ids s b.0 k × (slice_get v.entries k ≡ Some e) × IsLive v.entries k × (e.bound ≡ b.1)) c.self.view_is
     (λ s b placed.
-        let f = c.self.invariant.kept.placed s b placed in
-        let id : SlotId = record { slot = s; birth = b.0 } in
-        (f.0, stored c.self.inside.pool.slots id, f.1, entry_there c.self.inside.pool.slots c.self.inside.ids.items f.0 id f.1.there, f.2, f.3))
+    let f = c.self.invariant.kept.placed s b placed in
+    let id : SlotId = record { slot = s; birth = b.0 } in
+    (f.0, stored c.self.inside.pool.slots id, f.1, entry_there c.self.inside.pool.slots c.self.inside.ids.items f.0 id f.1.there, f.2, f.3))

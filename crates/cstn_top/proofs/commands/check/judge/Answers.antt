@@ -1,5 +1,4 @@
 use Rattle.cstn_net.specs.Read.{the_network}
-use Rattle.std.proofs.Common.{sym}
 use Rattle.cstn_top.proofs.Verdicts.{consistent_if, inconsistent_if}
 use Rattle.cstn_top.proofs.commands.check.judge.Goals as goal
 
