@@ -1,0 +1,129 @@
+-- The tests decide the definitions.
+use Rattle.std.proofs.Common.{ℕ, zero, suc, ◌≡◌, inl, inr, ◌<◌, ◌≤◌, Bool, true, false, not, ◌&&◌, eqb, ltb, Some, None, arith, refl, sym, subst, ap, ◌∙◌}
+use Rattle.std.specs.Prelude.{ℤ, pos, ◌≤ℤ◌, ◌<ℤ◌, int_lt, ◌-ℤ◌, ◌+ℤ◌}
+use Rattle.std.specs.Int.{int_min}
+use Rattle.std.proofs.lemmas.Int.{ints}
+use Rattle.std.proofs.lemmas.Bool.{cases_lt, and_parts, and_from, eqb-true, eq-eqb, lt-ltb, cond-true, cond-false}
+use Rattle.cstn_label.specs.declared.marks.Mark.{Mark}
+use Rattle.cstn_label.specs.Labels.{Label, IsMarkPlain, IsMarkWithin, IsPlain, IsWithin, joined, without}
+use Rattle.cstn_label.specs.declared.marks.Mark.TheVariants.{Absent}
+use Rattle.cstn_net.specs.Networks.{Network, Constraint, Observes, count, limit}
+use Rattle.cstn_label.specs.Bounds.{Bound, Dominates}
+use Rattle.cstn_rules.specs.Rules.{Refutes, finished, IsChain, IsWait}
+use Rattle.cstn_check.specs.Tests.{each_below, is_plain_mark, is_absent, is_mark_within, is_plain, is_within, dominates, refutes, chain_of, wait_for, wait_of}
+
+-- each observed proposition is one of the 52 letters
+abbrev pub HasLetters : Network → Type 0
+HasLetters net = (x p : ℕ) → Observes net x p → p < 52
+
+-- no mark from the 52nd proposition on
+abbrev pub Small : Label → Type 0
+Small a = (p : ℕ) → 52 ≤ p → a p ≡ Absent
+
+each_at : (test : ℕ → Bool) (n p : ℕ) → p < n → each_below test n ≡ true → test p ≡ true
+each_at test zero p h e = absurd (omega arith)
+each_at test (suc n) p h e =
+    let both = and_parts (test n) (each_below test n) e in
+    elim (cases_lt p n) [
+      | inl below ↦ each_at test n p below both.1
+      | inr last ↦ let here : n ≡ p = omega arith in subst (λ k. test k ≡ true) here both.0
+    ]
+
+each_from : (test : ℕ → Bool) (n : ℕ) → ((p : ℕ) → test p ≡ true) → each_below test n ≡ true
+each_from test zero h = refl
+each_from test (suc n) h = and_from (test n) (each_below test n) (h n) (each_from test n h)
+
+mark_within_true : (m n : Mark) → IsMarkWithin m n → is_mark_within m n ≡ true
+mark_within_true m n h = grind arith
+
+true_mark_within : (m n : Mark) → is_mark_within m n ≡ true → IsMarkWithin m n
+true_mark_within m n h = grind arith
+
+mark_plain_true : (m : Mark) → IsMarkPlain m → is_plain_mark m ≡ true
+mark_plain_true m h = grind arith
+
+true_mark_plain : (m : Mark) → is_plain_mark m ≡ true → IsMarkPlain m
+true_mark_plain m h = grind arith
+
+absent_within : (m n : Mark) → m ≡ Absent → IsMarkWithin m n
+absent_within m n e = rw e tt
+
+absent_plain : (m : Mark) → m ≡ Absent → IsMarkPlain m
+absent_plain m e = rw e tt
+
+not_absent : (m : Mark) → (m ≡ Absent → ⊥) → is_absent m ≡ false
+not_absent m h = grind arith
+
+pub false_absent : (m : Mark) → is_absent m ≡ false → m ≡ Absent → ⊥
+false_absent m h e = grind arith
+
+pub plain_true : (a : Label) → IsPlain a → is_plain a ≡ true
+plain_true a h = each_from (λ p. is_plain_mark (a p)) 52 (λ p. mark_plain_true (a p) (h p))
+
+pub true_plain : (a : Label) → Small a → is_plain a ≡ true → IsPlain a
+true_plain a small e = λ p. elim (cases_lt p 52) [
+  | inl below ↦ true_mark_plain (a p) (each_at (λ q. is_plain_mark (a q)) 52 p below e)
+  | inr above ↦ absent_plain (a p) (small p above)
+]
+
+within_true : (a b : Label) → IsWithin a b → is_within a b ≡ true
+within_true a b h = each_from (λ p. is_mark_within (a p) (b p)) 52 (λ p. mark_within_true (a p) (b p) (h p))
+
+true_within : (a b : Label) → Small a → is_within a b ≡ true → IsWithin a b
+true_within a b small e = λ p. elim (cases_lt p 52) [
+  | inl below ↦ true_mark_within (a p) (b p) (each_at (λ q. is_mark_within (a q) (b q)) 52 p below e)
+  | inr above ↦ absent_within (a p) (b p) (small p above)
+]
+
+not_less : (a b : ℤ) → b ≤ℤ a → not (int_lt a b) ≡ true
+not_less a b h = grind (arith, ints)
+
+less_not : (a b : ℤ) → not (int_lt a b) ≡ true → b ≤ℤ a
+less_not a b h = grind (arith, ints)
+
+pub dominates_true : (a b : Bound) → Dominates a b → dominates a b ≡ true
+dominates_true a b d =
+    and_from (eqb a.node b.node) (not (int_lt a.least b.least) && is_within a.label b.label) (eq-eqb a.node b.node d.node)
+    (and_from (not (int_lt a.least b.least)) (is_within a.label b.label) (not_less a.least b.least d.least)
+    (within_true a.label b.label d.label))
+
+pub true_dominates : (a b : Bound) → Small a.label → dominates a b ≡ true → Dominates a b
+true_dominates a b small e =
+    let one = and_parts (eqb a.node b.node) (not (int_lt a.least b.least) && is_within a.label b.label) e in
+    let two = and_parts (not (int_lt a.least b.least)) (is_within a.label b.label) one.1 in
+    record {
+      node = eqb-true a.node b.node one.0;
+      least = less_not a.least b.least two.0;
+      label = true_within a.label b.label small two.1;
+    }
+
+less_true : (a b : ℤ) → a <ℤ b → int_lt a b ≡ true
+less_true a b h = grind (arith, ints)
+
+pub refutes_true : (net : Network) (b : Bound) → Refutes net b → refutes net b ≡ true
+refutes_true net b r =
+    and_from (ltb b.node (count net)) (is_plain b.label && int_lt (pos (limit net b.node)) b.least)
+    (lt-ltb b.node (count net) r.node)
+    (and_from (is_plain b.label) (int_lt (pos (limit net b.node)) b.least) (plain_true b.label r.plain)
+    (less_true (pos (limit net b.node)) b.least r.above))
+
+-- the rules' conclusions are what the functions give
+pub chain_gives : (net : Network) (c : Constraint) (b r : Bound) → IsChain net c b r → chain_of net c b ≡ Some r
+chain_gives net c b r chain =
+    let made = finished net (record { node = c.from; least = b.least -ℤ c.most; label = joined b.label c.label }) in
+    cond-true ((eqb b.node c.to) && (is_plain b.label && is_plain (joined b.label c.label))) (Some made) None
+    (and_from (eqb b.node c.to) (is_plain b.label && is_plain (joined b.label c.label)) (eq-eqb b.node c.to chain.at)
+    (and_from (is_plain b.label) (is_plain (joined b.label c.label)) (plain_true b.label chain.plain)
+    (plain_true (joined b.label c.label) chain.together)))
+    ∙ sym (ap (λ x. Some x) chain.gives)
+
+pub wait_gives : (net : Network) (p : ℕ) (seen b r : Bound) → IsWait net p seen b r → wait_of net seen b ≡ Some r
+wait_gives net p seen b r wait =
+    let made = finished net (record {
+      node = b.node;
+      least = int_min (seen.least +ℤ pos (net.reaction p)) b.least;
+      label = joined seen.label (without b.label p);
+    }) in
+    let at : wait_of net seen b ≡ wait_for net (Some p) seen b = ap (λ o. wait_for net o seen b) wait.observes.what in
+    at ∙ cond-false (is_absent (b.label p)) None (Some made) (not_absent (b.label p) wait.marked)
+    ∙ sym (ap (λ x. Some x) wait.gives)

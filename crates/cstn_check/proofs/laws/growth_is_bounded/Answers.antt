@@ -1,0 +1,5 @@
+use Rattle.cstn_check.proofs.Verdict.{load_bounded}
+use Rattle.cstn_check.proofs.laws.growth_is_bounded.Goals as goal
+
+pub returns : goal.returns
+returns c = record { load = load_bounded }

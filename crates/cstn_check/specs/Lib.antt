@@ -1,0 +1,4 @@
+pub mod Tests
+pub mod Growth
+pub mod Asked
+pub mod Examples

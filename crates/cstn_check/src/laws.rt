@@ -1,0 +1,64 @@
+// Laws of growth.
+ghost use Rattle.std.specs.Prelude.{ℕ, ◌≡◌, ◌<◌, ◌≤◌, ◌-◌, ◌+◌, ◌++◌, ◌↔◌, true, false, length, slice_get, List, [], ◌∷◌, Some, None};
+ghost use Rattle.cstn_label.specs.declared.marks.Mark.TheVariants.{Absent, No};
+ghost use Rattle.cstn_label.specs.Labels.{Scenario, empty};
+ghost use Rattle.cstn_label.specs.Bounds.{Bound};
+ghost use Rattle.cstn_net.specs.Networks.{Network, IsNetwork, IsWellFormed, count};
+ghost use Rattle.cstn_net.specs.Strategies.{Table, IsStrategy, IsConsistent, IsLeast};
+ghost use Rattle.cstn_rules.specs.Closed.{IsClosed};
+ghost use Rattle.cstn_rules.specs.Derivations.{Entry, IsDerivation};
+ghost use Rattle.cstn_rules.specs.Rules.{Refutes};
+ghost use Rattle.cstn_log.specs.Entries.{bases};
+ghost use Rattle.cstn_check.specs.Asked.{asked, AllSound, IsHeldBack};
+ghost use Rattle.cstn_check.specs.Examples.{HasLog, Shows, of_two_marks, after, before, prompt, branch_and, crossed_and, unknown_mark, process, crossed_lines, unknown_mark_lines, process_lines};
+ghost use Rattle.cstn_check.specs.Growth.{grown, grow, log_of, load_of, most_entries, is_refuted, live_bounds};
+
+/// The moments that a closed list asks for are a strategy; where its bounds hold in every strategy, they are the least
+/// moments; and a time-point is held back at just the moments before its own.
+pub fn closed_lists_have_strategies()
+    ensures strategy { (net : Network) (bounds : List Bound) → IsNetwork net → IsClosed net bounds → IsStrategy net (asked net bounds) }
+    ensures least { (net : Network) (bounds : List Bound) → IsNetwork net → IsClosed net bounds → AllSound net bounds → (s : Scenario) (x : ℕ) → x < count net → IsLeast net s x (asked net bounds s x) }
+    ensures held { (net : Network) (bounds : List Bound) → IsNetwork net → IsClosed net bounds → (s : Scenario) (t x : ℕ) → x < count net → (IsHeldBack net bounds s (asked net bounds s) t x ↔ (t < asked net bounds s x)) }
+{}
+
+/// The load is at most n * 4^k * (H + 2): n time-points, k observed propositions, H the deadline.
+pub fn growth_is_bounded()
+    ensures load { (net : Network) → IsWellFormed net → load_of net ≤ most_entries net }
+{}
+
+/// The log goes on from each of its turns. It is reached at the first turn that ends past the list, or at an entry that
+/// refutes, and further turns change nothing.
+pub fn growth_ends()
+    ensures goes_on { (net : Network) (n : ℕ) → IsWellFormed net → (more : List Entry) × (grown net (bases (count net)) n ++ more ≡ log_of net) }
+    ensures done { (net : Network) (n : ℕ) → IsWellFormed net → load_of net ≤ n → grown net (bases (count net)) n ≡ log_of net }
+    ensures refuted { (net : Network) (n : ℕ) → IsWellFormed net → is_refuted net (grown net (bases (count net)) n) ≡ true → grown net (bases (count net)) n ≡ log_of net }
+{}
+
+/// The log is a derivation in which no entry but the last refutes. Where none does, the live entries are closed, and this is
+/// so exactly where there is a strategy; then one has the least moments.
+pub fn growth_decides()
+    ensures derivation { (net : Network) → IsWellFormed net → IsDerivation net (log_of net) }
+    ensures last { (net : Network) (e : Entry) → IsWellFormed net → slice_get (log_of net) (length (log_of net) - 1) ≡ Some e → (Refutes net e.bound ↔ (is_refuted net (log_of net) ≡ true)) }
+    ensures closed { (net : Network) → IsWellFormed net → is_refuted net (log_of net) ≡ false → IsClosed net (live_bounds (log_of net)) }
+    ensures decides { (net : Network) → IsWellFormed net → (IsConsistent net ↔ (is_refuted net (log_of net) ≡ false)) }
+    ensures least { (net : Network) → IsWellFormed net → IsConsistent net → (table : Table) × IsStrategy net table × ((s : Scenario) (x : ℕ) → x < count net → IsLeast net s x (table s x)) }
+{}
+
+/// The loads of small networks, and whether their logs refute.
+pub fn loads_are_known()
+    ensures alone { HasLog (prompt 0 (None ∷ []) []) 1 false }
+    ensures branch { HasLog (branch_and []) 5 false }
+    ensures last_tick { HasLog (branch_and (after 2 1 0 2 empty ∷ [])) 6 false }
+    ensures too_late { HasLog (branch_and (after 2 1 0 3 empty ∷ [])) 7 true }
+    ensures crossed { HasLog (crossed_and []) 8 false }
+    ensures crossed_no { HasLog (crossed_and (before 2 0 1 4 (of_two_marks Absent No) ∷ [])) 9 true }
+    ensures unknown { HasLog unknown_mark 14 true }
+    ensures process { HasLog process 14 false }
+{}
+
+/// Three whole logs.
+pub fn logs_are_known()
+    ensures crossed { Shows (crossed_and []) crossed_lines }
+    ensures unknown { Shows unknown_mark unknown_mark_lines }
+    ensures process { Shows process process_lines }
+{}
