@@ -1,12 +1,12 @@
 -- Derivations by their steps.
-use Rattle.std.proofs.Common.{ℕ, ◌≡◌, ◌-◌, ◌<◌, ◌↔◌, List, Some, length, arith, inl, inr, subst}
+use Rattle.std.proofs.Common.{ℕ, ◌≡◌, ◌+◌, ◌-◌, ◌<◌, ◌↔◌, List, Some, length, arith, inl, inr, subst}
 use Rattle.std.specs.Prelude.{slice_get}
 use Rattle.std.proofs.lemmas.Bool.{cases_lt}
 use Rattle.std.proofs.lemmas.Option.{slice_get_within}
 use Rattle.cstn_net.specs.Networks.{Network}
 use Rattle.cstn_rules.specs.Rules.{Refutes}
 use Rattle.cstn_rules.specs.Derivations.{Entry, IsDerivation, IsRefutation}
-use Rattle.cstn_replay.specs.Wrong.{AreRightBefore, IsFirstWrong}
+use Rattle.cstn_replay.specs.Wrong.{IsRight, AreRightBefore, IsFirstWrong}
 
 -- where each step follows, the steps are a derivation
 pub right_all : (net : Network) (steps : List Entry) → AreRightBefore net steps (length steps) → IsDerivation net steps
@@ -39,3 +39,13 @@ last_refutes net steps last derivation there = (
       let same : s.last ≡ last = cc in
       subst (λ e. Refutes net e.bound) same s.refutes,
 )
+
+pub none_right : (net : Network) (steps : List Entry) → AreRightBefore net steps 0
+none_right net steps i h = absurd (omega arith)
+
+pub one_more : (net : Network) (steps : List Entry) (k : ℕ) → AreRightBefore net steps k → IsRight net steps k →
+    AreRightBefore net steps (k + 1)
+one_more net steps k before here i h = elim (cases_lt i k) [
+  | inl earlier ↦ before i earlier
+  | inr past ↦ let same : k ≡ i = omega arith in subst (IsRight net steps) same here
+]

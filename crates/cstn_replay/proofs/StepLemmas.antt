@@ -1,10 +1,11 @@
 -- One step, by its rule.
-use Rattle.std.proofs.Common.{ℕ, zero, suc, ◌≡◌, ◌≢◌, ◌+◌, ◌<◌, ◌≤◌, ◌↔◌, List, Option, None, Some, length, map, arith, inl, inr, refl, sym, subst, ap, ◌∙◌}
+use Rattle.std.proofs.Common.{ℕ, zero, suc, ◌≡◌, ◌≢◌, ◌+◌, ◌-◌, ◌<◌, ◌≤◌, ◌↔◌, List, Option, None, Some, length, map, arith, inl, inr, refl, sym, subst, ap, ◌∙◌}
 use Rattle.std.specs.Prelude.{pos, ◌≤ℤ◌, slice_get, IfSome, IfNone, option_map}
 use Rattle.std.specs.List.{All, AllPairs, Contains}
 use Rattle.std.proofs.lemmas.Int.{ints}
 use Rattle.std.proofs.lemmas.List.Elements.{All-contains}
 use Rattle.std.proofs.lemmas.Option.{slice_get-map, slice_get_cases}
+use Rattle.std.proofs.lemmas.List.{length-map}
 use Rattle.cstn_label.specs.Bounds.{Bound as TheBound}
 use Rattle.cstn_label.specs.Read.{the_bound}
 use Rattle.cstn_net.specs.Networks.{Network, IsNetwork, IsConstraint, Constraint, count, limit}
@@ -54,6 +55,10 @@ all_within net steps (suc k) good low right i e h there =
 pub there_image : (xs : List DeclaredEntry) (k : ℕ) (x : DeclaredEntry) → slice_get xs k ≡ Some x →
     slice_get (map the_entry xs) k ≡ Some (the_entry x)
 there_image xs k x there = slice_get-map the_entry xs k ∙ ap (option_map the_entry) there
+
+pub last_image : (xs : List DeclaredEntry) (x : DeclaredEntry) → slice_get xs (length xs - 1) ≡ Some x →
+    slice_get (map the_entry xs) (length (map the_entry xs) - 1) ≡ Some (the_entry x)
+last_image xs x there = rw (length-map xs the_entry) (there_image xs (length xs - 1) x there)
 
 -- steps of the form of a refutation ask for 0 or more
 pub steps_low : (xs : List DeclaredEntry) → All IsStep xs → AreLow (map the_entry xs)

@@ -5,4 +5,4 @@ use Rattle.cstn_replay.specs.Wrong.{AreRightBefore}
 use Rattle.cstn_replay.proofs.replays.first_wrong.Given as goal
 
 abbrev pub invariant-loop-k : goal.invariant-loop-k
-invariant-loop-k l = AreRightBefore (the_network l.net.now) (map the_entry l.steps.now) l.k
+invariant-loop-k l = AreRightBefore (the_network l.net) (map the_entry l.steps) l.k
