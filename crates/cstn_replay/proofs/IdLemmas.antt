@@ -1,7 +1,7 @@
 -- Constraints by their ids.
-use Rattle.std.proofs.Common.{ℕ, ◌≡◌, ◌≢◌, ◌+◌, ◌<◌, ◌≤◌, List, Result, Ok, Err, IfOk, IfErr, length, get_or, map, arith, inl, inr, refl, sym, subst, ap, ◌∙◌}
+use Rattle.std.proofs.Common.{ℕ, ◌≡◌, ◌≢◌, ◌<◌, ◌≤◌, List, Ok, Err, length, get_or, map, arith, inl, inr, sym, subst, ap, ◌∙◌}
 use Rattle.std.specs.List.{All, AllPairs, Contains, HoldsAt}
-use Rattle.std.specs.List.Sorted.{IsSearchInRange, IsBinarySearchResult, IsNonDecreasingBy}
+use Rattle.std.specs.List.Sorted.{IsBinarySearchResult, IsNonDecreasingBy}
 use Rattle.std.specs.Ordering.{nat_cmp, ordering_index}
 use Rattle.std.proofs.lemmas.Bool.{cases_lt}
 use Rattle.std.proofs.lemmas.Bool.Decides.{nat_tests}
@@ -26,13 +26,13 @@ one_id cs c d ascending is that same =
           let rises : c.id < d.id = subst (λ x. x.id < d.id) is.2 (subst (λ y. (get_or cs is.0 c).id < y.id) other (ascending is.0 that.0 c before that.1)) in
           absurd (omega arith)
       | inr past ↦ elim (cases_lt that.0 is.0) [
-          | inl after ↦
-              let rises : d.id < c.id = subst (λ y. d.id < y.id) is.2 (subst (λ x. x.id < (get_or cs is.0 c).id) other (ascending that.0 is.0 c after is.1)) in
-              absurd (omega arith)
-          | inr before ↦
-              let here : is.0 ≡ that.0 = omega arith in
-              sym is.2 ∙ ap (λ k. get_or cs k c) here ∙ other
-        ]
+        | inl after ↦
+            let rises : d.id < c.id = subst (λ y. d.id < y.id) is.2 (subst (λ x. x.id < (get_or cs is.0 c).id) other (ascending that.0 is.0 c after is.1)) in
+            absurd (omega arith)
+        | inr before ↦
+            let here : is.0 ≡ that.0 = omega arith in
+            sym is.2 ∙ ap (λ k. get_or cs k c) here ∙ other
+      ]
     ]
 
 -- a place that a search by the id finds has it

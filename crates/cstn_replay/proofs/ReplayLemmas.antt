@@ -1,5 +1,5 @@
 -- Derivations by their steps.
-use Rattle.std.proofs.Common.{ℕ, ◌≡◌, ◌+◌, ◌-◌, ◌<◌, ◌↔◌, List, Some, length, arith, inl, inr, subst}
+use Rattle.std.proofs.Common.{ℕ, ◌≡◌, ◌+◌, ◌-◌, ◌↔◌, List, Some, length, arith, inl, inr, subst}
 use Rattle.std.specs.Prelude.{slice_get}
 use Rattle.std.proofs.lemmas.Bool.{cases_lt}
 use Rattle.std.proofs.lemmas.Option.{slice_get_within}
@@ -24,9 +24,9 @@ pub one_wrong : (net : Network) (steps : List Entry) (k j : ℕ) → IsFirstWron
 one_wrong net steps k j one other = elim (cases_lt k j) [
   | inl before ↦ absurd (one.wrong (other.before k before))
   | inr past ↦ elim (cases_lt j k) [
-      | inl after ↦ absurd (other.wrong (one.before j after))
-      | inr here ↦ omega arith
-    ]
+    | inl after ↦ absurd (other.wrong (one.before j after))
+    | inr here ↦ omega arith
+  ]
 ]
 
 -- a derivation is a refutation exactly where its last bound refutes the network

@@ -1,5 +1,5 @@
 -- Conclusions as the program's bounds.
-use Rattle.std.proofs.Common.{ℕ, ◌≡◌, ◌↔◌, Bool, true, ◌&&◌, Option, None, Some, eqb, int_eq, refl, sym, subst, ap, ◌∙◌}
+use Rattle.std.proofs.Common.{ℕ, ◌≡◌, ◌↔◌, Bool, true, ◌&&◌, Option, None, Some, eqb, int_eq, refl, subst, ap}
 use Rattle.std.proofs.lemmas.Bool.{and_parts, eqb-true, eq-eqb}
 use Rattle.std.proofs.lemmas.Bool.Decides.{Decides-int_eq}
 use Rattle.cstn_label.specs.Words.{has_bit}

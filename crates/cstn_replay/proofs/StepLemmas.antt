@@ -1,6 +1,6 @@
 -- One step, by its rule.
-use Rattle.std.proofs.Common.{ℕ, zero, suc, ◌≡◌, ◌≢◌, ◌+◌, ◌-◌, ◌<◌, ◌≤◌, ◌↔◌, List, Option, None, Some, length, map, arith, inl, inr, refl, sym, subst, ap, ◌∙◌}
-use Rattle.std.specs.Prelude.{pos, ◌≤ℤ◌, slice_get, IfSome, IfNone, option_map}
+use Rattle.std.proofs.Common.{ℕ, zero, suc, ◌≡◌, ◌-◌, ◌<◌, ◌↔◌, List, Some, length, map, arith, inl, inr, refl, sym, subst, ap, ◌∙◌}
+use Rattle.std.specs.Prelude.{pos, ◌≤ℤ◌, slice_get, option_map}
 use Rattle.std.specs.List.{All, AllPairs, Contains}
 use Rattle.std.proofs.lemmas.Int.{ints}
 use Rattle.std.proofs.lemmas.List.Elements.{All-contains}
@@ -8,11 +8,11 @@ use Rattle.std.proofs.lemmas.Option.{slice_get-map, slice_get_cases}
 use Rattle.std.proofs.lemmas.List.{length-map}
 use Rattle.cstn_label.specs.Bounds.{Bound as TheBound}
 use Rattle.cstn_label.specs.Read.{the_bound}
-use Rattle.cstn_net.specs.Networks.{Network, IsNetwork, IsConstraint, Constraint, count, limit}
+use Rattle.cstn_net.specs.Networks.{Network, IsNetwork, IsConstraint, Constraint}
 use Rattle.cstn_rules.specs.declared.entries.Why.{Why}
 use Rattle.cstn_rules.specs.declared.entries.Why.TheVariants.{Base, Chain, Wait}
 use Rattle.cstn_rules.specs.declared.entries.Entry.{Entry as DeclaredEntry}
-use Rattle.cstn_rules.specs.Rules.{IsBase, IsChain, IsWait, IsBoundOf, base}
+use Rattle.cstn_rules.specs.Rules.{IsBase, IsChain, IsWait, IsBoundOf}
 use Rattle.cstn_rules.specs.Derivations.{Entry, IsEarlier, Follows}
 use Rattle.cstn_rules.specs.Read.{the_entry}
 use Rattle.cstn_rules.proofs.Shapes.{chain_within, wait_within}

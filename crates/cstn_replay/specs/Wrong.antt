@@ -1,5 +1,5 @@
 -- Wrong steps.
-use Rattle.std.specs.Prelude.{ℕ, ◌≡◌, ◌+◌, ◌<◌, ◌⊎◌, List, Some, length, slice_get}
+use Rattle.std.specs.Prelude.{ℕ, ◌≡◌, ◌+◌, ◌<◌, List, Some, length, slice_get}
 use Rattle.cstn_net.specs.Networks.{Network}
 use Rattle.cstn_rules.specs.Derivations.{Entry, Follows, IsDerivation, IsRefutation}
 

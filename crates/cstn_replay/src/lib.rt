@@ -7,3 +7,6 @@ mod steps;
 
 pub use answers::Answer;
 pub use replays::replay;
+
+#[cfg(test)]
+mod tests;

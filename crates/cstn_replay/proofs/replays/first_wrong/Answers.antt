@@ -1,4 +1,4 @@
-use Rattle.std.proofs.Common.{map, ◌<◌, length, arith, subst, sym}
+use Rattle.std.proofs.Common.{map, ◌<◌, arith, subst, sym}
 use Rattle.std.proofs.lemmas.Bool.{both_ways}
 use Rattle.std.proofs.lemmas.List.{length-map}
 use Rattle.std.proofs.lemmas.Option.{slice_get_within}

@@ -13,11 +13,11 @@ refutes-requires c =
     let last = the_entry c.step_at-last.result in
     let there = last_image c.args.steps.now c.step_at-last.result c.step_at-last.ensures.step in
     let within = all_within net steps (length steps) c.count.ensures.well_formed.network
-        (steps_low c.args.steps.now c.requires.form.each) (derivation_right net steps (length steps) c.requires.derivation) in
+    (steps_low c.args.steps.now c.requires.form.each) (derivation_right net steps (length steps) c.requires.derivation) in
     record { node = (within (length steps - 1) last (slice_get_within steps (length steps - 1) last there) there).node }
 
 pub returns : goal.returns
 returns c =
     let last = last_refutes (the_network c.args.net.now) (map the_entry c.args.steps.now) (the_entry c.step_at-last.result)
-        c.requires.derivation (last_image c.args.steps.now c.step_at-last.result c.step_at-last.ensures.step) in
+    c.requires.derivation (last_image c.args.steps.now c.step_at-last.result c.step_at-last.ensures.step) in
     record { refuting = (λ t. last.0 (c.refutes.ensures.refutes.0 t), λ r. c.refutes.ensures.refutes.1 (last.1 r)) }

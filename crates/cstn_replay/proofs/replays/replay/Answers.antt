@@ -1,12 +1,10 @@
-use Rattle.std.proofs.Common.{map, ◌≡◌, ◌↔◌, ◌⊎◌, inl, inr, subst, sym, ap}
+use Rattle.std.proofs.Common.{map, ◌≡◌, ◌↔◌, ◌⊎◌, inl, inr, subst, ap}
 use Rattle.cstn_replay.specs.declared.answers.Answer.TheVariants.{Rejected}
 use Rattle.cstn_replay.specs.Wrong.{IsFirstWrong, EndsInVain}
 use Rattle.cstn_net.specs.Read.{the_network}
 use Rattle.cstn_rules.specs.Read.{the_entry}
-use Rattle.cstn_rules.specs.Derivations.{IsDerivation, IsRefutation}
 use Rattle.cstn_rules.proofs.Derived.{refuted_inconsistent}
-use Rattle.cstn_refute.specs.Refutations.{the_steps}
-use Rattle.cstn_replay.proofs.ReplayLemmas.{none_wrong, one_wrong}
+use Rattle.cstn_replay.proofs.ReplayLemmas.{none_wrong}
 use Rattle.cstn_replay.proofs.replays.replay.Goals as goal
 
 pub returns-in-None-clause-truth : goal.returns-in-None-clause-truth

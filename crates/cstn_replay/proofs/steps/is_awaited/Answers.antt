@@ -1,5 +1,4 @@
 use Rattle.std.proofs.Common.{ℕ, map}
-use Rattle.cstn_label.specs.Bounds.{Bound as TheBound}
 use Rattle.cstn_label.specs.Read.{the_bound}
 use Rattle.cstn_net.specs.Read.{the_network}
 use Rattle.cstn_rules.specs.Rules.{IsWait}
@@ -15,11 +14,13 @@ returns c =
     let seen = the_bound c.in-Some.seen in
     let b = the_bound c.in-Some-premise.premise in
     let given = concluded {P = λ q. (p : ℕ) × IsWait net p seen b q} c.wait-given.result c.args.bound c.wait-given.ensures.wait
-        (none_of_all (λ p q. IsWait net p seen b q) c.wait-given.result c.wait-given.ensures.none)
-        (λ q s one other. one_wait net one.0 other.0 seen b q s one.1 other.1) in
+    (none_of_all (λ p q. IsWait net p seen b q) c.wait-given.result c.wait-given.ensures.none)
+    (λ q s one other. one_wait net one.0 other.0 seen b q s one.1 other.1) in
     let follows = wait_follows net (map the_entry c.args.steps.now) c.args.k c.args.i c.args.j seen b (the_bound c.args.bound)
-        c.in-Some.ensures.earlier c.in-Some-premise.ensures.earlier in
-    record { awaited = (
-      λ t. follows.0 (given.0 (c.is_exactly.ensures.exactly.0 t)),
-      λ f. c.is_exactly.ensures.exactly.1 (given.1 (follows.1 f)),
-    ) }
+    c.in-Some.ensures.earlier c.in-Some-premise.ensures.earlier in
+    record {
+      awaited = (
+        λ t. follows.0 (given.0 (c.is_exactly.ensures.exactly.0 t)),
+        λ f. c.is_exactly.ensures.exactly.1 (given.1 (follows.1 f)),
+      );
+    }

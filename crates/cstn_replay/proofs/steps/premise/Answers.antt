@@ -1,4 +1,4 @@
-use Rattle.std.proofs.Common.{ℕ, ◌<◌, map, arith}
+use Rattle.std.proofs.Common.{◌<◌, map, arith}
 use Rattle.cstn_net.specs.Read.{the_network}
 use Rattle.cstn_rules.specs.Read.{the_entry}
 use Rattle.cstn_replay.proofs.StepLemmas.{earlier, all_within, steps_low, there_image}
