@@ -1,0 +1,26 @@
+-- Refutations as data.
+use Rattle.std.specs.Prelude.{ℕ, ◌≤◌, ◌<◌, ◌^◌, List, length, map, pos, ◌≤ℤ◌}
+use Rattle.std.specs.List.{All}
+use Rattle.cstn_rules.specs.declared.entries.Entry.{Entry}
+use Rattle.cstn_rules.specs.Derivations.{Entry as TheEntry}
+use Rattle.cstn_rules.specs.Read.{the_entry}
+
+-- the load that a check had, and the steps
+pub record RefutationParts : Type 0 where
+  pub load : ℕ
+  pub steps : List Entry
+
+-- a step's least value is from 0 to 1,000,001
+pub record IsStep (e : Entry) : Type 0 where
+  pub low : pos 0 ≤ℤ e.bound.least
+  pub high : e.bound.least ≤ℤ pos 1000001
+
+-- one step or more, and fewer than 2^32
+pub record AreSteps (steps : List Entry) : Type 0 where
+  pub some : 1 ≤ length steps
+  pub few : length steps < 2 ^ 32
+  pub each : All IsStep steps
+
+-- the steps as bounds and rules
+abbrev pub the_steps : RefutationParts → List TheEntry
+the_steps r = map the_entry r.steps

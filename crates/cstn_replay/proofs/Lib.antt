@@ -1,0 +1,4 @@
+mod SameLemmas
+mod IdLemmas
+mod StepLemmas
+mod ReplayLemmas
