@@ -1,6 +1,7 @@
 -- The parts of a line.
-use Rattle.std.specs.Prelude.{ℕ, ◌<◌, List, All}
+use Rattle.std.specs.Prelude.{ℕ, ◌<◌, ◌≤◌, List, All, length}
 
--- no space, and no byte below it: the text is one part of a line
-abbrev pub IsOnePart : List ℕ → Type 0
-IsOnePart text = All (λ b. 32 < b) text
+-- some bytes, none of them a space or below it: the text is one part of a line
+pub record IsOnePart (text : List ℕ) : Type 0 where
+  pub some : 1 ≤ length text
+  pub high : All (λ b. 32 < b) text

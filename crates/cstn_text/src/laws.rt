@@ -48,11 +48,11 @@ pub fn labels_are_read_back()
     ensures back { (a : Label) → ((p : ℕ) → 52 ≤ p → a p ≡ Absent) → label_read (printed_label a) ≡ Some a }
 {}
 
-/// What is printed has no space and no byte below it, so a line is cut at spaces without loss.
+/// What is printed has some bytes, none of them a space or below it, so a line is cut at spaces without loss.
 #[tactic(auto, using(crate::proofs::PartLemmas::number_part, crate::proofs::PartLemmas::value_part, crate::proofs::PartLemmas::name_part, crate::proofs::PartLemmas::label_part))]
 pub fn printed_texts_are_parts()
     ensures number { (n : ℕ) → n < 2 ^ 64 → IsOnePart (printed_number n) }
     ensures value { (v : ℤ) → FitsSigned w32 v → IsOnePart (printed_value v) }
-    ensures name { (name : List ℕ) → IsOnePart (printed_name name) }
+    ensures name { (name : List ℕ) → 1 ≤ length name → IsOnePart (printed_name name) }
     ensures label { (a : Label) → IsOnePart (printed_label a) }
 {}

@@ -58,6 +58,7 @@ fn names_are_printed_and_read(rt: HostRuntime) -> Result<(), Fail> {
     no_name(&rt, alloc, b"%2F")?;
     no_name(&rt, alloc, b"%41")?;
     no_name(&rt, alloc, b"a b")?;
+    no_name(&rt, alloc, b"%")?;
     no_name(&rt, alloc, b"%2")?;
     no_name(&rt, alloc, b"%C3%A9")?;
     no_name(&rt, alloc, b"\xFF")?;
@@ -78,6 +79,7 @@ fn labels_are_printed_and_read(rt: HostRuntime) -> Result<(), Fail> {
     let alloc = rt.alloc();
     label(&rt, alloc, b"-", "-")?;
     label(&rt, alloc, b"!p!q", "!p!q")?;
+    label(&rt, alloc, b"?pq", "?pq")?;
     label(&rt, alloc, b"qp", "pq")?;
     label(&rt, alloc, b"z?aA", "A?az")?;
     for text in [
@@ -99,6 +101,7 @@ fn labels_are_printed_and_read(rt: HostRuntime) -> Result<(), Fail> {
 #[test]
 fn numbers_and_values_are_read(rt: HostRuntime) {
     assert_eq!(rt; read_number(b"0"), Some(0));
+    assert_eq!(rt; read_number(b"7"), Some(7));
     assert_eq!(rt; read_number(b"18446744073709551615"), Some(u64::MAX));
     for text in [
         b"" as &[u8],
