@@ -19,6 +19,7 @@ use Rattle.cstn_net.specs.Networks.{Network, IsNetwork, IsConstraint, Constraint
 use Rattle.cstn_label.specs.Bounds.{Bound, Dominates}
 use Rattle.cstn_rules.specs.Rules.{finished}
 use Rattle.cstn_rules.specs.Derivations.{Entry}
+use Rattle.cstn_check.specs.Kept.{AllGood, IsGood, IsKept, IsRanged}
 use Rattle.cstn_check.proofs.FinishLemmas.{limit_deadline}
 use Rattle.cstn_check.specs.Tests.{dominates, is_plain, is_absent, chain_of, wait_for as wait_by, wait_of}
 use Rattle.cstn_check.specs.Growth.{Instance, why_of, is_covered, is_refuted, of_one, of_two, conclusion, grown, observed, most_entries}
@@ -26,7 +27,7 @@ use Rattle.cstn_log.specs.Entries.{bases}
 use Rattle.cstn_check.proofs.Decided.{HasLetters, dominates_true}
 use Rattle.cstn_check.specs.Growth.Instance.{chain_at, wait_at}
 use Rattle.cstn_check.proofs.Lists.{Extends, get_kept, covered_kept, covered_by, dominates_through}
-use Rattle.cstn_check.proofs.Good.{Good, AllGood, good_at, good_small, good_more, bases_good, conclusion_good}
+use Rattle.cstn_check.proofs.GoodLemmas.{good_at, good_small, good_more, bases_good, conclusion_good}
 use Rattle.cstn_check.proofs.Derives.{OfNetwork, with_entry, grown_keeps, get_last}
 use Rattle.cstn_check.proofs.Closes.{bases_cover}
 
@@ -103,12 +104,7 @@ moment_is (negsuc n) h = absurd (omega (arith, ints))
 code : Network → Bound → ℕ
 code net b = (b.node * (net.deadline + 2) + moment b.least) * 4 ^ observed net.observes + label_code b.label net.observes
 
--- a bound's least value is from 0 to the limit + 1
-pub record InRange (net : Network) (b : Bound) : Type 0 where
-  pub low : pos 0 ≤ℤ b.least
-  pub high : b.least ≤ℤ pos (limit net b.node + 1)
-
-moment_lt : (net : Network) (b : Bound) → InRange net b → moment b.least < net.deadline + 2
+moment_lt : (net : Network) (b : Bound) → IsRanged net b → moment b.least < net.deadline + 2
 moment_lt net b r =
     let e = moment_is b.least r.low in
     let h = r.high in
@@ -116,7 +112,7 @@ moment_lt net b r =
     let m : pos (moment b.least) ≤ℤ pos (limit net b.node + 1) = subst (λ z. z ≤ℤ pos (limit net b.node + 1)) (sym e) h in
     omega (arith, ints)
 
-code_lt : (net : Network) (b : Bound) → Good net b → InRange net b → code net b < most_entries net
+code_lt : (net : Network) (b : Bound) → IsGood net b → IsRanged net b → code net b < most_entries net
 unfolding code
 code_lt net b good r = digits_lt (digits_lt good.node (moment_lt net b r)) (label_code_lt b.label net.observes)
 
@@ -124,7 +120,7 @@ same_within : (m n : Mark) → m ≡ n → IsMarkWithin m n
 same_within m n e = grind arith
 
 -- two bounds of one number dominate each other
-code_dominates : (net : Network) (a b : Bound) → Good net a → InRange net a → InRange net b → code net a ≡ code net b → Dominates a b
+code_dominates : (net : Network) (a b : Bound) → IsGood net a → IsRanged net a → IsRanged net b → code net a ≡ code net b → Dominates a b
 unfolding code
 code_dominates net a b good r t e =
     let one = parts_same (a.node * (net.deadline + 2) + moment a.least) (label_code a.label net.observes)
@@ -185,27 +181,21 @@ from_finish net L (wait_at i j) r e = two_finished net (slice_get L i) (slice_ge
 finish_high : (net : Network) (d : Bound) → (finished net d).least ≤ℤ pos (limit net (finished net d).node + 1)
 finish_high net d = omega (arith, ints, clamps)
 
-covered_at : (L : List Entry) (k : ℕ) (e : Entry) (r : Bound) → slice_get L k ≡ Some e → Dominates e.bound r → is_covered L r ≡ true
+pub covered_at : (L : List Entry) (k : ℕ) (e : Entry) (r : Bound) → slice_get L k ≡ Some e → Dominates e.bound r → is_covered L r ≡ true
 covered_at [] k e r there d = let f : ⊥ = cc in absurd f
 covered_at (x ∷ xs) zero e r there d =
     let same : e ≡ x = cc in
     or_left (dominates x.bound r) (is_covered xs r) (dominates_true x.bound r (subst (λ y. Dominates y.bound r) same d))
 covered_at (x ∷ xs) (suc k) e r there d = or_right (dominates x.bound r) (is_covered xs r) (covered_at xs k e r there d)
 
-pub record Kept (net : Network) (L : List Entry) : Type 0 where
-  pub good : AllGood net L
-  pub based : (x : ℕ) → x < count net → is_covered L (record { node = x; least = pos 0; label = empty }) ≡ true
-  pub ranged : (k : ℕ) (e : Entry) → slice_get L k ≡ Some e → InRange net e.bound
-  pub apart : (i j : ℕ) (e f : Entry) → i < j → slice_get L i ≡ Some e → slice_get L j ≡ Some f → Dominates e.bound f.bound → ⊥
-
 module _ (net : Network) (wf : IsNetwork net) (letters : HasLetters net) where
-  good_conclusion : (L : List Entry) (i : Instance) (r : Bound) → OfNetwork net i → AllGood net L → conclusion net L i ≡ Some r → Good net r
+  good_conclusion : (L : List Entry) (i : Instance) (r : Bound) → OfNetwork net i → AllGood net L → conclusion net L i ≡ Some r → IsGood net r
   good_conclusion L (chain_at c j) r of good e =
       conclusion_good net L (chain_at c j) r good (All-contains (IsConstraint net) net.constraints c wf.constraints of) e
   good_conclusion L (wait_at i j) r of good e = conclusion_good net L (wait_at i j) r good tt e
 
-  kept_more : (L : List Entry) (i : Instance) (r : Bound) → OfNetwork net i → Kept net L → conclusion net L i ≡ Some r →
-      is_covered L r ≡ false → is_refuted net L ≡ false → Kept net (with_entry L i r)
+  pub kept_more : (L : List Entry) (i : Instance) (r : Bound) → OfNetwork net i → IsKept net L → conclusion net L i ≡ Some r →
+      is_covered L r ≡ false → is_refuted net L ≡ false → IsKept net (with_entry L i r)
   kept_more L i r of k e free on =
       let new : Entry = record { bound = r; why = why_of i } in
       let ext : Extends L (with_entry L i r) = record { more = new ∷ []; is = refl } in
@@ -226,7 +216,7 @@ module _ (net : Network) (wf : IsNetwork net) (letters : HasLetters net) where
         based = λ x here. covered_kept L (with_entry L i r) (record { node = x; least = pos 0; label = empty }) ext (k.based x here);
         ranged = λ j x there. elim (cases_lt j (length L)) [
           | inl before ↦ k.ranged j x (sym (get_kept L (with_entry L i r) j ext before) ∙ there)
-          | inr past ↦ subst (λ y. InRange net y.bound) (get_last L new x j there past).1 (record { low = low; high = high })
+          | inr past ↦ subst (λ y. IsRanged net y.bound) (get_last L new x j there past).1 (record { low = low; high = high })
         ];
         apart = λ a b x y lt at_a at_b d. elim (cases_lt b (length L)) [
           | inl before ↦
@@ -259,7 +249,7 @@ module _ (net : Network) (wf : IsNetwork net) (letters : HasLetters net) where
       bases_length zero = refl
       bases_length (suc n) = length-append (bases n) _ ∙ (let e = bases_length n in omega arith)
 
-  pub bases_kept : Kept net (bases (count net))
+  pub bases_kept : IsKept net (bases (count net))
   bases_kept = record {
     good = bases_good net (count net) (omega arith);
     based = λ x here. bases_cover (count net) x here;
@@ -301,7 +291,7 @@ module _ (net : Network) (wf : IsNetwork net) (letters : HasLetters net) where
     | inr there ↦ codes_below xs m (λ k e at. below (suc k) e at) q there
   ]
 
-  kept_short : (L : List Entry) → Kept net L → length L ≤ most_entries net
+  kept_short : (L : List Entry) → IsKept net L → length L ≤ most_entries net
   kept_short L k =
       subst (λ n. n ≤ most_entries net) (length-map L code_of)
       (length-le_from_distinct_below (map code_of L) (most_entries net)
@@ -310,8 +300,8 @@ module _ (net : Network) (wf : IsNetwork net) (letters : HasLetters net) where
       (code_dominates net e.bound f.bound (good_at net L i e k.good at_i) (k.ranged i e at_i) (k.ranged j f at_j) codes)))
       (codes_below L (most_entries net) (λ i e at. code_lt net e.bound (good_at net L i e k.good at) (k.ranged i e at))))
 
-  pub grown_short_from : (start : List Entry) (n : ℕ) → Kept net start → length (grown net start n) ≤ most_entries net
-  grown_short_from start n k = kept_short (grown net start n) (grown_keeps net (Kept net) kept_more start n k)
+  pub grown_short_from : (start : List Entry) (n : ℕ) → IsKept net start → length (grown net start n) ≤ most_entries net
+  grown_short_from start n k = kept_short (grown net start n) (grown_keeps net (IsKept net) kept_more start n k)
 
   pub grown_short : (n : ℕ) → length (grown net (bases (count net)) n) ≤ most_entries net
   grown_short n = grown_short_from (bases (count net)) n bases_kept

@@ -12,6 +12,7 @@ use Rattle.cstn_rules.specs.Rules.{Refutes, IsBase, IsChain, IsWait}
 use Rattle.cstn_rules.specs.Derivations.{Entry}
 use Rattle.cstn_rules.specs.declared.entries.Why.TheVariants.{Base}
 use Rattle.cstn_rules.specs.Closed.{IsCovered, IsClosed}
+use Rattle.cstn_check.specs.Kept.{AllGood, IsGood}
 use Rattle.cstn_check.specs.Tests.{dominates, refutes, chain_of, wait_of}
 use Rattle.cstn_check.specs.Growth.{is_covered, is_live, is_refuted, of_one, of_two, conclusion, waits_below, grown, live_bounds}
 use Rattle.cstn_log.specs.Entries.{bases}
@@ -19,7 +20,7 @@ use Rattle.cstn_check.proofs.Decided.{HasLetters, Small, chain_gives, wait_gives
 use Rattle.cstn_check.specs.Growth.Instance.{chain_at, wait_at}
 use Rattle.cstn_check.proofs.Lists.{covered_kept, itself_true, live_over, live_listed, listed_live}
 use Rattle.cstn_check.proofs.Grows.{Has, has_left, has_right, grown_extends, all_spent}
-use Rattle.cstn_check.proofs.Good.{Good, AllGood, good_at, good_small, grown_good, bases_good}
+use Rattle.cstn_check.proofs.GoodLemmas.{good_at, good_small, grown_good, bases_good}
 
 has_chain : (cs : List Constraint) (c : Constraint) (k j : ℕ) → k < length cs → get_or cs k c ≡ c →
     Has (map (λ d. chain_at d j) cs) (chain_at c j)
@@ -145,11 +146,11 @@ module _ (net : Network) (start : List Entry) (n : ℕ) (wf : IsNetwork net) (le
     observed = λ b has.
         let at = listed_live (grown net start n) b has in
         let g = good_at net (grown net start n) at.place at.entry good at.there in
-        (subst (λ x. Good net x) at.bound g).observed;
+        (subst (λ x. IsGood net x) at.bound g).observed;
     nodes = λ b has.
         let at = listed_live (grown net start n) b has in
         let g = good_at net (grown net start n) at.place at.entry good at.there in
-        (subst (λ x. Good net x) at.bound g).node;
+        (subst (λ x. IsGood net x) at.bound g).node;
     base = base_covered;
     chain = chain_covered;
     wait = wait_covered;

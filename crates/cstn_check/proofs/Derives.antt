@@ -14,6 +14,7 @@ use Rattle.cstn_rules.specs.Rules.{finished, IsChain, IsWait}
 use Rattle.cstn_rules.specs.Derivations.{Entry, IsEarlier, Follows, IsDerivation}
 use Rattle.cstn_rules.specs.declared.entries.Why.{Why}
 use Rattle.cstn_rules.specs.declared.entries.Why.TheVariants.{Base, Chain, Wait}
+use Rattle.cstn_check.specs.Kept.{AllGood, IsGood}
 use Rattle.cstn_check.specs.Tests.{is_plain, is_absent, chain_of, wait_for as wait_by, wait_of}
 use Rattle.cstn_check.specs.Growth.{Instance, why_of, is_covered, is_refuted, premises_live, of_one, of_two, conclusion, with_conclusion, step, tried, turn, grown}
 use Rattle.cstn_log.specs.Entries.{bases}
@@ -21,7 +22,7 @@ use Rattle.cstn_check.proofs.Decided.{HasLetters, Small, true_plain, false_absen
 use Rattle.cstn_check.specs.Growth.Instance.{chain_at, wait_at}
 use Rattle.cstn_check.proofs.Lists.{Extends, get_kept}
 use Rattle.cstn_check.proofs.Grows.{Each, each_turn}
-use Rattle.cstn_check.proofs.Good.{Good, AllGood, good_at, good_more, bases_good, joined_observed, conclusion_good}
+use Rattle.cstn_check.proofs.GoodLemmas.{good_at, good_more, bases_good, joined_observed, conclusion_good}
 
 abbrev pub OfNetwork : Network → Instance → Type 0
 OfNetwork net (chain_at c j) = Contains net.constraints c
@@ -50,7 +51,7 @@ module _ (net : Network) (P : List Entry → Type 0)
     | inr on ↦ subst P (sym (cond-false _ _ _ on)) (with_keeps L i (conclusion net L i) of h refl on)
   ]
 
-  tried_keeps : (is : List Instance) (L : List Entry) → P L → Each (OfNetwork net) is → P (tried net L is)
+  pub tried_keeps : (is : List Instance) (L : List Entry) → P L → Each (OfNetwork net) is → P (tried net L is)
   tried_keeps [] L h g = h
   tried_keeps (i ∷ is) L h g = tried_keeps is (step net L i) (step_keeps L i g.0 h) g.1
 
@@ -103,7 +104,7 @@ small_of net a letters h = λ p past. elim (absent_or_not (a p)) [
   | inr marked ↦ let o = h p marked in let l = letters o.0 p o.1 in absurd (omega arith)
 ]
 
-chain_is : (net : Network) (c : Constraint) (b r : Bound) → HasLetters net → IsConstraint net c → Good net b →
+pub chain_is : (net : Network) (c : Constraint) (b r : Bound) → HasLetters net → IsConstraint net c → IsGood net b →
     chain_of net c b ≡ Some r → IsChain net c b r
 chain_is net c b r letters good_c good e =
     let made = finished net (record { node = c.from; least = b.least -ℤ c.most; label = joined b.label c.label }) in
@@ -125,7 +126,7 @@ chain_is net c b r letters good_c good e =
           let f : ⊥ = cc in absurd f
     ]
 
-wait_is : (net : Network) (o : Option ℕ) (seen b r : Bound) → slice_index_or net.observes seen.node None ≡ o →
+pub wait_is : (net : Network) (o : Option ℕ) (seen b r : Bound) → slice_index_or net.observes seen.node None ≡ o →
     wait_by net o seen b ≡ Some r → (p : ℕ) × IsWait net p seen b r
 wait_is net None seen b r at e = let f : ⊥ = cc in absurd f
 wait_is net (Some p) seen b r at e =
@@ -178,10 +179,10 @@ module _ (net : Network) (wf : IsNetwork net) (letters : HasLetters net) where
       let w = wait_is net (slice_index_or net.observes x.bound.node None) x.bound y.bound r refl e in
       (w.0, x.bound, y.bound, last_there L _ x i at_i, last_there L _ y j at_j, w.1)
 
-  Derived : List Entry → Type 0
+  pub Derived : List Entry → Type 0
   Derived L = AllGood net L × IsDerivation net L
 
-  derived_more : (L : List Entry) (i : Instance) (r : Bound) → OfNetwork net i → Derived L → conclusion net L i ≡ Some r →
+  pub derived_more : (L : List Entry) (i : Instance) (r : Bound) → OfNetwork net i → Derived L → conclusion net L i ≡ Some r →
       is_covered L r ≡ false → is_refuted net L ≡ false → Derived (with_entry L i r)
   unfolding Derived
   derived_more L (chain_at c j) r of d e free on =
@@ -201,6 +202,11 @@ module _ (net : Network) (wf : IsNetwork net) (letters : HasLetters net) where
       (bases_derived n (omega arith)) (record { node = h; gives = refl })
 
   -- from any derivation at time-points, with marks on observed propositions
+  pub tried_derived : (is : List Instance) (L : List Entry) → AllGood net L → IsDerivation net L → Each (OfNetwork net) is →
+      IsDerivation net (tried net L is)
+  unfolding Derived
+  tried_derived is L good derivation of = (tried_keeps net Derived derived_more is L (good, derivation) of).1
+
   pub grown_derived_from : (start : List Entry) (n : ℕ) → AllGood net start → IsDerivation net start →
       IsDerivation net (grown net start n)
   unfolding Derived

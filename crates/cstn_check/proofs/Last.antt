@@ -101,7 +101,7 @@ last_decides net n e there = elim (cases_Bool (refutes net e.bound)) [
 ]
 
 -- a list that is refuted doesn't grow
-refuted_idle : (net : Network) (is : List Instance) (L : List Entry) → is_refuted net L ≡ true → tried net L is ≡ L
+pub refuted_idle : (net : Network) (is : List Instance) (L : List Entry) → is_refuted net L ≡ true → tried net L is ≡ L
 unfolding step
 refuted_idle net [] L over = refl
 refuted_idle net (i ∷ is) L over =

@@ -4,7 +4,7 @@ pub mod Strategies
 pub mod Decided
 pub mod Lists
 pub mod Grows
-pub mod Good
+pub mod GoodLemmas
 pub mod Derives
 pub mod Closes
 pub mod Bounded
@@ -12,3 +12,7 @@ pub mod Last
 pub mod Verdict
 mod Examples
 pub mod Ends
+pub mod Reading
+pub mod TurnLemmas
+pub mod Sequences
+pub mod Growing

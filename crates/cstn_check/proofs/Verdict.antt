@@ -13,6 +13,7 @@ use Rattle.cstn_rules.proofs.Sound.{refuting_fails}
 use Rattle.cstn_rules.specs.Derivations.{Entry, IsDerivation}
 use Rattle.cstn_rules.proofs.Derived.{each_holds}
 use Rattle.cstn_rules.specs.Closed.{IsClosed}
+use Rattle.cstn_check.specs.Kept.{IsKept}
 use Rattle.cstn_check.specs.Asked.{AllSound, asked}
 use Rattle.cstn_check.proofs.Strategies.{asked_strategy, asked_least}
 use Rattle.cstn_check.specs.Tests.{refutes, is_plain}
@@ -20,16 +21,16 @@ use Rattle.cstn_check.specs.Growth.{is_refuted, live_bounds, log_of, load_of, gr
 use Rattle.cstn_log.specs.Entries.{bases}
 use Rattle.cstn_check.proofs.Decided.{HasLetters, Small, true_plain, refutes_true}
 use Rattle.cstn_check.proofs.Lists.{listed_live}
-use Rattle.cstn_check.proofs.Good.{good_at, good_small, grown_good}
+use Rattle.cstn_check.proofs.GoodLemmas.{good_at, good_small, grown_good}
 use Rattle.cstn_check.proofs.Derives.{grown_derived_from, bases_derived}
 use Rattle.cstn_check.proofs.Closes.{closes_from}
-use Rattle.cstn_check.proofs.Bounded.{Kept, bases_kept, grown_short_from, grown_short}
+use Rattle.cstn_check.proofs.Bounded.{bases_kept, grown_short_from, grown_short}
 use Rattle.cstn_check.proofs.Last.{last_decides}
 
 true_less : (a b : ℤ) → int_lt a b ≡ true → a <ℤ b
 true_less a b h = grind (arith, ints)
 
-true_refutes : (net : Network) (b : Bound) → Small b.label → refutes net b ≡ true → Refutes net b
+pub true_refutes : (net : Network) (b : Bound) → Small b.label → refutes net b ≡ true → Refutes net b
 true_refutes net b small h =
     let one = and_parts (ltb b.node (count net)) (is_plain b.label && int_lt (pos (limit net b.node)) b.least) h in
     let two = and_parts (is_plain b.label) (int_lt (pos (limit net b.node)) b.least) one.1 in
@@ -55,7 +56,7 @@ refuted_at net (x ∷ xs) small h = elim (or_cases (refutes net x.bound) (is_ref
       record { place = suc r.place; entry = r.entry; there = r.there; refutes = r.refutes }
 ]
 
-module _ (net : Network) (start : List Entry) (wf : IsNetwork net) (letters : HasLetters net) (kept : Kept net start)
+module _ (net : Network) (start : List Entry) (wf : IsNetwork net) (letters : HasLetters net) (kept : IsKept net start)
     (derivation : IsDerivation net start) where
   grown_small : (k : ℕ) (e : Entry) → slice_get (grow net start) k ≡ Some e → Small e.bound.label
   grown_small k e there =

@@ -73,9 +73,13 @@ abbrev pub waits_below : ℕ → ℕ → List Instance
 waits_below zero j = []
 waits_below (suc i) j = waits_below i j ++ (wait_at i j ∷ (wait_at j i ∷ []))
 
+-- chain of each constraint with entry j
+abbrev pub chains_at : List Constraint → ℕ → List Instance
+chains_at cs j = map (λ c. chain_at c j) cs
+
 -- turn j: chain of each constraint with entry j, then the waits of entry j with each entry up to it
 abbrev pub turn : Network → ℕ → List Instance
-turn net j = map (λ c. chain_at c j) net.constraints ++ waits_below (suc j) j
+turn net j = chains_at net.constraints j ++ waits_below (suc j) j
 
 -- the list after the first n turns
 abbrev pub grown : Network → List Entry → ℕ → List Entry

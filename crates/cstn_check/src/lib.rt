@@ -1,8 +1,11 @@
 //! Growth of the list of bounds, and the verdict by it.
 #![tactic(auto)]
 
+mod growth;
 mod laws;
+mod turns;
 
+pub use growth::Grown;
 pub use laws::{
     closed_lists_have_strategies, growth_decides, growth_ends, growth_is_bounded, loads_are_known,
     logs_are_known,

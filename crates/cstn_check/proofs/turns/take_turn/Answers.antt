@@ -1,0 +1,46 @@
+use Rattle.std.proofs.Common.{◌≡◌, ◌+◌, ◌<◌, ◌≤◌, ◌++◌, length, map, suc, true, false, refl, ap, arith, subst}
+use Rattle.std.specs.Prelude.{IfOk, IsErr}
+use Rattle.cstn_net.specs.Read.{the_network, the_constraint}
+use Rattle.cstn_log.specs.Entries.{the_entries}
+use Rattle.cstn_check.specs.Growth.{tried, chains_at, waits_below, turn}
+use Rattle.cstn_check.specs.Turns.{IsTaken, IsCut}
+use Rattle.cstn_check.proofs.Sequences.{taken_as, refuted_then, cut_first, cut_then, then_on, turn_is}
+use Rattle.cstn_check.proofs.turns.take_turn.Goals as goal
+
+pub try_waits-requires-clause-ready : goal.try_waits-requires-clause-ready
+try_waits-requires-clause-ready c = c.in-Ok-false.ensures.ready c.in-Ok-false.field-0-test
+
+pub try_waits-requires-clause-place : goal.try_waits-requires-clause-place
+try_waits-requires-clause-place c = omega (arith, c.requires.place, c.in-Ok-false.ensures.taken.longer.longer)
+
+pub returns-in-Ok-true-clause-taken : goal.returns-in-Ok-true-clause-taken
+returns-in-Ok-true-clause-taken c =
+    subst (λ l. IsTaken (the_network c.args.net.now) c.args.log.now c.try_chains.new.log (tried (the_network c.args.net.now) (the_entries c.args.log.now.entries) l) true)
+    (turn_is c.args.net.now c.constraints.result.now c.args.j c.constraints.ensures.constraints)
+    (refuted_then (the_network c.args.net.now) c.args.log.now (chains_at (map the_constraint c.constraints.result.now) c.args.j)
+    (waits_below (c.args.j + 1) c.args.j) c.try_chains.new.log
+    (taken_as c.in-Ok-true.field-0-test c.in-Ok-true.ensures.taken))
+
+pub returns-in-Ok-false-clause-taken : goal.returns-in-Ok-false-clause-taken
+returns-in-Ok-false-clause-taken c =
+    then_on (the_network c.args.net.now) c.args.log.now c.try_chains.new.log c.try_waits.new.log
+    (chains_at (map the_constraint c.constraints.result.now) c.args.j) (waits_below (c.args.j + 1) c.args.j)
+    (turn (the_network c.args.net.now) c.args.j) c.try_waits.result (turn_is c.args.net.now c.constraints.result.now c.args.j c.constraints.ensures.constraints)
+    (taken_as c.in-Ok-false.field-0-test c.in-Ok-false.ensures.taken)
+    c.try_waits.ensures.taken
+
+pub returns-in-Ok-false-clause-cut : goal.returns-in-Ok-false-clause-cut
+returns-in-Ok-false-clause-cut c = λ is.
+    subst (λ l. IsCut c.args.log.now c.try_waits.new.log (tried (the_network c.args.net.now) (the_entries c.args.log.now.entries) l))
+    (turn_is c.args.net.now c.constraints.result.now c.args.j c.constraints.ensures.constraints)
+    (cut_then (the_network c.args.net.now) c.args.log.now (chains_at (map the_constraint c.constraints.result.now) c.args.j)
+    (waits_below (c.args.j + 1) c.args.j) c.try_chains.new.log c.try_waits.new.log
+    (taken_as c.in-Ok-false.field-0-test c.in-Ok-false.ensures.taken)
+    (c.try_waits.ensures.cut is))
+
+pub returns-in-Err-clause-cut : goal.returns-in-Err-clause-cut
+returns-in-Err-clause-cut c = λ is.
+    subst (λ l. IsCut c.args.log.now c.try_chains.new.log (tried (the_network c.args.net.now) (the_entries c.args.log.now.entries) l))
+    (turn_is c.args.net.now c.constraints.result.now c.args.j c.constraints.ensures.constraints)
+    (cut_first (the_network c.args.net.now) c.args.log.now (chains_at (map the_constraint c.constraints.result.now) c.args.j)
+    (waits_below (c.args.j + 1) c.args.j) c.try_chains.new.log (c.in-Err.ensures.cut is))

@@ -1,0 +1,39 @@
+use Rattle.std.proofs.Common.{◌≡◌, ◌+◌, ◌<◌, ◌≤◌, [], ◌∷◌, ◌++◌, length, false, arith, subst, sym}
+use Rattle.cstn_net.specs.Read.{the_network}
+use Rattle.cstn_log.specs.Entries.{the_entries}
+use Rattle.cstn_check.specs.Growth.{tried, waits_below}
+use Rattle.cstn_check.specs.Growth.Instance.{wait_at}
+use Rattle.cstn_check.specs.Turns.{IsTaken}
+use Rattle.cstn_check.proofs.Sequences.{taken_as, go_on, go_true, go_cut, waits_next, waits_whole}
+use Rattle.cstn_check.proofs.turns.try_waits.Goals as goal
+
+pub try_both-requires-clause-first : goal.try_both-requires-clause-first
+try_both-requires-clause-first c = omega (arith, c.requires.place, c.loop-i.invariant.taken.longer.longer, c.loop-i-test.true)
+
+pub try_both-requires-clause-place : goal.try_both-requires-clause-place
+try_both-requires-clause-place c = omega (arith, c.requires.place, c.loop-i.invariant.taken.longer.longer)
+
+pub returns-in-Ok-true-clause-taken : goal.returns-in-Ok-true-clause-taken
+returns-in-Ok-true-clause-taken c =
+    let w = waits_whole (c.args.j + 1) c.loop-i.i c.args.j (omega (arith, c.loop-i-test.true)) in
+    go_true (the_network c.args.net.now) c.args.log.now c.loop-i.log c.try_both.new.log (waits_below c.loop-i.i c.args.j)
+    (wait_at c.loop-i.i c.args.j ∷ (wait_at c.args.j c.loop-i.i ∷ [])) c.loop-i.invariant.taken
+    (waits_below (c.args.j + 1) c.args.j) w.0 c.in-Ok-true.field-0 w.1 c.in-Ok-true.ensures.taken c.in-Ok-true.field-0-test
+
+pub returns-in-Err-clause-cut : goal.returns-in-Err-clause-cut
+returns-in-Err-clause-cut c = λ is.
+    let w = waits_whole (c.args.j + 1) c.loop-i.i c.args.j (omega (arith, c.loop-i-test.true)) in
+    go_cut (the_network c.args.net.now) c.args.log.now c.loop-i.log c.try_both.new.log (waits_below c.loop-i.i c.args.j)
+    (wait_at c.loop-i.i c.args.j ∷ (wait_at c.args.j c.loop-i.i ∷ [])) c.loop-i.invariant.taken
+    (waits_below (c.args.j + 1) c.args.j) w.0 w.1 (c.in-Err.ensures.cut is)
+
+pub loop-i-preserved : goal.loop-i-preserved
+loop-i-preserved c =
+    record {
+      taken = go_on (the_network c.args.net.now) c.args.log.now c.loop-i.log c.try_both.new.log (waits_below c.loop-i.i c.args.j)
+          (wait_at c.loop-i.i c.args.j ∷ (wait_at c.args.j c.loop-i.i ∷ [])) c.loop-i.invariant.taken
+          (waits_below (c.loop-i.i + 1) c.args.j) false (sym (waits_next c.loop-i.i c.args.j))
+          (taken_as c.in-Ok-false.field-0-test c.in-Ok-false.ensures.taken);
+      ready = c.in-Ok-false.ensures.ready c.in-Ok-false.field-0-test;
+      tries = omega (arith, c.loop-i.invariant.tries, c.in-Ok-false.ensures.tries);
+    }

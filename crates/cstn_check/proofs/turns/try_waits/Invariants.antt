@@ -1,0 +1,13 @@
+use Rattle.std.proofs.Common.{◌≤◌, ◌+◌, false}
+use Rattle.cstn_net.specs.Read.{the_network}
+use Rattle.cstn_log.specs.Entries.{the_entries}
+use Rattle.cstn_check.specs.Growth.{tried, waits_below}
+use Rattle.cstn_check.specs.Turns.{IsOpen, IsTaken}
+use Rattle.cstn_check.proofs.turns.try_waits.Given as goal
+
+abbrev pub invariant-loop-i : goal.invariant-loop-i
+invariant-loop-i l = record {
+  taken : IsTaken (the_network l.fn.net) l.fn.log l.log (tried (the_network l.fn.net) (the_entries l.fn.log.entries) (waits_below l.i l.fn.j)) false;
+  ready : IsOpen (the_network l.fn.net) l.log;
+  tries : l.fn.tries.count ≤ l.tries.count;
+}

@@ -1,0 +1,42 @@
+-- What the turns of growth make of a log.
+use Rattle.std.specs.Prelude.{ℕ, ◌≡◌, ◌<◌, ◌≤◌, ◌+◌, ◌^◌, Bool, true, false, List, [], ◌∷◌, ◌++◌, length}
+use Rattle.cstn_net.specs.Networks.{Network, count}
+use Rattle.cstn_rules.specs.Derivations.{Entry, IsDerivation}
+use Rattle.cstn_log.specs.Entries.{State, the_entries}
+use Rattle.cstn_check.specs.Growth.{is_refuted}
+use Rattle.cstn_check.specs.Kept.{IsKept}
+
+-- the log is a derivation of the network with no refuting entry, and has births for all that its cap allows
+pub record IsOpen (net : Network) (log : State) : Type 0 where
+  pub nodes : log.nodes ≡ count net
+  pub derivation : IsDerivation net (the_entries log.entries)
+  pub kept : IsKept net (the_entries log.entries)
+  pub unrefuted : is_refuted net (the_entries log.entries) ≡ false
+  pub short : length log.entries ≤ log.cap
+  pub births : log.births + log.cap < 2 ^ 62 + length log.entries
+
+-- the log has the same cap and time-points, and a birth for each entry that is new
+pub record IsLonger (old new : State) : Type 0 where
+  pub cap : new.cap ≡ old.cap
+  pub nodes : new.nodes ≡ old.nodes
+  pub births : new.births + length old.entries ≡ old.births + length new.entries
+  pub short : length new.entries ≤ old.cap
+  pub longer : length old.entries ≤ length new.entries
+
+-- the log's list has become this one, and the answer is whether it is refuted
+pub record IsTaken (net : Network) (old new : State) (list : List Entry) (refuted : Bool) : Type 0 where
+  pub entries : the_entries new.entries ≡ list
+  pub refuted_is : refuted ≡ is_refuted net list
+  pub longer : IsLonger old new
+
+-- the list goes on behind this front
+pub record IsFront (front list : List Entry) : Type 0 where
+  pub next : Entry
+  pub rest : List Entry
+  pub is : front ++ next ∷ rest ≡ list
+
+-- the log is full, and the list goes on behind it
+pub record IsCut (old new : State) (list : List Entry) : Type 0 where
+  pub full : length new.entries ≡ old.cap
+  pub front : IsFront (the_entries new.entries) list
+  pub longer : IsLonger old new

@@ -1,0 +1,219 @@
+ghost use Rattle.std.specs.Prelude.{ℕ, ◌≡◌, ◌+◌, ◌^◌, ◌<◌, ◌≤◌, false, [], ◌∷◌, ◌++◌, length, map, cond, IfOk, IsErr, IsTrue, ◌↔◌};
+ghost use Rattle.std.specs.List.{Contains};
+ghost use Rattle.cstn_label.specs.Labels.{IsMarked};
+ghost use Rattle.cstn_label.specs.Read.{the_bound};
+ghost use Rattle.cstn_net.specs.Networks.{IsWellFormed, Observes, count};
+ghost use Rattle.cstn_net.specs.Read.{the_network, the_constraint};
+ghost use Rattle.cstn_rules.specs.Derivations.{Follows};
+ghost use Rattle.cstn_rules.specs.Read.{the_entry};
+ghost use Rattle.cstn_log.specs.Entries.{the_entries};
+ghost use Rattle.cstn_check.specs.Growth.{Instance, is_covered, step, tried, waits_below, turn, chains_at};
+ghost use Rattle.cstn_check.specs.Growth.Instance.{chain_at, wait_at};
+ghost use Rattle.cstn_check.specs.Turns.{IsOpen, IsTaken, IsCut};
+
+use cstn_label::{Bound, Mark};
+use cstn_log::Log;
+use cstn_net::{Constraint, Network};
+use cstn_pool::Full;
+use cstn_rules::{Entry, Tries, Why, chain, refutes, wait};
+
+// Puts a conclusion at the end of the list, where no entry dominates it, and says whether the list is refuted then.
+fn put(net: &Network, log: &mut Log, e: Entry) -> Result<bool, Full>
+    requires ready { IsOpen (the_network net.now) log.old }
+    requires follows { Follows (the_network net.now) (the_entries log.old.entries) (length log.old.entries) e.why (the_bound e.bound) }
+    requires node { e.bound.node.0 < count (the_network net.now) }
+    ensures taken { IfOk result (λ r. IsTaken (the_network net.now) log.old log.new (cond (is_covered (the_entries log.old.entries) (the_bound e.bound)) (the_entries log.old.entries) (the_entries log.old.entries ++ the_entry e ∷ [])) r) }
+    ensures cut { IsErr result → IsCut log.old log.new (cond (is_covered (the_entries log.old.entries) (the_bound e.bound)) (the_entries log.old.entries) (the_entries log.old.entries ++ the_entry e ∷ [])) }
+{
+    if log.covered(&e.bound) {
+        return Ok(false);
+    }
+    log.push(net, e)?;
+    Ok(refutes(net, &e.bound))
+}
+
+// Tries chain of a constraint with the entry at a place, and says whether the list is refuted then.
+fn try_chain(
+    net: &Network,
+    log: &mut Log,
+    c: &Constraint,
+    j: u32,
+    tries: &mut Tries,
+) -> Result<bool, Full>
+    requires ready { IsOpen (the_network net.now) log.old }
+    requires constraint { Contains net.now.constraints c.now }
+    requires place { j < length log.old.entries }
+    ensures taken { IfOk result (λ r. IsTaken (the_network net.now) log.old log.new (step (the_network net.now) (the_entries log.old.entries) (chain_at (the_constraint c.now) j)) r) }
+    ensures cut { IsErr result → IsCut log.old log.new (step (the_network net.now) (the_entries log.old.entries) (chain_at (the_constraint c.now) j)) }
+    ensures ready { IfOk result (λ r. r ≡ false → IsOpen (the_network net.now) log.new) }
+    ensures tries { tries.old.count ≤ tries.new.count }
+{
+    is_of_network(net, c);
+    is_in_range(tries);
+    if !log.live(j) {
+        return Ok(false);
+    }
+    let premise = log.entry(j).bound;
+    let Some(bound) = chain(net, c, &premise, tries) else {
+        return Ok(false);
+    };
+    let why = Why::Chain {
+        constraint: c.id,
+        premise: j,
+    };
+    put(net, log, Entry { bound, why })
+}
+
+// Tries wait of the entries at two places, the first as the observation's, and says whether the list is refuted then.
+fn try_wait(net: &Network, log: &mut Log, i: u32, j: u32, tries: &mut Tries) -> Result<bool, Full>
+    requires ready { IsOpen (the_network net.now) log.old }
+    requires seen { i < length log.old.entries }
+    requires place { j < length log.old.entries }
+    ensures taken { IfOk result (λ r. IsTaken (the_network net.now) log.old log.new (step (the_network net.now) (the_entries log.old.entries) (wait_at i j)) r) }
+    ensures cut { IsErr result → IsCut log.old log.new (step (the_network net.now) (the_entries log.old.entries) (wait_at i j)) }
+    ensures ready { IfOk result (λ r. r ≡ false → IsOpen (the_network net.now) log.new) }
+    ensures tries { tries.old.count ≤ tries.new.count }
+{
+    is_well_formed(net);
+    is_in_range(tries);
+    if !log.live(i) {
+        return Ok(false);
+    }
+    if !log.live(j) {
+        return Ok(false);
+    }
+    let seen = log.entry(i).bound;
+    let premise = log.entry(j).bound;
+    if !waits(net, &seen, &premise) {
+        return Ok(false);
+    }
+    let Some(bound) = wait(net, &seen, &premise, tries) else {
+        return Ok(false);
+    };
+    let why = Why::Wait {
+        seen: i,
+        premise: j,
+    };
+    put(net, log, Entry { bound, why })
+}
+
+// Whether the first bound is at the observer of a proposition that the second marks.
+fn waits(net: &Network, seen: &Bound, b: &Bound) -> bool
+    requires { seen.now.node.0 < count (the_network net.now) }
+    ensures waits { IsTrue result ↔ (p : ℕ) × Observes (the_network net.now) (the_bound seen.now).node p × IsMarked (the_bound b.now).label p }
+{
+    match net.observes(seen.node) {
+        None => false,
+        Some(p) => b.label.mark(p) != Mark::Absent,
+    }
+}
+
+// Every network is well-formed.
+pub(crate) fn is_well_formed(net: &Network)
+    ensures { IsWellFormed (the_network net.now) }
+{
+    let _ = net.count();
+}
+
+// Each constraint of a network is one of the network that it stands for.
+fn is_of_network(net: &Network, c: &Constraint)
+    requires { Contains net.now.constraints c.now }
+    ensures network { IsWellFormed (the_network net.now) }
+    ensures constraint { Contains (the_network net.now).constraints (the_constraint c.now) }
+{
+    let _ = net.constraints();
+}
+
+// Tries chain of each constraint with the entry at a place, and says whether the list is refuted then.
+fn try_chains(
+    net: &Network,
+    log: &mut Log,
+    constraints: &[Constraint],
+    j: u32,
+    tries: &mut Tries,
+) -> Result<bool, Full>
+    requires constraints { constraints.now ≡ net.now.constraints }
+    requires ready { IsOpen (the_network net.now) log.old }
+    requires place { j < length log.old.entries }
+    ensures taken { IfOk result (λ r. IsTaken (the_network net.now) log.old log.new (tried (the_network net.now) (the_entries log.old.entries) (chains_at (map the_constraint constraints.now) j)) r) }
+    ensures cut { IsErr result → IsCut log.old log.new (tried (the_network net.now) (the_entries log.old.entries) (chains_at (map the_constraint constraints.now) j)) }
+    ensures ready { IfOk result (λ r. r ≡ false → IsOpen (the_network net.now) log.new) }
+    ensures tries { tries.old.count ≤ tries.new.count }
+{
+    for c in constraints {
+        match try_chain(net, log, c, j, tries) {
+            Ok(true) => return Ok(true),
+            Ok(false) => {}
+            Err(full) => return Err(full),
+        }
+    }
+    Ok(false)
+}
+
+// Tries wait of the entries at two places, either way round, and says whether the list is refuted then.
+fn try_both(net: &Network, log: &mut Log, i: u32, j: u32, tries: &mut Tries) -> Result<bool, Full>
+    requires ready { IsOpen (the_network net.now) log.old }
+    requires first { i < length log.old.entries }
+    requires place { j < length log.old.entries }
+    ensures taken { IfOk result (λ r. IsTaken (the_network net.now) log.old log.new (tried (the_network net.now) (the_entries log.old.entries) (wait_at i j ∷ (wait_at j i ∷ []))) r) }
+    ensures cut { IsErr result → IsCut log.old log.new (tried (the_network net.now) (the_entries log.old.entries) (wait_at i j ∷ (wait_at j i ∷ []))) }
+    ensures ready { IfOk result (λ r. r ≡ false → IsOpen (the_network net.now) log.new) }
+    ensures tries { tries.old.count ≤ tries.new.count }
+{
+    is_well_formed(net);
+    match try_wait(net, log, i, j, tries) {
+        Ok(true) => Ok(true),
+        Ok(false) => try_wait(net, log, j, i, tries),
+        Err(full) => Err(full),
+    }
+}
+
+// Tries the waits of the entry at a place with each entry up to it, and says whether the list is refuted then.
+fn try_waits(net: &Network, log: &mut Log, j: u32, tries: &mut Tries) -> Result<bool, Full>
+    requires ready { IsOpen (the_network net.now) log.old }
+    requires place { j < length log.old.entries }
+    ensures taken { IfOk result (λ r. IsTaken (the_network net.now) log.old log.new (tried (the_network net.now) (the_entries log.old.entries) (waits_below (j + 1) j)) r) }
+    ensures cut { IsErr result → IsCut log.old log.new (tried (the_network net.now) (the_entries log.old.entries) (waits_below (j + 1) j)) }
+    ensures ready { IfOk result (λ r. r ≡ false → IsOpen (the_network net.now) log.new) }
+    ensures tries { tries.old.count ≤ tries.new.count }
+{
+    is_well_formed(net);
+    let _room = log.len();
+    for i in 0..j + 1 {
+        match try_both(net, log, i, j, tries) {
+            Ok(true) => return Ok(true),
+            Ok(false) => {}
+            Err(full) => return Err(full),
+        }
+    }
+    Ok(false)
+}
+
+// Takes the turn of the entry at a place, and says whether the list is refuted then.
+pub(crate) fn take_turn(
+    net: &Network,
+    log: &mut Log,
+    j: u32,
+    tries: &mut Tries,
+) -> Result<bool, Full>
+    requires ready { IsOpen (the_network net.now) log.old }
+    requires place { j < length log.old.entries }
+    ensures taken { IfOk result (λ r. IsTaken (the_network net.now) log.old log.new (tried (the_network net.now) (the_entries log.old.entries) (turn (the_network net.now) j)) r) }
+    ensures cut { IsErr result → IsCut log.old log.new (tried (the_network net.now) (the_entries log.old.entries) (turn (the_network net.now) j)) }
+    ensures ready { IfOk result (λ r. r ≡ false → IsOpen (the_network net.now) log.new) }
+    ensures tries { tries.old.count ≤ tries.new.count }
+{
+    is_well_formed(net);
+    match try_chains(net, log, net.constraints(), j, tries) {
+        Ok(true) => Ok(true),
+        Ok(false) => try_waits(net, log, j, tries),
+        Err(full) => Err(full),
+    }
+}
+
+// A count is a number of 64 bits.
+fn is_in_range(tries: &Tries)
+    ensures { tries.now.count < 2 ^ 64 }
+{
+    let _count = tries.count;
+}
