@@ -1,5 +1,5 @@
 use Rattle.cstn_minset.specs.Sets.{IsAt}
-use Rattle.cstn_minset.proofs.LawLemmas.{walk_meets, walk_there, walk_ascends}
+use Rattle.cstn_minset.proofs.LawLemmas.{walk_meets, walk_there, walk_ascends, walk_within}
 use Rattle.cstn_minset.proofs.laws.walks_meet_each_once.Goals as goal
 use Rattle.std.proofs.Common.{arith}
 
@@ -11,3 +11,6 @@ returns-clause-there c node k id table ids walk is = (let found = walk_there tab
 
 pub returns-clause-ascending : goal.returns-clause-ascending
 returns-clause-ascending c node j k earlier later table ids walk is next less = walk_ascends table (IsAt node) 0 ids j k earlier later walk is next less
+
+pub returns-clause-within : goal.returns-clause-within
+returns-clause-within c node table ids walk = walk_within table (IsAt node) 0 ids walk
