@@ -1,5 +1,5 @@
 -- Minimal sets of bounds, each bound in a slot with its birth.
-use Rattle.std.specs.Prelude.{◌≡◌, ◌≢◌, ◌⊎◌, ℕ, ◌<◌, ◌≤◌, ◌^◌, List, map, length, Option, None, Some, slice_index_or, MatchOption}
+use Rattle.std.specs.Prelude.{◌≡◌, ◌≢◌, ◌⊎◌, ℕ, ◌+◌, ◌<◌, ◌≤◌, ◌^◌, List, [], ◌∷◌, map, length, Option, None, Some, slice_index_or, MatchOption}
 use Rattle.cstn_label.specs.declared.bounds.Bound.{Bound}
 use Rattle.cstn_label.specs.Bounds.{Dominates}
 use Rattle.cstn_label.specs.Read.{the_bound}
@@ -65,6 +65,11 @@ IsNone table Kind low = (u : ℕ) (e : ℕ × Bound) → IsPlaced table u e → 
 -- the answer is the id of the bound of a kind with the least birth from `low` on, and none only where there is none
 abbrev pub IsFirst : Entries → (Bound → Type 0) → ℕ → Option SlotId → Type 0
 IsFirst table Kind low answer = MatchOption answer (IsNone table Kind low) (λ id. IsLeast table Kind low id.slot id.birth)
+
+-- the ids that come one after another, each first of its kind after the one before, until there is none
+abbrev pub IsWalk : Entries → (Bound → Type 0) → ℕ → List SlotId → Type 0
+IsWalk table Kind low [] = IsFirst table Kind low None
+IsWalk table Kind low (id ∷ ids) = IsFirst table Kind low (Some id) × IsWalk table Kind (id.birth + 1) ids
 
 -- the same of a slot alone
 abbrev pub IsFirstSlot : Entries → (Bound → Type 0) → ℕ → Option ℕ → Type 0

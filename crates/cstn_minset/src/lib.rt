@@ -2,7 +2,9 @@
 //! once.
 #![tactic(auto)]
 
+mod laws;
 mod links;
 mod min_set;
 
+pub use laws::walks_meet_each_once;
 pub use min_set::MinSet;

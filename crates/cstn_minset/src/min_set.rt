@@ -30,11 +30,14 @@ impl Model for MinSet {
 }
 
 impl MinSet {
-    /// An empty set over this many time-points and slots. Fails for want of memory alone.
+    /// An empty set over this many time-points and slots. Fails for want of memory alone, as which
+    /// it also counts more slots and time-points in all than 32 bits number.
     pub fn start(alloc: Global, nodes: u16, capacity: u32) -> Result<MinSet, AllocError>
-        requires { capacity ≤ 4194304 }
         ensures empty { IfOk result (λ set. set ≡ record { nodes = nodes; table = replicate capacity None }) }
     {
+        let Some(_) = capacity.checked_add(nodes as u32) else {
+            return Err(AllocError);
+        };
         let table = free(alloc, capacity)?;
         let links = Links::start(alloc, nodes as u32, capacity)?;
         Ok(MinSet {

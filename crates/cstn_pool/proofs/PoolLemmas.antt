@@ -14,7 +14,7 @@ count_filled slots slot entry inside none =
     let one : live_of (set slots slot (Some entry)) + cond (is_some (get_or slots slot None)) 1 0 ≡ live_of slots + 1 = sum_by-set (λ x. cond (is_some x) 1 0) slots slot (Some entry) None inside in
     let two = rw none at one in omega arith
 
-count_emptied : {T : Type 0} (slots : List (Option (ℕ × T))) (slot : ℕ) → slot < length slots → is_some (get_or slots slot None) ≡ true → live_of (set slots slot None) + 1 ≡ live_of slots
+pub count_emptied : {T : Type 0} (slots : List (Option (ℕ × T))) (slot : ℕ) → slot < length slots → is_some (get_or slots slot None) ≡ true → live_of (set slots slot None) + 1 ≡ live_of slots
 count_emptied slots slot inside live =
     let one : live_of (set slots slot None) + cond (is_some (get_or slots slot None)) 1 0 ≡ live_of slots + 0 = sum_by-set (λ x. cond (is_some x) 1 0) slots slot None None inside in
     let two = rw live at one in omega arith

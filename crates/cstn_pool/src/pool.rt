@@ -54,7 +54,8 @@ impl<T: Copy> Pool<T> {
         })
     }
 
-    /// Puts a value into a free slot, under a birth that was never answered before.
+    /// Puts a value into a free slot, under a birth that was never answered before. `Full` exactly
+    /// where no slot is free; then nothing changes.
     pub fn take(&mut self, value: T) -> Result<SlotId, Full>
         requires { self.old.births < 2 ^ 63 }
 
