@@ -9,3 +9,6 @@ mod refutations;
 
 pub use errors::RefuteError;
 pub use refutations::Refutation;
+
+#[cfg(test)]
+mod tests;
