@@ -1,0 +1,81 @@
+ghost use Rattle.std.specs.Prelude.{◌≡◌, ◌<◌, ◌≤◌, length, true};
+ghost use Rattle.std.specs.List.{All};
+
+use crate::{Refutation, RefuteError};
+use cstn_rules::Entry;
+use cstn_text::Names;
+use std::alloc::Global;
+use std::process::Abort;
+use std::test::Fail;
+
+fn push(rt: &impl Abort, names: &mut Names, name: &str) {
+    assert!(rt; names.count() < 1000);
+    assert!(rt; names.push(name).is_ok());
+}
+
+fn names(rt: &impl Abort, alloc: Global) -> Names {
+    let mut names = Names::new(alloc);
+    push(rt, &mut names, "Z");
+    push(rt, &mut names, "P");
+    push(rt, &mut names, "X Y");
+    names
+}
+
+fn are_named(names: &Names, steps: &[Entry]) -> bool
+    ensures { result ≡ true → All (λ e. e.bound.node.0 < length names.now) steps.now }
+{
+    for step in steps {
+        if step.bound.node.number() >= names.count() {
+            return false;
+        }
+    }
+    true
+}
+
+fn refutation(rt: &impl Abort, alloc: Global, text: &str) -> Result<Refutation, RefuteError> {
+    let names = names(rt, alloc);
+    assert!(rt; names.count() < 1000);
+    Refutation::read(alloc, &names, text.as_bytes())
+}
+
+// The text is read, and printed so.
+fn printed(rt: &impl Abort, alloc: Global, text: &str, expected: &str) -> Result<(), Fail> {
+    let names = names(rt, alloc);
+    let r = refutation(rt, alloc, text).expect(rt, text);
+    assert!(rt; are_named(&names, r.steps()));
+    assert_eq!(rt; r.print(alloc, &names)?.as_str(), expected);
+    Ok(())
+}
+
+// The line is the first wrong one of the text.
+fn wrong(rt: &impl Abort, alloc: Global, text: &str, expected: u32) {
+    match refutation(rt, alloc, text) {
+        Err(RefuteError::Line { line }) => assert_eq!(rt; line, expected),
+        _ => assert!(rt; false),
+    }
+}
+
+const PROOF: &str = "no 7\n0 base Z 0 -\n1 chain 0 0 X%20Y 10 p\n2 wait 9 1 X%20Y 4 ?p!q\n";
+
+#[test]
+fn texts_are_printed_and_read(rt: HostRuntime) -> Result<(), Fail> {
+    let alloc = rt.alloc();
+    printed(&rt, alloc, PROOF, PROOF)?;
+    printed(&rt, alloc, "no 1\n0 base P 0 q!p\n", "no 1\n0 base P 0 !pq\n")?;
+    Ok(())
+}
+
+#[test]
+fn first_wrong_lines(rt: HostRuntime) {
+    let alloc = rt.alloc();
+    wrong(&rt, alloc, "", 1);
+    wrong(&rt, alloc, "no 7", 1);
+    wrong(&rt, alloc, "no 0\n0 base Z 0 -\n", 1);
+    wrong(&rt, alloc, "no 4194305\n0 base Z 0 -\n", 1);
+    wrong(&rt, alloc, "no 7\n", 2);
+    wrong(&rt, alloc, "no 7\n0 base Y 0 -\n", 2);
+    wrong(&rt, alloc, "no 7\n1 base Z 0 -\n", 2);
+    wrong(&rt, alloc, "no 7\n0 base Z 1000002 -\n", 2);
+    wrong(&rt, alloc, "no 7\n0 base Z 0 -\n1 base Z 0 -", 3);
+    wrong(&rt, alloc, "no 7\n0 base Z 0 -\n1 base Z 00 -\n", 3);
+}
