@@ -1,24 +1,42 @@
 -- What a request says, and what is written for it, also after a fault.
 use Rattle.std.specs.Prelude.{◌≡◌, ◌⊎◌, ℕ, List, [], ◌++◌, take, Option, codes}
 use Rattle.cstn_io.specs.Contents.{with_bytes, IsAllOf}
+use Rattle.cstn_net.specs.Networks.{Network, IsWellFormed}
+use Rattle.cstn_net.specs.declared.errors.NetError.{NetError}
+use Rattle.cstn_graphml.specs.Document.{Parts}
+use Rattle.cstn_graphml.specs.Networks.{network_of, IsUnfit}
 use Rattle.cstn_top.specs.Texts.{line}
+use Rattle.cstn_top.specs.Refusals.{fault_text}
 use Rattle.cstn_top.specs.Statuses.{status_of}
 use Rattle.cstn_top.specs.declared.status.Status.{Status}
 use Rattle.cstn_top.specs.declared.status.Status.TheVariants.{ReadFault, WriteFault, Memory}
 use Rattle.cstn_top.specs.declared.output.Outcome.{Outcome}
+use Rattle.cstn_top.specs.declared.output.Outcome.TheVariants.{Document}
 
 -- a text, and how the request ends
 pub record Said : Type 0 where
   pub outcome : Outcome
   pub text : List ℕ
 
--- What a request says: a text and no more.
+-- a line, and how the request ends
+abbrev pub say : Outcome → List ℕ → Said
+say outcome text = record { outcome = outcome; text = line text }
+
+-- What a request says: a text and no more, or what is said of the network of a document's parts, where they make one.
 pub data Plan : Type 0 where
   says : Said → Plan
+  judges : Parts → (Network → Said) → Plan
+
+-- The parts make a network, and this is said of it, or they make none, and its lowest fault is told.
+abbrev pub IsJudgement : Parts → (Network → Said) → Said → Type 0
+IsJudgement parts answer said =
+    (IsWellFormed (network_of parts) × (said ≡ answer (network_of parts)))
+    ⊎ ((error : NetError) × IsUnfit parts error × (said ≡ say Document (fault_text parts.names error)))
 
 -- the whole output, where the live source has these bytes
-abbrev pub output : Plan → List ℕ → Said
-output (says said) live = said
+abbrev pub IsOutput : Plan → List ℕ → Said → Type 0
+IsOutput (says text) live said = said ≡ text
+IsOutput (judges parts answer) live said = IsJudgement parts answer said
 
 -- the text is empty or ends with LF
 abbrev pub EndsLine : List ℕ → Type 0
@@ -29,11 +47,21 @@ pub record Live : Type 0 where
   pub left : Option (List ℕ)
   pub faults : ℕ
 
+-- the text is the first lines of the output, perhaps none
+pub record AreFirstLines (plan : Plan) (before : Live) (text : List ℕ) : Type 0 where
+  pub live : List ℕ
+  pub said : Said
+  pub rest : List ℕ
+  pub all : IsAllOf before.left live
+  pub output : IsOutput plan live said
+  pub first : said.text ≡ text ++ rest
+  pub lines : EndsLine text
+
 -- What is written where each write is accepted: the output, or what comes after a fault.
 pub data IsText (plan : Plan) (before after : Live) : Status → List ℕ → Type 0 where
-  is_output : (live : List ℕ) → IsAllOf before.left live → IsText plan before after (status_of (output plan live).outcome) (output plan live).text
+  is_output : (live : List ℕ) (said : Said) → IsAllOf before.left live → IsOutput plan live said → IsText plan before after (status_of said.outcome) said.text
   is_file_fault : after ≡ before → IsText plan before after ReadFault (line (codes "read fault"))
-  is_memory : (live text rest : List ℕ) → IsAllOf before.left live → (output plan live).text ≡ text ++ rest → EndsLine text → IsText plan before after Memory (text ++ line (codes "memory"))
+  is_memory : (text : List ℕ) → (text ≡ []) ⊎ AreFirstLines plan before text → IsText plan before after Memory (text ++ line (codes "memory"))
 
 -- The text was written whole with its status, or after a fault of the sink a prefix of it.
 abbrev pub IsWritten : Option (List ℕ) → Option (List ℕ) → List ℕ → Status → Status → Type 0
@@ -47,3 +75,4 @@ Ends plan before after old new result =
 -- the live source stands as it was, where a request says a text and no more
 abbrev pub Untouched : {S : Type 0} → Plan → S → S → Type 0
 Untouched (says said) before after = after ≡ before
+Untouched (judges parts answer) before after = after ≡ before
