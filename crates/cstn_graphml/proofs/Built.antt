@@ -109,8 +109,8 @@ made_network deadline d n h =
     let parts = has_parts deadline d in
     let points : n.points ≡ map point_of (all_points d) = h.points ∙ built_points deadline d in
     same_network (h.deadline ∙ parts.deadline) (ap (map observed) h.points ∙ parts.observes)
-      (ap reaction_of points ∙ fun_ext (λ p. reaction_one (all_points d) p))
-      (ap (map the_constraint) h.constraints ∙ made_constraints 0 (builder_of deadline d).drafts ∙ ap (numbered 0) parts.constraints)
+    (ap reaction_of points ∙ fun_ext (λ p. reaction_one (all_points d) p))
+    (ap (map the_constraint) h.constraints ∙ made_constraints 0 (builder_of deadline d).drafts ∙ ap (numbered 0) parts.constraints)
 
 -- the names of a network that was made
 pub made_count : (deadline : ℕ) (d : LentGraph) (n : NetworkParts) → IsBuilt (builder_of deadline d) n → length d.names ≡ length d.observes.items + 1 → length d.names ≡ length (the_network n).observes

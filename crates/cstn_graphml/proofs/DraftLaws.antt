@@ -8,13 +8,14 @@ use Rattle.std.proofs.lemmas.List.Quantifiers.{position-Some}
 use Rattle.cstn_markup.specs.Bytes.{is_same, when}
 use Rattle.cstn_text.specs.Names.{number_of}
 use Rattle.cstn_graphml.specs.Results.{Refusal, ◌>>=◌, or_refused, demand}
-use Rattle.cstn_graphml.specs.Results.Refusal.{shape}
-use Rattle.cstn_graphml.specs.ValueTexts.{Pair}
+use Rattle.cstn_graphml.specs.Results.Refusal.{shape, bad_value, unknown_node, name_twice, label_text}
+use Rattle.cstn_graphml.specs.Numbers.{short_number}
+use Rattle.cstn_graphml.specs.ValueTexts.{Pair, values_of}
 use Rattle.cstn_graphml.specs.Contents.{Tag, Content}
 use Rattle.cstn_graphml.specs.Contents.Content.{done, cut, run, element}
-use Rattle.cstn_graphml.specs.Elements.{Reading, read_by, Datum, blank, passed, datum_of}
+use Rattle.cstn_graphml.specs.Elements.{Reading, read_by, Datum, blank, passed, datum, data_of, datum_of, attribute}
 use Rattle.cstn_graphml.specs.Draft.{Draft, Drawn, empty_draft, origin_name, node_of, with_node, with_constraint, with_deadline}
-use Rattle.cstn_graphml.specs.Judged.{judged_node, judged_edge, judged_deadline, with_pair, with_pairs, with_values, with_edge}
+use Rattle.cstn_graphml.specs.Judged.{judged_node, judged_edge, judged_deadline, with_pair, with_pairs, with_values, with_edge, is_kept, observed, unlabelled}
 use Rattle.cstn_graphml.specs.Document.{Part, graph_child, graph_reading, in_graph, root_child, root_reading, in_root, document_child, document_reading, in_document, part_of}
 use Rattle.cstn_graphml.specs.Document.Part.{a_datum, a_node, an_edge, another}
 use Rattle.cstn_graphml.specs.DraftLaws.{IsDraft, IsDrawnAmong}
@@ -23,7 +24,7 @@ pub bind_ok : {A B : Type 0} (o : Result A Refusal) (f : A → Result B Refusal)
 bind_ok (Ok x) f y e = (x, refl, e)
 bind_ok (Err r) f y e = absurd (cc)
 
-ok_is : {A : Type 0} (x y : A) → Ok {E = Refusal} x ≡ Ok y → x ≡ y
+ok_is : {A : Type 0} (x y : A) → ◌≡◌ {A = Result A Refusal} (Ok x) (Ok y) → x ≡ y
 ok_is x y e = cc
 
 given : {A : Type 0} (o : Option A) (e : Refusal) (x : A) → or_refused o e ≡ Ok x → o ≡ Some x
@@ -78,7 +79,7 @@ node_by false name prop d h =
       later = h.later ++ (name ∷ []);
       first = ap (λ names. names ++ (name ∷ [])) h.first;
       each = omega (arith, longer, each, h.each);
-      among = All-weaker _ _ (λ c i. (omega (arith, longer, i.0), omega (arith, longer, i.1))) d.constraints h.among;
+      among = All-weaker (IsDrawnAmong (length d.names)) (IsDrawnAmong (length (d.names ++ (name ∷ [])))) (λ c i. (omega (arith, longer, i.0), omega (arith, longer, i.1))) d.constraints h.among;
     }
 
 node_kept : (name : List ℕ) (prop : Option ℕ) (d : Draft) → IsDraft d → IsDraft (with_node name prop d)
@@ -89,45 +90,45 @@ unfolding with_pairs
 pairs_kept at from to [] d e h f t k = subst IsDraft (ok_is d e k) h
 pairs_kept at from to (p ∷ pairs) d e h f t k =
     let b = bind_ok (with_pair at from to p d) (with_pairs at from to pairs) e k in
-    let q = bind_ok (or_refused p.label _) _ b.0 b.1 in
-    let is = ok_is _ b.0 q.2 in
-    pairs_kept at from to pairs b.0 e (subst IsDraft is (constraint_kept _ d h (f, t))) (subst (λ (x : Draft). from < length x.names) is f) (subst (λ (x : Draft). to < length x.names) is t) b.2
+    let q = bind_ok (or_refused p.label (label_text at)) (λ label. Ok (with_constraint (record { from = from; to = to; most = p.most; label = label }) d)) b.0 b.1 in
+    let is = ok_is (with_constraint (record { from = from; to = to; most = p.most; label = q.0 }) d) b.0 q.2 in
+    pairs_kept at from to pairs b.0 e (subst IsDraft is (constraint_kept (record { from = from; to = to; most = p.most; label = q.0 }) d h (f, t))) (subst (λ (x : Draft). from < length x.names) is f) (subst (λ (x : Draft). to < length x.names) is t) b.2
 
 values_kept : (from to : ℕ) (found : Option Datum) (d e : Draft) → IsDraft d → from < length d.names → to < length d.names → with_values from to found d ≡ Ok e → IsDraft e
 values_kept from to None d e h f t k = subst IsDraft (ok_is d e k) h
-values_kept from to (Some x) d e h f t k = let b = bind_ok (or_refused _ _) _ e k in pairs_kept x.at from to b.0 d e h f t b.2
+values_kept from to (Some x) d e h f t k = let b = bind_ok (or_refused (values_of x.value) (bad_value x.at)) (λ pairs. with_pairs x.at from to pairs d) e k in pairs_kept x.at from to b.0 d e h f t b.2
 
 edge_by : (keeps : Bool) (at : ℕ) (source target : List ℕ) (d e : Draft) (found : List Datum) → IsDraft d → with_edge keeps at source target d found ≡ Ok e → IsDraft e
 edge_by false at source target d e found h k = subst IsDraft (ok_is d e k) h
 edge_by true at source target d e found h k =
-    let a = bind_ok (or_refused (node_of source d) _) _ e k in
-    let b = bind_ok (or_refused (node_of target d) _) _ e a.2 in
-    values_kept a.0 b.0 (datum_of (codes "LabeledValues") found) d e h (node_inside source d a.0 h (given _ _ _ a.1)) (node_inside target d b.0 h (given _ _ _ b.1)) b.2
+    let a = bind_ok (or_refused (node_of source d) (unknown_node at)) (λ from. or_refused (node_of target d) (unknown_node at) >>= λ to. with_values from to (datum_of (codes "LabeledValues") found) d) e k in
+    let b = bind_ok (or_refused (node_of target d) (unknown_node at)) (λ to. with_values a.0 to (datum_of (codes "LabeledValues") found) d) e a.2 in
+    values_kept a.0 b.0 (datum_of (codes "LabeledValues") found) d e h (node_inside source d a.0 h (given (node_of source d) (unknown_node at) a.0 a.1)) (node_inside target d b.0 h (given (node_of target d) (unknown_node at) b.0 b.1)) b.2
 
 edge_kept : (tag : Tag) (d e : Draft) (found : List Datum) → IsDraft d → judged_edge tag d found ≡ Ok e → IsDraft e
 edge_kept tag d e found h k =
-    let a = bind_ok (or_refused _ _) _ e k in
-    let b = bind_ok (or_refused _ _) _ e a.2 in
-    let c = bind_ok _ _ e b.2 in
+    let a = bind_ok (or_refused (attribute (codes "source") tag) (shape tag.at)) (λ source. or_refused (attribute (codes "target") tag) (shape tag.at) >>= λ target. is_kept (datum_of (codes "Type") found) >>= λ keeps. with_edge keeps tag.at source target d found) e k in
+    let b = bind_ok (or_refused (attribute (codes "target") tag) (shape tag.at)) (λ target. is_kept (datum_of (codes "Type") found) >>= λ keeps. with_edge keeps tag.at a.0 target d found) e a.2 in
+    let c = bind_ok (is_kept (datum_of (codes "Type") found)) (λ keeps. with_edge keeps tag.at a.0 b.0 d found) e b.2 in
     edge_by c.0 tag.at a.0 b.0 d e found h c.2
 
 node_judged : (tag : Tag) (d e : Draft) (found : List Datum) → IsDraft d → judged_node tag d found ≡ Ok e → IsDraft e
 node_judged tag d e found h k =
-    let a = bind_ok (or_refused _ _) _ e k in
-    let b = bind_ok (demand _ _) _ e a.2 in
-    let c = bind_ok (demand _ _) _ e b.2 in
-    let p = bind_ok _ _ e c.2 in
-    let u = bind_ok _ _ e p.2 in
-    subst IsDraft (ok_is _ e u.2) (node_kept a.0 p.0 d h)
+    let a = bind_ok (or_refused (attribute (codes "id") tag) (shape tag.at)) (λ id. demand (nat_lt 0 (length id) && nat_le (length id) 64) (bad_value tag.at) >>= λ sized. demand (not (is_some (node_of id d))) (name_twice tag.at) >>= λ fresh. observed (datum_of (codes "Obs") found) >>= λ prop. unlabelled (datum_of (codes "Label") found) >>= λ same. Ok (with_node id prop d)) e k in
+    let b = bind_ok (demand (nat_lt 0 (length a.0) && nat_le (length a.0) 64) (bad_value tag.at)) (λ sized. demand (not (is_some (node_of a.0 d))) (name_twice tag.at) >>= λ fresh. observed (datum_of (codes "Obs") found) >>= λ prop. unlabelled (datum_of (codes "Label") found) >>= λ same. Ok (with_node a.0 prop d)) e a.2 in
+    let c = bind_ok (demand (not (is_some (node_of a.0 d))) (name_twice tag.at)) (λ fresh. observed (datum_of (codes "Obs") found) >>= λ prop. unlabelled (datum_of (codes "Label") found) >>= λ same. Ok (with_node a.0 prop d)) e b.2 in
+    let p = bind_ok (observed (datum_of (codes "Obs") found)) (λ prop. unlabelled (datum_of (codes "Label") found) >>= λ same. Ok (with_node a.0 prop d)) e c.2 in
+    let u = bind_ok (unlabelled (datum_of (codes "Label") found)) (λ same. Ok (with_node a.0 p.0 d)) e p.2 in
+    subst IsDraft (ok_is (with_node a.0 p.0 d) e u.2) (node_kept a.0 p.0 d h)
 
 deadline_judged : (d e : Draft) (found : Option Datum) → IsDraft d → judged_deadline d found ≡ Ok e → IsDraft e
 deadline_judged d e None h k = subst IsDraft (ok_is d e k) h
-deadline_judged d e (Some x) h k = let b = bind_ok (or_refused _ _) _ e k in subst IsDraft (ok_is _ e b.2) (deadline_kept x b.0 d h)
+deadline_judged d e (Some x) h k = let b = bind_ok (or_refused (short_number 4294967296 x.value) (bad_value x.at)) (λ n. Ok (with_deadline x n d)) e k in subst IsDraft (ok_is (with_deadline x b.0 d) e b.2) (deadline_kept x b.0 d h)
 
 child_kept : (part : Part) (d e : Draft) (tag : Tag) (inside : Content) → IsDraft d → graph_child part d tag inside ≡ Ok e → IsDraft e
-child_kept a_datum d e tag inside h k = let b = bind_ok _ (judged_deadline d) e k in deadline_judged d e b.0 h b.2
-child_kept a_node d e tag inside h k = let b = bind_ok _ (judged_node tag d) e k in node_judged tag d e b.0 h b.2
-child_kept an_edge d e tag inside h k = let b = bind_ok _ (judged_edge tag d) e k in edge_kept tag d e b.0 h b.2
+child_kept a_datum d e tag inside h k = let b = bind_ok (datum (codes "Deadline" ∷ []) (λ key. list_any (λ (q : Datum). is_same q.key key) d.own) tag inside) (judged_deadline d) e k in deadline_judged d e b.0 h b.2
+child_kept a_node d e tag inside h k = let b = bind_ok (data_of (codes "Obs" ∷ (codes "Label" ∷ [])) inside) (judged_node tag d) e k in node_judged tag d e b.0 h b.2
+child_kept an_edge d e tag inside h k = let b = bind_ok (data_of (codes "Type" ∷ (codes "LabeledValues" ∷ [])) inside) (judged_edge tag d) e k in edge_kept tag d e b.0 h b.2
 child_kept another d e tag inside h k = let b = bind_ok (passed inside) (λ same. Ok d) e k in subst IsDraft (ok_is d e b.2) h
 
 pub graph_is_draft : (inside : Content) (d : Draft) → in_graph empty_draft inside ≡ Ok d → IsDraft d
@@ -155,7 +156,7 @@ root_is_draft inside d k = read_keeps root_reading Seen IsDraft (λ s at a h e. 
 whole_kept : (s t : Option Draft) (tag : Tag) (inside : Content) → Seen s → document_child s tag inside ≡ Ok t → Seen t
 whole_kept (Some d) t tag inside h k = absurd (cc)
 whole_kept None t tag inside h k =
-    let a = bind_ok (demand _ _) _ t k in
+    let a = bind_ok (demand (is_same tag.name (codes "graphml")) (shape tag.at)) (λ same. in_root inside >>= λ d. Ok (Some d)) t k in
     let b = bind_ok (in_root inside) (λ d. Ok (Some d)) t a.2 in
     subst Seen (ok_is (Some b.0) t b.2) (root_is_draft inside b.0 b.1)
 

@@ -10,8 +10,8 @@ ghost use Rattle.cstn_graphml.specs.Reads.{Reads, ReadsWhole};
 use crate::data::read_datum;
 use crate::data_element::Datum;
 use crate::errors::DocError;
-use crate::passing::pass_element;
 use crate::numbers::is_white;
+use crate::passing::pass_element;
 use cstn_markup::{Attributes, Kind, Scanner, Token};
 use std::alloc::Global;
 

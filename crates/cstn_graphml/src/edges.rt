@@ -52,13 +52,7 @@ fn is_kept(datum: Option<&Datum>) -> Result<bool, DocError>
 }
 
 /// Puts in the constraint of a pair.
-fn put_pair(
-    at: usize,
-    from: u32,
-    to: u32,
-    pair: Pair,
-    draft: &mut Draft,
-) -> Result<(), DocError>
+fn put_pair(at: usize, from: u32, to: u32, pair: Pair, draft: &mut Draft) -> Result<(), DocError>
     ensures { Gives (λ u. draft_seen draft.new) result (with_pair at from to (pair_seen pair) (draft_seen draft.old)) }
 {
     let Some(label) = pair.label else {

@@ -144,15 +144,9 @@ fn read_graph_child(
     ensures less { length scanner.new ≤ length scanner.old }
 {
     match part_of(name) {
-        Part::Datum => read_graph_datum(
-            alloc, scanner, at, name, attributes, closed, draft, depth,
-        ),
-        Part::Node => read_node(
-            alloc, scanner, at, name, attributes, closed, draft, depth,
-        ),
-        Part::Edge => read_edge(
-            alloc, scanner, at, name, attributes, closed, draft, depth,
-        ),
+        Part::Datum => read_graph_datum(alloc, scanner, at, name, attributes, closed, draft, depth),
+        Part::Node => read_node(alloc, scanner, at, name, attributes, closed, draft, depth),
+        Part::Edge => read_edge(alloc, scanner, at, name, attributes, closed, draft, depth),
         Part::Another => pass_element(scanner, name, closed, depth),
     }
 }

@@ -69,7 +69,9 @@ pub fn read(
     ensures refused { IfErr result (IsRefused (document bytes.now deadline)) }
 {
     if let Err(e) = str::from_utf8(bytes) {
-        return Err(DocError::NotUtf8 { at: e.valid_up_to() });
+        return Err(DocError::NotUtf8 {
+            at: e.valid_up_to(),
+        });
     }
     let mut scanner = Scanner::new(bytes);
     let draft = read_document(alloc, &mut scanner)?;

@@ -13,4 +13,4 @@ returns-in-Another-clause-reads c = λ names l.
     let tag : Tag = record { at = c.args.at; name = c.args.name.now; attributes = c.args.attributes.now } in
     let is : another ≡ part_of c.args.name.now = sym (ap part_seen c.in-Another.is) ∙ c.part_of.ensures in
     subst (λ p. ReadsWhole {A = Unit {0}} (λ u. draft_seen c.args.draft.now) (graph_child p (draft_seen c.args.draft.now) tag) c.args.closed c.args.at c.args.name.now names c.args.scanner.now c.pass_element.new.scanner c.pass_element.result) is
-      (passed_as (draft_seen c.args.draft.now) c.args.closed c.args.at c.args.name.now names _ _ c.pass_element.result (c.pass_element.ensures.reads names c.args.at l))
+    (passed_as (draft_seen c.args.draft.now) c.args.closed c.args.at c.args.name.now names _ _ c.pass_element.result (c.pass_element.ensures.reads names c.args.at l))

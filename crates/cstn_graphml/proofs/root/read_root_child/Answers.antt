@@ -17,7 +17,7 @@ returns-then-ne-clause-reads c = λ names attributes l.
     let seen = option_map draft_seen c.args.seen.now in
     let other : is_same c.args.name.now (codes "graph") ≡ false = subst (λ k. is_same c.args.name.now k ≡ false) c.as_slice.ensures (not_false (is_same c.args.name.now c.as_slice.result.now) c.if-ne.ensures) in
     subst (λ b. ReadsWhole {A = Unit {0}} (λ u. seen) (root_child b seen tag) c.args.closed c.args.at c.args.name.now names c.args.scanner.now c.pass_element.new.scanner c.pass_element.result) (sym other)
-      (passed_as seen c.args.closed c.args.at c.args.name.now names _ _ c.pass_element.result (c.pass_element.ensures.reads names c.args.at l))
+    (passed_as seen c.args.closed c.args.at c.args.name.now names _ _ c.pass_element.result (c.pass_element.ensures.reads names c.args.at l))
 
 pub returns-clause-reads : goal.returns-clause-reads
 returns-clause-reads c = λ names attributes l.
