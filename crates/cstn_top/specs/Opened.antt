@@ -1,5 +1,5 @@
 -- A document that was opened.
-use Rattle.std.specs.Prelude.{◌≡◌, ℕ, ◌≤◌, ◌∷◌, List, length, Option}
+use Rattle.std.specs.Prelude.{◌≡◌, ℕ, ◌≤◌, ◌∷◌, List, length, Option, codes}
 use Rattle.cstn_net.specs.Networks.{Network, IsWellFormed, count}
 use Rattle.cstn_net.specs.Read.{the_network}
 use Rattle.cstn_graphml.specs.declared.errors.DocError.{DocError}
@@ -47,6 +47,11 @@ OpensAs bytes deadline (Told said) = IsSaidOf bytes deadline (the_said said) × 
 abbrev pub IsNamed : Opened → Type 0
 IsNamed (Accepted network names) = (length names ≡ count (the_network network)) × ((later : List (List ℕ)) × (names ≡ origin_name ∷ later))
 IsNamed (Told said) = Unit {0}
+
+-- a file that is too long is told
+abbrev pub IsTooLong : Opened → Type 0
+IsTooLong (Accepted network names) = ⊥
+IsTooLong (Told said) = the_said said ≡ say Document (codes "document long")
 
 -- the document of a file was opened
 pub record IsOpened (told : Option (List ℕ → Option (List ℕ))) (asked : Asked) (opened : Opened) : Type 0 where

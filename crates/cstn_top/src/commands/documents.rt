@@ -1,9 +1,8 @@
 // The documents of files.
-ghost use Rattle.std.specs.Prelude.{◌≡◌, ◌≤◌, length, IfOk, IsTrue, IsErrOf, codes};
+ghost use Rattle.std.specs.Prelude.{◌≡◌, ◌≤◌, length, IfOk, IsTrue, IsErrOf};
 ghost use Rattle.cstn_io.specs.Causes.{Rose};
-ghost use Rattle.cstn_top.specs.Opened.{IsOpened, IsNamed, OpensAs};
-ghost use Rattle.cstn_top.specs.Plans.{say};
-ghost use Rattle.cstn_top.specs.Read.{the_asked, the_said};
+ghost use Rattle.cstn_top.specs.Opened.{IsOpened, IsNamed, IsTooLong, OpensAs};
+ghost use Rattle.cstn_top.specs.Read.{the_asked};
 
 use super::Refused;
 use super::refusals::refuse;
@@ -64,7 +63,8 @@ fn open_bytes(alloc: Global, bytes: &[u8], deadline: Option<u32>) -> Result<Open
 
 // What is said of a file that is too long.
 fn too_long(alloc: Global) -> Result<Opened, Refused>
-    ensures told { IfOk result (λ opened. (said : Rattle.cstn_top.specs.declared.output.Said.Said) × (opened ≡ Opened.Told said) × (the_said said ≡ say Outcome.Document (codes "document long"))) }
+    ensures told { IfOk result IsTooLong }
+    ensures named { IfOk result IsNamed }
     ensures fault { IsErrOf result Refused.ReadFault → ⊥ }
 {
     let Ok(text) = b"document long\n".to_vec(alloc) else {

@@ -94,6 +94,7 @@ fn unobserved(alloc: Global, prop: Prop) -> Result<Vec<u8>, AllocError>
     Ok(text)
 }
 
+#[tactic(auto, using(crate::proofs::Texts::between))]
 fn twins(alloc: Global, prop: Prop, first: &str, second: &str) -> Result<Vec<u8>, AllocError>
     ensures line { IfOk result (λ text. text.items ≡ line (codes "document X10 N7 " ++ letter_of prop.index ∷ 32 ∷ printed_name first.now ++ 32 ∷ printed_name second.now)) }
 {
