@@ -169,6 +169,13 @@ fn refuses_documents(rt: HostRuntime) -> Result<(), Fail> {
 }
 
 #[test]
+fn refuses_long_documents(rt: HostRuntime) -> Result<(), Fail> {
+    let alloc = rt.alloc();
+    let long = vec![in alloc; b' '; 8_388_609]?;
+    expect_refused(&rt, alloc, &long, "document long\n")
+}
+
+#[test]
 fn saves(rt: HostRuntime) -> Result<(), Fail> {
     let alloc = rt.alloc();
     let words = ["save", "pair", "--deadline", "10"];
