@@ -1,1 +1,4 @@
 pub mod Refutations
+pub mod Steps
+pub mod Texts
+pub mod Read

@@ -1,0 +1,16 @@
+use Rattle.std.proofs.Common.{◌≡◌, ◌≤◌, [], length, map}
+use Rattle.std.specs.List.{All}
+use Rattle.cstn_rules.specs.Read.{the_entry}
+use Rattle.cstn_refute.specs.Refutations.{IsStep}
+use Rattle.cstn_refute.specs.Texts.{told_after, lines_of}
+use Rattle.cstn_refute.proofs.reading.read_steps.Given as goal
+
+abbrev pub invariant-loop-line : goal.invariant-loop-line
+invariant-loop-line l = record {
+  told : told_after l.names l.load (map the_entry l.steps.items) (lines_of l.left).0 (lines_of l.left).1 ≡ told_after l.names l.load [] (lines_of l.bytes).0 (lines_of l.bytes).1;
+  few : length l.steps.items ≤ 4194304;
+  each : All IsStep l.steps.items;
+}
+
+abbrev pub decreases-loop-line : goal.decreases-loop-line
+decreases-loop-line l = length l.left

@@ -1,0 +1,102 @@
+// Refutations read from their texts.
+ghost use Rattle.std.specs.Prelude.{ℕ, ◌≡◌, ◌<◌, ◌≤◌, ◌+◌, Some, [], length, map, IfOk, IfErr};
+ghost use Rattle.std.specs.List.{All};
+ghost use Rattle.cstn_rules.specs.Derivations.{Entry as TheEntry};
+ghost use Rattle.cstn_rules.specs.Read.{the_entry};
+ghost use Rattle.cstn_refute.specs.Refutations.{IsStep, the_steps};
+ghost use Rattle.cstn_refute.specs.Steps.{step_read};
+ghost use Rattle.cstn_refute.specs.Texts.{Told, tells, wrong, at_end, or_wrong, told_after, told, load_read, lines_of};
+ghost use Rattle.cstn_refute.specs.Read.{IsWrong};
+
+use crate::errors::RefuteError;
+use crate::parts::{cut_at, number_within, part, read_step};
+use crate::refutations::Refutation;
+use cstn_rules::Entry;
+use cstn_text::Names;
+use std::alloc::{AllocError, Global};
+
+impl Refutation {
+    /// The refutation that a text is. `Line` with the first line that isn't of the form, counted from 1. A text that ends
+    /// without a step, or without its last LF, is wrong at the line that is missing or cut.
+    pub fn read(alloc: Global, names: &Names, bytes: &[u8]) -> Result<Refutation, RefuteError>
+        requires few { length names.now ≤ 65536 }
+        ensures accepted { IfOk result (λ r. told names.now bytes.now ≡ tells r.load (the_steps r)) }
+        ensures line { IfErr result (IsWrong (told names.now bytes.now)) }
+    {
+        let Some((line, rest)) = cut_at(bytes, b'\n') else {
+            return Err(RefuteError::Line { line: 1 });
+        };
+        let Some(load) = read_load(line) else {
+            return Err(RefuteError::Line { line: 1 });
+        };
+        read_steps(alloc, names, load, rest)
+    }
+}
+
+fn read_load(line: &[u8]) -> Option<u32>
+    ensures load { result ≡ load_read line.now }
+{
+    let (word, rest) = part(line)?;
+    if word != b"no".as_slice() {
+        return None;
+    }
+    number_within(1, 4_194_304, rest)
+}
+
+// The refutation of a load and of the lines of its steps.
+fn read_steps(
+    alloc: Global,
+    names: &Names,
+    load: u32,
+    bytes: &[u8],
+) -> Result<Refutation, RefuteError>
+    requires few { length names.now ≤ 65536 }
+    ensures accepted { IfOk result (λ r. told_after names.now load [] (lines_of bytes.now).0 (lines_of bytes.now).1 ≡ tells r.load (the_steps r)) }
+    ensures line { IfErr result (IsWrong (told_after names.now load [] (lines_of bytes.now).0 (lines_of bytes.now).1)) }
+{
+    let mut steps = Vec::new(alloc);
+    let mut left = bytes;
+    while let Some((line, rest)) = cut_at(left, b'\n') {
+        let k = steps.len() as u32;
+        match read_next(alloc, names, k, line) {
+            Ok(step) => {
+                let Ok(()) = steps.push(step) else {
+                    return Err(RefuteError::Memory(AllocError));
+                };
+                left = rest;
+            }
+            Err(e) => return Err(e),
+        }
+    }
+    finish(load, steps, left)
+}
+
+// The step at the place k that its line is.
+fn read_next(alloc: Global, names: &Names, k: u32, line: &[u8]) -> Result<Entry, RefuteError>
+    requires few { length names.now ≤ 65536 }
+    requires place { k ≤ 4194304 }
+    ensures step { IfOk result (λ e. step_read names.now k line.now ≡ Some (the_entry e)) }
+    ensures form { IfOk result IsStep }
+    ensures few { IfOk result (λ e. k < 4194304) }
+    ensures line { (next : TheEntry → Told) → IfErr result (IsWrong (or_wrong (step_read names.now k line.now) (k + 2) next)) }
+{
+    match read_step(alloc, names, k, line) {
+        Ok(Some(step)) => Ok(step),
+        Ok(None) => Err(RefuteError::Line { line: k + 2 }),
+        Err(e) => Err(RefuteError::Memory(e)),
+    }
+}
+
+// The refutation of the steps, where the text ends after one, with LF.
+fn finish(load: u32, steps: Vec<Entry>, left: &[u8]) -> Result<Refutation, RefuteError>
+    requires few { length steps.items ≤ 4194304 }
+    requires each { All IsStep steps.items }
+    ensures accepted { IfOk result (λ r. at_end load (map the_entry steps.items) left.now ≡ tells r.load (the_steps r)) }
+    ensures line { IfErr result (IsWrong (at_end load (map the_entry steps.items) left.now)) }
+{
+    let count = steps.len() as u32;
+    if count == 0 || !left.is_empty() {
+        return Err(RefuteError::Line { line: count + 2 });
+    }
+    Ok(Refutation::new(load, steps))
+}
