@@ -1,4 +1,3 @@
-pub mod Numbers
 pub mod Written
 pub mod Contents
 pub mod Endings
@@ -10,7 +9,7 @@ mod LogKept
 mod LogLatest
 mod LogTurns
 mod LogDecides
-pub mod Many
-pub mod Building
 pub mod Verdicts
-pub mod Decisions
+pub mod Texts
+pub mod Opening
+pub mod Unobserved

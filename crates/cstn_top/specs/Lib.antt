@@ -2,9 +2,10 @@ pub mod Texts
 pub mod Requests
 pub mod Statuses
 pub mod Files
+pub mod Refusals
 pub mod Plans
-pub mod Documents
 pub mod Growth
 pub mod Logs
 pub mod Outputs
 pub mod Read
+pub mod Opened

@@ -1,64 +1,101 @@
 -- What each request says.
-use Rattle.std.specs.Prelude.{◌≡◌, ℕ, not, if◌then◌else◌, List, [], ◌++◌, get_or, Option, None, Some, IsSomeAnd, codes, decimal}
-use Rattle.cstn_net.specs.Networks.{Network}
+use Rattle.std.specs.Prelude.{◌≡◌, ℕ, Bool, not, ◌&&◌, nat_le, nat_lt, is_some, if◌then◌else◌, List, [], ◌++◌, length, get_or, Option, None, Some, IsSomeAnd, codes, decimal, Result, Ok, Err}
+use Rattle.std.specs.List.{list_all}
+use Rattle.cstn_net.specs.Networks.{Network, IsWellFormed, count}
 use Rattle.cstn_net.specs.Strategies.{IsConsistent}
-use Rattle.cstn_top.specs.Texts.{line}
-use Rattle.cstn_top.specs.Requests.{Request, check, files_of}
+use Rattle.cstn_graphml.specs.Results.{Refusal}
+use Rattle.cstn_graphml.specs.Document.{Parts, document}
+use Rattle.cstn_graphml.specs.Networks.{network_of}
+use Rattle.cstn_save.specs.Canonical.{canonical}
+use Rattle.cstn_top.specs.Requests.{Request, check, save, files_of}
 use Rattle.cstn_top.specs.Files.{AreContents}
-use Rattle.cstn_top.specs.Plans.{Said, Plan, says}
+use Rattle.cstn_top.specs.Refusals.{refusal_text}
+use Rattle.cstn_top.specs.Plans.{Said, say, Plan, says, judges, IsOutput}
 use Rattle.cstn_top.specs.Growth.{is_refuted, log_of, load_of}
-use Rattle.cstn_top.specs.Documents.{document_of}
 use Rattle.cstn_top.specs.declared.output.Outcome.{Outcome}
 use Rattle.cstn_top.specs.declared.output.Outcome.TheVariants.{Good, Bad, Words, Document}
 
--- a line, and how the request ends
-abbrev pub say : Outcome → List ℕ → Said
-say outcome text = record { outcome = outcome; text = line text }
+-- what is said of the document of a file, given what is said of its network under the names of its time-points
+abbrev pub judged : (List (List ℕ) → Network → Said) → Result Parts Refusal → Plan
+judged answer (Err refusal) = says (say Document (refusal_text refusal))
+judged answer (Ok parts) = judges parts (answer parts.names)
+
+-- the document of a file with these bytes, which is refused where they are more than 8,388,608
+abbrev pub on_document : (List (List ℕ) → Network → Said) → List ℕ → Option ℕ → Plan
+on_document answer bytes deadline =
+    if nat_lt 8388608 (length bytes) then says (say Document (codes "document long")) else judged answer (document bytes deadline)
+
+-- no time-point observes a proposition
+abbrev pub observes_nothing : Network → Bool
+observes_nothing net = list_all (λ o. not (is_some o)) net.observes
+
+-- a network on which a verdict is given: it observes nothing, and has at most 64 time-points and 256 constraints, and a
+-- deadline up to 1,000
+abbrev pub is_judged : Network → Bool
+is_judged net = observes_nothing net && nat_le (count net) 64 && nat_le (length net.constraints) 256 && nat_le net.deadline 1000
 
 -- the verdict on a network: yes where its log isn't refuted, and its load
 abbrev pub verdict : Network → Said
 verdict net =
     if not (is_refuted net (log_of net)) then say Good (codes "yes " ++ decimal (load_of net)) else say Bad (codes "no " ++ decimal (load_of net))
 
--- what is said of a document, if it is accepted
-abbrev pub checked : Option Network → Said
-checked None = say Document (codes "document later")
-checked (Some net) = verdict net
+-- what `check` says of a network
+abbrev pub checked : List (List ℕ) → Network → Said
+checked names net = if is_judged net then verdict net else say Document (codes "document later")
+
+-- what `save` says of a network: its canonical document
+abbrev pub saved : List (List ℕ) → Network → Said
+saved names net = record { outcome = Good; text = canonical net names }
 
 -- the plan of a request whose files have these contents
 abbrev pub plan_at : Request → List (List ℕ) → Plan
-plan_at (check asked) contents = says (checked (document_of (get_or contents 0 []) asked.deadline))
+plan_at (check asked) contents = on_document checked (get_or contents 0 []) asked.deadline
+plan_at (save asked) contents = on_document saved (get_or contents 0 []) asked.deadline
 
 -- the plan of words
 abbrev pub plan_of : Option Request → List (List ℕ) → Plan
 plan_of None contents = says (say Words (codes "words"))
 plan_of (Some request) contents = plan_at request contents
 
--- a network that is said to be good is consistent, and one that is said to be bad isn't
-abbrev pub IsRight : Outcome → Option Network → Type 0
-IsRight Good net = IsSomeAnd net IsConsistent
-IsRight Bad net = IsSomeAnd net (λ n. IsConsistent n → ⊥)
-IsRight Words net = Unit {0}
-IsRight Document net = Unit {0}
+-- the parts of a document, where it isn't refused by the grammar
+abbrev pub parts_of : Result Parts Refusal → Option Parts
+parts_of (Ok parts) = Some parts
+parts_of (Err refusal) = None
 
--- the network that a request asks about
-abbrev pub network_at : Request → List (List ℕ) → Option Network
-network_at (check asked) contents = document_of (get_or contents 0 []) asked.deadline
+-- the document of the bytes has a network, of which this holds
+abbrev pub HasNetwork : List ℕ → Option ℕ → (Network → Type 0) → Type 0
+HasNetwork bytes deadline holds = IsSomeAnd (parts_of (document bytes deadline)) (λ parts. IsWellFormed (network_of parts) × holds (network_of parts))
 
--- the text is that of the request, with the contents of its files, and its verdict is right
+-- what the status Good tells of a request: its document has a network, and one that was checked is consistent
+abbrev pub IsGood : Request → List (List ℕ) → Type 0
+IsGood (check asked) contents = HasNetwork (get_or contents 0 []) asked.deadline IsConsistent
+IsGood (save asked) contents = HasNetwork (get_or contents 0 []) asked.deadline (λ net. Unit {0})
+
+-- what the status Bad tells of it: its document has a network that isn't consistent
+abbrev pub IsBad : Request → List (List ℕ) → Type 0
+IsBad (check asked) contents = HasNetwork (get_or contents 0 []) asked.deadline (λ net. IsConsistent net → ⊥)
+IsBad (save asked) contents = ⊥
+
+-- what an outcome tells of a request
+abbrev pub IsRight : Outcome → Request → List (List ℕ) → Type 0
+IsRight Good request contents = IsGood request contents
+IsRight Bad request contents = IsBad request contents
+IsRight Words request contents = ⊥
+IsRight Document request contents = Unit {0}
+
+-- what the outcome of a check tells of a network
+abbrev pub IsVerdict : Outcome → Network → Type 0
+IsVerdict Good net = IsConsistent net
+IsVerdict Bad net = IsConsistent net → ⊥
+IsVerdict Words net = ⊥
+IsVerdict Document net = Unit {0}
+
+-- the text is that of the request, with the contents of its files, and its outcome is right
 pub record Planned (request : Request) (told : Option (List ℕ → Option (List ℕ))) (said : Said) : Type 0 where
   pub contents : List (List ℕ)
   pub are : AreContents told (files_of request) contents
-  pub plan : plan_at request contents ≡ says said
-  pub right : IsRight said.outcome (network_at request contents)
-
--- what the status Good tells of a request
-abbrev pub IsGood : Request → List (List ℕ) → Type 0
-IsGood (check asked) contents = IsSomeAnd (network_at (check asked) contents) IsConsistent
-
--- what the status Bad tells of it
-abbrev pub IsBad : Request → List (List ℕ) → Type 0
-IsBad (check asked) contents = IsSomeAnd (network_at (check asked) contents) (λ net. IsConsistent net → ⊥)
+  pub plan : (live : List ℕ) → IsOutput (plan_at request contents) live said
+  pub right : IsRight said.outcome request contents
 
 -- the words are a request, and it holds of the request and the contents of its files
 abbrev pub HoldsOf : Option Request → Option (List ℕ → Option (List ℕ)) → (Request → List (List ℕ) → Type 0) → Type 0
@@ -69,8 +106,10 @@ HoldsOf (Some request) told holds = (contents : List (List ℕ)) × AreContents 
 abbrev pub ReadsLive : Option Request → Type 0
 ReadsLive None = ⊥
 ReadsLive (Some (check asked)) = ⊥
+ReadsLive (Some (save asked)) = ⊥
 
 -- an answer to a line may want memory, after something was written
 abbrev pub MayStop : Option Request → Type 0
 MayStop None = ⊥
 MayStop (Some (check asked)) = ⊥
+MayStop (Some (save asked)) = ⊥

@@ -3,35 +3,55 @@ use Rattle.std.specs.Prelude.{◌≡◌, ◌⊎◌, ℕ, List, [], ◌++◌, tak
 use Rattle.cstn_io.specs.Causes.{Rose}
 use Rattle.cstn_io.specs.Contents.{after_bytes, with_bytes, IsAllOf}
 use Rattle.cstn_lines.specs.Pieces.{lines_of, whole_lines}
+use Rattle.cstn_net.specs.Networks.{Network, IsWellFormed}
+use Rattle.cstn_net.specs.declared.errors.NetError.{NetError}
+use Rattle.cstn_graphml.specs.Document.{Parts}
+use Rattle.cstn_graphml.specs.Networks.{network_of, IsUnfit}
 use Rattle.cstn_top.specs.Texts.{line}
+use Rattle.cstn_top.specs.Refusals.{fault_text}
 use Rattle.cstn_top.specs.Statuses.{status_of}
 use Rattle.cstn_top.specs.declared.status.Status.{Status}
 use Rattle.cstn_top.specs.declared.status.Status.TheVariants.{ReadFault, WriteFault, Memory}
 use Rattle.cstn_top.specs.declared.output.Outcome.{Outcome}
+use Rattle.cstn_top.specs.declared.output.Outcome.TheVariants.{Document}
 
 -- a text, and how the request ends
 pub record Said : Type 0 where
   pub outcome : Outcome
   pub text : List ℕ
 
+-- a line, and how the request ends
+abbrev pub say : Outcome → List ℕ → Said
+say outcome text = record { outcome = outcome; text = line text }
+
 -- after a text
 abbrev pub after_text : List ℕ → Said → Said
 after_text text said = record { outcome = said.outcome; text = text ++ said.text }
 
--- What a request says: a text and no more, or an opening and then a session over the lines of the live source, of which is
--- told what it says of all lines, and what it answers to some of them alone.
+-- What a request says: a text and no more; or what is said of the network of a document's parts, where they make one; or an
+-- opening and then a session over the lines of the live source, of which is told what it says of all lines, and what it
+-- answers to some of them alone.
 pub data Plan : Type 0 where
   says : Said → Plan
+  judges : Parts → (Network → Said) → Plan
   talks : List ℕ → (List (List ℕ) → Said) → (List (List ℕ) → List ℕ) → Plan
 
+-- The parts make a network, and this is said of it, or they make none, and its lowest fault is told.
+abbrev pub IsJudgement : Parts → (Network → Said) → Said → Type 0
+IsJudgement parts answer said =
+    (IsWellFormed (network_of parts) × (said ≡ answer (network_of parts)))
+    ⊎ ((error : NetError) × IsUnfit parts error × (said ≡ say Document (fault_text parts.names error)))
+
 -- the whole output, where the live source has these bytes
-abbrev pub output : Plan → List ℕ → Said
-output (says said) live = said
-output (talks opening whole heard) live = after_text opening (whole (lines_of live))
+abbrev pub IsOutput : Plan → List ℕ → Said → Type 0
+IsOutput (says text) live said = said ≡ text
+IsOutput (judges parts answer) live said = IsJudgement parts answer said
+IsOutput (talks opening whole heard) live said = said ≡ after_text opening (whole (lines_of live))
 
 -- what is said before a fault of the live source that has given these bytes
 abbrev pub before_fault : Plan → List ℕ → List ℕ
 before_fault (says said) taken = []
+before_fault (judges parts answer) taken = []
 before_fault (talks opening whole heard) taken = opening ++ heard (whole_lines taken)
 
 -- the text is empty or ends with LF
@@ -43,12 +63,22 @@ pub record Live : Type 0 where
   pub left : Option (List ℕ)
   pub faults : ℕ
 
+-- the text is the first lines of the output, perhaps none
+pub record AreFirstLines (plan : Plan) (before : Live) (text : List ℕ) : Type 0 where
+  pub live : List ℕ
+  pub said : Said
+  pub rest : List ℕ
+  pub all : IsAllOf before.left live
+  pub output : IsOutput plan live said
+  pub first : said.text ≡ text ++ rest
+  pub lines : EndsLine text
+
 -- What is written where each write is accepted: the output, or what comes after a fault.
 pub data IsText (plan : Plan) (before after : Live) : Status → List ℕ → Type 0 where
-  is_output : (live : List ℕ) → IsAllOf before.left live → IsText plan before after (status_of (output plan live).outcome) (output plan live).text
+  is_output : (live : List ℕ) (said : Said) → IsAllOf before.left live → IsOutput plan live said → IsText plan before after (status_of said.outcome) said.text
   is_file_fault : after ≡ before → IsText plan before after ReadFault (line (codes "read fault"))
   is_live_fault : (taken : List ℕ) → before.left ≡ after_bytes taken after.left → Rose before.faults after.faults → IsText plan before after ReadFault (before_fault plan taken ++ line (codes "read fault"))
-  is_memory : (live text rest : List ℕ) → IsAllOf before.left live → (output plan live).text ≡ text ++ rest → EndsLine text → IsText plan before after Memory (text ++ line (codes "memory"))
+  is_memory : (text : List ℕ) → (text ≡ []) ⊎ AreFirstLines plan before text → IsText plan before after Memory (text ++ line (codes "memory"))
 
 -- The text was written whole with its status, or after a fault of the sink a prefix of it.
 abbrev pub IsWritten : Option (List ℕ) → Option (List ℕ) → List ℕ → Status → Status → Type 0
@@ -62,4 +92,5 @@ Ends plan before after old new result =
 -- the live source stands as it was, where a request says a text and no more
 abbrev pub Untouched : {S : Type 0} → Plan → S → S → Type 0
 Untouched (says said) before after = after ≡ before
+Untouched (judges parts answer) before after = after ≡ before
 Untouched (talks opening whole heard) before after = Unit {0}

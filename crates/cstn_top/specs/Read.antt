@@ -1,17 +1,14 @@
 -- How values of the program are read.
-use Rattle.std.specs.Prelude.{string_bytes}
 use Rattle.cstn_top.specs.Plans.{Said}
-use Rattle.cstn_top.specs.Requests.{Asked, Request, check}
-use Rattle.cstn_top.specs.Documents.{Compact}
-use Rattle.cstn_top.specs.declared.document.Compact.{Compact as CompactParts}
+use Rattle.cstn_top.specs.Requests.{Asked, Request, check, save}
 use Rattle.cstn_top.specs.declared.output.Said.{Said as SaidText}
 use Rattle.cstn_top.specs.declared.words.Asked.{Asked as AskedWords}
 use Rattle.cstn_top.specs.declared.words.Request.{Request as RequestWords}
-use Rattle.cstn_top.specs.declared.words.Request.TheVariants.{Check}
+use Rattle.cstn_top.specs.declared.words.Request.TheVariants.{Check, Save}
 
 -- what is said
 abbrev pub the_said : SaidText → Said
-the_said said = record { outcome = said.outcome; text = string_bytes said.text }
+the_said said = record { outcome = said.outcome; text = said.text.items }
 
 -- what is asked
 abbrev pub the_asked : AskedWords → Asked
@@ -19,7 +16,4 @@ the_asked asked = record { file = asked.file.now; deadline = asked.deadline }
 
 abbrev pub the_request : RequestWords → Request
 the_request (Check asked) = check (the_asked asked)
-
--- what a document says
-abbrev pub the_document : CompactParts → Compact
-the_document document = record { count = document.count; edges = document.edges.items }
+the_request (Save asked) = save (the_asked asked)

@@ -1,40 +1,39 @@
 -- Which words are a request.
-use Rattle.std.specs.Prelude.{ℕ, ◌+◌, ◌-◌, ◌*◌, Bool, ◌&&◌, nat_le, nat_lt, ◌==◌, if◌then◌else◌, List, [], ◌∷◌, length, Option, None, Some, codes, fold, get_or}
-use Rattle.std.specs.Option.{option_map}
-use Rattle.std.specs.List.{list_all}
-use Rattle.std.specs.Char.{is_ascii_digit}
+use Rattle.std.specs.Prelude.{ℕ, nat_le, if◌then◌else◌, List, [], ◌∷◌, Option, None, Some, codes}
+use Rattle.std.specs.Option.{option_map, option_and_then}
+use Rattle.cstn_text.specs.Numbers.{number_read}
 use Rattle.cstn_top.specs.Texts.{is_same}
 
--- `FILE --deadline N`
+-- `FILE [--deadline N]`
 pub record Asked : Type 0 where
   pub file : List ℕ
-  pub deadline : ℕ
+  pub deadline : Option ℕ
 
 pub data Request : Type 0 where
   check : Asked → Request
-
--- the value of decimal digits
-abbrev pub value_of : List ℕ → ℕ
-value_of digits = fold (λ v b. 10 * v + (b - 48)) 0 digits
-
--- `0`, or digits that don't begin with `0`
-abbrev pub is_number : List ℕ → Bool
-is_number bs = list_all is_ascii_digit bs && (if get_or bs 0 0 == 48 then length bs == 1 else nat_lt 0 (length bs))
+  save : Asked → Request
 
 -- a number of at most so much
 abbrev pub number_to : ℕ → List ℕ → Option ℕ
-number_to most bs = if is_number bs && nat_le (value_of bs) most then Some (value_of bs) else None
+number_to most text = option_and_then (λ n. if nat_le n most then Some n else None) (number_read text)
 
--- `FILE --deadline N` with N up to 1,000
+-- nothing, or `--deadline N` with N up to 1,000,000
+abbrev pub deadline_of : List (List ℕ) → Option (Option ℕ)
+deadline_of [] = Some None
+deadline_of (option ∷ number ∷ []) =
+    if is_same option (codes "--deadline") then option_map (λ n. Some n) (number_to 1000000 number) else None
+deadline_of words = None
+
+-- a file, and its deadline
 abbrev pub asked_of : List (List ℕ) → Option Asked
-asked_of (file ∷ option ∷ number ∷ []) =
-    if is_same option (codes "--deadline") then option_map (λ n. record { file = file; deadline = n }) (number_to 1000 number) else None
-asked_of words = None
+asked_of [] = None
+asked_of (file ∷ rest) = option_map (λ deadline. record { file = file; deadline = deadline }) (deadline_of rest)
 
 -- the request of a command with these words after it
 abbrev pub request_at : List ℕ → List (List ℕ) → Option Request
 request_at command rest =
-    if is_same command (codes "check") then option_map check (asked_of rest) else None
+    if is_same command (codes "check") then option_map check (asked_of rest)
+    else if is_same command (codes "save") then option_map save (asked_of rest) else None
 
 -- the request that the words are, if they are one
 abbrev pub request_of : List (List ℕ) → Option Request
@@ -44,6 +43,7 @@ request_of (command ∷ rest) = request_at command rest
 -- the files that a request names, in the order of the words
 abbrev pub files_of : Request → List (List ℕ)
 files_of (check asked) = asked.file ∷ []
+files_of (save asked) = asked.file ∷ []
 
 -- the files that words name
 abbrev pub names_of : Option Request → List (List ℕ)

@@ -7,11 +7,15 @@ ghost use Rattle.cstn_top.specs.Read.{the_request, the_said};
 ghost use Rattle.cstn_top.specs.Outputs.{Planned};
 
 mod check;
+mod documents;
+mod refusals;
+mod save;
 
 use crate::output::Said;
 use crate::words::Request;
 use check::check_file;
 use cstn_io::Shelf;
+use save::save_file;
 use std::alloc::Global;
 
 /// Why nothing can be said for a request.
@@ -33,5 +37,6 @@ pub(crate) fn prepare<F: Shelf>(
 {
     match request {
         Request::Check(asked) => check_file(alloc, asked, shelf),
+        Request::Save(asked) => save_file(alloc, asked, shelf),
     }
 }

@@ -2,9 +2,7 @@
 #![tactic(auto)]
 
 mod commands;
-mod document;
 mod growth;
-mod networks;
 mod output;
 mod status;
 mod top;

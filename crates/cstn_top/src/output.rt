@@ -38,7 +38,7 @@ impl Outcome {
 #[derive(Drop)]
 pub(crate) struct Said {
     pub(crate) outcome: Outcome,
-    pub(crate) text: String,
+    pub(crate) text: Vec<u8>,
 }
 
 /// Writes a text and flushes it.

@@ -46,7 +46,7 @@ pub fn run<F: Shelf, S: Source, K: Sink>(
         return finish(out, b"words\n", Status::Words);
     };
     match prepare(alloc, request, shelf) {
-        Ok(said) => finish(out, said.text.as_bytes(), said.outcome.status()),
+        Ok(said) => finish(out, &said.text, said.outcome.status()),
         Err(Refused::ReadFault) => finish(out, b"read fault\n", Status::ReadFault),
         Err(Refused::Memory) => finish(out, b"memory\n", Status::Memory),
     }

@@ -1,25 +1,24 @@
-// `check FILE --deadline N`
-ghost use Rattle.std.specs.Prelude.{◌≡◌, ◌≤◌, ℕ, Some, length, IfOk, IsTrue, IsErrOf, codes};
+// `check FILE [--deadline N]`
+ghost use Rattle.std.specs.Prelude.{◌≡◌, ℕ, [], not, is_some, IfOk, IsTrue, IsErrOf};
+ghost use Rattle.std.specs.List.{list_all};
 ghost use Rattle.cstn_io.specs.Causes.{Rose};
 ghost use Rattle.cstn_net.specs.Networks.{IsWellFormed, Observes};
 ghost use Rattle.cstn_net.specs.Read.{the_network};
 ghost use Rattle.cstn_top.specs.Requests.{check};
-ghost use Rattle.cstn_top.specs.Documents.{document_of};
 ghost use Rattle.cstn_top.specs.Read.{the_asked, the_said};
-ghost use Rattle.cstn_top.specs.Outputs.{Planned, IsRight, say, verdict, checked};
+ghost use Rattle.cstn_top.specs.Outputs.{Planned, IsVerdict, verdict, checked, observes_nothing, is_judged};
 
 use super::Refused;
-use crate::document::{Refusal, read};
+use super::documents::{Opened, open};
 use crate::growth;
-use crate::networks::network_of;
 use crate::output::{Outcome, Said};
 use crate::words::Asked;
-use cstn_io::{Shelf, TakeError, take_all};
+use cstn_io::Shelf;
+use cstn_label::NodeId;
 use cstn_net::Network;
 use std::alloc::Global;
 
-const MAX_DOCUMENT: usize = 8_388_608;
-
+/// The verdict on the network of a file.
 pub(crate) fn check_file<F: Shelf>(
     alloc: Global,
     asked: Asked<'_>,
@@ -29,39 +28,65 @@ pub(crate) fn check_file<F: Shelf>(
     ensures plan { IfOk result (λ said. Planned (check (the_asked asked.entry)) (F.files shelf.old) (the_said said)) }
     ensures fault { IsErrOf result Refused.ReadFault → Rose (F.faults shelf.old) (F.faults shelf.new) }
 {
-    let bytes = match take_all(alloc, shelf, asked.file, MAX_DOCUMENT) {
-        Ok(bytes) => bytes,
-        Err(TakeError::TooLong) => return refuse(alloc),
-        Err(TakeError::ReadFault) => return Err(Refused::ReadFault),
-        Err(TakeError::Memory(_)) => return Err(Refused::Memory),
-    };
-    decide(alloc, &bytes, asked.deadline)
+    match open(alloc, asked, shelf) {
+        Ok(Opened::Accepted { network, names: _ }) => judge(alloc, &network),
+        Ok(Opened::Told(said)) => Ok(said),
+        Err(refused) => Err(refused),
+    }
 }
 
-// What is said of the bytes of a document.
-fn decide(alloc: Global, bytes: &[u8], deadline: u32) -> Result<Said, Refused>
-    requires few { length bytes.now ≤ MAX_DOCUMENT }
-    ensures said { IfOk result (λ said. the_said said ≡ checked (document_of bytes.now deadline)) }
-    ensures right { IfOk result (λ said. IsRight said.outcome (document_of bytes.now deadline)) }
+const MAX_POINTS: u16 = 64;
+
+const MAX_CONSTRAINTS: usize = 256;
+
+const MAX_DEADLINE: u32 = 1000;
+
+// What is said of a network.
+fn judge(alloc: Global, net: &Network) -> Result<Said, Refused>
+    requires well_formed { IsWellFormed (the_network net.now) }
+    ensures said { IfOk result (λ said. the_said said ≡ checked [] (the_network net.now)) }
+    ensures right { IfOk result (λ said. IsVerdict said.outcome (the_network net.now)) }
     ensures fault { IsErrOf result Refused.ReadFault → ⊥ }
 {
-    let document = match read(alloc, bytes) {
-        Ok(document) => document,
-        Err(Refusal::Later) => return refuse(alloc),
-        Err(Refusal::Memory) => return Err(Refused::Memory),
-    };
-    let Ok(net) = network_of(alloc, deadline, &document) else {
+    if is_judged(net) {
+        return verdict(alloc, net);
+    }
+    let Ok(text) = b"document later\n".to_vec(alloc) else {
         return Err(Refused::Memory);
     };
-    judge(alloc, &net)
+    Ok(Said {
+        outcome: Outcome::Document,
+        text,
+    })
+}
+
+// Whether a verdict is given on the network.
+fn is_judged(net: &Network) -> bool
+    ensures { result ≡ is_judged (the_network net.now) }
+{
+    observes_nothing(net)
+        && net.count() <= MAX_POINTS
+        && net.constraints().len() <= MAX_CONSTRAINTS
+        && net.deadline() <= MAX_DEADLINE
+}
+
+fn observes_nothing(net: &Network) -> bool
+    ensures { result ≡ observes_nothing (the_network net.now) }
+{
+    for x in 0..net.count() {
+        if net.observes(NodeId(x)).is_some() {
+            return false;
+        }
+    }
+    true
 }
 
 // The verdict on a network that observes nothing.
-fn judge(alloc: Global, net: &Network) -> Result<Said, Refused>
+fn verdict(alloc: Global, net: &Network) -> Result<Said, Refused>
     requires well_formed { IsWellFormed (the_network net.now) }
     requires plain { (x p : ℕ) → Observes (the_network net.now) x p → ⊥ }
     ensures said { IfOk result (λ said. the_said said ≡ verdict (the_network net.now)) }
-    ensures right { IfOk result (λ said. IsRight said.outcome (Some (the_network net.now))) }
+    ensures right { IfOk result (λ said. IsVerdict said.outcome (the_network net.now)) }
     ensures fault { IsErrOf result Refused.ReadFault → ⊥ }
 {
     let Ok(verdict) = growth::decide(alloc, net) else {
@@ -74,7 +99,7 @@ fn judge(alloc: Global, net: &Network) -> Result<Said, Refused>
         };
         return Ok(Said {
             outcome: Outcome::Good,
-            text,
+            text: text.into_bytes(),
         });
     }
     let Ok(text) = format!(in alloc; "no {load}\n") else {
@@ -82,19 +107,6 @@ fn judge(alloc: Global, net: &Network) -> Result<Said, Refused>
     };
     Ok(Said {
         outcome: Outcome::Bad,
-        text,
-    })
-}
-
-fn refuse(alloc: Global) -> Result<Said, Refused>
-    ensures said { IfOk result (λ said. the_said said ≡ say Outcome.Document (codes "document later")) }
-    ensures fault { IsErrOf result Refused.ReadFault → ⊥ }
-{
-    let Ok(text) = String::from_str(alloc, "document later\n") else {
-        return Err(Refused::Memory);
-    };
-    Ok(Said {
-        outcome: Outcome::Document,
-        text,
+        text: text.into_bytes(),
     })
 }

@@ -1,7 +1,7 @@
 use Rattle.cstn_top.specs.Plans.{Live}
 use Rattle.cstn_top.specs.Read.{the_request, the_said}
 use Rattle.cstn_top.specs.declared.output.Outcome.TheVariants.{Good, Bad, Words}
-use Rattle.cstn_top.proofs.Endings.{words_end, fault_end, memory_end, says_end, only_words, outcome_of, good_is_consistent, bad_is_inconsistent}
+use Rattle.cstn_top.proofs.Endings.{words_end, fault_end, memory_end, says_end, only_words, outcome_of, good_is, bad_is}
 use Rattle.cstn_top.proofs.top.run.Goals as goal
 
 pub returns-in_default-clause-output : goal.returns-in_default-clause-output
@@ -12,8 +12,8 @@ returns-in_default-clause-output g c =
 pub returns-in-Ok-clause-output : goal.returns-in-Ok-clause-output
 returns-in-Ok-clause-output g c =
     let seen : Live = record { left = g.S.Source.left c.args.live.now; faults = g.S.Source.faults c.args.live.now } in
-    says_end _ (the_request c.in-Some.request) (g.F.Shelf.files c.args.shelf.now) c.args.live.now (the_said c.in-Ok.said) c.as_bytes.result.now seen _ _ c.status.result _
-    c.in-Some.ensures.request c.in-Ok.ensures.plan c.as_bytes.ensures.value c.status.ensures.status c.finish-in-Ok.ensures.written
+    says_end _ (the_request c.in-Some.request) (g.F.Shelf.files c.args.shelf.now) c.args.live.now (the_said c.in-Ok.said) c.deref.result.now seen _ _ c.status.result _
+    c.in-Some.ensures.request c.in-Ok.ensures.plan c.deref.ensures.value c.status.ensures.status c.finish-in-Ok.ensures.written
 
 pub returns-in-Ok-clause-words_only : goal.returns-in-Ok-clause-words_only
 returns-in-Ok-clause-words_only g c = λ is.
@@ -22,12 +22,12 @@ returns-in-Ok-clause-words_only g c = λ is.
 
 pub returns-in-Ok-clause-good : goal.returns-in-Ok-clause-good
 returns-in-Ok-clause-good g c = λ is.
-    good_is_consistent _ (the_request c.in-Some.request) (g.F.Shelf.files c.args.shelf.now) (the_said c.in-Ok.said) c.in-Some.ensures.request c.in-Ok.ensures.plan
+    good_is _ (the_request c.in-Some.request) (g.F.Shelf.files c.args.shelf.now) (the_said c.in-Ok.said) c.in-Some.ensures.request c.in-Ok.ensures.plan
     (outcome_of c.in-Ok.said.outcome Good c.status.result _ c.status.ensures.status c.finish-in-Ok.ensures.status is)
 
 pub returns-in-Ok-clause-bad : goal.returns-in-Ok-clause-bad
 returns-in-Ok-clause-bad g c = λ is.
-    bad_is_inconsistent _ (the_request c.in-Some.request) (g.F.Shelf.files c.args.shelf.now) (the_said c.in-Ok.said) c.in-Some.ensures.request c.in-Ok.ensures.plan
+    bad_is _ (the_request c.in-Some.request) (g.F.Shelf.files c.args.shelf.now) (the_said c.in-Ok.said) c.in-Some.ensures.request c.in-Ok.ensures.plan
     (outcome_of c.in-Ok.said.outcome Bad c.status.result _ c.status.ensures.status c.finish-in-Ok.ensures.status is)
 
 pub returns-in-Err-ReadFault-clause-output : goal.returns-in-Err-ReadFault-clause-output

@@ -1,0 +1,11 @@
+-- Texts that are put together.
+use Rattle.std.proofs.Common.{◌≡◌, ℕ, List, [], ◌∷◌, ◌++◌, sym, ◌∙◌}
+use Rattle.std.proofs.lemmas.List.{append_assoc}
+
+-- a byte between two texts
+pub between : (a b : List ℕ) (x : ℕ) → (a ++ x ∷ []) ++ b ≡ a ++ x ∷ b
+between a b x = append_assoc a (x ∷ []) b
+
+-- a line of four parts
+pub line_of_four : (a b c d : List ℕ) → a ++ (b ++ (c ++ (d ++ 10 ∷ []))) ≡ (((a ++ b) ++ c) ++ d) ++ 10 ∷ []
+line_of_four a b c d = sym (append_assoc ((a ++ b) ++ c) d (10 ∷ []) ∙ append_assoc (a ++ b) c (d ++ 10 ∷ []) ∙ append_assoc a b (c ++ (d ++ 10 ∷ [])))

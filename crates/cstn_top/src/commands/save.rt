@@ -1,0 +1,50 @@
+// `save FILE [--deadline N]`
+ghost use Rattle.std.specs.Prelude.{◌≡◌, IfOk, IsTrue, IsErrOf, Some, length, slice_get, codes};
+ghost use Rattle.cstn_io.specs.Causes.{Rose};
+ghost use Rattle.cstn_net.specs.Networks.{count};
+ghost use Rattle.cstn_net.specs.Read.{the_network};
+ghost use Rattle.cstn_top.specs.Requests.{save};
+ghost use Rattle.cstn_top.specs.Read.{the_asked, the_said};
+ghost use Rattle.cstn_top.specs.Outputs.{Planned, saved};
+
+use super::Refused;
+use super::documents::{Opened, open};
+use crate::output::{Outcome, Said};
+use crate::words::Asked;
+use cstn_io::Shelf;
+use cstn_net::Network;
+use cstn_save::write;
+use cstn_text::Names;
+use std::alloc::Global;
+
+/// The canonical document of the network of a file.
+pub(crate) fn save_file<F: Shelf>(
+    alloc: Global,
+    asked: Asked<'_>,
+    shelf: &mut F,
+) -> Result<Said, Refused>
+    requires may_ask { IsTrue (F.may_ask shelf.old asked.file.now) }
+    ensures plan { IfOk result (λ said. Planned (save (the_asked asked.entry)) (F.files shelf.old) (the_said said)) }
+    ensures fault { IsErrOf result Refused.ReadFault → Rose (F.faults shelf.old) (F.faults shelf.new) }
+{
+    match open(alloc, asked, shelf) {
+        Ok(Opened::Accepted { network, names }) => canonical(alloc, &network, &names),
+        Ok(Opened::Told(said)) => Ok(said),
+        Err(refused) => Err(refused),
+    }
+}
+
+fn canonical(alloc: Global, network: &Network, names: &Names) -> Result<Said, Refused>
+    requires named { length names.now ≡ count (the_network network.now) }
+    requires origin { slice_get names.now 0 ≡ Some (codes "Z") }
+    ensures said { IfOk result (λ said. the_said said ≡ saved names.now (the_network network.now)) }
+    ensures fault { IsErrOf result Refused.ReadFault → ⊥ }
+{
+    let Ok(text) = write(alloc, network, names) else {
+        return Err(Refused::Memory);
+    };
+    Ok(Said {
+        outcome: Outcome::Good,
+        text,
+    })
+}
