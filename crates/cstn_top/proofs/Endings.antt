@@ -1,5 +1,5 @@
 -- How a call ends: what was written is a text of the plan.
-use Rattle.std.proofs.Common.{◌≡◌, ℕ, List, [], ◌∷◌, ◌++◌, refl, sym, ◌∙◌, subst, inl, inr, arith}
+use Rattle.std.proofs.Common.{◌≡◌, ℕ, List, [], ◌∷◌, refl, sym, ◌∙◌, subst, inl, inr, arith}
 use Rattle.std.specs.Prelude.{◌⊎◌, IsTrue, Option, None, Some, codes, true}
 use Rattle.std.specs.List.{list_all}
 use Rattle.cstn_io.specs.Contents.{IsAllOf}

@@ -1,6 +1,6 @@
 -- What is said of a document that was opened.
-use Rattle.std.proofs.Common.{◌≡◌, ℕ, ◌≤◌, ◌<◌, List, [], ◌∷◌, length, refl, ap, sym, ◌∙◌, subst, inl, inr, arith}
-use Rattle.std.specs.Prelude.{nat_lt, if◌then◌else◌, Option, None, Some, Result, Ok, Err, IfOk, IsSomeAnd, codes}
+use Rattle.std.proofs.Common.{◌≡◌, ℕ, ◌≤◌, ◌<◌, List, [], ◌∷◌, length, ap, sym, ◌∙◌, subst, inl, inr, arith}
+use Rattle.std.specs.Prelude.{nat_lt, if◌then◌else◌, Option, Result, Ok, Err, IfOk, IsSomeAnd, codes}
 use Rattle.cstn_io.specs.Contents.{IsLongFile}
 use Rattle.cstn_net.specs.Networks.{Network, IsWellFormed}
 use Rattle.cstn_net.specs.Strategies.{IsConsistent}
@@ -16,8 +16,8 @@ use Rattle.cstn_net.specs.declared.errors.NetError.{NetError}
 use Rattle.cstn_top.specs.Files.{IsContent}
 use Rattle.cstn_top.specs.Refusals.{refusal_text, fault_text}
 use Rattle.cstn_top.specs.Requests.{Asked, check, save}
-use Rattle.cstn_top.specs.Plans.{Said, say, Plan, says, judges, IsOutput, IsJudgement}
-use Rattle.cstn_top.specs.Outputs.{judged, on_document, checked, saved, parts_of, HasNetwork, IsRight, IsVerdict, Planned}
+use Rattle.cstn_top.specs.Plans.{Said, say, Plan, says, IsOutput}
+use Rattle.cstn_top.specs.Outputs.{judged, on_document, checked, saved, parts_of, IsRight, IsVerdict, Planned}
 use Rattle.cstn_top.specs.Opened.{IsToldBy, IsSaidOf, OpensAs, IsOpened, IsTooLong}
 use Rattle.cstn_top.specs.Read.{the_said}
 use Rattle.cstn_top.specs.declared.output.Said.{Said as SaidText}
@@ -92,8 +92,8 @@ long_opened told asked (Ok (Accepted network names)) long is = absurd is
 long_opened told asked (Ok (Told said)) long is =
     let found = long_content told asked.file 8388608 long in
     let said_of : IsSaidOf found.0 asked.deadline (the_said said) = λ answer live.
-      let same : on_document answer found.0 asked.deadline ≡ says (say Document (codes "document long")) = beyond 8388608 (length found.0) (says (say Document (codes "document long"))) (judged answer (document found.0 asked.deadline)) found.2 in
-      subst (λ (plan : Plan). IsOutput plan live (the_said said)) (sym same) is in
+    let same : on_document answer found.0 asked.deadline ≡ says (say Document (codes "document long")) = beyond 8388608 (length found.0) (says (say Document (codes "document long"))) (judged answer (document found.0 asked.deadline)) found.2 in
+    subst (λ (plan : Plan). IsOutput plan live (the_said said)) (sym same) is in
     record {
       bytes = found.0;
       content = found.1;

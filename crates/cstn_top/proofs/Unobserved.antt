@@ -1,5 +1,5 @@
 -- Networks that observe nothing.
-use Rattle.std.proofs.Common.{◌≡◌, ℕ, zero, suc, ◌+◌, ◌<◌, List, [], ◌∷◌, length, refl, ap, sym, ◌∙◌, Bool, true, false, not, arith}
+use Rattle.std.proofs.Common.{◌≡◌, ℕ, zero, suc, ◌+◌, ◌<◌, List, [], ◌∷◌, length, refl, Bool, true, false, not, arith}
 use Rattle.std.specs.Prelude.{Option, None, Some, is_some, slice_index_or, nat_le, ◌&&◌}
 use Rattle.std.specs.List.{list_all}
 use Rattle.cstn_net.specs.Networks.{Network, Observes, count}

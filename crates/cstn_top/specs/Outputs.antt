@@ -1,5 +1,5 @@
 -- What each request says.
-use Rattle.std.specs.Prelude.{◌≡◌, ℕ, Bool, not, ◌&&◌, nat_le, nat_lt, is_some, if◌then◌else◌, List, [], ◌++◌, length, get_or, Option, None, Some, IsSomeAnd, codes, decimal, Result, Ok, Err}
+use Rattle.std.specs.Prelude.{ℕ, Bool, not, ◌&&◌, nat_le, nat_lt, is_some, if◌then◌else◌, List, [], ◌++◌, length, get_or, Option, None, Some, IsSomeAnd, codes, decimal, Result, Ok, Err}
 use Rattle.std.specs.List.{list_all}
 use Rattle.cstn_net.specs.Networks.{Network, IsWellFormed, count}
 use Rattle.cstn_net.specs.Strategies.{IsConsistent}

@@ -115,12 +115,7 @@ fn expect_check(
 }
 
 // A check of this document with the deadline 9 refuses it with this.
-fn expect_refused(
-    rt: &impl Abort,
-    alloc: Global,
-    document: &[u8],
-    text: &str,
-) -> Result<(), Fail> {
+fn expect_refused(rt: &impl Abort, alloc: Global, document: &[u8], text: &str) -> Result<(), Fail> {
     let words = ["check", "pair", "--deadline", "9"];
     expect(rt, alloc, &words, quiet(document), Status::Document, text)
 }

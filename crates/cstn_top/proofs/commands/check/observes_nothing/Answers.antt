@@ -1,4 +1,4 @@
-use Rattle.std.proofs.Common.{◌≡◌, ℕ, ◌<◌, length, sym, arith}
+use Rattle.std.proofs.Common.{sym, arith}
 use Rattle.cstn_net.specs.Read.{the_network}
 use Rattle.cstn_top.proofs.Unobserved.{none_at}
 use Rattle.cstn_top.proofs.commands.check.observes_nothing.Goals as goal
