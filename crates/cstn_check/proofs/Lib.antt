@@ -16,3 +16,5 @@ pub mod Reading
 pub mod TurnLemmas
 pub mod Sequences
 pub mod Growing
+pub mod Starts
+pub mod Outcomes

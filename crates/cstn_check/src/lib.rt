@@ -5,7 +5,7 @@ mod growth;
 mod laws;
 mod turns;
 
-pub use growth::Grown;
+pub use growth::{Grown, grow};
 pub use laws::{
     closed_lists_have_strategies, growth_decides, growth_ends, growth_is_bounded, loads_are_known,
     logs_are_known,
