@@ -43,7 +43,7 @@ base_stands net x =
     not_below : (n : ℕ) → int_lt (pos n) (pos 0) ≡ false
     not_below n = grind (arith, ints)
 
-bases_last : (net : Network) (n : ℕ) → LastOnly net (bases n)
+pub bases_last : (net : Network) (n : ℕ) → LastOnly net (bases n)
 bases_last net zero k e there before = let f : ⊥ = cc in absurd f
 bases_last net (suc n) k e there before =
     elim (cases_lt k (length (bases n))) [

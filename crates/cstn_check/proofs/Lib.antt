@@ -9,7 +9,7 @@ pub mod Derives
 pub mod Closes
 pub mod Bounded
 pub mod Last
-pub mod Verdict
+pub mod Decides
 mod Examples
 pub mod Ends
 pub mod Reading
@@ -18,3 +18,4 @@ pub mod Sequences
 pub mod Growing
 pub mod Starts
 pub mod Outcomes
+pub mod Answering

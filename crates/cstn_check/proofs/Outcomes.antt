@@ -22,7 +22,7 @@ use Rattle.cstn_check.specs.declared.growth.Grown.TheVariants.{Closed, Refuted, 
 use Rattle.cstn_check.proofs.Decided.{refutes_true}
 use Rattle.cstn_check.proofs.Derives.{grown_keeps, grown_derived_from}
 use Rattle.cstn_check.proofs.Last.{LastOnly, last_more, none_refuted, refuted_from_last}
-use Rattle.cstn_check.proofs.Verdict.{true_refutes, refuted_at}
+use Rattle.cstn_check.proofs.Decides.{true_refutes, refuted_at}
 use Rattle.cstn_check.proofs.Reading.{entries_small, entry_at}
 use Rattle.cstn_check.proofs.TurnLemmas.{longer_itself}
 use Rattle.cstn_check.proofs.Ends.{grow_at_refuted}

@@ -19,7 +19,7 @@ use Rattle.cstn_check.specs.Growth.{is_covered, is_live}
 use Rattle.cstn_check.proofs.Decided.{Small, refutes_true}
 use Rattle.cstn_check.proofs.Lists.{covered_by}
 use Rattle.cstn_check.proofs.Bounded.{covered_at}
-use Rattle.cstn_check.proofs.Verdict.{true_refutes}
+use Rattle.cstn_check.proofs.Decides.{true_refutes}
 
 pub small_marks : (b : Bound) → Small (the_bound b).label
 small_marks b = λ p past. unmarked_above b.label p past

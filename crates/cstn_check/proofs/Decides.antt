@@ -58,7 +58,7 @@ refuted_at net (x ∷ xs) small h = elim (or_cases (refutes net x.bound) (is_ref
 
 module _ (net : Network) (start : List Entry) (wf : IsNetwork net) (letters : HasLetters net) (kept : IsKept net start)
     (derivation : IsDerivation net start) where
-  grown_small : (k : ℕ) (e : Entry) → slice_get (grow net start) k ≡ Some e → Small e.bound.label
+  pub grown_small : (k : ℕ) (e : Entry) → slice_get (grow net start) k ≡ Some e → Small e.bound.label
   grown_small k e there =
       good_small net e.bound letters
       (good_at net (grow net start) k e (grown_good net start (length start + most_entries net) wf kept.good) there)
