@@ -62,7 +62,7 @@ finished_good net b here h = record {
   observed = λ q. kept_own (Seen net q) (slice_index_or net.observes b.node None) b.label q (λ f. absurd (f refl)) (h q);
 }
 
-chain_good : (net : Network) (c : Constraint) (b r : Bound) → IsConstraint net c → IsGood net b → chain_of net c b ≡ Some r → IsGood net r
+pub chain_good : (net : Network) (c : Constraint) (b r : Bound) → IsConstraint net c → IsGood net b → chain_of net c b ≡ Some r → IsGood net r
 chain_good net c b r good_c good e =
     elim (cases_Bool ((eqb b.node c.to) && (is_plain b.label && is_plain (joined b.label c.label)))) [
       | inl given ↦
@@ -76,7 +76,7 @@ chain_good net c b r good_c good e =
           let f : ⊥ = cc in absurd f
     ]
 
-wait_good : (net : Network) (o : Option ℕ) (seen b r : Bound) → IsGood net seen → IsGood net b → wait_by net o seen b ≡ Some r → IsGood net r
+pub wait_good : (net : Network) (o : Option ℕ) (seen b r : Bound) → IsGood net seen → IsGood net b → wait_by net o seen b ≡ Some r → IsGood net r
 wait_good net None seen b r good_seen good e = let f : ⊥ = cc in absurd f
 wait_good net (Some p) seen b r good_seen good e =
     let made : Bound = record {

@@ -28,7 +28,7 @@ refutes_false net (x ∷ xs) (suc k) e h there =
 abbrev pub LastOnly : Network → List Entry → Type 0
 LastOnly net L = (k : ℕ) (e : Entry) → slice_get L k ≡ Some e → suc k < length L → refutes net e.bound ≡ false
 
-last_more : (net : Network) (L : List Entry) (i : Instance) (r : Bound) → OfNetwork net i → LastOnly net L →
+pub last_more : (net : Network) (L : List Entry) (i : Instance) (r : Bound) → OfNetwork net i → LastOnly net L →
     conclusion net L i ≡ Some r → is_covered L r ≡ false → is_refuted net L ≡ false → LastOnly net (with_entry L i r)
 last_more net L i r of h e free on k x there before =
     let long = length-append L (record { bound = r; why = why_of i } ∷ []) in
@@ -43,7 +43,7 @@ base_stands net x =
     not_below : (n : ℕ) → int_lt (pos n) (pos 0) ≡ false
     not_below n = grind (arith, ints)
 
-bases_last : (net : Network) (n : ℕ) → LastOnly net (bases n)
+pub bases_last : (net : Network) (n : ℕ) → LastOnly net (bases n)
 bases_last net zero k e there before = let f : ⊥ = cc in absurd f
 bases_last net (suc n) k e there before =
     elim (cases_lt k (length (bases n))) [
@@ -65,7 +65,7 @@ bases_last net (suc n) k e there before =
 pub grown_last : (net : Network) (n : ℕ) → LastOnly net (grown net (bases (count net)) n)
 grown_last net n = grown_keeps net (LastOnly net) (last_more net) (bases (count net)) n (bases_last net (count net))
 
-refuted_from_last : (net : Network) (L : List Entry) (k : ℕ) (e : Entry) → slice_get L k ≡ Some e → refutes net e.bound ≡ true →
+pub refuted_from_last : (net : Network) (L : List Entry) (k : ℕ) (e : Entry) → slice_get L k ≡ Some e → refutes net e.bound ≡ true →
     is_refuted net L ≡ true
 refuted_from_last net [] k e there r = let f : ⊥ = cc in absurd f
 refuted_from_last net (x ∷ xs) zero e there r =
@@ -74,7 +74,7 @@ refuted_from_last net (x ∷ xs) zero e there r =
 refuted_from_last net (x ∷ xs) (suc k) e there r =
     or_right (refutes net x.bound) (is_refuted net xs) (refuted_from_last net xs k e there r)
 
-none_refuted : (net : Network) (L : List Entry) → ((k : ℕ) (e : Entry) → slice_get L k ≡ Some e → refutes net e.bound ≡ false) →
+pub none_refuted : (net : Network) (L : List Entry) → ((k : ℕ) (e : Entry) → slice_get L k ≡ Some e → refutes net e.bound ≡ false) →
     is_refuted net L ≡ false
 none_refuted net [] h = refl
 none_refuted net (x ∷ xs) h =

@@ -9,10 +9,13 @@ pub mod Derives
 pub mod Closes
 pub mod Bounded
 pub mod Last
-pub mod Verdict
+pub mod Decides
 mod Examples
 pub mod Ends
 pub mod Reading
 pub mod TurnLemmas
 pub mod Sequences
 pub mod Growing
+pub mod Starts
+pub mod Outcomes
+pub mod Answering

@@ -19,12 +19,12 @@ use Rattle.cstn_check.specs.Growth.{is_covered, is_live}
 use Rattle.cstn_check.proofs.Decided.{Small, refutes_true}
 use Rattle.cstn_check.proofs.Lists.{covered_by}
 use Rattle.cstn_check.proofs.Bounded.{covered_at}
-use Rattle.cstn_check.proofs.Verdict.{true_refutes}
+use Rattle.cstn_check.proofs.Decides.{true_refutes}
 
-small_marks : (b : Bound) → Small (the_bound b).label
+pub small_marks : (b : Bound) → Small (the_bound b).label
 small_marks b = λ p past. unmarked_above b.label p past
 
-entries_small : (L : List Entry) (k : ℕ) (e : TheEntry) → slice_get (the_entries L) k ≡ Some e → Small e.bound.label
+pub entries_small : (L : List Entry) (k : ℕ) (e : TheEntry) → slice_get (the_entries L) k ≡ Some e → Small e.bound.label
 entries_small L k e there =
     let got = get_map the_entry L k e there in
     subst (λ (z : TheEntry). Small z.bound.label) got.2 (small_marks got.0.bound)

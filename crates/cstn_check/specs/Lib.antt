@@ -4,3 +4,4 @@ pub mod Asked
 pub mod Examples
 pub mod Kept
 pub mod Turns
+pub mod Checks

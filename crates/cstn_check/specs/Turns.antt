@@ -1,6 +1,7 @@
 -- What the turns of growth make of a log.
-use Rattle.std.specs.Prelude.{ℕ, ◌≡◌, ◌<◌, ◌≤◌, ◌+◌, ◌^◌, Bool, true, false, List, [], ◌∷◌, ◌++◌, length}
+use Rattle.std.specs.Prelude.{ℕ, ◌≡◌, ◌<◌, ◌≤◌, ◌+◌, ◌-◌, ◌^◌, Bool, true, false, List, [], ◌∷◌, ◌++◌, length, Some, slice_get}
 use Rattle.cstn_net.specs.Networks.{Network, count}
+use Rattle.cstn_rules.specs.Rules.{Refutes}
 use Rattle.cstn_rules.specs.Derivations.{Entry, IsDerivation}
 use Rattle.cstn_log.specs.Entries.{State, the_entries}
 use Rattle.cstn_check.specs.Growth.{is_refuted}
@@ -40,3 +41,13 @@ pub record IsCut (old new : State) (list : List Entry) : Type 0 where
   pub full : length new.entries ≡ old.cap
   pub front : IsFront (the_entries new.entries) list
   pub longer : IsLonger old new
+
+-- no entry but perhaps the last refutes the network
+pub record IsRefutedLast (net : Network) (list : List Entry) : Type 0 where
+  pub before : (k : ℕ) (e : Entry) → slice_get list k ≡ Some e → k + 1 < length list → ¬ Refutes net e.bound
+
+-- the last entry refutes the network
+pub record LastRefutes (net : Network) (list : List Entry) : Type 0 where
+  pub last : Entry
+  pub is_last : slice_get list (length list - 1) ≡ Some last
+  pub refutes : Refutes net last.bound

@@ -1,12 +1,15 @@
 //! Growth of the list of bounds, and the verdict by it.
 #![tactic(auto)]
 
+mod checks;
 mod growth;
 mod laws;
 mod turns;
+mod verdicts;
 
-pub use growth::Grown;
+pub use growth::{Grown, grow};
 pub use laws::{
     closed_lists_have_strategies, growth_decides, growth_ends, growth_is_bounded, loads_are_known,
     logs_are_known,
 };
+pub use verdicts::Verdict;

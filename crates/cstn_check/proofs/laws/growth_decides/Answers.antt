@@ -1,4 +1,4 @@
-use Rattle.cstn_check.proofs.Verdict.{log_derived, log_closed, log_last, log_decides, least_exists}
+use Rattle.cstn_check.proofs.Decides.{log_derived, log_closed, log_last, log_decides, least_exists}
 use Rattle.cstn_check.proofs.laws.growth_decides.Goals as goal
 
 pub returns-clause-derivation : goal.returns-clause-derivation

@@ -1,4 +1,4 @@
-use Rattle.cstn_check.proofs.Verdict.{load_bounded}
+use Rattle.cstn_check.proofs.Decides.{load_bounded}
 use Rattle.cstn_check.proofs.laws.growth_is_bounded.Goals as goal
 
 pub returns : goal.returns

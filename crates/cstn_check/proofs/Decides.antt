@@ -40,13 +40,13 @@ true_refutes net b small h =
       above = true_less (pos (limit net b.node)) b.least two.1;
     }
 
-record RefutedAt (net : Network) (L : List Entry) : Type 0 where
-  place : ℕ
-  entry : Entry
-  there : slice_get L place ≡ Some entry
-  refutes : Refutes net entry.bound
+pub record RefutedAt (net : Network) (L : List Entry) : Type 0 where
+  pub place : ℕ
+  pub entry : Entry
+  pub there : slice_get L place ≡ Some entry
+  pub refutes : Refutes net entry.bound
 
-refuted_at : (net : Network) (L : List Entry) → ((k : ℕ) (e : Entry) → slice_get L k ≡ Some e → Small e.bound.label) →
+pub refuted_at : (net : Network) (L : List Entry) → ((k : ℕ) (e : Entry) → slice_get L k ≡ Some e → Small e.bound.label) →
     is_refuted net L ≡ true → RefutedAt net L
 refuted_at net [] small h = absurd (false≢true h)
 refuted_at net (x ∷ xs) small h = elim (or_cases (refutes net x.bound) (is_refuted net xs) h) [
@@ -58,7 +58,7 @@ refuted_at net (x ∷ xs) small h = elim (or_cases (refutes net x.bound) (is_ref
 
 module _ (net : Network) (start : List Entry) (wf : IsNetwork net) (letters : HasLetters net) (kept : IsKept net start)
     (derivation : IsDerivation net start) where
-  grown_small : (k : ℕ) (e : Entry) → slice_get (grow net start) k ≡ Some e → Small e.bound.label
+  pub grown_small : (k : ℕ) (e : Entry) → slice_get (grow net start) k ≡ Some e → Small e.bound.label
   grown_small k e there =
       good_small net e.bound letters
       (good_at net (grow net start) k e (grown_good net start (length start + most_entries net) wf kept.good) there)

@@ -1,0 +1,134 @@
+-- What a check's log says of its network.
+use Rattle.std.proofs.Common.{ℕ, zero, suc, ◌≡◌, ◌+◌, ◌-◌, ◌<◌, ◌≤◌, ◌^◌, inl, inr, Bool, true, false, List, [], ◌∷◌, ◌++◌, length, take, drop, Option, Some, None, ltb, arith, refl, sym, subst, ap, ◌∙◌, length-append}
+use Rattle.std.specs.Prelude.{slice_get, ◌↔◌, if◌then◌else◌, nat_lt}
+use Rattle.std.proofs.lemmas.Bool.{cases_Bool, false≢true, ltb-true, lt-ltb, cond-true, cond-false}
+use Rattle.std.proofs.lemmas.List.{length-map, take-append-drop}
+use Rattle.std.proofs.lemmas.Option.{slice_get_within}
+use Rattle.cstn_net.specs.Networks.{Network, IsWellFormed, count}
+use Rattle.cstn_rules.specs.Derivations.{Entry, IsDerivation}
+use Rattle.cstn_rules.specs.Read.{the_entry}
+use Rattle.cstn_log.specs.Entries.{State, the_entries, bases, first_entries}
+use Rattle.cstn_log.proofs.DerivedLemmas.{length_bases}
+use Rattle.cstn_check.specs.Growth.{is_refuted, grown, grow, log_of, load_of}
+use Rattle.cstn_check.specs.Turns.{IsRefutedLast, LastRefutes}
+use Rattle.cstn_check.specs.Checks.{IsStarted, IsPrefix, IsVerdict}
+use Rattle.cstn_check.specs.declared.growth.Grown.{Grown}
+use Rattle.cstn_check.specs.declared.growth.Grown.TheVariants.{Closed, Refuted, Full}
+use Rattle.cstn_check.specs.declared.verdicts.Verdict.{Verdict}
+use Rattle.cstn_check.specs.declared.verdicts.Verdict.TheVariants.{Yes, No, Full as FullVerdict}
+use Rattle.cstn_check.proofs.Decided.{refutes_true}
+use Rattle.cstn_check.proofs.Lists.{length_upto}
+use Rattle.cstn_check.proofs.Derives.{bases_derived}
+use Rattle.cstn_check.proofs.Bounded.{bases_kept}
+use Rattle.cstn_check.proofs.Last.{bases_last}
+use Rattle.cstn_check.proofs.Decides.{refuted_at, grown_small, log_last}
+use Rattle.cstn_check.proofs.Ends.{log_goes_on}
+
+module _ (net : Network) (s : State) (good : IsWellFormed net) (started : IsStarted net s) where
+  -- a log with room for them has the base bounds
+  pub has_bases : (length s.entries ≡ 0 → ⊥) → the_entries s.entries ≡ bases (count net)
+  has_bases some = elim (cases_Bool (nat_lt s.cap (count net))) [
+    | inl small ↦
+        let none : the_entries s.entries ≡ [] = started.entries ∙ cond-true _ _ _ small in
+        let long : length (the_entries s.entries) ≡ length s.entries = length-map s.entries the_entry in
+        let zero_long = ap length none in
+        absurd (some (omega arith))
+    | inr large ↦ started.entries ∙ cond-false _ _ _ large
+  ]
+
+  pub bases_begin : (length s.entries ≡ 0 → ⊥) → (more : List Entry) × (bases (count net) ++ more ≡ the_entries s.entries)
+  bases_begin some = ([], append_none (bases (count net)) ∙ sym (has_bases some))
+    where
+      append_none : (L : List Entry) → L ++ [] ≡ L
+      append_none [] = refl
+      append_none (x ∷ xs) = ap (λ l. x ∷ l) (append_none xs)
+
+  pub start_derived : (length s.entries ≡ 0 → ⊥) → IsDerivation net (the_entries s.entries)
+  start_derived some =
+      subst (λ l. IsDerivation net l) (sym (has_bases some)) (bases_derived net good.network good.letters (count net) (omega arith))
+
+  pub start_last : (length s.entries ≡ 0 → ⊥) → IsRefutedLast net (the_entries s.entries)
+  start_last some =
+      subst (λ l. IsRefutedLast net l) (sym (has_bases some)) (record {
+        before = λ k e there inside r.
+            false≢true (sym (bases_last net (count net) k e there (omega arith)) ∙ refutes_true net e.bound r);
+      })
+
+  -- where there is no room for them, the log of the network has more entries
+  pub no_room : length s.entries ≡ 0 → IsVerdict net s.cap (the_entries s.entries) FullVerdict
+  no_room none =
+      let long : length (the_entries s.entries) ≡ length s.entries = length-map s.entries the_entry in
+      let size = length_bases (count net) in
+      let from = length_upto (bases (count net)) (log_of net) (log_goes_on net 0 good) in
+      elim (cases_Bool (nat_lt s.cap (count net))) [
+        | inl small ↦
+            let below = ltb-true s.cap (count net) small in (
+              omega arith,
+              record {
+                rest = log_of net;
+                is = ap (λ l. l ++ log_of net) (started.entries ∙ cond-true _ _ _ small);
+              },
+            )
+        | inr large ↦
+            let all = ap length (started.entries ∙ cond-false _ _ _ large) in
+            let origin = good.network.origin in
+            absurd (omega arith)
+      ]
+
+entry_of : (L : List Entry) (k : ℕ) → k < length L → (e : Entry) × (slice_get L k ≡ Some e)
+entry_of [] k h = absurd (omega arith)
+entry_of (x ∷ xs) zero h = (x, refl)
+entry_of (x ∷ xs) (suc k) h = entry_of xs k (omega arith)
+
+-- where an entry of the log refutes, the last one does
+pub log_refutes_last : (net : Network) → IsWellFormed net → is_refuted net (log_of net) ≡ true → LastRefutes net (log_of net)
+log_refutes_last net good over =
+    let r = refuted_at net (log_of net)
+    (grown_small net (bases (count net)) good.network good.letters (bases_kept net good.network good.letters)
+    (bases_derived net good.network good.letters (count net) (omega arith))) over in
+    let inside = slice_get_within (log_of net) r.place r.entry r.there in
+    let e = entry_of (log_of net) (length (log_of net) - 1) (omega arith) in
+    record { last = e.0; is_last = e.1; refutes = (log_last net good.network good.letters e.0 e.1).1 over }
+
+pub verdict_from : (net : Network) (old new : State) (r : Grown) (v : Verdict) (load : ℕ) → IsWellFormed net →
+    the_entries old.entries ≡ bases (count net) →
+    (r ≡ Full ↔ (old.cap < length (grow net (the_entries old.entries)))) →
+    (r ≡ Full → the_entries new.entries ≡ take old.cap (grow net (the_entries old.entries))) →
+    ((r ≡ Full → ⊥) → the_entries new.entries ≡ grow net (the_entries old.entries)) →
+    (r ≡ Refuted ↔ ((r ≡ Full → ⊥) × LastRefutes net (the_entries new.entries))) → load ≡ length new.entries →
+    load ≤ old.cap →
+    (r ≡ Closed → v ≡ Yes load) → (r ≡ Refuted → v ≡ No load) → (r ≡ Full → v ≡ FullVerdict) →
+    IsVerdict net old.cap (the_entries new.entries) v
+verdict_from net old new Closed v load good base full cut whole refuted is short y n f =
+    let list = whole (λ e. cc) ∙ ap (grow net) base in
+    let long : length (the_entries new.entries) ≡ length new.entries = length-map new.entries the_entry in
+    let same : load ≡ load_of net = is ∙ sym long ∙ ap length list in
+    subst (λ w. IsVerdict net old.cap (the_entries new.entries) w) (sym (y refl)) (
+      same,
+      omega arith,
+      list,
+      elim (cases_Bool (is_refuted net (log_of net))) [
+        | inr stands ↦ stands
+        | inl over ↦
+            let last = subst (λ l. LastRefutes net l) (sym list) (log_refutes_last net good over) in
+            let clash : Closed ≡ Refuted = refuted.1 ((λ e. cc), last) in
+            cc
+      ],
+    )
+verdict_from net old new Refuted v load good base full cut whole refuted is short y n f =
+    let list = whole (λ e. cc) ∙ ap (grow net) base in
+    let long : length (the_entries new.entries) ≡ length new.entries = length-map new.entries the_entry in
+    let same : load ≡ load_of net = is ∙ sym long ∙ ap length list in
+    subst (λ w. IsVerdict net old.cap (the_entries new.entries) w) (sym (n refl))
+    (same, omega arith, list, subst (λ l. LastRefutes net l) list (refuted.0 refl).1)
+verdict_from net old new Full v load good base full cut whole refuted is short y n f =
+    let above = full.0 refl in
+    let loads : length (grow net (the_entries old.entries)) ≡ load_of net = ap (λ l. length (grow net l)) base in
+    subst (λ w. IsVerdict net old.cap (the_entries new.entries) w) (sym (f refl)) (
+      omega arith,
+      record {
+        rest = drop old.cap (log_of net);
+        is = ap (λ l. l ++ drop old.cap (log_of net)) (cut refl ∙ ap (λ l. take old.cap (grow net l)) base)
+            ∙ take-append-drop old.cap (log_of net);
+      },
+    )

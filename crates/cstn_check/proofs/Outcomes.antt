@@ -1,0 +1,180 @@
+-- What growth came to, in the terms of its list.
+use Rattle.std.proofs.Common.{ℕ, zero, suc, ◌≡◌, ◌+◌, ◌-◌, ◌<◌, ◌≤◌, ◌^◌, inl, inr, Bool, true, false, List, [], ◌∷◌, ◌++◌, length, take, Option, Some, None, arith, refl, sym, subst, ap, ◌∙◌, length-append}
+use Rattle.std.specs.Prelude.{slice_get, ◌↔◌}
+use Rattle.std.proofs.lemmas.Bool.{cases_Bool, cases_lt, false≢true}
+use Rattle.std.proofs.lemmas.List.{length-map}
+use Rattle.std.proofs.lemmas.Option.{slice_get_within}
+use Rattle.std.proofs.Math.Seq.{take-append_seam}
+use Rattle.cstn_label.specs.Read.{the_bound}
+use Rattle.cstn_net.specs.Networks.{Network, IsWellFormed, count}
+use Rattle.cstn_rules.specs.declared.entries.Entry.{Entry as DeclaredEntry}
+use Rattle.cstn_rules.specs.Rules.{Refutes}
+use Rattle.cstn_rules.specs.Derivations.{Entry, IsDerivation}
+use Rattle.cstn_rules.specs.Read.{the_entry}
+use Rattle.cstn_rules.proofs.Derived.{first_derivation}
+use Rattle.cstn_log.specs.Entries.{State, the_entries}
+use Rattle.cstn_check.specs.Tests.{refutes}
+use Rattle.cstn_check.specs.Growth.{is_refuted, grow, most_entries}
+use Rattle.cstn_check.specs.Kept.{IsKept}
+use Rattle.cstn_check.specs.Turns.{IsOpen, IsTaken, IsFront, IsCut, IsLonger, IsRefutedLast, LastRefutes}
+use Rattle.cstn_check.specs.declared.growth.Grown.{Grown}
+use Rattle.cstn_check.specs.declared.growth.Grown.TheVariants.{Closed, Refuted, Full}
+use Rattle.cstn_check.proofs.Decided.{refutes_true}
+use Rattle.cstn_check.proofs.Derives.{grown_keeps, grown_derived_from}
+use Rattle.cstn_check.proofs.Last.{LastOnly, last_more, none_refuted, refuted_from_last}
+use Rattle.cstn_check.proofs.Decides.{true_refutes, refuted_at}
+use Rattle.cstn_check.proofs.Reading.{entries_small, entry_at}
+use Rattle.cstn_check.proofs.TurnLemmas.{longer_itself}
+use Rattle.cstn_check.proofs.Ends.{grow_at_refuted}
+
+stands_false : (net : Network) (L : List DeclaredEntry) (k : ℕ) (e : Entry) → slice_get (the_entries L) k ≡ Some e →
+    ¬ Refutes net e.bound → refutes net e.bound ≡ false
+stands_false net L k e there not = elim (cases_Bool (refutes net e.bound)) [
+  | inl h ↦ absurd (not (true_refutes net e.bound (entries_small L k e there) h))
+  | inr h ↦ h
+]
+
+-- a list whose last entry refutes doesn't grow
+pub refuted_itself : (net : Network) (s : State) (k : ℕ) (e : DeclaredEntry) → IsWellFormed net → IsKept net (the_entries s.entries) →
+    length s.entries ≤ s.cap → slice_get s.entries k ≡ Some e → Refutes net (the_bound e.bound) →
+    IsTaken net s s (grow net (the_entries s.entries)) true
+refuted_itself net s k e good kept short there refutes =
+    let L = the_entries s.entries in
+    let over = refuted_from_last net L k (the_entry e) (entry_at s.entries k e there) (refutes_true net (the_bound e.bound) refutes) in
+    let same = grow_at_refuted net good.network good.letters L kept 0 over in
+    record { entries = sym same; refuted_is = sym (ap (is_refuted net) same ∙ over); longer = longer_itself s short }
+
+-- and one in which no entry refutes is open
+pub open_from : (net : Network) (s : State) (e : DeclaredEntry) → s.nodes ≡ count net → IsDerivation net (the_entries s.entries) →
+    IsKept net (the_entries s.entries) → IsRefutedLast net (the_entries s.entries) → s.births < 2 ^ 61 →
+    length s.entries ≤ s.cap → s.cap ≤ 4194304 → slice_get s.entries (length s.entries - 1) ≡ Some e →
+    ¬ Refutes net (the_bound e.bound) → IsOpen net s
+open_from net s e nodes derivation kept last births short few there not =
+    let L = the_entries s.entries in
+    let long : length L ≡ length s.entries = length-map s.entries the_entry in
+    record {
+      nodes = nodes;
+      derivation = derivation;
+      kept = kept;
+      unrefuted = none_refuted net L (λ k x at. elim (cases_lt (k + 1) (length L)) [
+        | inl before ↦ stands_false net s.entries k x at (last.before k x at before)
+        | inr past ↦
+            let inside = slice_get_within L k x at in
+            let place : k ≡ length s.entries - 1 = omega arith in
+            let at_last : slice_get L k ≡ Some (the_entry e) =
+            subst (λ i. slice_get L i ≡ Some (the_entry e)) (sym place) (entry_at s.entries (length s.entries - 1) e there) in
+            let same : the_entry e ≡ x = cc in
+            stands_false net s.entries k x at (subst (λ (y : Entry). ¬ Refutes net y.bound) same not)
+      ]);
+      short = short;
+      births = omega arith;
+    }
+
+-- what each answer of growth says
+pub record Outcome (net : Network) (old new : State) (r : Grown) : Type 0 where
+  pub closed : r ≡ Closed → IsTaken net old new (grow net (the_entries old.entries)) false
+  pub refuted : r ≡ Refuted → IsTaken net old new (grow net (the_entries old.entries)) true
+  pub full : r ≡ Full → IsCut old new (grow net (the_entries old.entries))
+
+module _ (net : Network) (old new : State) where
+  pub longer_of : (r : Grown) → Outcome net old new r → IsLonger old new
+  longer_of Closed o = (o.closed refl).longer
+  longer_of Refuted o = (o.refuted refl).longer
+  longer_of Full o = (o.full refl).longer
+
+  entries_long : length (the_entries new.entries) ≡ length new.entries
+  entries_long = length-map new.entries the_entry
+
+  taken_short : (list : List Entry) (r : Bool) → IsTaken net old new list r → length list ≤ old.cap
+  taken_short list r t =
+      let long = entries_long in
+      let same = ap length t.entries in
+      let short = t.longer.short in
+      omega arith
+
+  cut_long : (list : List Entry) → IsCut old new list → old.cap < length list
+  cut_long list k =
+      let long = entries_long in
+      let full = k.full in
+      let is = ap length k.front.is in
+      let sum = length-append (the_entries new.entries) (k.front.next ∷ k.front.rest) in
+      omega arith
+
+  cut_take : (list : List Entry) → IsCut old new list → the_entries new.entries ≡ take old.cap list
+  cut_take list k =
+      let long : length (the_entries new.entries) ≡ old.cap = entries_long ∙ k.full in
+      sym (ap (take old.cap) (sym k.front.is)
+      ∙ ap (λ n. take n (the_entries new.entries ++ k.front.next ∷ k.front.rest)) (sym long)
+      ∙ take-append_seam (the_entries new.entries) (k.front.next ∷ k.front.rest))
+
+  pub full_is : (r : Grown) → Outcome net old new r → (r ≡ Full ↔ (old.cap < length (grow net (the_entries old.entries))))
+  full_is Closed o = (λ e. cc, λ more. let s = taken_short (grow net (the_entries old.entries)) false (o.closed refl) in absurd (omega arith))
+  full_is Refuted o = (λ e. cc, λ more. let s = taken_short (grow net (the_entries old.entries)) true (o.refuted refl) in absurd (omega arith))
+  full_is Full o = (λ e. cut_long (grow net (the_entries old.entries)) (o.full refl), λ more. refl)
+
+  pub cut_is : (r : Grown) → Outcome net old new r → r ≡ Full → the_entries new.entries ≡ take old.cap (grow net (the_entries old.entries))
+  cut_is r o e = cut_take (grow net (the_entries old.entries)) (o.full e)
+
+  pub grown_is : (r : Grown) → Outcome net old new r → (r ≡ Full → ⊥) → the_entries new.entries ≡ grow net (the_entries old.entries)
+  grown_is Closed o not = (o.closed refl).entries
+  grown_is Refuted o not = (o.refuted refl).entries
+  grown_is Full o not = absurd (not refl)
+
+  last_of : IsRefutedLast net (the_entries old.entries) → (list : List Entry) → list ≡ grow net (the_entries old.entries) → LastOnly net list
+  last_of last list is =
+      subst (λ l. LastOnly net l) (sym is)
+      (grown_keeps net (LastOnly net) (last_more net) (the_entries old.entries)
+      (length (the_entries old.entries) + most_entries net)
+      (λ k e there before. stands_false net old.entries k e there (last.before k e there (omega arith))))
+
+  refutes_last : IsRefutedLast net (the_entries old.entries) → IsTaken net old new (grow net (the_entries old.entries)) true →
+      LastRefutes net (the_entries new.entries)
+  refutes_last last t =
+      let only = last_of last (the_entries new.entries) t.entries in
+      let over = ap (is_refuted net) t.entries ∙ sym t.refuted_is in
+      let r = refuted_at net (the_entries new.entries) (entries_small new.entries) over in
+      elim (cases_lt (suc r.place) (length (the_entries new.entries))) [
+        | inl before ↦ absurd (false≢true (sym (only r.place r.entry r.there before) ∙ refutes_true net r.entry.bound r.refutes))
+        | inr past ↦
+            let inside = slice_get_within (the_entries new.entries) r.place r.entry r.there in
+            let place : r.place ≡ length (the_entries new.entries) - 1 = omega arith in
+            record {
+              last = r.entry;
+              is_last = subst (λ k. slice_get (the_entries new.entries) k ≡ Some r.entry) place r.there;
+              refutes = r.refutes;
+            }
+      ]
+
+  stands : IsTaken net old new (grow net (the_entries old.entries)) false → LastRefutes net (the_entries new.entries) → ⊥
+  stands t l =
+      let over = refuted_from_last net (the_entries new.entries) (length (the_entries new.entries) - 1) l.last l.is_last (refutes_true net l.last.bound l.refutes) in
+      false≢true (t.refuted_is ∙ ap (is_refuted net) (sym t.entries) ∙ over)
+
+  pub refuted_is : (r : Grown) → IsRefutedLast net (the_entries old.entries) → Outcome net old new r →
+      (r ≡ Refuted ↔ ((r ≡ Full → ⊥) × LastRefutes net (the_entries new.entries)))
+  refuted_is Closed last o = (λ e. cc, λ p. absurd (stands (o.closed refl) p.1))
+  refuted_is Refuted last o = (λ e. (λ f. cc, refutes_last last (o.refuted refl)), λ p. refl)
+  refuted_is Full last o = (λ e. cc, λ p. absurd (p.0 refl))
+
+  pub births_most : (r : Grown) → Outcome net old new r → new.births ≤ old.births + old.cap
+  births_most r o =
+      let l = longer_of r o in
+      let births = l.births in
+      let short = l.short in
+      omega arith
+
+-- the list is again a derivation
+pub derived_after : (net : Network) (old new : State) (r : Grown) → IsWellFormed net → IsDerivation net (the_entries old.entries) →
+    IsKept net (the_entries old.entries) → Outcome net old new r → IsDerivation net (the_entries new.entries)
+derived_after net old new r good derivation kept o = by_answer r o
+  where
+    whole : IsDerivation net (grow net (the_entries old.entries))
+    whole = grown_derived_from net good.network good.letters (the_entries old.entries)
+        (length (the_entries old.entries) + most_entries net) kept.good derivation
+
+    by_answer : (r : Grown) → Outcome net old new r → IsDerivation net (the_entries new.entries)
+    by_answer Closed o = subst (λ l. IsDerivation net l) (sym (o.closed refl).entries) whole
+    by_answer Refuted o = subst (λ l. IsDerivation net l) (sym (o.refuted refl).entries) whole
+    by_answer Full o =
+        let f = (o.full refl).front in
+        first_derivation net (the_entries new.entries) (f.next ∷ f.rest) (subst (λ l. IsDerivation net l) (sym f.is) whole)

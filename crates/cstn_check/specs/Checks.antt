@@ -1,0 +1,38 @@
+-- Checks of a network.
+use Rattle.std.specs.Prelude.{ℕ, ◌≡◌, ◌<◌, ◌≤◌, Option, Some, None, length, take, List, ◌++◌, false}
+use Rattle.cstn_net.specs.Networks.{Network, count}
+use Rattle.cstn_net.specs.Read.{NetworkParts, the_network}
+use Rattle.cstn_rules.specs.Derivations.{Entry}
+use Rattle.cstn_log.specs.Entries.{State, the_entries, bases, first_entries}
+use Rattle.cstn_check.specs.Growth.{is_refuted, log_of, load_of}
+use Rattle.cstn_check.specs.Turns.{IsOpen, LastRefutes}
+use Rattle.cstn_check.specs.declared.verdicts.Verdict.{Verdict}
+use Rattle.cstn_check.specs.declared.verdicts.Verdict.TheVariants.{Yes, No, Full}
+
+-- what contracts see of a check: its network, how many entries its log may have, and its verdict, if it has answered
+pub record CheckParts : Type 0 where
+  pub net : NetworkParts
+  pub cap : ℕ
+  pub verdict : Option Verdict
+
+-- the log has the base bounds of the network, or nothing where its cap is below their number
+pub record IsStarted (net : Network) (log : State) : Type 0 where
+  pub entries : the_entries log.entries ≡ first_entries net log.cap
+  pub nodes : log.nodes ≡ count net
+  pub births : log.births ≤ count net
+
+-- the list is a front of the other
+pub record IsPrefix (front list : List Entry) : Type 0 where
+  pub rest : List Entry
+  pub is : front ++ rest ≡ list
+
+-- what a verdict says of a network, with a log of this cap, and of the list
+abbrev pub IsVerdict : Network → ℕ → List Entry → Verdict → Type 0
+IsVerdict net cap list (Yes load) = (load ≡ load_of net) × (load_of net ≤ cap) × (list ≡ log_of net) × (is_refuted net (log_of net) ≡ false)
+IsVerdict net cap list (No load) = (load ≡ load_of net) × (load_of net ≤ cap) × (list ≡ log_of net) × LastRefutes net (log_of net)
+IsVerdict net cap list Full = (cap < load_of net) × IsPrefix list (log_of net)
+
+-- a check that hasn't answered has its first entries, and one that has has what its verdict says
+abbrev pub IsCheck : Network → State → Option Verdict → Type 0
+IsCheck net log None = IsStarted net log
+IsCheck net log (Some v) = IsVerdict net log.cap (the_entries log.entries) v
