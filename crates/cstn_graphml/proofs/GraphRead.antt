@@ -1,0 +1,36 @@
+-- The ends of the graph, the root and the document.
+use Rattle.std.proofs.Common.{◌≡◌, ℕ, List, [], ◌∷◌, Bool, true, false, Option, Some, None, Result, Ok, Err, ap, sym, ◌∙◌, subst}
+use Rattle.cstn_markup.specs.Tokens.{Token}
+use Rattle.cstn_graphml.specs.Results.{Refusal, ◌>>=◌}
+use Rattle.cstn_graphml.specs.Results.Refusal.{shape}
+use Rattle.cstn_graphml.specs.Contents.{Tag, Content, contents, inner}
+use Rattle.cstn_graphml.specs.Contents.Content.{done}
+use Rattle.cstn_graphml.specs.Elements.{Reading, read_by}
+use Rattle.cstn_graphml.specs.Draft.{Draft, empty_draft}
+use Rattle.cstn_graphml.specs.DraftSeen.{draft_seen}
+use Rattle.cstn_graphml.specs.Document.{in_graph, root_child}
+use Rattle.cstn_graphml.specs.Reads.{Reads, ReadsWhole, Continues, Fails, inside}
+use Rattle.cstn_graphml.specs.declared.draft.Draft.{Draft as LentGraph}
+use Rattle.cstn_graphml.specs.declared.errors.DocError.{DocError}
+use Rattle.cstn_graphml.specs.declared.errors.DocError.TheVariants.{Shape}
+
+-- the first graph was read
+pub root_read : (b : Bool) (s : Option Draft) (tag : Tag) (closed : Bool) (name : List ℕ) (names : List (List ℕ)) (before after : List Token) (d : LentGraph) → b ≡ true → s ≡ None
+    → ReadsWhole draft_seen (in_graph empty_draft) closed tag.at name names before after (Ok d) → ReadsWhole {A = Unit {0}} (λ u. Some (draft_seen d)) (root_child b s tag) closed tag.at name names before after (Ok tt)
+root_read b s tag closed name names before after d e n h =
+    let content = inside closed tag.at name names before in
+    record {
+      told = ap (λ q. root_child q s tag content) e ∙ ap (λ o. root_child true o tag content) n ∙ ap (λ o. o >>= λ draft. Ok (Some draft)) h.told;
+      left = h.left;
+    }
+
+-- the end is refused
+pub end_fails : {S A X : Type 0} (r : Reading S A) (start : S) (view : X → A) (s : S) (name : List ℕ) (others : List (List ℕ)) (at : ℕ) (first before after : List Token) → Continues (read_by r start) (read_by r s) (name ∷ others) first before
+    → contents (name ∷ others) before ≡ done at ∷ contents others after → r.ends s at ≡ Err (shape at) → Reads view (read_by r start) name others first after (Err (Shape at))
+unfolding read_by
+end_fails r start view s name others at first before after c e d = record { told = c.told ∙ ap (λ cs. read_by r s (inner cs)) e ∙ d; left = tt }
+
+-- an element that is closed at once is refused
+pub closed_fails : {V D : Type 0} (view : V → D) (meaning : Content → Result D Refusal) (e : DocError) (closed : Bool) (at : ℕ) (name : List ℕ) (names : List (List ℕ)) (before after : List Token)
+    → closed ≡ true → Fails e (meaning (done at)) → ReadsWhole view meaning closed at name names before after (Err e)
+closed_fails view meaning e closed at name names before after is f = record { told = subst (λ q. Fails e (meaning (inside q at name names before))) (sym is) f; left = tt }

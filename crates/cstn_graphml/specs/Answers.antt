@@ -1,0 +1,52 @@
+-- What reading a document answers.
+use Rattle.std.specs.Prelude.{◌≡◌, ℕ, List, Result, Ok, Err}
+use Rattle.cstn_net.specs.declared.errors.NetError.{NetError}
+use Rattle.cstn_net.specs.declared.errors.NetError.TheVariants.{TooManyNodes, NoOrigin, TooManyConstraints, DeadlineRange, ValueRange, NotObserved, TwoObservers, NotPlain, Memory as NoMemory}
+use Rattle.cstn_net.specs.Read.{NetworkParts, the_network}
+use Rattle.cstn_graphml.specs.declared.errors.DocError.{DocError}
+use Rattle.cstn_graphml.specs.declared.errors.DocError.TheVariants.{NotUtf8, Shape, NameTwice, UnknownNode, Value, LabelText, Contingent, EdgeType, NoDeadline, Net, NodeLabel, Memory}
+use Rattle.cstn_graphml.specs.Results.{Refusal}
+use Rattle.cstn_graphml.specs.Document.{Parts}
+use Rattle.cstn_graphml.specs.Networks.{network_of, IsUnfit}
+use Rattle.cstn_graphml.specs.Reads.{Fails}
+
+-- the document has these parts: this is their network, and these are the names of its time-points
+pub record IsDocument (told : Result Parts Refusal) (network : NetworkParts) (names : List (List ℕ)) : Type 0 where
+  pub parts : Parts
+  pub told_are : told ≡ Ok parts
+  pub network_is : the_network network ≡ network_of parts
+  pub names_are : names ≡ parts.names
+
+-- the document has these parts, but they make no network
+pub record IsUnfitDocument (told : Result Parts Refusal) (error : NetError) (names : List (List ℕ)) : Type 0 where
+  pub parts : Parts
+  pub told_are : told ≡ Ok parts
+  pub unfit : IsUnfit parts error
+  pub names_are : names ≡ parts.names
+
+-- the document is refused by the grammar or by the network, with exactly this refusal; want of memory may come at any point
+abbrev pub IsRefused : Result Parts Refusal → DocError → Type 0
+IsRefused told (Net error names) = IsUnfitDocument told error names
+IsRefused told (NotUtf8 at) = Fails (NotUtf8 at) told
+IsRefused told (Shape at) = Fails (Shape at) told
+IsRefused told (NameTwice at) = Fails (NameTwice at) told
+IsRefused told (UnknownNode at) = Fails (UnknownNode at) told
+IsRefused told (Value at) = Fails (Value at) told
+IsRefused told (LabelText at) = Fails (LabelText at) told
+IsRefused told (Contingent at) = Fails (Contingent at) told
+IsRefused told (EdgeType at) = Fails (EdgeType at) told
+IsRefused told NoDeadline = Fails NoDeadline told
+IsRefused told (NodeLabel at) = Fails (NodeLabel at) told
+IsRefused told (Memory e) = Unit {0}
+
+-- how a refused builder is told
+abbrev pub IsTold : NetError → List (List ℕ) → DocError → Type 0
+IsTold (NoMemory e) names error = error ≡ Memory e
+IsTold TooManyNodes names error = error ≡ Net TooManyNodes names
+IsTold NoOrigin names error = error ≡ Net NoOrigin names
+IsTold TooManyConstraints names error = error ≡ Net TooManyConstraints names
+IsTold (DeadlineRange deadline) names error = error ≡ Net (DeadlineRange deadline) names
+IsTold (ValueRange constraint) names error = error ≡ Net (ValueRange constraint) names
+IsTold (NotObserved prop) names error = error ≡ Net (NotObserved prop) names
+IsTold (TwoObservers prop first second) names error = error ≡ Net (TwoObservers prop first second) names
+IsTold (NotPlain constraint) names error = error ≡ Net (NotPlain constraint) names

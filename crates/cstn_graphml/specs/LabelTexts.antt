@@ -1,0 +1,60 @@
+-- Labels as texts.
+use Rattle.std.specs.Prelude.{ℕ, Bool, true, false, ◌||◌, ◌==◌, List, [], ◌∷◌, Option, Some, None, if◌then◌else◌}
+use Rattle.cstn_label.specs.Labels.{Label, empty, with_mark}
+use Rattle.cstn_label.specs.Letters.{prop_of}
+use Rattle.cstn_label.specs.declared.marks.Mark.{Mark}
+use Rattle.cstn_label.specs.declared.marks.Mark.TheVariants.{Absent, Yes, No, Unknown}
+use Rattle.cstn_markup.specs.Bytes.{◌>>=◌, when, is_same, is_white}
+
+-- a literal: its proposition, and whether it is negated
+pub record Literal : Type 0 where
+  pub prop : ℕ
+  pub negated : Bool
+
+-- what may follow in a label text: a literal, the second byte of a negation, or a letter that is negated
+pub data Expects : Type 0 where
+  literal : Expects
+  second_byte : Expects
+  letter : Expects
+
+-- what a byte gives where a sign or a letter may stand, and what may follow it
+abbrev pub after_byte : Expects → ℕ → Option (Option Literal × Expects)
+after_byte literal b =
+    if is_white b then Some (None, literal) else
+    if b == 33 then Some (None, letter) else
+    if b == 194 then Some (None, second_byte) else
+    (prop_of b >>= λ p. Some (Some (record { prop = p; negated = false }), literal))
+after_byte second_byte b = when (b == 172) (None, letter)
+after_byte letter b =
+    if is_white b then Some (None, letter) else
+    (prop_of b >>= λ p. Some (Some (record { prop = p; negated = true }), literal))
+
+abbrev pub is_absent : Mark → Bool
+is_absent Absent = true
+is_absent Yes = false
+is_absent No = false
+is_absent Unknown = false
+
+abbrev pub said_by : Bool → Mark
+said_by true = No
+said_by false = Yes
+
+-- the label with the literal, whose letter doesn't stand there already
+abbrev pub with_literal : Label → Option Literal → Option Label
+with_literal a None = Some a
+with_literal a (Some l) = when (is_absent (a l.prop)) (with_mark a l.prop (said_by l.negated))
+
+-- the label that literals write when they follow those of a; None where they aren't of the form
+unfoldable pub label_after : Expects → Label → List ℕ → Option Label
+label_after literal a [] = Some a
+label_after second_byte a [] = None
+label_after letter a [] = None
+label_after expects a (b ∷ bytes) = after_byte expects b >>= λ found. with_literal a found.0 >>= λ more. label_after found.1 more bytes
+
+-- a text of the empty label: empty, or the three bytes of U+22A1
+abbrev pub is_of_empty : List ℕ → Bool
+is_of_empty bytes = is_same bytes [] || is_same bytes (226 ∷ 138 ∷ 161 ∷ [])
+
+-- a label text: one of the empty label, or literals
+abbrev pub label_of : List ℕ → Option Label
+label_of bytes = if is_of_empty bytes then Some empty else label_after literal empty bytes

@@ -1,0 +1,17 @@
+pub mod Results
+pub mod Numbers
+pub mod LabelTexts
+pub mod ValueTexts
+pub mod TextsSeen
+pub mod Contents
+pub mod Elements
+pub mod Data
+pub mod Draft
+pub mod DraftSeen
+pub mod DraftLaws
+pub mod Judged
+pub mod Document
+pub mod Networks
+pub mod Reads
+pub mod GraphSeen
+pub mod Answers

@@ -1,0 +1,70 @@
+//! The document around its root.
+
+ghost use Rattle.std.specs.Prelude.{◌≡◌, ℕ, List, [], None, ◌≤◌, length, option_map};
+ghost use Rattle.cstn_markup.specs.Tokens.{Attribute};
+ghost use Rattle.cstn_graphml.specs.Contents.{content_of};
+ghost use Rattle.cstn_graphml.specs.Document.{document_child, in_document};
+ghost use Rattle.cstn_graphml.specs.DraftSeen.{draft_seen};
+ghost use Rattle.cstn_graphml.specs.Reads.{Gives, ReadsWhole};
+
+use crate::children::is_blank;
+use crate::draft::Draft;
+use crate::errors::DocError;
+use crate::root::read_whole_root;
+use cstn_markup::{Kind, Scanner, Token};
+use std::alloc::Global;
+
+/// An element of the document, of which the start tag was read: its root, behind which none stands.
+fn read_document_child(
+    alloc: Global,
+    scanner: &mut Scanner,
+    at: usize,
+    name: &[u8],
+    closed: bool,
+    seen: &mut Option<Draft>,
+) -> Result<(), DocError>
+    ensures reads { (attributes : List Attribute) → ReadsWhole (λ u. option_map draft_seen seen.new) (document_child (option_map draft_seen seen.old) (record { at = at; name = name.now; attributes = attributes })) closed at name.now [] scanner.old scanner.new result }
+    ensures less { length scanner.new ≤ length scanner.old }
+{
+    let None = seen else {
+        return Err(DocError::Shape { at });
+    };
+    if name != b"graphml".as_slice() {
+        return Err(DocError::Shape { at });
+    }
+    let draft = read_whole_root(alloc, scanner, at, name, closed, 0)?;
+    *seen = Some(draft);
+    Ok(())
+}
+
+/// The document of which no token was read.
+pub fn read_document(alloc: Global, scanner: &mut Scanner) -> Result<Draft, DocError>
+    ensures { Gives draft_seen result (in_document (content_of scanner.old)) }
+{
+    let mut seen = None;
+    loop {
+        let Token { at, kind } = scanner.step();
+        match kind {
+            Kind::Start {
+                name: child,
+                attributes: _,
+                closed,
+            } => {
+                read_document_child(alloc, scanner, at, child, closed, &mut seen)?;
+            }
+            Kind::End { name: _ } => return Err(DocError::Shape { at }),
+            Kind::Text { raw } => {
+                if !is_blank(raw) {
+                    return Err(DocError::Shape { at });
+                }
+            }
+            Kind::Wrong => return Err(DocError::Shape { at }),
+            Kind::Finish => {
+                return match seen {
+                    Some(draft) => Ok(draft),
+                    None => Err(DocError::Shape { at }),
+                };
+            }
+        }
+    }
+}

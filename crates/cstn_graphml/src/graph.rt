@@ -1,0 +1,227 @@
+//! The graph.
+
+ghost use Rattle.std.specs.Prelude.{◌≡◌, ℕ, List, ◌≤◌, ◌<◌, ◌+◌, length, map};
+ghost use Rattle.cstn_graphml.specs.Elements.{data_of};
+ghost use Rattle.cstn_graphml.specs.Draft.{empty_draft};
+ghost use Rattle.cstn_graphml.specs.Document.{part_of, graph_child, in_graph};
+ghost use Rattle.cstn_graphml.specs.Document.Part.{a_datum, a_node, an_edge};
+ghost use Rattle.cstn_graphml.specs.Data.{datum_seen};
+ghost use Rattle.cstn_graphml.specs.DraftSeen.{draft_seen};
+ghost use Rattle.cstn_graphml.specs.GraphSeen.{part_seen};
+ghost use Rattle.cstn_graphml.specs.Reads.{Reads, ReadsWhole};
+
+use crate::children::{is_blank, read_data};
+use crate::data::read_datum;
+use crate::data_element::Datum;
+use crate::deadlines::judge_deadline;
+use crate::draft::{Draft, empty_draft};
+use crate::edges::judge_edge;
+use crate::errors::DocError;
+use crate::nodes::judge_node;
+use crate::passing::pass_element;
+use cstn_markup::{Attributes, Kind, Scanner, Token};
+use std::alloc::Global;
+
+/// What an element in a graph is.
+#[derive(Clone, Copy)]
+pub enum Part {
+    Datum,
+    Node,
+    Edge,
+    Another,
+}
+
+fn part_of(name: &[u8]) -> Part
+    ensures { part_seen result ≡ part_of name.now }
+{
+    if name == b"data".as_slice() {
+        return Part::Datum;
+    }
+    if name == b"node".as_slice() {
+        return Part::Node;
+    }
+    if name == b"edge".as_slice() {
+        return Part::Edge;
+    }
+    Part::Another
+}
+
+/// The data of a node or an edge of which the start tag was read.
+fn read_element_data(
+    alloc: Global,
+    scanner: &mut Scanner,
+    name: &[u8],
+    closed: bool,
+    used: &[&[u8]],
+    depth: usize,
+) -> Result<Vec<Datum>, DocError>
+    requires { depth < 32 }
+    ensures reads { (names : List (List ℕ)) (at : ℕ) → length names ≡ depth → ReadsWhole (λ v. map datum_seen v.items) (data_of (map (λ u. u.now) used.now)) closed at name.now names scanner.old scanner.new result }
+    ensures less { length scanner.new ≤ length scanner.old }
+{
+    if closed {
+        return Ok(Vec::new(alloc));
+    }
+    read_data(alloc, scanner, name, used, depth)
+}
+
+/// A data element of the graph, of which the start tag was read.
+fn read_graph_datum(
+    alloc: Global,
+    scanner: &mut Scanner,
+    at: usize,
+    name: &[u8],
+    attributes: &Attributes,
+    closed: bool,
+    draft: &mut Draft,
+    depth: usize,
+) -> Result<(), DocError>
+    requires { depth < 32 }
+    ensures reads { (names : List (List ℕ)) → length names ≡ depth → ReadsWhole (λ u. draft_seen draft.new) (graph_child a_datum (draft_seen draft.old) (record { at = at; name = name.now; attributes = attributes.now })) closed at name.now names scanner.old scanner.new result }
+    ensures less { length scanner.new ≤ length scanner.old }
+{
+    let used: [&[u8]; 1] = [b"Deadline"];
+    let found = draft.own.as_slice();
+    let datum = read_datum(
+        alloc, scanner, at, name, attributes, closed, &used, found, depth,
+    )?;
+    judge_deadline(datum, draft)
+}
+
+/// A node of which the start tag was read.
+fn read_node(
+    alloc: Global,
+    scanner: &mut Scanner,
+    at: usize,
+    name: &[u8],
+    attributes: &Attributes,
+    closed: bool,
+    draft: &mut Draft,
+    depth: usize,
+) -> Result<(), DocError>
+    requires { depth < 32 }
+    ensures reads { (names : List (List ℕ)) → length names ≡ depth → ReadsWhole (λ u. draft_seen draft.new) (graph_child a_node (draft_seen draft.old) (record { at = at; name = name.now; attributes = attributes.now })) closed at name.now names scanner.old scanner.new result }
+    ensures less { length scanner.new ≤ length scanner.old }
+{
+    let used: [&[u8]; 2] = [b"Obs", b"Label"];
+    let found = read_element_data(alloc, scanner, name, closed, &used, depth)?;
+    judge_node(alloc, at, attributes, found.as_slice(), draft)
+}
+
+/// An edge of which the start tag was read.
+fn read_edge(
+    alloc: Global,
+    scanner: &mut Scanner,
+    at: usize,
+    name: &[u8],
+    attributes: &Attributes,
+    closed: bool,
+    draft: &mut Draft,
+    depth: usize,
+) -> Result<(), DocError>
+    requires { depth < 32 }
+    ensures reads { (names : List (List ℕ)) → length names ≡ depth → ReadsWhole (λ u. draft_seen draft.new) (graph_child an_edge (draft_seen draft.old) (record { at = at; name = name.now; attributes = attributes.now })) closed at name.now names scanner.old scanner.new result }
+    ensures less { length scanner.new ≤ length scanner.old }
+{
+    let used: [&[u8]; 2] = [b"Type", b"LabeledValues"];
+    let found = read_element_data(alloc, scanner, name, closed, &used, depth)?;
+    judge_edge(alloc, at, attributes, found.as_slice(), draft)
+}
+
+/// An element in the graph, of which the start tag was read.
+fn read_graph_child(
+    alloc: Global,
+    scanner: &mut Scanner,
+    at: usize,
+    name: &[u8],
+    attributes: &Attributes,
+    closed: bool,
+    draft: &mut Draft,
+    depth: usize,
+) -> Result<(), DocError>
+    requires { depth < 32 }
+    ensures reads { (names : List (List ℕ)) → length names ≡ depth → ReadsWhole (λ u. draft_seen draft.new) (graph_child (part_of name.now) (draft_seen draft.old) (record { at = at; name = name.now; attributes = attributes.now })) closed at name.now names scanner.old scanner.new result }
+    ensures less { length scanner.new ≤ length scanner.old }
+{
+    match part_of(name) {
+        Part::Datum => read_graph_datum(
+            alloc, scanner, at, name, attributes, closed, draft, depth,
+        ),
+        Part::Node => read_node(
+            alloc, scanner, at, name, attributes, closed, draft, depth,
+        ),
+        Part::Edge => read_edge(
+            alloc, scanner, at, name, attributes, closed, draft, depth,
+        ),
+        Part::Another => pass_element(scanner, name, closed, depth),
+    }
+}
+
+/// The rest of the graph, which is the element of this name.
+fn read_graph(
+    alloc: Global,
+    scanner: &mut Scanner,
+    name: &[u8],
+    depth: usize,
+) -> Result<Draft, DocError>
+    requires { depth < 32 }
+    ensures reads { (others : List (List ℕ)) → length others ≡ depth → Reads draft_seen (in_graph empty_draft) name.now others scanner.old scanner.new result }
+    ensures less { length scanner.new ≤ length scanner.old }
+{
+    let mut draft = empty_draft(alloc)?;
+    loop {
+        let Token { at, kind } = scanner.step();
+        match kind {
+            Kind::Start {
+                name: child,
+                attributes,
+                closed,
+            } => {
+                if depth + 1 >= 32 {
+                    return Err(DocError::Shape { at });
+                }
+                read_graph_child(
+                    alloc,
+                    scanner,
+                    at,
+                    child,
+                    &attributes,
+                    closed,
+                    &mut draft,
+                    depth + 1,
+                )?;
+            }
+            Kind::End { name: last } => {
+                if last == name {
+                    return Ok(draft);
+                }
+                return Err(DocError::Shape { at });
+            }
+            Kind::Text { raw } => {
+                if !is_blank(raw) {
+                    return Err(DocError::Shape { at });
+                }
+            }
+            Kind::Wrong => return Err(DocError::Shape { at }),
+            Kind::Finish => return Err(DocError::Shape { at }),
+        }
+    }
+}
+
+/// A graph of which the start tag was read.
+pub fn read_whole_graph(
+    alloc: Global,
+    scanner: &mut Scanner,
+    name: &[u8],
+    closed: bool,
+    depth: usize,
+) -> Result<Draft, DocError>
+    requires { depth < 32 }
+    ensures reads { (names : List (List ℕ)) (at : ℕ) → length names ≡ depth → ReadsWhole draft_seen (in_graph empty_draft) closed at name.now names scanner.old scanner.new result }
+    ensures less { length scanner.new ≤ length scanner.old }
+{
+    if closed {
+        return Ok(empty_draft(alloc)?);
+    }
+    read_graph(alloc, scanner, name, depth)
+}

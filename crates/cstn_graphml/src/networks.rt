@@ -1,0 +1,84 @@
+//! The network of a draft.
+
+ghost use Rattle.std.specs.Prelude.{◌≡◌, ◌<◌, ◌+◌, ◌-◌, ◌^◌, ◌++◌, ◌∷◌, [], length, OnOk, IfOk, IfErr, All};
+ghost use Rattle.cstn_net.specs.Drafts.{IsRefusal};
+ghost use Rattle.cstn_net.specs.Networks.{IsWellFormed};
+ghost use Rattle.cstn_net.specs.Read.{the_network};
+ghost use Rattle.cstn_graphml.specs.DraftSeen.{draft_seen};
+ghost use Rattle.cstn_graphml.specs.DraftLaws.{IsDraft};
+ghost use Rattle.cstn_graphml.specs.Networks.{with_points, with_drafts, draft_of, builder_of, IsBuilt};
+
+use crate::draft::{Draft, Drawn};
+use cstn_label::Prop;
+use cstn_net::{Builder, NetError, Network};
+use std::alloc::{AllocError, Global};
+
+/// Hands in the time-points.
+fn put_points(builder: &mut Builder, observes: &[Option<Prop>]) -> Result<(), AllocError>
+    requires { length builder.old.points + length observes.now < 2 ^ 32 }
+    ensures { OnOk result (builder.new ≡ with_points observes.now builder.old) }
+{
+    let mut rest = observes;
+    while let Some((prop, next)) = rest.split_first() {
+        builder.node(*prop)?;
+        rest = next;
+    }
+    Ok(())
+}
+
+/// Hands in a constraint.
+fn put_constraint(builder: &mut Builder, c: Drawn) -> Result<(), AllocError>
+    requires room { length builder.old.drafts < 2 ^ 32 - 1 }
+    requires from { c.from < length builder.old.points }
+    requires to { c.to < length builder.old.points }
+    ensures { OnOk result (builder.new ≡ record builder.old { drafts = builder.old.drafts ++ draft_of c ∷ [] }) }
+{
+    builder.constrain(c.from, c.to, c.most, c.label)?;
+    Ok(())
+}
+
+/// Hands in the constraints.
+fn put_constraints(builder: &mut Builder, constraints: &[Drawn]) -> Result<(), AllocError>
+    requires room { length builder.old.drafts + length constraints.now < 2 ^ 32 }
+    requires among { All (λ c. (c.from < length builder.old.points) × (c.to < length builder.old.points)) constraints.now }
+    ensures { OnOk result (builder.new ≡ with_drafts constraints.now builder.old) }
+{
+    let mut rest = constraints;
+    while let Some((c, next)) = rest.split_first() {
+        put_constraint(builder, *c)?;
+        rest = next;
+    }
+    Ok(())
+}
+
+/// A builder that was handed what a draft holds.
+fn builder_of(alloc: Global, deadline: u32, draft: &Draft) -> Result<Builder, AllocError>
+    requires { IsDraft (draft_seen draft.now) }
+    ensures { IfOk result (λ b. b ≡ builder_of deadline draft.now) }
+{
+    let mut builder = Builder::new(alloc, deadline);
+    let origin = match draft.origin {
+        Some(prop) => prop,
+        None => None,
+    };
+    builder.node(origin)?;
+    if draft.names.count() == u32::MAX || draft.constraints.len() >= u32::MAX as usize {
+        return Err(AllocError);
+    }
+    put_points(&mut builder, draft.observes.as_slice())?;
+    put_constraints(&mut builder, draft.constraints.as_slice())?;
+    Ok(builder)
+}
+
+/// The network of a draft with this deadline.
+pub fn network_of(alloc: Global, deadline: u32, draft: &Draft) -> Result<Network, NetError>
+    requires { IsDraft (draft_seen draft.now) }
+    ensures accepted { IfOk result (IsBuilt (builder_of deadline draft.now)) }
+    ensures well_formed { IfOk result (λ n. IsWellFormed (the_network n)) }
+    ensures refused { IfErr result (IsRefusal (builder_of deadline draft.now)) }
+{
+    match builder_of(alloc, deadline, draft) {
+        Ok(builder) => builder.close(),
+        Err(e) => Err(NetError::Memory(e)),
+    }
+}

@@ -1,0 +1,85 @@
+//! Nodes, judged when they end.
+
+ghost use Rattle.std.specs.Prelude.{◌≡◌, ℕ, List, map, option_map};
+ghost use Rattle.cstn_graphml.specs.Judged.{observed_in, observed, unlabelled, judged_node};
+ghost use Rattle.cstn_graphml.specs.Data.{lent_datum, datum_seen};
+ghost use Rattle.cstn_graphml.specs.DraftSeen.{prop_seen, draft_seen};
+ghost use Rattle.cstn_graphml.specs.Reads.{Gives};
+
+use crate::attributes::text_attribute;
+use crate::data::datum_of;
+use crate::data_element::Datum;
+use crate::draft::{Draft, node_of, put_node};
+use crate::errors::DocError;
+use crate::label_texts::{is_of_empty, label_of};
+use cstn_label::Prop;
+use cstn_markup::Attributes;
+use std::alloc::Global;
+
+/// The proposition of an observed letter; an empty text is none.
+fn observed_in(bytes: &[u8]) -> Option<Option<Prop>>
+    ensures { option_map prop_seen result ≡ observed_in bytes.now }
+{
+    match bytes {
+        [] => Some(None),
+        [letter] => {
+            let prop = Prop::from_letter(*letter)?;
+            Some(Some(prop))
+        }
+        [_, _, ..] => None,
+    }
+}
+
+/// What a node observes.
+fn observed(datum: Option<&Datum>) -> Result<Option<Prop>, DocError>
+    ensures { Gives prop_seen result (observed (lent_datum datum.entry)) }
+{
+    let Some(datum) = datum else {
+        return Ok(None);
+    };
+    let Some(prop) = observed_in(datum.value.as_slice()) else {
+        return Err(DocError::LabelText { at: datum.at });
+    };
+    Ok(prop)
+}
+
+/// A node has no label but the empty one.
+fn unlabelled(datum: Option<&Datum>) -> Result<(), DocError>
+    ensures { Gives (λ u. u) result (unlabelled (lent_datum datum.entry)) }
+{
+    let Some(datum) = datum else {
+        return Ok(());
+    };
+    let Some(_) = label_of(datum.value.as_slice()) else {
+        return Err(DocError::LabelText { at: datum.at });
+    };
+    if !is_of_empty(datum.value.as_slice()) {
+        return Err(DocError::NodeLabel { at: datum.at });
+    }
+    Ok(())
+}
+
+/// Puts in a node whose data were read.
+pub fn judge_node(
+    alloc: Global,
+    at: usize,
+    attributes: &Attributes,
+    found: &[Datum],
+    draft: &mut Draft,
+) -> Result<(), DocError>
+    ensures { (name : List ℕ) → Gives (λ u. draft_seen draft.new) result (judged_node (record { at = at; name = name; attributes = attributes.now }) (draft_seen draft.old) (map datum_seen found.now)) }
+{
+    let Some(id) = text_attribute(alloc, attributes, b"id")? else {
+        return Err(DocError::Shape { at });
+    };
+    if id.is_empty() || id.len() > 64 {
+        return Err(DocError::Value { at });
+    }
+    let None = node_of(draft, id.as_str()) else {
+        return Err(DocError::NameTwice { at });
+    };
+    let prop = observed(datum_of(found, b"Obs"))?;
+    unlabelled(datum_of(found, b"Label"))?;
+    put_node(draft, id.as_str(), prop)?;
+    Ok(())
+}

@@ -1,0 +1,83 @@
+//! Reading a document.
+
+ghost use Rattle.std.specs.Prelude.{◌≡◌, ℕ, List, ◌∷◌, length, IfOk, IfErr};
+ghost use Rattle.cstn_net.specs.Networks.{IsWellFormed, count};
+ghost use Rattle.cstn_net.specs.Read.{the_network};
+ghost use Rattle.cstn_graphml.specs.Draft.{origin_name};
+ghost use Rattle.cstn_graphml.specs.Document.{first_of_two, document};
+ghost use Rattle.cstn_graphml.specs.Answers.{IsDocument, IsRefused, IsTold};
+
+use crate::document::read_document;
+use crate::draft::Draft;
+use crate::errors::DocError;
+use crate::networks::network_of;
+use cstn_markup::Scanner;
+use cstn_net::{NetError, Network};
+use cstn_text::Names;
+use std::alloc::Global;
+
+/// The deadline handed in, else the document's.
+fn first_of_two(one: Option<u32>, other: Option<u32>) -> Option<u32>
+    ensures { result ≡ first_of_two one other }
+{
+    match one {
+        Some(deadline) => Some(deadline),
+        None => other,
+    }
+}
+
+/// How a refused builder is told.
+fn refusal(error: NetError, names: Names) -> DocError
+    ensures { IsTold error names result }
+{
+    match error {
+        NetError::Memory(e) => DocError::Memory(e),
+        NetError::TooManyNodes => DocError::Net { error, names },
+        NetError::NoOrigin => DocError::Net { error, names },
+        NetError::TooManyConstraints => DocError::Net { error, names },
+        NetError::DeadlineRange { deadline: _ } => DocError::Net { error, names },
+        NetError::ValueRange { constraint: _ } => DocError::Net { error, names },
+        NetError::NotObserved { prop: _ } => DocError::Net { error, names },
+        NetError::TwoObservers {
+            prop: _,
+            first: _,
+            second: _,
+        } => DocError::Net { error, names },
+        NetError::NotPlain { constraint: _ } => DocError::Net { error, names },
+    }
+}
+
+/// The names of a draft.
+fn names_of(draft: Draft) -> Names
+    ensures { result ≡ draft.names }
+{
+    draft.names
+}
+
+/// Reads a document: its network, and the names of the time-points by number, of which the first is `Z`. A deadline in
+/// ticks that is handed in wins over the document's.
+pub fn read(
+    alloc: Global,
+    bytes: &[u8],
+    deadline: Option<u32>,
+) -> Result<(Network, Names), DocError>
+    ensures accepted { IfOk result (λ r. IsDocument (document bytes.now deadline) r.0 r.1) }
+    ensures well_formed { IfOk result (λ r. IsWellFormed (the_network r.0)) }
+    ensures named { IfOk result (λ r. length r.1 ≡ count (the_network r.0)) }
+    ensures origin { IfOk result (λ r. (later : List (List ℕ)) × (r.1 ≡ origin_name ∷ later)) }
+
+    ensures refused { IfErr result (IsRefused (document bytes.now deadline)) }
+{
+    if let Err(e) = str::from_utf8(bytes) {
+        return Err(DocError::NotUtf8 { at: e.valid_up_to() });
+    }
+    let mut scanner = Scanner::new(bytes);
+    let draft = read_document(alloc, &mut scanner)?;
+    let Some(deadline) = first_of_two(deadline, draft.deadline) else {
+        return Err(DocError::NoDeadline);
+    };
+    match network_of(alloc, deadline, &draft) {
+        Ok(network) => Ok((network, names_of(draft))),
+        Err(error) => Err(refusal(error, names_of(draft))),
+    }
+}
