@@ -5,3 +5,5 @@ pub mod NumberTextLemmas
 pub mod LabelTextLemmas
 pub mod EscapedNameLemmas
 pub mod ValueTextLemmas
+pub mod TokenLemmas
+pub mod LineLemmas
