@@ -7,3 +7,5 @@ pub mod EscapedNameLemmas
 pub mod ValueTextLemmas
 pub mod TokenLemmas
 pub mod LineLemmas
+pub mod WholeLemmas
+pub mod EdgeLemmas

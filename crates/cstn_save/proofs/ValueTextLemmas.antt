@@ -22,7 +22,7 @@ use Rattle.cstn_save.proofs.LabelTextLemmas.{label_back}
 use Rattle.cstn_save.proofs.RunLemmas.{all_for, both_all, run_len, past_stop, joined_five}
 
 -- a byte of a part, and no white space
-abbrev is_solid : ℕ → Bool
+abbrev pub is_solid : ℕ → Bool
 is_solid b = is_of_part b && not (is_white b)
 
 solid_part : (b : ℕ) → is_solid b ≡ true → is_of_part b ≡ true
@@ -41,7 +41,7 @@ all_reversed p (b ∷ bytes) h =
     ap (list_all p) (reverse-append (b ∷ []) bytes) ∙ both_all p (reverse bytes) (reverse (b ∷ [])) (all_reversed p bytes both.1) (rw both.0 refl)
 
 -- solid bytes have no white space at their ends
-trimmed_solid : (bytes : List ℕ) → list_all is_solid bytes ≡ true → trimmed bytes ≡ bytes
+pub trimmed_solid : (bytes : List ℕ) → list_all is_solid bytes ≡ true → trimmed bytes ≡ bytes
 trimmed_solid bytes h =
     let all : length bytes - 0 ≡ length bytes = omega arith in
     rw (no_white bytes h, no_white (reverse bytes) (all_reversed is_solid bytes h), all) (take_all (length bytes) bytes (omega arith))
