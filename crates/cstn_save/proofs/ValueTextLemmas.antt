@@ -60,7 +60,7 @@ value_solid (pos n) fits = all_for is_ascii_digit is_solid (decimal n) digit_sol
 value_solid (negsuc n) fits = all_for is_ascii_digit is_solid (decimal (suc n)) digit_solid (decimal_digits (suc n) (omega (arith, fits.sfits)))
 
 -- the bytes of literals are among these
-abbrev is_of_literal : ℕ → Bool
+abbrev pub is_of_literal : ℕ → Bool
 is_of_literal b = nat_le 65 b && nat_lt b 123 || nat_le 126 b && nat_lt b 226
 
 letter_of_literal : (p : ℕ) → p < 52 → is_of_literal (letter_of p) ≡ true
@@ -72,7 +72,7 @@ literal_bytes n Yes small = rw (letter_of_literal n small) refl
 literal_bytes n No small = rw (letter_of_literal n small) refl
 literal_bytes n Unknown small = refl
 
-literals_bytes : (a : Label) (n : ℕ) → n ≤ 52 → list_all is_of_literal (literals_below a n) ≡ true
+pub literals_bytes : (a : Label) (n : ℕ) → n ≤ 52 → list_all is_of_literal (literals_below a n) ≡ true
 unfolding literals_below
 literals_bytes a zero small = refl
 literals_bytes a (suc n) small = both_all is_of_literal (literals_below a n) (literal (letter_of n) (a n)) (literals_bytes a n (omega arith)) (literal_bytes n (a n) (omega arith))
