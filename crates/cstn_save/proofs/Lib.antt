@@ -9,3 +9,4 @@ pub mod TokenLemmas
 pub mod LineLemmas
 pub mod WholeLemmas
 pub mod EdgeLemmas
+pub mod ReadBackLemmas

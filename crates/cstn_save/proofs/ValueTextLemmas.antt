@@ -52,7 +52,7 @@ trimmed_spaced bytes h =
     rw (no_white bytes h, no_white (reverse bytes) (all_reversed is_solid bytes h), all) (take_all (length bytes) bytes (omega arith))
 
 -- a printed value is solid
-digit_solid : (b : ℕ) → is_ascii_digit b ≡ true → is_solid b ≡ true
+pub digit_solid : (b : ℕ) → is_ascii_digit b ≡ true → is_solid b ≡ true
 digit_solid b h = grind arith
 
 pub value_solid : (v : ℤ) → FitsSigned w32 v → list_all is_solid (printed_value v) ≡ true
