@@ -10,3 +10,4 @@ pub mod LineLemmas
 pub mod WholeLemmas
 pub mod EdgeLemmas
 pub mod ReadBackLemmas
+pub mod DraftedLemmas
