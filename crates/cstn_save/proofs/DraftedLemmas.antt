@@ -10,7 +10,8 @@ use Rattle.cstn_net.specs.Networks.{Constraint}
 use Rattle.cstn_markup.specs.Bytes.{is_same}
 use Rattle.cstn_graphml.specs.Draft.{Draft, empty_draft, node_of, with_node, with_constraint}
 use Rattle.cstn_save.proofs.WholeLemmas.{drafted, IsNew, IsProp}
-use Rattle.cstn_save.proofs.EdgeLemmas.{drawn, with_all}
+use Rattle.cstn_save.proofs.EdgeLemmas.{with_all}
+use Rattle.cstn_save.specs.ReadBack.{drawn}
 use Rattle.cstn_save.proofs.ReadBackLemmas.{begun}
 
 not_true : (b : Bool) → (b ≡ true → ⊥) → b ≡ false

@@ -14,6 +14,7 @@ use Rattle.cstn_graphml.specs.Numbers.{trimmed}
 use Rattle.cstn_graphml.specs.ValueTexts.{values_of}
 use Rattle.cstn_graphml.specs.Draft.{Draft, Drawn, node_of, with_constraint}
 use Rattle.cstn_save.specs.Canonical.{escaped_name, or_empty, literals_below, document_label, edge_tag, edge_data, edge_line, edges, tail}
+use Rattle.cstn_save.specs.ReadBack.{drawn}
 use Rattle.cstn_save.proofs.NumberTextLemmas.{decimal_digits}
 use Rattle.cstn_save.proofs.ValueTextLemmas.{values_back, is_of_literal, literals_bytes}
 use Rattle.cstn_save.proofs.RunLemmas.{all_for, both_all, joined_five}
@@ -72,9 +73,6 @@ values_trimmed : (v : ℤ) (a : Label) → trimmed (123 ∷ values_inside v a) �
 values_trimmed v a =
     subst (λ (x : List ℕ). trimmed (123 ∷ x) ≡ 123 ∷ x) (value_flat (codes "(") (printed_value v) (codes ", ") (document_label a) (codes ")") (codes "}"))
       (trimmed_braces (40 ∷ (printed_value v ++ 44 ∷ 32 ∷ (document_label a ++ 41 ∷ []))))
-
-abbrev pub drawn : Constraint → Drawn
-drawn c = record { from = c.from; to = c.to; most = c.most; label = c.label }
 
 -- a constraint between two time-points that were read
 pub record IsKnown (names : List (List ℕ)) (d : Draft) (c : Constraint) : Type 0 where

@@ -11,3 +11,4 @@ pub mod WholeLemmas
 pub mod EdgeLemmas
 pub mod ReadBackLemmas
 pub mod DraftedLemmas
+pub mod LawLemmas

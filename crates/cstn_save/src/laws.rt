@@ -1,6 +1,6 @@
 //! What is written is read back. The calls do nothing: their contracts are the laws.
 
-ghost use Rattle.std.specs.Prelude.{◌≡◌, ◌<◌, ◌≤◌, ◌^◌, ◌++◌, ◌∷◌, [], ℕ, ℤ, List, Some, FitsSigned, codes};
+ghost use Rattle.std.specs.Prelude.{◌≡◌, ◌<◌, ◌≤◌, ◌^◌, ◌++◌, ◌∷◌, [], ℕ, ℤ, List, Some, None, Ok, true, FitsSigned, codes};
 ghost use Rattle.std.specs.Int.{w32};
 ghost use Rattle.cstn_label.specs.Labels.{Label, IsPlain};
 ghost use Rattle.cstn_label.specs.declared.marks.Mark.TheVariants.{Absent};
@@ -10,7 +10,11 @@ ghost use Rattle.cstn_markup.specs.Tokens.{value_at};
 ghost use Rattle.cstn_graphml.specs.Numbers.{short_number, integer_text};
 ghost use Rattle.cstn_graphml.specs.LabelTexts.{label_of};
 ghost use Rattle.cstn_graphml.specs.ValueTexts.{values_of};
-ghost use Rattle.cstn_save.specs.Canonical.{escaped_name, document_label};
+ghost use Rattle.cstn_graphml.specs.Document.{document};
+ghost use Rattle.cstn_net.specs.Networks.{Network, IsWellFormed};
+ghost use Rattle.std.specs.Str.{is_utf8};
+ghost use Rattle.cstn_save.specs.Canonical.{canonical, escaped_name, document_label};
+ghost use Rattle.cstn_save.specs.ReadBack.{content_read, parts, AreNamesOf};
 
 /// An escaped name between quotes is a value of an attribute, and its references put in give the name back.
 #[tactic(auto, using(crate::proofs::EscapedNameLemmas::name_back, crate::proofs::EscapedNameLemmas::name_quoted))]
@@ -32,4 +36,13 @@ pub fn values_are_read_back()
     ensures label { (a : Label) → IsPlain a → ((p : ℕ) → 52 ≤ p → a p ≡ Absent) → label_of (document_label a) ≡ Some a }
     ensures pair { (v : ℤ) (a : Label) → FitsSigned w32 v → IsPlain a → ((p : ℕ) → 52 ≤ p → a p ≡ Absent)
         → values_of (codes "{(" ++ printed_value v ++ codes ", " ++ document_label a ++ codes ")}") ≡ Some (record { most = v; label = Some a } ∷ []) }
+{}
+
+/// Reading the canonical document gives the same names and the same network, with its constraints numbered anew.
+///
+/// The content says so of every document, and the whole reading where the text is UTF-8.
+#[tactic(auto, using(crate::proofs::LawLemmas::content_back, crate::proofs::LawLemmas::document_back))]
+pub fn documents_are_read_back()
+    ensures content { (net : Network) (names : List (List ℕ)) → IsWellFormed net → AreNamesOf net names → content_read (canonical net names) ≡ Ok (parts net names) }
+    ensures document { (net : Network) (names : List (List ℕ)) → IsWellFormed net → AreNamesOf net names → is_utf8 (canonical net names) ≡ true → document (canonical net names) None ≡ Ok (parts net names) }
 {}
