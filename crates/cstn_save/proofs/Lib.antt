@@ -1,2 +1,14 @@
 pub mod JoinLemmas
 pub mod DocumentLemmas
+pub mod RunLemmas
+pub mod NumberTextLemmas
+pub mod LabelTextLemmas
+pub mod EscapedNameLemmas
+pub mod ValueTextLemmas
+pub mod TokenLemmas
+pub mod LineLemmas
+pub mod WholeLemmas
+pub mod EdgeLemmas
+pub mod ReadBackLemmas
+pub mod DraftedLemmas
+pub mod LawLemmas

@@ -3,9 +3,11 @@
 
 mod document;
 mod escapes;
+mod laws;
 mod lines;
 
 pub use document::write;
+pub use laws::{documents_are_read_back, names_are_read_back, numbers_are_read_back, values_are_read_back};
 
 #[cfg(test)]
 mod tests;

@@ -1,0 +1,48 @@
+//! What is written is read back. The calls do nothing: their contracts are the laws.
+
+ghost use Rattle.std.specs.Prelude.{◌≡◌, ◌<◌, ◌≤◌, ◌^◌, ◌++◌, ◌∷◌, [], ℕ, ℤ, List, Some, None, Ok, true, FitsSigned, codes};
+ghost use Rattle.std.specs.Int.{w32};
+ghost use Rattle.cstn_label.specs.Labels.{Label, IsPlain};
+ghost use Rattle.cstn_label.specs.declared.marks.Mark.TheVariants.{Absent};
+ghost use Rattle.cstn_text.specs.Numbers.{printed_number, printed_value};
+ghost use Rattle.cstn_markup.specs.Bytes.{resolved};
+ghost use Rattle.cstn_markup.specs.Tokens.{value_at};
+ghost use Rattle.cstn_graphml.specs.Numbers.{short_number, integer_text};
+ghost use Rattle.cstn_graphml.specs.LabelTexts.{label_of};
+ghost use Rattle.cstn_graphml.specs.ValueTexts.{values_of};
+ghost use Rattle.cstn_graphml.specs.Document.{document};
+ghost use Rattle.cstn_net.specs.Networks.{Network, IsWellFormed};
+ghost use Rattle.std.specs.Str.{is_utf8};
+ghost use Rattle.cstn_save.specs.Canonical.{canonical, escaped_name, document_label};
+ghost use Rattle.cstn_save.specs.ReadBack.{content_read, parts, AreNamesOf};
+
+/// An escaped name between quotes is a value of an attribute, and its references put in give the name back.
+#[tactic(auto, using(crate::proofs::EscapedNameLemmas::name_back, crate::proofs::EscapedNameLemmas::name_quoted))]
+pub fn names_are_read_back()
+    ensures back { (name : List ℕ) → resolved (escaped_name name) ≡ Some name }
+    ensures quoted { (name rest : List ℕ) → value_at (34 ∷ (escaped_name name ++ 34 ∷ rest)) ≡ Some (escaped_name name, rest) }
+{}
+
+/// A deadline and the value of a constraint are read back. Deadlines are below 2^32.
+#[tactic(auto, using(crate::proofs::NumberTextLemmas::deadline_back, crate::proofs::NumberTextLemmas::integer_back))]
+pub fn numbers_are_read_back()
+    ensures deadline { (n : ℕ) → n < 2 ^ 32 → short_number (2 ^ 32) (printed_number n) ≡ Some n }
+    ensures value { (v : ℤ) → FitsSigned w32 v → integer_text (printed_value v) ≡ Some v }
+{}
+
+/// A label without an unknown mark is read back, alone and behind its value. The proposition numbers end at 51.
+#[tactic(auto, using(crate::proofs::LabelTextLemmas::label_back, crate::proofs::ValueTextLemmas::values_back))]
+pub fn values_are_read_back()
+    ensures label { (a : Label) → IsPlain a → ((p : ℕ) → 52 ≤ p → a p ≡ Absent) → label_of (document_label a) ≡ Some a }
+    ensures pair { (v : ℤ) (a : Label) → FitsSigned w32 v → IsPlain a → ((p : ℕ) → 52 ≤ p → a p ≡ Absent)
+        → values_of (codes "{(" ++ printed_value v ++ codes ", " ++ document_label a ++ codes ")}") ≡ Some (record { most = v; label = Some a } ∷ []) }
+{}
+
+/// Reading the canonical document gives the same names and the same network, with its constraints numbered anew.
+///
+/// The content says so of every document, and the whole reading where the text is UTF-8.
+#[tactic(auto, using(crate::proofs::LawLemmas::content_back, crate::proofs::LawLemmas::document_back))]
+pub fn documents_are_read_back()
+    ensures content { (net : Network) (names : List (List ℕ)) → IsWellFormed net → AreNamesOf net names → content_read (canonical net names) ≡ Ok (parts net names) }
+    ensures document { (net : Network) (names : List (List ℕ)) → IsWellFormed net → AreNamesOf net names → is_utf8 (canonical net names) ≡ true → document (canonical net names) None ≡ Ok (parts net names) }
+{}
