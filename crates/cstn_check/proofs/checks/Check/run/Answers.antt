@@ -1,8 +1,7 @@
-use Rattle.std.proofs.Common.{◌≡◌, ap, sym, subst}
-use Rattle.cstn_net.specs.Networks.{IsWellFormed}
-use Rattle.cstn_net.specs.Read.{NetworkParts, the_network}
+use Rattle.std.proofs.Common.{ap}
+use Rattle.cstn_net.specs.Read.{the_network}
 use Rattle.cstn_log.specs.Entries.{the_entries}
-use Rattle.cstn_check.specs.Checks.{CheckParts, IsVerdict}
+use Rattle.cstn_check.specs.Checks.{CheckParts}
 use Rattle.cstn_check.proofs.VerdictLemmas.{no_clause, yes_clause, yes_is_right, no_is_right, held, seen_so}
 use Rattle.cstn_check.proofs.checks.Check.run.Goals as goal
 
