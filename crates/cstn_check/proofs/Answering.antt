@@ -1,17 +1,17 @@
 -- What a check's log says of its network.
-use Rattle.std.proofs.Common.{ℕ, zero, suc, ◌≡◌, ◌+◌, ◌-◌, ◌<◌, ◌≤◌, ◌^◌, inl, inr, Bool, true, false, List, [], ◌∷◌, ◌++◌, length, take, drop, Option, Some, None, ltb, arith, refl, sym, subst, ap, ◌∙◌, length-append}
-use Rattle.std.specs.Prelude.{slice_get, ◌↔◌, if◌then◌else◌, nat_lt}
-use Rattle.std.proofs.lemmas.Bool.{cases_Bool, false≢true, ltb-true, lt-ltb, cond-true, cond-false}
+use Rattle.std.proofs.Common.{ℕ, zero, suc, ◌≡◌, ◌-◌, ◌<◌, ◌≤◌, inl, inr, true, List, [], ◌∷◌, ◌++◌, length, take, drop, Some, arith, refl, sym, subst, ap, ◌∙◌}
+use Rattle.std.specs.Prelude.{slice_get, ◌↔◌, nat_lt}
+use Rattle.std.proofs.lemmas.Bool.{cases_Bool, false≢true, ltb-true, cond-true, cond-false}
 use Rattle.std.proofs.lemmas.List.{length-map, take-append-drop}
 use Rattle.std.proofs.lemmas.Option.{slice_get_within}
 use Rattle.cstn_net.specs.Networks.{Network, IsWellFormed, count}
 use Rattle.cstn_rules.specs.Derivations.{Entry, IsDerivation}
 use Rattle.cstn_rules.specs.Read.{the_entry}
-use Rattle.cstn_log.specs.Entries.{State, the_entries, bases, first_entries}
+use Rattle.cstn_log.specs.Entries.{State, the_entries, bases}
 use Rattle.cstn_log.proofs.DerivedLemmas.{length_bases}
-use Rattle.cstn_check.specs.Growth.{is_refuted, grown, grow, log_of, load_of}
+use Rattle.cstn_check.specs.Growth.{is_refuted, grow, log_of, load_of}
 use Rattle.cstn_check.specs.Turns.{IsRefutedLast, LastRefutes}
-use Rattle.cstn_check.specs.Checks.{IsStarted, IsPrefix, IsVerdict}
+use Rattle.cstn_check.specs.Checks.{IsStarted, IsVerdict}
 use Rattle.cstn_check.specs.declared.growth.Grown.{Grown}
 use Rattle.cstn_check.specs.declared.growth.Grown.TheVariants.{Closed, Refuted, Full}
 use Rattle.cstn_check.specs.declared.verdicts.Verdict.{Verdict}

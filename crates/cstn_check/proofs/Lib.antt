@@ -19,3 +19,4 @@ pub mod Growing
 pub mod Starts
 pub mod Outcomes
 pub mod Answering
+pub mod VerdictLemmas

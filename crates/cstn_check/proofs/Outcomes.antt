@@ -1,5 +1,5 @@
 -- What growth came to, in the terms of its list.
-use Rattle.std.proofs.Common.{ℕ, zero, suc, ◌≡◌, ◌+◌, ◌-◌, ◌<◌, ◌≤◌, ◌^◌, inl, inr, Bool, true, false, List, [], ◌∷◌, ◌++◌, length, take, Option, Some, None, arith, refl, sym, subst, ap, ◌∙◌, length-append}
+use Rattle.std.proofs.Common.{ℕ, suc, ◌≡◌, ◌+◌, ◌-◌, ◌<◌, ◌≤◌, ◌^◌, inl, inr, Bool, true, false, List, ◌∷◌, ◌++◌, length, take, Some, arith, refl, sym, subst, ap, ◌∙◌, length-append}
 use Rattle.std.specs.Prelude.{slice_get, ◌↔◌}
 use Rattle.std.proofs.lemmas.Bool.{cases_Bool, cases_lt, false≢true}
 use Rattle.std.proofs.lemmas.List.{length-map}
@@ -16,7 +16,7 @@ use Rattle.cstn_log.specs.Entries.{State, the_entries}
 use Rattle.cstn_check.specs.Tests.{refutes}
 use Rattle.cstn_check.specs.Growth.{is_refuted, grow, most_entries}
 use Rattle.cstn_check.specs.Kept.{IsKept}
-use Rattle.cstn_check.specs.Turns.{IsOpen, IsTaken, IsFront, IsCut, IsLonger, IsRefutedLast, LastRefutes}
+use Rattle.cstn_check.specs.Turns.{IsOpen, IsTaken, IsCut, IsLonger, IsRefutedLast, LastRefutes}
 use Rattle.cstn_check.specs.declared.growth.Grown.{Grown}
 use Rattle.cstn_check.specs.declared.growth.Grown.TheVariants.{Closed, Refuted, Full}
 use Rattle.cstn_check.proofs.Decided.{refutes_true}

@@ -1,7 +1,7 @@
 -- Instances that are tried one after the other.
-use Rattle.std.proofs.Common.{ℕ, zero, suc, ◌≡◌, ◌+◌, ◌<◌, ◌≤◌, inl, inr, Bool, true, false, List, [], ◌∷◌, ◌++◌, length, map, get_or, take, drop, arith, refl, sym, subst, ap, ◌∙◌, append_assoc, add-one}
+use Rattle.std.proofs.Common.{ℕ, zero, suc, ◌≡◌, ◌+◌, ◌<◌, ◌≤◌, inl, inr, Bool, true, false, List, [], ◌∷◌, ◌++◌, length, map, get_or, take, drop, arith, refl, sym, subst, ap, ◌∙◌, append_assoc}
 use Rattle.std.proofs.lemmas.Bool.{cases_lt}
-use Rattle.std.proofs.lemmas.List.{map-append, take_more, drop_more, take-append-drop, append-nil}
+use Rattle.std.proofs.lemmas.List.{map-append, take_more, take-append-drop, append-nil}
 use Rattle.std.specs.Prelude.{Result, Ok, Err, IfOk}
 use Rattle.cstn_net.specs.declared.constraints.Constraint.{Constraint as DeclaredConstraint}
 use Rattle.cstn_net.specs.Networks.{Network, Constraint, IsWellFormed}
@@ -12,7 +12,6 @@ use Rattle.cstn_check.specs.Growth.{Instance, is_refuted, step, tried, chains_at
 use Rattle.cstn_check.specs.Growth.Instance.{chain_at, wait_at}
 use Rattle.cstn_check.specs.Kept.{IsKept}
 use Rattle.cstn_check.specs.Turns.{IsOpen, IsTaken, IsFront, IsCut, IsLonger}
-use Rattle.cstn_check.proofs.Lists.{Extends}
 use Rattle.cstn_check.proofs.Grows.{Each, tried_extends}
 use Rattle.cstn_check.proofs.Derives.{OfNetwork, tried_keeps, tried_derived}
 use Rattle.cstn_check.proofs.Bounded.{kept_more}

@@ -1,5 +1,5 @@
 -- The lists that growth can go on from.
-use Rattle.std.proofs.Common.{ℕ, zero, suc, ◌≡◌, ◌+◌, ◌<◌, ◌≤◌, inl, inr, true, false, List, [], ◌∷◌, ◌++◌, length, Option, Some, None, arith, refl, sym, subst, ap, ◌∙◌}
+use Rattle.std.proofs.Common.{ℕ, zero, suc, ◌≡◌, ◌+◌, ◌<◌, inl, inr, List, [], ◌∷◌, Some, None, arith, refl, sym, subst, ap, ◌∙◌}
 use Rattle.std.specs.Prelude.{pos, ◌≤ℤ◌, slice_get, slice_index_or}
 use Rattle.std.proofs.lemmas.Int.{ints, by_lt_z}
 use Rattle.std.proofs.lemmas.Bool.{cases_lt, cases_order}
@@ -9,14 +9,14 @@ use Rattle.cstn_net.specs.Networks.{Network, IsConstraint, IsWellFormed, count, 
 use Rattle.cstn_rules.specs.declared.entries.Entry.{Entry as DeclaredEntry}
 use Rattle.cstn_rules.specs.declared.entries.Why.{Why}
 use Rattle.cstn_rules.specs.declared.entries.Why.TheVariants.{Base, Chain, Wait}
-use Rattle.cstn_rules.specs.Rules.{base, IsBase, IsChain, IsWait}
+use Rattle.cstn_rules.specs.Rules.{base}
 use Rattle.cstn_rules.specs.Derivations.{Entry, IsEarlier, Follows, IsDerivation}
 use Rattle.cstn_rules.specs.Read.{the_entry}
 use Rattle.cstn_rules.proofs.Shapes.{chain_within, wait_within}
 use Rattle.cstn_log.specs.Entries.{bases, the_entries, AllNew}
 use Rattle.cstn_log.proofs.ListLemmas.{get_map, get_left, get_last}
 use Rattle.cstn_log.proofs.DerivedLemmas.{length_bases}
-use Rattle.cstn_check.specs.Kept.{IsGood, AllGood, IsRanged, IsKept}
+use Rattle.cstn_check.specs.Kept.{IsGood, AllGood, IsKept}
 use Rattle.cstn_check.proofs.Decided.{chain_gives, wait_gives}
 use Rattle.cstn_check.proofs.Lists.{Extends, get_kept, covered_kept}
 use Rattle.cstn_check.proofs.GoodLemmas.{chain_good, wait_good}

@@ -1,24 +1,23 @@
 -- What the calls of a turn make of a log.
-use Rattle.std.proofs.Common.{ℕ, zero, suc, ◌≡◌, ◌+◌, ◌<◌, ◌≤◌, inl, inr, Bool, true, false, not, cond, ◌&&◌, ◌||◌, List, [], ◌∷◌, ◌++◌, length, map, Option, Some, None, arith, refl, sym, subst, ap, ◌∙◌, length-append, append_assoc}
+use Rattle.std.proofs.Common.{ℕ, ◌≡◌, ◌+◌, ◌<◌, ◌≤◌, Bool, true, false, not, cond, ◌&&◌, ◌||◌, List, [], ◌∷◌, ◌++◌, length, Option, Some, None, arith, refl, sym, subst, ap, ◌∙◌, length-append}
 use Rattle.std.specs.Prelude.{slice_get, slice_index_or, IsTrue, ◌↔◌}
-use Rattle.std.specs.List.{list_any, Contains}
-use Rattle.std.proofs.lemmas.Bool.{cases_Bool, cond-true, cond-false, false≢true, and_from, and_right}
+use Rattle.std.specs.List.{Contains}
+use Rattle.std.proofs.lemmas.Bool.{cond-true, cond-false, and_from, and_right}
 use Rattle.std.proofs.lemmas.List.Elements.{All-contains}
 use Rattle.std.proofs.lemmas.List.{map-append}
 use Rattle.std.proofs.lemmas.List.Folds.{list_any-append}
 use Rattle.cstn_label.specs.Bounds.{Bound}
 use Rattle.cstn_label.specs.Read.{the_bound}
-use Rattle.cstn_net.specs.Networks.{Network, Constraint, IsConstraint, IsWellFormed, count}
+use Rattle.cstn_net.specs.Networks.{Network, Constraint, IsConstraint, IsWellFormed}
 use Rattle.cstn_rules.specs.declared.entries.Entry.{Entry}
 use Rattle.cstn_rules.specs.Derivations.{Entry as TheEntry}
 use Rattle.cstn_rules.specs.Rules.{Refutes, IsChain, IsWait, IsBoundOf}
 use Rattle.cstn_rules.specs.Read.{the_entry}
-use Rattle.cstn_pool.specs.declared.slot_id.SlotId.{SlotId}
 use Rattle.cstn_log.specs.Entries.{State, the_entries, IsCoveredBy, IsLive}
 use Rattle.cstn_check.specs.Tests.{refutes, chain_of, wait_of}
-use Rattle.cstn_check.specs.Growth.{Instance, why_of, is_covered, is_refuted, premises_live, is_live, of_one, of_two, conclusion, with_conclusion, step, tried}
+use Rattle.cstn_check.specs.Growth.{Instance, why_of, is_covered, is_refuted, premises_live, is_live, of_one, of_two, conclusion, with_conclusion, step}
 use Rattle.cstn_check.specs.Growth.Instance.{chain_at, wait_at}
-use Rattle.cstn_check.specs.Turns.{IsOpen, IsTaken, IsFront, IsCut, IsLonger}
+use Rattle.cstn_check.specs.Turns.{IsOpen, IsTaken, IsCut, IsLonger}
 use Rattle.cstn_check.proofs.Reading.{entry_at, covered_true, uncovered_false, live_true, dead_false, refutes_is}
 use Rattle.cstn_check.proofs.Decided.{chain_gives, wait_gives}
 use Rattle.cstn_check.proofs.GoodLemmas.{good_at}

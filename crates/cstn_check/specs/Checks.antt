@@ -1,11 +1,11 @@
 -- Checks of a network.
-use Rattle.std.specs.Prelude.{ℕ, ◌≡◌, ◌<◌, ◌≤◌, Option, Some, None, length, take, List, ◌++◌, false}
+use Rattle.std.specs.Prelude.{ℕ, ◌≡◌, ◌<◌, ◌≤◌, Option, Some, None, List, ◌++◌, false}
 use Rattle.cstn_net.specs.Networks.{Network, count}
-use Rattle.cstn_net.specs.Read.{NetworkParts, the_network}
+use Rattle.cstn_net.specs.Read.{NetworkParts}
 use Rattle.cstn_rules.specs.Derivations.{Entry}
-use Rattle.cstn_log.specs.Entries.{State, the_entries, bases, first_entries}
+use Rattle.cstn_log.specs.Entries.{State, the_entries, first_entries}
 use Rattle.cstn_check.specs.Growth.{is_refuted, log_of, load_of}
-use Rattle.cstn_check.specs.Turns.{IsOpen, LastRefutes}
+use Rattle.cstn_check.specs.Turns.{LastRefutes}
 use Rattle.cstn_check.specs.declared.verdicts.Verdict.{Verdict}
 use Rattle.cstn_check.specs.declared.verdicts.Verdict.TheVariants.{Yes, No, Full}
 

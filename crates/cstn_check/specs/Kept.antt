@@ -1,5 +1,5 @@
 -- What the list of a growing log keeps.
-use Rattle.std.specs.Prelude.{ℕ, ◌≡◌, ◌<◌, ◌≤ℤ◌, ◌+◌, true, pos, List, [], ◌∷◌, ◌++◌, Some, slice_get}
+use Rattle.std.specs.Prelude.{ℕ, ◌≡◌, ◌<◌, ◌≤ℤ◌, ◌+◌, true, pos, List, [], ◌∷◌, Some, slice_get}
 use Rattle.cstn_label.specs.Bounds.{Bound, Dominates}
 use Rattle.cstn_net.specs.Networks.{Network, IsOnObserved, count, limit}
 use Rattle.cstn_rules.specs.Rules.{base}

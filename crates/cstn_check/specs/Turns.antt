@@ -1,5 +1,5 @@
 -- What the turns of growth make of a log.
-use Rattle.std.specs.Prelude.{ℕ, ◌≡◌, ◌<◌, ◌≤◌, ◌+◌, ◌-◌, ◌^◌, Bool, true, false, List, [], ◌∷◌, ◌++◌, length, Some, slice_get}
+use Rattle.std.specs.Prelude.{ℕ, ◌≡◌, ◌<◌, ◌≤◌, ◌+◌, ◌-◌, ◌^◌, Bool, false, List, ◌∷◌, ◌++◌, length, Some, slice_get}
 use Rattle.cstn_net.specs.Networks.{Network, count}
 use Rattle.cstn_rules.specs.Rules.{Refutes}
 use Rattle.cstn_rules.specs.Derivations.{Entry, IsDerivation}

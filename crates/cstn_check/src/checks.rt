@@ -1,7 +1,10 @@
-ghost use Rattle.std.specs.Prelude.{ℕ, ◌≡◌, ◌<◌, ◌≤◌};
-ghost use Rattle.cstn_net.specs.Networks.{IsWellFormed};
+ghost use Rattle.std.specs.Prelude.{ℕ, ◌≡◌, ◌<◌, ◌≤◌, ◌↔◌, IfOk, Some, None};
+ghost use Rattle.cstn_net.specs.Strategies.{IsConsistent};
 ghost use Rattle.cstn_net.specs.Read.{the_network};
 ghost use Rattle.cstn_log.specs.Entries.{the_entries};
+ghost use Rattle.cstn_check.specs.Growth.{log_of, load_of};
+ghost use Rattle.cstn_check.specs.Turns.{LastRefutes};
+ghost use Rattle.cstn_check.specs.declared.verdicts.Verdict.{Verdict};
 ghost use Rattle.cstn_check.specs.Checks.{IsStarted, IsVerdict};
 
 use crate::growth::{Grown, grow};
@@ -10,6 +13,74 @@ use crate::verdicts::Verdict;
 use cstn_log::Log;
 use cstn_net::Network;
 use cstn_rules::Tries;
+use std::alloc::{AllocError, Global};
+use std::marker::Model;
+
+/// A network with the log that grows from it, and the verdict once it was asked for.
+#[derive(Drop)]
+pub struct Check {
+    net: Network,
+    log: Log,
+    tries: Tries,
+    verdict: Option<Verdict>,
+}
+
+impl Model for Check {
+    ghost use Rattle.cstn_net.specs.Read.{the_network};
+    ghost use Rattle.cstn_check.specs.Checks.{CheckParts, IsCheck};
+
+    ghost Value = { CheckParts };
+
+    ghost view = { λ c. record { net = c.net; cap = c.log.cap; verdict = c.verdict } };
+
+    ghost invariant = { λ c. IsCheck (the_network c.net) c.log c.verdict };
+}
+
+impl Check {
+    /// A check of the network, whose log may have `cap` entries. All memory is taken here; fails
+    /// for want of it alone, and drops the network then.
+    pub fn start(alloc: Global, net: Network, cap: u32) -> Result<Check, AllocError>
+        requires some { 1 ≤ cap }
+        requires most { cap ≤ 4194304 }
+        ensures start { IfOk result (λ check. check ≡ record { net = net; cap = cap; verdict = None }) }
+    {
+        let log = Log::start(alloc, &net, cap)?;
+        Ok(Check {
+            net,
+            log,
+            tries: Tries { count: 0 },
+            verdict: None,
+        })
+    }
+
+    /// The verdict: full exactly where the load is above the cap, else no exactly where the last entry of the log refutes
+    /// the network, and yes else, with the load. Yes and no are right: a strategy exists, or none does.
+    pub fn run(&mut self) -> Verdict
+        ensures full { result ≡ Verdict.Full ↔ (self.old.cap < load_of (the_network self.old.net)) }
+        ensures no { (load : ℕ) → (result ≡ Verdict.No load ↔ ((load ≡ load_of (the_network self.old.net)) × (load_of (the_network self.old.net) ≤ self.old.cap) × LastRefutes (the_network self.old.net) (log_of (the_network self.old.net)))) }
+        ensures yes { (load : ℕ) → (result ≡ Verdict.Yes load ↔ ((load ≡ load_of (the_network self.old.net)) × (load_of (the_network self.old.net) ≤ self.old.cap) × ¬ LastRefutes (the_network self.old.net) (log_of (the_network self.old.net)))) }
+
+        ensures yes_truth { (load : ℕ) → result ≡ Verdict.Yes load → IsConsistent (the_network self.old.net) }
+        ensures no_truth { (load : ℕ) → result ≡ Verdict.No load → IsConsistent (the_network self.old.net) → ⊥ }
+        ensures answered { self.new ≡ record self.old { verdict = Some result } }
+        ensures again { (v : Verdict) → self.old.verdict ≡ Some v → result ≡ v }
+    {
+        is_well_formed(&self.net);
+        if let Some(verdict) = self.verdict {
+            return verdict;
+        }
+        let verdict = answer(&self.net, &mut self.log, &mut self.tries);
+        self.verdict = Some(verdict);
+        verdict
+    }
+
+    /// The network.
+    pub fn network(&self) -> &Network
+        ensures network { result.now ≡ self.now.net }
+    {
+        &self.net
+    }
+}
 
 // Grows the log of a network from its first entries, and says what that tells.
 fn answer(net: &Network, log: &mut Log, tries: &mut Tries) -> Verdict

@@ -7,6 +7,7 @@ mod laws;
 mod turns;
 mod verdicts;
 
+pub use checks::Check;
 pub use growth::{Grown, grow};
 pub use laws::{
     closed_lists_have_strategies, growth_decides, growth_ends, growth_is_bounded, loads_are_known,

@@ -1,6 +1,6 @@
-use Rattle.std.proofs.Common.{◌≡◌, ◌<◌, ◌≤◌, length, arith, ap, ◌∙◌}
+use Rattle.std.proofs.Common.{arith}
 use Rattle.cstn_net.specs.Read.{the_network}
-use Rattle.cstn_check.proofs.Answering.{has_bases, bases_begin, start_derived, start_last, no_room, verdict_from}
+use Rattle.cstn_check.proofs.Answering.{has_bases, start_derived, start_last, no_room, verdict_from}
 use Rattle.cstn_check.proofs.checks.answer.Goals as goal
 
 pub returns-then-len-eq0-clause-verdict : goal.returns-then-len-eq0-clause-verdict

@@ -1,4 +1,4 @@
-use Rattle.std.proofs.Common.{◌≡◌, ◌+◌, ◌≤◌, true, false, arith, refl}
+use Rattle.std.proofs.Common.{◌+◌, true, false, arith, refl}
 use Rattle.cstn_net.specs.Read.{the_network}
 use Rattle.cstn_check.proofs.Growing.{turn_on, end_closed, end_refuted, end_cut}
 use Rattle.cstn_check.proofs.growth.grow_open.Goals as goal

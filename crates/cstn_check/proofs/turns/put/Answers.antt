@@ -1,4 +1,4 @@
-use Rattle.std.proofs.Common.{◌≡◌, true, false, refl, sym, ◌∙◌}
+use Rattle.std.proofs.Common.{refl, sym, ◌∙◌}
 use Rattle.std.proofs.lemmas.Bool.{false≢true}
 use Rattle.cstn_check.proofs.TurnLemmas.{put_nothing, put_last, put_cut}
 use Rattle.cstn_check.proofs.turns.put.Goals as goal

@@ -1,5 +1,4 @@
-use Rattle.std.proofs.Common.{◌≡◌, ◌+◌, ◌<◌, ◌≤◌, ◌++◌, length, map, suc, true, false, refl, ap, arith, subst}
-use Rattle.std.specs.Prelude.{IfOk, IsErr}
+use Rattle.std.proofs.Common.{◌+◌, map, true, arith, subst}
 use Rattle.cstn_net.specs.Read.{the_network, the_constraint}
 use Rattle.cstn_log.specs.Entries.{the_entries}
 use Rattle.cstn_check.specs.Growth.{tried, chains_at, waits_below, turn}

@@ -1,11 +1,7 @@
-use Rattle.std.proofs.Common.{◌≡◌, ◌<◌, ◌≤◌, [], ◌∷◌, length, true, false, refl, arith, subst}
-use Rattle.std.specs.Prelude.{IfOk, IsErr}
+use Rattle.std.proofs.Common.{[], ◌∷◌, arith}
 use Rattle.cstn_net.specs.Read.{the_network}
-use Rattle.cstn_log.specs.Entries.{the_entries}
-use Rattle.cstn_check.specs.Growth.{tried}
 use Rattle.cstn_check.specs.Growth.Instance.{wait_at}
-use Rattle.cstn_check.specs.Turns.{IsTaken, IsCut}
-use Rattle.cstn_check.proofs.Sequences.{taken_as, refuted_then, cut_first, cut_then, then_on}
+use Rattle.cstn_check.proofs.Sequences.{taken_as, refuted_then, cut_first}
 use Rattle.cstn_check.proofs.turns.try_both.Goals as goal
 
 pub try_wait-requires-in-Ok-false-clause-ready : goal.try_wait-requires-in-Ok-false-clause-ready

@@ -1,9 +1,7 @@
-use Rattle.std.proofs.Common.{◌≡◌, ◌+◌, ◌<◌, ◌≤◌, [], ◌∷◌, ◌++◌, length, map, take, drop, get_or, false, arith, subst}
+use Rattle.std.proofs.Common.{◌+◌, [], ◌∷◌, map, take, false, arith}
 use Rattle.cstn_net.specs.Read.{the_network, the_constraint}
-use Rattle.cstn_log.specs.Entries.{the_entries}
-use Rattle.cstn_check.specs.Growth.{tried, step, chains_at}
+use Rattle.cstn_check.specs.Growth.{chains_at}
 use Rattle.cstn_check.specs.Growth.Instance.{chain_at}
-use Rattle.cstn_check.specs.Turns.{IsTaken}
 use Rattle.cstn_check.proofs.Sequences.{taken_as, go_on, go_true, go_cut, chains_next, chains_whole}
 use Rattle.cstn_check.proofs.turns.try_chains.Goals as goal
 

@@ -1,4 +1,4 @@
-use Rattle.std.proofs.Common.{◌≡◌, ◌<◌, ◌≤◌, [], ◌∷◌, refl, sym, subst, arith}
+use Rattle.std.proofs.Common.{[], ◌∷◌, subst, arith}
 use Rattle.std.specs.Prelude.{IfOk, IsErr}
 use Rattle.std.proofs.lemmas.Bool.{false≢true}
 use Rattle.cstn_label.specs.Read.{the_bound}

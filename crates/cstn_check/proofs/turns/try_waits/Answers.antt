@@ -1,9 +1,7 @@
-use Rattle.std.proofs.Common.{◌≡◌, ◌+◌, ◌<◌, ◌≤◌, [], ◌∷◌, ◌++◌, length, false, arith, subst, sym}
+use Rattle.std.proofs.Common.{◌+◌, [], ◌∷◌, false, arith, sym}
 use Rattle.cstn_net.specs.Read.{the_network}
-use Rattle.cstn_log.specs.Entries.{the_entries}
-use Rattle.cstn_check.specs.Growth.{tried, waits_below}
+use Rattle.cstn_check.specs.Growth.{waits_below}
 use Rattle.cstn_check.specs.Growth.Instance.{wait_at}
-use Rattle.cstn_check.specs.Turns.{IsTaken}
 use Rattle.cstn_check.proofs.Sequences.{taken_as, go_on, go_true, go_cut, waits_next, waits_whole}
 use Rattle.cstn_check.proofs.turns.try_waits.Goals as goal
 
