@@ -3,7 +3,9 @@ use Rattle.std.proofs.Common.{◌≡◌, ◌≢◌, ℕ, zero, suc, ◌+◌, ◌
 use Rattle.std.specs.Prelude.{Option, Some, None, codes, nat_lt, nat_le, ◌&&◌, slice_index_or, ℤ, pos, negsuc, ◌≤ℤ◌, FitsSigned}
 use Rattle.std.specs.Int.{w32}
 use Rattle.std.specs.List.{All}
-use Rattle.std.specs.Str.{is_utf8}
+use Rattle.std.specs.Str.{is_utf8, IsUtf8}
+use Rattle.std.proofs.lemmas.Str.{IsUtf8-append, IsUtf8-from_is_utf8, is_utf8-from_IsUtf8}
+use Rattle.cstn_save.proofs.TextLemmas.{nodes_utf8, edges_utf8, edge_utf8, head_utf8, tail_utf8}
 use Rattle.std.proofs.lemmas.Bool.{false≢true}
 use Rattle.std.proofs.lemmas.List.{take_all}
 use Rattle.std.proofs.lemmas.Int.{ints}
@@ -17,7 +19,7 @@ use Rattle.cstn_graphml.specs.LabelTexts.{is_absent}
 use Rattle.cstn_graphml.specs.Contents.{content_of}
 use Rattle.cstn_graphml.specs.Draft.{Draft, with_constraint}
 use Rattle.cstn_graphml.specs.Document.{in_document, parts_of, document}
-use Rattle.cstn_save.specs.Canonical.{canonical}
+use Rattle.cstn_save.specs.Canonical.{canonical, head, nodes_below, edges, tail}
 use Rattle.cstn_save.specs.ReadBack.{drawn, parts, AreNamesOf}
 use Rattle.cstn_save.proofs.WholeLemmas.{drafted, IsNew, IsProp}
 use Rattle.cstn_save.proofs.EdgeLemmas.{IsKnown, AreKnown, with_all}
@@ -93,6 +95,16 @@ content_back net names wf is =
     ∙ ap (parts_of None) (with_all_is net.constraints (drafted names net.observes (begun net.deadline drafted_is.0) (count net)))
     ∙ parts_told net names n (drafted names net.observes (begun net.deadline drafted_is.0) (count net)) all count_is (shape drafted_is.0)
 
--- and so has the document, which is UTF-8
-pub document_back : (net : Network) (names : List (List ℕ)) → IsWellFormed net → AreNamesOf net names → is_utf8 (canonical net names) ≡ true → document (canonical net names) None ≡ Ok (parts net names)
-document_back net names wf is text = rw text (content_back net names wf is)
+-- the canonical document is UTF-8
+canonical_utf8 : (net : Network) (names : List (List ℕ)) → IsWellFormed net → AreNamesOf net names → is_utf8 (canonical net names) ≡ true
+canonical_utf8 net names wf is =
+    let name : (i : ℕ) → i < length names → IsUtf8 (slice_index_or names i []) = λ i h. IsUtf8-from_is_utf8 (slice_index_or names i []) (is.named.each i [] h).utf8 in
+    let nodes = nodes_utf8 names net.observes (count net) (λ i h. (name i (omega (arith, h, is.each)), prop_by net i (slice_index_or net.observes i None) wf refl)) in
+    let lines = edges_utf8 names net.constraints (λ k x h. let c = wf.network.constraints k x h in let e = slice_index_or net.constraints k x in
+      edge_utf8 (slice_index_or names e.from []) (slice_index_or names e.to []) e.most e.label (name e.from (omega (arith, c.from, is.each))) (name e.to (omega (arith, c.to, is.each))) (value_fits e.most (wf.values k x h))) in
+    is_utf8-from_IsUtf8 (canonical net names)
+      (IsUtf8-append (head net.deadline ++ nodes_below names net.observes (count net) ++ edges names net.constraints) tail (IsUtf8-append (head net.deadline ++ nodes_below names net.observes (count net)) (edges names net.constraints) (IsUtf8-append (head net.deadline) (nodes_below names net.observes (count net)) (head_utf8 net.deadline (omega (arith, wf.in_time))) nodes) lines) tail_utf8)
+
+-- and so has the document
+pub document_back : (net : Network) (names : List (List ℕ)) → IsWellFormed net → AreNamesOf net names → document (canonical net names) None ≡ Ok (parts net names)
+document_back net names wf is = rw (canonical_utf8 net names wf is) (content_back net names wf is)
