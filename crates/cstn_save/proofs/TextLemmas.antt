@@ -1,9 +1,9 @@
 -- The canonical document is UTF-8 where its names are.
-use Rattle.std.proofs.Common.{◌≡◌, ℕ, zero, suc, ◌+◌, ◌<◌, ◌≤◌, ◌^◌, List, [], ◌∷◌, ◌++◌, length, take, drop, get_or, refl, ap, sym, ◌∙◌, arith, Bool, true, false, not, append_assoc, subst, Some, None}
-use Rattle.std.specs.Prelude.{codes, ◌==◌, nat_lt, nat_le, decimal, if◌then◌else◌, Option, ℤ, pos, negsuc, FitsSigned, slice_index_or}
+use Rattle.std.proofs.Common.{◌≡◌, ℕ, zero, suc, ◌<◌, ◌≤◌, ◌^◌, List, [], ◌∷◌, ◌++◌, length, get_or, refl, sym, arith, Bool, true, false, append_assoc, subst, Some, None}
+use Rattle.std.specs.Prelude.{codes, ◌==◌, nat_lt, decimal, if◌then◌else◌, Option, ℤ, pos, negsuc, FitsSigned, slice_index_or}
 use Rattle.std.specs.Char.{is_ascii_digit, IsScalar, encode_utf8}
 use Rattle.std.specs.List.{list_all, All}
-use Rattle.std.specs.Str.{IsUtf8, is_utf8, chars, encode_utf8_all}
+use Rattle.std.specs.Str.{IsUtf8, is_utf8, chars}
 use Rattle.std.specs.Int.{w32}
 use Rattle.cstn_label.specs.Labels.{Label}
 use Rattle.cstn_label.specs.Letters.{letter_of}
@@ -137,9 +137,9 @@ three a b c ua ub uc = both (a ++ b) c (both a b ua ub) uc
 pub edge_utf8 : (source target : List ℕ) (v : ℤ) (a : Label) → IsUtf8 source → IsUtf8 target → FitsSigned w32 v → IsUtf8 (edge_tag source target ++ edge_data v a)
 edge_utf8 source target v a s t fits =
     both (edge_tag source target) (edge_data v a)
-      (five (codes "<edge source=\"") (escaped_name source) (codes "\" target=\"") (escaped_name target) (codes "\">") (ascii_utf8 (codes "<edge source=\"") refl) (name_utf8 source s) (ascii_utf8 (codes "\" target=\"") refl) (name_utf8 target t) (ascii_utf8 (codes "\">") refl))
-      (five (codes "<data key=\"Type\">requirement</data><data key=\"LabeledValues\">{(") (printed_value v) (codes ", ") (document_label a) (codes ")}</data></edge>\n")
-        (ascii_utf8 (codes "<data key=\"Type\">requirement</data><data key=\"LabeledValues\">{(") refl) (value_utf8 v fits) (ascii_utf8 (codes ", ") refl) (label_utf8 a) (ascii_utf8 (codes ")}</data></edge>\n") refl))
+    (five (codes "<edge source=\"") (escaped_name source) (codes "\" target=\"") (escaped_name target) (codes "\">") (ascii_utf8 (codes "<edge source=\"") refl) (name_utf8 source s) (ascii_utf8 (codes "\" target=\"") refl) (name_utf8 target t) (ascii_utf8 (codes "\">") refl))
+    (five (codes "<data key=\"Type\">requirement</data><data key=\"LabeledValues\">{(") (printed_value v) (codes ", ") (document_label a) (codes ")}</data></edge>\n")
+    (ascii_utf8 (codes "<data key=\"Type\">requirement</data><data key=\"LabeledValues\">{(") refl) (value_utf8 v fits) (ascii_utf8 (codes ", ") refl) (label_utf8 a) (ascii_utf8 (codes ")}</data></edge>\n") refl))
 
 node_end_utf8 : (o : Option ℕ) → IsProp o → IsUtf8 (node_end o)
 node_end_utf8 None small = ascii_utf8 (codes "\"/>\n") refl
@@ -154,7 +154,7 @@ nodes_utf8 names observes zero each = IsUtf8-nil
 nodes_utf8 names observes (suc n) each =
     let here = each n (omega arith) in
     both (nodes_below names observes n) (node_line (slice_index_or names n []) (slice_index_or observes n None)) (nodes_utf8 names observes n (λ i h. each i (omega (arith, h))))
-      (three (codes "<node id=\"") (escaped_name (slice_index_or names n [])) (node_end (slice_index_or observes n None)) (ascii_utf8 (codes "<node id=\"") refl) (name_utf8 (slice_index_or names n []) here.0) (node_end_utf8 (slice_index_or observes n None) here.1))
+    (three (codes "<node id=\"") (escaped_name (slice_index_or names n [])) (node_end (slice_index_or observes n None)) (ascii_utf8 (codes "<node id=\"") refl) (name_utf8 (slice_index_or names n []) here.0) (node_end_utf8 (slice_index_or observes n None) here.1))
 
 pub edges_utf8 : (names : List (List ℕ)) (cs : List Constraint) → All (λ c. IsUtf8 (edge_line names c)) cs → IsUtf8 (edges names cs)
 edges_utf8 names [] each = IsUtf8-nil
@@ -163,9 +163,9 @@ edges_utf8 names (c ∷ cs) each = both (edge_line names c) (edges names cs) (ea
 pub head_utf8 : (deadline : ℕ) → deadline < 2 ^ 64 → IsUtf8 (head deadline)
 head_utf8 deadline small =
     three (codes "<?xml version=\"1.0\" encoding=\"UTF-8\"?>\n<graphml>\n<graph edgedefault=\"directed\">\n<data key=\"Deadline\">") (printed_number deadline) (codes "</data>\n")
-      (ascii_utf8 (codes "<?xml version=\"1.0\" encoding=\"UTF-8\"?>\n<graphml>\n<graph edgedefault=\"directed\">\n<data key=\"Deadline\">") refl)
-      (ascii_utf8 (decimal deadline) (all_for is_ascii_digit (λ c. nat_lt c 128) (decimal deadline) digit_low (decimal_digits deadline small)))
-      (ascii_utf8 (codes "</data>\n") refl)
+    (ascii_utf8 (codes "<?xml version=\"1.0\" encoding=\"UTF-8\"?>\n<graphml>\n<graph edgedefault=\"directed\">\n<data key=\"Deadline\">") refl)
+    (ascii_utf8 (decimal deadline) (all_for is_ascii_digit (λ c. nat_lt c 128) (decimal deadline) digit_low (decimal_digits deadline small)))
+    (ascii_utf8 (codes "</data>\n") refl)
 
 pub tail_utf8 : IsUtf8 tail
 tail_utf8 = ascii_utf8 tail refl
