@@ -1,6 +1,6 @@
 -- The draft of all time-points has their names and observations, and finds each name at its number.
 use Rattle.std.proofs.Common.{◌≡◌, ◌≢◌, ℕ, zero, suc, ◌+◌, ◌<◌, ◌≤◌, List, [], ◌∷◌, ◌++◌, length, take, refl, ap, sym, ◌∙◌, arith, Bool, true, false, append_assoc, append-nil, subst, map, length-take}
-use Rattle.std.specs.Prelude.{Option, Some, None, codes, ◌==◌, nat_eq, nat_lt, nat_le, ◌&&◌, slice_index_or}
+use Rattle.std.specs.Prelude.{Option, Some, None, codes, ◌==◌, nat_lt, nat_le, ◌&&◌, slice_index_or}
 use Rattle.std.specs.List.{AllPairs, position, position_or_len}
 use Rattle.std.specs.Str.{bytes_eq}
 use Rattle.std.proofs.lemmas.List.{take_more, take_all, get_or-take}
@@ -8,8 +8,8 @@ use Rattle.std.proofs.lemmas.List.Sums.{position_or_len_is}
 use Rattle.std.proofs.lemmas.Slice.Eq.{bytes_eq-Decides}
 use Rattle.cstn_net.specs.Networks.{Constraint}
 use Rattle.cstn_markup.specs.Bytes.{is_same}
-use Rattle.cstn_graphml.specs.Draft.{Draft, empty_draft, node_of, with_node, with_constraint}
-use Rattle.cstn_save.proofs.WholeLemmas.{drafted, IsNew, IsProp}
+use Rattle.cstn_graphml.specs.Draft.{Draft, node_of, with_node, with_constraint}
+use Rattle.cstn_save.proofs.WholeLemmas.{drafted, IsProp}
 use Rattle.cstn_save.proofs.EdgeLemmas.{with_all}
 use Rattle.cstn_save.specs.ReadBack.{drawn}
 use Rattle.cstn_save.proofs.ReadBackLemmas.{begun}
@@ -60,13 +60,13 @@ shaped names observes deadline at zero given h =
     let o : Option ℕ = slice_index_or observes 0 None in
     let ends : 0 < length observes = omega (arith, given.each) in
     subst (λ (x : List ℕ). IsShaped names observes deadline 0 (with_node x o (begun deadline at))) (sym given.origin)
-      (record {
-        deadline_is = refl;
-        origin_is = refl;
-        names_are = sym (more names 0 [] h ∙ ap (λ (x : List ℕ). x ∷ []) given.origin);
-        observes_are = sym (more observes 0 None ends);
-        none = refl;
-      })
+    (record {
+      deadline_is = refl;
+      origin_is = refl;
+      names_are = sym (more names 0 [] h ∙ ap (λ (x : List ℕ). x ∷ []) given.origin);
+      observes_are = sym (more observes 0 None ends);
+      none = refl;
+    })
 shaped names observes deadline at (suc n) given h =
     let name : List ℕ = slice_index_or names (suc n) [] in
     let o : Option ℕ = slice_index_or observes (suc n) None in
@@ -74,13 +74,13 @@ shaped names observes deadline at (suc n) given h =
     let so = shaped names observes deadline at n given (omega arith) in
     let ends : suc n < length observes = omega (arith, given.each) in
     subst (λ (x : Draft). IsShaped names observes deadline (suc n) x) (sym (later_node name o d (no_origin names observes (suc n) given (omega arith) h)))
-      (record {
-        deadline_is = so.deadline_is;
-        origin_is = so.origin_is;
-        names_are = ap (λ (x : List (List ℕ)). x ++ (name ∷ [])) so.names_are ∙ sym (more names (suc n) [] h);
-        observes_are = ap (λ (x : List (Option ℕ)). x ++ (o ∷ [])) so.observes_are ∙ sym (more observes (suc n) None ends);
-        none = so.none;
-      })
+    (record {
+      deadline_is = so.deadline_is;
+      origin_is = so.origin_is;
+      names_are = ap (λ (x : List (List ℕ)). x ++ (name ∷ [])) so.names_are ∙ sym (more names (suc n) [] h);
+      observes_are = ap (λ (x : List (Option ℕ)). x ++ (o ∷ [])) so.observes_are ∙ sym (more observes (suc n) None ends);
+      none = so.none;
+    })
 
 later_of : (name : List ℕ) (d : Draft) → is_same name (codes "Z") ≡ false → node_of name d ≡ position (bytes_eq name) d.names
 later_of name d h = rw h refl
@@ -103,10 +103,10 @@ fresh names observes deadline at (suc n) given h =
     later_of name d (no_origin names observes (suc n) given (omega arith) h)
     ∙ ap (position (bytes_eq name)) so.names_are
     ∙ found_none (bytes_eq name) (take (suc n) names)
-      (position_or_len_is (bytes_eq name) (take (suc n) names) (length (take (suc n) names)) [] (omega arith)
-        (λ k below. let low : k < suc n = omega (arith, size, below) in
-          ap (bytes_eq name) (get_or-take (suc n) names k [] low) ∙ other_name names observes k (suc n) given low h)
-        (λ below. absurd (omega (arith, below))))
+    (position_or_len_is (bytes_eq name) (take (suc n) names) (length (take (suc n) names)) [] (omega arith)
+    (λ k below. let low : k < suc n = omega (arith, size, below) in
+    ap (bytes_eq name) (get_or-take (suc n) names k [] low) ∙ other_name names observes k (suc n) given low h)
+    (λ below. absurd (omega (arith, below))))
   where
     length-taken : (m : ℕ) (xs : List (List ℕ)) → m ≤ length xs → length (take m xs) ≡ m
     length-taken m xs h = omega (arith, length-take m xs)
@@ -119,7 +119,7 @@ found names observes deadline n (suc i) d given all so h =
     later_of name d (no_origin names observes (suc i) given (omega arith) h)
     ∙ ap (position (bytes_eq name)) (so.names_are ∙ take_all (suc n) names (omega (arith, all)))
     ∙ found_at (bytes_eq name) names (suc i) h
-      (position_or_len_is (bytes_eq name) names (suc i) [] (omega arith) (λ k below. other_name names observes k (suc i) given below h) (λ below. self name))
+    (position_or_len_is (bytes_eq name) names (suc i) [] (omega arith) (λ k below. other_name names observes k (suc i) given below h) (λ below. self name))
 
 -- constraints are put behind those of the draft
 pub with_all_is : (cs : List Constraint) (d : Draft) → with_all cs d ≡ record d { constraints = d.constraints ++ map drawn cs }

@@ -1,6 +1,6 @@
 -- The lines of constraints are read back.
-use Rattle.std.proofs.Common.{◌≡◌, ℕ, zero, suc, ◌+◌, ◌-◌, ◌<◌, ◌≤◌, ◌^◌, List, [], ◌∷◌, ◌++◌, length, take, refl, ap, sym, ◌∙◌, arith, Bool, true, false, not, append_assoc, subst, reverse}
-use Rattle.std.specs.Prelude.{Option, Some, None, codes, ◌==◌, nat_lt, nat_le, ◌&&◌, ℤ, pos, negsuc, slice_index_or, FitsSigned, decimal}
+use Rattle.std.proofs.Common.{◌≡◌, ℕ, suc, ◌-◌, ◌≤◌, List, [], ◌∷◌, ◌++◌, length, refl, ap, sym, ◌∙◌, arith, Bool, true, not, append_assoc, subst}
+use Rattle.std.specs.Prelude.{Some, codes, ◌==◌, ℤ, pos, negsuc, slice_index_or, FitsSigned, decimal}
 use Rattle.std.specs.Int.{w32}
 use Rattle.std.specs.Char.{is_ascii_digit}
 use Rattle.std.specs.List.{list_all, prefix_len, suffix_len}
@@ -8,17 +8,17 @@ use Rattle.std.proofs.lemmas.List.{take_all, reverse-append}
 use Rattle.cstn_label.specs.Labels.{Label, IsPlain}
 use Rattle.cstn_label.specs.declared.marks.Mark.TheVariants.{Absent}
 use Rattle.cstn_net.specs.Networks.{Constraint}
-use Rattle.cstn_text.specs.Numbers.{printed_number, printed_value}
+use Rattle.cstn_text.specs.Numbers.{printed_value}
 use Rattle.cstn_markup.specs.Bytes.{is_white}
 use Rattle.cstn_graphml.specs.Numbers.{trimmed}
 use Rattle.cstn_graphml.specs.ValueTexts.{values_of}
-use Rattle.cstn_graphml.specs.Draft.{Draft, Drawn, node_of, with_constraint}
+use Rattle.cstn_graphml.specs.Draft.{Draft, node_of, with_constraint}
 use Rattle.cstn_save.specs.Canonical.{escaped_name, or_empty, literals_below, document_label, edge_tag, edge_data, edge_line, edges, tail}
 use Rattle.cstn_save.specs.ReadBack.{drawn}
 use Rattle.cstn_save.proofs.NumberTextLemmas.{decimal_digits}
 use Rattle.cstn_save.proofs.ValueTextLemmas.{values_back, is_of_literal, literals_bytes}
 use Rattle.cstn_save.proofs.RunLemmas.{all_for, both_all, joined_five}
-use Rattle.cstn_save.proofs.LineLemmas.{around, Makes, edge_made, then}
+use Rattle.cstn_save.proofs.LineLemmas.{Makes, edge_made, then}
 
 pub joined_six : (a b c d e f : List ℕ) → a ++ b ++ c ++ d ++ e ++ f ≡ a ++ (b ++ (c ++ (d ++ (e ++ f))))
 joined_six a b c d e f = append_assoc (a ++ b ++ c ++ d) e f ∙ joined_five a b c d (e ++ f)
@@ -53,9 +53,9 @@ inside_all : (p : ℕ → Bool) (v : ℤ) (a : Label) → FitsSigned w32 v → (
     → list_all p (226 ∷ 138 ∷ 161 ∷ []) ≡ true → p 45 ≡ true → list_all p (codes "{(") ≡ true → list_all p (codes ", ") ≡ true → list_all p (codes ")}") ≡ true → list_all p (123 ∷ values_inside v a) ≡ true
 inside_all p v a fits f g e m front comma behind =
     both_all p (codes "{(") (printed_value v ++ 44 ∷ 32 ∷ (document_label a ++ 41 ∷ 125 ∷ [])) front
-      (both_all p (printed_value v) (44 ∷ 32 ∷ (document_label a ++ 41 ∷ 125 ∷ [])) (value_all p v fits f m)
-        (both_all p (codes ", ") (document_label a ++ 41 ∷ 125 ∷ []) comma
-          (both_all p (document_label a) (codes ")}") (label_all p a g e) behind)))
+    (both_all p (printed_value v) (44 ∷ 32 ∷ (document_label a ++ 41 ∷ 125 ∷ [])) (value_all p v fits f m)
+    (both_all p (codes ", ") (document_label a ++ 41 ∷ 125 ∷ []) comma
+    (both_all p (document_label a) (codes ")}") (label_all p a g e) behind)))
 
 no_less : (v : ℤ) (a : Label) → FitsSigned w32 v → list_all (λ c. not (c == 60)) (123 ∷ values_inside v a) ≡ true
 no_less v a fits = inside_all (λ c. not (c == 60)) v a fits (λ b h. grind arith) (λ b h. grind arith) refl refl refl refl refl
@@ -72,7 +72,7 @@ trimmed_braces xs =
 values_trimmed : (v : ℤ) (a : Label) → trimmed (123 ∷ values_inside v a) ≡ 123 ∷ values_inside v a
 values_trimmed v a =
     subst (λ (x : List ℕ). trimmed (123 ∷ x) ≡ 123 ∷ x) (value_flat (codes "(") (printed_value v) (codes ", ") (document_label a) (codes ")") (codes "}"))
-      (trimmed_braces (40 ∷ (printed_value v ++ 44 ∷ 32 ∷ (document_label a ++ 41 ∷ []))))
+    (trimmed_braces (40 ∷ (printed_value v ++ 44 ∷ 32 ∷ (document_label a ++ 41 ∷ []))))
 
 -- a constraint between two time-points that were read
 pub record IsKnown (names : List (List ℕ)) (d : Draft) (c : Constraint) : Type 0 where
@@ -87,16 +87,16 @@ line_flat : (source target rest : List ℕ) (v : ℤ) (a : Label) → edge_tag s
 line_flat source target rest v a =
     edge_flat (codes "<edge source=\"") (escaped_name source) (codes "\" target=\"") (escaped_name target) (codes "\">") (codes "<data key=\"Type\">requirement</data><data key=\"LabeledValues\">{(") (printed_value v) (codes ", ") (document_label a) (codes ")}</data></edge>\n") (60 ∷ rest)
     ∙ ap (λ (x : List ℕ). codes "<edge source=" ++ 34 ∷ (escaped_name source ++ 34 ∷ (codes " target=" ++ 34 ∷ (escaped_name target ++ 34 ∷ 62 ∷ (codes "<data key=\"Type\">requirement</data><data key=\"LabeledValues\">" ++ x)))))
-      (sym (value_flat (codes "{(") (printed_value v) (codes ", ") (document_label a) (codes ")}") (codes "</data></edge>\n" ++ 60 ∷ rest)))
+    (sym (value_flat (codes "{(") (printed_value v) (codes ", ") (document_label a) (codes ")}") (codes "</data></edge>\n" ++ 60 ∷ rest)))
 
 pub edge_line_made : (names : List (List ℕ)) (c : Constraint) (rest : List ℕ) (at : ℕ) (d : Draft) → IsKnown names d c → Makes d (with_constraint (drawn c) d) at (edge_line names c ++ 60 ∷ rest) (60 ∷ rest)
 edge_line_made names c rest at d is =
     let source : List ℕ = slice_index_or names c.from [] in
     let target : List ℕ = slice_index_or names c.to [] in
     let values : values_of (123 ∷ values_inside c.most c.label) ≡ Some (record { most = c.most; label = Some c.label } ∷ []) =
-      ap values_of (sym (joined_five (codes "{(") (printed_value c.most) (codes ", ") (document_label c.label) (codes ")}"))) ∙ values_back c.most c.label is.fits is.plain is.letters in
+    ap values_of (sym (joined_five (codes "{(") (printed_value c.most) (codes ", ") (document_label c.label) (codes ")}"))) ∙ values_back c.most c.label is.fits is.plain is.letters in
     subst (λ (x : List ℕ). Makes d (with_constraint (drawn c) d) at x (60 ∷ rest)) (sym (line_flat source target rest c.most c.label))
-      (edge_made source target (values_inside c.most c.label) rest c.from c.to at c.most c.label d (no_less c.most c.label is.fits) (no_ampersand c.most c.label is.fits) (values_trimmed c.most c.label) values is.from is.to)
+    (edge_made source target (values_inside c.most c.label) rest c.from c.to at c.most c.label d (no_less c.most c.label is.fits) (no_ampersand c.most c.label is.fits) (values_trimmed c.most c.label) values is.from is.to)
 
 -- the draft with constraints more
 unfoldable pub with_all : List Constraint → Draft → Draft
@@ -117,6 +117,6 @@ edges_made names [] at d known = record { place = at; told = refl; left = refl }
 edges_made names (c ∷ cs) at d known =
     let begin = edges_begin names cs in
     let line : Makes d (with_constraint (drawn c) d) at (edge_line names c ++ (edges names cs ++ tail)) (edges names cs ++ tail) =
-      subst (λ (x : List ℕ). Makes d (with_constraint (drawn c) d) at (edge_line names c ++ x) x) (sym begin.1) (edge_line_made names c begin.0 at d known.0) in
+    subst (λ (x : List ℕ). Makes d (with_constraint (drawn c) d) at (edge_line names c ++ x) x) (sym begin.1) (edge_line_made names c begin.0 at d known.0) in
     subst (λ (x : List ℕ). Makes d (with_all cs (with_constraint (drawn c) d)) at x tail) (sym (append_assoc (edge_line names c) (edges names cs) tail))
-      (then line (λ place. edges_made names cs place (with_constraint (drawn c) d) known.1))
+    (then line (λ place. edges_made names cs place (with_constraint (drawn c) d) known.1))

@@ -12,3 +12,4 @@ pub mod EdgeLemmas
 pub mod ReadBackLemmas
 pub mod DraftedLemmas
 pub mod LawLemmas
+pub mod TextLemmas

@@ -1,12 +1,12 @@
 -- The lines of a document, read one after the other.
-use Rattle.std.proofs.Common.{◌≡◌, ℕ, zero, suc, ◌+◌, ◌-◌, ◌<◌, ◌≤◌, List, [], ◌∷◌, ◌++◌, length, refl, ap, sym, ◌∙◌, arith, Bool, true, false, not, append_assoc, Ok, Err, Result}
-use Rattle.std.specs.Prelude.{Option, Some, None, codes, ◌==◌, nat_lt, nat_le, ◌&&◌, ℤ}
+use Rattle.std.proofs.Common.{◌≡◌, ℕ, ◌-◌, ◌≤◌, List, [], ◌∷◌, ◌++◌, length, refl, ◌∙◌, arith, true, not, Ok, Result}
+use Rattle.std.specs.Prelude.{Some, None, codes, ◌==◌, nat_lt, nat_le, ◌&&◌, ℤ}
 use Rattle.std.specs.List.{list_all}
 use Rattle.std.proofs.lemmas.List.{length-append}
 use Rattle.cstn_label.specs.Labels.{Label}
 use Rattle.cstn_label.specs.Letters.{prop_of}
 use Rattle.cstn_markup.specs.Bytes.{resolved, resolved_after, past_first, piece_at as bytes_piece_at}
-use Rattle.cstn_markup.specs.Tokens.{Attribute, Kind, Token, tokens, tokens_after, tail_at}
+use Rattle.cstn_markup.specs.Tokens.{tokens, tokens_after, tail_at}
 use Rattle.cstn_markup.proofs.Resolving.{resolved_plain}
 use Rattle.cstn_markup.proofs.Stepping.{tokens_skip}
 use Rattle.cstn_graphml.specs.Results.{Refusal, ◌>>=◌}
@@ -82,7 +82,7 @@ pub edge_made : (source target raw rest : List ℕ) (from to at : ℕ) (v : ℤ)
     → list_all (λ c. not (c == 60)) (123 ∷ raw) ≡ true → list_all (λ c. not (c == 38)) (123 ∷ raw) ≡ true → trimmed (123 ∷ raw) ≡ 123 ∷ raw
     → values_of (123 ∷ raw) ≡ Some (record { most = v; label = Some a } ∷ []) → node_of source draft ≡ Some from → node_of target draft ≡ Some to
     → Makes draft (with_constraint (record { from = from; to = to; most = v; label = a }) draft) at
-      (codes "<edge source=" ++ 34 ∷ (escaped_name source ++ 34 ∷ (codes " target=" ++ 34 ∷ (escaped_name target ++ 34 ∷ 62 ∷ (codes "<data key=\"Type\">requirement</data><data key=\"LabeledValues\">" ++ 123 ∷ (raw ++ (codes "</data></edge>\n" ++ 60 ∷ rest))))))) (60 ∷ rest)
+    (codes "<edge source=" ++ 34 ∷ (escaped_name source ++ 34 ∷ (codes " target=" ++ 34 ∷ (escaped_name target ++ 34 ∷ 62 ∷ (codes "<data key=\"Type\">requirement</data><data key=\"LabeledValues\">" ++ 123 ∷ (raw ++ (codes "</data></edge>\n" ++ 60 ∷ rest))))))) (60 ∷ rest)
 unfolding contents read_by with_pairs
 edge_made source target raw rest from to at v a draft h k trims values is_from is_to =
     let r7 : List ℕ = codes "</edge>\n" ++ 60 ∷ rest in

@@ -1,21 +1,21 @@
 -- The canonical document, read as a whole.
-use Rattle.std.proofs.Common.{◌≡◌, ℕ, zero, suc, ◌+◌, ◌<◌, ◌≤◌, ◌^◌, List, [], ◌∷◌, ◌++◌, length, refl, ap, sym, ◌∙◌, arith, true, false, not, append_assoc, Ok, subst}
-use Rattle.std.specs.Prelude.{Option, Some, None, codes, ◌==◌, nat_lt, nat_le, slice_index_or, decimal}
+use Rattle.std.proofs.Common.{◌≡◌, ℕ, zero, suc, ◌<◌, ◌^◌, List, [], ◌∷◌, ◌++◌, length, refl, ap, ◌∙◌, arith, true, not, append_assoc, Ok, subst}
+use Rattle.std.specs.Prelude.{Option, Some, None, codes, ◌==◌, slice_index_or}
 use Rattle.std.specs.Char.{is_ascii_digit}
 use Rattle.std.specs.List.{list_all}
 use Rattle.std.proofs.lemmas.Fmt.{decimal_nonempty}
-use Rattle.cstn_net.specs.Networks.{Network, Constraint, count}
+use Rattle.cstn_net.specs.Networks.{Network, count}
 use Rattle.cstn_text.specs.Numbers.{printed_number}
-use Rattle.cstn_markup.specs.Tokens.{tokens, tokens_after}
+use Rattle.cstn_markup.specs.Tokens.{tokens}
 use Rattle.cstn_graphml.specs.Numbers.{short_number}
-use Rattle.cstn_graphml.specs.Contents.{contents, content_of}
+use Rattle.cstn_graphml.specs.Contents.{content_of}
 use Rattle.cstn_graphml.specs.Draft.{Draft, empty_draft, with_deadline}
 use Rattle.cstn_graphml.specs.Document.{in_document}
 use Rattle.cstn_save.specs.Canonical.{escaped_name, head, node_end, node_line, nodes_below, edges, tail, canonical}
 use Rattle.cstn_save.proofs.NumberTextLemmas.{decimal_digits, short_back}
 use Rattle.cstn_save.proofs.ValueTextLemmas.{trimmed_solid, digit_solid, is_solid}
 use Rattle.cstn_save.proofs.RunLemmas.{all_for}
-use Rattle.cstn_save.proofs.LineLemmas.{around, Makes, deadline_made, ending, makes_ending, tail_ending, head_ending}
+use Rattle.cstn_save.proofs.LineLemmas.{Makes, deadline_made, makes_ending, tail_ending, head_ending}
 use Rattle.cstn_save.proofs.WholeLemmas.{joined_four, drafted, IsNew, nodes_made}
 use Rattle.cstn_save.proofs.EdgeLemmas.{with_all, AreKnown, edges_begin, edges_made}
 
@@ -28,7 +28,7 @@ digits_made : (digits rest : List ℕ) (n at : ℕ) → 0 < length digits → li
 digits_made [] rest n at some h e = absurd (omega arith)
 digits_made (d ∷ ds) rest n at some h e =
     deadline_made d n ds rest at (all_for is_ascii_digit (λ c. not (c == 60)) (d ∷ ds) (λ b k. grind arith) h) (all_for is_ascii_digit (λ c. not (c == 38)) (d ∷ ds) (λ b k. grind arith) h)
-      (trimmed_solid (d ∷ ds) (all_for is_ascii_digit is_solid (d ∷ ds) digit_solid h)) e
+    (trimmed_solid (d ∷ ds) (all_for is_ascii_digit is_solid (d ∷ ds) digit_solid h)) e
 
 nodes_begin : (names : List (List ℕ)) (observes : List (Option ℕ)) (n : ℕ) (rest : List ℕ) → (more : List ℕ) × (nodes_below names observes n ++ 60 ∷ rest ≡ 60 ∷ more)
 unfolding nodes_below
@@ -56,12 +56,13 @@ canonical_drafted net names small new known =
     let both : nodes_below names net.observes (count net) ++ (edges names net.constraints ++ tail) ≡ 60 ∷ b.0 = ap (λ (x : List ℕ). nodes_below names net.observes (count net) ++ x) e.1 ∙ b.1 in
     let h = head_ending (codes "data key=\"Deadline\">" ++ (printed_number net.deadline ++ (codes "</data>\n" ++ 60 ∷ b.0))) in
     let m1 : Makes empty_draft (begun net.deadline h.0) h.0 (codes "<data key=\"Deadline\">" ++ (printed_number net.deadline ++ (codes "</data>\n" ++ 60 ∷ b.0))) (60 ∷ b.0) =
-      digits_made (printed_number net.deadline) b.0 net.deadline h.0 (decimal_nonempty net.deadline n64) (decimal_digits net.deadline n64) (short_back 4294967296 net.deadline small (omega arith)) in
+    digits_made (printed_number net.deadline) b.0 net.deadline h.0 (decimal_nonempty net.deadline n64) (decimal_digits net.deadline n64) (short_back 4294967296 net.deadline small (omega arith)) in
     let m2 : Makes (begun net.deadline h.0) (drafted names net.observes (begun net.deadline h.0) (count net)) m1.place (60 ∷ b.0) (60 ∷ e.0) =
-      subst (λ (x : List ℕ). Makes (begun net.deadline h.0) (drafted names net.observes (begun net.deadline h.0) (count net)) m1.place x (60 ∷ e.0)) b.1 (nodes_made names net.observes (begun net.deadline h.0) (count net) m1.place e.0 (new h.0)) in
+    subst (λ (x : List ℕ). Makes (begun net.deadline h.0) (drafted names net.observes (begun net.deadline h.0) (count net)) m1.place x (60 ∷ e.0)) b.1 (nodes_made names net.observes (begun net.deadline h.0) (count net) m1.place e.0 (new h.0)) in
     let m3 : Makes (drafted names net.observes (begun net.deadline h.0) (count net)) (with_all net.constraints (drafted names net.observes (begun net.deadline h.0) (count net))) m2.place (60 ∷ e.0) tail =
-      subst (λ (x : List ℕ). Makes (drafted names net.observes (begun net.deadline h.0) (count net)) (with_all net.constraints (drafted names net.observes (begun net.deadline h.0) (count net))) m2.place x tail) e.1
-        (edges_made names net.constraints m2.place (drafted names net.observes (begun net.deadline h.0) (count net)) (known h.0)) in
-    (h.0,
+    subst (λ (x : List ℕ). Makes (drafted names net.observes (begun net.deadline h.0) (count net)) (with_all net.constraints (drafted names net.observes (begun net.deadline h.0) (count net))) m2.place x tail) e.1
+    (edges_made names net.constraints m2.place (drafted names net.observes (begun net.deadline h.0) (count net)) (known h.0)) in (
+      h.0,
       ap (λ (x : List ℕ). in_document (content_of (tokens x))) (canonical_flat net names ∙ ap (λ (x : List ℕ). codes "<?xml version=\"1.0\" encoding=\"UTF-8\"?>\n<graphml>\n<graph edgedefault=\"directed\">\n" ++ 60 ∷ (codes "data key=\"Deadline\">" ++ (printed_number net.deadline ++ (codes "</data>\n" ++ x)))) both)
-      ∙ h.1 ∙ makes_ending m1 ∙ makes_ending m2 ∙ makes_ending m3 ∙ tail_ending (with_all net.constraints (drafted names net.observes (begun net.deadline h.0) (count net))) m3.place)
+          ∙ h.1 ∙ makes_ending m1 ∙ makes_ending m2 ∙ makes_ending m3 ∙ tail_ending (with_all net.constraints (drafted names net.observes (begun net.deadline h.0) (count net))) m3.place,
+    )

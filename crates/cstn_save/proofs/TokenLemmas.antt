@@ -1,12 +1,11 @@
 -- The tokens of the pieces of a document in front of other bytes.
-use Rattle.std.proofs.Common.{◌≡◌, ℕ, zero, suc, ◌+◌, ◌-◌, ◌<◌, ◌≤◌, List, [], ◌∷◌, ◌++◌, length, take, drop, refl, ap, sym, ◌∙◌, arith, Bool, true, false, not, append_assoc, ◌≢◌, length-drop}
-use Rattle.std.specs.Prelude.{Option, Some, None, codes, ◌==◌}
+use Rattle.std.proofs.Common.{◌≡◌, ℕ, zero, suc, ◌+◌, ◌-◌, ◌<◌, ◌≤◌, List, [], ◌∷◌, ◌++◌, length, drop, refl, ap, arith, Bool, true, false, not, length-drop}
+use Rattle.std.specs.Prelude.{Some, codes, ◌==◌}
 use Rattle.std.proofs.Math.Seq.{take-append_seam, drop-append_seam}
-use Rattle.std.proofs.lemmas.List.{length-append}
 use Rattle.std.proofs.lemmas.Bool.{and_parts}
 use Rattle.std.specs.List.{list_all}
-use Rattle.cstn_markup.specs.Bytes.{◌>>=◌, when, past_white, resolved_after, piece_at as bytes_piece_at}
-use Rattle.cstn_markup.specs.Tokens.{Attribute, Kind, Token, value_at, attribute_at, tag_end_at, with_front, tail_at, piece_at, tokens_after}
+use Rattle.cstn_markup.specs.Bytes.{◌>>=◌, resolved_after, piece_at as bytes_piece_at}
+use Rattle.cstn_markup.specs.Tokens.{Attribute, Kind, attribute_at, with_front, tail_at, piece_at, tokens_after}
 use Rattle.cstn_markup.proofs.Stepping.{tokens_skip}
 use Rattle.cstn_markup.proofs.Tails.{tail_step}
 use Rattle.cstn_markup.proofs.Rests.{piece_behind}
@@ -96,8 +95,11 @@ edge_tail source target rest =
 pub edge_open : (source target rest : List ℕ) → piece_at (codes "<edge source=" ++ 34 ∷ (escaped_name source ++ 34 ∷ (codes " target=" ++ 34 ∷ (escaped_name target ++ 34 ∷ 62 ∷ rest))))
     ≡ Some (Some (Kind.start_tag (codes "edge") (record { name = codes "source"; raw = escaped_name source } ∷ record { name = codes "target"; raw = escaped_name target } ∷ []) false), rest)
 edge_open source target rest =
-    rw (tail_step 32 (codes " source=" ++ 34 ∷ (escaped_name source ++ 34 ∷ (codes " target=" ++ 34 ∷ (escaped_name target ++ 34 ∷ 62 ∷ rest)))) (codes " target=" ++ 34 ∷ (escaped_name target ++ 34 ∷ 62 ∷ rest)) (record { name = codes "source"; raw = escaped_name source }) (omega arith) refl
-      (source_attribute source (codes " target=" ++ 34 ∷ (escaped_name target ++ 34 ∷ 62 ∷ rest))), edge_tail source target rest) refl
+    rw (
+      tail_step 32 (codes " source=" ++ 34 ∷ (escaped_name source ++ 34 ∷ (codes " target=" ++ 34 ∷ (escaped_name target ++ 34 ∷ 62 ∷ rest)))) (codes " target=" ++ 34 ∷ (escaped_name target ++ 34 ∷ 62 ∷ rest)) (record { name = codes "source"; raw = escaped_name source }) (omega arith) refl
+          (source_attribute source (codes " target=" ++ 34 ∷ (escaped_name target ++ 34 ∷ 62 ∷ rest))),
+      edge_tail source target rest,
+    ) refl
 
 rest_drop : (n : ℕ) (bytes : List ℕ) → drop (length bytes - length (drop n bytes)) bytes ≡ drop n bytes
 rest_drop zero bytes = let none : length bytes - length bytes ≡ 0 = omega arith in rw none refl
@@ -116,17 +118,24 @@ pub next_token : (b : ℕ) (bytes rest : List ℕ) (at : ℕ) (kind : Kind) → 
 unfolding tokens_after
 next_token b bytes rest at kind e =
     let behind = piece_behind b bytes (Some kind, rest) e in
-    let inside : length bytes - length rest ≤ length bytes = omega arith in
-    (at + 1 + (length bytes - length rest),
-    rw (e, tokens_skip (length bytes - length rest) (at + 1) bytes inside, rest_here b behind.rests.count bytes rest behind.rests.is behind.shorter) refl)
+    let inside : length bytes - length rest ≤ length bytes = omega arith in (
+      at + 1 + (length bytes - length rest),
+      rw (e, tokens_skip (length bytes - length rest) (at + 1) bytes inside, rest_here b behind.rests.count bytes rest behind.rests.is behind.shorter) refl,
+    )
 
 -- a text up to the next tag
 pub text_piece : (b : ℕ) (raw rest : List ℕ) → list_all (λ c. not (c == 60)) (b ∷ raw) ≡ true → list_all (λ c. not (c == 38)) (b ∷ raw) ≡ true → piece_at (b ∷ (raw ++ 60 ∷ rest)) ≡ Some (Some (Kind.text_run (b ∷ raw)), 60 ∷ rest)
 text_piece b raw rest h k =
     let first : (b == 60) ≡ false = no_test (b == 60) (and_parts (not (b == 60)) (list_all (λ c. not (c == 60)) raw) h).0 in
     let more : 1 + length raw ≡ suc (length raw) = omega arith in
-    rw (first, run_len (λ c. not (c == 60)) raw 60 rest (and_parts (not (b == 60)) (list_all (λ c. not (c == 60)) raw) h).1 refl, more,
-      drop-append_seam raw (60 ∷ rest), take-append_seam raw (60 ∷ rest), resolved_plain (b ∷ raw) k) refl
+    rw (
+      first,
+      run_len (λ c. not (c == 60)) raw 60 rest (and_parts (not (b == 60)) (list_all (λ c. not (c == 60)) raw) h).1 refl,
+      more,
+      drop-append_seam raw (60 ∷ rest),
+      take-append_seam raw (60 ∷ rest),
+      resolved_plain (b ∷ raw) k,
+    ) refl
   where
     no_test : (t : Bool) → not t ≡ true → t ≡ false
     no_test true e = absurd (cc)

@@ -1,29 +1,13 @@
 -- The whole document is read back.
-use Rattle.std.proofs.Common.{◌≡◌, ℕ, zero, suc, ◌+◌, ◌-◌, ◌<◌, ◌≤◌, List, [], ◌∷◌, ◌++◌, length, refl, ap, sym, ◌∙◌, arith, Bool, true, false, not, append_assoc, Ok, Err, Result, map, subst}
-use Rattle.std.specs.Prelude.{Option, Some, None, codes, ◌==◌, nat_lt, nat_le, ◌&&◌, ℤ, slice_index_or, FitsSigned, decimal, IfSome, flat_map}
-use Rattle.std.specs.Int.{w32}
-use Rattle.std.specs.Char.{is_ascii_digit}
-use Rattle.std.specs.List.{list_all, All}
-use Rattle.std.proofs.lemmas.Bool.{and_parts}
-use Rattle.std.proofs.lemmas.Grind.{common_steps}
-use Rattle.std.proofs.lemmas.Fmt.{decimal_nonempty}
-use Rattle.cstn_label.specs.Labels.{Label, IsPlain}
-use Rattle.cstn_label.specs.declared.marks.Mark.TheVariants.{Absent}
-use Rattle.cstn_label.specs.Letters.{letter_of, prop_of}
-use Rattle.cstn_net.specs.Networks.{Network, Constraint, count}
-use Rattle.cstn_text.specs.Numbers.{printed_number, printed_value}
-use Rattle.cstn_markup.specs.Tokens.{tokens, tokens_after}
-use Rattle.cstn_graphml.specs.Results.{Refusal, ◌>>=◌}
-use Rattle.cstn_graphml.specs.Numbers.{trimmed, short_number}
-use Rattle.cstn_graphml.specs.Contents.{Content, contents, inner, outer, content_of}
-use Rattle.cstn_graphml.specs.Draft.{Draft, Drawn, empty_draft, node_of, with_node, with_constraint, with_deadline}
-use Rattle.cstn_graphml.specs.Document.{in_document, Parts, parts_of}
-use Rattle.cstn_save.specs.Canonical.{escaped_name, document_label, head, node_end, node_line, nodes_below, edge_tag, edge_data, edge_line, edges, tail, canonical}
-use Rattle.cstn_save.proofs.NumberTextLemmas.{decimal_digits, short_back}
-use Rattle.cstn_save.proofs.LabelTextLemmas.{letter_back, letter_kind}
-use Rattle.cstn_save.proofs.ValueTextLemmas.{values_back, trimmed_solid, value_solid, label_solid, is_solid}
-use Rattle.cstn_save.proofs.RunLemmas.{all_for, both_all, joined_five}
-use Rattle.cstn_save.proofs.LineLemmas.{around, Makes, plain_node, observing_node, edge_made, deadline_made, then, ending, makes_ending, tail_ending, head_ending}
+use Rattle.std.proofs.Common.{◌≡◌, ℕ, zero, suc, ◌<◌, ◌≤◌, List, [], ◌∷◌, ◌++◌, length, refl, sym, ◌∙◌, arith, true, not, append_assoc, subst}
+use Rattle.std.specs.Prelude.{Option, Some, None, codes, ◌==◌, nat_lt, nat_le, ◌&&◌, slice_index_or}
+use Rattle.std.specs.List.{list_all}
+use Rattle.cstn_label.specs.Letters.{letter_of}
+use Rattle.cstn_graphml.specs.Draft.{Draft, node_of, with_node}
+use Rattle.cstn_save.specs.Canonical.{escaped_name, node_end, node_line, nodes_below}
+use Rattle.cstn_save.proofs.LabelTextLemmas.{letter_back}
+use Rattle.cstn_save.proofs.ValueTextLemmas.{trimmed_solid, is_solid}
+use Rattle.cstn_save.proofs.LineLemmas.{Makes, plain_node, observing_node, then}
 
 pub joined_four : (a b c d : List ℕ) → a ++ b ++ c ++ d ≡ a ++ (b ++ (c ++ d))
 joined_four a b c d = append_assoc (a ++ b) c d ∙ append_assoc a b (c ++ d)
@@ -51,7 +35,7 @@ node_made name rest None at draft sized fresh small =
 node_made name rest (Some p) at draft sized fresh small =
     let l = letter_text p small in
     subst (λ (x : List ℕ). Makes draft (with_node name (Some p) draft) at x (60 ∷ rest)) (sym (joined_four (codes "<node id=\"") (escaped_name name) (node_end (Some p)) (60 ∷ rest)))
-      (observing_node name rest (letter_of p) p at draft sized fresh l.0 l.1 (trimmed_solid (letter_of p ∷ []) l.2) (letter_back p small))
+    (observing_node name rest (letter_of p) p at draft sized fresh l.0 l.1 (trimmed_solid (letter_of p ∷ []) l.2) (letter_back p small))
 
 -- the draft with the first n time-points
 unfoldable pub drafted : List (List ℕ) → List (Option ℕ) → Draft → ℕ → Draft
@@ -72,5 +56,5 @@ nodes_made names observes d (suc n) at rest new =
     let line : List ℕ = node_line (slice_index_or names n []) (slice_index_or observes n None) in
     let is = new n (omega arith) in
     subst (λ (x : List ℕ). Makes d (with_node (slice_index_or names n []) (slice_index_or observes n None) (drafted names observes d n)) at x (60 ∷ rest)) (sym (append_assoc (nodes_below names observes n) line (60 ∷ rest)))
-      (then (nodes_made names observes d n at _ (λ i h. new i (omega (arith, h))))
-        (λ place. node_made (slice_index_or names n []) rest (slice_index_or observes n None) place (drafted names observes d n) is.sized is.fresh is.prop))
+    (then (nodes_made names observes d n at _ (λ i h. new i (omega (arith, h))))
+    (λ place. node_made (slice_index_or names n []) rest (slice_index_or observes n None) place (drafted names observes d n) is.sized is.fresh is.prop))

@@ -1,6 +1,6 @@
 //! What is written is read back. The calls do nothing: their contracts are the laws.
 
-ghost use Rattle.std.specs.Prelude.{◌≡◌, ◌<◌, ◌≤◌, ◌^◌, ◌++◌, ◌∷◌, [], ℕ, ℤ, List, Some, None, Ok, true, FitsSigned, codes};
+ghost use Rattle.std.specs.Prelude.{◌≡◌, ◌<◌, ◌≤◌, ◌^◌, ◌++◌, ◌∷◌, [], ℕ, ℤ, List, Some, None, Ok, FitsSigned, codes};
 ghost use Rattle.std.specs.Int.{w32};
 ghost use Rattle.cstn_label.specs.Labels.{Label, IsPlain};
 ghost use Rattle.cstn_label.specs.declared.marks.Mark.TheVariants.{Absent};
@@ -12,9 +12,8 @@ ghost use Rattle.cstn_graphml.specs.LabelTexts.{label_of};
 ghost use Rattle.cstn_graphml.specs.ValueTexts.{values_of};
 ghost use Rattle.cstn_graphml.specs.Document.{document};
 ghost use Rattle.cstn_net.specs.Networks.{Network, IsWellFormed};
-ghost use Rattle.std.specs.Str.{is_utf8};
 ghost use Rattle.cstn_save.specs.Canonical.{canonical, escaped_name, document_label};
-ghost use Rattle.cstn_save.specs.ReadBack.{content_read, parts, AreNamesOf};
+ghost use Rattle.cstn_save.specs.ReadBack.{parts, AreNamesOf};
 
 /// An escaped name between quotes is a value of an attribute, and its references put in give the name back.
 #[tactic(auto, using(crate::proofs::EscapedNameLemmas::name_back, crate::proofs::EscapedNameLemmas::name_quoted))]
@@ -38,11 +37,8 @@ pub fn values_are_read_back()
         → values_of (codes "{(" ++ printed_value v ++ codes ", " ++ document_label a ++ codes ")}") ≡ Some (record { most = v; label = Some a } ∷ []) }
 {}
 
-/// Reading the canonical document gives the same names and the same network, with its constraints numbered anew.
-///
-/// The content says so of every document, and the whole reading where the text is UTF-8.
-#[tactic(auto, using(crate::proofs::LawLemmas::content_back, crate::proofs::LawLemmas::document_back))]
+/// Reading the canonical document gives the same names and the same network, with its constraints numbered from 0.
+#[tactic(auto, using(crate::proofs::LawLemmas::document_back))]
 pub fn documents_are_read_back()
-    ensures content { (net : Network) (names : List (List ℕ)) → IsWellFormed net → AreNamesOf net names → content_read (canonical net names) ≡ Ok (parts net names) }
-    ensures document { (net : Network) (names : List (List ℕ)) → IsWellFormed net → AreNamesOf net names → is_utf8 (canonical net names) ≡ true → document (canonical net names) None ≡ Ok (parts net names) }
+    ensures back { (net : Network) (names : List (List ℕ)) → IsWellFormed net → AreNamesOf net names → document (canonical net names) None ≡ Ok (parts net names) }
 {}

@@ -7,7 +7,9 @@ mod laws;
 mod lines;
 
 pub use document::write;
-pub use laws::{documents_are_read_back, names_are_read_back, numbers_are_read_back, values_are_read_back};
+pub use laws::{
+    documents_are_read_back, names_are_read_back, numbers_are_read_back, values_are_read_back,
+};
 
 #[cfg(test)]
 mod tests;
