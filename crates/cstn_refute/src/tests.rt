@@ -61,7 +61,12 @@ const PROOF: &str = "no 7\n0 base Z 0 -\n1 chain 0 0 X%20Y 10 p\n2 wait 9 1 X%20
 fn texts_are_printed_and_read(rt: HostRuntime) -> Result<(), Fail> {
     let alloc = rt.alloc();
     printed(&rt, alloc, PROOF, PROOF)?;
-    printed(&rt, alloc, "no 1\n0 base P 0 q!p\n", "no 1\n0 base P 0 !pq\n")?;
+    printed(
+        &rt,
+        alloc,
+        "no 1\n0 base P 0 q!p\n",
+        "no 1\n0 base P 0 !pq\n",
+    )?;
     Ok(())
 }
 
