@@ -147,8 +147,12 @@ fn expect_replay(
     text: &str,
 ) -> Result<(), Fail> {
     let words = ["replay", "pair", "proof", "--deadline", "10"];
-    let mut setting = quiet(document.as_bytes());
-    setting.proof = proof.as_bytes();
+    let setting = Setting {
+        document: document.as_bytes(),
+        proof: proof.as_bytes(),
+        shelf: &[],
+        sink: &[],
+    };
     expect(rt, alloc, &words, setting, status, text)
 }
 
