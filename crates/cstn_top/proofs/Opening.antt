@@ -92,8 +92,8 @@ long_opened told asked (Ok (Accepted network names)) long is = absurd is
 long_opened told asked (Ok (Told said)) long is =
     let found = long_content told asked.file 8388608 long in
     let said_of : IsSaidOf found.0 asked.deadline (the_said said) = λ answer live.
-      let same : on_document answer found.0 asked.deadline ≡ says (say Document (codes "document long")) = beyond 8388608 (length found.0) (says (say Document (codes "document long"))) (judged answer (document found.0 asked.deadline)) found.2 in
-      subst (λ (plan : Plan). IsOutput plan live (the_said said)) (sym same) is in
+    let same : on_document answer found.0 asked.deadline ≡ says (say Document (codes "document long")) = beyond 8388608 (length found.0) (says (say Document (codes "document long"))) (judged answer (document found.0 asked.deadline)) found.2 in
+    subst (λ (plan : Plan). IsOutput plan live (the_said said)) (sym same) is in
     record {
       bytes = found.0;
       content = found.1;

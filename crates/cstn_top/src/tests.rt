@@ -101,7 +101,11 @@ fn outcome(
     let file = MemoryFile::new(name, setting.document.to_vec(alloc)?);
     let other = String::from_str(alloc, "proof")?;
     let proof = MemoryFile::new(other, setting.proof.to_vec(alloc)?);
-    let mut shelf = MemoryShelf::new(vec![in alloc; file, proof]?, setting.shelf.to_vec(alloc)?, 10);
+    let mut shelf = MemoryShelf::new(
+        vec![in alloc; file, proof]?,
+        setting.shelf.to_vec(alloc)?,
+        10,
+    );
     let mut live = MemorySource::new(Vec::new(alloc), Vec::new(alloc), 1);
     let mut out = MemorySink::start(alloc, 1000, setting.sink.to_vec(alloc)?, 3)?;
     let status = run(alloc, &owned, &mut shelf, &mut live, &mut out);
@@ -157,12 +161,7 @@ fn expect_replay(
 }
 
 // A check of this document with the deadline 9 refuses it with this.
-fn expect_refused(
-    rt: &impl Abort,
-    alloc: Global,
-    document: &[u8],
-    text: &str,
-) -> Result<(), Fail> {
+fn expect_refused(rt: &impl Abort, alloc: Global, document: &[u8], text: &str) -> Result<(), Fail> {
     let words = ["check", "pair", "--deadline", "9"];
     expect(rt, alloc, &words, quiet(document), Status::Document, text)
 }

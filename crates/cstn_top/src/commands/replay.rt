@@ -86,11 +86,7 @@ fn replay_text(
 }
 
 // The replay of steps on a network.
-fn replay_steps(
-    alloc: Global,
-    network: &Network,
-    refutation: &Refutation,
-) -> Result<Said, Refused>
+fn replay_steps(alloc: Global, network: &Network, refutation: &Refutation) -> Result<Said, Refused>
     ensures said { IfOk result (λ said. IsReplay (the_steps refutation.now) (the_network network.now) (the_said said)) }
     ensures fault { IsErrOf result Refused.ReadFault → ⊥ }
 {
