@@ -34,3 +34,12 @@ some_contents (Some known) names = (map (file_at known) names, (λ files e. let 
 -- the content of one file
 pub one_content : (told : Option (List ℕ → Option (List ℕ))) (name bytes : List ℕ) → IsContent told name bytes → AreContents told (name ∷ []) (bytes ∷ [])
 one_content told name bytes content = λ files e. ap (λ (bs : List ℕ). bs ∷ []) (content files e)
+
+-- some bytes agree with what is told of a file
+pub some_content : (told : Option (List ℕ → Option (List ℕ))) (name : List ℕ) → (bytes : List ℕ) × IsContent told name bytes
+some_content None name = ([], (λ files e. absurd (cc)))
+some_content (Some known) name = (file_at known name, (λ files e. let same : known ≡ files = cc in ap (λ (f : List ℕ → Option (List ℕ)). file_at f name) same))
+
+-- the contents of two files
+pub two_contents : (told : Option (List ℕ → Option (List ℕ))) (name other bytes text : List ℕ) → IsContent told name bytes → IsContent told other text → AreContents told (name ∷ other ∷ []) (bytes ∷ text ∷ [])
+two_contents told name other bytes text content second = λ files e. let one = content files e in let two = second files e in cc

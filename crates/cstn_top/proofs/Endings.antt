@@ -12,7 +12,7 @@ use Rattle.cstn_top.specs.Statuses.{status_of}
 use Rattle.cstn_top.specs.declared.status.Status.{Status}
 use Rattle.cstn_top.specs.declared.status.Status.TheVariants.{Words as IsWords, ReadFault, WriteFault, Memory}
 use Rattle.cstn_top.specs.declared.output.Outcome.{Outcome}
-use Rattle.cstn_top.specs.declared.output.Outcome.TheVariants.{Good, Bad, Words, Document}
+use Rattle.cstn_top.specs.declared.output.Outcome.TheVariants.{Good, Bad, Words, Document, Script}
 use Rattle.cstn_top.proofs.Contents.{some_contents}
 
 -- how a call ends, for the files that were read
@@ -91,6 +91,7 @@ outcome_of outcome Good status result at (inr fault) is = absurd (cc)
 outcome_of outcome Bad status result at (inr fault) is = absurd (cc)
 outcome_of outcome Words status result at (inr fault) is = absurd (cc)
 outcome_of outcome Document status result at (inr fault) is = absurd (cc)
+outcome_of outcome Script status result at (inr fault) is = absurd (cc)
 
 right_of : (r : Request) (told : Option (List ℕ → Option (List ℕ))) (said : Said) (outcome : Outcome) (planned : Planned r told said) → said.outcome ≡ outcome → IsRight outcome r planned.contents
 right_of r told said outcome planned is = subst (λ (o : Outcome). IsRight o r planned.contents) is planned.right

@@ -12,4 +12,5 @@ mod LogDecides
 pub mod Verdicts
 pub mod Texts
 pub mod Opening
+pub mod Replays
 pub mod Unobserved

@@ -14,8 +14,8 @@ use Rattle.cstn_top.specs.declared.commands.documents.Opened.TheVariants.{Accept
 use Rattle.cstn_top.specs.Files.{IsContent}
 use Rattle.cstn_top.specs.Refusals.{refusal_text, fault_text}
 use Rattle.cstn_top.specs.Requests.{Asked}
-use Rattle.cstn_top.specs.Plans.{Said, say, IsOutput}
-use Rattle.cstn_top.specs.Outputs.{on_document}
+use Rattle.cstn_top.specs.Plans.{Said, say, Answer, IsOutput, IsAnswer}
+use Rattle.cstn_top.specs.Outputs.{on_document, replayed}
 use Rattle.cstn_top.specs.Read.{the_said}
 
 -- what is said of an error; nothing is said for want of memory
@@ -35,7 +35,7 @@ IsToldBy (Memory e) said = ⊥
 
 -- this is said of the document, whatever is asked of its network
 abbrev pub IsSaidOf : List ℕ → Option ℕ → Said → Type 0
-IsSaidOf bytes deadline said = (answer : List (List ℕ) → Network → Said) (live : List ℕ) → IsOutput (on_document answer bytes deadline) live said
+IsSaidOf bytes deadline said = (answer : List (List ℕ) → Answer) (live : List ℕ) → IsOutput (on_document answer bytes deadline) live said
 
 -- the document of these bytes was accepted, or this is said of it
 abbrev pub OpensAs : List ℕ → Option ℕ → Opened → Type 0
@@ -58,3 +58,9 @@ pub record IsOpened (told : Option (List ℕ → Option (List ℕ))) (asked : As
   pub bytes : List ℕ
   pub content : IsContent told asked.file bytes
   pub opens : OpensAs bytes asked.deadline opened
+
+-- this is said of a network and of the text that a file has
+pub record IsSaidBy (told : Option (List ℕ → Option (List ℕ))) (proof : List ℕ) (names : List (List ℕ)) (net : Network) (said : Said) : Type 0 where
+  pub text : List ℕ
+  pub content : IsContent told proof text
+  pub answer : IsAnswer (replayed text names) net said

@@ -1,5 +1,5 @@
 -- What a request says, and what is written for it, also after a fault.
-use Rattle.std.specs.Prelude.{◌≡◌, ◌⊎◌, ℕ, List, [], ◌++◌, take, Option, codes}
+use Rattle.std.specs.Prelude.{◌≡◌, ◌⊎◌, ℕ, List, [], ◌++◌, take, Option, codes, decimal}
 use Rattle.cstn_io.specs.Causes.{Rose}
 use Rattle.cstn_io.specs.Contents.{after_bytes, with_bytes, IsAllOf}
 use Rattle.cstn_lines.specs.Pieces.{lines_of, whole_lines}
@@ -7,13 +7,15 @@ use Rattle.cstn_net.specs.Networks.{Network, IsWellFormed}
 use Rattle.cstn_net.specs.declared.errors.NetError.{NetError}
 use Rattle.cstn_graphml.specs.Document.{Parts}
 use Rattle.cstn_graphml.specs.Networks.{network_of, IsUnfit}
+use Rattle.cstn_rules.specs.Derivations.{Entry, IsRefutation}
+use Rattle.cstn_replay.specs.Wrong.{IsFirstWrong, EndsInVain}
 use Rattle.cstn_top.specs.Texts.{line}
 use Rattle.cstn_top.specs.Refusals.{fault_text}
 use Rattle.cstn_top.specs.Statuses.{status_of}
 use Rattle.cstn_top.specs.declared.status.Status.{Status}
 use Rattle.cstn_top.specs.declared.status.Status.TheVariants.{ReadFault, WriteFault, Memory}
 use Rattle.cstn_top.specs.declared.output.Outcome.{Outcome}
-use Rattle.cstn_top.specs.declared.output.Outcome.TheVariants.{Document}
+use Rattle.cstn_top.specs.declared.output.Outcome.TheVariants.{Good, Bad, Document}
 
 -- a text, and how the request ends
 pub record Said : Type 0 where
@@ -28,18 +30,34 @@ say outcome text = record { outcome = outcome; text = line text }
 abbrev pub after_text : List ℕ → Said → Said
 after_text text said = record { outcome = said.outcome; text = text ++ said.text }
 
+-- what the replay of steps says: they refute the network, or the first wrong one is told, the last where all of them follow
+abbrev pub IsReplay : List Entry → Network → Said → Type 0
+IsReplay steps net said =
+    (IsRefutation net steps × (said ≡ say Good (codes "accepted")))
+    ⊎ ((k : ℕ) × (IsFirstWrong net steps k ⊎ EndsInVain net steps k) × (said ≡ say Bad (codes "rejected " ++ decimal k)))
+
+-- What is said of a network: a text, or the replay of steps.
+pub data Answer : Type 0 where
+  gives : (Network → Said) → Answer
+  replays : List Entry → Answer
+
+-- this is said of the network
+abbrev pub IsAnswer : Answer → Network → Said → Type 0
+IsAnswer (gives answer) net said = said ≡ answer net
+IsAnswer (replays steps) net said = IsReplay steps net said
+
 -- What a request says: a text and no more; or what is said of the network of a document's parts, where they make one; or an
 -- opening and then a session over the lines of the live source, of which is told what it says of all lines, and what it
 -- answers to some of them alone.
 pub data Plan : Type 0 where
   says : Said → Plan
-  judges : Parts → (Network → Said) → Plan
+  judges : Parts → Answer → Plan
   talks : List ℕ → (List (List ℕ) → Said) → (List (List ℕ) → List ℕ) → Plan
 
 -- The parts make a network, and this is said of it, or they make none, and its lowest fault is told.
-abbrev pub IsJudgement : Parts → (Network → Said) → Said → Type 0
+abbrev pub IsJudgement : Parts → Answer → Said → Type 0
 IsJudgement parts answer said =
-    (IsWellFormed (network_of parts) × (said ≡ answer (network_of parts)))
+    (IsWellFormed (network_of parts) × IsAnswer answer (network_of parts) said)
     ⊎ ((error : NetError) × IsUnfit parts error × (said ≡ say Document (fault_text parts.names error)))
 
 -- the whole output, where the live source has these bytes

@@ -12,6 +12,7 @@ pub record Asked : Type 0 where
 pub data Request : Type 0 where
   check : Asked → Request
   save : Asked → Request
+  replay : Asked → List ℕ → Request
 
 -- a number of at most so much
 abbrev pub number_to : ℕ → List ℕ → Option ℕ
@@ -29,11 +30,18 @@ abbrev pub asked_of : List (List ℕ) → Option Asked
 asked_of [] = None
 asked_of (file ∷ rest) = option_map (λ deadline. record { file = file; deadline = deadline }) (deadline_of rest)
 
+-- a file, the file of a refutation's text, and the deadline of the first
+abbrev pub replay_of : List (List ℕ) → Option Request
+replay_of (file ∷ proof ∷ rest) =
+    option_map (λ deadline. replay (record { file = file; deadline = deadline }) proof) (deadline_of rest)
+replay_of words = None
+
 -- the request of a command with these words after it
 abbrev pub request_at : List ℕ → List (List ℕ) → Option Request
 request_at command rest =
     if is_same command (codes "check") then option_map check (asked_of rest)
-    else if is_same command (codes "save") then option_map save (asked_of rest) else None
+    else if is_same command (codes "save") then option_map save (asked_of rest)
+    else if is_same command (codes "replay") then replay_of rest else None
 
 -- the request that the words are, if they are one
 abbrev pub request_of : List (List ℕ) → Option Request
@@ -44,6 +52,7 @@ request_of (command ∷ rest) = request_at command rest
 abbrev pub files_of : Request → List (List ℕ)
 files_of (check asked) = asked.file ∷ []
 files_of (save asked) = asked.file ∷ []
+files_of (replay asked proof) = asked.file ∷ proof ∷ []
 
 -- the files that words name
 abbrev pub names_of : Option Request → List (List ℕ)

@@ -1,9 +1,9 @@
 -- How a request ends.
 use Rattle.std.specs.Prelude.{ℕ}
 use Rattle.cstn_top.specs.declared.status.Status.{Status}
-use Rattle.cstn_top.specs.declared.status.Status.TheVariants.{Good as IsGood, Bad as IsBad, Words as IsWords, Document as IsDocument, Full, ReadFault, WriteFault, Memory, Unfinished, Script}
+use Rattle.cstn_top.specs.declared.status.Status.TheVariants.{Good as IsGood, Bad as IsBad, Words as IsWords, Document as IsDocument, Full, ReadFault, WriteFault, Memory, Unfinished, Script as IsScript}
 use Rattle.cstn_top.specs.declared.output.Outcome.{Outcome}
-use Rattle.cstn_top.specs.declared.output.Outcome.TheVariants.{Good, Bad, Words, Document}
+use Rattle.cstn_top.specs.declared.output.Outcome.TheVariants.{Good, Bad, Words, Document, Script}
 
 -- the status of an output
 abbrev pub status_of : Outcome → Status
@@ -11,6 +11,7 @@ status_of Good = IsGood
 status_of Bad = IsBad
 status_of Words = IsWords
 status_of Document = IsDocument
+status_of Script = IsScript
 
 -- the program's exit status
 abbrev pub number_of : Status → ℕ
@@ -23,4 +24,4 @@ number_of ReadFault = 5
 number_of WriteFault = 6
 number_of Memory = 7
 number_of Unfinished = 8
-number_of Script = 9
+number_of IsScript = 9

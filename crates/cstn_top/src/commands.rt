@@ -9,12 +9,14 @@ ghost use Rattle.cstn_top.specs.Outputs.{Planned};
 mod check;
 mod documents;
 mod refusals;
+mod replay;
 mod save;
 
 use crate::output::Said;
 use crate::words::Request;
 use check::check_file;
 use cstn_io::Shelf;
+use replay::replay_file;
 use save::save_file;
 use std::alloc::Global;
 
@@ -38,5 +40,6 @@ pub(crate) fn prepare<F: Shelf>(
     match request {
         Request::Check(asked) => check_file(alloc, asked, shelf),
         Request::Save(asked) => save_file(alloc, asked, shelf),
+        Request::Replay { asked, proof } => replay_file(alloc, asked, proof, shelf),
     }
 }

@@ -16,6 +16,7 @@ pub(crate) enum Outcome {
     Bad,
     Words,
     Document,
+    Script,
 }
 
 impl Outcome {
@@ -30,6 +31,7 @@ impl Outcome {
             Outcome::Bad => Status::Bad,
             Outcome::Words => Status::Words,
             Outcome::Document => Status::Document,
+            Outcome::Script => Status::Script,
         }
     }
 }

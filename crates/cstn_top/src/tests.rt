@@ -4,10 +4,11 @@ use std::alloc::{AllocError, Global};
 use std::process::Abort;
 use std::test::Fail;
 
-// The file `pair`, and which calls of the shelf and of the sink are to fail.
+// The files `pair` and `proof`, and which calls of the shelf and of the sink are to fail.
 #[derive(Clone, Copy)]
 struct Setting<'a> {
     document: &'a [u8],
+    proof: &'a [u8],
     shelf: &'a [u64],
     sink: &'a [u64],
 }
@@ -45,6 +46,25 @@ const LARGE: &str =
 const BRANCH: &str =
     "<graphml><graph><node id=\"Z\"/><node id=\"P\"><data key=\"Obs\">p</data></node><node id=\"X\"/><edge source=\"X\" target=\"Z\"><data key=\"LabeledValues\">{(-10, p)}</data></edge><edge source=\"Z\" target=\"X\"><data key=\"LabeledValues\">{(3, !p)}</data></edge></graph></graphml>";
 
+// The branch where P is at 3 or later.
+const LATE: &str =
+    "<graphml><graph><node id=\"Z\"/><node id=\"P\"><data key=\"Obs\">p</data></node><node id=\"X\"/><edge source=\"X\" target=\"Z\"><data key=\"LabeledValues\">{(-10, p)}</data></edge><edge source=\"Z\" target=\"X\"><data key=\"LabeledValues\">{(3, !p)}</data></edge><edge source=\"P\" target=\"Z\"><data key=\"LabeledValues\">{(-3, ⊡)}</data></edge></graph></graphml>";
+
+const PROOF: &str =
+    "no 7\n0 base Z 0 -\n1 chain 0 0 X 10 p\n2 chain 2 0 P 3 -\n3 wait 2 1 X 4 -\n4 chain 1 3 Z 1 !p\n";
+
+// The wait is told one tick too late.
+const WRONG: &str =
+    "no 7\n0 base Z 0 -\n1 chain 0 0 X 10 p\n2 chain 2 0 P 3 -\n3 wait 2 1 X 5 -\n4 chain 1 3 Z 1 !p\n";
+
+const EXCHANGED: &str =
+    "no 7\n1 chain 0 0 X 10 p\n0 base Z 0 -\n2 chain 2 0 P 3 -\n3 wait 2 1 X 4 -\n4 chain 1 3 Z 1 !p\n";
+
+const EARLY: &str =
+    "<graphml><graph><node id=\"Z\"/><node id=\"P\"><data key=\"Obs\">p</data></node><node id=\"X\"/><edge source=\"Z\" target=\"X\"><data key=\"LabeledValues\">{(3, p)}</data></edge></graph></graphml>";
+
+const FORGED: &str = "no 3\n0 base X 0 -\n1 chain 0 0 Z 0 p\n2 base Z 1 -\n";
+
 const SAVED: &str = "<?xml version=\"1.0\" encoding=\"UTF-8\"?>
 <graphml>
 <graph edgedefault=\"directed\">
@@ -61,6 +81,7 @@ const SAVED: &str = "<?xml version=\"1.0\" encoding=\"UTF-8\"?>
 fn quiet(document: &[u8]) -> Setting<'_> {
     Setting {
         document,
+        proof: &[],
         shelf: &[],
         sink: &[],
     }
@@ -78,7 +99,13 @@ fn outcome(
     }
     let name = String::from_str(alloc, "pair")?;
     let file = MemoryFile::new(name, setting.document.to_vec(alloc)?);
-    let mut shelf = MemoryShelf::new(vec![in alloc; file]?, setting.shelf.to_vec(alloc)?, 10);
+    let other = String::from_str(alloc, "proof")?;
+    let proof = MemoryFile::new(other, setting.proof.to_vec(alloc)?);
+    let mut shelf = MemoryShelf::new(
+        vec![in alloc; file, proof]?,
+        setting.shelf.to_vec(alloc)?,
+        10,
+    );
     let mut live = MemorySource::new(Vec::new(alloc), Vec::new(alloc), 1);
     let mut out = MemorySink::start(alloc, 1000, setting.sink.to_vec(alloc)?, 3)?;
     let status = run(alloc, &owned, &mut shelf, &mut live, &mut out);
@@ -112,6 +139,25 @@ fn expect_check(
 ) -> Result<(), Fail> {
     let words = ["check", "pair", "--deadline", deadline];
     expect(rt, alloc, &words, quiet(document.as_bytes()), status, text)
+}
+
+// A replay of this text on this document answers and writes this.
+fn expect_replay(
+    rt: &impl Abort,
+    alloc: Global,
+    document: &str,
+    proof: &str,
+    status: Status,
+    text: &str,
+) -> Result<(), Fail> {
+    let words = ["replay", "pair", "proof", "--deadline", "10"];
+    let setting = Setting {
+        document: document.as_bytes(),
+        proof: proof.as_bytes(),
+        shelf: &[],
+        sink: &[],
+    };
+    expect(rt, alloc, &words, setting, status, text)
 }
 
 // A check of this document with the deadline 9 refuses it with this.
@@ -178,6 +224,20 @@ fn saves(rt: HostRuntime) -> Result<(), Fail> {
     expect(&rt, alloc, &words, branch, Status::Good, SAVED)?;
     let saved = quiet(SAVED.as_bytes());
     expect(&rt, alloc, &["save", "pair"], saved, Status::Good, SAVED)
+}
+
+#[test]
+fn replays(rt: HostRuntime) -> Result<(), Fail> {
+    let alloc = rt.alloc();
+    expect_replay(&rt, alloc, LATE, PROOF, Status::Good, "accepted\n")?;
+    expect_replay(&rt, alloc, LATE, WRONG, Status::Bad, "rejected 3\n")?;
+    expect_replay(&rt, alloc, EARLY, FORGED, Status::Bad, "rejected 1\n")?;
+    expect_replay(&rt, alloc, LATE, EXCHANGED, Status::Script, "script 2\n")?;
+    expect_replay(&rt, alloc, LATE, "", Status::Script, "script 1\n")?;
+    let words = ["replay", "pair", "missing"];
+    let pair = quiet(PAIR.as_bytes());
+    let text = "document X9\n";
+    expect(&rt, alloc, &words, pair, Status::Document, text)
 }
 
 #[test]

@@ -1,7 +1,7 @@
 // The words of a request.
 ghost use Rattle.std.specs.Prelude.{◌≡◌, ◌≤◌, IfSome, map, string_bytes};
 ghost use Rattle.std.specs.Option.{option_map};
-ghost use Rattle.cstn_top.specs.Requests.{number_to, deadline_of, asked_of, request_of};
+ghost use Rattle.cstn_top.specs.Requests.{number_to, deadline_of, asked_of, replay_of, request_of};
 ghost use Rattle.cstn_top.specs.Read.{the_asked, the_request};
 
 use cstn_text::read_number;
@@ -18,6 +18,7 @@ pub(crate) struct Asked<'a> {
 pub(crate) enum Request<'a> {
     Check(Asked<'a>),
     Save(Asked<'a>),
+    Replay { asked: Asked<'a>, proof: &'a str },
 }
 
 const MAX_DEADLINE: u64 = 1_000_000;
@@ -32,8 +33,26 @@ pub(crate) fn parse(words: &[String]) -> Option<Request<'_>>
     match command.as_str() {
         "check" => Some(Request::Check(asked_of(rest)?)),
         "save" => Some(Request::Save(asked_of(rest)?)),
+        "replay" => replay_of(rest),
         _ => None,
     }
+}
+
+fn replay_of(words: &[String]) -> Option<Request<'_>>
+    ensures request { option_map the_request result ≡ replay_of (map string_bytes words.now) }
+{
+    let [file, proof, rest @ ..] = words else {
+        return None;
+    };
+    let deadline = deadline_of(rest)?;
+    let asked = Asked {
+        file: file.as_str(),
+        deadline,
+    };
+    Some(Request::Replay {
+        asked,
+        proof: proof.as_str(),
+    })
 }
 
 fn asked_of(words: &[String]) -> Option<Asked<'_>>

@@ -34,6 +34,9 @@ pub(crate) fn open<F: Shelf>(
     requires may_ask { IsTrue (F.may_ask shelf.old asked.file.now) }
     ensures opened { IfOk result (IsOpened (F.files shelf.old) (the_asked asked.entry)) }
     ensures named { IfOk result IsNamed }
+    ensures names { F.may_ask shelf.new ≡ F.may_ask shelf.old }
+    ensures files { F.files shelf.new ≡ F.files shelf.old }
+    ensures later { F.faults shelf.old ≤ F.faults shelf.new }
     ensures fault { IsErrOf result Refused.ReadFault → Rose (F.faults shelf.old) (F.faults shelf.new) }
 {
     let bytes = match take_all(alloc, shelf, asked.file, MAX_DOCUMENT) {

@@ -1,0 +1,19 @@
+use Rattle.std.proofs.Common.{subst, List, ℕ}
+use Rattle.std.specs.Prelude.{Option, IfOk}
+use Rattle.cstn_net.specs.Read.{the_network}
+use Rattle.cstn_top.specs.Opened.{IsOpened, IsSaidBy}
+use Rattle.cstn_top.specs.Read.{the_asked, the_said}
+use Rattle.cstn_top.specs.declared.commands.documents.Opened.{Opened}
+use Rattle.cstn_top.proofs.Replays.{replay_accepted, replay_told}
+use Rattle.cstn_top.proofs.commands.replay.replay_file.Goals as goal
+
+pub returns-in-Ok-Accepted-clause-plan : goal.returns-in-Ok-Accepted-clause-plan
+returns-in-Ok-Accepted-clause-plan g c =
+    replay_accepted (g.F.Shelf.files c.args.shelf.now) (the_asked c.args.asked) c.args.proof.now c.in-Ok-Accepted.network c.in-Ok-Accepted.names c.replay_on.result
+    (subst (λ (o : Opened). IsOpened (g.F.Shelf.files c.args.shelf.now) (the_asked c.args.asked) o) c.in-Ok-Accepted.field-0-is c.in-Ok-Accepted.ensures.opened)
+    (subst (λ (told : Option (List ℕ → Option (List ℕ))). IfOk c.replay_on.result (λ said. IsSaidBy told c.args.proof.now c.in-Ok-Accepted.names (the_network c.in-Ok-Accepted.network) (the_said said))) c.in-Ok-Accepted.ensures.files c.replay_on.ensures.said)
+
+pub returns-in-Ok-Told-clause-plan : goal.returns-in-Ok-Told-clause-plan
+returns-in-Ok-Told-clause-plan g c =
+    replay_told (g.F.Shelf.files c.args.shelf.now) (the_asked c.args.asked) c.args.proof.now c.in-Ok-Told.said
+    (subst (λ (o : Opened). IsOpened (g.F.Shelf.files c.args.shelf.now) (the_asked c.args.asked) o) c.in-Ok-Told.field-0-is c.in-Ok-Told.ensures.opened)

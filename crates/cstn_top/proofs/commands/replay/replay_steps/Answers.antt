@@ -1,0 +1,13 @@
+use Rattle.std.proofs.Common.{◌≡◌}
+use Rattle.cstn_net.specs.Read.{the_network}
+use Rattle.cstn_refute.specs.Refutations.{the_steps}
+use Rattle.cstn_replay.specs.declared.answers.Answer.TheVariants.{Rejected}
+use Rattle.cstn_top.proofs.Replays.{rejected_said}
+use Rattle.cstn_top.proofs.commands.replay.replay_steps.Goals as goal
+
+pub returns-in-Rejected-clause-said : goal.returns-in-Rejected-clause-said
+returns-in-Rejected-clause-said c =
+    let is = c.in-Rejected.is in
+    let same : c.replay.result ≡ Rejected c.in-Rejected.step = cc in
+    rejected_said (the_network c.args.network.now) (the_steps c.args.refutation.now) c.in-Rejected.step c.rejected.result
+    ((c.replay.ensures.rejected c.in-Rejected.step).0 same) c.rejected.ensures.said
