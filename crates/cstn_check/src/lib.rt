@@ -14,3 +14,6 @@ pub use laws::{
     logs_are_known,
 };
 pub use verdicts::Verdict;
+
+#[cfg(test)]
+mod tests;
