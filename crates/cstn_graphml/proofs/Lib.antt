@@ -8,9 +8,10 @@ pub mod Wholes
 pub mod Judging
 pub mod Tops
 pub mod GraphRead
+pub mod PlainLabels
 pub mod DraftLaws
 pub mod Built
+pub mod Excluded
 pub mod Refusing
-pub mod TenDigits
 pub mod PairTexts
 pub mod TextsRead
