@@ -2,7 +2,6 @@ pub mod Examples
 pub mod Places
 pub mod PassedOver
 pub mod Folds
-pub mod ChildRead
 pub mod DatumRead
 pub mod Wholes
 pub mod Judging

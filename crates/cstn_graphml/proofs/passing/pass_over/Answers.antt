@@ -1,7 +1,6 @@
 use Rattle.std.proofs.Common.{length, arith, ap, sym}
-use Rattle.std.proofs.lemmas.Bool.{not-false}
+use Rattle.std.proofs.lemmas.Bool.{not-false, not-true}
 use Rattle.std.proofs.lemmas.List.{length-append}
-use Rattle.cstn_graphml.proofs.ChildRead.{not_false}
 use Rattle.cstn_graphml.proofs.Places.{step_of, wrong_is, deep_is}
 use Rattle.cstn_graphml.proofs.PassedOver.{passes_from, passes_cut, passes_unfinished, passes_end, passes_misnamed, passes_run, passes_closed, passes_open, passes_all, some_open, none_open}
 use Rattle.cstn_graphml.proofs.passing.pass_over.Goals as goal
@@ -35,7 +34,7 @@ loop-open_names-preserved-else-not-closed c =
 
 pub returns-then-ne-clause-reads : goal.returns-then-ne-clause-reads
 returns-then-ne-clause-reads c = λ others l.
-    passes_misnamed _ _ _ _ _ others _ _ _ _ c.pop.ensures (c.loop-open_names.invariant.same others l) (step_of _ _ _ _ c.step-at.ensures.steps c.in-End.is) (sym (not_false _ c.if-ne.ensures))
+    passes_misnamed _ _ _ _ _ others _ _ _ _ c.pop.ensures (c.loop-open_names.invariant.same others l) (step_of _ _ _ _ c.step-at.ensures.steps c.in-End.is) (sym (not-true _ (sym c.if-ne.ensures)))
 
 pub loop-open_names-preserved-else-ne : goal.loop-open_names-preserved-else-ne
 loop-open_names-preserved-else-ne c =
