@@ -6,3 +6,4 @@ pub mod DerivedLemmas
 pub mod FinishLemmas
 pub mod AskedLemmas
 pub mod Strategies
+pub mod PlanLemmas
