@@ -141,3 +141,6 @@ fn is_well_formed(net: &Network)
 {
     prove!(0 < net.count());
 }
+
+#[cfg(test)]
+mod tests;
