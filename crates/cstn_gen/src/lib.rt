@@ -6,3 +6,6 @@ mod draws;
 mod generated;
 
 pub use generated::network;
+
+#[cfg(test)]
+mod tests;
