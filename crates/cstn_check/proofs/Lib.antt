@@ -20,3 +20,5 @@ pub mod Starts
 pub mod Outcomes
 pub mod Answering
 pub mod VerdictLemmas
+pub mod Keeping
+pub mod PlanLemmas

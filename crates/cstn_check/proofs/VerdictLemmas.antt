@@ -1,5 +1,5 @@
 -- The clauses of a verdict.
-use Rattle.std.proofs.Common.{ℕ, ◌≡◌, ◌<◌, ◌≤◌, true, List, Option, Some, arith, refl, sym, subst, ap, ◌∙◌}
+use Rattle.std.proofs.Common.{ℕ, ◌≡◌, ◌<◌, ◌≤◌, true, false, List, Option, Some, arith, refl, sym, subst, ap, ◌∙◌}
 use Rattle.std.specs.Prelude.{◌↔◌}
 use Rattle.std.proofs.lemmas.Bool.{false≢true}
 use Rattle.cstn_net.specs.Networks.{Network, IsWellFormed}
@@ -36,16 +36,25 @@ module _ (net : Network) (cap : ℕ) (list : List Entry) (good : IsWellFormed ne
   yes_clause (No n) is load = (λ e. cc, λ p. absurd (p.2 is.3))
   yes_clause Full is load = (λ e. cc, λ p. let few = p.1 in let more = is.0 in absurd (omega arith))
 
-  pub yes_is_right : (v : Verdict) → IsVerdict net cap list v → (load : ℕ) → v ≡ Yes load → IsConsistent net
-  yes_is_right (Yes n) is load e = (log_decides net good.network good.letters).1 is.3
-  yes_is_right (No n) is load e = cc
-  yes_is_right Full is load e = cc
+  consistent : is_refuted net (log_of net) ≡ false → IsConsistent net
+  consistent = (log_decides net good.network good.letters).1
 
-  pub no_is_right : (v : Verdict) → IsVerdict net cap list v → (load : ℕ) → v ≡ No load → IsConsistent net → ⊥
-  no_is_right (Yes n) is load e consistent = cc
-  no_is_right (No n) is load e consistent =
-      false≢true (sym ((log_decides net good.network good.letters).0 consistent) ∙ over is.3)
-  no_is_right Full is load e consistent = cc
+  inconsistent : LastRefutes net (log_of net) → ¬ IsConsistent net
+  inconsistent last is = false≢true (sym ((log_decides net good.network good.letters).0 is) ∙ over last)
+
+  pub exactly_yes : (v : Verdict) → IsVerdict net cap list v → (load : ℕ) →
+      (v ≡ Yes load ↔ ((load ≡ load_of net) × (load_of net ≤ cap) × IsConsistent net))
+  exactly_yes (Yes n) is load =
+      (λ e. let same : n ≡ load = cc in (sym same ∙ is.0, is.1, consistent is.3), λ p. ap (λ k. Yes k) (is.0 ∙ sym p.0))
+  exactly_yes (No n) is load = (λ e. cc, λ p. absurd (inconsistent is.3 p.2))
+  exactly_yes Full is load = (λ e. cc, λ p. let few = p.1 in let more = is.0 in absurd (omega arith))
+
+  pub exactly_no : (v : Verdict) → IsVerdict net cap list v → (load : ℕ) →
+      (v ≡ No load ↔ ((load ≡ load_of net) × (load_of net ≤ cap) × ¬ IsConsistent net))
+  exactly_no (Yes n) is load = (λ e. cc, λ p. absurd (p.2 (consistent is.3)))
+  exactly_no (No n) is load =
+      (λ e. let same : n ≡ load = cc in (sym same ∙ is.0, is.1, inconsistent is.3), λ p. ap (λ k. No k) (is.0 ∙ sym p.0))
+  exactly_no Full is load = (λ e. cc, λ p. let few = p.1 in let more = is.0 in absurd (omega arith))
 
 pub held : (net : Network) (log : State) (o : Option Verdict) (v : Verdict) → o ≡ Some v → IsCheck net log o →
     IsVerdict net log.cap (the_entries log.entries) v

@@ -1,11 +1,12 @@
-ghost use Rattle.std.specs.Prelude.{ℕ, ◌≡◌, ◌<◌, ◌≤◌, ◌↔◌, IfOk, Some, None};
+ghost use Rattle.std.specs.Prelude.{ℕ, ◌≡◌, ◌<◌, ◌≤◌, ◌↔◌, IfOk, Some, None, []};
+ghost use Rattle.cstn_net.specs.Networks.{count};
 ghost use Rattle.cstn_net.specs.Strategies.{IsConsistent};
 ghost use Rattle.cstn_net.specs.Read.{the_network};
 ghost use Rattle.cstn_log.specs.Entries.{the_entries};
 ghost use Rattle.cstn_check.specs.Growth.{log_of, load_of};
 ghost use Rattle.cstn_check.specs.Turns.{LastRefutes};
 ghost use Rattle.cstn_check.specs.declared.verdicts.Verdict.{Verdict};
-ghost use Rattle.cstn_check.specs.Checks.{IsStarted, IsVerdict};
+ghost use Rattle.cstn_check.specs.Checks.{IsStarted, IsVerdict, IsPrefix};
 
 use crate::growth::{Grown, grow};
 use crate::turns::is_well_formed;
@@ -54,14 +55,14 @@ impl Check {
     }
 
     /// The verdict: full exactly where the load is above the cap, else no exactly where the last entry of the log refutes
-    /// the network, and yes else, with the load. Yes and no are right: a strategy exists, or none does.
+    /// the network, and yes else, with the load. Unless the log is full, it is yes exactly where there is a strategy.
     pub fn run(&mut self) -> Verdict
         ensures full { result ≡ Verdict.Full ↔ (self.old.cap < load_of (the_network self.old.net)) }
         ensures no { (load : ℕ) → (result ≡ Verdict.No load ↔ ((load ≡ load_of (the_network self.old.net)) × (load_of (the_network self.old.net) ≤ self.old.cap) × LastRefutes (the_network self.old.net) (log_of (the_network self.old.net)))) }
         ensures yes { (load : ℕ) → (result ≡ Verdict.Yes load ↔ ((load ≡ load_of (the_network self.old.net)) × (load_of (the_network self.old.net) ≤ self.old.cap) × ¬ LastRefutes (the_network self.old.net) (log_of (the_network self.old.net)))) }
 
-        ensures yes_truth { (load : ℕ) → result ≡ Verdict.Yes load → IsConsistent (the_network self.old.net) }
-        ensures no_truth { (load : ℕ) → result ≡ Verdict.No load → IsConsistent (the_network self.old.net) → ⊥ }
+        ensures exactly_yes { (load : ℕ) → (result ≡ Verdict.Yes load ↔ ((load ≡ load_of (the_network self.old.net)) × (load_of (the_network self.old.net) ≤ self.old.cap) × IsConsistent (the_network self.old.net))) }
+        ensures exactly_no { (load : ℕ) → (result ≡ Verdict.No load ↔ ((load ≡ load_of (the_network self.old.net)) × (load_of (the_network self.old.net) ≤ self.old.cap) × ¬ IsConsistent (the_network self.old.net))) }
         ensures answered { self.new ≡ record self.old { verdict = Some result } }
         ensures again { (v : Verdict) → self.old.verdict ≡ Some v → result ≡ v }
     {
@@ -72,6 +73,18 @@ impl Check {
         let verdict = answer(&self.net, &mut self.log, &mut self.tries);
         self.verdict = Some(verdict);
         verdict
+    }
+
+    /// The log: all of it, once the check has answered yes or no, and else a front of it, which is empty where `cap` is
+    /// below the number of time-points.
+    pub fn kept(&self) -> &Log
+        ensures whole { (v : Verdict) → self.now.verdict ≡ Some v → (v ≡ Verdict.Full → ⊥) → the_entries result.now.entries ≡ log_of (the_network self.now.net) }
+        ensures front { IsPrefix (the_entries result.now.entries) (log_of (the_network self.now.net)) }
+        ensures empty { self.now.cap < count (the_network self.now.net) → the_entries result.now.entries ≡ [] }
+        ensures size { result.now.cap ≡ self.now.cap }
+    {
+        is_well_formed(&self.net);
+        &self.log
     }
 
     /// The network.
