@@ -3,3 +3,5 @@ pub mod LiveLemmas
 pub mod KeptLemmas
 pub mod PushLemmas
 pub mod DerivedLemmas
+pub mod CutLemmas
+pub mod MarkLemmas
