@@ -5,3 +5,4 @@ pub mod PushLemmas
 pub mod DerivedLemmas
 pub mod CutLemmas
 pub mod MarkLemmas
+pub mod StepLemmas

@@ -2,6 +2,7 @@
 #![tactic(auto)]
 
 mod cuts;
+mod cutting;
 mod log;
 
 pub use cuts::{
