@@ -34,11 +34,11 @@ rank_less marks i k h less =
     let grows = rank_grows marks (suc i) k (omega arith) in
     omega arith
 
-cut_marked : (marks : List Bool) (k : ℕ) (x : Entry) (xs : List Entry) → is_marked marks k ≡ true →
+pub cut_marked : (marks : List Bool) (k : ℕ) (x : Entry) (xs : List Entry) → is_marked marks k ≡ true →
     cut_from marks k (x ∷ xs) ≡ moved marks x ∷ cut_from marks (suc k) xs
 cut_marked marks k x xs h = rw h refl
 
-cut_unmarked : (marks : List Bool) (k : ℕ) (x : Entry) (xs : List Entry) → is_marked marks k ≡ false →
+pub cut_unmarked : (marks : List Bool) (k : ℕ) (x : Entry) (xs : List Entry) → is_marked marks k ≡ false →
     cut_from marks k (x ∷ xs) ≡ cut_from marks (suc k) xs
 cut_unmarked marks k x xs h = rw h refl
 

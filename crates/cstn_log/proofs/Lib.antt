@@ -9,3 +9,4 @@ pub mod Strategies
 pub mod PlanLemmas
 pub mod CutLemmas
 pub mod MarkLemmas
+pub mod StepLemmas

@@ -1,31 +1,46 @@
 -- Marks that are closed under premises: the last entry with its ancestors, and what a constraint didn't give.
-use Rattle.std.proofs.Common.{ℕ, zero, suc, ◌≡◌, inl, inr, ◌+◌, ◌-◌, ◌<◌, ◌≤◌, Bool, true, false, Option, Some, None, List, [], ◌∷◌, ◌++◌, length, set, replicate, arith, refl, sym, subst, ◌∙◌, ap, length-append, length-set, append-nil, append_assoc}
-use Rattle.std.specs.Prelude.{slice_get, ◌&&◌, not, nat_eq, ⊤}
+use Rattle.std.proofs.Common.{ℕ, zero, suc, ◌≡◌, inl, inr, ◌+◌, ◌-◌, ◌≤◌, Bool, true, false, Option, Some, None, List, [], ◌∷◌, ◌++◌, length, set, replicate, arith, refl, sym, subst, ◌∙◌, ap, length-append, length-set, append-nil, append_assoc}
+use Rattle.std.specs.Prelude.{slice_get, ◌&&◌, not, nat_eq}
 use Rattle.std.specs.List.{Contains}
 use Rattle.std.proofs.lemmas.Bool.{cases_eq, cases_lt}
 use Rattle.std.proofs.lemmas.List.{get_or-set_same, get_or-set_other, get_or_append_left, length-replicate}
 use Rattle.std.proofs.Math.Seq.{get_or-append_seam}
-use Rattle.std.proofs.lemmas.Option.{none-some, same_Some, slice_get_within}
+use Rattle.std.proofs.lemmas.Option.{none-some, same_Some, slice_get_within, slice_get-map}
 use Rattle.cstn_label.specs.Bounds.{Bound}
 use Rattle.cstn_net.specs.Networks.{Network, Constraint}
 use Rattle.cstn_rules.specs.declared.entries.Why.{Why}
 use Rattle.cstn_rules.specs.declared.entries.Why.TheVariants.{Base, Chain, Wait}
 use Rattle.cstn_rules.specs.Rules.{Refutes}
 use Rattle.cstn_rules.specs.Derivations.{Entry, Follows, IsDerivation, IsRefutation}
+use Rattle.cstn_rules.specs.declared.entries.Entry.{Entry as DeclaredEntry}
+use Rattle.cstn_rules.specs.Read.{the_entry}
+use Rattle.cstn_log.specs.Entries.{the_entries}
+use Rattle.cstn_log.proofs.ListLemmas.{get_map, get_more}
 use Rattle.cstn_rules.proofs.Derived.{with_constraints, derivation_elsewhere}
-use Rattle.cstn_log.specs.Cuts.{is_marked, rank, renumbered, moved, PremisesMarked, IsClosedUnder, with_premises, with_premises_of, with_ancestors, last_marked, part, stays, marked_staying, dropped}
+use Rattle.cstn_log.specs.Cuts.{PremisesBelow, AllEarlier, is_marked, rank, renumbered, moved, PremisesMarked, IsClosedUnder, with_premises, with_premises_of, with_ancestors, last_marked, part, stays, marked_staying, dropped}
 use Rattle.cstn_log.proofs.CutLemmas.{rank_marked, comes, goes, length_cut, cut_derivation}
-
--- the premises are below the place
-abbrev pub PremisesBelow : ℕ → Why → Type 0
-PremisesBelow k Base = ⊤
-PremisesBelow k (Chain id i) = i < k
-PremisesBelow k (Wait i j) = (i < k) × (j < k)
 
 pub follows_below : (net : Network) (steps : List Entry) (k : ℕ) (why : Why) (r : Bound) → Follows net steps k why r → PremisesBelow k why
 follows_below net steps k Base r f = tt
 follows_below net steps k (Chain id i) r f = f.4.before
 follows_below net steps k (Wait i j) r f = (f.3.before, f.4.before)
+
+pub below_more : (why : Why) (k n : ℕ) → PremisesBelow k why → k ≤ n → PremisesBelow n why
+below_more Base k n low over = tt
+below_more (Chain id i) k n low over = omega (arith, low, over)
+below_more (Wait i j) k n low over = (omega (arith, low.0, over), omega (arith, low.1, over))
+
+-- premises are earlier in a list with one more entry
+pub more_earlier : (L : List DeclaredEntry) (x : DeclaredEntry) → AllEarlier (the_entries L) → PremisesBelow (length L) x.why → AllEarlier (the_entries (L ++ x ∷ []))
+more_earlier L x all low = record {
+  below = λ k e there.
+      let got = get_map the_entry (L ++ x ∷ []) k e there in
+      let rule : got.0.why ≡ e.why = ap (λ y. y.why) got.2 in
+      subst (λ w. PremisesBelow k w) rule (elim (get_more L x k got.0 got.1) [
+        | inl old ↦ all.below k (the_entry got.0) (slice_get-map the_entry L k ∙ rw old refl)
+        | inr new ↦ subst (λ n. PremisesBelow n got.0.why) (sym new.0) (subst (λ y. PremisesBelow (length L) y.why) new.1 low)
+      ]);
+}
 
 pub all_below : (net : Network) (steps : List Entry) → IsDerivation net steps → (k : ℕ) (e : Entry) → slice_get steps k ≡ Some e → PremisesBelow k e.why
 all_below net steps derivation k e there = follows_below net steps k e.why e.bound (derivation k e there)
@@ -64,7 +79,7 @@ marked_above (Wait i m) marks k j below over h =
     sym (get_or-set_other marks i j true false (λ e. omega (arith, e, below.0, over)))
     ∙ sym (get_or-set_other (set marks i true) m j true false (λ e. omega (arith, e, below.1, over))) ∙ h
 
-length_premises : (why : Why) (marks : List Bool) → length (with_premises why marks) ≡ length marks
+pub length_premises : (why : Why) (marks : List Bool) → length (with_premises why marks) ≡ length marks
 length_premises Base marks = refl
 length_premises (Chain id i) marks = length-set marks i true
 length_premises (Wait i j) marks = length-set (set marks i true) j true ∙ length-set marks i true
@@ -106,16 +121,11 @@ module _ (steps : List Entry) (below : (k : ℕ) (e : Entry) → slice_get steps
         | inl same ↦
             let this : x ≡ e = same_Some x e (sym at ∙ subst (λ n. slice_get steps n ≡ Some e) same there) in
             subst (λ y. PremisesMarked (with_premises x.why marks) y.why) this
-            (premises_marked x.why marks (wider x.why low))
+            (premises_marked x.why marks (below_more x.why k (length marks) low (omega (arith, long, slice_get_within steps k x at))))
         | inr other ↦
             more_marked e.why marks (with_premises x.why marks) (marked_more x.why marks)
             (closed j e (omega (arith, over, other)) there (marked_above x.why marks k j low over marked))
       ]
-    where
-      wider : (why : Why) → PremisesBelow k why → PremisesBelow (length marks) why
-      wider Base low = tt
-      wider (Chain id i) low = omega (arith, low, long, slice_get_within steps k x at)
-      wider (Wait i j) low = (omega (arith, low.0, long, slice_get_within steps k x at), omega (arith, low.1, long, slice_get_within steps k x at))
 
   length_step : (marks : List Bool) (o : Option Entry) (b : Bool) → length (with_premises_of o b marks) ≡ length marks
   length_step marks None b = refl

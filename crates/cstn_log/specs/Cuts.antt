@@ -1,8 +1,18 @@
 -- Lists of entries cut down to some of their places.
-use Rattle.std.specs.Prelude.{ℕ, zero, suc, ◌≡◌, ◌+◌, ◌-◌, Bool, true, false, ◌&&◌, not, nat_eq, if◌then◌else◌, List, [], ◌∷◌, ◌++◌, length, replicate, set, Option, Some, None, slice_get, slice_index_or, ⊤}
+use Rattle.std.specs.Prelude.{ℕ, zero, suc, ◌≡◌, ◌+◌, ◌-◌, ◌<◌, Bool, true, false, ◌&&◌, not, nat_eq, if◌then◌else◌, List, [], ◌∷◌, ◌++◌, length, replicate, set, Option, Some, None, slice_get, slice_index_or, ⊤}
 use Rattle.cstn_rules.specs.declared.entries.Why.{Why}
 use Rattle.cstn_rules.specs.declared.entries.Why.TheVariants.{Base, Chain, Wait}
 use Rattle.cstn_rules.specs.Derivations.{Entry}
+
+-- the premises are below the place
+abbrev pub PremisesBelow : ℕ → Why → Type 0
+PremisesBelow k Base = ⊤
+PremisesBelow k (Chain id i) = i < k
+PremisesBelow k (Wait i j) = (i < k) × (j < k)
+
+-- each entry's premises are before it
+pub record AllEarlier (steps : List Entry) : Type 0 where
+  pub below : (k : ℕ) (e : Entry) → slice_get steps k ≡ Some e → PremisesBelow k e.why
 
 -- the mark of a place; places past the marks have none
 abbrev pub is_marked : List Bool → ℕ → Bool
@@ -18,6 +28,12 @@ abbrev pub renumbered : List Bool → Why → Why
 renumbered marks Base = Base
 renumbered marks (Chain id i) = Chain id (rank marks i)
 renumbered marks (Wait i j) = Wait (rank marks i) (rank marks j)
+
+-- the rule, with the new places of its premises in a table
+abbrev pub replaced : List ℕ → Why → Why
+replaced places Base = Base
+replaced places (Chain id i) = Chain id (slice_index_or places i 0)
+replaced places (Wait i j) = Wait (slice_index_or places i 0) (slice_index_or places j 0)
 
 abbrev pub moved : List Bool → Entry → Entry
 moved marks e = record { bound = e.bound; why = renumbered marks e.why }

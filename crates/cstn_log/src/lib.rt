@@ -3,6 +3,7 @@
 #![tactic(auto)]
 
 mod cuts;
+mod cutting;
 mod laws;
 mod log;
 mod plans;
