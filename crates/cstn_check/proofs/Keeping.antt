@@ -9,7 +9,7 @@ use Rattle.cstn_rules.specs.Derivations.{Entry}
 use Rattle.cstn_log.specs.Entries.{State, the_entries, bases}
 use Rattle.cstn_log.proofs.DerivedLemmas.{length_bases}
 use Rattle.cstn_check.specs.Growth.{log_of, load_of}
-use Rattle.cstn_check.specs.Checks.{CheckParts, IsPrefix, IsVerdict, IsCheck}
+use Rattle.cstn_check.specs.Checks.{CheckParts, IsPrefix, IsVerdict, HasAnswered}
 use Rattle.cstn_check.specs.declared.verdicts.Verdict.{Verdict}
 use Rattle.cstn_check.specs.declared.verdicts.Verdict.TheVariants.{Yes, No, Full}
 use Rattle.cstn_check.proofs.Lists.{length_upto}
@@ -36,7 +36,7 @@ module _ (net : Network) (good : IsWellFormed net) where
   none_of cap list (No load) is few = let most = is.1 in let least = load_from in absurd (omega arith)
   none_of cap list Full is few = is.2 few
 
-  pub kept_front : (log : State) (o : Option Verdict) → IsCheck net log o → IsPrefix (the_entries log.entries) (log_of net)
+  pub kept_front : (log : State) (o : Option Verdict) → HasAnswered net log o → IsPrefix (the_entries log.entries) (log_of net)
   kept_front log None started = elim (cases_Bool (nat_lt log.cap (count net))) [
     | inl small ↦ record {
       rest = log_of net;
@@ -51,7 +51,7 @@ module _ (net : Network) (good : IsWellFormed net) where
   ]
   kept_front log (Some v) is = front_of log.cap (the_entries log.entries) v is
 
-  pub kept_none : (log : State) (o : Option Verdict) → IsCheck net log o → log.cap < count net → the_entries log.entries ≡ []
+  pub kept_none : (log : State) (o : Option Verdict) → HasAnswered net log o → log.cap < count net → the_entries log.entries ≡ []
   kept_none log None started few = started.entries ∙ cond-true _ _ _ (lt-ltb log.cap (count net) few)
   kept_none log (Some v) is few = none_of log.cap (the_entries log.entries) v is few
 
@@ -63,12 +63,12 @@ whole_of net cap list Full is some = absurd (some refl)
 
 -- what holds of a check's parts holds of what is seen of it
 pub front_seen : (n : NetworkParts) (log : State) (o : Option Verdict) (parts : CheckParts) → n ≡ parts.net →
-    IsWellFormed (the_network n) → IsCheck (the_network n) log o → IsPrefix (the_entries log.entries) (log_of (the_network parts.net))
+    IsWellFormed (the_network n) → HasAnswered (the_network n) log o → IsPrefix (the_entries log.entries) (log_of (the_network parts.net))
 front_seen n log o parts e good is =
     subst (λ (m : NetworkParts). IsPrefix (the_entries log.entries) (log_of (the_network m))) e (kept_front (the_network n) good log o is)
 
 pub none_seen : (n : NetworkParts) (log : State) (o : Option Verdict) (parts : CheckParts) → n ≡ parts.net → log.cap ≡ parts.cap →
-    IsWellFormed (the_network n) → IsCheck (the_network n) log o → parts.cap < count (the_network parts.net) → the_entries log.entries ≡ []
+    IsWellFormed (the_network n) → HasAnswered (the_network n) log o → parts.cap < count (the_network parts.net) → the_entries log.entries ≡ []
 none_seen n log o parts e f good is few =
     kept_none (the_network n) good log o is
     (subst (λ (m : NetworkParts). log.cap < count (the_network m)) (sym e) (subst (λ k. k < count (the_network parts.net)) (sym f) few))

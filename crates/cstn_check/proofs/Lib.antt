@@ -19,3 +19,4 @@ pub mod Answering
 pub mod VerdictLemmas
 pub mod Keeping
 pub mod PlanLemmas
+pub mod PartLemmas

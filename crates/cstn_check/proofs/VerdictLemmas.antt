@@ -9,7 +9,7 @@ use Rattle.cstn_rules.specs.Derivations.{Entry}
 use Rattle.cstn_log.specs.Entries.{State, the_entries}
 use Rattle.cstn_check.specs.Growth.{is_refuted, log_of, load_of}
 use Rattle.cstn_check.specs.Turns.{LastRefutes}
-use Rattle.cstn_check.specs.Checks.{CheckParts, IsVerdict, IsCheck}
+use Rattle.cstn_check.specs.Checks.{CheckParts, IsVerdict, HasAnswered}
 use Rattle.cstn_check.specs.declared.verdicts.Verdict.{Verdict}
 use Rattle.cstn_check.specs.declared.verdicts.Verdict.TheVariants.{Yes, No, Full}
 use Rattle.cstn_check.proofs.Decides.{log_decides, log_last}
@@ -56,9 +56,9 @@ module _ (net : Network) (cap : ℕ) (list : List Entry) (good : IsWellFormed ne
       (λ e. let same : n ≡ load = cc in (sym same ∙ is.0, is.1, inconsistent is.3), λ p. ap (λ k. No k) (is.0 ∙ sym p.0))
   exactly_no Full is load = (λ e. cc, λ p. let few = p.1 in let more = is.0 in absurd (omega arith))
 
-pub held : (net : Network) (log : State) (o : Option Verdict) (v : Verdict) → o ≡ Some v → IsCheck net log o →
+pub held : (net : Network) (log : State) (o : Option Verdict) (v : Verdict) → o ≡ Some v → HasAnswered net log o →
     IsVerdict net log.cap (the_entries log.entries) v
-held net log o v e is = subst (λ x. IsCheck net log x) e is
+held net log o v e is = subst (λ x. HasAnswered net log x) e is
 
 -- what holds of a check's parts holds of what is seen of it
 pub seen_so : (n : NetworkParts) (cap : ℕ) (list : List Entry) (v : Verdict) (parts : CheckParts) → n ≡ parts.net → cap ≡ parts.cap →

@@ -2,31 +2,40 @@ ghost use Rattle.std.specs.Prelude.{ℕ, ◌≡◌, ◌<◌, ◌≤◌, ◌↔�
 ghost use Rattle.cstn_net.specs.Networks.{count};
 ghost use Rattle.cstn_net.specs.Strategies.{IsConsistent};
 ghost use Rattle.cstn_net.specs.Read.{the_network};
+ghost use Rattle.cstn_rules.specs.Derivations.{IsRefutation};
+ghost use Rattle.cstn_log.specs.Cuts.{part};
 ghost use Rattle.cstn_log.specs.Entries.{the_entries};
-ghost use Rattle.cstn_check.specs.Growth.{log_of, load_of};
+ghost use Rattle.cstn_log.specs.Plans.{the_bounds};
+ghost use Rattle.cstn_refute.specs.Refutations.{the_steps};
+ghost use Rattle.cstn_check.specs.Growth.{log_of, load_of, live_bounds};
 ghost use Rattle.cstn_check.specs.Turns.{LastRefutes};
 ghost use Rattle.cstn_check.specs.declared.verdicts.Verdict.{Verdict};
 ghost use Rattle.cstn_check.specs.Checks.{IsStarted, IsVerdict, IsPrefix};
 
 use crate::growth::{Grown, grow};
+use crate::plans::live_bounds;
 use crate::turns::is_well_formed;
 use crate::verdicts::Verdict;
-use cstn_log::Log;
+use cstn_label::Bound;
+use cstn_log::{Log, SoundPlan};
 use cstn_net::Network;
+use cstn_refute::Refutation;
 use cstn_rules::Tries;
 use std::alloc::{AllocError, Global};
 use std::marker::Model;
 
-/// A network with the log that grows from it, and the verdict once it was asked for.
+/// A network with the log that grows from it, the verdict once it was asked for, and room for the bounds of a plan.
 #[derive(Drop)]
 pub struct Check {
     net: Network,
     log: Log,
     tries: Tries,
     verdict: Option<Verdict>,
+    bounds: Vec<Bound>,
 }
 
 impl Model for Check {
+    ghost use Rattle.std.specs.Prelude.{vec_capacity};
     ghost use Rattle.cstn_net.specs.Read.{the_network};
     ghost use Rattle.cstn_check.specs.Checks.{CheckParts, IsCheck};
 
@@ -34,7 +43,7 @@ impl Model for Check {
 
     ghost view = { λ c. record { net = c.net; cap = c.log.cap; verdict = c.verdict } };
 
-    ghost invariant = { λ c. IsCheck (the_network c.net) c.log c.verdict };
+    ghost invariant = { λ c. IsCheck (the_network c.net) c.log c.verdict c.bounds.items (vec_capacity c.bounds) };
 }
 
 impl Check {
@@ -46,11 +55,13 @@ impl Check {
         ensures start { IfOk result (λ check. check ≡ record { net = net; cap = cap; verdict = None }) }
     {
         let log = Log::start(alloc, &net, cap)?;
+        let bounds = Vec::with_capacity(alloc, cap as usize)?;
         Ok(Check {
             net,
             log,
             tries: Tries { count: 0 },
             verdict: None,
+            bounds,
         })
     }
 
@@ -85,6 +96,31 @@ impl Check {
     {
         is_well_formed(&self.net);
         &self.log
+    }
+
+    /// What refutes the network, once the check has answered no: the last entry of the log with its ancestors, and the load.
+    pub fn refutation(&self, alloc: Global) -> Result<Refutation, AllocError>
+        requires no { (load : ℕ) × (self.now.verdict ≡ Some (Verdict.No load)) }
+        ensures part { IfOk result (λ r. the_steps r ≡ part (log_of (the_network self.now.net))) }
+        ensures load { IfOk result (λ r. r.load ≡ load_of (the_network self.now.net)) }
+        ensures refutes { IfOk result (λ r. IsRefutation (the_network self.now.net) (the_steps r)) }
+    {
+        is_well_formed(&self.net);
+        let load = self.log.len();
+        let steps = self.log.part(alloc)?;
+        Ok(Refutation::new(load, steps))
+    }
+
+    /// The plan that a yes leaves: the network, and the bounds of the live entries of its log, in order.
+    pub fn into_plan(self) -> SoundPlan
+        requires yes { (load : ℕ) × (self.verdict ≡ Some (Verdict.Yes load)) }
+        ensures network { result.net ≡ self.net }
+        ensures live { the_bounds result.bounds ≡ live_bounds (log_of (the_network self.net)) }
+    {
+        is_well_formed(&self.net);
+        let room = self.bounds;
+        let bounds = live_bounds(&self.log, room);
+        SoundPlan::new(self.net, bounds)
     }
 
     /// The network.

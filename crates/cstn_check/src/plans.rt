@@ -1,6 +1,6 @@
-ghost use Rattle.std.specs.Prelude.{◌≡◌, ◌≤◌, [], map, vec_capacity};
-ghost use Rattle.cstn_label.specs.Read.{the_bound};
+ghost use Rattle.std.specs.Prelude.{◌≡◌, ◌≤◌, [], length, vec_capacity};
 ghost use Rattle.cstn_log.specs.Entries.{the_entries};
+ghost use Rattle.cstn_log.specs.Plans.{the_bounds};
 ghost use Rattle.cstn_check.specs.Growth.{live_bounds};
 
 use cstn_label::Bound;
@@ -10,7 +10,8 @@ use cstn_log::Log;
 pub(crate) fn live_bounds(log: &Log, room: Vec<Bound>) -> Vec<Bound>
     requires empty { room.items ≡ [] }
     requires room { log.now.cap ≤ vec_capacity room }
-    ensures bounds { map the_bound result.items ≡ live_bounds (the_entries log.now.entries) }
+    ensures bounds { the_bounds result.items ≡ live_bounds (the_entries log.now.entries) }
+    ensures few { length result.items ≤ 4194304 }
 {
     let mut bounds = room;
     for k in 0..log.len() {

@@ -9,7 +9,7 @@ pub returns-in-Some-clause-no : goal.returns-in-Some-clause-no
 returns-in-Some-clause-no c =
     let seen = seen_so c.self.inside.net c.self.inside.log.cap (the_entries c.self.inside.log.entries) c.in-Some.verdict c.args.self.now
     (ap (λ (s : CheckParts). s.net) c.self.view_is) (ap (λ (s : CheckParts). s.cap) c.self.view_is) c.is_well_formed.ensures
-    (held (the_network c.self.inside.net) c.self.inside.log c.self.inside.verdict c.in-Some.verdict c.in-Some.is c.self.invariant) in
+    (held (the_network c.self.inside.net) c.self.inside.log c.self.inside.verdict c.in-Some.verdict c.in-Some.is c.self.invariant.answered) in
     no_clause (the_network c.args.self.now.net) c.args.self.now.cap _ seen.0 c.in-Some.verdict seen.1
 
 pub returns-clause-no : goal.returns-clause-no
@@ -23,7 +23,7 @@ pub returns-in-Some-clause-yes : goal.returns-in-Some-clause-yes
 returns-in-Some-clause-yes c =
     let seen = seen_so c.self.inside.net c.self.inside.log.cap (the_entries c.self.inside.log.entries) c.in-Some.verdict c.args.self.now
     (ap (λ (s : CheckParts). s.net) c.self.view_is) (ap (λ (s : CheckParts). s.cap) c.self.view_is) c.is_well_formed.ensures
-    (held (the_network c.self.inside.net) c.self.inside.log c.self.inside.verdict c.in-Some.verdict c.in-Some.is c.self.invariant) in
+    (held (the_network c.self.inside.net) c.self.inside.log c.self.inside.verdict c.in-Some.verdict c.in-Some.is c.self.invariant.answered) in
     yes_clause (the_network c.args.self.now.net) c.args.self.now.cap _ seen.0 c.in-Some.verdict seen.1
 
 pub returns-clause-yes : goal.returns-clause-yes
@@ -37,7 +37,7 @@ pub returns-in-Some-clause-exactly_yes : goal.returns-in-Some-clause-exactly_yes
 returns-in-Some-clause-exactly_yes c =
     let seen = seen_so c.self.inside.net c.self.inside.log.cap (the_entries c.self.inside.log.entries) c.in-Some.verdict c.args.self.now
     (ap (λ (s : CheckParts). s.net) c.self.view_is) (ap (λ (s : CheckParts). s.cap) c.self.view_is) c.is_well_formed.ensures
-    (held (the_network c.self.inside.net) c.self.inside.log c.self.inside.verdict c.in-Some.verdict c.in-Some.is c.self.invariant) in
+    (held (the_network c.self.inside.net) c.self.inside.log c.self.inside.verdict c.in-Some.verdict c.in-Some.is c.self.invariant.answered) in
     exactly_yes (the_network c.args.self.now.net) c.args.self.now.cap _ seen.0 c.in-Some.verdict seen.1
 
 pub returns-clause-exactly_yes : goal.returns-clause-exactly_yes
@@ -51,7 +51,7 @@ pub returns-in-Some-clause-exactly_no : goal.returns-in-Some-clause-exactly_no
 returns-in-Some-clause-exactly_no c =
     let seen = seen_so c.self.inside.net c.self.inside.log.cap (the_entries c.self.inside.log.entries) c.in-Some.verdict c.args.self.now
     (ap (λ (s : CheckParts). s.net) c.self.view_is) (ap (λ (s : CheckParts). s.cap) c.self.view_is) c.is_well_formed.ensures
-    (held (the_network c.self.inside.net) c.self.inside.log c.self.inside.verdict c.in-Some.verdict c.in-Some.is c.self.invariant) in
+    (held (the_network c.self.inside.net) c.self.inside.log c.self.inside.verdict c.in-Some.verdict c.in-Some.is c.self.invariant.answered) in
     exactly_no (the_network c.args.self.now.net) c.args.self.now.cap _ seen.0 c.in-Some.verdict seen.1
 
 pub returns-clause-exactly_no : goal.returns-clause-exactly_no
