@@ -7,12 +7,12 @@ use Rattle.cstn_net.specs.Read.{NetworkParts, the_network}
 use Rattle.cstn_net.specs.Strategies.{IsConsistent}
 use Rattle.cstn_rules.specs.Derivations.{Entry}
 use Rattle.cstn_log.specs.Entries.{State, the_entries}
-use Rattle.cstn_check.specs.Growth.{is_refuted, log_of, load_of}
+use Rattle.cstn_check.specs.Growth.{is_refuted, log_of, load_of, most_entries}
 use Rattle.cstn_check.specs.Turns.{LastRefutes}
 use Rattle.cstn_check.specs.Checks.{CheckParts, IsVerdict, HasAnswered}
 use Rattle.cstn_check.specs.declared.verdicts.Verdict.{Verdict}
 use Rattle.cstn_check.specs.declared.verdicts.Verdict.TheVariants.{Yes, No, Full}
-use Rattle.cstn_check.proofs.Decides.{log_decides, log_last}
+use Rattle.cstn_check.proofs.Decides.{log_decides, log_last, load_bounded}
 
 module _ (net : Network) (cap : ℕ) (list : List Entry) (good : IsWellFormed net) where
   over : LastRefutes net (log_of net) → is_refuted net (log_of net) ≡ true
@@ -22,6 +22,12 @@ module _ (net : Network) (cap : ℕ) (list : List Entry) (good : IsWellFormed ne
   full_clause (Yes load) is = (λ e. cc, λ more. let few = is.1 in absurd (omega arith))
   full_clause (No load) is = (λ e. cc, λ more. let few = is.1 in absurd (omega arith))
   full_clause Full is = (λ e. is.0, λ more. refl)
+
+  pub bounded_clause : (v : Verdict) → IsVerdict net cap list v → v ≡ Full → cap < most_entries net
+  bounded_clause v is e =
+      let more = (full_clause v is).0 e in
+      let most = load_bounded net good in
+      omega arith
 
   pub no_clause : (v : Verdict) → IsVerdict net cap list v → (load : ℕ) →
       (v ≡ No load ↔ ((load ≡ load_of net) × (load_of net ≤ cap) × LastRefutes net (log_of net)))

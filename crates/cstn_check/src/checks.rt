@@ -1,4 +1,5 @@
 ghost use Rattle.std.specs.Prelude.{ℕ, ◌≡◌, ◌<◌, ◌≤◌, ◌↔◌, IfOk, Some, None, []};
+ghost use Rattle.std.specs.List.{All};
 ghost use Rattle.cstn_net.specs.Networks.{count};
 ghost use Rattle.cstn_net.specs.Strategies.{IsConsistent};
 ghost use Rattle.cstn_net.specs.Read.{the_network};
@@ -6,8 +7,8 @@ ghost use Rattle.cstn_rules.specs.Derivations.{IsRefutation};
 ghost use Rattle.cstn_log.specs.Cuts.{part};
 ghost use Rattle.cstn_log.specs.Entries.{the_entries};
 ghost use Rattle.cstn_log.specs.Plans.{the_bounds};
-ghost use Rattle.cstn_refute.specs.Refutations.{the_steps};
-ghost use Rattle.cstn_check.specs.Growth.{log_of, load_of, live_bounds};
+ghost use Rattle.cstn_refute.specs.Refutations.{FitsText, the_steps};
+ghost use Rattle.cstn_check.specs.Growth.{log_of, load_of, live_bounds, most_entries};
 ghost use Rattle.cstn_check.specs.Turns.{LastRefutes};
 ghost use Rattle.cstn_check.specs.declared.verdicts.Verdict.{Verdict};
 ghost use Rattle.cstn_check.specs.Checks.{IsStarted, IsVerdict, IsPrefix};
@@ -69,6 +70,7 @@ impl Check {
     /// the network, and yes else, with the load. Unless the log is full, it is yes exactly where there is a strategy.
     pub fn run(&mut self) -> Verdict
         ensures full { result ≡ Verdict.Full ↔ (self.old.cap < load_of (the_network self.old.net)) }
+        ensures bounded { result ≡ Verdict.Full → self.old.cap < most_entries (the_network self.old.net) }
         ensures no { (load : ℕ) → (result ≡ Verdict.No load ↔ ((load ≡ load_of (the_network self.old.net)) × (load_of (the_network self.old.net) ≤ self.old.cap) × LastRefutes (the_network self.old.net) (log_of (the_network self.old.net)))) }
         ensures yes { (load : ℕ) → (result ≡ Verdict.Yes load ↔ ((load ≡ load_of (the_network self.old.net)) × (load_of (the_network self.old.net) ≤ self.old.cap) × ¬ LastRefutes (the_network self.old.net) (log_of (the_network self.old.net)))) }
 
@@ -104,6 +106,10 @@ impl Check {
         ensures part { IfOk result (λ r. the_steps r ≡ part (log_of (the_network self.now.net))) }
         ensures load { IfOk result (λ r. r.load ≡ load_of (the_network self.now.net)) }
         ensures refutes { IfOk result (λ r. IsRefutation (the_network self.now.net) (the_steps r)) }
+
+        // It can be printed with the names of the time-points, and its text gives it back.
+        ensures named { IfOk result (λ r. All (λ e. e.bound.node.0 < count (the_network self.now.net)) r.steps) }
+        ensures text { IfOk result FitsText }
     {
         is_well_formed(&self.net);
         let load = self.log.len();
