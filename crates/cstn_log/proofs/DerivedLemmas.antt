@@ -1,6 +1,6 @@
 -- The entries of a log as a derivation.
 use Rattle.std.proofs.Common.{◌≡◌, inl, inr, ℕ, zero, suc, ◌+◌, ◌<◌, ◌≤◌, List, [], ◌∷◌, ◌++◌, length, map, refl, ap, sym, ◌∙◌, subst, arith, add-one, length-append}
-use Rattle.std.specs.Prelude.{Some, Result, Ok, Err, IsOk, IsErr, slice_get}
+use Rattle.std.specs.Prelude.{Some, Result, Ok, Err, IsOk, IsErr, IfOk, slice_get}
 use Rattle.std.proofs.lemmas.Option.{none-some, slice_get-map, slice_get_within}
 use Rattle.std.proofs.lemmas.List.{length-map, map-append}
 use Rattle.std.proofs.lemmas.List.Elements.{All-contains}
@@ -71,6 +71,10 @@ bases_more n L x are bound why =
 pub ok_unless : {A E : Type 0} (r : Result A E) → ¬ IsErr r → IsOk r
 ok_unless (Ok x) not = refl
 ok_unless (Err e) not = absurd (not refl)
+
+pub ok_then : {A E : Type 0} {P Q : A → Type 0} (r : Result A E) → IfOk r P → ((x : A) → P x → Q x) → IfOk r Q
+ok_then (Ok x) holds then = then x holds
+ok_then (Err e) holds then = tt
 
 earlier : (L : List Entry) (k : ℕ) (e : Entry) → slice_get L k ≡ Some e → IsEarlier (the_entries L) (length L) k (the_bound e.bound)
 earlier L k e there = record {

@@ -1,7 +1,7 @@
 -- What a log keeps.
-use Rattle.std.proofs.Common.{◌≡◌, ◌≢◌, inl, inr, ℕ, zero, suc, ◌<◌, ◌≤◌, List, [], ◌∷◌, ◌++◌, length, get_or, set, Bool, true, false, nat_eq, refl, ap, sym, ◌∙◌, subst, arith}
-use Rattle.std.specs.Prelude.{Option, None, Some, IsTrue, ◌↔◌, is_some, slice_get, if◌then◌else◌}
-use Rattle.std.proofs.lemmas.List.{get_or-set_other, get_or-set_same, length-map, map-append}
+use Rattle.std.proofs.Common.{◌≡◌, ◌≢◌, inl, inr, ℕ, zero, suc, ◌<◌, ◌≤◌, List, [], ◌∷◌, ◌++◌, length, get_or, set, replicate, Bool, true, false, nat_eq, refl, ap, sym, ◌∙◌, subst, arith}
+use Rattle.std.specs.Prelude.{Option, None, Some, IsTrue, ◌↔◌, is_some, slice_get, count_by, if◌then◌else◌}
+use Rattle.std.proofs.lemmas.List.{get_or-set_other, get_or-set_same, length-map, map-append, length-replicate}
 use Rattle.std.proofs.lemmas.Bool.{cases_lt, cases_Bool}
 use Rattle.std.proofs.lemmas.Option.{none-some, slice_get-map, slice_get-get_or}
 use Rattle.std.proofs.lemmas.List.Sums.{count_by-le-length}
@@ -11,7 +11,7 @@ use Rattle.cstn_pool.specs.declared.slot_id.SlotId.{SlotId}
 use Rattle.cstn_pool.specs.Slots.{value_at}
 use Rattle.cstn_minset.specs.Sets.{Entries, IsThere, IsOver, IsCovered}
 use Rattle.cstn_log.specs.Entries.{IsCoveredBy, IsLive}
-use Rattle.cstn_log.specs.Kept.{IsKept, entries_of, stored, entry_or}
+use Rattle.cstn_log.specs.Kept.{IsKept, AreHeld, entries_of, stored, entry_or}
 use Rattle.cstn_log.proofs.ListLemmas.{map_same}
 
 -- no id has an empty slot
@@ -60,14 +60,18 @@ value_held (x ∷ slots) zero birth e is = rw is (itself birth e)
     itself n y = let t : nat_eq n n ≡ true = grind arith in rw t refl
 value_held (x ∷ slots) (suc s) birth e is = value_held slots s birth e is
 
-pub entry_got : (slots : List (Option (ℕ × Entry))) (births : ℕ) (table : Entries) (ids : List SlotId) (nodes k : ℕ) (id : SlotId) → IsKept slots births table ids nodes → slice_get ids k ≡ Some id → (e : Entry) × (value_at slots id.slot id.birth ≡ Some e) × (slice_get (entries_of slots ids) k ≡ Some e) × (get_or slots id.slot None ≡ Some (id.birth, e))
-entry_got slots births table ids nodes k id is there =
-    let h = is.held k id there in
+-- what the pool holds under the id at a place
+pub held_got : (slots : List (Option (ℕ × Entry))) (ids : List SlotId) (k : ℕ) (id : SlotId) → AreHeld slots ids → slice_get ids k ≡ Some id → (e : Entry) × (value_at slots id.slot id.birth ≡ Some e) × (slice_get (entries_of slots ids) k ≡ Some e) × (get_or slots id.slot None ≡ Some (id.birth, e))
+held_got slots ids k id held there =
+    let h = held k id there in
     let stores : stored slots id ≡ h.0 = ap entry_or h.1 in
     (h.0, value_held slots id.slot id.birth h.0 h.1, entry_there slots ids k id there ∙ ap (λ (y : Entry). some_entry y) stores, h.1)
   where
     some_entry : Entry → Option Entry
     some_entry y = Some y
+
+pub entry_got : (slots : List (Option (ℕ × Entry))) (births : ℕ) (table : Entries) (ids : List SlotId) (nodes k : ℕ) (id : SlotId) → IsKept slots births table ids nodes → slice_get ids k ≡ Some id → (e : Entry) × (value_at slots id.slot id.birth ≡ Some e) × (slice_get (entries_of slots ids) k ≡ Some e) × (get_or slots id.slot None ≡ Some (id.birth, e))
+entry_got slots births table ids nodes k id is there = held_got slots ids k id is.held there
 
 pub id_inside : (slots : List (Option (ℕ × Entry))) (ids : List SlotId) (k : ℕ) → k < length (entries_of slots ids) → k < length ids
 id_inside slots ids k inside = omega (arith, length-map ids (stored slots))
@@ -114,3 +118,31 @@ uncovered_there slots births table ids nodes b is not c =
     let f = is.placed c.0 c.1 c.2 in
     let id : SlotId = record { slot = c.0; birth = c.1.0 } in
     not (f.0, stored slots id, entry_there slots ids f.0 id f.1.there, subst (λ (z : Bound). IsOver z b) (sym f.3) c.3)
+
+abbrev pub no_slot : Option (ℕ × Entry)
+no_slot = None
+
+none_filled : (n : ℕ) → count_by is_some (replicate n no_slot) ≡ 0
+none_filled zero = refl
+none_filled (suc n) = none_filled n
+
+all_none : {X : Type 0} (n s : ℕ) (x : Option X) → x ≡ None → get_or (replicate n x) s None ≡ None
+all_none zero s x is = refl
+all_none (suc n) zero x is = is
+all_none (suc n) (suc s) x is = all_none n s x is
+
+-- nothing is kept in a pool with empty slots alone
+pub kept_empty : (cap births nodes : ℕ) → IsKept (replicate cap None) births (replicate cap None) [] nodes
+kept_empty cap births nodes = record {
+  held = λ k id there. absurd (none-some id there);
+  used = none_filled cap;
+  found = λ s e there. absurd (none-some e (sym (all_none cap s None refl) ∙ there));
+  ascending = λ k j id jd less there also. absurd (none-some id there);
+  before = λ k id there. absurd (none-some id there);
+  room = length-replicate cap None ∙ sym (length-replicate cap None);
+  covers = λ b not covered. none-some covered.1 covered.2;
+  placed = λ s e there. absurd (none-some e (sym (all_none cap s None refl) ∙ there));
+  live = λ k id there live. absurd (none-some id there);
+  fresh = record { none_over = λ j k e f less there also over. absurd (none-some e there) };
+  inside = λ k e there. absurd (none-some e there);
+}

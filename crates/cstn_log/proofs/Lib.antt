@@ -7,3 +7,6 @@ pub mod FinishLemmas
 pub mod AskedLemmas
 pub mod Strategies
 pub mod PlanLemmas
+pub mod CutLemmas
+pub mod MarkLemmas
+pub mod StepLemmas

@@ -7,7 +7,8 @@ use Rattle.cstn_rules.specs.declared.entries.Why.TheVariants.{Base}
 use Rattle.cstn_pool.specs.declared.slot_id.SlotId.{SlotId}
 use Rattle.cstn_pool.specs.Slots.{live_of}
 use Rattle.cstn_minset.specs.Sets.{Entries, IsPlaced, IsCovered}
-use Rattle.cstn_log.specs.Entries.{State, IsCoveredBy, IsLive, AllNew}
+use Rattle.cstn_log.specs.Entries.{State, the_entries, IsCoveredBy, IsLive, AllNew}
+use Rattle.cstn_log.specs.Cuts.{AllEarlier}
 
 -- what stands for the entry of an id that the pool doesn't hold, which no log has
 abbrev pub no_entry : Entry
@@ -38,9 +39,13 @@ state_of slots ids births nodes = record { entries = entries_of slots ids; ids =
 pub record IsIdAt (ids : List SlotId) (slot birth k : ℕ) : Type 0 where
   pub there : slice_get ids k ≡ Some (record { slot = slot; birth = birth })
 
+-- the pool holds an entry under each id
+abbrev pub AreHeld : List (Option (ℕ × Entry)) → List SlotId → Type 0
+AreHeld slots ids = (k : ℕ) (id : SlotId) → slice_get ids k ≡ Some id → (e : Entry) × (slice_index_or slots id.slot None ≡ Some (id.birth, e))
+
 -- the pool holds exactly the entries of the ids, and the minimal set exactly the bounds of the live ones
 pub record IsKept (slots : List (Option (ℕ × Entry))) (births : ℕ) (table : Entries) (ids : List SlotId) (nodes : ℕ) : Type 0 where
-  pub held : (k : ℕ) (id : SlotId) → slice_get ids k ≡ Some id → (e : Entry) × (slice_index_or slots id.slot None ≡ Some (id.birth, e))
+  pub held : AreHeld slots ids
   pub used : live_of slots ≡ length ids
   pub found : (s : ℕ) (e : ℕ × Entry) → slice_index_or slots s None ≡ Some e → (k : ℕ) × IsIdAt ids s e.0 k
   pub ascending : (k j : ℕ) (id jd : SlotId) → k < j → slice_get ids k ≡ Some id → slice_get ids j ≡ Some jd → id.birth < jd.birth
@@ -52,8 +57,16 @@ pub record IsKept (slots : List (Option (ℕ × Entry))) (births : ℕ) (table :
   pub fresh : AllNew (entries_of slots ids)
   pub inside : (k : ℕ) (e : Entry) → slice_get (entries_of slots ids) k ≡ Some e → e.bound.node.0 < nodes
 
--- and there is room for an id of each slot
-pub record IsLog (slots : List (Option (ℕ × Entry))) (births : ℕ) (table : Entries) (ids : List SlotId) (room nodes : ℕ) : Type 0 where
+-- the room for each slot's id, and for its mark, its new place and its entry when some are taken out
+pub record IsRoom (cap ids marks places steps : ℕ) : Type 0 where
+  pub for_ids : cap ≤ ids
+  pub for_marks : cap ≤ marks
+  pub for_places : cap ≤ places
+  pub for_steps : cap ≤ steps
+  pub few : cap ≤ 4194304
+
+-- and premises are places before the entry, and there is room
+pub record IsLog (slots : List (Option (ℕ × Entry))) (births : ℕ) (table : Entries) (ids : List SlotId) (nodes for_ids for_marks for_places for_steps : ℕ) : Type 0 where
   pub kept : IsKept slots births table ids nodes
-  pub room_for_all : length slots ≤ room
-  pub few : length slots ≤ 4194304
+  pub earlier : AllEarlier (the_entries (entries_of slots ids))
+  pub room : IsRoom (length slots) for_ids for_marks for_places for_steps

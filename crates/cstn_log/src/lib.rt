@@ -2,10 +2,15 @@
 //! bounds to which the rules add nothing.
 #![tactic(auto)]
 
+mod cuts;
+mod cutting;
 mod laws;
 mod log;
 mod plans;
 
+pub use cuts::{
+    cuts_are_derivations, cuts_are_known, dropping_leaves_derivations, parts_are_derivations,
+};
 pub use laws::closed_lists_have_strategies;
 pub use log::Log;
 pub use plans::{Plan, SoundPlan};

@@ -5,11 +5,13 @@ ghost use Rattle.cstn_net.specs.Strategies.{Table, IsStrategy};
 ghost use Rattle.cstn_net.specs.Bounds.{HoldsIn};
 ghost use Rattle.cstn_net.specs.Read.{the_network};
 ghost use Rattle.cstn_rules.specs.Rules.{base};
-ghost use Rattle.cstn_rules.specs.Derivations.{Follows, IsDerivation};
+ghost use Rattle.cstn_rules.specs.Derivations.{Follows, IsDerivation, IsRefutation};
 ghost use Rattle.cstn_minset.specs.Sets.{IsPlaced};
 ghost use Rattle.cstn_log.specs.Entries.{State, the_entries, IsCoveredBy, IsLive, AllNew, bases, first_entries};
+ghost use Rattle.cstn_log.specs.Cuts.{PremisesBelow, part};
 ghost use Rattle.cstn_log.specs.Kept.{IsIdAt};
 
+use crate::cutting::{cut, entry_at, mark_ancestors};
 use cstn_label::{Bound, Label, NodeId};
 use cstn_minset::MinSet;
 use cstn_net::Network;
@@ -22,13 +24,18 @@ use std::marker::Model;
 ///
 /// An entry is live while no later one dominates it. The entries lie in a pool, and the bounds of
 /// the live ones in a minimal set, each under the id that [`Log::slot`] answers. All memory is
-/// taken by [`Log::start`]: 124 bytes for each entry that there may be, so 520 MB for the largest
-/// cap of 4,194,304, and 8 bytes for each time-point.
+/// taken by [`Log::start`]: 169 bytes for each entry that there may be, so 709 MB for the largest
+/// cap of 4,194,304, and 8 bytes for each time-point. Of these, 45 bytes an entry are used by
+/// [`Log::retract`] alone.
 #[derive(Drop)]
 pub struct Log {
     pool: Pool<Entry>,
     minimal: MinSet,
     ids: Vec<SlotId>,
+    // Which entries stay when some are taken out, the new place of each, and what is left.
+    marks: Vec<bool>,
+    places: Vec<u32>,
+    steps: Vec<Entry>,
 }
 
 impl Model for Log {
@@ -40,7 +47,7 @@ impl Model for Log {
 
     ghost view = { λ l. state_of l.pool.slots l.ids.items l.pool.births l.minimal.nodes };
 
-    ghost invariant = { λ l. IsLog l.pool.slots l.pool.births l.minimal.table l.ids.items (vec_capacity l.ids) l.minimal.nodes };
+    ghost invariant = { λ l. IsLog l.pool.slots l.pool.births l.minimal.table l.ids.items l.minimal.nodes (vec_capacity l.ids) (vec_capacity l.marks) (vec_capacity l.places) (vec_capacity l.steps) };
 }
 
 impl Log {
@@ -70,7 +77,17 @@ impl Log {
         let pool = Pool::start(alloc, cap)?;
         let minimal = MinSet::start(alloc, nodes, cap)?;
         let ids = Vec::with_capacity(alloc, cap as usize)?;
-        Ok(Log { pool, minimal, ids })
+        let marks = Vec::with_capacity(alloc, cap as usize)?;
+        let places = Vec::with_capacity(alloc, cap as usize)?;
+        let steps = Vec::with_capacity(alloc, cap as usize)?;
+        Ok(Log {
+            pool,
+            minimal,
+            ids,
+            marks,
+            places,
+            steps,
+        })
     }
 
     // Pushes the base bound of each time-point, in order.
@@ -144,9 +161,36 @@ impl Log {
         requires { k < length self.now.entries }
         ensures entry { slice_get self.now.entries k ≡ Some result }
         ensures node { result.bound.node.0 < self.now.nodes }
+        ensures premises { PremisesBelow k result.why }
         ensures holds { (net : TheNetwork) (table : Table) → IsNetwork net → IsStrategy net table → IsDerivation net (the_entries self.now.entries) → HoldsIn net table (the_bound result.bound) }
     {
-        self.pool.get(self.ids[k as usize]).unwrap()
+        entry_at(&self.pool, &self.ids, k as usize)
+    }
+
+    /// The last entry and its ancestors, in order, with premises as places in the answer. It is a
+    /// derivation that ends in the same bound wherever the log is a derivation, and so a refutation
+    /// where the log is one. Fails for want of memory alone.
+    pub fn part(&self, alloc: Global) -> Result<Vec<Entry>, AllocError>
+        requires { 0 < length self.now.entries }
+        ensures part { IfOk result (λ steps. the_entries steps.items ≡ part (the_entries self.now.entries)) }
+        ensures derivation { (net : TheNetwork) → IsDerivation net (the_entries self.now.entries) → IfOk result (λ steps. IsDerivation net (the_entries steps.items)) }
+        ensures refutation { (net : TheNetwork) → IsRefutation net (the_entries self.now.entries) → IfOk result (λ steps. IsRefutation net (the_entries steps.items)) }
+    {
+        self.last_and_ancestors(alloc)
+    }
+
+    fn last_and_ancestors(&self, alloc: Global) -> Result<Vec<Entry>, AllocError>
+        requires { 0 < length self.now.entries }
+        ensures { IfOk result (λ steps. the_entries steps.items ≡ part (the_entries self.now.entries)) }
+    {
+        let count = self.ids.len();
+        let mut marks = vec![in alloc; false; count]?;
+        marks[count - 1] = true;
+        mark_ancestors(&self.pool, &self.ids, &mut marks);
+        let mut places = Vec::with_capacity(alloc, count)?;
+        let mut steps = Vec::with_capacity(alloc, count)?;
+        cut(&self.pool, &self.ids, &marks, &mut places, &mut steps);
+        Ok(steps)
     }
 
     /// The id under which the pool keeps an entry.

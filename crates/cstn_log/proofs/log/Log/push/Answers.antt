@@ -4,12 +4,13 @@ use Rattle.std.proofs.lemmas.Option.{slice_get_within, get_or_from_slice_get}
 use Rattle.cstn_label.specs.Read.{the_bound}
 use Rattle.cstn_net.specs.Read.{the_network}
 use Rattle.cstn_rules.specs.declared.entries.Entry.{Entry}
-use Rattle.cstn_rules.specs.Derivations.{IsDerivation}
+use Rattle.cstn_rules.specs.Derivations.{Follows, IsDerivation}
 use Rattle.cstn_log.specs.Entries.{State, the_entries, IsCoveredBy}
 use Rattle.cstn_log.specs.Kept.{state_of, entries_of}
 use Rattle.cstn_log.proofs.KeptLemmas.{few, unplaced, uncovered_there}
 use Rattle.cstn_log.proofs.PushLemmas.{push_step, push_entries, push_state}
 use Rattle.cstn_log.proofs.DerivedLemmas.{follows_inside, pushed_derivation}
+use Rattle.cstn_log.proofs.MarkLemmas.{follows_below, more_earlier}
 use Rattle.cstn_log.proofs.log.Log.push.Goals as goal
 
 pub prove-unreachable-requires : goal.prove-unreachable-requires
@@ -38,7 +39,7 @@ place-requires-clause-free c =
 pub overflow_cast-place : goal.overflow_cast-place
 overflow_cast-place c =
     let room = few _ _ _ _ _ c.self.invariant.kept in
-    omega (arith, room, c.self.invariant.few, c.self.inside.ids.ok, c.len-place.ensures)
+    omega (arith, room, c.self.invariant.room.few, c.self.inside.ids.ok, c.len-place.ensures)
 
 pub invariant_of-self-2 : goal.invariant_of-self-2
 invariant_of-self-2 c =
@@ -49,10 +50,19 @@ invariant_of-self-2 c =
     let size : length c.take.new.self.slots ≡ length c.self.inside.pool.slots = ap (λ v. length v.slots) taken.taken ∙ length-set c.self.inside.pool.slots id.slot _ in
     let uncovered = subst (λ (v : State). ¬ IsCoveredBy v.entries c.args.e.bound) (sym c.self.view_is) c.requires.uncovered in
     let nodes = ap (λ v. v.nodes) c.self.view_is in
+    let room = c.self.invariant.room in
+    let longer = push_entries c.self.inside.pool.slots c.self.inside.pool.births c.self.inside.minimal.table c.self.inside.minimal.nodes c.self.inside.ids.items id c.args.e c.take.new.self c.push.new.self.items c.self.invariant.kept taken.empty taken.birth taken.taken pushed in
+    let follows = subst (λ (v : State). Follows (the_network c.args.net.now) (the_entries v.entries) (length v.entries) c.args.e.why (the_bound c.args.e.bound)) (sym c.self.view_is) c.requires.follows in
     record {
       kept = push_step c.self.inside.pool.slots c.self.inside.pool.births c.self.inside.minimal placed.0 c.self.inside.ids.items id c.args.e c.take.new.self c.place.new.self c.push.new.self.items c.self.invariant.kept taken.empty taken.birth taken.taken placed.1 placed.2 pushed uncovered (omega (arith, nodes, c.requires.net, c.if-prove.false, c.count-count.ensures.count));
-      room_for_all = omega (arith, size, c.push.ensures.lower_bound, c.self.invariant.room_for_all);
-      few = omega (arith, size, c.self.invariant.few);
+      earlier = rw longer (more_earlier (entries_of c.self.inside.pool.slots c.self.inside.ids.items) c.args.e c.self.invariant.earlier (follows_below (the_network c.args.net.now) _ _ c.args.e.why (the_bound c.args.e.bound) follows));
+      room = record {
+        for_ids = omega (arith, size, c.push.ensures.lower_bound, room.for_ids);
+        for_marks = omega (arith, size, room.for_marks);
+        for_places = omega (arith, size, room.for_places);
+        for_steps = omega (arith, size, room.for_steps);
+        few = omega (arith, size, room.few);
+      };
     }
 
 pub returns-clause-pushed : goal.returns-clause-pushed

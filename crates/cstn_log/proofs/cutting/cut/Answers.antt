@@ -1,0 +1,72 @@
+use Rattle.std.proofs.Common.{suc, ◌≡◌, ◌+◌, ◌<◌, get_or, ◌∷◌, [], length, arith, refl, ◌∙◌, ap, length-append}
+use Rattle.std.proofs.lemmas.List.{length-map}
+use Rattle.std.proofs.lemmas.Option.{slice_get-get_or}
+use Rattle.cstn_label.specs.Bounds.{Bound}
+use Rattle.cstn_rules.specs.declared.entries.Why.{Why}
+use Rattle.cstn_rules.specs.Derivations.{Entry as TheEntry}
+use Rattle.cstn_rules.specs.Read.{the_entry}
+use Rattle.cstn_log.specs.Kept.{entries_of, stored, no_entry}
+use Rattle.cstn_log.specs.Cuts.{rank, moved}
+use Rattle.cstn_log.proofs.CutLemmas.{rank_marked, rank_unmarked}
+use Rattle.cstn_log.proofs.MarkLemmas.{below_more}
+use Rattle.cstn_log.proofs.StepLemmas.{ranks_step, placed_renumbered, entry_read, cut_step_marked, cut_step_unmarked}
+use Rattle.cstn_log.proofs.cutting.cut.Goals.{then-marks-k, else-marks-k}
+use Rattle.cstn_log.proofs.cutting.cut.Goals as goal
+
+abbrev of_rule : Bound → Why → TheEntry
+of_rule b w = record { bound = b; why = w }
+
+pub moved-requires : goal.moved-requires
+moved-requires c =
+    let L = entries_of c.args.pool.now.slots c.args.ids.now in
+    let k = c.loop-k.k in
+    let e = c.entry_at.result in
+    let pushed = rw c.unwrap.ensures at c.push.ensures.items in
+    let low = c.requires.earlier.below k (the_entry e) (entry_read L k e c.entry_at.ensures.entry) in
+    below_more e.why k (length c.deref.result.now) low (omega (arith, ap length c.deref.ensures.value, ap length pushed, length-append c.loop-k.places.items (c.len.result ∷ []), c.loop-k.invariant.ranks.0))
+
+pub loop-k-preserved : goal.loop-k-preserved
+loop-k-preserved c =
+    let L = entries_of c.args.pool.now.slots c.args.ids.now in
+    let k = c.loop-k.k in
+    let marks = c.args.marks.now in
+    let was = c.loop-k.invariant in
+    let pushed = rw c.unwrap.ensures at c.push.ensures.items in
+    let next : k + 1 ≡ suc k = omega arith in
+    let here : c.len.result ≡ rank marks k = omega (arith, c.len.ensures, c.loop-k.steps.ok, was.size) in
+    let ranks = ranks_step marks c.loop-k.places.items k c.len.result was.ranks here in
+    elim c.if-marks-k.branch [
+      | then-marks-k w ↦
+          let e = w.entry_at.result in
+          let low = c.requires.earlier.below k (the_entry e) (entry_read L k e w.entry_at.ensures.entry) in
+          let put = rw w.unwrap-then-marks-k.ensures at w.push-then-marks-k.ensures.items in
+          let places = w.deref.ensures.value in
+          let rule = placed_renumbered marks c.push.new.self.items k (k + 1) e.why (rw (pushed, next) ranks) low (omega arith) in
+          let is : the_entry w.moved.result ≡ moved marks (the_entry e) = (rw places at w.moved.ensures) ∙ ap (of_rule (the_entry e).bound) rule in
+          let step = cut_step_marked marks L c.loop-k.steps.items k e w.moved.result w.entry_at.ensures.entry w.if-marks-k.true is in
+          let up = rank_marked marks k w.if-marks-k.true in
+          let long = length-append c.loop-k.steps.items (w.moved.result ∷ []) in
+          record {
+            end = refl;
+            ranks = rw (pushed, next) ranks;
+            size = rw (w.steps-is, put, next) (omega (arith, long, was.size, up));
+            at_most = rw (w.steps-is, put) (omega (arith, long, was.at_most));
+            place_room = omega (arith, c.push.ensures.lower_bound, was.place_room);
+            step_room = rw w.steps-is (omega (arith, w.push-then-marks-k.ensures.lower_bound, was.step_room));
+            reach = rw (w.steps-is, put, next) (step ∙ was.reach);
+          }
+      | else-marks-k w ↦
+          let inside : k < length (entries_of c.args.pool.now.slots c.args.ids.now) = omega (arith, c.loop-k-test.true, length-map c.args.ids.now (stored c.args.pool.now.slots)) in
+          let there = slice_get-get_or L k no_entry inside in
+          let step = cut_step_unmarked marks L c.loop-k.steps.items k (get_or L k no_entry) there w.if-marks-k.false in
+          let up = rank_unmarked marks k w.if-marks-k.false in
+          record {
+            end = refl;
+            ranks = rw (pushed, next) ranks;
+            size = rw (w.steps-is, next) (omega (arith, was.size, up));
+            at_most = rw w.steps-is (omega (arith, was.at_most));
+            place_room = omega (arith, c.push.ensures.lower_bound, was.place_room);
+            step_room = rw w.steps-is was.step_room;
+            reach = rw (w.steps-is, next) (step ∙ was.reach);
+          }
+    ]

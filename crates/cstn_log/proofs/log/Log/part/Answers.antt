@@ -1,0 +1,16 @@
+use Rattle.std.proofs.Common.{sym, subst}
+use Rattle.cstn_rules.specs.Derivations.{IsDerivation, IsRefutation}
+use Rattle.cstn_log.specs.Entries.{the_entries}
+use Rattle.cstn_log.proofs.DerivedLemmas.{ok_then}
+use Rattle.cstn_log.proofs.MarkLemmas.{part_derivation, part_refutation}
+use Rattle.cstn_log.proofs.log.Log.part.Goals as goal
+
+pub returns-clause-derivation : goal.returns-clause-derivation
+returns-clause-derivation c = λ net derivation.
+    ok_then c.last_and_ancestors.result c.last_and_ancestors.ensures (λ steps is.
+    subst (λ xs. IsDerivation net xs) (sym is) (part_derivation net (the_entries c.args.self.now.entries) derivation))
+
+pub returns-clause-refutation : goal.returns-clause-refutation
+returns-clause-refutation c = λ net refutation.
+    ok_then c.last_and_ancestors.result c.last_and_ancestors.ensures (λ steps is.
+    subst (λ xs. IsRefutation net xs) (sym is) (part_refutation net (the_entries c.args.self.now.entries) refutation))
