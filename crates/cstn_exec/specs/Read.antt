@@ -1,0 +1,35 @@
+-- How the values of the program are read.
+use Rattle.std.specs.Prelude.{ℕ, List, Option, Some, None, Result, Ok, Err, map}
+use Rattle.cstn_label.specs.declared.bounds.Bound.{Bound}
+use Rattle.cstn_label.specs.Bounds.{Bound as TheBound}
+use Rattle.cstn_label.specs.Read.{the_bound}
+use Rattle.cstn_net.specs.Read.{NetworkParts}
+use Rattle.cstn_exec.specs.declared.errors.ExecError.{ExecError}
+use Rattle.cstn_exec.specs.declared.errors.ExecError.TheVariants.{Past, Late, Awaiting, NotExecuted, Known, Done}
+use Rattle.cstn_exec.specs.Runs.{Run}
+use Rattle.cstn_exec.specs.Moves.{Refusal, Done as AllDone, Past as PastNow, Late as PastDue, Awaiting as StillAwaiting, NotExecuted as NotObserved, Known as KnownAlready}
+
+-- what contracts see of an executive: the network and the bounds of its plan, its run, and the time-points that were named at
+-- the last accepted moment
+pub record ExecParts : Type 0 where
+  pub net : NetworkParts
+  pub bounds : List Bound
+  pub run : Run
+  pub named : List ℕ
+
+abbrev pub the_bounds : List Bound → List TheBound
+the_bounds bounds = map the_bound bounds
+
+-- what an error tells
+abbrev pub the_refusal : ExecError → Refusal
+the_refusal Done = AllDone
+the_refusal (Past now) = PastNow now
+the_refusal (Late due) = PastDue due
+the_refusal (Awaiting prop) = StillAwaiting prop.index
+the_refusal (NotExecuted prop) = NotObserved prop.index
+the_refusal (Known prop value) = KnownAlready prop.index value
+
+-- what a call was refused for, if it was
+abbrev pub refusal_of : {X : Type 0} → Result X ExecError → Option Refusal
+refusal_of (Ok x) = None
+refusal_of (Err e) = Some (the_refusal e)

@@ -1,0 +1,6 @@
+//! The executive: takes moments and outcomes one at a time, and names at each moment the time-points whose least moment it is.
+#![tactic(auto)]
+
+mod errors;
+
+pub use errors::ExecError;
