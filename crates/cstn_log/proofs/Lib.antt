@@ -3,3 +3,7 @@ pub mod LiveLemmas
 pub mod KeptLemmas
 pub mod PushLemmas
 pub mod DerivedLemmas
+pub mod FinishLemmas
+pub mod AskedLemmas
+pub mod Strategies
+pub mod PlanLemmas

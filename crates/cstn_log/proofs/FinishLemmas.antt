@@ -1,16 +1,11 @@
 -- Conclusions that are finished.
-use Rattle.std.proofs.Common.{ℕ, zero, suc, ◌⊎◌, inl, inr, ◌≤◌, Option, Some, None, arith}
-use Rattle.std.specs.Prelude.{ℤ, ◌≤ℤ◌, ◌<ℤ◌}
-use Rattle.std.proofs.lemmas.Int.{by_lt_z}
+use Rattle.std.proofs.Common.{ℕ, zero, suc, ◌≤◌, Option, Some, None, arith}
 use Rattle.cstn_label.specs.declared.marks.Mark.{Mark}
 use Rattle.cstn_label.specs.declared.marks.Mark.TheVariants.{Absent}
 use Rattle.cstn_label.specs.Labels.{Label}
 use Rattle.cstn_label.proofs.LabelLemmas.{kept_without}
 use Rattle.cstn_net.specs.Networks.{Network, limit}
 use Rattle.cstn_rules.specs.Rules.{without_own}
-
-pub by_order : (a b : ℤ) → (a <ℤ b) ⊎ (b ≤ℤ a)
-by_order a b = by_lt_z a b inl inr
 
 pub limit_deadline : (net : Network) (x : ℕ) → limit net x ≤ net.deadline
 limit_deadline net zero = omega arith

@@ -15,11 +15,11 @@ use Rattle.cstn_net.specs.Strategies.{Table, Meets, IsStrategy, IsLeast, IsNever
 use Rattle.cstn_label.specs.Bounds.{Bound}
 use Rattle.cstn_rules.specs.Rules.{finished}
 use Rattle.cstn_rules.specs.Closed.{IsClosed}
-use Rattle.cstn_check.specs.Asked.{AllSound, IsHeldBack, asked}
+use Rattle.cstn_log.specs.Asked.{AllSound, IsHeldBack, asked}
 use Rattle.cstn_net.proofs.Knowledge.{observer_within, known_or_not}
-use Rattle.cstn_check.proofs.FinishLemmas.{kept_own}
+use Rattle.cstn_log.proofs.FinishLemmas.{kept_own}
 use Rattle.cstn_net.proofs.Dynamic.{one_sided}
-use Rattle.cstn_check.proofs.AskedLemmas.{asked_upper, asked_attained, holds_from}
+use Rattle.cstn_log.proofs.AskedLemmas.{asked_upper, asked_attained, holds_from}
 
 module _ (net : Network) (bounds : List Bound) (wf : IsNetwork net) (closed : IsClosed net bounds) where
   table : Table
