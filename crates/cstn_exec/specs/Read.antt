@@ -1,8 +1,6 @@
 -- How the values of the program are read.
-use Rattle.std.specs.Prelude.{ℕ, List, Option, Some, None, Result, Ok, Err, map}
+use Rattle.std.specs.Prelude.{ℕ, List, Option, Some, None, Result, Ok, Err}
 use Rattle.cstn_label.specs.declared.bounds.Bound.{Bound}
-use Rattle.cstn_label.specs.Bounds.{Bound as TheBound}
-use Rattle.cstn_label.specs.Read.{the_bound}
 use Rattle.cstn_net.specs.Read.{NetworkParts}
 use Rattle.cstn_exec.specs.declared.errors.ExecError.{ExecError}
 use Rattle.cstn_exec.specs.declared.errors.ExecError.TheVariants.{Past, Late, Awaiting, NotExecuted, Known, Done}
@@ -16,9 +14,6 @@ pub record ExecParts : Type 0 where
   pub bounds : List Bound
   pub run : Run
   pub named : List ℕ
-
-abbrev pub the_bounds : List Bound → List TheBound
-the_bounds bounds = map the_bound bounds
 
 -- what an error tells
 abbrev pub the_refusal : ExecError → Refusal

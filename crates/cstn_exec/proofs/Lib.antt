@@ -1,0 +1,4 @@
+pub mod Ranges
+pub mod Knowing
+
+pub mod Running
