@@ -2,7 +2,7 @@
 use Rattle.std.proofs.Common.{ℕ, ◌≡◌, ◌≢◌, ◌⊎◌, inl, inr, ◌+◌, ◌<◌, ◌≤◌, Bool, true, false, cond, ◌&&◌, List, Option, Some, None, arith, refl, sym, subst, ap, ◌∙◌}
 use Rattle.std.specs.Prelude.{slice_index_or, length, is_none, nat_lt, if◌then◌else◌}
 use Rattle.std.specs.List.{position, range_with_len}
-use Rattle.std.specs.Option.{option_and_then}
+use Rattle.std.specs.Option.{option_and_then, option_map}
 use Rattle.std.proofs.lemmas.Bool.{cases_Bool, cases_lt, cond-true, cond-false, and_parts, and_from, eqb-true, eq-eqb, lt-ltb, ltb-true, false_from_ne_true, false≢true}
 use Rattle.std.proofs.lemmas.List.{get_or_past}
 use Rattle.std.proofs.lemmas.List.Quantifiers.{position-Some}
@@ -12,7 +12,7 @@ use Rattle.cstn_net.specs.Networks.{Network, IsNetwork, Observes, count}
 use Rattle.cstn_net.specs.Read.{is_prop}
 use Rattle.cstn_net.proofs.Knowledge.{observer_within}
 use Rattle.cstn_log.proofs.AskedLemmas.{fits_true, true_fits}
-use Rattle.cstn_exec.specs.Runs.{Run, executed_at, outcome_of, observed_at, is_past, is_ready, known, is_awaited, fits_known, is_possible}
+use Rattle.cstn_exec.specs.Runs.{Run, executed_at, outcome_of, observed_at, is_before, is_ready, known, is_awaited, fits_known, is_possible}
 use Rattle.cstn_exec.proofs.Ranges.{each_passes, all_pass}
 
 pub some_within : {X : Type 0} (xs : List (Option X)) (k : ℕ) (x : X) → slice_index_or xs k None ≡ Some x → k < length xs
@@ -47,6 +47,13 @@ module _ (net : Network) (wf : IsNetwork net) where
   pub observed_where : (run : Run) (x p : ℕ) → Observes net x p → observed_at net run p ≡ executed_at run x
   observed_where run x p o = ap (λ o. option_and_then (executed_at run) o) (observer_at x p o)
 
+  pub observed_nowhere : (run : Run) (p : ℕ) → ((x : ℕ) → Observes net x p → ⊥) → observed_at net run p ≡ None
+  observed_nowhere run p nowhere = go (position (is_prop p) net.observes) refl
+    where
+      go : (o : Option ℕ) → position (is_prop p) net.observes ≡ o → observed_at net run p ≡ None
+      go None e = ap (λ o. option_and_then (executed_at run) o) e
+      go (Some x) e = absurd (nowhere x (at_observer x p e))
+
   -- the observer of p was executed, and its reaction has passed before u
   pub record Ready (run : Run) (u p : ℕ) : Type 0 where
     pub observer : ℕ
@@ -69,7 +76,7 @@ module _ (net : Network) (wf : IsNetwork net) where
   ready_from run u p h = go (observed_at net run p) refl
     where
       go : (o : Option ℕ) → observed_at net run p ≡ o → Ready run u p
-      go None none = absurd (false≢true (subst (λ o. is_past u (net.reaction p) o ≡ true) none h))
+      go None none = absurd (false≢true (subst (λ o. is_before u (option_map (λ m. m + net.reaction p) o) ≡ true) none h))
       go (Some m) some =
           let at = observed_from run p m some in
           record {
@@ -77,13 +84,13 @@ module _ (net : Network) (wf : IsNetwork net) where
             moment = m;
             observes = at.1;
             executed = at.2;
-            passed = ltb-true (m + net.reaction p) u (subst (λ o. is_past u (net.reaction p) o ≡ true) some h);
+            passed = ltb-true (m + net.reaction p) u (subst (λ o. is_before u (option_map (λ m. m + net.reaction p) o) ≡ true) some h);
           }
 
   pub ready_to : (run : Run) (u p : ℕ) → Ready run u p → is_ready net run u p ≡ true
   ready_to run u p r =
       let at : observed_at net run p ≡ Some r.moment = observed_where run r.observer p r.observes ∙ r.executed in
-      subst (λ o. is_past u (net.reaction p) o ≡ true) (sym at) (lt-ltb (r.moment + net.reaction p) u r.passed)
+      subst (λ o. is_before u (option_map (λ m. m + net.reaction p) o) ≡ true) (sym at) (lt-ltb (r.moment + net.reaction p) u r.passed)
 
   pub known_from : (run : Run) (u p : ℕ) (v : Bool) → known net run u p ≡ Some v → Ready run u p × (outcome_of run p ≡ Some v)
   known_from run u p v e = elim (cases_Bool (is_ready net run u p)) [
@@ -131,7 +138,7 @@ module _ (net : Network) (wf : IsNetwork net) where
       awaited_to run w p (ready_later run u w p upto from.0) from.1
 
 -- a label is possible exactly where each of its marks fits what is known
-pub possible_from : (net : Network) (run : Run) (u : ℕ) (a : Label) → length run.outcomes ≡ 52 → is_possible net run u a ≡ true →
+pub possible_from : (net : Network) (run : Run) (u : ℕ) (a : Label) → length run.outcomes ≡ 52 → is_possible (known net run u) a ≡ true →
     (p : ℕ) (v : Bool) → known net run u p ≡ Some v → MarkFits v (a p)
 unfolding is_possible
 possible_from net run u a size h p v k =
@@ -145,7 +152,7 @@ possible_from net run u a size h p v k =
     is_outcome false o e = let f : ⊥ = cc in absurd f
 
 pub possible_to : (net : Network) (run : Run) (u : ℕ) (a : Label) → ((p : ℕ) (v : Bool) → known net run u p ≡ Some v → MarkFits v (a p)) →
-    is_possible net run u a ≡ true
+    is_possible (known net run u) a ≡ true
 unfolding is_possible
 possible_to net run u a h = all_pass (λ q. fits_known (known net run u q) (a q)) 0 52 (λ p from upto. go p (known net run u p) refl)
   where

@@ -1,7 +1,7 @@
 -- Searches through a range of numbers.
 use Rattle.std.proofs.Common.{ℕ, zero, suc, ◌≡◌, ◌⊎◌, inl, inr, ◌+◌, ◌<◌, ◌≤◌, Bool, true, false, Option, Some, None, arith, refl, sym, subst, ◌∙◌}
 use Rattle.std.specs.List.{find, list_all, list_any, range_with_len}
-use Rattle.std.proofs.lemmas.Bool.{cases_Bool, cases_eq, cases_order, cond-true, cond-false, and_parts, and_from, or_parts, or_cases, or_from, both_ways, false≢true}
+use Rattle.std.proofs.lemmas.Bool.{cases_Bool, cases_eq, cases_order, cond-true, cond-false, and_parts, and_from, or_parts, or_cases, or_from, or_left, or_right, both_ways, false≢true}
 
 -- k is the first of the n numbers from a on that passes
 pub record IsFirstFrom (test : ℕ → Bool) (a n k : ℕ) : Type 0 where
@@ -117,4 +117,11 @@ some_passes test a (suc n) e = elim (or_cases (test a) (list_any test (range_wit
       let from = s.1 in
       let upto = s.2 in
       (s.0, omega arith, omega arith, s.3)
+]
+
+pub passing_at : (test : ℕ → Bool) (a n k : ℕ) → a ≤ k → k < a + n → test k ≡ true → list_any test (range_with_len a n) ≡ true
+passing_at test a zero k from upto h = absurd (omega arith)
+passing_at test a (suc n) k from upto h = elim (cases_eq k a) [
+  | inl same ↦ or_left (test a) (list_any test (range_with_len (a + 1) n)) (subst (λ i. test i ≡ true) same h)
+  | inr other ↦ or_right (test a) (list_any test (range_with_len (a + 1) n)) (passing_at test (a + 1) n k (omega arith) (omega arith) h)
 ]

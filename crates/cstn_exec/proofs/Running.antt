@@ -3,7 +3,7 @@ use Rattle.std.proofs.Common.{ℕ, zero, suc, ◌≡◌, ◌⊎◌, inl, inr, �
 use Rattle.std.specs.Prelude.{pos, ◌<ℤ◌, ◌≤ℤ◌, ◌↔◌, length, is_none, is_some, nat_lt, ◌==◌, slice_index_or}
 use Rattle.std.specs.List.{Contains, list_any, range_with_len}
 use Rattle.std.proofs.lemmas.Int.{ints}
-use Rattle.std.proofs.lemmas.Bool.{cases_lt, cases_Bool, or_parts, and_cases, and_parts, and_from, eqb-true, eq-eqb, false_from_ne_true, true≢false, ltb-true, ltb-false, not-false, not-true, lt-ltb, le-ltb}
+use Rattle.std.proofs.lemmas.Bool.{cases_lt, cases_Bool, or_parts, and_cases, and_parts, and_from, eqb-true, eq-eqb, false_from_ne_true, true≢false, both_ways, ltb-true, ltb-false, not-false, not-true, lt-ltb, le-ltb}
 use Rattle.cstn_label.specs.Labels.{Scenario, Label, MarkFits}
 use Rattle.cstn_label.specs.Bounds.{Bound}
 use Rattle.cstn_net.specs.Networks.{Network, IsNetwork, IsWellFormed, Observes, count}
@@ -14,10 +14,10 @@ use Rattle.cstn_log.specs.Plans.{IsEarliest}
 use Rattle.cstn_log.proofs.AskedLemmas.{greatest_upper, greatest_attained}
 use Rattle.cstn_exec.specs.Runs.{Run, next, executed_at, outcome_of, known, is_awaited, awaited, is_possible, earliest, is_free, has_work}
 use Rattle.cstn_exec.specs.Right.{AgreesKnown, IsRight}
-use Rattle.cstn_exec.proofs.Ranges.{find_none, each_fails}
+use Rattle.cstn_exec.proofs.Ranges.{find_first, find_none, each_fails}
 use Rattle.cstn_exec.proofs.Knowing.{Ready, some_within, ready_from, known_from, known_to, known_later, awaited_from, awaited_to, observed_where, possible_from, possible_to}
 
-cases_option : {X : Type 0} (o : Option X) → (o ≡ None) ⊎ ((x : X) × (o ≡ Some x))
+pub cases_option : {X : Type 0} (o : Option X) → (o ≡ None) ⊎ ((x : X) × (o ≡ Some x))
 cases_option None = inl refl
 cases_option (Some x) = inr (x, refl)
 
@@ -35,6 +35,13 @@ module _ (net : Network) (bounds : List Bound) (run : Run) (wf : IsWellFormed ne
       let letter = wf.letters ready.observer p ready.observes in
       let fails = find_none (is_awaited net run u) 0 52 none p (omega arith) (omega arith) in
       true≢false (sym h ∙ fails)
+
+  pub awaited_least : (u p : ℕ) → awaited net run u ≡ Some p →
+      (is_awaited net run u p ≡ true) × ((q : ℕ) → q < p → is_awaited net run u q ≡ true → ⊥)
+  unfolding awaited
+  awaited_least u p e =
+      let first = find_first (is_awaited net run u) 0 52 p e in
+      (first.passes, λ q before h. both_ways (is_awaited net run u q) (first.before q (omega arith) before) h)
 
   pub held_unless_free : (t x : ℕ) → is_free net bounds run t x ≡ false → executed_at run x ≡ None → t < earliest net bounds run (t + 1) x
   held_unless_free t x h none = elim (and_cases (is_none (executed_at run x)) (not (nat_lt t (earliest net bounds run (t + 1) x))) h) [
@@ -66,13 +73,13 @@ IsQuiet net bounds run t = (u : ℕ) → next run ≤ u → u < t → has_work n
 
 module _ (net : Network) (bounds : List Bound) (table : Table) (wf : IsWellFormed net) (plan : IsEarliest net bounds table)
     (run : Run) (right : IsRight net run) where
-  executed_is : (s : Scenario) (x m : ℕ) → AgreesKnown net run (next run) s → executed_at run x ≡ Some m → table s x ≡ m
+  pub executed_is : (s : Scenario) (x m : ℕ) → AgreesKnown net run (next run) s → executed_at run x ≡ Some m → table s x ≡ m
   executed_is s x m agrees e =
       let size = right.moments in
       let inside = some_within run.moments x m e in
       one_least net s x (table s x) m (plan.least s x (omega arith)) (right.executed s x m agrees e)
 
-  waits_from : (s : Scenario) (x : ℕ) → AgreesKnown net run (next run) s → x < count net → executed_at run x ≡ None → next run ≤ table s x
+  pub waits_from : (s : Scenario) (x : ℕ) → AgreesKnown net run (next run) s → x < count net → executed_at run x ≡ None → next run ≤ table s x
   waits_from s x agrees here e =
       let w = right.waiting s x agrees here e in
       let same = one_least net s x (table s x) w.0 (plan.least s x here) w.2 in
@@ -113,11 +120,11 @@ module _ (net : Network) (bounds : List Bound) (table : Table) (wf : IsWellForme
         ((p : ℕ) → is_awaited net run (t + 1) p ≡ true → ⊥) → (x : ℕ) → x < count net →
         t < earliest net bounds run (t + 1) x → t < table s x
     held_later rest none x here held =
-        let test : Bound → Bool = λ b. (b.node == x) && is_possible net run (t + 1) b.label in
+        let test : Bound → Bool = λ b. (b.node == x) && is_possible (known net run (t + 1)) b.label in
         elim (greatest_attained test bounds) [
           | inl zero_is ↦ absurd (omega arith)
           | inr a ↦
-              let both = and_parts (a.bound.node == x) (is_possible net run (t + 1) a.bound.label) a.passes in
+              let both = and_parts (a.bound.node == x) (is_possible (known net run (t + 1)) a.bound.label) a.passes in
               let least = a.least in
               (plan.held s t x here).0 (record {
                 bound = a.bound;
@@ -134,9 +141,9 @@ module _ (net : Network) (bounds : List Bound) (table : Table) (wf : IsWellForme
     later_held : (x : ℕ) → x < count net → t < table s x → t < earliest net bounds run (t + 1) x
     later_held x here later =
         let held = (plan.held s t x here).1 later in
-        let test : Bound → Bool = λ b. (b.node == x) && is_possible net run (t + 1) b.label in
+        let test : Bound → Bool = λ b. (b.node == x) && is_possible (known net run (t + 1)) b.label in
         let upper = greatest_upper test bounds held.bound held.in_list.0 held.in_list.1 held.in_list.2
-        (and_from (held.bound.node == x) (is_possible net run (t + 1) held.bound.label) (eq-eqb held.bound.node x held.node)
+        (and_from (held.bound.node == x) (is_possible (known net run (t + 1)) held.bound.label) (eq-eqb held.bound.node x held.node)
         (possible_to net run (t + 1) held.bound.label (λ p v k.
         let ready = (known_from net wf.network run (t + 1) p v k).0 in
         let at = executed_is s ready.observer ready.moment agrees_now ready.executed in

@@ -1,9 +1,9 @@
 -- When the state of a run is right, and when a moment is due.
-use Rattle.std.specs.Prelude.{ℕ, ◌≡◌, ◌+◌, ◌<◌, ◌≤◌, ◌⊎◌, Bool, true, List, Option, Some, None, length}
+use Rattle.std.specs.Prelude.{ℕ, ◌≡◌, ◌+◌, ◌<◌, ◌≤◌, ◌⊎◌, Bool, true, List, Option, Some, None, length, pos, ◌-ℤ◌, ◌≤ℤ◌}
 use Rattle.std.specs.List.{Contains}
 use Rattle.cstn_label.specs.Labels.{Scenario, Holds}
-use Rattle.cstn_net.specs.Networks.{Network, count}
-use Rattle.cstn_net.specs.Strategies.{Schedule, Table, IsStrategy, IsLeast, Meets}
+use Rattle.cstn_net.specs.Networks.{Network, Constraint, count}
+use Rattle.cstn_net.specs.Strategies.{Table, IsStrategy, IsLeast}
 use Rattle.cstn_exec.specs.Runs.{Run, next, executed_at, outcome_of, observed_at, known, is_awaited}
 
 -- the scenario agrees with what is known before u
@@ -42,8 +42,11 @@ pub record IsDue (net : Network) (run : Run) (t : ℕ) : Type 0 where
 abbrev pub IsDone : Network → Run → Type 0
 IsDone net run = (x : ℕ) → x < count net → (m : ℕ) × (executed_at run x ≡ Some m)
 
--- the moments of the run are those of one strategy in each scenario that agrees with what is known
+-- in each scenario that agrees with what is known, the moments of the run are those of one strategy and meet each constraint
+-- whose label holds
 pub record IsCarriedOut (net : Network) (run : Run) : Type 0 where
   pub table : Table
   pub strategy : IsStrategy net table
   pub moments : (s : Scenario) (x : ℕ) → AgreesKnown net run (next run) s → x < count net → executed_at run x ≡ Some (table s x)
+  pub meets : (s : Scenario) (c : Constraint) (from to : ℕ) → AgreesKnown net run (next run) s → Contains net.constraints c →
+      Holds s c.label → executed_at run c.from ≡ Some from → executed_at run c.to ≡ Some to → (pos to -ℤ pos from) ≤ℤ c.most

@@ -1,7 +1,7 @@
 -- Runs of a network: what was executed and seen, what is known of it, and when there is something to be done.
 use Rattle.std.specs.Prelude.{ℕ, ◌+◌, ◌-◌, Bool, true, false, ◌&&◌, ◌||◌, ◌==◌, not, nat_lt, is_some, is_none, List, Option, Some, None, replicate, slice_index_or, if◌then◌else◌}
 use Rattle.std.specs.List.{position, find, filter, list_all, list_any, range_with_len}
-use Rattle.std.specs.Option.{option_and_then}
+use Rattle.std.specs.Option.{option_and_then, option_map}
 use Rattle.cstn_label.specs.declared.marks.Mark.{Mark}
 use Rattle.cstn_label.specs.Labels.{Label}
 use Rattle.cstn_label.specs.Bounds.{Bound}
@@ -45,13 +45,17 @@ is_done run = list_all is_some run.moments
 abbrev pub observed_at : Network → Run → ℕ → Option ℕ
 observed_at net run p = option_and_then (executed_at run) (position (is_prop p) net.observes)
 
-abbrev pub is_past : ℕ → ℕ → Option ℕ → Bool
-is_past u reaction None = false
-is_past u reaction (Some m) = nat_lt (m + reaction) u
+-- the moment from which the outcome of p is known or awaited: its reaction after its observer was executed
+abbrev pub ready_at : Network → Run → ℕ → Option ℕ
+ready_at net run p = option_map (λ m. m + net.reaction p) (observed_at net run p)
+
+abbrev pub is_before : ℕ → Option ℕ → Bool
+is_before u None = false
+is_before u (Some m) = nat_lt m u
 
 -- before u, the observer of p was executed and its reaction has passed
 abbrev pub is_ready : Network → Run → ℕ → ℕ → Bool
-is_ready net run u p = is_past u (net.reaction p) (observed_at net run p)
+is_ready net run u p = is_before u (ready_at net run p)
 
 -- the value of p that is known before u, if it is
 abbrev pub known : Network → Run → ℕ → ℕ → Option Bool
@@ -71,13 +75,13 @@ abbrev pub fits_known : Option Bool → Mark → Bool
 fits_known None m = true
 fits_known (Some v) m = fits v m
 
--- what is known before u rules out no mark of the label
-unfoldable pub is_possible : Network → Run → ℕ → Label → Bool
-is_possible net run u a = list_all (λ p. fits_known (known net run u p) (a p)) (range_with_len 0 52)
+-- the values that are known rule out no mark of the label
+unfoldable pub is_possible : (ℕ → Option Bool) → Label → Bool
+is_possible values a = list_all (λ p. fits_known (values p) (a p)) (range_with_len 0 52)
 
 -- the greatest moment that the bounds on x ask for whose labels are possible by what is known before u
 abbrev pub earliest : Network → List Bound → Run → ℕ → ℕ → ℕ
-earliest net bounds run u x = greatest (λ b. (b.node == x) && is_possible net run u b.label) bounds
+earliest net bounds run u x = greatest (λ b. (b.node == x) && is_possible (known net run u) b.label) bounds
 
 -- x isn't executed, and by what is known at t no bound asks for a later moment
 abbrev pub is_free : Network → List Bound → Run → ℕ → ℕ → Bool

@@ -2,5 +2,7 @@
 #![tactic(auto)]
 
 mod errors;
+mod executive;
 
 pub use errors::ExecError;
+pub use executive::Executive;
