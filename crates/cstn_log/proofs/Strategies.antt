@@ -11,7 +11,7 @@ use Rattle.cstn_label.specs.declared.marks.Mark.TheVariants.{Absent}
 use Rattle.cstn_label.proofs.MarkLemmas.{mark_fits_within, mark_fits_join, absent_or_not, fits_absent}
 use Rattle.cstn_label.proofs.LabelLemmas.{kept_without, plain_from_holds, holds_joined, fits_off}
 use Rattle.cstn_net.specs.Networks.{Network, IsNetwork, IsConstraint, Constraint, Observes, count, limit}
-use Rattle.cstn_net.specs.Strategies.{Table, Meets, IsStrategy, IsLeast, IsNeverLater}
+use Rattle.cstn_net.specs.Strategies.{Meets, IsStrategy, IsLeast, IsNeverLater}
 use Rattle.cstn_label.specs.Bounds.{Bound}
 use Rattle.cstn_rules.specs.Rules.{finished}
 use Rattle.cstn_rules.specs.Closed.{IsClosed}
@@ -22,9 +22,6 @@ use Rattle.cstn_net.proofs.Dynamic.{one_sided}
 use Rattle.cstn_log.proofs.AskedLemmas.{asked_upper, asked_attained, holds_from}
 
 module _ (net : Network) (bounds : List Bound) (wf : IsNetwork net) (closed : IsClosed net bounds) where
-  table : Table
-  table = asked net bounds
-
   -- a bound whose label holds doesn't refute, so no moment is above its limit
   within : (s : Scenario) (x : ℕ) → x < count net → asked net bounds s x ≤ limit net x
   within s x here =

@@ -37,7 +37,8 @@ impl Plan {
         requires few { length bounds.items < 2 ^ 32 }
         ensures adopt { result ≡ record { net = net; bounds = bounds.items } }
     {
-        is_well_formed(&net);
+        // Every network is well-formed.
+        prove!(0 < net.count());
         Plan { net, bounds }
     }
 
@@ -135,9 +136,5 @@ impl SoundPlan {
     }
 }
 
-// A network is well-formed.
-fn is_well_formed(net: &Network)
-    ensures { IsWellFormed (the_network net.now) }
-{
-    prove!(0 < net.count());
-}
+#[cfg(test)]
+mod tests;

@@ -10,4 +10,4 @@ use Rattle.cstn_log.proofs.plans.SoundPlan.bound.Goals as goal
 pub returns-clause-holds : goal.returns-clause-holds
 returns-clause-holds c =
     subst (λ (v : PlanParts). (table : Table) → IsStrategy (the_network v.net) table → HoldsIn (the_network v.net) table (the_bound c.bound.result)) c.self.view_is
-    (λ table strategy. c.self.invariant table strategy (the_bound c.bound.result) (bound_there c.self.inside.plan.bounds c.args.k c.bound.result c.bound.ensures.bound))
+    (λ table strategy. c.self.invariant table strategy (the_bound c.bound.result) (bound_there c.self.inside.plan.bounds _ c.bound.result c.bound.ensures.bound))
