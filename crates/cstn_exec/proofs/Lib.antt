@@ -6,3 +6,4 @@ pub mod Naming
 pub mod Moving
 pub mod Dues
 pub mod Steps
+pub mod Refusals

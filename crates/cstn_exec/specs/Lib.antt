@@ -2,3 +2,4 @@ pub mod Runs
 pub mod Moves
 pub mod Right
 pub mod Read
+pub mod Examples

@@ -50,3 +50,13 @@ pub record IsCarriedOut (net : Network) (run : Run) : Type 0 where
   pub moments : (s : Scenario) (x : ℕ) → AgreesKnown net run (next run) s → x < count net → executed_at run x ≡ Some (table s x)
   pub meets : (s : Scenario) (c : Constraint) (from to : ℕ) → AgreesKnown net run (next run) s → Contains net.constraints c →
       Holds s c.label → executed_at run c.from ≡ Some from → executed_at run c.to ≡ Some to → (pos to -ℤ pos from) ≤ℤ c.most
+
+-- u may still be accepted, and is below t
+pub record IsBetween (run : Run) (u t : ℕ) : Type 0 where
+  pub from : next run ≤ u
+  pub below : u < t
+
+-- p is the least proposition that is awaited at t
+pub record IsFirstAwaited (net : Network) (run : Run) (t p : ℕ) : Type 0 where
+  pub awaited : is_awaited net run (t + 1) p ≡ true
+  pub least : (q : ℕ) → q < p → is_awaited net run (t + 1) q ≡ true → ⊥

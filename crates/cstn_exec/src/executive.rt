@@ -125,6 +125,9 @@ impl Executive {
         ensures refused { refusal_of result ≡ moment_refusal (the_network self.old.net) (the_bounds self.old.bounds) self.old.run t }
         ensures moved { OnOk result (self.new ≡ record self.old { run = moved (the_network self.old.net) (the_bounds self.old.bounds) self.old.run t; named = named (the_network self.old.net) (the_bounds self.old.bounds) self.old.run t }) }
         ensures same { OnErr result (self.new ≡ self.old) }
+
+        ensures named { OnOk result ((x : ℕ) → Contains self.new.named x ↔ IsCalled (the_network self.old.net) self.old.run t x) }
+        ensures ascending { OnOk result (IsStrictlyIncreasing self.new.named) }
     {
         if let Some(refusal) = self.can(t) {
             return Err(refusal);

@@ -3,6 +3,13 @@
 
 mod errors;
 mod executive;
+mod laws;
 
 pub use errors::ExecError;
 pub use executive::Executive;
+pub use laws::{
+    answers_are_known, due_is_exact, refusals_are_right, runs_stay_right, the_named_are_called,
+};
+
+#[cfg(test)]
+mod tests;

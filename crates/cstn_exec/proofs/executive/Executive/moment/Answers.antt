@@ -1,16 +1,18 @@
 use Rattle.std.proofs.Common.{ℕ, Option, List, Some, None, ◌≡◌, ◌≤◌, ◌+◌, ◌<◌, map, length, arith, sym, subst, ap, ◌∙◌}
-use Rattle.std.specs.Prelude.{slice_index_or}
+use Rattle.std.specs.Prelude.{◌↔◌, slice_index_or}
 use Rattle.std.specs.Option.{option_map}
-use Rattle.std.specs.List.{All}
+use Rattle.std.specs.List.{All, Contains}
+use Rattle.std.specs.List.Sorted.{IsStrictlyIncreasing}
 use Rattle.cstn_label.specs.declared.nodes.NodeId.{NodeId}
 use Rattle.cstn_net.specs.Networks.{count}
 use Rattle.cstn_net.specs.Read.{the_network}
 use Rattle.cstn_log.specs.Plans.{the_bounds}
 use Rattle.cstn_exec.specs.Runs.{Run, is_free}
 use Rattle.cstn_exec.specs.Moves.{executed}
-use Rattle.cstn_exec.specs.Right.{IsRight}
+use Rattle.cstn_exec.specs.Right.{IsRight, IsCalled}
 use Rattle.cstn_exec.specs.Read.{ExecParts, the_refusal}
 use Rattle.cstn_exec.proofs.Dues.{accepted_right}
+use Rattle.cstn_exec.proofs.Refusals.{named_called, named_ascend}
 use Rattle.cstn_exec.proofs.Steps.{named_within}
 use Rattle.cstn_exec.proofs.executive.Executive.moment.Goals as goal
 
@@ -44,3 +46,18 @@ invariant_of-self c =
       in_time = omega arith;
       room = c.self.invariant.room;
     }
+
+pub returns-clause-named : goal.returns-clause-named
+returns-clause-named c x =
+    let net = the_network c.args.self.now.net in
+    let bounds = the_bounds c.args.self.now.bounds in
+    let known = c.is_right.ensures in
+    let none = sym c.can.ensures ∙ ap (option_map the_refusal) c.in_default.is in
+    let names = ap (λ (e : ExecParts). e.named) (c.self.view_is ∙ c.name.ensures) in
+    subst (λ (ns : List ℕ). Contains ns x ↔ IsCalled net c.args.self.now.run c.args.t x) (sym names)
+    (named_called net bounds known.earliest.0 c.args.self.now.run c.args.t known.well_formed known.earliest.1 known.right none x)
+
+pub returns-clause-ascending : goal.returns-clause-ascending
+returns-clause-ascending c =
+    subst (λ (ns : List ℕ). IsStrictlyIncreasing ns) (sym (ap (λ (e : ExecParts). e.named) (c.self.view_is ∙ c.name.ensures)))
+    (named_ascend (the_network c.args.self.now.net) (the_bounds c.args.self.now.bounds) c.args.self.now.run c.args.t)
