@@ -1,22 +1,22 @@
 -- The due moment, and the end of a run.
-use Rattle.std.proofs.Common.{ℕ, zero, suc, ◌≡◌, ◌⊎◌, inl, inr, ◌+◌, ◌-◌, ◌<◌, ◌≤◌, Bool, true, false, ◌||◌, List, [], ◌∷◌, Option, Some, None, ltb, arith, refl, sym, subst, ap, ◌∙◌}
-use Rattle.std.specs.Prelude.{◌↔◌, pos, ◌-ℤ◌, ◌≤ℤ◌, length, is_some, slice_index_or, if◌then◌else◌}
+use Rattle.std.proofs.Common.{ℕ, zero, suc, ◌≡◌, inl, inr, ◌+◌, ◌-◌, ◌<◌, ◌≤◌, Bool, true, false, List, [], ◌∷◌, Option, Some, None, ltb, arith, refl, sym, subst, ap, ◌∙◌}
+use Rattle.std.specs.Prelude.{length, is_some, slice_index_or}
 use Rattle.std.proofs.lemmas.Int.{ints}
-use Rattle.std.specs.List.{Contains, find, list_all, list_any, range_with_len, AllPass}
+use Rattle.std.specs.List.{find, list_all, list_any, range_with_len}
 use Rattle.std.proofs.lemmas.Bool.{cases_lt, cases_Bool, or_cases, cond-true, cond-false, true≢false, lt-ltb, le-ltb}
 use Rattle.std.proofs.lemmas.List.Elements.{All-get_or, All-from_get_or}
 use Rattle.std.proofs.lemmas.List.Sums.{AllPass-from_list_all, list_all-from_AllPass}
-use Rattle.cstn_label.specs.Labels.{Scenario, Holds}
+use Rattle.cstn_label.specs.Labels.{Scenario}
 use Rattle.cstn_label.specs.Bounds.{Bound}
-use Rattle.cstn_net.specs.Networks.{Network, Constraint, IsWellFormed, count, limit}
-use Rattle.cstn_net.specs.Strategies.{Table, IsStrategy, IsLeast, Meets}
+use Rattle.cstn_net.specs.Networks.{Network, IsWellFormed, count, limit}
+use Rattle.cstn_net.specs.Strategies.{Table}
 use Rattle.cstn_log.specs.Plans.{IsEarliest}
-use Rattle.cstn_exec.specs.Runs.{Run, after, next, is_done, executed_at, outcome_of, known, is_awaited, awaited, is_free, has_work, due}
-use Rattle.cstn_exec.specs.Moves.{Refusal, Done, Past, Awaiting, Late, moment_refusal, moved, unless_past, unless_awaiting, unless_late}
-use Rattle.cstn_exec.specs.Right.{AgreesKnown, IsRight, IsCalled, HasWork, IsDue, IsDone, IsCarriedOut}
+use Rattle.cstn_exec.specs.Runs.{Run, after, next, is_done, executed_at, outcome_of, awaited, is_free, has_work, due}
+use Rattle.cstn_exec.specs.Moves.{Refusal, Done, Past, Late, moment_refusal, moved, unless_past, unless_awaiting, unless_late}
+use Rattle.cstn_exec.specs.Right.{AgreesKnown, IsRight, HasWork, IsDue, IsDone, IsCarriedOut}
 use Rattle.cstn_exec.proofs.Ranges.{IsFirstFrom, find_first, find_none, found, some_passes}
-use Rattle.cstn_exec.proofs.Knowing.{known_from, some_within}
-use Rattle.cstn_exec.proofs.Running.{IsQuiet, cases_option, agrees_before, awaits_none, awaited_least, executed_is, idle_from, quiet_later, waits_from}
+use Rattle.cstn_exec.proofs.Knowing.{known_from}
+use Rattle.cstn_exec.proofs.Running.{IsQuiet, cases_option, awaits_none, awaited_least, executed_is, idle_from, quiet_later}
 use Rattle.cstn_exec.proofs.Moving.{free_called, called_free, free_parts, moved_right}
 
 -- ---- a scenario with what was seen
@@ -98,8 +98,11 @@ module _ (net : Network) (bounds : List Bound) (table : Table) (wf : IsWellForme
       | inl some ↦ absurd (true≢false (sym some ∙ ap is_some none))
       | inr free ↦
           let x = some_passes (is_free net bounds run t) 0 (count net) free in
-          inr (x.0, free_called net bounds table wf plan run right t from quiet
-          (awaits_none net bounds run wf (t + 1) none) x.0 (let upto = x.2 in omega arith) x.3)
+          inr (
+            x.0,
+            free_called net bounds table wf plan run right t from quiet
+                (awaits_none net bounds run wf (t + 1) none) x.0 (let upto = x.2 in omega arith) x.3,
+          )
     ]
   ]
 

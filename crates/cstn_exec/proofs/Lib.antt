@@ -1,6 +1,5 @@
 pub mod Ranges
 pub mod Knowing
-
 pub mod Running
 pub mod Naming
 pub mod Moving

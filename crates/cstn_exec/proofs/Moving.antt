@@ -1,22 +1,21 @@
 -- The start, accepted moments and accepted outcomes keep a run right.
-use Rattle.std.proofs.Common.{ℕ, zero, suc, ◌≡◌, ◌≢◌, ◌⊎◌, inl, inr, ◌+◌, ◌<◌, ◌≤◌, Bool, true, false, ◌&&◌, List, Option, Some, None, not, arith, refl, sym, subst, ap, ◌∙◌, get_or-set_other, get_or-set_same}
-use Rattle.std.specs.Prelude.{◌↔◌, length, replicate, is_none, nat_lt, slice_index_or, slice_set}
-use Rattle.std.specs.List.{Contains}
-use Rattle.std.proofs.lemmas.Bool.{cases_lt, cases_eq, cases_Bool, and_parts, and_from, and_right, true≢false, ltb-false, not-true, lt-ltb, le-ltb, not_from_true, not_from_false, both_ways}
+use Rattle.std.proofs.Common.{ℕ, ◌≡◌, ◌≢◌, ◌⊎◌, inl, inr, ◌+◌, ◌<◌, ◌≤◌, Bool, true, false, List, Option, Some, None, not, arith, refl, sym, subst, ◌∙◌, get_or-set_other, get_or-set_same}
+use Rattle.std.specs.Prelude.{replicate, is_none, nat_lt, slice_index_or}
+use Rattle.std.proofs.lemmas.Bool.{cases_lt, cases_eq, cases_Bool, and_parts, and_from, true≢false, ltb-false, not-true, le-ltb, not_from_false}
 use Rattle.std.proofs.lemmas.List.{length-replicate, length-set, get_or-replicate, get_or_past}
 use Rattle.cstn_label.specs.Labels.{Scenario}
 use Rattle.cstn_label.specs.Bounds.{Bound}
-use Rattle.cstn_net.specs.Networks.{Network, IsWellFormed, Observes, count}
-use Rattle.cstn_net.specs.Strategies.{Table, IsStrategy, IsLeast}
+use Rattle.cstn_net.specs.Networks.{Network, IsWellFormed, count}
+use Rattle.cstn_net.specs.Strategies.{Table, IsLeast}
 use Rattle.cstn_net.proofs.Dynamic.{one_least}
 use Rattle.cstn_net.proofs.Knowledge.{observer_within}
 use Rattle.cstn_log.specs.Plans.{IsEarliest}
-use Rattle.cstn_exec.specs.Runs.{Run, start, next, executed_at, outcome_of, observed_at, known, is_awaited, awaited, earliest, is_free, named}
+use Rattle.cstn_exec.specs.Runs.{Run, start, next, executed_at, outcome_of, observed_at, is_awaited, earliest, is_free, named}
 use Rattle.cstn_exec.specs.Moves.{executed, moved, handed}
 use Rattle.cstn_exec.specs.Right.{AgreesKnown, IsRight, IsCalled}
 use Rattle.cstn_exec.proofs.Knowing.{Ready, some_within, known_from, known_to, awaited_from, awaited_to, observed_where, observed_from}
-use Rattle.cstn_exec.proofs.Naming.{from_passing, in_passing, executed_size, executed_passing, executed_failing}
-use Rattle.cstn_exec.proofs.Running.{IsQuiet, agrees_before, at_moment, held_unless_free, cases_option}
+use Rattle.cstn_exec.proofs.Naming.{executed_size, executed_passing, executed_failing}
+use Rattle.cstn_exec.proofs.Running.{IsQuiet, agrees_before, at_moment, held_unless_free}
 
 pub default_of : {X : Type 0} (n x : ℕ) (d : X) → slice_index_or (replicate n d) x d ≡ d
 default_of n x d = elim (cases_lt x n) [
@@ -46,7 +45,6 @@ start_right net bounds table wf plan = record {
 
 module _ (net : Network) (wf : IsWellFormed net) (run : Run) (p : ℕ) (v : Bool) (right : IsRight net run)
     (missing : outcome_of run p ≡ None) (letter : p < 52) where
-
   outcome_new : outcome_of (handed run p v) p ≡ Some v
   outcome_new = let size = right.outcomes in get_or-set_same run.outcomes p (Some v) None (omega arith)
 
@@ -76,7 +74,7 @@ module _ (net : Network) (wf : IsWellFormed net) (run : Run) (p : ℕ) (v : Bool
     none_awaited = λ q a.
         let from = awaited_from net wf.network (handed run p v) (next run) q a in
         let other : q ≢ p = λ same. some_or_none (outcome_of (handed run p v) q) v
-            (subst (λ r. outcome_of (handed run p v) r ≡ Some v) (sym same) outcome_new) from.1 in
+        (subst (λ r. outcome_of (handed run p v) r ≡ Some v) (sym same) outcome_new) from.1 in
         right.none_awaited q
         (awaited_to net wf.network run (next run) q (ready_back (next run) q from.0) (sym (outcome_old q other) ∙ from.1));
     early = right.early;
@@ -89,9 +87,10 @@ module _ (net : Network) (wf : IsWellFormed net) (run : Run) (p : ℕ) (v : Bool
 pub free_parts : (net : Network) (bounds : List Bound) (run : Run) (t x : ℕ) → is_free net bounds run t x ≡ true →
     (executed_at run x ≡ None) × (earliest net bounds run (t + 1) x ≤ t)
 free_parts net bounds run t x h =
-    let both = and_parts (is_none (executed_at run x)) (not (nat_lt t (earliest net bounds run (t + 1) x))) h in
-    (none_is (executed_at run x) both.0,
-     ltb-false t (earliest net bounds run (t + 1) x) (not-true (nat_lt t (earliest net bounds run (t + 1) x)) both.1))
+    let both = and_parts (is_none (executed_at run x)) (not (nat_lt t (earliest net bounds run (t + 1) x))) h in (
+      none_is (executed_at run x) both.0,
+      ltb-false t (earliest net bounds run (t + 1) x) (not-true (nat_lt t (earliest net bounds run (t + 1) x)) both.1),
+    )
   where
     none_is : (o : Option ℕ) → is_none o ≡ true → o ≡ None
     none_is None h = refl

@@ -1,5 +1,5 @@
 -- The numbers of a range that pass a test, and a list with a value put in for each of them.
-use Rattle.std.proofs.Common.{ℕ, zero, suc, ◌≡◌, ◌≢◌, ◌⊎◌, inl, inr, ◌+◌, ◌<◌, ◌≤◌, Bool, true, false, cond, List, [], ◌∷◌, Option, Some, None, length, arith, refl, sym, subst, ap, ◌∙◌, get_or-set_other, get_or-set_same}
+use Rattle.std.proofs.Common.{ℕ, zero, suc, ◌≡◌, ◌≢◌, inl, inr, ◌+◌, ◌<◌, ◌≤◌, Bool, true, false, List, [], ◌∷◌, Option, Some, None, length, arith, refl, sym, subst, ◌∙◌, get_or-set_other, get_or-set_same}
 use Rattle.std.specs.Prelude.{slice_index_or, slice_set}
 use Rattle.std.specs.List.{All, Contains, filter, range_with_len}
 use Rattle.std.specs.List.Sorted.{IsStrictlyIncreasing}
@@ -59,7 +59,6 @@ pub passing_ascends : (test : ℕ → Bool) (a n : ℕ) → IsStrictlyIncreasing
 passing_ascends test a n = IsStrictlyIncreasing-filter test (range_with_len a n) (range_ascends a n)
 
 -- ---- the moments after those of the list are executed
-
 
 pub executed_size : (t : ℕ) (xs : List ℕ) (ms : List (Option ℕ)) → length (executed t xs ms) ≡ length ms
 executed_size t [] ms = refl

@@ -1,6 +1,6 @@
 -- What refusals tell, and who is named.
-use Rattle.std.proofs.Common.{ℕ, zero, suc, ◌≡◌, ◌⊎◌, inl, inr, ◌+◌, ◌-◌, ◌<◌, ◌≤◌, Bool, true, false, List, [], ◌∷◌, Option, Some, None, ltb, cond, refl, arith, sym, subst, ap, ◌∙◌}
-use Rattle.std.specs.Prelude.{◌↔◌, is_some, length}
+use Rattle.std.proofs.Common.{ℕ, zero, suc, ◌≡◌, ◌⊎◌, inl, inr, ◌+◌, ◌<◌, ◌≤◌, Bool, true, false, List, [], ◌∷◌, Option, Some, None, ltb, refl, arith, subst, ap, ◌∙◌}
+use Rattle.std.specs.Prelude.{◌↔◌, is_some}
 use Rattle.std.specs.List.{Contains, filter, list_any, range_with_len}
 use Rattle.std.specs.List.Sorted.{IsStrictlyIncreasing}
 use Rattle.std.proofs.lemmas.Bool.{cases_Bool, cases_lt, cond-true, cond-false, or_parts, true≢false, lt-ltb, le-ltb}
@@ -8,7 +8,7 @@ use Rattle.cstn_label.specs.Bounds.{Bound}
 use Rattle.cstn_net.specs.Networks.{Network, IsWellFormed, count}
 use Rattle.cstn_net.specs.Strategies.{Table}
 use Rattle.cstn_log.specs.Plans.{IsEarliest}
-use Rattle.cstn_exec.specs.Runs.{Run, after, next, is_done, observed_at, outcome_of, awaited, is_free, named, has_work, due}
+use Rattle.cstn_exec.specs.Runs.{Run, after, is_done, observed_at, outcome_of, awaited, is_free, named, due}
 use Rattle.cstn_exec.specs.Moves.{Refusal, Done, Past, Late, Awaiting, moment_refusal, unless_past, unless_awaiting, unless_late, outcome_refusal, unless_unseen, unless_known, handed}
 use Rattle.cstn_exec.specs.Right.{IsRight, IsCalled, IsDue, IsDone, IsBetween, IsFirstAwaited}
 use Rattle.cstn_exec.proofs.Ranges.{each_fails}
@@ -44,8 +44,7 @@ pub named_called : (net : Network) (bounds : List Bound) (table : Table) (run : 
 named_called net bounds table run t wf plan right none x =
     let ok = accepted net bounds run t none in
     let quiet = (accepted_quiet net bounds table wf plan run right t ok).0 in
-    let nobody = awaits_none net bounds run wf (t + 1) ok.none_awaited in
-    (
+    let nobody = awaits_none net bounds run wf (t + 1) ok.none_awaited in (
       (λ has.
           let in_range = from_passing (is_free net bounds run t) 0 (count net) x has in
           free_called net bounds table wf plan run right t ok.from quiet nobody x (let upto = in_range.1 in omega arith) in_range.2),
@@ -197,10 +196,9 @@ pub accepted_before : (net : Network) (bounds : List Bound) (table : Table) (run
 accepted_before net bounds table run t u wf plan right e between =
     let first = due_first net bounds table wf plan run right t e in
     let idle = or_parts (is_some (awaited net run (u + 1))) (list_any (is_free net bounds run u) (range_with_len 0 (count net)))
-      (first.1.before u between.from between.below) in
+    (first.1.before u between.from between.below) in
     let below = between.below in
-    let from = between.from in
-    (
+    let from = between.from in (
       refusal_waits net bounds run u first.0 ∙ elim (past_or_later u run.now (unless_awaiting (awaited net run (u + 1)) (unless_late u (due net bounds run)))) [
         | inl past ↦
             let soon = subst (λ o. after o ≤ u) past.1 from in

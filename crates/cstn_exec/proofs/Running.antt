@@ -1,13 +1,13 @@
 -- A run stays right.
-use Rattle.std.proofs.Common.{ℕ, zero, suc, ◌≡◌, ◌⊎◌, inl, inr, ◌+◌, ◌<◌, ◌≤◌, Bool, true, false, ◌&&◌, List, Option, Some, None, not, arith, refl, sym, subst, ap, ◌∙◌}
-use Rattle.std.specs.Prelude.{pos, ◌<ℤ◌, ◌≤ℤ◌, ◌↔◌, length, is_none, is_some, nat_lt, ◌==◌, slice_index_or}
-use Rattle.std.specs.List.{Contains, list_any, range_with_len}
+use Rattle.std.proofs.Common.{ℕ, zero, suc, ◌≡◌, ◌⊎◌, inl, inr, ◌+◌, ◌<◌, ◌≤◌, Bool, true, false, ◌&&◌, List, Option, Some, None, not, arith, refl, sym, subst, ◌∙◌}
+use Rattle.std.specs.Prelude.{is_none, is_some, nat_lt, ◌==◌}
+use Rattle.std.specs.List.{list_any, range_with_len}
 use Rattle.std.proofs.lemmas.Int.{ints}
-use Rattle.std.proofs.lemmas.Bool.{cases_lt, cases_Bool, or_parts, and_cases, and_parts, and_from, eqb-true, eq-eqb, false_from_ne_true, true≢false, both_ways, ltb-true, ltb-false, not-false, not-true, lt-ltb, le-ltb}
-use Rattle.cstn_label.specs.Labels.{Scenario, Label, MarkFits}
+use Rattle.std.proofs.lemmas.Bool.{cases_lt, or_parts, and_cases, and_parts, and_from, eqb-true, eq-eqb, true≢false, both_ways, ltb-true, not-false}
+use Rattle.cstn_label.specs.Labels.{Scenario, MarkFits}
 use Rattle.cstn_label.specs.Bounds.{Bound}
-use Rattle.cstn_net.specs.Networks.{Network, IsNetwork, IsWellFormed, Observes, count}
-use Rattle.cstn_net.specs.Strategies.{Table, IsStrategy, IsLeast, IsKnown}
+use Rattle.cstn_net.specs.Networks.{Network, IsNetwork, IsWellFormed, count}
+use Rattle.cstn_net.specs.Strategies.{Table, IsKnown}
 use Rattle.cstn_net.proofs.Dynamic.{one_least}
 use Rattle.cstn_net.proofs.Knowledge.{observer_within}
 use Rattle.cstn_log.specs.Plans.{IsEarliest}
@@ -15,7 +15,7 @@ use Rattle.cstn_log.proofs.AskedLemmas.{greatest_upper, greatest_attained}
 use Rattle.cstn_exec.specs.Runs.{Run, next, executed_at, outcome_of, known, is_awaited, awaited, is_possible, earliest, is_free, has_work}
 use Rattle.cstn_exec.specs.Right.{AgreesKnown, IsRight}
 use Rattle.cstn_exec.proofs.Ranges.{find_first, find_none, each_fails}
-use Rattle.cstn_exec.proofs.Knowing.{Ready, some_within, ready_from, known_from, known_to, known_later, awaited_from, awaited_to, observed_where, possible_from, possible_to}
+use Rattle.cstn_exec.proofs.Knowing.{Ready, some_within, known_from, known_to, known_later, awaited_from, awaited_to, possible_from, possible_to}
 
 pub cases_option : {X : Type 0} (o : Option X) → (o ≡ None) ⊎ ((x : X) × (o ≡ Some x))
 cases_option None = inl refl
@@ -178,8 +178,7 @@ module _ (net : Network) (bounds : List Bound) (table : Table) (wf : IsWellForme
       (earliest net bounds run (t + 1) x ≤ t → table s x ≡ t) × (t < earliest net bounds run (t + 1) x → t < table s x)
   at_moment s t from quiet none agrees x here waiting =
       let rest = λ (y : ℕ) (in_net : y < count net) (not_yet : executed_at run y ≡ None).
-      quiet_later s t from quiet (agrees_before net run t (t + 1) s wf.network (omega arith) agrees) y in_net not_yet in
-      (
+      quiet_later s t from quiet (agrees_before net run t (t + 1) s wf.network (omega arith) agrees) y in_net not_yet in (
         (λ free. elim (cases_lt t (table s x)) [
           | inl later ↦ let held = later_held s t from agrees x here later in absurd (omega arith)
           | inr upto ↦ let least = rest x here waiting in omega arith

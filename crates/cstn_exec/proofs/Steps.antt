@@ -1,9 +1,9 @@
 -- Steps of the program: sums over lists, words of what is known, and the search for the due moment.
 use Rattle.std.proofs.Common.{ℕ, zero, suc, ◌≡◌, ◌⊎◌, inl, inr, ◌+◌, ◌<◌, ◌≤◌, max, min, Bool, true, false, cond, ◌&&◌, not, List, [], ◌∷◌, ◌++◌, Option, Some, None, ◌-◌, map, take, length, arith, refl, sym, subst, ap, ◌∙◌}
 use Rattle.std.specs.Prelude.{◌↔◌, ◌==◌, IsTrue, slice_index, replicate, is_some, is_none, nat_lt, slice_index_or, slice_get, slice_set, if◌then◌else◌}
-use Rattle.std.specs.List.{All, find, filter, list_all, list_any, range_with_len}
+use Rattle.std.specs.List.{All, find, filter, list_any, range_with_len}
 use Rattle.std.proofs.Math.Path.{fun_ext}
-use Rattle.std.proofs.lemmas.Bool.{cases_Bool, cases_lt, cases_eq, cond-true, cond-false, true≢false, eq-eqb, ne_eqb, lt-ltb, le-ltb, ltb-true, or_from, or_left, or_right, both_ways, false_from_ne_true}
+use Rattle.std.proofs.lemmas.Bool.{cases_Bool, cases_lt, cases_eq, cond-true, cond-false, true≢false, eq-eqb, ne_eqb, or_from, or_left, or_right, both_ways, false_from_ne_true}
 use Rattle.std.proofs.lemmas.Bool.Decides.{same_from_decides}
 use Rattle.std.proofs.lemmas.Option.{get_or_from_slice_get, slice_get_within}
 use Rattle.std.proofs.lemmas.List.{take_more, take_all, map-append, append-nil, get_or-map, length-map}
@@ -11,8 +11,7 @@ use Rattle.std.proofs.lemmas.List.Elements.{filter-append, All-filter}
 use Rattle.cstn_label.specs.declared.nodes.NodeId.{NodeId}
 use Rattle.cstn_label.specs.declared.labels.Label.{Label}
 use Rattle.cstn_label.specs.declared.knowledge.Known.{Known}
-use Rattle.cstn_label.specs.declared.marks.Mark.TheVariants.{Absent}
-use Rattle.cstn_label.specs.Labels.{IsPossible, MarkFits}
+use Rattle.cstn_label.specs.Labels.{IsPossible}
 use Rattle.cstn_label.specs.Bounds.{Bound}
 use Rattle.cstn_label.specs.declared.bounds.Bound.{Bound as ProgramBound}
 use Rattle.cstn_label.specs.Read.{marks, the_bound, is_known, the_values}
@@ -20,7 +19,7 @@ use Rattle.cstn_label.specs.Words.{has_bit}
 use Rattle.cstn_label.proofs.MarkLemmas.{fits_absent}
 use Rattle.cstn_label.proofs.WordLemmas.{has_bit_above}
 use Rattle.cstn_label.proofs.ReadLemmas.{unmarked_above}
-use Rattle.cstn_net.specs.Networks.{Network, IsWellFormed, Observes, count}
+use Rattle.cstn_net.specs.Networks.{Network, IsWellFormed, count}
 use Rattle.cstn_net.specs.Strategies.{Table}
 use Rattle.cstn_log.specs.Asked.{greatest, moment_of}
 use Rattle.cstn_log.specs.Plans.{IsEarliest, the_bounds}
@@ -29,12 +28,12 @@ use Rattle.cstn_exec.specs.Runs.{Run, next, is_done, executed_at, outcome_of, is
 use Rattle.cstn_exec.specs.Moves.{executed}
 use Rattle.cstn_exec.specs.Right.{IsRight}
 use Rattle.cstn_exec.specs.Read.{value_in}
-use Rattle.cstn_exec.proofs.Ranges.{IsFirstFrom, find_first, find_none, found, not_found, each_passes, all_pass, none_passes, passing_at}
+use Rattle.cstn_exec.proofs.Ranges.{found, not_found, each_passes, all_pass, none_passes, passing_at}
 use Rattle.cstn_exec.proofs.Naming.{in_range}
 use Rattle.cstn_exec.proofs.Knowing.{Ready, some_within, ready_from, ready_to, known_from}
-use Rattle.cstn_exec.proofs.Running.{IsQuiet, cases_option, held_unless_free}
+use Rattle.cstn_exec.proofs.Running.{IsQuiet}
 use Rattle.cstn_exec.proofs.Moving.{free_parts, free_from}
-use Rattle.cstn_exec.proofs.Dues.{someone_waits, upto_deadline, first_is_due}
+use Rattle.cstn_exec.proofs.Dues.{someone_waits, upto_deadline}
 
 -- ---- lists
 
@@ -89,8 +88,8 @@ greatest_more test bounds k b before now at old new =
     let inside = slice_get_within bounds k b at in
     let here = get_or_from_slice_get bounds k b b at in
     let more : the_bounds (take (k + 1) bounds) ≡ the_bounds (take k bounds) ++ the_bound b ∷ [] =
-      ap (map the_bound) (take_more bounds k b inside ∙ ap (λ c. take k bounds ++ c ∷ []) here)
-      ∙ map-append the_bound (take k bounds) (b ∷ []) in
+    ap (map the_bound) (take_more bounds k b inside ∙ ap (λ c. take k bounds ++ c ∷ []) here)
+    ∙ map-append the_bound (take k bounds) (b ∷ []) in
     new ∙ ap (λ n. cond (test (the_bound b)) (max n (moment_of b.least)) n) old
     ∙ sym (ap (greatest test) more ∙ greatest_push test (the_bounds (take k bounds)) (the_bound b))
 
@@ -152,10 +151,13 @@ least_same moments after t n least l some = record {
     | inr other ↦ l.held x u (omega arith) none low high
   ];
   free = elim l.free [
-    | inl nobody ↦ inl ((λ x inside none. elim (cases_eq x n) [
-      | inl same ↦ true≢false (sym (ap is_none (subst (λ y. slice_index_or moments y None ≡ None) same none)) ∙ some)
-      | inr other ↦ nobody.0 x (omega arith) none
-    ]), nobody.1)
+    | inl nobody ↦ inl (
+      (λ x inside none. elim (cases_eq x n) [
+        | inl same ↦ true≢false (sym (ap is_none (subst (λ y. slice_index_or moments y None ≡ None) same none)) ∙ some)
+        | inr other ↦ nobody.0 x (omega arith) none
+      ]),
+      nobody.1,
+    )
     | inr somebody ↦ let inside = somebody.1 in inr (somebody.0, omega arith, somebody.2, somebody.3)
   ];
 }

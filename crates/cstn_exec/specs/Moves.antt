@@ -1,8 +1,8 @@
 -- What a run accepts and refuses, and the runs that follow.
-use Rattle.std.specs.Prelude.{ℕ, ◌+◌, Bool, ◌<◌, nat_lt, List, [], ◌∷◌, Option, Some, None, slice_set, if◌then◌else◌}
+use Rattle.std.specs.Prelude.{ℕ, ◌+◌, Bool, nat_lt, List, [], ◌∷◌, Option, Some, None, slice_set, if◌then◌else◌}
 use Rattle.cstn_label.specs.Bounds.{Bound}
 use Rattle.cstn_net.specs.Networks.{Network}
-use Rattle.cstn_exec.specs.Runs.{Run, next, is_done, observed_at, outcome_of, awaited, named, due}
+use Rattle.cstn_exec.specs.Runs.{Run, is_done, observed_at, outcome_of, awaited, named, due}
 
 -- why a moment or an outcome is refused
 pub data Refusal : Type 0 where

@@ -1,5 +1,5 @@
 -- When the state of a run is right, and when a moment is due.
-use Rattle.std.specs.Prelude.{ℕ, ◌≡◌, ◌+◌, ◌<◌, ◌≤◌, ◌⊎◌, Bool, true, List, Option, Some, None, length, pos, ◌-ℤ◌, ◌≤ℤ◌}
+use Rattle.std.specs.Prelude.{ℕ, ◌≡◌, ◌+◌, ◌<◌, ◌≤◌, ◌⊎◌, Bool, true, Some, None, length, pos, ◌-ℤ◌, ◌≤ℤ◌}
 use Rattle.std.specs.List.{Contains}
 use Rattle.cstn_label.specs.Labels.{Scenario, Holds}
 use Rattle.cstn_net.specs.Networks.{Network, Constraint, count}

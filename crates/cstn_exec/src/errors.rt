@@ -6,30 +6,19 @@ use thiserror::Error;
 pub enum ExecError {
     /// E1: the moment isn't above the last accepted one.
     #[error("the moment {now} has passed")]
-    Past {
-        now: u32,
-    },
+    Past { now: u32 },
     /// E2: the moment is above the due one.
     #[error("the moment {due} is due before")]
-    Late {
-        due: u32,
-    },
+    Late { due: u32 },
     /// E3: an outcome is awaited at the moment; the least proposition.
     #[error("the outcome of the proposition {} is awaited", prop.index)]
-    Awaiting {
-        prop: Prop,
-    },
+    Awaiting { prop: Prop },
     /// E4: nothing observes the proposition, or its observer isn't executed.
     #[error("the proposition {} isn't observed yet", prop.index)]
-    NotExecuted {
-        prop: Prop,
-    },
+    NotExecuted { prop: Prop },
     /// E5: an outcome of the proposition is kept already.
     #[error("the proposition {} is {value} already", prop.index)]
-    Known {
-        prop: Prop,
-        value: bool,
-    },
+    Known { prop: Prop, value: bool },
     /// E6: all time-points are executed.
     #[error("all is executed")]
     Done,

@@ -20,8 +20,8 @@ use crate::errors::ExecError;
 use cstn_label::{NodeId, Prop};
 use cstn_log::SoundPlan;
 use cstn_net::Network;
-use std::alloc::{AllocError, Global};
 use naming::execute;
+use std::alloc::{AllocError, Global};
 use std::marker::Model;
 
 /// Carries out a plan: takes moments and outcomes one at a time, and names at each moment the time-points to be executed.

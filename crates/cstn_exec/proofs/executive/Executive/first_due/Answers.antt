@@ -1,6 +1,5 @@
-use Rattle.std.proofs.Common.{ℕ, Option, Some, None, ◌≡◌, ◌<◌, ◌≤◌, inl, inr, arith, sym, ap, ◌∙◌}
+use Rattle.std.proofs.Common.{arith, sym, ap, ◌∙◌}
 use Rattle.std.specs.Option.{option_map}
-use Rattle.std.proofs.lemmas.Bool.{cases_lt}
 use Rattle.cstn_net.specs.Read.{the_network}
 use Rattle.cstn_log.specs.Plans.{the_bounds}
 use Rattle.cstn_exec.proofs.Dues.{someone_waits, upto_deadline}
@@ -25,7 +24,7 @@ next_ready-ready-requires c =
     let known = c.is_right.ensures in
     let waits = someone_waits net run known.right.moments c.requires in
     let within = upto_deadline net bounds known.earliest.0 known.well_formed known.earliest.1 run known.right waits.0 waits.1 waits.2
-      c.loop-free.t c.loop-free.invariant.from c.loop-free.invariant.quiet in
+    c.loop-free.t c.loop-free.invariant.from c.loop-free.invariant.quiet in
     let limit = known.well_formed.in_time in
     omega arith
 

@@ -1,4 +1,4 @@
-use Rattle.std.proofs.Common.{ℕ, Option, Some, None, Bool, ◌≡◌, ◌+◌, inl, inr, arith, sym, subst, ◌∙◌}
+use Rattle.std.proofs.Common.{ℕ, Option, Bool, ◌+◌, inl, inr, arith, sym, subst, ◌∙◌}
 use Rattle.std.proofs.lemmas.Bool.{cases_lt}
 use Rattle.cstn_label.specs.declared.knowledge.Known.{Known}
 use Rattle.cstn_net.specs.Read.{the_network}

@@ -1,5 +1,5 @@
-use Rattle.std.proofs.Common.{ℕ, Option, List, Some, None, ◌≡◌, ◌≤◌, ◌+◌, ◌<◌, map, length, arith, sym, subst, ap, ◌∙◌}
-use Rattle.std.specs.Prelude.{◌↔◌, slice_index_or}
+use Rattle.std.proofs.Common.{ℕ, Option, List, Some, ◌<◌, map, length, arith, sym, subst, ap, ◌∙◌}
+use Rattle.std.specs.Prelude.{◌↔◌}
 use Rattle.std.specs.Option.{option_map}
 use Rattle.std.specs.List.{All, Contains}
 use Rattle.std.specs.List.Sorted.{IsStrictlyIncreasing}

@@ -1,4 +1,4 @@
-use Rattle.std.proofs.Common.{ℕ, ◌≤◌, ◌+◌, Option, Some, arith, sym, subst, ◌∙◌}
+use Rattle.std.proofs.Common.{ℕ, ◌≤◌, ◌+◌, Option, arith, sym, subst, ◌∙◌}
 use Rattle.cstn_exec.specs.Runs.{after}
 use Rattle.cstn_exec.proofs.executive.Executive.next.Goals as goal
 

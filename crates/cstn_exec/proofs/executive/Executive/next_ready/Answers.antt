@@ -1,7 +1,7 @@
-use Rattle.std.proofs.Common.{ℕ, Option, ◌≡◌, ◌+◌, inl, inr, true, arith, sym, subst, ap, ◌∙◌}
-use Rattle.std.proofs.lemmas.Bool.{cases_lt, cases_eq}
+use Rattle.std.proofs.Common.{◌≡◌, ◌+◌, inl, inr, true, arith, sym, subst, ap, ◌∙◌}
+use Rattle.std.proofs.lemmas.Bool.{cases_eq}
 use Rattle.cstn_net.specs.Read.{the_network}
-use Rattle.cstn_exec.specs.Runs.{is_before, is_ready, ready_at}
+use Rattle.cstn_exec.specs.Runs.{is_before, ready_at}
 use Rattle.cstn_exec.proofs.Knowing.{ready_from}
 use Rattle.cstn_exec.proofs.executive.Executive.next_ready.Goals as goal
 

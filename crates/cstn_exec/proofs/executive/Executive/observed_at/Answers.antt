@@ -1,4 +1,4 @@
-use Rattle.std.proofs.Common.{Some, None, ◌≡◌, ◌≤◌, ◌<◌, arith, sym, ◌∙◌}
+use Rattle.std.proofs.Common.{sym, ◌∙◌}
 use Rattle.cstn_net.specs.Read.{the_network}
 use Rattle.cstn_exec.proofs.Knowing.{observed_where, observed_nowhere}
 use Rattle.cstn_exec.proofs.executive.Executive.observed_at.Goals as goal

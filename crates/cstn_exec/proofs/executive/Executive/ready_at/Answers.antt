@@ -1,4 +1,4 @@
-use Rattle.std.proofs.Common.{Some, None, ◌≡◌, ◌≤◌, ◌<◌, arith, sym, ◌∙◌}
+use Rattle.std.proofs.Common.{arith, sym}
 use Rattle.cstn_net.specs.Read.{the_network}
 use Rattle.cstn_exec.proofs.Knowing.{observed_from}
 use Rattle.cstn_exec.proofs.executive.Executive.ready_at.Goals as goal

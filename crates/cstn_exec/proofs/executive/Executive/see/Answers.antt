@@ -1,4 +1,4 @@
-use Rattle.std.proofs.Common.{ℕ, Option, Some, None, ◌≡◌, ◌≤◌, ◌+◌, sym, subst, ◌∙◌}
+use Rattle.std.proofs.Common.{sym, subst, ◌∙◌}
 use Rattle.cstn_net.specs.Read.{the_network}
 use Rattle.cstn_exec.specs.Moves.{handed}
 use Rattle.cstn_exec.specs.Right.{IsRight}

@@ -1,6 +1,5 @@
-use Rattle.std.proofs.Common.{ℕ, Option, Some, None, ◌≡◌, ◌&&◌, max, cond, arith, ap, sym, subst, ◌∙◌}
+use Rattle.std.proofs.Common.{◌&&◌}
 use Rattle.std.specs.Prelude.{◌==◌}
-use Rattle.cstn_label.specs.Read.{the_bound}
 use Rattle.cstn_exec.specs.Runs.{is_possible}
 use Rattle.cstn_exec.specs.Read.{value_in}
 use Rattle.cstn_exec.proofs.Steps.{greatest_more}

@@ -1,8 +1,6 @@
-use Rattle.std.proofs.Common.{ℕ, List, Bool, Option, None, [], ◌∷◌, ◌++◌, ◌≡◌, ◌&&◌, ◌≤◌, ◌+◌, not, map, length, refl, arith, subst, sym, ap, ◌∙◌}
-use Rattle.std.specs.Prelude.{Vec, is_none, nat_lt, slice_index, slice_index_or, vec_capacity}
-use Rattle.std.specs.List.{filter, range_with_len}
+use Rattle.std.proofs.Common.{ℕ, List, Bool, None, [], ◌∷◌, ◌++◌, ◌&&◌, not, map, length, arith, sym, ap, ◌∙◌}
+use Rattle.std.specs.Prelude.{is_none, nat_lt, slice_index, slice_index_or, vec_capacity}
 use Rattle.std.proofs.lemmas.List.{map-append}
-use Rattle.cstn_label.specs.declared.nodes.NodeId.{NodeId}
 use Rattle.cstn_exec.proofs.Steps.{filter_with, filter_without}
 use Rattle.cstn_exec.proofs.executive.naming.collect.Goals as goal
 use Rattle.cstn_exec.proofs.executive.naming.collect.Goals.{then-is_free, else-is_free}

@@ -1,5 +1,4 @@
-use Rattle.std.proofs.Common.{ℕ, Option, ◌≡◌, ◌<◌, ◌≤◌, ◌+◌, inl, inr, max, min, arith, subst, sym, ap, ◌∙◌}
-use Rattle.std.specs.Prelude.{slice_index, slice_index_or}
+use Rattle.std.proofs.Common.{ℕ, ◌+◌, inl, inr, min, arith, subst, sym, ap, ◌∙◌}
 use Rattle.cstn_exec.proofs.Steps.{IsLeastFrom, least_same, least_more, none_when}
 use Rattle.cstn_exec.proofs.Dues.{some_none}
 use Rattle.cstn_exec.proofs.executive.search.least_from.Goals as goal
