@@ -1,0 +1,216 @@
+-- What refusals tell, and who is named.
+use Rattle.std.proofs.Common.{ℕ, zero, suc, ◌≡◌, ◌⊎◌, inl, inr, ◌+◌, ◌<◌, ◌≤◌, Bool, true, false, List, [], ◌∷◌, Option, Some, None, ltb, refl, arith, subst, ap, ◌∙◌}
+use Rattle.std.specs.Prelude.{◌↔◌, is_some}
+use Rattle.std.specs.List.{Contains, filter, list_any, range_with_len}
+use Rattle.std.specs.List.Sorted.{IsStrictlyIncreasing}
+use Rattle.std.proofs.lemmas.Bool.{cases_Bool, cases_lt, cond-true, cond-false, or_parts, true≢false, lt-ltb, le-ltb}
+use Rattle.cstn_label.specs.Bounds.{Bound}
+use Rattle.cstn_net.specs.Networks.{Network, IsWellFormed, count}
+use Rattle.cstn_net.specs.Strategies.{Table}
+use Rattle.cstn_log.specs.Plans.{IsEarliest}
+use Rattle.cstn_exec.specs.Runs.{Run, after, is_done, observed_at, outcome_of, awaited, is_free, named, due}
+use Rattle.cstn_exec.specs.Moves.{Refusal, Done, Past, Late, Awaiting, moment_refusal, unless_past, unless_awaiting, unless_late, outcome_refusal, unless_unseen, unless_known, handed}
+use Rattle.cstn_exec.specs.Right.{IsRight, IsCalled, IsDue, IsDone, IsBetween, IsFirstAwaited}
+use Rattle.cstn_exec.proofs.Ranges.{each_fails}
+use Rattle.cstn_exec.proofs.Naming.{from_passing, in_passing, passing_ascends}
+use Rattle.cstn_exec.proofs.Running.{cases_option, awaits_none, awaited_least}
+use Rattle.cstn_exec.proofs.Moving.{handed_right, free_called, called_free}
+use Rattle.cstn_exec.proofs.Dues.{seen_scenario, seen_agrees, done_from, done_to, due_first, first_is_due, accepted, accepted_quiet}
+
+-- ---- outcomes
+
+pub seen_right : (net : Network) (run : Run) (p : ℕ) → IsWellFormed net → IsRight net run → outcome_refusal net run p ≡ None → p < 52 →
+    (v : Bool) → IsRight net (handed run p v)
+seen_right net run p wf right ok letter v = elim (cases_option (observed_at net run p)) [
+  | inl none ↦
+      let refused = subst (λ o. unless_unseen p o (unless_known p (outcome_of run p)) ≡ None) none ok in
+      let f : ⊥ = cc in
+      absurd f
+  | inr some ↦
+      let seen = subst (λ o. unless_unseen p o (unless_known p (outcome_of run p)) ≡ None) some.1 ok in
+      elim (cases_option (outcome_of run p)) [
+        | inl missing ↦ handed_right net wf run p v right missing letter some.0 some.1
+        | inr kept ↦
+            let refused = subst (λ o. unless_known p o ≡ None) kept.1 seen in
+            let f : ⊥ = cc in
+            absurd f
+      ]
+]
+
+-- ---- who is named
+
+pub named_called : (net : Network) (bounds : List Bound) (table : Table) (run : Run) (t : ℕ) → IsWellFormed net → IsEarliest net bounds table →
+    IsRight net run → moment_refusal net bounds run t ≡ None → (x : ℕ) → Contains (named net bounds run t) x ↔ IsCalled net run t x
+named_called net bounds table run t wf plan right none x =
+    let ok = accepted net bounds run t none in
+    let quiet = (accepted_quiet net bounds table wf plan run right t ok).0 in
+    let nobody = awaits_none net bounds run wf (t + 1) ok.none_awaited in (
+      (λ has.
+          let in_range = from_passing (is_free net bounds run t) 0 (count net) x has in
+          free_called net bounds table wf plan run right t ok.from quiet nobody x (let upto = in_range.1 in omega arith) in_range.2),
+      (λ called.
+          let here = called.inside in
+          in_passing (is_free net bounds run t) 0 (count net) x (omega arith) (omega arith)
+          (called_free net bounds table wf plan run right t ok.from quiet nobody (seen_scenario run) (seen_agrees net wf run (t + 1)) x called)),
+    )
+
+pub named_ascend : (net : Network) (bounds : List Bound) (run : Run) (t : ℕ) → IsStrictlyIncreasing (named net bounds run t)
+named_ascend net bounds run t = passing_ascends (is_free net bounds run t) 0 (count net)
+
+-- ---- moments
+
+refusal_waits : (net : Network) (bounds : List Bound) (run : Run) (t : ℕ) → is_done run ≡ false →
+    moment_refusal net bounds run t ≡ unless_past t run.now (unless_awaiting (awaited net run (t + 1)) (unless_late t (due net bounds run)))
+refusal_waits net bounds run t waits =
+    cond-false (is_done run) (Some Done) (unless_past t run.now (unless_awaiting (awaited net run (t + 1)) (unless_late t (due net bounds run)))) waits
+
+refusal_done : (net : Network) (bounds : List Bound) (run : Run) (t : ℕ) → is_done run ≡ true → moment_refusal net bounds run t ≡ Some Done
+refusal_done net bounds run t all =
+    cond-true (is_done run) (Some Done) (unless_past t run.now (unless_awaiting (awaited net run (t + 1)) (unless_late t (due net bounds run)))) all
+
+-- a moment that isn't above `now` is past, and every other is judged further
+past_or_later : (t : ℕ) (now : Option ℕ) (other : Option Refusal) →
+    ((m : ℕ) × (now ≡ Some m) × (t ≤ m) × (unless_past t now other ≡ Some (Past m))) ⊎ ((after now ≤ t) × (unless_past t now other ≡ other))
+past_or_later t None other = inr (omega arith, refl)
+past_or_later t (Some m) other = elim (cases_lt m t) [
+  | inl later ↦ inr (omega arith, cond-true (ltb m t) other (Some (Past m)) (lt-ltb m t later))
+  | inr upto ↦ inl (m, refl, upto, cond-false (ltb m t) other (Some (Past m)) (le-ltb m t upto))
+]
+
+-- a moment above the due one is late, and every other isn't
+late_or_not : (t : ℕ) (o : Option ℕ) → ((u : ℕ) × (o ≡ Some u) × (u < t) × (unless_late t o ≡ Some (Late u))) ⊎ (unless_late t o ≡ None)
+late_or_not t None = inr refl
+late_or_not t (Some u) = elim (cases_lt u t) [
+  | inl below ↦ inl (u, refl, below, cond-true (ltb u t) (Some (Late u)) None (lt-ltb u t below))
+  | inr upto ↦ inr (cond-false (ltb u t) (Some (Late u)) None (le-ltb u t upto))
+]
+
+pub refused_done : (net : Network) (bounds : List Bound) (run : Run) (t : ℕ) → IsRight net run → moment_refusal net bounds run t ≡ Some Done ↔ IsDone net run
+refused_done net bounds run t right = (
+  (λ e. elim (cases_Bool (is_done run)) [
+    | inl all ↦ done_from net run right.moments all
+    | inr waits ↦
+        let there = refusal_waits net bounds run t waits in
+        elim (past_or_later t run.now (unless_awaiting (awaited net run (t + 1)) (unless_late t (due net bounds run)))) [
+          | inl past ↦ let is = past.3 in let f : ⊥ = cc in absurd f
+          | inr later ↦ let is = later.1 in elim (cases_option (awaited net run (t + 1))) [
+            | inr some ↦ let wait = ap (λ o. unless_awaiting o (unless_late t (due net bounds run))) some.1 in let f : ⊥ = cc in absurd f
+            | inl none ↦
+                let wait = ap (λ o. unless_awaiting o (unless_late t (due net bounds run))) none in
+                elim (late_or_not t (due net bounds run)) [
+                  | inl late ↦ let at = late.3 in let f : ⊥ = cc in absurd f
+                  | inr not_late ↦ let f : ⊥ = cc in absurd f
+                ]
+          ]
+        ]
+  ]),
+  (λ all. refusal_done net bounds run t (done_to net run right.moments all)),
+)
+
+refused_past_all : (net : Network) (bounds : List Bound) (run : Run) (t now : ℕ) → moment_refusal net bounds run t ≡ Some (Past now) → is_done run ≡ false
+refused_past_all net bounds run t now e = elim (cases_Bool (is_done run)) [
+  | inr waits ↦ waits
+  | inl all ↦ let done = refusal_done net bounds run t all in let f : ⊥ = cc in absurd f
+]
+
+pub refused_past : (net : Network) (bounds : List Bound) (run : Run) (t now : ℕ) → moment_refusal net bounds run t ≡ Some (Past now) →
+    (run.now ≡ Some now) × (t ≤ now)
+refused_past net bounds run t now e =
+    let there = refusal_waits net bounds run t (refused_past_all net bounds run t now e) in
+    elim (past_or_later t run.now (unless_awaiting (awaited net run (t + 1)) (unless_late t (due net bounds run)))) [
+      | inl past ↦
+          let is = past.3 in
+          let same : past.0 ≡ now = cc in
+          let upto = past.2 in
+          (past.1 ∙ ap (λ m. Some m) same, omega arith)
+      | inr later ↦ let is = later.1 in elim (cases_option (awaited net run (t + 1))) [
+        | inr some ↦ let wait = ap (λ o. unless_awaiting o (unless_late t (due net bounds run))) some.1 in let f : ⊥ = cc in absurd f
+        | inl none ↦
+            let wait = ap (λ o. unless_awaiting o (unless_late t (due net bounds run))) none in
+            elim (late_or_not t (due net bounds run)) [
+              | inl late ↦ let at = late.3 in let f : ⊥ = cc in absurd f
+              | inr not_late ↦ let f : ⊥ = cc in absurd f
+            ]
+      ]
+    ]
+
+pub refused_awaiting : (net : Network) (bounds : List Bound) (run : Run) (t p : ℕ) → IsWellFormed net →
+    moment_refusal net bounds run t ≡ Some (Awaiting p) → IsFirstAwaited net run t p
+refused_awaiting net bounds run t p wf e = elim (cases_Bool (is_done run)) [
+  | inl all ↦ let done = refusal_done net bounds run t all in let f : ⊥ = cc in absurd f
+  | inr waits ↦
+      let there = refusal_waits net bounds run t waits in
+      elim (past_or_later t run.now (unless_awaiting (awaited net run (t + 1)) (unless_late t (due net bounds run)))) [
+        | inl past ↦ let is = past.3 in let f : ⊥ = cc in absurd f
+        | inr later ↦ let is = later.1 in elim (cases_option (awaited net run (t + 1))) [
+          | inr some ↦
+              let wait = ap (λ o. unless_awaiting o (unless_late t (due net bounds run))) some.1 in
+              let same : some.0 ≡ p = cc in
+              let first = awaited_least net bounds run wf (t + 1) p (some.1 ∙ ap (λ q. Some q) same) in
+              record { awaited = first.0; least = first.1 }
+          | inl none ↦
+              let wait = ap (λ o. unless_awaiting o (unless_late t (due net bounds run))) none in
+              elim (late_or_not t (due net bounds run)) [
+                | inl late ↦ let at = late.3 in let f : ⊥ = cc in absurd f
+                | inr not_late ↦ let f : ⊥ = cc in absurd f
+              ]
+        ]
+      ]
+]
+
+pub refused_late : (net : Network) (bounds : List Bound) (table : Table) (run : Run) (t u : ℕ) → IsWellFormed net → IsEarliest net bounds table →
+    IsRight net run → moment_refusal net bounds run t ≡ Some (Late u) → IsDue net run u × (u < t)
+refused_late net bounds table run t u wf plan right e = elim (cases_Bool (is_done run)) [
+  | inl all ↦ let done = refusal_done net bounds run t all in let f : ⊥ = cc in absurd f
+  | inr waits ↦
+      let there = refusal_waits net bounds run t waits in
+      elim (past_or_later t run.now (unless_awaiting (awaited net run (t + 1)) (unless_late t (due net bounds run)))) [
+        | inl past ↦ let is = past.3 in let f : ⊥ = cc in absurd f
+        | inr later ↦ let is = later.1 in elim (cases_option (awaited net run (t + 1))) [
+          | inr some ↦ let wait = ap (λ o. unless_awaiting o (unless_late t (due net bounds run))) some.1 in let f : ⊥ = cc in absurd f
+          | inl none ↦
+              let wait = ap (λ o. unless_awaiting o (unless_late t (due net bounds run))) none in
+              elim (late_or_not t (due net bounds run)) [
+                | inr not_late ↦ let f : ⊥ = cc in absurd f
+                | inl late ↦
+                    let at = late.3 in
+                    let same : late.0 ≡ u = cc in
+                    let below = late.2 in
+                    let first = due_first net bounds table wf plan run right u (late.1 ∙ ap (λ m. Some m) same) in
+                    ((first_is_due net bounds table wf plan run right u first.1).0, omega arith)
+              ]
+        ]
+      ]
+]
+
+-- ---- before the due moment
+
+none_pass : (test : ℕ → Bool) (a n : ℕ) → ((k : ℕ) → a ≤ k → k < a + n → test k ≡ false) → filter test (range_with_len a n) ≡ []
+none_pass test a zero fails = refl
+none_pass test a (suc n) fails =
+    cond-false (test a) (a ∷ filter test (range_with_len (a + 1) n)) (filter test (range_with_len (a + 1) n)) (fails a (omega arith) (omega arith))
+    ∙ none_pass test (a + 1) n (λ k from upto. fails k (omega arith) (omega arith))
+
+pub accepted_before : (net : Network) (bounds : List Bound) (table : Table) (run : Run) (t u : ℕ) → IsWellFormed net → IsEarliest net bounds table →
+    IsRight net run → due net bounds run ≡ Some t → IsBetween run u t → (moment_refusal net bounds run u ≡ None) × (named net bounds run u ≡ [])
+accepted_before net bounds table run t u wf plan right e between =
+    let first = due_first net bounds table wf plan run right t e in
+    let idle = or_parts (is_some (awaited net run (u + 1))) (list_any (is_free net bounds run u) (range_with_len 0 (count net)))
+    (first.1.before u between.from between.below) in
+    let below = between.below in
+    let from = between.from in (
+      refusal_waits net bounds run u first.0 ∙ elim (past_or_later u run.now (unless_awaiting (awaited net run (u + 1)) (unless_late u (due net bounds run)))) [
+        | inl past ↦
+            let soon = subst (λ o. after o ≤ u) past.1 from in
+            let upto = past.2 in
+            absurd (omega arith)
+        | inr later ↦
+            later.1 ∙ ap (λ o. unless_awaiting o (unless_late u (due net bounds run))) (none_is (awaited net run (u + 1)) idle.0)
+            ∙ ap (unless_late u) e ∙ cond-false (ltb t u) (Some (Late t)) None (le-ltb t u (omega arith))
+      ],
+      none_pass (is_free net bounds run u) 0 (count net) (λ k low high. each_fails (is_free net bounds run u) 0 (count net) idle.1 k low high),
+    )
+  where
+    none_is : (o : Option ℕ) → is_some o ≡ false → o ≡ None
+    none_is None h = refl
+    none_is (Some p) h = absurd (true≢false h)
