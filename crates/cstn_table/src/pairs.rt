@@ -78,12 +78,7 @@ fn raise_row(
 }
 
 // Raises the moments of a row by every row.
-fn raise_row_by_all(
-    net: &Network,
-    props: &[Prop],
-    moments: &mut [u32],
-    row: usize,
-) -> Option<bool>
+fn raise_row_by_all(net: &Network, props: &[Prop], moments: &mut [u32], row: usize) -> Option<bool>
     requires props { AreObserved (the_network net.now) props.now }
     requires low { IsLow (the_network net.now) moments.old }
     requires row { row < rows (the_network net.now) }
