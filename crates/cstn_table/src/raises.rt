@@ -1,8 +1,7 @@
 // Raises of moments by constraints.
-ghost use Rattle.std.specs.Prelude.{ℕ, ◌≡◌, ◌<◌, ◌≤◌, ◌+◌, ◌*◌, ◌-ℤ◌, ◌≤ℤ◌, pos, ◌↔◌, length, IfNone, IfSome};
-ghost use Rattle.std.specs.List.{All, Contains};
-ghost use Rattle.cstn_label.specs.Read.{the_scenario};
-ghost use Rattle.cstn_net.specs.Networks.{Constraint as TheConstraint, IsValue, count, limit};
+ghost use Rattle.std.specs.Prelude.{ℕ, ◌<◌, ◌≤◌, ◌-ℤ◌, ◌≤ℤ◌, pos, ◌↔◌, IfNone, IfSome};
+ghost use Rattle.std.specs.List.{Contains};
+ghost use Rattle.cstn_net.specs.Networks.{Constraint as TheConstraint, IsValue, count};
 ghost use Rattle.cstn_net.specs.Strategies.{IsConsistent};
 ghost use Rattle.cstn_net.specs.Read.{the_network, the_constraint, IsInRange};
 ghost use Rattle.cstn_table.specs.Tables.{observed_props, scenario_of, row_at};
