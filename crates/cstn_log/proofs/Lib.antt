@@ -6,3 +6,4 @@ pub mod DerivedLemmas
 pub mod CutLemmas
 pub mod MarkLemmas
 pub mod StepLemmas
+pub mod PutLemmas

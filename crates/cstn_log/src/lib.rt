@@ -4,6 +4,7 @@
 mod cuts;
 mod cutting;
 mod log;
+mod putting;
 
 pub use cuts::{
     cuts_are_derivations, cuts_are_known, dropping_leaves_derivations, parts_are_derivations,
