@@ -20,7 +20,7 @@ use Rattle.cstn_label.specs.Bounds.{Bound, Dominates}
 use Rattle.cstn_rules.specs.Rules.{finished}
 use Rattle.cstn_rules.specs.Derivations.{Entry}
 use Rattle.cstn_check.specs.Kept.{AllGood, IsGood, IsKept, IsRanged}
-use Rattle.cstn_check.proofs.FinishLemmas.{limit_deadline}
+use Rattle.cstn_log.proofs.FinishLemmas.{limit_deadline}
 use Rattle.cstn_check.specs.Tests.{dominates, is_plain, is_absent, chain_of, wait_for as wait_by, wait_of}
 use Rattle.cstn_check.specs.Growth.{Instance, why_of, is_covered, is_refuted, of_one, of_two, conclusion, grown, observed, most_entries}
 use Rattle.cstn_log.specs.Entries.{bases}

@@ -14,8 +14,8 @@ use Rattle.cstn_rules.specs.Derivations.{Entry, IsDerivation}
 use Rattle.cstn_rules.proofs.Derived.{each_holds}
 use Rattle.cstn_rules.specs.Closed.{IsClosed}
 use Rattle.cstn_check.specs.Kept.{IsKept}
-use Rattle.cstn_check.specs.Asked.{AllSound, asked}
-use Rattle.cstn_check.proofs.Strategies.{asked_strategy, asked_least}
+use Rattle.cstn_log.specs.Asked.{AllSound, asked}
+use Rattle.cstn_log.proofs.Strategies.{asked_strategy, asked_least}
 use Rattle.cstn_check.specs.Tests.{refutes, is_plain}
 use Rattle.cstn_check.specs.Growth.{is_refuted, live_bounds, log_of, load_of, grow, most_entries}
 use Rattle.cstn_log.specs.Entries.{bases}

@@ -1,6 +1,3 @@
-pub mod FinishLemmas
-pub mod AskedLemmas
-pub mod Strategies
 pub mod Decided
 pub mod Lists
 pub mod Grows

@@ -1,6 +1,5 @@
 pub mod Tests
 pub mod Growth
-pub mod Asked
 pub mod Examples
 pub mod Kept
 pub mod Turns

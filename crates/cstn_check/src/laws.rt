@@ -9,17 +9,8 @@ ghost use Rattle.cstn_rules.specs.Closed.{IsClosed};
 ghost use Rattle.cstn_rules.specs.Derivations.{Entry, IsDerivation};
 ghost use Rattle.cstn_rules.specs.Rules.{Refutes};
 ghost use Rattle.cstn_log.specs.Entries.{bases};
-ghost use Rattle.cstn_check.specs.Asked.{asked, AllSound, IsHeldBack};
 ghost use Rattle.cstn_check.specs.Examples.{HasLog, Shows, of_two_marks, after, before, prompt, branch_and, crossed_and, unknown_mark, process, crossed_lines, unknown_mark_lines, process_lines};
 ghost use Rattle.cstn_check.specs.Growth.{grown, grow, log_of, load_of, most_entries, is_refuted, live_bounds};
-
-/// The moments that a closed list asks for are a strategy; where its bounds hold in every strategy, they are the least
-/// moments; and a time-point is held back at just the moments before its own.
-pub fn closed_lists_have_strategies()
-    ensures strategy { (net : Network) (bounds : List Bound) → IsNetwork net → IsClosed net bounds → IsStrategy net (asked net bounds) }
-    ensures least { (net : Network) (bounds : List Bound) → IsNetwork net → IsClosed net bounds → AllSound net bounds → (s : Scenario) (x : ℕ) → x < count net → IsLeast net s x (asked net bounds s x) }
-    ensures held { (net : Network) (bounds : List Bound) → IsNetwork net → IsClosed net bounds → (s : Scenario) (t x : ℕ) → x < count net → (IsHeldBack net bounds s (asked net bounds s) t x ↔ (t < asked net bounds s x)) }
-{}
 
 /// The load is at most n * 4^k * (H + 2): n time-points, k observed propositions, H the deadline.
 pub fn growth_is_bounded()

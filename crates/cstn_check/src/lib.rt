@@ -9,10 +9,7 @@ mod verdicts;
 
 pub use checks::Check;
 pub use growth::{Grown, grow};
-pub use laws::{
-    closed_lists_have_strategies, growth_decides, growth_ends, growth_is_bounded, loads_are_known,
-    logs_are_known,
-};
+pub use laws::{growth_decides, growth_ends, growth_is_bounded, loads_are_known, logs_are_known};
 pub use verdicts::Verdict;
 
 #[cfg(test)]

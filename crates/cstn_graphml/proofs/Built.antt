@@ -68,16 +68,16 @@ parts_with deadline d = record {
   constraints = map drawn_seen d.constraints.items;
 }
 
-abbrev all_points : LentGraph → List (Option Prop)
+abbrev pub all_points : LentGraph → List (Option Prop)
 all_points d = or_no_prop d.origin ∷ d.observes.items
 
 abbrev begun : ℕ → BuilderParts
 begun deadline = record { deadline = deadline; points = []; drafts = [] }
 
-built_points : (deadline : ℕ) (d : LentGraph) → (builder_of deadline d).points ≡ map point_of (all_points d)
+pub built_points : (deadline : ℕ) (d : LentGraph) → (builder_of deadline d).points ≡ map point_of (all_points d)
 built_points deadline d = drafts_leave_points d.constraints.items (with_points (all_points d) (begun deadline)) ∙ points_are (all_points d) (begun deadline)
 
-built_drafts : (deadline : ℕ) (d : LentGraph) → (builder_of deadline d).drafts ≡ map draft_of d.constraints.items
+pub built_drafts : (deadline : ℕ) (d : LentGraph) → (builder_of deadline d).drafts ≡ map draft_of d.constraints.items
 built_drafts deadline d = drafts_are d.constraints.items (with_points (all_points d) (begun deadline)) ∙ ap (λ (xs : List LentDraft). xs ++ map draft_of d.constraints.items) (points_leave_drafts (all_points d) (begun deadline))
 
 pub has_parts : (deadline : ℕ) (d : LentGraph) → HasParts (builder_of deadline d) (parts_with deadline d)

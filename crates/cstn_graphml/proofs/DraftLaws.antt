@@ -3,7 +3,7 @@ use Rattle.std.proofs.Common.{◌≡◌, ℕ, ◌+◌, ◌<◌, ◌≤◌, Bool,
 use Rattle.std.specs.Prelude.{position, if◌then◌else◌, is_some, codes, not, nat_lt, nat_le, ◌&&◌}
 use Rattle.std.specs.List.{All, list_any}
 use Rattle.std.proofs.lemmas.List.{length-append}
-use Rattle.std.proofs.lemmas.List.Elements.{All-push, All-weaker}
+use Rattle.std.proofs.lemmas.List.Elements.{All-push, All-weaker, All-head, All-tail}
 use Rattle.std.proofs.lemmas.List.Quantifiers.{position-Some}
 use Rattle.cstn_markup.specs.Bytes.{is_same, when}
 use Rattle.cstn_text.specs.Names.{number_of}
@@ -19,6 +19,8 @@ use Rattle.cstn_graphml.specs.Judged.{judged_node, judged_edge, judged_deadline,
 use Rattle.cstn_graphml.specs.Document.{Part, graph_child, graph_reading, in_graph, root_child, root_reading, in_root, document_child, document_reading, in_document, part_of}
 use Rattle.cstn_graphml.specs.Document.Part.{a_datum, a_node, an_edge, another}
 use Rattle.cstn_graphml.specs.DraftLaws.{IsDraft, IsDrawnAmong}
+use Rattle.cstn_label.specs.Labels.{IsPlain}
+use Rattle.cstn_graphml.proofs.PlainLabels.{HasPlainLabel, values_plain}
 
 pub bind_ok : {A B : Type 0} (o : Result A Refusal) (f : A → Result B Refusal) (y : B) → (o >>= f) ≡ Ok y → (x : A) × (o ≡ Ok x) × (f x ≡ Ok y)
 bind_ok (Ok x) f y e = (x, refl, e)
@@ -52,7 +54,7 @@ blank_keeps : {S : Type 0} (P : S → Type 0) (s t : S) (at : ℕ) (raw : List �
 blank_keeps P s t at raw p h = let b = bind_ok (blank at raw) (λ same. Ok s) t h in subst P (ok_is s t b.2) p
 
 pub empty_is : IsDraft empty_draft
-empty_is = record { later = []; first = refl; each = refl; among = λ k d inside. absurd (omega (arith, inside)) }
+empty_is = record { later = []; first = refl; each = refl; among = λ k d inside. absurd (omega (arith, inside)); plain = λ k d inside. absurd (omega (arith, inside)) }
 
 picked : (b c : Bool) (later : Option ℕ) (k n : ℕ) → (if b then when c 0 else later) ≡ Some k → 0 < n → ((j : ℕ) → later ≡ Some j → j < n) → k < n
 picked true true later k n e z h = let i : 0 ≡ k = cc in subst (λ j. j < n) i z
@@ -63,15 +65,21 @@ picked false c later k n e z h = h k e
 node_inside : (name : List ℕ) (d : Draft) (k : ℕ) → IsDraft d → node_of name d ≡ Some k → k < length d.names
 node_inside name d k h e = picked (is_same name origin_name) (is_some d.origin) (number_of d.names name) k (length d.names) e (omega (arith, h.each)) (λ j f. (position-Some _ d.names j [] f).0)
 
-constraint_kept : (c : Drawn) (d : Draft) → IsDraft d → IsDrawnAmong (length d.names) c → IsDraft (with_constraint c d)
-constraint_kept c d h i = record { later = h.later; first = h.first; each = h.each; among = All-push (IsDrawnAmong (length d.names)) d.constraints c h.among i }
+constraint_kept : (c : Drawn) (d : Draft) → IsDraft d → IsDrawnAmong (length d.names) c → IsPlain c.label → IsDraft (with_constraint c d)
+constraint_kept c d h i p = record {
+  later = h.later;
+  first = h.first;
+  each = h.each;
+  among = All-push (IsDrawnAmong (length d.names)) d.constraints c h.among i;
+  plain = All-push (λ (c : Drawn). IsPlain c.label) d.constraints c h.plain p;
+}
 
 deadline_kept : (found : Datum) (n : ℕ) (d : Draft) → IsDraft d → IsDraft (with_deadline found n d)
-deadline_kept found n d h = record { later = h.later; first = h.first; each = h.each; among = h.among }
+deadline_kept found n d h = record { later = h.later; first = h.first; each = h.each; among = h.among; plain = h.plain }
 
 node_by : (b : Bool) (name : List ℕ) (prop : Option ℕ) (d : Draft) → IsDraft d
     → IsDraft (if b then record d { origin = Some prop } else record d { names = d.names ++ (name ∷ []); observes = d.observes ++ (prop ∷ []) })
-node_by true name prop d h = record { later = h.later; first = h.first; each = h.each; among = h.among }
+node_by true name prop d h = record { later = h.later; first = h.first; each = h.each; among = h.among; plain = h.plain }
 node_by false name prop d h =
     let longer = length-append d.names (name ∷ []) in
     let each = length-append d.observes (prop ∷ []) in
@@ -80,23 +88,25 @@ node_by false name prop d h =
       first = ap (λ names. names ++ (name ∷ [])) h.first;
       each = omega (arith, longer, each, h.each);
       among = All-weaker (IsDrawnAmong (length d.names)) (IsDrawnAmong (length (d.names ++ (name ∷ [])))) (λ c i. (omega (arith, longer, i.0), omega (arith, longer, i.1))) d.constraints h.among;
+      plain = h.plain;
     }
 
 node_kept : (name : List ℕ) (prop : Option ℕ) (d : Draft) → IsDraft d → IsDraft (with_node name prop d)
 node_kept name prop d h = node_by (is_same name origin_name) name prop d h
 
-pairs_kept : (at from to : ℕ) (pairs : List Pair) (d e : Draft) → IsDraft d → from < length d.names → to < length d.names → with_pairs at from to pairs d ≡ Ok e → IsDraft e
+pairs_kept : (at from to : ℕ) (pairs : List Pair) (d e : Draft) → IsDraft d → All HasPlainLabel pairs → from < length d.names → to < length d.names → with_pairs at from to pairs d ≡ Ok e → IsDraft e
 unfolding with_pairs
-pairs_kept at from to [] d e h f t k = subst IsDraft (ok_is d e k) h
-pairs_kept at from to (p ∷ pairs) d e h f t k =
+pairs_kept at from to [] d e h plain f t k = subst IsDraft (ok_is d e k) h
+pairs_kept at from to (p ∷ pairs) d e h plain f t k =
     let b = bind_ok (with_pair at from to p d) (with_pairs at from to pairs) e k in
     let q = bind_ok (or_refused p.label (label_text at)) (λ label. Ok (with_constraint (record { from = from; to = to; most = p.most; label = label }) d)) b.0 b.1 in
     let is = ok_is (with_constraint (record { from = from; to = to; most = p.most; label = q.0 }) d) b.0 q.2 in
-    pairs_kept at from to pairs b.0 e (subst IsDraft is (constraint_kept (record { from = from; to = to; most = p.most; label = q.0 }) d h (f, t))) (subst (λ (x : Draft). from < length x.names) is f) (subst (λ (x : Draft). to < length x.names) is t) b.2
+    let here : IsPlain q.0 = All-head HasPlainLabel p pairs plain q.0 (given p.label (label_text at) q.0 q.1) in
+    pairs_kept at from to pairs b.0 e (subst IsDraft is (constraint_kept (record { from = from; to = to; most = p.most; label = q.0 }) d h (f, t) here)) (All-tail HasPlainLabel p pairs plain) (subst (λ (x : Draft). from < length x.names) is f) (subst (λ (x : Draft). to < length x.names) is t) b.2
 
 values_kept : (from to : ℕ) (found : Option Datum) (d e : Draft) → IsDraft d → from < length d.names → to < length d.names → with_values from to found d ≡ Ok e → IsDraft e
 values_kept from to None d e h f t k = subst IsDraft (ok_is d e k) h
-values_kept from to (Some x) d e h f t k = let b = bind_ok (or_refused (values_of x.value) (bad_value x.at)) (λ pairs. with_pairs x.at from to pairs d) e k in pairs_kept x.at from to b.0 d e h f t b.2
+values_kept from to (Some x) d e h f t k = let b = bind_ok (or_refused (values_of x.value) (bad_value x.at)) (λ pairs. with_pairs x.at from to pairs d) e k in pairs_kept x.at from to b.0 d e h (values_plain x.value b.0 (given (values_of x.value) (bad_value x.at) b.0 b.1)) f t b.2
 
 edge_by : (keeps : Bool) (at : ℕ) (source target : List ℕ) (d e : Draft) (found : List Datum) → IsDraft d → with_edge keeps at source target d found ≡ Ok e → IsDraft e
 edge_by false at source target d e found h k = subst IsDraft (ok_is d e k) h

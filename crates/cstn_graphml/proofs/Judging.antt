@@ -5,8 +5,8 @@ use Rattle.cstn_markup.specs.Bytes.{is_white}
 use Rattle.cstn_markup.specs.Tokens.{Token}
 use Rattle.cstn_graphml.specs.Results.{Refusal, ◌>>=◌, demand}
 use Rattle.cstn_graphml.specs.Results.Refusal.{shape}
-use Rattle.cstn_graphml.specs.Elements.{passed, blank}
-use Rattle.cstn_graphml.specs.Contents.{Content}
+use Rattle.cstn_graphml.specs.Elements.{passed, blank, Datum, child}
+use Rattle.cstn_graphml.specs.Contents.{Tag, Content}
 use Rattle.cstn_graphml.specs.Reads.{ReadsWhole, Gives, Fails, inside}
 use Rattle.cstn_graphml.specs.declared.errors.DocError.{DocError}
 use Rattle.cstn_graphml.proofs.PassedOver.{fails_through}
@@ -32,6 +32,11 @@ pub passed_as : {B : Type 0} (b : B) (closed : Bool) (at : ℕ) (name : List ℕ
     → ReadsWhole {A = Unit {0}} (λ u. u) passed closed at name names before after r → ReadsWhole {A = Unit {0}} (λ u. b) (λ content. passed content >>= λ same. Ok b) closed at name names before after r
 passed_as b closed at name names before after (Ok v) h = record { told = ap (λ o. o >>= λ same. Ok b) h.told; left = h.left }
 passed_as b closed at name names before after (Err e) h = record { told = fails_through e (passed (inside closed at name names before)) (λ same. Ok b) h.told; left = tt }
+
+-- an element in a node or an edge that isn't a data element is passed over
+pub child_passed : (b : Bool) (used : List (List ℕ)) (found : List Datum) (tag : Tag) (closed : Bool) (name : List ℕ) (names : List (List ℕ)) (before after : List Token) (r : Result (Unit {0}) DocError) → b ≡ false
+    → ReadsWhole {A = Unit {0}} (λ u. u) passed closed tag.at name names before after r → ReadsWhole {A = Unit {0}} (λ u. found) (child b used found tag) closed tag.at name names before after r
+child_passed b used found tag closed name names before after r e h = subst (λ q. ReadsWhole {A = Unit {0}} (λ u. found) (child q used found tag) closed tag.at name names before after r) (sym e) (passed_as found closed tag.at name names before after r h)
 
 -- a text that isn't white space is refused, and another changes nothing
 pub blank_refused : {S : Type 0} (s : S) (at : ℕ) (raw : List ℕ) → list_all is_white raw ≡ false → (blank at raw >>= λ same. Ok s) ≡ Err (shape at)

@@ -2,15 +2,15 @@ pub mod Examples
 pub mod Places
 pub mod PassedOver
 pub mod Folds
-pub mod ChildRead
 pub mod DatumRead
 pub mod Wholes
 pub mod Judging
 pub mod Tops
 pub mod GraphRead
+pub mod PlainLabels
 pub mod DraftLaws
 pub mod Built
+pub mod Excluded
 pub mod Refusing
-pub mod TenDigits
 pub mod PairTexts
 pub mod TextsRead

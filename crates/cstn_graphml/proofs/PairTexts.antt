@@ -5,7 +5,7 @@ use Rattle.cstn_markup.specs.Bytes.{◌>>=◌}
 use Rattle.std.proofs.lemmas.List.{map-append}
 use Rattle.cstn_graphml.specs.ValueTexts.{Pair, is_separator, pair_at, pairs_by, pairs_after}
 
-pairs_skip : (n : ℕ) (found : List Pair) (bytes : List ℕ) → pairs_after n found bytes ≡ pairs_after 0 found (drop n bytes)
+pub pairs_skip : (n : ℕ) (found : List Pair) (bytes : List ℕ) → pairs_after n found bytes ≡ pairs_after 0 found (drop n bytes)
 unfolding pairs_after
 pairs_skip zero found bytes = refl
 pairs_skip (suc n) found [] = refl

@@ -1,5 +1,6 @@
 -- What a document is told to be.
 use Rattle.std.proofs.Common.{◌≡◌, ℕ, Bool, true, false, List, refl, ap, sym, ◌∙◌, subst, arith, Option, Some, None, Result, Ok, Err, ◌⊎◌, inl, inr}
+use Rattle.std.proofs.lemmas.Bool.{false_from_ne_true}
 use Rattle.std.specs.Str.{IsUtf8, is_utf8}
 use Rattle.std.specs.Str.Lossy.{utf8_valid_len}
 use Rattle.std.proofs.lemmas.Str.{IsUtf8-from_is_utf8, is_utf8-from_IsUtf8}
@@ -25,17 +26,13 @@ use Rattle.cstn_graphml.proofs.PassedOver.{fails_through}
 use Rattle.cstn_graphml.proofs.Built.{parts_with, has_parts, made_network}
 use Rattle.cstn_graphml.proofs.DraftLaws.{document_is_draft}
 
-false_from : (b : Bool) → (b ≡ true → ⊥) → b ≡ false
-false_from true h = absurd (h refl)
-false_from false h = refl
-
 told_at : (m n : ℕ) → m ≡ n → ◌≡◌ {A = Result Parts Refusal} (Err (not_utf8 m)) (Err (not_utf8 n))
 told_at m n e = rw e refl
 
 -- bytes that aren't UTF-8
 pub not_text : (bytes : List ℕ) (word : Option ℕ) (at : ℕ) → (IsUtf8 bytes → ⊥) → at ≡ utf8_valid_len bytes → document bytes word ≡ Err (not_utf8 at)
 not_text bytes word at h e =
-    ap (λ b. demand b (not_utf8 (utf8_valid_len bytes)) >>= λ same. in_document (content_of (tokens bytes)) >>= parts_of word) (false_from (is_utf8 bytes) (λ t. h (IsUtf8-from_is_utf8 bytes t)))
+    ap (λ b. demand b (not_utf8 (utf8_valid_len bytes)) >>= λ same. in_document (content_of (tokens bytes)) >>= parts_of word) (false_from_ne_true (is_utf8 bytes) (λ t. h (IsUtf8-from_is_utf8 bytes t)))
     ∙ told_at (utf8_valid_len bytes) at (sym e)
 
 -- the document of a text

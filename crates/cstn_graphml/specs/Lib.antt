@@ -13,5 +13,6 @@ pub mod Judged
 pub mod Document
 pub mod Networks
 pub mod Reads
+pub mod Passing
 pub mod GraphSeen
 pub mod Answers

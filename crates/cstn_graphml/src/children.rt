@@ -16,11 +16,11 @@ use cstn_markup::{Attributes, Kind, Scanner, Token};
 use std::alloc::Global;
 
 /// An element in a node or an edge, of which the start tag was read.
-fn read_child(
+fn read_child<'a>(
     alloc: Global,
-    scanner: &mut Scanner,
+    scanner: &mut Scanner<'a>,
     at: usize,
-    name: &[u8],
+    name: &'a [u8],
     attributes: &Attributes,
     closed: bool,
     used: &[&[u8]],

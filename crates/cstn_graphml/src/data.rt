@@ -31,11 +31,11 @@ fn is_found(found: &[Datum], key: &[u8]) -> bool
 }
 
 /// A data element of which the start tag was read; None where its key isn't used.
-pub fn read_datum(
+pub fn read_datum<'a>(
     alloc: Global,
-    scanner: &mut Scanner,
+    scanner: &mut Scanner<'a>,
     at: usize,
-    name: &[u8],
+    name: &'a [u8],
     attributes: &Attributes,
     closed: bool,
     used: &[&[u8]],

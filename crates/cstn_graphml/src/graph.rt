@@ -66,11 +66,11 @@ fn read_element_data(
 }
 
 /// A data element of the graph, of which the start tag was read.
-fn read_graph_datum(
+fn read_graph_datum<'a>(
     alloc: Global,
-    scanner: &mut Scanner,
+    scanner: &mut Scanner<'a>,
     at: usize,
-    name: &[u8],
+    name: &'a [u8],
     attributes: &Attributes,
     closed: bool,
     draft: &mut Draft,
@@ -129,11 +129,11 @@ fn read_edge(
 }
 
 /// An element in the graph, of which the start tag was read.
-fn read_graph_child(
+fn read_graph_child<'a>(
     alloc: Global,
-    scanner: &mut Scanner,
+    scanner: &mut Scanner<'a>,
     at: usize,
-    name: &[u8],
+    name: &'a [u8],
     attributes: &Attributes,
     closed: bool,
     draft: &mut Draft,

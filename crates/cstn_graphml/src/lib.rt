@@ -15,6 +15,7 @@ mod label_texts;
 mod networks;
 mod nodes;
 mod numbers;
+mod open_names;
 mod passing;
 mod reading;
 mod root;

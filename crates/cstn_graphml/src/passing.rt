@@ -5,46 +5,52 @@ ghost use Rattle.cstn_graphml.specs.Elements.{passed};
 ghost use Rattle.cstn_graphml.specs.Reads.{Reads, ReadsWhole};
 
 use crate::errors::DocError;
-use cstn_markup::{Kind, Scanner};
+use crate::open_names::OpenNames;
+use cstn_markup::{Kind, Scanner, Token};
 
 /// Passes over the rest of the element of this name, in which only tokens and nesting count.
-pub fn pass_over(scanner: &mut Scanner, name: &[u8], depth: usize) -> Result<(), DocError>
+pub fn pass_over<'a>(
+    scanner: &mut Scanner<'a>,
+    name: &'a [u8],
+    depth: usize,
+) -> Result<(), DocError>
     requires { depth < 32 }
     ensures reads { (others : List (List ℕ)) → length others ≡ depth → Reads (λ u. u) passed name.now others scanner.old scanner.new result }
     ensures less { length scanner.new ≤ length scanner.old }
 {
-    loop {
-        let token = scanner.step();
-        match token.kind {
+    let mut open_names = OpenNames::new(name);
+    while !open_names.is_empty() {
+        let Token { at, kind } = scanner.step();
+        match kind {
             Kind::Start {
                 name: child,
                 attributes: _,
                 closed,
             } => {
-                if depth + 1 >= 32 {
-                    return Err(DocError::Shape { at: token.at });
+                if depth + open_names.len() >= 32 {
+                    return Err(DocError::Shape { at });
                 }
                 if !closed {
-                    pass_over(scanner, child, depth + 1)?;
+                    open_names.push(child);
                 }
             }
             Kind::End { name: last } => {
-                if last == name {
-                    return Ok(());
+                if last != open_names.pop() {
+                    return Err(DocError::Shape { at });
                 }
-                return Err(DocError::Shape { at: token.at });
             }
             Kind::Text { raw: _ } => {}
-            Kind::Wrong => return Err(DocError::Shape { at: token.at }),
-            Kind::Finish => return Err(DocError::Shape { at: token.at }),
+            Kind::Wrong => return Err(DocError::Shape { at }),
+            Kind::Finish => return Err(DocError::Shape { at }),
         }
     }
+    Ok(())
 }
 
 /// Passes over an element of which the start tag was read.
-pub fn pass_element(
-    scanner: &mut Scanner,
-    name: &[u8],
+pub fn pass_element<'a>(
+    scanner: &mut Scanner<'a>,
+    name: &'a [u8],
     closed: bool,
     depth: usize,
 ) -> Result<(), DocError>

@@ -1,8 +1,10 @@
 //! Reading a document.
 
-ghost use Rattle.std.specs.Prelude.{◌≡◌, ℕ, List, ◌∷◌, length, IfOk, IfErr};
+ghost use Rattle.std.specs.Prelude.{◌≡◌, ◌≢◌, ℕ, List, ◌∷◌, length, IfOk, IfErr};
 ghost use Rattle.cstn_net.specs.Networks.{IsWellFormed, count};
 ghost use Rattle.cstn_net.specs.Read.{the_network};
+ghost use Rattle.cstn_net.specs.declared.errors.NetError.TheVariants.{NoOrigin, NotPlain};
+ghost use Rattle.cstn_graphml.specs.declared.errors.DocError.TheVariants.{Net};
 ghost use Rattle.cstn_graphml.specs.Draft.{origin_name};
 ghost use Rattle.cstn_graphml.specs.Document.{first_of_two, document};
 ghost use Rattle.cstn_graphml.specs.Answers.{IsDocument, IsRefused, IsTold};
@@ -67,6 +69,8 @@ pub fn read(
     ensures origin { IfOk result (λ r. (later : List (List ℕ)) × (r.1 ≡ origin_name ∷ later)) }
 
     ensures refused { IfErr result (IsRefused (document bytes.now deadline)) }
+    ensures has_origin { IfErr result (λ e. (names : List (List ℕ)) → e ≢ Net NoOrigin names) }
+    ensures has_plain_labels { IfErr result (λ e. (names : List (List ℕ)) (constraint : ℕ) → e ≢ Net (NotPlain constraint) names) }
 {
     if let Err(e) = str::from_utf8(bytes) {
         return Err(DocError::NotUtf8 {

@@ -16,11 +16,11 @@ use cstn_markup::{Kind, Scanner, Token};
 use std::alloc::Global;
 
 /// An element in the root, of which the start tag was read.
-fn read_root_child(
+fn read_root_child<'a>(
     alloc: Global,
-    scanner: &mut Scanner,
+    scanner: &mut Scanner<'a>,
     at: usize,
-    name: &[u8],
+    name: &'a [u8],
     closed: bool,
     seen: &mut Option<Draft>,
     depth: usize,

@@ -7,3 +7,7 @@ pub mod CutLemmas
 pub mod MarkLemmas
 pub mod StepLemmas
 pub mod PutLemmas
+pub mod FinishLemmas
+pub mod AskedLemmas
+pub mod Strategies
+pub mod PlanLemmas

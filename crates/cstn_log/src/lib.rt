@@ -1,12 +1,17 @@
-//! The log: the list of bounds that follow by the rules, in order, each with the rule that gave it.
+//! The log: the list of bounds that follow by the rules, in order, each with the rule that gave it; and plans, lists of
+//! bounds to which the rules add nothing.
 #![tactic(auto)]
 
 mod cuts;
 mod cutting;
+mod laws;
 mod log;
+mod plans;
 mod putting;
 
 pub use cuts::{
     cuts_are_derivations, cuts_are_known, dropping_leaves_derivations, parts_are_derivations,
 };
+pub use laws::closed_lists_have_strategies;
 pub use log::Log;
+pub use plans::{Plan, SoundPlan};

@@ -213,9 +213,20 @@ impl Log {
         self.places.clear();
         self.steps.clear();
         mark_staying(&self.pool, &self.ids, constraint, &mut self.marks);
-        cut(&self.pool, &self.ids, &self.marks, &mut self.places, &mut self.steps);
+        cut(
+            &self.pool,
+            &self.ids,
+            &self.marks,
+            &mut self.places,
+            &mut self.steps,
+        );
         clear(&mut self.pool, &mut self.minimal, &mut self.ids);
-        put_all(&mut self.pool, &mut self.minimal, &mut self.ids, &self.steps);
+        put_all(
+            &mut self.pool,
+            &mut self.minimal,
+            &mut self.ids,
+            &self.steps,
+        );
         (before - self.ids.len()) as u32
     }
 

@@ -95,7 +95,7 @@ piece_found b bytes piece n e =
     ]
 
 -- UTF-8 is cut before ASCII
-cut : (head bytes : List ℕ) (b : ℕ) → b < 128 → IsUtf8 (head ++ (b ∷ bytes)) → IsUtf8 head × IsUtf8 (b ∷ bytes)
+pub cut : (head bytes : List ℕ) (b : ℕ) → b < 128 → IsUtf8 (head ++ (b ∷ bytes)) → IsUtf8 head × IsUtf8 (b ∷ bytes)
 cut head bytes b low u =
     let first : get_or (head ++ (b ∷ bytes)) (length head) 0 ≡ b = get_or-append_seam head b bytes 0 in
     let at = IsCharBoundary-before_ascii (head ++ (b ∷ bytes)) (length head) (omega (arith, length-append head (b ∷ bytes))) (omega (arith, first)) in (

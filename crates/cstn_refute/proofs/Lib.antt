@@ -1,2 +1,6 @@
 mod PrintLemmas
 mod ReadLemmas
+mod CutLemmas
+mod BackLemmas
+mod SaidLemmas
+mod WrittenLemmas

@@ -1,5 +1,5 @@
 -- Texts, step by step.
-use Rattle.std.proofs.Common.{ℕ, ◌≡◌, ◌+◌, ◌<◌, List, [], ◌∷◌, ◌++◌, length, get_or, take, map, arith, refl, sym, subst, ap, ◌∙◌, codes}
+use Rattle.std.proofs.Common.{ℕ, ◌≡◌, ◌+◌, ◌<◌, List, [], ◌∷◌, ◌++◌, length, get_or, take, map, arith, sym, ap, ◌∙◌, codes}
 use Rattle.std.proofs.lemmas.List.{append_assoc, map_more, length-map}
 use Rattle.std.proofs.lemmas.Grind.{common_steps}
 use Rattle.cstn_rules.specs.declared.entries.Entry.{Entry as DeclaredEntry}

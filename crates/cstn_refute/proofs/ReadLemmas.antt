@@ -1,5 +1,5 @@
 -- Texts, line by line.
-use Rattle.std.proofs.Common.{ℕ, zero, suc, add-one, ◌≡◌, ◌+◌, ◌<◌, ◌≤◌, Bool, true, false, List, [], ◌∷◌, ◌++◌, length, get_or, take, drop, map, arith, refl, sym, subst, ap, ◌∙◌}
+use Rattle.std.proofs.Common.{ℕ, zero, suc, add-one, ◌≡◌, ◌+◌, ◌<◌, ◌≤◌, true, false, List, [], ◌∷◌, ◌++◌, length, get_or, take, drop, map, arith, refl, sym, subst, ap, ◌∙◌}
 use Rattle.std.specs.Prelude.{◌==◌, Option, None, Some, position, if◌then◌else◌}
 use Rattle.std.specs.List.{position_or_len}
 use Rattle.std.specs.Option.{option_map}
@@ -11,7 +11,7 @@ use Rattle.cstn_rules.specs.declared.entries.Entry.{Entry as DeclaredEntry}
 use Rattle.cstn_rules.specs.Derivations.{Entry}
 use Rattle.cstn_rules.specs.Read.{the_entry}
 use Rattle.cstn_refute.specs.Steps.{cut_at, step_read}
-use Rattle.cstn_refute.specs.Texts.{Lines, begun, with_byte, lines_of, Told, wrong, at_end, or_wrong, told_after, load_read, told_lines, told}
+use Rattle.cstn_refute.specs.Texts.{Lines, begun, lines_of, Told, wrong, at_end, or_wrong, told_after, load_read, told_lines, told}
 
 cut_lines : (bs : List ℕ) (i : ℕ) → i < length bs → (get_or bs i 0 == 10) ≡ true →
     ((k : ℕ) → k < i → (get_or bs k 0 == 10) ≡ false) →

@@ -1,4 +1,5 @@
 pub mod Refutations
 pub mod Steps
 pub mod Texts
+pub mod Written
 pub mod Read

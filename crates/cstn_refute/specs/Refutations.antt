@@ -21,6 +21,12 @@ pub record AreSteps (steps : List Entry) : Type 0 where
   pub few : length steps < 2 ^ 32
   pub each : All IsStep steps
 
+-- a text has numbers for the load and for each step
+pub record FitsText (r : RefutationParts) : Type 0 where
+  pub load_low : 1 ≤ r.load
+  pub load_high : r.load ≤ 4194304
+  pub few : length r.steps ≤ 4194304
+
 -- the steps as bounds and rules
 abbrev pub the_steps : RefutationParts → List TheEntry
 the_steps r = map the_entry r.steps

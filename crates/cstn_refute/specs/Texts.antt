@@ -1,5 +1,5 @@
 -- Texts of refutations.
-use Rattle.std.specs.Prelude.{ℕ, ◌≡◌, ◌+◌, ◌++◌, ◌==◌, Bool, if◌then◌else◌, List, [], ◌∷◌, length, Option, None, Some, codes, bytes_eq}
+use Rattle.std.specs.Prelude.{ℕ, ◌+◌, ◌++◌, ◌==◌, if◌then◌else◌, List, [], ◌∷◌, length, Option, None, Some, codes, bytes_eq}
 use Rattle.cstn_rules.specs.Derivations.{Entry}
 use Rattle.cstn_text.specs.Numbers.{printed_number}
 use Rattle.cstn_refute.specs.Steps.{◌>>=◌, part, number_within, step_read, printed_step}

@@ -2,12 +2,14 @@
 #![tactic(auto)]
 
 mod errors;
+mod laws;
 mod parts;
 mod printing;
 mod reading;
 mod refutations;
 
 pub use errors::RefuteError;
+pub use laws::texts_are_read_back;
 pub use refutations::Refutation;
 
 #[cfg(test)]

@@ -4,9 +4,11 @@ ghost use Rattle.std.specs.List.{All};
 ghost use Rattle.cstn_text.specs.Numbers.{printed_value};
 ghost use Rattle.cstn_label.specs.Read.{the_bound};
 ghost use Rattle.cstn_rules.specs.Read.{the_entry};
-ghost use Rattle.cstn_refute.specs.Refutations.{the_steps};
+ghost use Rattle.cstn_text.specs.Names.{AreNames};
+ghost use Rattle.cstn_refute.specs.Refutations.{FitsText, the_steps};
 ghost use Rattle.cstn_refute.specs.Steps.{printed_why, printed_bound, printed_step};
-ghost use Rattle.cstn_refute.specs.Texts.{shown};
+ghost use Rattle.cstn_refute.specs.Texts.{shown, told, tells};
+ghost use Rattle.cstn_refute.specs.Written.{ArePlaces};
 
 use crate::refutations::Refutation;
 use cstn_label::Bound;
@@ -15,11 +17,14 @@ use cstn_text::{Names, print_label, print_name};
 use std::alloc::{AllocError, Global};
 
 impl Refutation {
-    /// The text of the refutation: a line for its load, and one for each step.
+    /// The text of the refutation: a line for its load, and one for each step. Read again, it gives the refutation, where a
+    /// text has numbers for its load and steps.
     pub fn print(&self, alloc: Global, names: &Names) -> Result<String, AllocError>
         requires named { All (λ e. e.bound.node.0 < length names.now) self.now.steps }
         ensures shown { IfOk result (λ text. string_bytes text ≡ shown names.now self.now.load (the_steps self.now)) }
+        ensures back { FitsText self.now → IfOk result (λ text. told names.now (string_bytes text) ≡ tells self.now.load (the_steps self.now)) }
     {
+        are_names(names);
         let load = self.load();
         let mut text = format!(in alloc; "no {load}\n")?;
         for (k, step) in self.steps().iter().enumerate() {
@@ -27,6 +32,13 @@ impl Refutation {
         }
         Ok(text)
     }
+}
+
+// Every list of names has different ones.
+fn are_names(names: &Names)
+    ensures { AreNames names.now }
+{
+    let _ = names.count();
 }
 
 // Appends the line of the step at the place k.
@@ -39,6 +51,7 @@ fn push_step(
 ) -> Result<(), AllocError>
     requires named { step.bound.node.0 < length names.now }
     ensures pushed { OnOk result (string_bytes text.new ≡ string_bytes text.old ++ (printed_step names.now k (the_entry step) ++ 10 ∷ [])) }
+    ensures places { ArePlaces step.why }
 {
     let line = print_step(alloc, names, k, step)?;
     text.push_str(&line)?;
@@ -48,6 +61,7 @@ fn push_step(
 fn print_step(alloc: Global, names: &Names, k: usize, step: Entry) -> Result<String, AllocError>
     requires named { step.bound.node.0 < length names.now }
     ensures printed { IfOk result (λ text. string_bytes text ≡ printed_step names.now k (the_entry step)) }
+    ensures places { ArePlaces step.why }
 {
     let why = print_why(alloc, step.why)?;
     let bound = print_bound(alloc, names, step.bound)?;
@@ -71,6 +85,7 @@ fn print_parts(alloc: Global, name: &str, least: i32, label: &str) -> Result<Str
 
 fn print_why(alloc: Global, why: Why) -> Result<String, AllocError>
     ensures printed { IfOk result (λ text. string_bytes text ≡ printed_why why) }
+    ensures places { ArePlaces why }
 {
     match why {
         Why::Base => String::from_str(alloc, "base"),

@@ -6,6 +6,7 @@ ghost use Rattle.cstn_rules.specs.Read.{the_entry};
 ghost use Rattle.cstn_refute.specs.Refutations.{IsStep, the_steps};
 ghost use Rattle.cstn_refute.specs.Steps.{step_read};
 ghost use Rattle.cstn_refute.specs.Texts.{Told, tells, wrong, at_end, or_wrong, told_after, told, load_read, lines_of};
+ghost use Rattle.cstn_refute.specs.Written.{AreWritten};
 ghost use Rattle.cstn_refute.specs.Read.{IsWrong};
 
 use crate::errors::RefuteError;
@@ -22,6 +23,9 @@ impl Refutation {
         requires few { length names.now ≤ 65536 }
         ensures accepted { IfOk result (λ r. told names.now bytes.now ≡ tells r.load (the_steps r)) }
         ensures line { IfErr result (IsWrong (told names.now bytes.now)) }
+
+        ensures named { IfOk result (λ r. All (λ e. e.bound.node.0 < length names.now) r.steps) }
+        ensures ranges { IfOk result (λ r. AreWritten names.now r.load (the_steps r)) }
     {
         let Some((line, rest)) = cut_at(bytes, b'\n') else {
             return Err(RefuteError::Line { line: 1 });

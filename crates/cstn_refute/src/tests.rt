@@ -1,8 +1,4 @@
-ghost use Rattle.std.specs.Prelude.{◌≡◌, ◌<◌, ◌≤◌, length, true};
-ghost use Rattle.std.specs.List.{All};
-
 use crate::{Refutation, RefuteError};
-use cstn_rules::Entry;
 use cstn_text::Names;
 use std::alloc::Global;
 use std::process::Abort;
@@ -21,35 +17,20 @@ fn names(rt: &impl Abort, alloc: Global) -> Names {
     names
 }
 
-fn are_named(names: &Names, steps: &[Entry]) -> bool
-    ensures { result ≡ true → All (λ e. e.bound.node.0 < length names.now) steps.now }
-{
-    for step in steps {
-        if step.bound.node.number() >= names.count() {
-            return false;
-        }
-    }
-    true
-}
-
-fn refutation(rt: &impl Abort, alloc: Global, text: &str) -> Result<Refutation, RefuteError> {
-    let names = names(rt, alloc);
-    assert!(rt; names.count() < 1000);
-    Refutation::read(alloc, &names, text.as_bytes())
-}
-
 // The text is read, and printed so.
 fn printed(rt: &impl Abort, alloc: Global, text: &str, expected: &str) -> Result<(), Fail> {
     let names = names(rt, alloc);
-    let r = refutation(rt, alloc, text).expect(rt, text);
-    assert!(rt; are_named(&names, r.steps()));
+    assert!(rt; names.count() < 1000);
+    let r = Refutation::read(alloc, &names, text.as_bytes()).expect(rt, text);
     assert_eq!(rt; r.print(alloc, &names)?.as_str(), expected);
     Ok(())
 }
 
 // The line is the first wrong one of the text.
 fn wrong(rt: &impl Abort, alloc: Global, text: &str, expected: u32) {
-    match refutation(rt, alloc, text) {
+    let names = names(rt, alloc);
+    assert!(rt; names.count() < 1000);
+    match Refutation::read(alloc, &names, text.as_bytes()) {
         Err(RefuteError::Line { line }) => assert_eq!(rt; line, expected),
         _ => assert!(rt; false),
     }

@@ -3,6 +3,7 @@ use Rattle.std.proofs.Common.{◌≡◌, ◌≢◌, ℕ, zero, suc, ◌+◌, ◌
 use Rattle.std.specs.Prelude.{Option, Some, None, codes, ◌==◌, nat_lt, nat_le, ◌&&◌, slice_index_or}
 use Rattle.std.specs.List.{AllPairs, position, position_or_len}
 use Rattle.std.specs.Str.{bytes_eq}
+use Rattle.std.proofs.lemmas.Bool.{false_from_ne_true}
 use Rattle.std.proofs.lemmas.List.{take_more, take_all, get_or-take}
 use Rattle.std.proofs.lemmas.List.Sums.{position_or_len_is}
 use Rattle.std.proofs.lemmas.Slice.Eq.{bytes_eq-Decides}
@@ -14,16 +15,11 @@ use Rattle.cstn_save.proofs.EdgeLemmas.{with_all}
 use Rattle.cstn_save.specs.ReadBack.{drawn}
 use Rattle.cstn_save.proofs.ReadBackLemmas.{begun}
 
-not_true : (b : Bool) → (b ≡ true → ⊥) → b ≡ false
-not_true true h = absurd (h refl)
-not_true false h = refl
-
 differ : (xs ys : List ℕ) → xs ≢ ys → bytes_eq xs ys ≡ false
-differ xs ys h = not_true (bytes_eq xs ys) (λ e. h ((bytes_eq-Decides xs ys).0 e))
+differ xs ys h = false_from_ne_true (bytes_eq xs ys) (λ e. h ((bytes_eq-Decides xs ys).0 e))
 
 self : (xs : List ℕ) → bytes_eq xs xs ≡ true
-self [] = refl
-self (x ∷ xs) = let e : (x == x) ≡ true = grind arith in rw e (self xs)
+self xs = (bytes_eq-Decides xs xs).1 refl
 
 -- one name for each time-point, the first `Z`, different, and each of its size
 pub record AreGiven (names : List (List ℕ)) (observes : List (Option ℕ)) : Type 0 where

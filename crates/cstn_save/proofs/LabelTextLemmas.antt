@@ -10,39 +10,12 @@ use Rattle.cstn_label.specs.Letters.{letter_of, prop_of}
 use Rattle.cstn_markup.specs.Bytes.{is_same, is_white}
 use Rattle.cstn_graphml.specs.LabelTexts.{label_after, label_of}
 use Rattle.cstn_graphml.specs.LabelTexts.Expects.{literal as for_literal}
+use Rattle.cstn_text.proofs.PrintedLabelLemmas.{below, below_none, below_more, below_absent, below_here, below_all, letter_back}
 use Rattle.cstn_save.specs.Canonical.{literal, literals_below, or_empty, document_label}
-
--- the marks of the propositions below n alone
-abbrev below : Label → ℕ → Label
-below a n = λ p. if nat_lt p n then a p else Absent
-
-below_none : (a : Label) → below a 0 ≡ empty
-below_none a = fun_ext (λ p. none_at p (a p))
-  where
-    none_at : (p : ℕ) (m : Mark) → (if nat_lt p 0 then m else Absent) ≡ Absent
-    none_at p m = grind arith
-
-more_at : (q n : ℕ) (x y : Mark) → (q ≡ n → y ≡ x) → (if q == n then x else (if nat_lt q n then y else Absent)) ≡ (if nat_lt q (suc n) then y else Absent)
-more_at q n x y same = grind arith
-
-below_more : (a : Label) (n : ℕ) (m : Mark) → a n ≡ m → with_mark (below a n) n m ≡ below a (suc n)
-below_more a n m is = fun_ext (λ q. more_at q n m (a q) (λ e. ap a e ∙ is))
-
-same_at : (q n : ℕ) (y : Mark) → (q ≡ n → y ≡ Absent) → (if nat_lt q n then y else Absent) ≡ (if nat_lt q (suc n) then y else Absent)
-same_at q n y absent = grind arith
-
-below_absent : (a : Label) (n : ℕ) → a n ≡ Absent → below a n ≡ below a (suc n)
-below_absent a n absent = fun_ext (λ q. same_at q n (a q) (λ e. ap a e ∙ absent))
-
-below_here : (n : ℕ) (m : Mark) → (if nat_lt n n then m else Absent) ≡ Absent
-below_here n m = grind arith
 
 -- the letter of a proposition
 pub letter_kind : (p : ℕ) → p < 52 → (is_white (letter_of p) ≡ false) × ((letter_of p == 33) ≡ false) × ((letter_of p == 194) ≡ false)
 letter_kind p small = grind arith
-
-pub letter_back : (p : ℕ) → p < 52 → prop_of (letter_of p) ≡ Some p
-letter_back p small = grind arith
 
 -- a literal is read
 literal_read : (a : Label) (n : ℕ) (m : Mark) (rest : List ℕ) → n < 52 → a n ≡ m → IsMarkPlain m
@@ -51,10 +24,10 @@ unfolding label_after
 literal_read a n Absent rest small is plain = ap (λ (b : Label). label_after for_literal b rest) (below_absent a n is)
 literal_read a n Yes rest small is plain =
     let k = letter_kind n small in
-    rw (k.0, k.1, k.2, letter_back n small, below_here n (a n)) (ap (λ (b : Label). label_after for_literal b rest) (below_more a n Yes is))
+    rw (k.0, k.1, k.2, letter_back n small, below_here n (a n)) (ap (λ (b : Label). label_after for_literal b rest) ((rw is at (below_more a n))))
 literal_read a n No rest small is plain =
     let k = letter_kind n small in
-    rw (k.0, letter_back n small, below_here n (a n)) (ap (λ (b : Label). label_after for_literal b rest) (below_more a n No is))
+    rw (k.0, letter_back n small, below_here n (a n)) (ap (λ (b : Label). label_after for_literal b rest) ((rw is at (below_more a n))))
 literal_read a n Unknown rest small is plain = absurd plain
 
 literals_read : (a : Label) (n : ℕ) (rest : List ℕ) → n ≤ 52 → IsPlain a → label_after for_literal empty (literals_below a n ++ rest) ≡ label_after for_literal (below a n) rest
@@ -62,12 +35,6 @@ unfolding literals_below
 literals_read a zero rest small plain = ap (λ (b : Label). label_after for_literal b rest) (sym (below_none a))
 literals_read a (suc n) rest small plain =
     rw append_assoc (literals_read a n (literal (letter_of n) (a n) ++ rest) (omega arith) plain ∙ literal_read a n (a n) rest (omega arith) refl (plain n))
-
-whole_at : (p : ℕ) (m : Mark) → (52 ≤ p → m ≡ Absent) → (if nat_lt p 52 then m else Absent) ≡ m
-whole_at p m high = grind arith
-
-below_all : (a : Label) → ((p : ℕ) → 52 ≤ p → a p ≡ Absent) → below a 52 ≡ a
-below_all a high = fun_ext (λ p. whole_at p (a p) (high p))
 
 -- a text of literals isn't the one of the empty label
 empty_cases : (b : ℕ) (bytes : List ℕ) (a : Label) (is : Bool) → is_same (b ∷ bytes) (226 ∷ 138 ∷ 161 ∷ []) ≡ is → label_after for_literal empty (b ∷ bytes) ≡ Some a → label_of (b ∷ bytes) ≡ Some a

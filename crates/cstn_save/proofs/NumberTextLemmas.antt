@@ -6,17 +6,11 @@ use Rattle.std.specs.List.{list_all}
 use Rattle.std.specs.Int.{w32}
 use Rattle.std.specs.Str.Parse.{digits_value, digits_value_after}
 use Rattle.std.proofs.lemmas.Bool.{and_parts}
-use Rattle.std.proofs.lemmas.Str.Parse.{IsDigitsTest, IsNumeralModel, numerals_by_value}
 use Rattle.std.proofs.lemmas.Fmt.{digits_decimal, digits_value-decimal, decimal_nonempty, length-decimal-le}
 use Rattle.cstn_text.specs.Numbers.{printed_number, printed_value}
+use Rattle.cstn_text.proofs.NumberLemmas.{digits}
 use Rattle.cstn_markup.specs.Bytes.{number_after}
 use Rattle.cstn_graphml.specs.Numbers.{short_number, integer_text, past_minus}
-
-tells_digits : IsDigitsTest (λ ds. list_all is_ascii_digit ds ≡ true)
-tells_digits = search rules
-
-digits : IsNumeralModel (λ ds. list_all is_ascii_digit ds ≡ true) (digits_value 10)
-digits = numerals_by_value _ tells_digits
 
 digit_is : (d : ℕ) → is_ascii_digit d ≡ true → is_digit d 10 ≡ true
 digit_is d h = grind arith

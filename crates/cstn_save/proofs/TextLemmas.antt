@@ -14,6 +14,7 @@ use Rattle.std.proofs.lemmas.Bool.{and_parts}
 use Rattle.std.proofs.lemmas.List.{length-append}
 use Rattle.std.proofs.lemmas.Str.{IsUtf8-take, IsUtf8-drop, IsUtf8-append, IsUtf8-encode, IsUtf8-nil, IsUtf8-from_is_utf8, encode_ascii, IsCharBoundary-before_ascii}
 use Rattle.cstn_markup.proofs.Utf8.{past_ascii}
+use Rattle.cstn_markup.proofs.Resolving.{cut}
 use Rattle.cstn_text.specs.Numbers.{printed_number, printed_value}
 use Rattle.cstn_save.specs.Canonical.{is_numbered, escaped_byte, escaped_name, literal, literals_below, or_empty, document_label, head, node_end, node_line, nodes_below, edge_tag, edge_data, edge_line, edges, tail}
 use Rattle.cstn_net.specs.Networks.{Constraint}
@@ -55,15 +56,6 @@ high_byte b h =
     let q : (b == 34) ≡ false = grind arith in
     rw (a, l, g, q, n) refl
 
--- UTF-8 is cut before ASCII
-cut : (front bytes : List ℕ) (b : ℕ) → b < 128 → IsUtf8 (front ++ (b ∷ bytes)) → IsUtf8 front × IsUtf8 (b ∷ bytes)
-cut front bytes b low u =
-    let first : get_or (front ++ (b ∷ bytes)) (length front) 0 ≡ b = get_or-append_seam front b bytes 0 in
-    let at = IsCharBoundary-before_ascii (front ++ (b ∷ bytes)) (length front) (omega (arith, length-append front (b ∷ bytes))) (omega (arith, first)) in (
-      subst IsUtf8 (take-append_seam front (b ∷ bytes)) (IsUtf8-take (front ++ (b ∷ bytes)) (length front) u at),
-      subst IsUtf8 (drop-append_seam front (b ∷ bytes)) (IsUtf8-drop (front ++ (b ∷ bytes)) (length front) u at),
-    )
-
 low_is : (b : ℕ) → nat_lt b 128 ≡ true → b < 128
 low_is b e = grind arith
 
@@ -96,17 +88,14 @@ is_empty_sign : is_utf8 (226 ∷ 138 ∷ 161 ∷ []) ≡ true
 unfolding chars encode_utf8 is_utf8
 is_empty_sign = refl
 
+letter_low : (n : ℕ) → n < 52 → letter_of n < 128
+letter_low n small = grind arith
+
 -- the label of a document is UTF-8
 literal_utf8 : (n : ℕ) (m : Mark) → n < 52 → IsUtf8 (literal (letter_of n) m)
 literal_utf8 n Absent small = IsUtf8-nil
 literal_utf8 n Yes small = single (letter_of n) (letter_low n small)
-  where
-    letter_low : (n : ℕ) → n < 52 → letter_of n < 128
-    letter_low n small = grind arith
 literal_utf8 n No small = IsUtf8-append (194 ∷ 172 ∷ []) (letter_of n ∷ []) (IsUtf8-from_is_utf8 (194 ∷ 172 ∷ []) is_negation) (single (letter_of n) (letter_low n small))
-  where
-    letter_low : (n : ℕ) → n < 52 → letter_of n < 128
-    letter_low n small = grind arith
 literal_utf8 n Unknown small = IsUtf8-nil
 
 literals_utf8 : (a : Label) (n : ℕ) → n ≤ 52 → IsUtf8 (literals_below a n)
@@ -144,9 +133,6 @@ edge_utf8 source target v a s t fits =
 node_end_utf8 : (o : Option ℕ) → IsProp o → IsUtf8 (node_end o)
 node_end_utf8 None small = ascii_utf8 (codes "\"/>\n") refl
 node_end_utf8 (Some p) small = both (codes "\"><data key=\"Obs\">") (letter_of p ∷ codes "</data></node>\n") (ascii_utf8 (codes "\"><data key=\"Obs\">") refl) (both (letter_of p ∷ []) (codes "</data></node>\n") (single (letter_of p) (letter_low p small)) (ascii_utf8 (codes "</data></node>\n") refl))
-  where
-    letter_low : (n : ℕ) → n < 52 → letter_of n < 128
-    letter_low n small = grind arith
 
 pub nodes_utf8 : (names : List (List ℕ)) (observes : List (Option ℕ)) (n : ℕ) → ((i : ℕ) → i < n → IsUtf8 (slice_index_or names i []) × IsProp (slice_index_or observes i None)) → IsUtf8 (nodes_below names observes n)
 unfolding nodes_below

@@ -2,7 +2,7 @@
 use Rattle.std.proofs.Common.{◌≡◌, ℕ, zero, suc, ◌+◌, ◌-◌, ◌<◌, ◌≤◌, List, [], ◌∷◌, ◌++◌, length, drop, refl, ap, arith, Bool, true, false, not, length-drop}
 use Rattle.std.specs.Prelude.{Some, codes, ◌==◌}
 use Rattle.std.proofs.Math.Seq.{take-append_seam, drop-append_seam}
-use Rattle.std.proofs.lemmas.Bool.{and_parts}
+use Rattle.std.proofs.lemmas.Bool.{and_parts, not-true}
 use Rattle.std.specs.List.{list_all}
 use Rattle.cstn_markup.specs.Bytes.{◌>>=◌, resolved_after, piece_at as bytes_piece_at}
 use Rattle.cstn_markup.specs.Tokens.{Attribute, Kind, attribute_at, with_front, tail_at, piece_at, tokens_after}
@@ -126,7 +126,7 @@ next_token b bytes rest at kind e =
 -- a text up to the next tag
 pub text_piece : (b : ℕ) (raw rest : List ℕ) → list_all (λ c. not (c == 60)) (b ∷ raw) ≡ true → list_all (λ c. not (c == 38)) (b ∷ raw) ≡ true → piece_at (b ∷ (raw ++ 60 ∷ rest)) ≡ Some (Some (Kind.text_run (b ∷ raw)), 60 ∷ rest)
 text_piece b raw rest h k =
-    let first : (b == 60) ≡ false = no_test (b == 60) (and_parts (not (b == 60)) (list_all (λ c. not (c == 60)) raw) h).0 in
+    let first : (b == 60) ≡ false = not-true (b == 60) (and_parts (not (b == 60)) (list_all (λ c. not (c == 60)) raw) h).0 in
     let more : 1 + length raw ≡ suc (length raw) = omega arith in
     rw (
       first,
@@ -136,7 +136,3 @@ text_piece b raw rest h k =
       take-append_seam raw (60 ∷ rest),
       resolved_plain (b ∷ raw) k,
     ) refl
-  where
-    no_test : (t : Bool) → not t ≡ true → t ≡ false
-    no_test true e = absurd (cc)
-    no_test false e = refl

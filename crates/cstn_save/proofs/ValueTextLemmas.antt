@@ -16,6 +16,7 @@ use Rattle.cstn_markup.specs.Bytes.{is_white, number_after}
 use Rattle.cstn_graphml.specs.Numbers.{trimmed, integer_text, short_number}
 use Rattle.cstn_graphml.specs.LabelTexts.{label_of}
 use Rattle.cstn_graphml.specs.ValueTexts.{Pair, is_of_part, pair_at, pairs_after, values_of}
+use Rattle.cstn_graphml.proofs.PairTexts.{pairs_skip}
 use Rattle.cstn_save.specs.Canonical.{literal, literals_below, or_empty, document_label}
 use Rattle.cstn_save.proofs.NumberTextLemmas.{decimal_digits, integer_back}
 use Rattle.cstn_save.proofs.LabelTextLemmas.{label_back}
@@ -138,13 +139,6 @@ pair_here first second rest v f s e n =
       e,
       n,
     ) refl
-
-pairs_skip : (n : ℕ) (found : List Pair) (bytes : List ℕ) → pairs_after n found bytes ≡ pairs_after 0 found (drop n bytes)
-unfolding pairs_after
-pairs_skip zero found [] = refl
-pairs_skip (suc n) found [] = refl
-pairs_skip zero found (b ∷ bytes) = refl
-pairs_skip (suc n) found (b ∷ bytes) = pairs_skip n found bytes
 
 past_pair : (first second : List ℕ) → drop (length first + suc (length second) + 2) (first ++ 44 ∷ 32 ∷ (second ++ 41 ∷ 125 ∷ [])) ≡ 125 ∷ []
 past_pair first second =

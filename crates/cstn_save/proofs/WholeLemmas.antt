@@ -5,7 +5,7 @@ use Rattle.std.specs.List.{list_all}
 use Rattle.cstn_label.specs.Letters.{letter_of}
 use Rattle.cstn_graphml.specs.Draft.{Draft, node_of, with_node}
 use Rattle.cstn_save.specs.Canonical.{escaped_name, node_end, node_line, nodes_below}
-use Rattle.cstn_save.proofs.LabelTextLemmas.{letter_back}
+use Rattle.cstn_text.proofs.PrintedLabelLemmas.{letter_back}
 use Rattle.cstn_save.proofs.ValueTextLemmas.{trimmed_solid, is_solid}
 use Rattle.cstn_save.proofs.LineLemmas.{Makes, plain_node, observing_node, then}
 

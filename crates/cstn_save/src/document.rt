@@ -1,8 +1,10 @@
 //! The canonical document.
 
-ghost use Rattle.std.specs.Prelude.{◌≡◌, ◌<◌, ◌++◌, OnOk, IfOk, Some, length, slice_get, codes, map};
+ghost use Rattle.std.specs.Prelude.{◌≡◌, ◌<◌, ◌++◌, OnOk, IfOk, Ok, Some, None, length, slice_get, codes, map};
 ghost use Rattle.cstn_net.specs.Networks.{count};
 ghost use Rattle.cstn_net.specs.Read.{the_network, the_constraint};
+ghost use Rattle.cstn_graphml.specs.Document.{document};
+ghost use Rattle.cstn_save.specs.ReadBack.{parts};
 ghost use Rattle.cstn_save.specs.Canonical.{canonical, nodes_below, edges, edge_line};
 
 use crate::lines::{push_edge_data, push_edge_tag, push_head, push_node};
@@ -13,12 +15,15 @@ use std::alloc::{AllocError, Global};
 
 /// The canonical document of a network under the names of its time-points, of which the first is `Z`.
 ///
-/// The lines are those of the deadline in ticks, of each time-point by number and of each constraint by id.
+/// The lines are those of the deadline in ticks, of each time-point by number and of each constraint by id. Reading the
+/// document gives the same names and the same network, with its constraints numbered from 0.
 pub fn write(alloc: Global, net: &Network, names: &Names) -> Result<Vec<u8>, AllocError>
     requires named { length names.now ≡ count (the_network net.now) }
     requires origin { slice_get names.now 0 ≡ Some (codes "Z") }
     ensures canonical { IfOk result (λ text. text.items ≡ canonical (the_network net.now) names.now) }
+    ensures read_back { IfOk result (λ text. document text.items None ≡ Ok (parts (the_network net.now) names.now)) }
 {
+    prove!(names.count() == net.count() as u32);
     let mut text = Vec::new(alloc);
     push_head(alloc, &mut text, net.deadline())?;
     push_nodes(alloc, &mut text, net, names)?;

@@ -17,7 +17,7 @@ use Rattle.cstn_text.specs.Numbers.{printed_number, printed_value, is_numeral, n
 tells_digits : IsDigitsTest (λ ds. list_all is_ascii_digit ds ≡ true)
 tells_digits = search rules
 
-digits : IsNumeralModel (λ ds. list_all is_ascii_digit ds ≡ true) (digits_value 10)
+pub digits : IsNumeralModel (λ ds. list_all is_ascii_digit ds ≡ true) (digits_value 10)
 digits = numerals_by_value _ tells_digits
 
 -- what the test of a numeral says

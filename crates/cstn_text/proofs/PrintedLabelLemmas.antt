@@ -9,13 +9,13 @@ use Rattle.cstn_label.specs.Letters.{letter_of, prop_of}
 use Rattle.cstn_text.specs.PrintedLabels.{printed_mark, marks_below, or_dash, printed_label, Reading, nothing_read, after_byte, marks_read, label_read}
 
 -- the marks of the propositions below n alone
-abbrev below : Label → ℕ → Label
+abbrev pub below : Label → ℕ → Label
 below a n = λ p. if nat_lt p n then a p else Absent
 
 abbrev read_of : Label → Reading
 read_of a = record { label = a; sign = Yes }
 
-below_none : (a : Label) → below a 0 ≡ empty
+pub below_none : (a : Label) → below a 0 ≡ empty
 below_none a = fun_ext (λ p. none_at p (a p))
   where
     none_at : (p : ℕ) (m : Mark) → (if nat_lt p 0 then m else Absent) ≡ Absent
@@ -24,22 +24,22 @@ below_none a = fun_ext (λ p. none_at p (a p))
 more_at : (q n : ℕ) (x y : Mark) → (q ≡ n → y ≡ x) → (if q == n then x else (if nat_lt q n then y else Absent)) ≡ (if nat_lt q (suc n) then y else Absent)
 more_at q n x y same = grind arith
 
-below_more : (a : Label) (n : ℕ) → with_mark (below a n) n (a n) ≡ below a (suc n)
+pub below_more : (a : Label) (n : ℕ) → with_mark (below a n) n (a n) ≡ below a (suc n)
 below_more a n = fun_ext (λ q. more_at q n (a n) (a q) (ap a))
 
 same_at : (q n : ℕ) (y : Mark) → (q ≡ n → y ≡ Absent) → (if nat_lt q n then y else Absent) ≡ (if nat_lt q (suc n) then y else Absent)
 same_at q n y absent = grind arith
 
-below_absent : (a : Label) (n : ℕ) → a n ≡ Absent → below a n ≡ below a (suc n)
+pub below_absent : (a : Label) (n : ℕ) → a n ≡ Absent → below a n ≡ below a (suc n)
 below_absent a n absent = fun_ext (λ q. same_at q n (a q) (λ e. ap a e ∙ absent))
 
-below_here : (n : ℕ) (m : Mark) → (if nat_lt n n then m else Absent) ≡ Absent
+pub below_here : (n : ℕ) (m : Mark) → (if nat_lt n n then m else Absent) ≡ Absent
 below_here n m = grind arith
 
 not_sign : (p : ℕ) → p < 52 → ((letter_of p == 33) ≡ false) × ((letter_of p == 63) ≡ false)
 not_sign p small = grind arith
 
-letter_back : (p : ℕ) → p < 52 → prop_of (letter_of p) ≡ Some p
+pub letter_back : (p : ℕ) → p < 52 → prop_of (letter_of p) ≡ Some p
 letter_back p small = grind arith
 
 after_letter : (r : Reading) (p : ℕ) → p < 52 → r.label p ≡ Absent → after_byte r (letter_of p) ≡ Some (record { label = with_mark r.label p r.sign; sign = Yes })
@@ -65,7 +65,7 @@ marks_back a (suc n) rest small =
 whole_at : (p : ℕ) (m : Mark) → (52 ≤ p → m ≡ Absent) → (if nat_lt p 52 then m else Absent) ≡ m
 whole_at p m high = grind arith
 
-below_all : (a : Label) → ((p : ℕ) → 52 ≤ p → a p ≡ Absent) → below a 52 ≡ a
+pub below_all : (a : Label) → ((p : ℕ) → 52 ≤ p → a p ≡ Absent) → below a 52 ≡ a
 below_all a high = fun_ext (λ p. whole_at p (a p) (high p))
 
 dash_cases : (b : ℕ) (dash : Bool) (bytes : List ℕ) (a : Label) → (b == 45) ≡ dash → marks_read nothing_read (b ∷ bytes) ≡ Some a → label_read (b ∷ bytes) ≡ Some a

@@ -189,6 +189,7 @@ fn branch(alloc: Global) -> Result<Builder, AllocError> {
 }
 
 fn taken_out(log: &mut Log, constraint: u32) -> u32
+    requires births { log.old.births < 2000 }
     ensures nodes { log.new.nodes ≡ log.old.nodes }
     ensures births { log.new.births ≤ log.old.births + 16 }
 {

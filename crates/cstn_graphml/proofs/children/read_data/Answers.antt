@@ -5,7 +5,7 @@ use Rattle.cstn_graphml.specs.Elements.{data_reading}
 use Rattle.cstn_graphml.specs.declared.data_element.Datum.{Datum as Lent}
 use Rattle.cstn_graphml.proofs.Places.{step_of, ended_is, misnamed_is, wrong_is, unfinished_is, deep_is}
 use Rattle.cstn_graphml.proofs.Folds.{fold_cut, fold_end, fold_run, fold_run_fails, fold_whole, fold_whole_fails}
-use Rattle.cstn_graphml.proofs.ChildRead.{text_refused, text_passed}
+use Rattle.cstn_graphml.proofs.Judging.{blank_refused, blank_passed}
 use Rattle.cstn_graphml.proofs.children.read_data.Goals as goal
 
 pub returns-then-depth-ge32-clause-reads : goal.returns-then-depth-ge32-clause-reads
@@ -61,7 +61,7 @@ returns-then-not-is_blank-clause-reads c = λ others l.
     let view = λ (v : Vec Lent Global). map datum_seen v.items in
     let s = map datum_seen c.loop-child.found.items in
     fold_run_fails r [] view s _ _ others _ _ _ _ _ (c.loop-child.invariant.same others l)
-    (step_of _ _ _ _ c.step-at.ensures.steps c.in-Text.is) (text_refused (map (λ (u : Bor (List ℕ)). u.now) c.args.used.now) s c.step-at.result.at c.in-Text.raw.now (sym c.is_blank.ensures ∙ c.if-not-is_blank.true))
+    (step_of _ _ _ _ c.step-at.ensures.steps c.in-Text.is) (blank_refused s c.step-at.result.at c.in-Text.raw.now (sym c.is_blank.ensures ∙ c.if-not-is_blank.true))
 
 pub loop-child-preserved : goal.loop-child-preserved
 loop-child-preserved c =
@@ -71,7 +71,7 @@ loop-child-preserved c =
     let h = step_of _ _ _ _ c.step-at.ensures.steps c.in-Text.is in
     record {
       same = λ others l. fold_run r [] view s s _ _ _ _ _ _ (c.loop-child.invariant.same others l) h
-          (text_passed (map (λ (u : Bor (List ℕ)). u.now) c.args.used.now) s c.step-at.result.at c.in-Text.raw.now (sym c.is_blank.ensures ∙ c.if-not-is_blank.false));
+          (blank_passed s c.step-at.result.at c.in-Text.raw.now (sym c.is_blank.ensures ∙ c.if-not-is_blank.false));
       less = omega (arith, ap length h);
     }
 

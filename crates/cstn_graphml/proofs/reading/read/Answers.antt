@@ -6,7 +6,9 @@ use Rattle.cstn_graphml.specs.Contents.{content_of}
 use Rattle.cstn_graphml.specs.Document.{document, in_document}
 use Rattle.cstn_graphml.specs.DraftSeen.{draft_seen, prop_seen}
 use Rattle.cstn_graphml.specs.Reads.{Fails}
+use Rattle.cstn_net.specs.declared.errors.NetError.TheVariants.{NoOrigin, NotPlain}
 use Rattle.cstn_graphml.proofs.Built.{made_count}
+use Rattle.cstn_graphml.proofs.Excluded.{no_net, has_origin, has_plain_labels}
 use Rattle.cstn_graphml.proofs.Refusing.{not_text, refused_before, lacks_deadline, has_deadline, read_is_draft, made_document, unfit_is_refused}
 use Rattle.cstn_graphml.proofs.reading.read.Goals as goal
 
@@ -50,3 +52,23 @@ returns-in-Err-network_of-clause-refused c =
     unfit_is_refused (document c.args.bytes.now c.args.deadline) c.in-Some.deadline c.in_ok-draft.draft c.names_of-in-Err-network_of.result c.refusal.result
     (has_deadline c.args.bytes.now c.args.deadline c.in-Some.deadline c.in_ok-draft.draft c.in_default.ensures.cases.1 told (sym c.first_of_two.ensures ∙ c.in-Some.is)) c.names_of-in-Err-network_of.ensures
     c.in-Err-network_of.error c.in-Err-network_of.ensures.refused c.refusal.ensures
+
+pub returns-in_err-draft-clause-has_origin : goal.returns-in_err-draft-clause-has_origin
+returns-in_err-draft-clause-has_origin c =
+    let p = err_from_is_err_and c.from_residual.result c.from_residual.ensures.1 in
+    rw (p.1, p.2) (no_net c.in_err-draft.field-0.0 _ c.in_err-draft.ensures NoOrigin)
+
+pub returns-in_err-draft-clause-has_plain_labels : goal.returns-in_err-draft-clause-has_plain_labels
+returns-in_err-draft-clause-has_plain_labels c =
+    let p = err_from_is_err_and c.from_residual.result c.from_residual.ensures.1 in
+    rw (p.1, p.2) (λ names k. no_net c.in_err-draft.field-0.0 _ c.in_err-draft.ensures (NotPlain k) names)
+
+pub returns-in-Err-network_of-clause-has_origin : goal.returns-in-Err-network_of-clause-has_origin
+returns-in-Err-network_of-clause-has_origin c = λ names.
+    has_origin c.in-Some.deadline c.in_ok-draft.draft c.in-Err-network_of.error c.names_of-in-Err-network_of.result names c.refusal.result c.in-Err-network_of.ensures.refused c.refusal.ensures
+
+pub returns-in-Err-network_of-clause-has_plain_labels : goal.returns-in-Err-network_of-clause-has_plain_labels
+returns-in-Err-network_of-clause-has_plain_labels c = λ names k.
+    let told = ap (λ (ts : List Token). in_document (content_of ts)) (sym c.new-scanner.ensures.new) ∙ c.in_ok-draft.ensures in
+    has_plain_labels c.in-Some.deadline c.in_ok-draft.draft (read_is_draft c.args.bytes.now c.in_ok-draft.draft told)
+    c.in-Err-network_of.error c.names_of-in-Err-network_of.result names k c.refusal.result c.in-Err-network_of.ensures.refused c.refusal.ensures

@@ -8,10 +8,9 @@ use Rattle.cstn_graphml.specs.Draft.{empty_draft}
 use Rattle.cstn_graphml.specs.DraftSeen.{draft_seen}
 use Rattle.cstn_graphml.proofs.Places.{step_of, ended_is, misnamed_is, wrong_is, unfinished_is, deep_is}
 use Rattle.cstn_graphml.proofs.Folds.{fold_cut, fold_end, fold_run, fold_run_fails, fold_whole, fold_whole_fails}
-use Rattle.std.proofs.lemmas.Bool.{not-false}
+use Rattle.std.proofs.lemmas.Bool.{not-false, not-true}
 use Rattle.cstn_graphml.specs.Results.{or_refused}
 use Rattle.cstn_graphml.specs.Results.Refusal.{shape}
-use Rattle.cstn_graphml.proofs.ChildRead.{not_false}
 use Rattle.cstn_graphml.proofs.Judging.{blank_refused, blank_passed}
 use Rattle.cstn_graphml.proofs.GraphRead.{end_fails}
 use Rattle.cstn_graphml.proofs.root.read_root.Goals as goal
@@ -41,7 +40,7 @@ returns-in_err-read_root_child-in-Start-clause-reads c = λ others l.
 pub returns-then-ne-clause-reads : goal.returns-then-ne-clause-reads
 returns-then-ne-clause-reads c = λ others l.
     fold_cut root_reading None draft_seen (option_map draft_seen c.loop-child.seen) _ others _ _ _ _ (c.loop-child.invariant.same others l)
-    (misnamed_is _ _ _ _ _ _ (step_of _ _ _ _ c.step-at.ensures.steps c.in-End.is) (sym (not_false _ c.if-ne.ensures)))
+    (misnamed_is _ _ _ _ _ _ (step_of _ _ _ _ c.step-at.ensures.steps c.in-End.is) (sym (not-true _ (sym c.if-ne.ensures))))
 
 pub returns-in-Some-clause-reads : goal.returns-in-Some-clause-reads
 returns-in-Some-clause-reads c = λ others l.

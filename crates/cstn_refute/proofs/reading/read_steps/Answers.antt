@@ -1,4 +1,4 @@
-use Rattle.std.proofs.Common.{◌≡◌, ◌∙◌, ◌≤◌, ◌+◌, ◌++◌, ◌∷◌, [], length, map, sym, subst, ap, arith, IfOk, IfErr}
+use Rattle.std.proofs.Common.{◌≡◌, ◌∙◌, ◌≤◌, ◌+◌, ◌++◌, ◌∷◌, [], length, map, sym, subst, arith, IfOk, IfErr}
 use Rattle.std.specs.List.{All}
 use Rattle.std.proofs.lemmas.Grind.{common_steps}
 use Rattle.std.proofs.lemmas.List.Elements.{All-push}
@@ -9,7 +9,7 @@ use Rattle.std.specs.Prelude.{Some}
 use Rattle.cstn_rules.specs.Derivations.{Entry as TheEntry}
 use Rattle.cstn_refute.specs.Steps.{step_read}
 use Rattle.cstn_refute.specs.Texts.{tells, told_after, lines_of, or_wrong}
-use Rattle.cstn_refute.proofs.ReadLemmas.{told_next, told_on, told_last, cut_shorter}
+use Rattle.cstn_refute.proofs.ReadLemmas.{told_next, told_on, told_last}
 use Rattle.cstn_refute.proofs.reading.read_steps.Goals as goal
 
 pub returns-clause-accepted : goal.returns-clause-accepted

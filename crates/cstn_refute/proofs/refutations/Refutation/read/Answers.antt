@@ -1,7 +1,11 @@
 use Rattle.std.proofs.Common.{◌≡◌, sym, subst, IfOk, IfErr}
 use Rattle.cstn_refute.specs.Refutations.{the_steps}
 use Rattle.cstn_refute.specs.Read.{IsWrong}
-use Rattle.cstn_refute.specs.Texts.{tells}
+use Rattle.std.proofs.lemmas.Result.{IfOk-weaker}
+use Rattle.cstn_refute.specs.Texts.{told, tells}
+use Rattle.cstn_refute.specs.Written.{AreWritten}
+use Rattle.cstn_refute.proofs.SaidLemmas.{text_said}
+use Rattle.cstn_refute.proofs.WrittenLemmas.{are_named}
 use Rattle.cstn_refute.proofs.ReadLemmas.{told_first, first_wrong, none_wrong}
 use Rattle.cstn_refute.proofs.refutations.Refutation.read.Goals as goal
 
@@ -24,3 +28,13 @@ returns-clause-line c =
     let first = told_first c.args.names.now c.args.bytes.now c.in-Some.line.now c.in-Some.rest.now c.in-Some-read_load.load
     (sym c.in-Some.ensures.cut) (sym c.in-Some-read_load.ensures.load) in
     subst (λ t. IfErr c.read_steps.result (IsWrong t)) (sym first) c.read_steps.ensures.line
+
+pub returns-clause-ranges : goal.returns-clause-ranges
+returns-clause-ranges c =
+    IfOk-weaker c.read_steps.result (λ r. told c.args.names.now c.args.bytes.now ≡ tells r.load (the_steps r)) (λ r. AreWritten c.args.names.now r.load (the_steps r))
+    (λ r says. text_said c.args.names.now c.args.bytes.now r.load (the_steps r) says) (returns-clause-accepted c)
+
+pub returns-clause-named : goal.returns-clause-named
+returns-clause-named c =
+    IfOk-weaker c.read_steps.result (λ r. AreWritten c.args.names.now r.load (the_steps r)) _
+    (λ r written. are_named c.args.names.now r.steps written.each) (returns-clause-ranges c)

@@ -1,0 +1,14 @@
+// What is printed of a refutation is read again. The call does nothing: its contract is the law.
+ghost use Rattle.std.specs.Prelude.{ℕ, ◌≡◌, List};
+ghost use Rattle.cstn_rules.specs.Derivations.{Entry};
+ghost use Rattle.cstn_text.specs.Names.{AreNames};
+ghost use Rattle.cstn_refute.specs.Texts.{tells, told, shown};
+ghost use Rattle.cstn_refute.specs.Written.{AreWritten};
+
+/// The text of a load and steps says them, where each step's time-point has a name and the numbers are in their ranges.
+/// What any text says is in these ranges.
+#[tactic(auto, using(crate::proofs::BackLemmas::shown_back, crate::proofs::SaidLemmas::text_said))]
+pub fn texts_are_read_back()
+    ensures back { (names : List (List ℕ)) (load : ℕ) (steps : List Entry) → AreNames names → AreWritten names load steps → told names (shown names load steps) ≡ tells load steps }
+    ensures ranges { (names : List (List ℕ)) (bytes : List ℕ) (load : ℕ) (steps : List Entry) → told names bytes ≡ tells load steps → AreWritten names load steps }
+{}

@@ -1,0 +1,5 @@
+mod RowLemmas
+mod WalkLemmas
+mod RaiseLemmas
+mod SettledLemmas
+mod PairLemmas
