@@ -1,6 +1,6 @@
 -- What forces a moment up, and what a raise keeps.
 use Rattle.std.proofs.Common.{ℕ, zero, suc, ◌≡◌, inl, inr, ◌+◌, ◌*◌, ◌/◌, ◌%◌, ◌<◌, ◌≤◌, List, length, get_or, set, arith, sym, subst, ◌∙◌, ap}
-use Rattle.std.specs.Prelude.{ℤ, pos, negsuc, ◌-ℤ◌, ◌≤ℤ◌, ◌-◌, ◌↔◌, nat_abs}
+use Rattle.std.specs.Prelude.{pos, ◌-ℤ◌, ◌≤ℤ◌}
 use Rattle.std.specs.List.{Contains}
 use Rattle.std.proofs.lemmas.Bool.{cases_eq, cases_lt}
 use Rattle.std.proofs.lemmas.Int.{ints}
@@ -116,18 +116,3 @@ past_limit net s x t here past forced consistent =
     let later = forced consistent.0 consistent.1 in
     let within = consistent.1.within s x here in
     omega arith
-
--- a constraint's start is late enough
-pub start_pos : (end k t : ℕ) → (pos end -ℤ pos t) ≤ℤ pos k ↔ (end - k ≤ t)
-start_pos end k t = (λ h. omega (arith, ints), λ h. omega (arith, ints))
-
-pub start_neg : (end k t : ℕ) → (pos end -ℤ pos t) ≤ℤ negsuc k ↔ (end + suc k ≤ t)
-start_neg end k t = (λ h. omega (arith, ints), λ h. omega (arith, ints))
-
-pub start_late : (end t : ℕ) (most : ℤ) → pos 0 ≤ℤ most → (pos end -ℤ pos t) ≤ℤ most ↔ (end - nat_abs most ≤ t)
-start_late end t (pos k) h = start_pos end k t
-start_late end t (negsuc k) h = absurd (omega (arith, ints))
-
-pub start_early : (end t : ℕ) (most : ℤ) → (pos 0 ≤ℤ most → ⊥) → (pos end -ℤ pos t) ≤ℤ most ↔ (end + nat_abs most ≤ t)
-start_early end t (pos k) h = absurd (h (omega (arith, ints)))
-start_early end t (negsuc k) h = start_neg end k t
