@@ -1,5 +1,5 @@
 -- What refusals tell, and who is named.
-use Rattle.std.proofs.Common.{ℕ, zero, suc, ◌≡◌, ◌⊎◌, inl, inr, ◌+◌, ◌<◌, ◌≤◌, Bool, true, false, List, [], ◌∷◌, Option, Some, None, ltb, refl, arith, subst, ap, ◌∙◌}
+use Rattle.std.proofs.Common.{ℕ, zero, suc, ◌≡◌, inl, inr, ◌+◌, ◌<◌, ◌≤◌, Bool, true, false, List, [], ◌∷◌, Option, Some, None, ltb, refl, arith, sym, subst, ap, ◌∙◌}
 use Rattle.std.specs.Prelude.{◌↔◌, is_some}
 use Rattle.std.specs.List.{Contains, filter, list_any, range_with_len}
 use Rattle.std.specs.List.Sorted.{IsStrictlyIncreasing}
@@ -68,119 +68,90 @@ refusal_done : (net : Network) (bounds : List Bound) (run : Run) (t : ℕ) → i
 refusal_done net bounds run t all =
     cond-true (is_done run) (Some Done) (unless_past t run.now (unless_awaiting (awaited net run (t + 1)) (unless_late t (due net bounds run)))) all
 
--- a moment that isn't above `now` is past, and every other is judged further
-past_or_later : (t : ℕ) (now : Option ℕ) (other : Option Refusal) →
-    ((m : ℕ) × (now ≡ Some m) × (t ≤ m) × (unless_past t now other ≡ Some (Past m))) ⊎ ((after now ≤ t) × (unless_past t now other ≡ other))
-past_or_later t None other = inr (omega arith, refl)
-past_or_later t (Some m) other = elim (cases_lt m t) [
-  | inl later ↦ inr (omega arith, cond-true (ltb m t) other (Some (Past m)) (lt-ltb m t later))
-  | inr upto ↦ inl (m, refl, upto, cond-false (ltb m t) other (Some (Past m)) (le-ltb m t upto))
-]
+-- how a moment is judged
+data Judged (net : Network) (bounds : List Bound) (run : Run) (t : ℕ) : Type 0 where
+  all_done : is_done run ≡ true → moment_refusal net bounds run t ≡ Some Done → Judged net bounds run t
+  is_past : (m : ℕ) → run.now ≡ Some m → t ≤ m → moment_refusal net bounds run t ≡ Some (Past m) → Judged net bounds run t
+  awaits : (p : ℕ) → awaited net run (t + 1) ≡ Some p → moment_refusal net bounds run t ≡ Some (Awaiting p) → Judged net bounds run t
+  is_late : (u : ℕ) → due net bounds run ≡ Some u → u < t → moment_refusal net bounds run t ≡ Some (Late u) → Judged net bounds run t
+  is_accepted : moment_refusal net bounds run t ≡ None → Judged net bounds run t
 
--- a moment above the due one is late, and every other isn't
-late_or_not : (t : ℕ) (o : Option ℕ) → ((u : ℕ) × (o ≡ Some u) × (u < t) × (unless_late t o ≡ Some (Late u))) ⊎ (unless_late t o ≡ None)
-late_or_not t None = inr refl
-late_or_not t (Some u) = elim (cases_lt u t) [
-  | inl below ↦ inl (u, refl, below, cond-true (ltb u t) (Some (Late u)) None (lt-ltb u t below))
-  | inr upto ↦ inr (cond-false (ltb u t) (Some (Late u)) None (le-ltb u t upto))
-]
+module _ (net : Network) (bounds : List Bound) (run : Run) (t : ℕ) where
+  by_due : (o : Option ℕ) → due net bounds run ≡ o → moment_refusal net bounds run t ≡ unless_late t o → Judged net bounds run t
+  by_due None e is = is_accepted is
+  by_due (Some u) e is = elim (cases_lt u t) [
+    | inl below ↦ is_late u e below (is ∙ cond-true (ltb u t) (Some (Late u)) None (lt-ltb u t below))
+    | inr upto ↦ is_accepted (is ∙ cond-false (ltb u t) (Some (Late u)) None (le-ltb u t upto))
+  ]
+
+  by_awaited : (o : Option ℕ) → awaited net run (t + 1) ≡ o →
+      moment_refusal net bounds run t ≡ unless_awaiting o (unless_late t (due net bounds run)) → Judged net bounds run t
+  by_awaited None e is = by_due (due net bounds run) refl is
+  by_awaited (Some p) e is = awaits p e is
+
+  by_now : (o : Option ℕ) → run.now ≡ o →
+      moment_refusal net bounds run t ≡ unless_past t o (unless_awaiting (awaited net run (t + 1)) (unless_late t (due net bounds run))) →
+      Judged net bounds run t
+  by_now None e is = by_awaited (awaited net run (t + 1)) refl is
+  by_now (Some m) e is =
+      let other : Option Refusal = unless_awaiting (awaited net run (t + 1)) (unless_late t (due net bounds run)) in
+      elim (cases_lt m t) [
+        | inl later ↦ by_awaited (awaited net run (t + 1)) refl (is ∙ cond-true (ltb m t) other (Some (Past m)) (lt-ltb m t later))
+        | inr upto ↦ is_past m e upto (is ∙ cond-false (ltb m t) other (Some (Past m)) (le-ltb m t upto))
+      ]
+
+  judged : Judged net bounds run t
+  judged = elim (cases_Bool (is_done run)) [
+    | inl all ↦ all_done all (refusal_done net bounds run t all)
+    | inr waits ↦ by_now run.now refl (refusal_waits net bounds run t waits)
+  ]
 
 pub refused_done : (net : Network) (bounds : List Bound) (run : Run) (t : ℕ) → IsRight net run → moment_refusal net bounds run t ≡ Some Done ↔ IsDone net run
 refused_done net bounds run t right = (
-  (λ e. elim (cases_Bool (is_done run)) [
-    | inl all ↦ done_from net run right.moments all
-    | inr waits ↦
-        let there = refusal_waits net bounds run t waits in
-        elim (past_or_later t run.now (unless_awaiting (awaited net run (t + 1)) (unless_late t (due net bounds run)))) [
-          | inl past ↦ let is = past.3 in let f : ⊥ = cc in absurd f
-          | inr later ↦ let is = later.1 in elim (cases_option (awaited net run (t + 1))) [
-            | inr some ↦ let wait = ap (λ o. unless_awaiting o (unless_late t (due net bounds run))) some.1 in let f : ⊥ = cc in absurd f
-            | inl none ↦
-                let wait = ap (λ o. unless_awaiting o (unless_late t (due net bounds run))) none in
-                elim (late_or_not t (due net bounds run)) [
-                  | inl late ↦ let at = late.3 in let f : ⊥ = cc in absurd f
-                  | inr not_late ↦ let f : ⊥ = cc in absurd f
-                ]
-          ]
-        ]
+  (λ e. elim (judged net bounds run t) [
+    | all_done all is ↦ done_from net run right.moments all
+    | is_past m now upto is ↦ let f : ⊥ = cc in absurd f
+    | awaits p first is ↦ let f : ⊥ = cc in absurd f
+    | is_late u at below is ↦ let f : ⊥ = cc in absurd f
+    | is_accepted is ↦ let f : ⊥ = cc in absurd f
   ]),
   (λ all. refusal_done net bounds run t (done_to net run right.moments all)),
 )
 
-refused_past_all : (net : Network) (bounds : List Bound) (run : Run) (t now : ℕ) → moment_refusal net bounds run t ≡ Some (Past now) → is_done run ≡ false
-refused_past_all net bounds run t now e = elim (cases_Bool (is_done run)) [
-  | inr waits ↦ waits
-  | inl all ↦ let done = refusal_done net bounds run t all in let f : ⊥ = cc in absurd f
-]
-
 pub refused_past : (net : Network) (bounds : List Bound) (run : Run) (t now : ℕ) → moment_refusal net bounds run t ≡ Some (Past now) →
     (run.now ≡ Some now) × (t ≤ now)
-refused_past net bounds run t now e =
-    let there = refusal_waits net bounds run t (refused_past_all net bounds run t now e) in
-    elim (past_or_later t run.now (unless_awaiting (awaited net run (t + 1)) (unless_late t (due net bounds run)))) [
-      | inl past ↦
-          let is = past.3 in
-          let same : past.0 ≡ now = cc in
-          let upto = past.2 in
-          (past.1 ∙ ap (λ m. Some m) same, omega arith)
-      | inr later ↦ let is = later.1 in elim (cases_option (awaited net run (t + 1))) [
-        | inr some ↦ let wait = ap (λ o. unless_awaiting o (unless_late t (due net bounds run))) some.1 in let f : ⊥ = cc in absurd f
-        | inl none ↦
-            let wait = ap (λ o. unless_awaiting o (unless_late t (due net bounds run))) none in
-            elim (late_or_not t (due net bounds run)) [
-              | inl late ↦ let at = late.3 in let f : ⊥ = cc in absurd f
-              | inr not_late ↦ let f : ⊥ = cc in absurd f
-            ]
-      ]
-    ]
+refused_past net bounds run t now e = elim (judged net bounds run t) [
+  | is_past m at upto is ↦ let same : m ≡ now = cc in (at ∙ ap (λ n. Some n) same, omega arith)
+  | all_done all is ↦ let f : ⊥ = cc in absurd f
+  | awaits p first is ↦ let f : ⊥ = cc in absurd f
+  | is_late u at below is ↦ let f : ⊥ = cc in absurd f
+  | is_accepted is ↦ let f : ⊥ = cc in absurd f
+]
 
 pub refused_awaiting : (net : Network) (bounds : List Bound) (run : Run) (t p : ℕ) → IsWellFormed net →
     moment_refusal net bounds run t ≡ Some (Awaiting p) → IsFirstAwaited net run t p
-refused_awaiting net bounds run t p wf e = elim (cases_Bool (is_done run)) [
-  | inl all ↦ let done = refusal_done net bounds run t all in let f : ⊥ = cc in absurd f
-  | inr waits ↦
-      let there = refusal_waits net bounds run t waits in
-      elim (past_or_later t run.now (unless_awaiting (awaited net run (t + 1)) (unless_late t (due net bounds run)))) [
-        | inl past ↦ let is = past.3 in let f : ⊥ = cc in absurd f
-        | inr later ↦ let is = later.1 in elim (cases_option (awaited net run (t + 1))) [
-          | inr some ↦
-              let wait = ap (λ o. unless_awaiting o (unless_late t (due net bounds run))) some.1 in
-              let same : some.0 ≡ p = cc in
-              let first = awaited_least net bounds run wf (t + 1) p (some.1 ∙ ap (λ q. Some q) same) in
-              record { awaited = first.0; least = first.1 }
-          | inl none ↦
-              let wait = ap (λ o. unless_awaiting o (unless_late t (due net bounds run))) none in
-              elim (late_or_not t (due net bounds run)) [
-                | inl late ↦ let at = late.3 in let f : ⊥ = cc in absurd f
-                | inr not_late ↦ let f : ⊥ = cc in absurd f
-              ]
-        ]
-      ]
+refused_awaiting net bounds run t p wf e = elim (judged net bounds run t) [
+  | awaits q at is ↦
+      let same : q ≡ p = cc in
+      let first = awaited_least net bounds run wf (t + 1) p (at ∙ ap (λ n. Some n) same) in
+      record { awaited = first.0; least = first.1 }
+  | all_done all is ↦ let f : ⊥ = cc in absurd f
+  | is_past m now upto is ↦ let f : ⊥ = cc in absurd f
+  | is_late u at below is ↦ let f : ⊥ = cc in absurd f
+  | is_accepted is ↦ let f : ⊥ = cc in absurd f
 ]
 
 pub refused_late : (net : Network) (bounds : List Bound) (table : Table) (run : Run) (t u : ℕ) → IsWellFormed net → IsEarliest net bounds table →
     IsRight net run → moment_refusal net bounds run t ≡ Some (Late u) → IsDue net run u × (u < t)
-refused_late net bounds table run t u wf plan right e = elim (cases_Bool (is_done run)) [
-  | inl all ↦ let done = refusal_done net bounds run t all in let f : ⊥ = cc in absurd f
-  | inr waits ↦
-      let there = refusal_waits net bounds run t waits in
-      elim (past_or_later t run.now (unless_awaiting (awaited net run (t + 1)) (unless_late t (due net bounds run)))) [
-        | inl past ↦ let is = past.3 in let f : ⊥ = cc in absurd f
-        | inr later ↦ let is = later.1 in elim (cases_option (awaited net run (t + 1))) [
-          | inr some ↦ let wait = ap (λ o. unless_awaiting o (unless_late t (due net bounds run))) some.1 in let f : ⊥ = cc in absurd f
-          | inl none ↦
-              let wait = ap (λ o. unless_awaiting o (unless_late t (due net bounds run))) none in
-              elim (late_or_not t (due net bounds run)) [
-                | inr not_late ↦ let f : ⊥ = cc in absurd f
-                | inl late ↦
-                    let at = late.3 in
-                    let same : late.0 ≡ u = cc in
-                    let below = late.2 in
-                    let first = due_first net bounds table wf plan run right u (late.1 ∙ ap (λ m. Some m) same) in
-                    ((first_is_due net bounds table wf plan run right u first.1).0, omega arith)
-              ]
-        ]
-      ]
+refused_late net bounds table run t u wf plan right e = elim (judged net bounds run t) [
+  | is_late w at below is ↦
+      let same : w ≡ u = cc in
+      let first = due_first net bounds table wf plan run right u (at ∙ ap (λ n. Some n) same) in
+      ((first_is_due net bounds table wf plan run right u first.1).0, omega arith)
+  | all_done all is ↦ let f : ⊥ = cc in absurd f
+  | is_past m now upto is ↦ let f : ⊥ = cc in absurd f
+  | awaits p first is ↦ let f : ⊥ = cc in absurd f
+  | is_accepted is ↦ let f : ⊥ = cc in absurd f
 ]
 
 -- ---- before the due moment
@@ -199,18 +170,12 @@ accepted_before net bounds table run t u wf plan right e between =
     (first.1.before u between.from between.below) in
     let below = between.below in
     let from = between.from in (
-      refusal_waits net bounds run u first.0 ∙ elim (past_or_later u run.now (unless_awaiting (awaited net run (u + 1)) (unless_late u (due net bounds run)))) [
-        | inl past ↦
-            let soon = subst (λ o. after o ≤ u) past.1 from in
-            let upto = past.2 in
-            absurd (omega arith)
-        | inr later ↦
-            later.1 ∙ ap (λ o. unless_awaiting o (unless_late u (due net bounds run))) (none_is (awaited net run (u + 1)) idle.0)
-            ∙ ap (unless_late u) e ∙ cond-false (ltb t u) (Some (Late t)) None (le-ltb t u (omega arith))
+      elim (judged net bounds run u) [
+        | is_accepted is ↦ is
+        | all_done all is ↦ absurd (true≢false (sym all ∙ first.0))
+        | is_past m now upto is ↦ let soon = subst (λ o. after o ≤ u) now from in absurd (omega arith)
+        | awaits p at is ↦ absurd (true≢false (ap is_some (sym at) ∙ idle.0))
+        | is_late w at late is ↦ let same : w ≡ t = cc in absurd (omega arith)
       ],
       none_pass (is_free net bounds run u) 0 (count net) (λ k low high. each_fails (is_free net bounds run u) 0 (count net) idle.1 k low high),
     )
-  where
-    none_is : (o : Option ℕ) → is_some o ≡ false → o ≡ None
-    none_is None h = refl
-    none_is (Some p) h = absurd (true≢false h)

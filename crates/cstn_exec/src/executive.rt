@@ -84,6 +84,7 @@ impl Executive {
     }
 
     /// The first moment, in ticks, at which an outcome is awaited or a time-point is to be executed; none where all is executed.
+    /// Takes a pass over the plan's bounds, and one more for each moment up to it at which more becomes known.
     pub fn due(&self) -> Option<u32>
         ensures due { result ≡ due (the_network self.now.net) (the_bounds self.now.bounds) self.now.run }
         ensures none { IsNone result ↔ IsDone (the_network self.now.net) self.now.run }
@@ -120,7 +121,8 @@ impl Executive {
         }
     }
 
-    /// Accepts a moment, in ticks, and executes the time-points whose least moment it is, which `named` lends.
+    /// Accepts a moment, in ticks, and executes the time-points whose least moment it is, which `named` lends. Refused with the
+    /// first that applies of `Done`, `Past`, `Awaiting` and `Late`. Takes a pass over the plan's bounds more than `due`.
     pub fn moment(&mut self, t: u32) -> Result<(), ExecError>
         ensures refused { refusal_of result ≡ moment_refusal (the_network self.old.net) (the_bounds self.old.bounds) self.old.run t }
         ensures moved { OnOk result (self.new ≡ record self.old { run = moved (the_network self.old.net) (the_bounds self.old.bounds) self.old.run t; named = named (the_network self.old.net) (the_bounds self.old.bounds) self.old.run t }) }
@@ -139,7 +141,8 @@ impl Executive {
         Ok(())
     }
 
-    /// Keeps the outcome of a proposition.
+    /// Keeps the outcome of a proposition, which is used from its reaction after its observer on. Refused with the first that
+    /// applies of `NotExecuted` and `Known`.
     pub fn see(&mut self, p: Prop, value: bool) -> Result<(), ExecError>
         ensures refused { refusal_of result ≡ outcome_refusal (the_network self.old.net) self.old.run p.index }
         ensures handed { OnOk result (self.new ≡ record self.old { run = handed self.old.run p.index value }) }
