@@ -4,7 +4,6 @@ use Rattle.std.specs.Prelude.{slice_get}
 use Rattle.std.proofs.lemmas.Bool.{not-true, cond-true, cond-false}
 use Rattle.std.proofs.lemmas.List.{length-map, map-append, append-nil, drop_all}
 use Rattle.std.proofs.lemmas.Option.{slice_get_within}
-use Rattle.cstn_label.specs.Bounds.{Bound}
 use Rattle.cstn_label.specs.declared.bounds.Bound.{Bound as DeclaredBound}
 use Rattle.cstn_label.specs.Read.{the_bound}
 use Rattle.cstn_rules.specs.declared.entries.Entry.{Entry as DeclaredEntry}

@@ -1,4 +1,4 @@
-use Rattle.std.proofs.Common.{◌<◌, length, arith, ap, sym, refl, ◌∙◌}
+use Rattle.std.proofs.Common.{◌<◌, length, arith, sym, refl, ◌∙◌}
 use Rattle.std.proofs.lemmas.Bool.{false≢true}
 use Rattle.cstn_check.proofs.PlanLemmas.{listed_with, listed_without}
 use Rattle.cstn_check.proofs.plans.live_bounds.Goals.{then-live, else-live}

@@ -1,5 +1,4 @@
-use Rattle.std.proofs.Common.{[], ap}
-use Rattle.cstn_net.specs.Read.{the_network}
+use Rattle.std.proofs.Common.{ap}
 use Rattle.cstn_check.specs.Checks.{CheckParts}
 use Rattle.cstn_check.proofs.Keeping.{front_seen, none_seen}
 use Rattle.cstn_check.proofs.checks.Check.kept.Goals as goal
