@@ -3,10 +3,11 @@ pub mod LiveLemmas
 pub mod KeptLemmas
 pub mod PushLemmas
 pub mod DerivedLemmas
+pub mod CutLemmas
+pub mod MarkLemmas
+pub mod StepLemmas
+pub mod PutLemmas
 pub mod FinishLemmas
 pub mod AskedLemmas
 pub mod Strategies
 pub mod PlanLemmas
-pub mod CutLemmas
-pub mod MarkLemmas
-pub mod StepLemmas

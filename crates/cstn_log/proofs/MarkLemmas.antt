@@ -236,10 +236,9 @@ stays_closed id marks (Chain c i) h = (both_true (not (nat_eq c id)) (is_marked 
 stays_closed id marks (Wait i j) h = both_true (is_marked marks i) (is_marked marks j) h
 
 -- what a constraint didn't give, nor an ancestor, is closed under premises
-pub dropped_closed : (net : Network) (steps : List Entry) (id : ℕ) → IsDerivation net steps → IsClosedUnder (marked_staying id [] steps) steps
-dropped_closed net steps id derivation k e there marked =
-    stays_closed id (marked_staying id [] steps) e.why
-    (marked_stays id steps (all_below net steps derivation) k e there marked)
+pub staying_closed : (steps : List Entry) (id : ℕ) → AllEarlier steps → IsClosedUnder (marked_staying id [] steps) steps
+staying_closed steps id all k e there marked =
+    stays_closed id (marked_staying id [] steps) e.why (marked_stays id steps all.below k e there marked)
 
 other_constraint : (id c i : ℕ) (marks : List Bool) → stays id marks (Chain c i) ≡ true → c ≡ id → ⊥
 other_constraint id c i marks h same =
@@ -262,7 +261,7 @@ dropped_derivation net cs steps id others derivation =
     let marks = marked_staying id [] steps in
     derivation_elsewhere net cs (dropped steps id)
     (λ c b k i has there. others c has (differs c b k i there))
-    (cut_derivation net marks steps derivation (dropped_closed net steps id derivation))
+    (cut_derivation net marks steps derivation (staying_closed steps id (record { below = all_below net steps derivation })))
   where
     differs : (c : Constraint) (b : Bound) (k i : ℕ) → slice_get (dropped steps id) k ≡ Some (record { bound = b; why = Chain c.id i }) → c.id ≡ id → ⊥
     differs c b k i there =

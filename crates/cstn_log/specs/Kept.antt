@@ -58,7 +58,8 @@ pub record IsKept (slots : List (Option (ℕ × Entry))) (births : ℕ) (table :
   pub inside : (k : ℕ) (e : Entry) → slice_get (entries_of slots ids) k ≡ Some e → e.bound.node.0 < nodes
 
 -- the room for each slot's id, and for its mark, its new place and its entry when some are taken out
-pub record IsRoom (cap ids marks places steps : ℕ) : Type 0 where
+pub record IsRoom (cap told ids marks places steps : ℕ) : Type 0 where
+  pub size : told ≡ cap
   pub for_ids : cap ≤ ids
   pub for_marks : cap ≤ marks
   pub for_places : cap ≤ places
@@ -66,7 +67,7 @@ pub record IsRoom (cap ids marks places steps : ℕ) : Type 0 where
   pub few : cap ≤ 4194304
 
 -- and premises are places before the entry, and there is room
-pub record IsLog (slots : List (Option (ℕ × Entry))) (births : ℕ) (table : Entries) (ids : List SlotId) (nodes for_ids for_marks for_places for_steps : ℕ) : Type 0 where
+pub record IsLog (slots : List (Option (ℕ × Entry))) (births : ℕ) (table : Entries) (ids : List SlotId) (nodes cap for_ids for_marks for_places for_steps : ℕ) : Type 0 where
   pub kept : IsKept slots births table ids nodes
   pub earlier : AllEarlier (the_entries (entries_of slots ids))
-  pub room : IsRoom (length slots) for_ids for_marks for_places for_steps
+  pub room : IsRoom (length slots) cap for_ids for_marks for_places for_steps

@@ -7,6 +7,7 @@ mod cutting;
 mod laws;
 mod log;
 mod plans;
+mod putting;
 
 pub use cuts::{
     cuts_are_derivations, cuts_are_known, dropping_leaves_derivations, parts_are_derivations,

@@ -1,6 +1,7 @@
-ghost use Rattle.std.specs.Prelude.{◌≡◌, ◌<◌, ◌≤◌, ◌+◌, ◌^◌, ◌++◌, ◌∷◌, [], ◌↔◌, ℕ, Some, None, length, IsTrue, IfOk, IsErr, IsOk, OnErr, slice_get, slice_index_or};
+ghost use Rattle.std.specs.Prelude.{List, ◌≡◌, ◌<◌, ◌≤◌, ◌+◌, ◌^◌, ◌++◌, ◌∷◌, [], ◌↔◌, ℕ, Some, None, length, IsTrue, IfOk, IsErr, IsOk, OnErr, slice_get, slice_index_or};
 ghost use Rattle.cstn_label.specs.Read.{the_bound};
-ghost use Rattle.cstn_net.specs.Networks.{Network as TheNetwork, IsNetwork, count};
+ghost use Rattle.std.specs.List.{Contains};
+ghost use Rattle.cstn_net.specs.Networks.{Network as TheNetwork, Constraint, IsNetwork, count};
 ghost use Rattle.cstn_net.specs.Strategies.{Table, IsStrategy};
 ghost use Rattle.cstn_net.specs.Bounds.{HoldsIn};
 ghost use Rattle.cstn_net.specs.Read.{the_network};
@@ -8,10 +9,11 @@ ghost use Rattle.cstn_rules.specs.Rules.{base};
 ghost use Rattle.cstn_rules.specs.Derivations.{Follows, IsDerivation, IsRefutation};
 ghost use Rattle.cstn_minset.specs.Sets.{IsPlaced};
 ghost use Rattle.cstn_log.specs.Entries.{State, the_entries, IsCoveredBy, IsLive, AllNew, bases, first_entries};
-ghost use Rattle.cstn_log.specs.Cuts.{PremisesBelow, part};
+ghost use Rattle.cstn_log.specs.Cuts.{PremisesBelow, part, dropped};
 ghost use Rattle.cstn_log.specs.Kept.{IsIdAt};
 
-use crate::cutting::{cut, entry_at, mark_ancestors};
+use crate::cutting::{cut, entry_at, mark_ancestors, mark_staying};
+use crate::putting::{clear, put_all};
 use cstn_label::{Bound, Label, NodeId};
 use cstn_minset::MinSet;
 use cstn_net::Network;
@@ -32,6 +34,7 @@ pub struct Log {
     pool: Pool<Entry>,
     minimal: MinSet,
     ids: Vec<SlotId>,
+    cap: u32,
     // Which entries stay when some are taken out, the new place of each, and what is left.
     marks: Vec<bool>,
     places: Vec<u32>,
@@ -47,7 +50,7 @@ impl Model for Log {
 
     ghost view = { λ l. state_of l.pool.slots l.ids.items l.pool.births l.minimal.nodes };
 
-    ghost invariant = { λ l. IsLog l.pool.slots l.pool.births l.minimal.table l.ids.items l.minimal.nodes (vec_capacity l.ids) (vec_capacity l.marks) (vec_capacity l.places) (vec_capacity l.steps) };
+    ghost invariant = { λ l. IsLog l.pool.slots l.pool.births l.minimal.table l.ids.items l.minimal.nodes l.cap (vec_capacity l.ids) (vec_capacity l.marks) (vec_capacity l.places) (vec_capacity l.steps) };
 }
 
 impl Log {
@@ -84,6 +87,7 @@ impl Log {
             pool,
             minimal,
             ids,
+            cap,
             marks,
             places,
             steps,
@@ -95,7 +99,7 @@ impl Log {
         requires net { self.old.nodes ≡ count (the_network net.now) }
         requires room { count (the_network net.now) ≤ self.old.cap }
         requires empty { self.old.entries ≡ [] }
-        requires births { self.old.births < 2 ^ 61 }
+        requires births { self.old.births < 2 ^ 62 }
         ensures bases { the_entries self.new.entries ≡ bases (count (the_network net.now)) }
         ensures size { (self.new.cap ≡ self.old.cap) × (self.new.nodes ≡ self.old.nodes) }
         ensures births { self.new.births ≡ self.old.births + count (the_network net.now) }
@@ -111,7 +115,7 @@ impl Log {
         requires net { self.old.nodes ≡ count (the_network net.now) }
         requires follows { Follows (the_network net.now) (the_entries self.old.entries) (length self.old.entries) e.why (the_bound e.bound) }
         requires uncovered { ¬ IsCoveredBy self.old.entries e.bound }
-        requires births { self.old.births < 2 ^ 62 }
+        requires births { self.old.births < 2 ^ 63 }
 
         ensures full { IsErr result ↔ (length self.old.entries ≡ self.old.cap) }
         ensures refused { OnErr result (self.new ≡ self.old) }
@@ -191,6 +195,61 @@ impl Log {
         let mut steps = Vec::with_capacity(alloc, count)?;
         cut(&self.pool, &self.ids, &marks, &mut places, &mut steps);
         Ok(steps)
+    }
+
+    /// Takes out the entries that a constraint gave and those with such an ancestor, and answers how
+    /// many they were. What is left is a derivation of each network that differs at most in that
+    /// constraint from one of which the log was one.
+    pub fn retract(&mut self, constraint: u32) -> u32
+        requires births { self.old.births < 2 ^ 62 }
+        ensures dropped { the_entries self.new.entries ≡ dropped (the_entries self.old.entries) constraint }
+        ensures answer { result + length self.new.entries ≡ length self.old.entries }
+        ensures births { self.new.births ≤ self.old.births + length self.old.entries }
+        ensures size { (self.new.cap ≡ self.old.cap) × (self.new.nodes ≡ self.old.nodes) }
+        ensures derivation { (net : TheNetwork) (constraints : List Constraint) → ((c : Constraint) → Contains net.constraints c → (c.id ≡ constraint → ⊥) → Contains constraints c) → IsDerivation net (the_entries self.old.entries) → IsDerivation (record net { constraints = constraints }) (the_entries self.new.entries) }
+    {
+        let before = self.ids.len();
+        self.marks.clear();
+        self.places.clear();
+        self.steps.clear();
+        mark_staying(&self.pool, &self.ids, constraint, &mut self.marks);
+        cut(
+            &self.pool,
+            &self.ids,
+            &self.marks,
+            &mut self.places,
+            &mut self.steps,
+        );
+        clear(&mut self.pool, &mut self.minimal, &mut self.ids);
+        put_all(
+            &mut self.pool,
+            &mut self.minimal,
+            &mut self.ids,
+            &self.steps,
+        );
+        (before - self.ids.len()) as u32
+    }
+
+    /// Starts again: the log has the base bounds of the network, or nothing where its cap is below
+    /// their number.
+    pub fn restart(&mut self, net: &Network)
+        requires net { self.old.nodes ≡ count (the_network net.now) }
+        requires births { self.old.births < 2 ^ 62 }
+        ensures restart { the_entries self.new.entries ≡ first_entries (the_network net.now) self.old.cap }
+        ensures births { self.new.births ≤ self.old.births + count (the_network net.now) }
+        ensures size { (self.new.cap ≡ self.old.cap) × (self.new.nodes ≡ self.old.nodes) }
+        ensures derivation { IsDerivation (the_network net.now) (the_entries self.new.entries) }
+    {
+        self.take_all_out();
+        if net.count() as u32 <= self.cap {
+            self.push_bases(net);
+        }
+    }
+
+    fn take_all_out(&mut self)
+        ensures { self.new ≡ record self.old { entries = []; ids = [] } }
+    {
+        clear(&mut self.pool, &mut self.minimal, &mut self.ids);
     }
 
     /// The id under which the pool keeps an entry.

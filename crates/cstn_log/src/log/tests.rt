@@ -173,3 +173,54 @@ fn a_log_that_is_full_or_too_small(rt: HostRuntime) -> Result<(), AllocError> {
     assert_eq!(rt; log.len(), 4);
     Ok(())
 }
+
+// Z, P, which observes p, and X: X is at 10 or later where p is true, and at 3 or earlier where it
+// is false, and P is at 2 and at 3 or later.
+fn branch(alloc: Global) -> Result<Builder, AllocError> {
+    let mut net = Builder::new(alloc, 10);
+    net.node(None)?;
+    net.node(Some(P))?;
+    net.node(None)?;
+    net.constrain(2, 0, -10, only(P, Mark::Yes))?;
+    net.constrain(0, 2, 3, only(P, Mark::No))?;
+    net.constrain(1, 0, -2, Label::empty())?;
+    net.constrain(1, 0, -3, Label::empty())?;
+    Ok(net)
+}
+
+fn taken_out(log: &mut Log, constraint: u32) -> u32
+    requires births { log.old.births < 2000 }
+    ensures nodes { log.new.nodes ≡ log.old.nodes }
+    ensures births { log.new.births ≤ log.old.births + 16 }
+{
+    if log.len() > 16 {
+        return 0;
+    }
+    log.retract(constraint)
+}
+
+#[test]
+fn what_is_left_without_a_constraint(rt: HostRuntime) -> Result<(), AllocError> {
+    let net = branch(rt.alloc())?.close().expect(&rt, "a network");
+    let mut log = started(rt.alloc(), &net, 8)?;
+    assert!(rt; push_chain(&net, &mut log, 0, 0));
+    assert!(rt; push_chain(&net, &mut log, 2, 0));
+    assert!(rt; push_chain(&net, &mut log, 3, 0));
+    assert!(rt; push_wait(&net, &mut log, 5, 3));
+    assert!(rt; push_chain(&net, &mut log, 1, 6));
+    assert_eq!(rt; part_len(rt.alloc(), &log)?, 5);
+    assert_eq!(rt; taken_out(&mut log, 9), 0);
+    assert_eq!(rt; taken_out(&mut log, 3), 3);
+    let alive = [true, false, true, true, true, false, false, false];
+    assert!(rt; is_at(&log, 1, 2, Label::empty(), alive));
+    log.restart(&net);
+    assert_eq!(rt; log.len(), 3);
+    Ok(())
+}
+
+fn part_len(alloc: Global, log: &Log) -> Result<usize, AllocError> {
+    if log.len() == 0 {
+        return Ok(0);
+    }
+    Ok(log.part(alloc)?.len())
+}

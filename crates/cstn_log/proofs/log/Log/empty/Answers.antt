@@ -10,6 +10,7 @@ invariant_of-result c =
       kept = kept_empty c.args.cap 0 c.args.nodes;
       earlier = record { below = λ k e there. absurd (none-some e there) };
       room = record {
+        size = omega (arith, length-replicate c.args.cap no_slot);
         for_ids = omega (arith, c.in_ok-ids.ensures.capacity, length-replicate c.args.cap no_slot);
         for_marks = omega (arith, c.in_ok-marks.ensures.capacity, length-replicate c.args.cap no_slot);
         for_places = omega (arith, c.in_ok-places.ensures.capacity, length-replicate c.args.cap no_slot);

@@ -57,6 +57,7 @@ invariant_of-self-2 c =
       kept = push_step c.self.inside.pool.slots c.self.inside.pool.births c.self.inside.minimal placed.0 c.self.inside.ids.items id c.args.e c.take.new.self c.place.new.self c.push.new.self.items c.self.invariant.kept taken.empty taken.birth taken.taken placed.1 placed.2 pushed uncovered (omega (arith, nodes, c.requires.net, c.if-prove.false, c.count-count.ensures.count));
       earlier = rw longer (more_earlier (entries_of c.self.inside.pool.slots c.self.inside.ids.items) c.args.e c.self.invariant.earlier (follows_below (the_network c.args.net.now) _ _ c.args.e.why (the_bound c.args.e.bound) follows));
       room = record {
+        size = room.size ∙ sym size;
         for_ids = omega (arith, size, c.push.ensures.lower_bound, room.for_ids);
         for_marks = omega (arith, size, room.for_marks);
         for_places = omega (arith, size, room.for_places);
