@@ -1,52 +1,234 @@
 use super::*;
-use cstn_label::{Label, Mark, Prop};
+use cstn_label::{Bound, Label, Mark, NodeId};
+use cstn_log::Log;
 use cstn_net::Builder;
+use cstn_rules::{Entry, Why};
 use std::alloc::{AllocError, Global};
+use std::process::Abort;
+use std::test::Fail;
 
-const P: Prop = Prop { index: 41 };
+mod networks;
 
-fn only(prop: Prop, mark: Mark) -> Label {
-    Label::empty().with(prop, mark)
+use networks::{
+    alone, before_itself, branched, branched_from, crossed, crossed_no, generated, p, pair, pq, q,
+    unknown_mark,
+};
+
+// A check of the network.
+fn check(rt: &impl Abort, alloc: Global, net: Builder, cap: u32) -> Result<Check, AllocError> {
+    assert!(rt; 1 <= cap && cap <= 4_194_304);
+    let net = net.close().expect(rt, "a network");
+    Check::start(alloc, net, cap)
 }
 
-// Z and X, where X is at 5 or later.
-fn pair(alloc: Global, deadline: u32) -> Result<Builder, AllocError> {
-    let mut net = Builder::new(alloc, deadline);
-    net.node(None)?;
-    net.node(None)?;
-    net.constrain(1, 0, -5, Label::empty())?;
-    Ok(net)
+// It answers so with this cap.
+fn answers(
+    rt: &impl Abort,
+    alloc: Global,
+    net: Builder,
+    cap: u32,
+    verdict: Verdict,
+) -> Result<(), Fail> {
+    let mut check = check(rt, alloc, net, cap)?;
+    assert_eq!(rt; check.run(), verdict);
+    assert_eq!(rt; check.run(), verdict);
+    Ok(())
 }
 
-// Z, P and X, where X is at 10 or later where P's proposition is true, and at 3 or earlier where it is false.
-fn branched(alloc: Global) -> Result<Builder, AllocError> {
-    let mut net = Builder::new(alloc, 10);
-    net.node(None)?;
-    net.node(Some(P))?;
-    net.node(None)?;
-    net.constrain(2, 0, -10, only(P, Mark::Yes))?;
-    net.constrain(0, 2, 3, only(P, Mark::No))?;
-    Ok(net)
+fn yes(rt: &impl Abort, alloc: Global, net: Builder, load: u32) -> Result<(), Fail> {
+    answers(rt, alloc, net, load, Verdict::Yes { load })
+}
+
+fn no(rt: &impl Abort, alloc: Global, net: Builder, load: u32) -> Result<(), Fail> {
+    answers(rt, alloc, net, load, Verdict::No { load })
+}
+
+fn full(rt: &impl Abort, alloc: Global, net: Builder, cap: u32) -> Result<(), Fail> {
+    answers(rt, alloc, net, cap, Verdict::Full)
 }
 
 #[test]
-fn the_verdict_of_a_pair(rt: HostRuntime) -> Result<(), AllocError> {
-    let net = pair(rt.alloc(), 5)?.close().expect(&rt, "a network");
-    let mut check = Check::start(rt.alloc(), net, 8)?;
-    assert!(rt; check.run() == Verdict::Yes { load: 3 });
-    let net = pair(rt.alloc(), 4)?.close().expect(&rt, "a network");
-    let mut check = Check::start(rt.alloc(), net, 8)?;
-    assert!(rt; check.run() == Verdict::No { load: 3 });
+fn verdicts_of_yes(rt: HostRuntime) -> Result<(), Fail> {
+    let alloc = rt.alloc();
+    yes(&rt, alloc, alone(alloc)?, 1)?;
+    yes(&rt, alloc, pair(alloc, 5)?, 3)?;
+    yes(&rt, alloc, branched(alloc)?, 5)?;
+    yes(&rt, alloc, branched_from(alloc, 2)?, 6)?;
+    yes(&rt, alloc, crossed(alloc)?, 8)?;
+    yes(&rt, alloc, generated(alloc)?, 31)
+}
+
+#[test]
+fn verdicts_of_no(rt: HostRuntime) -> Result<(), Fail> {
+    let alloc = rt.alloc();
+    no(&rt, alloc, pair(alloc, 4)?, 3)?;
+    no(&rt, alloc, before_itself(alloc)?, 6)?;
+    no(&rt, alloc, branched_from(alloc, 3)?, 7)?;
+    no(&rt, alloc, crossed_no(alloc)?, 9)?;
+    no(&rt, alloc, unknown_mark(alloc)?, 14)
+}
+
+#[test]
+fn verdicts_of_full(rt: HostRuntime) -> Result<(), Fail> {
+    let alloc = rt.alloc();
+    full(&rt, alloc, pair(alloc, 4)?, 2)?;
+    full(&rt, alloc, branched(alloc)?, 4)?;
+    full(&rt, alloc, branched_from(alloc, 3)?, 6)?;
+    full(&rt, alloc, crossed(alloc)?, 7)?;
+    full(&rt, alloc, unknown_mark(alloc)?, 13)
+}
+
+#[test]
+fn keeps_nothing_below_the_number_of_time_points(rt: HostRuntime) -> Result<(), Fail> {
+    let alloc = rt.alloc();
+    let mut check = check(&rt, alloc, pair(alloc, 5)?, 1)?;
+    assert_eq!(rt; check.kept().len(), 0);
+    assert_eq!(rt; check.run(), Verdict::Full);
+    assert_eq!(rt; check.kept().len(), 0);
+    Ok(())
+}
+
+// The log has this entry at the place k.
+fn has(rt: &impl Abort, log: &Log, k: u32, entry: Entry) -> Result<(), Fail> {
+    assert!(rt; k < log.len());
+    assert_eq!(rt; log.entry(k), entry);
+    Ok(())
+}
+
+fn entry(why: Why, node: u16, least: i32, label: Label) -> Entry {
+    let node = NodeId(node);
+    let bound = Bound { node, least, label };
+    Entry { bound, why }
+}
+
+fn base(node: u16) -> Entry {
+    entry(Why::Base, node, 0, Label::empty())
+}
+
+fn chained(constraint: u32, premise: u32, node: u16, least: i32, label: Label) -> Entry {
+    let why = Why::Chain {
+        constraint,
+        premise,
+    };
+    entry(why, node, least, label)
+}
+
+fn awaited(seen: u32, premise: u32, node: u16, least: i32, label: Label) -> Entry {
+    entry(Why::Wait { seen, premise }, node, least, label)
+}
+
+#[test]
+fn keeps_the_log_of_crossed_observers(rt: HostRuntime) -> Result<(), Fail> {
+    let alloc = rt.alloc();
+    let mut check = check(&rt, alloc, crossed(alloc)?, 8)?;
+    assert_eq!(rt; check.run(), Verdict::Yes { load: 8 });
+    let log = check.kept();
+    has(&rt, log, 0, base(0))?;
+    has(&rt, log, 1, base(1))?;
+    has(&rt, log, 2, base(2))?;
+    has(&rt, log, 3, chained(0, 0, 1, 5, q(Mark::Yes)))?;
+    has(&rt, log, 4, chained(1, 0, 2, 5, p(Mark::Yes)))?;
+    has(&rt, log, 5, awaited(2, 3, 1, 1, Label::empty()))?;
+    has(&rt, log, 6, awaited(3, 4, 2, 5, Label::empty()))?;
+    has(&rt, log, 7, awaited(6, 3, 1, 5, Label::empty()))
+}
+
+#[test]
+fn keeps_the_log_of_an_unknown_mark(rt: HostRuntime) -> Result<(), Fail> {
+    let alloc = rt.alloc();
+    let mut check = check(&rt, alloc, unknown_mark(alloc)?, 14)?;
+    assert_eq!(rt; check.run(), Verdict::No { load: 14 });
+    let log = check.kept();
+    has(&rt, log, 3, base(3))?;
+    has(&rt, log, 4, chained(0, 0, 3, 9, pq(Mark::Yes, Mark::Yes)))?;
+    has(&rt, log, 5, chained(1, 0, 2, 7, p(Mark::No)))?;
+    has(&rt, log, 6, chained(2, 0, 1, 7, Label::empty()))?;
+    has(&rt, log, 7, awaited(2, 4, 3, 1, p(Mark::Yes)))?;
+    has(&rt, log, 8, awaited(5, 4, 3, 8, p(Mark::Unknown)))?;
+    has(&rt, log, 9, awaited(6, 4, 3, 8, q(Mark::Yes)))?;
+    has(&rt, log, 10, awaited(6, 5, 2, 7, Label::empty()))?;
+    has(&rt, log, 11, awaited(6, 7, 3, 1, Label::empty()))?;
+    has(&rt, log, 12, awaited(6, 8, 3, 8, Label::empty()))?;
+    has(&rt, log, 13, chained(3, 12, 0, 1, pq(Mark::No, Mark::No)))
+}
+
+// What refutes the network, after this load.
+fn refuted_by(
+    rt: &impl Abort,
+    alloc: Global,
+    net: Builder,
+    load: u32,
+    steps: &[Entry],
+) -> Result<(), Fail> {
+    let mut check = check(rt, alloc, net, load)?;
+    let Verdict::No { .. } = check.run() else {
+        panic!(rt; "a no");
+    };
+    let refutation = check.refutation(alloc)?;
+    assert_eq!(rt; refutation.load(), load);
+    assert!(rt; refutation.steps() == steps);
     Ok(())
 }
 
 #[test]
-fn the_verdict_of_a_branch(rt: HostRuntime) -> Result<(), AllocError> {
-    let net = branched(rt.alloc())?.close().expect(&rt, "a network");
-    let mut check = Check::start(rt.alloc(), net, 5)?;
-    assert!(rt; check.run() == Verdict::Yes { load: 5 });
-    let net = branched(rt.alloc())?.close().expect(&rt, "a network");
-    let mut check = Check::start(rt.alloc(), net, 4)?;
-    assert!(rt; check.run() == Verdict::Full);
+fn refutes_by_the_part_of_the_log(rt: HostRuntime) -> Result<(), Fail> {
+    let alloc = rt.alloc();
+    let of_pair = [base(0), chained(0, 0, 1, 5, Label::empty())];
+    refuted_by(&rt, alloc, pair(alloc, 4)?, 3, &of_pair)?;
+    let too_late = [
+        base(0),
+        chained(0, 0, 2, 10, p(Mark::Yes)),
+        chained(2, 0, 1, 3, Label::empty()),
+        awaited(2, 1, 2, 4, Label::empty()),
+        chained(1, 3, 0, 1, p(Mark::No)),
+    ];
+    refuted_by(&rt, alloc, branched_from(alloc, 3)?, 7, &too_late)
+}
+
+fn bound(node: u16, least: i32, label: Label) -> Bound {
+    let node = NodeId(node);
+    Bound { node, least, label }
+}
+
+// The plan that is left after this load.
+fn planned(
+    rt: &impl Abort,
+    alloc: Global,
+    net: Builder,
+    load: u32,
+    bounds: &[Bound],
+) -> Result<(), Fail> {
+    let mut check = check(rt, alloc, net, load)?;
+    let Verdict::Yes { .. } = check.run() else {
+        panic!(rt; "a yes");
+    };
+    let plan = check.into_plan();
+    assert_eq!(rt; plan.count() as usize, bounds.len());
+    for k in 0..plan.count() {
+        assert_eq!(rt; plan.bound(k), bounds[k as usize]);
+    }
     Ok(())
+}
+
+#[test]
+fn plans_with_the_live_bounds_in_order(rt: HostRuntime) -> Result<(), Fail> {
+    let alloc = rt.alloc();
+    let z = bound(0, 0, Label::empty());
+    let late = bound(2, 10, p(Mark::Yes));
+    let branch = [
+        z,
+        bound(1, 0, Label::empty()),
+        late,
+        bound(2, 1, Label::empty()),
+    ];
+    planned(&rt, alloc, branched(alloc)?, 5, &branch)?;
+    let last_tick = [
+        z,
+        late,
+        bound(1, 2, Label::empty()),
+        bound(2, 3, Label::empty()),
+    ];
+    planned(&rt, alloc, branched_from(alloc, 2)?, 6, &last_tick)?;
+    let of_crossed = [z, bound(2, 5, Label::empty()), bound(1, 5, Label::empty())];
+    planned(&rt, alloc, crossed(alloc)?, 8, &of_crossed)
 }
