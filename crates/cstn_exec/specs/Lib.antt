@@ -1,0 +1,4 @@
+pub mod Runs
+pub mod Moves
+pub mod Right
+pub mod Read
