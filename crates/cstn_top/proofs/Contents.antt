@@ -1,10 +1,34 @@
 -- What is known of files that were read.
-use Rattle.std.proofs.Common.{◌≡◌, ℕ, ◌+◌, ◌<◌, List, [], ◌∷◌, length, map, ap, sym, ◌∙◌, arith}
-use Rattle.std.specs.Prelude.{Option, None, Some, replicate}
+use Rattle.std.proofs.Common.{◌≡◌, ℕ, ◌+◌, ◌<◌, List, [], ◌∷◌, ◌++◌, length, map, refl, ap, sym, ◌∙◌, subst, arith, append_assoc}
+use Rattle.std.specs.Prelude.{Option, None, Some, IsTrue, Bool, true, false, ◌&&◌, is_some, replicate}
 use Rattle.std.specs.Option.{IsSomeAnd}
 use Rattle.std.proofs.lemmas.List.{length-replicate}
-use Rattle.cstn_io.specs.Contents.{IsFile, IsLongFile}
-use Rattle.cstn_top.specs.Files.{file_at, bytes_or_none, IsContent, AreContents}
+use Rattle.std.specs.List.{list_all}
+use Rattle.cstn_io.specs.Contents.{after_bytes, IsAllOf, IsAtEnd, IsFile, IsLongFile}
+use Rattle.cstn_top.specs.Files.{file_at, bytes_or_none, IsContent, AreContents, AreThere}
+
+-- what is left, or nothing where that isn't told
+pub given : Option (List ℕ) → List ℕ
+given None = []
+given (Some xs) = xs
+
+pub all_given : (told now : Option (List ℕ)) (taken : List ℕ) → told ≡ after_bytes taken now → IsAllOf told (taken ++ given now)
+unfolding given
+all_given told None taken is = λ xs e. absurd (cc)
+all_given told (Some ys) taken is = λ xs e. cc
+
+pub given_end : (now : Option (List ℕ)) → IsAtEnd now → given now ≡ []
+unfolding given
+given_end None end = refl
+given_end (Some xs) end = end xs refl
+
+pub no_taken : (told : Option (List ℕ)) → told ≡ after_bytes [] told
+no_taken None = refl
+no_taken (Some xs) = refl
+
+pub more_taken : (told mid now : Option (List ℕ)) (before taken : List ℕ) → told ≡ after_bytes before mid → mid ≡ after_bytes taken now → told ≡ after_bytes (before ++ taken) now
+more_taken told mid None before taken is later = rw (is, later) refl
+more_taken told mid (Some xs) before taken is later = rw (is, later, append_assoc) refl
 
 -- a file that was read
 pub is_content : (told : Option (List ℕ → Option (List ℕ))) (name bytes : List ℕ) → IsFile told name bytes → IsContent told name bytes
@@ -43,3 +67,36 @@ some_content (Some known) name = (file_at known name, (λ files e. let same : kn
 -- the contents of two files
 pub two_contents : (told : Option (List ℕ → Option (List ℕ))) (name other bytes text : List ℕ) → IsContent told name bytes → IsContent told other text → AreContents told (name ∷ other ∷ []) (bytes ∷ text ∷ [])
 two_contents told name other bytes text content second = λ files e. let one = content files e in let two = second files e in cc
+
+-- a file that was read is there
+pub is_there : (told : Option (List ℕ → Option (List ℕ))) (name bytes : List ℕ) → IsFile told name bytes → AreThere told (name ∷ [])
+is_there None name bytes is = λ files e. absurd (cc)
+is_there (Some known) name bytes is = λ files e. there_at known files name bytes (cc) is
+  where
+    there_at : (known files : List ℕ → Option (List ℕ)) (name bytes : List ℕ) → known ≡ files → known name ≡ Some bytes → IsTrue (is_some (files name) && true)
+    there_at known files name bytes same is =
+        let found : files name ≡ Some bytes = ap (λ (f : List ℕ → Option (List ℕ)). f name) (sym same) ∙ is in
+        rw found refl
+
+-- a file that is too long is there
+pub long_is_there : (told : Option (List ℕ → Option (List ℕ))) (name : List ℕ) (limit : ℕ) → IsLongFile told name limit → AreThere told (name ∷ [])
+long_is_there None name limit long = λ files e. absurd (cc)
+long_is_there (Some known) name limit long = λ files e.
+    let same : known ≡ files = cc in
+    subst (λ (f : List ℕ → Option (List ℕ)). IsTrue (is_some (f name) && true)) same (some_there (known name) limit long)
+  where
+    some_there : (o : Option (List ℕ)) (limit : ℕ) → IsSomeAnd o (λ bs. limit < length bs) → IsTrue (is_some o && true)
+    some_there None limit h = absurd h
+    some_there (Some bytes) limit h = refl
+
+-- no file
+pub none_there : (told : Option (List ℕ → Option (List ℕ))) → AreThere told []
+none_there told = λ files e. refl
+
+-- two files
+pub two_there : (told : Option (List ℕ → Option (List ℕ))) (name other : List ℕ) → AreThere told (name ∷ []) → AreThere told (other ∷ []) → AreThere told (name ∷ other ∷ [])
+two_there told name other one two = λ files e. both (is_some (files name)) (is_some (files other)) (one files e) (two files e)
+  where
+    both : (a b : Bool) → IsTrue (a && true) → IsTrue (b && true) → IsTrue (a && (b && true))
+    both true b x y = y
+    both false b x y = absurd (cc)

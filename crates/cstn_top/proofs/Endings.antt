@@ -1,114 +1,187 @@
 -- How a call ends: what was written is a text of the plan.
-use Rattle.std.proofs.Common.{◌≡◌, ℕ, List, [], ◌∷◌, refl, sym, ◌∙◌, subst, inl, inr, arith}
-use Rattle.std.specs.Prelude.{◌⊎◌, IsTrue, Option, None, Some, codes, true}
+use Rattle.std.proofs.Common.{◌≡◌, ℕ, List, [], ◌∷◌, ◌++◌, refl, sym, ◌∙◌, ap, subst, inl, inr, arith}
+use Rattle.std.specs.Prelude.{◌⊎◌, IsNone, IsTrue, Option, None, Some, codes, true}
 use Rattle.std.specs.List.{list_all}
-use Rattle.cstn_io.specs.Contents.{IsAllOf}
 use Rattle.cstn_top.specs.Texts.{line}
-use Rattle.cstn_top.specs.Requests.{Request, names_of}
-use Rattle.cstn_top.specs.Files.{AreContents}
-use Rattle.cstn_top.specs.Plans.{Said, say, Plan, says, judges, talks, IsOutput, Live, IsText, is_output, is_file_fault, is_memory, IsWritten, Ends, Untouched}
-use Rattle.cstn_top.specs.Outputs.{plan_of, plan_at, IsRight, Planned, HoldsOf, IsGood, IsBad}
+use Rattle.cstn_top.specs.Requests.{Request, files_of, names_of}
+use Rattle.cstn_top.specs.Files.{AreContents, AreThere}
+use Rattle.cstn_top.specs.Plans.{Said, say, Plan, says, IsOutput, MayTalk, Live, IsText, is_output, is_file_fault, is_live_fault, is_memory, IsWritten, Ends, ComesTo, Untouched}
+use Rattle.cstn_top.specs.Sessions.{session}
+use Rattle.cstn_top.specs.Running.{RunningParts, running_turn, running_ending}
+use Rattle.cstn_top.specs.Outputs.{plan_of, plan_at}
+use Rattle.cstn_top.specs.Prepared.{the_plan, Planned}
+use Rattle.cstn_top.specs.Meanings.{HoldsOf, IsGood, IsBad, IsFull, IsComplete, IsStopped, files_read, ReadsLive}
 use Rattle.cstn_top.specs.Statuses.{status_of}
+use Rattle.cstn_top.specs.declared.commands.Prepared.{Prepared}
 use Rattle.cstn_top.specs.declared.status.Status.{Status}
-use Rattle.cstn_top.specs.declared.status.Status.TheVariants.{Words as IsWords, ReadFault, WriteFault, Memory}
+use Rattle.cstn_top.specs.declared.status.Status.TheVariants.{Good as IsYesStatus, Bad as IsNoStatus, Words as IsWords, Full as IsFullStatus, ReadFault, WriteFault, Memory}
 use Rattle.cstn_top.specs.declared.output.Outcome.{Outcome}
-use Rattle.cstn_top.specs.declared.output.Outcome.TheVariants.{Good, Bad, Words, Document, Script}
-use Rattle.cstn_top.proofs.Contents.{some_contents}
+use Rattle.cstn_top.specs.declared.output.Outcome.TheVariants.{Good, Bad, Words, Document, Full, Unfinished, Script}
+use Rattle.cstn_top.proofs.Contents.{given, all_given, no_taken, some_contents, none_there}
+use Rattle.cstn_top.proofs.Meanings.{IsRight, output_right, output_complete, talks_live}
 
 -- how a call ends, for the files that were read
 abbrev pub Answered : {S : Type 0} → Option Request → Option (List ℕ → Option (List ℕ)) → S → S → Live → Live → Option (List ℕ) → Option (List ℕ) → Status → Type 0
 Answered words told source now before after old new result = (contents : List (List ℕ)) × AreContents told (names_of words) contents × Ends (plan_of words contents) before after old new result × Untouched (plan_of words contents) source now
 
--- what is left, or nothing where that isn't told
-given : Option (List ℕ) → List ℕ
-given None = []
-given (Some xs) = xs
-
-all_given : (told : Option (List ℕ)) → IsAllOf told (given told)
-unfolding given
-all_given None = λ xs e. absurd (cc)
-all_given (Some ys) = λ xs e. cc
-
 pub says_text : (plan : Plan) (said : Said) (seen : Live) → ((live : List ℕ) → IsOutput plan live said) → IsText plan seen seen (status_of said.outcome) said.text
-says_text plan said seen output = is_output (given seen.left) said (all_given seen.left) (output (given seen.left))
+says_text plan said seen output = is_output (given seen.left) said (all_given seen.left seen.left [] (no_taken seen.left)) (output (given seen.left))
 
 memory_text : (plan : Plan) (seen : Live) → IsText plan seen seen Memory (line (codes "memory"))
 memory_text plan seen = is_memory [] (inl refl)
-
-stands : {S : Type 0} (plan : Plan) (source : S) → Untouched plan source source
-stands (says said) source = refl
-stands (judges parts answer) source = refl
-stands (talks opening whole heard) source = tt
 
 -- the words are no request
 pub words_end : {S : Type 0} (words : Option Request) (told : Option (List ℕ → Option (List ℕ))) (source : S) (seen : Live) (old new : Option (List ℕ)) (result : Status) → None ≡ words → IsWritten old new (line (codes "words")) IsWords result → Answered words told source source seen seen old new result
 words_end words told source seen old new result none written =
     let fs = some_contents told [] in
     subst (λ (w : Option Request). Answered w told source source seen seen old new result) none
-    (fs.0, fs.1, (IsWords, line (codes "words"), says_text (says (say Words (codes "words"))) (say Words (codes "words")) seen (λ live. refl), written), refl)
+    (fs.0, fs.1, (IsWords, line (codes "words"), says_text (says (say Words (codes "words"))) (say Words (codes "words")) seen (λ live. refl), written), inr refl)
 
 -- a file couldn't be read
 pub fault_end : {S : Type 0} (words : Option Request) (told : Option (List ℕ → Option (List ℕ))) (source : S) (seen : Live) (old new : Option (List ℕ)) (result : Status) → IsWritten old new (line (codes "read fault")) ReadFault result → Answered words told source source seen seen old new result
 fault_end words told source seen old new result written =
     let fs = some_contents told (names_of words) in
-    (fs.0, fs.1, (ReadFault, line (codes "read fault"), is_file_fault refl, written), stands (plan_of words fs.0) source)
+    (fs.0, fs.1, (ReadFault, line (codes "read fault"), is_file_fault refl, written), inr refl)
 
 -- memory was refused
 pub memory_end : {S : Type 0} (words : Option Request) (told : Option (List ℕ → Option (List ℕ))) (source : S) (seen : Live) (old new : Option (List ℕ)) (result : Status) → IsWritten old new (line (codes "memory")) Memory result → Answered words told source source seen seen old new result
 memory_end words told source seen old new result written =
     let fs = some_contents told (names_of words) in
-    (fs.0, fs.1, (Memory, line (codes "memory"), memory_text (plan_of words fs.0) seen, written), stands (plan_of words fs.0) source)
+    (fs.0, fs.1, (Memory, line (codes "memory"), memory_text (plan_of words fs.0) seen, written), inr refl)
 
--- a text that is the one of the plan
-pub shown : (old new : Option (List ℕ)) (text other : List ℕ) (status result : Status) → IsWritten old new text status result → text ≡ other → IsWritten old new other status result
-shown old new text other status result written same = subst (λ (xs : List ℕ). IsWritten old new xs status result) same written
+-- a text was written
+text_written : (said : Said) (text : List ℕ) (old new : Option (List ℕ)) (status result : Status) → text ≡ said.text → status ≡ status_of said.outcome → IsWritten old new text status result → IsWritten old new said.text (status_of said.outcome) result
+text_written said text old new status result same at written =
+    subst (λ (s : Status). IsWritten old new said.text s result) at (subst (λ (xs : List ℕ). IsWritten old new xs status result) same written)
+
+pub text_end : (said : Said) (text : List ℕ) (seen : Live) (old new : Option (List ℕ)) (status result : Status) → text ≡ said.text → status ≡ status_of said.outcome → IsWritten old new text status result → Ends (says said) seen seen old new result
+text_end said text seen old new status result same at written =
+    (status_of said.outcome, said.text, says_text (says said) said seen (λ live. refl), text_written said text old new status result same at written)
 
 -- the text of a plan was written
-pub says_end : {S : Type 0} (words : Option Request) (r : Request) (told : Option (List ℕ → Option (List ℕ))) (source : S) (said : Said) (text : List ℕ) (seen : Live) (old new : Option (List ℕ)) (status result : Status) → Some r ≡ words → Planned r told said → text ≡ said.text → status ≡ status_of said.outcome → IsWritten old new text status result → Answered words told source source seen seen old new result
+pub says_end : {S : Type 0} (words : Option Request) (r : Request) (told : Option (List ℕ → Option (List ℕ))) (source : S) (said : Said) (text : List ℕ) (seen : Live) (old new : Option (List ℕ)) (status result : Status) → Some r ≡ words → Planned r told (says said) → text ≡ said.text → status ≡ status_of said.outcome → IsWritten old new text status result → Answered words told source source seen seen old new result
 says_end words r told source said text seen old new status result there planned same at written =
-    let whole : IsWritten old new said.text status result = shown old new text said.text status result written same in
     let plan : Plan = plan_at r planned.contents in
-    let ends : Ends plan seen seen old new result = (
-      status_of said.outcome,
-      said.text,
-      says_text plan said seen planned.plan,
-      subst (λ (s : Status). IsWritten old new said.text s result) at whole,
-    ) in
-    subst (λ (w : Option Request). Answered w told source source seen seen old new result) there (
-      planned.contents,
-      planned.are,
-      ends,
-      stands plan source,
-    )
+    let ends : Ends plan seen seen old new result = (status_of said.outcome, said.text, says_text plan said seen (λ live. planned.comes.output live said refl), text_written said text old new status result same at written) in
+    subst (λ (w : Option Request). Answered w told source source seen seen old new result) there (planned.contents, planned.are, ends, inr refl)
+
+-- a text of what a plan comes to
+carried : (plan other : Plan) (before after : Live) (status : Status) (text : List ℕ) → ComesTo plan other → MayTalk other → IsText other before after status text → IsText plan before after status text
+carried plan other before after status text comes may (is_output live said all output) = is_output live said all (comes.output live said output)
+carried plan other before after status text comes may (is_file_fault same) = is_file_fault same
+carried plan other before after status text comes may (is_live_fault taken left rose) =
+    subst (λ (xs : List ℕ). IsText plan before after ReadFault (xs ++ line (codes "read fault"))) (sym (comes.fault may taken)) (is_live_fault taken left rose)
+carried plan other before after status text comes may (is_memory first (inl none)) = is_memory first (inl none)
+carried plan other before after status text comes may (is_memory first (inr lines)) =
+    is_memory first (inr (record { live = lines.live; said = lines.said; rest = lines.rest; all = lines.all; output = comes.output lines.live lines.said lines.output; first = lines.first; lines = lines.lines }))
+
+-- what was prepared is this
+pub prepared_as : (r : Request) (told : Option (List ℕ → Option (List ℕ))) (p q : Prepared) → Planned r told (the_plan p) → p ≡ q → Planned r told (the_plan q)
+prepared_as r told p q planned same = subst (λ (x : Prepared). Planned r told (the_plan x)) same planned
+
+-- a session with an opening that is another one
+pub opened_as : (r : Request) (told : Option (List ℕ → Option (List ℕ))) (running : RunningParts) (opening : List ℕ) → {other : List ℕ} → Planned r told (session running_turn running_ending opening running) → opening ≡ other → Planned r told (session running_turn running_ending other running)
+opened_as r told running opening planned same = subst (λ (o : List ℕ). Planned r told (session running_turn running_ending o running)) same planned
+
+-- a session was held
+pub talks_end : {S : Type 0} (words : Option Request) (r : Request) (told : Option (List ℕ → Option (List ℕ))) (source now : S) (plan : Plan) (before after : Live) (old new : Option (List ℕ)) (result : Status) → Some r ≡ words → Planned r told plan → MayTalk plan → Ends plan before after old new result → Answered words told source now before after old new result
+talks_end words r told source now plan before after old new result there planned may ends =
+    subst (λ (w : Option Request). Answered w told source now before after old new result) there
+    (planned.contents, planned.are, (ends.0, ends.1, carried (plan_at r planned.contents) plan before after ends.0 ends.1 planned.comes may ends.2, ends.3), inl (planned.comes.talks may))
+
+-- an output ends with the status of its outcome, and other ends are faults or want of memory
+text_status : (plan : Plan) (before after : Live) (status : Status) (text : List ℕ) → IsText plan before after status text → ((live : List ℕ) × ((said : Said) × IsOutput plan live said × (status ≡ status_of said.outcome))) ⊎ IsStopped status
+text_status plan before after status text (is_output live said all output) = inl (live, (said, output, refl))
+text_status plan before after status text (is_file_fault same) = inr (inl refl)
+text_status plan before after status text (is_live_fault taken left rose) = inr (inl refl)
+text_status plan before after status text (is_memory first why) = inr (inr (inr refl))
+
+end_status : (plan : Plan) (before after : Live) (old new : Option (List ℕ)) (result : Status) → Ends plan before after old new result → ((live : List ℕ) × ((said : Said) × IsOutput plan live said × (result ≡ status_of said.outcome))) ⊎ IsStopped result
+end_status plan before after old new result ends = by_written ends.3
+  where
+    by_text : (status : Status) → result ≡ status → ((live : List ℕ) × ((said : Said) × IsOutput plan live said × (status ≡ status_of said.outcome))) ⊎ IsStopped status → ((live : List ℕ) × ((said : Said) × IsOutput plan live said × (result ≡ status_of said.outcome))) ⊎ IsStopped result
+    by_text status same (inl (live, (said, output, is))) = inl (live, (said, output, same ∙ is))
+    by_text status same (inr stopped) = inr (subst IsStopped (sym same) stopped)
+
+    by_written : IsWritten old new ends.1 ends.0 result → ((live : List ℕ) × ((said : Said) × IsOutput plan live said × (result ≡ status_of said.outcome))) ⊎ IsStopped result
+    by_written (inl (same, wrote)) = by_text ends.0 same (text_status plan before after ends.0 ends.1 ends.2)
+    by_written (inr (fault, cut)) = inr (inr (inl fault))
 
 status_alone : (outcome other : Outcome) → status_of outcome ≡ status_of other → outcome ≡ other
 status_alone outcome other is = grind arith
 
--- a status that an output has comes only with its outcome
-pub outcome_of : (outcome other : Outcome) (status result : Status) → status ≡ status_of outcome → (result ≡ status) ⊎ (result ≡ WriteFault) → result ≡ status_of other → outcome ≡ other
-outcome_of outcome other status result at (inl same) is = status_alone outcome other (sym at ∙ sym same ∙ is)
-outcome_of outcome Good status result at (inr fault) is = absurd (cc)
-outcome_of outcome Bad status result at (inr fault) is = absurd (cc)
-outcome_of outcome Words status result at (inr fault) is = absurd (cc)
-outcome_of outcome Document status result at (inr fault) is = absurd (cc)
-outcome_of outcome Script status result at (inr fault) is = absurd (cc)
+not_stopped : (outcome : Outcome) → IsStopped (status_of outcome) → ⊥
+not_stopped outcome (inl is) = grind arith
+not_stopped outcome (inr (inl is)) = grind arith
+not_stopped outcome (inr (inr is)) = grind arith
 
-right_of : (r : Request) (told : Option (List ℕ → Option (List ℕ))) (said : Said) (outcome : Outcome) (planned : Planned r told said) → said.outcome ≡ outcome → IsRight outcome r planned.contents
-right_of r told said outcome planned is = subst (λ (o : Outcome). IsRight o r planned.contents) is planned.right
+-- what the status of an output tells of a request
+request_tells : {S : Type 0} (r : Request) (told : Option (List ℕ → Option (List ℕ))) (source now : S) (before after : Live) (old new : Option (List ℕ)) (result : Status) (outcome : Outcome) (answered : Answered (Some r) told source now before after old new result) → result ≡ status_of outcome → IsRight outcome r answered.0
+request_tells r told source now before after old new result outcome answered is = by_status (end_status (plan_at r answered.0) before after old new result answered.2)
+  where
+    by_status : ((live : List ℕ) × ((said : Said) × IsOutput (plan_at r answered.0) live said × (result ≡ status_of said.outcome))) ⊎ IsStopped result → IsRight outcome r answered.0
+    by_status (inl (live, (said, output, at))) =
+        subst (λ (o : Outcome). IsRight o r answered.0) (status_alone said.outcome outcome (sym at ∙ is)) (output_right r answered.0 live said output)
+    by_status (inr stopped) = absurd (not_stopped outcome (subst IsStopped is stopped))
 
--- the status Words comes only where the words are none
-pub only_words : (r : Request) (told : Option (List ℕ → Option (List ℕ))) (said : Said) → Planned r told said → said.outcome ≡ Words → ⊥
-only_words r told said planned words = right_of r told said Words planned words
+-- no request has only the status Words
+none_tells : {S : Type 0} (told : Option (List ℕ → Option (List ℕ))) (source now : S) (before after : Live) (old new : Option (List ℕ)) (result : Status) (outcome : Outcome) → Answered None told source now before after old new result → result ≡ status_of outcome → outcome ≡ Words
+none_tells told source now before after old new result outcome answered is = by_status (end_status (plan_of None answered.0) before after old new result answered.2)
+  where
+    by_status : ((live : List ℕ) × ((said : Said) × IsOutput (plan_of None answered.0) live said × (result ≡ status_of said.outcome))) ⊎ IsStopped result → outcome ≡ Words
+    by_status (inl (live, (said, output, at))) = status_alone outcome Words (sym is ∙ at ∙ ap (λ (s : Said). status_of s.outcome) output)
+    by_status (inr stopped) = absurd (not_stopped outcome (subst IsStopped is stopped))
+
+-- the status Words comes only where the words are no request
+pub words_is : {S : Type 0} (words : Option Request) (told : Option (List ℕ → Option (List ℕ))) (source now : S) (before after : Live) (old new : Option (List ℕ)) (result : Status) → Answered words told source now before after old new result → result ≡ IsWords → IsNone words
+words_is None told source now before after old new result answered is = refl
+words_is (Some r) told source now before after old new result answered is = absurd (request_tells r told source now before after old new result Words answered is)
 
 -- what Good tells
-pub good_is : (words : Option Request) (r : Request) (told : Option (List ℕ → Option (List ℕ))) (said : Said) → Some r ≡ words → Planned r told said → said.outcome ≡ Good → HoldsOf words told IsGood
-good_is words r told said there planned good =
-    subst (λ (w : Option Request). HoldsOf w told IsGood) there (planned.contents, planned.are, right_of r told said Good planned good)
+pub good_is : {S : Type 0} (words : Option Request) (told : Option (List ℕ → Option (List ℕ))) (source now : S) (before after : Live) (old new : Option (List ℕ)) (result : Status) → Answered words told source now before after old new result → result ≡ IsYesStatus → HoldsOf words told IsGood
+good_is None told source now before after old new result answered is = absurd (let e : Good ≡ Words = none_tells told source now before after old new result Good answered is in cc)
+good_is (Some r) told source now before after old new result answered is = (answered.0, answered.1, request_tells r told source now before after old new result Good answered is)
 
 -- what Bad tells
-pub bad_is : (words : Option Request) (r : Request) (told : Option (List ℕ → Option (List ℕ))) (said : Said) → Some r ≡ words → Planned r told said → said.outcome ≡ Bad → HoldsOf words told IsBad
-bad_is words r told said there planned bad =
-    subst (λ (w : Option Request). HoldsOf w told IsBad) there (planned.contents, planned.are, right_of r told said Bad planned bad)
+pub bad_is : {S : Type 0} (words : Option Request) (told : Option (List ℕ → Option (List ℕ))) (source now : S) (before after : Live) (old new : Option (List ℕ)) (result : Status) → Answered words told source now before after old new result → result ≡ IsNoStatus → HoldsOf words told IsBad
+bad_is None told source now before after old new result answered is = absurd (let e : Bad ≡ Words = none_tells told source now before after old new result Bad answered is in cc)
+bad_is (Some r) told source now before after old new result answered is = (answered.0, answered.1, request_tells r told source now before after old new result Bad answered is)
+
+-- what Full tells
+pub full_is : {S : Type 0} (words : Option Request) (told : Option (List ℕ → Option (List ℕ))) (source now : S) (before after : Live) (old new : Option (List ℕ)) (result : Status) → Answered words told source now before after old new result → result ≡ IsFullStatus → HoldsOf words told IsFull
+full_is None told source now before after old new result answered is = absurd (let e : Full ≡ Words = none_tells told source now before after old new result Full answered is in cc)
+full_is (Some r) told source now before after old new result answered is = (answered.0, answered.1, request_tells r told source now before after old new result Full answered is)
+
+-- a call is stopped, or the words are none, or it is complete
+pub complete_is : {S : Type 0} (words : Option Request) (told : Option (List ℕ → Option (List ℕ))) (source now : S) (before after : Live) (old new : Option (List ℕ)) (result : Status) → Answered words told source now before after old new result → IsStopped result ⊎ (IsNone words ⊎ HoldsOf words told (IsComplete result))
+complete_is None told source now before after old new result answered = inr (inl refl)
+complete_is (Some r) told source now before after old new result answered =
+    by_status (end_status (plan_at r answered.0) before after old new result answered.2)
+  where
+    by_status : ((live : List ℕ) × ((said : Said) × IsOutput (plan_at r answered.0) live said × (result ≡ status_of said.outcome))) ⊎ IsStopped result → IsStopped result ⊎ (IsNone (Some r) ⊎ HoldsOf (Some r) told (IsComplete result))
+    by_status (inl (live, (said, output, at))) =
+        inr (inr (answered.0, answered.1, subst (λ (s : Status). IsComplete s r answered.0) (sym at) (output_complete r answered.0 live said output)))
+    by_status (inr stopped) = inl stopped
+
+-- a session was held only by a request that reads the live source
+pub reads_live : (words : Option Request) (r : Request) (told : Option (List ℕ → Option (List ℕ))) (plan : Plan) → Some r ≡ words → Planned r told plan → MayTalk plan → HoldsOf words told ReadsLive
+reads_live words r told plan there planned may =
+    subst (λ (w : Option Request). HoldsOf w told ReadsLive) there (planned.contents, planned.are, talks_live r planned.contents (planned.comes.talks may))
+
+-- a call that was stopped tells of no file
+stopped_there : (told : Option (List ℕ → Option (List ℕ))) (names : List (List ℕ)) (result : Status) → IsStopped result → AreThere told (files_read result names)
+stopped_there told names result (inl is) = subst (λ (s : Status). AreThere told (files_read s names)) (sym is) (none_there told)
+stopped_there told names result (inr (inl is)) = subst (λ (s : Status). AreThere told (files_read s names)) (sym is) (none_there told)
+stopped_there told names result (inr (inr is)) = subst (λ (s : Status). AreThere told (files_read s names)) (sym is) (none_there told)
+
+-- the files that were read are there
+pub there_is : (words : Option Request) (r : Request) (told : Option (List ℕ → Option (List ℕ))) (plan : Plan) (before after : Live) (old new : Option (List ℕ)) (result : Status) → Some r ≡ words → Planned r told plan → Ends plan before after old new result → AreThere told (files_read result (names_of words))
+there_is words r told plan before after old new result there planned ends =
+    subst (λ (w : Option Request). AreThere told (files_read result (names_of w))) there (by_status (end_status plan before after old new result ends))
+  where
+    by_status : ((live : List ℕ) × ((said : Said) × IsOutput plan live said × (result ≡ status_of said.outcome))) ⊎ IsStopped result → AreThere told (files_read result (files_of r))
+    by_status (inl (live, (said, output, at))) = subst (λ (s : Status). AreThere told (files_read s (files_of r))) (sym at) (planned.there live said output)
+    by_status (inr stopped) = stopped_there told (files_of r) result stopped
 
 all_true : (names : List (List ℕ)) → list_all (λ name. true) names ≡ true
 all_true [] = refl

@@ -1,16 +1,12 @@
 pub mod Written
 pub mod Contents
-pub mod Endings
-mod LogSteps
-mod LogSound
-mod LogTops
-mod LogAnswered
-mod LogKept
-mod LogLatest
-mod LogTurns
-mod LogDecides
 pub mod Verdicts
-pub mod Texts
+pub mod Meanings
 pub mod Opening
 pub mod Replays
-pub mod Unobserved
+pub mod Endings
+pub mod Talking
+pub mod SessionEnds
+pub mod Texts
+pub mod Names
+pub mod Runs

@@ -1,9 +1,8 @@
 -- What is said of a document that was opened.
-use Rattle.std.proofs.Common.{◌≡◌, ℕ, ◌≤◌, ◌<◌, List, [], ◌∷◌, length, ap, sym, ◌∙◌, subst, inl, inr, arith}
-use Rattle.std.specs.Prelude.{nat_lt, if◌then◌else◌, Option, Result, Ok, Err, IfOk, IsSomeAnd, codes}
+use Rattle.std.proofs.Common.{◌≡◌, ℕ, ◌≤◌, ◌<◌, List, [], ◌∷◌, length, refl, ap, sym, ◌∙◌, subst, inl, inr, arith}
+use Rattle.std.specs.Prelude.{nat_lt, if◌then◌else◌, Option, Result, Ok, Err, IfOk, map, codes}
 use Rattle.cstn_io.specs.Contents.{IsLongFile}
 use Rattle.cstn_net.specs.Networks.{Network, IsWellFormed}
-use Rattle.cstn_net.specs.Strategies.{IsConsistent}
 use Rattle.cstn_net.specs.Read.{NetworkParts, the_network}
 use Rattle.cstn_graphml.specs.declared.errors.DocError.{DocError}
 use Rattle.cstn_graphml.specs.declared.errors.DocError.TheVariants.{NotUtf8, Shape, NameTwice, UnknownNode, Value, LabelText, Contingent, EdgeType, NoDeadline, Net, NodeLabel, Memory}
@@ -13,23 +12,24 @@ use Rattle.cstn_graphml.specs.Answers.{IsDocument, IsUnfitDocument, IsRefused}
 use Rattle.cstn_graphml.specs.Document.{Parts, document}
 use Rattle.cstn_graphml.specs.Networks.{network_of}
 use Rattle.cstn_net.specs.declared.errors.NetError.{NetError}
-use Rattle.cstn_top.specs.Files.{IsContent}
+use Rattle.cstn_top.specs.Files.{file_at, IsContent, AreThere}
 use Rattle.cstn_top.specs.Refusals.{refusal_text, fault_text}
-use Rattle.cstn_top.specs.Requests.{Asked, check, save}
-use Rattle.cstn_top.specs.Plans.{Said, say, Answer, gives, Plan, says, judges, IsOutput, IsJudgement, IsAnswer}
-use Rattle.cstn_top.specs.Outputs.{judged, on_document, checked, saved, parts_of, HasNetwork, IsRight, IsVerdict, Planned}
+use Rattle.cstn_top.specs.Requests.{Asked, Request, check, run, save, files_of}
+use Rattle.cstn_top.specs.Plans.{Said, say, Plan, says, judges, IsOutput, ComesTo}
+use Rattle.cstn_top.specs.Outputs.{Answer, judged, on_document, checked, carried_out, saved, plan_at}
 use Rattle.cstn_top.specs.Opened.{IsToldBy, IsSaidOf, OpensAs, IsOpened, IsTooLong}
+use Rattle.cstn_top.specs.Meanings.{files_read}
+use Rattle.cstn_top.specs.Statuses.{status_of}
+use Rattle.cstn_top.specs.Prepared.{Planned}
 use Rattle.cstn_top.specs.Read.{the_said}
 use Rattle.cstn_top.specs.declared.output.Said.{Said as SaidText}
+use Rattle.cstn_top.specs.declared.status.Status.{Status}
+use Rattle.cstn_top.specs.declared.status.Status.TheVariants.{Good as IsGood, Bad as IsBad, Words as IsWords, Document as IsRefusedStatus, Full as IsFull, ReadFault, WriteFault, Memory as NoMemory, Unfinished as IsUnfinished, Script as IsScript}
 use Rattle.cstn_top.specs.declared.output.Outcome.{Outcome}
-use Rattle.cstn_top.specs.declared.output.Outcome.TheVariants.{Good, Bad, Words, Document, Script}
+use Rattle.cstn_top.specs.declared.output.Outcome.TheVariants.{Good, Document}
 use Rattle.cstn_top.specs.declared.commands.documents.Opened.{Opened}
 use Rattle.cstn_top.specs.declared.commands.documents.Opened.TheVariants.{Accepted, Told}
-use Rattle.cstn_top.proofs.Contents.{one_content, long_content}
-
--- what is said of a network under the names of its time-points
-abbrev Answering : Type 0
-Answering = List (List ℕ) → Answer
+use Rattle.cstn_top.proofs.Contents.{one_content, long_content, long_is_there, none_there}
 
 within : (n m : ℕ) (plan other : Plan) → m ≤ n → (if nat_lt n m then plan else other) ≡ other
 within n m plan other le = grind arith
@@ -37,22 +37,24 @@ within n m plan other le = grind arith
 beyond : (n m : ℕ) (plan other : Plan) → n < m → (if nat_lt n m then plan else other) ≡ plan
 beyond n m plan other lt = grind arith
 
-pub short_output : (answer : Answering) (bytes : List ℕ) (deadline : Option ℕ) (live : List ℕ) (said : Said) → length bytes ≤ 8388608 → IsOutput (judged answer (document bytes deadline)) live said → IsOutput (on_document answer bytes deadline) live said
-short_output answer bytes deadline live said short output =
-    let same : on_document answer bytes deadline ≡ judged answer (document bytes deadline) = within 8388608 (length bytes) (says (say Document (codes "document long"))) (judged answer (document bytes deadline)) short in
-    subst (λ (plan : Plan). IsOutput plan live said) (sym same) output
+-- a document that isn't too long
+short_document : (answer : Answer) (bytes : List ℕ) (deadline : Option ℕ) → length bytes ≤ 8388608 → on_document answer bytes deadline ≡ judged answer (document bytes deadline)
+short_document answer bytes deadline short = within 8388608 (length bytes) (says (say Document (codes "document long"))) (judged answer (document bytes deadline)) short
+
+short_output : (answer : Answer) (bytes : List ℕ) (deadline : Option ℕ) (live : List ℕ) (said : Said) → length bytes ≤ 8388608 → IsOutput (judged answer (document bytes deadline)) live said → IsOutput (on_document answer bytes deadline) live said
+short_output answer bytes deadline live said short output = subst (λ (plan : Plan). IsOutput plan live said) (sym (short_document answer bytes deadline short)) output
 
 -- a refusal by the grammar
-refused_output : (answer : Answering) (told : Result Parts Refusal) (refusal : Refusal) (live : List ℕ) (said : Said) → told ≡ Err refusal → said ≡ say Document (refusal_text refusal) → IsOutput (judged answer told) live said
+refused_output : (answer : Answer) (told : Result Parts Refusal) (refusal : Refusal) (live : List ℕ) (said : Said) → told ≡ Err refusal → said ≡ say Document (refusal_text refusal) → IsOutput (judged answer told) live said
 refused_output answer told refusal live said is same = subst (λ (r : Result Parts Refusal). IsOutput (judged answer r) live said) (sym is) same
 
 -- a refusal of the network
-unfit_output : (answer : Answering) (told : Result Parts Refusal) (error : NetError) (names : List (List ℕ)) (live : List ℕ) (said : Said) → IsUnfitDocument told error names → said ≡ say Document (fault_text names error) → IsOutput (judged answer told) live said
+unfit_output : (answer : Answer) (told : Result Parts Refusal) (error : NetError) (names : List (List ℕ)) (live : List ℕ) (said : Said) → IsUnfitDocument told error names → said ≡ say Document (fault_text names error) → IsOutput (judged answer told) live said
 unfit_output answer told error names live said unfit same =
     subst (λ (r : Result Parts Refusal). IsOutput (judged answer r) live said) (sym unfit.told_are)
     (inr (error, unfit.unfit, same ∙ ap (λ (ns : List (List ℕ)). say Document (fault_text ns error)) unfit.names_are))
 
-error_output : (answer : Answering) (told : Result Parts Refusal) (error : DocError) (live : List ℕ) (said : Said) → IsRefused told error → IsToldBy error said → IsOutput (judged answer told) live said
+error_output : (answer : Answer) (told : Result Parts Refusal) (error : DocError) (live : List ℕ) (said : Said) → IsRefused told error → IsToldBy error said → IsOutput (judged answer told) live said
 error_output answer told (NotUtf8 at) live said is same = refused_output answer told (not_utf8 at) live said is same
 error_output answer told (Shape at) live said is same = refused_output answer told (shape at) live said is same
 error_output answer told (NameTwice at) live said is same = refused_output answer told (name_twice at) live said is same
@@ -97,71 +99,100 @@ long_opened told asked (Ok (Told said)) long is =
     record {
       bytes = found.0;
       content = found.1;
+      there = long_is_there told asked.file 8388608 long;
       opens = (said_of, ap (λ (s : Said). s.outcome) is);
     }
 
 -- a file that was read
-pub file_opened : {E : Type 0} (told : Option (List ℕ → Option (List ℕ))) (asked : Asked) (bytes : List ℕ) (r : Result Opened E) → IsContent told asked.file bytes → IfOk r (OpensAs bytes asked.deadline) → IfOk r (IsOpened told asked)
-file_opened told asked bytes (Err e) content opens = tt
-file_opened told asked bytes (Ok opened) content opens = record { bytes = bytes; content = content; opens = opens }
+pub file_opened : {E : Type 0} (told : Option (List ℕ → Option (List ℕ))) (asked : Asked) (bytes : List ℕ) (r : Result Opened E) → IsContent told asked.file bytes → AreThere told (asked.file ∷ []) → IfOk r (OpensAs bytes asked.deadline) → IfOk r (IsOpened told asked)
+file_opened told asked bytes (Err e) content there opens = tt
+file_opened told asked bytes (Ok opened) content there opens = record { bytes = bytes; content = content; there = there; opens = opens }
+
+-- a plan says what it says itself
+pub comes_itself : (plan : Plan) → ComesTo plan plan
+comes_itself plan = record { output = λ live said is. is; talks = λ may. may; fault = λ may taken. refl }
+
+-- a plan that says a text
+pub comes_to_text : (plan : Plan) (said : Said) → ((live : List ℕ) → IsOutput plan live said) → ComesTo plan (says said)
+comes_to_text plan said output = record {
+  output = λ live other is. subst (λ (s : Said). IsOutput plan live s) (sym is) (output live);
+  talks = λ may. absurd may;
+  fault = λ may taken. absurd may;
+}
+
+-- what is said of the parts of a document, where they make a network
+judges_comes : (parts : Parts) (plan other : Plan) → IsWellFormed (network_of parts) → ComesTo plan other → ComesTo (judges parts plan) other
+judges_comes parts plan other good comes = record {
+  output = λ live said is. inl (good, comes.output live said is);
+  talks = λ may. (good, comes.talks may);
+  fault = λ may taken. comes.fault may taken;
+}
 
 -- what is said of a document that was accepted
-pub accepted_output : (answer : Answering) (told : Result Parts Refusal) (net : NetworkParts) (names live : _) (said : Said) → IsDocument told net names → IsWellFormed (the_network net) → IsAnswer (answer names) (the_network net) said → IsOutput (judged answer told) live said
-accepted_output answer told net names live said is good same =
-    subst (λ (r : Result Parts Refusal). IsOutput (judged answer r) live said) (sym is.told_are)
-    (inl (subst IsWellFormed is.network_is good, subst (λ (ns : List (List ℕ)). IsAnswer (answer ns) (network_of is.parts) said) is.names_are (subst (λ (n : Network). IsAnswer (answer names) n said) is.network_is same)))
+pub accepted_comes : (answer : Answer) (bytes : List ℕ) (deadline : Option ℕ) (net : NetworkParts) (names : List (List ℕ)) (plan : Plan) → OpensAs bytes deadline (Accepted net names) → ComesTo (answer names (the_network net)) plan → ComesTo (on_document answer bytes deadline) plan
+accepted_comes answer bytes deadline net names plan opens comes =
+    let is = opens.1 in
+    let parts : Parts = is.parts in
+    let same : on_document answer bytes deadline ≡ judges parts (answer names (the_network net)) =
+    short_document answer bytes deadline opens.0
+    ∙ ap (judged answer) is.told_are
+    ∙ ap (λ (ns : List (List ℕ)). judges parts (answer ns (network_of parts))) (sym is.names_are)
+    ∙ ap (λ (n : Network). judges parts (answer names n)) (sym is.network_is) in
+    subst (λ (p : Plan). ComesTo p plan) (sym same) (judges_comes parts (answer names (the_network net)) plan (subst IsWellFormed is.network_is opens.2) comes)
 
-pub told_network : (told : Result Parts Refusal) (net : NetworkParts) (names : List (List ℕ)) (holds : List (List ℕ) → Network → Type 0) → IsDocument told net names → IsWellFormed (the_network net) → holds names (the_network net) → IsSomeAnd (parts_of told) (λ parts. IsWellFormed (network_of parts) × holds parts.names (network_of parts))
-told_network told net names holds is good holding =
-    subst (λ (r : Result Parts Refusal). IsSomeAnd (parts_of r) (λ parts. IsWellFormed (network_of parts) × holds parts.names (network_of parts))) (sym is.told_are)
-    (subst IsWellFormed is.network_is good, subst (λ (ns : List (List ℕ)). holds ns (network_of is.parts)) is.names_are (subst (λ (n : Network). holds names n) is.network_is holding))
+-- what is said of a document that was refused
+pub told_comes : (answer : Answer) (bytes : List ℕ) (deadline : Option ℕ) (said : SaidText) → OpensAs bytes deadline (Told said) → ComesTo (on_document answer bytes deadline) (says (the_said said))
+told_comes answer bytes deadline said opens = comes_to_text (on_document answer bytes deadline) (the_said said) (λ live. opens.0 answer live)
 
-check_right : (bytes : List ℕ) (asked : Asked) (net : NetworkParts) (names : List (List ℕ)) (outcome : Outcome) → IsDocument (document bytes asked.deadline) net names → IsWellFormed (the_network net) → IsVerdict outcome (the_network net) → IsRight outcome (check asked) (bytes ∷ [])
-check_right bytes asked net names Good is good verdict = told_network (document bytes asked.deadline) net names (λ ns n. IsConsistent n) is good verdict
-check_right bytes asked net names Bad is good verdict = told_network (document bytes asked.deadline) net names (λ ns n. IsConsistent n → ⊥) is good verdict
-check_right bytes asked net names Words is good verdict = absurd verdict
-check_right bytes asked net names Document is good verdict = tt
-check_right bytes asked net names Script is good verdict = tt
+-- a file that is there was read, whatever the status
+pub one_read : (told : Option (List ℕ → Option (List ℕ))) (name : List ℕ) (status : Status) → AreThere told (name ∷ []) → AreThere told (files_read status (name ∷ []))
+one_read told name IsGood there = there
+one_read told name IsBad there = there
+one_read told name IsWords there = none_there told
+one_read told name IsRefusedStatus there = there
+one_read told name IsFull there = there
+one_read told name ReadFault there = none_there told
+one_read told name WriteFault there = none_there told
+one_read told name NoMemory there = none_there told
+one_read told name IsUnfinished there = there
+one_read told name IsScript there = there
 
--- the plan of a check of a document that was accepted
-pub check_accepted : {E : Type 0} (told : Option (List ℕ → Option (List ℕ))) (asked : Asked) (net : NetworkParts) (names : List (List ℕ)) (r : Result SaidText E) → IsOpened told asked (Accepted net names) → IfOk r (λ said. the_said said ≡ checked [] (the_network net)) → IfOk r (λ said. IsVerdict said.outcome (the_network net)) → IfOk r (λ said. Planned (check asked) told (the_said said))
-check_accepted told asked net names (Err e) opened is verdict = tt
-check_accepted told asked net names (Ok said) opened is verdict = record {
-  contents = opened.bytes ∷ [];
-  are = one_content told asked.file opened.bytes opened.content;
-  plan = λ live. short_output (λ ns. gives (checked ns)) opened.bytes asked.deadline live (the_said said) opened.opens.0
-      (accepted_output (λ ns. gives (checked ns)) (document opened.bytes asked.deadline) net names live (the_said said) opened.opens.1 opened.opens.2 is);
-  right = check_right opened.bytes asked net names said.outcome opened.opens.1 opened.opens.2 verdict;
+-- a request that is answered by the document of its file alone
+pub record IsOfOne (request : Request) (asked : Asked) (answer : Answer) : Type 0 where
+  pub files : files_of request ≡ asked.file ∷ []
+  pub plan : (bytes : List ℕ) → plan_at request (bytes ∷ []) ≡ on_document answer bytes asked.deadline
+
+pub of_check : (asked : Asked) (cap : ℕ) → IsOfOne (check asked cap) asked (checked cap)
+of_check asked cap = record { files = refl; plan = λ bytes. refl }
+
+pub of_run : (asked : Asked) (cap : ℕ) → IsOfOne (run asked cap) asked (carried_out cap)
+of_run asked cap = record { files = refl; plan = λ bytes. refl }
+
+pub of_save : (asked : Asked) → IsOfOne (save asked) asked saved
+of_save asked = record { files = refl; plan = λ bytes. refl }
+
+one_planned : (request : Request) (asked : Asked) (answer : Answer) (told : Option (List ℕ → Option (List ℕ))) (opened : Opened) (plan : Plan) → IsOfOne request asked answer → (is : IsOpened told asked opened) → ComesTo (on_document answer is.bytes asked.deadline) plan → Planned request told plan
+one_planned request asked answer told opened plan one is comes = record {
+  contents = is.bytes ∷ [];
+  are = λ files e. subst (λ (names : List (List ℕ)). (is.bytes ∷ []) ≡ map (file_at files) names) (sym one.files) (one_content told asked.file is.bytes is.content files e);
+  comes = subst (λ (p : Plan). ComesTo p plan) (sym (one.plan is.bytes)) comes;
+  there = λ live said output. subst (λ (names : List (List ℕ)). AreThere told (files_read (status_of said.outcome) names)) (sym one.files) (one_read told asked.file (status_of said.outcome) is.there);
 }
 
--- the plan of a check of a document that was refused
-pub check_told : (told : Option (List ℕ → Option (List ℕ))) (asked : Asked) (said : SaidText) → IsOpened told asked (Told said) → Planned (check asked) told (the_said said)
-check_told told asked said opened = record {
-  contents = opened.bytes ∷ [];
-  are = one_content told asked.file opened.bytes opened.content;
-  plan = λ live. opened.opens.0 (λ ns. gives (checked ns)) live;
-  right = subst (λ (o : Outcome). IsRight o (check asked) (opened.bytes ∷ [])) (sym opened.opens.1) tt;
-}
+-- the plan of a document that was accepted
+pub one_accepted : {X E : Type 0} (request : Request) (asked : Asked) (answer : Answer) (told : Option (List ℕ → Option (List ℕ))) (net : NetworkParts) (names : List (List ℕ)) (plan : X → Plan) (r : Result X E) → IsOfOne request asked answer → IsOpened told asked (Accepted net names) → IfOk r (λ x. plan x ≡ answer names (the_network net)) → IfOk r (λ x. Planned request told (plan x))
+one_accepted request asked answer told net names plan (Err e) one opened is = tt
+one_accepted request asked answer told net names plan (Ok x) one opened is =
+    one_planned request asked answer told (Accepted net names) (plan x) one opened
+    (accepted_comes answer opened.bytes asked.deadline net names (plan x) opened.opens (subst (λ (p : Plan). ComesTo (answer names (the_network net)) p) (sym is) (comes_itself (answer names (the_network net)))))
 
--- the plan of a save of a document that was accepted
-pub save_accepted : {E : Type 0} (told : Option (List ℕ → Option (List ℕ))) (asked : Asked) (net : NetworkParts) (names : List (List ℕ)) (r : Result SaidText E) → IsOpened told asked (Accepted net names) → IfOk r (λ said. the_said said ≡ saved names (the_network net)) → IfOk r (λ said. Planned (save asked) told (the_said said))
-save_accepted told asked net names (Err e) opened is = tt
-save_accepted told asked net names (Ok said) opened is =
-    let outcome : Good ≡ said.outcome = sym (ap (λ (s : Said). s.outcome) is) in
-    record {
-      contents = opened.bytes ∷ [];
-      are = one_content told asked.file opened.bytes opened.content;
-      plan = λ live. short_output (λ ns. gives (saved ns)) opened.bytes asked.deadline live (the_said said) opened.opens.0
-          (accepted_output (λ ns. gives (saved ns)) (document opened.bytes asked.deadline) net names live (the_said said) opened.opens.1 opened.opens.2 is);
-      right = subst (λ (o : Outcome). IsRight o (save asked) (opened.bytes ∷ [])) outcome
-          (told_network (document opened.bytes asked.deadline) net names (λ ns n. Unit {0}) opened.opens.1 opened.opens.2 tt);
-    }
+-- the plan of a document that was accepted, where it says what another plan says
+pub one_comes : {X E : Type 0} (request : Request) (asked : Asked) (answer : Answer) (told : Option (List ℕ → Option (List ℕ))) (net : NetworkParts) (names : List (List ℕ)) (plan : X → Plan) (r : Result X E) → IsOfOne request asked answer → IsOpened told asked (Accepted net names) → IfOk r (λ x. ComesTo (answer names (the_network net)) (plan x)) → IfOk r (λ x. Planned request told (plan x))
+one_comes request asked answer told net names plan (Err e) one opened comes = tt
+one_comes request asked answer told net names plan (Ok x) one opened comes =
+    one_planned request asked answer told (Accepted net names) (plan x) one opened (accepted_comes answer opened.bytes asked.deadline net names (plan x) opened.opens comes)
 
--- the plan of a save of a document that was refused
-pub save_told : (told : Option (List ℕ → Option (List ℕ))) (asked : Asked) (said : SaidText) → IsOpened told asked (Told said) → Planned (save asked) told (the_said said)
-save_told told asked said opened = record {
-  contents = opened.bytes ∷ [];
-  are = one_content told asked.file opened.bytes opened.content;
-  plan = λ live. opened.opens.0 (λ ns. gives (saved ns)) live;
-  right = subst (λ (o : Outcome). IsRight o (save asked) (opened.bytes ∷ [])) (sym opened.opens.1) tt;
-}
+-- the plan of a document that was refused
+pub one_told : (request : Request) (asked : Asked) (answer : Answer) (told : Option (List ℕ → Option (List ℕ))) (said : SaidText) → IsOfOne request asked answer → IsOpened told asked (Told said) → Planned request told (says (the_said said))
+one_told request asked answer told said one opened =
+    one_planned request asked answer told (Told said) (says (the_said said)) one opened (told_comes answer opened.bytes asked.deadline said opened.opens)

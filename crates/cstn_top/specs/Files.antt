@@ -1,5 +1,6 @@
 -- What was read of the files that words name.
-use Rattle.std.specs.Prelude.{◌≡◌, ℕ, List, [], Option, None, Some, map}
+use Rattle.std.specs.Prelude.{◌≡◌, ℕ, List, [], Option, None, Some, IsTrue, is_some, map}
+use Rattle.std.specs.List.{list_all}
 
 -- the bytes that are there, or none
 abbrev pub bytes_or_none : Option (List ℕ) → List ℕ
@@ -17,3 +18,7 @@ IsContent told name bytes = (files : List ℕ → Option (List ℕ)) → told �
 -- the contents are those of the named files, one after another, where files are told
 abbrev pub AreContents : Option (List ℕ → Option (List ℕ)) → List (List ℕ) → List (List ℕ) → Type 0
 AreContents told names contents = (files : List ℕ → Option (List ℕ)) → told ≡ Some files → contents ≡ map (file_at files) names
+
+-- the files are there, where files are told
+abbrev pub AreThere : Option (List ℕ → Option (List ℕ)) → List (List ℕ) → Type 0
+AreThere told names = (files : List ℕ → Option (List ℕ)) → told ≡ Some files → IsTrue (list_all (λ name. is_some (files name)) names)

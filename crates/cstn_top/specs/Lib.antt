@@ -4,8 +4,10 @@ pub mod Statuses
 pub mod Files
 pub mod Refusals
 pub mod Plans
-pub mod Growth
-pub mod Logs
+pub mod Sessions
+pub mod Running
 pub mod Outputs
+pub mod Meanings
 pub mod Read
 pub mod Opened
+pub mod Prepared

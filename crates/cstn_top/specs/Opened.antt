@@ -1,5 +1,5 @@
 -- A document that was opened.
-use Rattle.std.specs.Prelude.{◌≡◌, ℕ, ◌≤◌, ◌∷◌, List, length, Option, codes}
+use Rattle.std.specs.Prelude.{◌≡◌, ℕ, ◌≤◌, [], ◌∷◌, List, length, Option, codes}
 use Rattle.cstn_net.specs.Networks.{Network, IsWellFormed, count}
 use Rattle.cstn_net.specs.Read.{the_network}
 use Rattle.cstn_graphml.specs.declared.errors.DocError.{DocError}
@@ -11,11 +11,11 @@ use Rattle.cstn_graphml.specs.Draft.{origin_name}
 use Rattle.cstn_top.specs.declared.output.Outcome.TheVariants.{Document}
 use Rattle.cstn_top.specs.declared.commands.documents.Opened.{Opened}
 use Rattle.cstn_top.specs.declared.commands.documents.Opened.TheVariants.{Accepted, Told}
-use Rattle.cstn_top.specs.Files.{IsContent}
+use Rattle.cstn_top.specs.Files.{IsContent, AreThere}
 use Rattle.cstn_top.specs.Refusals.{refusal_text, fault_text}
 use Rattle.cstn_top.specs.Requests.{Asked}
-use Rattle.cstn_top.specs.Plans.{Said, say, Answer, IsOutput, IsAnswer}
-use Rattle.cstn_top.specs.Outputs.{on_document, replayed}
+use Rattle.cstn_top.specs.Plans.{Said, say, IsOutput}
+use Rattle.cstn_top.specs.Outputs.{Answer, on_document, replayed}
 use Rattle.cstn_top.specs.Read.{the_said}
 
 -- what is said of an error; nothing is said for want of memory
@@ -35,7 +35,7 @@ IsToldBy (Memory e) said = ⊥
 
 -- this is said of the document, whatever is asked of its network
 abbrev pub IsSaidOf : List ℕ → Option ℕ → Said → Type 0
-IsSaidOf bytes deadline said = (answer : List (List ℕ) → Answer) (live : List ℕ) → IsOutput (on_document answer bytes deadline) live said
+IsSaidOf bytes deadline said = (answer : Answer) (live : List ℕ) → IsOutput (on_document answer bytes deadline) live said
 
 -- the document of these bytes was accepted, or this is said of it
 abbrev pub OpensAs : List ℕ → Option ℕ → Opened → Type 0
@@ -57,10 +57,12 @@ IsTooLong (Told said) = the_said said ≡ say Document (codes "document long")
 pub record IsOpened (told : Option (List ℕ → Option (List ℕ))) (asked : Asked) (opened : Opened) : Type 0 where
   pub bytes : List ℕ
   pub content : IsContent told asked.file bytes
+  pub there : AreThere told (asked.file ∷ [])
   pub opens : OpensAs bytes asked.deadline opened
 
 -- this is said of a network and of the text that a file has
 pub record IsSaidBy (told : Option (List ℕ → Option (List ℕ))) (proof : List ℕ) (names : List (List ℕ)) (net : Network) (said : Said) : Type 0 where
   pub text : List ℕ
   pub content : IsContent told proof text
-  pub answer : IsAnswer (replayed text names) net said
+  pub there : AreThere told (proof ∷ [])
+  pub answer : (live : List ℕ) → IsOutput (replayed text names net) live said

@@ -36,41 +36,48 @@ IsReplay steps net said =
     (IsRefutation net steps × (said ≡ say Good (codes "accepted")))
     ⊎ ((k : ℕ) × (IsFirstWrong net steps k ⊎ EndsInVain net steps k) × (said ≡ say Bad (codes "rejected " ++ decimal k)))
 
--- What is said of a network: a text, or the replay of steps.
-pub data Answer : Type 0 where
-  gives : (Network → Said) → Answer
-  replays : List Entry → Answer
-
--- this is said of the network
-abbrev pub IsAnswer : Answer → Network → Said → Type 0
-IsAnswer (gives answer) net said = said ≡ answer net
-IsAnswer (replays steps) net said = IsReplay steps net said
-
--- What a request says: a text and no more; or what is said of the network of a document's parts, where they make one; or an
--- opening and then a session over the lines of the live source, of which is told what it says of all lines, and what it
--- answers to some of them alone.
+-- What a request says: a text and no more; or what the replay of steps on a network says; or an opening and then a session over
+-- the lines of the live source, of which is told what it says of all lines, and what it answers to some of them alone; or what
+-- is said of the network of a document's parts, where they make one.
 pub data Plan : Type 0 where
   says : Said → Plan
-  judges : Parts → Answer → Plan
+  replays : List Entry → Network → Plan
   talks : List ℕ → (List (List ℕ) → Said) → (List (List ℕ) → List ℕ) → Plan
+  judges : Parts → Plan → Plan
 
--- The parts make a network, and this is said of it, or they make none, and its lowest fault is told.
-abbrev pub IsJudgement : Parts → Answer → Said → Type 0
-IsJudgement parts answer said =
-    (IsWellFormed (network_of parts) × IsAnswer answer (network_of parts) said)
-    ⊎ ((error : NetError) × IsUnfit parts error × (said ≡ say Document (fault_text parts.names error)))
-
--- the whole output, where the live source has these bytes
+-- The whole output, where the live source has these bytes. Where the parts of a document make no network, their lowest fault is
+-- told.
 abbrev pub IsOutput : Plan → List ℕ → Said → Type 0
 IsOutput (says text) live said = said ≡ text
-IsOutput (judges parts answer) live said = IsJudgement parts answer said
+IsOutput (replays steps net) live said = IsReplay steps net said
 IsOutput (talks opening whole heard) live said = said ≡ after_text opening (whole (lines_of live))
+IsOutput (judges parts plan) live said =
+    (IsWellFormed (network_of parts) × IsOutput plan live said)
+    ⊎ ((error : NetError) × IsUnfit parts error × (said ≡ say Document (fault_text parts.names error)))
 
 -- what is said before a fault of the live source that has given these bytes
 abbrev pub before_fault : Plan → List ℕ → List ℕ
 before_fault (says said) taken = []
-before_fault (judges parts answer) taken = []
+before_fault (replays steps net) taken = []
 before_fault (talks opening whole heard) taken = opening ++ heard (whole_lines taken)
+before_fault (judges parts plan) taken = before_fault plan taken
+
+-- a session is held
+abbrev pub MayTalk : Plan → Type 0
+MayTalk (says said) = ⊥
+MayTalk (replays steps net) = ⊥
+MayTalk (talks opening whole heard) = Unit {0}
+MayTalk (judges parts plan) = IsWellFormed (network_of parts) × MayTalk plan
+
+-- the live source stands as it was, but for a session
+abbrev pub Untouched : {S : Type 0} → Plan → S → S → Type 0
+Untouched plan before after = MayTalk plan ⊎ (after ≡ before)
+
+-- what a plan says is what another one says
+pub record ComesTo (plan other : Plan) : Type 0 where
+  pub output : (live : List ℕ) (said : Said) → IsOutput other live said → IsOutput plan live said
+  pub talks : MayTalk other → MayTalk plan
+  pub fault : MayTalk other → (taken : List ℕ) → before_fault other taken ≡ before_fault plan taken
 
 -- the text is empty or ends with LF
 abbrev pub EndsLine : List ℕ → Type 0
@@ -106,9 +113,3 @@ IsWritten old new text status result = ((result ≡ status) × (new ≡ with_byt
 abbrev pub Ends : Plan → Live → Live → Option (List ℕ) → Option (List ℕ) → Status → Type 0
 Ends plan before after old new result =
     (status : Status) × (text : List ℕ) × IsText plan before after status text × IsWritten old new text status result
-
--- the live source stands as it was, where a request says a text and no more
-abbrev pub Untouched : {S : Type 0} → Plan → S → S → Type 0
-Untouched (says said) before after = after ≡ before
-Untouched (judges parts answer) before after = after ≡ before
-Untouched (talks opening whole heard) before after = Unit {0}

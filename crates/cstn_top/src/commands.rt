@@ -1,24 +1,37 @@
-// What is said for each request, before anything is written.
-ghost use Rattle.std.specs.Prelude.{◌≡◌, IfOk, IsTrue, IsErrOf};
+// What is prepared for each request, before anything is written.
+ghost use Rattle.std.specs.Prelude.{◌≡◌, IfOk, IfSome, IsTrue, IsErrOf};
 ghost use Rattle.std.specs.List.{list_all};
 ghost use Rattle.cstn_io.specs.Causes.{Rose};
 ghost use Rattle.cstn_top.specs.Requests.{files_of};
-ghost use Rattle.cstn_top.specs.Read.{the_request, the_said};
-ghost use Rattle.cstn_top.specs.Outputs.{Planned};
+ghost use Rattle.cstn_top.specs.Read.{the_request, IsCapped};
+ghost use Rattle.cstn_top.specs.Prepared.{the_plan, Planned, OpensWell};
 
 mod check;
 mod documents;
 mod refusals;
 mod replay;
+mod run;
 mod save;
+mod verdicts;
 
 use crate::output::Said;
+use crate::running::Running;
 use crate::words::Request;
 use check::check_file;
 use cstn_io::Shelf;
 use replay::replay_file;
+use run::run_file;
 use save::save_file;
 use std::alloc::Global;
+
+/// What is to be written for a request.
+#[derive(Drop)]
+pub(crate) enum Prepared {
+    /// A text and no more.
+    Says(Said),
+    /// The first line, and then the answers to the live lines.
+    Runs { opening: Vec<u8>, running: Running },
+}
 
 /// Why nothing can be said for a request.
 #[derive(Clone, Copy, Debug, PartialEq, Eq)]
@@ -27,19 +40,31 @@ pub(crate) enum Refused {
     Memory,
 }
 
-/// Reads the files of a request, and makes what is said for it.
+/// Reads the files of a request, and prepares what is said for it.
 pub(crate) fn prepare<F: Shelf>(
     alloc: Global,
     request: Request<'_>,
     shelf: &mut F,
-) -> Result<Said, Refused>
+) -> Result<Prepared, Refused>
     requires may_ask { IsTrue (list_all (F.may_ask shelf.old) (files_of (the_request request))) }
-    ensures plan { IfOk result (λ said. Planned (the_request request.entry) (F.files shelf.old) (the_said said)) }
+    requires capped { IsCapped request }
+    ensures plan { IfOk result (λ prepared. Planned (the_request request.entry) (F.files shelf.old) (the_plan prepared)) }
+    ensures opening { IfOk result OpensWell }
     ensures fault { IsErrOf result Refused.ReadFault → Rose (F.faults shelf.old) (F.faults shelf.new) }
 {
     match request {
-        Request::Check(asked) => check_file(alloc, asked, shelf),
-        Request::Save(asked) => save_file(alloc, asked, shelf),
-        Request::Replay { asked, proof } => replay_file(alloc, asked, proof, shelf),
+        Request::Check { asked, cap } => {
+            let said = check_file(alloc, asked, cap, shelf)?;
+            Ok(Prepared::Says(said))
+        }
+        Request::Run { asked, cap } => run_file(alloc, asked, cap, shelf),
+        Request::Save(asked) => {
+            let said = save_file(alloc, asked, shelf)?;
+            Ok(Prepared::Says(said))
+        }
+        Request::Replay { asked, proof } => {
+            let said = replay_file(alloc, asked, proof, shelf)?;
+            Ok(Prepared::Says(said))
+        }
     }
 }

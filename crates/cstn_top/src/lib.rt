@@ -2,8 +2,10 @@
 #![tactic(auto)]
 
 mod commands;
-mod growth;
+mod lines;
 mod output;
+mod running;
+mod session;
 mod status;
 mod top;
 mod words;

@@ -16,6 +16,8 @@ pub(crate) enum Outcome {
     Bad,
     Words,
     Document,
+    Full,
+    Unfinished,
     Script,
 }
 
@@ -31,6 +33,8 @@ impl Outcome {
             Outcome::Bad => Status::Bad,
             Outcome::Words => Status::Words,
             Outcome::Document => Status::Document,
+            Outcome::Full => Status::Full,
+            Outcome::Unfinished => Status::Unfinished,
             Outcome::Script => Status::Script,
         }
     }

@@ -1,57 +1,57 @@
+mod documents;
+
 use crate::{Status, run};
 use cstn_io::{MemoryFile, MemoryShelf, MemorySink, MemorySource};
+use documents::{
+    ASTRAY, BRANCH, BROKEN, CONTINGENT, CROSSED, EARLY, LARGE, LAST, LATE, LOOP, ORIGIN, PAIR,
+    PROCESS, SAVED, TIMED, TWICE, TWINS, UNKNOWN, UNOBSERVED,
+};
 use std::alloc::{AllocError, Global};
 use std::process::Abort;
 use std::test::Fail;
 
-// The files `pair` and `proof`, and which calls of the shelf and of the sink are to fail.
+// The files `pair` and `proof`, the live bytes, which calls of the shelf, the live source and the sink are to fail, and how
+// many bytes a call takes at most.
 #[derive(Clone, Copy)]
 struct Setting<'a> {
     document: &'a [u8],
     proof: &'a [u8],
+    live: &'a [u8],
     shelf: &'a [u64],
+    source: &'a [u64],
     sink: &'a [u64],
+    most: usize,
 }
-
-const PAIR: &str =
-    "<graphml><graph><node id=\"Z\"/><node id=\"X\"/><edge source=\"X\" target=\"Z\"><data key=\"LabeledValues\">{(-5, ⊡)}</data></edge></graph></graphml>";
-
-const LOOP: &str =
-    "<graphml><graph><node id=\"Z\"/><node id=\"X\"/><edge source=\"X\" target=\"X\"><data key=\"LabeledValues\">{(-1, ⊡)}</data></edge></graph></graphml>";
-
-const ORIGIN: &str = "<graphml><graph><node id=\"Z\"/></graph></graphml>";
-
-// The pair with a deadline of its own.
-const TIMED: &str =
-    "<graphml><graph><data key=\"Deadline\">4</data><node id=\"Z\"/><node id=\"X\"/><edge source=\"X\" target=\"Z\"><data key=\"LabeledValues\">{(-5, ⊡)}</data></edge></graph></graphml>";
-
-const TWICE: &str =
-    "<graphml><graph><node id=\"Z\"/><node id=\"Z\"/><edge source=\"X\" target=\"Z\"><data key=\"LabeledValues\">{(-5, ⊡)}</data></edge></graph></graphml>";
-
-const ASTRAY: &str =
-    "<graphml><graph><node id=\"Z\"/><node id=\"X\"/><edge source=\"X\" target=\"Y\"><data key=\"LabeledValues\">{(-5, ⊡)}</data></edge></graph></graphml>";
-
-const CONTINGENT: &str =
-    "<graphml><graph><node id=\"Z\"/><node id=\"X\"/><edge source=\"X\" target=\"Z\"><data key=\"Type\">contingent</data><data key=\"LabeledValues\">{(-5, ⊡)}</data></edge></graph></graphml>";
-
-const UNOBSERVED: &str =
-    "<graphml><graph><node id=\"Z\"/><node id=\"X\"/><edge source=\"X\" target=\"Z\"><data key=\"LabeledValues\">{(-5, p)}</data></edge></graph></graphml>";
-
-const TWINS: &str =
-    "<graphml><graph><node id=\"Z\"/><node id=\"P\"><data key=\"Obs\">p</data></node><node id=\"Q\"><data key=\"Obs\">p</data></node></graph></graphml>";
-
-const LARGE: &str =
-    "<graphml><graph><node id=\"Z\"/><node id=\"X\"/><edge source=\"X\" target=\"Z\"><data key=\"LabeledValues\">{(1000000001, ⊡)}</data></edge></graph></graphml>";
-
-const BRANCH: &str =
-    "<graphml><graph><node id=\"Z\"/><node id=\"P\"><data key=\"Obs\">p</data></node><node id=\"X\"/><edge source=\"X\" target=\"Z\"><data key=\"LabeledValues\">{(-10, p)}</data></edge><edge source=\"Z\" target=\"X\"><data key=\"LabeledValues\">{(3, !p)}</data></edge></graph></graphml>";
-
-// The branch where P is at 3 or later.
-const LATE: &str =
-    "<graphml><graph><node id=\"Z\"/><node id=\"P\"><data key=\"Obs\">p</data></node><node id=\"X\"/><edge source=\"X\" target=\"Z\"><data key=\"LabeledValues\">{(-10, p)}</data></edge><edge source=\"Z\" target=\"X\"><data key=\"LabeledValues\">{(3, !p)}</data></edge><edge source=\"P\" target=\"Z\"><data key=\"LabeledValues\">{(-3, ⊡)}</data></edge></graph></graphml>";
 
 const PROOF: &str =
     "no 7\n0 base Z 0 -\n1 chain 0 0 X 10 p\n2 chain 2 0 P 3 -\n3 wait 2 1 X 4 -\n4 chain 1 3 Z 1 !p\n";
+
+const PAIR_PROOF: &str = "no 3\n0 base Z 0 -\n1 chain 0 0 X 5 -\n";
+
+const LOOP_PROOF: &str =
+    "no 6\n0 base X 0 -\n1 chain 0 0 X 1 -\n2 chain 0 1 X 2 -\n3 chain 0 2 X 3 -\n4 chain 0 3 X 4 -\n";
+
+const BROKEN_PROOF: &str =
+    "no 9\n0 base Z 0 -\n1 chain 0 0 P 5 q\n2 chain 1 0 Q 5 p\n3 wait 1 2 Q 5 -\n4 wait 3 1 P 5 -\n5 chain 2 4 Z 1 !q\n";
+
+const UNKNOWN_PROOF: &str =
+    "no 14\n0 base Z 0 -\n1 chain 0 0 X 9 pq\n2 chain 1 0 Q 7 !p\n3 chain 2 0 P 7 -\n4 wait 2 1 X 8 ?p\n5 wait 3 4 X 8 -\n6 chain 3 5 Z 1 !p!q\n";
+
+const PROCESS_LIVE: &str =
+    "moment 0\ndue\nmoment 5\nmoment 6\nsee p false\ndue\nmoment 13\nmoment 16\ndue\n";
+
+const PROCESS_RUN: &str =
+    "yes 14\nat 0 Z S\ndue 5\nat 5 P\nrefused E3 p\nseen p false\ndue 13\nat 13 T\nat 16 E\ndone\n";
+
+const BRANCH_LIVE: &str =
+    "see p true\nmoment 0\nmoment 0\nmoment 1\nsee p false\nsee p true\nmoment 2\nmoment 1\n";
+
+const BRANCH_RUN: &str =
+    "yes 5\nrefused E4 p\nat 0 Z P\nrefused E1 0\nrefused E3 p\nseen p false\nrefused E5 p false\nrefused E2 1\nat 1 X\ndone\n";
+
+const CROSSED_LIVE: &str = "moment 0\ndue\nsee p true\nmoment 6\nmoment 5\n";
+
+const CROSSED_RUN: &str = "yes 8\nat 0 Z\ndue 5\nrefused E4 p\nrefused E2 5\nat 5 P Q\ndone\n";
 
 // The wait is told one tick too late.
 const WRONG: &str =
@@ -60,39 +60,30 @@ const WRONG: &str =
 const EXCHANGED: &str =
     "no 7\n1 chain 0 0 X 10 p\n0 base Z 0 -\n2 chain 2 0 P 3 -\n3 wait 2 1 X 4 -\n4 chain 1 3 Z 1 !p\n";
 
-const EARLY: &str =
-    "<graphml><graph><node id=\"Z\"/><node id=\"P\"><data key=\"Obs\">p</data></node><node id=\"X\"/><edge source=\"Z\" target=\"X\"><data key=\"LabeledValues\">{(3, p)}</data></edge></graph></graphml>";
-
 const FORGED: &str = "no 3\n0 base X 0 -\n1 chain 0 0 Z 0 p\n2 base Z 1 -\n";
 
-const SAVED: &str = "<?xml version=\"1.0\" encoding=\"UTF-8\"?>
-<graphml>
-<graph edgedefault=\"directed\">
-<data key=\"Deadline\">10</data>
-<node id=\"Z\"/>
-<node id=\"P\"><data key=\"Obs\">p</data></node>
-<node id=\"X\"/>
-<edge source=\"X\" target=\"Z\"><data key=\"Type\">requirement</data><data key=\"LabeledValues\">{(-10, p)}</data></edge>
-<edge source=\"Z\" target=\"X\"><data key=\"Type\">requirement</data><data key=\"LabeledValues\">{(3, ¬p)}</data></edge>
-</graph>
-</graphml>
-";
-
 fn quiet(document: &[u8]) -> Setting<'_> {
+    with_live(document, &[])
+}
+
+fn with_live<'a>(document: &'a [u8], live: &'a [u8]) -> Setting<'a> {
     Setting {
         document,
         proof: &[],
+        live,
         shelf: &[],
+        source: &[],
         sink: &[],
+        most: 10,
     }
 }
 
-// What a call answers and writes.
+// What a call answers and writes, and how many live bytes it leaves.
 fn outcome(
     alloc: Global,
     words: &[&str],
     setting: Setting<'_>,
-) -> Result<(Status, String), AllocError> {
+) -> Result<(Status, String, usize), AllocError> {
     let mut owned = Vec::new(alloc);
     for word in words {
         owned.push(String::from_str(alloc, word)?)?;
@@ -104,13 +95,15 @@ fn outcome(
     let mut shelf = MemoryShelf::new(
         vec![in alloc; file, proof]?,
         setting.shelf.to_vec(alloc)?,
-        10,
+        setting.most.max(1),
     );
-    let mut live = MemorySource::new(Vec::new(alloc), Vec::new(alloc), 1);
-    let mut out = MemorySink::start(alloc, 1000, setting.sink.to_vec(alloc)?, 3)?;
+    let failing = setting.source.to_vec(alloc)?;
+    let mut live = MemorySource::new(setting.live.to_vec(alloc)?, failing, setting.most.max(1));
+    let failing = setting.sink.to_vec(alloc)?;
+    let mut out = MemorySink::start(alloc, 1000, failing, setting.most.max(1))?;
     let status = run(alloc, &owned, &mut shelf, &mut live, &mut out);
     let text = String::from_utf8_lossy(alloc, out.written())?;
-    Ok((status, text))
+    Ok((status, text, live.left().len()))
 }
 
 // The call answers and writes this.
@@ -122,7 +115,7 @@ fn expect(
     status: Status,
     text: &str,
 ) -> Result<(), Fail> {
-    let (got, written) = outcome(alloc, words, setting)?;
+    let (got, written, _) = outcome(alloc, words, setting)?;
     assert_eq!(rt; got, status);
     assert_eq!(rt; written.as_str(), text);
     Ok(())
@@ -141,22 +134,77 @@ fn expect_check(
     expect(rt, alloc, &words, quiet(document.as_bytes()), status, text)
 }
 
+// A check of this document up to this cap answers and writes this.
+fn expect_capped(
+    rt: &impl Abort,
+    alloc: Global,
+    document: &str,
+    deadline: &str,
+    cap: &str,
+    status: Status,
+    text: &str,
+) -> Result<(), Fail> {
+    let words = ["check", "pair", "--deadline", deadline, "--cap", cap];
+    expect(rt, alloc, &words, quiet(document.as_bytes()), status, text)
+}
+
+// A check of this document writes this refutation, which is accepted.
+fn expect_no(
+    rt: &impl Abort,
+    alloc: Global,
+    document: &str,
+    deadline: &str,
+    proof: &str,
+) -> Result<(), Fail> {
+    expect_check(rt, alloc, document, deadline, Status::Bad, proof)?;
+    expect_replay(
+        rt,
+        alloc,
+        document,
+        deadline,
+        proof,
+        Status::Good,
+        "accepted\n",
+    )
+}
+
 // A replay of this text on this document answers and writes this.
 fn expect_replay(
     rt: &impl Abort,
     alloc: Global,
     document: &str,
+    deadline: &str,
     proof: &str,
     status: Status,
     text: &str,
 ) -> Result<(), Fail> {
-    let words = ["replay", "pair", "proof", "--deadline", "10"];
+    let words = ["replay", "pair", "proof", "--deadline", deadline];
     let setting = Setting {
         document: document.as_bytes(),
         proof: proof.as_bytes(),
+        live: &[],
         shelf: &[],
+        source: &[],
         sink: &[],
+        most: 10,
     };
+    expect(rt, alloc, &words, setting, status, text)
+}
+
+// A run of this document with these live lines answers and writes this, whatever a call takes.
+fn expect_run<'a>(
+    rt: &impl Abort,
+    alloc: Global,
+    document: &'a str,
+    deadline: &str,
+    live: &'a str,
+    status: Status,
+    text: &str,
+) -> Result<(), Fail> {
+    let words = ["run", "pair", "--deadline", deadline];
+    let mut setting = with_live(document.as_bytes(), live.as_bytes());
+    expect(rt, alloc, &words, setting, status, text)?;
+    setting.most = 1;
     expect(rt, alloc, &words, setting, status, text)
 }
 
@@ -176,16 +224,143 @@ fn expect_cut(rt: &impl Abort, alloc: Global, len: usize, text: &str) -> Result<
 fn checks(rt: HostRuntime) -> Result<(), Fail> {
     let alloc = rt.alloc();
     expect_check(&rt, alloc, PAIR, "5", Status::Good, "yes 3\n")?;
-    expect_check(&rt, alloc, PAIR, "4", Status::Bad, "no 3\n")?;
-    expect_check(&rt, alloc, LOOP, "3", Status::Bad, "no 6\n")?;
     expect_check(&rt, alloc, ORIGIN, "0", Status::Good, "yes 1\n")?;
-    let words = ["check", "pair"];
+    expect_check(&rt, alloc, BRANCH, "10", Status::Good, "yes 5\n")?;
+    expect_check(&rt, alloc, LAST, "10", Status::Good, "yes 6\n")?;
+    expect_check(&rt, alloc, CROSSED, "5", Status::Good, "yes 8\n")?;
+    expect_check(&rt, alloc, PROCESS, "40", Status::Good, "yes 14\n")?;
+    expect_check(&rt, alloc, PAIR, "1000000", Status::Good, "yes 3\n")?;
+    expect_check(&rt, alloc, TIMED, "5", Status::Good, "yes 3\n")
+}
+
+#[test]
+fn refutes(rt: HostRuntime) -> Result<(), Fail> {
+    let alloc = rt.alloc();
+    expect_no(&rt, alloc, PAIR, "4", PAIR_PROOF)?;
+    expect_no(&rt, alloc, LOOP, "3", LOOP_PROOF)?;
+    expect_no(&rt, alloc, LATE, "10", PROOF)?;
+    expect_no(&rt, alloc, BROKEN, "5", BROKEN_PROOF)?;
+    expect_no(&rt, alloc, UNKNOWN, "10", UNKNOWN_PROOF)?;
     let timed = quiet(TIMED.as_bytes());
-    expect(&rt, alloc, &words, timed, Status::Bad, "no 3\n")?;
-    expect_check(&rt, alloc, TIMED, "5", Status::Good, "yes 3\n")?;
-    let later = "document later\n";
-    expect_check(&rt, alloc, PAIR, "1001", Status::Document, later)?;
-    expect_check(&rt, alloc, BRANCH, "10", Status::Document, later)
+    let words = ["check", "pair"];
+    expect(&rt, alloc, &words, timed, Status::Bad, PAIR_PROOF)
+}
+
+#[test]
+fn checks_up_to_a_cap(rt: HostRuntime) -> Result<(), Fail> {
+    let alloc = rt.alloc();
+    expect_capped(&rt, alloc, BRANCH, "10", "5", Status::Good, "yes 5\n")?;
+    expect_capped(&rt, alloc, BRANCH, "10", "4", Status::Full, "full 4\n")?;
+    expect_capped(&rt, alloc, BRANCH, "10", "1", Status::Full, "full 1\n")?;
+    expect_capped(&rt, alloc, BRANCH, "10", "0", Status::Words, "words\n")?;
+    expect_capped(&rt, alloc, BRANCH, "10", "4194304", Status::Good, "yes 5\n")?;
+    expect_capped(
+        &rt,
+        alloc,
+        BRANCH,
+        "10",
+        "4194305",
+        Status::Words,
+        "words\n",
+    )?;
+    expect_capped(&rt, alloc, PAIR, "4", "2", Status::Full, "full 2\n")?;
+    expect_capped(&rt, alloc, LATE, "10", "6", Status::Full, "full 6\n")?;
+    expect_capped(&rt, alloc, CROSSED, "5", "7", Status::Full, "full 7\n")?;
+    expect_capped(&rt, alloc, UNKNOWN, "10", "13", Status::Full, "full 13\n")?;
+    let pair = quiet(PAIR.as_bytes());
+    let words = ["check", "pair", "--cap", "9", "--deadline", "5"];
+    expect(&rt, alloc, &words, pair, Status::Words, "words\n")
+}
+
+#[test]
+fn runs(rt: HostRuntime) -> Result<(), Fail> {
+    let alloc = rt.alloc();
+    expect_run(
+        &rt,
+        alloc,
+        PROCESS,
+        "40",
+        PROCESS_LIVE,
+        Status::Good,
+        PROCESS_RUN,
+    )?;
+    expect_run(
+        &rt,
+        alloc,
+        BRANCH,
+        "10",
+        BRANCH_LIVE,
+        Status::Good,
+        BRANCH_RUN,
+    )?;
+    expect_run(
+        &rt,
+        alloc,
+        CROSSED,
+        "5",
+        CROSSED_LIVE,
+        Status::Good,
+        CROSSED_RUN,
+    )?;
+    let text = "yes 5\nunfinished 0\n";
+    expect_run(&rt, alloc, BRANCH, "10", "", Status::Unfinished, text)?;
+    let text = "yes 5\nat 0 Z P\nunfinished 1\n";
+    expect_run(
+        &rt,
+        alloc,
+        BRANCH,
+        "10",
+        "moment 0",
+        Status::Unfinished,
+        text,
+    )?;
+    let live = "moment 0\nsee p true\ndue\n";
+    let text = "yes 5\nat 0 Z P\nseen p true\ndue 10\nunfinished 10\n";
+    expect_run(&rt, alloc, BRANCH, "10", live, Status::Unfinished, text)?;
+    expect_run(&rt, alloc, LATE, "10", "moment 0\n", Status::Bad, PROOF)
+}
+
+#[test]
+fn reads_no_line_after_done(rt: HostRuntime) -> Result<(), Fail> {
+    let alloc = rt.alloc();
+    let words = ["run", "pair", "--deadline", "40"];
+    let mut process = quiet(PROCESS.as_bytes());
+    process.live = PROCESS_LIVE.as_bytes();
+    process.most = 1;
+    let (_, _, left) = outcome(alloc, &words, process)?;
+    assert_eq!(rt; left, "due\n".len());
+    Ok(())
+}
+
+#[test]
+fn runs_up_to_a_wrong_line(rt: HostRuntime) -> Result<(), Fail> {
+    let alloc = rt.alloc();
+    let text = "yes 5\nscript 1\n";
+    expect_run(&rt, alloc, BRANCH, "10", "Moment 0\n", Status::Script, text)?;
+    let long = vec![in alloc; b'm'; 4097]?;
+    let words = ["run", "pair", "--deadline", "10"];
+    let branch = with_live(BRANCH.as_bytes(), &long);
+    expect(&rt, alloc, &words, branch, Status::Script, text)?;
+    let words = ["run", "pair", "--deadline", "10", "--cap", "4"];
+    expect(&rt, alloc, &words, branch, Status::Full, "full 4\n")
+}
+
+#[test]
+fn runs_up_to_a_fault(rt: HostRuntime) -> Result<(), Fail> {
+    let alloc = rt.alloc();
+    let words = ["run", "pair", "--deadline", "10"];
+    let mut branch = quiet(BRANCH.as_bytes());
+    branch.live = b"moment 0\nsee p true\n";
+    branch.most = 9;
+    branch.source = &[0];
+    let text = "yes 5\nread fault\n";
+    expect(&rt, alloc, &words, branch, Status::ReadFault, text)?;
+    branch.source = &[1];
+    let text = "yes 5\nat 0 Z P\nread fault\n";
+    expect(&rt, alloc, &words, branch, Status::ReadFault, text)?;
+    branch.source = &[];
+    branch.sink = &[2];
+    expect(&rt, alloc, &words, branch, Status::WriteFault, "yes 5\n")
 }
 
 #[test]
@@ -229,11 +404,18 @@ fn saves(rt: HostRuntime) -> Result<(), Fail> {
 #[test]
 fn replays(rt: HostRuntime) -> Result<(), Fail> {
     let alloc = rt.alloc();
-    expect_replay(&rt, alloc, LATE, PROOF, Status::Good, "accepted\n")?;
-    expect_replay(&rt, alloc, LATE, WRONG, Status::Bad, "rejected 3\n")?;
-    expect_replay(&rt, alloc, EARLY, FORGED, Status::Bad, "rejected 1\n")?;
-    expect_replay(&rt, alloc, LATE, EXCHANGED, Status::Script, "script 2\n")?;
-    expect_replay(&rt, alloc, LATE, "", Status::Script, "script 1\n")?;
+    expect_replay(&rt, alloc, LATE, "10", WRONG, Status::Bad, "rejected 3\n")?;
+    expect_replay(&rt, alloc, EARLY, "10", FORGED, Status::Bad, "rejected 1\n")?;
+    expect_replay(
+        &rt,
+        alloc,
+        LATE,
+        "10",
+        EXCHANGED,
+        Status::Script,
+        "script 2\n",
+    )?;
+    expect_replay(&rt, alloc, LATE, "10", "", Status::Script, "script 1\n")?;
     let words = ["replay", "pair", "missing"];
     let pair = quiet(PAIR.as_bytes());
     let text = "document X9\n";

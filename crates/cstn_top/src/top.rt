@@ -6,13 +6,15 @@ ghost use Rattle.cstn_io.specs.Causes.{Rose};
 ghost use Rattle.cstn_io.specs.Contents.{with_bytes};
 ghost use Rattle.cstn_top.specs.Texts.{line};
 ghost use Rattle.cstn_top.specs.Requests.{request_of, names_of};
-ghost use Rattle.cstn_top.specs.Files.{AreContents};
+ghost use Rattle.cstn_top.specs.Files.{AreContents, AreThere};
 ghost use Rattle.cstn_top.specs.Plans.{Live, Ends, Untouched};
-ghost use Rattle.cstn_top.specs.Outputs.{plan_of, HoldsOf, IsGood, IsBad, ReadsLive, MayStop};
+ghost use Rattle.cstn_top.specs.Outputs.{plan_of};
+ghost use Rattle.cstn_top.specs.Meanings.{HoldsOf, IsGood, IsBad, IsFull, IsComplete, IsStopped, files_read, ReadsLive, MayStop};
 
 use crate::Status;
-use crate::commands::{Refused, prepare};
+use crate::commands::{Prepared, Refused, prepare};
 use crate::output::finish;
+use crate::session::converse;
 use crate::words::parse;
 use cstn_io::{Shelf, Sink, Source};
 use std::alloc::Global;
@@ -31,13 +33,18 @@ pub fn run<F: Shelf, S: Source, K: Sink>(
         (contents : List (List ℕ)) × AreContents (F.files shelf.old) (names_of (request_of (map string_bytes words.now))) contents ×
         Ends (plan_of (request_of (map string_bytes words.now)) contents) before after (K.written out.old) (K.written out.new) result ×
         Untouched (plan_of (request_of (map string_bytes words.now)) contents) live.old live.new }
+
     ensures good { result ≡ Status.Good → HoldsOf (request_of (map string_bytes words.now)) (F.files shelf.old) IsGood }
     ensures bad { result ≡ Status.Bad → HoldsOf (request_of (map string_bytes words.now)) (F.files shelf.old) IsBad }
+    ensures full { result ≡ Status.Full → HoldsOf (request_of (map string_bytes words.now)) (F.files shelf.old) IsFull }
+    ensures complete { IsStopped result ⊎ (IsNone (request_of (map string_bytes words.now)) ⊎ HoldsOf (request_of (map string_bytes words.now)) (F.files shelf.old) (IsComplete result)) }
+    ensures there { AreThere (F.files shelf.old) (files_read result (names_of (request_of (map string_bytes words.now)))) }
+
     ensures flushed { result ≢ Status.WriteFault → K.flushed out.new ≡ option_map length (K.written out.new) }
-    ensures read_fault { result ≡ Status.ReadFault → Rose (F.faults shelf.old) (F.faults shelf.new) ⊎ (ReadsLive (request_of (map string_bytes words.now)) × Rose (S.faults live.old) (S.faults live.new)) }
+    ensures read_fault { result ≡ Status.ReadFault → Rose (F.faults shelf.old) (F.faults shelf.new) ⊎ (HoldsOf (request_of (map string_bytes words.now)) (F.files shelf.old) ReadsLive × Rose (S.faults live.old) (S.faults live.new)) }
     ensures write_fault { result ≡ Status.WriteFault → Rose (K.faults out.old) (K.faults out.new) }
-    ensures live { ReadsLive (request_of (map string_bytes words.now)) ⊎ (live.new ≡ live.old) }
-    ensures memory { result ≡ Status.Memory → MayStop (request_of (map string_bytes words.now)) ⊎ (K.written out.new ≡ with_bytes (K.written out.old) (line (codes "memory"))) }
+    ensures live { HoldsOf (request_of (map string_bytes words.now)) (F.files shelf.old) ReadsLive ⊎ (live.new ≡ live.old) }
+    ensures memory { result ≡ Status.Memory → HoldsOf (request_of (map string_bytes words.now)) (F.files shelf.old) MayStop ⊎ (K.written out.new ≡ with_bytes (K.written out.old) (line (codes "memory"))) }
     ensures words { IsNone (request_of (map string_bytes words.now)) → (result ≡ Status.Words) ⊎ (result ≡ Status.WriteFault) }
     ensures words_only { result ≡ Status.Words → IsNone (request_of (map string_bytes words.now)) }
     ensures words_stand { IsNone (request_of (map string_bytes words.now)) → shelf.new ≡ shelf.old }
@@ -46,7 +53,8 @@ pub fn run<F: Shelf, S: Source, K: Sink>(
         return finish(out, b"words\n", Status::Words);
     };
     match prepare(alloc, request, shelf) {
-        Ok(said) => finish(out, &said.text, said.outcome.status()),
+        Ok(Prepared::Says(said)) => finish(out, &said.text, said.outcome.status()),
+        Ok(Prepared::Runs { opening, running }) => converse(alloc, running, &opening, live, out),
         Err(Refused::ReadFault) => finish(out, b"read fault\n", Status::ReadFault),
         Err(Refused::Memory) => finish(out, b"memory\n", Status::Memory),
     }

@@ -1,8 +1,8 @@
 // The words of a request.
 ghost use Rattle.std.specs.Prelude.{◌≡◌, ◌≤◌, IfSome, map, string_bytes};
 ghost use Rattle.std.specs.Option.{option_map};
-ghost use Rattle.cstn_top.specs.Requests.{number_to, deadline_of, asked_of, replay_of, request_of};
-ghost use Rattle.cstn_top.specs.Read.{the_asked, the_request};
+ghost use Rattle.cstn_top.specs.Requests.{number_within, value_at, option_at, deadline_at, cap_at, deadline_of, cap_of, asked_of, capped_of, replay_of, request_of};
+ghost use Rattle.cstn_top.specs.Read.{the_asked, the_capped, the_taken, the_request, IsCapped};
 
 use cstn_text::read_number;
 
@@ -16,22 +16,42 @@ pub(crate) struct Asked<'a> {
 /// What the words ask for.
 #[derive(Clone, Copy)]
 pub(crate) enum Request<'a> {
-    Check(Asked<'a>),
+    Check { asked: Asked<'a>, cap: u32 },
+    Run { asked: Asked<'a>, cap: u32 },
     Save(Asked<'a>),
     Replay { asked: Asked<'a>, proof: &'a str },
 }
 
+// The number of an option, if it is there, and the words after it.
+#[derive(Clone, Copy)]
+struct Taken<'a> {
+    value: Option<u64>,
+    rest: &'a [String],
+}
+
 const MAX_DEADLINE: u64 = 1_000_000;
+
+const MAX_CAP: u64 = 4_194_304;
+
+const USUAL_CAP: u32 = 65_536;
 
 /// The request that the words are, if they are one.
 pub(crate) fn parse(words: &[String]) -> Option<Request<'_>>
     ensures request { option_map the_request result ≡ request_of (map string_bytes words.now) }
+    ensures capped { IfSome result IsCapped }
 {
     let [command, rest @ ..] = words else {
         return None;
     };
     match command.as_str() {
-        "check" => Some(Request::Check(asked_of(rest)?)),
+        "check" => {
+            let (asked, cap) = capped_of(rest)?;
+            Some(Request::Check { asked, cap })
+        }
+        "run" => {
+            let (asked, cap) = capped_of(rest)?;
+            Some(Request::Run { asked, cap })
+        }
         "save" => Some(Request::Save(asked_of(rest)?)),
         "replay" => replay_of(rest),
         _ => None,
@@ -68,30 +88,107 @@ fn asked_of(words: &[String]) -> Option<Asked<'_>>
     })
 }
 
-// The deadline that the words after a file give, perhaps none.
+// A file with its deadline, and how many entries its log may have.
+fn capped_of(words: &[String]) -> Option<(Asked<'_>, u32)>
+    ensures capped { option_map the_capped result ≡ capped_of (map string_bytes words.now) }
+    ensures some { IfSome result (λ found. 1 ≤ found.1) }
+    ensures most { IfSome result (λ found. found.1 ≤ MAX_CAP) }
+{
+    let [file, rest @ ..] = words else {
+        return None;
+    };
+    let (deadline, rest) = deadline_at(rest)?;
+    let cap = cap_of(rest)?;
+    let asked = Asked {
+        file: file.as_str(),
+        deadline,
+    };
+    Some((asked, cap))
+}
+
+// The deadline that the words give, perhaps none.
 fn deadline_of(words: &[String]) -> Option<Option<u32>>
     ensures deadline { result ≡ deadline_of (map string_bytes words.now) }
 {
-    match words {
-        [] => Some(None),
-        [option, number] => {
-            if option.as_str() != "--deadline" {
-                return None;
-            }
-            let deadline = number_to(number.as_bytes(), MAX_DEADLINE)?;
-            Some(Some(deadline as u32))
-        }
-        _ => None,
+    let (deadline, rest) = deadline_at(words)?;
+    if !rest.is_empty() {
+        return None;
+    }
+    Some(deadline)
+}
+
+// The deadline that words begin with, perhaps none, and the words after it.
+fn deadline_at(words: &[String]) -> Option<(Option<u32>, &[String])>
+    ensures taken { option_map (λ t. record { value = t.0; rest = map string_bytes t.1.now }) result ≡ deadline_at (map string_bytes words.now) }
+{
+    let taken = option_at(words, "--deadline", 0, MAX_DEADLINE)?;
+    match taken.value {
+        None => Some((None, taken.rest)),
+        Some(n) => Some((Some(n as u32), taken.rest)),
     }
 }
 
-// The number of the digits, if it is at most `most`.
-fn number_to(bytes: &[u8], most: u64) -> Option<u64>
-    ensures value { result ≡ number_to most bytes.now }
+// How many entries the log may have by the words.
+fn cap_of(words: &[String]) -> Option<u32>
+    ensures cap { result ≡ cap_of (map string_bytes words.now) }
+    ensures some { IfSome result (λ cap. 1 ≤ cap) }
+    ensures most { IfSome result (λ cap. cap ≤ MAX_CAP) }
+{
+    let taken = option_at(words, "--cap", 1, MAX_CAP)?;
+    if !taken.rest.is_empty() {
+        return None;
+    }
+    match taken.value {
+        None => Some(USUAL_CAP),
+        Some(n) => Some(n as u32),
+    }
+}
+
+// An option that the words may begin with.
+fn option_at<'a>(words: &'a [String], name: &str, least: u64, most: u64) -> Option<Taken<'a>>
+    ensures taken { option_map the_taken result ≡ option_at name.now least most (map string_bytes words.now) }
+    ensures least { IfSome result (λ taken. IfSome taken.value (λ n. least ≤ n)) }
+    ensures most { IfSome result (λ taken. IfSome taken.value (λ n. n ≤ most)) }
+{
+    let [word, rest @ ..] = words else {
+        return Some(Taken {
+            value: None,
+            rest: words,
+        });
+    };
+    if word.as_str() != name {
+        return Some(Taken {
+            value: None,
+            rest: words,
+        });
+    }
+    value_at(rest, least, most)
+}
+
+// The number after an option's name.
+fn value_at(words: &[String], least: u64, most: u64) -> Option<Taken<'_>>
+    ensures taken { option_map the_taken result ≡ value_at least most (map string_bytes words.now) }
+    ensures least { IfSome result (λ taken. IfSome taken.value (λ n. least ≤ n)) }
+    ensures most { IfSome result (λ taken. IfSome taken.value (λ n. n ≤ most)) }
+{
+    let [word, rest @ ..] = words else {
+        return None;
+    };
+    let n = number_within(word.as_bytes(), least, most)?;
+    Some(Taken {
+        value: Some(n),
+        rest,
+    })
+}
+
+// The number of the digits, if it is from `least` to `most`.
+fn number_within(bytes: &[u8], least: u64, most: u64) -> Option<u64>
+    ensures value { result ≡ number_within least most bytes.now }
+    ensures least { IfSome result (λ n. least ≤ n) }
     ensures most { IfSome result (λ n. n ≤ most) }
 {
     let number = read_number(bytes)?;
-    if number > most {
+    if number < least || number > most {
         return None;
     }
     Some(number)

@@ -1,14 +1,15 @@
 // `replay FILE PROOF [--deadline N]`
-ghost use Rattle.std.specs.Prelude.{◌≡◌, ◌≤◌, ◌++◌, length, IfOk, IsTrue, IsErrOf, codes, decimal};
+ghost use Rattle.std.specs.Prelude.{◌≡◌, ◌≤◌, ◌++◌, ℕ, List, length, IfOk, IsTrue, IsErrOf, codes, decimal};
 ghost use Rattle.cstn_io.specs.Causes.{Rose};
 ghost use Rattle.cstn_net.specs.Networks.{IsWellFormed, count};
 ghost use Rattle.cstn_net.specs.Read.{the_network};
 ghost use Rattle.cstn_refute.specs.Refutations.{the_steps};
 ghost use Rattle.cstn_top.specs.Requests.{replay};
 ghost use Rattle.cstn_top.specs.Read.{the_asked, the_said};
-ghost use Rattle.cstn_top.specs.Plans.{say, IsReplay, IsAnswer};
+ghost use Rattle.cstn_top.specs.Plans.{say, says, IsReplay, IsOutput};
 ghost use Rattle.cstn_top.specs.Opened.{IsSaidBy};
-ghost use Rattle.cstn_top.specs.Outputs.{Planned, replayed};
+ghost use Rattle.cstn_top.specs.Prepared.{Planned};
+ghost use Rattle.cstn_top.specs.Outputs.{replayed};
 
 use super::Refused;
 use super::documents::{Opened, open};
@@ -32,7 +33,7 @@ pub(crate) fn replay_file<F: Shelf>(
 ) -> Result<Said, Refused>
     requires may_ask { IsTrue (F.may_ask shelf.old asked.file.now) }
     requires may_ask_too { IsTrue (F.may_ask shelf.old proof.now) }
-    ensures plan { IfOk result (λ said. Planned (replay (the_asked asked.entry) proof.now) (F.files shelf.old) (the_said said)) }
+    ensures plan { IfOk result (λ said. Planned (replay (the_asked asked.entry) proof.now) (F.files shelf.old) (says (the_said said))) }
     ensures fault { IsErrOf result Refused.ReadFault → Rose (F.faults shelf.old) (F.faults shelf.new) }
 {
     match open(alloc, asked, shelf) {
@@ -75,7 +76,7 @@ fn replay_text(
 ) -> Result<Said, Refused>
     requires few { length names.now ≤ 65536 }
     requires short { length text.now ≤ MAX_TEXT }
-    ensures said { IfOk result (λ said. IsAnswer (replayed text.now names.now) (the_network network.now) (the_said said)) }
+    ensures said { (live : List ℕ) → IfOk result (λ said. IsOutput (replayed text.now names.now (the_network network.now)) live (the_said said)) }
     ensures fault { IsErrOf result Refused.ReadFault → ⊥ }
 {
     match Refutation::read(alloc, names, text) {

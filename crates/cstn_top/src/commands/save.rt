@@ -4,8 +4,10 @@ ghost use Rattle.cstn_io.specs.Causes.{Rose};
 ghost use Rattle.cstn_net.specs.Networks.{count};
 ghost use Rattle.cstn_net.specs.Read.{the_network};
 ghost use Rattle.cstn_top.specs.Requests.{save};
+ghost use Rattle.cstn_top.specs.Plans.{says};
+ghost use Rattle.cstn_top.specs.Prepared.{Planned};
 ghost use Rattle.cstn_top.specs.Read.{the_asked, the_said};
-ghost use Rattle.cstn_top.specs.Outputs.{Planned, saved};
+ghost use Rattle.cstn_top.specs.Outputs.{saved};
 
 use super::Refused;
 use super::documents::{Opened, open};
@@ -24,7 +26,7 @@ pub(crate) fn save_file<F: Shelf>(
     shelf: &mut F,
 ) -> Result<Said, Refused>
     requires may_ask { IsTrue (F.may_ask shelf.old asked.file.now) }
-    ensures plan { IfOk result (λ said. Planned (save (the_asked asked.entry)) (F.files shelf.old) (the_said said)) }
+    ensures plan { IfOk result (λ said. Planned (save (the_asked asked.entry)) (F.files shelf.old) (says (the_said said))) }
     ensures fault { IsErrOf result Refused.ReadFault → Rose (F.faults shelf.old) (F.faults shelf.new) }
 {
     match open(alloc, asked, shelf) {
@@ -37,7 +39,7 @@ pub(crate) fn save_file<F: Shelf>(
 fn canonical(alloc: Global, network: &Network, names: &Names) -> Result<Said, Refused>
     requires named { length names.now ≡ count (the_network network.now) }
     requires origin { slice_get names.now 0 ≡ Some (codes "Z") }
-    ensures said { IfOk result (λ said. the_said said ≡ saved names.now (the_network network.now)) }
+    ensures said { IfOk result (λ said. says (the_said said) ≡ saved names.now (the_network network.now)) }
     ensures fault { IsErrOf result Refused.ReadFault → ⊥ }
 {
     let Ok(text) = write(alloc, network, names) else {

@@ -1,7 +1,9 @@
-use Rattle.cstn_top.specs.Plans.{Live}
+use Rattle.std.proofs.Common.{sym, inl, inr}
+use Rattle.cstn_top.specs.Plans.{Live, says}
+use Rattle.cstn_top.specs.Sessions.{session}
+use Rattle.cstn_top.specs.Running.{running_turn, running_ending}
 use Rattle.cstn_top.specs.Read.{the_request, the_said}
-use Rattle.cstn_top.specs.declared.output.Outcome.TheVariants.{Good, Bad, Words}
-use Rattle.cstn_top.proofs.Endings.{words_end, fault_end, memory_end, says_end, only_words, outcome_of, good_is, bad_is}
+use Rattle.cstn_top.proofs.Endings.{words_end, fault_end, memory_end, says_end, good_is, bad_is, full_is, complete_is, words_is, there_is, text_end, talks_end, reads_live, opened_as, prepared_as}
 use Rattle.cstn_top.proofs.top.run.Goals as goal
 
 pub returns-in_default-clause-output : goal.returns-in_default-clause-output
@@ -9,26 +11,32 @@ returns-in_default-clause-output g c =
     let seen : Live = record { left = g.S.Source.left c.args.live.now; faults = g.S.Source.faults c.args.live.now } in
     words_end _ (g.F.Shelf.files c.args.shelf.now) c.args.live.now seen _ _ _ c.in_default.ensures.request c.finish.ensures.written
 
-pub returns-in-Ok-clause-output : goal.returns-in-Ok-clause-output
-returns-in-Ok-clause-output g c =
+pub returns-in-Ok-Says-clause-output : goal.returns-in-Ok-Says-clause-output
+returns-in-Ok-Says-clause-output g c =
     let seen : Live = record { left = g.S.Source.left c.args.live.now; faults = g.S.Source.faults c.args.live.now } in
-    says_end _ (the_request c.in-Some.request) (g.F.Shelf.files c.args.shelf.now) c.args.live.now (the_said c.in-Ok.said) c.deref.result.now seen _ _ c.status.result _
-    c.in-Some.ensures.request c.in-Ok.ensures.plan c.deref.ensures.value c.status.ensures.status c.finish-in-Ok.ensures.written
+    says_end _ (the_request c.in-Some.request) (g.F.Shelf.files c.args.shelf.now) c.args.live.now (the_said c.in-Ok-Says.said) c.deref.result.now seen _ _ c.status.result _
+    c.in-Some.ensures.request (prepared_as _ _ _ _ c.in-Ok-Says.ensures.plan c.in-Ok-Says.field-0-is) c.deref.ensures.value c.status.ensures.status c.finish-in-Ok-Says.ensures.written
 
-pub returns-in-Ok-clause-words_only : goal.returns-in-Ok-clause-words_only
-returns-in-Ok-clause-words_only g c = λ is.
-    absurd (only_words (the_request c.in-Some.request) (g.F.Shelf.files c.args.shelf.now) (the_said c.in-Ok.said) c.in-Ok.ensures.plan
-    (outcome_of c.in-Ok.said.outcome Words c.status.result _ c.status.ensures.status c.finish-in-Ok.ensures.status is))
+pub returns-in-Ok-Says-clause-good : goal.returns-in-Ok-Says-clause-good
+returns-in-Ok-Says-clause-good g c = good_is _ (g.F.Shelf.files c.args.shelf.now) _ _ _ _ _ _ _ (returns-in-Ok-Says-clause-output g c)
 
-pub returns-in-Ok-clause-good : goal.returns-in-Ok-clause-good
-returns-in-Ok-clause-good g c = λ is.
-    good_is _ (the_request c.in-Some.request) (g.F.Shelf.files c.args.shelf.now) (the_said c.in-Ok.said) c.in-Some.ensures.request c.in-Ok.ensures.plan
-    (outcome_of c.in-Ok.said.outcome Good c.status.result _ c.status.ensures.status c.finish-in-Ok.ensures.status is)
+pub returns-in-Ok-Says-clause-bad : goal.returns-in-Ok-Says-clause-bad
+returns-in-Ok-Says-clause-bad g c = bad_is _ (g.F.Shelf.files c.args.shelf.now) _ _ _ _ _ _ _ (returns-in-Ok-Says-clause-output g c)
 
-pub returns-in-Ok-clause-bad : goal.returns-in-Ok-clause-bad
-returns-in-Ok-clause-bad g c = λ is.
-    bad_is _ (the_request c.in-Some.request) (g.F.Shelf.files c.args.shelf.now) (the_said c.in-Ok.said) c.in-Some.ensures.request c.in-Ok.ensures.plan
-    (outcome_of c.in-Ok.said.outcome Bad c.status.result _ c.status.ensures.status c.finish-in-Ok.ensures.status is)
+pub returns-in-Ok-Says-clause-full : goal.returns-in-Ok-Says-clause-full
+returns-in-Ok-Says-clause-full g c = full_is _ (g.F.Shelf.files c.args.shelf.now) _ _ _ _ _ _ _ (returns-in-Ok-Says-clause-output g c)
+
+pub returns-in-Ok-Says-clause-complete : goal.returns-in-Ok-Says-clause-complete
+returns-in-Ok-Says-clause-complete g c = complete_is _ (g.F.Shelf.files c.args.shelf.now) _ _ _ _ _ _ _ (returns-in-Ok-Says-clause-output g c)
+
+pub returns-in-Ok-Says-clause-there : goal.returns-in-Ok-Says-clause-there
+returns-in-Ok-Says-clause-there g c =
+    let seen : Live = record { left = g.S.Source.left c.args.live.now; faults = g.S.Source.faults c.args.live.now } in
+    there_is _ (the_request c.in-Some.request) (g.F.Shelf.files c.args.shelf.now) (says (the_said c.in-Ok-Says.said)) seen seen _ _ _ c.in-Some.ensures.request (prepared_as _ _ _ _ c.in-Ok-Says.ensures.plan c.in-Ok-Says.field-0-is)
+    (text_end (the_said c.in-Ok-Says.said) c.deref.result.now seen _ _ c.status.result _ c.deref.ensures.value c.status.ensures.status c.finish-in-Ok-Says.ensures.written)
+
+pub returns-in-Ok-Says-clause-words_only : goal.returns-in-Ok-Says-clause-words_only
+returns-in-Ok-Says-clause-words_only g c = words_is _ (g.F.Shelf.files c.args.shelf.now) _ _ _ _ _ _ _ (returns-in-Ok-Says-clause-output g c)
 
 pub returns-in-Err-ReadFault-clause-output : goal.returns-in-Err-ReadFault-clause-output
 returns-in-Err-ReadFault-clause-output g c =
@@ -39,3 +47,40 @@ pub returns-in-Err-Memory-clause-output : goal.returns-in-Err-Memory-clause-outp
 returns-in-Err-Memory-clause-output g c =
     let seen : Live = record { left = g.S.Source.left c.args.live.now; faults = g.S.Source.faults c.args.live.now } in
     memory_end _ (g.F.Shelf.files c.args.shelf.now) c.args.live.now seen _ _ _ c.finish-in-Err-Memory.ensures.written
+
+pub returns-in-Ok-Runs-clause-output : goal.returns-in-Ok-Runs-clause-output
+returns-in-Ok-Runs-clause-output g c =
+    let before : Live = record { left = g.S.Source.left c.args.live.now; faults = g.S.Source.faults c.args.live.now } in
+    let after : Live = record { left = g.S.Source.left c.converse.new.live; faults = g.S.Source.faults c.converse.new.live } in
+    talks_end _ (the_request c.in-Some.request) (g.F.Shelf.files c.args.shelf.now) c.args.live.now c.converse.new.live (session running_turn running_ending c.deref-in-Ok-Runs.result.now c.in-Ok-Runs.running) before after _ _ _
+    c.in-Some.ensures.request (opened_as _ _ c.in-Ok-Runs.running c.in-Ok-Runs.opening.items (prepared_as _ _ _ _ c.in-Ok-Runs.ensures.plan c.in-Ok-Runs.field-0-is) (sym c.deref-in-Ok-Runs.ensures.value)) tt c.converse.ensures.ends
+
+pub returns-in-Ok-Runs-clause-good : goal.returns-in-Ok-Runs-clause-good
+returns-in-Ok-Runs-clause-good g c = good_is _ (g.F.Shelf.files c.args.shelf.now) _ _ _ _ _ _ _ (returns-in-Ok-Runs-clause-output g c)
+
+pub returns-in-Ok-Runs-clause-bad : goal.returns-in-Ok-Runs-clause-bad
+returns-in-Ok-Runs-clause-bad g c = bad_is _ (g.F.Shelf.files c.args.shelf.now) _ _ _ _ _ _ _ (returns-in-Ok-Runs-clause-output g c)
+
+pub returns-in-Ok-Runs-clause-full : goal.returns-in-Ok-Runs-clause-full
+returns-in-Ok-Runs-clause-full g c = full_is _ (g.F.Shelf.files c.args.shelf.now) _ _ _ _ _ _ _ (returns-in-Ok-Runs-clause-output g c)
+
+pub returns-in-Ok-Runs-clause-complete : goal.returns-in-Ok-Runs-clause-complete
+returns-in-Ok-Runs-clause-complete g c = complete_is _ (g.F.Shelf.files c.args.shelf.now) _ _ _ _ _ _ _ (returns-in-Ok-Runs-clause-output g c)
+
+pub returns-in-Ok-Runs-clause-words_only : goal.returns-in-Ok-Runs-clause-words_only
+returns-in-Ok-Runs-clause-words_only g c = words_is _ (g.F.Shelf.files c.args.shelf.now) _ _ _ _ _ _ _ (returns-in-Ok-Runs-clause-output g c)
+
+pub returns-in-Ok-Runs-clause-there : goal.returns-in-Ok-Runs-clause-there
+returns-in-Ok-Runs-clause-there g c =
+    let before : Live = record { left = g.S.Source.left c.args.live.now; faults = g.S.Source.faults c.args.live.now } in
+    let after : Live = record { left = g.S.Source.left c.converse.new.live; faults = g.S.Source.faults c.converse.new.live } in
+    there_is _ (the_request c.in-Some.request) (g.F.Shelf.files c.args.shelf.now) (session running_turn running_ending c.deref-in-Ok-Runs.result.now c.in-Ok-Runs.running) before after _ _ _
+    c.in-Some.ensures.request (opened_as _ _ c.in-Ok-Runs.running c.in-Ok-Runs.opening.items (prepared_as _ _ _ _ c.in-Ok-Runs.ensures.plan c.in-Ok-Runs.field-0-is) (sym c.deref-in-Ok-Runs.ensures.value)) c.converse.ensures.ends
+
+pub returns-in-Ok-Runs-clause-live : goal.returns-in-Ok-Runs-clause-live
+returns-in-Ok-Runs-clause-live g c =
+    inl (reads_live _ (the_request c.in-Some.request) (g.F.Shelf.files c.args.shelf.now) (session running_turn running_ending c.in-Ok-Runs.opening.items c.in-Ok-Runs.running) c.in-Some.ensures.request (prepared_as _ _ _ _ c.in-Ok-Runs.ensures.plan c.in-Ok-Runs.field-0-is) tt)
+
+pub returns-in-Ok-Runs-clause-read_fault : goal.returns-in-Ok-Runs-clause-read_fault
+returns-in-Ok-Runs-clause-read_fault g c = λ is.
+    inr (reads_live _ (the_request c.in-Some.request) (g.F.Shelf.files c.args.shelf.now) (session running_turn running_ending c.in-Ok-Runs.opening.items c.in-Ok-Runs.running) c.in-Some.ensures.request (prepared_as _ _ _ _ c.in-Ok-Runs.ensures.plan c.in-Ok-Runs.field-0-is) tt, c.converse.ensures.read is)

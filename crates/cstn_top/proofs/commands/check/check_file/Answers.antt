@@ -1,17 +1,21 @@
 use Rattle.std.proofs.Common.{subst}
+use Rattle.cstn_top.specs.Plans.{says}
 use Rattle.cstn_top.specs.Opened.{IsOpened}
-use Rattle.cstn_top.specs.Read.{the_asked}
+use Rattle.cstn_top.specs.Requests.{check}
+use Rattle.cstn_top.specs.Outputs.{checked}
+use Rattle.cstn_top.specs.Read.{the_asked, the_said}
 use Rattle.cstn_top.specs.declared.commands.documents.Opened.{Opened}
-use Rattle.cstn_top.proofs.Opening.{check_accepted, check_told}
+use Rattle.cstn_top.proofs.Opening.{one_accepted, one_told, of_check}
 use Rattle.cstn_top.proofs.commands.check.check_file.Goals as goal
 
 pub returns-in-Ok-Accepted-clause-plan : goal.returns-in-Ok-Accepted-clause-plan
 returns-in-Ok-Accepted-clause-plan g c =
-    check_accepted (g.F.Shelf.files c.args.shelf.now) (the_asked c.args.asked) c.in-Ok-Accepted.network c.in-Ok-Accepted.field-0-1 c.judge.result
+    one_accepted (check (the_asked c.args.asked) c.args.cap) (the_asked c.args.asked) (checked c.args.cap) (g.F.Shelf.files c.args.shelf.now) c.in-Ok-Accepted.network c.in-Ok-Accepted.names
+    (λ said. says (the_said said)) c.judge.result (of_check (the_asked c.args.asked) c.args.cap)
     (subst (λ (o : Opened). IsOpened (g.F.Shelf.files c.args.shelf.now) (the_asked c.args.asked) o) c.in-Ok-Accepted.field-0-is c.in-Ok-Accepted.ensures.opened)
-    c.judge.ensures.said c.judge.ensures.right
+    c.judge.ensures.said
 
 pub returns-in-Ok-Told-clause-plan : goal.returns-in-Ok-Told-clause-plan
 returns-in-Ok-Told-clause-plan g c =
-    check_told (g.F.Shelf.files c.args.shelf.now) (the_asked c.args.asked) c.in-Ok-Told.said
+    one_told (check (the_asked c.args.asked) c.args.cap) (the_asked c.args.asked) (checked c.args.cap) (g.F.Shelf.files c.args.shelf.now) c.in-Ok-Told.said (of_check (the_asked c.args.asked) c.args.cap)
     (subst (λ (o : Opened). IsOpened (g.F.Shelf.files c.args.shelf.now) (the_asked c.args.asked) o) c.in-Ok-Told.field-0-is c.in-Ok-Told.ensures.opened)

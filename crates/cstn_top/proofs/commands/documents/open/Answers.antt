@@ -2,7 +2,7 @@ use Rattle.std.proofs.Common.{ap, sym, subst, List, ℕ}
 use Rattle.std.specs.Prelude.{Err}
 use Rattle.cstn_top.specs.Read.{the_asked}
 use Rattle.cstn_top.specs.Files.{IsContent}
-use Rattle.cstn_top.proofs.Contents.{is_content}
+use Rattle.cstn_top.proofs.Contents.{is_content, is_there}
 use Rattle.cstn_top.proofs.Opening.{long_opened, file_opened}
 use Rattle.cstn_top.proofs.commands.documents.open.Goals as goal
 
@@ -14,4 +14,5 @@ pub returns-clause-opened : goal.returns-clause-opened
 returns-clause-opened g c =
     file_opened (g.F.Shelf.files c.args.shelf.now) (the_asked c.args.asked) c.deref.result.now c.open_bytes.result
     (subst (λ (bytes : List ℕ). IsContent (g.F.Shelf.files c.args.shelf.now) c.args.asked.file.now bytes) (sym c.deref.ensures.value) (is_content (g.F.Shelf.files c.args.shelf.now) _ _ c.in-Ok.ensures.file))
+    (is_there (g.F.Shelf.files c.args.shelf.now) _ _ c.in-Ok.ensures.file)
     c.open_bytes.ensures.opens

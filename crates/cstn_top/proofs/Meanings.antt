@@ -1,0 +1,340 @@
+-- What the outcomes of outputs tell.
+use Rattle.std.proofs.Common.{◌≡◌, ℕ, ◌≤◌, ◌<◌, Bool, true, false, List, [], ◌∷◌, ◌++◌, ◌+◌, length, map, refl, ap, sym, ◌∙◌, subst, inl, inr, arith}
+use Rattle.std.specs.Prelude.{◌⊎◌, nat_lt, if◌then◌else◌, get_or, Option, None, Some, Result, Ok, Err, IsSomeAnd, codes}
+use Rattle.cstn_net.specs.Networks.{Network, IsWellFormed, count}
+use Rattle.cstn_net.specs.Strategies.{IsConsistent}
+use Rattle.cstn_graphml.specs.Results.{Refusal as DocumentRefusal}
+use Rattle.cstn_graphml.specs.Document.{Parts, document}
+use Rattle.cstn_graphml.specs.Networks.{network_of}
+use Rattle.cstn_rules.specs.Derivations.{Entry, IsRefutation}
+use Rattle.cstn_rules.proofs.Derived.{refuted_inconsistent}
+use Rattle.cstn_label.specs.Bounds.{Bound}
+use Rattle.cstn_text.specs.PrintedNames.{printed_name}
+use Rattle.cstn_lines.specs.Pieces.{is_past, lines_of}
+use Rattle.cstn_lines.specs.LiveLines.{Live, moment_at, seen, due_now, live_read}
+use Rattle.cstn_exec.specs.Runs.{Run, start, named, due}
+use Rattle.cstn_exec.specs.Moves.{Refusal, moment_refusal, moved, outcome_refusal}
+use Rattle.cstn_check.specs.Growth.{log_of, load_of, live_bounds}
+use Rattle.cstn_check.specs.declared.verdicts.Verdict.{Verdict}
+use Rattle.cstn_check.specs.declared.verdicts.Verdict.TheVariants.{Yes, No, Full as IsFullVerdict}
+use Rattle.cstn_refute.specs.Texts.{Told as ToldText, tells, wrong as wrong_text, told as told_by}
+use Rattle.cstn_replay.specs.Wrong.{IsFirstWrong, EndsInVain}
+use Rattle.cstn_top.specs.Requests.{Asked, Request, check, run, save, replay}
+use Rattle.cstn_top.specs.Texts.{line}
+use Rattle.cstn_top.specs.Plans.{Said, say, after_text, Plan, says, IsOutput, MayTalk}
+use Rattle.cstn_top.specs.Sessions.{Turn, more, last, wrong, on_turn, script, play, session}
+use Rattle.cstn_top.specs.Running.{moment_line, executing, moment_turn, seen_turn, live_turn, run_turn, unfinished, run_ending}
+use Rattle.cstn_top.specs.Outputs.{Answer, judged, on_document, yes_line, verdict, on_verdict, checked, carried_out, saved, replayed, replayed_text, plan_at}
+use Rattle.cstn_top.specs.Meanings.{parts_of, HasNetwork, IsYes, IsNo, IsNoRefutation, IsGood, IsBad, IsFull, IsDecided, IsComplete, ReadsLive}
+use Rattle.cstn_top.specs.Statuses.{status_of}
+use Rattle.cstn_top.specs.declared.output.Outcome.{Outcome}
+use Rattle.cstn_top.specs.declared.output.Outcome.TheVariants.{Good, Bad, Words, Document, Full, Unfinished, Script}
+use Rattle.cstn_top.proofs.Verdicts.{Tells, verdict_tells}
+
+-- what is said of a document: it is refused, or this is said of its network
+pub document_says : (answer : Answer) (bytes : List ℕ) (deadline : Option ℕ) (live : List ℕ) (said : Said) → IsOutput (on_document answer bytes deadline) live said → (said.outcome ≡ Document) ⊎ HasNetwork bytes deadline (λ names net. IsOutput (answer names net) live said)
+document_says answer bytes deadline live said output = by_length (nat_lt 8388608 (length bytes)) output
+  where
+    by_parts : (told : Result Parts DocumentRefusal) → IsOutput (judged answer told) live said → (said.outcome ≡ Document) ⊎ IsSomeAnd (parts_of told) (λ parts. IsWellFormed (network_of parts) × IsOutput (answer parts.names (network_of parts)) live said)
+    by_parts (Err refusal) is = inl (ap (λ (s : Said). s.outcome) is)
+    by_parts (Ok parts) (inl is) = inr is
+    by_parts (Ok parts) (inr unfit) = inl (ap (λ (s : Said). s.outcome) unfit.2)
+
+    by_length : (long : Bool) → IsOutput (if long then says (say Document (codes "document long")) else judged answer (document bytes deadline)) live said → (said.outcome ≡ Document) ⊎ HasNetwork bytes deadline (λ names net. IsOutput (answer names net) live said)
+    by_length true is = inl (ap (λ (s : Said). s.outcome) is)
+    by_length false is = by_parts (document bytes deadline) is
+
+-- what follows of the network of a document
+pub network_then : (bytes : List ℕ) (deadline : Option ℕ) (one other : List (List ℕ) → Network → Type 0) → HasNetwork bytes deadline one → ((names : List (List ℕ)) (net : Network) → IsWellFormed net → one names net → other names net) → HasNetwork bytes deadline other
+network_then bytes deadline one other has follows = by_parts (parts_of (document bytes deadline)) has
+  where
+    by_parts : (o : Option Parts) → IsSomeAnd o (λ parts. IsWellFormed (network_of parts) × one parts.names (network_of parts)) → IsSomeAnd o (λ parts. IsWellFormed (network_of parts) × other parts.names (network_of parts))
+    by_parts None h = h
+    by_parts (Some parts) h = (h.0, follows parts.names (network_of parts) h.0 h.1)
+
+-- what the outcome of a check tells of a network
+abbrev Verdicts : ℕ → Network → Outcome → Type 0
+Verdicts cap net Good = IsYes cap net
+Verdicts cap net Bad = IsNo cap net
+Verdicts cap net Full = cap < load_of net
+Verdicts cap net Words = ⊥
+Verdicts cap net Document = ⊥
+Verdicts cap net Unfinished = ⊥
+Verdicts cap net Script = ⊥
+
+check_tells : (cap : ℕ) (names : List (List ℕ)) (net : Network) (live : List ℕ) (said : Said) → IsWellFormed net → IsOutput (checked cap names net) live said → Verdicts cap net said.outcome
+check_tells cap names net live said good output = by_verdict (verdict cap net) (verdict_tells cap net good) output
+  where
+    by_verdict : (v : Verdict) → Tells cap net v → IsOutput (on_verdict cap names net (says (record { outcome = Good; text = yes_line (load_of net) })) v) live said → Verdicts cap net said.outcome
+    by_verdict (Yes load) tells' is = subst (λ (o : Outcome). Verdicts cap net o) (sym (ap (λ (s : Said). s.outcome) is)) tells'
+    by_verdict (No load) tells' is = subst (λ (o : Outcome). Verdicts cap net o) (sym (ap (λ (s : Said). s.outcome) is)) tells'
+    by_verdict IsFullVerdict tells' is = subst (λ (o : Outcome). Verdicts cap net o) (sym (ap (λ (s : Said). s.outcome) is)) tells'
+
+no_refutation : (net : Network) (steps : List Entry) (k : ℕ) → IsFirstWrong net steps k ⊎ EndsInVain net steps k → IsRefutation net steps → ⊥
+no_refutation net steps k (inl first) refutation = first.wrong (λ e there. refutation.derivation k e there)
+no_refutation net steps k (inr vain) refutation = vain.vain refutation
+
+-- what the outcome of a replay tells of a network
+abbrev Replays : ToldText → Network → Outcome → Type 0
+Replays told net Good = IsConsistent net → ⊥
+Replays told net Bad = IsNoRefutation told net
+Replays told net Script = Unit {0}
+Replays told net Words = ⊥
+Replays told net Document = ⊥
+Replays told net Full = ⊥
+Replays told net Unfinished = ⊥
+
+text_tells : (told : ToldText) (net : Network) (live : List ℕ) (said : Said) → IsWellFormed net → IsOutput (replayed_text told net) live said → Replays told net said.outcome
+text_tells (wrong_text at) net live said good is = subst (λ (o : Outcome). Replays (wrong_text at) net o) (sym (ap (λ (s : Said). s.outcome) is)) tt
+text_tells (tells load steps) net live said good (inl found) =
+    subst (λ (o : Outcome). Replays (tells load steps) net o) (sym (ap (λ (s : Said). s.outcome) found.1)) (refuted_inconsistent net steps good.network found.0)
+text_tells (tells load steps) net live said good (inr found) =
+    subst (λ (o : Outcome). Replays (tells load steps) net o) (sym (ap (λ (s : Said). s.outcome) found.2)) (no_refutation net steps found.0 found.1)
+
+replay_tells : (text : List ℕ) (names : List (List ℕ)) (net : Network) (live : List ℕ) (said : Said) → IsWellFormed net → IsOutput (replayed text names net) live said → Replays (told_by names text) net said.outcome
+replay_tells text names net live said good is = by_length (nat_lt 1476395008 (length text)) is
+  where
+    by_length : (long : Bool) → IsOutput (if long then says (say Script (codes "script long")) else replayed_text (told_by names text) net) live said → Replays (told_by names text) net said.outcome
+    by_length true is = subst (λ (o : Outcome). Replays (told_by names text) net o) (sym (ap (λ (s : Said). s.outcome) is)) tt
+    by_length false is = text_tells (told_by names text) net live said good is
+
+-- what an outcome tells of a request
+abbrev pub IsRight : Outcome → Request → List (List ℕ) → Type 0
+IsRight Good request contents = IsGood request contents
+IsRight Bad request contents = IsBad request contents
+IsRight Full request contents = IsFull request contents
+IsRight Words request contents = ⊥
+IsRight Document request contents = Unit {0}
+IsRight Unfinished request contents = Unit {0}
+IsRight Script request contents = Unit {0}
+
+-- what is said of a document tells what is told of its network
+on_network : (answer : Answer) (bytes : List ℕ) (deadline : Option ℕ) (live : List ℕ) (said : Said) (told : Outcome → List (List ℕ) → Network → Type 0) (right : Outcome → Type 0) → right Document → ((names : List (List ℕ)) (net : Network) → IsWellFormed net → IsOutput (answer names net) live said → told said.outcome names net) → ((o : Outcome) → HasNetwork bytes deadline (told o) → right o) → IsOutput (on_document answer bytes deadline) live said → right said.outcome
+on_network answer bytes deadline live said told right refused each so output = by_said (document_says answer bytes deadline live said output)
+  where
+    by_said : (said.outcome ≡ Document) ⊎ HasNetwork bytes deadline (λ names net. IsOutput (answer names net) live said) → right said.outcome
+    by_said (inl is) = subst right (sym is) refused
+    by_said (inr has) = so said.outcome (network_then bytes deadline (λ names net. IsOutput (answer names net) live said) (told said.outcome) has each)
+
+-- no document has an impossible network
+none_such : (o : Option Parts) → IsSomeAnd o (λ parts. IsWellFormed (network_of parts) × ⊥) → ⊥
+none_such None h = h
+none_such (Some parts) h = h.1
+
+check_right : (asked : Asked) (cap : ℕ) (contents : List (List ℕ)) (o : Outcome) → HasNetwork (get_or contents 0 []) asked.deadline (λ names net. Verdicts cap net o) → IsRight o (check asked cap) contents
+check_right asked cap contents Good has = has
+check_right asked cap contents Bad has = has
+check_right asked cap contents Full has = has
+check_right asked cap contents Words has = none_such (parts_of (document (get_or contents 0 []) asked.deadline)) has
+check_right asked cap contents Document has = tt
+check_right asked cap contents Unfinished has = tt
+check_right asked cap contents Script has = tt
+
+-- what the outcome of a run tells of a network
+abbrev RunTells : ℕ → Network → Outcome → Type 0
+RunTells cap net Good = IsYes cap net
+RunTells cap net Unfinished = IsYes cap net
+RunTells cap net Script = IsYes cap net
+RunTells cap net Bad = IsNo cap net
+RunTells cap net Full = cap < load_of net
+RunTells cap net Words = ⊥
+RunTells cap net Document = ⊥
+
+-- how a run may end
+abbrev EndsRun : Outcome → Type 0
+EndsRun Good = Unit {0}
+EndsRun Unfinished = Unit {0}
+EndsRun Script = Unit {0}
+EndsRun Bad = ⊥
+EndsRun Full = ⊥
+EndsRun Words = ⊥
+EndsRun Document = ⊥
+
+-- the outcome of an answer, where it is the last
+abbrev TurnEnds : {S : Type 0} → Turn S → Type 0
+TurnEnds (more text state) = Unit {0}
+TurnEnds (last said) = EndsRun said.outcome
+TurnEnds wrong = Unit {0}
+
+-- the outcome of a session is that of its last answer, or of its end
+play_ends : {S : Type 0} (turn : S → List ℕ → Turn S) (ending : S → Said) → ((s : S) (text : List ℕ) → TurnEnds (turn s text)) → ((s : S) → EndsRun (ending s).outcome) → (s : S) (count : ℕ) (lines : List (List ℕ)) → EndsRun (play turn ending s count lines).outcome
+play_ends turn ending each end s count [] = end s
+play_ends {S} turn ending each end s count (first ∷ lines) = by_past (λ next. play_ends turn ending each end next (count + 1) lines) (is_past (count + 1) first)
+  where
+    by_turn : ((next : S) → EndsRun (play turn ending next (count + 1) lines).outcome) → (t : Turn S) → TurnEnds t → EndsRun (on_turn t (λ text next. after_text text (play turn ending next (count + 1) lines)) (λ said. said) (script (count + 1))).outcome
+    by_turn rest (more text next) ends = rest next
+    by_turn rest (last said) ends = ends
+    by_turn rest wrong ends = tt
+
+    by_past : ((next : S) → EndsRun (play turn ending next (count + 1) lines).outcome) → (past : Bool) → EndsRun (if past then script (count + 1) else on_turn (turn s first) (λ text next. after_text text (play turn ending next (count + 1) lines)) (λ said. said) (script (count + 1))).outcome
+    by_past rest true = tt
+    by_past rest false = by_turn rest (turn s first) (each s first)
+
+executing_ends : (text : List ℕ) (run' : Run) (o : Option ℕ) → TurnEnds (executing text run' o)
+executing_ends text run' None = tt
+executing_ends text run' (Some t) = tt
+
+live_ends : (names : List (List ℕ)) (net : Network) (bounds : List Bound) (run' : Run) (o : Option Live) → TurnEnds (live_turn names net bounds run' o)
+live_ends names net bounds run' None = tt
+live_ends names net bounds run' (Some (moment_at t)) = by_refusal (moment_refusal net bounds run' t)
+  where
+    by_refusal : (o : Option Refusal) → TurnEnds (moment_turn names net bounds run' t o)
+    by_refusal None = executing_ends (moment_line names t (named net bounds run' t)) (moved net bounds run' t) (due net bounds (moved net bounds run' t))
+    by_refusal (Some refusal) = tt
+live_ends names net bounds run' (Some (seen p value)) = by_refusal (outcome_refusal net run' p)
+  where
+    by_refusal : (o : Option Refusal) → TurnEnds (seen_turn run' p value o)
+    by_refusal None = tt
+    by_refusal (Some refusal) = tt
+live_ends names net bounds run' (Some due_now) = tt
+
+ending_ends : (o : Option ℕ) → EndsRun (unfinished o).outcome
+ending_ends None = tt
+ending_ends (Some t) = tt
+
+run_tells : (cap : ℕ) (names : List (List ℕ)) (net : Network) (live : List ℕ) (said : Said) → IsWellFormed net → IsOutput (carried_out cap names net) live said → RunTells cap net said.outcome
+run_tells cap names net live said good output = by_verdict (verdict cap net) (verdict_tells cap net good) output
+  where
+    by_outcome : (o : Outcome) → EndsRun o → IsYes cap net → RunTells cap net o
+    by_outcome Good ends is = is
+    by_outcome Unfinished ends is = is
+    by_outcome Script ends is = is
+    by_outcome Bad ends is = absurd ends
+    by_outcome Full ends is = absurd ends
+    by_outcome Words ends is = absurd ends
+    by_outcome Document ends is = absurd ends
+
+    by_verdict : (v : Verdict) → Tells cap net v → IsOutput (on_verdict cap names net (session (run_turn (map printed_name names) net (live_bounds (log_of net))) (run_ending net (live_bounds (log_of net))) (yes_line (load_of net)) (start (count net))) v) live said → RunTells cap net said.outcome
+    by_verdict (Yes load) tells' is =
+        by_outcome said.outcome
+        (subst (λ (s : Said). EndsRun s.outcome) (sym is) (play_ends (run_turn (map printed_name names) net (live_bounds (log_of net))) (run_ending net (live_bounds (log_of net)))
+        (λ run' text. live_ends (map printed_name names) net (live_bounds (log_of net)) run' (live_read text)) (λ run'. ending_ends (due net (live_bounds (log_of net)) run')) (start (count net)) 0 (lines_of live)))
+        tells'
+    by_verdict (No load) tells' is = subst (λ (o : Outcome). RunTells cap net o) (sym (ap (λ (s : Said). s.outcome) is)) tells'
+    by_verdict IsFullVerdict tells' is = subst (λ (o : Outcome). RunTells cap net o) (sym (ap (λ (s : Said). s.outcome) is)) tells'
+
+run_right : (asked : Asked) (cap : ℕ) (contents : List (List ℕ)) (o : Outcome) → HasNetwork (get_or contents 0 []) asked.deadline (λ names net. RunTells cap net o) → IsRight o (run asked cap) contents
+run_right asked cap contents Good has = has
+run_right asked cap contents Bad has = has
+run_right asked cap contents Full has = has
+run_right asked cap contents Words has = none_such (parts_of (document (get_or contents 0 []) asked.deadline)) has
+run_right asked cap contents Document has = tt
+run_right asked cap contents Unfinished has = tt
+run_right asked cap contents Script has = tt
+
+-- what the outcome of a save tells
+abbrev Saves : Outcome → Type 0
+Saves Good = Unit {0}
+Saves Bad = ⊥
+Saves Full = ⊥
+Saves Words = ⊥
+Saves Document = ⊥
+Saves Unfinished = ⊥
+Saves Script = ⊥
+
+save_right : (asked : Asked) (contents : List (List ℕ)) (o : Outcome) → HasNetwork (get_or contents 0 []) asked.deadline (λ names net. Saves o) → IsRight o (save asked) contents
+save_right asked contents Good has = has
+save_right asked contents Bad has = none_such (parts_of (document (get_or contents 0 []) asked.deadline)) has
+save_right asked contents Full has = none_such (parts_of (document (get_or contents 0 []) asked.deadline)) has
+save_right asked contents Words has = none_such (parts_of (document (get_or contents 0 []) asked.deadline)) has
+save_right asked contents Document has = tt
+save_right asked contents Unfinished has = tt
+save_right asked contents Script has = tt
+
+replay_right : (asked : Asked) (proof : List ℕ) (contents : List (List ℕ)) (o : Outcome) → HasNetwork (get_or contents 0 []) asked.deadline (λ names net. Replays (told_by names (get_or contents 1 [])) net o) → IsRight o (replay asked proof) contents
+replay_right asked proof contents Good has = has
+replay_right asked proof contents Bad has = has
+replay_right asked proof contents Full has = none_such (parts_of (document (get_or contents 0 []) asked.deadline)) has
+replay_right asked proof contents Words has = none_such (parts_of (document (get_or contents 0 []) asked.deadline)) has
+replay_right asked proof contents Document has = tt
+replay_right asked proof contents Unfinished has = tt
+replay_right asked proof contents Script has = tt
+
+-- the outcome of each output is right
+pub output_right : (request : Request) (contents : List (List ℕ)) (live : List ℕ) (said : Said) → IsOutput (plan_at request contents) live said → IsRight said.outcome request contents
+output_right (check asked cap) contents live said output =
+    on_network (checked cap) (get_or contents 0 []) asked.deadline live said (λ o names net. Verdicts cap net o) (λ o. IsRight o (check asked cap) contents) tt
+    (λ names net good is. check_tells cap names net live said good is) (check_right asked cap contents) output
+output_right (run asked cap) contents live said output =
+    on_network (carried_out cap) (get_or contents 0 []) asked.deadline live said (λ o names net. RunTells cap net o) (λ o. IsRight o (run asked cap) contents) tt
+    (λ names net good is. run_tells cap names net live said good is) (run_right asked cap contents) output
+output_right (save asked) contents live said output =
+    on_network saved (get_or contents 0 []) asked.deadline live said (λ o names net. Saves o) (λ o. IsRight o (save asked) contents) tt
+    (λ names net good is. subst Saves (sym (ap (λ (s : Said). s.outcome) is)) tt) (save_right asked contents) output
+output_right (replay asked proof) contents live said output =
+    on_network (replayed (get_or contents 1 [])) (get_or contents 0 []) asked.deadline live said (λ o names net. Replays (told_by names (get_or contents 1 [])) net o) (λ o. IsRight o (replay asked proof) contents) tt
+    (λ names net good is. replay_tells (get_or contents 1 []) names net live said good is) (replay_right asked proof contents) output
+
+-- a check whose log may be long enough decides the network
+decides : (cap : ℕ) (net : Network) (o : Outcome) → Verdicts cap net o → IsDecided cap net (status_of o)
+decides cap net Good yes' below = inl (refl, yes'.0)
+decides cap net Bad no' below = inr (refl, no'.0)
+decides cap net Full above below = absurd (omega (arith, above, below))
+decides cap net Words never below = absurd never
+decides cap net Document never below = absurd never
+decides cap net Unfinished never below = absurd never
+decides cap net Script never below = absurd never
+
+-- each output is complete
+pub output_complete : (request : Request) (contents : List (List ℕ)) (live : List ℕ) (said : Said) → IsOutput (plan_at request contents) live said → IsComplete (status_of said.outcome) request contents
+output_complete (check asked cap) contents live said output =
+    on_network (checked cap) (get_or contents 0 []) asked.deadline live said (λ o names net. Verdicts cap net o) (λ o. IsComplete (status_of o) (check asked cap) contents) (inl refl)
+    (λ names net good is. check_tells cap names net live said good is)
+    (λ o has. inr (network_then (get_or contents 0 []) asked.deadline (λ names net. Verdicts cap net o) (λ names net. IsDecided cap net (status_of o)) has (λ names net good told. decides cap net o told))) output
+output_complete (run asked cap) contents live said output = tt
+output_complete (save asked) contents live said output = tt
+output_complete (replay asked proof) contents live said output = tt
+
+-- a session is held over a document only for its network
+document_talks : (answer : Answer) (bytes : List ℕ) (deadline : Option ℕ) → MayTalk (on_document answer bytes deadline) → HasNetwork bytes deadline (λ names net. MayTalk (answer names net))
+document_talks answer bytes deadline may = by_length (nat_lt 8388608 (length bytes)) may
+  where
+    by_parts : (told : Result Parts DocumentRefusal) → MayTalk (judged answer told) → IsSomeAnd (parts_of told) (λ parts. IsWellFormed (network_of parts) × MayTalk (answer parts.names (network_of parts)))
+    by_parts (Err refusal) is = is
+    by_parts (Ok parts) is = is
+
+    by_length : (long : Bool) → MayTalk (if long then says (say Document (codes "document long")) else judged answer (document bytes deadline)) → HasNetwork bytes deadline (λ names net. MayTalk (answer names net))
+    by_length true is = absurd is
+    by_length false is = by_parts (document bytes deadline) is
+
+-- a network of which no session is held
+never_talks : (answer : Answer) (bytes : List ℕ) (deadline : Option ℕ) → ((names : List (List ℕ)) (net : Network) → MayTalk (answer names net) → ⊥) → MayTalk (on_document answer bytes deadline) → ⊥
+never_talks answer bytes deadline never may =
+    none_such (parts_of (document bytes deadline))
+    (network_then bytes deadline (λ names net. MayTalk (answer names net)) (λ names net. ⊥) (document_talks answer bytes deadline may) (λ names net good is. never names net is))
+
+check_silent : (cap : ℕ) (names : List (List ℕ)) (net : Network) → MayTalk (checked cap names net) → ⊥
+check_silent cap names net may = by_verdict (verdict cap net) may
+  where
+    by_verdict : (v : Verdict) → MayTalk (on_verdict cap names net (says (record { outcome = Good; text = yes_line (load_of net) })) v) → ⊥
+    by_verdict (Yes load) is = is
+    by_verdict (No load) is = is
+    by_verdict IsFullVerdict is = is
+
+replay_silent : (text : List ℕ) (names : List (List ℕ)) (net : Network) → MayTalk (replayed text names net) → ⊥
+replay_silent text names net may = by_length (nat_lt 1476395008 (length text)) may
+  where
+    by_text : (told : ToldText) → MayTalk (replayed_text told net) → ⊥
+    by_text (tells load steps) is = is
+    by_text (wrong_text at) is = is
+
+    by_length : (long : Bool) → MayTalk (if long then says (say Script (codes "script long")) else replayed_text (told_by names text) net) → ⊥
+    by_length true is = is
+    by_length false is = by_text (told_by names text) is
+
+run_talks : (cap : ℕ) (names : List (List ℕ)) (net : Network) → IsWellFormed net → MayTalk (carried_out cap names net) → IsYes cap net
+run_talks cap names net good may = by_verdict (verdict cap net) (verdict_tells cap net good) may
+  where
+    by_verdict : (v : Verdict) → Tells cap net v → MayTalk (on_verdict cap names net (session (run_turn (map printed_name names) net (live_bounds (log_of net))) (run_ending net (live_bounds (log_of net))) (yes_line (load_of net)) (start (count net))) v) → IsYes cap net
+    by_verdict (Yes load) tells' is = tells'
+    by_verdict (No load) tells' is = absurd is
+    by_verdict IsFullVerdict tells' is = absurd is
+
+-- a session is held only by a request that reads the live source
+pub talks_live : (request : Request) (contents : List (List ℕ)) → MayTalk (plan_at request contents) → ReadsLive request contents
+talks_live (check asked cap) contents may = never_talks (checked cap) (get_or contents 0 []) asked.deadline (check_silent cap) may
+talks_live (run asked cap) contents may =
+    network_then (get_or contents 0 []) asked.deadline (λ names net. MayTalk (carried_out cap names net)) (λ names net. IsYes cap net)
+    (document_talks (carried_out cap) (get_or contents 0 []) asked.deadline may) (λ names net good is. run_talks cap names net good is)
+talks_live (save asked) contents may = never_talks saved (get_or contents 0 []) asked.deadline (λ names net is. is) may
+talks_live (replay asked proof) contents may = never_talks (replayed (get_or contents 1 [])) (get_or contents 0 []) asked.deadline (replay_silent (get_or contents 1 [])) may

@@ -1,0 +1,107 @@
+-- What the status of a request tells.
+use Rattle.std.specs.Prelude.{◌≡◌, ◌≤◌, ◌<◌, ◌⊎◌, ℕ, List, [], take, get_or, Option, None, Some, IsSomeAnd, Result, Ok, Err}
+use Rattle.cstn_net.specs.Networks.{Network, IsWellFormed}
+use Rattle.cstn_net.specs.Strategies.{IsConsistent}
+use Rattle.cstn_graphml.specs.Results.{Refusal}
+use Rattle.cstn_graphml.specs.Document.{Parts, document}
+use Rattle.cstn_graphml.specs.Networks.{network_of}
+use Rattle.cstn_rules.specs.Derivations.{IsRefutation}
+use Rattle.cstn_check.specs.Growth.{load_of}
+use Rattle.cstn_refute.specs.Texts.{Told, tells, wrong, told as told_by}
+use Rattle.cstn_top.specs.Requests.{Request, check, run, save, replay, files_of}
+use Rattle.cstn_top.specs.Files.{AreContents}
+use Rattle.cstn_top.specs.declared.status.Status.{Status}
+use Rattle.cstn_top.specs.declared.status.Status.TheVariants.{Good, Bad, Words, Document, Full, ReadFault, WriteFault, Memory, Unfinished, Script}
+
+-- the words are a request, and it holds of the request and the contents of its files
+abbrev pub HoldsOf : Option Request → Option (List ℕ → Option (List ℕ)) → (Request → List (List ℕ) → Type 0) → Type 0
+HoldsOf None told holds = ⊥
+HoldsOf (Some request) told holds = (contents : List (List ℕ)) × AreContents told (files_of request) contents × holds request contents
+
+-- the parts of a document, where it isn't refused by the grammar
+abbrev pub parts_of : Result Parts Refusal → Option Parts
+parts_of (Ok parts) = Some parts
+parts_of (Err refusal) = None
+
+-- the document of the bytes has a network, of which this holds under the names of its time-points
+abbrev pub HasNetwork : List ℕ → Option ℕ → (List (List ℕ) → Network → Type 0) → Type 0
+HasNetwork bytes deadline holds = IsSomeAnd (parts_of (document bytes deadline)) (λ parts. IsWellFormed (network_of parts) × holds parts.names (network_of parts))
+
+-- the network has a strategy, and no more than so many entries in its log
+abbrev pub IsYes : ℕ → Network → Type 0
+IsYes cap net = IsConsistent net × (load_of net ≤ cap)
+
+-- it has none
+abbrev pub IsNo : ℕ → Network → Type 0
+IsNo cap net = (IsConsistent net → ⊥) × (load_of net ≤ cap)
+
+-- the text is a refutation's, and its steps are none of the network
+abbrev pub IsNoRefutation : Told → Network → Type 0
+IsNoRefutation (tells load steps) net = IsRefutation net steps → ⊥
+IsNoRefutation (wrong at) net = ⊥
+
+-- what the status Good tells of a request: its document has a network, one that was checked is consistent, and one of which a
+-- refutation was replayed isn't
+abbrev pub IsGood : Request → List (List ℕ) → Type 0
+IsGood (check asked cap) contents = HasNetwork (get_or contents 0 []) asked.deadline (λ names net. IsYes cap net)
+IsGood (run asked cap) contents = HasNetwork (get_or contents 0 []) asked.deadline (λ names net. IsYes cap net)
+IsGood (save asked) contents = HasNetwork (get_or contents 0 []) asked.deadline (λ names net. Unit {0})
+IsGood (replay asked proof) contents = HasNetwork (get_or contents 0 []) asked.deadline (λ names net. IsConsistent net → ⊥)
+
+-- what the status Bad tells of it: its document has a network that isn't consistent, or of which the text is no refutation
+abbrev pub IsBad : Request → List (List ℕ) → Type 0
+IsBad (check asked cap) contents = HasNetwork (get_or contents 0 []) asked.deadline (λ names net. IsNo cap net)
+IsBad (run asked cap) contents = HasNetwork (get_or contents 0 []) asked.deadline (λ names net. IsNo cap net)
+IsBad (save asked) contents = ⊥
+IsBad (replay asked proof) contents =
+    HasNetwork (get_or contents 0 []) asked.deadline (λ names net. IsNoRefutation (told_by names (get_or contents 1 [])) net)
+
+-- what the status Full tells of it: the log of its network has more entries than it may
+abbrev pub IsFull : Request → List (List ℕ) → Type 0
+IsFull (check asked cap) contents = HasNetwork (get_or contents 0 []) asked.deadline (λ names net. cap < load_of net)
+IsFull (run asked cap) contents = HasNetwork (get_or contents 0 []) asked.deadline (λ names net. cap < load_of net)
+IsFull (save asked) contents = ⊥
+IsFull (replay asked proof) contents = ⊥
+
+-- a network whose log has no more entries than it may is decided: Good where it is consistent, and Bad where it isn't
+abbrev pub IsDecided : ℕ → Network → Status → Type 0
+IsDecided cap net status = load_of net ≤ cap → ((status ≡ Good) × IsConsistent net) ⊎ ((status ≡ Bad) × (IsConsistent net → ⊥))
+
+-- a check is complete: the network of a document is decided, or the document is refused
+abbrev pub IsComplete : Status → Request → List (List ℕ) → Type 0
+IsComplete status (check asked cap) contents =
+    (status ≡ Document) ⊎ HasNetwork (get_or contents 0 []) asked.deadline (λ names net. IsDecided cap net status)
+IsComplete status (run asked cap) contents = Unit {0}
+IsComplete status (save asked) contents = Unit {0}
+IsComplete status (replay asked proof) contents = Unit {0}
+
+-- a call was stopped by a fault or by want of memory
+abbrev pub IsStopped : Status → Type 0
+IsStopped status = (status ≡ ReadFault) ⊎ ((status ≡ WriteFault) ⊎ (status ≡ Memory))
+
+-- the files that were read where a call has this status, of those that the words name
+abbrev pub files_read : Status → List (List ℕ) → List (List ℕ)
+files_read Good names = names
+files_read Bad names = names
+files_read Words names = []
+files_read Document names = take 1 names
+files_read Full names = names
+files_read ReadFault names = []
+files_read WriteFault names = []
+files_read Memory names = []
+files_read Unfinished names = names
+files_read Script names = names
+
+-- the request reads the live source: a run of a network that has a strategy
+abbrev pub ReadsLive : Request → List (List ℕ) → Type 0
+ReadsLive (check asked cap) contents = ⊥
+ReadsLive (run asked cap) contents = HasNetwork (get_or contents 0 []) asked.deadline (λ names net. IsYes cap net)
+ReadsLive (save asked) contents = ⊥
+ReadsLive (replay asked proof) contents = ⊥
+
+-- an answer to a line may want memory, after something was written
+abbrev pub MayStop : Request → List (List ℕ) → Type 0
+MayStop (check asked cap) contents = ⊥
+MayStop (run asked cap) contents = ⊥
+MayStop (save asked) contents = ⊥
+MayStop (replay asked proof) contents = ⊥

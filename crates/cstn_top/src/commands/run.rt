@@ -1,0 +1,91 @@
+// `run FILE [--deadline N] [--cap CAP]`
+ghost use Rattle.std.specs.Prelude.{ℕ, ◌≡◌, ◌≤◌, length, IfOk, IsTrue, IsErrOf, Some};
+ghost use Rattle.cstn_io.specs.Causes.{Rose};
+ghost use Rattle.cstn_net.specs.Networks.{IsWellFormed, count};
+ghost use Rattle.cstn_net.specs.Read.{the_network};
+ghost use Rattle.cstn_check.specs.Growth.{load_of};
+ghost use Rattle.cstn_check.specs.declared.verdicts.Verdict.TheVariants.{Yes};
+ghost use Rattle.cstn_top.specs.Requests.{run};
+ghost use Rattle.cstn_top.specs.Plans.{ComesTo};
+ghost use Rattle.cstn_top.specs.Prepared.{the_plan, Planned, OpensWell};
+ghost use Rattle.cstn_top.specs.Read.{the_asked};
+ghost use Rattle.cstn_top.specs.Outputs.{carried_out, verdict, yes_line};
+
+use super::documents::{Opened, open};
+use super::verdicts::{Decided, decide};
+use super::{Prepared, Refused};
+use crate::running::Running;
+use crate::words::Asked;
+use cstn_check::Check;
+use cstn_exec::Executive;
+use cstn_io::Shelf;
+use cstn_net::Network;
+use cstn_text::Names;
+use std::alloc::Global;
+
+/// The verdict on the network of a file, and after yes the run of its plan.
+pub(crate) fn run_file<F: Shelf>(
+    alloc: Global,
+    asked: Asked<'_>,
+    cap: u32,
+    shelf: &mut F,
+) -> Result<Prepared, Refused>
+    requires may_ask { IsTrue (F.may_ask shelf.old asked.file.now) }
+    requires some { 1 ≤ cap }
+    requires most { cap ≤ 4194304 }
+    ensures plan { IfOk result (λ prepared. Planned (run (the_asked asked.entry) cap) (F.files shelf.old) (the_plan prepared)) }
+    ensures opening { IfOk result OpensWell }
+    ensures fault { IsErrOf result Refused.ReadFault → Rose (F.faults shelf.old) (F.faults shelf.new) }
+{
+    match open(alloc, asked, shelf) {
+        Ok(Opened::Accepted { network, names }) => prepare(alloc, network, &names, cap),
+        Ok(Opened::Told(said)) => Ok(Prepared::Says(said)),
+        Err(refused) => Err(refused),
+    }
+}
+
+// What is said of a network.
+fn prepare(alloc: Global, network: Network, names: &Names, cap: u32) -> Result<Prepared, Refused>
+    requires some { 1 ≤ cap }
+    requires most { cap ≤ 4194304 }
+    requires well_formed { IsWellFormed (the_network network) }
+    requires named { length names.now ≡ count (the_network network) }
+    ensures comes { IfOk result (λ prepared. ComesTo (carried_out cap names.now (the_network network)) (the_plan prepared)) }
+    ensures opening { IfOk result OpensWell }
+    ensures fault { IsErrOf result Refused.ReadFault → ⊥ }
+{
+    match decide(alloc, network, names, cap) {
+        Ok(Decided::Yes { line, check }) => begin(alloc, line, check, names, cap),
+        Ok(Decided::Told(said)) => Ok(Prepared::Says(said)),
+        Err(refused) => Err(refused),
+    }
+}
+
+// The run of the plan that a yes leaves. All memory for the answers is taken here.
+fn begin(
+    alloc: Global,
+    line: Vec<u8>,
+    check: Check,
+    names: &Names,
+    cap: u32,
+) -> Result<Prepared, Refused>
+    requires yes { (load : ℕ) × (check.verdict ≡ Some (Yes load)) }
+    requires verdict { verdict cap (the_network check.net) ≡ Yes (load_of (the_network check.net)) }
+    requires line { line.items ≡ yes_line (load_of (the_network check.net)) }
+    requires named { length names.now ≡ count (the_network check.net) }
+    requires few { length names.now ≤ 1024 }
+    ensures comes { IfOk result (λ prepared. ComesTo (carried_out cap names.now (the_network check.net)) (the_plan prepared)) }
+    ensures opening { IfOk result OpensWell }
+    ensures fault { IsErrOf result Refused.ReadFault → ⊥ }
+{
+    let Ok(executive) = Executive::start(alloc, check.into_plan()) else {
+        return Err(Refused::Memory);
+    };
+    let Ok(running) = Running::start(alloc, executive, names) else {
+        return Err(Refused::Memory);
+    };
+    Ok(Prepared::Runs {
+        opening: line,
+        running,
+    })
+}
