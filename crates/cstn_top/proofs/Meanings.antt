@@ -19,7 +19,7 @@ use Rattle.cstn_check.specs.declared.verdicts.Verdict.{Verdict}
 use Rattle.cstn_check.specs.declared.verdicts.Verdict.TheVariants.{Yes, No, Full as IsFullVerdict}
 use Rattle.cstn_refute.specs.Texts.{Told as ToldText, tells, wrong as wrong_text, told as told_by}
 use Rattle.cstn_replay.specs.Wrong.{IsFirstWrong, EndsInVain}
-use Rattle.cstn_top.specs.Requests.{Asked, Request, check, run, save, replay}
+use Rattle.cstn_top.specs.Requests.{Asked, Request, check, run, save, replay, drill}
 use Rattle.cstn_top.specs.Texts.{line}
 use Rattle.cstn_top.specs.Plans.{Said, say, after_text, Plan, says, IsOutput, MayTalk}
 use Rattle.cstn_top.specs.Sessions.{Turn, more, last, wrong, on_turn, script, play, session}
@@ -30,6 +30,7 @@ use Rattle.cstn_top.specs.Statuses.{status_of}
 use Rattle.cstn_top.specs.declared.output.Outcome.{Outcome}
 use Rattle.cstn_top.specs.declared.output.Outcome.TheVariants.{Good, Bad, Words, Document, Full, Unfinished, Script}
 use Rattle.cstn_top.proofs.Verdicts.{Tells, verdict_tells}
+use Rattle.cstn_top.proofs.Drills.{counts_right}
 
 -- what is said of a document: it is refused, or this is said of its network
 pub document_says : (answer : Answer) (bytes : List ℕ) (deadline : Option ℕ) (live : List ℕ) (said : Said) → IsOutput (on_document answer bytes deadline) live said → (said.outcome ≡ Document) ⊎ HasNetwork bytes deadline (λ names net. IsOutput (answer names net) live said)
@@ -264,6 +265,8 @@ output_right (save asked) contents live said output =
 output_right (replay asked proof) contents live said output =
     on_network (replayed (get_or contents 1 [])) (get_or contents 0 []) asked.deadline live said (λ o names net. Replays (told_by names (get_or contents 1 [])) net o) (λ o. IsRight o (replay asked proof) contents) tt
     (λ names net good is. replay_tells (get_or contents 1 []) names net live said good is) (replay_right asked proof contents) output
+output_right (drill number) contents live said output =
+    subst (λ (o : Outcome). IsRight o (drill number) contents) (sym (ap (λ (s : Said). s.outcome) output)) (counts_right number 64)
 
 -- a check whose log may be long enough decides the network
 decides : (cap : ℕ) (net : Network) (o : Outcome) → Verdicts cap net o → IsDecided cap net (status_of o)
@@ -284,6 +287,7 @@ output_complete (check asked cap) contents live said output =
 output_complete (run asked cap) contents live said output = tt
 output_complete (save asked) contents live said output = tt
 output_complete (replay asked proof) contents live said output = tt
+output_complete (drill number) contents live said output = ap (λ (s : Said). status_of s.outcome) output
 
 -- a session is held over a document only for its network
 document_talks : (answer : Answer) (bytes : List ℕ) (deadline : Option ℕ) → MayTalk (on_document answer bytes deadline) → HasNetwork bytes deadline (λ names net. MayTalk (answer names net))
@@ -338,3 +342,4 @@ talks_live (run asked cap) contents may =
     (document_talks (carried_out cap) (get_or contents 0 []) asked.deadline may) (λ names net good is. run_talks cap names net good is)
 talks_live (save asked) contents may = never_talks saved (get_or contents 0 []) asked.deadline (λ names net is. is) may
 talks_live (replay asked proof) contents may = never_talks (replayed (get_or contents 1 [])) (get_or contents 0 []) asked.deadline (replay_silent (get_or contents 1 [])) may
+talks_live (drill number) contents may = may

@@ -8,8 +8,9 @@ use Rattle.cstn_graphml.specs.Networks.{network_of}
 use Rattle.cstn_rules.specs.Derivations.{IsRefutation}
 use Rattle.cstn_check.specs.Growth.{load_of}
 use Rattle.cstn_refute.specs.Texts.{Told, tells, wrong, told as told_by}
-use Rattle.cstn_top.specs.Requests.{Request, check, run, save, replay, files_of}
+use Rattle.cstn_top.specs.Requests.{Request, check, run, save, replay, drill, files_of}
 use Rattle.cstn_top.specs.Files.{AreContents}
+use Rattle.cstn_top.specs.Drills.{unrefuted, AreConsistent}
 use Rattle.cstn_top.specs.declared.status.Status.{Status}
 use Rattle.cstn_top.specs.declared.status.Status.TheVariants.{Good, Bad, Words, Document, Full, ReadFault, WriteFault, Memory, Unfinished, Script}
 
@@ -41,12 +42,13 @@ IsNoRefutation (tells load steps) net = IsRefutation net steps → ⊥
 IsNoRefutation (wrong at) net = ⊥
 
 -- what the status Good tells of a request: its document has a network, one that was checked is consistent, and one of which a
--- refutation was replayed isn't
+-- refutation was replayed isn't; of a drill, that as many small networks are consistent as are counted
 abbrev pub IsGood : Request → List (List ℕ) → Type 0
 IsGood (check asked cap) contents = HasNetwork (get_or contents 0 []) asked.deadline (λ names net. IsYes cap net)
 IsGood (run asked cap) contents = HasNetwork (get_or contents 0 []) asked.deadline (λ names net. IsYes cap net)
 IsGood (save asked) contents = HasNetwork (get_or contents 0 []) asked.deadline (λ names net. Unit {0})
 IsGood (replay asked proof) contents = HasNetwork (get_or contents 0 []) asked.deadline (λ names net. IsConsistent net → ⊥)
+IsGood (drill number) contents = AreConsistent number 64 (unrefuted number 64)
 
 -- what the status Bad tells of it: its document has a network that isn't consistent, or of which the text is no refutation
 abbrev pub IsBad : Request → List (List ℕ) → Type 0
@@ -55,6 +57,7 @@ IsBad (run asked cap) contents = HasNetwork (get_or contents 0 []) asked.deadlin
 IsBad (save asked) contents = ⊥
 IsBad (replay asked proof) contents =
     HasNetwork (get_or contents 0 []) asked.deadline (λ names net. IsNoRefutation (told_by names (get_or contents 1 [])) net)
+IsBad (drill number) contents = ⊥
 
 -- what the status Full tells of it: the log of its network has more entries than it may
 abbrev pub IsFull : Request → List (List ℕ) → Type 0
@@ -62,18 +65,20 @@ IsFull (check asked cap) contents = HasNetwork (get_or contents 0 []) asked.dead
 IsFull (run asked cap) contents = HasNetwork (get_or contents 0 []) asked.deadline (λ names net. cap < load_of net)
 IsFull (save asked) contents = ⊥
 IsFull (replay asked proof) contents = ⊥
+IsFull (drill number) contents = ⊥
 
 -- a network whose log has no more entries than it may is decided: Good where it is consistent, and Bad where it isn't
 abbrev pub IsDecided : ℕ → Network → Status → Type 0
 IsDecided cap net status = load_of net ≤ cap → ((status ≡ Good) × IsConsistent net) ⊎ ((status ≡ Bad) × (IsConsistent net → ⊥))
 
--- a check is complete: the network of a document is decided, or the document is refused
+-- a check is complete: the network of a document is decided, or the document is refused; a drill is Good
 abbrev pub IsComplete : Status → Request → List (List ℕ) → Type 0
 IsComplete status (check asked cap) contents =
     (status ≡ Document) ⊎ HasNetwork (get_or contents 0 []) asked.deadline (λ names net. IsDecided cap net status)
 IsComplete status (run asked cap) contents = Unit {0}
 IsComplete status (save asked) contents = Unit {0}
 IsComplete status (replay asked proof) contents = Unit {0}
+IsComplete status (drill number) contents = status ≡ Good
 
 -- a call was stopped by a fault or by want of memory
 abbrev pub IsStopped : Status → Type 0
@@ -98,6 +103,7 @@ ReadsLive (check asked cap) contents = ⊥
 ReadsLive (run asked cap) contents = HasNetwork (get_or contents 0 []) asked.deadline (λ names net. IsYes cap net)
 ReadsLive (save asked) contents = ⊥
 ReadsLive (replay asked proof) contents = ⊥
+ReadsLive (drill number) contents = ⊥
 
 -- an answer to a line may want memory, after something was written
 abbrev pub MayStop : Request → List (List ℕ) → Type 0
@@ -105,3 +111,4 @@ MayStop (check asked cap) contents = ⊥
 MayStop (run asked cap) contents = ⊥
 MayStop (save asked) contents = ⊥
 MayStop (replay asked proof) contents = ⊥
+MayStop (drill number) contents = ⊥

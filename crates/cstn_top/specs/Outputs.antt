@@ -15,10 +15,11 @@ use Rattle.cstn_refute.specs.Texts.{Told, tells, wrong, shown, told as told_by}
 use Rattle.cstn_exec.specs.Runs.{start}
 use Rattle.cstn_text.specs.PrintedNames.{printed_name}
 use Rattle.cstn_top.specs.Texts.{line}
-use Rattle.cstn_top.specs.Requests.{Request, check, run, save, replay}
+use Rattle.cstn_top.specs.Requests.{Request, check, run, save, replay, drill}
 use Rattle.cstn_top.specs.Refusals.{refusal_text}
-use Rattle.cstn_top.specs.Plans.{say, Plan, says, replays, judges}
+use Rattle.cstn_top.specs.Plans.{Said, say, Plan, says, replays, judges}
 use Rattle.cstn_top.specs.Sessions.{session}
+use Rattle.cstn_top.specs.Drills.{large, counts_of, small_line, large_line}
 use Rattle.cstn_top.specs.Running.{run_turn, run_ending}
 use Rattle.cstn_top.specs.declared.output.Outcome.TheVariants.{Good, Bad, Words, Document, Full, Script}
 
@@ -85,12 +86,18 @@ abbrev pub replayed : List ℕ → Answer
 replayed text names net =
     if nat_lt 1476395008 (length text) then says (say Script (codes "script long")) else replayed_text (told_by names text) net
 
+-- what the drill of a number says: the counts of 64 small networks, and the verdict on the large one
+abbrev pub drilled : ℕ → Said
+drilled number =
+    record { outcome = Good; text = small_line (counts_of number 64) ++ large_line (verdict 16384 (large number)) }
+
 -- the plan of a request whose files have these contents
 abbrev pub plan_at : Request → List (List ℕ) → Plan
 plan_at (check asked cap) contents = on_document (checked cap) (get_or contents 0 []) asked.deadline
 plan_at (run asked cap) contents = on_document (carried_out cap) (get_or contents 0 []) asked.deadline
 plan_at (save asked) contents = on_document saved (get_or contents 0 []) asked.deadline
 plan_at (replay asked proof) contents = on_document (replayed (get_or contents 1 [])) (get_or contents 0 []) asked.deadline
+plan_at (drill number) contents = says (drilled number)
 
 -- the plan of words
 abbrev pub plan_of : Option Request → List (List ℕ) → Plan

@@ -1,12 +1,12 @@
 -- How values of the program are read.
 use Rattle.std.specs.Prelude.{ℕ, ◌≤◌, map, string_bytes}
 use Rattle.cstn_top.specs.Plans.{Said}
-use Rattle.cstn_top.specs.Requests.{Asked, Taken, Request, check, run, save, replay}
+use Rattle.cstn_top.specs.Requests.{Asked, Taken, Request, check, run, save, replay, drill}
 use Rattle.cstn_top.specs.declared.output.Said.{Said as SaidText}
 use Rattle.cstn_top.specs.declared.words.Asked.{Asked as AskedWords}
 use Rattle.cstn_top.specs.declared.words.Taken.{Taken as TakenWords}
 use Rattle.cstn_top.specs.declared.words.Request.{Request as RequestWords}
-use Rattle.cstn_top.specs.declared.words.Request.TheVariants.{Check, Run, Save, Replay}
+use Rattle.cstn_top.specs.declared.words.Request.TheVariants.{Check, Run, Save, Replay, Drill}
 
 -- what is said
 abbrev pub the_said : SaidText → Said
@@ -29,6 +29,7 @@ the_request (Check asked cap) = check (the_asked asked) cap
 the_request (Run asked cap) = run (the_asked asked) cap
 the_request (Save asked) = save (the_asked asked)
 the_request (Replay asked proof) = replay (the_asked asked) proof.now
+the_request (Drill number) = drill number
 
 -- the log may have from 1 to 4,194,304 entries
 abbrev pub IsCapped : RequestWords → Type 0
@@ -36,3 +37,4 @@ IsCapped (Check asked cap) = (1 ≤ cap) × (cap ≤ 4194304)
 IsCapped (Run asked cap) = (1 ≤ cap) × (cap ≤ 4194304)
 IsCapped (Save asked) = Unit {0}
 IsCapped (Replay asked proof) = Unit {0}
+IsCapped (Drill number) = Unit {0}

@@ -9,12 +9,14 @@ pub record Asked : Type 0 where
   pub file : List ℕ
   pub deadline : Option ℕ
 
--- A request: the file of a document with the deadline that is to hold, and what its command asks for beside.
+-- A request: the file of a document with the deadline that is to hold, and what its command asks for beside; or the number of a
+-- drill.
 pub data Request : Type 0 where
   check : Asked → ℕ → Request
   run : Asked → ℕ → Request
   save : Asked → Request
   replay : Asked → List ℕ → Request
+  drill : ℕ → Request
 
 -- a number from least to most
 abbrev pub number_within : ℕ → ℕ → List ℕ → Option ℕ
@@ -73,13 +75,19 @@ replay_of (file ∷ proof ∷ rest) =
     option_map (λ deadline. replay (record { file = file; deadline = deadline }) proof) (deadline_of rest)
 replay_of words = None
 
+-- a number below 2 ^ 64
+abbrev pub drill_of : List (List ℕ) → Option Request
+drill_of (number ∷ []) = option_map drill (number_read number)
+drill_of words = None
+
 -- the request of a command with these words after it
 abbrev pub request_at : List ℕ → List (List ℕ) → Option Request
 request_at command rest =
     if is_same command (codes "check") then option_map (λ found. check found.0 found.1) (capped_of rest)
     else if is_same command (codes "run") then option_map (λ found. run found.0 found.1) (capped_of rest)
     else if is_same command (codes "save") then option_map save (asked_of rest)
-    else if is_same command (codes "replay") then replay_of rest else None
+    else if is_same command (codes "replay") then replay_of rest
+    else if is_same command (codes "drill") then drill_of rest else None
 
 -- the request that the words are, if they are one
 abbrev pub request_of : List (List ℕ) → Option Request
@@ -92,6 +100,7 @@ files_of (check asked cap) = asked.file ∷ []
 files_of (run asked cap) = asked.file ∷ []
 files_of (save asked) = asked.file ∷ []
 files_of (replay asked proof) = asked.file ∷ proof ∷ []
+files_of (drill number) = []
 
 -- the files that words name
 abbrev pub names_of : Option Request → List (List ℕ)

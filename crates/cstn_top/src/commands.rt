@@ -1,5 +1,5 @@
 // What is prepared for each request, before anything is written.
-ghost use Rattle.std.specs.Prelude.{◌≡◌, IfOk, IfSome, IsTrue, IsErrOf};
+ghost use Rattle.std.specs.Prelude.{◌≡◌, [], IfOk, IfSome, IsTrue, IsErrOf};
 ghost use Rattle.std.specs.List.{list_all};
 ghost use Rattle.cstn_io.specs.Causes.{Rose};
 ghost use Rattle.cstn_top.specs.Requests.{files_of};
@@ -8,6 +8,7 @@ ghost use Rattle.cstn_top.specs.Prepared.{the_plan, Planned, OpensWell};
 
 mod check;
 mod documents;
+mod drill;
 mod refusals;
 mod replay;
 mod run;
@@ -19,6 +20,7 @@ use crate::running::Running;
 use crate::words::Request;
 use check::check_file;
 use cstn_io::Shelf;
+use drill::drill;
 use replay::replay_file;
 use run::run_file;
 use save::save_file;
@@ -50,6 +52,7 @@ pub(crate) fn prepare<F: Shelf>(
     requires capped { IsCapped request }
     ensures plan { IfOk result (λ prepared. Planned (the_request request.entry) (F.files shelf.old) (the_plan prepared)) }
     ensures opening { IfOk result OpensWell }
+    ensures unnamed_stand { files_of (the_request request.entry) ≡ [] → shelf.new ≡ shelf.old }
     ensures fault { IsErrOf result Refused.ReadFault → Rose (F.faults shelf.old) (F.faults shelf.new) }
 {
     match request {
@@ -64,6 +67,10 @@ pub(crate) fn prepare<F: Shelf>(
         }
         Request::Replay { asked, proof } => {
             let said = replay_file(alloc, asked, proof, shelf)?;
+            Ok(Prepared::Says(said))
+        }
+        Request::Drill(number) => {
+            let said = drill(alloc, number)?;
             Ok(Prepared::Says(said))
         }
     }

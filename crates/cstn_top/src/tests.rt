@@ -1,4 +1,5 @@
 mod documents;
+mod drills;
 
 use crate::{Status, run};
 use cstn_io::{MemoryFile, MemoryShelf, MemorySink, MemorySource};

@@ -1,5 +1,5 @@
 // The top call.
-ghost use Rattle.std.specs.Prelude.{◌≡◌, ◌≢◌, ◌⊎◌, ℕ, List, map, string_bytes, IsTrue, IsNone, length, codes};
+ghost use Rattle.std.specs.Prelude.{◌≡◌, ◌≢◌, ◌⊎◌, ℕ, List, [], map, string_bytes, IsTrue, IsNone, length, codes};
 ghost use Rattle.std.specs.Option.{option_map};
 ghost use Rattle.std.specs.List.{list_all};
 ghost use Rattle.cstn_io.specs.Causes.{Rose};
@@ -48,6 +48,7 @@ pub fn run<F: Shelf, S: Source, K: Sink>(
     ensures words { IsNone (request_of (map string_bytes words.now)) → (result ≡ Status.Words) ⊎ (result ≡ Status.WriteFault) }
     ensures words_only { result ≡ Status.Words → IsNone (request_of (map string_bytes words.now)) }
     ensures words_stand { IsNone (request_of (map string_bytes words.now)) → shelf.new ≡ shelf.old }
+    ensures drill_stands { names_of (request_of (map string_bytes words.now)) ≡ [] → shelf.new ≡ shelf.old }
 {
     let Some(request) = parse(words) else {
         return finish(out, b"words\n", Status::Words);

@@ -1,7 +1,7 @@
 // The words of a request.
 ghost use Rattle.std.specs.Prelude.{◌≡◌, ◌≤◌, IfSome, map, string_bytes};
 ghost use Rattle.std.specs.Option.{option_map};
-ghost use Rattle.cstn_top.specs.Requests.{number_within, value_at, option_at, deadline_at, cap_at, deadline_of, cap_of, asked_of, capped_of, replay_of, request_of};
+ghost use Rattle.cstn_top.specs.Requests.{number_within, value_at, option_at, deadline_at, cap_at, deadline_of, cap_of, asked_of, capped_of, replay_of, drill_of, request_of};
 ghost use Rattle.cstn_top.specs.Read.{the_asked, the_capped, the_taken, the_request, IsCapped};
 
 use cstn_text::read_number;
@@ -20,6 +20,7 @@ pub(crate) enum Request<'a> {
     Run { asked: Asked<'a>, cap: u32 },
     Save(Asked<'a>),
     Replay { asked: Asked<'a>, proof: &'a str },
+    Drill(u64),
 }
 
 // The number of an option, if it is there, and the words after it.
@@ -54,6 +55,7 @@ pub(crate) fn parse(words: &[String]) -> Option<Request<'_>>
         }
         "save" => Some(Request::Save(asked_of(rest)?)),
         "replay" => replay_of(rest),
+        "drill" => drill_of(rest),
         _ => None,
     }
 }
@@ -73,6 +75,16 @@ fn replay_of(words: &[String]) -> Option<Request<'_>>
         asked,
         proof: proof.as_str(),
     })
+}
+
+fn drill_of(words: &[String]) -> Option<Request<'_>>
+    ensures request { option_map the_request result ≡ drill_of (map string_bytes words.now) }
+    ensures capped { IfSome result IsCapped }
+{
+    let [number] = words else {
+        return None;
+    };
+    Some(Request::Drill(read_number(number.as_bytes())?))
 }
 
 fn asked_of(words: &[String]) -> Option<Asked<'_>>

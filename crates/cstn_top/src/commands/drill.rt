@@ -1,0 +1,184 @@
+// `drill NUMBER`
+ghost use Rattle.std.specs.Prelude.{◌≡◌, ◌≤◌, ◌<◌, ◌+◌, ◌-◌, ◌^◌, length, if◌then◌else◌, IfOk, IsErrOf};
+ghost use Rattle.cstn_net.specs.Networks.{IsWellFormed};
+ghost use Rattle.cstn_net.specs.Read.{the_network};
+ghost use Rattle.cstn_check.specs.Growth.{most_entries};
+ghost use Rattle.cstn_table.specs.Tables.{observed_props};
+ghost use Rattle.cstn_top.specs.Outputs.{verdict, drilled};
+ghost use Rattle.cstn_top.specs.Drills.{small, large, is_unrefuted, counts_of, small_line, large_line};
+ghost use Rattle.cstn_top.specs.Read.{the_said};
+
+use super::Refused;
+use crate::output::{Outcome, Said};
+use cstn_check::{Check, Verdict};
+use cstn_gen::network;
+use cstn_net::Network;
+use cstn_table::{TableError, decide};
+use std::alloc::Global;
+
+const SMALL_NETWORKS: u32 = 64;
+
+const SMALL_SIZE: u32 = 6;
+
+const SMALL_CAP: u32 = 65_536;
+
+const LARGE_SIZE: u32 = 48;
+
+const LARGE_CAP: u32 = 16_384;
+
+/// Of some networks how many are consistent and how many aren't, by their checks, and of how many the table says otherwise.
+#[derive(Clone, Copy)]
+pub(crate) struct Counts {
+    pub(crate) yes: u32,
+    pub(crate) no: u32,
+    pub(crate) differ: u32,
+}
+
+/// Checks the 64 small networks from a number on, which a table decides too, and the large network of the number.
+pub(crate) fn drill(alloc: Global, number: u64) -> Result<Said, Refused>
+    ensures said { IfOk result (λ said. the_said said ≡ drilled number) }
+    ensures fault { IsErrOf result Refused.ReadFault → ⊥ }
+{
+    let counts = small_counts(alloc, number, SMALL_NETWORKS)?;
+    let verdict = large_verdict(alloc, number)?;
+    let mut text = small_line(alloc, counts)?;
+    let line = large_line(alloc, verdict)?;
+    let Ok(()) = text.extend_from_slice(&line) else {
+        return Err(Refused::Memory);
+    };
+    Ok(Said {
+        outcome: Outcome::Good,
+        text,
+    })
+}
+
+// The counts of the first n small networks.
+fn small_counts(alloc: Global, number: u64, n: u32) -> Result<Counts, Refused>
+    ensures counts { IfOk result (λ counts. counts ≡ counts_of number n) }
+    ensures fault { IsErrOf result Refused.ReadFault → ⊥ }
+{
+    let mut counts = Counts {
+        yes: 0,
+        no: 0,
+        differ: 0,
+    };
+    for i in 0..n {
+        let net = small_network(alloc, number, i)?;
+        let by_table = is_decided(alloc, &net)?;
+        let by_check = is_checked(alloc, net)?;
+        counts = counted(counts, by_check, by_table);
+    }
+    Ok(counts)
+}
+
+// The counts with one more network.
+fn counted(counts: Counts, by_check: bool, by_table: bool) -> Counts
+    requires few { counts.yes + counts.no < 2 ^ 32 - 1 }
+    requires few_differ { counts.differ < 2 ^ 32 - 1 }
+    ensures yes { result.yes ≡ counts.yes + (if by_check then 1 else 0) }
+    ensures all { result.yes + result.no ≡ counts.yes + counts.no + 1 }
+    ensures agree { by_check ≡ by_table → result.differ ≡ counts.differ }
+    ensures differ { (by_check ≡ by_table → ⊥) → result.differ ≡ counts.differ + 1 }
+{
+    Counts {
+        yes: counts.yes + by_check as u32,
+        no: counts.no + !by_check as u32,
+        differ: counts.differ + (by_check != by_table) as u32,
+    }
+}
+
+// The i-th small network from a number on.
+fn small_network(alloc: Global, number: u64, i: u32) -> Result<Network, Refused>
+    ensures network { IfOk result (λ net. the_network net ≡ small number i) }
+    ensures well_formed { IfOk result (λ net. IsWellFormed (the_network net)) }
+    ensures few_props { IfOk result (λ net. length (observed_props (the_network net).observes) ≤ 8) }
+    ensures few_entries { IfOk result (λ net. most_entries (the_network net) ≤ SMALL_CAP) }
+    ensures fault { IsErrOf result Refused.ReadFault → ⊥ }
+{
+    let Ok((net, _)) = network(alloc, number.wrapping_add(i as u64), SMALL_SIZE) else {
+        return Err(Refused::Memory);
+    };
+    Ok(net)
+}
+
+// Whether the network is consistent, by the table.
+fn is_decided(alloc: Global, net: &Network) -> Result<bool, Refused>
+    requires well_formed { IsWellFormed (the_network net.now) }
+    requires few_props { length (observed_props (the_network net.now).observes) ≤ 8 }
+    ensures consistent { IfOk result (λ is. is ≡ is_unrefuted (the_network net.now)) }
+    ensures fault { IsErrOf result Refused.ReadFault → ⊥ }
+{
+    match decide(alloc, net) {
+        Ok(Some(_)) => Ok(true),
+        Ok(None) => Ok(false),
+        Err(TableError::TooManyProps) => unreachable!(),
+        Err(TableError::Memory(_)) => Err(Refused::Memory),
+    }
+}
+
+// Whether the network is consistent, by its check.
+fn is_checked(alloc: Global, net: Network) -> Result<bool, Refused>
+    requires well_formed { IsWellFormed (the_network net) }
+    requires few_entries { most_entries (the_network net) ≤ SMALL_CAP }
+    ensures consistent { IfOk result (λ is. is ≡ is_unrefuted (the_network net)) }
+    ensures fault { IsErrOf result Refused.ReadFault → ⊥ }
+{
+    let Ok(mut check) = Check::start(alloc, net, SMALL_CAP) else {
+        return Err(Refused::Memory);
+    };
+    match check.run() {
+        Verdict::Yes { .. } => Ok(true),
+        Verdict::No { .. } => Ok(false),
+        Verdict::Full => unreachable!(),
+    }
+}
+
+// The verdict on the large network of a number.
+fn large_verdict(alloc: Global, number: u64) -> Result<Verdict, Refused>
+    ensures verdict { IfOk result (λ v. v ≡ verdict LARGE_CAP (large number)) }
+    ensures fault { IsErrOf result Refused.ReadFault → ⊥ }
+{
+    let net = large_network(alloc, number)?;
+    let Ok(mut check) = Check::start(alloc, net, LARGE_CAP) else {
+        return Err(Refused::Memory);
+    };
+    Ok(check.run())
+}
+
+// The large network of a number.
+fn large_network(alloc: Global, number: u64) -> Result<Network, Refused>
+    ensures network { IfOk result (λ net. the_network net ≡ large number) }
+    ensures well_formed { IfOk result (λ net. IsWellFormed (the_network net)) }
+    ensures fault { IsErrOf result Refused.ReadFault → ⊥ }
+{
+    let Ok((net, _)) = network(alloc, number, LARGE_SIZE) else {
+        return Err(Refused::Memory);
+    };
+    Ok(net)
+}
+
+fn small_line(alloc: Global, counts: Counts) -> Result<Vec<u8>, Refused>
+    ensures line { IfOk result (λ line. line.items ≡ small_line counts) }
+    ensures fault { IsErrOf result Refused.ReadFault → ⊥ }
+{
+    let Counts { yes, no, differ } = counts;
+    let Ok(line) = format!(in alloc; "small 64 yes {yes} no {no} differ {differ}\n") else {
+        return Err(Refused::Memory);
+    };
+    Ok(line.into_bytes())
+}
+
+fn large_line(alloc: Global, verdict: Verdict) -> Result<Vec<u8>, Refused>
+    ensures line { IfOk result (λ line. line.items ≡ large_line verdict) }
+    ensures fault { IsErrOf result Refused.ReadFault → ⊥ }
+{
+    let line = match verdict {
+        Verdict::Yes { load } => format!(in alloc; "large 48 yes {load}\n"),
+        Verdict::No { load } => format!(in alloc; "large 48 no {load}\n"),
+        Verdict::Full => format!(in alloc; "large 48 full {LARGE_CAP}\n"),
+    };
+    let Ok(line) = line else {
+        return Err(Refused::Memory);
+    };
+    Ok(line.into_bytes())
+}
