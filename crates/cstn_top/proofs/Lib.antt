@@ -2,6 +2,7 @@ pub mod Written
 pub mod Contents
 pub mod Verdicts
 pub mod Drills
+pub mod Fits
 pub mod Meanings
 pub mod Opening
 pub mod Replays

@@ -25,25 +25,30 @@ use Rattle.cstn_top.specs.Plans.{Said, say, after_text, Plan, says, IsOutput, Ma
 use Rattle.cstn_top.specs.Sessions.{Turn, more, last, wrong, on_turn, script, play, session}
 use Rattle.cstn_top.specs.Running.{moment_line, executing, moment_turn, seen_turn, live_turn, run_turn, unfinished, run_ending}
 use Rattle.cstn_top.specs.Outputs.{Answer, judged, on_document, yes_line, verdict, on_verdict, checked, carried_out, saved, replayed, replayed_text, plan_at}
-use Rattle.cstn_top.specs.Meanings.{parts_of, HasNetwork, IsYes, IsNo, IsNoRefutation, IsGood, IsBad, IsFull, IsDecided, IsComplete, ReadsLive}
+use Rattle.cstn_top.specs.Meanings.{parts_of, HasNetwork, IsRefused, IsYes, IsNo, IsNoRefutation, IsGood, IsBad, IsFull, IsDecided, IsComplete, ReadsLive}
 use Rattle.cstn_top.specs.Statuses.{status_of}
 use Rattle.cstn_top.specs.declared.output.Outcome.{Outcome}
 use Rattle.cstn_top.specs.declared.output.Outcome.TheVariants.{Good, Bad, Words, Document, Full, Unfinished, Script}
 use Rattle.cstn_top.proofs.Verdicts.{Tells, verdict_tells}
 use Rattle.cstn_top.proofs.Drills.{counts_right}
+use Rattle.cstn_top.proofs.Fits.{fits}
 
 -- what is said of a document: it is refused, or this is said of its network
-pub document_says : (answer : Answer) (bytes : List ℕ) (deadline : Option ℕ) (live : List ℕ) (said : Said) → IsOutput (on_document answer bytes deadline) live said → (said.outcome ≡ Document) ⊎ HasNetwork bytes deadline (λ names net. IsOutput (answer names net) live said)
-document_says answer bytes deadline live said output = by_length (nat_lt 8388608 (length bytes)) output
+pub document_says : (answer : Answer) (bytes : List ℕ) (deadline : Option ℕ) (live : List ℕ) (said : Said) → IsOutput (on_document answer bytes deadline) live said → ((said.outcome ≡ Document) × IsRefused bytes deadline) ⊎ HasNetwork bytes deadline (λ names net. IsOutput (answer names net) live said)
+document_says answer bytes deadline live said output = by_length (nat_lt 8388608 (length bytes)) refl output
   where
-    by_parts : (told : Result Parts DocumentRefusal) → IsOutput (judged answer told) live said → (said.outcome ≡ Document) ⊎ IsSomeAnd (parts_of told) (λ parts. IsWellFormed (network_of parts) × IsOutput (answer parts.names (network_of parts)) live said)
-    by_parts (Err refusal) is = inl (ap (λ (s : Said). s.outcome) is)
+    by_parts : (told : Result Parts DocumentRefusal) → IsOutput (judged answer told) live said → ((said.outcome ≡ Document) × (IsSomeAnd (parts_of told) (λ parts. IsWellFormed (network_of parts) × Unit {0}) → ⊥)) ⊎ IsSomeAnd (parts_of told) (λ parts. IsWellFormed (network_of parts) × IsOutput (answer parts.names (network_of parts)) live said)
+    by_parts (Err refusal) is = inl (ap (λ (s : Said). s.outcome) is, λ has. has)
     by_parts (Ok parts) (inl is) = inr is
-    by_parts (Ok parts) (inr unfit) = inl (ap (λ (s : Said). s.outcome) unfit.2)
+    by_parts (Ok parts) (inr unfit) = inl (ap (λ (s : Said). s.outcome) unfit.2, λ has. fits parts unfit.0 has.0 unfit.1)
 
-    by_length : (long : Bool) → IsOutput (if long then says (say Document (codes "document long")) else judged answer (document bytes deadline)) live said → (said.outcome ≡ Document) ⊎ HasNetwork bytes deadline (λ names net. IsOutput (answer names net) live said)
-    by_length true is = inl (ap (λ (s : Said). s.outcome) is)
-    by_length false is = by_parts (document bytes deadline) is
+    by_told : ((said.outcome ≡ Document) × (HasNetwork bytes deadline (λ names net. Unit {0}) → ⊥)) ⊎ HasNetwork bytes deadline (λ names net. IsOutput (answer names net) live said) → ((said.outcome ≡ Document) × IsRefused bytes deadline) ⊎ HasNetwork bytes deadline (λ names net. IsOutput (answer names net) live said)
+    by_told (inl refused) = inl (refused.0, inr refused.1)
+    by_told (inr has) = inr has
+
+    by_length : (long : Bool) → nat_lt 8388608 (length bytes) ≡ long → IsOutput (if long then says (say Document (codes "document long")) else judged answer (document bytes deadline)) live said → ((said.outcome ≡ Document) × IsRefused bytes deadline) ⊎ HasNetwork bytes deadline (λ names net. IsOutput (answer names net) live said)
+    by_length true above is = inl (ap (λ (s : Said). s.outcome) is, inl (grind arith))
+    by_length false above is = by_told (by_parts (document bytes deadline) is)
 
 -- what follows of the network of a document
 pub network_then : (bytes : List ℕ) (deadline : Option ℕ) (one other : List (List ℕ) → Network → Type 0) → HasNetwork bytes deadline one → ((names : List (List ℕ)) (net : Network) → IsWellFormed net → one names net → other names net) → HasNetwork bytes deadline other
@@ -110,11 +115,11 @@ IsRight Unfinished request contents = Unit {0}
 IsRight Script request contents = Unit {0}
 
 -- what is said of a document tells what is told of its network
-on_network : (answer : Answer) (bytes : List ℕ) (deadline : Option ℕ) (live : List ℕ) (said : Said) (told : Outcome → List (List ℕ) → Network → Type 0) (right : Outcome → Type 0) → right Document → ((names : List (List ℕ)) (net : Network) → IsWellFormed net → IsOutput (answer names net) live said → told said.outcome names net) → ((o : Outcome) → HasNetwork bytes deadline (told o) → right o) → IsOutput (on_document answer bytes deadline) live said → right said.outcome
+on_network : (answer : Answer) (bytes : List ℕ) (deadline : Option ℕ) (live : List ℕ) (said : Said) (told : Outcome → List (List ℕ) → Network → Type 0) (right : Outcome → Type 0) → (IsRefused bytes deadline → right Document) → ((names : List (List ℕ)) (net : Network) → IsWellFormed net → IsOutput (answer names net) live said → told said.outcome names net) → ((o : Outcome) → HasNetwork bytes deadline (told o) → right o) → IsOutput (on_document answer bytes deadline) live said → right said.outcome
 on_network answer bytes deadline live said told right refused each so output = by_said (document_says answer bytes deadline live said output)
   where
-    by_said : (said.outcome ≡ Document) ⊎ HasNetwork bytes deadline (λ names net. IsOutput (answer names net) live said) → right said.outcome
-    by_said (inl is) = subst right (sym is) refused
+    by_said : ((said.outcome ≡ Document) × IsRefused bytes deadline) ⊎ HasNetwork bytes deadline (λ names net. IsOutput (answer names net) live said) → right said.outcome
+    by_said (inl is) = subst right (sym is.0) (refused is.1)
     by_said (inr has) = so said.outcome (network_then bytes deadline (λ names net. IsOutput (answer names net) live said) (told said.outcome) has each)
 
 -- no document has an impossible network
@@ -254,16 +259,16 @@ replay_right asked proof contents Script has = tt
 -- the outcome of each output is right
 pub output_right : (request : Request) (contents : List (List ℕ)) (live : List ℕ) (said : Said) → IsOutput (plan_at request contents) live said → IsRight said.outcome request contents
 output_right (check asked cap) contents live said output =
-    on_network (checked cap) (get_or contents 0 []) asked.deadline live said (λ o names net. Verdicts cap net o) (λ o. IsRight o (check asked cap) contents) tt
+    on_network (checked cap) (get_or contents 0 []) asked.deadline live said (λ o names net. Verdicts cap net o) (λ o. IsRight o (check asked cap) contents) (λ refused. tt)
     (λ names net good is. check_tells cap names net live said good is) (check_right asked cap contents) output
 output_right (run asked cap) contents live said output =
-    on_network (carried_out cap) (get_or contents 0 []) asked.deadline live said (λ o names net. RunTells cap net o) (λ o. IsRight o (run asked cap) contents) tt
+    on_network (carried_out cap) (get_or contents 0 []) asked.deadline live said (λ o names net. RunTells cap net o) (λ o. IsRight o (run asked cap) contents) (λ refused. tt)
     (λ names net good is. run_tells cap names net live said good is) (run_right asked cap contents) output
 output_right (save asked) contents live said output =
-    on_network saved (get_or contents 0 []) asked.deadline live said (λ o names net. Saves o) (λ o. IsRight o (save asked) contents) tt
+    on_network saved (get_or contents 0 []) asked.deadline live said (λ o names net. Saves o) (λ o. IsRight o (save asked) contents) (λ refused. tt)
     (λ names net good is. subst Saves (sym (ap (λ (s : Said). s.outcome) is)) tt) (save_right asked contents) output
 output_right (replay asked proof) contents live said output =
-    on_network (replayed (get_or contents 1 [])) (get_or contents 0 []) asked.deadline live said (λ o names net. Replays (told_by names (get_or contents 1 [])) net o) (λ o. IsRight o (replay asked proof) contents) tt
+    on_network (replayed (get_or contents 1 [])) (get_or contents 0 []) asked.deadline live said (λ o names net. Replays (told_by names (get_or contents 1 [])) net o) (λ o. IsRight o (replay asked proof) contents) (λ refused. tt)
     (λ names net good is. replay_tells (get_or contents 1 []) names net live said good is) (replay_right asked proof contents) output
 output_right (drill number) contents live said output =
     subst (λ (o : Outcome). IsRight o (drill number) contents) (sym (ap (λ (s : Said). s.outcome) output)) (counts_right number 64)
@@ -281,7 +286,7 @@ decides cap net Script never below = absurd never
 -- each output is complete
 pub output_complete : (request : Request) (contents : List (List ℕ)) (live : List ℕ) (said : Said) → IsOutput (plan_at request contents) live said → IsComplete (status_of said.outcome) request contents
 output_complete (check asked cap) contents live said output =
-    on_network (checked cap) (get_or contents 0 []) asked.deadline live said (λ o names net. Verdicts cap net o) (λ o. IsComplete (status_of o) (check asked cap) contents) (inl refl)
+    on_network (checked cap) (get_or contents 0 []) asked.deadline live said (λ o names net. Verdicts cap net o) (λ o. IsComplete (status_of o) (check asked cap) contents) (λ refused. inl (refl, refused))
     (λ names net good is. check_tells cap names net live said good is)
     (λ o has. inr (network_then (get_or contents 0 []) asked.deadline (λ names net. Verdicts cap net o) (λ names net. IsDecided cap net (status_of o)) has (λ names net good told. decides cap net o told))) output
 output_complete (run asked cap) contents live said output = tt

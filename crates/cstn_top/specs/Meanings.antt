@@ -1,5 +1,5 @@
 -- What the status of a request tells.
-use Rattle.std.specs.Prelude.{◌≡◌, ◌≤◌, ◌<◌, ◌⊎◌, ℕ, List, [], take, get_or, Option, None, Some, IsSomeAnd, Result, Ok, Err}
+use Rattle.std.specs.Prelude.{◌≡◌, ◌≤◌, ◌<◌, ◌⊎◌, ℕ, List, [], length, take, get_or, Option, None, Some, IsSomeAnd, Result, Ok, Err}
 use Rattle.cstn_net.specs.Networks.{Network, IsWellFormed}
 use Rattle.cstn_net.specs.Strategies.{IsConsistent}
 use Rattle.cstn_graphml.specs.Results.{Refusal}
@@ -27,6 +27,10 @@ parts_of (Err refusal) = None
 -- the document of the bytes has a network, of which this holds under the names of its time-points
 abbrev pub HasNetwork : List ℕ → Option ℕ → (List (List ℕ) → Network → Type 0) → Type 0
 HasNetwork bytes deadline holds = IsSomeAnd (parts_of (document bytes deadline)) (λ parts. IsWellFormed (network_of parts) × holds parts.names (network_of parts))
+
+-- the document of the bytes is refused: it is too long, or has no network
+abbrev pub IsRefused : List ℕ → Option ℕ → Type 0
+IsRefused bytes deadline = (8388608 < length bytes) ⊎ (HasNetwork bytes deadline (λ names net. Unit {0}) → ⊥)
 
 -- the network has a strategy, and no more than so many entries in its log
 abbrev pub IsYes : ℕ → Network → Type 0
@@ -74,7 +78,8 @@ IsDecided cap net status = load_of net ≤ cap → ((status ≡ Good) × IsConsi
 -- a check is complete: the network of a document is decided, or the document is refused; a drill is Good
 abbrev pub IsComplete : Status → Request → List (List ℕ) → Type 0
 IsComplete status (check asked cap) contents =
-    (status ≡ Document) ⊎ HasNetwork (get_or contents 0 []) asked.deadline (λ names net. IsDecided cap net status)
+    ((status ≡ Document) × IsRefused (get_or contents 0 []) asked.deadline)
+    ⊎ HasNetwork (get_or contents 0 []) asked.deadline (λ names net. IsDecided cap net status)
 IsComplete status (run asked cap) contents = Unit {0}
 IsComplete status (save asked) contents = Unit {0}
 IsComplete status (replay asked proof) contents = Unit {0}
