@@ -1,5 +1,5 @@
 -- A builder that was handed the network of a number has no fault.
-use Rattle.std.proofs.Common.{ℕ, suc, ◌≡◌, ◌+◌, ◌*◌, ◌<◌, ◌≤◌, ◌⊎◌, inl, inr, Option, Some, None, List, [], ◌∷◌, length, refl, ap, sym, subst, arith, ◌∙◌}
+use Rattle.std.proofs.Common.{ℕ, suc, ◌≡◌, ◌+◌, ◌<◌, inl, inr, Some, None, List, [], ◌∷◌, length, refl, ap, sym, subst, arith, ◌∙◌}
 use Rattle.std.specs.Prelude.{map, ℤ, slice_index_or}
 use Rattle.std.specs.List.{All}
 use Rattle.std.proofs.lemmas.List.{length-map}
@@ -11,7 +11,7 @@ use Rattle.cstn_net.specs.declared.errors.NetError.{NetError}
 use Rattle.cstn_net.specs.declared.errors.NetError.TheVariants.{TooManyNodes, NoOrigin, TooManyConstraints, DeadlineRange, ValueRange, NotObserved, TwoObservers, NotPlain, Memory}
 use Rattle.cstn_net.specs.Networks.{Network, IsConstraint, IsOnObserved, IsValue, IsWellFormed, Observes}
 use Rattle.cstn_net.specs.Read.{observed, the_constraint}
-use Rattle.cstn_net.specs.Drafts.{BuilderParts, HasFault, IsRefusal, IsFirst, LacksObserver, observations, number, constraints_from, constraint_of}
+use Rattle.cstn_net.specs.Drafts.{BuilderParts, HasFault, IsRefusal, LacksObserver, observations, number, constraints_from, constraint_of}
 
 -- the builder was handed this network
 pub record IsHanded (b : BuilderParts) (net : Network) : Type 0 where
@@ -63,7 +63,7 @@ no_fault b net good handed (NotObserved prop) f =
     lacks.unobserved o.0 (ap (λ os. slice_index_or os o.0 None) handed.observes ∙ o.1.what)) f.has
 no_fault b net good handed (TwoObservers prop first second) f =
     let at : (x p : ℕ) → slice_index_or (observations b) x None ≡ Some p → Observes net x p =
-        λ x p is. record { what = sym (ap (λ os. slice_index_or os x None) handed.observes) ∙ is } in
+    λ x p is. record { what = sym (ap (λ os. slice_index_or os x None) handed.observes) ∙ is } in
     let same = good.network.one_observer first.0 second.0 prop.index (at first.0 prop.index f.one) (at second.0 prop.index f.other) in
     let before = f.ordered in
     absurd (omega (arith, same, before))

@@ -1,7 +1,7 @@
 -- The network of a number and a size is well-formed.
-use Rattle.std.proofs.Common.{ℕ, zero, suc, ◌≡◌, ◌≢◌, ◌⊎◌, inl, inr, ◌+◌, ◌*◌, ◌/◌, ◌<◌, ◌≤◌, Option, Some, None, List, [], ◌∷◌, length, true, false, refl, ap, sym, subst, arith, ◌∙◌}
-use Rattle.std.specs.Prelude.{map, nat_lt, ◌==◌, if◌then◌else◌, min, max, get_or, cond, pos, ◌-ℤ◌, ◌≤ℤ◌, negsuc}
-use Rattle.std.specs.List.{All, AllPairs, range_with_len}
+use Rattle.std.proofs.Common.{ℕ, zero, suc, ◌≡◌, ◌≢◌, ◌⊎◌, inl, inr, ◌+◌, ◌*◌, ◌/◌, ◌<◌, ◌≤◌, Some, None, true, false, refl, ap, sym, subst, arith, ◌∙◌}
+use Rattle.std.specs.Prelude.{map, nat_lt, ◌==◌, if◌then◌else◌, cond, pos, ◌≤ℤ◌, negsuc}
+use Rattle.std.specs.List.{All, range_with_len}
 use Rattle.std.proofs.Math.Nat.{mod-lt, div-mul-le_self}
 use Rattle.std.proofs.Math.ListN.{get_or-eq_default}
 use Rattle.std.proofs.lemmas.Bool.{cases_lt}
@@ -9,11 +9,11 @@ use Rattle.std.proofs.lemmas.Int.{ints}
 use Rattle.std.proofs.lemmas.List.Elements.{All-map, All-cons, All-nil}
 use Rattle.std.proofs.lemmas.List.FromFn.{get_or-map-range_with_len, length-map-range_with_len}
 use Rattle.cstn_label.specs.declared.marks.Mark.{Mark}
-use Rattle.cstn_label.specs.declared.marks.Mark.TheVariants.{Absent, Yes, No, Unknown}
+use Rattle.cstn_label.specs.declared.marks.Mark.TheVariants.{Absent}
 use Rattle.cstn_label.specs.Labels.{Label, empty, IsPlain, IsMarkPlain, with_mark}
-use Rattle.cstn_net.specs.Networks.{Constraint, IsNetwork, IsConstraint, IsOnObserved, IsWellFormed, IsValue, Observes, count}
+use Rattle.cstn_net.specs.Networks.{IsConstraint, IsOnObserved, IsWellFormed, IsValue, Observes, count}
 use Rattle.cstn_gen.specs.Draws.{after, drawn, number_below}
-use Rattle.cstn_gen.specs.Generated.{props_of, observed_by, is_absent, sign, with_literal, Literals, literals, one_more, letter_prop, lower_of, span_of, span_at, literals_at, constraint_at, state_at, generated}
+use Rattle.cstn_gen.specs.Generated.{props_of, observed_by, is_absent, sign, with_literal, Literals, literals, letter_prop, span_of, span_at, literals_at, constraint_at, state_at, generated}
 use Rattle.cstn_gen.specs.declared.constraints.Span.{Span}
 
 -- what is drawn below m is below m
@@ -43,8 +43,10 @@ module _ (number size : ℕ) (some : 1 ≤ size) (few : size ≤ 200) where
       let fits = (props_fit size some).2 in
       let before : i < size = omega (arith, fits, inside) in
       let yes : nat_lt i k ≡ true = grind arith in
-      record { what = get_or-map-range_with_len (observed_by k) 0 size i i None before (omega arith)
-          ∙ ap (λ b. if b then Some (letter_prop i) else None) yes }
+      record {
+        what = get_or-map-range_with_len (observed_by k) 0 size i i None before (omega arith)
+            ∙ ap (λ b. if b then Some (letter_prop i) else None) yes;
+      }
 
   -- which time-point observes what
   record Place (x p : ℕ) : Type 0 where
@@ -87,22 +89,26 @@ module _ (number size : ℕ) (some : 1 ≤ size) (few : size ≤ 200) where
   drawn_with : (a : Label) (i n : ℕ) → i < k → IsDrawn a → IsDrawn (with_literal a (letter_prop i) (sign n))
   drawn_with a i n inside good = elim (absent_cases (a (letter_prop i))) [
     | inl free ↦ subst IsDrawn (sym (ap (λ b. if b then with_mark a (letter_prop i) (sign n) else a) free)) (record {
-        plain = λ q. marked_plain q;
-        observed = λ q there. marked_observed q there;
-      })
+      plain = λ q. marked_plain q;
+      observed = λ q there. marked_observed q there;
+    })
     | inr taken ↦ subst IsDrawn (sym (ap (λ b. if b then with_mark a (letter_prop i) (sign n) else a) taken)) good
   ] where
     by_eq : (p q : ℕ) → ((p == q) ≡ true) ⊎ ((p == q) ≡ false)
     by_eq p q = grind arith
+
     nat_eq_true : (p q : ℕ) → (p == q) ≡ true → p ≡ q
     nat_eq_true p q e = grind arith
+
     absent_cases : (m : Mark) → (is_absent m ≡ true) ⊎ (is_absent m ≡ false)
     absent_cases m = grind arith
+
     marked_plain : (q : ℕ) → IsMarkPlain (with_mark a (letter_prop i) (sign n) q)
     marked_plain q = elim (by_eq q (letter_prop i)) [
       | inl same ↦ subst IsMarkPlain (sym (ap (λ b. cond b (sign n) (a q)) same)) (signs_plain n)
       | inr other ↦ subst IsMarkPlain (sym (ap (λ b. cond b (sign n) (a q)) other)) (good.plain q)
     ]
+
     marked_observed : (q : ℕ) → with_mark a (letter_prop i) (sign n) q ≢ Absent → (x : ℕ) × Observes (generated number size) x q
     marked_observed q there = elim (by_eq q (letter_prop i)) [
       | inl same ↦

@@ -3,7 +3,6 @@ use Rattle.std.proofs.Common.{◌≡◌, ℕ, ◌+◌, ◌<◌, List, [], ◌∷
 use Rattle.std.specs.Prelude.{Option, None, Some, IsTrue, Bool, true, false, ◌&&◌, is_some, replicate}
 use Rattle.std.specs.Option.{IsSomeAnd}
 use Rattle.std.proofs.lemmas.List.{length-replicate}
-use Rattle.std.specs.List.{list_all}
 use Rattle.cstn_io.specs.Contents.{after_bytes, IsAllOf, IsAtEnd, IsFile, IsLongFile}
 use Rattle.cstn_top.specs.Files.{file_at, bytes_or_none, IsContent, AreContents, AreThere}
 

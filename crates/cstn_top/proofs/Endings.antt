@@ -14,9 +14,9 @@ use Rattle.cstn_top.specs.Meanings.{HoldsOf, IsGood, IsBad, IsFull, IsComplete, 
 use Rattle.cstn_top.specs.Statuses.{status_of}
 use Rattle.cstn_top.specs.declared.commands.Prepared.{Prepared}
 use Rattle.cstn_top.specs.declared.status.Status.{Status}
-use Rattle.cstn_top.specs.declared.status.Status.TheVariants.{Good as IsYesStatus, Bad as IsNoStatus, Words as IsWords, Full as IsFullStatus, ReadFault, WriteFault, Memory}
+use Rattle.cstn_top.specs.declared.status.Status.TheVariants.{Good as IsYesStatus, Bad as IsNoStatus, Words as IsWords, Full as IsFullStatus, ReadFault, Memory}
 use Rattle.cstn_top.specs.declared.output.Outcome.{Outcome}
-use Rattle.cstn_top.specs.declared.output.Outcome.TheVariants.{Good, Bad, Words, Document, Full, Unfinished, Script}
+use Rattle.cstn_top.specs.declared.output.Outcome.TheVariants.{Good, Bad, Words, Full}
 use Rattle.cstn_top.proofs.Contents.{given, all_given, no_taken, some_contents, none_there}
 use Rattle.cstn_top.proofs.Meanings.{IsRight, output_right, output_complete, talks_live}
 

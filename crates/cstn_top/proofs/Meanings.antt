@@ -1,5 +1,5 @@
 -- What the outcomes of outputs tell.
-use Rattle.std.proofs.Common.{◌≡◌, ℕ, ◌≤◌, ◌<◌, Bool, true, false, List, [], ◌∷◌, ◌++◌, ◌+◌, length, map, refl, ap, sym, ◌∙◌, subst, inl, inr, arith}
+use Rattle.std.proofs.Common.{◌≡◌, ℕ, ◌<◌, Bool, true, false, List, [], ◌∷◌, ◌+◌, length, map, refl, ap, sym, subst, inl, inr, arith}
 use Rattle.std.specs.Prelude.{◌⊎◌, nat_lt, if◌then◌else◌, get_or, Option, None, Some, Result, Ok, Err, IsSomeAnd, codes}
 use Rattle.cstn_net.specs.Networks.{Network, IsWellFormed, count}
 use Rattle.cstn_net.specs.Strategies.{IsConsistent}
@@ -20,8 +20,7 @@ use Rattle.cstn_check.specs.declared.verdicts.Verdict.TheVariants.{Yes, No, Full
 use Rattle.cstn_refute.specs.Texts.{Told as ToldText, tells, wrong as wrong_text, told as told_by}
 use Rattle.cstn_replay.specs.Wrong.{IsFirstWrong, EndsInVain}
 use Rattle.cstn_top.specs.Requests.{Asked, Request, check, run, save, replay, drill}
-use Rattle.cstn_top.specs.Texts.{line}
-use Rattle.cstn_top.specs.Plans.{Said, say, after_text, Plan, says, IsOutput, MayTalk}
+use Rattle.cstn_top.specs.Plans.{Said, say, after_text, says, IsOutput, MayTalk}
 use Rattle.cstn_top.specs.Sessions.{Turn, more, last, wrong, on_turn, script, play, session}
 use Rattle.cstn_top.specs.Running.{moment_line, executing, moment_turn, seen_turn, live_turn, run_turn, unfinished, run_ending}
 use Rattle.cstn_top.specs.Outputs.{Answer, judged, on_document, yes_line, verdict, on_verdict, checked, carried_out, saved, replayed, replayed_text, plan_at}

@@ -1,5 +1,5 @@
 -- The names of time-points in a line.
-use Rattle.std.proofs.Common.{◌≡◌, ℕ, suc, ◌+◌, ◌*◌, ◌<◌, ◌≤◌, List, [], ◌∷◌, ◌++◌, length, take, map, ap, sym, ◌∙◌, subst, arith, append_assoc, String, Global, string_bytes}
+use Rattle.std.proofs.Common.{◌≡◌, ℕ, suc, ◌+◌, ◌<◌, ◌≤◌, List, [], ◌∷◌, ◌++◌, length, take, map, ap, sym, ◌∙◌, subst, arith, append_assoc, String, Global, string_bytes}
 use Rattle.std.specs.Prelude.{get_or, flat_map, slice_get, Some}
 use Rattle.std.specs.List.{All, count_by, range_with_len}
 use Rattle.std.proofs.lemmas.List.Elements.{All-filter}
@@ -14,7 +14,7 @@ use Rattle.cstn_label.specs.declared.nodes.NodeId.{NodeId}
 use Rattle.cstn_label.specs.Bounds.{Bound}
 use Rattle.cstn_net.specs.Networks.{Network, count}
 use Rattle.cstn_exec.specs.Runs.{Run, is_free, named}
-use Rattle.cstn_text.specs.Names.{IsName, AreNames}
+use Rattle.cstn_text.specs.Names.{AreNames}
 use Rattle.cstn_text.specs.PrintedNames.{printed_name}
 use Rattle.cstn_text.proofs.PrintedNameLemmas.{name_length}
 use Rattle.cstn_top.specs.Running.{spaced, the_nodes}

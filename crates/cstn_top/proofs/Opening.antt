@@ -8,7 +8,7 @@ use Rattle.cstn_graphml.specs.declared.errors.DocError.{DocError}
 use Rattle.cstn_graphml.specs.declared.errors.DocError.TheVariants.{NotUtf8, Shape, NameTwice, UnknownNode, Value, LabelText, Contingent, EdgeType, NoDeadline, Net, NodeLabel, Memory}
 use Rattle.cstn_graphml.specs.Results.{Refusal}
 use Rattle.cstn_graphml.specs.Results.Refusal.{not_utf8, shape, name_twice, unknown_node, bad_value, label_text, contingent, edge_type, no_deadline, node_label}
-use Rattle.cstn_graphml.specs.Answers.{IsDocument, IsUnfitDocument, IsRefused}
+use Rattle.cstn_graphml.specs.Answers.{IsUnfitDocument, IsRefused}
 use Rattle.cstn_graphml.specs.Document.{Parts, document}
 use Rattle.cstn_graphml.specs.Networks.{network_of}
 use Rattle.cstn_net.specs.declared.errors.NetError.{NetError}
@@ -25,8 +25,7 @@ use Rattle.cstn_top.specs.Read.{the_said}
 use Rattle.cstn_top.specs.declared.output.Said.{Said as SaidText}
 use Rattle.cstn_top.specs.declared.status.Status.{Status}
 use Rattle.cstn_top.specs.declared.status.Status.TheVariants.{Good as IsGood, Bad as IsBad, Words as IsWords, Document as IsRefusedStatus, Full as IsFull, ReadFault, WriteFault, Memory as NoMemory, Unfinished as IsUnfinished, Script as IsScript}
-use Rattle.cstn_top.specs.declared.output.Outcome.{Outcome}
-use Rattle.cstn_top.specs.declared.output.Outcome.TheVariants.{Good, Document}
+use Rattle.cstn_top.specs.declared.output.Outcome.TheVariants.{Document}
 use Rattle.cstn_top.specs.declared.commands.documents.Opened.{Opened}
 use Rattle.cstn_top.specs.declared.commands.documents.Opened.TheVariants.{Accepted, Told}
 use Rattle.cstn_top.proofs.Contents.{one_content, long_content, long_is_there, none_there}

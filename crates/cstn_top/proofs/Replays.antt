@@ -1,5 +1,5 @@
 -- What is said by a replay.
-use Rattle.std.proofs.Common.{◌≡◌, ℕ, ◌≤◌, ◌<◌, List, [], ◌∷◌, ◌++◌, length, ap, sym, ◌∙◌, subst, inl, inr, arith}
+use Rattle.std.proofs.Common.{◌≡◌, ℕ, ◌≤◌, ◌<◌, List, [], ◌∷◌, ◌++◌, length, ap, sym, ◌∙◌, subst, inr, arith}
 use Rattle.std.specs.Prelude.{◌⊎◌, nat_lt, if◌then◌else◌, Option, Result, Ok, Err, IfOk, codes, decimal}
 use Rattle.cstn_io.specs.Contents.{IsLongFile}
 use Rattle.cstn_net.specs.Networks.{Network}
@@ -20,7 +20,7 @@ use Rattle.cstn_top.specs.declared.output.Said.{Said as SaidText}
 use Rattle.cstn_top.specs.declared.status.Status.{Status}
 use Rattle.cstn_top.specs.declared.status.Status.TheVariants.{Good as IsGood, Bad as IsBad, Words as IsWords, Document as IsDocument, Full as IsFull, ReadFault, WriteFault, Memory, Unfinished as IsUnfinished, Script as IsScript}
 use Rattle.cstn_top.specs.declared.output.Outcome.{Outcome}
-use Rattle.cstn_top.specs.declared.output.Outcome.TheVariants.{Bad, Document, Script}
+use Rattle.cstn_top.specs.declared.output.Outcome.TheVariants.{Bad, Script}
 use Rattle.cstn_top.specs.declared.commands.documents.Opened.TheVariants.{Accepted, Told}
 use Rattle.cstn_top.proofs.Contents.{some_content, two_contents, long_content, long_is_there, none_there, two_there}
 use Rattle.cstn_top.proofs.Opening.{accepted_comes, told_comes, comes_to_text}

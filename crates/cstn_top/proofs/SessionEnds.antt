@@ -1,6 +1,6 @@
 -- How a session ends: what was written before, and the last text.
-use Rattle.std.proofs.Common.{◌≡◌, ℕ, ◌+◌, ◌≤◌, min, List, [], ◌∷◌, ◌++◌, length, take, refl, ap, sym, ◌∙◌, subst, arith, append_assoc, inl, inr, suc}
-use Rattle.std.specs.Prelude.{◌⊎◌, true, Option, None, Some, codes}
+use Rattle.std.proofs.Common.{◌≡◌, ℕ, ◌+◌, min, List, [], ◌∷◌, ◌++◌, length, take, refl, ap, sym, ◌∙◌, subst, arith, append_assoc, inl, inr, suc}
+use Rattle.std.specs.Prelude.{true, Option, None, Some, codes}
 use Rattle.std.proofs.lemmas.Grind.{common_steps}
 use Rattle.std.proofs.lemmas.List.{take_min, take-append-le}
 use Rattle.cstn_io.specs.Contents.{with_bytes, IsAtEnd}

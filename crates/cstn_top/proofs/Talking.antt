@@ -1,14 +1,14 @@
 -- How a session goes on, line by line.
-use Rattle.std.proofs.Common.{◌≡◌, ℕ, ◌+◌, ◌≤◌, min, List, [], ◌∷◌, ◌++◌, length, take, refl, ap, sym, ◌∙◌, subst, arith, append_assoc, inl, inr}
-use Rattle.std.specs.Prelude.{◌⊎◌, Bool, true, false, Option, None, Some, codes}
+use Rattle.std.proofs.Common.{◌≡◌, ℕ, ◌+◌, ◌≤◌, List, [], ◌∷◌, ◌++◌, refl, ap, sym, ◌∙◌, subst, arith, append_assoc, inl, inr}
+use Rattle.std.specs.Prelude.{Bool, true, false, Option, codes}
 use Rattle.std.proofs.lemmas.Grind.{common_steps}
 use Rattle.cstn_io.specs.Causes.{Rose}
-use Rattle.cstn_io.specs.Contents.{after_bytes, with_bytes, IsAllOf, IsAtEnd}
+use Rattle.cstn_io.specs.Contents.{after_bytes, IsAllOf, IsAtEnd}
 use Rattle.cstn_lines.specs.Pieces.{lines_of, whole_lines, is_past}
 use Rattle.cstn_lines.specs.Steps.{LinesState, HandsOut, IsOver, IsRefused, IsBroken}
 use Rattle.cstn_top.specs.Texts.{line}
 use Rattle.cstn_top.specs.Statuses.{status_of}
-use Rattle.cstn_top.specs.Plans.{Said, after_text, Plan, IsOutput, EndsLine, Live, IsText, is_output, is_live_fault, is_memory}
+use Rattle.cstn_top.specs.Plans.{Said, after_text, EndsLine, Live, IsText, is_output, is_live_fault, is_memory}
 use Rattle.cstn_top.specs.Sessions.{Turn, more, last, wrong, script, play, answers, session, the_turn, Progress}
 use Rattle.cstn_top.specs.declared.status.Status.{Status}
 use Rattle.cstn_top.specs.declared.status.Status.TheVariants.{ReadFault, Memory}

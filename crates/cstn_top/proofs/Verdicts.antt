@@ -8,7 +8,6 @@ use Rattle.cstn_rules.specs.Derivations.{Entry}
 use Rattle.cstn_log.specs.Cuts.{part}
 use Rattle.cstn_refute.specs.Texts.{shown}
 use Rattle.cstn_check.specs.Checks.{CheckParts}
-use Rattle.cstn_check.specs.Tests.{refutes}
 use Rattle.cstn_check.specs.Turns.{LastRefutes}
 use Rattle.cstn_check.specs.Growth.{is_refuted, log_of, load_of}
 use Rattle.cstn_check.specs.declared.verdicts.Verdict.{Verdict}

@@ -1,5 +1,4 @@
 use Rattle.std.proofs.Common.{◌≡◌}
-use Rattle.cstn_gen.specs.Generated.{props_of}
 use Rattle.cstn_gen.specs.Made.{HasPoints}
 use Rattle.cstn_gen.proofs.generated.add_points.Given as goal
 

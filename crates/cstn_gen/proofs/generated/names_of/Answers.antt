@@ -1,4 +1,4 @@
-use Rattle.std.proofs.Common.{◌+◌, ◌∷◌, ◌≤◌, length, arith, ap, sym, subst, ◌∙◌}
+use Rattle.std.proofs.Common.{◌∷◌, ◌≤◌, length, arith, ap, sym, subst, ◌∙◌}
 use Rattle.std.specs.Prelude.{map, codes, Contains}
 use Rattle.std.specs.List.{range_with_len}
 use Rattle.cstn_gen.specs.Generated.{point_name}

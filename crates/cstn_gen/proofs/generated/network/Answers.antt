@@ -1,8 +1,7 @@
-use Rattle.std.proofs.Common.{◌+◌, ◌*◌, ◌≡◌, arith, sym, subst, ap, length, ◌∙◌}
+use Rattle.std.proofs.Common.{ap, ◌∙◌}
 use Rattle.std.specs.Prelude.{map}
 use Rattle.cstn_net.specs.Read.{observed}
 use Rattle.cstn_gen.specs.Generated.{generated}
-use Rattle.cstn_gen.specs.Made.{HasPoints, HasConstraints}
 use Rattle.cstn_gen.proofs.MadeLemmas.{points_count, made_is}
 use Rattle.cstn_gen.proofs.WellFormed.{well_formed}
 use Rattle.cstn_gen.proofs.FaultLemmas.{refused_for_memory}

@@ -1,5 +1,5 @@
 use Rattle.std.proofs.Common.{refl}
-use Rattle.cstn_top.proofs.Talking.{Stepped, turned, one_more, last_line, wrong_line, past_line, no_line, fault_line, memory_line}
+use Rattle.cstn_top.proofs.Talking.{turned, one_more, last_line, wrong_line, past_line, no_line, fault_line, memory_line}
 use Rattle.cstn_top.proofs.session.next.Goals as goal
 
 pub returns-in-Ok-More-clause-goes_on : goal.returns-in-Ok-More-clause-goes_on

@@ -1,5 +1,4 @@
-use Rattle.std.proofs.Common.{◌≡◌, ℕ, ◌≤◌, List, length, map, string_bytes, arith, ap, sym, ◌∙◌, ◌++◌, codes, decimal}
-use Rattle.cstn_net.specs.Networks.{count}
+use Rattle.std.proofs.Common.{length, map, string_bytes, arith, ap, sym, ◌∙◌, ◌++◌, codes, decimal}
 use Rattle.cstn_net.specs.Read.{the_network}
 use Rattle.cstn_log.specs.Plans.{the_bounds}
 use Rattle.cstn_exec.specs.Read.{ExecParts}
