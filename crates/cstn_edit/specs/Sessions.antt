@@ -6,6 +6,7 @@ use Rattle.cstn_label.specs.Labels.{Label}
 use Rattle.cstn_net.specs.declared.constraints.Constraint.{Constraint}
 use Rattle.cstn_net.specs.Networks.{Network, Observes, count}
 use Rattle.cstn_net.specs.Read.{NetworkParts, the_network}
+use Rattle.cstn_rules.specs.declared.entries.Entry.{Entry as DeclaredEntry}
 use Rattle.cstn_rules.specs.Derivations.{Entry, IsDerivation}
 use Rattle.cstn_log.specs.Entries.{State, the_entries, bases}
 use Rattle.cstn_check.specs.declared.verdicts.Verdict.{Verdict}
@@ -14,12 +15,12 @@ use Rattle.cstn_check.specs.Growth.{grow, log_of, load_of, is_refuted}
 use Rattle.cstn_check.specs.Turns.{IsRefutedLast, LastRefutes}
 use Rattle.cstn_edit.specs.declared.outcomes.Outcome.{Outcome}
 
--- what contracts see of a session: the network as edited, the list that is kept of it, how many entries a list may have, how
--- many constraints there may be, how many edits were accepted, the highest id that was ever used, the last outcome, if no
--- edit was accepted since, and how many rules were tried
+-- what contracts see of a session: the network as edited, the entries of its log, how many there may be, how many constraints
+-- there may be, how many edits were accepted, the highest id that was ever used, the last outcome, if no edit was accepted
+-- since, and how many rules were tried
 pub record SessionParts : Type 0 where
   pub net : NetworkParts
-  pub kept : List Entry
+  pub entries : List DeclaredEntry
   pub cap : ℕ
   pub room : ℕ
   pub edits : ℕ
@@ -30,6 +31,10 @@ pub record SessionParts : Type 0 where
 -- the kept list, for which the base bounds stand where a log has no room for them
 abbrev pub kept_list : Network → ℕ → List Entry → List Entry
 kept_list net cap entries = if nat_lt cap (count net) then bases (count net) else entries
+
+-- the kept list of a session
+abbrev pub kept_of : SessionParts → List Entry
+kept_of s = kept_list (the_network s.net) s.cap (the_entries s.entries)
 
 -- the list that is kept after a verdict: the kept list grown, or, where that is too long, the log of the network, or, where
 -- that is too long as well, the base bounds

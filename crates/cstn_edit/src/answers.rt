@@ -1,8 +1,9 @@
 // The outcome of a session that has none.
-ghost use Rattle.std.specs.Prelude.{ℕ, ◌≡◌, ◌≤◌, ◌<◌, ◌+◌, ◌*◌, ◌^◌};
-ghost use Rattle.cstn_net.specs.Networks.{count};
+ghost use Rattle.std.specs.Prelude.{ℕ, ◌≡◌, ◌≤◌, ◌<◌, ◌+◌, ◌*◌, ◌^◌, nat_lt, nat_le, if◌then◌else◌};
+ghost use Rattle.cstn_net.specs.Networks.{IsWellFormed, count};
 ghost use Rattle.cstn_net.specs.Read.{the_network};
-ghost use Rattle.cstn_log.specs.Entries.{the_entries};
+ghost use Rattle.cstn_log.specs.Entries.{the_entries, bases};
+ghost use Rattle.cstn_check.specs.declared.verdicts.Verdict.{Verdict};
 ghost use Rattle.cstn_check.specs.Growth.{grow, log_of, load_of};
 ghost use Rattle.cstn_edit.specs.Sessions.{IsKeptLog, kept_list, kept_after, outcome_of, verdict_by};
 
@@ -23,6 +24,7 @@ pub fn answer(net: &Network, log: &mut Log, tries: &mut Tries) -> Outcome
     ensures size { log.new.cap ≡ log.old.cap }
     ensures tries { tries.old.count ≤ tries.new.count }
 {
+    is_well_formed(net);
     if log.len() == 0 {
         return Outcome {
             afresh: true,
@@ -44,7 +46,18 @@ pub fn answer(net: &Network, log: &mut Log, tries: &mut Tries) -> Outcome
 
 // Grows the log of the network, and leaves its base bounds where that is too long.
 fn answer_afresh(net: &Network, log: &mut Log, tries: &mut Tries) -> Verdict
+    requires room { count (the_network net.now) ≤ log.old.cap }
+    requires nodes { log.old.nodes ≡ count (the_network net.now) }
+    requires size { (1 ≤ log.old.cap) × (log.old.cap ≤ 4194304) }
+    requires births { log.old.births < 2 ^ 60 + 2 ^ 23 }
+    ensures verdict { result ≡ (if nat_lt log.old.cap (load_of (the_network net.now)) then Verdict.Full else verdict_by (the_network net.now) (log_of (the_network net.now))) }
+    ensures list { the_entries log.new.entries ≡ (if nat_le (load_of (the_network net.now)) log.old.cap then log_of (the_network net.now) else bases (count (the_network net.now))) }
+    ensures kept { IsKeptLog (the_network net.now) log.new }
+    ensures births { log.new.births ≤ log.old.births + log.old.cap + 2048 }
+    ensures size { log.new.cap ≡ log.old.cap }
+    ensures tries { tries.old.count ≤ tries.new.count }
 {
+    is_well_formed(net);
     log.restart(net);
     let grown = grow(net, log, tries);
     if grown == Grown::Full {
@@ -64,4 +77,11 @@ fn verdict_of(grown: Grown, load: u32) -> Verdict
         Grown::Refuted => Verdict::No { load },
         Grown::Full => Verdict::Full,
     }
+}
+
+// Every network is well-formed.
+pub fn is_well_formed(net: &Network)
+    ensures { IsWellFormed (the_network net.now) }
+{
+    let _ = net.count();
 }

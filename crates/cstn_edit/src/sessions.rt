@@ -1,5 +1,6 @@
-ghost use Rattle.std.specs.Prelude.{ℕ, ◌≡◌, ◌≢◌, ◌<◌, ◌≤◌, ◌+◌, ◌-◌, ◌^◌, ◌++◌, ◌∷◌, [], ◌↔◌, List, length, map, Some, None, IfOk, OnErr, IsOk, IsErrOf, IsTrue};
+ghost use Rattle.std.specs.Prelude.{ℕ, ℤ, false, ◌≡◌, ◌≢◌, ◌<◌, ◌≤◌, ◌+◌, ◌-◌, ◌^◌, ◌++◌, ◌∷◌, [], ◌↔◌, List, length, map, Some, None, IfOk, OnErr, IsOk, IsErrOf, IsTrue};
 ghost use Rattle.std.specs.List.{All, Contains};
+ghost use Rattle.cstn_label.specs.declared.props.Prop.{Prop as DeclaredProp};
 ghost use Rattle.cstn_label.specs.Labels.{IsPlain};
 ghost use Rattle.cstn_label.specs.Read.{marks};
 ghost use Rattle.cstn_net.specs.Networks.{IsValue, count};
@@ -11,7 +12,7 @@ ghost use Rattle.cstn_log.specs.Cuts.{dropped, part};
 ghost use Rattle.cstn_check.specs.declared.verdicts.Verdict.{Verdict};
 ghost use Rattle.cstn_check.specs.Growth.{grow, load_of};
 ghost use Rattle.cstn_refute.specs.Refutations.{the_steps};
-ghost use Rattle.cstn_edit.specs.Sessions.{IsUnobserved, IsLeastUnobserved, next_id, highest_of, kept_after, outcome_of};
+ghost use Rattle.cstn_edit.specs.Sessions.{kept_of, IsUnobserved, IsLeastUnobserved, next_id, highest_of, kept_after, outcome_of};
 
 use crate::answers::answer;
 use crate::errors::EditError;
@@ -42,13 +43,11 @@ pub struct Session {
 }
 
 impl Model for Session {
-    ghost use Rattle.cstn_net.specs.Read.{the_network};
-    ghost use Rattle.cstn_log.specs.Entries.{the_entries};
-    ghost use Rattle.cstn_edit.specs.Sessions.{SessionParts, IsSession, kept_list};
+    ghost use Rattle.cstn_edit.specs.Sessions.{SessionParts, IsSession};
 
     ghost Value = { SessionParts };
 
-    ghost view = { λ s. record { net = s.net; kept = kept_list (the_network s.net) s.log.cap (the_entries s.log.entries); cap = s.log.cap; room = s.room; edits = s.edits; highest = s.highest; last = s.last; tries = s.tries.count } };
+    ghost view = { λ s. record { net = s.net; entries = s.log.entries; cap = s.log.cap; room = s.room; edits = s.edits; highest = s.highest; last = s.last; tries = s.tries.count } };
 
     ghost invariant = { λ s. IsSession s.net s.log s.room s.edits s.highest s.last };
 }
@@ -64,7 +63,7 @@ impl Session {
         requires ids { All (λ c. c.id < 2 ^ 31) net.constraints }
         ensures network { IfOk result (λ s. (s.net.deadline ≡ net.deadline) × (s.net.points ≡ net.points) × (s.net.constraints ≡ net.constraints)) }
         ensures size { IfOk result (λ s. (s.cap ≡ cap) × (s.room ≡ room)) }
-        ensures kept { IfOk result (λ s. s.kept ≡ bases (count (the_network net))) }
+        ensures kept { IfOk result (λ s. kept_of s ≡ bases (count (the_network net))) }
         ensures edits { IfOk result (λ s. s.edits ≡ 0) }
         ensures highest { IfOk result (λ s. s.highest ≡ highest_of None net.constraints) }
         ensures last { IfOk result (λ s. s.last ≡ None) }
@@ -99,7 +98,7 @@ impl Session {
         ensures no_room { (room : ℕ) → (IsErrOf result (EditError.NoRoom room) ↔ ((self.old.edits < 1000000) × (length self.old.net.constraints ≡ self.old.room) × (room ≡ self.old.room))) }
         ensures value { (v : ℤ) → (IsErrOf result (EditError.ValueRange v) ↔ ((self.old.edits < 1000000) × (length self.old.net.constraints < self.old.room) × (IsValue most → ⊥) × (v ≡ most))) }
         ensures plain { IsErrOf result EditError.NotPlain ↔ ((self.old.edits < 1000000) × (length self.old.net.constraints < self.old.room) × IsValue most × (IsPlain (marks label) → ⊥)) }
-        ensures observed { (p : Prop) → (IsErrOf result (EditError.NotObserved p) ↔ ((self.old.edits < 1000000) × (length self.old.net.constraints < self.old.room) × IsValue most × IsPlain (marks label) × IsLeastUnobserved (the_network self.old.net) (marks label) p.index)) }
+        ensures observed { (p : DeclaredProp) → (IsErrOf result (EditError.NotObserved p) ↔ ((self.old.edits < 1000000) × (length self.old.net.constraints < self.old.room) × IsValue most × IsPlain (marks label) × IsLeastUnobserved (the_network self.old.net) (marks label) p.index)) }
         ensures id { IfOk result (λ id. id ≡ next_id self.old.highest) }
         ensures added { IfOk result (λ id. self.new ≡ record self.old { net = record self.old.net { constraints = self.old.net.constraints ++ record { id = id; from = from; to = to; most = most; label = label } ∷ []; spare = self.old.net.spare - 1 }; edits = self.old.edits + 1; highest = Some id; last = None }) }
         ensures refused { OnErr result (self.new ≡ self.old) }
@@ -138,7 +137,8 @@ impl Session {
     pub fn remove(&mut self, id: u32) -> Result<(), EditError>
         ensures limit { IsErrOf result EditError.EditLimit ↔ (self.old.edits ≡ 1000000) }
         ensures none { (other : ℕ) → (IsErrOf result (EditError.NoSuch other) ↔ ((self.old.edits < 1000000) × All (λ c. c.id ≢ id) self.old.net.constraints × (other ≡ id))) }
-        ensures removed { IsOk result → self.new ≡ record self.old { net = record self.old.net { constraints = without_id id self.old.net.constraints; spare = self.old.net.spare + 1 }; kept = dropped self.old.kept id; edits = self.old.edits + 1; last = None } }
+        ensures removed { IsOk result → self.new ≡ record self.old { net = record self.old.net { constraints = without_id id self.old.net.constraints; spare = self.old.net.spare + 1 }; entries = self.new.entries; edits = self.old.edits + 1; last = None } }
+        ensures kept { IsOk result → kept_of self.new ≡ dropped (kept_of self.old) id }
         ensures refused { OnErr result (self.new ≡ self.old) }
     {
         self.check_limit()?;
@@ -156,7 +156,8 @@ impl Session {
         ensures limit { IsErrOf result EditError.EditLimit ↔ (self.old.edits ≡ 1000000) }
         ensures none { (other : ℕ) → (IsErrOf result (EditError.NoSuch other) ↔ ((self.old.edits < 1000000) × All (λ c. c.id ≢ id) self.old.net.constraints × (other ≡ id))) }
         ensures value { (v : ℤ) → (IsErrOf result (EditError.ValueRange v) ↔ ((self.old.edits < 1000000) × (All (λ c. c.id ≢ id) self.old.net.constraints → ⊥) × (IsValue most → ⊥) × (v ≡ most))) }
-        ensures changed { IsOk result → self.new ≡ record self.old { net = record self.old.net { constraints = map (with_most id most) self.old.net.constraints }; kept = dropped self.old.kept id; edits = self.old.edits + 1; last = None } }
+        ensures changed { IsOk result → self.new ≡ record self.old { net = record self.old.net { constraints = map (with_most id most) self.old.net.constraints }; entries = self.new.entries; edits = self.old.edits + 1; last = None } }
+        ensures kept { IsOk result → kept_of self.new ≡ dropped (kept_of self.old) id }
         ensures refused { OnErr result (self.new ≡ self.old) }
     {
         self.check_limit()?;
@@ -176,14 +177,15 @@ impl Session {
     /// The verdict of the network as edited. It is grown from the kept list, or afresh where that gets too long, and stands
     /// until the next accepted edit.
     pub fn verdict(&mut self) -> Outcome
-        ensures outcome { self.old.last ≡ None → result ≡ outcome_of (the_network self.old.net) self.old.cap self.old.kept }
-        ensures kept { self.old.last ≡ None → self.new ≡ record self.old { kept = kept_after (the_network self.old.net) self.old.cap self.old.kept; last = Some result; tries = self.new.tries } }
+        ensures outcome { self.old.last ≡ None → result ≡ outcome_of (the_network self.old.net) self.old.cap (kept_of self.old) }
+        ensures kept { self.old.last ≡ None → kept_of self.new ≡ kept_after (the_network self.old.net) self.old.cap (kept_of self.old) }
+        ensures same { self.new ≡ record self.old { entries = self.new.entries; last = Some result; tries = self.new.tries } }
         ensures again { (o : Outcome) → self.old.last ≡ Some o → (result ≡ o) × (self.new ≡ self.old) }
 
         ensures yes { (load : ℕ) → result.verdict ≡ Verdict.Yes load → IsConsistent (the_network self.old.net) }
         ensures no { (load : ℕ) → result.verdict ≡ Verdict.No load → IsConsistent (the_network self.old.net) → ⊥ }
-        ensures full { self.old.last ≡ None → (result.verdict ≡ Verdict.Full ↔ ((self.old.cap < length (grow (the_network self.old.net) self.old.kept)) × (self.old.cap < load_of (the_network self.old.net)))) }
-        ensures prefix { result.afresh ≡ false → (more : List Entry) × (self.old.kept ++ more ≡ self.new.kept) }
+        ensures full { self.old.last ≡ None → (result.verdict ≡ Verdict.Full ↔ ((self.old.cap < length (grow (the_network self.old.net) (kept_of self.old))) × (self.old.cap < load_of (the_network self.old.net)))) }
+        ensures prefix { result.afresh ≡ false → (more : List Entry) × (kept_of self.old ++ more ≡ kept_of self.new) }
         ensures tries { self.old.tries ≤ self.new.tries }
     {
         if let Some(outcome) = self.last {
@@ -198,8 +200,8 @@ impl Session {
     /// list with its ancestors, and how long the list is. Fails for want of memory alone.
     pub fn refutation(&self, alloc: Global) -> Result<Refutation, AllocError>
         requires no { (o : Outcome) × (load : ℕ) × (self.now.last ≡ Some o) × (o.verdict ≡ Verdict.No load) }
-        ensures part { IfOk result (λ r. the_steps r ≡ part self.now.kept) }
-        ensures load { IfOk result (λ r. r.load ≡ length self.now.kept) }
+        ensures part { IfOk result (λ r. the_steps r ≡ part (kept_of self.now)) }
+        ensures load { IfOk result (λ r. r.load ≡ length (kept_of self.now)) }
         ensures refutes { IfOk result (λ r. IsRefutation (the_network self.now.net) (the_steps r)) }
     {
         let load = self.log.len();
@@ -223,7 +225,7 @@ impl Session {
 
     /// The kept list, or nothing where there is no room for the base bounds.
     pub fn kept(&self) -> &Log
-        ensures kept { count (the_network self.now.net) ≤ self.now.cap → the_entries result.now.entries ≡ self.now.kept }
+        ensures kept { count (the_network self.now.net) ≤ self.now.cap → the_entries result.now.entries ≡ kept_of self.now }
         ensures empty { self.now.cap < count (the_network self.now.net) → the_entries result.now.entries ≡ [] }
     {
         &self.log

@@ -57,10 +57,18 @@ fn a_constraint_is_added_and_taken_out(rt: HostRuntime) -> Result<(), AllocError
     assert!(rt; session.verdict() == yes(6));
     assert!(rt; session.remove(3) == Err(EditError::NoSuch { id: 3 }));
     let most = 1_000_000_001;
-    assert!(rt; session.add(NodeId(1), NodeId(0), most, Label::empty()) == Err(EditError::ValueRange { most }));
-    assert!(rt; session.add(NodeId(1), NodeId(0), 0, only(P, Mark::Unknown)) == Err(EditError::NotPlain));
+    assert!(rt;
+        session.add(NodeId(1), NodeId(0), most, Label::empty())
+            == Err(EditError::ValueRange { most })
+    );
+    assert!(rt;
+        session.add(NodeId(1), NodeId(0), 0, only(P, Mark::Unknown)) == Err(EditError::NotPlain)
+    );
     let prop = Prop { index: 42 };
-    assert!(rt; session.add(NodeId(1), NodeId(0), 0, only(prop, Mark::Yes)) == Err(EditError::NotObserved { prop }));
+    assert!(rt;
+        session.add(NodeId(1), NodeId(0), 0, only(prop, Mark::Yes))
+            == Err(EditError::NotObserved { prop })
+    );
     assert!(rt; session.change(9, 1) == Err(EditError::NoSuch { id: 9 }));
     assert!(rt; session.change(2, -3) == Ok(()));
     assert!(rt; session.verdict() == no(7));
@@ -68,7 +76,12 @@ fn a_constraint_is_added_and_taken_out(rt: HostRuntime) -> Result<(), AllocError
 }
 
 // The outcomes of the branch before and after a constraint is added.
-fn two_outcomes(alloc: Global, net: Network, cap: u32, room: u32) -> Result<(Outcome, Result<u32, EditError>, Outcome, u32), AllocError> {
+fn two_outcomes(
+    alloc: Global,
+    net: Network,
+    cap: u32,
+    room: u32,
+) -> Result<(Outcome, Result<u32, EditError>, Outcome, u32), AllocError> {
     let mut session = Session::start(alloc, net, cap, room)?;
     let first = session.verdict();
     let added = session.add(NodeId(1), NodeId(0), -2, Label::empty());
@@ -81,13 +94,19 @@ fn caps_and_rooms(rt: HostRuntime) -> Result<(), AllocError> {
     let net = branch(rt.alloc())?.close().expect(&rt, "a network");
     assert!(rt; two_outcomes(rt.alloc(), net, 100, 10)? == (yes(5), Ok(2), yes(7), 7));
     let net = branch(rt.alloc())?.close().expect(&rt, "a network");
-    let afresh = Outcome { afresh: true, verdict: Verdict::Yes { load: 6 } };
+    let afresh = Outcome {
+        afresh: true,
+        verdict: Verdict::Yes { load: 6 },
+    };
     assert!(rt; two_outcomes(rt.alloc(), net, 6, 10)? == (yes(5), Ok(2), afresh, 6));
     let net = branch(rt.alloc())?.close().expect(&rt, "a network");
     assert!(rt; two_outcomes(rt.alloc(), net, 5, 10)? == (yes(5), Ok(2), full(), 3));
     let net = branch(rt.alloc())?.close().expect(&rt, "a network");
     assert!(rt; two_outcomes(rt.alloc(), net, 2, 10)? == (full(), Ok(2), full(), 0));
     let net = branch(rt.alloc())?.close().expect(&rt, "a network");
-    assert!(rt; two_outcomes(rt.alloc(), net, 100, 2)? == (yes(5), Err(EditError::NoRoom { room: 2 }), yes(5), 5));
+    assert!(rt;
+        two_outcomes(rt.alloc(), net, 100, 2)?
+            == (yes(5), Err(EditError::NoRoom { room: 2 }), yes(5), 5)
+    );
     Ok(())
 }
