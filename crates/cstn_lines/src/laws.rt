@@ -1,6 +1,7 @@
 //! Laws of lines. The calls do nothing: their contracts are the laws.
 ghost use Rattle.std.specs.Prelude.{◌≡◌, ◌⊎◌, ◌++◌, [], ◌∷◌, ℕ, List, Some};
 ghost use Rattle.cstn_lines.specs.Pieces.{lines_of, joined};
+ghost use Rattle.cstn_lines.specs.EditLines.{Edit, IsEdit, edit_read, printed_edit};
 ghost use Rattle.cstn_lines.specs.LiveLines.{Live, IsLive, live_read, printed_live};
 
 /// Each live line has one text.
@@ -9,6 +10,12 @@ pub fn live_lines_have_one_text()
     ensures back { (line : Live) → IsLive line → live_read (printed_live line) ≡ Some line }
     ensures only { (text : List ℕ) (line : Live) → live_read text ≡ Some line → printed_live line ≡ text }
     ensures live { (text : List ℕ) (line : Live) → live_read text ≡ Some line → IsLive line }
+{}
+
+/// What is printed of an edit line is read again as the same line.
+#[tactic(auto, using(crate::proofs::EditLemmas::edit_back))]
+pub fn edit_lines_are_read_back()
+    ensures { (line : Edit) → IsEdit line → edit_read (printed_edit line) ≡ Some line }
 {}
 
 /// The lines of some bytes, each with its LF, are these bytes, but for the last LF, which they may lack.

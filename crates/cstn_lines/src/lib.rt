@@ -1,12 +1,14 @@
 //! Lines of a live source, and what they say.
 #![tactic(auto)]
 
+mod edits;
 mod laws;
 mod lines;
 mod live;
 mod places;
 
-pub use laws::{joined_lines_are_the_bytes, live_lines_have_one_text};
+pub use edits::{EditLine, NameText, read_edit};
+pub use laws::{edit_lines_are_read_back, joined_lines_are_the_bytes, live_lines_have_one_text};
 pub use lines::{Lines, Next};
 pub use live::{LiveLine, read_live};
 

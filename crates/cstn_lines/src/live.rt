@@ -36,7 +36,7 @@ pub fn read_live(bytes: &[u8]) -> Option<LiveLine>
 }
 
 // What stands before the first space, and what stands after it.
-fn cut_at_space(bytes: &[u8]) -> Option<(&[u8], &[u8])>
+pub fn cut_at_space(bytes: &[u8]) -> Option<(&[u8], &[u8])>
     ensures { option_map (λ parts. (parts.0.now, parts.1.now)) result ≡ cut_at_space bytes.now }
 {
     let Some(i) = first_place(bytes, b' ') else {

@@ -1,8 +1,8 @@
 ghost use Rattle.std.specs.Prelude.{◌<◌};
 
-use crate::{Lines, LiveLine, Next, read_live};
+use crate::{EditLine, Lines, LiveLine, Next, read_edit, read_live};
 use cstn_io::MemorySource;
-use cstn_label::Prop;
+use cstn_label::{Label, Mark, Prop};
 use std::alloc::{AllocError, Global};
 use std::process::Abort;
 use std::test::Fail;
@@ -96,5 +96,77 @@ fn live_lines(rt: HostRuntime) -> Result<(), Fail> {
     expect_none(&rt, b"");
     expect_none(&rt, b" due");
     expect_none(&rt, b"due\r");
+    Ok(())
+}
+
+// Whether the bytes are the line that adds a constraint between these names, with this value and label.
+fn adds(
+    alloc: Global,
+    bytes: &[u8],
+    ends: [&str; 2],
+    most: i32,
+    label: Label,
+) -> Result<bool, AllocError> {
+    let Some(
+        EditLine::Add {
+            from,
+            to,
+            most: value,
+            label: marks,
+        },
+    ) = read_edit(alloc, bytes)?
+    else {
+        return Ok(false);
+    };
+    Ok(from.as_str() == ends[0] && to.as_str() == ends[1] && value == most && marks == label)
+}
+
+fn is_no_edit(alloc: Global, bytes: &[u8]) -> Result<bool, AllocError> {
+    Ok(read_edit(alloc, bytes)?.is_none())
+}
+
+#[test]
+fn edit_lines(rt: HostRuntime) -> Result<(), Fail> {
+    let alloc = rt.alloc();
+    let plain = Label::empty();
+    let p = Prop { index: 41 };
+    assert!(rt; adds(alloc, b"add P Z -3 -", ["P", "Z"], -3, plain)?);
+    assert!(rt;
+        adds(
+            alloc,
+            b"add P Z -3 ?p",
+            ["P", "Z"],
+            -3,
+            plain.with(p, Mark::Unknown)
+        )?
+    );
+    assert!(rt;
+        adds(
+            alloc,
+            b"add a%20b Z 0 !p",
+            ["a b", "Z"],
+            0,
+            plain.with(p, Mark::No)
+        )?
+    );
+    assert!(rt;
+        matches!(
+            read_edit(alloc, b"remove 3")?,
+            Some(EditLine::Remove { id: 3 })
+        )
+    );
+    assert!(rt;
+        matches!(
+            read_edit(alloc, b"change 2 -3")?,
+            Some(EditLine::Change { id: 2, most: -3 })
+        )
+    );
+    assert!(rt; matches!(read_edit(alloc, b"check")?, Some(EditLine::Check)));
+    assert!(rt; is_no_edit(alloc, b"add P Z -0 -")?);
+    assert!(rt; is_no_edit(alloc, b"add P Z -3")?);
+    assert!(rt; is_no_edit(alloc, b"add P Z -2147483649 -")?);
+    assert!(rt; is_no_edit(alloc, b"add %50 Z -3 -")?);
+    assert!(rt; is_no_edit(alloc, b"remove 4294967296")?);
+    assert!(rt; is_no_edit(alloc, b"check ")?);
     Ok(())
 }

@@ -1,0 +1,163 @@
+// Edit lines.
+ghost use Rattle.std.specs.Prelude.{◌≡◌, false, IfOk, codes, bytes_eq};
+ghost use Rattle.std.specs.Option.{option_map};
+ghost use Rattle.cstn_label.specs.Read.{marks};
+ghost use Rattle.cstn_lines.specs.EditLines.{the_edit, id_read, change_read, ends_read, limit_read, add_read, edited_read, edit_read};
+
+use crate::live::cut_at_space;
+use cstn_label::Label;
+use cstn_text::{read_label, read_name, read_number, read_value};
+use std::alloc::{AllocError, Global};
+use std::marker::Model;
+
+/// The name of a time-point.
+#[derive(Debug, Drop)]
+pub struct NameText {
+    text: String,
+}
+
+impl Model for NameText {
+    ghost use Rattle.std.specs.Prelude.{ℕ, List, string_bytes};
+
+    ghost Value = { List ℕ };
+
+    ghost view = { λ n. string_bytes n.text };
+}
+
+impl NameText {
+    /// The name itself, not as it is printed.
+    pub fn as_str(&self) -> &str
+        ensures text { result.now ≡ self.now }
+    {
+        self.text.as_str()
+    }
+}
+
+/// What an edit line says.
+#[derive(Debug, Drop)]
+pub enum EditLine {
+    /// `add FROM TO W LABEL`: two printed names, a value in ticks, and a label.
+    Add {
+        from: NameText,
+        to: NameText,
+        most: i32,
+        label: Label,
+    },
+    /// `remove ID`, with ID a number of at most 4,294,967,295.
+    Remove {
+        id: u32,
+    },
+    /// `change ID W`: such a number, and a value in ticks.
+    Change {
+        id: u32,
+        most: i32,
+    },
+    /// `check`.
+    Check,
+}
+
+/// The edit line that these bytes are, without their LF; none where they are of no other form, to a space. Fails for want of
+/// memory alone.
+pub fn read_edit(alloc: Global, bytes: &[u8]) -> Result<Option<EditLine>, AllocError>
+    ensures read { IfOk result (λ line. option_map the_edit line ≡ edit_read bytes.now) }
+{
+    if bytes == b"check".as_slice() {
+        return Ok(Some(EditLine::Check));
+    }
+    let Some((word, operands)) = cut_at_space(bytes) else {
+        return Ok(None);
+    };
+    if word == b"add".as_slice() {
+        return read_add(alloc, operands);
+    }
+    Ok(read_id_line(word, operands))
+}
+
+fn read_id_line(word: &[u8], operands: &[u8]) -> Option<EditLine>
+    requires { bytes_eq word.now (codes "add") ≡ false }
+    ensures { option_map the_edit result ≡ edited_read (word.now, operands.now) }
+{
+    if word == b"remove".as_slice() {
+        let id = read_id(operands)?;
+        return Some(EditLine::Remove { id });
+    }
+    if word == b"change".as_slice() {
+        return read_change(operands);
+    }
+    None
+}
+
+fn read_id(bytes: &[u8]) -> Option<u32>
+    ensures { result ≡ id_read bytes.now }
+{
+    let n = read_number(bytes)?;
+    if n > 4_294_967_295 {
+        return None;
+    }
+    Some(n as u32)
+}
+
+fn read_change(bytes: &[u8]) -> Option<EditLine>
+    ensures { option_map the_edit result ≡ change_read bytes.now }
+{
+    let (id, value) = cut_at_space(bytes)?;
+    let id = read_id(id)?;
+    let most = read_value(value)?;
+    Some(EditLine::Change { id, most })
+}
+
+fn read_add(alloc: Global, bytes: &[u8]) -> Result<Option<EditLine>, AllocError>
+    ensures { IfOk result (λ line. option_map the_edit line ≡ add_read bytes.now) }
+{
+    let Some((from, rest)) = cut_at_space(bytes) else {
+        return Ok(None);
+    };
+    let Some((to, rest)) = cut_at_space(rest) else {
+        return Ok(None);
+    };
+    let Some((value, label)) = cut_at_space(rest) else {
+        return Ok(None);
+    };
+    read_limit(alloc, from, to, value, label)
+}
+
+fn read_limit(
+    alloc: Global,
+    from: &[u8],
+    to: &[u8],
+    value: &[u8],
+    label: &[u8],
+) -> Result<Option<EditLine>, AllocError>
+    ensures { IfOk result (λ line. option_map the_edit line ≡ limit_read from.now to.now (value.now, label.now)) }
+{
+    let Some(most) = read_value(value) else {
+        return Ok(None);
+    };
+    let Some(label) = read_label(label) else {
+        return Ok(None);
+    };
+    read_ends(alloc, from, to, most, label)
+}
+
+fn read_ends(
+    alloc: Global,
+    from: &[u8],
+    to: &[u8],
+    most: i32,
+    label: Label,
+) -> Result<Option<EditLine>, AllocError>
+    ensures { IfOk result (λ line. option_map the_edit line ≡ ends_read from.now to.now most (marks label)) }
+{
+    let Some(from) = read_name(alloc, from)? else {
+        return Ok(None);
+    };
+    let Some(to) = read_name(alloc, to)? else {
+        return Ok(None);
+    };
+    Ok(Some(EditLine::Add {
+        from: NameText { text: from },
+        to: NameText { text: to },
+        most,
+        label,
+    }))
+}
