@@ -14,7 +14,7 @@ ghost use Rattle.cstn_check.specs.Growth.{grow, load_of};
 ghost use Rattle.cstn_refute.specs.Refutations.{the_steps};
 ghost use Rattle.cstn_edit.specs.Sessions.{kept_of, IsUnobserved, IsLeastUnobserved, next_id, highest_of, kept_after, outcome_of};
 
-use crate::answers::answer;
+use crate::answers::{answer, is_well_formed};
 use crate::errors::EditError;
 use crate::labels::{is_value, unobserved};
 use crate::outcomes::Outcome;
@@ -204,6 +204,7 @@ impl Session {
         ensures load { IfOk result (λ r. r.load ≡ length (kept_of self.now)) }
         ensures refutes { IfOk result (λ r. IsRefutation (the_network self.now.net) (the_steps r)) }
     {
+        is_well_formed(&self.net);
         let load = self.log.len();
         let steps = self.log.part(alloc)?;
         Ok(Refutation::new(load, steps))
