@@ -1,15 +1,19 @@
 -- What stands of a session when a constraint is added.
-use Rattle.std.proofs.Common.{ℕ, zero, suc, ◌≡◌, ◌*◌, ◌+◌, ◌<◌, ◌≤◌, ◌^◌, List, [], ◌∷◌, ◌++◌, length, map, Option, Some, None, arith, refl, sym, subst, ap, ◌∙◌}
+use Rattle.std.proofs.Common.{inl, inr, ℕ, zero, suc, ◌≡◌, ◌*◌, ◌+◌, ◌<◌, ◌≤◌, ◌^◌, List, [], ◌∷◌, ◌++◌, length, map, Option, Some, None, arith, refl, sym, subst, ap, ◌∙◌}
 use Rattle.std.specs.List.{All, Contains}
+use Rattle.std.specs.Coded.{le_prop}
+use Rattle.std.proofs.lemmas.Bool.{cases_lt}
 use Rattle.std.proofs.lemmas.List.{length-append, map-append}
 use Rattle.std.proofs.lemmas.List.Elements.{All-push, All-weaker, Contains-append_left}
+use Rattle.cstn_label.specs.declared.props.Prop.{Prop}
+use Rattle.cstn_label.specs.Labels.{Label}
 use Rattle.cstn_net.specs.declared.constraints.Constraint.{Constraint}
 use Rattle.cstn_net.specs.Networks.{Network, Constraint as TheConstraint}
 use Rattle.cstn_net.specs.Read.{NetworkParts, the_network, the_constraint}
 use Rattle.cstn_rules.proofs.Derived.{with_constraints, derivation_elsewhere}
 use Rattle.cstn_log.specs.Entries.{State, the_entries}
 use Rattle.cstn_edit.specs.declared.outcomes.Outcome.{Outcome}
-use Rattle.cstn_edit.specs.Sessions.{next_id, most_births, IsKeptLog, IsSession}
+use Rattle.cstn_edit.specs.Sessions.{next_id, most_births, IsLeastUnobserved, IsKeptLog, IsSession}
 
 -- a log is kept for a network with further constraints
 longer_log : (net : Network) (cs : List TheConstraint) (log : State) →
@@ -58,3 +62,23 @@ added_session old new c log room edits highest last session is spare few more id
       small = let small = session.small in omega arith;
       refuted = tt;
     }
+
+-- two least propositions are one
+least_once : (net : Network) (a : Label) (p q : ℕ) → IsLeastUnobserved net a p → IsLeastUnobserved net a q → p ≡ q
+least_once net a p q one other = elim (cases_lt p q) [
+  | inl below ↦ absurd (other.1 p below one.0)
+  | inr upto ↦ elim (cases_lt q p) [
+    | inl above ↦ absurd (one.1 q above other.0)
+    | inr same ↦ omega arith
+  ]
+]
+
+same_built : (i : ℕ) (h k : i < 52) → ◌≡◌ {A = Prop} (record { index = i; in_range = h }) (record { index = i; in_range = k })
+same_built i h k = let e : h ≡ k = le_prop h k in cc
+
+same_prop : (p q : Prop) → p.index ≡ q.index → p ≡ q
+same_prop p q e =
+    subst (λ i. (k : i < 52) → p ≡ record { index = i; in_range = k }) e (λ k. same_built p.index p.in_range k) q.in_range
+
+pub least_prop : (net : Network) (a : Label) (p q : Prop) → IsLeastUnobserved net a p.index → IsLeastUnobserved net a q.index → p ≡ q
+least_prop net a p q one other = same_prop p q (least_once net a p.index q.index one other)
