@@ -2,7 +2,7 @@
 use Rattle.std.proofs.Common.{ℕ, zero, suc, ◌≡◌, ◌-◌, ◌<◌, ◌≤◌, inl, inr, List, length, get_or, Option, Some, arith, sym, subst, ap, ◌∙◌}
 use Rattle.std.specs.Prelude.{slice_get}
 use Rattle.std.proofs.lemmas.Int.{ints}
-use Rattle.std.proofs.lemmas.Bool.{cases_lt, le-ltb, cond-false}
+use Rattle.std.proofs.lemmas.Bool.{cases_lt}
 use Rattle.std.proofs.lemmas.List.{length-map}
 use Rattle.std.proofs.lemmas.Option.{slice_get_within, slice_get-get_or}
 use Rattle.cstn_net.specs.Networks.{Network, IsWellFormed, count, limit}
@@ -21,7 +21,7 @@ use Rattle.cstn_check.proofs.PartLemmas.{part_short}
 use Rattle.cstn_check.proofs.Reading.{entry_at}
 use Rattle.cstn_check.proofs.Starts.{kept_from, apart_from}
 use Rattle.cstn_edit.specs.declared.outcomes.Outcome.{Outcome}
-use Rattle.cstn_edit.specs.Sessions.{Refuted, IsKeptLog, kept_list}
+use Rattle.cstn_edit.specs.Sessions.{Refuted, IsKeptLog}
 
 -- after a no the last entry refutes
 pub last_refutes : (net : Network) (log : State) (last : Option Outcome) (o : Outcome) (load : ℕ) → last ≡ Some o → o.verdict ≡ No load →
@@ -33,11 +33,11 @@ limit_in_time net good zero = omega arith
 limit_in_time net good (suc x) = good.in_time
 
 module _ (net : Network) (good : IsWellFormed net) (log : State) (kept : IsKeptLog net log) (last : LastRefutes net (the_entries log.entries)) where
-  pub refutation_kept : IsRefutation net (the_entries log.entries)
+  refutation_kept : IsRefutation net (the_entries log.entries)
   refutation_kept = record { derivation = kept.derivation; last = last.last; is_last = last.is_last; refutes = last.refutes }
 
   -- a log with an entry has room for the base bounds
-  pub room_kept : count net ≤ log.cap
+  room_kept : count net ≤ log.cap
   room_kept = elim (cases_lt log.cap (count net)) [
     | inl few ↦
         let none = ap length (kept.empty few) in
@@ -45,9 +45,6 @@ module _ (net : Network) (good : IsWellFormed net) (log : State) (kept : IsKeptL
         absurd (omega arith)
     | inr room ↦ omega arith
   ]
-
-  pub list_kept : kept_list net log.cap (the_entries log.entries) ≡ the_entries log.entries
-  list_kept = cond-false _ _ _ (le-ltb log.cap (count net) room_kept)
 
   entries_kept : AllNew log.entries → IsKept net (the_entries log.entries)
   entries_kept new =
