@@ -1,8 +1,8 @@
 -- What a check's log says of its network.
 use Rattle.std.proofs.Common.{ℕ, zero, suc, ◌≡◌, ◌-◌, ◌<◌, ◌≤◌, inl, inr, true, List, [], ◌∷◌, ◌++◌, length, take, drop, Some, arith, refl, sym, subst, ap, ◌∙◌}
 use Rattle.std.specs.Prelude.{slice_get, ◌↔◌, nat_lt}
-use Rattle.std.proofs.lemmas.Bool.{cases_Bool, false≢true, ltb-true, cond-true, cond-false}
-use Rattle.std.proofs.lemmas.List.{length-map, take-append-drop}
+use Rattle.std.proofs.lemmas.Bool.{cases_Bool, false≢true, ltb-true, ltb-false, cond-true, cond-false}
+use Rattle.std.proofs.lemmas.List.{length-map, take-append-drop, append-nil}
 use Rattle.std.proofs.lemmas.Option.{slice_get_within}
 use Rattle.cstn_net.specs.Networks.{Network, IsWellFormed, count}
 use Rattle.cstn_rules.specs.Derivations.{Entry, IsDerivation}
@@ -36,12 +36,17 @@ module _ (net : Network) (s : State) (good : IsWellFormed net) (started : IsStar
     | inr large ↦ started.entries ∙ cond-false _ _ _ large
   ]
 
+  pub has_room : (length s.entries ≡ 0 → ⊥) → count net ≤ s.cap
+  has_room some = elim (cases_Bool (nat_lt s.cap (count net))) [
+    | inl small ↦
+        let none = ap length (started.entries ∙ cond-true _ _ _ small) in
+        let long : length (the_entries s.entries) ≡ length s.entries = length-map s.entries the_entry in
+        absurd (some (omega arith))
+    | inr large ↦ ltb-false s.cap (count net) large
+  ]
+
   pub bases_begin : (length s.entries ≡ 0 → ⊥) → (more : List Entry) × (bases (count net) ++ more ≡ the_entries s.entries)
-  bases_begin some = ([], append_none (bases (count net)) ∙ sym (has_bases some))
-    where
-      append_none : (L : List Entry) → L ++ [] ≡ L
-      append_none [] = refl
-      append_none (x ∷ xs) = ap (λ l. x ∷ l) (append_none xs)
+  bases_begin some = ([], append-nil (bases (count net)) ∙ sym (has_bases some))
 
   pub start_derived : (length s.entries ≡ 0 → ⊥) → IsDerivation net (the_entries s.entries)
   start_derived some =
@@ -68,6 +73,7 @@ module _ (net : Network) (s : State) (good : IsWellFormed net) (started : IsStar
                 rest = log_of net;
                 is = ap (λ l. l ++ log_of net) (started.entries ∙ cond-true _ _ _ small);
               },
+              λ few. started.entries ∙ cond-true _ _ _ small,
             )
         | inr large ↦
             let all = ap length (started.entries ∙ cond-false _ _ _ large) in
@@ -96,10 +102,10 @@ pub verdict_from : (net : Network) (old new : State) (r : Grown) (v : Verdict) (
     (r ≡ Full → the_entries new.entries ≡ take old.cap (grow net (the_entries old.entries))) →
     ((r ≡ Full → ⊥) → the_entries new.entries ≡ grow net (the_entries old.entries)) →
     (r ≡ Refuted ↔ ((r ≡ Full → ⊥) × LastRefutes net (the_entries new.entries))) → load ≡ length new.entries →
-    load ≤ old.cap →
+    load ≤ old.cap → count net ≤ old.cap →
     (r ≡ Closed → v ≡ Yes load) → (r ≡ Refuted → v ≡ No load) → (r ≡ Full → v ≡ FullVerdict) →
     IsVerdict net old.cap (the_entries new.entries) v
-verdict_from net old new Closed v load good base full cut whole refuted is short y n f =
+verdict_from net old new Closed v load good base full cut whole refuted is short room y n f =
     let list = whole (λ e. cc) ∙ ap (grow net) base in
     let long : length (the_entries new.entries) ≡ length new.entries = length-map new.entries the_entry in
     let same : load ≡ load_of net = is ∙ sym long ∙ ap length list in
@@ -115,13 +121,13 @@ verdict_from net old new Closed v load good base full cut whole refuted is short
             cc
       ],
     )
-verdict_from net old new Refuted v load good base full cut whole refuted is short y n f =
+verdict_from net old new Refuted v load good base full cut whole refuted is short room y n f =
     let list = whole (λ e. cc) ∙ ap (grow net) base in
     let long : length (the_entries new.entries) ≡ length new.entries = length-map new.entries the_entry in
     let same : load ≡ load_of net = is ∙ sym long ∙ ap length list in
     subst (λ w. IsVerdict net old.cap (the_entries new.entries) w) (sym (n refl))
     (same, omega arith, list, subst (λ l. LastRefutes net l) list (refuted.0 refl).1)
-verdict_from net old new Full v load good base full cut whole refuted is short y n f =
+verdict_from net old new Full v load good base full cut whole refuted is short room y n f =
     let above = full.0 refl in
     let loads : length (grow net (the_entries old.entries)) ≡ load_of net = ap (λ l. length (grow net l)) base in
     subst (λ w. IsVerdict net old.cap (the_entries new.entries) w) (sym (f refl)) (
@@ -131,4 +137,5 @@ verdict_from net old new Full v load good base full cut whole refuted is short y
         is = ap (λ l. l ++ drop old.cap (log_of net)) (cut refl ∙ ap (λ l. take old.cap (grow net l)) base)
             ∙ take-append-drop old.cap (log_of net);
       },
+      λ few. absurd (omega arith),
     )

@@ -22,7 +22,7 @@ use Rattle.cstn_rules.specs.Derivations.{Entry}
 use Rattle.cstn_check.specs.Kept.{AllGood, IsGood, IsKept, IsRanged}
 use Rattle.cstn_log.proofs.FinishLemmas.{limit_deadline}
 use Rattle.cstn_check.specs.Tests.{dominates, is_plain, is_absent, chain_of, wait_for as wait_by, wait_of}
-use Rattle.cstn_check.specs.Growth.{Instance, why_of, is_covered, is_refuted, of_one, of_two, conclusion, grown, observed, most_entries}
+use Rattle.cstn_check.specs.Growth.{Instance, why_of, is_covered, is_refuted, of_one, of_two, conclusion, grown, log_of, observed, most_entries}
 use Rattle.cstn_log.specs.Entries.{bases}
 use Rattle.cstn_check.proofs.Decided.{HasLetters, dominates_true}
 use Rattle.cstn_check.specs.Growth.Instance.{chain_at, wait_at}
@@ -305,3 +305,6 @@ module _ (net : Network) (wf : IsNetwork net) (letters : HasLetters net) where
 
   pub grown_short : (n : ℕ) → length (grown net (bases (count net)) n) ≤ most_entries net
   grown_short n = grown_short_from (bases (count net)) n bases_kept
+
+  pub log_kept : IsKept net (log_of net)
+  log_kept = grown_keeps net (IsKept net) kept_more (bases (count net)) (length (bases (count net)) + most_entries net) bases_kept

@@ -76,8 +76,8 @@ module _ (net : Network) (start : List Entry) (wf : IsNetwork net) (letters : Ha
   pub grown_closed : is_refuted net (grow net start) ≡ false → IsClosed net (live_bounds (grow net start))
   grown_closed on = closes_from net start (length start + most_entries net) wf letters kept.good kept.based (let s = grown_short_from net wf letters start (length start + most_entries net) kept in omega arith) on
 
-  live_sound : AllSound net (live_bounds (grow net start))
-  live_sound table strategy b has =
+  pub grown_live_sound : AllSound net (live_bounds (grow net start))
+  grown_live_sound table strategy b has =
       let at = listed_live (grow net start) b has in
       subst (λ x. HoldsIn net table x) at.bound (grown_sound table strategy at.place at.entry at.there)
 
@@ -98,7 +98,7 @@ module _ (net : Network) (start : List Entry) (wf : IsNetwork net) (letters : Ha
       let closed = grown_closed (consistent_on c) in (
         asked net (live_bounds (grow net start)),
         asked_strategy net (live_bounds (grow net start)) wf closed,
-        asked_least net (live_bounds (grow net start)) wf closed live_sound,
+        asked_least net (live_bounds (grow net start)) wf closed grown_live_sound,
       )
 
 pub log_decides : (net : Network) → IsNetwork net → HasLetters net → IsConsistent net ↔ (is_refuted net (log_of net) ≡ false)
@@ -120,6 +120,10 @@ module _ (net : Network) (wf : IsNetwork net) (letters : HasLetters net) where
 
   pub log_closed : is_refuted net (log_of net) ≡ false → IsClosed net (live_bounds (log_of net))
   log_closed = grown_closed net (bases (count net)) wf letters (bases_kept net wf letters)
+      (bases_derived net wf letters (count net) (omega arith))
+
+  pub log_sound : AllSound net (live_bounds (log_of net))
+  log_sound = grown_live_sound net (bases (count net)) wf letters (bases_kept net wf letters)
       (bases_derived net wf letters (count net) (omega arith))
 
   pub log_last : (e : Entry) → slice_get (log_of net) (length (log_of net) - 1) ≡ Some e →

@@ -5,7 +5,7 @@ use Rattle.cstn_label.specs.Labels.{empty}
 use Rattle.cstn_net.specs.Networks.{Network, count}
 use Rattle.cstn_log.specs.Entries.{bases}
 use Rattle.cstn_check.specs.Growth.{step, grown, log_of, most_entries, is_refuted}
-use Rattle.cstn_check.specs.Examples.{HasLog, Shows, Line, line_of, of_two_marks, after, before, prompt, branch_and, crossed_and, unknown_mark, process, crossed_lines, unknown_mark_lines, process_lines}
+use Rattle.cstn_check.specs.Examples.{HasLog, Shows, Line, line_of, of_two_marks, after, before, prompt, branch_and, crossed_and, unknown_mark, process, drawn, crossed_lines, unknown_mark_lines, process_lines}
 use Rattle.cstn_check.proofs.Grows.{grown_idle}
 
 -- the log is what grows in as many turns as it then has entries
@@ -57,6 +57,10 @@ log_unknown_mark = has_log unknown_mark 14 true refl refl (omega arith)
 pub log_process : HasLog process 14 false
 unfolding step
 log_process = has_log process 14 false refl refl (omega arith)
+
+pub log_drawn : HasLog drawn 31 false
+unfolding step
+log_drawn = has_log drawn 31 false refl refl (omega arith)
 
 pub lines_crossed : Shows (crossed_and []) crossed_lines
 unfolding step

@@ -17,3 +17,6 @@ pub mod Starts
 pub mod Outcomes
 pub mod Answering
 pub mod VerdictLemmas
+pub mod Keeping
+pub mod PlanLemmas
+pub mod PartLemmas

@@ -1,5 +1,6 @@
 -- Checks of a network.
-use Rattle.std.specs.Prelude.{ℕ, ◌≡◌, ◌<◌, ◌≤◌, Option, Some, None, List, ◌++◌, false}
+use Rattle.std.specs.Prelude.{ℕ, ◌≡◌, ◌<◌, ◌≤◌, Option, Some, None, List, [], ◌++◌, false}
+use Rattle.cstn_label.specs.declared.bounds.Bound.{Bound}
 use Rattle.cstn_net.specs.Networks.{Network, count}
 use Rattle.cstn_net.specs.Read.{NetworkParts}
 use Rattle.cstn_rules.specs.Derivations.{Entry}
@@ -30,9 +31,15 @@ pub record IsPrefix (front list : List Entry) : Type 0 where
 abbrev pub IsVerdict : Network → ℕ → List Entry → Verdict → Type 0
 IsVerdict net cap list (Yes load) = (load ≡ load_of net) × (load_of net ≤ cap) × (list ≡ log_of net) × (is_refuted net (log_of net) ≡ false)
 IsVerdict net cap list (No load) = (load ≡ load_of net) × (load_of net ≤ cap) × (list ≡ log_of net) × LastRefutes net (log_of net)
-IsVerdict net cap list Full = (cap < load_of net) × IsPrefix list (log_of net)
+IsVerdict net cap list Full = (cap < load_of net) × IsPrefix list (log_of net) × (cap < count net → list ≡ [])
 
--- a check that hasn't answered has its first entries, and one that has has what its verdict says
-abbrev pub IsCheck : Network → State → Option Verdict → Type 0
-IsCheck net log None = IsStarted net log
-IsCheck net log (Some v) = IsVerdict net log.cap (the_entries log.entries) v
+-- a log that hasn't answered has its first entries, and one that has has what its verdict says
+abbrev pub HasAnswered : Network → State → Option Verdict → Type 0
+HasAnswered net log None = IsStarted net log
+HasAnswered net log (Some v) = IsVerdict net log.cap (the_entries log.entries) v
+
+-- a check has what it has answered, and room for a bound of each entry
+pub record IsCheck (net : Network) (log : State) (verdict : Option Verdict) (bounds : List Bound) (room : ℕ) : Type 0 where
+  pub answered : HasAnswered net log verdict
+  pub empty : bounds ≡ []
+  pub enough : log.cap ≤ room

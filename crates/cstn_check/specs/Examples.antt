@@ -55,6 +55,22 @@ process = prompt 40 (None ∷ (None ∷ (Some 0 ∷ (None ∷ (None ∷ [])))))
     (after 0 2 1 5 empty ∷ (before 1 1 2 10 empty ∷ (after 2 3 2 2 (of_two_marks Yes Absent) ∷
     (after 3 3 2 8 (of_two_marks No Absent) ∷ (after 4 4 3 3 empty ∷ (before 5 0 4 30 empty ∷ []))))))
 
+-- the marks of the first propositions
+abbrev pub of_marks : List Mark → Label
+of_marks [] p = Absent
+of_marks (m ∷ ms) zero = m
+of_marks (m ∷ ms) (suc p) = of_marks ms p
+
+-- six time-points beside the origin, of which three observe, and twelve constraints drawn by chance
+abbrev pub drawn : Network
+drawn = prompt 22 (None ∷ (Some 0 ∷ (Some 1 ∷ (Some 2 ∷ (None ∷ (None ∷ (None ∷ [])))))))
+    (after 0 4 1 0 empty ∷ (before 1 3 5 14 (of_marks (Yes ∷ [])) ∷
+    (after 2 1 0 2 (of_marks (Absent ∷ (Absent ∷ (Yes ∷ [])))) ∷ (after 3 2 0 6 empty ∷ (after 4 3 0 2 empty ∷
+    (after 5 6 0 8 (of_marks (Yes ∷ (Absent ∷ (Yes ∷ [])))) ∷ (after 6 2 0 2 (of_marks (Absent ∷ (No ∷ []))) ∷
+    (after 7 6 0 2 (of_marks (Absent ∷ (Absent ∷ (Yes ∷ [])))) ∷ (after 8 3 0 5 (of_marks (Absent ∷ (No ∷ []))) ∷
+    (after 9 6 1 1 (of_marks (No ∷ (Yes ∷ []))) ∷ (after 10 6 4 8 (of_marks (No ∷ (Absent ∷ (No ∷ [])))) ∷
+    (after 11 2 0 9 (of_marks (Absent ∷ (No ∷ (No ∷ [])))) ∷ []))))))))))))
+
 -- an entry as a line: its time-point, its least value, its marks on 0 and 1, and why
 pub record Line : Type 0 where
   pub node : ℕ

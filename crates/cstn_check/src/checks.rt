@@ -1,31 +1,42 @@
-ghost use Rattle.std.specs.Prelude.{ℕ, ◌≡◌, ◌<◌, ◌≤◌, ◌↔◌, IfOk, Some, None};
+ghost use Rattle.std.specs.Prelude.{ℕ, ◌≡◌, ◌<◌, ◌≤◌, ◌↔◌, IfOk, Some, None, []};
+ghost use Rattle.std.specs.List.{All};
+ghost use Rattle.cstn_net.specs.Networks.{count};
 ghost use Rattle.cstn_net.specs.Strategies.{IsConsistent};
 ghost use Rattle.cstn_net.specs.Read.{the_network};
+ghost use Rattle.cstn_rules.specs.Derivations.{IsRefutation};
+ghost use Rattle.cstn_log.specs.Cuts.{part};
 ghost use Rattle.cstn_log.specs.Entries.{the_entries};
-ghost use Rattle.cstn_check.specs.Growth.{log_of, load_of};
+ghost use Rattle.cstn_log.specs.Plans.{the_bounds};
+ghost use Rattle.cstn_refute.specs.Refutations.{FitsText, the_steps};
+ghost use Rattle.cstn_check.specs.Growth.{log_of, load_of, live_bounds, most_entries};
 ghost use Rattle.cstn_check.specs.Turns.{LastRefutes};
 ghost use Rattle.cstn_check.specs.declared.verdicts.Verdict.{Verdict};
-ghost use Rattle.cstn_check.specs.Checks.{IsStarted, IsVerdict};
+ghost use Rattle.cstn_check.specs.Checks.{IsStarted, IsVerdict, IsPrefix};
 
 use crate::growth::{Grown, grow};
+use crate::plans::live_bounds;
 use crate::turns::is_well_formed;
 use crate::verdicts::Verdict;
-use cstn_log::Log;
+use cstn_label::Bound;
+use cstn_log::{Log, SoundPlan};
 use cstn_net::Network;
+use cstn_refute::Refutation;
 use cstn_rules::Tries;
 use std::alloc::{AllocError, Global};
 use std::marker::Model;
 
-/// A network with the log that grows from it, and the verdict once it was asked for.
+/// A network with the log that grows from it, the verdict once it was asked for, and room for the bounds of a plan.
 #[derive(Drop)]
 pub struct Check {
     net: Network,
     log: Log,
     tries: Tries,
     verdict: Option<Verdict>,
+    bounds: Vec<Bound>,
 }
 
 impl Model for Check {
+    ghost use Rattle.std.specs.Prelude.{vec_capacity};
     ghost use Rattle.cstn_net.specs.Read.{the_network};
     ghost use Rattle.cstn_check.specs.Checks.{CheckParts, IsCheck};
 
@@ -33,7 +44,7 @@ impl Model for Check {
 
     ghost view = { λ c. record { net = c.net; cap = c.log.cap; verdict = c.verdict } };
 
-    ghost invariant = { λ c. IsCheck (the_network c.net) c.log c.verdict };
+    ghost invariant = { λ c. IsCheck (the_network c.net) c.log c.verdict c.bounds.items (vec_capacity c.bounds) };
 }
 
 impl Check {
@@ -45,23 +56,26 @@ impl Check {
         ensures start { IfOk result (λ check. check ≡ record { net = net; cap = cap; verdict = None }) }
     {
         let log = Log::start(alloc, &net, cap)?;
+        let bounds = Vec::with_capacity(alloc, cap as usize)?;
         Ok(Check {
             net,
             log,
             tries: Tries { count: 0 },
             verdict: None,
+            bounds,
         })
     }
 
     /// The verdict: full exactly where the load is above the cap, else no exactly where the last entry of the log refutes
-    /// the network, and yes else, with the load. Yes and no are right: a strategy exists, or none does.
+    /// the network, and yes else, with the load. Unless the log is full, it is yes exactly where there is a strategy.
     pub fn run(&mut self) -> Verdict
         ensures full { result ≡ Verdict.Full ↔ (self.old.cap < load_of (the_network self.old.net)) }
+        ensures bounded { result ≡ Verdict.Full → self.old.cap < most_entries (the_network self.old.net) }
         ensures no { (load : ℕ) → (result ≡ Verdict.No load ↔ ((load ≡ load_of (the_network self.old.net)) × (load_of (the_network self.old.net) ≤ self.old.cap) × LastRefutes (the_network self.old.net) (log_of (the_network self.old.net)))) }
         ensures yes { (load : ℕ) → (result ≡ Verdict.Yes load ↔ ((load ≡ load_of (the_network self.old.net)) × (load_of (the_network self.old.net) ≤ self.old.cap) × ¬ LastRefutes (the_network self.old.net) (log_of (the_network self.old.net)))) }
 
-        ensures yes_truth { (load : ℕ) → result ≡ Verdict.Yes load → IsConsistent (the_network self.old.net) }
-        ensures no_truth { (load : ℕ) → result ≡ Verdict.No load → IsConsistent (the_network self.old.net) → ⊥ }
+        ensures exactly_yes { (load : ℕ) → (result ≡ Verdict.Yes load ↔ ((load ≡ load_of (the_network self.old.net)) × (load_of (the_network self.old.net) ≤ self.old.cap) × IsConsistent (the_network self.old.net))) }
+        ensures exactly_no { (load : ℕ) → (result ≡ Verdict.No load ↔ ((load ≡ load_of (the_network self.old.net)) × (load_of (the_network self.old.net) ≤ self.old.cap) × ¬ IsConsistent (the_network self.old.net))) }
         ensures answered { self.new ≡ record self.old { verdict = Some result } }
         ensures again { (v : Verdict) → self.old.verdict ≡ Some v → result ≡ v }
     {
@@ -72,6 +86,47 @@ impl Check {
         let verdict = answer(&self.net, &mut self.log, &mut self.tries);
         self.verdict = Some(verdict);
         verdict
+    }
+
+    /// The log: all of it, once the check has answered yes or no, and else a front of it, which is empty where `cap` is
+    /// below the number of time-points.
+    pub fn kept(&self) -> &Log
+        ensures whole { (v : Verdict) → self.now.verdict ≡ Some v → (v ≡ Verdict.Full → ⊥) → the_entries result.now.entries ≡ log_of (the_network self.now.net) }
+        ensures front { IsPrefix (the_entries result.now.entries) (log_of (the_network self.now.net)) }
+        ensures empty { self.now.cap < count (the_network self.now.net) → the_entries result.now.entries ≡ [] }
+        ensures size { result.now.cap ≡ self.now.cap }
+    {
+        is_well_formed(&self.net);
+        &self.log
+    }
+
+    /// What refutes the network, once the check has answered no: the last entry of the log with its ancestors, and the load.
+    pub fn refutation(&self, alloc: Global) -> Result<Refutation, AllocError>
+        requires no { (load : ℕ) × (self.now.verdict ≡ Some (Verdict.No load)) }
+        ensures part { IfOk result (λ r. the_steps r ≡ part (log_of (the_network self.now.net))) }
+        ensures load { IfOk result (λ r. r.load ≡ load_of (the_network self.now.net)) }
+        ensures refutes { IfOk result (λ r. IsRefutation (the_network self.now.net) (the_steps r)) }
+
+        // It can be printed with the names of the time-points, and its text gives it back.
+        ensures named { IfOk result (λ r. All (λ e. e.bound.node.0 < count (the_network self.now.net)) r.steps) }
+        ensures text { IfOk result FitsText }
+    {
+        is_well_formed(&self.net);
+        let load = self.log.len();
+        let steps = self.log.part(alloc)?;
+        Ok(Refutation::new(load, steps))
+    }
+
+    /// The plan that a yes leaves: the network, and the bounds of the live entries of its log, in order.
+    pub fn into_plan(self) -> SoundPlan
+        requires yes { (load : ℕ) × (self.verdict ≡ Some (Verdict.Yes load)) }
+        ensures network { result.net ≡ self.net }
+        ensures live { the_bounds result.bounds ≡ live_bounds (log_of (the_network self.net)) }
+    {
+        is_well_formed(&self.net);
+        let room = self.bounds;
+        let bounds = live_bounds(&self.log, room);
+        SoundPlan::new(self.net, bounds)
     }
 
     /// The network.

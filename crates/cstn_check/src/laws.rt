@@ -9,7 +9,7 @@ ghost use Rattle.cstn_rules.specs.Closed.{IsClosed};
 ghost use Rattle.cstn_rules.specs.Derivations.{Entry, IsDerivation};
 ghost use Rattle.cstn_rules.specs.Rules.{Refutes};
 ghost use Rattle.cstn_log.specs.Entries.{bases};
-ghost use Rattle.cstn_check.specs.Examples.{HasLog, Shows, of_two_marks, after, before, prompt, branch_and, crossed_and, unknown_mark, process, crossed_lines, unknown_mark_lines, process_lines};
+ghost use Rattle.cstn_check.specs.Examples.{HasLog, Shows, of_two_marks, after, before, prompt, branch_and, crossed_and, unknown_mark, process, drawn, crossed_lines, unknown_mark_lines, process_lines};
 ghost use Rattle.cstn_check.specs.Growth.{grown, grow, log_of, load_of, most_entries, is_refuted, live_bounds};
 
 /// The load is at most n * 4^k * (H + 2): n time-points, k observed propositions, H the deadline.
@@ -45,6 +45,7 @@ pub fn loads_are_known()
     ensures crossed_no { HasLog (crossed_and (before 2 0 1 4 (of_two_marks Absent No) ∷ [])) 9 true }
     ensures unknown { HasLog unknown_mark 14 true }
     ensures process { HasLog process 14 false }
+    ensures drawn { HasLog drawn 31 false }
 {}
 
 /// Three whole logs.

@@ -4,6 +4,7 @@
 mod checks;
 mod growth;
 mod laws;
+mod plans;
 mod turns;
 mod verdicts;
 

@@ -1,20 +1,18 @@
 -- What a builder holds of a draft, and the network that it makes.
 use Rattle.std.proofs.Common.{◌≡◌, ℕ, ◌+◌, ◌<◌, Bool, true, false, List, [], ◌∷◌, ◌++◌, length, map, refl, ap, sym, ◌∙◌, Option, Some, None, subst, arith, cond}
-use Rattle.std.specs.Prelude.{option_map, ℤ}
+use Rattle.std.specs.Prelude.{option_map}
 use Rattle.std.specs.List.{All}
 use Rattle.cstn_net.specs.Networks.{Network, Constraint}
-use Rattle.std.proofs.lemmas.List.{map-append, append_assoc, append-nil, length-append, length-map}
+use Rattle.std.proofs.lemmas.List.{append_assoc, append-nil, length-append, length-map}
 use Rattle.std.proofs.lemmas.List.Elements.{All-tail, All-head, All-cons}
 use Rattle.std.proofs.Math.Path.{fun_ext}
 use Rattle.cstn_label.specs.declared.props.Prop.{Prop}
-use Rattle.cstn_net.specs.Drafts.{BuilderParts, observations, constraint_of, constraints_from}
+use Rattle.cstn_net.specs.Drafts.{BuilderParts, constraint_of, constraints_from}
 use Rattle.cstn_net.specs.declared.drafts.Draft.{Draft as LentDraft}
-use Rattle.cstn_net.specs.declared.points.TimePoint.{TimePoint}
 use Rattle.cstn_net.specs.Read.{NetworkParts, the_network, the_constraint, observed, reaction_of, is_prop}
 use Rattle.cstn_graphml.specs.declared.draft.Drawn.{Drawn as Lent}
 use Rattle.cstn_graphml.specs.declared.draft.Draft.{Draft as LentGraph}
-use Rattle.cstn_graphml.specs.Draft.{Drawn, Draft}
-use Rattle.cstn_graphml.specs.DraftSeen.{prop_seen, drawn_seen, draft_seen}
+use Rattle.cstn_graphml.specs.DraftSeen.{prop_seen, drawn_seen}
 use Rattle.cstn_graphml.specs.DraftLaws.{IsDrawnAmong}
 use Rattle.cstn_graphml.specs.Document.{Parts, or_nothing}
 use Rattle.cstn_graphml.specs.Networks.{with_points, with_drafts, point_of, draft_of, drawn_of, numbered, builder_of, or_no_prop, HasParts, network_of, IsBuilt}

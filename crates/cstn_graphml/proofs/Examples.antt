@@ -1,5 +1,5 @@
 -- Documents and what they mean, by computing.
-use Rattle.std.proofs.Common.{◌≡◌, true, false, [], ◌∷◌, ◌++◌, refl, Some, None}
+use Rattle.std.proofs.Common.{◌≡◌, [], ◌∷◌, ◌++◌, refl, Some, None}
 use Rattle.std.specs.Prelude.{codes, Ok, Err, pos, negsuc}
 use Rattle.cstn_markup.specs.Bytes.{resolved_after, piece_at, number_after, past_first}
 use Rattle.cstn_markup.specs.Tokens.{tokens_after, tail_at}

@@ -1,5 +1,5 @@
 -- A network of a document has an origin, and its labels are plain.
-use Rattle.std.proofs.Common.{◌≡◌, ◌≢◌, ℕ, List, [], ◌∷◌, length, map, ap, subst, arith, inl, inr, Result}
+use Rattle.std.proofs.Common.{◌≢◌, ℕ, List, [], ◌∷◌, length, map, ap, subst, arith, inl, inr, Result}
 use Rattle.std.specs.List.{All}
 use Rattle.std.proofs.lemmas.List.Elements.{All-nil, All-cons, All-head, All-tail}
 use Rattle.cstn_label.specs.Labels.{IsPlain}

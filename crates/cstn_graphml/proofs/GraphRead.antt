@@ -1,5 +1,5 @@
 -- The ends of the graph, the root and the document.
-use Rattle.std.proofs.Common.{◌≡◌, ℕ, List, [], ◌∷◌, Bool, true, false, Option, Some, None, Result, Ok, Err, ap, sym, ◌∙◌, subst}
+use Rattle.std.proofs.Common.{◌≡◌, ℕ, List, ◌∷◌, Bool, true, Option, Some, None, Result, Ok, Err, ap, sym, ◌∙◌, subst}
 use Rattle.cstn_markup.specs.Tokens.{Token}
 use Rattle.cstn_graphml.specs.Results.{Refusal, ◌>>=◌}
 use Rattle.cstn_graphml.specs.Results.Refusal.{shape}

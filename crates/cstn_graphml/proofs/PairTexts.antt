@@ -1,9 +1,8 @@
 -- The pairs of a text of values, one at a time.
-use Rattle.std.proofs.Common.{◌≡◌, ℕ, zero, suc, ◌-◌, Bool, true, false, List, [], ◌∷◌, ◌++◌, length, take, drop, refl, ap, sym, ◌∙◌, Some, Option, map}
+use Rattle.std.proofs.Common.{◌≡◌, ℕ, zero, suc, true, false, List, [], ◌∷◌, ◌++◌, drop, refl, Some, map}
 use Rattle.std.specs.Prelude.{◌==◌}
-use Rattle.cstn_markup.specs.Bytes.{◌>>=◌}
 use Rattle.std.proofs.lemmas.List.{map-append}
-use Rattle.cstn_graphml.specs.ValueTexts.{Pair, is_separator, pair_at, pairs_by, pairs_after}
+use Rattle.cstn_graphml.specs.ValueTexts.{Pair, is_separator, pair_at, pairs_after}
 
 pub pairs_skip : (n : ℕ) (found : List Pair) (bytes : List ℕ) → pairs_after n found bytes ≡ pairs_after 0 found (drop n bytes)
 unfolding pairs_after

@@ -1,5 +1,5 @@
 -- What a document is told to be.
-use Rattle.std.proofs.Common.{◌≡◌, ℕ, Bool, true, false, List, refl, ap, sym, ◌∙◌, subst, arith, Option, Some, None, Result, Ok, Err, ◌⊎◌, inl, inr}
+use Rattle.std.proofs.Common.{◌≡◌, ℕ, List, refl, ap, sym, ◌∙◌, subst, arith, Option, Some, None, Result, Ok, Err, inl, inr}
 use Rattle.std.proofs.lemmas.Bool.{false_from_ne_true}
 use Rattle.std.specs.Str.{IsUtf8, is_utf8}
 use Rattle.std.specs.Str.Lossy.{utf8_valid_len}
@@ -8,17 +8,16 @@ use Rattle.cstn_markup.specs.Tokens.{tokens}
 use Rattle.cstn_net.specs.declared.errors.NetError.{NetError}
 use Rattle.cstn_net.specs.declared.errors.NetError.TheVariants.{TooManyNodes, NoOrigin, TooManyConstraints, DeadlineRange, ValueRange, NotObserved, TwoObservers, NotPlain, Memory as NoMemory}
 use Rattle.cstn_net.specs.Drafts.{BuilderParts, IsRefusal, IsLowestFault, number}
-use Rattle.cstn_net.specs.Read.{NetworkParts, the_network}
+use Rattle.cstn_net.specs.Read.{NetworkParts}
 use Rattle.cstn_graphml.specs.Results.{Refusal, ◌>>=◌, or_refused, demand}
 use Rattle.cstn_graphml.specs.Results.Refusal.{not_utf8, no_deadline}
 use Rattle.cstn_graphml.specs.Contents.{content_of}
-use Rattle.cstn_graphml.specs.Draft.{Draft}
 use Rattle.cstn_graphml.specs.DraftSeen.{draft_seen}
 use Rattle.cstn_graphml.specs.DraftLaws.{IsDraft}
 use Rattle.cstn_graphml.specs.Document.{Parts, document, in_document, parts_of, first_of_two}
-use Rattle.cstn_graphml.specs.Networks.{HasParts, IsUnfit, IsBuilt, builder_of, network_of}
+use Rattle.cstn_graphml.specs.Networks.{IsBuilt, builder_of}
 use Rattle.cstn_graphml.specs.Answers.{IsDocument, IsUnfitDocument, IsRefused, IsTold}
-use Rattle.cstn_graphml.specs.Reads.{Fails, Gives}
+use Rattle.cstn_graphml.specs.Reads.{Fails}
 use Rattle.cstn_graphml.specs.declared.draft.Draft.{Draft as LentGraph}
 use Rattle.cstn_graphml.specs.declared.errors.DocError.{DocError}
 use Rattle.cstn_graphml.specs.declared.errors.DocError.TheVariants.{NotUtf8, Shape, NameTwice, UnknownNode, Value, LabelText, Contingent, EdgeType, NoDeadline, Net, NodeLabel, Memory}

@@ -1,16 +1,14 @@
 -- Reading what stands around the root, one token at a time.
-use Rattle.std.proofs.Common.{◌≡◌, ℕ, List, [], ◌∷◌, refl, ap, sym, ◌∙◌, Ok, Err, Result, true, false, ◌<◌, length, Bool, subst, lt-ltb}
+use Rattle.std.proofs.Common.{◌≡◌, ℕ, List, [], ◌∷◌, ap, sym, ◌∙◌, Err, Bool, subst}
 use Rattle.cstn_markup.specs.Tokens.{Attribute, Token}
 use Rattle.cstn_markup.specs.Tokens.Kind.{start_tag, end_tag, text_run, finish}
 use Rattle.cstn_markup.specs.Steps.{StepsBy}
-use Rattle.cstn_graphml.specs.Results.{Refusal, ◌>>=◌}
 use Rattle.cstn_graphml.specs.Results.Refusal.{shape}
-use Rattle.cstn_graphml.specs.Contents.{Tag, Content, contents, inner, outer, all_cut, opened}
+use Rattle.cstn_graphml.specs.Contents.{contents, inner, all_cut}
 use Rattle.cstn_graphml.specs.Contents.Content.{done}
 use Rattle.cstn_graphml.specs.Elements.{Reading, read_by}
-use Rattle.cstn_graphml.specs.Reads.{Continues, Fails, Gives, inside}
+use Rattle.cstn_graphml.specs.Reads.{Continues, Fails, inside}
 use Rattle.cstn_graphml.specs.declared.errors.DocError.{DocError}
-use Rattle.cstn_graphml.specs.declared.errors.DocError.TheVariants.{Shape}
 use Rattle.cstn_graphml.proofs.Places.{first_is, run_is, opens_by, tag_of}
 use Rattle.cstn_graphml.proofs.PassedOver.{fails_through}
 use Rattle.cstn_graphml.proofs.Folds.{element_fails}

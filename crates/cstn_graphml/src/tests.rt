@@ -1,5 +1,5 @@
 use crate::read;
-use std::alloc::Global;
+use std::alloc::{AllocError, Global};
 use std::process::Abort;
 use std::test::Fail;
 
@@ -11,6 +11,26 @@ const PROCESS: &str =
 
 const UNOBSERVED: &str =
     "<graphml><graph><node id=\"Z\"/><edge source=\"Z\" target=\"Z\"><data key=\"LabeledValues\">{(5, p)}</data></edge></graph></graphml>";
+
+// Elements that are passed over, one inside the other.
+const NESTED: &str = "<graphml><a><b><c/>t</b><b></b></a><graph/></graphml>";
+
+// The outer one ends first.
+const CROSSED: &str = "<graphml><a><b></a></b><graph/></graphml>";
+
+// The tags of `PAIR`, from their first bytes to what follows them.
+const TAGS: [(usize, usize); 10] = [
+    (0, 9),
+    (9, 16),
+    (16, 30),
+    (30, 44),
+    (44, 72),
+    (72, 98),
+    (109, 116),
+    (116, 123),
+    (123, 131),
+    (131, 141),
+];
 
 // The document is accepted, and has so many time-points and constraints.
 fn expect_accepted(
@@ -58,5 +78,37 @@ fn documents(rt: HostRuntime) -> Result<(), Fail> {
         Some(5),
         "no network: nothing observes the proposition 41",
     )?;
+    Ok(())
+}
+
+#[test]
+fn elements_are_passed_over(rt: HostRuntime) -> Result<(), Fail> {
+    let alloc = rt.alloc();
+    expect_accepted(&rt, alloc, NESTED, Some(0), 1, 0)?;
+    let words = "a token that isn't allowed at byte 15";
+    expect_refused(&rt, alloc, CROSSED.as_bytes(), Some(0), words)
+}
+
+// Why so many of the first bytes of `PAIR` are refused: at the tag that they end in, and else at their end.
+fn cut_words(alloc: Global, len: usize) -> Result<String, AllocError> {
+    if len == 105 || len == 106 {
+        return String::from_str(alloc, "no UTF-8 at byte 104");
+    }
+    let tag = TAGS.iter().find(|tag| tag.0 < len && len < tag.1);
+    let at = match tag {
+        Some(tag) => tag.0,
+        None => len,
+    };
+    format!(in alloc; "a token that isn't allowed at byte {at}")
+}
+
+#[test]
+fn cut_documents(rt: HostRuntime) -> Result<(), Fail> {
+    let alloc = rt.alloc();
+    let bytes = PAIR.as_bytes();
+    for len in 0..bytes.len() {
+        let words = cut_words(alloc, len)?;
+        expect_refused(&rt, alloc, &bytes[..len], Some(5), words.as_str())?;
+    }
     Ok(())
 }

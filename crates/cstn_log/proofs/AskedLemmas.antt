@@ -14,10 +14,10 @@ use Rattle.cstn_log.specs.Asked.{fits, fits_seen, fits_upto, moment_of, greatest
 use Rattle.cstn_rules.specs.Closed.{IsClosed}
 use Rattle.cstn_net.proofs.Knowledge.{observer_within}
 
-fits_true : (v : Bool) (m : Mark) → fits v m ≡ true → MarkFits v m
+pub fits_true : (v : Bool) (m : Mark) → fits v m ≡ true → MarkFits v m
 fits_true v m h = grind arith
 
-true_fits : (v : Bool) (m : Mark) → MarkFits v m → fits v m ≡ true
+pub true_fits : (v : Bool) (m : Mark) → MarkFits v m → fits v m ≡ true
 true_fits v m h = grind arith
 
 seen_at : (s : Scenario) (a : Label) (o : Option ℕ) (p : ℕ) → o ≡ Some p → fits_seen s a o ≡ true → MarkFits (s p) (a p)
@@ -58,7 +58,7 @@ moment_upper (pos n) = omega (arith, ints)
 moment_upper (negsuc n) = omega (arith, ints)
 
 -- no bound that passes the test asks for more
-greatest_upper : (test : Bound → Bool) (bs : List Bound) (b : Bound) (k : ℕ) → k < length bs → get_or bs k b ≡ b →
+pub greatest_upper : (test : Bound → Bool) (bs : List Bound) (b : Bound) (k : ℕ) → k < length bs → get_or bs k b ≡ b →
     test b ≡ true → b.least ≤ℤ pos (greatest test bs)
 greatest_upper test [] b k h e t = absurd (omega arith)
 greatest_upper test (x ∷ xs) b zero h e t =
@@ -78,11 +78,11 @@ greatest_upper test (x ∷ xs) b (suc k) h e t =
     ]
 
 -- some bound that passes the test asks for it, or it is 0
-record Attains (test : Bound → Bool) (bs : List Bound) (n : ℕ) : Type 0 where
-  bound : Bound
-  in_list : Contains bs bound
-  passes : test bound ≡ true
-  least : pos n ≤ℤ bound.least
+pub record Attains (test : Bound → Bool) (bs : List Bound) (n : ℕ) : Type 0 where
+  pub bound : Bound
+  pub in_list : Contains bs bound
+  pub passes : test bound ≡ true
+  pub least : pos n ≤ℤ bound.least
 
 attains_later : (test : Bound → Bool) (x : Bound) (xs : List Bound) (n : ℕ) → Attains test xs n → Attains test (x ∷ xs) n
 attains_later test x xs n a = record {
@@ -96,7 +96,7 @@ moment_attained : (z : ℤ) (n : ℕ) → 0 < n → n ≡ moment_of z → pos n 
 moment_attained (pos m) n h e = omega (arith, ints)
 moment_attained (negsuc m) n h e = absurd (omega arith)
 
-greatest_attained : (test : Bound → Bool) (bs : List Bound) →
+pub greatest_attained : (test : Bound → Bool) (bs : List Bound) →
     (greatest test bs ≡ 0) ⊎ Attains test bs (greatest test bs)
 greatest_attained test [] = inl refl
 greatest_attained test (x ∷ xs) = elim (cases_Bool (test x)) [

@@ -1,12 +1,11 @@
 -- The label of a document is read back.
 use Rattle.std.proofs.Common.{◌≡◌, ℕ, zero, suc, ◌<◌, ◌≤◌, List, [], ◌∷◌, ◌++◌, refl, ap, sym, ◌∙◌, arith, Bool, true, false, append_assoc, append-nil}
-use Rattle.std.proofs.Math.Path.{fun_ext}
 use Rattle.std.proofs.lemmas.Bool.{and_parts, eqb-true}
-use Rattle.std.specs.Prelude.{◌==◌, nat_eq, nat_lt, Some, None, if◌then◌else◌}
+use Rattle.std.specs.Prelude.{◌==◌, nat_eq, Some, None}
 use Rattle.cstn_label.specs.declared.marks.Mark.{Mark}
 use Rattle.cstn_label.specs.declared.marks.Mark.TheVariants.{Absent, Yes, No, Unknown}
-use Rattle.cstn_label.specs.Labels.{Label, empty, with_mark, IsPlain, IsMarkPlain}
-use Rattle.cstn_label.specs.Letters.{letter_of, prop_of}
+use Rattle.cstn_label.specs.Labels.{Label, empty, IsPlain, IsMarkPlain}
+use Rattle.cstn_label.specs.Letters.{letter_of}
 use Rattle.cstn_markup.specs.Bytes.{is_same, is_white}
 use Rattle.cstn_graphml.specs.LabelTexts.{label_after, label_of}
 use Rattle.cstn_graphml.specs.LabelTexts.Expects.{literal as for_literal}

@@ -1,5 +1,5 @@
 -- Reading what is saved gives the same names and the same network.
-use Rattle.std.proofs.Common.{◌≡◌, ◌≢◌, ℕ, suc, ◌-◌, ◌<◌, ◌≤◌, ◌^◌, List, [], ◌∷◌, ◌++◌, length, refl, ap, sym, ◌∙◌, arith, true, subst, map, Ok}
+use Rattle.std.proofs.Common.{◌≡◌, ◌≢◌, ℕ, suc, ◌+◌, ◌-◌, ◌<◌, ◌≤◌, ◌^◌, List, [], ◌∷◌, ◌++◌, length, refl, ap, sym, ◌∙◌, arith, true, subst, map, Ok}
 use Rattle.std.specs.Prelude.{Option, Some, None, codes, nat_lt, nat_le, ◌&&◌, slice_index_or, ℤ, pos, negsuc, ◌≤ℤ◌, FitsSigned}
 use Rattle.std.specs.Int.{w32}
 use Rattle.std.specs.List.{All}
@@ -19,8 +19,10 @@ use Rattle.cstn_graphml.specs.LabelTexts.{is_absent}
 use Rattle.cstn_graphml.specs.Contents.{content_of}
 use Rattle.cstn_graphml.specs.Draft.{Draft, with_constraint}
 use Rattle.cstn_graphml.specs.Document.{in_document, parts_of, document}
+use Rattle.cstn_graphml.specs.Networks.{numbered, network_of}
+use Rattle.std.proofs.Math.Path.{fun_ext}
 use Rattle.cstn_save.specs.Canonical.{canonical, head, nodes_below, edges, tail}
-use Rattle.cstn_save.specs.ReadBack.{drawn, parts, AreNamesOf}
+use Rattle.cstn_save.specs.ReadBack.{drawn, parts, AreNamesOf, AreNumbered}
 use Rattle.cstn_save.proofs.WholeLemmas.{drafted, IsNew, IsProp}
 use Rattle.cstn_save.proofs.EdgeLemmas.{IsKnown, AreKnown}
 use Rattle.cstn_save.proofs.ReadBackLemmas.{begun, canonical_drafted}
@@ -110,3 +112,16 @@ canonical_utf8 net names wf is =
 -- and so has the document
 pub document_back : (net : Network) (names : List (List ℕ)) → IsWellFormed net → AreNamesOf net names → document (canonical net names) None ≡ Ok (parts net names)
 document_back net names wf is = rw (canonical_utf8 net names wf is) (content_back net names wf is)
+
+renumbered : (j : ℕ) (cs : List Constraint) → ((k : ℕ) (d : Constraint) → k < length cs → (slice_index_or cs k d).id ≡ j + k) → numbered j (map drawn cs) ≡ cs
+renumbered j [] h = refl
+renumbered j (c ∷ cs) h =
+    let here : j ≡ c.id = omega (arith, h 0 c (omega arith)) in
+    ap (λ i. record { id = i; from = c.from; to = c.to; most = c.most; label = c.label } ∷ numbered (j + 1) (map drawn cs)) here
+    ∙ ap (λ (ds : List Constraint). c ∷ ds) (renumbered (j + 1) cs (λ k d i. omega (arith, h (suc k) d (omega (arith, i)))))
+
+-- the network that is read is the same, where its ids have no gap and its reactions are of a tick
+pub network_back : (net : Network) (names : List (List ℕ)) → ((p : ℕ) → net.reaction p ≡ 1) → AreNumbered net.constraints → network_of (parts net names) ≡ net
+network_back net names reacts ids =
+    ap (λ (r : ℕ → ℕ). record net { reaction = r; constraints = numbered 0 (map drawn net.constraints) }) (fun_ext (λ p. sym (reacts p)))
+    ∙ ap (λ (cs : List Constraint). record net { constraints = cs }) (renumbered 0 net.constraints (λ k d i. omega (arith, ids k d i)))

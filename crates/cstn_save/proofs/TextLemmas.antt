@@ -1,5 +1,5 @@
 -- The canonical document is UTF-8 where its names are.
-use Rattle.std.proofs.Common.{◌≡◌, ℕ, zero, suc, ◌<◌, ◌≤◌, ◌^◌, List, [], ◌∷◌, ◌++◌, length, get_or, refl, sym, arith, Bool, true, false, append_assoc, subst, Some, None}
+use Rattle.std.proofs.Common.{◌≡◌, ℕ, zero, suc, ◌<◌, ◌≤◌, ◌^◌, List, [], ◌∷◌, ◌++◌, refl, sym, arith, Bool, true, false, append_assoc, subst, Some, None}
 use Rattle.std.specs.Prelude.{codes, ◌==◌, nat_lt, decimal, if◌then◌else◌, Option, ℤ, pos, negsuc, FitsSigned, slice_index_or}
 use Rattle.std.specs.Char.{is_ascii_digit, IsScalar, encode_utf8}
 use Rattle.std.specs.List.{list_all, All}
@@ -9,10 +9,8 @@ use Rattle.cstn_label.specs.Labels.{Label}
 use Rattle.cstn_label.specs.Letters.{letter_of}
 use Rattle.cstn_label.specs.declared.marks.Mark.{Mark}
 use Rattle.cstn_label.specs.declared.marks.Mark.TheVariants.{Absent, Yes, No, Unknown}
-use Rattle.std.proofs.Math.Seq.{take-append_seam, drop-append_seam, get_or-append_seam}
 use Rattle.std.proofs.lemmas.Bool.{and_parts}
-use Rattle.std.proofs.lemmas.List.{length-append}
-use Rattle.std.proofs.lemmas.Str.{IsUtf8-take, IsUtf8-drop, IsUtf8-append, IsUtf8-encode, IsUtf8-nil, IsUtf8-from_is_utf8, encode_ascii, IsCharBoundary-before_ascii}
+use Rattle.std.proofs.lemmas.Str.{IsUtf8-append, IsUtf8-encode, IsUtf8-nil, IsUtf8-from_is_utf8, encode_ascii}
 use Rattle.cstn_markup.proofs.Utf8.{past_ascii}
 use Rattle.cstn_markup.proofs.Resolving.{cut}
 use Rattle.cstn_text.specs.Numbers.{printed_number, printed_value}

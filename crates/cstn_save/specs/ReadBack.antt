@@ -1,5 +1,5 @@
 -- What the canonical document says of a network.
-use Rattle.std.specs.Prelude.{◌≡◌, ℕ, List, length, map, Some, slice_get, codes}
+use Rattle.std.specs.Prelude.{◌≡◌, ℕ, ◌<◌, List, length, map, Some, slice_get, slice_index_or, codes}
 use Rattle.cstn_net.specs.Networks.{Network, Constraint, count}
 use Rattle.cstn_text.specs.Names.{AreNames}
 use Rattle.cstn_graphml.specs.Draft.{Drawn}
@@ -18,3 +18,7 @@ pub record AreNamesOf (net : Network) (names : List (List ℕ)) : Type 0 where
   pub named : AreNames names
   pub each : length names ≡ count net
   pub origin : slice_get names 0 ≡ Some (codes "Z")
+
+-- the ids are from 0 up, without a gap
+abbrev pub AreNumbered : List Constraint → Type 0
+AreNumbered cs = (k : ℕ) (d : Constraint) → k < length cs → (slice_index_or cs k d).id ≡ k

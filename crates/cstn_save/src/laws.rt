@@ -13,7 +13,8 @@ ghost use Rattle.cstn_graphml.specs.ValueTexts.{values_of};
 ghost use Rattle.cstn_graphml.specs.Document.{document};
 ghost use Rattle.cstn_net.specs.Networks.{Network, IsWellFormed};
 ghost use Rattle.cstn_save.specs.Canonical.{canonical, escaped_name, document_label};
-ghost use Rattle.cstn_save.specs.ReadBack.{parts, AreNamesOf};
+ghost use Rattle.cstn_graphml.specs.Networks.{network_of};
+ghost use Rattle.cstn_save.specs.ReadBack.{parts, AreNamesOf, AreNumbered};
 
 /// An escaped name between quotes is a value of an attribute, and its references put in give the name back.
 #[tactic(auto, using(crate::proofs::EscapedNameLemmas::name_back, crate::proofs::EscapedNameLemmas::name_quoted))]
@@ -37,8 +38,10 @@ pub fn values_are_read_back()
         → values_of (codes "{(" ++ printed_value v ++ codes ", " ++ document_label a ++ codes ")}") ≡ Some (record { most = v; label = Some a } ∷ []) }
 {}
 
-/// Reading the canonical document gives the same names and the same network, with its constraints numbered from 0.
+/// Reading the canonical document gives the same names and the same network, with its constraints numbered from 0. It is
+/// the very same where its ids have no gap and each reaction takes a tick.
 #[tactic(auto, using(crate::proofs::LawLemmas::document_back))]
 pub fn documents_are_read_back()
     ensures back { (net : Network) (names : List (List ℕ)) → IsWellFormed net → AreNamesOf net names → document (canonical net names) None ≡ Ok (parts net names) }
+    ensures same { (net : Network) (names : List (List ℕ)) → ((p : ℕ) → net.reaction p ≡ 1) → AreNumbered net.constraints → network_of (parts net names) ≡ net }
 {}

@@ -1,4 +1,5 @@
 use crate::write;
+use cstn_graphml::read;
 use cstn_label::{Label, Mark, NodeId, Prop};
 use cstn_net::{Builder, Network};
 use cstn_text::Names;
@@ -83,5 +84,27 @@ fn names_are_escaped(rt: HostRuntime) -> Result<(), Fail> {
     let net = builder.close()?;
     let text = document(&rt, alloc, &net, &names)?;
     assert_eq!(rt; text.as_str(), ESCAPED);
+    Ok(())
+}
+
+#[test]
+fn ids_are_closed_up(rt: HostRuntime) -> Result<(), Fail> {
+    let alloc = rt.alloc();
+    let mut names = Names::new(alloc);
+    name(&rt, &mut names, "Z")?;
+    let mut builder = Builder::new(alloc, 10);
+    builder.node(None)?;
+    builder.constrain(0, 0, 1, Label::empty())?;
+    builder.constrain(0, 0, 2, Label::empty())?;
+    builder.constrain(0, 0, 3, Label::empty())?;
+    let mut net = builder.close()?;
+    net.take_out(1);
+    let text = document(&rt, alloc, &net, &names)?;
+    let (again, _) = read(alloc, text.as_bytes(), None)?;
+    let [first, second] = again.constraints() else {
+        panic!(rt; "two constraints");
+    };
+    assert_eq!(rt; (first.id, first.most), (0, 1));
+    assert_eq!(rt; (second.id, second.most), (1, 3));
     Ok(())
 }

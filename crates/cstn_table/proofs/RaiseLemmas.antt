@@ -1,18 +1,18 @@
 -- What forces a moment up, and what a raise keeps.
-use Rattle.std.proofs.Common.{ℕ, zero, suc, ◌≡◌, ◌≢◌, ◌⊎◌, inl, inr, ◌+◌, ◌*◌, ◌/◌, ◌%◌, ◌<◌, ◌≤◌, min, List, length, get_or, set, arith, refl, sym, subst, ◌∙◌, ap}
-use Rattle.std.specs.Prelude.{ℤ, pos, negsuc, ◌-ℤ◌, ◌≤ℤ◌, ◌-◌, ◌↔◌, nat_abs}
+use Rattle.std.proofs.Common.{ℕ, zero, suc, ◌≡◌, inl, inr, ◌+◌, ◌*◌, ◌/◌, ◌%◌, ◌<◌, ◌≤◌, List, length, get_or, set, arith, sym, subst, ◌∙◌, ap}
+use Rattle.std.specs.Prelude.{pos, ◌-ℤ◌, ◌≤ℤ◌}
 use Rattle.std.specs.List.{Contains}
 use Rattle.std.proofs.lemmas.Bool.{cases_eq, cases_lt}
 use Rattle.std.proofs.lemmas.Int.{ints}
 use Rattle.std.proofs.lemmas.Nat.{mul-add-lt, div-mul-add, mod-mul-add}
 use Rattle.std.proofs.lemmas.List.{length-set, get_or-set_same, get_or-set_other}
 use Rattle.cstn_label.specs.Labels.{Scenario, Holds}
-use Rattle.cstn_net.specs.Networks.{Network, IsNetwork, IsWellFormed, Constraint, Observes, count, limit}
-use Rattle.cstn_net.specs.Strategies.{Table, Schedule, Agrees, IsStrategy, IsConsistent, Meets}
+use Rattle.cstn_net.specs.Networks.{Network, IsNetwork, IsWellFormed, Constraint, count, limit}
+use Rattle.cstn_net.specs.Strategies.{Agrees, IsConsistent}
 use Rattle.cstn_net.proofs.Knowledge.{observer_within}
 use Rattle.cstn_net.proofs.Dynamic.{same_moments}
-use Rattle.cstn_table.specs.Tables.{observed_props, row_of, scenario_of, row_at, table_of}
-use Rattle.cstn_table.specs.Raises.{IsForced, IsBelow, IsLow, rows}
+use Rattle.cstn_table.specs.Tables.{observed_props, row_of, scenario_of, row_at}
+use Rattle.cstn_table.specs.Raises.{IsForced, IsLow, rows}
 use Rattle.cstn_table.proofs.RowLemmas.{row_there, values_there}
 
 -- places of different moments differ
@@ -116,18 +116,3 @@ past_limit net s x t here past forced consistent =
     let later = forced consistent.0 consistent.1 in
     let within = consistent.1.within s x here in
     omega arith
-
--- a constraint's start is late enough
-pub start_pos : (end k t : ℕ) → (pos end -ℤ pos t) ≤ℤ pos k ↔ (end - k ≤ t)
-start_pos end k t = (λ h. omega (arith, ints), λ h. omega (arith, ints))
-
-pub start_neg : (end k t : ℕ) → (pos end -ℤ pos t) ≤ℤ negsuc k ↔ (end + suc k ≤ t)
-start_neg end k t = (λ h. omega (arith, ints), λ h. omega (arith, ints))
-
-pub start_late : (end t : ℕ) (most : ℤ) → pos 0 ≤ℤ most → (pos end -ℤ pos t) ≤ℤ most ↔ (end - nat_abs most ≤ t)
-start_late end t (pos k) h = start_pos end k t
-start_late end t (negsuc k) h = absurd (omega (arith, ints))
-
-pub start_early : (end t : ℕ) (most : ℤ) → (pos 0 ≤ℤ most → ⊥) → (pos end -ℤ pos t) ≤ℤ most ↔ (end + nat_abs most ≤ t)
-start_early end t (pos k) h = absurd (h (omega (arith, ints)))
-start_early end t (negsuc k) h = start_neg end k t

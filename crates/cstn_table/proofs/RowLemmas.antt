@@ -1,5 +1,5 @@
 -- Rows, and the scenarios that they stand for.
-use Rattle.std.proofs.Common.{ℕ, zero, suc, ◌≡◌, ◌≢◌, inl, inr, ◌+◌, ◌*◌, ◌/◌, ◌%◌, ◌^◌, ◌<◌, ◌≤◌, Bool, true, false, cond, Option, Some, None, List, [], ◌∷◌, ◌++◌, length, get_or, take, map, eqb, ◌==◌, arith, refl, sym, subst, ◌∙◌, ap}
+use Rattle.std.proofs.Common.{ℕ, zero, suc, ◌≡◌, ◌≢◌, inl, inr, ◌+◌, ◌*◌, ◌/◌, ◌%◌, ◌^◌, ◌<◌, Bool, true, false, cond, Option, Some, None, List, [], ◌∷◌, ◌++◌, length, get_or, take, ◌==◌, arith, refl, sym, subst, ◌∙◌, ap}
 use Rattle.std.specs.Prelude.{is_some}
 use Rattle.std.specs.Option.{option_map}
 use Rattle.std.specs.List.{All}
@@ -9,7 +9,7 @@ use Rattle.std.proofs.lemmas.List.{take_more, length-append, map-append, append-
 use Rattle.std.proofs.lemmas.List.Elements.{All-cons, All-nil, All-head, All-tail, All-weaker}
 use Rattle.cstn_label.specs.declared.props.Prop.{Prop}
 use Rattle.cstn_label.specs.Labels.{Scenario}
-use Rattle.cstn_net.specs.Networks.{Network, IsNetwork, Observes, count}
+use Rattle.cstn_net.specs.Networks.{Network, IsNetwork, Observes}
 use Rattle.cstn_table.specs.Tables.{observed_props, row_of, scenario_of}
 use Rattle.cstn_table.specs.Read.{numbers}
 use Rattle.cstn_table.specs.Raises.{rows}

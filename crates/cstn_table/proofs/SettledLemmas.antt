@@ -1,12 +1,12 @@
 -- Where nothing raises a moment any more, the table is the least strategy.
-use Rattle.std.proofs.Common.{ℕ, ◌≡◌, ◌⊎◌, inl, inr, ◌<◌, ◌≤◌, List, refl, sym, subst, ◌∙◌, ap}
+use Rattle.std.proofs.Common.{ℕ, ◌≡◌, inl, inr, ◌<◌, List, refl, sym, subst, ◌∙◌, ap}
 use Rattle.std.specs.List.{Contains}
 use Rattle.std.proofs.lemmas.List.Elements.{All-contains}
 use Rattle.cstn_label.specs.declared.props.Prop.{Prop}
 use Rattle.cstn_label.specs.Labels.{Label, Scenario, Holds, MarkFits}
 use Rattle.cstn_label.proofs.MarkLemmas.{absent_or_not, fits_absent}
 use Rattle.cstn_net.specs.Networks.{Network, IsNetwork, IsConstraint, IsOnObserved, Constraint, count}
-use Rattle.cstn_net.specs.Strategies.{IsNeverLater, IsStrategy, IsLeast, IsConsistent, Meets}
+use Rattle.cstn_net.specs.Strategies.{IsNeverLater, IsStrategy, IsLeast, Meets}
 use Rattle.cstn_net.proofs.Dynamic.{dynamic_from_one_side}
 use Rattle.cstn_table.specs.Tables.{observed_props, row_of, scenario_of, table_by, table_of}
 use Rattle.cstn_table.specs.Raises.{IsLow, IsSettled, IsLeastTable}

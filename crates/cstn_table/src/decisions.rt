@@ -1,4 +1,4 @@
-ghost use Rattle.std.specs.Prelude.{ℕ, ◌≡◌, ◌<◌, ◌≤◌, ◌*◌, ◌↔◌, length, Err, Bool, true, false, IsTrue, IsSome, IsNone, IfOk, IfNone, IfSome, MatchOption};
+ghost use Rattle.std.specs.Prelude.{ℕ, ◌≡◌, ◌<◌, ◌≤◌, ◌↔◌, length, Err, true, false, IsSome, IsNone, IfOk, IfNone, IfSome, MatchOption};
 ghost use Rattle.cstn_label.specs.Labels.{Scenario};
 ghost use Rattle.cstn_net.specs.Networks.{count};
 ghost use Rattle.cstn_net.specs.Strategies.{IsConsistent, IsStrategy, IsLeast};
@@ -6,7 +6,7 @@ ghost use Rattle.cstn_net.specs.Read.{the_network};
 ghost use Rattle.cstn_table.specs.declared.errors.TableError.TheVariants.{TooManyProps};
 ghost use Rattle.cstn_table.specs.Tables.{observed_props};
 ghost use Rattle.cstn_table.specs.Read.{the_table};
-ghost use Rattle.cstn_table.specs.Raises.{AreObserved, IsLow, IsWalk, IsSettled, IsLeastTable, rows};
+ghost use Rattle.cstn_table.specs.Raises.{AreObserved, IsLow, IsWalk, IsSettled, IsLeastTable};
 
 use crate::errors::TableError;
 use crate::pairs::raise_by_scenarios;
@@ -19,8 +19,8 @@ use std::alloc::{AllocError, Global};
 
 const MOST_PROPS: usize = 8;
 
-/// Decides whether a network of at most 8 observed propositions has a strategy: none where it has none, and else a strategy
-/// that has every time-point, in every scenario, at its least moment.
+/// Decides a network of at most 8 observed propositions: none where it has no strategy, and else the strategy that has every
+/// time-point, in every scenario, at its least moment. A table takes four bytes for each moment.
 pub fn decide(alloc: Global, net: &Network) -> Result<Option<Table>, TableError>
     ensures many { (result ≡ Err TooManyProps) ↔ (8 < length (observed_props (the_network net.now).observes)) }
     ensures none { IfOk result (λ o. IsNone o ↔ (IsConsistent (the_network net.now) → ⊥)) }

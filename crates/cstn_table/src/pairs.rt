@@ -1,11 +1,11 @@
 // Raises of moments by scenarios that can't be told apart.
-ghost use Rattle.std.specs.Prelude.{ℕ, ◌≡◌, ◌<◌, ◌≤◌, ◌+◌, ◌-◌, ◌^◌, ◌↔◌, length, IfNone, IfSome};
+ghost use Rattle.std.specs.Prelude.{ℕ, ◌≡◌, ◌<◌, ◌≤◌, ◌+◌, ◌-◌, ◌^◌, ◌↔◌, IfNone, IfSome};
 ghost use Rattle.cstn_label.specs.Read.{the_scenario};
 ghost use Rattle.cstn_net.specs.Networks.{Observes, count};
 ghost use Rattle.cstn_net.specs.Strategies.{Agrees, IsConsistent};
 ghost use Rattle.cstn_net.specs.Read.{the_network};
-ghost use Rattle.cstn_table.specs.Tables.{observed_props, scenario_of, row_at};
-ghost use Rattle.cstn_table.specs.Raises.{IsForced, IsLow, IsWalk, AreObserved, IsNoLater, rows};
+ghost use Rattle.cstn_table.specs.Tables.{row_at};
+ghost use Rattle.cstn_table.specs.Raises.{IsLow, IsWalk, AreObserved, IsNoLater, rows};
 
 use crate::raises::raise;
 use crate::rows::{place, rows_of, scenario_of};
@@ -78,12 +78,7 @@ fn raise_row(
 }
 
 // Raises the moments of a row by every row.
-fn raise_row_by_all(
-    net: &Network,
-    props: &[Prop],
-    moments: &mut [u32],
-    row: usize,
-) -> Option<bool>
+fn raise_row_by_all(net: &Network, props: &[Prop], moments: &mut [u32], row: usize) -> Option<bool>
     requires props { AreObserved (the_network net.now) props.now }
     requires low { IsLow (the_network net.now) moments.old }
     requires row { row < rows (the_network net.now) }

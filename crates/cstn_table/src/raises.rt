@@ -1,8 +1,7 @@
 // Raises of moments by constraints.
-ghost use Rattle.std.specs.Prelude.{ℕ, ◌≡◌, ◌<◌, ◌≤◌, ◌+◌, ◌*◌, ◌-ℤ◌, ◌≤ℤ◌, pos, ◌↔◌, length, IfNone, IfSome};
-ghost use Rattle.std.specs.List.{All, Contains};
-ghost use Rattle.cstn_label.specs.Read.{the_scenario};
-ghost use Rattle.cstn_net.specs.Networks.{Constraint as TheConstraint, IsValue, count, limit};
+ghost use Rattle.std.specs.Prelude.{ℕ, ◌<◌, ◌≤◌, ◌-ℤ◌, ◌≤ℤ◌, pos, ◌↔◌, IfNone, IfSome};
+ghost use Rattle.std.specs.List.{Contains};
+ghost use Rattle.cstn_net.specs.Networks.{Constraint as TheConstraint, IsValue, count};
 ghost use Rattle.cstn_net.specs.Strategies.{IsConsistent};
 ghost use Rattle.cstn_net.specs.Read.{the_network, the_constraint, IsInRange};
 ghost use Rattle.cstn_table.specs.Tables.{observed_props, scenario_of, row_at};
@@ -13,13 +12,7 @@ use cstn_label::{NodeId, Prop};
 use cstn_net::{Constraint, Network};
 
 // Raises a moment to the least one that is forced, and answers whether it was below; none where that is past its limit.
-pub fn raise(
-    net: &Network,
-    moments: &mut [u32],
-    row: usize,
-    x: NodeId,
-    least: u32,
-) -> Option<bool>
+pub fn raise(net: &Network, moments: &mut [u32], row: usize, x: NodeId, least: u32) -> Option<bool>
     requires low { IsLow (the_network net.now) moments.old }
     requires row { row < rows (the_network net.now) }
     requires x { x.0 < count (the_network net.now) }
@@ -76,12 +69,7 @@ fn raise_start(
 }
 
 // Raises the start of a constraint in every row.
-fn raise_starts(
-    net: &Network,
-    props: &[Prop],
-    moments: &mut [u32],
-    c: &Constraint,
-) -> Option<bool>
+fn raise_starts(net: &Network, props: &[Prop], moments: &mut [u32], c: &Constraint) -> Option<bool>
     requires props { AreObserved (the_network net.now) props.now }
     requires low { IsLow (the_network net.now) moments.old }
     requires constraint { Contains (the_network net.now).constraints (the_constraint c.now) }

@@ -1,11 +1,9 @@
 // The rows of a table, and the scenarios that they stand for.
-ghost use Rattle.std.specs.Prelude.{ℕ, ◌≡◌, ◌<◌, ◌≤◌, ◌+◌, ◌*◌, ◌^◌, length, IfOk, OnOk, replicate};
+ghost use Rattle.std.specs.Prelude.{◌≡◌, ◌<◌, ◌≤◌, ◌+◌, ◌*◌, ◌^◌, length, IfOk};
 ghost use Rattle.cstn_label.specs.Read.{the_scenario};
-ghost use Rattle.cstn_net.specs.Networks.{count};
 ghost use Rattle.cstn_net.specs.Read.{the_network};
 ghost use Rattle.cstn_table.specs.Tables.{observed_props, row_of, scenario_of};
 ghost use Rattle.cstn_table.specs.Read.{numbers};
-ghost use Rattle.cstn_table.specs.Raises.{AreObserved, rows};
 
 use cstn_label::{NodeId, Prop, Scenario};
 use cstn_net::Network;

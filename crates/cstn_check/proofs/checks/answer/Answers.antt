@@ -1,6 +1,6 @@
 use Rattle.std.proofs.Common.{arith}
 use Rattle.cstn_net.specs.Read.{the_network}
-use Rattle.cstn_check.proofs.Answering.{has_bases, start_derived, start_last, no_room, verdict_from}
+use Rattle.cstn_check.proofs.Answering.{has_bases, has_room, start_derived, start_last, no_room, verdict_from}
 use Rattle.cstn_check.proofs.checks.answer.Goals as goal
 
 pub returns-then-len-eq0-clause-verdict : goal.returns-then-len-eq0-clause-verdict
@@ -26,4 +26,6 @@ returns-clause-verdict c =
     (λ none. omega (arith, none, c.if-len-eq0.false, c.len.ensures.len)))
     c.grow-grown.ensures.full c.grow-grown.ensures.cut c.grow-grown.ensures.grown c.grow-grown.ensures.refuted
     c.len-load.ensures.len (omega (arith, c.len-load.ensures.at_most, c.grow-grown.ensures.size.0))
+    (has_room (the_network c.args.net.now) c.args.log.now c.is_well_formed.ensures c.requires.started
+    (λ none. omega (arith, none, c.if-len-eq0.false, c.len.ensures.len)))
     c.verdict_of.ensures.closed c.verdict_of.ensures.refuted c.verdict_of.ensures.full

@@ -1,4 +1,4 @@
-use Rattle.cstn_check.proofs.Examples.{log_alone, log_branch, log_last_tick, log_too_late, log_crossed, log_crossed_no, log_unknown_mark, log_process}
+use Rattle.cstn_check.proofs.Examples.{log_alone, log_branch, log_last_tick, log_too_late, log_crossed, log_crossed_no, log_unknown_mark, log_process, log_drawn}
 use Rattle.cstn_check.proofs.laws.loads_are_known.Goals as goal
 
 pub returns-clause-alone : goal.returns-clause-alone
@@ -24,3 +24,6 @@ returns-clause-unknown c = log_unknown_mark
 
 pub returns-clause-process : goal.returns-clause-process
 returns-clause-process c = log_process
+
+pub returns-clause-drawn : goal.returns-clause-drawn
+returns-clause-drawn c = log_drawn

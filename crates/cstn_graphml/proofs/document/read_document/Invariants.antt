@@ -1,4 +1,4 @@
-use Rattle.std.proofs.Common.{◌≡◌, ℕ, List, [], None, ◌≤◌, length}
+use Rattle.std.proofs.Common.{[], None, length}
 use Rattle.std.specs.Prelude.{option_map}
 use Rattle.cstn_graphml.specs.Elements.{read_by}
 use Rattle.cstn_graphml.specs.Document.{document_reading}

@@ -1,5 +1,4 @@
-use Rattle.std.proofs.Common.{ℕ, List, ◌∷◌, None, length, arith, sym, ap, ◌∙◌, refl}
-use Rattle.std.specs.Prelude.{option_map}
+use Rattle.std.proofs.Common.{◌∷◌, length, arith, sym, ap, ◌∙◌, refl}
 use Rattle.std.proofs.lemmas.Result.{err_from_is_err_and}
 use Rattle.cstn_graphml.specs.Contents.{contents, inner}
 use Rattle.cstn_graphml.specs.Elements.{read_by}

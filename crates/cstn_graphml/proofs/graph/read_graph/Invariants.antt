@@ -1,5 +1,4 @@
-use Rattle.std.proofs.Common.{◌≡◌, ℕ, List, ◌∷◌, None, ◌≤◌, length}
-use Rattle.std.specs.Prelude.{option_map}
+use Rattle.std.proofs.Common.{◌≡◌, ℕ, List, ◌∷◌, ◌≤◌, length}
 use Rattle.cstn_graphml.specs.Elements.{read_by}
 use Rattle.cstn_graphml.specs.Document.{graph_reading}
 use Rattle.cstn_graphml.specs.Draft.{empty_draft}

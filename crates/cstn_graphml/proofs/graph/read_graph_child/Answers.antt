@@ -1,6 +1,6 @@
 use Rattle.std.proofs.Common.{◌≡◌, ap, sym, ◌∙◌, subst}
 use Rattle.cstn_graphml.specs.Contents.{Tag}
-use Rattle.cstn_graphml.specs.Document.{Part, part_of, graph_child}
+use Rattle.cstn_graphml.specs.Document.{part_of, graph_child}
 use Rattle.cstn_graphml.specs.Document.Part.{another}
 use Rattle.cstn_graphml.specs.DraftSeen.{draft_seen}
 use Rattle.cstn_graphml.specs.GraphSeen.{part_seen}

@@ -1,7 +1,7 @@
-use Rattle.std.proofs.Common.{ℕ, List, [], ◌∷◌, map, Vec, Global, subst}
+use Rattle.std.proofs.Common.{List, [], ◌∷◌, map, Vec, Global, subst}
 use Rattle.std.specs.Prelude.{codes}
 use Rattle.cstn_graphml.specs.Contents.{Tag}
-use Rattle.cstn_graphml.specs.Elements.{data_of, Datum}
+use Rattle.cstn_graphml.specs.Elements.{data_of}
 use Rattle.cstn_graphml.specs.Judged.{judged_node}
 use Rattle.cstn_graphml.specs.Data.{datum_seen}
 use Rattle.cstn_graphml.specs.DraftSeen.{draft_seen}

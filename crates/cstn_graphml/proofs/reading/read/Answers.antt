@@ -1,10 +1,10 @@
-use Rattle.std.proofs.Common.{◌≡◌, ℕ, List, Ok, Some, None, length, ap, sym, ◌∙◌, subst, arith}
+use Rattle.std.proofs.Common.{List, length, ap, sym, ◌∙◌, subst, arith}
 use Rattle.std.proofs.lemmas.List.{length-map}
 use Rattle.std.proofs.lemmas.Result.{err_from_is_err_and}
-use Rattle.cstn_markup.specs.Tokens.{Token, tokens}
+use Rattle.cstn_markup.specs.Tokens.{Token}
 use Rattle.cstn_graphml.specs.Contents.{content_of}
 use Rattle.cstn_graphml.specs.Document.{document, in_document}
-use Rattle.cstn_graphml.specs.DraftSeen.{draft_seen, prop_seen}
+use Rattle.cstn_graphml.specs.DraftSeen.{prop_seen}
 use Rattle.cstn_graphml.specs.Reads.{Fails}
 use Rattle.cstn_net.specs.declared.errors.NetError.TheVariants.{NoOrigin, NotPlain}
 use Rattle.cstn_graphml.proofs.Built.{made_count}

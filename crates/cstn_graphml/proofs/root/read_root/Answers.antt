@@ -1,10 +1,7 @@
-use Rattle.std.proofs.Common.{ℕ, List, ◌∷◌, None, length, arith, sym, ap, ◌∙◌, refl}
+use Rattle.std.proofs.Common.{◌∷◌, None, length, arith, sym, ap, ◌∙◌}
 use Rattle.std.specs.Prelude.{option_map}
 use Rattle.std.proofs.lemmas.Result.{err_from_is_err_and}
-use Rattle.cstn_graphml.specs.Contents.{contents, inner}
-use Rattle.cstn_graphml.specs.Elements.{read_by}
 use Rattle.cstn_graphml.specs.Document.{root_reading}
-use Rattle.cstn_graphml.specs.Draft.{empty_draft}
 use Rattle.cstn_graphml.specs.DraftSeen.{draft_seen}
 use Rattle.cstn_graphml.proofs.Places.{step_of, ended_is, misnamed_is, wrong_is, unfinished_is, deep_is}
 use Rattle.cstn_graphml.proofs.Folds.{fold_cut, fold_end, fold_run, fold_run_fails, fold_whole, fold_whole_fails}

@@ -2,7 +2,6 @@ use Rattle.std.proofs.Common.{◌≡◌, ℕ, List, ◌∷◌, None, ◌≤◌, 
 use Rattle.std.specs.Prelude.{option_map}
 use Rattle.cstn_graphml.specs.Elements.{read_by}
 use Rattle.cstn_graphml.specs.Document.{root_reading}
-use Rattle.cstn_graphml.specs.Draft.{empty_draft}
 use Rattle.cstn_graphml.specs.DraftSeen.{draft_seen}
 use Rattle.cstn_graphml.specs.Reads.{Continues}
 use Rattle.cstn_graphml.proofs.root.read_root.Given as goal

@@ -1,4 +1,4 @@
-use Rattle.std.proofs.Common.{◌≡◌, true, false, None, ap, sym, subst}
+use Rattle.std.proofs.Common.{◌≡◌, true, false, ap, sym, subst}
 use Rattle.std.specs.Prelude.{option_map, codes}
 use Rattle.std.proofs.lemmas.Bool.{not-false, not-true}
 use Rattle.cstn_markup.specs.Bytes.{is_same}

@@ -1,4 +1,4 @@
-use Rattle.std.proofs.Common.{◌≡◌, ap, sym, ◌∙◌, map, drop, Bool, true}
+use Rattle.std.proofs.Common.{◌≡◌, ap, sym, ◌∙◌, map, drop, true}
 use Rattle.std.specs.Prelude.{◌==◌}
 use Rattle.std.proofs.lemmas.Bool.{ne_eqb}
 use Rattle.cstn_markup.proofs.Skips.{take_rest}

@@ -1,5 +1,4 @@
-use Rattle.std.proofs.Common.{ℕ, ◌≡◌, ◌+◌, ◌*◌, ◌<◌, ◌≤◌, List, min, get_or, arith, sym, subst, ap, ◌∙◌}
-use Rattle.cstn_label.specs.Labels.{Scenario}
+use Rattle.std.proofs.Common.{ℕ, ◌≡◌, ◌+◌, ◌*◌, ◌<◌, ◌≤◌, min, get_or, arith, sym, subst, ap, ◌∙◌}
 use Rattle.cstn_label.specs.Read.{the_scenario}
 use Rattle.cstn_net.specs.Networks.{count}
 use Rattle.cstn_net.specs.Strategies.{Agrees}
@@ -35,8 +34,8 @@ raise-requires-clause-forced c =
     (subst (λ r. Agrees net (row_at (count net) c.args.moments.now c.args.row) t (the_scenario c.scenario_of.result) r) else_is
     ((c.told_apart-apart.ensures t (omega arith)).1 (omega arith))))
     (λ table strategy.
-        let below = row_forced net good c.loop-x.moments c.loop-x.invariant.low c.args.other c.loop-x.x c.requires.other here table strategy in
-        omega arith)
+    let below = row_forced net good c.loop-x.moments c.loop-x.invariant.low c.args.other c.loop-x.x c.requires.other here table strategy in
+    omega arith)
 
 pub returns-clause-some : goal.returns-clause-some
 returns-clause-some c =
@@ -48,13 +47,13 @@ returns-clause-some c =
     let counted = c.count-x-end.ensures.count in
     let last = c.loop-x-test.false in
     weaker net (λ ts. (y : ℕ) → y < c.loop-x.x →
-        min (row_at (count net) ts c.args.other y) c.told_apart-apart.result ≤ row_at (count net) ts c.args.row y)
+    min (row_at (count net) ts c.args.other y) c.told_apart-apart.result ≤ row_at (count net) ts c.args.row y)
     (IsNoLater net c.args.row c.args.other) c.args.moments.now c.loop-x.moments c.loop-x.raised
     (λ quiet x here agrees.
-        let small = row_small net c.count-x-end.ensures.well_formed c.args.moments.now c.requires.low c.args.row x c.requires.row here in
-        let apart = (c.told_apart-apart.ensures (row_at (count net) c.args.moments.now c.args.row x) (omega arith)).0
-        (subst (λ s. Agrees net (row_at (count net) c.args.moments.now c.args.row) (row_at (count net) c.args.moments.now c.args.row x) s (the_scenario c.scenario_of-2.result)) (sym own)
-        (subst (λ r. Agrees net (row_at (count net) c.args.moments.now c.args.row) (row_at (count net) c.args.moments.now c.args.row x) (scenario_of (observed_props net.observes) c.args.row) r) (sym else_is) agrees)) in
-        let least = quiet x (omega arith) in
-        omega arith)
+    let small = row_small net c.count-x-end.ensures.well_formed c.args.moments.now c.requires.low c.args.row x c.requires.row here in
+    let apart = (c.told_apart-apart.ensures (row_at (count net) c.args.moments.now c.args.row x) (omega arith)).0
+    (subst (λ s. Agrees net (row_at (count net) c.args.moments.now c.args.row) (row_at (count net) c.args.moments.now c.args.row x) s (the_scenario c.scenario_of-2.result)) (sym own)
+    (subst (λ r. Agrees net (row_at (count net) c.args.moments.now c.args.row) (row_at (count net) c.args.moments.now c.args.row x) (scenario_of (observed_props net.observes) c.args.row) r) (sym else_is) agrees)) in
+    let least = quiet x (omega arith) in
+    omega arith)
     c.loop-x.invariant

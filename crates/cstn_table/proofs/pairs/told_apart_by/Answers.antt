@@ -1,5 +1,5 @@
 use Rattle.std.proofs.Common.{◌≡◌, ◌+◌, ◌*◌, arith, sym, ap, ◌∙◌, get_or}
-use Rattle.cstn_net.specs.Networks.{Observes, count}
+use Rattle.cstn_net.specs.Networks.{count}
 use Rattle.cstn_net.specs.Read.{the_network}
 use Rattle.cstn_table.specs.Tables.{row_at}
 use Rattle.cstn_table.proofs.RaiseLemmas.{row_small}

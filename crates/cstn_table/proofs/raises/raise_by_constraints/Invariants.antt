@@ -1,9 +1,8 @@
-use Rattle.std.proofs.Common.{ℕ, ◌≡◌, ◌<◌, ◌≤◌, min}
+use Rattle.std.proofs.Common.{ℕ, ◌≡◌, ◌<◌}
 use Rattle.std.proofs.Common.{get_or}
-use Rattle.cstn_net.specs.Networks.{Constraint, count}
-use Rattle.cstn_net.specs.Read.{the_network, the_constraint}
-use Rattle.cstn_table.specs.Tables.{row_at}
-use Rattle.cstn_table.specs.Raises.{IsWalk, MeetsIn, IsNoLater, rows}
+use Rattle.cstn_net.specs.Networks.{Constraint}
+use Rattle.cstn_net.specs.Read.{the_network}
+use Rattle.cstn_table.specs.Raises.{IsWalk, MeetsIn, rows}
 use Rattle.cstn_table.proofs.raises.raise_by_constraints.Given as goal
 
 abbrev pub invariant-loop-c : goal.invariant-loop-c

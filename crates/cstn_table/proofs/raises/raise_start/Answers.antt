@@ -1,8 +1,8 @@
-use Rattle.std.proofs.Common.{refl, to_z, of_z, w32, ℕ, ◌≡◌, ◌+◌, ◌*◌, ◌≤◌, get_or, arith, sym, subst, ap, ◌∙◌}
+use Rattle.std.proofs.Common.{refl, to_z, of_z, w32, ◌≡◌, ◌+◌, ◌*◌, ◌≤◌, get_or, arith, sym, subst, ap, ◌∙◌}
 use Rattle.std.specs.Prelude.{pos, ◌-ℤ◌, ◌≤ℤ◌}
 use Rattle.std.proofs.lemmas.Int.{ints}
 use Rattle.std.proofs.lemmas.List.Elements.{All-contains}
-use Rattle.cstn_label.specs.Labels.{Scenario, Holds}
+use Rattle.cstn_label.specs.Labels.{Holds}
 use Rattle.cstn_label.specs.Read.{marks, the_scenario}
 use Rattle.cstn_net.specs.Networks.{IsConstraint, count}
 use Rattle.cstn_net.specs.Read.{the_network, the_constraint}

@@ -1,9 +1,6 @@
-use Rattle.std.proofs.Common.{ℕ, ◌≡◌, ◌<◌, ◌≤◌, min}
-use Rattle.std.proofs.Common.{get_or}
-use Rattle.cstn_net.specs.Networks.{count}
+use Rattle.std.proofs.Common.{ℕ, ◌<◌}
 use Rattle.cstn_net.specs.Read.{the_network, the_constraint}
-use Rattle.cstn_table.specs.Tables.{row_at}
-use Rattle.cstn_table.specs.Raises.{IsWalk, MeetsIn, IsNoLater, rows}
+use Rattle.cstn_table.specs.Raises.{IsWalk, MeetsIn}
 use Rattle.cstn_table.proofs.raises.raise_starts.Given as goal
 
 abbrev pub invariant-loop-row : goal.invariant-loop-row

@@ -1,4 +1,4 @@
-use Rattle.std.proofs.Common.{arith, sym, ◌∙◌}
+use Rattle.std.proofs.Common.{arith}
 use Rattle.cstn_net.specs.Read.{the_network}
 use Rattle.cstn_table.proofs.RowLemmas.{count_turn}
 use Rattle.cstn_table.proofs.rows.count_props.Goals as goal

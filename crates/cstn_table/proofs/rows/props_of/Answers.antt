@@ -1,6 +1,5 @@
-use Rattle.std.proofs.Common.{arith, subst, sym, ap, ◌∙◌}
+use Rattle.std.proofs.Common.{arith, ap, ◌∙◌}
 use Rattle.cstn_net.specs.Read.{the_network}
-use Rattle.cstn_table.specs.Tables.{observed_props}
 use Rattle.cstn_table.specs.Read.{numbers}
 use Rattle.cstn_table.proofs.RowLemmas.{props_turn, props_stay}
 use Rattle.cstn_table.proofs.rows.props_of.Goals as goal

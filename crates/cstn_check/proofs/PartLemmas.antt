@@ -1,0 +1,119 @@
+-- The last entry of the log with its ancestors, as steps of a refutation.
+use Rattle.std.proofs.Common.{ℕ, zero, suc, ◌≡◌, ◌-◌, ◌<◌, ◌≤◌, inl, inr, Bool, false, List, length, get_or, Some, arith, sym, subst, ap, ◌∙◌}
+use Rattle.std.specs.Prelude.{slice_get, slice_index_or}
+use Rattle.std.specs.List.{All}
+use Rattle.std.proofs.lemmas.Int.{ints}
+use Rattle.std.proofs.lemmas.Bool.{cases_Bool}
+use Rattle.std.proofs.lemmas.List.{length-map}
+use Rattle.std.proofs.lemmas.Option.{slice_get_within, slice_get-get_or}
+use Rattle.cstn_label.specs.Bounds.{Bound}
+use Rattle.cstn_net.specs.Networks.{Network, IsWellFormed, count, limit}
+use Rattle.cstn_rules.specs.declared.entries.Entry.{Entry as DeclaredEntry}
+use Rattle.cstn_rules.specs.Derivations.{Entry, IsRefutation}
+use Rattle.cstn_rules.specs.Read.{the_entry}
+use Rattle.cstn_log.specs.Entries.{the_entries}
+use Rattle.cstn_log.specs.Cuts.{rank, last_marked, with_ancestors, part}
+use Rattle.cstn_log.proofs.CutLemmas.{rank_marked, rank_unmarked, length_cut, comes}
+use Rattle.cstn_log.proofs.MarkLemmas.{part_refutation}
+use Rattle.cstn_refute.specs.Refutations.{RefutationParts, IsStep, AreSteps, FitsText, the_steps}
+use Rattle.cstn_check.specs.Growth.{log_of, load_of}
+use Rattle.cstn_check.specs.Kept.{IsRanged}
+use Rattle.cstn_check.specs.Turns.{LastRefutes}
+use Rattle.cstn_check.proofs.Bounded.{log_kept}
+use Rattle.cstn_check.proofs.Decides.{log_derived}
+use Rattle.cstn_check.proofs.GoodLemmas.{good_at}
+use Rattle.cstn_check.proofs.Reading.{entry_at}
+
+rank_upto : (marks : List Bool) (k : ℕ) → rank marks k ≤ k
+rank_upto marks zero = omega arith
+rank_upto marks (suc k) =
+    let upto = rank_upto marks k in
+    elim (cases_Bool (slice_index_or marks k false)) [
+      | inl t ↦ let e = rank_marked marks k t in omega arith
+      | inr f ↦ let e = rank_unmarked marks k f in omega arith
+    ]
+
+pub part_short : (steps : List Entry) → length (part steps) ≤ length steps
+part_short steps =
+    let marks = with_ancestors steps (length steps) (last_marked (length steps)) in
+    let size = length_cut marks steps in
+    let upto = rank_upto marks (length steps) in
+    omega arith
+
+pub log_refutation : (net : Network) → IsWellFormed net → LastRefutes net (log_of net) → IsRefutation net (log_of net)
+log_refutation net good last = record {
+  derivation = log_derived net good.network good.letters;
+  last = last.last;
+  is_last = last.is_last;
+  refutes = last.refutes;
+}
+
+module _ (net : Network) (good : IsWellFormed net) where
+  limit_in_time : (x : ℕ) → limit net x ≤ 1000000
+  limit_in_time zero = omega arith
+  limit_in_time (suc x) = good.in_time
+
+  ranged_step : (e : DeclaredEntry) → IsRanged net (the_entry e).bound → IsStep e
+  ranged_step e r =
+      let most = limit_in_time e.bound.node.0 in
+      let low = r.low in
+      let high = r.high in
+      record { low = low; high = omega (arith, ints) }
+
+  -- each of its bounds is one of the log
+  part_from : (k : ℕ) (e : Entry) → slice_get (part (log_of net)) k ≡ Some e →
+      (i : ℕ) × (f : Entry) × (slice_get (log_of net) i ≡ Some f) × (f.bound ≡ e.bound)
+  part_from k e there =
+      let L = log_of net in
+      let from = comes (with_ancestors L (length L) (last_marked (length L))) L k e there in
+      (from.0, from.1, from.2, sym (ap (λ (x : Entry). x.bound) from.5))
+
+  part_ranged : (k : ℕ) (e : Entry) → slice_get (part (log_of net)) k ≡ Some e → IsRanged net e.bound
+  part_ranged k e there =
+      let from = part_from k e there in
+      subst (λ b. IsRanged net b) from.3 ((log_kept net good.network good.letters).ranged from.0 from.1 from.2)
+
+  part_node : (k : ℕ) (e : Entry) → slice_get (part (log_of net)) k ≡ Some e → e.bound.node < count net
+  part_node k e there =
+      let from = part_from k e there in
+      subst (λ (b : Bound). b.node < count net) from.3
+      (good_at net (log_of net) from.0 from.1 (log_kept net good.network good.letters).good from.2).node
+
+  step_there : (steps : List DeclaredEntry) → the_entries steps ≡ part (log_of net) → (k : ℕ) (e : DeclaredEntry) →
+      slice_get steps k ≡ Some e → slice_get (part (log_of net)) k ≡ Some (the_entry e)
+  step_there steps is k e there = ap (λ l. slice_get l k) (sym is) ∙ entry_at steps k e there
+
+  all_steps : (steps : List DeclaredEntry) → ((k : ℕ) (e : DeclaredEntry) → slice_get steps k ≡ Some e → IsStep e) → All IsStep steps
+  all_steps steps each = λ k d inside. each k (get_or steps k d) (slice_get-get_or steps k d inside)
+
+  -- the part of a log that refutes has the form of steps
+  pub part_steps : (steps : List DeclaredEntry) → LastRefutes net (log_of net) → the_entries steps ≡ part (log_of net) →
+      load_of net ≤ 4194304 → AreSteps steps
+  part_steps steps last is few =
+      let long : length (the_entries steps) ≡ length steps = length-map steps the_entry in
+      let same = ap length is in
+      let short = part_short (log_of net) in
+      let r = part_refutation net (log_of net) (log_refutation net good last) in
+      let inside = slice_get_within (part (log_of net)) (length (part (log_of net)) - 1) r.last r.is_last in
+      record {
+        some = omega arith;
+        few = omega arith;
+        each = all_steps steps (λ k e there. ranged_step e (part_ranged k (the_entry e) (step_there steps is k e there)));
+      }
+
+  pub part_refutes : (steps : List Entry) → LastRefutes net (log_of net) → steps ≡ part (log_of net) → IsRefutation net steps
+  part_refutes steps last is =
+      subst (λ l. IsRefutation net l) (sym is) (part_refutation net (log_of net) (log_refutation net good last))
+
+  pub part_named : (steps : List DeclaredEntry) → the_entries steps ≡ part (log_of net) → All (λ e. e.bound.node.0 < count net) steps
+  part_named steps is =
+      λ k d inside. part_node k (the_entry (get_or steps k d)) (step_there steps is k (get_or steps k d) (slice_get-get_or steps k d inside))
+
+  pub part_text : (r : RefutationParts) → LastRefutes net (log_of net) → r.load ≡ load_of net → the_steps r ≡ part (log_of net) →
+      load_of net ≤ 4194304 → FitsText r
+  part_text r last load is few =
+      let inside = slice_get_within (log_of net) (length (log_of net) - 1) last.last last.is_last in
+      let long : length (the_steps r) ≡ length r.steps = length-map r.steps the_entry in
+      let same = ap length is in
+      let short = part_short (log_of net) in
+      record { load_low = omega arith; load_high = omega arith; few = omega arith }

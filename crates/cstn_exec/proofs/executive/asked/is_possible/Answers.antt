@@ -1,0 +1,5 @@
+use Rattle.cstn_exec.proofs.Steps.{possible_is}
+use Rattle.cstn_exec.proofs.executive.asked.is_possible.Goals as goal
+
+pub returns : goal.returns
+returns c = possible_is c.args.known.now c.args.label c.possible.result c.possible.ensures.possible

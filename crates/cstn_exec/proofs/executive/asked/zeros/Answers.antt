@@ -1,0 +1,5 @@
+use Rattle.cstn_exec.proofs.Moving.{default_of}
+use Rattle.cstn_exec.proofs.executive.asked.zeros.Goals as goal
+
+pub returns : goal.returns
+returns c x = default_of 1024 x 0

@@ -1,0 +1,158 @@
+-- Small plans, and what is answered while they are carried out. The propositions 0 and 1 are called p and q here.
+use Rattle.std.specs.Prelude.{ℕ, zero, suc, Bool, true, false, List, [], ◌∷◌, Option, Some, None, length, pos}
+use Rattle.cstn_label.specs.declared.marks.Mark.{Mark}
+use Rattle.cstn_label.specs.declared.marks.Mark.TheVariants.{Absent, Yes, No}
+use Rattle.cstn_label.specs.Labels.{Label, empty}
+use Rattle.cstn_label.specs.Bounds.{Bound}
+use Rattle.cstn_net.specs.Networks.{Network}
+use Rattle.cstn_exec.specs.Runs.{Run, start, due, named}
+use Rattle.cstn_exec.specs.Moves.{Refusal, Done, Past, Late, Awaiting, NotExecuted, Known, moment_refusal, moved, outcome_refusal, handed}
+
+-- what comes: a moment, an outcome, or the question for the due moment
+pub data Event : Type 0 where
+  Moment : (t : ℕ) → Event
+  See : (p : ℕ) → (v : Bool) → Event
+  AskDue : Event
+
+-- what is answered: the time-points that are named, that an outcome is kept, why an event is refused, or the due moment
+pub data Answer : Type 0 where
+  Names : (xs : List ℕ) → Answer
+  Kept : Answer
+  Refused : (why : Refusal) → Answer
+  DueAt : (t : Option ℕ) → Answer
+
+abbrev pub moment_answer : Network → List Bound → Run → ℕ → Option Refusal → Answer
+moment_answer net bounds run t None = Names (named net bounds run t)
+moment_answer net bounds run t (Some why) = Refused why
+
+abbrev pub run_unless : Run → Run → Option Refusal → Run
+run_unless run other None = other
+run_unless run other (Some why) = run
+
+abbrev pub see_answer : Option Refusal → Answer
+see_answer None = Kept
+see_answer (Some why) = Refused why
+
+abbrev pub answer_to : Network → List Bound → Run → Event → Answer
+answer_to net bounds run (Moment t) = moment_answer net bounds run t (moment_refusal net bounds run t)
+answer_to net bounds run (See p v) = see_answer (outcome_refusal net run p)
+answer_to net bounds run AskDue = DueAt (due net bounds run)
+
+abbrev pub run_after : Network → List Bound → Run → Event → Run
+run_after net bounds run (Moment t) = run_unless run (moved net bounds run t) (moment_refusal net bounds run t)
+run_after net bounds run (See p v) = run_unless run (handed run p v) (outcome_refusal net run p)
+run_after net bounds run AskDue = run
+
+-- the answers to events in their order
+abbrev pub answers_from : Network → List Bound → List Event → Run → List Answer
+answers_from net bounds [] run = []
+answers_from net bounds (e ∷ es) run = answer_to net bounds run e ∷ answers_from net bounds es (run_after net bounds run e)
+
+-- the answers to events from the start on
+abbrev pub answers : Network → List Bound → List Event → List Answer
+answers net bounds events = answers_from net bounds events (start (length net.observes))
+
+-- the label with this mark on p, and no other
+abbrev pub only : Mark → Label
+only m zero = m
+only m (suc p) = Absent
+
+-- x is at `least` or later where the label is possible
+abbrev pub from : ℕ → ℕ → Label → Bound
+from x least label = record { node = x; least = pos least; label = label }
+
+-- a network of which the constraints are left out, as a run doesn't ask for them
+abbrev pub observing : ℕ → List (Option ℕ) → ℕ → Network
+observing deadline observes reaction = record { deadline = deadline; observes = observes; reaction = λ p. reaction; constraints = [] }
+
+-- Z, P, which observes p, and X, which is at 10 where p is true
+abbrev pub branch : Network
+branch = observing 10 (None ∷ (Some 0 ∷ (None ∷ []))) 1
+
+abbrev pub branch_plan : List Bound
+branch_plan = from 0 0 empty ∷ (from 1 0 empty ∷ (from 2 10 (only Yes) ∷ (from 2 1 empty ∷ [])))
+
+-- the same, where p is known 3 ticks after P
+abbrev pub slow_branch : Network
+slow_branch = observing 10 (None ∷ (Some 0 ∷ (None ∷ []))) 3
+
+abbrev pub slow_branch_plan : List Bound
+slow_branch_plan = from 0 0 empty ∷ (from 1 0 empty ∷ (from 2 10 (only Yes) ∷ (from 2 3 empty ∷ [])))
+
+-- the branch network with P at 2 or later
+abbrev pub last_tick_plan : List Bound
+last_tick_plan = from 0 0 empty ∷ (from 1 2 empty ∷ (from 2 10 (only Yes) ∷ (from 2 3 empty ∷ [])))
+
+-- P and Q, each of which would have to wait for the other
+abbrev pub crossed : Network
+crossed = observing 5 (None ∷ (Some 0 ∷ (Some 1 ∷ []))) 1
+
+abbrev pub crossed_plan : List Bound
+crossed_plan = from 0 0 empty ∷ (from 2 5 empty ∷ (from 1 5 empty ∷ []))
+
+-- a process from S to E, in which T takes longer where p is false
+abbrev pub process : Network
+process = observing 40 (None ∷ (None ∷ (Some 0 ∷ (None ∷ (None ∷ []))))) 1
+
+abbrev pub process_plan : List Bound
+process_plan =
+    from 0 0 empty ∷ (from 1 0 empty ∷ (from 2 5 empty ∷ (from 3 7 (only Yes) ∷ (from 3 13 (only No) ∷ (from 4 10 (only Yes) ∷
+    (from 3 6 empty ∷ (from 4 16 (only No) ∷ (from 4 9 empty ∷ []))))))))
+
+-- events where p is false, with every refusal, and their answers
+abbrev pub branch_events : List Event
+branch_events =
+    AskDue ∷ (See 0 true ∷ (Moment 0 ∷ (Moment 0 ∷ (AskDue ∷ (Moment 1 ∷ (See 0 false ∷ (See 0 true ∷ (Moment 2 ∷
+    (Moment 1 ∷ (AskDue ∷ (Moment 2 ∷ [])))))))))))
+
+abbrev pub branch_answers : List Answer
+branch_answers =
+    DueAt (Some 0) ∷ (Refused (NotExecuted 0) ∷ (Names (0 ∷ (1 ∷ [])) ∷ (Refused (Past 0) ∷ (DueAt (Some 1) ∷
+    (Refused (Awaiting 0) ∷ (Kept ∷ (Refused (Known 0 false) ∷ (Refused (Late 1) ∷ (Names (2 ∷ []) ∷ (DueAt None ∷
+    (Refused Done ∷ [])))))))))))
+
+-- events where p is true, and their answers
+abbrev pub true_branch_events : List Event
+true_branch_events =
+    Moment 0 ∷ (See 0 true ∷ (AskDue ∷ (Moment 10 ∷ [])))
+
+abbrev pub true_branch_answers : List Answer
+true_branch_answers =
+    Names (0 ∷ (1 ∷ [])) ∷ (Kept ∷ (DueAt (Some 10) ∷ (Names (2 ∷ []) ∷ [])))
+
+-- events where P is executed at the last tick, and their answers
+abbrev pub last_tick_events : List Event
+last_tick_events =
+    Moment 0 ∷ (Moment 2 ∷ (See 0 false ∷ (Moment 3 ∷ [])))
+
+abbrev pub last_tick_answers : List Answer
+last_tick_answers =
+    Names (0 ∷ []) ∷ (Names (1 ∷ []) ∷ (Kept ∷ (Names (2 ∷ []) ∷ [])))
+
+-- events where an outcome is seen before it is known, and their answers
+abbrev pub slow_events : List Event
+slow_events =
+    Moment 0 ∷ (See 0 false ∷ (Moment 1 ∷ (AskDue ∷ (Moment 3 ∷ []))))
+
+abbrev pub slow_answers : List Answer
+slow_answers =
+    Names (0 ∷ (1 ∷ [])) ∷ (Kept ∷ (Names [] ∷ (DueAt (Some 3) ∷ (Names (2 ∷ []) ∷ []))))
+
+-- events where two observers would wait for each other, and their answers
+abbrev pub crossed_events : List Event
+crossed_events =
+    Moment 0 ∷ (AskDue ∷ (See 0 true ∷ (Moment 6 ∷ (Moment 5 ∷ []))))
+
+abbrev pub crossed_answers : List Answer
+crossed_answers =
+    Names (0 ∷ []) ∷ (DueAt (Some 5) ∷ (Refused (NotExecuted 0) ∷ (Refused (Late 5) ∷ (Names (1 ∷ (2 ∷ [])) ∷ []))))
+
+-- events of the process, where p is false, and their answers
+abbrev pub process_events : List Event
+process_events =
+    Moment 0 ∷ (AskDue ∷ (Moment 5 ∷ (Moment 6 ∷ (See 0 false ∷ (AskDue ∷ (Moment 13 ∷ (Moment 16 ∷ [])))))))
+
+abbrev pub process_answers : List Answer
+process_answers =
+    Names (0 ∷ (1 ∷ [])) ∷ (DueAt (Some 5) ∷ (Names (2 ∷ []) ∷ (Refused (Awaiting 0) ∷ (Kept ∷ (DueAt (Some 13) ∷
+    (Names (3 ∷ []) ∷ (Names (4 ∷ []) ∷ [])))))))

@@ -1,0 +1,5 @@
+pub mod Runs
+pub mod Moves
+pub mod Right
+pub mod Read
+pub mod Examples

@@ -1,0 +1,45 @@
+-- How the values of the program are read.
+use Rattle.std.specs.Prelude.{ℕ, ◌+◌, ◌≤◌, Bool, if◌then◌else◌, List, Option, Some, None, Result, Ok, Err}
+use Rattle.cstn_label.specs.declared.bounds.Bound.{Bound}
+use Rattle.cstn_label.specs.declared.knowledge.Known.{Known}
+use Rattle.cstn_label.specs.Read.{the_values}
+use Rattle.cstn_label.specs.Words.{has_bit}
+use Rattle.cstn_net.specs.Read.{NetworkParts}
+use Rattle.cstn_exec.specs.declared.errors.ExecError.{ExecError}
+use Rattle.cstn_exec.specs.declared.errors.ExecError.TheVariants.{Past, Late, Awaiting, NotExecuted, Known as AlreadyKnown, Done}
+use Rattle.cstn_net.specs.Networks.{Network, count}
+use Rattle.cstn_exec.specs.Runs.{Run, next}
+use Rattle.cstn_exec.specs.Right.{IsRight}
+use Rattle.cstn_exec.specs.Moves.{Refusal, Done as AllDone, Past as PastNow, Late as PastDue, Awaiting as StillAwaiting, NotExecuted as NotObserved, Known as KnownAlready}
+
+-- what contracts see of an executive: the network and the bounds of its plan, its run, and the time-points that were named at
+-- the last accepted moment
+pub record ExecParts : Type 0 where
+  pub net : NetworkParts
+  pub bounds : List Bound
+  pub run : Run
+  pub named : List ℕ
+
+-- the value of p, where it is known
+abbrev pub value_in : Known → ℕ → Option Bool
+value_in k p = if has_bit k.seen p then Some (the_values k p) else None
+
+-- what an error tells
+abbrev pub the_refusal : ExecError → Refusal
+the_refusal Done = AllDone
+the_refusal (Past now) = PastNow now
+the_refusal (Late due) = PastDue due
+the_refusal (Awaiting prop) = StillAwaiting prop.index
+the_refusal (NotExecuted prop) = NotObserved prop.index
+the_refusal (AlreadyKnown prop value) = KnownAlready prop.index value
+
+-- what a call was refused for, if it was
+abbrev pub refusal_of : {X : Type 0} → Result X ExecError → Option Refusal
+refusal_of (Ok x) = None
+refusal_of (Err e) = Some (the_refusal e)
+
+-- what an executive keeps: its run is right and not past the deadline, and there is room for an answer of all time-points
+pub record IsExecutive (net : Network) (run : Run) (size : ℕ) : Type 0 where
+  pub right : IsRight net run
+  pub in_time : next run ≤ net.deadline + 1
+  pub room : count net ≤ size

@@ -1,0 +1,161 @@
+ghost use Rattle.std.specs.Prelude.{ℕ, ◌≡◌, ◌<◌, ◌≤◌, ◌+◌, ◌↔◌, map, true, None, Some, [], IsNone, IsTrue, IfOk, IfSome, IfNone, OnOk, OnErr};
+ghost use Rattle.std.specs.List.{Contains};
+ghost use Rattle.std.specs.List.Sorted.{IsStrictlyIncreasing};
+ghost use Rattle.cstn_net.specs.Networks.{count};
+ghost use Rattle.cstn_net.specs.Read.{the_network};
+ghost use Rattle.cstn_log.specs.Plans.{the_bounds};
+ghost use Rattle.cstn_exec.specs.Runs.{start, due, named, is_awaited};
+ghost use Rattle.cstn_exec.specs.Moves.{moment_refusal, moved, outcome_refusal, handed};
+ghost use Rattle.cstn_exec.specs.Right.{IsRight, IsCalled, IsDue, IsDone, IsCarriedOut};
+ghost use Rattle.cstn_exec.specs.Read.{ExecParts, refusal_of, the_refusal};
+ghost use Rattle.std.specs.Option.{option_map};
+
+mod asked;
+mod known;
+mod naming;
+mod parts;
+mod search;
+
+use crate::errors::ExecError;
+use cstn_label::{NodeId, Prop};
+use cstn_log::SoundPlan;
+use cstn_net::Network;
+use naming::execute;
+use std::alloc::{AllocError, Global};
+use std::marker::Model;
+
+/// Carries out a plan: takes moments and outcomes one at a time, and names at each moment the time-points to be executed.
+/// It never sees a scenario.
+///
+/// All memory is taken by [`Executive::start`].
+#[derive(Drop)]
+pub struct Executive {
+    plan: SoundPlan,
+    last: Option<u32>,
+    moments: Vec<Option<u32>>,
+    outcomes: [Option<bool>; 52],
+    named: Vec<NodeId>,
+}
+
+impl Model for Executive {
+    ghost use Rattle.std.specs.Prelude.{map, vec_capacity};
+    ghost use Rattle.cstn_net.specs.Read.{the_network};
+    ghost use Rattle.cstn_exec.specs.Read.{ExecParts, IsExecutive};
+
+    ghost Value = { ExecParts };
+
+    ghost view = { λ e. record { net = e.plan.net; bounds = e.plan.bounds; run = record { now = e.last; moments = e.moments.items; outcomes = e.outcomes }; named = map (λ x. x.0) e.named.items } };
+
+    ghost invariant = { λ e. IsExecutive (the_network e.plan.net) (record { now = e.last; moments = e.moments.items; outcomes = e.outcomes }) (vec_capacity e.named) };
+}
+
+impl Executive {
+    /// An executive of the plan, of which nothing is executed. All room is taken here, also for the longest answer. Fails for
+    /// want of memory alone, and drops the plan then.
+    pub fn start(alloc: Global, plan: SoundPlan) -> Result<Executive, AllocError>
+        ensures start { IfOk result (λ e. e ≡ record { net = plan.net; bounds = plan.bounds; run = start (count (the_network plan.net)); named = [] }) }
+    {
+        let count = plan.network().count() as usize;
+        let mut moments = Vec::with_capacity(alloc, count)?;
+        moments.resize(count, None)?;
+        let named = Vec::with_capacity(alloc, count)?;
+        Ok(Executive {
+            plan,
+            last: None,
+            moments,
+            outcomes: [None; 52],
+            named,
+        })
+    }
+
+    /// The network.
+    pub fn network(&self) -> &Network
+        ensures network { result.now ≡ self.now.net }
+        ensures right { IsRight (the_network self.now.net) self.now.run }
+    {
+        self.plan.network()
+    }
+
+    /// The time-points that were named at the last accepted moment, in ascending number.
+    pub fn named(&self) -> &[NodeId]
+        ensures named { map (λ x. x.0) result.now ≡ self.now.named }
+    {
+        &self.named
+    }
+
+    /// The first moment, in ticks, at which an outcome is awaited or a time-point is to be executed; none where all is executed.
+    /// Takes a pass over the plan's bounds, and one more for each moment up to it at which more becomes known.
+    pub fn due(&self) -> Option<u32>
+        ensures due { result ≡ due (the_network self.now.net) (the_bounds self.now.bounds) self.now.run }
+        ensures none { IsNone result ↔ IsDone (the_network self.now.net) self.now.run }
+        ensures first { IfSome result (λ t. IsDue (the_network self.now.net) self.now.run t) }
+        ensures in_time { IfSome result (λ t. t ≤ self.now.net.deadline) }
+        ensures carried_out { IfNone result (IsCarriedOut (the_network self.now.net) self.now.run) }
+    {
+        self.is_right();
+        if self.is_done() {
+            None
+        } else {
+            Some(self.first_due())
+        }
+    }
+
+    /// Why the moment would be refused; none exactly where it would be accepted.
+    pub fn can(&self, t: u32) -> Option<ExecError>
+        ensures { option_map the_refusal result ≡ moment_refusal (the_network self.now.net) (the_bounds self.now.bounds) self.now.run t }
+    {
+        if self.is_done() {
+            return Some(ExecError::Done);
+        }
+        if let Some(now) = self.last() {
+            if t <= now {
+                return Some(ExecError::Past { now });
+            }
+        }
+        if let Some(prop) = self.awaited(t) {
+            return Some(ExecError::Awaiting { prop });
+        }
+        match self.due() {
+            Some(due) if due < t => Some(ExecError::Late { due }),
+            _ => None,
+        }
+    }
+
+    /// Accepts a moment, in ticks, and executes the time-points whose least moment it is, which `named` lends. Refused with the
+    /// first that applies of `Done`, `Past`, `Awaiting` and `Late`. Takes a pass over the plan's bounds more than `due`.
+    pub fn moment(&mut self, t: u32) -> Result<(), ExecError>
+        ensures refused { refusal_of result ≡ moment_refusal (the_network self.old.net) (the_bounds self.old.bounds) self.old.run t }
+        ensures moved { OnOk result (self.new ≡ record self.old { run = moved (the_network self.old.net) (the_bounds self.old.bounds) self.old.run t; named = named (the_network self.old.net) (the_bounds self.old.bounds) self.old.run t }) }
+        ensures same { OnErr result (self.new ≡ self.old) }
+
+        ensures named { OnOk result ((x : ℕ) → Contains self.new.named x ↔ IsCalled (the_network self.old.net) self.old.run t x) }
+        ensures ascending { OnOk result (IsStrictlyIncreasing self.new.named) }
+    {
+        if let Some(refusal) = self.can(t) {
+            return Err(refusal);
+        }
+        self.is_right();
+        self.name(t);
+        execute(&mut self.moments, &self.named, t);
+        self.last = Some(t);
+        Ok(())
+    }
+
+    /// Keeps the outcome of a proposition, which is used from its reaction after its observer on. Refused with the first that
+    /// applies of `NotExecuted` and `Known`.
+    pub fn see(&mut self, p: Prop, value: bool) -> Result<(), ExecError>
+        ensures refused { refusal_of result ≡ outcome_refusal (the_network self.old.net) self.old.run p.index }
+        ensures handed { OnOk result (self.new ≡ record self.old { run = handed self.old.run p.index value }) }
+        ensures same { OnErr result (self.new ≡ self.old) }
+    {
+        let Some(_) = self.observed_at(p) else {
+            return Err(ExecError::NotExecuted { prop: p });
+        };
+        if let Some(value) = self.outcome(p) {
+            return Err(ExecError::Known { prop: p, value });
+        }
+        self.is_right();
+        self.outcomes[p.index as usize] = Some(value);
+        Ok(())
+    }
+}

@@ -1,0 +1,54 @@
+// The moments that the bounds of a plan ask for.
+ghost use Rattle.std.specs.Prelude.{ℕ, ◌≡◌, ◌<◌, ◌≤◌, ◌==◌, ◌&&◌, cond, max, slice_index};
+ghost use Rattle.cstn_label.specs.Read.{marks};
+ghost use Rattle.cstn_log.specs.Asked.{moment_of, greatest};
+ghost use Rattle.cstn_log.specs.Plans.{the_bounds};
+ghost use Rattle.cstn_exec.specs.Runs.{is_possible};
+ghost use Rattle.cstn_exec.specs.Read.{value_in};
+
+use cstn_label::{Bound, Known, Label};
+use cstn_log::SoundPlan;
+
+/// A moment for each of the 1,024 time-points that there may be.
+pub type Moments = [u32; 1024];
+
+// For each time-point the greatest moment that its bounds ask for whose labels are possible.
+pub fn asked(plan: &SoundPlan, known: &Known) -> Moments
+    ensures { (x : ℕ) → x < 1024 → slice_index result x ≡ greatest (λ b. (b.node == x) && is_possible (value_in known.now) b.label) (the_bounds plan.now.bounds) }
+{
+    plan.network();
+    let mut after = zeros();
+    for k in 0..plan.count() {
+        note(&mut after, plan.bound(k), known);
+    }
+    after
+}
+
+fn zeros() -> Moments
+    ensures { (x : ℕ) → slice_index result x ≡ 0 }
+{
+    [0; 1024]
+}
+
+fn note(after: &mut Moments, bound: Bound, known: &Known)
+    requires { bound.node.0 < 1024 }
+    ensures { (x : ℕ) → x < 1024 → slice_index after.new x ≡ cond ((bound.node.0 == x) && is_possible (value_in known.now) (marks bound.label)) (max (slice_index after.old x) (moment_of bound.least)) (slice_index after.old x) }
+{
+    let x = bound.node.index();
+    let moment = moment_of(bound.least);
+    if is_possible(bound.label, known) && after[x] < moment {
+        after[x] = moment;
+    }
+}
+
+fn is_possible(label: Label, known: &Known) -> bool
+    ensures { result ≡ is_possible (value_in known.now) (marks label) }
+{
+    label.possible(*known)
+}
+
+fn moment_of(least: i32) -> u32
+    ensures { result ≡ moment_of least }
+{
+    if least > 0 { least as u32 } else { 0 }
+}

@@ -1,0 +1,54 @@
+// Who is executed at a moment.
+ghost use Rattle.std.specs.Prelude.{ℕ, ◌≡◌, ◌<◌, ◌≤◌, ◌+◌, ◌&&◌, not, nat_lt, is_none, None, length, map, vec_capacity, slice_index, slice_index_or};
+ghost use Rattle.std.specs.List.{All, filter, range_with_len};
+ghost use Rattle.cstn_net.specs.Read.{the_network};
+ghost use Rattle.cstn_log.specs.Plans.{the_bounds};
+ghost use Rattle.cstn_exec.specs.Runs.{named};
+ghost use Rattle.cstn_exec.specs.Moves.{executed};
+ghost use Rattle.cstn_exec.specs.Read.{ExecParts};
+
+use super::Executive;
+use super::asked::Moments;
+use cstn_label::NodeId;
+
+impl Executive {
+    // Names the time-points to be executed at t.
+    pub(super) fn name(&mut self, t: u32)
+        ensures { self.new ≡ record self.old { named = named (the_network self.old.net) (the_bounds self.old.bounds) self.old.run t } }
+    {
+        self.is_right();
+        let after = self.earliest(t);
+        collect(&mut self.named, &self.moments, &after, t);
+    }
+}
+
+// The time-points that aren't executed and whose moment is t at most, in ascending number.
+fn collect(named: &mut Vec<NodeId>, moments: &[Option<u32>], after: &Moments, t: u32)
+    requires few { length moments.now ≤ 1024 }
+    requires room { length moments.now ≤ vec_capacity named.old }
+    ensures named { map (λ x. x.0) named.new.items ≡ filter (λ x. is_none (slice_index_or moments.now x None) && not (nat_lt t (slice_index after.now x))) (range_with_len 0 (length moments.now)) }
+    ensures capacity { vec_capacity named.new ≡ vec_capacity named.old }
+{
+    named.clear();
+    for (x, moment) in moments.iter().enumerate() {
+        if is_free(*moment, after[x], t) {
+            named.push_reserved(NodeId(x as u16));
+        }
+    }
+}
+
+fn is_free(moment: Option<u32>, after: u32, t: u32) -> bool
+    ensures { result ≡ (is_none moment && not (nat_lt t after)) }
+{
+    moment.is_none() && after <= t
+}
+
+// Puts t in for each of the time-points.
+pub fn execute(moments: &mut Vec<Option<u32>>, named: &[NodeId], t: u32)
+    requires { All (λ x. x.0 < length moments.old.items) named.now }
+    ensures { moments.new.items ≡ executed t (map (λ x. x.0) named.now) moments.old.items }
+{
+    for x in named {
+        moments[x.index()] = Some(t);
+    }
+}

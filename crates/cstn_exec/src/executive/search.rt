@@ -1,0 +1,96 @@
+// The search for the due moment.
+ghost use Rattle.std.specs.Prelude.{ℕ, ◌≡◌, ◌<◌, ◌≤◌, ◌+◌, true, false, Some, None, length, is_some, slice_index, slice_index_or};
+ghost use Rattle.std.specs.List.{list_all};
+ghost use Rattle.cstn_net.specs.Networks.{count};
+ghost use Rattle.cstn_net.specs.Read.{the_network};
+ghost use Rattle.cstn_log.specs.Plans.{the_bounds};
+ghost use Rattle.cstn_exec.specs.Runs.{is_done, is_before, is_ready, earliest, due};
+
+use super::Executive;
+use super::asked::{Moments, asked};
+use cstn_label::Prop;
+
+impl Executive {
+    // The moment that the bounds on each time-point ask for, by what is known at t.
+    pub(super) fn earliest(&self, t: u32) -> Moments
+        ensures { (x : ℕ) → x < 1024 → slice_index result x ≡ earliest (the_network self.now.net) (the_bounds self.now.bounds) self.now.run (t + 1) x }
+    {
+        let known = self.known(t);
+        asked(&self.plan, &known)
+    }
+
+    // The first moment after t at which more is known or awaited, as far as is executed.
+    fn next_ready(&self, t: u32) -> u32
+        requires { t ≤ 1000000 }
+        ensures later { t < result }
+        ensures same { (w p : ℕ) → t ≤ w → w < result → is_ready (the_network self.now.net) self.now.run (w + 1) p ≡ true → is_ready (the_network self.now.net) self.now.run (t + 1) p ≡ true }
+    {
+        self.is_right();
+        let mut next = u32::MAX;
+        for index in 0..52 {
+            next = next.min(after(t, self.ready_at(Prop { index })));
+        }
+        next
+    }
+
+    // The first moment from t on at which somebody who isn't executed is free, by what is known at t.
+    fn first_free(&self, t: u32) -> u32
+        requires { is_done self.now.run ≡ false }
+        ensures from { t ≤ result }
+        ensures held { (x u : ℕ) → x < count (the_network self.now.net) → slice_index_or self.now.run.moments x None ≡ None → t ≤ u → u < result → u < earliest (the_network self.now.net) (the_bounds self.now.bounds) self.now.run (t + 1) x }
+        ensures free { (x : ℕ) × (x < count (the_network self.now.net)) × (slice_index_or self.now.run.moments x None ≡ None) × (earliest (the_network self.now.net) (the_bounds self.now.bounds) self.now.run (t + 1) x ≤ result) }
+    {
+        self.is_right();
+        let after = self.earliest(t);
+        least_from(&self.moments, &after, t)
+    }
+
+    // The due moment, where somebody isn't executed.
+    pub(super) fn first_due(&self) -> u32
+        requires { is_done self.now.run ≡ false }
+        ensures { due (the_network self.now.net) (the_bounds self.now.bounds) self.now.run ≡ Some result }
+    {
+        self.is_right();
+        let mut t = self.next();
+        loop {
+            let None = self.awaited(t) else {
+                return t;
+            };
+            let free = self.first_free(t);
+            let ready = self.next_ready(t);
+            if free < ready {
+                return free;
+            }
+            t = ready;
+        }
+    }
+}
+
+// The moment, if it is after t, and else none that is ever reached.
+fn after(t: u32, moment: Option<u32>) -> u32
+    requires { t ≤ 1000000 }
+    ensures later { t < result }
+    ensures same { (w : ℕ) → t ≤ w → w < result → is_before (w + 1) moment ≡ true → is_before (t + 1) moment ≡ true }
+{
+    match moment {
+        Some(m) if t < m => m,
+        _ => u32::MAX,
+    }
+}
+
+// The least of the moments of those who aren't executed, each t at least.
+fn least_from(moments: &[Option<u32>], after: &Moments, t: u32) -> u32
+    requires few { length moments.now ≤ 1024 }
+    requires waits { list_all is_some moments.now ≡ false }
+    ensures from { t ≤ result }
+    ensures held { (x u : ℕ) → x < length moments.now → slice_index_or moments.now x None ≡ None → t ≤ u → u < result → u < slice_index after.now x }
+    ensures free { (x : ℕ) × (x < length moments.now) × (slice_index_or moments.now x None ≡ None) × (slice_index after.now x ≤ result) }
+{
+    let mut least = u32::MAX;
+    for (x, moment) in moments.iter().enumerate() {
+        if moment.is_none() {
+            least = least.min(after[x].max(t));
+        }
+    }
+    least
+}

@@ -1,0 +1,4 @@
+pub mod DrawLemmas
+pub mod MadeLemmas
+pub mod WellFormed
+pub mod FaultLemmas

@@ -1,0 +1,19 @@
+-- Numbers drawn by a linear recurrence.
+use Rattle.std.specs.Prelude.{ℕ, zero, suc, ◌+◌, ◌*◌, ◌%◌, ◌/◌, ◌^◌}
+
+-- the state after a state
+unfoldable pub next : ℕ → ℕ
+next x = (x * 6364136223846793005 + 1442695040888963407) % 2 ^ 64
+
+-- the number below m that a state gives, by its upper bits
+unfoldable pub number_below : ℕ → ℕ → ℕ
+number_below m x = x / 2 ^ 33 % m
+
+-- the state after n further states
+abbrev pub after : ℕ → ℕ → ℕ
+after zero x = x
+after (suc n) x = next (after n x)
+
+-- the n-th number below m that is drawn from a state
+abbrev pub drawn : ℕ → ℕ → ℕ → ℕ
+drawn n m x = number_below m (after n x)
