@@ -6,7 +6,7 @@ ghost use Rattle.cstn_label.specs.Read.{marks};
 ghost use Rattle.cstn_net.specs.Networks.{IsValue, count};
 ghost use Rattle.cstn_net.specs.Strategies.{IsConsistent};
 ghost use Rattle.cstn_net.specs.Read.{the_network, without_id, with_most};
-ghost use Rattle.cstn_rules.specs.Derivations.{IsRefutation};
+ghost use Rattle.cstn_rules.specs.Derivations.{Entry, IsRefutation};
 ghost use Rattle.cstn_log.specs.Entries.{bases, the_entries};
 ghost use Rattle.cstn_log.specs.Cuts.{dropped, part};
 ghost use Rattle.cstn_check.specs.declared.verdicts.Verdict.{Verdict};
