@@ -20,7 +20,7 @@ use Rattle.cstn_check.specs.declared.growth.Grown.TheVariants.{Closed, Refuted, 
 use Rattle.cstn_check.specs.declared.verdicts.Verdict.{Verdict}
 use Rattle.cstn_check.specs.declared.verdicts.Verdict.TheVariants.{Yes, No, Full as FullVerdict}
 use Rattle.cstn_check.proofs.Decided.{refutes_true}
-use Rattle.cstn_check.proofs.Lists.{Extends, length_upto}
+use Rattle.cstn_check.proofs.Lists.{Extends, extends_through, length_upto}
 use Rattle.cstn_check.proofs.GoodLemmas.{good_at, good_small}
 use Rattle.cstn_check.proofs.Derives.{grown_keeps, grown_derived_from, bases_derived}
 use Rattle.cstn_check.proofs.Bounded.{bases_kept}
@@ -113,13 +113,13 @@ module _ (net : Network) (good : IsWellFormed net) (list : List Entry) (on : Goe
       new ≡ grow net list → (r ≡ Refuted ↔ ((r ≡ Full → ⊥) × LastRefutes net new)) → load ≡ length new →
       (r ≡ Closed → v ≡ Yes load) → (r ≡ Refuted → v ≡ No load) → v ≡ verdict_by net (grow net list)
   verdict_is new Closed v load not is refuted long y n =
-      let open : is_refuted net (grow net list) ≡ false = elim (cases_Bool (is_refuted net (grow net list))) [
-        | inr stands ↦ stands
+      let stands : is_refuted net (grow net list) ≡ false = elim (cases_Bool (is_refuted net (grow net list))) [
+        | inr no_e ↦ no_e
         | inl over ↦
             let clash : Closed ≡ Refuted = refuted.1 (not, subst (λ l. LastRefutes net l) (sym is) (refuted_by_last over)) in
             cc
       ] in
-      y refl ∙ ap (λ k. Yes k) (long ∙ ap length is) ∙ sym (cond-false _ _ _ open)
+      y refl ∙ ap (λ k. Yes k) (long ∙ ap length is) ∙ sym (cond-false _ _ _ stands)
   verdict_is new Refuted v load not is refuted long y n =
       let over = last_refuted (subst (λ l. LastRefutes net l) is (refuted.0 refl).1) in
       n refl ∙ ap (λ k. No k) (long ∙ ap length is) ∙ sym (cond-true _ _ _ over)
@@ -131,8 +131,8 @@ module _ (net : Network) (good : IsWellFormed net) (list : List Entry) (on : Goe
     | inl over ↦
         let same : No (length (grow net list)) ≡ No load = sym (cond-true _ _ _ over) ∙ is in
         (cc, refuted_by_last over)
-    | inr open ↦
-        let same : Yes (length (grow net list)) ≡ No load = sym (cond-false _ _ _ open) ∙ is in
+    | inr stands ↦
+        let same : Yes (length (grow net list)) ≡ No load = sym (cond-false _ _ _ stands) ∙ is in
         let clash : ⊥ = cc in absurd clash
   ]
 
@@ -141,7 +141,7 @@ module _ (net : Network) (good : IsWellFormed net) (list : List Entry) (on : Goe
     | inl over ↦
         let same : No (length (grow net list)) ≡ Yes load = sym (cond-true _ _ _ over) ∙ is in
         let clash : ⊥ = cc in absurd clash
-    | inr open ↦ (grown_decides net list good.network good.letters on.kept on.derivation).1 open
+    | inr stands ↦ (grown_decides net list good.network good.letters on.kept on.derivation).1 stands
   ]
 
 -- the log of the network has the base bounds at least
@@ -170,3 +170,116 @@ after_log net cap kept long room =
 pub after_bases : (net : Network) (cap : ℕ) (kept : List Entry) → cap < length (grow net kept) → cap < load_of net → kept_after net cap kept ≡ bases (count net)
 after_bases net cap kept long full =
     cond-false _ _ _ (lt-leb (length (grow net kept)) cap long) ∙ cond-false _ _ _ (lt-leb (load_of net) cap full)
+
+-- a log that is grown from a list that growth may go on from is kept
+pub grown_log : (net : Network) (list : List Entry) (new : State) → IsWellFormed net → GoesOn net list →
+    Extends (bases (count net)) list → the_entries new.entries ≡ grow net list → new.nodes ≡ count net → count net ≤ new.cap →
+    1 ≤ new.cap → new.cap ≤ 4194304 → IsKeptLog net new
+grown_log net list new good on begins is nodes room some most =
+    let all = extends_through (bases (count net)) list (grow net list) begins (grown_on net good list on) in
+    record {
+      nodes = nodes;
+      derivation = subst (λ l. IsDerivation net l) (sym is) (grown_derivation net good list on);
+      based = λ h. (all.more, all.is ∙ sym is);
+      empty = λ few. absurd (omega arith);
+      refuted = subst (λ l. IsRefutedLast net l) (sym is) (grown_refuted_last net good list on);
+      some = some;
+      most = most;
+    }
+
+-- and so is one of the base bounds
+pub bases_log : (net : Network) (new : State) → IsWellFormed net → the_entries new.entries ≡ bases (count net) → new.nodes ≡ count net →
+    count net ≤ new.cap → 1 ≤ new.cap → new.cap ≤ 4194304 → IsKeptLog net new
+bases_log net new good is nodes room some most =
+    let on = bases_go_on net good in
+    record {
+      nodes = nodes;
+      derivation = subst (λ l. IsDerivation net l) (sym is) on.derivation;
+      based = λ h. ([], append-nil (bases (count net)) ∙ sym is);
+      empty = λ few. absurd (omega arith);
+      refuted = subst (λ l. IsRefutedLast net l) (sym is) on.last;
+      some = some;
+      most = most;
+    }
+
+-- the verdict of growth from the base bounds
+pub afresh_verdict : (net : Network) (cap : ℕ) (old new : List Entry) (r : Grown) (v : Verdict) (load : ℕ) → IsWellFormed net →
+    old ≡ bases (count net) → (r ≡ Full ↔ (cap < length (grow net old))) → ((r ≡ Full → ⊥) → new ≡ grow net old) →
+    (r ≡ Refuted ↔ ((r ≡ Full → ⊥) × LastRefutes net new)) → ((r ≡ Full → ⊥) → load ≡ length new) →
+    (r ≡ Closed → v ≡ Yes load) → (r ≡ Refuted → v ≡ No load) → (r ≡ Full → v ≡ FullVerdict) →
+    v ≡ (if nat_lt cap (load_of net) then FullVerdict else verdict_by net (log_of net))
+afresh_verdict net cap old new r v load good start full whole refuted long y n f =
+    let same : length (grow net old) ≡ load_of net = ap (λ l. length (grow net l)) start in
+    elim (cases_Bool (nat_lt cap (load_of net))) [
+      | inl t ↦
+          let above = ltb-true cap (load_of net) t in
+          f (full.1 (omega arith)) ∙ sym (cond-true _ _ _ t)
+      | inr u ↦
+          let upto = ltb-false cap (load_of net) u in
+          let not : r ≡ Full → ⊥ = λ e. (let above = full.0 e in omega arith) in
+          verdict_is net good (bases (count net)) (bases_go_on net good) new r v load not
+          (whole not ∙ ap (grow net) start) refuted (long not) y n
+          ∙ sym (cond-false _ _ _ u)
+    ]
+
+-- what that verdict says is true
+pub afresh_yes : (net : Network) (cap load : ℕ) (v : Verdict) → IsWellFormed net →
+    v ≡ (if nat_lt cap (load_of net) then FullVerdict else verdict_by net (log_of net)) → v ≡ Yes load → IsConsistent net
+afresh_yes net cap load v good is said = elim (cases_Bool (nat_lt cap (load_of net))) [
+  | inl t ↦
+      let clash : Yes load ≡ FullVerdict = sym said ∙ is ∙ cond-true _ _ _ t in
+      let f : ⊥ = cc in absurd f
+  | inr u ↦ yes_by net good (bases (count net)) (bases_go_on net good) load (sym (cond-false _ _ _ u) ∙ sym is ∙ said)
+]
+
+-- a log without room for the base bounds
+module _ (net : Network) (cap : ℕ) (good : IsWellFormed net) (small : cap < count net) where
+  cap_below_load : cap < load_of net
+  cap_below_load = let above = load_above net good in omega arith
+
+  pub small_kept : (entries : List Entry) → kept_list net cap entries ≡ bases (count net)
+  small_kept entries = cond-true _ _ _ (lt-ltb cap (count net) small)
+
+  pub small_outcome : (entries : List Entry) → record { afresh = true; verdict = FullVerdict } ≡ outcome_of net cap (kept_list net cap entries)
+  small_outcome entries =
+      let test = lt-ltb cap (load_of net) cap_below_load in
+      sym (ap (outcome_of net cap) (small_kept entries) ∙ outcome_when net cap (bases (count net)) true true test test)
+
+  pub small_after : (entries : List Entry) → kept_list net cap entries ≡ kept_after net cap (kept_list net cap entries)
+  small_after entries =
+      small_kept entries ∙ sym (ap (kept_after net cap) (small_kept entries)
+      ∙ after_bases net cap (bases (count net)) cap_below_load cap_below_load)
+
+-- a log that has no entry has no room for the base bounds
+pub small_where_empty : (net : Network) (s : State) → IsWellFormed net → IsKeptLog net s → length s.entries ≡ 0 → s.cap < count net
+small_where_empty net s good kept none = elim (cases_lt s.cap (count net)) [
+  | inl small ↦ small
+  | inr room ↦
+      let based = kept.based room in
+      let long : length (the_entries s.entries) ≡ length s.entries = length-map s.entries the_entry in
+      let size = length_bases (count net) in
+      let from = length_upto (bases (count net)) (the_entries s.entries) (record { more = based.0; is = based.1 }) in
+      let origin = good.network.origin in
+      absurd (omega arith)
+]
+
+pub room_where_not : (net : Network) (s : State) → IsKeptLog net s → (length s.entries ≡ 0 → ⊥) → count net ≤ s.cap
+room_where_not net s kept some = elim (cases_lt s.cap (count net)) [
+  | inl small ↦
+      let none = ap length (kept.empty small) in
+      let long : length (the_entries s.entries) ≡ length s.entries = length-map s.entries the_entry in
+      absurd (some (omega arith))
+  | inr room ↦ omega arith
+]
+
+pub room_kept : (net : Network) (cap : ℕ) (entries : List Entry) → count net ≤ cap → kept_list net cap entries ≡ entries
+room_kept net cap entries room = cond-false _ _ _ (le-ltb cap (count net) room)
+
+-- the outcome where the kept list has room to grow
+pub grown_outcome : (net : Network) (cap : ℕ) (entries : List Entry) (v : Verdict) → count net ≤ cap → length (grow net entries) ≤ cap →
+    v ≡ verdict_by net (grow net entries) → record { afresh = false; verdict = v } ≡ outcome_of net cap (kept_list net cap entries)
+grown_outcome net cap entries v room short is =
+    let by : Verdict → Outcome = λ x. record { afresh = false; verdict = x } in
+    ap by (is ∙ ap (verdict_by net) (sym (after_grown net cap entries short)))
+    ∙ sym (ap (outcome_of net cap) (room_kept net cap entries room)
+    ∙ outcome_when net cap entries false (nat_lt cap (load_of net)) (le-ltb cap (length (grow net entries)) short) refl)
