@@ -9,6 +9,7 @@ use Rattle.cstn_net.specs.Strategies.{IsConsistent}
 use Rattle.cstn_rules.specs.Rules.{Refutes}
 use Rattle.cstn_rules.specs.Derivations.{Entry, IsDerivation}
 use Rattle.cstn_rules.specs.Read.{the_entry}
+use Rattle.cstn_rules.proofs.Derived.{refuted_inconsistent}
 use Rattle.cstn_log.specs.Entries.{State, the_entries, bases, first_entries, AllNew}
 use Rattle.cstn_log.proofs.DerivedLemmas.{length_bases}
 use Rattle.cstn_check.specs.Tests.{refutes}
@@ -26,10 +27,11 @@ use Rattle.cstn_check.proofs.Derives.{grown_keeps, grown_derived_from, bases_der
 use Rattle.cstn_check.proofs.Bounded.{bases_kept}
 use Rattle.cstn_check.proofs.Last.{LastOnly, last_more, bases_last, refuted_from_last}
 use Rattle.cstn_check.proofs.Decides.{true_refutes, refuted_at, grown_small, grown_decides}
+use Rattle.cstn_check.proofs.Grows.{grown_extends}
 use Rattle.cstn_check.proofs.Ends.{grow_from, log_goes_on}
 use Rattle.cstn_check.proofs.Starts.{kept_from, apart_from}
 use Rattle.cstn_edit.specs.declared.outcomes.Outcome.{Outcome}
-use Rattle.cstn_edit.specs.Sessions.{IsKeptLog, kept_list, kept_after, outcome_of, verdict_by}
+use Rattle.cstn_edit.specs.Sessions.{IsKeptLog, Refuted as AfterNo, kept_list, kept_after, outcome_of, verdict_by}
 
 -- the base bounds refute nothing
 pub bases_stand : (net : Network) → IsRefutedLast net (bases (count net))
@@ -283,3 +285,20 @@ grown_outcome net cap entries v room short is =
     ap by (is ∙ ap (verdict_by net) (sym (after_grown net cap entries short)))
     ∙ sym (ap (outcome_of net cap) (room_kept net cap entries room)
     ∙ outcome_when net cap entries false (nat_lt cap (load_of net)) (le-ltb cap (length (grow net entries)) short) refl)
+
+-- a no is true
+pub no_true : (net : Network) (s : State) (o : Outcome) (load : ℕ) → IsWellFormed net → IsKeptLog net s → AfterNo net s (Some o) →
+    o.verdict ≡ No load → IsConsistent net → ⊥
+no_true net s o load good kept after said c =
+    let l = (after load said).1 in
+    refuted_inconsistent net (the_entries s.entries) good.network
+    (record { derivation = kept.derivation; last = l.last; is_last = l.is_last; refutes = l.refutes }) c
+
+-- where the list wasn't thrown away, it is a front of the next
+pub prefix_of : (net : Network) (cap : ℕ) (kept after : List Entry) (o : Outcome) → o ≡ outcome_of net cap kept →
+    after ≡ kept_after net cap kept → o.afresh ≡ false → (more : List Entry) × (kept ++ more ≡ after)
+prefix_of net cap kept after o is list not =
+    let test : nat_lt cap (length (grow net kept)) ≡ false = sym (ap (λ (x : Outcome). x.afresh) is) ∙ not in
+    let room = ltb-false cap (length (grow net kept)) test in
+    let ext = grown_extends net kept 0 (length kept + most_entries net) (omega arith) in
+    (ext.more, ext.is ∙ sym (list ∙ after_grown net cap kept room))

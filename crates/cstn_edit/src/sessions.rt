@@ -14,7 +14,7 @@ ghost use Rattle.cstn_check.specs.Growth.{grow, load_of};
 ghost use Rattle.cstn_refute.specs.Refutations.{the_steps};
 ghost use Rattle.cstn_edit.specs.Sessions.{kept_of, IsUnobserved, IsLeastUnobserved, next_id, highest_of, kept_after, outcome_of};
 
-use crate::answers::answer;
+use crate::answers::{answer, is_well_formed};
 use crate::errors::EditError;
 use crate::labels::{is_value, unobserved};
 use crate::outcomes::Outcome;
@@ -188,6 +188,7 @@ impl Session {
         ensures prefix { result.afresh ≡ false → (more : List Entry) × (kept_of self.old ++ more ≡ kept_of self.new) }
         ensures tries { self.old.tries ≤ self.new.tries }
     {
+        is_well_formed(&self.net);
         if let Some(outcome) = self.last {
             return outcome;
         }
