@@ -142,9 +142,11 @@ impl Session {
         ensures refused { OnErr result (self.new ≡ self.old) }
     {
         self.check_limit()?;
+        is_well_formed(&self.net);
         if self.net.take_out(id).is_none() {
             return Err(EditError::NoSuch { id });
         }
+        let _at_most = self.log.len();
         self.log.retract(id);
         self.edits += 1;
         self.last = None;
@@ -168,6 +170,7 @@ impl Session {
             return Err(EditError::ValueRange { most });
         }
         self.net.set_most(id, most);
+        let _at_most = self.log.len();
         self.log.retract(id);
         self.edits += 1;
         self.last = None;
