@@ -14,7 +14,7 @@ use Rattle.cstn_edit.proofs.sessions.Session.change.Goals as goal
 
 pub returns-then-not-is_value-clause-value : goal.returns-then-not-is_value-clause-value
 returns-then-not-is_value-clause-value c = λ v.
-    let same = to_z-of_z w32 c.args.most c.ranges.most.sfits in
+    let same = to_z-of_z w32 c.args.most c.ranges.most in
     let not_value : IsValue c.args.most → ⊥ = λ in_range.
     false≢true (sym c.if-not-is_value.true ∙ c.is_value.ensures.1 (subst IsValue (sym same) in_range)) in
     let some : All (λ d. d.id ≢ c.args.id) c.args.self.now.net.constraints → ⊥ = λ others.
@@ -30,14 +30,14 @@ invariant_of-self c =
     let inside = c.self.inside in
     let old = c.self.invariant in
     let cs = inside.net.constraints in
-    let new : NetworkParts = record inside.net { constraints = map (with_most c.args.id c.args.most) cs } in
-    let long = length-map cs (with_most c.args.id c.args.most) in
+    let new : NetworkParts = record inside.net { constraints = map (with_most c.args.id (to_z w32 (of_z w32 c.args.most))) cs } in
+    let long = length-map cs (with_most c.args.id (to_z w32 (of_z w32 c.args.most))) in
     subst (λ (n : NetworkParts). IsSession n c.retract.new.self inside.room (inside.edits + 1) inside.highest None) (sym c.set_most.ensures.set)
     (cut_session inside.net new inside.log c.retract.new.self inside.room inside.edits c.args.id inside.highest inside.last old
     (subst (λ (v : SessionParts). v.edits < 1000000) (sym c.self.view_is) (c.in_ok-check_limit.ensures.below.0 refl))
     (omega (arith, c.len-at_most.ensures.len, c.len-at_most.ensures.at_most)) refl
-    (others_with c.args.id c.args.most cs) (omega (arith, long)) (omega (arith, long, old.spare))
-    (with_below c.args.id (next_id inside.highest) c.args.most cs old.below)
+    (others_with c.args.id (to_z w32 (of_z w32 c.args.most)) cs) (omega (arith, long)) (omega (arith, long, old.spare))
+    (with_below c.args.id (next_id inside.highest) (to_z w32 (of_z w32 c.args.most)) cs old.below)
     c.retract.ensures.dropped c.retract.ensures.births c.retract.ensures.size.0 c.retract.ensures.size.1)
 
 pub returns-clause-none : goal.returns-clause-none
