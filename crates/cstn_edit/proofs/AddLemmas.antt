@@ -61,6 +61,7 @@ added_session old new c log room edits highest last session is spare few more id
           (omega arith));
       small = let small = session.small in omega arith;
       refuted = tt;
+      consistent = tt;
     }
 
 -- two least propositions are one

@@ -94,4 +94,5 @@ started_session given net log room highest good same fits most ids spare kept bi
       small = subst (λ h. next_id h ≤ 2 ^ 31 + 0) (sym is)
           (let small = highest_small net.constraints (subst (All (λ c. c.id < 2 ^ 31)) (sym all) ids) in omega arith);
       refuted = tt;
+      consistent = tt;
     }

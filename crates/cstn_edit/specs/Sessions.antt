@@ -6,6 +6,7 @@ use Rattle.cstn_label.specs.Labels.{Label}
 use Rattle.cstn_net.specs.declared.constraints.Constraint.{Constraint}
 use Rattle.cstn_net.specs.Networks.{Network, Observes, count}
 use Rattle.cstn_net.specs.Read.{NetworkParts, the_network}
+use Rattle.cstn_net.specs.Strategies.{IsConsistent}
 use Rattle.cstn_rules.specs.declared.entries.Entry.{Entry as DeclaredEntry}
 use Rattle.cstn_rules.specs.Derivations.{Entry, IsDerivation}
 use Rattle.cstn_log.specs.Entries.{State, the_entries, bases}
@@ -95,6 +96,11 @@ abbrev pub Refuted : Network → State → Option Outcome → Type 0
 Refuted net log None = Unit {0}
 Refuted net log (Some o) = (load : ℕ) → o.verdict ≡ No load → (load ≡ length log.entries) × LastRefutes net (the_entries log.entries)
 
+-- after a yes the network is consistent
+abbrev pub Consistent : Network → Option Outcome → Type 0
+Consistent net None = Unit {0}
+Consistent net (Some o) = (load : ℕ) → o.verdict ≡ Yes load → IsConsistent net
+
 pub record IsSession (net : NetworkParts) (log : State) (room edits : ℕ) (highest : Option ℕ) (last : Option Outcome) : Type 0 where
   pub kept : IsKeptLog (the_network net) log
   pub births : log.births ≤ most_births edits last
@@ -105,3 +111,4 @@ pub record IsSession (net : NetworkParts) (log : State) (room edits : ℕ) (high
   pub below : All (λ c. c.id < next_id highest) net.constraints
   pub small : next_id highest ≤ 2 ^ 31 + edits
   pub refuted : Refuted (the_network net) log last
+  pub consistent : Consistent (the_network net) last

@@ -1,11 +1,13 @@
 // The outcome of a session that has none.
-ghost use Rattle.std.specs.Prelude.{ℕ, ◌≡◌, ◌≤◌, ◌<◌, ◌+◌, ◌*◌, ◌^◌, nat_lt, nat_le, if◌then◌else◌};
+ghost use Rattle.std.specs.Prelude.{ℕ, ◌≡◌, ◌≤◌, ◌<◌, ◌+◌, ◌*◌, ◌^◌, nat_lt, nat_le, if◌then◌else◌, length, Some};
 ghost use Rattle.cstn_net.specs.Networks.{IsWellFormed, count};
 ghost use Rattle.cstn_net.specs.Read.{the_network};
+ghost use Rattle.cstn_net.specs.Strategies.{IsConsistent};
 ghost use Rattle.cstn_log.specs.Entries.{the_entries, bases};
 ghost use Rattle.cstn_check.specs.declared.verdicts.Verdict.{Verdict};
 ghost use Rattle.cstn_check.specs.Growth.{grow, log_of, load_of};
-ghost use Rattle.cstn_edit.specs.Sessions.{IsKeptLog, kept_list, kept_after, outcome_of, verdict_by};
+ghost use Rattle.cstn_check.specs.Turns.{LastRefutes};
+ghost use Rattle.cstn_edit.specs.Sessions.{IsKeptLog, Refuted, Consistent, kept_list, kept_after, outcome_of, verdict_by};
 
 use crate::outcomes::Outcome;
 use cstn_check::{Grown, Verdict, grow};
@@ -20,6 +22,8 @@ pub fn answer(net: &Network, log: &mut Log, tries: &mut Tries) -> Outcome
     ensures outcome { result ≡ outcome_of (the_network net.now) log.old.cap (kept_list (the_network net.now) log.old.cap (the_entries log.old.entries)) }
     ensures list { kept_list (the_network net.now) log.old.cap (the_entries log.new.entries) ≡ kept_after (the_network net.now) log.old.cap (kept_list (the_network net.now) log.old.cap (the_entries log.old.entries)) }
     ensures kept { IsKeptLog (the_network net.now) log.new }
+    ensures refuted { Refuted (the_network net.now) log.new (Some result) }
+    ensures consistent { Consistent (the_network net.now) (Some result) }
     ensures births { log.new.births ≤ log.old.births + 2 ^ 24 }
     ensures size { log.new.cap ≡ log.old.cap }
     ensures tries { tries.old.count ≤ tries.new.count }
@@ -53,6 +57,8 @@ fn answer_afresh(net: &Network, log: &mut Log, tries: &mut Tries) -> Verdict
     ensures verdict { result ≡ (if nat_lt log.old.cap (load_of (the_network net.now)) then Verdict.Full else verdict_by (the_network net.now) (log_of (the_network net.now))) }
     ensures list { the_entries log.new.entries ≡ (if nat_le (load_of (the_network net.now)) log.old.cap then log_of (the_network net.now) else bases (count (the_network net.now))) }
     ensures kept { IsKeptLog (the_network net.now) log.new }
+    ensures no { (load : ℕ) → result ≡ Verdict.No load → (load ≡ length log.new.entries) × LastRefutes (the_network net.now) (the_entries log.new.entries) }
+    ensures yes { (load : ℕ) → result ≡ Verdict.Yes load → IsConsistent (the_network net.now) }
     ensures births { log.new.births ≤ log.old.births + log.old.cap + 2048 }
     ensures size { log.new.cap ≡ log.old.cap }
     ensures tries { tries.old.count ≤ tries.new.count }

@@ -6,7 +6,7 @@ ghost use Rattle.cstn_label.specs.Read.{marks};
 ghost use Rattle.cstn_net.specs.Networks.{IsValue, count};
 ghost use Rattle.cstn_net.specs.Strategies.{IsConsistent};
 ghost use Rattle.cstn_net.specs.Read.{the_network, without_id, with_most};
-ghost use Rattle.cstn_rules.specs.Derivations.{IsRefutation};
+ghost use Rattle.cstn_rules.specs.Derivations.{Entry, IsRefutation};
 ghost use Rattle.cstn_log.specs.Entries.{bases, the_entries};
 ghost use Rattle.cstn_log.specs.Cuts.{dropped, part};
 ghost use Rattle.cstn_check.specs.declared.verdicts.Verdict.{Verdict};
@@ -142,9 +142,11 @@ impl Session {
         ensures refused { OnErr result (self.new ≡ self.old) }
     {
         self.check_limit()?;
+        is_well_formed(&self.net);
         if self.net.take_out(id).is_none() {
             return Err(EditError::NoSuch { id });
         }
+        let _at_most = self.log.len();
         self.log.retract(id);
         self.edits += 1;
         self.last = None;
@@ -168,6 +170,7 @@ impl Session {
             return Err(EditError::ValueRange { most });
         }
         self.net.set_most(id, most);
+        let _at_most = self.log.len();
         self.log.retract(id);
         self.edits += 1;
         self.last = None;
@@ -188,6 +191,7 @@ impl Session {
         ensures prefix { result.afresh ≡ false → (more : List Entry) × (kept_of self.old ++ more ≡ kept_of self.new) }
         ensures tries { self.old.tries ≤ self.new.tries }
     {
+        is_well_formed(&self.net);
         if let Some(outcome) = self.last {
             return outcome;
         }

@@ -110,3 +110,16 @@ fn caps_and_rooms(rt: HostRuntime) -> Result<(), AllocError> {
     );
     Ok(())
 }
+
+#[test]
+fn no_more_than_a_million_edits(rt: HostRuntime) -> Result<(), AllocError> {
+    let net = branch(rt.alloc())?.close().expect(&rt, "a network");
+    let mut session = Session::start(rt.alloc(), net, 100, 2)?;
+    for _ in 0..1_000_000 {
+        assert!(rt; session.change(0, -10) == Ok(()));
+    }
+    assert!(rt; session.change(0, -10) == Err(EditError::EditLimit));
+    assert!(rt; session.change(9, -10) == Err(EditError::EditLimit));
+    assert!(rt; session.remove(9) == Err(EditError::EditLimit));
+    Ok(())
+}
