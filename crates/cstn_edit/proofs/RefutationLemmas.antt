@@ -19,8 +19,8 @@ use Rattle.cstn_check.specs.Kept.{IsRanged, IsKept}
 use Rattle.cstn_check.specs.Turns.{LastRefutes}
 use Rattle.cstn_check.proofs.PartLemmas.{part_short}
 use Rattle.cstn_check.proofs.Reading.{entry_at}
-use Rattle.cstn_check.proofs.Starts.{kept_from, apart_from}
 use Rattle.cstn_edit.specs.declared.outcomes.Outcome.{Outcome}
+use Rattle.cstn_edit.proofs.VerdictLemmas.{log_on}
 use Rattle.cstn_edit.specs.Sessions.{Refuted, IsKeptLog}
 
 -- after a no the last entry refutes
@@ -46,17 +46,12 @@ module _ (net : Network) (good : IsWellFormed net) (log : State) (kept : IsKeptL
     | inr room ↦ omega arith
   ]
 
-  entries_kept : AllNew log.entries → IsKept net (the_entries log.entries)
-  entries_kept new =
-      let based = kept.based room_kept in
-      kept_from net good (the_entries log.entries) kept.derivation (record { more = based.0; is = based.1 }) (apart_from log.entries new)
-
   -- each bound of the part is one of the log, and in range
   part_ranged : AllNew log.entries → (k : ℕ) (e : Entry) → slice_get (part (the_entries log.entries)) k ≡ Some e → IsRanged net e.bound
   part_ranged new k e there =
       let L = the_entries log.entries in
       let from = comes (with_ancestors L (length L) (last_marked (length L))) L k e there in
-      subst (λ b. IsRanged net b) (sym (ap (λ (x : Entry). x.bound) from.5)) ((entries_kept new).ranged from.0 from.1 from.2)
+      subst (λ b. IsRanged net b) (sym (ap (λ (x : Entry). x.bound) from.5)) ((log_on net log good kept new room_kept).kept.ranged from.0 from.1 from.2)
 
   step_ranged : (e : DeclaredEntry) → IsRanged net (the_entry e).bound → IsStep e
   step_ranged e r =

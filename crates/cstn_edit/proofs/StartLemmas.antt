@@ -14,6 +14,7 @@ use Rattle.cstn_log.proofs.DerivedLemmas.{length_bases}
 use Rattle.cstn_check.specs.Turns.{IsRefutedLast}
 use Rattle.cstn_check.proofs.Decided.{refutes_true}
 use Rattle.cstn_check.proofs.Last.{bases_last}
+use Rattle.cstn_edit.proofs.VerdictLemmas.{bases_stand}
 use Rattle.cstn_edit.specs.Sessions.{next_id, highest_of, IsKeptLog, IsSession}
 
 -- the last id is taken for the highest
@@ -48,12 +49,6 @@ highest_small (c ∷ cs) small =
     let below = small (length cs) c (omega arith) in
     subst (λ h. next_id h ≤ 2 ^ 31) (sym (highest_last None (c ∷ cs) c (length cs) refl)) (omega arith)
 
-none_refute : (net : Network) (list : List Entry) → list ≡ bases (count net) → IsRefutedLast net list
-none_refute net list is = subst (λ l. IsRefutedLast net l) (sym is) (record {
-  before = λ k e there inside r.
-      false≢true (sym (bases_last net (count net) k e there (omega arith)) ∙ refutes_true net e.bound r);
-})
-
 no_entry : (net : Network) (list : List Entry) → list ≡ [] → IsRefutedLast net list
 no_entry net list is = subst (λ l. IsRefutedLast net l) (sym is) (record { before = λ k e there inside r. absurd (none-some e there) })
 
@@ -67,7 +62,7 @@ started_log net log starts nodes derivation some most = record {
   empty = λ few. starts ∙ cond-true _ _ _ (lt-ltb log.cap (count net) few);
   refuted = elim (cases_Bool (nat_lt log.cap (count net))) [
     | inl small ↦ no_entry net (the_entries log.entries) (starts ∙ cond-true _ _ _ small)
-    | inr large ↦ none_refute net (the_entries log.entries) (starts ∙ cond-false _ _ _ large)
+    | inr large ↦ subst (λ l. IsRefutedLast net l) (sym (starts ∙ cond-false _ _ _ large)) (bases_stand net)
   ];
   some = some;
   most = most;
