@@ -208,6 +208,7 @@ impl Session {
         ensures load { IfOk result (λ r. r.load ≡ length (kept_of self.now)) }
         ensures refutes { IfOk result (λ r. IsRefutation (the_network self.now.net) (the_steps r)) }
     {
+        is_well_formed(&self.net);
         let load = self.log.len();
         let steps = self.log.part(alloc)?;
         Ok(Refutation::new(load, steps))
