@@ -1,5 +1,5 @@
 -- What stands of a session when a constraint is added.
-use Rattle.std.proofs.Common.{inl, inr, ℕ, zero, suc, ◌≡◌, ◌*◌, ◌+◌, ◌<◌, ◌≤◌, ◌^◌, List, [], ◌∷◌, ◌++◌, length, map, Option, Some, None, arith, refl, sym, subst, ap, ◌∙◌}
+use Rattle.std.proofs.Common.{inl, inr, ℕ, suc, ◌≡◌, ◌+◌, ◌<◌, ◌≤◌, List, [], ◌∷◌, ◌++◌, length, map, Option, Some, None, arith, sym, subst, ap, ◌∙◌}
 use Rattle.std.specs.List.{All, Contains}
 use Rattle.std.specs.Coded.{le_prop}
 use Rattle.std.proofs.lemmas.Bool.{cases_lt}

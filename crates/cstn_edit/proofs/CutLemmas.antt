@@ -1,13 +1,13 @@
 -- What is left of a session without what a constraint gave.
-use Rattle.std.proofs.Common.{ℕ, zero, suc, ◌≡◌, ◌≢◌, ◌+◌, ◌*◌, ◌^◌, ◌-◌, ◌<◌, ◌≤◌, inl, inr, Bool, true, false, not, cond, List, [], ◌∷◌, ◌++◌, length, map, get_or, Option, Some, None, arith, refl, sym, subst, ap, ◌∙◌, append_assoc, length-append}
+use Rattle.std.proofs.Common.{ℕ, zero, suc, ◌≡◌, ◌≢◌, ◌+◌, ◌<◌, ◌≤◌, inl, inr, Bool, true, false, cond, List, [], ◌∷◌, ◌++◌, length, map, Option, Some, None, arith, refl, sym, subst, ap, ◌∙◌, length-append}
 use Rattle.std.specs.Option.{is_some}
 use Rattle.std.specs.Prelude.{IfSome, ℤ, slice_get, slice_index_or, nat_lt, if◌then◌else◌}
 use Rattle.std.specs.List.{All, AllPairs, Contains}
-use Rattle.std.proofs.lemmas.Bool.{cases_Bool, cases_lt, false≢true, cond-true, cond-false, eqb-true, eqb-false, eq-eqb, ne_eqb}
-use Rattle.std.proofs.lemmas.List.{length-map, append-nil, get_or_append_left}
+use Rattle.std.proofs.lemmas.Bool.{cases_Bool, cases_lt, false≢true, cond-true, cond-false, eqb-true, ne_eqb}
+use Rattle.std.proofs.lemmas.List.{append-nil, get_or_append_left}
 use Rattle.std.proofs.Math.Seq.{get_or-append_seam}
-use Rattle.std.proofs.lemmas.List.Elements.{All-map, All-filter, All-weaker}
-use Rattle.std.proofs.lemmas.Option.{slice_get_within, same_Some, none-some}
+use Rattle.std.proofs.lemmas.List.Elements.{All-map, All-weaker}
+use Rattle.std.proofs.lemmas.Option.{slice_get_within, none-some}
 use Rattle.cstn_net.specs.declared.constraints.Constraint.{Constraint}
 use Rattle.cstn_net.specs.Networks.{Network, Constraint as TheConstraint, IsWellFormed, count}
 use Rattle.cstn_net.specs.Read.{NetworkParts, the_network, the_constraint, has_id, without_id, with_most}
@@ -15,12 +15,10 @@ use Rattle.cstn_rules.specs.declared.entries.Why.{Why}
 use Rattle.cstn_rules.specs.declared.entries.Why.TheVariants.{Base}
 use Rattle.cstn_rules.specs.Rules.{base, Refutes}
 use Rattle.cstn_rules.specs.Derivations.{Entry, IsDerivation}
-use Rattle.cstn_rules.specs.Read.{the_entry}
 use Rattle.cstn_rules.proofs.Derived.{with_constraints}
 use Rattle.cstn_log.specs.Entries.{State, the_entries, bases}
-use Rattle.cstn_log.specs.Cuts.{is_marked, rank, renumbered, moved, cut_from, cut, stays, marked_staying, dropped}
+use Rattle.cstn_log.specs.Cuts.{is_marked, rank, renumbered, moved, cut_from, stays, marked_staying, dropped}
 use Rattle.cstn_log.proofs.ListLemmas.{get_more}
-use Rattle.cstn_log.proofs.DerivedLemmas.{length_bases}
 use Rattle.cstn_log.proofs.CutLemmas.{rank_marked, cut_marked, length_cut, comes}
 use Rattle.cstn_log.proofs.MarkLemmas.{staying_more, dropped_derivation}
 use Rattle.cstn_check.specs.Turns.{IsRefutedLast}
@@ -86,8 +84,7 @@ cut_front marks k (x ∷ xs) ys all first =
 -- the base bounds at the front of a list stay
 pub dropped_front : (n id : ℕ) (more : List Entry) → (left : List Entry) × (bases n ++ left ≡ dropped (bases n ++ more) id)
 dropped_front n id more =
-    let marks = marked_staying id [] (bases n ++ more) in
-    (
+    let marks = marked_staying id [] (bases n ++ more) in (
       cut_from marks (0 + length (bases n)) more,
       sym (cut_front marks 0 (bases n) more (bases_base n)
           (front_marked id [] (bases n) more (bases_base n) (λ k inside. absurd (omega arith)))),

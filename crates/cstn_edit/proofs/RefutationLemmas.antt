@@ -1,5 +1,5 @@
 -- What a session that answered no hands out.
-use Rattle.std.proofs.Common.{ℕ, zero, suc, ◌≡◌, ◌-◌, ◌<◌, ◌≤◌, inl, inr, List, length, get_or, Option, Some, arith, sym, subst, ap, ◌∙◌}
+use Rattle.std.proofs.Common.{ℕ, zero, suc, ◌≡◌, ◌-◌, ◌≤◌, inl, inr, List, length, get_or, Option, Some, arith, sym, subst, ap, ◌∙◌}
 use Rattle.std.specs.Prelude.{slice_get}
 use Rattle.std.proofs.lemmas.Int.{ints}
 use Rattle.std.proofs.lemmas.Bool.{cases_lt}
@@ -15,7 +15,7 @@ use Rattle.cstn_log.proofs.CutLemmas.{comes}
 use Rattle.cstn_log.proofs.MarkLemmas.{part_refutation}
 use Rattle.cstn_refute.specs.Refutations.{IsStep, AreSteps}
 use Rattle.cstn_check.specs.declared.verdicts.Verdict.TheVariants.{No}
-use Rattle.cstn_check.specs.Kept.{IsRanged, IsKept}
+use Rattle.cstn_check.specs.Kept.{IsRanged}
 use Rattle.cstn_check.specs.Turns.{LastRefutes}
 use Rattle.cstn_check.proofs.PartLemmas.{part_short}
 use Rattle.cstn_check.proofs.Reading.{entry_at}

@@ -1,8 +1,8 @@
 -- What a session starts with.
-use Rattle.std.proofs.Common.{ℕ, map, zero, suc, ◌≡◌, ◌-◌, ◌+◌, ◌<◌, ◌≤◌, ◌^◌, inl, inr, false, true, List, [], ◌∷◌, length, get_or, Option, Some, None, arith, refl, sym, subst, ap, ◌∙◌}
-use Rattle.std.specs.Prelude.{slice_get, nat_lt}
+use Rattle.std.proofs.Common.{ℕ, map, zero, suc, ◌≡◌, ◌-◌, ◌+◌, ◌<◌, ◌≤◌, ◌^◌, inl, inr, List, [], ◌∷◌, length, get_or, Option, Some, None, arith, refl, sym, subst, ap, ◌∙◌}
+use Rattle.std.specs.Prelude.{nat_lt}
 use Rattle.std.specs.List.{All, AllPairs}
-use Rattle.std.proofs.lemmas.Bool.{cases_Bool, cases_lt, false≢true, lt-ltb, le-ltb, cond-true, cond-false}
+use Rattle.std.proofs.lemmas.Bool.{cases_Bool, cases_lt, lt-ltb, le-ltb, cond-true, cond-false}
 use Rattle.std.proofs.lemmas.List.{append-nil, length-map, get_or-map}
 use Rattle.std.proofs.lemmas.Option.{none-some}
 use Rattle.cstn_net.specs.declared.constraints.Constraint.{Constraint}
@@ -10,10 +10,7 @@ use Rattle.cstn_net.specs.Networks.{Network, Constraint as TheConstraint, IsWell
 use Rattle.cstn_net.specs.Read.{NetworkParts, the_network, the_constraint}
 use Rattle.cstn_rules.specs.Derivations.{Entry, IsDerivation}
 use Rattle.cstn_log.specs.Entries.{State, the_entries, bases, first_entries}
-use Rattle.cstn_log.proofs.DerivedLemmas.{length_bases}
 use Rattle.cstn_check.specs.Turns.{IsRefutedLast}
-use Rattle.cstn_check.proofs.Decided.{refutes_true}
-use Rattle.cstn_check.proofs.Last.{bases_last}
 use Rattle.cstn_edit.proofs.VerdictLemmas.{bases_stand}
 use Rattle.cstn_edit.specs.Sessions.{next_id, highest_of, IsKeptLog, IsSession}
 
@@ -31,7 +28,7 @@ pub highest_above : (cs : List Constraint) → AllPairs (λ b c. b.id < c.id) (m
     All (λ c. c.id < next_id (highest_of None cs)) cs
 highest_above cs ascending k d inside =
     subst (λ h. (get_or cs k d).id < next_id h) (sym (highest_last None cs d (length cs - 1) (omega arith))) (elim (cases_lt k (length cs - 1)) [
-      | inl before ↦ 
+      | inl before ↦
           let long = length-map cs the_constraint in
           let less = ascending k (length cs - 1) (the_constraint d) before (omega arith) in
           let one = ap (λ (c : TheConstraint). c.id) (get_or-map the_constraint cs k d (the_constraint d) inside) in

@@ -1,6 +1,6 @@
 -- What the list that is grown from a kept one says of the network.
-use Rattle.std.proofs.Common.{ℕ, zero, suc, ◌≡◌, ◌+◌, ◌-◌, ◌<◌, ◌≤◌, inl, inr, Bool, true, false, ◌&&◌, List, [], ◌∷◌, ◌++◌, length, Some, arith, refl, sym, subst, ap, ◌∙◌}
-use Rattle.std.specs.Prelude.{slice_get, ◌↔◌, nat_lt, nat_le, if◌then◌else◌}
+use Rattle.std.proofs.Common.{ℕ, suc, ◌≡◌, ◌+◌, ◌-◌, ◌<◌, ◌≤◌, inl, inr, Bool, true, false, ◌&&◌, List, [], ◌++◌, length, Some, arith, refl, sym, subst, ap, ◌∙◌}
+use Rattle.std.specs.Prelude.{slice_get, ◌↔◌, nat_lt, if◌then◌else◌}
 use Rattle.std.proofs.lemmas.Bool.{cases_Bool, cases_lt, false≢true, lt-ltb, le-ltb, lt-leb, le-leb, ltb-true, ltb-false, cond-true, cond-false}
 use Rattle.std.proofs.lemmas.List.{length-map, append-nil}
 use Rattle.std.proofs.lemmas.Option.{slice_get_within}

@@ -26,7 +26,13 @@ fn branch(alloc: Global, late: bool) -> Result<Builder, AllocError> {
     Ok(net)
 }
 
-fn started(rt: &impl Abort, alloc: Global, late: bool, cap: u32, room: u32) -> Result<Session, AllocError> {
+fn started(
+    rt: &impl Abort,
+    alloc: Global,
+    late: bool,
+    cap: u32,
+    room: u32,
+) -> Result<Session, AllocError> {
     let net = branch(alloc, late)?.close().expect(rt, "a network");
     assert!(rt; 1 <= cap && cap <= 4_194_304);
     assert!(rt; room <= 16_384 && net.constraints().len() <= room as usize);

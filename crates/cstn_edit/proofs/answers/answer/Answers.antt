@@ -1,13 +1,12 @@
-use Rattle.std.proofs.Common.{rules, true, false, ◌≡◌, ◌≤◌, ◌∙◌, length, arith, sym, subst, ap}
+use Rattle.std.proofs.Common.{rules, ◌≡◌, ◌≤◌, ◌∙◌, length, arith, sym, ap}
 use Rattle.std.proofs.lemmas.List.{length-map}
-use Rattle.std.proofs.lemmas.Bool.{cases_lt}
-use Rattle.cstn_net.specs.Networks.{Network, count}
+use Rattle.cstn_net.specs.Networks.{count}
 use Rattle.cstn_net.specs.Read.{the_network}
 use Rattle.cstn_rules.specs.Read.{the_entry}
-use Rattle.cstn_log.specs.Entries.{State, the_entries, bases}
-use Rattle.cstn_check.specs.Growth.{grow, log_of}
+use Rattle.cstn_log.specs.Entries.{the_entries}
+use Rattle.cstn_check.specs.Growth.{grow}
 use Rattle.cstn_check.specs.declared.growth.Grown.TheVariants.{Full}
-use Rattle.cstn_edit.specs.Sessions.{IsKeptLog, verdict_by}
+use Rattle.cstn_edit.specs.Sessions.{verdict_by}
 use Rattle.cstn_edit.proofs.VerdictLemmas.{log_on, GoesOn, small_where_empty, room_where_not, small_outcome, small_after, grown_outcome, grown_log, verdict_is, yes_by}
 use Rattle.cstn_edit.proofs.answers.answer.Goals as goal
 

@@ -1,11 +1,10 @@
-use Rattle.std.proofs.Common.{rules, true, false, ◌≡◌, ◌≤◌, ◌∙◌, length, arith, sym, subst, ap}
+use Rattle.std.proofs.Common.{rules, ◌∙◌, length, arith, sym, subst, ap}
 use Rattle.std.proofs.lemmas.List.{length-map}
 use Rattle.cstn_net.specs.Networks.{count}
 use Rattle.cstn_net.specs.Read.{the_network}
 use Rattle.cstn_rules.specs.Read.{the_entry}
 use Rattle.cstn_log.specs.Entries.{State, the_entries, bases}
-use Rattle.cstn_check.specs.Growth.{grow, log_of}
-use Rattle.cstn_check.specs.declared.growth.Grown.TheVariants.{Full}
+use Rattle.cstn_check.specs.Growth.{grow}
 use Rattle.cstn_check.specs.Turns.{IsRefutedLast}
 use Rattle.cstn_check.proofs.Lists.{extends_itself}
 use Rattle.cstn_edit.specs.Sessions.{IsKeptLog}

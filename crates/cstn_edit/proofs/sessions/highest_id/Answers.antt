@@ -1,5 +1,4 @@
-use Rattle.std.proofs.Common.{ℕ, List, get_or, None, Some, arith, sym, subst, ap, ◌∙◌}
-use Rattle.cstn_net.specs.declared.constraints.Constraint.{Constraint}
+use Rattle.std.proofs.Common.{None, arith, sym, ap, ◌∙◌}
 use Rattle.cstn_edit.specs.Sessions.{highest_of}
 use Rattle.cstn_edit.proofs.StartLemmas.{highest_last}
 use Rattle.cstn_edit.proofs.sessions.highest_id.Goals as goal

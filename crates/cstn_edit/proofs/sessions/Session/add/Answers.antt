@@ -3,7 +3,7 @@ use Rattle.std.proofs.lemmas.Int.{to_z-of_z}
 use Rattle.cstn_label.specs.declared.props.Prop.{Prop}
 use Rattle.cstn_label.specs.Read.{marks}
 use Rattle.cstn_net.specs.Networks.{IsValue}
-use Rattle.cstn_net.specs.Read.{NetworkParts, the_network}
+use Rattle.cstn_net.specs.Read.{the_network}
 use Rattle.cstn_edit.specs.declared.errors.EditError.TheVariants.{NotObserved}
 use Rattle.cstn_edit.specs.Sessions.{SessionParts, IsLeastUnobserved, next_id}
 use Rattle.cstn_edit.proofs.AddLemmas.{added_session, least_prop}
@@ -13,14 +13,12 @@ use Rattle.cstn_edit.proofs.sessions.Session.add.Goals as goal
 pub returns-in-Some-clause-observed : goal.returns-in-Some-clause-observed
 returns-in-Some-clause-observed c p =
     let least = subst (λ (s : SessionParts). IsLeastUnobserved (the_network s.net) (marks c.args.label) c.in-Some.prop.index)
-        c.self.view_is c.in-Some.ensures in
+    c.self.view_is c.in-Some.ensures in
     let short = subst (λ (s : SessionParts). length s.net.constraints < s.room) c.self.view_is
-        (subst (λ cs. length cs < c.self.inside.room) c.constraints.ensures.constraints c.if-constraints-self.false) in
-    let value = subst IsValue (to_z-of_z w32 c.args.most c.ranges.most) (c.if-not-is_value.ensures.0 refl) in
-    (
+    (subst (λ cs. length cs < c.self.inside.room) c.constraints.ensures.constraints c.if-constraints-self.false) in
+    let value = subst IsValue (to_z-of_z w32 c.args.most c.ranges.most) (c.if-not-is_value.ensures.0 refl) in (
       λ e.
-          let same : c.in-Some.prop ≡ p = cc in
-          (
+          let same : c.in-Some.prop ≡ p = cc in (
             c.in_ok-check_limit.ensures.below.0 refl,
             short,
             value,

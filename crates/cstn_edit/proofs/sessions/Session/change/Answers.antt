@@ -1,4 +1,4 @@
-use Rattle.std.proofs.Common.{◌≡◌, ◌≢◌, Err, w32, to_z, of_z, ◌<◌, ◌≤◌, ◌+◌, ◌∙◌, length, map, None, not, refl, sym, subst, ap, arith}
+use Rattle.std.proofs.Common.{◌≡◌, ◌≢◌, Err, w32, to_z, of_z, ◌<◌, ◌+◌, ◌∙◌, map, None, refl, sym, subst, ap, arith}
 use Rattle.std.proofs.lemmas.List.{length-map}
 use Rattle.std.specs.List.{All}
 use Rattle.std.proofs.lemmas.Bool.{false≢true}
@@ -19,8 +19,7 @@ returns-then-not-is_value-clause-value c = λ v.
     false≢true (sym c.if-not-is_value.true ∙ c.is_value.ensures.1 (subst IsValue (sym same) in_range)) in
     let some : All (λ d. d.id ≢ c.args.id) c.args.self.now.net.constraints → ⊥ = λ others.
     false≢true (sym (c.has_constraint.ensures.1 (subst (λ (v : SessionParts). All (λ d. d.id ≢ c.args.id) v.net.constraints) (sym c.self.view_is) others))
-    ∙ c.if-not-has_constraint.false) in
-    (
+    ∙ c.if-not-has_constraint.false) in (
       λ e. (c.in_ok-check_limit.ensures.below.0 refl, some, not_value, (let read : to_z w32 (of_z w32 c.args.most) ≡ v = cc in sym read ∙ same)),
       λ p. ap (λ z. Err (ValueRange z)) (same ∙ sym p.3),
     )

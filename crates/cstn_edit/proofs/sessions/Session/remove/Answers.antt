@@ -1,8 +1,7 @@
 use Rattle.std.proofs.Common.{◌≡◌, ◌<◌, ◌+◌, ◌∙◌, None, not, refl, sym, subst, ap, arith}
 use Rattle.std.proofs.lemmas.List.Elements.{All-filter}
 use Rattle.cstn_net.specs.Networks.{count}
-use Rattle.cstn_net.specs.Read.{NetworkParts, the_network, the_constraint, has_id, without_id}
-use Rattle.cstn_rules.proofs.Derived.{with_constraints}
+use Rattle.cstn_net.specs.Read.{NetworkParts, the_network, has_id, without_id}
 use Rattle.cstn_log.specs.Cuts.{dropped}
 use Rattle.cstn_log.specs.Entries.{the_entries}
 use Rattle.cstn_edit.specs.Sessions.{SessionParts, IsSession, next_id, kept_of, kept_list}

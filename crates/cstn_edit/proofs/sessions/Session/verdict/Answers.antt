@@ -1,4 +1,4 @@
-use Rattle.std.proofs.Common.{◌≡◌, ◌++◌, Some, sym, subst}
+use Rattle.std.proofs.Common.{◌≡◌, ◌++◌, sym, subst}
 use Rattle.cstn_net.specs.Strategies.{IsConsistent}
 use Rattle.cstn_net.specs.Read.{the_network}
 use Rattle.cstn_log.specs.Entries.{the_entries}
@@ -26,8 +26,7 @@ returns-clause-prefix c = λ not.
     let new = the_entries c.answer-outcome.new.log.entries in
     let cap = c.self.inside.log.cap in
     let p = prefix_of net cap (kept_list net cap old) (kept_list net cap new) c.answer-outcome.result
-    c.answer-outcome.ensures.outcome c.answer-outcome.ensures.list not in
-    (
+    c.answer-outcome.ensures.outcome c.answer-outcome.ensures.list not in (
       p.0,
       subst (λ (v : SessionParts). kept_of v ++ p.0 ≡ kept_list net c.answer-outcome.new.log.cap new) c.self.view_is
           (subst (λ k. kept_list net cap old ++ p.0 ≡ kept_list net k new) (sym c.answer-outcome.ensures.size) p.1),
