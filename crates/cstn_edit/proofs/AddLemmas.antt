@@ -1,0 +1,85 @@
+-- What stands of a session when a constraint is added.
+use Rattle.std.proofs.Common.{inl, inr, ℕ, suc, ◌≡◌, ◌+◌, ◌<◌, ◌≤◌, List, [], ◌∷◌, ◌++◌, length, map, Option, Some, None, arith, sym, subst, ap, ◌∙◌}
+use Rattle.std.specs.List.{All, Contains}
+use Rattle.std.specs.Coded.{le_prop}
+use Rattle.std.proofs.lemmas.Bool.{cases_lt}
+use Rattle.std.proofs.lemmas.List.{length-append, map-append}
+use Rattle.std.proofs.lemmas.List.Elements.{All-push, All-weaker, Contains-append_left}
+use Rattle.cstn_label.specs.declared.props.Prop.{Prop}
+use Rattle.cstn_label.specs.Labels.{Label}
+use Rattle.cstn_net.specs.declared.constraints.Constraint.{Constraint}
+use Rattle.cstn_net.specs.Networks.{Network, Constraint as TheConstraint}
+use Rattle.cstn_net.specs.Read.{NetworkParts, the_network, the_constraint}
+use Rattle.cstn_rules.proofs.Derived.{with_constraints, derivation_elsewhere}
+use Rattle.cstn_log.specs.Entries.{State, the_entries}
+use Rattle.cstn_edit.specs.declared.outcomes.Outcome.{Outcome}
+use Rattle.cstn_edit.specs.Sessions.{next_id, most_births, IsLeastUnobserved, IsKeptLog, IsSession}
+
+-- a log is kept for a network with further constraints
+longer_log : (net : Network) (cs : List TheConstraint) (log : State) →
+    ((c : TheConstraint) → Contains net.constraints c → Contains cs c) → IsKeptLog net log → IsKeptLog (with_constraints net cs) log
+longer_log net cs log has kept = record {
+  nodes = kept.nodes;
+  derivation = derivation_elsewhere net cs (the_entries log.entries) (λ c b k i inside there. has c inside) kept.derivation;
+  based = kept.based;
+  empty = kept.empty;
+  refuted = record {
+    before = λ k e there inside r. kept.refuted.before k e there inside (record { node = r.node; plain = r.plain; above = r.above });
+  };
+  some = kept.some;
+  most = kept.most;
+}
+
+has_old : (cs : List Constraint) (c : Constraint) (x : TheConstraint) → Contains (map the_constraint cs) x →
+    Contains (map the_constraint (cs ++ c ∷ [])) x
+has_old cs c x inside =
+    subst (λ l. Contains l x) (sym (map-append the_constraint cs (c ∷ [])))
+    (Contains-append_left (map the_constraint cs) (the_constraint c ∷ []) x inside)
+
+more_births : (births edits : ℕ) (last : Option Outcome) → births ≤ most_births edits last → births ≤ most_births (edits + 1) None
+more_births births edits None few = omega arith
+more_births births edits (Some o) few = omega arith
+
+-- the session with a further constraint
+pub added_session : (old new : NetworkParts) (c : Constraint) (log : State) (room edits : ℕ) (highest : Option ℕ) (last : Option Outcome) →
+    IsSession old log room edits highest last →
+    new ≡ record old { constraints = old.constraints ++ c ∷ []; spare = new.spare } → new.spare + 1 ≡ old.spare →
+    edits < 1000000 → length old.constraints < room → c.id ≡ next_id highest → IsSession new log room (edits + 1) (Some c.id) None
+added_session old new c log room edits highest last session is spare few more id =
+    let all : new.constraints ≡ old.constraints ++ c ∷ [] = ap (λ n. n.constraints) is in
+    let long : length new.constraints ≡ length old.constraints + 1 = ap length all ∙ length-append old.constraints (c ∷ []) in
+    record {
+      kept = subst (λ n. IsKeptLog (the_network n) log) (sym is)
+          (longer_log (the_network old) (map the_constraint (old.constraints ++ c ∷ [])) log (has_old old.constraints c) session.kept);
+      births = more_births log.births edits last session.births;
+      few_edits = omega arith;
+      fits = omega arith;
+      most_room = session.most_room;
+      spare = let room_there = session.spare in omega arith;
+      below = subst (All (λ d. d.id < suc c.id)) (sym all) (All-push (λ d. d.id < suc c.id) old.constraints c
+          (All-weaker (λ d. d.id < next_id highest) (λ d. d.id < suc c.id) (λ d below. omega arith) old.constraints session.below)
+          (omega arith));
+      small = let small = session.small in omega arith;
+      refuted = tt;
+      consistent = tt;
+    }
+
+-- two least propositions are one
+least_once : (net : Network) (a : Label) (p q : ℕ) → IsLeastUnobserved net a p → IsLeastUnobserved net a q → p ≡ q
+least_once net a p q one other = elim (cases_lt p q) [
+  | inl below ↦ absurd (other.1 p below one.0)
+  | inr upto ↦ elim (cases_lt q p) [
+    | inl above ↦ absurd (one.1 q above other.0)
+    | inr same ↦ omega arith
+  ]
+]
+
+same_built : (i : ℕ) (h k : i < 52) → ◌≡◌ {A = Prop} (record { index = i; in_range = h }) (record { index = i; in_range = k })
+same_built i h k = let e : h ≡ k = le_prop h k in cc
+
+same_prop : (p q : Prop) → p.index ≡ q.index → p ≡ q
+same_prop p q e =
+    subst (λ i. (k : i < 52) → p ≡ record { index = i; in_range = k }) e (λ k. same_built p.index p.in_range k) q.in_range
+
+pub least_prop : (net : Network) (a : Label) (p q : Prop) → IsLeastUnobserved net a p.index → IsLeastUnobserved net a q.index → p ≡ q
+least_prop net a p q one other = same_prop p q (least_once net a p.index q.index one other)

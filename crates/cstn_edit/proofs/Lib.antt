@@ -1,0 +1,5 @@
+pub mod CutLemmas
+pub mod VerdictLemmas
+pub mod StartLemmas
+pub mod AddLemmas
+pub mod RefutationLemmas

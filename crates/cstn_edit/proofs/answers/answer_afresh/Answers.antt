@@ -1,0 +1,57 @@
+use Rattle.std.proofs.Common.{rules, ◌∙◌, length, arith, sym, subst, ap}
+use Rattle.std.proofs.lemmas.List.{length-map}
+use Rattle.cstn_net.specs.Networks.{count}
+use Rattle.cstn_net.specs.Read.{the_network}
+use Rattle.cstn_rules.specs.Read.{the_entry}
+use Rattle.cstn_log.specs.Entries.{State, the_entries, bases}
+use Rattle.cstn_check.specs.Growth.{grow}
+use Rattle.cstn_check.specs.Turns.{IsRefutedLast}
+use Rattle.cstn_check.proofs.Lists.{extends_itself}
+use Rattle.cstn_edit.specs.Sessions.{IsKeptLog}
+use Rattle.cstn_edit.proofs.VerdictLemmas.{bases_stand, first_bases, bases_go_on, grown_log, bases_log, afresh_verdict, afresh_yes}
+use Rattle.cstn_edit.proofs.answers.answer_afresh.Goals.{then-eq, else-eq}
+use Rattle.cstn_edit.proofs.answers.answer_afresh.Goals as goal
+
+pub grow-grown-requires-clause-last : goal.grow-grown-requires-clause-last
+grow-grown-requires-clause-last c =
+    let net = the_network c.args.net.now in
+    subst (λ l. IsRefutedLast net l) (sym (c.restart.ensures.restart ∙ first_bases net c.args.log.now.cap c.requires.room)) (bases_stand net)
+
+pub returns-clause-verdict : goal.returns-clause-verdict
+returns-clause-verdict c =
+    let net = the_network c.args.net.now in
+    afresh_verdict net c.args.log.now.cap (the_entries c.restart.new.self.entries) (the_entries c.grow-grown.new.log.entries)
+    c.grow-grown.result c.verdict_of.result c.len.result c.is_well_formed.ensures
+    (c.restart.ensures.restart ∙ first_bases net c.args.log.now.cap c.requires.room)
+    (rw c.restart.ensures.size.0 at c.grow-grown.ensures.full) c.grow-grown.ensures.grown c.grow-grown.ensures.refuted
+    (λ not. elim c.if-eq.branch [
+      | then-eq w ↦ absurd (not (search (rules, w.if-eq.ensures)))
+      | else-eq w ↦ c.len.ensures.len ∙ ap (λ (s : State). length s.entries) w.log-is ∙ sym (length-map c.grow-grown.new.log.entries the_entry)
+    ])
+    c.verdict_of.ensures.closed c.verdict_of.ensures.refuted c.verdict_of.ensures.full
+
+pub returns-clause-kept : goal.returns-clause-kept
+returns-clause-kept c =
+    let net = the_network c.args.net.now in
+    elim c.if-eq.branch [
+      | then-eq w ↦ subst (λ (s : State). IsKeptLog net s) (sym w.log-is)
+          (bases_log net w.restart-then-eq.new.self c.is_well_formed.ensures
+          (w.restart-then-eq.ensures.restart ∙ first_bases net c.grow-grown.new.log.cap (omega (arith, c.requires.room, c.restart.ensures.size.0, c.grow-grown.ensures.size.0)))
+          (w.restart-then-eq.ensures.size.1 ∙ c.grow-grown.ensures.size.1 ∙ c.restart.ensures.size.1 ∙ c.requires.nodes)
+          (omega (arith, c.requires.room, c.restart.ensures.size.0, c.grow-grown.ensures.size.0, w.restart-then-eq.ensures.size.0))
+          (omega (arith, c.requires.size.0, c.restart.ensures.size.0, c.grow-grown.ensures.size.0, w.restart-then-eq.ensures.size.0))
+          (omega (arith, c.requires.size.1, c.restart.ensures.size.0, c.grow-grown.ensures.size.0, w.restart-then-eq.ensures.size.0)))
+      | else-eq w ↦ subst (λ (s : State). IsKeptLog net s) (sym w.log-is)
+          (grown_log net (bases (count net)) c.grow-grown.new.log c.is_well_formed.ensures (bases_go_on net c.is_well_formed.ensures)
+          (extends_itself (bases (count net)))
+          (c.grow-grown.ensures.grown (λ full. search (rules, full, w.if-eq.ensures))
+          ∙ ap (grow net) (c.restart.ensures.restart ∙ first_bases net c.args.log.now.cap c.requires.room))
+          (c.grow-grown.ensures.size.1 ∙ c.restart.ensures.size.1 ∙ c.requires.nodes)
+          (omega (arith, c.requires.room, c.restart.ensures.size.0, c.grow-grown.ensures.size.0))
+          (omega (arith, c.requires.size.0, c.restart.ensures.size.0, c.grow-grown.ensures.size.0))
+          (omega (arith, c.requires.size.1, c.restart.ensures.size.0, c.grow-grown.ensures.size.0)))
+    ]
+
+pub returns-clause-yes : goal.returns-clause-yes
+returns-clause-yes c = λ load yes.
+    afresh_yes (the_network c.args.net.now) c.args.log.now.cap load c.verdict_of.result c.is_well_formed.ensures (returns-clause-verdict c) yes

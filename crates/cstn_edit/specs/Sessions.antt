@@ -1,0 +1,114 @@
+-- Edit sessions: a network that is edited, with the list that is kept between its verdicts.
+use Rattle.std.specs.Prelude.{ℕ, suc, ◌≡◌, ◌+◌, ◌*◌, ◌^◌, ◌<◌, ◌≤◌, nat_lt, nat_le, ◌&&◌, if◌then◌else◌, List, [], ◌∷◌, ◌++◌, length, Option, Some, None}
+use Rattle.std.specs.List.{All}
+use Rattle.cstn_label.specs.declared.marks.Mark.TheVariants.{Absent}
+use Rattle.cstn_label.specs.Labels.{Label}
+use Rattle.cstn_net.specs.declared.constraints.Constraint.{Constraint}
+use Rattle.cstn_net.specs.Networks.{Network, Observes, count}
+use Rattle.cstn_net.specs.Read.{NetworkParts, the_network}
+use Rattle.cstn_net.specs.Strategies.{IsConsistent}
+use Rattle.cstn_rules.specs.declared.entries.Entry.{Entry as DeclaredEntry}
+use Rattle.cstn_rules.specs.Derivations.{Entry, IsDerivation}
+use Rattle.cstn_log.specs.Entries.{State, the_entries, bases}
+use Rattle.cstn_check.specs.declared.verdicts.Verdict.{Verdict}
+use Rattle.cstn_check.specs.declared.verdicts.Verdict.TheVariants.{Yes, No, Full}
+use Rattle.cstn_check.specs.Growth.{grow, log_of, load_of, is_refuted}
+use Rattle.cstn_check.specs.Turns.{IsRefutedLast, LastRefutes}
+use Rattle.cstn_edit.specs.declared.outcomes.Outcome.{Outcome}
+
+-- what contracts see of a session: the network as edited, the entries of its log, how many there may be, how many constraints
+-- there may be, how many edits were accepted, the highest id that was ever used, the last outcome, if no edit was accepted
+-- since, and how many rules were tried
+pub record SessionParts : Type 0 where
+  pub net : NetworkParts
+  pub entries : List DeclaredEntry
+  pub cap : ℕ
+  pub room : ℕ
+  pub edits : ℕ
+  pub highest : Option ℕ
+  pub last : Option Outcome
+  pub tries : ℕ
+
+-- the kept list, for which the base bounds stand where a log has no room for them
+abbrev pub kept_list : Network → ℕ → List Entry → List Entry
+kept_list net cap entries = if nat_lt cap (count net) then bases (count net) else entries
+
+-- the kept list of a session
+abbrev pub kept_of : SessionParts → List Entry
+kept_of s = kept_list (the_network s.net) s.cap (the_entries s.entries)
+
+-- the list that is kept after a verdict: the kept list grown, or, where that is too long, the log of the network, or, where
+-- that is too long as well, the base bounds
+abbrev pub kept_after : Network → ℕ → List Entry → List Entry
+kept_after net cap kept =
+    if nat_le (length (grow net kept)) cap then grow net kept
+    else if nat_le (load_of net) cap then log_of net
+    else bases (count net)
+
+-- the verdict by a list that is grown
+abbrev pub verdict_by : Network → List Entry → Verdict
+verdict_by net list = if is_refuted net list then No (length list) else Yes (length list)
+
+-- the outcome of a session that has none: it grows afresh where the kept list grows too long, and its verdict is full where
+-- the log of the network is too long as well
+abbrev pub outcome_of : Network → ℕ → List Entry → Outcome
+outcome_of net cap kept = record {
+  afresh = nat_lt cap (length (grow net kept));
+  verdict = if nat_lt cap (length (grow net kept)) && nat_lt cap (load_of net) then Full else verdict_by net (kept_after net cap kept);
+}
+
+-- the id of the next constraint that is added
+abbrev pub next_id : Option ℕ → ℕ
+next_id None = 0
+next_id (Some id) = suc id
+
+-- the highest of the ids, and of what is known
+abbrev pub highest_of : Option ℕ → List Constraint → Option ℕ
+highest_of known [] = known
+highest_of known (c ∷ cs) = highest_of (Some c.id) cs
+
+-- the label names the proposition, which nothing observes
+abbrev pub IsUnobserved : Network → Label → ℕ → Type 0
+IsUnobserved net a p = (a p ≡ Absent → ⊥) × ((x : ℕ) → Observes net x p → ⊥)
+
+-- and it is the least
+abbrev pub IsLeastUnobserved : Network → Label → ℕ → Type 0
+IsLeastUnobserved net a p = IsUnobserved net a p × ((q : ℕ) → q < p → IsUnobserved net a q → ⊥)
+
+-- how many births the log may have had: the calls of a session that raise them are the accepted edits and the verdicts
+-- that follow them
+abbrev pub most_births : ℕ → Option Outcome → ℕ
+most_births edits None = (2 * edits + 1) * 2 ^ 24
+most_births edits (Some o) = (2 * edits + 2) * 2 ^ 24
+
+-- the log keeps a derivation of the network from its base bounds, in which no entry but perhaps the last refutes
+pub record IsKeptLog (net : Network) (log : State) : Type 0 where
+  pub nodes : log.nodes ≡ count net
+  pub derivation : IsDerivation net (the_entries log.entries)
+  pub based : count net ≤ log.cap → (more : List Entry) × (bases (count net) ++ more ≡ the_entries log.entries)
+  pub empty : log.cap < count net → the_entries log.entries ≡ []
+  pub refuted : IsRefutedLast net (the_entries log.entries)
+  pub some : 1 ≤ log.cap
+  pub most : log.cap ≤ 4194304
+
+-- after a no the last entry of the log refutes the network
+abbrev pub Refuted : Network → State → Option Outcome → Type 0
+Refuted net log None = Unit {0}
+Refuted net log (Some o) = (load : ℕ) → o.verdict ≡ No load → (load ≡ length log.entries) × LastRefutes net (the_entries log.entries)
+
+-- after a yes the network is consistent
+abbrev pub Consistent : Network → Option Outcome → Type 0
+Consistent net None = Unit {0}
+Consistent net (Some o) = (load : ℕ) → o.verdict ≡ Yes load → IsConsistent net
+
+pub record IsSession (net : NetworkParts) (log : State) (room edits : ℕ) (highest : Option ℕ) (last : Option Outcome) : Type 0 where
+  pub kept : IsKeptLog (the_network net) log
+  pub births : log.births ≤ most_births edits last
+  pub few_edits : edits ≤ 1000000
+  pub fits : length net.constraints ≤ room
+  pub most_room : room ≤ 16384
+  pub spare : room ≤ length net.constraints + net.spare
+  pub below : All (λ c. c.id < next_id highest) net.constraints
+  pub small : next_id highest ≤ 2 ^ 31 + edits
+  pub refuted : Refuted (the_network net) log last
+  pub consistent : Consistent (the_network net) last

@@ -1,0 +1,93 @@
+// The outcome of a session that has none.
+ghost use Rattle.std.specs.Prelude.{ℕ, ◌≡◌, ◌≤◌, ◌<◌, ◌+◌, ◌*◌, ◌^◌, nat_lt, nat_le, if◌then◌else◌, length, Some};
+ghost use Rattle.cstn_net.specs.Networks.{IsWellFormed, count};
+ghost use Rattle.cstn_net.specs.Read.{the_network};
+ghost use Rattle.cstn_net.specs.Strategies.{IsConsistent};
+ghost use Rattle.cstn_log.specs.Entries.{the_entries, bases};
+ghost use Rattle.cstn_check.specs.declared.verdicts.Verdict.{Verdict};
+ghost use Rattle.cstn_check.specs.Growth.{grow, log_of, load_of};
+ghost use Rattle.cstn_check.specs.Turns.{LastRefutes};
+ghost use Rattle.cstn_edit.specs.Sessions.{IsKeptLog, Refuted, Consistent, kept_list, kept_after, outcome_of, verdict_by};
+
+use crate::outcomes::Outcome;
+use cstn_check::{Grown, Verdict, grow};
+use cstn_log::Log;
+use cstn_net::Network;
+use cstn_rules::Tries;
+
+// Grows the kept list, or, where that gets too long, the log of the network.
+pub fn answer(net: &Network, log: &mut Log, tries: &mut Tries) -> Outcome
+    requires kept { IsKeptLog (the_network net.now) log.old }
+    requires births { log.old.births < 2 ^ 60 }
+    ensures outcome { result ≡ outcome_of (the_network net.now) log.old.cap (kept_list (the_network net.now) log.old.cap (the_entries log.old.entries)) }
+    ensures list { kept_list (the_network net.now) log.old.cap (the_entries log.new.entries) ≡ kept_after (the_network net.now) log.old.cap (kept_list (the_network net.now) log.old.cap (the_entries log.old.entries)) }
+    ensures kept { IsKeptLog (the_network net.now) log.new }
+    ensures refuted { Refuted (the_network net.now) log.new (Some result) }
+    ensures consistent { Consistent (the_network net.now) (Some result) }
+    ensures births { log.new.births ≤ log.old.births + 2 ^ 24 }
+    ensures size { log.new.cap ≡ log.old.cap }
+    ensures tries { tries.old.count ≤ tries.new.count }
+{
+    is_well_formed(net);
+    if log.len() == 0 {
+        return Outcome {
+            afresh: true,
+            verdict: Verdict::Full,
+        };
+    }
+    let grown = grow(net, log, tries);
+    if grown == Grown::Full {
+        return Outcome {
+            afresh: true,
+            verdict: answer_afresh(net, log, tries),
+        };
+    }
+    Outcome {
+        afresh: false,
+        verdict: verdict_of(grown, log.len()),
+    }
+}
+
+// Grows the log of the network, and leaves its base bounds where that is too long.
+fn answer_afresh(net: &Network, log: &mut Log, tries: &mut Tries) -> Verdict
+    requires room { count (the_network net.now) ≤ log.old.cap }
+    requires nodes { log.old.nodes ≡ count (the_network net.now) }
+    requires size { (1 ≤ log.old.cap) × (log.old.cap ≤ 4194304) }
+    requires births { log.old.births < 2 ^ 60 + 2 ^ 23 }
+    ensures verdict { result ≡ (if nat_lt log.old.cap (load_of (the_network net.now)) then Verdict.Full else verdict_by (the_network net.now) (log_of (the_network net.now))) }
+    ensures list { the_entries log.new.entries ≡ (if nat_le (load_of (the_network net.now)) log.old.cap then log_of (the_network net.now) else bases (count (the_network net.now))) }
+    ensures kept { IsKeptLog (the_network net.now) log.new }
+    ensures no { (load : ℕ) → result ≡ Verdict.No load → (load ≡ length log.new.entries) × LastRefutes (the_network net.now) (the_entries log.new.entries) }
+    ensures yes { (load : ℕ) → result ≡ Verdict.Yes load → IsConsistent (the_network net.now) }
+    ensures births { log.new.births ≤ log.old.births + log.old.cap + 2048 }
+    ensures size { log.new.cap ≡ log.old.cap }
+    ensures tries { tries.old.count ≤ tries.new.count }
+{
+    is_well_formed(net);
+    log.restart(net);
+    let grown = grow(net, log, tries);
+    if grown == Grown::Full {
+        log.restart(net);
+    }
+    verdict_of(grown, log.len())
+}
+
+// The verdict of growth, by the load.
+fn verdict_of(grown: Grown, load: u32) -> Verdict
+    ensures closed { grown ≡ Grown.Closed → result ≡ Verdict.Yes load }
+    ensures refuted { grown ≡ Grown.Refuted → result ≡ Verdict.No load }
+    ensures full { grown ≡ Grown.Full → result ≡ Verdict.Full }
+{
+    match grown {
+        Grown::Closed => Verdict::Yes { load },
+        Grown::Refuted => Verdict::No { load },
+        Grown::Full => Verdict::Full,
+    }
+}
+
+// Every network is well-formed.
+pub fn is_well_formed(net: &Network)
+    ensures { IsWellFormed (the_network net.now) }
+{
+    let _ = net.count();
+}

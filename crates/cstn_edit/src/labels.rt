@@ -1,0 +1,29 @@
+// What the label of a new constraint may name.
+ghost use Rattle.std.specs.Prelude.{ℕ, ◌≡◌, ◌<◌, ◌≤ℤ◌, IsTrue, ◌↔◌, IfNone, IfSome, MatchOption};
+ghost use Rattle.cstn_label.specs.Read.{marks};
+ghost use Rattle.cstn_net.specs.Networks.{IsOnObserved, IsValue};
+ghost use Rattle.cstn_net.specs.Read.{the_network};
+ghost use Rattle.cstn_edit.specs.Sessions.{IsLeastUnobserved};
+
+use cstn_label::{Label, Mark, Prop};
+use cstn_net::Network;
+
+// Whether a value is in range.
+pub fn is_value(most: i32) -> bool
+    ensures { IsTrue result ↔ IsValue most }
+{
+    -1_000_000_000 <= most && most <= 1_000_000_000
+}
+
+// The least proposition that the label names and nothing observes.
+pub fn unobserved(net: &Network, label: Label) -> Option<Prop>
+    ensures { MatchOption result (IsOnObserved (the_network net.now) (marks label)) (λ p. IsLeastUnobserved (the_network net.now) (marks label) p.index) }
+{
+    for index in 0..52 {
+        let prop = Prop { index };
+        if label.mark(prop) != Mark::Absent && net.observer(prop).is_none() {
+            return Some(prop);
+        }
+    }
+    None
+}

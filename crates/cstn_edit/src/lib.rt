@@ -1,0 +1,15 @@
+//! Edit sessions: constraints are added, taken out and changed, and each verdict is grown from the list that was kept.
+#![tactic(auto)]
+
+mod answers;
+mod errors;
+mod labels;
+mod outcomes;
+mod sessions;
+
+pub use errors::EditError;
+pub use outcomes::Outcome;
+pub use sessions::Session;
+
+#[cfg(test)]
+mod tests;

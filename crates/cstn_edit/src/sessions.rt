@@ -1,0 +1,263 @@
+ghost use Rattle.std.specs.Prelude.{ℕ, ℤ, false, ◌≡◌, ◌≢◌, ◌<◌, ◌≤◌, ◌+◌, ◌-◌, ◌^◌, ◌++◌, ◌∷◌, [], ◌↔◌, List, length, map, Some, None, IfOk, OnErr, IsOk, IsErrOf, IsTrue};
+ghost use Rattle.std.specs.List.{All, Contains};
+ghost use Rattle.cstn_label.specs.declared.props.Prop.{Prop as DeclaredProp};
+ghost use Rattle.cstn_label.specs.Labels.{IsPlain};
+ghost use Rattle.cstn_label.specs.Read.{marks};
+ghost use Rattle.cstn_net.specs.Networks.{IsValue, count};
+ghost use Rattle.cstn_net.specs.Strategies.{IsConsistent};
+ghost use Rattle.cstn_net.specs.Read.{the_network, without_id, with_most};
+ghost use Rattle.cstn_rules.specs.Derivations.{Entry, IsRefutation};
+ghost use Rattle.cstn_log.specs.Entries.{bases, the_entries};
+ghost use Rattle.cstn_log.specs.Cuts.{dropped, part};
+ghost use Rattle.cstn_check.specs.declared.verdicts.Verdict.{Verdict};
+ghost use Rattle.cstn_check.specs.Growth.{grow, load_of};
+ghost use Rattle.cstn_refute.specs.Refutations.{the_steps};
+ghost use Rattle.cstn_edit.specs.Sessions.{kept_of, IsUnobserved, IsLeastUnobserved, next_id, highest_of, kept_after, outcome_of};
+
+use crate::answers::{answer, is_well_formed};
+use crate::errors::EditError;
+use crate::labels::{is_value, unobserved};
+use crate::outcomes::Outcome;
+use cstn_label::{Label, NodeId};
+use cstn_log::Log;
+use cstn_net::{Constraint, Network};
+use cstn_refute::Refutation;
+use cstn_rules::Tries;
+use std::alloc::{AllocError, Global};
+use std::marker::Model;
+
+const MOST_EDITS: u32 = 1_000_000;
+
+/// A network that is edited, with the list that is kept between its verdicts.
+///
+/// All memory is taken by [`Session::start`], but for what [`Session::refutation`] hands out.
+#[derive(Drop)]
+pub struct Session {
+    net: Network,
+    log: Log,
+    tries: Tries,
+    room: u32,
+    edits: u32,
+    highest: Option<u32>,
+    last: Option<Outcome>,
+}
+
+impl Model for Session {
+    ghost use Rattle.cstn_edit.specs.Sessions.{SessionParts, IsSession};
+
+    ghost Value = { SessionParts };
+
+    ghost view = { λ s. record { net = s.net; entries = s.log.entries; cap = s.log.cap; room = s.room; edits = s.edits; highest = s.highest; last = s.last; tries = s.tries.count } };
+
+    ghost invariant = { λ s. IsSession s.net s.log s.room s.edits s.highest s.last };
+}
+
+impl Session {
+    /// A session on the network, whose lists may have `cap` entries and which may have `room` constraints. Fails for want of
+    /// memory alone, and drops the network then.
+    pub fn start(alloc: Global, net: Network, cap: u32, room: u32) -> Result<Session, AllocError>
+        requires some { 1 ≤ cap }
+        requires most { cap ≤ 4194304 }
+        requires room { length net.constraints ≤ room }
+        requires most_room { room ≤ 16384 }
+        requires ids { All (λ c. c.id < 2 ^ 31) net.constraints }
+        ensures network { IfOk result (λ s. (s.net.deadline ≡ net.deadline) × (s.net.points ≡ net.points) × (s.net.constraints ≡ net.constraints)) }
+        ensures size { IfOk result (λ s. (s.cap ≡ cap) × (s.room ≡ room)) }
+        ensures kept { IfOk result (λ s. kept_of s ≡ bases (count (the_network net))) }
+        ensures edits { IfOk result (λ s. s.edits ≡ 0) }
+        ensures highest { IfOk result (λ s. s.highest ≡ highest_of None net.constraints) }
+        ensures last { IfOk result (λ s. s.last ≡ None) }
+    {
+        let mut net = net;
+        net.reserve(room)?;
+        let log = Log::start(alloc, &net, cap)?;
+        let highest = highest_id(&net);
+        Ok(Session {
+            net,
+            log,
+            tries: Tries { count: 0 },
+            room,
+            edits: 0,
+            highest,
+            last: None,
+        })
+    }
+
+    /// Adds a constraint between two time-points and answers its id, which is one above the highest ever used. The kept list
+    /// stays.
+    pub fn add(
+        &mut self,
+        from: NodeId,
+        to: NodeId,
+        most: i32,
+        label: Label,
+    ) -> Result<u32, EditError>
+        requires from { from.0 < count (the_network self.old.net) }
+        requires to { to.0 < count (the_network self.old.net) }
+        ensures limit { IsErrOf result EditError.EditLimit ↔ (self.old.edits ≡ 1000000) }
+        ensures no_room { (room : ℕ) → (IsErrOf result (EditError.NoRoom room) ↔ ((self.old.edits < 1000000) × (length self.old.net.constraints ≡ self.old.room) × (room ≡ self.old.room))) }
+        ensures value { (v : ℤ) → (IsErrOf result (EditError.ValueRange v) ↔ ((self.old.edits < 1000000) × (length self.old.net.constraints < self.old.room) × (IsValue most → ⊥) × (v ≡ most))) }
+        ensures plain { IsErrOf result EditError.NotPlain ↔ ((self.old.edits < 1000000) × (length self.old.net.constraints < self.old.room) × IsValue most × (IsPlain (marks label) → ⊥)) }
+        ensures observed { (p : DeclaredProp) → (IsErrOf result (EditError.NotObserved p) ↔ ((self.old.edits < 1000000) × (length self.old.net.constraints < self.old.room) × IsValue most × IsPlain (marks label) × IsLeastUnobserved (the_network self.old.net) (marks label) p.index)) }
+        ensures id { IfOk result (λ id. id ≡ next_id self.old.highest) }
+        ensures added { IfOk result (λ id. self.new ≡ record self.old { net = record self.old.net { constraints = self.old.net.constraints ++ record { id = id; from = from; to = to; most = most; label = label } ∷ []; spare = self.old.net.spare - 1 }; edits = self.old.edits + 1; highest = Some id; last = None }) }
+        ensures refused { OnErr result (self.new ≡ self.old) }
+    {
+        self.check_limit()?;
+        if self.net.constraints().len() as u32 >= self.room {
+            return Err(EditError::NoRoom { room: self.room });
+        }
+        if !is_value(most) {
+            return Err(EditError::ValueRange { most });
+        }
+        if !label.is_plain() {
+            return Err(EditError::NotPlain);
+        }
+        if let Some(prop) = unobserved(&self.net, label) {
+            return Err(EditError::NotObserved { prop });
+        }
+        let id = match self.highest {
+            None => 0,
+            Some(id) => id + 1,
+        };
+        self.net.insert(Constraint {
+            id,
+            from,
+            to,
+            most,
+            label,
+        });
+        self.highest = Some(id);
+        self.edits += 1;
+        self.last = None;
+        Ok(id)
+    }
+
+    /// Takes a constraint out, and from the kept list what it gave and what descends from that.
+    pub fn remove(&mut self, id: u32) -> Result<(), EditError>
+        ensures limit { IsErrOf result EditError.EditLimit ↔ (self.old.edits ≡ 1000000) }
+        ensures none { (other : ℕ) → (IsErrOf result (EditError.NoSuch other) ↔ ((self.old.edits < 1000000) × All (λ c. c.id ≢ id) self.old.net.constraints × (other ≡ id))) }
+        ensures removed { IsOk result → self.new ≡ record self.old { net = record self.old.net { constraints = without_id id self.old.net.constraints; spare = self.old.net.spare + 1 }; entries = self.new.entries; edits = self.old.edits + 1; last = None } }
+        ensures kept { IsOk result → kept_of self.new ≡ dropped (kept_of self.old) id }
+        ensures refused { OnErr result (self.new ≡ self.old) }
+    {
+        self.check_limit()?;
+        is_well_formed(&self.net);
+        if self.net.take_out(id).is_none() {
+            return Err(EditError::NoSuch { id });
+        }
+        let _at_most = self.log.len();
+        self.log.retract(id);
+        self.edits += 1;
+        self.last = None;
+        Ok(())
+    }
+
+    /// Gives a constraint another value, and takes from the kept list what it gave and what descends from that.
+    pub fn change(&mut self, id: u32, most: i32) -> Result<(), EditError>
+        ensures limit { IsErrOf result EditError.EditLimit ↔ (self.old.edits ≡ 1000000) }
+        ensures none { (other : ℕ) → (IsErrOf result (EditError.NoSuch other) ↔ ((self.old.edits < 1000000) × All (λ c. c.id ≢ id) self.old.net.constraints × (other ≡ id))) }
+        ensures value { (v : ℤ) → (IsErrOf result (EditError.ValueRange v) ↔ ((self.old.edits < 1000000) × (All (λ c. c.id ≢ id) self.old.net.constraints → ⊥) × (IsValue most → ⊥) × (v ≡ most))) }
+        ensures changed { IsOk result → self.new ≡ record self.old { net = record self.old.net { constraints = map (with_most id most) self.old.net.constraints }; entries = self.new.entries; edits = self.old.edits + 1; last = None } }
+        ensures kept { IsOk result → kept_of self.new ≡ dropped (kept_of self.old) id }
+        ensures refused { OnErr result (self.new ≡ self.old) }
+    {
+        self.check_limit()?;
+        if !has_constraint(&self.net, id) {
+            return Err(EditError::NoSuch { id });
+        }
+        if !is_value(most) {
+            return Err(EditError::ValueRange { most });
+        }
+        self.net.set_most(id, most);
+        let _at_most = self.log.len();
+        self.log.retract(id);
+        self.edits += 1;
+        self.last = None;
+        Ok(())
+    }
+
+    /// The verdict of the network as edited. It is grown from the kept list, or afresh where that gets too long, and stands
+    /// until the next accepted edit.
+    pub fn verdict(&mut self) -> Outcome
+        ensures outcome { self.old.last ≡ None → result ≡ outcome_of (the_network self.old.net) self.old.cap (kept_of self.old) }
+        ensures kept { self.old.last ≡ None → kept_of self.new ≡ kept_after (the_network self.old.net) self.old.cap (kept_of self.old) }
+        ensures same { self.new ≡ record self.old { entries = self.new.entries; last = Some result; tries = self.new.tries } }
+        ensures again { (o : Outcome) → self.old.last ≡ Some o → (result ≡ o) × (self.new ≡ self.old) }
+
+        ensures yes { (load : ℕ) → result.verdict ≡ Verdict.Yes load → IsConsistent (the_network self.old.net) }
+        ensures no { (load : ℕ) → result.verdict ≡ Verdict.No load → IsConsistent (the_network self.old.net) → ⊥ }
+        ensures full { self.old.last ≡ None → (result.verdict ≡ Verdict.Full ↔ ((self.old.cap < length (grow (the_network self.old.net) (kept_of self.old))) × (self.old.cap < load_of (the_network self.old.net)))) }
+        ensures prefix { result.afresh ≡ false → (more : List Entry) × (kept_of self.old ++ more ≡ kept_of self.new) }
+        ensures tries { self.old.tries ≤ self.new.tries }
+    {
+        is_well_formed(&self.net);
+        if let Some(outcome) = self.last {
+            return outcome;
+        }
+        let outcome = answer(&self.net, &mut self.log, &mut self.tries);
+        self.last = Some(outcome);
+        outcome
+    }
+
+    /// What refutes the network, where the last verdict was no and no edit was accepted since: the last entry of the kept
+    /// list with its ancestors, and how long the list is. Fails for want of memory alone.
+    pub fn refutation(&self, alloc: Global) -> Result<Refutation, AllocError>
+        requires no { (o : Outcome) × (load : ℕ) × (self.now.last ≡ Some o) × (o.verdict ≡ Verdict.No load) }
+        ensures part { IfOk result (λ r. the_steps r ≡ part (kept_of self.now)) }
+        ensures load { IfOk result (λ r. r.load ≡ length (kept_of self.now)) }
+        ensures refutes { IfOk result (λ r. IsRefutation (the_network self.now.net) (the_steps r)) }
+    {
+        is_well_formed(&self.net);
+        let load = self.log.len();
+        let steps = self.log.part(alloc)?;
+        Ok(Refutation::new(load, steps))
+    }
+
+    /// How many rules were tried.
+    pub fn tries(&self) -> u64
+        ensures tries { result ≡ self.now.tries }
+    {
+        self.tries.count
+    }
+
+    /// The network as edited.
+    pub fn network(&self) -> &Network
+        ensures network { result.now ≡ self.now.net }
+    {
+        &self.net
+    }
+
+    /// The kept list, or nothing where there is no room for the base bounds.
+    pub fn kept(&self) -> &Log
+        ensures kept { count (the_network self.now.net) ≤ self.now.cap → the_entries result.now.entries ≡ kept_of self.now }
+        ensures empty { self.now.cap < count (the_network self.now.net) → the_entries result.now.entries ≡ [] }
+    {
+        &self.log
+    }
+
+    fn check_limit(&self) -> Result<(), EditError>
+        ensures limit { IsErrOf result EditError.EditLimit ↔ (self.now.edits ≡ 1000000) }
+        ensures below { IsOk result ↔ (self.now.edits < 1000000) }
+    {
+        if self.edits >= MOST_EDITS {
+            return Err(EditError::EditLimit);
+        }
+        Ok(())
+    }
+}
+
+// The highest id of the network's constraints, which is the last one's.
+fn highest_id(net: &Network) -> Option<u32>
+    ensures { result ≡ highest_of None net.now.constraints }
+{
+    let constraints = net.constraints();
+    let last = constraints.len().checked_sub(1)?;
+    Some(constraints[last].id)
+}
+
+fn has_constraint(net: &Network, id: u32) -> bool
+    ensures { (result ≡ false) ↔ All (λ c. c.id ≢ id) net.now.constraints }
+{
+    net.constraints().iter().any(|c| c.id == id)
+}
