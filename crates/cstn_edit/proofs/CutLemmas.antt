@@ -11,6 +11,7 @@ use Rattle.std.proofs.lemmas.Option.{slice_get_within, none-some}
 use Rattle.cstn_net.specs.declared.constraints.Constraint.{Constraint}
 use Rattle.cstn_net.specs.Networks.{Network, Constraint as TheConstraint, IsWellFormed, count}
 use Rattle.cstn_net.specs.Read.{NetworkParts, the_network, the_constraint, has_id, without_id, with_most}
+use Rattle.cstn_net.proofs.ChangeLemmas.{same_id}
 use Rattle.cstn_rules.specs.declared.entries.Why.{Why}
 use Rattle.cstn_rules.specs.declared.entries.Why.TheVariants.{Base}
 use Rattle.cstn_rules.specs.Rules.{base, Refutes}
@@ -265,10 +266,7 @@ without_few id (x ∷ xs) =
     let rest = without_few id xs in
     elim (cases_Bool (has_id id x)) [ inl t ↦ rw t (omega (arith, rest)) | inr f ↦ rw f (omega (arith, rest)) ]
 
-with_id : (id : ℕ) (most : ℤ) (c : Constraint) → (with_most id most c).id ≡ c.id
-with_id id most c = elim (has_id id c) as (λ b. (cond b (record c { most = most }) c).id ≡ c.id) [ true ↦ refl | false ↦ refl ]
-
 pub with_below : (id n : ℕ) (most : ℤ) (cs : List Constraint) → All (λ c. c.id < n) cs → All (λ c. c.id < n) (map (with_most id most) cs)
 with_below id n most cs below =
     All-map (λ c. c.id < n) (with_most id most) cs
-    (All-weaker (λ c. c.id < n) (λ c. (with_most id most c).id < n) (λ c h. (let same = with_id id most c in omega arith)) cs below)
+    (All-weaker (λ c. c.id < n) (λ c. (with_most id most c).id < n) (λ c h. (let same = same_id id most c in omega arith)) cs below)

@@ -1,4 +1,3 @@
 pub mod DrawLemmas
 pub mod MadeLemmas
 pub mod WellFormed
-pub mod FaultLemmas

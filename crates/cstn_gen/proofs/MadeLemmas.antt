@@ -14,6 +14,7 @@ use Rattle.cstn_label.specs.declared.labels.Label.{Label as TheLabel}
 use Rattle.cstn_label.specs.Read.{marks}
 use Rattle.cstn_net.specs.Read.{observed, the_constraint, the_network, reaction_of, NetworkParts}
 use Rattle.cstn_net.specs.Drafts.{constraint_of, constraints_from}
+use Rattle.cstn_net.proofs.DraftLemmas.{constraints_more}
 use Rattle.cstn_gen.specs.Generated.{observed_by, props_of, point_name, constraint_at, constraint_from, state_at, span_at, literals_at, generated}
 use Rattle.cstn_gen.specs.declared.constraints.Span.{Span}
 use Rattle.cstn_gen.specs.Made.{HasPoints, HasConstraints}
@@ -37,11 +38,6 @@ points_count size n points has =
     omega (arith, observes, length-map points observed, length-map-range_with_len (observed_by (props_of size)) 0 n)
 
 -- one more constraint
-constraints_more : (k i : ℕ) (ds : List Draft) (d : Draft) → i ≡ k + length ds →
-    constraints_from k (ds ++ d ∷ []) ≡ constraints_from k ds ++ constraint_of i d ∷ []
-constraints_more k i [] d is = let e : i ≡ k = omega arith in rw e refl
-constraints_more k i (x ∷ ds) d is = ap (λ cs. constraint_of k x ∷ cs) (constraints_more (k + 1) i ds d (omega arith))
-
 pub one_more_constraint : (number size n : ℕ) (drafts : List Draft) (d : Draft) → length drafts ≡ n →
     HasConstraints number size n drafts → the_constraint (constraint_of n d) ≡ constraint_at number size n →
     HasConstraints number size (n + 1) (drafts ++ d ∷ [])

@@ -93,7 +93,7 @@ reaction_one : (props : List (Option Prop)) (p : ℕ) → reaction_of (map point
 reaction_one [] p = refl
 reaction_one (prop ∷ props) p = reaction_by (is_prop p (prop_seen prop)) _ (reaction_one props p)
 
-made_constraints : (k : ℕ) (ds : List LentDraft) → map the_constraint (constraints_from k ds) ≡ numbered k (map drawn_of ds)
+pub made_constraints : (k : ℕ) (ds : List LentDraft) → map the_constraint (constraints_from k ds) ≡ numbered k (map drawn_of ds)
 made_constraints k [] = refl
 made_constraints k (d ∷ ds) = ap (λ cs. the_constraint (constraint_of k d) ∷ cs) (made_constraints (k + 1) ds)
 

@@ -1,7 +1,7 @@
 -- What is printed of a live line is read again, and nothing else is read.
-use Rattle.std.proofs.Common.{◌≡◌, ℕ, ◌+◌, ◌<◌, ◌^◌, List, [], ◌∷◌, ◌++◌, length, get_or, take, drop, refl, ap, sym, ◌∙◌, arith, subst, Bool, true, false, not}
+use Rattle.std.proofs.Common.{◌≡◌, ◌≢◌, ℕ, ◌+◌, ◌<◌, ◌^◌, List, [], ◌∷◌, ◌++◌, length, get_or, take, drop, refl, ap, sym, ◌∙◌, arith, subst, Bool, true, false, not}
 use Rattle.std.specs.Prelude.{◌==◌, nat_lt, Option, Some, None, if◌then◌else◌, position, codes, bytes_eq}
-use Rattle.std.specs.List.{list_all, position_or_len}
+use Rattle.std.specs.List.{All, list_all}
 use Rattle.std.specs.Option.{option_map, option_and_then}
 use Rattle.std.proofs.Common.{take-append-drop}
 use Rattle.std.proofs.Math.Seq.{take-append_seam, drop-append-add, get_or-append_seam}
@@ -9,43 +9,25 @@ use Rattle.std.proofs.Math.ListN.{get_or-append}
 use Rattle.std.proofs.lemmas.Bool.{eqb-true}
 use Rattle.std.proofs.lemmas.Slice.Eq.{bytes_eq-Decides}
 use Rattle.std.proofs.lemmas.List.{drop_more}
-use Rattle.std.proofs.lemmas.List.Folds.{list_all_at}
+use Rattle.std.proofs.lemmas.List.Sums.{AllPass-from_list_all}
 use Rattle.std.proofs.lemmas.List.Quantifiers.{position-Some}
 use Rattle.std.proofs.lemmas.List.Sums.{position_or_len_is}
 use Rattle.std.proofs.lemmas.Grind.{common_steps}
 use Rattle.cstn_label.specs.Letters.{letter_of, prop_of}
 use Rattle.cstn_text.specs.Numbers.{number_read, printed_number}
+use Rattle.cstn_text.proofs.CutLemmas.{cut_back, cut_joined}
 use Rattle.cstn_text.proofs.NumberLemmas.{number_back, number_printed}
 use Rattle.cstn_lines.specs.LiveLines.{Live, moment_at, seen, due_now, cut_at_space, moment_read, prop_read, truth_read, seen_read, operands_read, live_read, IsLive, printed_truth, printed_live}
 
--- a text that was cut is its two parts with a space between
-pub cut_joined : (text word rest : List ℕ) → cut_at_space text ≡ Some (word, rest) → text ≡ word ++ 32 ∷ rest
-cut_joined text word rest is = at (position (λ b. b == 32) text) refl is
-  where
-    pair : (a b : List ℕ × List ℕ) → Some a ≡ Some b → a ≡ b
-    pair a b e = cc
-
-    at : (place : Option ℕ) → place ≡ position (λ b. b == 32) text → option_map {U = List ℕ × List ℕ} (λ i. (take i text, drop (i + 1) text)) place ≡ Some (word, rest) → text ≡ word ++ 32 ∷ rest
-    at None from e = absurd (cc)
-    at (Some i) from e =
-        let its = position-Some (λ b. b == 32) text i 0 (sym from) in
-        let tail : drop i text ≡ 32 ∷ drop (i + 1) text = drop_more text i 0 its.0 ∙ ap (λ b. b ∷ drop (i + 1) text) (eqb-true _ _ its.1) in
-        let whole : text ≡ take i text ++ 32 ∷ drop (i + 1) text = sym (take-append-drop i text) ∙ ap (λ bs. take i text ++ bs) tail in
-        subst (λ (parts : List ℕ × List ℕ). text ≡ parts.0 ++ 32 ∷ parts.1) (pair _ _ e) whole
-
 -- two parts with a space between are cut there
 pub joined_cut : (word rest : List ℕ) → list_all (λ b. not (b == 32)) word ≡ true → cut_at_space (word ++ 32 ∷ rest) ≡ Some (word, rest)
-joined_cut word rest none =
-    let place : position_or_len (λ b. b == 32) (word ++ 32 ∷ rest) ≡ length word =
-    position_or_len_is (λ b. b == 32) (word ++ 32 ∷ rest) (length word) 0 (grind (arith, common_steps))
-    (λ k h. ap (λ b. b == 32) (get_or-append word (32 ∷ rest) 0 k h) ∙ free (get_or word k 0 == 32) (λ e. list_all_at (λ b. not (b == 32)) word k 0 h (ap not e)) none)
-    (λ h. ap (λ b. b == 32) (get_or-append_seam word 32 rest 0)) in
-    let inside : nat_lt (length word) (length (word ++ 32 ∷ rest)) ≡ true = grind (arith, common_steps) in
-    rw (place, inside, take-append_seam word (32 ∷ rest), drop-append-add word (32 ∷ rest) 1) refl
+joined_cut word rest none = cut_back 32 word rest (no_space word none)
   where
-    free : (b : Bool) → (b ≡ true → list_all (λ b. not (b == 32)) word ≡ false) → list_all (λ b. not (b == 32)) word ≡ true → b ≡ false
-    free true some none = absurd (let e : false ≡ true = sym (some refl) ∙ none in cc)
-    free false some none = refl
+    other : (b : ℕ) → not (b == 32) ≡ true → b ≢ 32
+    other b is = grind arith
+
+    no_space : (word : List ℕ) → list_all (λ b. not (b == 32)) word ≡ true → All (λ b. b ≢ 32) word
+    no_space word none k d inside = other (get_or word k d) (AllPass-from_list_all (λ b. not (b == 32)) word none k d inside)
 
 chosen : (t : ℕ) → t < 2 ^ 32 → (if nat_lt t (2 ^ 32) then Some (moment_at t) else None) ≡ Some (moment_at t)
 chosen t small = grind arith
@@ -138,7 +120,7 @@ seen_only rest line is = at (cut_at_space rest) refl is
 
     at : (parts : Option (List ℕ × List ℕ)) → parts ≡ cut_at_space rest → option_and_then seen_parts parts ≡ Some line → IsText line (codes "see" ++ 32 ∷ rest)
     at None from e = absurd (cc)
-    at (Some parts) from e = lettered parts.0 parts.1 (prop_read parts.0) refl (cut_joined rest parts.0 parts.1 (sym from)) e
+    at (Some parts) from e = lettered parts.0 parts.1 (prop_read parts.0) refl (cut_joined 32 rest parts.0 parts.1 (sym from)) e
 
 operands_only : (word rest : List ℕ) (line : Live) → operands_read (word, rest) ≡ Some line → IsText line (word ++ 32 ∷ rest)
 operands_only word rest line is = at (bytes_eq word (codes "moment")) (bytes_eq word (codes "see")) refl refl is
@@ -153,7 +135,7 @@ live_only text line is = at (bytes_eq text (codes "due")) refl is
   where
     apart : (parts : Option (List ℕ × List ℕ)) → parts ≡ cut_at_space text → option_and_then operands_read parts ≡ Some line → IsText line text
     apart None from e = absurd (cc)
-    apart (Some parts) from e = subst (λ (x : List ℕ). IsText line x) (sym (cut_joined text parts.0 parts.1 (sym from))) (operands_only parts.0 parts.1 line e)
+    apart (Some parts) from e = subst (λ (x : List ℕ). IsText line x) (sym (cut_joined 32 text parts.0 parts.1 (sym from))) (operands_only parts.0 parts.1 line e)
 
     at : (due : Bool) → due ≡ bytes_eq text (codes "due") → (if due then Some due_now else option_and_then operands_read (cut_at_space text)) ≡ Some line → IsText line text
     at true due e = same_line due_now line text e (sym ((bytes_eq-Decides text (codes "due")).0 (sym due)), tt)

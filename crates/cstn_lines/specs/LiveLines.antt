@@ -2,6 +2,7 @@
 use Rattle.std.specs.Prelude.{ℕ, ◌+◌, ◌^◌, ◌<◌, ◌++◌, Bool, true, false, ◌==◌, nat_lt, if◌then◌else◌, List, [], ◌∷◌, take, drop, position, Option, None, Some, codes, bytes_eq}
 use Rattle.std.specs.Option.{option_map, option_and_then}
 use Rattle.cstn_label.specs.Letters.{letter_of, prop_of}
+use Rattle.cstn_text.specs.Cuts.{cut_at}
 use Rattle.cstn_text.specs.Numbers.{number_read, printed_number}
 use Rattle.cstn_lines.specs.declared.live.LiveLine.{LiveLine}
 use Rattle.cstn_lines.specs.declared.live.LiveLine.TheVariants.{Moment, See, Due}
@@ -19,7 +20,7 @@ the_live Due = due_now
 
 -- what stands before the first space, and what stands after it
 abbrev pub cut_at_space : List ℕ → Option (List ℕ × List ℕ)
-cut_at_space bytes = option_map (λ i. (take i bytes, drop (i + 1) bytes)) (position (λ b. b == 32) bytes)
+cut_at_space = cut_at 32
 
 -- a time is a number below 2^32
 abbrev pub moment_read : List ℕ → Option Live

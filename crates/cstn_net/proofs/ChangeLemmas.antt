@@ -43,6 +43,10 @@ changed deadline points cs ds h kept =
     (pairs_map (λ b c. b.id < c.id) the_constraint ds kept.ascending)
     (All-map (λ c. IsValue c.most) the_constraint ds kept.values)
 
+-- a constraint with another value keeps its id
+pub same_id : (id : ℕ) (most : ℤ) (c : Constraint) → (with_most id most c).id ≡ c.id
+same_id id most c = elim (has_id id c) as (λ b. (cond b (record c { most = most }) c).id ≡ c.id) [ true ↦ refl | false ↦ refl ]
+
 module _ (net : Network) where
   pub kept_push : (cs : List Constraint) (c : Constraint) → AreKept net cs → length cs < 16384 →
       All (λ d. d.id < c.id) cs → IsConstraint net (the_constraint c) → IsValue c.most → AreKept net (cs ++ c ∷ [])
@@ -67,9 +71,6 @@ module _ (net : Network) where
     | true ↦ record { from = h.from; to = h.to; plain = h.plain; observed = h.observed }
     | false ↦ h
   ]
-
-  same_id : (id : ℕ) (most : ℤ) (c : Constraint) → (with_most id most c).id ≡ c.id
-  same_id id most c = elim (has_id id c) as (λ b. (cond b (record c { most = most }) c).id ≡ c.id) [ true ↦ refl | false ↦ refl ]
 
   value_with : (id : ℕ) (most : ℤ) (c : Constraint) → IsValue most → IsValue c.most → IsValue (with_most id most c).most
   value_with id most c new old = elim (has_id id c) as (λ b. IsValue (cond b (record c { most = most }) c).most) [ true ↦ new | false ↦ old ]

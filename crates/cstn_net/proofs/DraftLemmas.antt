@@ -9,7 +9,7 @@ use Rattle.cstn_net.specs.declared.drafts.Draft.{Draft}
 use Rattle.cstn_net.specs.Drafts.{constraint_of, constraints_from}
 
 -- one more draft gives one more constraint
-constraints_more : (k i : ℕ) (ds : List Draft) (d : Draft) → i ≡ k + length ds →
+pub constraints_more : (k i : ℕ) (ds : List Draft) (d : Draft) → i ≡ k + length ds →
     constraints_from k (ds ++ d ∷ []) ≡ constraints_from k ds ++ constraint_of i d ∷ []
 constraints_more k i [] d is = let e : i ≡ k = omega arith in rw e refl
 constraints_more k i (x ∷ ds) d is = ap (λ cs. constraint_of k x ∷ cs) (constraints_more (k + 1) i ds d (omega arith))

@@ -6,6 +6,7 @@ pub mod Late
 pub mod WellFormed
 mod ListLemmas
 mod ObserverLemmas
-mod ChangeLemmas
-mod DraftLemmas
+pub mod ChangeLemmas
+pub mod DraftLemmas
 mod FaultLemmas
+pub mod HandedLemmas

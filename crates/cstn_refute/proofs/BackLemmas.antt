@@ -21,8 +21,8 @@ use Rattle.cstn_text.proofs.PartLemmas.{number_part, name_part, label_part}
 use Rattle.cstn_refute.specs.Steps.{◌>>=◌, part, number_within, place_read, places_read, why_read, is_place, rule_read, bound_read, node_read, named_bound_read, step_read, printed_why, printed_bound, printed_step}
 use Rattle.cstn_refute.specs.Texts.{Lines, lines_of, Told, tells, at_end, or_wrong, told_after, load_read, told, printed_steps, shown}
 use Rattle.cstn_refute.specs.Written.{ArePlaces, IsWritten, AreWritten}
-use Rattle.cstn_refute.proofs.CutLemmas.{cut_back}
-use Rattle.cstn_refute.proofs.CutLemmas.{number_back as found_back}
+use Rattle.cstn_text.proofs.CutLemmas.{cut_back}
+use Rattle.cstn_text.proofs.NameLemmas.{found_back}
 use Rattle.cstn_refute.proofs.ReadLemmas.{lines_cut, told_first, told_last}
 
 both_true : (a b : Bool) → (a && b) ≡ true → (a ≡ true) × (b ≡ true)

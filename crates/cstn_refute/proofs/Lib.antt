@@ -1,6 +1,5 @@
 mod PrintLemmas
 mod ReadLemmas
-mod CutLemmas
 mod BackLemmas
 mod SaidLemmas
 mod WrittenLemmas

@@ -10,7 +10,8 @@ use Rattle.std.proofs.lemmas.Grind.{common_steps}
 use Rattle.cstn_rules.specs.declared.entries.Entry.{Entry as DeclaredEntry}
 use Rattle.cstn_rules.specs.Derivations.{Entry}
 use Rattle.cstn_rules.specs.Read.{the_entry}
-use Rattle.cstn_refute.specs.Steps.{cut_at, step_read}
+use Rattle.cstn_text.specs.Cuts.{cut_at}
+use Rattle.cstn_refute.specs.Steps.{step_read}
 use Rattle.cstn_refute.specs.Texts.{Lines, begun, lines_of, Told, wrong, at_end, or_wrong, told_after, load_read, told_lines, told}
 
 cut_lines : (bs : List ℕ) (i : ℕ) → i < length bs → (get_or bs i 0 == 10) ≡ true →

@@ -5,6 +5,7 @@ use Rattle.cstn_label.specs.Bounds.{Bound}
 use Rattle.cstn_rules.specs.declared.entries.Why.{Why}
 use Rattle.cstn_rules.specs.declared.entries.Why.TheVariants.{Base, Chain, Wait}
 use Rattle.cstn_rules.specs.Derivations.{Entry}
+use Rattle.cstn_text.specs.Cuts.{cut_at}
 use Rattle.cstn_text.specs.Names.{number_of}
 use Rattle.cstn_text.specs.Numbers.{number_read, printed_number, printed_value}
 use Rattle.cstn_text.specs.PrintedNames.{name_read, printed_name}
@@ -15,10 +16,6 @@ infixl 20 ◌>>=◌
 abbrev pub ◌>>=◌ : {A B : Type 0} → Option A → (A → Option B) → Option B
 None >>= f = None
 Some x >>= f = f x
-
--- what stands before the first such byte, and what stands after it
-abbrev pub cut_at : ℕ → List ℕ → Option (List ℕ × List ℕ)
-cut_at byte bytes = option_map (λ i. (take i bytes, drop (i + 1) bytes)) (position (λ b. b == byte) bytes)
 
 -- the part before the first space, and what stands after it
 abbrev pub part : List ℕ → Option (List ℕ × List ℕ)

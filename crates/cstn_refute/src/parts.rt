@@ -5,7 +5,8 @@ ghost use Rattle.cstn_label.specs.Read.{the_bound};
 ghost use Rattle.cstn_rules.specs.Read.{the_entry};
 ghost use Rattle.cstn_text.specs.Names.{number_of};
 ghost use Rattle.cstn_refute.specs.Refutations.{IsStep};
-ghost use Rattle.cstn_refute.specs.Steps.{cut_at, part, number_within, place_read, places_read, chain_read, wait_read, why_read, is_place, rule_read, bound_read, node_read, named_bound_read, step_read};
+ghost use Rattle.cstn_text.specs.Cuts.{cut_at};
+ghost use Rattle.cstn_refute.specs.Steps.{part, number_within, place_read, places_read, chain_read, wait_read, why_read, is_place, rule_read, bound_read, node_read, named_bound_read, step_read};
 
 use cstn_label::{Bound, NodeId};
 use cstn_rules::{Entry, Why};

@@ -3,3 +3,4 @@ pub mod NumberLemmas
 pub mod PrintedNameLemmas
 pub mod PrintedLabelLemmas
 pub mod PartLemmas
+pub mod CutLemmas

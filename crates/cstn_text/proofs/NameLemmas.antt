@@ -1,5 +1,5 @@
 -- Names of a set of texts, as lists of bytes.
-use Rattle.std.proofs.Common.{◌≡◌, ◌≢◌, ℕ, ◌+◌, ◌<◌, ◌≤◌, ◌^◌, List, [], ◌∷◌, ◌++◌, map, length, Bool, true, false, not, ◌||◌, refl, ap, sym, ◌∙◌, arith, length-append}
+use Rattle.std.proofs.Common.{◌≡◌, ◌≢◌, ℕ, ◌+◌, ◌<◌, ◌≤◌, ◌^◌, Some, List, [], ◌∷◌, ◌++◌, map, length, get_or, Bool, true, false, not, ◌||◌, refl, ap, sym, ◌∙◌, arith, length-append}
 use Rattle.std.specs.Prelude.{String, string_bytes, position, if◌then◌else◌, Contains, ◌↔◌, ◌&&◌, nat_lt, nat_le}
 use Rattle.std.specs.String.{string_eq}
 use Rattle.std.specs.Str.{bytes_eq, IsUtf8}
@@ -12,7 +12,8 @@ use Rattle.std.proofs.lemmas.Map.Views.{Contains-from_any, list_any-from_Contain
 use Rattle.std.proofs.lemmas.Slice.Eq.{bytes_eq-Decides}
 use Rattle.std.proofs.lemmas.Str.{is_utf8-from_IsUtf8}
 use Rattle.std.proofs.lemmas.Cmp.{nat_list_eq_equiv}
-use Rattle.cstn_text.specs.Names.{IsName, AreNames}
+use Rattle.cstn_text.specs.Names.{IsName, AreNames, number_of}
+use Rattle.cstn_text.proofs.CutLemmas.{position_at}
 
 any_map : (p : List ℕ → Bool) (xs : List (String Global)) → list_any p (map string_bytes xs) ≡ list_any (λ s. p (string_bytes s)) xs
 any_map p [] = refl
@@ -60,3 +61,10 @@ pub shaped : (name : List ℕ) → (nat_lt 0 (length name) && nat_le (length nam
 shaped name shape text =
     let sizes = shaped_is (length name) shape in
     record { some = sizes.0; few = sizes.1; utf8 = is_utf8-from_IsUtf8 name text }
+
+-- a name of the list is found at its place
+pub found_back : (names : List (List ℕ)) (x : ℕ) → AreNames names → x < length names → number_of names (get_or names x []) ≡ Some x
+found_back names x are inside =
+    position_at (bytes_eq (get_or names x [])) names x [] inside
+    (λ k h. not_true _ (λ e. are.different k x [] h inside (sym ((bytes_eq-Decides (get_or names x []) (get_or names k [])).0 e))))
+    ((bytes_eq-Decides (get_or names x []) (get_or names x [])).1 refl)

@@ -4,3 +4,4 @@ pub mod PrintedNames
 pub mod PrintedLabels
 pub mod Readings
 pub mod Parts
+pub mod Cuts

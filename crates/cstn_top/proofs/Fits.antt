@@ -1,17 +1,11 @@
 -- The parts of a document either make a network or have a fault.
-use Rattle.std.proofs.Common.{◌≡◌, ℕ, ◌+◌, List, [], ◌∷◌, map, refl, ap, ◌∙◌}
-use Rattle.cstn_net.specs.declared.drafts.Draft.{Draft}
+use Rattle.std.proofs.Common.{ap, ◌∙◌}
 use Rattle.cstn_net.specs.declared.errors.NetError.{NetError}
 use Rattle.cstn_net.specs.Networks.{IsWellFormed}
-use Rattle.cstn_net.specs.Read.{the_constraint}
-use Rattle.cstn_net.specs.Drafts.{constraint_of, constraints_from}
 use Rattle.cstn_graphml.specs.Document.{Parts}
-use Rattle.cstn_graphml.specs.Networks.{drawn_of, numbered, network_of, IsUnfit}
-use Rattle.cstn_gen.proofs.FaultLemmas.{no_fault}
-
-numbered_are : (k : ℕ) (ds : List Draft) → map the_constraint (constraints_from k ds) ≡ numbered k (map drawn_of ds)
-numbered_are k [] = refl
-numbered_are k (d ∷ ds) = ap (λ cs. the_constraint (constraint_of k d) ∷ cs) (numbered_are (k + 1) ds)
+use Rattle.cstn_graphml.specs.Networks.{numbered, network_of, IsUnfit}
+use Rattle.cstn_graphml.proofs.Built.{made_constraints}
+use Rattle.cstn_net.proofs.HandedLemmas.{no_fault}
 
 -- parts that make a well-formed network have no fault
 pub fits : (parts : Parts) (error : NetError) → IsWellFormed (network_of parts) → IsUnfit parts error → ⊥
@@ -20,6 +14,6 @@ fits parts error good unfit =
     (record {
       deadline = unfit.parts_are.deadline;
       observes = unfit.parts_are.observes;
-      constraints = numbered_are 0 unfit.builder.drafts ∙ ap (numbered 0) unfit.parts_are.constraints;
+      constraints = made_constraints 0 unfit.builder.drafts ∙ ap (numbered 0) unfit.parts_are.constraints;
     })
     error unfit.fault.has

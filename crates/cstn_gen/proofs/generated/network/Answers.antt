@@ -4,7 +4,7 @@ use Rattle.cstn_net.specs.Read.{observed}
 use Rattle.cstn_gen.specs.Generated.{generated}
 use Rattle.cstn_gen.proofs.MadeLemmas.{points_count, made_is}
 use Rattle.cstn_gen.proofs.WellFormed.{well_formed}
-use Rattle.cstn_gen.proofs.FaultLemmas.{refused_for_memory}
+use Rattle.cstn_net.proofs.HandedLemmas.{refused_for_memory}
 use Rattle.cstn_gen.proofs.generated.network.Goals as goal
 
 pub returns-in_err-add_points-clause-well_formed : goal.returns-in_err-add_points-clause-well_formed

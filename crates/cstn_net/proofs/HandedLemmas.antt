@@ -1,5 +1,5 @@
--- A builder that was handed the network of a number has no fault.
-use Rattle.std.proofs.Common.{ℕ, suc, ◌≡◌, ◌+◌, ◌<◌, inl, inr, Some, None, List, [], ◌∷◌, length, refl, ap, sym, subst, arith, ◌∙◌}
+-- A builder that was handed a well-formed network has no fault.
+use Rattle.std.proofs.Common.{ℕ, ◌≡◌, ◌+◌, ◌<◌, inl, inr, Some, None, List, [], ◌∷◌, length, ap, sym, subst, arith, ◌∙◌}
 use Rattle.std.specs.Prelude.{map, ℤ, slice_index_or}
 use Rattle.std.specs.List.{All}
 use Rattle.std.proofs.lemmas.List.{length-map}
@@ -12,6 +12,7 @@ use Rattle.cstn_net.specs.declared.errors.NetError.TheVariants.{TooManyNodes, No
 use Rattle.cstn_net.specs.Networks.{Network, IsConstraint, IsOnObserved, IsValue, IsWellFormed, Observes}
 use Rattle.cstn_net.specs.Read.{observed, the_constraint}
 use Rattle.cstn_net.specs.Drafts.{BuilderParts, HasFault, IsRefusal, LacksObserver, observations, number, constraints_from, constraint_of}
+use Rattle.cstn_net.proofs.DraftLemmas.{constraints_length}
 
 -- the builder was handed this network
 pub record IsHanded (b : BuilderParts) (net : Network) : Type 0 where
@@ -34,17 +35,13 @@ nowhere : (P Q : Draft → Type 0) (ds : List Draft) (k : ℕ) → k < length ds
 nowhere P Q [] k inside all apart fails = absurd (omega arith)
 nowhere P Q (d ∷ ds) k inside all apart fails = apart (slice_index_or (d ∷ ds) k d) (all k d inside) (fails d)
 
-drafts_length : (k : ℕ) (ds : List Draft) → length (constraints_from k ds) ≡ length ds
-drafts_length k [] = refl
-drafts_length k (d ∷ ds) = ap suc (drafts_length (k + 1) ds)
-
 pub no_fault : (b : BuilderParts) (net : Network) → IsWellFormed net → IsHanded b net → (e : NetError) → HasFault b e → ⊥
 no_fault b net good handed TooManyNodes f = let few = good.few_points in let len = ap length handed.observes in omega (arith, f, few, len, length-map b.points observed)
 no_fault b net good handed NoOrigin f = let some = good.network.origin in let len = ap length handed.observes in omega (arith, f, some, len, length-map b.points observed)
 no_fault b net good handed TooManyConstraints f =
     let few = good.few_constraints in
     let len = ap length handed.constraints in
-    omega (arith, f, few, len, length-map (constraints_from 0 b.drafts) the_constraint, drafts_length 0 b.drafts)
+    omega (arith, f, few, len, length-map (constraints_from 0 b.drafts) the_constraint, constraints_length 0 b.drafts)
 no_fault b net good handed (DeadlineRange deadline) f = let in_time = good.in_time in let same = handed.deadline in omega (arith, f.1, in_time, same)
 no_fault b net good handed (ValueRange constraint) f =
     nowhere (λ d. IsValue d.most) (λ d. IsValue d.most → ⊥) b.drafts constraint f.inside

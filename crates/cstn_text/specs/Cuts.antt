@@ -1,0 +1,7 @@
+-- Texts cut at a byte.
+use Rattle.std.specs.Prelude.{ℕ, ◌+◌, ◌==◌, List, take, drop, position, Option}
+use Rattle.std.specs.Option.{option_map}
+
+-- what stands before the first such byte, and what stands after it
+abbrev pub cut_at : ℕ → List ℕ → Option (List ℕ × List ℕ)
+cut_at byte bytes = option_map (λ i. (take i bytes, drop (i + 1) bytes)) (position (λ b. b == byte) bytes)
