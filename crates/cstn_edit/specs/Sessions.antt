@@ -3,8 +3,7 @@ use Rattle.std.specs.Prelude.{ℕ, suc, ◌≡◌, ◌+◌, ◌*◌, ◌^◌, �
 use Rattle.std.specs.List.{All}
 use Rattle.cstn_label.specs.declared.marks.Mark.TheVariants.{Absent}
 use Rattle.cstn_label.specs.Labels.{Label}
-use Rattle.cstn_net.specs.declared.constraints.Constraint.{Constraint}
-use Rattle.cstn_net.specs.Networks.{Network, Observes, count}
+use Rattle.cstn_net.specs.Networks.{Network, Constraint, Observes, count}
 use Rattle.cstn_net.specs.Read.{NetworkParts, the_network}
 use Rattle.cstn_net.specs.Strategies.{IsConsistent}
 use Rattle.cstn_rules.specs.declared.entries.Entry.{Entry as DeclaredEntry}

@@ -65,7 +65,7 @@ impl Session {
         ensures size { IfOk result (λ s. (s.cap ≡ cap) × (s.room ≡ room)) }
         ensures kept { IfOk result (λ s. kept_of s ≡ bases (count (the_network net))) }
         ensures edits { IfOk result (λ s. s.edits ≡ 0) }
-        ensures highest { IfOk result (λ s. s.highest ≡ highest_of None net.constraints) }
+        ensures highest { IfOk result (λ s. s.highest ≡ highest_of None (the_network net).constraints) }
         ensures last { IfOk result (λ s. s.last ≡ None) }
     {
         let mut net = net;
@@ -249,7 +249,7 @@ impl Session {
 
 // The highest id of the network's constraints, which is the last one's.
 fn highest_id(net: &Network) -> Option<u32>
-    ensures { result ≡ highest_of None net.now.constraints }
+    ensures { result ≡ highest_of None (the_network net.now).constraints }
 {
     let constraints = net.constraints();
     let last = constraints.len().checked_sub(1)?;
