@@ -23,7 +23,8 @@ use Rattle.cstn_top.specs.Requests.{Asked, Request, check, run, save, replay, dr
 use Rattle.cstn_top.specs.Plans.{Said, say, after_text, says, IsOutput, MayTalk}
 use Rattle.cstn_top.specs.Sessions.{Turn, more, last, wrong, on_turn, script, play, session}
 use Rattle.cstn_top.specs.Running.{moment_line, executing, moment_turn, seen_turn, live_turn, run_turn, unfinished, run_ending}
-use Rattle.cstn_top.specs.Outputs.{Answer, judged, on_document, yes_line, verdict, on_verdict, checked, carried_out, saved, replayed, replayed_text, plan_at}
+use Rattle.cstn_top.specs.Texts.{yes_line}
+use Rattle.cstn_top.specs.Outputs.{Answer, judged, on_document, verdict, on_verdict, checked, carried_out, saved, replayed, replayed_text, plan_at}
 use Rattle.cstn_top.specs.Meanings.{parts_of, HasNetwork, IsRefused, IsYes, IsNo, IsNoRefutation, IsGood, IsBad, IsFull, IsDecided, IsComplete, ReadsLive}
 use Rattle.cstn_top.specs.Statuses.{status_of}
 use Rattle.cstn_top.specs.declared.output.Outcome.{Outcome}

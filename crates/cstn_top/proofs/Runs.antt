@@ -14,11 +14,11 @@ use Rattle.cstn_lines.specs.Pieces.{is_past, lines_of, whole_lines}
 use Rattle.cstn_exec.specs.Runs.{Run, start, named, due}
 use Rattle.cstn_exec.specs.Moves.{Refusal, moment_refusal, moved}
 use Rattle.cstn_exec.specs.Read.{ExecParts}
-use Rattle.cstn_top.specs.Texts.{line}
+use Rattle.cstn_top.specs.Texts.{line, yes_line}
 use Rattle.cstn_top.specs.Prepared.{the_plan}
 use Rattle.cstn_top.specs.Plans.{after_text, Plan, EndsLine, ComesTo}
 use Rattle.cstn_top.specs.Sessions.{Turn, more, last, wrong, on_turn, script, play, answers, session, the_turn}
-use Rattle.cstn_top.specs.Outputs.{carried_out, on_verdict, verdict, yes_line}
+use Rattle.cstn_top.specs.Outputs.{carried_out, on_verdict, verdict}
 use Rattle.cstn_top.specs.Running.{RunningParts, the_nodes, moment_line, executing, due_text, moment_turn, live_turn, run_turn, run_ending, with_run, turn_with, running_turn, running_ending}
 use Rattle.cstn_top.specs.declared.commands.Prepared.{Prepared}
 use Rattle.cstn_top.specs.declared.session.Answer.{Answer}

@@ -6,6 +6,7 @@ pub mod Refusals
 pub mod Plans
 pub mod Sessions
 pub mod Running
+pub mod Editing
 pub mod Drills
 pub mod Outputs
 pub mod Meanings

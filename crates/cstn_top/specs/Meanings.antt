@@ -1,5 +1,6 @@
 -- What the status of a request tells.
-use Rattle.std.specs.Prelude.{◌≡◌, ◌≤◌, ◌<◌, ◌⊎◌, ℕ, List, [], length, take, get_or, Option, None, Some, IsSomeAnd, Result, Ok, Err}
+use Rattle.std.specs.Prelude.{◌≡◌, ◌≤◌, ◌<◌, ◌⊎◌, ℕ, List, [], length, take, get_or, Option, None, Some, IfSome, IsSomeAnd, Result, Ok, Err}
+use Rattle.cstn_io.specs.Contents.{IsAllOf}
 use Rattle.cstn_net.specs.Networks.{Network, IsWellFormed}
 use Rattle.cstn_net.specs.Strategies.{IsConsistent}
 use Rattle.cstn_graphml.specs.Results.{Refusal}
@@ -7,10 +8,12 @@ use Rattle.cstn_graphml.specs.Document.{Parts, document}
 use Rattle.cstn_graphml.specs.Networks.{network_of}
 use Rattle.cstn_rules.specs.Derivations.{IsRefutation}
 use Rattle.cstn_check.specs.Growth.{load_of}
+use Rattle.cstn_lines.specs.Pieces.{lines_of}
 use Rattle.cstn_refute.specs.Texts.{Told, tells, wrong, told as told_by}
-use Rattle.cstn_top.specs.Requests.{Request, check, run, save, replay, drill, files_of}
+use Rattle.cstn_top.specs.Requests.{Request, check, run, edit, save, replay, drill, files_of}
 use Rattle.cstn_top.specs.Files.{AreContents}
 use Rattle.cstn_top.specs.Drills.{unrefuted, AreConsistent}
+use Rattle.cstn_top.specs.Editing.{begun_editing, last_checked}
 use Rattle.cstn_top.specs.declared.status.Status.{Status}
 use Rattle.cstn_top.specs.declared.status.Status.TheVariants.{Good, Bad, Words, Document, Full, ReadFault, WriteFault, Memory, Unfinished, Script}
 
@@ -45,31 +48,43 @@ abbrev pub IsNoRefutation : Told → Network → Type 0
 IsNoRefutation (tells load steps) net = IsRefutation net steps → ⊥
 IsNoRefutation (wrong at) net = ⊥
 
--- what the status Good tells of a request: its document has a network, one that was checked is consistent, and one of which a
--- refutation was replayed isn't; of a drill, that as many small networks are consistent as are counted
-abbrev pub IsGood : Request → List (List ℕ) → Type 0
-IsGood (check asked cap) contents = HasNetwork (get_or contents 0 []) asked.deadline (λ names net. IsYes cap net)
-IsGood (run asked cap) contents = HasNetwork (get_or contents 0 []) asked.deadline (λ names net. IsYes cap net)
-IsGood (save asked) contents = HasNetwork (get_or contents 0 []) asked.deadline (λ names net. Unit {0})
-IsGood (replay asked proof) contents = HasNetwork (get_or contents 0 []) asked.deadline (λ names net. IsConsistent net → ⊥)
-IsGood (drill number) contents = AreConsistent number 64 (unrefuted number 64)
+-- this holds of the network as edited at the last check of the edit lines, if there is one, where the live source has these bytes
+abbrev pub AtLastCheck : Option (List ℕ) → ℕ → List (List ℕ) → Network → (Option Network → Type 0) → Type 0
+AtLastCheck told cap names net holds =
+    (live : List ℕ) × IsAllOf told live × holds (last_checked (begun_editing cap names net) None (lines_of live))
+
+-- what the status Good tells of a request, by what is told of the live source: its document has a network, one that was checked
+-- is consistent, and one of which a refutation was replayed isn't; of a drill, that as many small networks are consistent as are
+-- counted
+abbrev pub IsGood : Option (List ℕ) → Request → List (List ℕ) → Type 0
+IsGood told (check asked cap) contents = HasNetwork (get_or contents 0 []) asked.deadline (λ names net. IsYes cap net)
+IsGood told (run asked cap) contents = HasNetwork (get_or contents 0 []) asked.deadline (λ names net. IsYes cap net)
+IsGood told (edit asked cap) contents =
+    HasNetwork (get_or contents 0 []) asked.deadline (λ names net. AtLastCheck told cap names net (λ last. IfSome last IsConsistent))
+IsGood told (save asked) contents = HasNetwork (get_or contents 0 []) asked.deadline (λ names net. Unit {0})
+IsGood told (replay asked proof) contents = HasNetwork (get_or contents 0 []) asked.deadline (λ names net. IsConsistent net → ⊥)
+IsGood told (drill number) contents = AreConsistent number 64 (unrefuted number 64)
 
 -- what the status Bad tells of it: its document has a network that isn't consistent, or of which the text is no refutation
-abbrev pub IsBad : Request → List (List ℕ) → Type 0
-IsBad (check asked cap) contents = HasNetwork (get_or contents 0 []) asked.deadline (λ names net. IsNo cap net)
-IsBad (run asked cap) contents = HasNetwork (get_or contents 0 []) asked.deadline (λ names net. IsNo cap net)
-IsBad (save asked) contents = ⊥
-IsBad (replay asked proof) contents =
+abbrev pub IsBad : Option (List ℕ) → Request → List (List ℕ) → Type 0
+IsBad told (check asked cap) contents = HasNetwork (get_or contents 0 []) asked.deadline (λ names net. IsNo cap net)
+IsBad told (run asked cap) contents = HasNetwork (get_or contents 0 []) asked.deadline (λ names net. IsNo cap net)
+IsBad told (edit asked cap) contents =
+    HasNetwork (get_or contents 0 []) asked.deadline (λ names net. AtLastCheck told cap names net (λ last. IsSomeAnd last (λ edited. IsConsistent edited → ⊥)))
+IsBad told (save asked) contents = ⊥
+IsBad told (replay asked proof) contents =
     HasNetwork (get_or contents 0 []) asked.deadline (λ names net. IsNoRefutation (told_by names (get_or contents 1 [])) net)
-IsBad (drill number) contents = ⊥
+IsBad told (drill number) contents = ⊥
 
 -- what the status Full tells of it: the log of its network has more entries than it may
-abbrev pub IsFull : Request → List (List ℕ) → Type 0
-IsFull (check asked cap) contents = HasNetwork (get_or contents 0 []) asked.deadline (λ names net. cap < load_of net)
-IsFull (run asked cap) contents = HasNetwork (get_or contents 0 []) asked.deadline (λ names net. cap < load_of net)
-IsFull (save asked) contents = ⊥
-IsFull (replay asked proof) contents = ⊥
-IsFull (drill number) contents = ⊥
+abbrev pub IsFull : Option (List ℕ) → Request → List (List ℕ) → Type 0
+IsFull told (check asked cap) contents = HasNetwork (get_or contents 0 []) asked.deadline (λ names net. cap < load_of net)
+IsFull told (run asked cap) contents = HasNetwork (get_or contents 0 []) asked.deadline (λ names net. cap < load_of net)
+IsFull told (edit asked cap) contents =
+    HasNetwork (get_or contents 0 []) asked.deadline (λ names net. AtLastCheck told cap names net (λ last. IsSomeAnd last (λ edited. cap < load_of edited)))
+IsFull told (save asked) contents = ⊥
+IsFull told (replay asked proof) contents = ⊥
+IsFull told (drill number) contents = ⊥
 
 -- a network whose log has no more entries than it may is decided: Good where it is consistent, and Bad where it isn't
 abbrev pub IsDecided : ℕ → Network → Status → Type 0
@@ -81,6 +96,7 @@ IsComplete status (check asked cap) contents =
     ((status ≡ Document) × IsRefused (get_or contents 0 []) asked.deadline)
     ⊎ HasNetwork (get_or contents 0 []) asked.deadline (λ names net. IsDecided cap net status)
 IsComplete status (run asked cap) contents = Unit {0}
+IsComplete status (edit asked cap) contents = Unit {0}
 IsComplete status (save asked) contents = Unit {0}
 IsComplete status (replay asked proof) contents = Unit {0}
 IsComplete status (drill number) contents = status ≡ Good
@@ -102,18 +118,20 @@ files_read Memory names = []
 files_read Unfinished names = names
 files_read Script names = names
 
--- the request reads the live source: a run of a network that has a strategy
+-- the request reads the live source: a run of a network that has a strategy, or an edit session
 abbrev pub ReadsLive : Request → List (List ℕ) → Type 0
 ReadsLive (check asked cap) contents = ⊥
 ReadsLive (run asked cap) contents = HasNetwork (get_or contents 0 []) asked.deadline (λ names net. IsYes cap net)
+ReadsLive (edit asked cap) contents = HasNetwork (get_or contents 0 []) asked.deadline (λ names net. Unit {0})
 ReadsLive (save asked) contents = ⊥
 ReadsLive (replay asked proof) contents = ⊥
 ReadsLive (drill number) contents = ⊥
 
--- an answer to a line may want memory, after something was written
+-- an answer to a line may want memory, after something was written: in an edit session
 abbrev pub MayStop : Request → List (List ℕ) → Type 0
 MayStop (check asked cap) contents = ⊥
 MayStop (run asked cap) contents = ⊥
+MayStop (edit asked cap) contents = HasNetwork (get_or contents 0 []) asked.deadline (λ names net. Unit {0})
 MayStop (save asked) contents = ⊥
 MayStop (replay asked proof) contents = ⊥
 MayStop (drill number) contents = ⊥

@@ -14,13 +14,14 @@ use Rattle.cstn_check.specs.declared.verdicts.Verdict.TheVariants.{Yes, No, Full
 use Rattle.cstn_refute.specs.Texts.{Told, tells, wrong, shown, told as told_by}
 use Rattle.cstn_exec.specs.Runs.{start}
 use Rattle.cstn_text.specs.PrintedNames.{printed_name}
-use Rattle.cstn_top.specs.Texts.{line}
-use Rattle.cstn_top.specs.Requests.{Request, check, run, save, replay, drill}
+use Rattle.cstn_top.specs.Texts.{yes_line, full_line}
+use Rattle.cstn_top.specs.Requests.{Request, check, run, edit, save, replay, drill}
 use Rattle.cstn_top.specs.Refusals.{refusal_text}
 use Rattle.cstn_top.specs.Plans.{Said, say, Plan, says, replays, judges}
 use Rattle.cstn_top.specs.Sessions.{session}
 use Rattle.cstn_top.specs.Drills.{large, counts_of, small_line, large_line}
 use Rattle.cstn_top.specs.Running.{run_turn, run_ending}
+use Rattle.cstn_top.specs.Editing.{begun_editing, edit_turn, edit_ending}
 use Rattle.cstn_top.specs.declared.output.Outcome.TheVariants.{Good, Bad, Words, Document, Full, Script}
 
 -- what is said of a network under the names of its time-points
@@ -51,15 +52,11 @@ abbrev pub verdict : ℕ → Network → Verdict
 verdict cap net =
     if nat_lt cap (load_of net) then IsFull else if last_refutes net (log_of net) then No (load_of net) else Yes (load_of net)
 
--- The first line after yes.
-abbrev pub yes_line : ℕ → List ℕ
-yes_line load = line (codes "yes " ++ decimal load)
-
 -- what is said of a verdict on a network, given what follows after yes: the cap where it is exceeded, after no the refutation
 abbrev pub on_verdict : ℕ → List (List ℕ) → Network → Plan → Verdict → Plan
 on_verdict cap names net after_yes (Yes load) = after_yes
 on_verdict cap names net after_yes (No load) = says (record { outcome = Bad; text = shown names load (part (log_of net)) })
-on_verdict cap names net after_yes IsFull = says (say Full (codes "full " ++ decimal cap))
+on_verdict cap names net after_yes IsFull = says (record { outcome = Full; text = full_line cap })
 
 -- what `check` says of a network
 abbrev pub checked : ℕ → Answer
@@ -71,6 +68,10 @@ carried_out cap names net =
     on_verdict cap names net
     (session (run_turn (map printed_name names) net (live_bounds (log_of net))) (run_ending net (live_bounds (log_of net))) (yes_line (load_of net)) (start (count net)))
     (verdict cap net)
+
+-- what `edit` says of a network: the answers to the edit lines
+abbrev pub edited : ℕ → Answer
+edited cap names net = session edit_turn edit_ending [] (begun_editing cap names net)
 
 -- what `save` says of a network: its canonical document
 abbrev pub saved : Answer
@@ -95,6 +96,7 @@ drilled number =
 abbrev pub plan_at : Request → List (List ℕ) → Plan
 plan_at (check asked cap) contents = on_document (checked cap) (get_or contents 0 []) asked.deadline
 plan_at (run asked cap) contents = on_document (carried_out cap) (get_or contents 0 []) asked.deadline
+plan_at (edit asked cap) contents = on_document (edited cap) (get_or contents 0 []) asked.deadline
 plan_at (save asked) contents = on_document saved (get_or contents 0 []) asked.deadline
 plan_at (replay asked proof) contents = on_document (replayed (get_or contents 1 [])) (get_or contents 0 []) asked.deadline
 plan_at (drill number) contents = says (drilled number)

@@ -9,7 +9,8 @@ use Rattle.cstn_top.specs.Plans.{Said, Plan, says, EndsLine, ComesTo, IsOutput}
 use Rattle.cstn_top.specs.Sessions.{session}
 use Rattle.cstn_top.specs.Running.{running_turn, running_ending}
 use Rattle.cstn_top.specs.Statuses.{status_of}
-use Rattle.cstn_top.specs.Outputs.{plan_at, verdict, on_verdict, yes_line}
+use Rattle.cstn_top.specs.Texts.{yes_line}
+use Rattle.cstn_top.specs.Outputs.{plan_at, verdict, on_verdict}
 use Rattle.cstn_top.specs.Meanings.{files_read}
 use Rattle.cstn_top.specs.Read.{the_said}
 use Rattle.cstn_top.specs.declared.commands.verdicts.Decided.{Decided}

@@ -1,12 +1,12 @@
 -- How values of the program are read.
 use Rattle.std.specs.Prelude.{ℕ, ◌≤◌, map, string_bytes}
 use Rattle.cstn_top.specs.Plans.{Said}
-use Rattle.cstn_top.specs.Requests.{Asked, Taken, Request, check, run, save, replay, drill}
+use Rattle.cstn_top.specs.Requests.{Asked, Taken, Request, check, run, edit, save, replay, drill}
 use Rattle.cstn_top.specs.declared.output.Said.{Said as SaidText}
 use Rattle.cstn_top.specs.declared.words.Asked.{Asked as AskedWords}
 use Rattle.cstn_top.specs.declared.words.Taken.{Taken as TakenWords}
 use Rattle.cstn_top.specs.declared.words.Request.{Request as RequestWords}
-use Rattle.cstn_top.specs.declared.words.Request.TheVariants.{Check, Run, Save, Replay, Drill}
+use Rattle.cstn_top.specs.declared.words.Request.TheVariants.{Check, Run, Edit, Save, Replay, Drill}
 
 -- what is said
 abbrev pub the_said : SaidText → Said
@@ -27,6 +27,7 @@ the_taken taken = record { value = taken.value; rest = map string_bytes taken.re
 abbrev pub the_request : RequestWords → Request
 the_request (Check asked cap) = check (the_asked asked) cap
 the_request (Run asked cap) = run (the_asked asked) cap
+the_request (Edit asked cap) = edit (the_asked asked) cap
 the_request (Save asked) = save (the_asked asked)
 the_request (Replay asked proof) = replay (the_asked asked) proof.now
 the_request (Drill number) = drill number
@@ -35,6 +36,7 @@ the_request (Drill number) = drill number
 abbrev pub IsCapped : RequestWords → Type 0
 IsCapped (Check asked cap) = (1 ≤ cap) × (cap ≤ 4194304)
 IsCapped (Run asked cap) = (1 ≤ cap) × (cap ≤ 4194304)
+IsCapped (Edit asked cap) = (1 ≤ cap) × (cap ≤ 4194304)
 IsCapped (Save asked) = Unit {0}
 IsCapped (Replay asked proof) = Unit {0}
 IsCapped (Drill number) = Unit {0}

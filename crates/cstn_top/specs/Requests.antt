@@ -14,6 +14,7 @@ pub record Asked : Type 0 where
 pub data Request : Type 0 where
   check : Asked → ℕ → Request
   run : Asked → ℕ → Request
+  edit : Asked → ℕ → Request
   save : Asked → Request
   replay : Asked → List ℕ → Request
   drill : ℕ → Request
@@ -85,6 +86,7 @@ abbrev pub request_at : List ℕ → List (List ℕ) → Option Request
 request_at command rest =
     if is_same command (codes "check") then option_map (λ found. check found.0 found.1) (capped_of rest)
     else if is_same command (codes "run") then option_map (λ found. run found.0 found.1) (capped_of rest)
+    else if is_same command (codes "edit") then option_map (λ found. edit found.0 found.1) (capped_of rest)
     else if is_same command (codes "save") then option_map save (asked_of rest)
     else if is_same command (codes "replay") then replay_of rest
     else if is_same command (codes "drill") then drill_of rest else None
@@ -98,6 +100,7 @@ request_of (command ∷ rest) = request_at command rest
 abbrev pub files_of : Request → List (List ℕ)
 files_of (check asked cap) = asked.file ∷ []
 files_of (run asked cap) = asked.file ∷ []
+files_of (edit asked cap) = asked.file ∷ []
 files_of (save asked) = asked.file ∷ []
 files_of (replay asked proof) = asked.file ∷ proof ∷ []
 files_of (drill number) = []

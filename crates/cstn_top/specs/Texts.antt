@@ -1,5 +1,5 @@
 -- Texts.
-use Rattle.std.specs.Prelude.{ℕ, Bool, nat_eq, List, [], ◌∷◌, ◌++◌}
+use Rattle.std.specs.Prelude.{ℕ, Bool, nat_eq, List, [], ◌∷◌, ◌++◌, codes, decimal}
 use Rattle.std.specs.Cmp.Lexicographic.{pointwise}
 
 -- the two texts are one
@@ -9,3 +9,11 @@ is_same xs ys = pointwise nat_eq xs ys
 -- a line of text
 abbrev pub line : List ℕ → List ℕ
 line text = text ++ 10 ∷ []
+
+-- the line after yes
+abbrev pub yes_line : ℕ → List ℕ
+yes_line load = line (codes "yes " ++ decimal load)
+
+-- the line where a log has more entries than it may
+abbrev pub full_line : ℕ → List ℕ
+full_line cap = line (codes "full " ++ decimal cap)

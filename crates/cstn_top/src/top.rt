@@ -34,9 +34,9 @@ pub fn run<F: Shelf, S: Source, K: Sink>(
         Ends (plan_of (request_of (map string_bytes words.now)) contents) before after (K.written out.old) (K.written out.new) result ×
         Untouched (plan_of (request_of (map string_bytes words.now)) contents) live.old live.new }
 
-    ensures good { result ≡ Status.Good → HoldsOf (request_of (map string_bytes words.now)) (F.files shelf.old) IsGood }
-    ensures bad { result ≡ Status.Bad → HoldsOf (request_of (map string_bytes words.now)) (F.files shelf.old) IsBad }
-    ensures full { result ≡ Status.Full → HoldsOf (request_of (map string_bytes words.now)) (F.files shelf.old) IsFull }
+    ensures good { result ≡ Status.Good → HoldsOf (request_of (map string_bytes words.now)) (F.files shelf.old) (IsGood (S.left live.old)) }
+    ensures bad { result ≡ Status.Bad → HoldsOf (request_of (map string_bytes words.now)) (F.files shelf.old) (IsBad (S.left live.old)) }
+    ensures full { result ≡ Status.Full → HoldsOf (request_of (map string_bytes words.now)) (F.files shelf.old) (IsFull (S.left live.old)) }
     ensures complete { IsStopped result ⊎ (IsNone (request_of (map string_bytes words.now)) ⊎ HoldsOf (request_of (map string_bytes words.now)) (F.files shelf.old) (IsComplete result)) }
     ensures there { AreThere (F.files shelf.old) (files_read result (names_of (request_of (map string_bytes words.now)))) }
 

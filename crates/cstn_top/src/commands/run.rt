@@ -5,11 +5,12 @@ ghost use Rattle.cstn_net.specs.Networks.{IsWellFormed, count};
 ghost use Rattle.cstn_net.specs.Read.{the_network};
 ghost use Rattle.cstn_check.specs.Growth.{load_of};
 ghost use Rattle.cstn_check.specs.declared.verdicts.Verdict.TheVariants.{Yes};
+ghost use Rattle.cstn_top.specs.Texts.{yes_line};
 ghost use Rattle.cstn_top.specs.Requests.{run};
 ghost use Rattle.cstn_top.specs.Plans.{ComesTo};
 ghost use Rattle.cstn_top.specs.Prepared.{the_plan, Planned, OpensWell};
 ghost use Rattle.cstn_top.specs.Read.{the_asked};
-ghost use Rattle.cstn_top.specs.Outputs.{carried_out, verdict, yes_line};
+ghost use Rattle.cstn_top.specs.Outputs.{carried_out, verdict};
 
 use super::documents::{Opened, open};
 use super::verdicts::{Decided, decide};

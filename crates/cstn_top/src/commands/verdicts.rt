@@ -7,7 +7,7 @@ ghost use Rattle.cstn_check.specs.declared.verdicts.Verdict.TheVariants.{No};
 ghost use Rattle.cstn_log.specs.Cuts.{part};
 ghost use Rattle.cstn_refute.specs.Texts.{shown};
 ghost use Rattle.cstn_top.specs.Plans.{say};
-ghost use Rattle.cstn_top.specs.Outputs.{yes_line};
+ghost use Rattle.cstn_top.specs.Texts.{yes_line, full_line};
 ghost use Rattle.cstn_top.specs.Prepared.{IsDecided};
 ghost use Rattle.cstn_top.specs.Read.{the_said};
 
@@ -92,7 +92,7 @@ fn refuted(alloc: Global, check: &Check, names: &Names) -> Result<Said, Refused>
 
 // What is said where the log has more entries than it may.
 fn full(alloc: Global, cap: u32) -> Result<Said, Refused>
-    ensures said { IfOk result (λ said. the_said said ≡ say Outcome.Full (codes "full " ++ decimal cap)) }
+    ensures said { IfOk result (λ said. the_said said ≡ record { outcome = Outcome.Full; text = full_line cap }) }
     ensures fault { IsErrOf result Refused.ReadFault → ⊥ }
 {
     let Ok(text) = format!(in alloc; "full {cap}\n") else {
