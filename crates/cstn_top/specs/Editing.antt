@@ -1,8 +1,9 @@
 -- What is answered to edit lines.
-use Rattle.std.specs.Prelude.{ℕ, ℤ, Bool, if◌then◌else◌, List, [], ◌∷◌, ◌++◌, Option, None, Some, codes, decimal, bytes_eq}
+use Rattle.std.specs.Prelude.{ℕ, ℤ, Bool, if◌then◌else◌, List, [], ◌∷◌, ◌++◌, length, ◌≡◌, Option, None, Some, codes, decimal, bytes_eq}
 use Rattle.cstn_label.specs.Labels.{Label}
 use Rattle.cstn_label.specs.Letters.{letter_of}
-use Rattle.cstn_net.specs.Networks.{Network}
+use Rattle.cstn_net.specs.Networks.{Network, count}
+use Rattle.cstn_net.specs.Read.{the_network}
 use Rattle.cstn_text.specs.Names.{number_of}
 use Rattle.cstn_text.specs.Numbers.{printed_value}
 use Rattle.cstn_text.specs.PrintedNames.{printed_name}
@@ -11,8 +12,8 @@ use Rattle.cstn_log.specs.Cuts.{part}
 use Rattle.cstn_check.specs.declared.verdicts.Verdict.{Verdict}
 use Rattle.cstn_check.specs.declared.verdicts.Verdict.TheVariants.{Yes, No, Full as IsFull}
 use Rattle.cstn_refute.specs.Texts.{shown}
-use Rattle.cstn_edit.specs.Sessions.{next_id}
-use Rattle.cstn_edit.specs.Edits.{Session, Refusal, EditLimit, NoRoom, NoSuch, ValueRange, NotPlain, NotObserved, begun, add_refusal, remove_refusal, change_refusal, with_added, with_removed, with_changed, outcome_at, with_verdict}
+use Rattle.cstn_edit.specs.Sessions.{SessionParts, next_id}
+use Rattle.cstn_edit.specs.Edits.{Session, Refusal, EditLimit, NoRoom, NoSuch, ValueRange, NotPlain, NotObserved, begun, add_refusal, remove_refusal, change_refusal, with_added, with_removed, with_changed, outcome_at, with_verdict, the_session}
 use Rattle.cstn_edit.specs.declared.outcomes.Outcome.{Outcome as Answered}
 use Rattle.cstn_lines.specs.EditLines.{Edit, added, removed, changed, asked, edit_read}
 use Rattle.cstn_top.specs.Texts.{line, yes_line, full_line}
@@ -102,3 +103,17 @@ last_checked e net [] = net
 last_checked e net (first ∷ lines) =
     on_turn (edit_turn e first)
     (λ text next. last_checked next (if bytes_eq first (codes "check") then Some e.session.net else net) lines) (λ said. net) net
+
+-- what contracts see of an edit session: the session, the names of its time-points, and the verdict of the last check
+pub record EditingParts : Type 0 where
+  pub session : SessionParts
+  pub names : List (List ℕ)
+  pub verdict : Option Verdict
+
+abbrev pub the_editing : EditingParts → Editing
+the_editing e = record { cap = e.session.cap; names = e.names; session = the_session e.session; verdict = e.verdict }
+
+-- each time-point has a name, and there is room for 16,384 constraints
+pub record IsEditing (e : EditingParts) : Type 0 where
+  pub named : length e.names ≡ count (the_network e.session.net)
+  pub room : e.session.room ≡ 16384
