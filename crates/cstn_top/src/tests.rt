@@ -1,5 +1,6 @@
 mod documents;
 mod drills;
+mod edits;
 
 use crate::{Status, run};
 use cstn_io::{MemoryFile, MemoryShelf, MemorySink, MemorySource};
