@@ -20,7 +20,8 @@ use crate::errors::ExecError;
 use cstn_label::{NodeId, Prop};
 use cstn_log::SoundPlan;
 use cstn_net::Network;
-use naming::execute;
+use naming::{Names, execute};
+use smallvec::SmallVec;
 use std::alloc::{AllocError, Global};
 use std::marker::Model;
 
@@ -34,11 +35,11 @@ pub struct Executive {
     last: Option<u32>,
     moments: Vec<Option<u32>>,
     outcomes: [Option<bool>; 52],
-    named: Vec<NodeId>,
+    named: Names,
 }
 
 impl Model for Executive {
-    ghost use Rattle.std.specs.Prelude.{map, vec_capacity};
+    ghost use Rattle.std.specs.Prelude.{map};
     ghost use Rattle.cstn_net.specs.Read.{the_network};
     ghost use Rattle.cstn_exec.specs.Read.{ExecParts, IsExecutive};
 
@@ -46,7 +47,7 @@ impl Model for Executive {
 
     ghost view = { λ e. record { net = e.plan.net; bounds = e.plan.bounds; run = record { now = e.last; moments = e.moments.items; outcomes = e.outcomes }; named = map (λ x. x.0) e.named.items } };
 
-    ghost invariant = { λ e. IsExecutive (the_network e.plan.net) (record { now = e.last; moments = e.moments.items; outcomes = e.outcomes }) (vec_capacity e.named) };
+    ghost invariant = { λ e. IsExecutive (the_network e.plan.net) (record { now = e.last; moments = e.moments.items; outcomes = e.outcomes }) e.named.capacity };
 }
 
 impl Executive {
@@ -58,7 +59,7 @@ impl Executive {
         let count = plan.network().count() as usize;
         let mut moments = Vec::with_capacity(alloc, count)?;
         moments.resize(count, None)?;
-        let named = Vec::with_capacity(alloc, count)?;
+        let named = SmallVec::with_capacity(alloc, count)?;
         Ok(Executive {
             plan,
             last: None,
@@ -80,7 +81,7 @@ impl Executive {
     pub fn named(&self) -> &[NodeId]
         ensures named { map (λ x. x.0) result.now ≡ self.now.named }
     {
-        &self.named
+        self.named.as_slice()
     }
 
     /// The first moment, in ticks, at which an outcome is awaited or a time-point is to be executed; none where all is executed.
@@ -136,7 +137,7 @@ impl Executive {
         }
         self.is_right();
         self.name(t);
-        execute(&mut self.moments, &self.named, t);
+        execute(&mut self.moments, self.named.as_slice(), t);
         self.last = Some(t);
         Ok(())
     }

@@ -21,11 +21,11 @@ execute-requires c =
     let net = the_network c.args.self.now.net in
     let bounds = the_bounds c.args.self.now.bounds in
     let view = c.self.view_is ∙ c.name.ensures in
-    let names = ap (map (λ x. x.0)) c.deref.ensures.value ∙ ap (λ (e : ExecParts). e.named) view in
+    let names = ap (map (λ x. x.0)) c.as_slice.ensures ∙ ap (λ (e : ExecParts). e.named) view in
     let moments = ap (length {A = Option ℕ}) (ap (λ (e : ExecParts). e.run.moments) view) in
     let size = c.is_right.ensures.right.moments in
-    subst (λ (n : ℕ). All (λ (x : NodeId). x.0 < n) c.deref.result.now) (omega arith)
-    (named_within c.deref.result.now (is_free net bounds c.args.self.now.run c.args.t) (count net) names)
+    subst (λ (n : ℕ). All (λ (x : NodeId). x.0 < n) c.as_slice.result.now) (omega arith)
+    (named_within c.as_slice.result.now (is_free net bounds c.args.self.now.run c.args.t) (count net) names)
 
 pub invariant_of-self : goal.invariant_of-self
 invariant_of-self c =
@@ -37,7 +37,7 @@ invariant_of-self c =
     let view = c.self.view_is ∙ c.name.ensures in
     let after : ExecParts → Run = λ e. record { now = Some c.args.t; moments = executed c.args.t e.named e.run.moments; outcomes = e.run.outcomes } in
     let right = subst (λ (e : ExecParts). IsRight (the_network e.net) (after e)) (sym view) ok.0 in
-    let moments = c.execute.ensures ∙ ap (λ (ns : List NodeId). executed c.args.t (map (λ x. x.0) ns) c.self.inside.moments.items) c.deref.ensures.value in
+    let moments = c.execute.ensures ∙ ap (λ (ns : List NodeId). executed c.args.t (map (λ x. x.0) ns) c.self.inside.moments.items) c.as_slice.ensures in
     let deadline = ap (λ (e : ExecParts). e.net.deadline) view in
     let upto = ok.1 in
     record {
