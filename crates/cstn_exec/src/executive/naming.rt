@@ -1,11 +1,10 @@
 // Who is executed at a moment.
-ghost use Rattle.std.specs.Prelude.{ℕ, ◌≡◌, ◌<◌, ◌≤◌, ◌+◌, ◌&&◌, not, nat_lt, is_none, None, length, map, slice_index, slice_index_or};
+ghost use Rattle.std.specs.Prelude.{◌≡◌, ◌<◌, ◌≤◌, ◌&&◌, not, nat_lt, is_none, Some, None, length, map, slice_index, slice_index_or};
 ghost use Rattle.std.specs.List.{All, filter, range_with_len};
 ghost use Rattle.cstn_net.specs.Read.{the_network};
 ghost use Rattle.cstn_log.specs.Plans.{the_bounds};
-ghost use Rattle.cstn_exec.specs.Runs.{named};
-ghost use Rattle.cstn_exec.specs.Moves.{executed};
-ghost use Rattle.cstn_exec.specs.Read.{ExecParts};
+ghost use Rattle.cstn_exec.specs.Runs.{due, named};
+ghost use Rattle.cstn_exec.specs.Moves.{moment_refusal, executed};
 
 use super::Executive;
 use super::asked::Moments;
@@ -19,11 +18,17 @@ const NAMES_IN_PLACE: usize = 8;
 pub type Names = SmallVec<NodeId, NAMES_IN_PLACE>;
 
 impl Executive {
-    // Names the time-points to be executed at t.
-    pub(super) fn name(&mut self, t: u32)
+    // Names the time-points to be executed at t: none before the due moment, `first`.
+    pub(super) fn name(&mut self, t: u32, first: u32)
+        requires accepted { moment_refusal (the_network self.old.net) (the_bounds self.old.bounds) self.old.run t ≡ None }
+        requires due { due (the_network self.old.net) (the_bounds self.old.bounds) self.old.run ≡ Some first }
         ensures { self.new ≡ record self.old { named = named (the_network self.old.net) (the_bounds self.old.bounds) self.old.run t } }
     {
         self.is_right();
+        if t < first {
+            self.named.clear();
+            return;
+        }
         let after = self.earliest(t);
         collect(&mut self.named, &self.moments, &after, t);
     }
