@@ -113,7 +113,8 @@ impl Executive {
     }
 
     /// Accepts a moment, in ticks, and executes the time-points whose least moment it is, which `named` lends. Refused with the
-    /// first that applies of `Done`, `Past`, `Awaiting` and `Late`. At the due moment, takes a pass over the plan's bounds more than `due`.
+    /// first that applies of `Done`, `Past`, `Awaiting` and `Late`. Takes as many passes over the plan's bounds as `due`, and at
+    /// the due moment one more.
     pub fn moment(&mut self, t: u32) -> Result<(), ExecError>
         ensures refused { refusal_of result ≡ moment_refusal (the_network self.old.net) (the_bounds self.old.bounds) self.old.run t }
         ensures moved { OnOk result (self.new ≡ record self.old { run = moved (the_network self.old.net) (the_bounds self.old.bounds) self.old.run t; named = named (the_network self.old.net) (the_bounds self.old.bounds) self.old.run t }) }
