@@ -1,5 +1,5 @@
 -- The due moment, and the end of a run.
-use Rattle.std.proofs.Common.{ℕ, zero, suc, ◌≡◌, inl, inr, ◌+◌, ◌-◌, ◌<◌, ◌≤◌, Bool, true, false, List, [], ◌∷◌, Option, Some, None, ltb, arith, refl, sym, subst, ap, ◌∙◌}
+use Rattle.std.proofs.Common.{ℕ, zero, suc, ◌≡◌, inl, inr, ◌+◌, ◌-◌, ◌<◌, ◌≤◌, Bool, true, false, List, [], ◌∷◌, Option, Some, None, ltb, arith, refl, sym, ap, ◌∙◌}
 use Rattle.std.specs.Prelude.{length, is_some, slice_index_or}
 use Rattle.std.proofs.lemmas.Int.{ints}
 use Rattle.std.specs.List.{find, list_all, list_any, range_with_len}
@@ -14,9 +14,10 @@ use Rattle.cstn_log.specs.Plans.{IsEarliest}
 use Rattle.cstn_exec.specs.Runs.{Run, after, next, is_done, executed_at, outcome_of, awaited, is_free, has_work, due}
 use Rattle.cstn_exec.specs.Moves.{Refusal, Done, Past, Late, moment_refusal, moved, unless_past, unless_awaiting, unless_late}
 use Rattle.cstn_exec.specs.Right.{AgreesKnown, IsRight, HasWork, IsDue, IsDone, IsCarriedOut}
+use Rattle.cstn_exec.proofs.Options.{cases_option, is_some-true}
 use Rattle.cstn_exec.proofs.Ranges.{IsFirstFrom, find_first, find_none, found, some_passes}
 use Rattle.cstn_exec.proofs.Knowing.{known_from}
-use Rattle.cstn_exec.proofs.Running.{IsQuiet, cases_option, awaits_none, awaited_least, executed_is, idle_from, quiet_later}
+use Rattle.cstn_exec.proofs.Running.{IsQuiet, awaits_none, awaited_least, executed_is, idle_from, quiet_later}
 use Rattle.cstn_exec.proofs.Moving.{free_called, called_free, free_parts, moved_right}
 
 -- ---- a scenario with what was seen
@@ -33,19 +34,15 @@ seen_agrees net wf run u p v k = ap value_or_false (known_from net wf.network ru
 
 -- ---- whether all is executed
 
-some_is : (o : Option ℕ) → is_some o ≡ true → (m : ℕ) × (o ≡ Some m)
-some_is None h = absurd (true≢false (sym h))
-some_is (Some m) h = (m, refl)
-
 pub done_from : (net : Network) (run : Run) → length run.moments ≡ count net → is_done run ≡ true → IsDone net run
 done_from net run size h x here =
-    some_is (executed_at run x) (All-get_or (λ o. is_some o ≡ true) run.moments x None (omega arith)
+    is_some-true (executed_at run x) (All-get_or (λ o. is_some o ≡ true) run.moments x None (omega arith)
     (AllPass-from_list_all is_some run.moments h))
 
 pub done_to : (net : Network) (run : Run) → length run.moments ≡ count net → IsDone net run → is_done run ≡ true
 done_to net run size all =
     list_all-from_AllPass is_some run.moments (All-from_get_or (λ o. is_some o ≡ true) run.moments None
-    (λ x inside. let e = all x (omega arith) in subst (λ o. is_some o ≡ true) (sym e.1) refl))
+    (λ x inside. let e = all x (omega arith) in ap is_some e.1))
 
 pub some_none : (ms : List (Option ℕ)) → list_all is_some ms ≡ false → (x : ℕ) × (x < length ms) × (slice_index_or ms x None ≡ None)
 some_none [] h = absurd (true≢false h)

@@ -1,3 +1,4 @@
+pub mod Options
 pub mod Ranges
 pub mod Knowing
 pub mod Running

@@ -11,9 +11,10 @@ use Rattle.cstn_log.specs.Plans.{IsEarliest}
 use Rattle.cstn_exec.specs.Runs.{Run, after, is_done, observed_at, outcome_of, awaited, is_free, named, due}
 use Rattle.cstn_exec.specs.Moves.{Refusal, Done, Past, Late, Awaiting, moment_refusal, unless_past, unless_awaiting, unless_late, outcome_refusal, unless_unseen, unless_known, handed}
 use Rattle.cstn_exec.specs.Right.{IsRight, IsCalled, IsDue, IsDone, IsBetween, IsFirstAwaited}
+use Rattle.cstn_exec.proofs.Options.{cases_option}
 use Rattle.cstn_exec.proofs.Ranges.{each_fails}
 use Rattle.cstn_exec.proofs.Naming.{from_passing, in_passing, passing_ascends}
-use Rattle.cstn_exec.proofs.Running.{cases_option, awaits_none, awaited_least}
+use Rattle.cstn_exec.proofs.Running.{awaits_none, awaited_least}
 use Rattle.cstn_exec.proofs.Moving.{handed_right, free_called, called_free}
 use Rattle.cstn_exec.proofs.Dues.{seen_scenario, seen_agrees, done_from, done_to, due_first, first_is_due, accepted, accepted_quiet}
 

@@ -28,6 +28,7 @@ use Rattle.cstn_exec.specs.Runs.{Run, next, is_done, executed_at, outcome_of, is
 use Rattle.cstn_exec.specs.Moves.{executed}
 use Rattle.cstn_exec.specs.Right.{IsRight}
 use Rattle.cstn_exec.specs.Read.{value_in}
+use Rattle.cstn_exec.proofs.Options.{is_none-true}
 use Rattle.cstn_exec.proofs.Ranges.{found, not_found, each_passes, all_pass, none_passes, passing_at}
 use Rattle.cstn_exec.proofs.Naming.{in_range}
 use Rattle.cstn_exec.proofs.Knowing.{Ready, some_within, ready_from, ready_to, known_from}
@@ -174,17 +175,13 @@ least_more moments after t n least l none_n fits =
         | inr other ↦ l.held x u (omega arith) none low (omega arith)
       ];
       free = elim (cases_lt least (max (slice_index after n) t)) [
-        | inr above ↦ inr (n, omega arith, none_is (slice_index_or moments n None) none_n, omega arith)
+        | inr above ↦ inr (n, omega arith, is_none-true (slice_index_or moments n None) none_n, omega arith)
         | inl below ↦ elim l.free [
           | inr somebody ↦ let inside = somebody.1 in let upto = somebody.3 in inr (somebody.0, omega arith, somebody.2, omega arith)
           | inl nobody ↦ let most = nobody.1 in absurd (omega arith)
         ]
       ];
     }
-  where
-    none_is : (o : Option ℕ) → is_none o ≡ true → o ≡ None
-    none_is None h = refl
-    none_is (Some m) h = absurd (true≢false (sym h))
 
 -- ---- what is known, as words
 
