@@ -2,6 +2,7 @@ pub mod Options
 pub mod Ranges
 pub mod Knowing
 pub mod Running
+pub mod Judging
 pub mod Naming
 pub mod Moving
 pub mod Dues

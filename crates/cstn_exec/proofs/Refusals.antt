@@ -1,22 +1,23 @@
 -- What refusals tell, and who is named.
-use Rattle.std.proofs.Common.{ℕ, zero, suc, ◌≡◌, inl, inr, ◌+◌, ◌<◌, ◌≤◌, Bool, true, false, List, [], ◌∷◌, Option, Some, None, ltb, refl, arith, sym, subst, ap, ◌∙◌}
+use Rattle.std.proofs.Common.{ℕ, zero, suc, ◌≡◌, inl, inr, ◌+◌, ◌<◌, ◌≤◌, Bool, false, List, [], ◌∷◌, Some, None, refl, arith, sym, subst, ap, ◌∙◌}
 use Rattle.std.specs.Prelude.{◌↔◌, is_some}
 use Rattle.std.specs.List.{Contains, filter, list_any, range_with_len}
 use Rattle.std.specs.List.Sorted.{IsStrictlyIncreasing}
-use Rattle.std.proofs.lemmas.Bool.{cases_Bool, cases_lt, cond-true, cond-false, or_parts, true≢false, lt-ltb, le-ltb}
+use Rattle.std.proofs.lemmas.Bool.{cond-false, or_parts, true≢false}
 use Rattle.cstn_label.specs.Bounds.{Bound}
 use Rattle.cstn_net.specs.Networks.{Network, IsWellFormed, count}
 use Rattle.cstn_net.specs.Strategies.{Table}
 use Rattle.cstn_log.specs.Plans.{IsEarliest}
-use Rattle.cstn_exec.specs.Runs.{Run, after, is_done, observed_at, outcome_of, awaited, is_free, named, due}
-use Rattle.cstn_exec.specs.Moves.{Refusal, Done, Past, Late, Awaiting, moment_refusal, unless_past, unless_awaiting, unless_late, outcome_refusal, unless_unseen, unless_known, handed}
+use Rattle.cstn_exec.specs.Runs.{Run, after, observed_at, outcome_of, awaited, is_free, named, due}
+use Rattle.cstn_exec.specs.Moves.{Done, Past, Late, Awaiting, moment_refusal, outcome_refusal, unless_unseen, unless_known, handed}
 use Rattle.cstn_exec.specs.Right.{IsRight, IsCalled, IsDue, IsDone, IsBetween, IsFirstAwaited}
 use Rattle.cstn_exec.proofs.Options.{cases_option}
 use Rattle.cstn_exec.proofs.Ranges.{each_fails}
+use Rattle.cstn_exec.proofs.Judging.{all_done, is_past, awaits, is_late, is_accepted, judged, accepted, refusal_done}
 use Rattle.cstn_exec.proofs.Naming.{from_passing, in_passing, passing_ascends}
 use Rattle.cstn_exec.proofs.Running.{awaits_none, awaited_least}
 use Rattle.cstn_exec.proofs.Moving.{handed_right, free_called, called_free}
-use Rattle.cstn_exec.proofs.Dues.{seen_scenario, seen_agrees, done_from, done_to, due_first, first_is_due, accepted, accepted_quiet}
+use Rattle.cstn_exec.proofs.Dues.{seen_scenario, seen_agrees, done_from, done_to, due_first, first_is_due, accepted_quiet}
 
 -- ---- outcomes
 
@@ -60,53 +61,6 @@ named_ascend net bounds run t = passing_ascends (is_free net bounds run t) 0 (co
 
 -- ---- moments
 
-refusal_waits : (net : Network) (bounds : List Bound) (run : Run) (t : ℕ) → is_done run ≡ false →
-    moment_refusal net bounds run t ≡ unless_past t run.now (unless_awaiting (awaited net run (t + 1)) (unless_late t (due net bounds run)))
-refusal_waits net bounds run t waits =
-    cond-false (is_done run) (Some Done) (unless_past t run.now (unless_awaiting (awaited net run (t + 1)) (unless_late t (due net bounds run)))) waits
-
-refusal_done : (net : Network) (bounds : List Bound) (run : Run) (t : ℕ) → is_done run ≡ true → moment_refusal net bounds run t ≡ Some Done
-refusal_done net bounds run t all =
-    cond-true (is_done run) (Some Done) (unless_past t run.now (unless_awaiting (awaited net run (t + 1)) (unless_late t (due net bounds run)))) all
-
--- how a moment is judged
-data Judged (net : Network) (bounds : List Bound) (run : Run) (t : ℕ) : Type 0 where
-  all_done : is_done run ≡ true → moment_refusal net bounds run t ≡ Some Done → Judged net bounds run t
-  is_past : (m : ℕ) → run.now ≡ Some m → t ≤ m → moment_refusal net bounds run t ≡ Some (Past m) → Judged net bounds run t
-  awaits : (p : ℕ) → awaited net run (t + 1) ≡ Some p → moment_refusal net bounds run t ≡ Some (Awaiting p) → Judged net bounds run t
-  is_late : (u : ℕ) → due net bounds run ≡ Some u → u < t → moment_refusal net bounds run t ≡ Some (Late u) → Judged net bounds run t
-  is_accepted : moment_refusal net bounds run t ≡ None → Judged net bounds run t
-
-module _ (net : Network) (bounds : List Bound) (run : Run) (t : ℕ) where
-  by_due : (o : Option ℕ) → due net bounds run ≡ o → moment_refusal net bounds run t ≡ unless_late t o → Judged net bounds run t
-  by_due None e is = is_accepted is
-  by_due (Some u) e is = elim (cases_lt u t) [
-    | inl below ↦ is_late u e below (is ∙ cond-true (ltb u t) (Some (Late u)) None (lt-ltb u t below))
-    | inr upto ↦ is_accepted (is ∙ cond-false (ltb u t) (Some (Late u)) None (le-ltb u t upto))
-  ]
-
-  by_awaited : (o : Option ℕ) → awaited net run (t + 1) ≡ o →
-      moment_refusal net bounds run t ≡ unless_awaiting o (unless_late t (due net bounds run)) → Judged net bounds run t
-  by_awaited None e is = by_due (due net bounds run) refl is
-  by_awaited (Some p) e is = awaits p e is
-
-  by_now : (o : Option ℕ) → run.now ≡ o →
-      moment_refusal net bounds run t ≡ unless_past t o (unless_awaiting (awaited net run (t + 1)) (unless_late t (due net bounds run))) →
-      Judged net bounds run t
-  by_now None e is = by_awaited (awaited net run (t + 1)) refl is
-  by_now (Some m) e is =
-      let other : Option Refusal = unless_awaiting (awaited net run (t + 1)) (unless_late t (due net bounds run)) in
-      elim (cases_lt m t) [
-        | inl later ↦ by_awaited (awaited net run (t + 1)) refl (is ∙ cond-true (ltb m t) other (Some (Past m)) (lt-ltb m t later))
-        | inr upto ↦ is_past m e upto (is ∙ cond-false (ltb m t) other (Some (Past m)) (le-ltb m t upto))
-      ]
-
-  judged : Judged net bounds run t
-  judged = elim (cases_Bool (is_done run)) [
-    | inl all ↦ all_done all (refusal_done net bounds run t all)
-    | inr waits ↦ by_now run.now refl (refusal_waits net bounds run t waits)
-  ]
-
 pub refused_done : (net : Network) (bounds : List Bound) (run : Run) (t : ℕ) → IsRight net run → moment_refusal net bounds run t ≡ Some Done ↔ IsDone net run
 refused_done net bounds run t right = (
   (λ e. elim (judged net bounds run t) [
@@ -114,7 +68,7 @@ refused_done net bounds run t right = (
     | is_past m now upto is ↦ let f : ⊥ = cc in absurd f
     | awaits p first is ↦ let f : ⊥ = cc in absurd f
     | is_late u at below is ↦ let f : ⊥ = cc in absurd f
-    | is_accepted is ↦ let f : ⊥ = cc in absurd f
+    | is_accepted ok is ↦ let f : ⊥ = cc in absurd f
   ]),
   (λ all. refusal_done net bounds run t (done_to net run right.moments all)),
 )
@@ -126,7 +80,7 @@ refused_past net bounds run t now e = elim (judged net bounds run t) [
   | all_done all is ↦ let f : ⊥ = cc in absurd f
   | awaits p first is ↦ let f : ⊥ = cc in absurd f
   | is_late u at below is ↦ let f : ⊥ = cc in absurd f
-  | is_accepted is ↦ let f : ⊥ = cc in absurd f
+  | is_accepted ok is ↦ let f : ⊥ = cc in absurd f
 ]
 
 pub refused_awaiting : (net : Network) (bounds : List Bound) (run : Run) (t p : ℕ) → IsWellFormed net →
@@ -139,7 +93,7 @@ refused_awaiting net bounds run t p wf e = elim (judged net bounds run t) [
   | all_done all is ↦ let f : ⊥ = cc in absurd f
   | is_past m now upto is ↦ let f : ⊥ = cc in absurd f
   | is_late u at below is ↦ let f : ⊥ = cc in absurd f
-  | is_accepted is ↦ let f : ⊥ = cc in absurd f
+  | is_accepted ok is ↦ let f : ⊥ = cc in absurd f
 ]
 
 pub refused_late : (net : Network) (bounds : List Bound) (table : Table) (run : Run) (t u : ℕ) → IsWellFormed net → IsEarliest net bounds table →
@@ -152,7 +106,7 @@ refused_late net bounds table run t u wf plan right e = elim (judged net bounds 
   | all_done all is ↦ let f : ⊥ = cc in absurd f
   | is_past m now upto is ↦ let f : ⊥ = cc in absurd f
   | awaits p first is ↦ let f : ⊥ = cc in absurd f
-  | is_accepted is ↦ let f : ⊥ = cc in absurd f
+  | is_accepted ok is ↦ let f : ⊥ = cc in absurd f
 ]
 
 -- ---- before the due moment
@@ -172,7 +126,7 @@ accepted_before net bounds table run t u wf plan right e between =
     let below = between.below in
     let from = between.from in (
       elim (judged net bounds run u) [
-        | is_accepted is ↦ is
+        | is_accepted ok is ↦ is
         | all_done all is ↦ absurd (true≢false (sym all ∙ first.0))
         | is_past m now upto is ↦ let soon = subst (λ o. after o ≤ u) now from in absurd (omega arith)
         | awaits p at is ↦ absurd (true≢false (ap is_some (sym at) ∙ idle.0))

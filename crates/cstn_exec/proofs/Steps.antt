@@ -34,7 +34,7 @@ use Rattle.cstn_exec.proofs.Naming.{in_range}
 use Rattle.cstn_exec.proofs.Knowing.{Ready, some_within, ready_from, ready_to, known_from}
 use Rattle.cstn_exec.proofs.Running.{IsQuiet}
 use Rattle.cstn_exec.proofs.Moving.{free_parts, free_from}
-use Rattle.cstn_exec.proofs.Dues.{someone_waits, upto_deadline}
+use Rattle.cstn_exec.proofs.Dues.{moments_left, first_work, someone_waits, upto_deadline}
 
 -- ---- lists
 
@@ -402,8 +402,8 @@ pub due_is : (net : Network) (bounds : List Bound) (table : Table) → IsWellFor
 due_is net bounds table wf plan run right waits t from quiet work =
     let x = someone_waits net run right.moments waits in
     let within = upto_deadline net bounds table wf plan run right x.0 x.1 x.2 t from quiet in
-    cond-false (is_done run) None (find (has_work net bounds run) (range_with_len (next run) ((net.deadline + 1) - next run))) waits
-    ∙ found (has_work net bounds run) (next run) ((net.deadline + 1) - next run) t (record {
+    cond-false (is_done run) None (first_work net bounds run) waits
+    ∙ found (has_work net bounds run) (next run) (moments_left net run) t (record {
       from = from;
       upto = omega arith;
       passes = work;

@@ -4,7 +4,7 @@ use Rattle.std.specs.List.{filter, range_with_len}
 use Rattle.cstn_net.specs.Read.{the_network}
 use Rattle.cstn_log.specs.Plans.{the_bounds}
 use Rattle.cstn_exec.specs.Read.{ExecParts}
-use Rattle.cstn_exec.proofs.Dues.{accepted}
+use Rattle.cstn_exec.proofs.Judging.{accepted}
 use Rattle.cstn_exec.proofs.Refusals.{accepted_before}
 use Rattle.cstn_exec.proofs.Steps.{named_by}
 use Rattle.cstn_exec.proofs.executive.Executive.name.Goals as goal
