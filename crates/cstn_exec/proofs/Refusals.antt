@@ -1,9 +1,9 @@
 -- What refusals tell, and who is named.
-use Rattle.std.proofs.Common.{ℕ, zero, suc, ◌≡◌, inl, inr, ◌+◌, ◌<◌, ◌≤◌, Bool, false, List, [], ◌∷◌, Some, None, refl, arith, sym, subst, ap, ◌∙◌}
+use Rattle.std.proofs.Common.{ℕ, ◌≡◌, inl, inr, ◌+◌, ◌<◌, ◌≤◌, Bool, List, [], Some, None, arith, sym, subst, ap, ◌∙◌}
 use Rattle.std.specs.Prelude.{◌↔◌, is_some}
-use Rattle.std.specs.List.{Contains, filter, list_any, range_with_len}
+use Rattle.std.specs.List.{Contains, list_any, range_with_len}
 use Rattle.std.specs.List.Sorted.{IsStrictlyIncreasing}
-use Rattle.std.proofs.lemmas.Bool.{cond-false, or_parts, true≢false}
+use Rattle.std.proofs.lemmas.Bool.{or_parts, true≢false}
 use Rattle.cstn_label.specs.Bounds.{Bound}
 use Rattle.cstn_net.specs.Networks.{Network, IsWellFormed, count}
 use Rattle.cstn_net.specs.Strategies.{Table}
@@ -14,7 +14,7 @@ use Rattle.cstn_exec.specs.Right.{IsRight, IsCalled, IsDue, IsDone, IsBetween, I
 use Rattle.cstn_exec.proofs.Options.{cases_option}
 use Rattle.cstn_exec.proofs.Ranges.{each_fails}
 use Rattle.cstn_exec.proofs.Judging.{all_done, is_past, awaits, is_late, is_accepted, judged, accepted, refusal_done}
-use Rattle.cstn_exec.proofs.Naming.{from_passing, in_passing, passing_ascends}
+use Rattle.cstn_exec.proofs.Naming.{from_passing, in_passing, passing_ascends, passing_none}
 use Rattle.cstn_exec.proofs.Running.{awaits_none, awaited_least}
 use Rattle.cstn_exec.proofs.Moving.{handed_right, free_called, called_free}
 use Rattle.cstn_exec.proofs.Dues.{seen_scenario, seen_agrees, done_from, done_to, due_first, first_is_due, accepted_quiet}
@@ -111,12 +111,6 @@ refused_late net bounds table run t u wf plan right e = elim (judged net bounds 
 
 -- ---- before the due moment
 
-none_pass : (test : ℕ → Bool) (a n : ℕ) → ((k : ℕ) → a ≤ k → k < a + n → test k ≡ false) → filter test (range_with_len a n) ≡ []
-none_pass test a zero fails = refl
-none_pass test a (suc n) fails =
-    cond-false (test a) (a ∷ filter test (range_with_len (a + 1) n)) (filter test (range_with_len (a + 1) n)) (fails a (omega arith) (omega arith))
-    ∙ none_pass test (a + 1) n (λ k from upto. fails k (omega arith) (omega arith))
-
 pub accepted_before : (net : Network) (bounds : List Bound) (table : Table) (run : Run) (t u : ℕ) → IsWellFormed net → IsEarliest net bounds table →
     IsRight net run → due net bounds run ≡ Some t → IsBetween run u t → (moment_refusal net bounds run u ≡ None) × (named net bounds run u ≡ [])
 accepted_before net bounds table run t u wf plan right e between =
@@ -132,5 +126,5 @@ accepted_before net bounds table run t u wf plan right e between =
         | awaits p at is ↦ absurd (true≢false (ap is_some (sym at) ∙ idle.0))
         | is_late w at late is ↦ let same : w ≡ t = cc in absurd (omega arith)
       ],
-      none_pass (is_free net bounds run u) 0 (count net) (λ k low high. each_fails (is_free net bounds run u) 0 (count net) idle.1 k low high),
+      passing_none (is_free net bounds run u) 0 (count net) (λ k low high. each_fails (is_free net bounds run u) 0 (count net) idle.1 k low high),
     )

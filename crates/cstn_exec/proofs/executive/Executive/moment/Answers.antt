@@ -12,7 +12,7 @@ use Rattle.cstn_exec.specs.Right.{IsRight, IsCalled}
 use Rattle.cstn_exec.specs.Read.{ExecParts, refusal_of}
 use Rattle.cstn_exec.proofs.Dues.{accepted_right}
 use Rattle.cstn_exec.proofs.Refusals.{named_called, named_ascend}
-use Rattle.cstn_exec.proofs.Steps.{named_within}
+use Rattle.cstn_exec.proofs.Naming.{named_within}
 use Rattle.cstn_exec.proofs.executive.Executive.moment.Goals as goal
 
 pub execute-requires : goal.execute-requires

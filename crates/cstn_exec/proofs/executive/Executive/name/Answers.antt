@@ -6,7 +6,7 @@ use Rattle.cstn_log.specs.Plans.{the_bounds}
 use Rattle.cstn_exec.specs.Read.{ExecParts}
 use Rattle.cstn_exec.proofs.Judging.{accepted}
 use Rattle.cstn_exec.proofs.Refusals.{accepted_before}
-use Rattle.cstn_exec.proofs.Steps.{named_by}
+use Rattle.cstn_exec.proofs.Naming.{named_by}
 use Rattle.cstn_exec.proofs.executive.Executive.name.Goals as goal
 
 pub returns-then-t-first : goal.returns-then-t-first

@@ -1,7 +1,7 @@
 use Rattle.std.proofs.Common.{ℕ, List, Bool, None, [], ◌∷◌, ◌++◌, ◌&&◌, not, map, length, arith, sym, ap, ◌∙◌, length-append}
 use Rattle.std.specs.Prelude.{is_none, nat_lt, slice_index, slice_index_or}
 use Rattle.std.proofs.lemmas.List.{map-append}
-use Rattle.cstn_exec.proofs.Steps.{filter_with, filter_without}
+use Rattle.cstn_exec.proofs.Naming.{filter_with, filter_without}
 use Rattle.cstn_exec.proofs.executive.naming.collect.Goals as goal
 use Rattle.cstn_exec.proofs.executive.naming.collect.Goals.{then-is_free, else-is_free}
 
