@@ -11,7 +11,7 @@ use Rattle.std.proofs.lemmas.List.Kept.{IsStrictlyIncreasing-filter}
 use Rattle.cstn_label.specs.declared.nodes.NodeId.{NodeId}
 use Rattle.cstn_label.specs.Bounds.{Bound}
 use Rattle.cstn_net.specs.Networks.{Network, count}
-use Rattle.cstn_exec.specs.Runs.{Run, executed_at, earliest, is_free, named}
+use Rattle.cstn_exec.specs.Runs.{Run, executed_at, earliest, is_free, is_free_by, named}
 use Rattle.cstn_exec.specs.Moves.{executed}
 
 abbrev pub passing : (ℕ → Bool) → ℕ → ℕ → List ℕ
@@ -155,10 +155,10 @@ executed_more t xs i d ms inside =
 -- what is free by the moments that are asked for
 pub named_by : (net : Network) (bounds : List Bound) (run : Run) (t : ℕ) (after : List ℕ) → count net ≤ 1024 → length run.moments ≡ count net →
     ((x : ℕ) → x < 1024 → slice_index after x ≡ earliest net bounds run (t + 1) x) →
-    filter (λ x. is_none (slice_index_or run.moments x None) && not (nat_lt t (slice_index after x))) (range_with_len 0 (length run.moments)) ≡ named net bounds run t
+    filter (is_free_by run.moments after t) (range_with_len 0 (length run.moments)) ≡ named net bounds run t
 named_by net bounds run t after few size same =
-    ap (λ n. filter (λ x. is_none (slice_index_or run.moments x None) && not (nat_lt t (slice_index after x))) (range_with_len 0 n)) size
-    ∙ filter_same (λ x. is_none (slice_index_or run.moments x None) && not (nat_lt t (slice_index after x))) (is_free net bounds run t) 0 (count net)
+    ap (λ n. filter (is_free_by run.moments after t) (range_with_len 0 n)) size
+    ∙ filter_same (is_free_by run.moments after t) (is_free net bounds run t) 0 (count net)
     (λ x from inside. ap (λ m. is_none (executed_at run x) && not (nat_lt t m)) (same x (omega arith)))
 
 -- the named are time-points

@@ -1,9 +1,9 @@
 // Who is executed at a moment.
-ghost use Rattle.std.specs.Prelude.{◌≡◌, ◌<◌, ◌≤◌, ◌&&◌, not, nat_lt, is_none, Some, None, length, map, slice_index, slice_index_or};
+ghost use Rattle.std.specs.Prelude.{◌≡◌, ◌<◌, ◌≤◌, ◌&&◌, not, nat_lt, is_none, Some, None, length, map};
 ghost use Rattle.std.specs.List.{All, filter, range_with_len};
 ghost use Rattle.cstn_net.specs.Read.{the_network};
 ghost use Rattle.cstn_log.specs.Plans.{the_bounds};
-ghost use Rattle.cstn_exec.specs.Runs.{due, named};
+ghost use Rattle.cstn_exec.specs.Runs.{due, is_free_by, named};
 ghost use Rattle.cstn_exec.specs.Moves.{moment_refusal, executed};
 
 use super::Executive;
@@ -38,7 +38,7 @@ impl Executive {
 fn collect(named: &mut Names, moments: &[Option<u32>], after: &Moments, t: u32)
     requires few { length moments.now ≤ 1024 }
     requires room { length moments.now ≤ named.old.capacity }
-    ensures named { map (λ x. x.0) named.new.items ≡ filter (λ x. is_none (slice_index_or moments.now x None) && not (nat_lt t (slice_index after.now x))) (range_with_len 0 (length moments.now)) }
+    ensures named { map (λ x. x.0) named.new.items ≡ filter (is_free_by moments.now after.now t) (range_with_len 0 (length moments.now)) }
     ensures capacity { named.new.capacity ≡ named.old.capacity }
 {
     named.clear();

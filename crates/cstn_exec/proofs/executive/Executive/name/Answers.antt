@@ -1,8 +1,8 @@
-use Rattle.std.proofs.Common.{ℕ, Option, List, None, ◌&&◌, not, map, length, sym, ap, ◌∙◌}
-use Rattle.std.specs.Prelude.{is_none, nat_lt, slice_index, slice_index_or}
+use Rattle.std.proofs.Common.{ℕ, Option, List, map, length, sym, ap, ◌∙◌}
 use Rattle.std.specs.List.{filter, range_with_len}
 use Rattle.cstn_net.specs.Read.{the_network}
 use Rattle.cstn_log.specs.Plans.{the_bounds}
+use Rattle.cstn_exec.specs.Runs.{is_free_by}
 use Rattle.cstn_exec.specs.Read.{ExecParts}
 use Rattle.cstn_exec.proofs.Judging.{accepted}
 use Rattle.cstn_exec.proofs.Refusals.{accepted_before}
@@ -25,7 +25,7 @@ pub returns : goal.returns
 returns c =
     let moments = c.deref.ensures.value ∙ ap (λ (v : ExecParts). v.run.moments) c.self.view_is in
     let is = c.collect.ensures.named
-    ∙ ap (λ (ms : List (Option ℕ)). filter (λ x. is_none (slice_index_or ms x None) && not (nat_lt c.args.t (slice_index c.earliest-after.result x))) (range_with_len 0 (length ms))) moments
+    ∙ ap (λ (ms : List (Option ℕ)). filter (is_free_by ms c.earliest-after.result c.args.t) (range_with_len 0 (length ms))) moments
     ∙ named_by (the_network c.args.self.now.net) (the_bounds c.args.self.now.bounds) c.args.self.now.run c.args.t c.earliest-after.result
     c.is_right.ensures.well_formed.few_points c.is_right.ensures.right.moments c.earliest-after.ensures in
     ap (λ (v : ExecParts). record v { named = map (λ x. x.0) c.collect.new.named.items }) c.self.view_is

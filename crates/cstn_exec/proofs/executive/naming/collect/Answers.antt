@@ -1,13 +1,13 @@
-use Rattle.std.proofs.Common.{ℕ, List, Bool, None, [], ◌∷◌, ◌++◌, ◌&&◌, not, map, length, arith, sym, ap, ◌∙◌, length-append}
-use Rattle.std.specs.Prelude.{is_none, nat_lt, slice_index, slice_index_or}
+use Rattle.std.proofs.Common.{ℕ, List, Bool, [], ◌∷◌, ◌++◌, map, length, arith, sym, ap, ◌∙◌, length-append}
 use Rattle.std.proofs.lemmas.List.{map-append}
+use Rattle.cstn_exec.specs.Runs.{is_free_by}
 use Rattle.cstn_exec.proofs.Naming.{filter_with, filter_without}
 use Rattle.cstn_exec.proofs.executive.naming.collect.Goals as goal
 use Rattle.cstn_exec.proofs.executive.naming.collect.Goals.{then-is_free, else-is_free}
 
 pub loop-x-preserved : goal.loop-x-preserved
 loop-x-preserved c =
-    let test : ℕ → Bool = λ x. is_none (slice_index_or c.args.moments.now x None) && not (nat_lt c.args.t (slice_index c.args.after.now x)) in
+    let test : ℕ → Bool = is_free_by c.args.moments.now c.args.after.now c.args.t in
     elim c.if-is_free.branch [
       | then-is_free w ↦
           let is = ap (λ v. v.items) w.named-is ∙ w.push_reserved.ensures.items in
