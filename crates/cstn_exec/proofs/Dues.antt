@@ -117,7 +117,7 @@ module _ (net : Network) (bounds : List Bound) (table : Table) (wf : IsWellForme
   ]
 
   -- the first moment with work is due, and no later than the deadline
-  pub first_is_due : (t : ℕ) → IsFirstWork net bounds run t → IsDue net run t × (t ≤ net.deadline)
+  first_is_due : (t : ℕ) → IsFirstWork net bounds run t → IsDue net run t × (t ≤ net.deadline)
   first_is_due t first =
       let quiet : IsQuiet net bounds run t = first.before in
       let from = first.from in
@@ -152,6 +152,9 @@ module _ (net : Network) (bounds : List Bound) (table : Table) (wf : IsWellForme
         let there = cond-false (is_done run) None (first_work net bounds run) waits in
         (waits, find_first (has_work net bounds run) (next run) (moments_left net run) t (sym there ∙ e))
   ]
+
+  pub due_is_due : (t : ℕ) → due net bounds run ≡ Some t → IsDue net run t × (t ≤ net.deadline)
+  due_is_due t e = first_is_due t (due_first t e).1
 
   pub due_none : due net bounds run ≡ None → is_done run ≡ true
   due_none e = elim (cases_Bool (is_done run)) [
@@ -190,7 +193,7 @@ accepted_quiet net bounds table wf plan run right t ok = elim (cases_option (due
   | inr some ↦
       let first = (due_first net bounds table wf plan run right some.0 some.1).1 in
       let upto = ok.upto some.0 some.1 in
-      let within = (first_is_due net bounds table wf plan run right some.0 first).1 in
+      let within = (due_is_due net bounds table wf plan run right some.0 some.1).1 in
       ((λ u low high. first.before u low (omega arith)), omega arith)
 ]
 

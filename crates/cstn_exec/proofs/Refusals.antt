@@ -17,7 +17,7 @@ use Rattle.cstn_exec.proofs.Judging.{all_done, is_past, awaits, is_late, is_acce
 use Rattle.cstn_exec.proofs.Naming.{from_passing, in_passing, passing_ascends, passing_none}
 use Rattle.cstn_exec.proofs.Running.{awaits_none, awaited_least}
 use Rattle.cstn_exec.proofs.Moving.{handed_right, free_called, called_free}
-use Rattle.cstn_exec.proofs.Dues.{seen_scenario, seen_agrees, done_from, done_to, due_first, first_is_due, accepted_quiet}
+use Rattle.cstn_exec.proofs.Dues.{seen_scenario, seen_agrees, done_from, done_to, due_first, due_is_due, accepted_quiet}
 
 -- ---- outcomes
 
@@ -101,8 +101,7 @@ pub refused_late : (net : Network) (bounds : List Bound) (table : Table) (run : 
 refused_late net bounds table run t u wf plan right e = elim (judged net bounds run t) [
   | is_late w at below is ↦
       let same : w ≡ u = cc in
-      let first = due_first net bounds table wf plan run right u (at ∙ ap (λ n. Some n) same) in
-      ((first_is_due net bounds table wf plan run right u first.1).0, omega arith)
+      ((due_is_due net bounds table wf plan run right u (at ∙ ap (λ n. Some n) same)).0, omega arith)
   | all_done all is ↦ let f : ⊥ = cc in absurd f
   | is_past m now upto is ↦ let f : ⊥ = cc in absurd f
   | awaits p first is ↦ let f : ⊥ = cc in absurd f
