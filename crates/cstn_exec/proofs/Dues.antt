@@ -16,7 +16,7 @@ use Rattle.cstn_exec.specs.Moves.{moment_refusal, moved}
 use Rattle.cstn_exec.specs.Right.{AgreesKnown, IsRight, HasWork, IsDue, IsDone, IsCarriedOut}
 use Rattle.cstn_exec.proofs.Options.{cases_option, is_some-true}
 use Rattle.cstn_exec.proofs.Ranges.{IsFirstFrom, find_first, find_none, found, some_passes}
-use Rattle.cstn_exec.proofs.Judging.{IsAccepted, accepted}
+use Rattle.cstn_exec.proofs.Judging.{IsAccepted, judged}
 use Rattle.cstn_exec.proofs.Knowing.{known_from}
 use Rattle.cstn_exec.proofs.Running.{IsQuiet, awaits_none, awaited_least, executed_is, idle_from, quiet_later}
 use Rattle.cstn_exec.proofs.Moving.{free_called, called_free, free_parts, moved_right}
@@ -201,6 +201,6 @@ pub accepted_right : (net : Network) (bounds : List Bound) (table : Table) → I
     (run : Run) → IsRight net run → (t : ℕ) → moment_refusal net bounds run t ≡ None →
     IsRight net (moved net bounds run t) × (t ≤ net.deadline)
 accepted_right net bounds table wf plan run right t none =
-    let ok = accepted net bounds run t none in
+    let ok = judged net bounds run t None none in
     let quiet = accepted_quiet net bounds table wf plan run right t ok in
     (moved_right net bounds table wf plan run right t ok.from quiet.0 (awaits_none net bounds run wf (t + 1) ok.none_awaited), quiet.1)

@@ -1,10 +1,10 @@
-use Rattle.std.proofs.Common.{ℕ, Option, List, map, length, sym, ap, ◌∙◌}
+use Rattle.std.proofs.Common.{ℕ, Option, None, List, map, length, sym, ap, ◌∙◌}
 use Rattle.std.specs.List.{filter, range_with_len}
 use Rattle.cstn_net.specs.Read.{the_network}
 use Rattle.cstn_log.specs.Plans.{the_bounds}
 use Rattle.cstn_exec.specs.Runs.{is_free_by}
 use Rattle.cstn_exec.specs.Read.{ExecParts}
-use Rattle.cstn_exec.proofs.Judging.{accepted}
+use Rattle.cstn_exec.proofs.Judging.{judged}
 use Rattle.cstn_exec.proofs.Refusals.{accepted_before}
 use Rattle.cstn_exec.proofs.Naming.{named_by}
 use Rattle.cstn_exec.proofs.executive.Executive.name.Goals as goal
@@ -15,7 +15,7 @@ returns-then-t-first c =
     let bounds = the_bounds c.args.self.now.bounds in
     let run = c.args.self.now.run in
     let known = c.is_right.ensures in
-    let from = (accepted net bounds run c.args.t c.requires.accepted).from in
+    let from = (judged net bounds run c.args.t None c.requires.accepted).from in
     let nobody = (accepted_before net bounds known.earliest.0 run c.args.first c.args.t known.well_formed known.earliest.1 known.right
     c.requires.due (record { from = from; below = c.if-t-first.true })).1 in
     ap (λ (v : ExecParts). record v { named = map (λ x. x.0) c.clear.new.self.items }) c.self.view_is
