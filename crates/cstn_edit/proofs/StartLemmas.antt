@@ -1,17 +1,18 @@
 -- What a session starts with.
-use Rattle.std.proofs.Common.{ℕ, map, zero, suc, ◌≡◌, ◌-◌, ◌+◌, ◌<◌, ◌≤◌, ◌^◌, inl, inr, List, [], ◌∷◌, length, get_or, Option, Some, None, arith, refl, sym, subst, ap, ◌∙◌}
+use Rattle.std.proofs.Common.{ℕ, zero, suc, ◌≡◌, ◌-◌, ◌+◌, ◌<◌, ◌≤◌, ◌^◌, inl, inr, List, [], ◌∷◌, length, get_or, Option, Some, None, arith, refl, sym, subst, ap, ◌∙◌}
 use Rattle.std.specs.Prelude.{nat_lt}
 use Rattle.std.specs.List.{All, AllPairs}
 use Rattle.std.proofs.lemmas.Bool.{cases_Bool, cases_lt, lt-ltb, le-ltb, cond-true, cond-false}
-use Rattle.std.proofs.lemmas.List.{append-nil, length-map, get_or-map}
+use Rattle.std.proofs.lemmas.List.{append-nil}
 use Rattle.std.proofs.lemmas.Option.{none-some}
 use Rattle.cstn_net.specs.declared.constraints.Constraint.{Constraint}
-use Rattle.cstn_net.specs.Networks.{Network, Constraint as TheConstraint, IsWellFormed, count}
-use Rattle.cstn_net.specs.Read.{NetworkParts, the_network, the_constraint}
+use Rattle.cstn_net.specs.Networks.{Network, IsWellFormed, count}
+use Rattle.cstn_net.specs.Read.{NetworkParts, the_network}
+use Rattle.cstn_net.proofs.ChangeLemmas.{kept_in}
 use Rattle.cstn_rules.specs.Derivations.{Entry, IsDerivation}
 use Rattle.cstn_log.specs.Entries.{State, the_entries, bases, first_entries}
 use Rattle.cstn_check.specs.Turns.{IsRefutedLast}
-use Rattle.cstn_edit.proofs.VerdictLemmas.{bases_stand}
+use Rattle.cstn_check.proofs.Last.{bases_stand}
 use Rattle.cstn_edit.specs.Sessions.{next_id, highest_of, IsKeptLog, IsSession}
 
 -- the last id is taken for the highest
@@ -24,16 +25,10 @@ highest_last known (c ∷ e ∷ cs) d zero last = absurd (omega arith)
 highest_last known (c ∷ e ∷ cs) d (suc k) last = highest_last (Some c.id) (e ∷ cs) d k (omega arith)
 
 -- and it is, where the ids ascend
-pub highest_above : (cs : List Constraint) → AllPairs (λ b c. b.id < c.id) (map the_constraint cs) →
-    All (λ c. c.id < next_id (highest_of None cs)) cs
+pub highest_above : (cs : List Constraint) → AllPairs (λ b c. b.id < c.id) cs → All (λ c. c.id < next_id (highest_of None cs)) cs
 highest_above cs ascending k d inside =
     subst (λ h. (get_or cs k d).id < next_id h) (sym (highest_last None cs d (length cs - 1) (omega arith))) (elim (cases_lt k (length cs - 1)) [
-      | inl before ↦
-          let long = length-map cs the_constraint in
-          let less = ascending k (length cs - 1) (the_constraint d) before (omega arith) in
-          let one = ap (λ (c : TheConstraint). c.id) (get_or-map the_constraint cs k d (the_constraint d) inside) in
-          let other = ap (λ (c : TheConstraint). c.id) (get_or-map the_constraint cs (length cs - 1) d (the_constraint d) (omega arith)) in
-          omega arith
+      | inl before ↦ let less = ascending k (length cs - 1) d before (omega arith) in omega arith
       | inr past ↦
           let last : k ≡ length cs - 1 = omega arith in
           let same : (get_or cs k d).id ≡ (get_or cs (length cs - 1) d).id = ap (λ i. (get_or cs i d).id) last in
@@ -82,7 +77,7 @@ started_session given net log room highest good same fits most ids spare kept bi
       most_room = most;
       spare = omega arith;
       below = subst (λ h. All (λ c. c.id < next_id h) net.constraints) (sym is)
-          (highest_above net.constraints good.ascending);
+          (highest_above net.constraints (kept_in (the_network net) net.constraints refl good).ascending);
       small = subst (λ h. next_id h ≤ 2 ^ 31 + 0) (sym is)
           (let small = highest_small net.constraints (subst (All (λ c. c.id < 2 ^ 31)) (sym all) ids) in omega arith);
       refuted = tt;
