@@ -30,7 +30,7 @@ use Rattle.cstn_edit.specs.Sessions.{SessionParts, kept_of, kept_list, IsUnobser
 use Rattle.cstn_edit.specs.Edits.{Session, EditLimit, NoRoom, NoSuch, ValueRange, NotPlain, NotObserved, is_value, is_observed, unobserved, has_constraint, add_refusal, remove_refusal, change_refusal, without, with_value, with_added, with_others, the_session}
 
 -- the value is in range or not
-true_value : (most : ℤ) → is_value most ≡ true → IsValue most
+pub true_value : (most : ℤ) → is_value most ≡ true → IsValue most
 true_value most e = grind (arith, ints)
 
 pub value_true : (most : ℤ) → IsValue most → is_value most ≡ true

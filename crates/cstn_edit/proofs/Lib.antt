@@ -4,3 +4,4 @@ pub mod StartLemmas
 pub mod AddLemmas
 pub mod RefutationLemmas
 pub mod EditLemmas
+pub mod Laws

@@ -194,6 +194,7 @@ impl Session {
         ensures by_definition { result ≡ outcome_at self.old.cap (the_session self.old) }
         ensures session { the_session self.new ≡ with_verdict self.old.cap (the_session self.old) }
         ensures again { (o : Outcome) → self.old.last ≡ Some o → (result ≡ o) × (self.new ≡ self.old) }
+
         ensures yes { (load : ℕ) → result.verdict ≡ Verdict.Yes load → IsConsistent (the_network self.old.net) }
         ensures no { (load : ℕ) → result.verdict ≡ Verdict.No load → IsConsistent (the_network self.old.net) → ⊥ }
         ensures full { self.old.last ≡ None → (result.verdict ≡ Verdict.Full ↔ ((self.old.cap < length (grow (the_network self.old.net) (kept_of self.old))) × (self.old.cap < load_of (the_network self.old.net)))) }
