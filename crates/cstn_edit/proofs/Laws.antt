@@ -273,7 +273,8 @@ by_is_true net list good on =
       | inr stands ↦ subst (IsTrueOf net) (sym (cond-false _ _ _ stands)) (decides.1 stands)
     ]
 
-new_is_true : (net : Network) (cap : ℕ) (list : List Entry) → IsWellFormed net → GoesOn net list → IsTrueOf net (outcome_of net cap list).verdict
+-- and so is a new outcome
+pub new_is_true : (net : Network) (cap : ℕ) (list : List Entry) → IsWellFormed net → GoesOn net list → IsTrueOf net (outcome_of net cap list).verdict
 new_is_true net cap list good on = elim (cases_Bool (nat_lt cap (length (grow net list)))) [
   | inr short ↦
       let room = ltb-false cap (length (grow net list)) short in
@@ -311,7 +312,7 @@ never_full net list full = elim (cases_Bool (is_refuted net list)) [
   | inr stands ↦ (let clash : Yes (length list) ≡ Full = sym (cond-false _ _ _ stands) ∙ full in cc)
 ]
 
-new_is_full : (net : Network) (cap : ℕ) (list : List Entry) →
+pub new_is_full : (net : Network) (cap : ℕ) (list : List Entry) →
     (outcome_of net cap list).verdict ≡ Full ↔ ((cap < length (grow net list)) × (cap < load_of net))
 new_is_full net cap list = (
   λ full. elim (cases_Bool (nat_lt cap (length (grow net list)))) [
