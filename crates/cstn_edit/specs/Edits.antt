@@ -1,0 +1,149 @@
+-- Edit sessions by their definition: the edits that are accepted and refused, the sessions that follow, and the verdicts.
+use Rattle.std.specs.Prelude.{ℕ, ℤ, pos, negsuc, int_le, ◌+◌, nat_le, ◌==◌, Bool, not, ◌&&◌, if◌then◌else◌, List, [], ◌∷◌, ◌++◌, length, map, position, Option, None, Some, Result, Ok, Err}
+use Rattle.std.specs.List.{filter, list_any, range_with_len}
+use Rattle.std.specs.Option.{option_map, unwrap_or}
+use Rattle.cstn_label.specs.Labels.{Label}
+use Rattle.cstn_net.specs.Networks.{Network, Constraint, count}
+use Rattle.cstn_net.specs.Read.{the_network, is_prop}
+use Rattle.cstn_rules.specs.Derivations.{Entry}
+use Rattle.cstn_log.specs.Entries.{bases}
+use Rattle.cstn_log.specs.Cuts.{dropped}
+use Rattle.cstn_check.specs.Tests.{is_absent, is_plain}
+use Rattle.cstn_edit.specs.declared.errors.EditError.{EditError}
+use Rattle.cstn_edit.specs.declared.errors.EditError.TheVariants.{EditLimit as AtLimit, NoRoom as WithoutRoom, NoSuch as Missing, ValueRange as OutOfRange, NotPlain as Unplain, NotObserved as Unobserved}
+use Rattle.cstn_edit.specs.declared.outcomes.Outcome.{Outcome}
+use Rattle.cstn_edit.specs.Sessions.{SessionParts, kept_of, kept_after, outcome_of, next_id, highest_of}
+
+-- the network as edited, the kept list, how many edits were accepted, the highest id that was ever used, and the last outcome,
+-- if no edit was accepted since
+pub record Session : Type 0 where
+  pub net : Network
+  pub kept : List Entry
+  pub edits : ℕ
+  pub highest : Option ℕ
+  pub last : Option Outcome
+
+-- why an edit is refused
+pub data Refusal : Type 0 where
+  EditLimit : Refusal
+  NoRoom : (room : ℕ) → Refusal
+  NoSuch : (id : ℕ) → Refusal
+  ValueRange : (most : ℤ) → Refusal
+  NotPlain : Refusal
+  NotObserved : (prop : ℕ) → Refusal
+
+-- a session starts with the base bounds
+abbrev pub begun : Network → Session
+begun net = record { net = net; kept = bases (count net); edits = 0; highest = highest_of None net.constraints; last = None }
+
+-- the value is from -1,000,000,000 to 1,000,000,000 ticks
+abbrev pub is_value : ℤ → Bool
+is_value most = int_le (negsuc 999999999) most && int_le most (pos 1000000000)
+
+-- some time-point observes the proposition
+abbrev pub is_observed : Network → ℕ → Bool
+is_observed net p = list_any (is_prop p) net.observes
+
+-- the least proposition that the label names and nothing observes
+unfoldable pub unobserved : Network → Label → Option ℕ
+unobserved net a = position (λ p. not (is_absent (a p)) && not (is_observed net p)) (range_with_len 0 52)
+
+-- some constraint has the id
+abbrev pub has_constraint : Network → ℕ → Bool
+has_constraint net id = list_any (λ c. c.id == id) net.constraints
+
+-- why a constraint with this value and label isn't added, if it isn't, where there is room for so many
+abbrev pub add_refusal : ℕ → Session → ℤ → Label → Option Refusal
+add_refusal room s most a =
+    if nat_le 1000000 s.edits then Some EditLimit
+    else if nat_le room (length s.net.constraints) then Some (NoRoom room)
+    else if not (is_value most) then Some (ValueRange most)
+    else if not (is_plain a) then Some NotPlain
+    else option_map NotObserved (unobserved s.net a)
+
+-- why the constraint isn't taken out, if it isn't
+abbrev pub remove_refusal : Session → ℕ → Option Refusal
+remove_refusal s id =
+    if nat_le 1000000 s.edits then Some EditLimit else if has_constraint s.net id then None else Some (NoSuch id)
+
+-- why its value isn't changed, if it isn't
+abbrev pub change_refusal : Session → ℕ → ℤ → Option Refusal
+change_refusal s id most =
+    if nat_le 1000000 s.edits then Some EditLimit
+    else if not (has_constraint s.net id) then Some (NoSuch id)
+    else if is_value most then None else Some (ValueRange most)
+
+-- the constraint is added at the end, with the id one above the highest ever used
+abbrev pub with_added : Session → ℕ → ℕ → ℤ → Label → Session
+with_added s from to most a =
+    let c : Constraint = record { id = next_id s.highest; from = from; to = to; most = most; label = a } in
+    record {
+      net = record s.net { constraints = s.net.constraints ++ c ∷ [] };
+      kept = s.kept;
+      edits = s.edits + 1;
+      highest = Some (next_id s.highest);
+      last = None;
+    }
+
+-- the constraints without the one of this id
+abbrev pub without : ℕ → List Constraint → List Constraint
+without id cs = filter (λ c. not (c.id == id)) cs
+
+-- the constraint, with another value where it has this id
+abbrev pub with_value : ℕ → ℤ → Constraint → Constraint
+with_value id most c = if c.id == id then record c { most = most } else c
+
+-- other constraints, without what the constraint of the id gave
+abbrev pub with_others : Session → ℕ → List Constraint → Session
+with_others s id cs = record {
+  net = record s.net { constraints = cs };
+  kept = dropped s.kept id;
+  edits = s.edits + 1;
+  highest = s.highest;
+  last = None;
+}
+
+-- the constraint is taken out
+abbrev pub with_removed : Session → ℕ → Session
+with_removed s id = with_others s id (without id s.net.constraints)
+
+-- its value is changed
+abbrev pub with_changed : Session → ℕ → ℤ → Session
+with_changed s id most = with_others s id (map (with_value id most) s.net.constraints)
+
+-- the outcome of a verdict: the last one, if no edit was accepted since
+abbrev pub outcome_at : ℕ → Session → Outcome
+outcome_at cap s = unwrap_or s.last (outcome_of s.net cap s.kept)
+
+-- what is kept after a verdict
+abbrev pub kept_at : ℕ → Session → Option Outcome → List Entry
+kept_at cap s None = kept_after s.net cap s.kept
+kept_at cap s (Some o) = s.kept
+
+-- the session after a verdict
+abbrev pub with_verdict : ℕ → Session → Session
+with_verdict cap s = record {
+  net = s.net;
+  kept = kept_at cap s s.last;
+  edits = s.edits;
+  highest = s.highest;
+  last = Some (outcome_at cap s);
+}
+
+-- what contracts see of a session, by this definition
+abbrev pub the_session : SessionParts → Session
+the_session s = record { net = the_network s.net; kept = kept_of s; edits = s.edits; highest = s.highest; last = s.last }
+
+-- what an error tells
+abbrev pub the_refusal : EditError → Refusal
+the_refusal AtLimit = EditLimit
+the_refusal (WithoutRoom room) = NoRoom room
+the_refusal (Missing id) = NoSuch id
+the_refusal (OutOfRange most) = ValueRange most
+the_refusal Unplain = NotPlain
+the_refusal (Unobserved prop) = NotObserved prop.index
+
+-- what a call was refused for, if it was
+abbrev pub refusal_of : {X : Type 0} → Result X EditError → Option Refusal
+refusal_of (Ok x) = None
+refusal_of (Err e) = Some (the_refusal e)
