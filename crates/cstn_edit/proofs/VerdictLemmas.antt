@@ -1,5 +1,5 @@
 -- What the list that is grown from a kept one says of the network.
-use Rattle.std.proofs.Common.{ℕ, ◌≡◌, ◌+◌, ◌-◌, ◌<◌, ◌≤◌, inl, inr, Bool, true, false, ◌&&◌, List, [], ◌++◌, length, Some, arith, refl, sym, subst, ap, ◌∙◌}
+use Rattle.std.proofs.Common.{ℕ, ◌≡◌, ◌+◌, ◌<◌, ◌≤◌, inl, inr, Bool, true, false, ◌&&◌, List, [], ◌++◌, length, Some, arith, refl, sym, subst, ap, ◌∙◌}
 use Rattle.std.specs.Prelude.{◌↔◌, nat_lt, if◌then◌else◌}
 use Rattle.std.proofs.lemmas.Bool.{cases_Bool, cases_lt, lt-ltb, le-ltb, lt-leb, le-leb, ltb-true, ltb-false, cond-true, cond-false}
 use Rattle.std.proofs.lemmas.List.{length-map, append-nil}
@@ -10,7 +10,6 @@ use Rattle.cstn_rules.specs.Read.{the_entry}
 use Rattle.cstn_rules.proofs.Derived.{refuted_inconsistent}
 use Rattle.cstn_log.specs.Entries.{State, the_entries, bases, first_entries, AllNew}
 use Rattle.cstn_log.proofs.DerivedLemmas.{length_bases}
-use Rattle.cstn_check.specs.Tests.{refutes}
 use Rattle.cstn_check.specs.Growth.{is_refuted, grow, log_of, load_of, most_entries}
 use Rattle.cstn_check.specs.Turns.{IsRefutedLast, LastRefutes}
 use Rattle.cstn_check.specs.declared.growth.Grown.{Grown}
