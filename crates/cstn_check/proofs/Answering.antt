@@ -1,9 +1,8 @@
 -- What a check's log says of its network.
-use Rattle.std.proofs.Common.{ℕ, zero, suc, ◌≡◌, ◌-◌, ◌<◌, ◌≤◌, inl, inr, true, List, [], ◌∷◌, ◌++◌, length, take, drop, Some, arith, refl, sym, subst, ap, ◌∙◌}
-use Rattle.std.specs.Prelude.{slice_get, ◌↔◌, nat_lt}
-use Rattle.std.proofs.lemmas.Bool.{cases_Bool, false≢true, ltb-true, ltb-false, cond-true, cond-false}
+use Rattle.std.proofs.Common.{ℕ, ◌≡◌, ◌<◌, ◌≤◌, inl, inr, true, List, [], ◌++◌, length, take, drop, arith, refl, sym, subst, ap, ◌∙◌}
+use Rattle.std.specs.Prelude.{◌↔◌, nat_lt}
+use Rattle.std.proofs.lemmas.Bool.{cases_Bool, ltb-true, ltb-false, cond-true, cond-false}
 use Rattle.std.proofs.lemmas.List.{length-map, take-append-drop, append-nil}
-use Rattle.std.proofs.lemmas.Option.{slice_get_within}
 use Rattle.cstn_net.specs.Networks.{Network, IsWellFormed, count}
 use Rattle.cstn_rules.specs.Derivations.{Entry, IsDerivation}
 use Rattle.cstn_rules.specs.Read.{the_entry}
@@ -16,13 +15,10 @@ use Rattle.cstn_check.specs.declared.growth.Grown.{Grown}
 use Rattle.cstn_check.specs.declared.growth.Grown.TheVariants.{Closed, Refuted, Full}
 use Rattle.cstn_check.specs.declared.verdicts.Verdict.{Verdict}
 use Rattle.cstn_check.specs.declared.verdicts.Verdict.TheVariants.{Yes, No, Full as FullVerdict}
-use Rattle.cstn_check.proofs.Decided.{refutes_true}
-use Rattle.cstn_check.proofs.Lists.{length_upto}
 use Rattle.cstn_check.proofs.Derives.{bases_derived}
-use Rattle.cstn_check.proofs.Bounded.{bases_kept}
-use Rattle.cstn_check.proofs.Last.{bases_last}
-use Rattle.cstn_check.proofs.Decides.{refuted_at, grown_small, log_last}
-use Rattle.cstn_check.proofs.Ends.{log_goes_on}
+use Rattle.cstn_check.proofs.Last.{bases_stand}
+use Rattle.cstn_check.proofs.Decides.{log_last_refutes}
+use Rattle.cstn_check.proofs.Ends.{load_above}
 
 module _ (net : Network) (s : State) (good : IsWellFormed net) (started : IsStarted net s) where
   -- a log with room for them has the base bounds
@@ -53,18 +49,14 @@ module _ (net : Network) (s : State) (good : IsWellFormed net) (started : IsStar
       subst (λ l. IsDerivation net l) (sym (has_bases some)) (bases_derived net good.network good.letters (count net) (omega arith))
 
   pub start_last : (length s.entries ≡ 0 → ⊥) → IsRefutedLast net (the_entries s.entries)
-  start_last some =
-      subst (λ l. IsRefutedLast net l) (sym (has_bases some)) (record {
-        before = λ k e there inside r.
-            false≢true (sym (bases_last net (count net) k e there (omega arith)) ∙ refutes_true net e.bound r);
-      })
+  start_last some = subst (λ l. IsRefutedLast net l) (sym (has_bases some)) (bases_stand net)
 
   -- where there is no room for them, the log of the network has more entries
   pub no_room : length s.entries ≡ 0 → IsVerdict net s.cap (the_entries s.entries) FullVerdict
   no_room none =
       let long : length (the_entries s.entries) ≡ length s.entries = length-map s.entries the_entry in
       let size = length_bases (count net) in
-      let from = length_upto (bases (count net)) (log_of net) (log_goes_on net 0 good) in
+      let least = load_above net good in
       elim (cases_Bool (nat_lt s.cap (count net))) [
         | inl small ↦
             let below = ltb-true s.cap (count net) small in (
@@ -81,20 +73,9 @@ module _ (net : Network) (s : State) (good : IsWellFormed net) (started : IsStar
             absurd (omega arith)
       ]
 
-entry_of : (L : List Entry) (k : ℕ) → k < length L → (e : Entry) × (slice_get L k ≡ Some e)
-entry_of [] k h = absurd (omega arith)
-entry_of (x ∷ xs) zero h = (x, refl)
-entry_of (x ∷ xs) (suc k) h = entry_of xs k (omega arith)
-
 -- where an entry of the log refutes, the last one does
 pub log_refutes_last : (net : Network) → IsWellFormed net → is_refuted net (log_of net) ≡ true → LastRefutes net (log_of net)
-log_refutes_last net good over =
-    let r = refuted_at net (log_of net)
-    (grown_small net (bases (count net)) good.network good.letters (bases_kept net good.network good.letters)
-    (bases_derived net good.network good.letters (count net) (omega arith))) over in
-    let inside = slice_get_within (log_of net) r.place r.entry r.there in
-    let e = entry_of (log_of net) (length (log_of net) - 1) (omega arith) in
-    record { last = e.0; is_last = e.1; refutes = (log_last net good.network good.letters e.0 e.1).1 over }
+log_refutes_last net good = log_last_refutes net good.network good.letters
 
 pub verdict_from : (net : Network) (old new : State) (r : Grown) (v : Verdict) (load : ℕ) → IsWellFormed net →
     the_entries old.entries ≡ bases (count net) →

@@ -300,11 +300,11 @@ module _ (net : Network) (wf : IsNetwork net) (letters : HasLetters net) where
       (code_dominates net e.bound f.bound (good_at net L i e k.good at_i) (k.ranged i e at_i) (k.ranged j f at_j) codes)))
       (codes_below L (most_entries net) (λ i e at. code_lt net e.bound (good_at net L i e k.good at) (k.ranged i e at))))
 
-  pub grown_short_from : (start : List Entry) (n : ℕ) → IsKept net start → length (grown net start n) ≤ most_entries net
-  grown_short_from start n k = kept_short (grown net start n) (grown_keeps net (IsKept net) kept_more start n k)
+  pub grown_kept : (start : List Entry) (n : ℕ) → IsKept net start → IsKept net (grown net start n)
+  grown_kept = grown_keeps net (IsKept net) kept_more
 
-  pub grown_short : (n : ℕ) → length (grown net (bases (count net)) n) ≤ most_entries net
-  grown_short n = grown_short_from (bases (count net)) n bases_kept
+  pub grown_short : (start : List Entry) (n : ℕ) → IsKept net start → length (grown net start n) ≤ most_entries net
+  grown_short start n k = kept_short (grown net start n) (grown_kept start n k)
 
   pub log_kept : IsKept net (log_of net)
-  log_kept = grown_keeps net (IsKept net) kept_more (bases (count net)) (length (bases (count net)) + most_entries net) bases_kept
+  log_kept = grown_kept (bases (count net)) (length (bases (count net)) + most_entries net) bases_kept

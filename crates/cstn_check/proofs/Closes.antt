@@ -20,7 +20,7 @@ use Rattle.cstn_check.proofs.Decided.{HasLetters, Small, chain_gives, wait_gives
 use Rattle.cstn_check.specs.Growth.Instance.{chain_at, wait_at}
 use Rattle.cstn_check.proofs.Lists.{covered_kept, itself_true, live_over, live_listed, listed_live}
 use Rattle.cstn_check.proofs.Grows.{Has, has_left, has_right, grown_extends, all_spent}
-use Rattle.cstn_check.proofs.GoodLemmas.{good_at, good_small, grown_good, bases_good}
+use Rattle.cstn_check.proofs.GoodLemmas.{good_at, good_small, grown_good}
 
 has_chain : (cs : List Constraint) (c : Constraint) (k j : ℕ) → k < length cs → get_or cs k c ≡ c →
     Has (map (λ d. chain_at d j) cs) (chain_at c j)
@@ -159,9 +159,3 @@ module _ (net : Network) (start : List Entry) (n : ℕ) (wf : IsNetwork net) (le
         no_entry_refutes at.place (grown net start n) at.entry on at.there
         (subst (λ x. Refutes net x) (sym at.bound) r);
   }
-
--- the same from the base bounds
-pub closes : (net : Network) (n : ℕ) → IsNetwork net → HasLetters net → length (grown net (bases (count net)) n) ≤ n →
-    is_refuted net (grown net (bases (count net)) n) ≡ false → IsClosed net (live_bounds (grown net (bases (count net)) n))
-closes net n wf letters done on =
-    closes_from net (bases (count net)) n wf letters (bases_good net (count net) (omega arith)) (bases_cover (count net)) done on

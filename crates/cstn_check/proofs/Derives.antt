@@ -22,7 +22,7 @@ use Rattle.cstn_check.proofs.Decided.{HasLetters, Small, true_plain, false_absen
 use Rattle.cstn_check.specs.Growth.Instance.{chain_at, wait_at}
 use Rattle.cstn_check.proofs.Lists.{Extends, get_kept}
 use Rattle.cstn_check.proofs.Grows.{Each, each_turn}
-use Rattle.cstn_check.proofs.GoodLemmas.{good_at, good_more, bases_good, joined_observed, conclusion_good}
+use Rattle.cstn_check.proofs.GoodLemmas.{good_at, good_more, joined_observed, conclusion_good}
 
 abbrev pub OfNetwork : Network → Instance → Type 0
 OfNetwork net (chain_at c j) = Contains net.constraints c
@@ -207,11 +207,7 @@ module _ (net : Network) (wf : IsNetwork net) (letters : HasLetters net) where
   unfolding Derived
   tried_derived is L good derivation of = (tried_keeps net Derived derived_more is L (good, derivation) of).1
 
-  pub grown_derived_from : (start : List Entry) (n : ℕ) → AllGood net start → IsDerivation net start →
+  pub grown_derived : (start : List Entry) (n : ℕ) → AllGood net start → IsDerivation net start →
       IsDerivation net (grown net start n)
   unfolding Derived
-  grown_derived_from start n good derivation = (grown_keeps net Derived derived_more start n (good, derivation)).1
-
-  pub grown_derived : (n : ℕ) → IsDerivation net (grown net (bases (count net)) n)
-  grown_derived n =
-      grown_derived_from (bases (count net)) n (bases_good net (count net) (omega arith)) (bases_derived (count net) (omega arith))
+  grown_derived start n good derivation = (grown_keeps net Derived derived_more start n (good, derivation)).1

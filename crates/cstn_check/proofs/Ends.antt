@@ -4,17 +4,18 @@ use Rattle.std.proofs.lemmas.Bool.{cases_lt}
 use Rattle.cstn_net.specs.Networks.{Network, IsNetwork, IsWellFormed, count}
 use Rattle.cstn_rules.specs.Derivations.{Entry}
 use Rattle.cstn_log.specs.Entries.{bases}
+use Rattle.cstn_log.proofs.DerivedLemmas.{length_bases}
 use Rattle.cstn_check.specs.Kept.{IsKept}
 use Rattle.cstn_check.specs.Growth.{is_refuted, grown, grow, log_of, load_of, most_entries}
 use Rattle.cstn_check.proofs.Decided.{HasLetters}
 use Rattle.cstn_check.proofs.Lists.{Extends, extends_itself, length_upto}
 use Rattle.cstn_check.proofs.Grows.{grown_extends, grown_idle}
-use Rattle.cstn_check.proofs.Bounded.{bases_kept, grown_short_from}
+use Rattle.cstn_check.proofs.Bounded.{bases_kept, grown_short}
 use Rattle.cstn_check.proofs.Last.{refuted_stays}
 
 module _ (net : Network) (wf : IsNetwork net) (letters : HasLetters net) (list : List Entry) (kept : IsKept net list) where
   all_turns : length (grow net list) ≤ length list + most_entries net
-  all_turns = let s = grown_short_from net wf letters list (length list + most_entries net) kept in omega arith
+  all_turns = let s = grown_short net wf letters list (length list + most_entries net) kept in omega arith
 
   -- after further turns than growth takes, the list is the same
   grow_past : (n : ℕ) → length list + most_entries net ≤ n → grow net list ≡ grown net list n
@@ -59,3 +60,10 @@ log_refuted net n good over =
 pub log_goes_on : (net : Network) (n : ℕ) → IsWellFormed net → Extends (grown net (bases (count net)) n) (log_of net)
 log_goes_on net n good =
     grow_from net good.network good.letters (bases (count net)) (bases_kept net good.network good.letters) n
+
+-- the log has a base bound for each time-point
+pub load_above : (net : Network) → IsWellFormed net → count net ≤ load_of net
+load_above net good =
+    let size = length_bases (count net) in
+    let from = length_upto (bases (count net)) (log_of net) (log_goes_on net 0 good) in
+    omega arith

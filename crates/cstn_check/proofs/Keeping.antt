@@ -1,39 +1,30 @@
 -- What a check keeps.
-use Rattle.std.proofs.Common.{ℕ, ◌≡◌, ◌<◌, ◌≤◌, inl, inr, List, [], ◌++◌, Option, Some, None, arith, refl, sym, subst, ap, ◌∙◌}
+use Rattle.std.proofs.Common.{ℕ, ◌≡◌, ◌<◌, inl, inr, List, [], ◌++◌, Option, Some, None, arith, refl, sym, subst, ap, ◌∙◌}
 use Rattle.std.specs.Prelude.{nat_lt}
 use Rattle.std.proofs.lemmas.Bool.{cases_Bool, lt-ltb, cond-true, cond-false}
 use Rattle.std.proofs.lemmas.List.{append-nil}
 use Rattle.cstn_net.specs.Networks.{Network, IsWellFormed, count}
 use Rattle.cstn_net.specs.Read.{NetworkParts, the_network}
 use Rattle.cstn_rules.specs.Derivations.{Entry}
-use Rattle.cstn_log.specs.Entries.{State, the_entries, bases}
-use Rattle.cstn_log.proofs.DerivedLemmas.{length_bases}
-use Rattle.cstn_check.specs.Growth.{log_of, load_of}
+use Rattle.cstn_log.specs.Entries.{State, the_entries}
+use Rattle.cstn_check.specs.Growth.{log_of}
 use Rattle.cstn_check.specs.Checks.{CheckParts, IsPrefix, IsVerdict, HasAnswered}
 use Rattle.cstn_check.specs.declared.verdicts.Verdict.{Verdict}
 use Rattle.cstn_check.specs.declared.verdicts.Verdict.TheVariants.{Yes, No, Full}
-use Rattle.cstn_check.proofs.Lists.{length_upto}
-use Rattle.cstn_check.proofs.Ends.{log_goes_on}
+use Rattle.cstn_check.proofs.Ends.{log_goes_on, load_above}
 
 whole_prefix : (front list : List Entry) → front ≡ list → IsPrefix front list
 whole_prefix front list e = record { rest = []; is = append-nil front ∙ e }
 
 module _ (net : Network) (good : IsWellFormed net) where
-  -- the log has a base bound for each time-point
-  load_from : count net ≤ load_of net
-  load_from =
-      let size = length_bases (count net) in
-      let from = length_upto (bases (count net)) (log_of net) (log_goes_on net 0 good) in
-      omega arith
-
   front_of : (cap : ℕ) (list : List Entry) (v : Verdict) → IsVerdict net cap list v → IsPrefix list (log_of net)
   front_of cap list (Yes load) is = whole_prefix list (log_of net) is.2
   front_of cap list (No load) is = whole_prefix list (log_of net) is.2
   front_of cap list Full is = is.1
 
   none_of : (cap : ℕ) (list : List Entry) (v : Verdict) → IsVerdict net cap list v → cap < count net → list ≡ []
-  none_of cap list (Yes load) is few = let most = is.1 in let least = load_from in absurd (omega arith)
-  none_of cap list (No load) is few = let most = is.1 in let least = load_from in absurd (omega arith)
+  none_of cap list (Yes load) is few = let most = is.1 in let least = load_above net good in absurd (omega arith)
+  none_of cap list (No load) is few = let most = is.1 in let least = load_above net good in absurd (omega arith)
   none_of cap list Full is few = is.2 few
 
   pub kept_front : (log : State) (o : Option Verdict) → HasAnswered net log o → IsPrefix (the_entries log.entries) (log_of net)

@@ -1,9 +1,8 @@
 -- Growth stops at the first entry that refutes, which is the last, and where all turns are done.
-use Rattle.std.proofs.Common.{ℕ, zero, suc, ◌≡◌, inl, inr, ◌+◌, ◌-◌, ◌<◌, true, false, ◌&&◌, ◌||◌, List, [], ◌∷◌, length, Some, ltb, arith, refl, sym, subst, ap, ◌∙◌, length-append}
+use Rattle.std.proofs.Common.{ℕ, zero, suc, ◌≡◌, inl, inr, ◌+◌, ◌-◌, ◌<◌, true, false, ◌&&◌, List, [], ◌∷◌, length, Some, ltb, arith, refl, sym, subst, ap, ◌∙◌, length-append}
 use Rattle.std.specs.Prelude.{pos, int_lt, slice_get}
 use Rattle.std.proofs.lemmas.Int.{ints}
-use Rattle.std.proofs.lemmas.Bool.{cases_Bool, cases_lt, or_parts, or_left, or_right, and_right, cond-true}
-use Rattle.std.proofs.lemmas.Option.{slice_get_within}
+use Rattle.std.proofs.lemmas.Bool.{cases_lt, false≢true, or_parts, or_left, or_right, and_right, cond-true}
 use Rattle.cstn_label.specs.Labels.{empty}
 use Rattle.cstn_net.specs.Networks.{Network, count, limit}
 use Rattle.cstn_label.specs.Bounds.{Bound}
@@ -11,7 +10,9 @@ use Rattle.cstn_rules.specs.Derivations.{Entry}
 use Rattle.cstn_rules.specs.declared.entries.Why.TheVariants.{Base}
 use Rattle.cstn_check.specs.Tests.{refutes, is_plain}
 use Rattle.cstn_check.specs.Growth.{Instance, why_of, is_covered, is_refuted, conclusion, step, tried, turn, grown}
+use Rattle.cstn_check.specs.Turns.{IsRefutedLast, LastRefutes}
 use Rattle.cstn_log.specs.Entries.{bases}
+use Rattle.cstn_check.proofs.Decided.{refutes_true}
 use Rattle.cstn_check.proofs.Lists.{get_kept}
 use Rattle.cstn_check.proofs.Derives.{OfNetwork, with_entry, grown_keeps, get_last}
 
@@ -28,7 +29,7 @@ refutes_false net (x ∷ xs) (suc k) e h there =
 abbrev pub LastOnly : Network → List Entry → Type 0
 LastOnly net L = (k : ℕ) (e : Entry) → slice_get L k ≡ Some e → suc k < length L → refutes net e.bound ≡ false
 
-pub last_more : (net : Network) (L : List Entry) (i : Instance) (r : Bound) → OfNetwork net i → LastOnly net L →
+last_more : (net : Network) (L : List Entry) (i : Instance) (r : Bound) → OfNetwork net i → LastOnly net L →
     conclusion net L i ≡ Some r → is_covered L r ≡ false → is_refuted net L ≡ false → LastOnly net (with_entry L i r)
 last_more net L i r of h e free on k x there before =
     let long = length-append L (record { bound = r; why = why_of i } ∷ []) in
@@ -43,7 +44,7 @@ base_stands net x =
     not_below : (n : ℕ) → int_lt (pos n) (pos 0) ≡ false
     not_below n = grind (arith, ints)
 
-pub bases_last : (net : Network) (n : ℕ) → LastOnly net (bases n)
+bases_last : (net : Network) (n : ℕ) → LastOnly net (bases n)
 bases_last net zero k e there before = let f : ⊥ = cc in absurd f
 bases_last net (suc n) k e there before =
     elim (cases_lt k (length (bases n))) [
@@ -62,8 +63,17 @@ bases_last net (suc n) k e there before =
           subst (λ y. refutes net y.bound ≡ false) last.1 (base_stands net m)
     ]
 
-pub grown_last : (net : Network) (n : ℕ) → LastOnly net (grown net (bases (count net)) n)
-grown_last net n = grown_keeps net (LastOnly net) (last_more net) (bases (count net)) n (bases_last net (count net))
+pub grown_last : (net : Network) (L : List Entry) (n : ℕ) → LastOnly net L → LastOnly net (grown net L n)
+grown_last net L n only = grown_keeps net (LastOnly net) (last_more net) L n only
+
+pub only_refuted_last : (net : Network) (L : List Entry) → LastOnly net L → IsRefutedLast net L
+only_refuted_last net L only = record {
+  before = λ k e there inside r. false≢true (sym (only k e there (omega arith)) ∙ refutes_true net e.bound r);
+}
+
+-- the base bounds refute nothing
+pub bases_stand : (net : Network) → IsRefutedLast net (bases (count net))
+bases_stand net = only_refuted_last net (bases (count net)) (bases_last net (count net))
 
 pub refuted_from_last : (net : Network) (L : List Entry) (k : ℕ) (e : Entry) → slice_get L k ≡ Some e → refutes net e.bound ≡ true →
     is_refuted net L ≡ true
@@ -74,31 +84,9 @@ refuted_from_last net (x ∷ xs) zero e there r =
 refuted_from_last net (x ∷ xs) (suc k) e there r =
     or_right (refutes net x.bound) (is_refuted net xs) (refuted_from_last net xs k e there r)
 
-pub none_refuted : (net : Network) (L : List Entry) → ((k : ℕ) (e : Entry) → slice_get L k ≡ Some e → refutes net e.bound ≡ false) →
-    is_refuted net L ≡ false
-none_refuted net [] h = refl
-none_refuted net (x ∷ xs) h =
-    let head = h 0 x refl in
-    let tail = none_refuted net xs (λ k e there. h (suc k) e there) in
-    ap (λ b. b || is_refuted net xs) head ∙ tail
-
--- an entry of the log refutes exactly where its last one does
-pub last_decides : (net : Network) (n : ℕ) (e : Entry) →
-    slice_get (grown net (bases (count net)) n) (length (grown net (bases (count net)) n) - 1) ≡ Some e →
-    refutes net e.bound ≡ is_refuted net (grown net (bases (count net)) n)
-last_decides net n e there = elim (cases_Bool (refutes net e.bound)) [
-  | inl yes_e ↦ yes_e ∙ sym (refuted_from_last net (grown net (bases (count net)) n) _ e there yes_e)
-  | inr no_e ↦ no_e ∙ sym (none_refuted net (grown net (bases (count net)) n) (λ k x at.
-      elim (cases_lt (suc k) (length (grown net (bases (count net)) n))) [
-        | inl before ↦ grown_last net n k x at before
-        | inr last ↦
-            let here = slice_get_within (grown net (bases (count net)) n) k x at in
-            let same_place : k ≡ length (grown net (bases (count net)) n) - 1 = omega arith in
-            let there_k = subst (λ j. slice_get (grown net (bases (count net)) n) j ≡ Some e) (sym same_place) there in
-            let same : e ≡ x = cc in
-            subst (λ y. refutes net y.bound ≡ false) same no_e
-      ]))
-]
+pub last_refuted : (net : Network) (L : List Entry) → LastRefutes net L → is_refuted net L ≡ true
+last_refuted net L l =
+    refuted_from_last net L (length L - 1) l.last l.is_last (refutes_true net l.last.bound l.refutes)
 
 -- a list that is refuted doesn't grow
 pub refuted_idle : (net : Network) (is : List Instance) (L : List Entry) → is_refuted net L ≡ true → tried net L is ≡ L

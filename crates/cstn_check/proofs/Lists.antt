@@ -4,6 +4,7 @@ use Rattle.std.specs.Prelude.{slice_get}
 use Rattle.std.specs.List.{Contains, list_any}
 use Rattle.std.proofs.lemmas.Int.{ints}
 use Rattle.std.proofs.lemmas.Bool.{cases_Bool, or_parts, or_left, or_cases, not-true, false≢true, cond-true, cond-false}
+use Rattle.std.proofs.lemmas.List.{append-nil}
 use Rattle.std.proofs.lemmas.List.Folds.{list_any-append}
 use Rattle.cstn_label.specs.declared.marks.Mark.{Mark}
 use Rattle.cstn_label.specs.Labels.{IsMarkWithin}
@@ -18,12 +19,8 @@ pub record Extends {A : Type 0} (L G : List A) : Type 0 where
   pub more : List A
   pub is : L ++ more ≡ G
 
-append_nil : {A : Type 0} (L : List A) → L ++ [] ≡ L
-append_nil [] = refl
-append_nil (x ∷ xs) = ap (λ l. x ∷ l) (append_nil xs)
-
 pub extends_itself : {A : Type 0} (L : List A) → Extends L L
-extends_itself L = record { more = []; is = append_nil L }
+extends_itself L = record { more = []; is = append-nil L }
 
 pub extends_through : {A : Type 0} (L M G : List A) → Extends L M → Extends M G → Extends L G
 extends_through L M G e f = record {
@@ -79,13 +76,17 @@ live_entry (x ∷ xs) (suc k) h = let r = live_entry xs k h in (let l = r.0 in o
 
 -- ---- each entry is dominated by a live one
 
+-- the marks of each entry are of letters
+abbrev pub AreSmall : List Entry → Type 0
+AreSmall L = (k : ℕ) (e : Entry) → slice_get L k ≡ Some e → Small e.bound.label
+
 pub record DominatedBy (L : List Entry) (r : Bound) : Type 0 where
   pub place : ℕ
   pub entry : Entry
   pub there : slice_get L place ≡ Some entry
   pub dominates : Dominates entry.bound r
 
-pub covered_by : (L : List Entry) (r : Bound) → ((k : ℕ) (e : Entry) → slice_get L k ≡ Some e → Small e.bound.label) →
+pub covered_by : (L : List Entry) (r : Bound) → AreSmall L →
     is_covered L r ≡ true → DominatedBy L r
 covered_by [] r small h = absurd (false≢true h)
 covered_by (x ∷ xs) r small h = elim (cases_Bool (dominates x.bound r)) [
@@ -125,7 +126,7 @@ dominates_itself a = record { node = refl; least = omega (arith, ints); label = 
 pub itself_true : (a : Bound) → dominates a a ≡ true
 itself_true a = dominates_true a a (dominates_itself a)
 
-live_over_at : (L : List Entry) → ((k : ℕ) (e : Entry) → slice_get L k ≡ Some e → Small e.bound.label) →
+live_over_at : (L : List Entry) → AreSmall L →
     (k : ℕ) (e : Entry) → slice_get L k ≡ Some e → LiveOver L e.bound
 live_over_at [] small k e h = let f : ⊥ = cc in absurd f
 live_over_at (x ∷ xs) small zero e h =
@@ -148,7 +149,7 @@ live_over_at (x ∷ xs) small (suc k) e h =
     let l = live_over_at xs (λ k e there. small (suc k) e there) k e h in
     record { place = suc l.place; entry = l.entry; there = l.there; live = l.live; dominates = l.dominates }
 
-pub live_over : (L : List Entry) (r : Bound) → ((k : ℕ) (e : Entry) → slice_get L k ≡ Some e → Small e.bound.label) →
+pub live_over : (L : List Entry) (r : Bound) → AreSmall L →
     is_covered L r ≡ true → LiveOver L r
 live_over L r small h =
     let d = covered_by L r small h in

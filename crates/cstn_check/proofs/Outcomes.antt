@@ -1,9 +1,8 @@
 -- What growth came to, in the terms of its list.
-use Rattle.std.proofs.Common.{ℕ, suc, ◌≡◌, ◌+◌, ◌-◌, ◌<◌, ◌≤◌, ◌^◌, inl, inr, Bool, true, false, List, ◌∷◌, ◌++◌, length, take, Some, arith, refl, sym, subst, ap, ◌∙◌, length-append}
+use Rattle.std.proofs.Common.{ℕ, ◌≡◌, ◌+◌, ◌-◌, ◌<◌, ◌≤◌, ◌^◌, Bool, true, false, List, ◌∷◌, ◌++◌, length, take, Some, arith, refl, sym, subst, ap, ◌∙◌, length-append}
 use Rattle.std.specs.Prelude.{slice_get, ◌↔◌}
-use Rattle.std.proofs.lemmas.Bool.{cases_Bool, cases_lt, false≢true}
+use Rattle.std.proofs.lemmas.Bool.{false≢true}
 use Rattle.std.proofs.lemmas.List.{length-map}
-use Rattle.std.proofs.lemmas.Option.{slice_get_within}
 use Rattle.std.proofs.Math.Seq.{take-append_seam}
 use Rattle.cstn_label.specs.Read.{the_bound}
 use Rattle.cstn_net.specs.Networks.{Network, IsWellFormed, count}
@@ -13,26 +12,18 @@ use Rattle.cstn_rules.specs.Derivations.{Entry, IsDerivation}
 use Rattle.cstn_rules.specs.Read.{the_entry}
 use Rattle.cstn_rules.proofs.Derived.{first_derivation}
 use Rattle.cstn_log.specs.Entries.{State, the_entries}
-use Rattle.cstn_check.specs.Tests.{refutes}
 use Rattle.cstn_check.specs.Growth.{is_refuted, grow, most_entries}
 use Rattle.cstn_check.specs.Kept.{IsKept}
 use Rattle.cstn_check.specs.Turns.{IsOpen, IsTaken, IsCut, IsLonger, IsRefutedLast, LastRefutes}
 use Rattle.cstn_check.specs.declared.growth.Grown.{Grown}
 use Rattle.cstn_check.specs.declared.growth.Grown.TheVariants.{Closed, Refuted, Full}
 use Rattle.cstn_check.proofs.Decided.{refutes_true}
-use Rattle.cstn_check.proofs.Derives.{grown_keeps, grown_derived_from}
-use Rattle.cstn_check.proofs.Last.{LastOnly, last_more, none_refuted, refuted_from_last}
-use Rattle.cstn_check.proofs.Decides.{true_refutes, refuted_at}
+use Rattle.cstn_check.proofs.Derives.{grown_derived}
+use Rattle.cstn_check.proofs.Last.{refuted_from_last, last_refuted}
+use Rattle.cstn_check.proofs.Decides.{refuted_by_last, unrefuted, grown_refuted_last}
 use Rattle.cstn_check.proofs.Reading.{entries_small, entry_at}
 use Rattle.cstn_check.proofs.TurnLemmas.{longer_itself}
 use Rattle.cstn_check.proofs.Ends.{grow_at_refuted}
-
-stands_false : (net : Network) (L : List DeclaredEntry) (k : ℕ) (e : Entry) → slice_get (the_entries L) k ≡ Some e →
-    ¬ Refutes net e.bound → refutes net e.bound ≡ false
-stands_false net L k e there not = elim (cases_Bool (refutes net e.bound)) [
-  | inl h ↦ absurd (not (true_refutes net e.bound (entries_small L k e there) h))
-  | inr h ↦ h
-]
 
 -- a list whose last entry refutes doesn't grow
 pub refuted_itself : (net : Network) (s : State) (k : ℕ) (e : DeclaredEntry) → IsWellFormed net → IsKept net (the_entries s.entries) →
@@ -56,16 +47,8 @@ open_from net s e nodes derivation kept last births short few there not =
       nodes = nodes;
       derivation = derivation;
       kept = kept;
-      unrefuted = none_refuted net L (λ k x at. elim (cases_lt (k + 1) (length L)) [
-        | inl before ↦ stands_false net s.entries k x at (last.before k x at before)
-        | inr past ↦
-            let inside = slice_get_within L k x at in
-            let place : k ≡ length s.entries - 1 = omega arith in
-            let at_last : slice_get L k ≡ Some (the_entry e) =
-            subst (λ i. slice_get L i ≡ Some (the_entry e)) (sym place) (entry_at s.entries (length s.entries - 1) e there) in
-            let same : the_entry e ≡ x = cc in
-            stands_false net s.entries k x at (subst (λ (y : Entry). ¬ Refutes net y.bound) same not)
-      ]);
+      unrefuted = unrefuted net L (the_entry e) (entries_small s.entries) last
+          (subst (λ n. slice_get L (n - 1) ≡ Some (the_entry e)) (sym long) (entry_at s.entries (length s.entries - 1) e there)) not;
       short = short;
       births = omega arith;
     }
@@ -120,35 +103,17 @@ module _ (net : Network) (old new : State) where
   grown_is Refuted o not = (o.refuted refl).entries
   grown_is Full o not = absurd (not refl)
 
-  last_of : IsRefutedLast net (the_entries old.entries) → (list : List Entry) → list ≡ grow net (the_entries old.entries) → LastOnly net list
-  last_of last list is =
-      subst (λ l. LastOnly net l) (sym is)
-      (grown_keeps net (LastOnly net) (last_more net) (the_entries old.entries)
-      (length (the_entries old.entries) + most_entries net)
-      (λ k e there before. stands_false net old.entries k e there (last.before k e there (omega arith))))
-
   refutes_last : IsRefutedLast net (the_entries old.entries) → IsTaken net old new (grow net (the_entries old.entries)) true →
       LastRefutes net (the_entries new.entries)
   refutes_last last t =
-      let only = last_of last (the_entries new.entries) t.entries in
-      let over = ap (is_refuted net) t.entries ∙ sym t.refuted_is in
-      let r = refuted_at net (the_entries new.entries) (entries_small new.entries) over in
-      elim (cases_lt (suc r.place) (length (the_entries new.entries))) [
-        | inl before ↦ absurd (false≢true (sym (only r.place r.entry r.there before) ∙ refutes_true net r.entry.bound r.refutes))
-        | inr past ↦
-            let inside = slice_get_within (the_entries new.entries) r.place r.entry r.there in
-            let place : r.place ≡ length (the_entries new.entries) - 1 = omega arith in
-            record {
-              last = r.entry;
-              is_last = subst (λ k. slice_get (the_entries new.entries) k ≡ Some r.entry) place r.there;
-              refutes = r.refutes;
-            }
-      ]
+      refuted_by_last net (the_entries new.entries) (entries_small new.entries)
+      (subst (λ l. IsRefutedLast net l) (sym t.entries)
+      (grown_refuted_last net (the_entries old.entries) (length (the_entries old.entries) + most_entries net) (entries_small old.entries) last))
+      (ap (is_refuted net) t.entries ∙ sym t.refuted_is)
 
   stands : IsTaken net old new (grow net (the_entries old.entries)) false → LastRefutes net (the_entries new.entries) → ⊥
   stands t l =
-      let over = refuted_from_last net (the_entries new.entries) (length (the_entries new.entries) - 1) l.last l.is_last (refutes_true net l.last.bound l.refutes) in
-      false≢true (t.refuted_is ∙ ap (is_refuted net) (sym t.entries) ∙ over)
+      false≢true (t.refuted_is ∙ ap (is_refuted net) (sym t.entries) ∙ last_refuted net (the_entries new.entries) l)
 
   pub refuted_is : (r : Grown) → IsRefutedLast net (the_entries old.entries) → Outcome net old new r →
       (r ≡ Refuted ↔ ((r ≡ Full → ⊥) × LastRefutes net (the_entries new.entries)))
@@ -169,7 +134,7 @@ pub derived_after : (net : Network) (old new : State) (r : Grown) → IsWellForm
 derived_after net old new r good derivation kept o = by_answer r o
   where
     whole : IsDerivation net (grow net (the_entries old.entries))
-    whole = grown_derived_from net good.network good.letters (the_entries old.entries)
+    whole = grown_derived net good.network good.letters (the_entries old.entries)
         (length (the_entries old.entries) + most_entries net) kept.good derivation
 
     by_answer : (r : Grown) → Outcome net old new r → IsDerivation net (the_entries new.entries)

@@ -1,4 +1,4 @@
--- The last entry of the log with its ancestors, as steps of a refutation.
+-- The last entry of a list with its ancestors, as steps of a refutation.
 use Rattle.std.proofs.Common.{ℕ, zero, suc, ◌≡◌, ◌-◌, ◌<◌, ◌≤◌, inl, inr, Bool, false, List, length, get_or, Some, arith, sym, subst, ap, ◌∙◌}
 use Rattle.std.specs.Prelude.{slice_get, slice_index_or}
 use Rattle.std.specs.List.{All}
@@ -16,10 +16,9 @@ use Rattle.cstn_log.specs.Cuts.{rank, last_marked, with_ancestors, part}
 use Rattle.cstn_log.proofs.CutLemmas.{rank_marked, rank_unmarked, length_cut, comes}
 use Rattle.cstn_log.proofs.MarkLemmas.{part_refutation}
 use Rattle.cstn_refute.specs.Refutations.{RefutationParts, IsStep, AreSteps, FitsText, the_steps}
-use Rattle.cstn_check.specs.Growth.{log_of, load_of}
-use Rattle.cstn_check.specs.Kept.{IsRanged}
+use Rattle.cstn_check.specs.Growth.{log_of}
+use Rattle.cstn_check.specs.Kept.{IsKept, IsRanged}
 use Rattle.cstn_check.specs.Turns.{LastRefutes}
-use Rattle.cstn_check.proofs.Bounded.{log_kept}
 use Rattle.cstn_check.proofs.Decides.{log_derived}
 use Rattle.cstn_check.proofs.GoodLemmas.{good_at}
 use Rattle.cstn_check.proofs.Reading.{entry_at}
@@ -40,15 +39,19 @@ part_short steps =
     let upto = rank_upto marks (length steps) in
     omega arith
 
-pub log_refutation : (net : Network) → IsWellFormed net → LastRefutes net (log_of net) → IsRefutation net (log_of net)
-log_refutation net good last = record {
-  derivation = log_derived net good.network good.letters;
-  last = last.last;
-  is_last = last.is_last;
-  refutes = last.refutes;
-}
+pub part_refutes : (net : Network) (list steps : List Entry) → IsRefutation net list → steps ≡ part list → IsRefutation net steps
+part_refutes net list steps refuting is = subst (λ l. IsRefutation net l) (sym is) (part_refutation net list refuting)
 
-module _ (net : Network) (good : IsWellFormed net) where
+pub part_text : (net : Network) (list : List Entry) (r : RefutationParts) → IsRefutation net list → r.load ≡ length list →
+    the_steps r ≡ part list → length list ≤ 4194304 → FitsText r
+part_text net list r refuting load is few =
+    let inside = slice_get_within list (length list - 1) refuting.last refuting.is_last in
+    let long : length (the_steps r) ≡ length r.steps = length-map r.steps the_entry in
+    let same = ap length is in
+    let short = part_short list in
+    record { load_low = omega arith; load_high = omega arith; few = omega arith }
+
+module _ (net : Network) (good : IsWellFormed net) (list : List Entry) (kept : IsKept net list) where
   limit_in_time : (x : ℕ) → limit net x ≤ 1000000
   limit_in_time zero = omega arith
   limit_in_time (suc x) = good.in_time
@@ -60,60 +63,52 @@ module _ (net : Network) (good : IsWellFormed net) where
       let high = r.high in
       record { low = low; high = omega (arith, ints) }
 
-  -- each of its bounds is one of the log
-  part_from : (k : ℕ) (e : Entry) → slice_get (part (log_of net)) k ≡ Some e →
-      (i : ℕ) × (f : Entry) × (slice_get (log_of net) i ≡ Some f) × (f.bound ≡ e.bound)
+  -- each bound of the part is one of the list
+  part_from : (k : ℕ) (e : Entry) → slice_get (part list) k ≡ Some e →
+      (i : ℕ) × (f : Entry) × (slice_get list i ≡ Some f) × (f.bound ≡ e.bound)
   part_from k e there =
-      let L = log_of net in
-      let from = comes (with_ancestors L (length L) (last_marked (length L))) L k e there in
+      let from = comes (with_ancestors list (length list) (last_marked (length list))) list k e there in
       (from.0, from.1, from.2, sym (ap (λ (x : Entry). x.bound) from.5))
 
-  part_ranged : (k : ℕ) (e : Entry) → slice_get (part (log_of net)) k ≡ Some e → IsRanged net e.bound
+  part_ranged : (k : ℕ) (e : Entry) → slice_get (part list) k ≡ Some e → IsRanged net e.bound
   part_ranged k e there =
       let from = part_from k e there in
-      subst (λ b. IsRanged net b) from.3 ((log_kept net good.network good.letters).ranged from.0 from.1 from.2)
+      subst (λ b. IsRanged net b) from.3 (kept.ranged from.0 from.1 from.2)
 
-  part_node : (k : ℕ) (e : Entry) → slice_get (part (log_of net)) k ≡ Some e → e.bound.node < count net
+  part_node : (k : ℕ) (e : Entry) → slice_get (part list) k ≡ Some e → e.bound.node < count net
   part_node k e there =
       let from = part_from k e there in
-      subst (λ (b : Bound). b.node < count net) from.3
-      (good_at net (log_of net) from.0 from.1 (log_kept net good.network good.letters).good from.2).node
+      subst (λ (b : Bound). b.node < count net) from.3 (good_at net list from.0 from.1 kept.good from.2).node
 
-  step_there : (steps : List DeclaredEntry) → the_entries steps ≡ part (log_of net) → (k : ℕ) (e : DeclaredEntry) →
-      slice_get steps k ≡ Some e → slice_get (part (log_of net)) k ≡ Some (the_entry e)
-  step_there steps is k e there = ap (λ l. slice_get l k) (sym is) ∙ entry_at steps k e there
+  step_there : (steps : List DeclaredEntry) → the_entries steps ≡ part list → (k : ℕ) (d : DeclaredEntry) → k < length steps →
+      slice_get (part list) k ≡ Some (the_entry (get_or steps k d))
+  step_there steps is k d inside =
+      ap (λ l. slice_get l k) (sym is) ∙ entry_at steps k (get_or steps k d) (slice_get-get_or steps k d inside)
 
-  all_steps : (steps : List DeclaredEntry) → ((k : ℕ) (e : DeclaredEntry) → slice_get steps k ≡ Some e → IsStep e) → All IsStep steps
-  all_steps steps each = λ k d inside. each k (get_or steps k d) (slice_get-get_or steps k d inside)
-
-  -- the part of a log that refutes has the form of steps
-  pub part_steps : (steps : List DeclaredEntry) → LastRefutes net (log_of net) → the_entries steps ≡ part (log_of net) →
-      load_of net ≤ 4194304 → AreSteps steps
-  part_steps steps last is few =
+  -- the part of a list that refutes has the form of steps
+  pub part_steps : (steps : List DeclaredEntry) → IsRefutation net list → the_entries steps ≡ part list → length list ≤ 4194304 →
+      AreSteps steps
+  part_steps steps refuting is few =
       let long : length (the_entries steps) ≡ length steps = length-map steps the_entry in
       let same = ap length is in
-      let short = part_short (log_of net) in
-      let r = part_refutation net (log_of net) (log_refutation net good last) in
-      let inside = slice_get_within (part (log_of net)) (length (part (log_of net)) - 1) r.last r.is_last in
+      let short = part_short list in
+      let r = part_refutation net list refuting in
+      let inside = slice_get_within (part list) (length (part list) - 1) r.last r.is_last in
       record {
         some = omega arith;
         few = omega arith;
-        each = all_steps steps (λ k e there. ranged_step e (part_ranged k (the_entry e) (step_there steps is k e there)));
+        each = λ k d inside.
+            ranged_step (get_or steps k d) (part_ranged k (the_entry (get_or steps k d)) (step_there steps is k d inside));
       }
 
-  pub part_refutes : (steps : List Entry) → LastRefutes net (log_of net) → steps ≡ part (log_of net) → IsRefutation net steps
-  part_refutes steps last is =
-      subst (λ l. IsRefutation net l) (sym is) (part_refutation net (log_of net) (log_refutation net good last))
+  pub part_named : (steps : List DeclaredEntry) → the_entries steps ≡ part list → All (λ e. e.bound.node.0 < count net) steps
+  part_named steps is = λ k d inside. part_node k (the_entry (get_or steps k d)) (step_there steps is k d inside)
 
-  pub part_named : (steps : List DeclaredEntry) → the_entries steps ≡ part (log_of net) → All (λ e. e.bound.node.0 < count net) steps
-  part_named steps is =
-      λ k d inside. part_node k (the_entry (get_or steps k d)) (step_there steps is k (get_or steps k d) (slice_get-get_or steps k d inside))
-
-  pub part_text : (r : RefutationParts) → LastRefutes net (log_of net) → r.load ≡ load_of net → the_steps r ≡ part (log_of net) →
-      load_of net ≤ 4194304 → FitsText r
-  part_text r last load is few =
-      let inside = slice_get_within (log_of net) (length (log_of net) - 1) last.last last.is_last in
-      let long : length (the_steps r) ≡ length r.steps = length-map r.steps the_entry in
-      let same = ap length is in
-      let short = part_short (log_of net) in
-      record { load_low = omega arith; load_high = omega arith; few = omega arith }
+-- the log of a network is such a list
+pub log_refutation : (net : Network) → IsWellFormed net → LastRefutes net (log_of net) → IsRefutation net (log_of net)
+log_refutation net good last = record {
+  derivation = log_derived net good.network good.letters;
+  last = last.last;
+  is_last = last.is_last;
+  refutes = last.refutes;
+}

@@ -5,7 +5,7 @@ use Rattle.std.proofs.lemmas.Int.{ints, by_lt_z}
 use Rattle.std.proofs.lemmas.Bool.{cases_lt, cases_order}
 use Rattle.std.proofs.lemmas.List.Elements.{All-contains}
 use Rattle.cstn_label.specs.Bounds.{Bound, Dominates}
-use Rattle.cstn_net.specs.Networks.{Network, IsConstraint, IsWellFormed, count, limit}
+use Rattle.cstn_net.specs.Networks.{Network, IsNetwork, IsConstraint, IsWellFormed, count, limit}
 use Rattle.cstn_rules.specs.declared.entries.Entry.{Entry as DeclaredEntry}
 use Rattle.cstn_rules.specs.declared.entries.Why.{Why}
 use Rattle.cstn_rules.specs.declared.entries.Why.TheVariants.{Base, Chain, Wait}
@@ -17,10 +17,14 @@ use Rattle.cstn_log.specs.Entries.{bases, the_entries, AllNew}
 use Rattle.cstn_log.proofs.ListLemmas.{get_map, get_left, get_last}
 use Rattle.cstn_log.proofs.DerivedLemmas.{length_bases}
 use Rattle.cstn_check.specs.Kept.{IsGood, AllGood, IsKept}
-use Rattle.cstn_check.proofs.Decided.{chain_gives, wait_gives}
+use Rattle.cstn_check.specs.Turns.{IsRefutedLast}
+use Rattle.cstn_check.proofs.Decided.{HasLetters, chain_gives, wait_gives}
 use Rattle.cstn_check.proofs.Lists.{Extends, get_kept, covered_kept}
 use Rattle.cstn_check.proofs.GoodLemmas.{chain_good, wait_good}
+use Rattle.cstn_check.proofs.Derives.{bases_derived}
 use Rattle.cstn_check.proofs.Closes.{bases_cover}
+use Rattle.cstn_check.proofs.Bounded.{bases_kept}
+use Rattle.cstn_check.proofs.Last.{bases_stand}
 
 all_good : (net : Network) (L : List Entry) → ((k : ℕ) (e : Entry) → slice_get L k ≡ Some e → IsGood net e.bound) → AllGood net L
 all_good net [] h = tt
@@ -116,6 +120,19 @@ module _ (net : Network) (good : IsWellFormed net) (L : List Entry) (derivation 
     ranged = λ k e there. record { low = low_here k e there; high = follows_high k e.why e.bound (derivation k e there) };
     apart = apart;
   }
+
+-- a derivation in range, in which no entry but perhaps the last refutes
+pub record GoesOn (net : Network) (list : List Entry) : Type 0 where
+  pub kept : IsKept net list
+  pub derivation : IsDerivation net list
+  pub last : IsRefutedLast net list
+
+pub bases_go_on : (net : Network) → IsNetwork net → HasLetters net → GoesOn net (bases (count net))
+bases_go_on net wf letters = record {
+  kept = bases_kept net wf letters;
+  derivation = bases_derived net wf letters (count net) (omega arith);
+  last = bases_stand net;
+}
 
 -- no entry of a log is dominated by an earlier one
 pub apart_from : (L : List DeclaredEntry) → AllNew L → (i j : ℕ) (e f : Entry) → i < j → slice_get (the_entries L) i ≡ Some e →

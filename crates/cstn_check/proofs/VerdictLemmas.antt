@@ -12,11 +12,12 @@ use Rattle.cstn_check.specs.Turns.{LastRefutes}
 use Rattle.cstn_check.specs.Checks.{CheckParts, IsVerdict, HasAnswered}
 use Rattle.cstn_check.specs.declared.verdicts.Verdict.{Verdict}
 use Rattle.cstn_check.specs.declared.verdicts.Verdict.TheVariants.{Yes, No, Full}
-use Rattle.cstn_check.proofs.Decides.{log_decides, log_last, load_bounded}
+use Rattle.cstn_check.proofs.Last.{last_refuted}
+use Rattle.cstn_check.proofs.Decides.{log_decides, load_bounded}
 
 module _ (net : Network) (cap : ℕ) (list : List Entry) (good : IsWellFormed net) where
   over : LastRefutes net (log_of net) → is_refuted net (log_of net) ≡ true
-  over l = (log_last net good.network good.letters l.last l.is_last).0 l.refutes
+  over = last_refuted net (log_of net)
 
   pub full_clause : (v : Verdict) → IsVerdict net cap list v → (v ≡ Full ↔ (cap < load_of net))
   full_clause (Yes load) is = (λ e. cc, λ more. let few = is.1 in absurd (omega arith))

@@ -9,10 +9,7 @@ use std::test::Fail;
 
 mod networks;
 
-use networks::{
-    alone, before_itself, branched, branched_from, crossed, crossed_no, generated, p, pair, pq, q,
-    unknown_mark,
-};
+use networks::{alone, branched, branched_late, crossed, generated, p, pair, q, unknown_mark};
 
 // A check of the network.
 fn check(rt: &impl Abort, alloc: Global, net: Builder, cap: u32) -> Result<Check, AllocError> {
@@ -35,47 +32,19 @@ fn answers(
     Ok(())
 }
 
-fn yes(rt: &impl Abort, alloc: Global, net: Builder, load: u32) -> Result<(), Fail> {
-    answers(rt, alloc, net, load, Verdict::Yes { load })
-}
-
-fn no(rt: &impl Abort, alloc: Global, net: Builder, load: u32) -> Result<(), Fail> {
-    answers(rt, alloc, net, load, Verdict::No { load })
-}
-
-fn full(rt: &impl Abort, alloc: Global, net: Builder, cap: u32) -> Result<(), Fail> {
-    answers(rt, alloc, net, cap, Verdict::Full)
-}
-
 #[test]
-fn verdicts_of_yes(rt: HostRuntime) -> Result<(), Fail> {
+fn answers_each_verdict(rt: HostRuntime) -> Result<(), Fail> {
     let alloc = rt.alloc();
-    yes(&rt, alloc, alone(alloc)?, 1)?;
-    yes(&rt, alloc, pair(alloc, 5)?, 3)?;
-    yes(&rt, alloc, branched(alloc)?, 5)?;
-    yes(&rt, alloc, branched_from(alloc, 2)?, 6)?;
-    yes(&rt, alloc, crossed(alloc)?, 8)?;
-    yes(&rt, alloc, generated(alloc)?, 31)
-}
-
-#[test]
-fn verdicts_of_no(rt: HostRuntime) -> Result<(), Fail> {
-    let alloc = rt.alloc();
-    no(&rt, alloc, pair(alloc, 4)?, 3)?;
-    no(&rt, alloc, before_itself(alloc)?, 6)?;
-    no(&rt, alloc, branched_from(alloc, 3)?, 7)?;
-    no(&rt, alloc, crossed_no(alloc)?, 9)?;
-    no(&rt, alloc, unknown_mark(alloc)?, 14)
-}
-
-#[test]
-fn verdicts_of_full(rt: HostRuntime) -> Result<(), Fail> {
-    let alloc = rt.alloc();
-    full(&rt, alloc, pair(alloc, 4)?, 2)?;
-    full(&rt, alloc, branched(alloc)?, 4)?;
-    full(&rt, alloc, branched_from(alloc, 3)?, 6)?;
-    full(&rt, alloc, crossed(alloc)?, 7)?;
-    full(&rt, alloc, unknown_mark(alloc)?, 13)
+    answers(&rt, alloc, alone(alloc)?, 1, Verdict::Yes { load: 1 })?;
+    answers(&rt, alloc, generated(alloc)?, 31, Verdict::Yes { load: 31 })?;
+    answers(
+        &rt,
+        alloc,
+        unknown_mark(alloc)?,
+        14,
+        Verdict::No { load: 14 },
+    )?;
+    answers(&rt, alloc, unknown_mark(alloc)?, 13, Verdict::Full)
 }
 
 #[test]
@@ -133,25 +102,6 @@ fn keeps_the_log_of_crossed_observers(rt: HostRuntime) -> Result<(), Fail> {
     has(&rt, log, 7, awaited(6, 3, 1, 5, Label::empty()))
 }
 
-#[test]
-fn keeps_the_log_of_an_unknown_mark(rt: HostRuntime) -> Result<(), Fail> {
-    let alloc = rt.alloc();
-    let mut check = check(&rt, alloc, unknown_mark(alloc)?, 14)?;
-    assert_eq!(rt; check.run(), Verdict::No { load: 14 });
-    let log = check.kept();
-    has(&rt, log, 3, base(3))?;
-    has(&rt, log, 4, chained(0, 0, 3, 9, pq(Mark::Yes, Mark::Yes)))?;
-    has(&rt, log, 5, chained(1, 0, 2, 7, p(Mark::No)))?;
-    has(&rt, log, 6, chained(2, 0, 1, 7, Label::empty()))?;
-    has(&rt, log, 7, awaited(2, 4, 3, 1, p(Mark::Yes)))?;
-    has(&rt, log, 8, awaited(5, 4, 3, 8, p(Mark::Unknown)))?;
-    has(&rt, log, 9, awaited(6, 4, 3, 8, q(Mark::Yes)))?;
-    has(&rt, log, 10, awaited(6, 5, 2, 7, Label::empty()))?;
-    has(&rt, log, 11, awaited(6, 7, 3, 1, Label::empty()))?;
-    has(&rt, log, 12, awaited(6, 8, 3, 8, Label::empty()))?;
-    has(&rt, log, 13, chained(3, 12, 0, 1, pq(Mark::No, Mark::No)))
-}
-
 // What refutes the network, after this load.
 fn refuted_by(
     rt: &impl Abort,
@@ -182,7 +132,7 @@ fn refutes_by_the_part_of_the_log(rt: HostRuntime) -> Result<(), Fail> {
         awaited(2, 1, 2, 4, Label::empty()),
         chained(1, 3, 0, 1, p(Mark::No)),
     ];
-    refuted_by(&rt, alloc, branched_from(alloc, 3)?, 7, &too_late)
+    refuted_by(&rt, alloc, branched_late(alloc)?, 7, &too_late)
 }
 
 fn bound(node: u16, least: i32, label: Label) -> Bound {
@@ -199,9 +149,10 @@ fn planned(
     bounds: &[Bound],
 ) -> Result<(), Fail> {
     let mut check = check(rt, alloc, net, load)?;
-    let Verdict::Yes { .. } = check.run() else {
+    let Verdict::Yes { load: said } = check.run() else {
         panic!(rt; "a yes");
     };
+    assert_eq!(rt; said, load);
     let plan = check.into_plan();
     assert_eq!(rt; plan.count() as usize, bounds.len());
     for k in 0..plan.count() {
@@ -222,13 +173,6 @@ fn plans_with_the_live_bounds_in_order(rt: HostRuntime) -> Result<(), Fail> {
         bound(2, 1, Label::empty()),
     ];
     planned(&rt, alloc, branched(alloc)?, 5, &branch)?;
-    let last_tick = [
-        z,
-        late,
-        bound(1, 2, Label::empty()),
-        bound(2, 3, Label::empty()),
-    ];
-    planned(&rt, alloc, branched_from(alloc, 2)?, 6, &last_tick)?;
     let of_crossed = [z, bound(2, 5, Label::empty()), bound(1, 5, Label::empty())];
     planned(&rt, alloc, crossed(alloc)?, 8, &of_crossed)
 }

@@ -1,5 +1,5 @@
 -- What is left of a session without what a constraint gave.
-use Rattle.std.proofs.Common.{ℕ, zero, suc, ◌≡◌, ◌≢◌, ◌+◌, ◌<◌, ◌≤◌, inl, inr, Bool, true, false, cond, List, [], ◌∷◌, ◌++◌, length, map, Option, Some, None, arith, refl, sym, subst, ap, ◌∙◌, length-append}
+use Rattle.std.proofs.Common.{ℕ, zero, suc, ◌≡◌, ◌+◌, ◌<◌, ◌≤◌, inl, inr, Bool, true, false, List, [], ◌∷◌, ◌++◌, length, map, Option, Some, None, arith, refl, sym, subst, ap, ◌∙◌, length-append}
 use Rattle.std.specs.Option.{is_some}
 use Rattle.std.specs.Prelude.{IfSome, ℤ, slice_get, slice_index_or, nat_lt, if◌then◌else◌}
 use Rattle.std.specs.List.{All, AllPairs, Contains}
@@ -11,7 +11,7 @@ use Rattle.std.proofs.lemmas.Option.{slice_get_within, none-some}
 use Rattle.cstn_net.specs.declared.constraints.Constraint.{Constraint}
 use Rattle.cstn_net.specs.Networks.{Network, Constraint as TheConstraint, IsWellFormed, count}
 use Rattle.cstn_net.specs.Read.{NetworkParts, the_network, the_constraint, has_id, without_id, with_most}
-use Rattle.cstn_net.proofs.ChangeLemmas.{same_id}
+use Rattle.cstn_net.proofs.ChangeLemmas.{kept_in, none_taken, same_id}
 use Rattle.cstn_rules.specs.declared.entries.Why.{Why}
 use Rattle.cstn_rules.specs.declared.entries.Why.TheVariants.{Base}
 use Rattle.cstn_rules.specs.Rules.{base, Refutes}
@@ -236,20 +236,13 @@ others_with id most cs c has other = go cs has.0 has.1 has.2
     go (x ∷ xs) (suc k) inside at =
         contains_more (the_constraint (with_most id most x)) c (map the_constraint (map (with_most id most) xs)) (go xs k (omega arith) at)
 
-none_left : (id : ℕ) (cs : List Constraint) → All (λ c. c.id ≢ id) (map the_constraint cs) → without_id id cs ≡ cs
-none_left id [] others = refl
-none_left id (x ∷ xs) others =
-    let f : has_id id x ≡ false = ne_eqb x.id id (others 0 (the_constraint x) (omega arith)) in
-    rw f (ap (λ ds. x ∷ ds) (none_left id xs (λ k d inside. others (suc k) d (omega arith))))
-
 -- one constraint at most has the id
-one_left : (id : ℕ) (cs : List Constraint) → AllPairs (λ b c. b.id < c.id) (map the_constraint cs) →
-    length cs ≤ length (without_id id cs) + 1
+one_left : (id : ℕ) (cs : List Constraint) → AllPairs (λ b c. b.id < c.id) cs → length cs ≤ length (without_id id cs) + 1
 one_left id [] ascending = omega arith
 one_left id (x ∷ xs) ascending = elim (cases_Bool (has_id id x)) [
   | inl t ↦
       let it = eqb-true x.id id t in
-      let same = ap length (none_left id xs (λ k d inside is. let above = ascending 0 (suc k) d (omega arith) (omega arith) in omega arith)) in
+      let same = ap length (none_taken id xs (λ k d inside is. let above = ascending 0 (suc k) d (omega arith) (omega arith) in omega arith)) in
       rw t (omega (arith, same))
   | inr f ↦
       let rest = one_left id xs (λ i j d before inside. ascending (suc i) (suc j) d (omega arith) (omega arith)) in
@@ -258,7 +251,7 @@ one_left id (x ∷ xs) ascending = elim (cases_Bool (has_id id x)) [
 
 pub without_many : (net : NetworkParts) (id : ℕ) → IsWellFormed (the_network net) →
     length net.constraints ≤ length (without_id id net.constraints) + 1
-without_many net id good = one_left id net.constraints good.ascending
+without_many net id good = one_left id net.constraints (kept_in (the_network net) net.constraints refl good).ascending
 
 pub without_few : (id : ℕ) (cs : List Constraint) → length (without_id id cs) ≤ length cs
 without_few id [] = omega arith

@@ -1,61 +1,34 @@
 -- What the list that is grown from a kept one says of the network.
-use Rattle.std.proofs.Common.{ℕ, suc, ◌≡◌, ◌+◌, ◌-◌, ◌<◌, ◌≤◌, inl, inr, Bool, true, false, ◌&&◌, List, [], ◌++◌, length, Some, arith, refl, sym, subst, ap, ◌∙◌}
-use Rattle.std.specs.Prelude.{slice_get, ◌↔◌, nat_lt, if◌then◌else◌}
-use Rattle.std.proofs.lemmas.Bool.{cases_Bool, cases_lt, false≢true, lt-ltb, le-ltb, lt-leb, le-leb, ltb-true, ltb-false, cond-true, cond-false}
+use Rattle.std.proofs.Common.{ℕ, ◌≡◌, ◌+◌, ◌<◌, ◌≤◌, inl, inr, Bool, true, false, ◌&&◌, List, [], ◌++◌, length, Some, arith, refl, sym, subst, ap, ◌∙◌}
+use Rattle.std.specs.Prelude.{◌↔◌, nat_lt, if◌then◌else◌}
+use Rattle.std.proofs.lemmas.Bool.{cases_Bool, cases_lt, lt-ltb, le-ltb, lt-leb, le-leb, ltb-true, ltb-false, cond-true, cond-false}
 use Rattle.std.proofs.lemmas.List.{length-map, append-nil}
-use Rattle.std.proofs.lemmas.Option.{slice_get_within}
 use Rattle.cstn_net.specs.Networks.{Network, IsWellFormed, count}
 use Rattle.cstn_net.specs.Strategies.{IsConsistent}
-use Rattle.cstn_rules.specs.Rules.{Refutes}
 use Rattle.cstn_rules.specs.Derivations.{Entry, IsDerivation}
 use Rattle.cstn_rules.specs.Read.{the_entry}
 use Rattle.cstn_rules.proofs.Derived.{refuted_inconsistent}
 use Rattle.cstn_log.specs.Entries.{State, the_entries, bases, first_entries, AllNew}
 use Rattle.cstn_log.proofs.DerivedLemmas.{length_bases}
-use Rattle.cstn_check.specs.Tests.{refutes}
 use Rattle.cstn_check.specs.Growth.{is_refuted, grow, log_of, load_of, most_entries}
-use Rattle.cstn_check.specs.Kept.{IsKept}
 use Rattle.cstn_check.specs.Turns.{IsRefutedLast, LastRefutes}
 use Rattle.cstn_check.specs.declared.growth.Grown.{Grown}
 use Rattle.cstn_check.specs.declared.growth.Grown.TheVariants.{Closed, Refuted, Full}
 use Rattle.cstn_check.specs.declared.verdicts.Verdict.{Verdict}
 use Rattle.cstn_check.specs.declared.verdicts.Verdict.TheVariants.{Yes, No, Full as FullVerdict}
-use Rattle.cstn_check.proofs.Decided.{refutes_true}
 use Rattle.cstn_check.proofs.Lists.{Extends, extends_through, length_upto}
-use Rattle.cstn_check.proofs.GoodLemmas.{good_at, good_small}
-use Rattle.cstn_check.proofs.Derives.{grown_keeps, grown_derived_from, bases_derived}
-use Rattle.cstn_check.proofs.Bounded.{bases_kept}
-use Rattle.cstn_check.proofs.Last.{LastOnly, last_more, bases_last, refuted_from_last}
-use Rattle.cstn_check.proofs.Decides.{true_refutes, refuted_at, grown_small, grown_decides}
+use Rattle.cstn_check.proofs.Last.{last_refuted}
+use Rattle.cstn_check.proofs.Starts.{GoesOn, bases_go_on, kept_from, apart_from}
+use Rattle.cstn_check.proofs.Decides.{grown_derivation, grown_by_last, grown_last_refutes, grown_decides}
 use Rattle.cstn_check.proofs.Grows.{grown_extends}
-use Rattle.cstn_check.proofs.Ends.{grow_from, log_goes_on}
-use Rattle.cstn_check.proofs.Starts.{kept_from, apart_from}
+use Rattle.cstn_check.proofs.Ends.{grow_from, load_above}
 use Rattle.cstn_edit.specs.declared.outcomes.Outcome.{Outcome}
 use Rattle.cstn_edit.specs.Sessions.{IsKeptLog, Refuted as AfterNo, kept_list, kept_after, outcome_of, verdict_by}
-
--- the base bounds refute nothing
-pub bases_stand : (net : Network) → IsRefutedLast net (bases (count net))
-bases_stand net = record {
-  before = λ k e there inside r.
-      false≢true (sym (bases_last net (count net) k e there (omega arith)) ∙ refutes_true net e.bound r);
-}
 
 pub first_bases : (net : Network) (cap : ℕ) → count net ≤ cap → first_entries net cap ≡ bases (count net)
 first_bases net cap room = cond-false _ _ _ (le-ltb cap (count net) room)
 
--- a list that growth may go on from
-pub record GoesOn (net : Network) (list : List Entry) : Type 0 where
-  pub kept : IsKept net list
-  pub derivation : IsDerivation net list
-  pub last : IsRefutedLast net list
-
-pub bases_go_on : (net : Network) → IsWellFormed net → GoesOn net (bases (count net))
-bases_go_on net good = record {
-  kept = bases_kept net good.network good.letters;
-  derivation = bases_derived net good.network good.letters (count net) (omega arith);
-  last = bases_stand net;
-}
-
+-- a kept log is a list that growth can go on from
 pub log_on : (net : Network) (s : State) → IsWellFormed net → IsKeptLog net s → AllNew s.entries → count net ≤ s.cap →
     GoesOn net (the_entries s.entries)
 log_on net s good kept new room =
@@ -67,49 +40,6 @@ log_on net s good kept new room =
     }
 
 module _ (net : Network) (good : IsWellFormed net) (list : List Entry) (on : GoesOn net list) where
-  stands_false : (k : ℕ) (e : Entry) → slice_get list k ≡ Some e → ¬ Refutes net e.bound → refutes net e.bound ≡ false
-  stands_false k e there not = elim (cases_Bool (refutes net e.bound)) [
-    | inl h ↦ absurd (not (true_refutes net e.bound (good_small net e.bound good.letters (good_at net list k e on.kept.good there)) h))
-    | inr h ↦ h
-  ]
-
-  grown_last_only : LastOnly net (grow net list)
-  grown_last_only =
-      grown_keeps net (LastOnly net) (last_more net) list (length list + most_entries net)
-      (λ k e there before. stands_false k e there (on.last.before k e there (omega arith)))
-
-  -- no entry of the grown list but perhaps the last refutes
-  pub grown_refuted_last : IsRefutedLast net (grow net list)
-  grown_refuted_last = record {
-    before = λ k e there inside r. false≢true (sym (grown_last_only k e there (omega arith)) ∙ refutes_true net e.bound r);
-  }
-
-  pub grown_derivation : IsDerivation net (grow net list)
-  grown_derivation = grown_derived_from net good.network good.letters list (length list + most_entries net) on.kept.good on.derivation
-
-  pub grown_on : Extends list (grow net list)
-  grown_on = grow_from net good.network good.letters list on.kept 0
-
-  -- and where one refutes, the last does
-  pub refuted_by_last : is_refuted net (grow net list) ≡ true → LastRefutes net (grow net list)
-  refuted_by_last over =
-      let r = refuted_at net (grow net list) (grown_small net list good.network good.letters on.kept on.derivation) over in
-      elim (cases_lt (suc r.place) (length (grow net list))) [
-        | inl before ↦ absurd (false≢true (sym (grown_last_only r.place r.entry r.there before) ∙ refutes_true net r.entry.bound r.refutes))
-        | inr past ↦
-            let inside = slice_get_within (grow net list) r.place r.entry r.there in
-            let place : r.place ≡ length (grow net list) - 1 = omega arith in
-            record {
-              last = r.entry;
-              is_last = subst (λ k. slice_get (grow net list) k ≡ Some r.entry) place r.there;
-              refutes = r.refutes;
-            }
-      ]
-
-  pub last_refuted : LastRefutes net (grow net list) → is_refuted net (grow net list) ≡ true
-  last_refuted l =
-      refuted_from_last net (grow net list) (length (grow net list) - 1) l.last l.is_last (refutes_true net l.last.bound l.refutes)
-
   -- the verdict by the answer of growth
   pub verdict_is : (new : List Entry) (r : Grown) (v : Verdict) (load : ℕ) → (r ≡ Full → ⊥) →
       new ≡ grow net list → (r ≡ Refuted ↔ ((r ≡ Full → ⊥) × LastRefutes net new)) → load ≡ length new →
@@ -118,12 +48,12 @@ module _ (net : Network) (good : IsWellFormed net) (list : List Entry) (on : Goe
       let stands : is_refuted net (grow net list) ≡ false = elim (cases_Bool (is_refuted net (grow net list))) [
         | inr no_e ↦ no_e
         | inl over ↦
-            let clash : Closed ≡ Refuted = refuted.1 (not, subst (λ l. LastRefutes net l) (sym is) (refuted_by_last over)) in
+            let clash : Closed ≡ Refuted = refuted.1 (not, subst (λ l. LastRefutes net l) (sym is) (grown_last_refutes net list good.network good.letters on over)) in
             cc
       ] in
       y refl ∙ ap (λ k. Yes k) (long ∙ ap length is) ∙ sym (cond-false _ _ _ stands)
   verdict_is new Refuted v load not is refuted long y n =
-      let over = last_refuted (subst (λ l. LastRefutes net l) is (refuted.0 refl).1) in
+      let over = last_refuted net (grow net list) (subst (λ l. LastRefutes net l) is (refuted.0 refl).1) in
       n refl ∙ ap (λ k. No k) (long ∙ ap length is) ∙ sym (cond-true _ _ _ over)
   verdict_is new Full v load not is refuted long y n = absurd (not refl)
 
@@ -132,7 +62,7 @@ module _ (net : Network) (good : IsWellFormed net) (list : List Entry) (on : Goe
   no_by load is = elim (cases_Bool (is_refuted net (grow net list))) [
     | inl over ↦
         let same : No (length (grow net list)) ≡ No load = sym (cond-true _ _ _ over) ∙ is in
-        (cc, refuted_by_last over)
+        (cc, grown_last_refutes net list good.network good.letters on over)
     | inr stands ↦
         let same : Yes (length (grow net list)) ≡ No load = sym (cond-false _ _ _ stands) ∙ is in
         let clash : ⊥ = cc in absurd clash
@@ -143,15 +73,8 @@ module _ (net : Network) (good : IsWellFormed net) (list : List Entry) (on : Goe
     | inl over ↦
         let same : No (length (grow net list)) ≡ Yes load = sym (cond-true _ _ _ over) ∙ is in
         let clash : ⊥ = cc in absurd clash
-    | inr stands ↦ (grown_decides net list good.network good.letters on.kept on.derivation).1 stands
+    | inr stands ↦ (grown_decides net list good.network good.letters on).1 stands
   ]
-
--- the log of the network has the base bounds at least
-pub load_above : (net : Network) → IsWellFormed net → count net ≤ load_of net
-load_above net good =
-    let size = length_bases (count net) in
-    let from = length_upto (bases (count net)) (log_of net) (log_goes_on net 0 good) in
-    omega arith
 
 -- the outcome by its two tests
 pub outcome_when : (net : Network) (cap : ℕ) (kept : List Entry) (b d : Bool) → nat_lt cap (length (grow net kept)) ≡ b →
@@ -178,13 +101,13 @@ pub grown_log : (net : Network) (list : List Entry) (new : State) → IsWellForm
     Extends (bases (count net)) list → the_entries new.entries ≡ grow net list → new.nodes ≡ count net → count net ≤ new.cap →
     1 ≤ new.cap → new.cap ≤ 4194304 → IsKeptLog net new
 grown_log net list new good on begins is nodes room some most =
-    let all = extends_through (bases (count net)) list (grow net list) begins (grown_on net good list on) in
+    let all = extends_through (bases (count net)) list (grow net list) begins (grow_from net good.network good.letters list on.kept 0) in
     record {
       nodes = nodes;
-      derivation = subst (λ l. IsDerivation net l) (sym is) (grown_derivation net good list on);
+      derivation = subst (λ l. IsDerivation net l) (sym is) (grown_derivation net list good.network good.letters on);
       based = λ h. (all.more, all.is ∙ sym is);
       empty = λ few. absurd (omega arith);
-      refuted = subst (λ l. IsRefutedLast net l) (sym is) (grown_refuted_last net good list on);
+      refuted = subst (λ l. IsRefutedLast net l) (sym is) (grown_by_last net list good.network good.letters on);
       some = some;
       most = most;
     }
@@ -193,7 +116,7 @@ grown_log net list new good on begins is nodes room some most =
 pub bases_log : (net : Network) (new : State) → IsWellFormed net → the_entries new.entries ≡ bases (count net) → new.nodes ≡ count net →
     count net ≤ new.cap → 1 ≤ new.cap → new.cap ≤ 4194304 → IsKeptLog net new
 bases_log net new good is nodes room some most =
-    let on = bases_go_on net good in
+    let on = bases_go_on net good.network good.letters in
     record {
       nodes = nodes;
       derivation = subst (λ l. IsDerivation net l) (sym is) on.derivation;
@@ -219,7 +142,7 @@ afresh_verdict net cap old new r v load good start full whole refuted long y n f
       | inr u ↦
           let upto = ltb-false cap (load_of net) u in
           let not : r ≡ Full → ⊥ = λ e. (let above = full.0 e in omega arith) in
-          verdict_is net good (bases (count net)) (bases_go_on net good) new r v load not
+          verdict_is net good (bases (count net)) (bases_go_on net good.network good.letters) new r v load not
           (whole not ∙ ap (grow net) start) refuted (long not) y n
           ∙ sym (cond-false _ _ _ u)
     ]
@@ -231,7 +154,7 @@ afresh_yes net cap load v good is said = elim (cases_Bool (nat_lt cap (load_of n
   | inl t ↦
       let clash : Yes load ≡ FullVerdict = sym said ∙ is ∙ cond-true _ _ _ t in
       let f : ⊥ = cc in absurd f
-  | inr u ↦ yes_by net good (bases (count net)) (bases_go_on net good) load (sym (cond-false _ _ _ u) ∙ sym is ∙ said)
+  | inr u ↦ yes_by net good (bases (count net)) (bases_go_on net good.network good.letters) load (sym (cond-false _ _ _ u) ∙ sym is ∙ said)
 ]
 
 -- a log without room for the base bounds

@@ -1,9 +1,9 @@
 -- The due moment, and the end of a run.
-use Rattle.std.proofs.Common.{ℕ, zero, suc, ◌≡◌, inl, inr, ◌+◌, ◌-◌, ◌<◌, ◌≤◌, Bool, true, false, List, [], ◌∷◌, Option, Some, None, ltb, arith, refl, sym, subst, ap, ◌∙◌}
+use Rattle.std.proofs.Common.{ℕ, zero, suc, ◌≡◌, inl, inr, ◌+◌, ◌-◌, ◌<◌, ◌≤◌, Bool, true, false, List, [], ◌∷◌, Option, Some, None, arith, refl, sym, ap, ◌∙◌}
 use Rattle.std.specs.Prelude.{length, is_some, slice_index_or}
 use Rattle.std.proofs.lemmas.Int.{ints}
 use Rattle.std.specs.List.{find, list_all, list_any, range_with_len}
-use Rattle.std.proofs.lemmas.Bool.{cases_lt, cases_Bool, or_cases, cond-true, cond-false, true≢false, lt-ltb, le-ltb}
+use Rattle.std.proofs.lemmas.Bool.{cases_lt, cases_Bool, or_cases, cond-true, cond-false, true≢false}
 use Rattle.std.proofs.lemmas.List.Elements.{All-get_or, All-from_get_or}
 use Rattle.std.proofs.lemmas.List.Sums.{AllPass-from_list_all, list_all-from_AllPass}
 use Rattle.cstn_label.specs.Labels.{Scenario}
@@ -11,12 +11,14 @@ use Rattle.cstn_label.specs.Bounds.{Bound}
 use Rattle.cstn_net.specs.Networks.{Network, IsWellFormed, count, limit}
 use Rattle.cstn_net.specs.Strategies.{Table}
 use Rattle.cstn_log.specs.Plans.{IsEarliest}
-use Rattle.cstn_exec.specs.Runs.{Run, after, next, is_done, executed_at, outcome_of, awaited, is_free, has_work, due}
-use Rattle.cstn_exec.specs.Moves.{Refusal, Done, Past, Late, moment_refusal, moved, unless_past, unless_awaiting, unless_late}
+use Rattle.cstn_exec.specs.Runs.{Run, next, is_done, executed_at, outcome_of, awaited, is_free, has_work, due}
+use Rattle.cstn_exec.specs.Moves.{moment_refusal, moved}
 use Rattle.cstn_exec.specs.Right.{AgreesKnown, IsRight, HasWork, IsDue, IsDone, IsCarriedOut}
+use Rattle.cstn_exec.proofs.Options.{cases_option, is_some-true}
 use Rattle.cstn_exec.proofs.Ranges.{IsFirstFrom, find_first, find_none, found, some_passes}
+use Rattle.cstn_exec.proofs.Judging.{IsAccepted, judged}
 use Rattle.cstn_exec.proofs.Knowing.{known_from}
-use Rattle.cstn_exec.proofs.Running.{IsQuiet, cases_option, awaits_none, awaited_least, executed_is, idle_from, quiet_later}
+use Rattle.cstn_exec.proofs.Running.{IsQuiet, awaits_none, awaited_least, executed_is, idle_from, quiet_later}
 use Rattle.cstn_exec.proofs.Moving.{free_called, called_free, free_parts, moved_right}
 
 -- ---- a scenario with what was seen
@@ -33,19 +35,15 @@ seen_agrees net wf run u p v k = ap value_or_false (known_from net wf.network ru
 
 -- ---- whether all is executed
 
-some_is : (o : Option ℕ) → is_some o ≡ true → (m : ℕ) × (o ≡ Some m)
-some_is None h = absurd (true≢false (sym h))
-some_is (Some m) h = (m, refl)
-
 pub done_from : (net : Network) (run : Run) → length run.moments ≡ count net → is_done run ≡ true → IsDone net run
 done_from net run size h x here =
-    some_is (executed_at run x) (All-get_or (λ o. is_some o ≡ true) run.moments x None (omega arith)
+    is_some-true (executed_at run x) (All-get_or (λ o. is_some o ≡ true) run.moments x None (omega arith)
     (AllPass-from_list_all is_some run.moments h))
 
 pub done_to : (net : Network) (run : Run) → length run.moments ≡ count net → IsDone net run → is_done run ≡ true
 done_to net run size all =
     list_all-from_AllPass is_some run.moments (All-from_get_or (λ o. is_some o ≡ true) run.moments None
-    (λ x inside. let e = all x (omega arith) in subst (λ o. is_some o ≡ true) (sym e.1) refl))
+    (λ x inside. let e = all x (omega arith) in ap is_some e.1))
 
 pub some_none : (ms : List (Option ℕ)) → list_all is_some ms ≡ false → (x : ℕ) × (x < length ms) × (slice_index_or ms x None ≡ None)
 some_none [] h = absurd (true≢false h)
@@ -61,6 +59,18 @@ someone_waits net run size h =
     let waits = some_none run.moments h in
     let inside = waits.1 in
     (waits.0, omega arith, waits.2)
+
+-- ---- the first moment with work
+
+-- how many moments there are from the next one up to the deadline
+abbrev pub moments_left : Network → Run → ℕ
+moments_left net run = (net.deadline + 1) - next run
+
+abbrev pub first_work : Network → List Bound → Run → Option ℕ
+first_work net bounds run = find (has_work net bounds run) (range_with_len (next run) (moments_left net run))
+
+abbrev pub IsFirstWork : Network → List Bound → Run → ℕ → Type 0
+IsFirstWork net bounds run = IsFirstFrom (has_work net bounds run) (next run) (moments_left net run)
 
 limit_upto : (net : Network) (x : ℕ) → limit net x ≤ net.deadline
 limit_upto net zero = omega arith
@@ -107,7 +117,7 @@ module _ (net : Network) (bounds : List Bound) (table : Table) (wf : IsWellForme
   ]
 
   -- the first moment with work is due, and no later than the deadline
-  pub first_is_due : (t : ℕ) → IsFirstFrom (has_work net bounds run) (next run) ((net.deadline + 1) - next run) t → IsDue net run t × (t ≤ net.deadline)
+  first_is_due : (t : ℕ) → IsFirstWork net bounds run t → IsDue net run t × (t ≤ net.deadline)
   first_is_due t first =
       let quiet : IsQuiet net bounds run t = first.before in
       let from = first.from in
@@ -115,9 +125,9 @@ module _ (net : Network) (bounds : List Bound) (table : Table) (wf : IsWellForme
       (record { from = from; work = work_is t from quiet first.passes; first = idle_before t quiet }, omega arith)
 
   -- some moment is due where somebody waits
-  pub some_first : is_done run ≡ false → (t : ℕ) × IsFirstFrom (has_work net bounds run) (next run) ((net.deadline + 1) - next run) t
-  some_first waits = elim (cases_option (find (has_work net bounds run) (range_with_len (next run) ((net.deadline + 1) - next run)))) [
-    | inr some ↦ (some.0, find_first (has_work net bounds run) (next run) ((net.deadline + 1) - next run) some.0 some.1)
+  pub some_first : is_done run ≡ false → (t : ℕ) × IsFirstWork net bounds run t
+  some_first waits = elim (cases_option (first_work net bounds run)) [
+    | inr some ↦ (some.0, find_first (has_work net bounds run) (next run) (moments_left net run) some.0 some.1)
     | inl none ↦
         let x = someone_waits net run right.moments waits in
         elim (cases_lt net.deadline (next run)) [
@@ -126,36 +136,39 @@ module _ (net : Network) (bounds : List Bound) (table : Table) (wf : IsWellForme
               absurd (omega arith)
           | inr before ↦
               let upto = upto_deadline x.0 x.1 x.2 (net.deadline + 1) (omega arith)
-              (λ u low high. find_none (has_work net bounds run) (next run) ((net.deadline + 1) - next run) none u low (omega arith)) in
+              (λ u low high. find_none (has_work net bounds run) (next run) (moments_left net run) none u low (omega arith)) in
               absurd (omega arith)
         ]
   ]
 
   pub due_first : (t : ℕ) → due net bounds run ≡ Some t →
-      (is_done run ≡ false) × IsFirstFrom (has_work net bounds run) (next run) ((net.deadline + 1) - next run) t
+      (is_done run ≡ false) × IsFirstWork net bounds run t
   due_first t e = elim (cases_Bool (is_done run)) [
     | inl all ↦
-        let none = cond-true (is_done run) None (find (has_work net bounds run) (range_with_len (next run) ((net.deadline + 1) - next run))) all in
+        let none = cond-true (is_done run) None (first_work net bounds run) all in
         let f : ⊥ = cc in
         absurd f
     | inr waits ↦
-        let there = cond-false (is_done run) None (find (has_work net bounds run) (range_with_len (next run) ((net.deadline + 1) - next run))) waits in
-        (waits, find_first (has_work net bounds run) (next run) ((net.deadline + 1) - next run) t (sym there ∙ e))
+        let there = cond-false (is_done run) None (first_work net bounds run) waits in
+        (waits, find_first (has_work net bounds run) (next run) (moments_left net run) t (sym there ∙ e))
   ]
+
+  pub due_is_due : (t : ℕ) → due net bounds run ≡ Some t → IsDue net run t × (t ≤ net.deadline)
+  due_is_due t e = first_is_due t (due_first t e).1
 
   pub due_none : due net bounds run ≡ None → is_done run ≡ true
   due_none e = elim (cases_Bool (is_done run)) [
     | inl all ↦ all
     | inr waits ↦
         let first = some_first waits in
-        let there = cond-false (is_done run) None (find (has_work net bounds run) (range_with_len (next run) ((net.deadline + 1) - next run))) waits in
-        let at = found (has_work net bounds run) (next run) ((net.deadline + 1) - next run) first.0 first.1 in
+        let there = cond-false (is_done run) None (first_work net bounds run) waits in
+        let at = found (has_work net bounds run) (next run) (moments_left net run) first.0 first.1 in
         let f : ⊥ = cc in
         absurd f
   ]
 
   pub done_none : is_done run ≡ true → due net bounds run ≡ None
-  done_none all = cond-true (is_done run) None (find (has_work net bounds run) (range_with_len (next run) ((net.deadline + 1) - next run))) all
+  done_none all = cond-true (is_done run) None (first_work net bounds run) all
 
   -- the moments of a run in which all is executed are those of a strategy
   pub carried_out : IsDone net run → IsCarriedOut net run
@@ -172,50 +185,6 @@ module _ (net : Network) (bounds : List Bound) (table : Table) (wf : IsWellForme
         omega (arith, ints);
   }
 
--- what an accepted moment tells
-pub record IsAccepted (net : Network) (bounds : List Bound) (run : Run) (t : ℕ) : Type 0 where
-  pub waits : is_done run ≡ false
-  pub from : next run ≤ t
-  pub none_awaited : awaited net run (t + 1) ≡ None
-  pub upto : (u : ℕ) → due net bounds run ≡ Some u → t ≤ u
-
-late_none : (t : ℕ) (o : Option ℕ) → unless_late t o ≡ None → (u : ℕ) → o ≡ Some u → t ≤ u
-late_none t None h u e = let f : ⊥ = cc in absurd f
-late_none t (Some w) h u e = elim (cases_lt w t) [
-  | inr upto ↦ let same : w ≡ u = cc in omega arith
-  | inl below ↦
-      let late = cond-true (ltb w t) (Some (Late w)) None (lt-ltb w t below) in
-      let f : ⊥ = cc in
-      absurd f
-]
-
-awaiting_none : (o : Option ℕ) (other : Option Refusal) → unless_awaiting o other ≡ None → (o ≡ None) × (other ≡ None)
-awaiting_none None other h = (refl, h)
-awaiting_none (Some p) other h = let f : ⊥ = cc in absurd f
-
-past_none : (t : ℕ) (now : Option ℕ) (other : Option Refusal) → unless_past t now other ≡ None → (after now ≤ t) × (other ≡ None)
-past_none t None other h = (omega arith, h)
-past_none t (Some m) other h = elim (cases_lt m t) [
-  | inl later ↦ (omega arith, sym (cond-true (ltb m t) other (Some (Past m)) (lt-ltb m t later)) ∙ h)
-  | inr upto ↦
-      let past = cond-false (ltb m t) other (Some (Past m)) (le-ltb m t upto) in
-      let f : ⊥ = cc in
-      absurd f
-]
-
-pub accepted : (net : Network) (bounds : List Bound) (run : Run) (t : ℕ) → moment_refusal net bounds run t ≡ None → IsAccepted net bounds run t
-accepted net bounds run t h = elim (cases_Bool (is_done run)) [
-  | inl all ↦
-      let done = cond-true (is_done run) (Some Done) (unless_past t run.now (unless_awaiting (awaited net run (t + 1)) (unless_late t (due net bounds run)))) all in
-      let f : ⊥ = cc in
-      absurd f
-  | inr waits ↦
-      let there = cond-false (is_done run) (Some Done) (unless_past t run.now (unless_awaiting (awaited net run (t + 1)) (unless_late t (due net bounds run)))) waits in
-      let past = past_none t run.now (unless_awaiting (awaited net run (t + 1)) (unless_late t (due net bounds run))) (sym there ∙ h) in
-      let wait = awaiting_none (awaited net run (t + 1)) (unless_late t (due net bounds run)) past.1 in
-      record { waits = waits; from = past.0; none_awaited = wait.0; upto = late_none t (due net bounds run) wait.1 }
-]
-
 -- where the moment is accepted, it is quiet up to it, and it isn't past the deadline
 pub accepted_quiet : (net : Network) (bounds : List Bound) (table : Table) → IsWellFormed net → IsEarliest net bounds table →
     (run : Run) → IsRight net run → (t : ℕ) → IsAccepted net bounds run t → IsQuiet net bounds run t × (t ≤ net.deadline)
@@ -224,7 +193,7 @@ accepted_quiet net bounds table wf plan run right t ok = elim (cases_option (due
   | inr some ↦
       let first = (due_first net bounds table wf plan run right some.0 some.1).1 in
       let upto = ok.upto some.0 some.1 in
-      let within = (first_is_due net bounds table wf plan run right some.0 first).1 in
+      let within = (due_is_due net bounds table wf plan run right some.0 some.1).1 in
       ((λ u low high. first.before u low (omega arith)), omega arith)
 ]
 
@@ -232,6 +201,6 @@ pub accepted_right : (net : Network) (bounds : List Bound) (table : Table) → I
     (run : Run) → IsRight net run → (t : ℕ) → moment_refusal net bounds run t ≡ None →
     IsRight net (moved net bounds run t) × (t ≤ net.deadline)
 accepted_right net bounds table wf plan run right t none =
-    let ok = accepted net bounds run t none in
+    let ok = judged net bounds run t None none in
     let quiet = accepted_quiet net bounds table wf plan run right t ok in
     (moved_right net bounds table wf plan run right t ok.from quiet.0 (awaits_none net bounds run wf (t + 1) ok.none_awaited), quiet.1)

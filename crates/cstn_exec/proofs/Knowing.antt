@@ -13,6 +13,7 @@ use Rattle.cstn_net.specs.Read.{is_prop}
 use Rattle.cstn_net.proofs.Knowledge.{observer_within}
 use Rattle.cstn_log.proofs.AskedLemmas.{fits_true, true_fits}
 use Rattle.cstn_exec.specs.Runs.{Run, executed_at, outcome_of, observed_at, is_before, is_ready, known, is_awaited, fits_known, is_possible}
+use Rattle.cstn_exec.proofs.Options.{is_none-true}
 use Rattle.cstn_exec.proofs.Ranges.{each_passes, all_pass}
 
 pub some_within : {X : Type 0} (xs : List (Option X)) (k : ℕ) (x : X) → slice_index_or xs k None ≡ Some x → k < length xs
@@ -107,16 +108,11 @@ module _ (net : Network) (wf : IsNetwork net) where
   pub awaited_from : (run : Run) (u p : ℕ) → is_awaited net run u p ≡ true → Ready run u p × (outcome_of run p ≡ None)
   awaited_from run u p h =
       let both = and_parts (is_ready net run u p) (is_none (outcome_of run p)) h in
-      (ready_from run u p both.0, none_is (outcome_of run p) both.1)
-    where
-      none_is : (o : Option Bool) → is_none o ≡ true → o ≡ None
-      none_is None h = refl
-      none_is (Some v) h = absurd (false≢true h)
+      (ready_from run u p both.0, is_none-true (outcome_of run p) both.1)
 
   pub awaited_to : (run : Run) (u p : ℕ) → Ready run u p → outcome_of run p ≡ None → is_awaited net run u p ≡ true
   awaited_to run u p r e =
-      and_from (is_ready net run u p) (is_none (outcome_of run p)) (ready_to run u p r)
-      (subst (λ o. is_none o ≡ true) (sym e) refl)
+      and_from (is_ready net run u p) (is_none (outcome_of run p)) (ready_to run u p r) (ap is_none e)
 
   ready_later : (run : Run) (u w p : ℕ) → u ≤ w → Ready run u p → Ready run w p
   ready_later run u w p upto r = record {

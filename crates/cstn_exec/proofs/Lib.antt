@@ -1,8 +1,13 @@
+pub mod Options
+pub mod Filled
 pub mod Ranges
-pub mod Knowing
-pub mod Running
 pub mod Naming
+pub mod Asking
+pub mod Knowing
+pub mod Values
+pub mod Running
+pub mod Judging
 pub mod Moving
 pub mod Dues
-pub mod Steps
+pub mod Searching
 pub mod Refusals

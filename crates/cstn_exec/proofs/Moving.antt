@@ -1,8 +1,8 @@
 -- The start, accepted moments and accepted outcomes keep a run right.
-use Rattle.std.proofs.Common.{ℕ, ◌≡◌, ◌≢◌, ◌⊎◌, inl, inr, ◌+◌, ◌<◌, ◌≤◌, Bool, true, false, List, Option, Some, None, not, arith, refl, sym, subst, ◌∙◌, get_or-set_other, get_or-set_same}
-use Rattle.std.specs.Prelude.{replicate, is_none, nat_lt, slice_index_or}
-use Rattle.std.proofs.lemmas.Bool.{cases_lt, cases_eq, cases_Bool, and_parts, and_from, true≢false, ltb-false, not-true, le-ltb, not_from_false}
-use Rattle.std.proofs.lemmas.List.{length-replicate, length-set, get_or-replicate, get_or_past}
+use Rattle.std.proofs.Common.{ℕ, ◌≡◌, ◌≢◌, ◌⊎◌, inl, inr, ◌+◌, ◌<◌, ◌≤◌, Bool, true, false, List, Option, Some, None, not, arith, sym, subst, ap, ◌∙◌, get_or-set_other, get_or-set_same}
+use Rattle.std.specs.Prelude.{is_none, nat_lt}
+use Rattle.std.proofs.lemmas.Bool.{cases_lt, cases_eq, cases_Bool, and_parts, and_from, ltb-false, not-true, le-ltb, not_from_false}
+use Rattle.std.proofs.lemmas.List.{length-replicate, length-set}
 use Rattle.cstn_label.specs.Labels.{Scenario}
 use Rattle.cstn_label.specs.Bounds.{Bound}
 use Rattle.cstn_net.specs.Networks.{Network, IsWellFormed, count}
@@ -14,17 +14,10 @@ use Rattle.cstn_exec.specs.Runs.{Run, start, next, executed_at, outcome_of, obse
 use Rattle.cstn_exec.specs.Moves.{executed, moved, handed}
 use Rattle.cstn_exec.specs.Right.{AgreesKnown, IsRight, IsCalled}
 use Rattle.cstn_exec.proofs.Knowing.{Ready, some_within, known_from, known_to, awaited_from, awaited_to, observed_where, observed_from}
+use Rattle.cstn_exec.proofs.Options.{is_none-true, some_or_none}
+use Rattle.cstn_exec.proofs.Filled.{default_of}
 use Rattle.cstn_exec.proofs.Naming.{executed_size, executed_passing, executed_failing}
 use Rattle.cstn_exec.proofs.Running.{IsQuiet, agrees_before, at_moment, held_unless_free}
-
-pub default_of : {X : Type 0} (n x : ℕ) (d : X) → slice_index_or (replicate n d) x d ≡ d
-default_of n x d = elim (cases_lt x n) [
-  | inl inside ↦ get_or-replicate n x d d inside
-  | inr past ↦ let size = length-replicate n d in get_or_past (replicate n d) x d (omega arith)
-]
-
-some_or_none : {X : Type 0} (o : Option X) (x : X) → o ≡ Some x → o ≡ None → ⊥
-some_or_none o x h k = let f : ⊥ = cc in f
 
 pub start_right : (net : Network) (bounds : List Bound) (table : Table) → IsWellFormed net → IsEarliest net bounds table →
     IsRight net (start (count net))
@@ -88,19 +81,15 @@ pub free_parts : (net : Network) (bounds : List Bound) (run : Run) (t x : ℕ) �
     (executed_at run x ≡ None) × (earliest net bounds run (t + 1) x ≤ t)
 free_parts net bounds run t x h =
     let both = and_parts (is_none (executed_at run x)) (not (nat_lt t (earliest net bounds run (t + 1) x))) h in (
-      none_is (executed_at run x) both.0,
+      is_none-true (executed_at run x) both.0,
       ltb-false t (earliest net bounds run (t + 1) x) (not-true (nat_lt t (earliest net bounds run (t + 1) x)) both.1),
     )
-  where
-    none_is : (o : Option ℕ) → is_none o ≡ true → o ≡ None
-    none_is None h = refl
-    none_is (Some m) h = absurd (true≢false (sym h))
 
 pub free_from : (net : Network) (bounds : List Bound) (run : Run) (t x : ℕ) → executed_at run x ≡ None →
     earliest net bounds run (t + 1) x ≤ t → is_free net bounds run t x ≡ true
 free_from net bounds run t x none upto =
     and_from (is_none (executed_at run x)) (not (nat_lt t (earliest net bounds run (t + 1) x)))
-    (subst (λ o. is_none o ≡ true) (sym none) refl)
+    (ap is_none none)
     (not_from_false (nat_lt t (earliest net bounds run (t + 1) x)) (le-ltb t (earliest net bounds run (t + 1) x) upto))
 
 executed_fails : (net : Network) (bounds : List Bound) (run : Run) (t x m : ℕ) → executed_at run x ≡ Some m →

@@ -1,13 +1,17 @@
--- The numbers of a range that pass a test, and a list with a value put in for each of them.
-use Rattle.std.proofs.Common.{ℕ, zero, suc, ◌≡◌, ◌≢◌, inl, inr, ◌+◌, ◌<◌, ◌≤◌, Bool, true, false, List, [], ◌∷◌, Option, Some, None, length, arith, refl, sym, subst, ◌∙◌, get_or-set_other, get_or-set_same}
-use Rattle.std.specs.Prelude.{slice_index_or, slice_set}
+-- The numbers of a range that pass a test, the moments once they are executed, and who is named.
+use Rattle.std.proofs.Common.{ℕ, zero, suc, ◌≡◌, ◌≢◌, inl, inr, ◌+◌, ◌<◌, ◌≤◌, Bool, true, false, List, [], ◌∷◌, Option, Some, None, length, map, take, cond, ◌++◌, ◌&&◌, not, arith, refl, sym, subst, ap, ◌∙◌, get_or-set_other, get_or-set_same}
+use Rattle.std.specs.Prelude.{is_none, nat_lt, slice_index, slice_index_or, slice_set}
 use Rattle.std.specs.List.{All, Contains, filter, range_with_len}
 use Rattle.std.specs.List.Sorted.{IsStrictlyIncreasing}
 use Rattle.std.proofs.lemmas.Bool.{cases_Bool, cases_eq, cond-true, cond-false, both_ways}
-use Rattle.std.proofs.lemmas.List.{length-set}
+use Rattle.std.proofs.lemmas.List.{length-set, length-map, map-append, map-id, append-nil, get_or-map, take_more}
 use Rattle.std.proofs.lemmas.List.Elements.{filter_passes, All-filter, All-contains}
-use Rattle.std.proofs.lemmas.List.FromFn.{get_or-range_with_len, length-range_with_len}
+use Rattle.std.proofs.lemmas.List.FromFn.{get_or-range_with_len, length-range_with_len, filter_of_map_range_with_len_more}
 use Rattle.std.proofs.lemmas.List.Kept.{IsStrictlyIncreasing-filter}
+use Rattle.cstn_label.specs.declared.nodes.NodeId.{NodeId}
+use Rattle.cstn_label.specs.Bounds.{Bound}
+use Rattle.cstn_net.specs.Networks.{Network, count}
+use Rattle.cstn_exec.specs.Runs.{Run, executed_at, earliest, is_free, is_free_by, named}
 use Rattle.cstn_exec.specs.Moves.{executed}
 
 abbrev pub passing : (ℕ → Bool) → ℕ → ℕ → List ℕ
@@ -58,6 +62,36 @@ range_ascends a n = λ k inside.
 pub passing_ascends : (test : ℕ → Bool) (a n : ℕ) → IsStrictlyIncreasing (passing test a n)
 passing_ascends test a n = IsStrictlyIncreasing-filter test (range_with_len a n) (range_ascends a n)
 
+pub passing_none : (test : ℕ → Bool) (a n : ℕ) → ((k : ℕ) → a ≤ k → k < a + n → test k ≡ false) → filter test (range_with_len a n) ≡ []
+passing_none test a zero fails = refl
+passing_none test a (suc n) fails =
+    cond-false (test a) (a ∷ filter test (range_with_len (a + 1) n)) (filter test (range_with_len (a + 1) n)) (fails a (omega arith) (omega arith))
+    ∙ passing_none test (a + 1) n (λ k from upto. fails k (omega arith) (omega arith))
+
+-- ---- one more number
+
+filter_more : (test : ℕ → Bool) (n : ℕ) →
+    filter test (range_with_len 0 (n + 1)) ≡ filter test (range_with_len 0 n) ++ cond (test n) (n ∷ []) []
+filter_more test n =
+    ap (filter test) (sym (map-id (range_with_len 0 (n + 1))))
+    ∙ filter_of_map_range_with_len_more test (λ k. k) 0 n n (omega arith)
+    ∙ ap (λ l. filter test l ++ cond (test n) (n ∷ []) []) (map-id (range_with_len 0 n))
+
+pub filter_with : (test : ℕ → Bool) (n : ℕ) → test n ≡ true → filter test (range_with_len 0 (n + 1)) ≡ filter test (range_with_len 0 n) ++ n ∷ []
+filter_with test n h = filter_more test n ∙ ap (λ l. filter test (range_with_len 0 n) ++ l) (cond-true (test n) (n ∷ []) [] h)
+
+pub filter_without : (test : ℕ → Bool) (n : ℕ) → test n ≡ false → filter test (range_with_len 0 (n + 1)) ≡ filter test (range_with_len 0 n)
+filter_without test n h =
+    filter_more test n ∙ ap (λ l. filter test (range_with_len 0 n) ++ l) (cond-false (test n) (n ∷ []) [] h) ∙ append-nil (filter test (range_with_len 0 n))
+
+pub filter_same : (f g : ℕ → Bool) (a n : ℕ) → ((k : ℕ) → a ≤ k → k < a + n → f k ≡ g k) → filter f (range_with_len a n) ≡ filter g (range_with_len a n)
+filter_same f g a zero same = refl
+filter_same f g a (suc n) same =
+    let more = filter_same f g (a + 1) n (λ k from upto. same k (omega arith) (omega arith)) in
+    let here = same a (omega arith) (omega arith) in
+    ap (λ b. cond b (a ∷ filter f (range_with_len (a + 1) n)) (filter f (range_with_len (a + 1) n))) here
+    ∙ ap (λ l. cond (g a) (a ∷ l) l) more
+
 -- ---- the moments after those of the list are executed
 
 pub executed_size : (t : ℕ) (xs : List ℕ) (ms : List (Option ℕ)) → length (executed t xs ms) ≡ length ms
@@ -105,3 +139,35 @@ executed_failing test t a (suc n) ms x h = elim (cases_Bool (test a)) [
       subst (λ l. slice_index_or (executed t l ms) x None ≡ slice_index_or ms x None) (sym (passing_no test a n fails))
       (executed_failing test t (a + 1) n ms x h)
 ]
+
+pub executed_push : (t : ℕ) (xs : List ℕ) (y : ℕ) (ms : List (Option ℕ)) → executed t (xs ++ y ∷ []) ms ≡ slice_set (executed t xs ms) y (Some t)
+executed_push t [] y ms = refl
+executed_push t (x ∷ xs) y ms = executed_push t xs y (slice_set ms x (Some t))
+
+pub executed_more : (t : ℕ) (xs : List NodeId) (i : ℕ) (d : NodeId) (ms : List (Option ℕ)) → i < length xs →
+    executed t (map (λ x. x.0) (take (i + 1) xs)) ms ≡ slice_set (executed t (map (λ x. x.0) (take i xs)) ms) (slice_index_or xs i d).0 (Some t)
+executed_more t xs i d ms inside =
+    ap (λ l. executed t l ms) (ap (map (λ x. x.0)) (take_more xs i d inside) ∙ map-append (λ x. x.0) (take i xs) (slice_index_or xs i d ∷ []))
+    ∙ executed_push t (map (λ x. x.0) (take i xs)) (slice_index_or xs i d).0 ms
+
+-- ---- who is named
+
+-- what is free by the moments that are asked for
+pub named_by : (net : Network) (bounds : List Bound) (run : Run) (t : ℕ) (after : List ℕ) → count net ≤ 1024 → length run.moments ≡ count net →
+    ((x : ℕ) → x < 1024 → slice_index after x ≡ earliest net bounds run (t + 1) x) →
+    filter (is_free_by run.moments after t) (range_with_len 0 (length run.moments)) ≡ named net bounds run t
+named_by net bounds run t after few size same =
+    ap (λ n. filter (is_free_by run.moments after t) (range_with_len 0 n)) size
+    ∙ filter_same (is_free_by run.moments after t) (is_free net bounds run t) 0 (count net)
+    (λ x from inside. ap (λ m. is_none (executed_at run x) && not (nat_lt t m)) (same x (omega arith)))
+
+-- the named are time-points
+pub named_within : (xs : List NodeId) (test : ℕ → Bool) (n : ℕ) → map (λ x. x.0) xs ≡ filter test (range_with_len 0 n) → All (λ x. x.0 < n) xs
+named_within xs test n e = λ k d inside.
+    let at = get_or-map (λ x. x.0) xs k d d.0 inside in
+    let size = ap length e in
+    let there = length-map xs (λ x. x.0) in
+    let within = All-filter test (λ x. (0 ≤ x) × (x < 0 + n)) (range_with_len 0 n) (in_range 0 n) k d.0 (omega arith) in
+    let same = ap (λ l. slice_index_or l k d.0) e in
+    let upto = within.1 in
+    omega arith

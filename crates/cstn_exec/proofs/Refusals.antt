@@ -1,21 +1,23 @@
 -- What refusals tell, and who is named.
-use Rattle.std.proofs.Common.{ℕ, zero, suc, ◌≡◌, inl, inr, ◌+◌, ◌<◌, ◌≤◌, Bool, true, false, List, [], ◌∷◌, Option, Some, None, ltb, refl, arith, sym, subst, ap, ◌∙◌}
+use Rattle.std.proofs.Common.{ℕ, ◌≡◌, inl, inr, ◌+◌, ◌<◌, ◌≤◌, Bool, List, [], Some, None, arith, subst}
 use Rattle.std.specs.Prelude.{◌↔◌, is_some}
-use Rattle.std.specs.List.{Contains, filter, list_any, range_with_len}
+use Rattle.std.specs.List.{Contains, list_any, range_with_len}
 use Rattle.std.specs.List.Sorted.{IsStrictlyIncreasing}
-use Rattle.std.proofs.lemmas.Bool.{cases_Bool, cases_lt, cond-true, cond-false, or_parts, true≢false, lt-ltb, le-ltb}
+use Rattle.std.proofs.lemmas.Bool.{or_parts}
 use Rattle.cstn_label.specs.Bounds.{Bound}
 use Rattle.cstn_net.specs.Networks.{Network, IsWellFormed, count}
 use Rattle.cstn_net.specs.Strategies.{Table}
 use Rattle.cstn_log.specs.Plans.{IsEarliest}
-use Rattle.cstn_exec.specs.Runs.{Run, after, is_done, observed_at, outcome_of, awaited, is_free, named, due}
-use Rattle.cstn_exec.specs.Moves.{Refusal, Done, Past, Late, Awaiting, moment_refusal, unless_past, unless_awaiting, unless_late, outcome_refusal, unless_unseen, unless_known, handed}
+use Rattle.cstn_exec.specs.Runs.{Run, observed_at, outcome_of, awaited, is_free, named, due}
+use Rattle.cstn_exec.specs.Moves.{Done, Past, Late, Awaiting, moment_refusal, outcome_refusal, unless_unseen, unless_known, handed}
 use Rattle.cstn_exec.specs.Right.{IsRight, IsCalled, IsDue, IsDone, IsBetween, IsFirstAwaited}
+use Rattle.cstn_exec.proofs.Options.{cases_option, is_some-false}
 use Rattle.cstn_exec.proofs.Ranges.{each_fails}
-use Rattle.cstn_exec.proofs.Naming.{from_passing, in_passing, passing_ascends}
-use Rattle.cstn_exec.proofs.Running.{cases_option, awaits_none, awaited_least}
+use Rattle.cstn_exec.proofs.Judging.{judged, not_refused, refusal_done}
+use Rattle.cstn_exec.proofs.Naming.{from_passing, in_passing, passing_ascends, passing_none}
+use Rattle.cstn_exec.proofs.Running.{awaits_none, awaited_least}
 use Rattle.cstn_exec.proofs.Moving.{handed_right, free_called, called_free}
-use Rattle.cstn_exec.proofs.Dues.{seen_scenario, seen_agrees, done_from, done_to, due_first, first_is_due, accepted, accepted_quiet}
+use Rattle.cstn_exec.proofs.Dues.{seen_scenario, seen_agrees, done_from, done_to, due_first, due_is_due, accepted_quiet}
 
 -- ---- outcomes
 
@@ -42,7 +44,7 @@ seen_right net run p wf right ok letter v = elim (cases_option (observed_at net 
 pub named_called : (net : Network) (bounds : List Bound) (table : Table) (run : Run) (t : ℕ) → IsWellFormed net → IsEarliest net bounds table →
     IsRight net run → moment_refusal net bounds run t ≡ None → (x : ℕ) → Contains (named net bounds run t) x ↔ IsCalled net run t x
 named_called net bounds table run t wf plan right none x =
-    let ok = accepted net bounds run t none in
+    let ok = judged net bounds run t None none in
     let quiet = (accepted_quiet net bounds table wf plan run right t ok).0 in
     let nobody = awaits_none net bounds run wf (t + 1) ok.none_awaited in (
       (λ has.
@@ -59,108 +61,29 @@ named_ascend net bounds run t = passing_ascends (is_free net bounds run t) 0 (co
 
 -- ---- moments
 
-refusal_waits : (net : Network) (bounds : List Bound) (run : Run) (t : ℕ) → is_done run ≡ false →
-    moment_refusal net bounds run t ≡ unless_past t run.now (unless_awaiting (awaited net run (t + 1)) (unless_late t (due net bounds run)))
-refusal_waits net bounds run t waits =
-    cond-false (is_done run) (Some Done) (unless_past t run.now (unless_awaiting (awaited net run (t + 1)) (unless_late t (due net bounds run)))) waits
-
-refusal_done : (net : Network) (bounds : List Bound) (run : Run) (t : ℕ) → is_done run ≡ true → moment_refusal net bounds run t ≡ Some Done
-refusal_done net bounds run t all =
-    cond-true (is_done run) (Some Done) (unless_past t run.now (unless_awaiting (awaited net run (t + 1)) (unless_late t (due net bounds run)))) all
-
--- how a moment is judged
-data Judged (net : Network) (bounds : List Bound) (run : Run) (t : ℕ) : Type 0 where
-  all_done : is_done run ≡ true → moment_refusal net bounds run t ≡ Some Done → Judged net bounds run t
-  is_past : (m : ℕ) → run.now ≡ Some m → t ≤ m → moment_refusal net bounds run t ≡ Some (Past m) → Judged net bounds run t
-  awaits : (p : ℕ) → awaited net run (t + 1) ≡ Some p → moment_refusal net bounds run t ≡ Some (Awaiting p) → Judged net bounds run t
-  is_late : (u : ℕ) → due net bounds run ≡ Some u → u < t → moment_refusal net bounds run t ≡ Some (Late u) → Judged net bounds run t
-  is_accepted : moment_refusal net bounds run t ≡ None → Judged net bounds run t
-
-module _ (net : Network) (bounds : List Bound) (run : Run) (t : ℕ) where
-  by_due : (o : Option ℕ) → due net bounds run ≡ o → moment_refusal net bounds run t ≡ unless_late t o → Judged net bounds run t
-  by_due None e is = is_accepted is
-  by_due (Some u) e is = elim (cases_lt u t) [
-    | inl below ↦ is_late u e below (is ∙ cond-true (ltb u t) (Some (Late u)) None (lt-ltb u t below))
-    | inr upto ↦ is_accepted (is ∙ cond-false (ltb u t) (Some (Late u)) None (le-ltb u t upto))
-  ]
-
-  by_awaited : (o : Option ℕ) → awaited net run (t + 1) ≡ o →
-      moment_refusal net bounds run t ≡ unless_awaiting o (unless_late t (due net bounds run)) → Judged net bounds run t
-  by_awaited None e is = by_due (due net bounds run) refl is
-  by_awaited (Some p) e is = awaits p e is
-
-  by_now : (o : Option ℕ) → run.now ≡ o →
-      moment_refusal net bounds run t ≡ unless_past t o (unless_awaiting (awaited net run (t + 1)) (unless_late t (due net bounds run))) →
-      Judged net bounds run t
-  by_now None e is = by_awaited (awaited net run (t + 1)) refl is
-  by_now (Some m) e is =
-      let other : Option Refusal = unless_awaiting (awaited net run (t + 1)) (unless_late t (due net bounds run)) in
-      elim (cases_lt m t) [
-        | inl later ↦ by_awaited (awaited net run (t + 1)) refl (is ∙ cond-true (ltb m t) other (Some (Past m)) (lt-ltb m t later))
-        | inr upto ↦ is_past m e upto (is ∙ cond-false (ltb m t) other (Some (Past m)) (le-ltb m t upto))
-      ]
-
-  judged : Judged net bounds run t
-  judged = elim (cases_Bool (is_done run)) [
-    | inl all ↦ all_done all (refusal_done net bounds run t all)
-    | inr waits ↦ by_now run.now refl (refusal_waits net bounds run t waits)
-  ]
-
 pub refused_done : (net : Network) (bounds : List Bound) (run : Run) (t : ℕ) → IsRight net run → moment_refusal net bounds run t ≡ Some Done ↔ IsDone net run
 refused_done net bounds run t right = (
-  (λ e. elim (judged net bounds run t) [
-    | all_done all is ↦ done_from net run right.moments all
-    | is_past m now upto is ↦ let f : ⊥ = cc in absurd f
-    | awaits p first is ↦ let f : ⊥ = cc in absurd f
-    | is_late u at below is ↦ let f : ⊥ = cc in absurd f
-    | is_accepted is ↦ let f : ⊥ = cc in absurd f
-  ]),
+  (λ e. done_from net run right.moments (judged net bounds run t (Some Done) e)),
   (λ all. refusal_done net bounds run t (done_to net run right.moments all)),
 )
 
 pub refused_past : (net : Network) (bounds : List Bound) (run : Run) (t now : ℕ) → moment_refusal net bounds run t ≡ Some (Past now) →
     (run.now ≡ Some now) × (t ≤ now)
-refused_past net bounds run t now e = elim (judged net bounds run t) [
-  | is_past m at upto is ↦ let same : m ≡ now = cc in (at ∙ ap (λ n. Some n) same, omega arith)
-  | all_done all is ↦ let f : ⊥ = cc in absurd f
-  | awaits p first is ↦ let f : ⊥ = cc in absurd f
-  | is_late u at below is ↦ let f : ⊥ = cc in absurd f
-  | is_accepted is ↦ let f : ⊥ = cc in absurd f
-]
+refused_past net bounds run t now e = judged net bounds run t (Some (Past now)) e
 
 pub refused_awaiting : (net : Network) (bounds : List Bound) (run : Run) (t p : ℕ) → IsWellFormed net →
     moment_refusal net bounds run t ≡ Some (Awaiting p) → IsFirstAwaited net run t p
-refused_awaiting net bounds run t p wf e = elim (judged net bounds run t) [
-  | awaits q at is ↦
-      let same : q ≡ p = cc in
-      let first = awaited_least net bounds run wf (t + 1) p (at ∙ ap (λ n. Some n) same) in
-      record { awaited = first.0; least = first.1 }
-  | all_done all is ↦ let f : ⊥ = cc in absurd f
-  | is_past m now upto is ↦ let f : ⊥ = cc in absurd f
-  | is_late u at below is ↦ let f : ⊥ = cc in absurd f
-  | is_accepted is ↦ let f : ⊥ = cc in absurd f
-]
+refused_awaiting net bounds run t p wf e =
+    let first = awaited_least net bounds run wf (t + 1) p (judged net bounds run t (Some (Awaiting p)) e) in
+    record { awaited = first.0; least = first.1 }
 
 pub refused_late : (net : Network) (bounds : List Bound) (table : Table) (run : Run) (t u : ℕ) → IsWellFormed net → IsEarliest net bounds table →
     IsRight net run → moment_refusal net bounds run t ≡ Some (Late u) → IsDue net run u × (u < t)
-refused_late net bounds table run t u wf plan right e = elim (judged net bounds run t) [
-  | is_late w at below is ↦
-      let same : w ≡ u = cc in
-      let first = due_first net bounds table wf plan run right u (at ∙ ap (λ n. Some n) same) in
-      ((first_is_due net bounds table wf plan run right u first.1).0, omega arith)
-  | all_done all is ↦ let f : ⊥ = cc in absurd f
-  | is_past m now upto is ↦ let f : ⊥ = cc in absurd f
-  | awaits p first is ↦ let f : ⊥ = cc in absurd f
-  | is_accepted is ↦ let f : ⊥ = cc in absurd f
-]
+refused_late net bounds table run t u wf plan right e =
+    let late = judged net bounds run t (Some (Late u)) e in
+    ((due_is_due net bounds table wf plan run right u late.0).0, late.1)
 
 -- ---- before the due moment
-
-none_pass : (test : ℕ → Bool) (a n : ℕ) → ((k : ℕ) → a ≤ k → k < a + n → test k ≡ false) → filter test (range_with_len a n) ≡ []
-none_pass test a zero fails = refl
-none_pass test a (suc n) fails =
-    cond-false (test a) (a ∷ filter test (range_with_len (a + 1) n)) (filter test (range_with_len (a + 1) n)) (fails a (omega arith) (omega arith))
-    ∙ none_pass test (a + 1) n (λ k from upto. fails k (omega arith) (omega arith))
 
 pub accepted_before : (net : Network) (bounds : List Bound) (table : Table) (run : Run) (t u : ℕ) → IsWellFormed net → IsEarliest net bounds table →
     IsRight net run → due net bounds run ≡ Some t → IsBetween run u t → (moment_refusal net bounds run u ≡ None) × (named net bounds run u ≡ [])
@@ -168,14 +91,12 @@ accepted_before net bounds table run t u wf plan right e between =
     let first = due_first net bounds table wf plan run right t e in
     let idle = or_parts (is_some (awaited net run (u + 1))) (list_any (is_free net bounds run u) (range_with_len 0 (count net)))
     (first.1.before u between.from between.below) in
-    let below = between.below in
-    let from = between.from in (
-      elim (judged net bounds run u) [
-        | is_accepted is ↦ is
-        | all_done all is ↦ absurd (true≢false (sym all ∙ first.0))
-        | is_past m now upto is ↦ let soon = subst (λ o. after o ≤ u) now from in absurd (omega arith)
-        | awaits p at is ↦ absurd (true≢false (ap is_some (sym at) ∙ idle.0))
-        | is_late w at late is ↦ let same : w ≡ t = cc in absurd (omega arith)
-      ],
-      none_pass (is_free net bounds run u) 0 (count net) (λ k low high. each_fails (is_free net bounds run u) 0 (count net) idle.1 k low high),
+    let below = between.below in (
+      not_refused net bounds run u (record {
+        waits = first.0;
+        from = between.from;
+        none_awaited = is_some-false (awaited net run (u + 1)) idle.0;
+        upto = λ w at. let same : t ≡ w = cc in omega arith;
+      }),
+      passing_none (is_free net bounds run u) 0 (count net) (λ k low high. each_fails (is_free net bounds run u) 0 (count net) idle.1 k low high),
     )

@@ -1,5 +1,5 @@
 -- A run stays right.
-use Rattle.std.proofs.Common.{ℕ, zero, suc, ◌≡◌, ◌⊎◌, inl, inr, ◌+◌, ◌<◌, ◌≤◌, Bool, true, false, ◌&&◌, List, Option, Some, None, not, arith, refl, sym, subst, ◌∙◌}
+use Rattle.std.proofs.Common.{ℕ, zero, suc, ◌≡◌, inl, inr, ◌+◌, ◌<◌, ◌≤◌, Bool, true, false, ◌&&◌, List, Some, None, not, arith, sym, subst, ap, ◌∙◌}
 use Rattle.std.specs.Prelude.{is_none, is_some, nat_lt, ◌==◌}
 use Rattle.std.specs.List.{list_any, range_with_len}
 use Rattle.std.proofs.lemmas.Int.{ints}
@@ -14,12 +14,9 @@ use Rattle.cstn_log.specs.Plans.{IsEarliest}
 use Rattle.cstn_log.proofs.AskedLemmas.{greatest_upper, greatest_attained}
 use Rattle.cstn_exec.specs.Runs.{Run, next, executed_at, outcome_of, known, is_awaited, awaited, is_possible, earliest, is_free, has_work}
 use Rattle.cstn_exec.specs.Right.{AgreesKnown, IsRight}
+use Rattle.cstn_exec.proofs.Options.{cases_option, is_some-false}
 use Rattle.cstn_exec.proofs.Ranges.{find_first, find_none, each_fails}
 use Rattle.cstn_exec.proofs.Knowing.{Ready, some_within, known_from, known_to, known_later, awaited_from, awaited_to, possible_from, possible_to}
-
-pub cases_option : {X : Type 0} (o : Option X) → (o ≡ None) ⊎ ((x : X) × (o ≡ Some x))
-cases_option None = inl refl
-cases_option (Some x) = inr (x, refl)
 
 -- a scenario that agrees with what is known agrees with what was known before
 pub agrees_before : (net : Network) (run : Run) (u w : ℕ) (s : Scenario) → IsNetwork net → u ≤ w → AgreesKnown net run w s → AgreesKnown net run u s
@@ -45,7 +42,7 @@ module _ (net : Network) (bounds : List Bound) (run : Run) (wf : IsWellFormed ne
 
   pub held_unless_free : (t x : ℕ) → is_free net bounds run t x ≡ false → executed_at run x ≡ None → t < earliest net bounds run (t + 1) x
   held_unless_free t x h none = elim (and_cases (is_none (executed_at run x)) (not (nat_lt t (earliest net bounds run (t + 1) x))) h) [
-    | inl some ↦ absurd (true≢false (sym (subst (λ o. is_none o ≡ true) (sym none) refl) ∙ some))
+    | inl some ↦ absurd (true≢false (sym (ap is_none none) ∙ some))
     | inr held ↦ ltb-true t (earliest net bounds run (t + 1) x) (not-false (nat_lt t (earliest net bounds run (t + 1) x)) held)
   ]
 
@@ -58,14 +55,10 @@ module _ (net : Network) (bounds : List Bound) (run : Run) (wf : IsWellFormed ne
   idle_from t h =
       let parts = or_parts (is_some (awaited net run (t + 1))) (list_any (is_free net bounds run t) (range_with_len 0 (count net))) h in
       record {
-        none_awaited = awaits_none (t + 1) (none_is (awaited net run (t + 1)) parts.0);
+        none_awaited = awaits_none (t + 1) (is_some-false (awaited net run (t + 1)) parts.0);
         held = λ x here none. held_unless_free t x
             (each_fails (is_free net bounds run t) 0 (count net) parts.1 x (omega arith) (omega arith)) none;
       }
-    where
-      none_is : (o : Option ℕ) → is_some o ≡ false → o ≡ None
-      none_is None e = refl
-      none_is (Some p) e = absurd (true≢false e)
 
 -- from the next moment up to t there is nothing to be done
 abbrev pub IsQuiet : Network → List Bound → Run → ℕ → Type 0

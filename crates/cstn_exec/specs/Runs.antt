@@ -1,5 +1,5 @@
 -- Runs of a network: what was executed and seen, what is known of it, and when there is something to be done.
-use Rattle.std.specs.Prelude.{ℕ, ◌+◌, ◌-◌, Bool, true, false, ◌&&◌, ◌||◌, ◌==◌, not, nat_lt, is_some, is_none, List, Option, Some, None, replicate, slice_index_or, if◌then◌else◌}
+use Rattle.std.specs.Prelude.{ℕ, ◌+◌, ◌-◌, Bool, true, false, ◌&&◌, ◌||◌, ◌==◌, not, nat_lt, is_some, is_none, List, Option, Some, None, replicate, slice_index, slice_index_or, if◌then◌else◌}
 use Rattle.std.specs.List.{position, find, filter, list_all, list_any, range_with_len}
 use Rattle.std.specs.Option.{option_and_then, option_map}
 use Rattle.cstn_label.specs.declared.marks.Mark.{Mark}
@@ -86,6 +86,10 @@ earliest net bounds run u x = greatest (λ b. (b.node == x) && is_possible (know
 -- x isn't executed, and by what is known at t no bound asks for a later moment
 abbrev pub is_free : Network → List Bound → Run → ℕ → ℕ → Bool
 is_free net bounds run t x = is_none (executed_at run x) && not (nat_lt t (earliest net bounds run (t + 1) x))
+
+-- the same, of the moments of the executed and those that are asked for
+abbrev pub is_free_by : List (Option ℕ) → List ℕ → ℕ → ℕ → Bool
+is_free_by moments after t x = is_none (slice_index_or moments x None) && not (nat_lt t (slice_index after x))
 
 -- the time-points to be executed at t, in ascending number
 abbrev pub named : Network → List Bound → Run → ℕ → List ℕ

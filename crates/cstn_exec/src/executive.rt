@@ -1,15 +1,16 @@
-ghost use Rattle.std.specs.Prelude.{ℕ, ◌≡◌, ◌<◌, ◌≤◌, ◌+◌, ◌↔◌, map, true, None, Some, [], IsNone, IsTrue, IfOk, IfSome, IfNone, OnOk, OnErr};
+ghost use Rattle.std.specs.Prelude.{ℕ, ◌≡◌, ◌<◌, ◌≤◌, ◌↔◌, map, None, Some, [], IsNone, IfOk, IfSome, IfNone, OnOk, OnErr};
 ghost use Rattle.std.specs.List.{Contains};
 ghost use Rattle.std.specs.List.Sorted.{IsStrictlyIncreasing};
+ghost use Rattle.std.specs.Option.{option_map};
 ghost use Rattle.cstn_net.specs.Networks.{count};
 ghost use Rattle.cstn_net.specs.Read.{the_network};
 ghost use Rattle.cstn_log.specs.Plans.{the_bounds};
-ghost use Rattle.cstn_exec.specs.Runs.{start, due, named, is_awaited};
+ghost use Rattle.cstn_exec.specs.Runs.{start, due, named};
 ghost use Rattle.cstn_exec.specs.Moves.{moment_refusal, moved, outcome_refusal, handed};
 ghost use Rattle.cstn_exec.specs.Right.{IsRight, IsCalled, IsDue, IsDone, IsCarriedOut};
-ghost use Rattle.cstn_exec.specs.Read.{ExecParts, refusal_of, the_refusal};
-ghost use Rattle.std.specs.Option.{option_map};
+ghost use Rattle.cstn_exec.specs.Read.{refusal_of, the_refusal};
 
+mod accepting;
 mod asked;
 mod known;
 mod naming;
@@ -20,7 +21,8 @@ use crate::errors::ExecError;
 use cstn_label::{NodeId, Prop};
 use cstn_log::SoundPlan;
 use cstn_net::Network;
-use naming::execute;
+use naming::{Names, execute};
+use smallvec::SmallVec;
 use std::alloc::{AllocError, Global};
 use std::marker::Model;
 
@@ -34,11 +36,11 @@ pub struct Executive {
     last: Option<u32>,
     moments: Vec<Option<u32>>,
     outcomes: [Option<bool>; 52],
-    named: Vec<NodeId>,
+    named: Names,
 }
 
 impl Model for Executive {
-    ghost use Rattle.std.specs.Prelude.{map, vec_capacity};
+    ghost use Rattle.std.specs.Prelude.{map};
     ghost use Rattle.cstn_net.specs.Read.{the_network};
     ghost use Rattle.cstn_exec.specs.Read.{ExecParts, IsExecutive};
 
@@ -46,7 +48,7 @@ impl Model for Executive {
 
     ghost view = { λ e. record { net = e.plan.net; bounds = e.plan.bounds; run = record { now = e.last; moments = e.moments.items; outcomes = e.outcomes }; named = map (λ x. x.0) e.named.items } };
 
-    ghost invariant = { λ e. IsExecutive (the_network e.plan.net) (record { now = e.last; moments = e.moments.items; outcomes = e.outcomes }) (vec_capacity e.named) };
+    ghost invariant = { λ e. IsExecutive (the_network e.plan.net) (record { now = e.last; moments = e.moments.items; outcomes = e.outcomes }) e.named.capacity };
 }
 
 impl Executive {
@@ -58,7 +60,7 @@ impl Executive {
         let count = plan.network().count() as usize;
         let mut moments = Vec::with_capacity(alloc, count)?;
         moments.resize(count, None)?;
-        let named = Vec::with_capacity(alloc, count)?;
+        let named = SmallVec::with_capacity(alloc, count)?;
         Ok(Executive {
             plan,
             last: None,
@@ -80,7 +82,7 @@ impl Executive {
     pub fn named(&self) -> &[NodeId]
         ensures named { map (λ x. x.0) result.now ≡ self.now.named }
     {
-        &self.named
+        self.named.as_slice()
     }
 
     /// The first moment, in ticks, at which an outcome is awaited or a time-point is to be executed; none where all is executed.
@@ -104,25 +106,15 @@ impl Executive {
     pub fn can(&self, t: u32) -> Option<ExecError>
         ensures { option_map the_refusal result ≡ moment_refusal (the_network self.now.net) (the_bounds self.now.bounds) self.now.run t }
     {
-        if self.is_done() {
-            return Some(ExecError::Done);
-        }
-        if let Some(now) = self.last() {
-            if t <= now {
-                return Some(ExecError::Past { now });
-            }
-        }
-        if let Some(prop) = self.awaited(t) {
-            return Some(ExecError::Awaiting { prop });
-        }
-        match self.due() {
-            Some(due) if due < t => Some(ExecError::Late { due }),
-            _ => None,
+        match self.due_if_accepted(t) {
+            Ok(_) => None,
+            Err(refusal) => Some(refusal),
         }
     }
 
     /// Accepts a moment, in ticks, and executes the time-points whose least moment it is, which `named` lends. Refused with the
-    /// first that applies of `Done`, `Past`, `Awaiting` and `Late`. Takes a pass over the plan's bounds more than `due`.
+    /// first that applies of `Done`, `Past`, `Awaiting` and `Late`. Takes as many passes over the plan's bounds as `due`, and at
+    /// the due moment one more.
     pub fn moment(&mut self, t: u32) -> Result<(), ExecError>
         ensures refused { refusal_of result ≡ moment_refusal (the_network self.old.net) (the_bounds self.old.bounds) self.old.run t }
         ensures moved { OnOk result (self.new ≡ record self.old { run = moved (the_network self.old.net) (the_bounds self.old.bounds) self.old.run t; named = named (the_network self.old.net) (the_bounds self.old.bounds) self.old.run t }) }
@@ -131,12 +123,13 @@ impl Executive {
         ensures named { OnOk result ((x : ℕ) → Contains self.new.named x ↔ IsCalled (the_network self.old.net) self.old.run t x) }
         ensures ascending { OnOk result (IsStrictlyIncreasing self.new.named) }
     {
-        if let Some(refusal) = self.can(t) {
-            return Err(refusal);
-        }
+        let due = match self.due_if_accepted(t) {
+            Ok(due) => due,
+            Err(refusal) => return Err(refusal),
+        };
         self.is_right();
-        self.name(t);
-        execute(&mut self.moments, &self.named, t);
+        self.name(t, due);
+        execute(&mut self.moments, self.named.as_slice(), t);
         self.last = Some(t);
         Ok(())
     }

@@ -7,7 +7,7 @@ ghost use Rattle.cstn_net.specs.Networks.{Network, IsWellFormed, count};
 ghost use Rattle.cstn_net.specs.Strategies.{Table};
 ghost use Rattle.cstn_log.specs.Plans.{IsEarliest};
 ghost use Rattle.cstn_exec.specs.Runs.{Run, start, named, due};
-ghost use Rattle.cstn_exec.specs.Moves.{Refusal, Done, Past, Late, Awaiting, moment_refusal, moved, outcome_refusal, handed};
+ghost use Rattle.cstn_exec.specs.Moves.{Done, Past, Late, Awaiting, moment_refusal, moved, outcome_refusal, handed};
 ghost use Rattle.cstn_exec.specs.Right.{IsRight, IsCalled, IsDue, IsDone, IsCarriedOut, IsBetween, IsFirstAwaited};
 ghost use Rattle.cstn_exec.specs.Examples.{answers, branch, branch_plan, slow_branch, slow_branch_plan, last_tick_plan, crossed, crossed_plan, process, process_plan, branch_events, branch_answers, true_branch_events, true_branch_answers, last_tick_events, last_tick_answers, slow_events, slow_answers, crossed_events, crossed_answers, process_events, process_answers};
 

@@ -1,5 +1,5 @@
 -- What is printed of an edit line is read again.
-use Rattle.std.proofs.Common.{◌≡◌, ℕ, zero, suc, ◌<◌, ◌≤◌, ◌^◌, List, [], ◌∷◌, ◌++◌, length, refl, ap, ◌∙◌, arith, true, false, not}
+use Rattle.std.proofs.Common.{◌≡◌, ℕ, suc, ◌<◌, ◌≤◌, ◌^◌, List, [], ◌∷◌, ◌++◌, refl, ap, ◌∙◌, arith, true, false, not}
 use Rattle.std.specs.Prelude.{◌==◌, nat_lt, ℤ, FitsSigned, Option, Some, None, All, if◌then◌else◌, codes, bytes_eq}
 use Rattle.std.specs.List.{list_all}
 use Rattle.std.specs.Int.{w32}
@@ -7,7 +7,7 @@ use Rattle.std.specs.Option.{option_map, option_and_then}
 use Rattle.cstn_label.specs.declared.marks.Mark.TheVariants.{Absent}
 use Rattle.cstn_label.specs.Labels.{Label}
 use Rattle.cstn_text.specs.Names.{IsName}
-use Rattle.cstn_text.specs.Numbers.{number_read, value_read, printed_number, printed_value}
+use Rattle.cstn_text.specs.Numbers.{value_read, printed_number, printed_value}
 use Rattle.cstn_text.specs.PrintedNames.{name_read, printed_name}
 use Rattle.cstn_text.specs.PrintedLabels.{label_read, printed_label}
 use Rattle.cstn_text.proofs.NumberLemmas.{number_back, value_back}

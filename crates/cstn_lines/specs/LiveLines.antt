@@ -1,5 +1,5 @@
 -- Live lines.
-use Rattle.std.specs.Prelude.{ℕ, ◌+◌, ◌^◌, ◌<◌, ◌++◌, Bool, true, false, ◌==◌, nat_lt, if◌then◌else◌, List, [], ◌∷◌, take, drop, position, Option, None, Some, codes, bytes_eq}
+use Rattle.std.specs.Prelude.{ℕ, ◌^◌, ◌<◌, ◌++◌, Bool, true, false, nat_lt, if◌then◌else◌, List, [], ◌∷◌, Option, None, Some, codes, bytes_eq}
 use Rattle.std.specs.Option.{option_map, option_and_then}
 use Rattle.cstn_label.specs.Letters.{letter_of, prop_of}
 use Rattle.cstn_text.specs.Cuts.{cut_at}

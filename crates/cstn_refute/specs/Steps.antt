@@ -1,6 +1,5 @@
 -- Steps as lines.
-use Rattle.std.specs.Prelude.{ℕ, ◌+◌, ◌++◌, Bool, ◌&&◌, ◌==◌, nat_le, min, is_some, if◌then◌else◌, List, [], ◌∷◌, take, drop, position, Option, None, Some, codes, bytes_eq, pos, slice_index_or}
-use Rattle.std.specs.Option.{option_map}
+use Rattle.std.specs.Prelude.{ℕ, ◌++◌, Bool, ◌&&◌, nat_le, min, is_some, if◌then◌else◌, List, [], ◌∷◌, Option, None, Some, codes, bytes_eq, pos, slice_index_or}
 use Rattle.cstn_label.specs.Bounds.{Bound}
 use Rattle.cstn_rules.specs.declared.entries.Why.{Why}
 use Rattle.cstn_rules.specs.declared.entries.Why.TheVariants.{Base, Chain, Wait}

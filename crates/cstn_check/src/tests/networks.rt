@@ -21,7 +21,7 @@ pub(super) fn q(mark: Mark) -> Label {
     only(Q, mark)
 }
 
-pub(super) fn pq(of_p: Mark, of_q: Mark) -> Label {
+fn pq(of_p: Mark, of_q: Mark) -> Label {
     only(P, of_p).with(Q, of_q)
 }
 
@@ -41,15 +41,6 @@ pub(super) fn pair(alloc: Global, deadline: u32) -> Result<Builder, AllocError> 
     Ok(net)
 }
 
-/// Z and X, where X is before itself.
-pub(super) fn before_itself(alloc: Global) -> Result<Builder, AllocError> {
-    let mut net = Builder::new(alloc, 3);
-    net.node(None)?;
-    net.node(None)?;
-    net.constrain(1, 1, -1, Label::empty())?;
-    Ok(net)
-}
-
 /// Z, P and X, where X is at 10 or later where P's proposition is true, and at 3 or earlier where it is false.
 pub(super) fn branched(alloc: Global) -> Result<Builder, AllocError>
     ensures { IfOk result (λ net. (length net.points ≡ 3) × (length net.drafts ≡ 2)) }
@@ -63,30 +54,21 @@ pub(super) fn branched(alloc: Global) -> Result<Builder, AllocError>
     Ok(net)
 }
 
-/// And P is so late at the earliest.
-pub(super) fn branched_from(alloc: Global, earliest: u8) -> Result<Builder, AllocError> {
+/// And P is at 3 or later.
+pub(super) fn branched_late(alloc: Global) -> Result<Builder, AllocError> {
     let mut net = branched(alloc)?;
-    net.constrain(1, 0, -(earliest as i32), Label::empty())?;
+    net.constrain(1, 0, -3, Label::empty())?;
     Ok(net)
 }
 
 /// Z, P and Q, where each of P and Q is at 5 or later where the other's proposition is true.
-pub(super) fn crossed(alloc: Global) -> Result<Builder, AllocError>
-    ensures { IfOk result (λ net. (length net.points ≡ 3) × (length net.drafts ≡ 2)) }
-{
+pub(super) fn crossed(alloc: Global) -> Result<Builder, AllocError> {
     let mut net = Builder::new(alloc, 5);
     net.node(None)?;
     net.node(Some(P))?;
     net.node(Some(Q))?;
     net.constrain(1, 0, -5, q(Mark::Yes))?;
     net.constrain(2, 0, -5, p(Mark::Yes))?;
-    Ok(net)
-}
-
-/// And P is at 4 or earlier where Q's is false.
-pub(super) fn crossed_no(alloc: Global) -> Result<Builder, AllocError> {
-    let mut net = crossed(alloc)?;
-    net.constrain(0, 1, 4, q(Mark::No))?;
     Ok(net)
 }
 

@@ -1,5 +1,5 @@
 // The moments that the bounds of a plan ask for.
-ghost use Rattle.std.specs.Prelude.{ℕ, ◌≡◌, ◌<◌, ◌≤◌, ◌==◌, ◌&&◌, cond, max, slice_index};
+ghost use Rattle.std.specs.Prelude.{ℕ, ◌≡◌, ◌<◌, ◌==◌, ◌&&◌, cond, max, slice_index};
 ghost use Rattle.cstn_label.specs.Read.{marks};
 ghost use Rattle.cstn_log.specs.Asked.{moment_of, greatest};
 ghost use Rattle.cstn_log.specs.Plans.{the_bounds};

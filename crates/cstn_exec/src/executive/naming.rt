@@ -1,33 +1,45 @@
 // Who is executed at a moment.
-ghost use Rattle.std.specs.Prelude.{ℕ, ◌≡◌, ◌<◌, ◌≤◌, ◌+◌, ◌&&◌, not, nat_lt, is_none, None, length, map, vec_capacity, slice_index, slice_index_or};
+ghost use Rattle.std.specs.Prelude.{◌≡◌, ◌<◌, ◌≤◌, ◌&&◌, not, nat_lt, is_none, Some, None, length, map};
 ghost use Rattle.std.specs.List.{All, filter, range_with_len};
 ghost use Rattle.cstn_net.specs.Read.{the_network};
 ghost use Rattle.cstn_log.specs.Plans.{the_bounds};
-ghost use Rattle.cstn_exec.specs.Runs.{named};
-ghost use Rattle.cstn_exec.specs.Moves.{executed};
-ghost use Rattle.cstn_exec.specs.Read.{ExecParts};
+ghost use Rattle.cstn_exec.specs.Runs.{due, is_free_by, named};
+ghost use Rattle.cstn_exec.specs.Moves.{moment_refusal, executed};
 
 use super::Executive;
 use super::asked::Moments;
 use cstn_label::NodeId;
+use smallvec::SmallVec;
+
+/// How many names stand in the executive itself; the room for more is taken when it starts.
+const NAMES_IN_PLACE: usize = 8;
+
+/// The time-points that are named at one moment.
+pub type Names = SmallVec<NodeId, NAMES_IN_PLACE>;
 
 impl Executive {
-    // Names the time-points to be executed at t.
-    pub(super) fn name(&mut self, t: u32)
+    // Names the time-points to be executed at t: none before the due moment, `first`.
+    pub(super) fn name(&mut self, t: u32, first: u32)
+        requires accepted { moment_refusal (the_network self.old.net) (the_bounds self.old.bounds) self.old.run t ≡ None }
+        requires due { due (the_network self.old.net) (the_bounds self.old.bounds) self.old.run ≡ Some first }
         ensures { self.new ≡ record self.old { named = named (the_network self.old.net) (the_bounds self.old.bounds) self.old.run t } }
     {
         self.is_right();
+        if t < first {
+            self.named.clear();
+            return;
+        }
         let after = self.earliest(t);
         collect(&mut self.named, &self.moments, &after, t);
     }
 }
 
 // The time-points that aren't executed and whose moment is t at most, in ascending number.
-fn collect(named: &mut Vec<NodeId>, moments: &[Option<u32>], after: &Moments, t: u32)
+fn collect(named: &mut Names, moments: &[Option<u32>], after: &Moments, t: u32)
     requires few { length moments.now ≤ 1024 }
-    requires room { length moments.now ≤ vec_capacity named.old }
-    ensures named { map (λ x. x.0) named.new.items ≡ filter (λ x. is_none (slice_index_or moments.now x None) && not (nat_lt t (slice_index after.now x))) (range_with_len 0 (length moments.now)) }
-    ensures capacity { vec_capacity named.new ≡ vec_capacity named.old }
+    requires room { length moments.now ≤ named.old.capacity }
+    ensures named { map (λ x. x.0) named.new.items ≡ filter (is_free_by moments.now after.now t) (range_with_len 0 (length moments.now)) }
+    ensures capacity { named.new.capacity ≡ named.old.capacity }
 {
     named.clear();
     for (x, moment) in moments.iter().enumerate() {

@@ -1,5 +1,5 @@
 // What an executive holds, as its run.
-ghost use Rattle.std.specs.Prelude.{ℕ, ◌≡◌, ◌<◌, ◌≤◌, ◌+◌, ◌↔◌, MatchOption};
+ghost use Rattle.std.specs.Prelude.{ℕ, ◌≡◌, ◌<◌, ◌≤◌, ◌+◌, MatchOption};
 ghost use Rattle.cstn_net.specs.Networks.{Observes, IsWellFormed, count};
 ghost use Rattle.cstn_net.specs.Strategies.{Table};
 ghost use Rattle.cstn_net.specs.Read.{the_network};

@@ -6,8 +6,9 @@ use Rattle.cstn_rules.specs.Read.{the_entry}
 use Rattle.cstn_log.specs.Entries.{the_entries}
 use Rattle.cstn_check.specs.Growth.{grow}
 use Rattle.cstn_check.specs.declared.growth.Grown.TheVariants.{Full}
+use Rattle.cstn_check.proofs.Starts.{GoesOn}
 use Rattle.cstn_edit.specs.Sessions.{verdict_by}
-use Rattle.cstn_edit.proofs.VerdictLemmas.{log_on, GoesOn, small_where_empty, room_where_not, small_outcome, small_after, grown_outcome, grown_log, verdict_is, yes_by}
+use Rattle.cstn_edit.proofs.VerdictLemmas.{log_on, small_where_empty, room_where_not, small_outcome, small_after, grown_outcome, grown_log, verdict_is, yes_by}
 use Rattle.cstn_edit.proofs.answers.answer.Goals as goal
 
 pub returns-then-len-eq0-clause-outcome : goal.returns-then-len-eq0-clause-outcome

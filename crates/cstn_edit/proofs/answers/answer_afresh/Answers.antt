@@ -7,8 +7,10 @@ use Rattle.cstn_log.specs.Entries.{State, the_entries, bases}
 use Rattle.cstn_check.specs.Growth.{grow}
 use Rattle.cstn_check.specs.Turns.{IsRefutedLast}
 use Rattle.cstn_check.proofs.Lists.{extends_itself}
+use Rattle.cstn_check.proofs.Last.{bases_stand}
+use Rattle.cstn_check.proofs.Starts.{bases_go_on}
 use Rattle.cstn_edit.specs.Sessions.{IsKeptLog}
-use Rattle.cstn_edit.proofs.VerdictLemmas.{bases_stand, first_bases, bases_go_on, grown_log, bases_log, afresh_verdict, afresh_yes}
+use Rattle.cstn_edit.proofs.VerdictLemmas.{first_bases, grown_log, bases_log, afresh_verdict, afresh_yes}
 use Rattle.cstn_edit.proofs.answers.answer_afresh.Goals.{then-eq, else-eq}
 use Rattle.cstn_edit.proofs.answers.answer_afresh.Goals as goal
 
@@ -42,7 +44,7 @@ returns-clause-kept c =
           (omega (arith, c.requires.size.0, c.restart.ensures.size.0, c.grow-grown.ensures.size.0, w.restart-then-eq.ensures.size.0))
           (omega (arith, c.requires.size.1, c.restart.ensures.size.0, c.grow-grown.ensures.size.0, w.restart-then-eq.ensures.size.0)))
       | else-eq w ↦ subst (λ (s : State). IsKeptLog net s) (sym w.log-is)
-          (grown_log net (bases (count net)) c.grow-grown.new.log c.is_well_formed.ensures (bases_go_on net c.is_well_formed.ensures)
+          (grown_log net (bases (count net)) c.grow-grown.new.log c.is_well_formed.ensures (bases_go_on net c.is_well_formed.ensures.network c.is_well_formed.ensures.letters)
           (extends_itself (bases (count net)))
           (c.grow-grown.ensures.grown (λ full. search (rules, full, w.if-eq.ensures))
           ∙ ap (grow net) (c.restart.ensures.restart ∙ first_bases net c.args.log.now.cap c.requires.room))

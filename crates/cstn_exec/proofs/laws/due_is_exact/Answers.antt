@@ -1,10 +1,9 @@
-use Rattle.cstn_exec.proofs.Dues.{due_first, first_is_due, due_none, done_none, done_from, done_to, carried_out}
+use Rattle.cstn_exec.proofs.Dues.{due_is_due, due_none, done_none, done_from, done_to, carried_out}
 use Rattle.cstn_exec.proofs.Refusals.{accepted_before}
 use Rattle.cstn_exec.proofs.laws.due_is_exact.Goals as goal
 
 pub returns-clause-due : goal.returns-clause-due
-returns-clause-due c net bounds table run t wf plan right e =
-    first_is_due net bounds table wf plan run right t (due_first net bounds table wf plan run right t e).1
+returns-clause-due c net bounds table run t wf plan right e = due_is_due net bounds table wf plan run right t e
 
 pub returns-clause-none : goal.returns-clause-none
 returns-clause-none c net bounds table run wf plan right = (

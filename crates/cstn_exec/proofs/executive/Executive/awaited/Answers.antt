@@ -1,6 +1,6 @@
 use Rattle.std.proofs.Common.{◌+◌, arith, sym, ◌∙◌}
 use Rattle.cstn_net.specs.Read.{the_network}
-use Rattle.cstn_exec.proofs.Steps.{awaited_is, awaited_nowhere}
+use Rattle.cstn_exec.proofs.Searching.{awaited_is, awaited_nowhere}
 use Rattle.cstn_exec.proofs.executive.Executive.awaited.Goals as goal
 
 pub returns-then-is_awaited : goal.returns-then-is_awaited

@@ -2,7 +2,7 @@ use Rattle.std.proofs.Common.{refl, sym, ◌∙◌}
 use Rattle.std.proofs.lemmas.Bool.{true≢false}
 use Rattle.cstn_net.specs.Read.{the_network}
 use Rattle.cstn_log.specs.Plans.{the_bounds}
-use Rattle.cstn_exec.proofs.Dues.{done_from, done_to, due_first, first_is_due, carried_out}
+use Rattle.cstn_exec.proofs.Dues.{done_from, done_to, due_is_due, carried_out}
 use Rattle.cstn_exec.proofs.executive.Executive.due.Goals as goal
 
 pub returns-then-is_done-clause-none : goal.returns-then-is_done-clause-none
@@ -30,13 +30,13 @@ returns-else-is_done-clause-first c =
     let known = c.is_right.ensures in
     let net = the_network c.args.self.now.net in
     let bounds = the_bounds c.args.self.now.bounds in
-    (first_is_due net bounds known.earliest.0 known.well_formed known.earliest.1 c.args.self.now.run known.right c.first_due.result
-    (due_first net bounds known.earliest.0 known.well_formed known.earliest.1 c.args.self.now.run known.right c.first_due.result c.first_due.ensures).1).0
+    (due_is_due net bounds known.earliest.0 known.well_formed known.earliest.1 c.args.self.now.run known.right c.first_due.result
+    c.first_due.ensures).0
 
 pub returns-else-is_done-clause-in_time : goal.returns-else-is_done-clause-in_time
 returns-else-is_done-clause-in_time c =
     let known = c.is_right.ensures in
     let net = the_network c.args.self.now.net in
     let bounds = the_bounds c.args.self.now.bounds in
-    (first_is_due net bounds known.earliest.0 known.well_formed known.earliest.1 c.args.self.now.run known.right c.first_due.result
-    (due_first net bounds known.earliest.0 known.well_formed known.earliest.1 c.args.self.now.run known.right c.first_due.result c.first_due.ensures).1).1
+    (due_is_due net bounds known.earliest.0 known.well_formed known.earliest.1 c.args.self.now.run known.right c.first_due.result
+    c.first_due.ensures).1

@@ -3,7 +3,7 @@ use Rattle.std.specs.Option.{option_map}
 use Rattle.cstn_net.specs.Read.{the_network}
 use Rattle.cstn_log.specs.Plans.{the_bounds}
 use Rattle.cstn_exec.proofs.Dues.{someone_waits, upto_deadline}
-use Rattle.cstn_exec.proofs.Steps.{due_is, quiet_on, work_awaited, work_then}
+use Rattle.cstn_exec.proofs.Searching.{due_is, quiet_on, work_awaited, work_then}
 use Rattle.cstn_exec.proofs.executive.Executive.first_due.Goals as goal
 
 pub returns-in_default : goal.returns-in_default

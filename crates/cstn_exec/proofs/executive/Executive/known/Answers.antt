@@ -3,7 +3,7 @@ use Rattle.std.proofs.lemmas.Bool.{cases_lt}
 use Rattle.cstn_label.specs.declared.knowledge.Known.{Known}
 use Rattle.cstn_net.specs.Read.{the_network}
 use Rattle.cstn_exec.specs.Runs.{known}
-use Rattle.cstn_exec.proofs.Steps.{KnownBelow, known_first, known_more, known_same, known_above}
+use Rattle.cstn_exec.proofs.Values.{KnownBelow, known_first, known_more, known_same, known_above}
 use Rattle.cstn_exec.proofs.executive.Executive.known.Goals as goal
 use Rattle.cstn_exec.proofs.executive.Executive.known.Goals.{in-Some, in_default}
 

@@ -5,7 +5,7 @@ use Rattle.cstn_log.specs.Plans.{the_bounds}
 use Rattle.cstn_exec.specs.Runs.{start}
 use Rattle.cstn_exec.specs.Right.{IsRight}
 use Rattle.cstn_exec.proofs.Moving.{start_right}
-use Rattle.cstn_exec.proofs.Steps.{filled}
+use Rattle.cstn_exec.proofs.Filled.{filled}
 use Rattle.cstn_exec.proofs.executive.Executive.start.Goals as goal
 
 pub invariant_of-result : goal.invariant_of-result

@@ -2,7 +2,7 @@ use Rattle.std.proofs.Common.{◌&&◌}
 use Rattle.std.specs.Prelude.{◌==◌}
 use Rattle.cstn_exec.specs.Runs.{is_possible}
 use Rattle.cstn_exec.specs.Read.{value_in}
-use Rattle.cstn_exec.proofs.Steps.{greatest_more}
+use Rattle.cstn_exec.proofs.Asking.{greatest_more}
 use Rattle.cstn_exec.proofs.executive.asked.asked.Goals as goal
 
 pub loop-k-preserved : goal.loop-k-preserved

@@ -1,4 +1,4 @@
-use Rattle.cstn_exec.proofs.Steps.{possible_is}
+use Rattle.cstn_exec.proofs.Values.{possible_is}
 use Rattle.cstn_exec.proofs.executive.asked.is_possible.Goals as goal
 
 pub returns : goal.returns

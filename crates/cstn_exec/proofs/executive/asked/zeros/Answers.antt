@@ -1,4 +1,4 @@
-use Rattle.cstn_exec.proofs.Moving.{default_of}
+use Rattle.cstn_exec.proofs.Filled.{default_of}
 use Rattle.cstn_exec.proofs.executive.asked.zeros.Goals as goal
 
 pub returns : goal.returns

@@ -1,13 +1,13 @@
-use Rattle.std.proofs.Common.{ℕ, List, Bool, None, [], ◌∷◌, ◌++◌, ◌&&◌, not, map, length, arith, sym, ap, ◌∙◌}
-use Rattle.std.specs.Prelude.{is_none, nat_lt, slice_index, slice_index_or, vec_capacity}
+use Rattle.std.proofs.Common.{ℕ, List, Bool, [], ◌∷◌, ◌++◌, map, length, arith, sym, ap, ◌∙◌, length-append}
 use Rattle.std.proofs.lemmas.List.{map-append}
-use Rattle.cstn_exec.proofs.Steps.{filter_with, filter_without}
+use Rattle.cstn_exec.specs.Runs.{is_free_by}
+use Rattle.cstn_exec.proofs.Naming.{filter_with, filter_without}
 use Rattle.cstn_exec.proofs.executive.naming.collect.Goals as goal
 use Rattle.cstn_exec.proofs.executive.naming.collect.Goals.{then-is_free, else-is_free}
 
 pub loop-x-preserved : goal.loop-x-preserved
 loop-x-preserved c =
-    let test : ℕ → Bool = λ x. is_none (slice_index_or c.args.moments.now x None) && not (nat_lt c.args.t (slice_index c.args.after.now x)) in
+    let test : ℕ → Bool = is_free_by c.args.moments.now c.args.after.now c.args.t in
     elim c.if-is_free.branch [
       | then-is_free w ↦
           let is = ap (λ v. v.items) w.named-is ∙ w.push_reserved.ensures.items in
@@ -15,13 +15,13 @@ loop-x-preserved c =
             named = ap (map (λ x. x.0)) is ∙ map-append (λ x. x.0) c.loop-x.named.items (record { 0 = c.loop-x.x } ∷ [])
                 ∙ ap (λ (l : List ℕ). l ++ c.loop-x.x ∷ []) c.loop-x.invariant.named
                 ∙ sym (filter_with test c.loop-x.x (sym c.is_free.ensures ∙ w.if-is_free.true));
-            room = let more = w.push_reserved.ensures.len in let before = c.loop-x.invariant.room in let same = ap (λ v. length v.items) w.named-is in omega arith;
-            capacity = ap vec_capacity w.named-is ∙ w.push_reserved.ensures.capacity ∙ c.loop-x.invariant.capacity;
+            room = let longer = ap length is ∙ length-append c.loop-x.named.items (record { 0 = c.loop-x.x } ∷ []) in let before = c.loop-x.invariant.room in omega arith;
+            capacity = ap (λ v. v.capacity) w.named-is ∙ w.push_reserved.ensures.capacity ∙ c.loop-x.invariant.capacity;
           }
       | else-is_free w ↦ record {
         named = ap (λ v. map (λ x. x.0) v.items) w.named-is ∙ c.loop-x.invariant.named
             ∙ sym (filter_without test c.loop-x.x (sym c.is_free.ensures ∙ w.if-is_free.false));
         room = let before = c.loop-x.invariant.room in let same = ap (λ v. length v.items) w.named-is in omega arith;
-        capacity = ap vec_capacity w.named-is ∙ c.loop-x.invariant.capacity;
+        capacity = ap (λ v. v.capacity) w.named-is ∙ c.loop-x.invariant.capacity;
       }
     ]

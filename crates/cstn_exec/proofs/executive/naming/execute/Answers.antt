@@ -1,7 +1,7 @@
 use Rattle.std.proofs.Common.{Option, Some, List, ℕ, map, take, ap, sym, ◌∙◌}
 use Rattle.std.specs.Prelude.{slice_set}
 use Rattle.cstn_exec.specs.Moves.{executed}
-use Rattle.cstn_exec.proofs.Steps.{executed_more}
+use Rattle.cstn_exec.proofs.Naming.{executed_more}
 use Rattle.cstn_exec.proofs.executive.naming.execute.Goals as goal
 
 pub loop-x-preserved : goal.loop-x-preserved

@@ -1,5 +1,5 @@
 use Rattle.std.proofs.Common.{ℕ, ◌+◌, inl, inr, min, arith, subst, sym, ap, ◌∙◌}
-use Rattle.cstn_exec.proofs.Steps.{IsLeastFrom, least_same, least_more, none_when}
+use Rattle.cstn_exec.proofs.Searching.{IsLeastFrom, least_same, least_more, none_when}
 use Rattle.cstn_exec.proofs.Dues.{some_none}
 use Rattle.cstn_exec.proofs.executive.search.least_from.Goals as goal
 use Rattle.cstn_exec.proofs.executive.search.least_from.Goals.{then-is_none, else-is_none}

@@ -1,4 +1,4 @@
-use Rattle.cstn_exec.proofs.Steps.{IsLeastFrom}
+use Rattle.cstn_exec.proofs.Searching.{IsLeastFrom}
 use Rattle.cstn_exec.proofs.executive.search.least_from.Given as goal
 
 abbrev pub invariant-loop-x : goal.invariant-loop-x

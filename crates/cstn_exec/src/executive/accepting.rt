@@ -1,0 +1,35 @@
+// Which moments are accepted.
+ghost use Rattle.std.specs.Prelude.{◌≡◌, Some, IfOk};
+ghost use Rattle.cstn_net.specs.Read.{the_network};
+ghost use Rattle.cstn_log.specs.Plans.{the_bounds};
+ghost use Rattle.cstn_exec.specs.Runs.{due};
+ghost use Rattle.cstn_exec.specs.Moves.{moment_refusal};
+ghost use Rattle.cstn_exec.specs.Read.{refusal_of};
+
+use super::Executive;
+use crate::errors::ExecError;
+
+impl Executive {
+    // The due moment, where t is accepted, and else why t is refused.
+    pub(super) fn due_if_accepted(&self, t: u32) -> Result<u32, ExecError>
+        ensures refused { refusal_of result ≡ moment_refusal (the_network self.now.net) (the_bounds self.now.bounds) self.now.run t }
+        ensures due { IfOk result (λ u. due (the_network self.now.net) (the_bounds self.now.bounds) self.now.run ≡ Some u) }
+    {
+        if self.is_done() {
+            return Err(ExecError::Done);
+        }
+        if let Some(now) = self.last() {
+            if t <= now {
+                return Err(ExecError::Past { now });
+            }
+        }
+        if let Some(prop) = self.awaited(t) {
+            return Err(ExecError::Awaiting { prop });
+        }
+        let due = self.first_due();
+        if due < t {
+            return Err(ExecError::Late { due });
+        }
+        Ok(due)
+    }
+}
