@@ -47,6 +47,7 @@ returns-in_default-send-2-clause-ends g c =
 pub returns-in-Some-clause-ends : goal.returns-in-Some-clause-ends
 returns-in-Some-clause-ends g c =
     let was = c.session.invariant.progress in
-    finishes _ _ _ _ _ _ (c.args.opening.now ++ was.1) _ _ _
+    let after : Live = record { left = g.S.Source.left c.next.new.live; faults = g.S.Source.faults c.next.new.live } in
+    finishes _ _ after _ _ _ (c.args.opening.now ++ was.1) _ _ _
     (c.in-Some.ensures.ends (g.T.Talk.state c.args.talk) _ was.0 was.1 c.args.opening.now was.2 c.session.invariant.live c.requires)
     was.3 (shown _ _ _ _ _ _ c.finish-in-Some.ensures.written c.deref-in-Some.ensures.value)
