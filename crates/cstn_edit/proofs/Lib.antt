@@ -3,3 +3,5 @@ pub mod VerdictLemmas
 pub mod StartLemmas
 pub mod AddLemmas
 pub mod RefutationLemmas
+pub mod EditLemmas
+pub mod Laws

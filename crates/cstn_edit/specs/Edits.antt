@@ -1,16 +1,14 @@
 -- Edit sessions by their definition: the edits that are accepted and refused, the sessions that follow, and the verdicts.
-use Rattle.std.specs.Prelude.{ℕ, ℤ, pos, negsuc, int_le, ◌+◌, nat_le, ◌==◌, Bool, true, false, not, ◌&&◌, if◌then◌else◌, List, [], ◌∷◌, ◌++◌, length, map, position, Option, None, Some, Result, Ok, Err}
-use Rattle.std.specs.List.{filter, list_all, list_any, range_with_len}
+use Rattle.std.specs.Prelude.{ℕ, ℤ, pos, negsuc, int_le, ◌+◌, nat_le, ◌==◌, Bool, not, ◌&&◌, if◌then◌else◌, List, [], ◌∷◌, ◌++◌, length, map, position, Option, None, Some, Result, Ok, Err}
+use Rattle.std.specs.List.{filter, list_any, range_with_len}
 use Rattle.std.specs.Option.{option_map, unwrap_or}
-use Rattle.cstn_label.specs.declared.marks.Mark.{Mark}
-use Rattle.cstn_label.specs.declared.marks.Mark.TheVariants.{Absent, Yes, No, Unknown}
 use Rattle.cstn_label.specs.Labels.{Label}
 use Rattle.cstn_net.specs.Networks.{Network, Constraint, count}
 use Rattle.cstn_net.specs.Read.{the_network, is_prop}
 use Rattle.cstn_rules.specs.Derivations.{Entry}
 use Rattle.cstn_log.specs.Entries.{bases}
 use Rattle.cstn_log.specs.Cuts.{dropped}
-use Rattle.cstn_check.specs.Tests.{is_absent}
+use Rattle.cstn_check.specs.Tests.{is_absent, is_plain}
 use Rattle.cstn_edit.specs.declared.errors.EditError.{EditError}
 use Rattle.cstn_edit.specs.declared.errors.EditError.TheVariants.{EditLimit as AtLimit, NoRoom as WithoutRoom, NoSuch as Missing, ValueRange as OutOfRange, NotPlain as Unplain, NotObserved as Unobserved}
 use Rattle.cstn_edit.specs.declared.outcomes.Outcome.{Outcome}
@@ -42,27 +40,17 @@ begun net = record { net = net; kept = bases (count net); edits = 0; highest = h
 abbrev pub is_value : ℤ → Bool
 is_value most = int_le (negsuc 999999999) most && int_le most (pos 1000000000)
 
-abbrev pub is_unknown : Mark → Bool
-is_unknown Absent = false
-is_unknown Yes = false
-is_unknown No = false
-is_unknown Unknown = true
-
--- no letter's mark is unknown
-abbrev pub is_plain : Label → Bool
-is_plain a = list_all (λ p. not (is_unknown (a p))) (range_with_len 0 52)
-
 -- some time-point observes the proposition
 abbrev pub is_observed : Network → ℕ → Bool
 is_observed net p = list_any (is_prop p) net.observes
 
 -- the least proposition that the label names and nothing observes
-abbrev pub unobserved : Network → Label → Option ℕ
+unfoldable pub unobserved : Network → Label → Option ℕ
 unobserved net a = position (λ p. not (is_absent (a p)) && not (is_observed net p)) (range_with_len 0 52)
 
 -- some constraint has the id
 abbrev pub has_constraint : Network → ℕ → Bool
-has_constraint net id = list_any (λ (c : Constraint). c.id == id) net.constraints
+has_constraint net id = list_any (λ c. c.id == id) net.constraints
 
 -- why a constraint with this value and label isn't added, if it isn't, where there is room for so many
 abbrev pub add_refusal : ℕ → Session → ℤ → Label → Option Refusal
@@ -97,6 +85,14 @@ with_added s from to most a =
       last = None;
     }
 
+-- the constraints without the one of this id
+abbrev pub without : ℕ → List Constraint → List Constraint
+without id cs = filter (λ c. not (c.id == id)) cs
+
+-- the constraint, with another value where it has this id
+abbrev pub with_value : ℕ → ℤ → Constraint → Constraint
+with_value id most c = if c.id == id then record c { most = most } else c
+
 -- other constraints, without what the constraint of the id gave
 abbrev pub with_others : Session → ℕ → List Constraint → Session
 with_others s id cs = record {
@@ -109,12 +105,11 @@ with_others s id cs = record {
 
 -- the constraint is taken out
 abbrev pub with_removed : Session → ℕ → Session
-with_removed s id = with_others s id (filter (λ (c : Constraint). not (c.id == id)) s.net.constraints)
+with_removed s id = with_others s id (without id s.net.constraints)
 
 -- its value is changed
 abbrev pub with_changed : Session → ℕ → ℤ → Session
-with_changed s id most =
-    with_others s id (map (λ (c : Constraint). if c.id == id then record c { most = most } else c) s.net.constraints)
+with_changed s id most = with_others s id (map (with_value id most) s.net.constraints)
 
 -- the outcome of a verdict: the last one, if no edit was accepted since
 abbrev pub outcome_at : ℕ → Session → Outcome

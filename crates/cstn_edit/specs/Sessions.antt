@@ -1,5 +1,5 @@
 -- Edit sessions: a network that is edited, with the list that is kept between its verdicts.
-use Rattle.std.specs.Prelude.{ℕ, suc, ◌≡◌, ◌+◌, ◌*◌, ◌^◌, ◌<◌, ◌≤◌, nat_lt, nat_le, ◌&&◌, if◌then◌else◌, List, [], ◌∷◌, ◌++◌, length, Option, Some, None}
+use Rattle.std.specs.Prelude.{ℕ, suc, ◌≡◌, ◌+◌, ◌*◌, ◌^◌, ◌<◌, ◌≤◌, max, nat_lt, nat_le, ◌&&◌, if◌then◌else◌, List, [], ◌∷◌, ◌++◌, length, Option, Some, None}
 use Rattle.std.specs.List.{All}
 use Rattle.cstn_label.specs.declared.marks.Mark.TheVariants.{Absent}
 use Rattle.cstn_label.specs.Labels.{Label}
@@ -61,10 +61,15 @@ abbrev pub next_id : Option ℕ → ℕ
 next_id None = 0
 next_id (Some id) = suc id
 
+-- the greater of an id and of what is known
+abbrev pub greater : Option ℕ → ℕ → ℕ
+greater None id = id
+greater (Some known) id = max known id
+
 -- the highest of the ids, and of what is known
 abbrev pub highest_of : Option ℕ → List Constraint → Option ℕ
 highest_of known [] = known
-highest_of known (c ∷ cs) = highest_of (Some c.id) cs
+highest_of known (c ∷ cs) = highest_of (Some (greater known c.id)) cs
 
 -- the label names the proposition, which nothing observes
 abbrev pub IsUnobserved : Network → Label → ℕ → Type 0

@@ -13,6 +13,7 @@ ghost use Rattle.cstn_check.specs.declared.verdicts.Verdict.{Verdict};
 ghost use Rattle.cstn_check.specs.Growth.{grow, load_of};
 ghost use Rattle.cstn_refute.specs.Refutations.{the_steps};
 ghost use Rattle.cstn_edit.specs.Sessions.{kept_of, IsUnobserved, IsLeastUnobserved, next_id, highest_of, kept_after, outcome_of};
+ghost use Rattle.cstn_edit.specs.Edits.{the_session, refusal_of, begun, add_refusal, remove_refusal, change_refusal, with_added, with_removed, with_changed, outcome_at, with_verdict};
 
 use crate::answers::{answer, is_well_formed};
 use crate::errors::EditError;
@@ -67,6 +68,7 @@ impl Session {
         ensures edits { IfOk result (λ s. s.edits ≡ 0) }
         ensures highest { IfOk result (λ s. s.highest ≡ highest_of None (the_network net).constraints) }
         ensures last { IfOk result (λ s. s.last ≡ None) }
+        ensures session { IfOk result (λ s. the_session s ≡ begun (the_network net)) }
     {
         let mut net = net;
         net.reserve(room)?;
@@ -99,8 +101,10 @@ impl Session {
         ensures value { (v : ℤ) → (IsErrOf result (EditError.ValueRange v) ↔ ((self.old.edits < 1000000) × (length self.old.net.constraints < self.old.room) × (IsValue most → ⊥) × (v ≡ most))) }
         ensures plain { IsErrOf result EditError.NotPlain ↔ ((self.old.edits < 1000000) × (length self.old.net.constraints < self.old.room) × IsValue most × (IsPlain (marks label) → ⊥)) }
         ensures observed { (p : DeclaredProp) → (IsErrOf result (EditError.NotObserved p) ↔ ((self.old.edits < 1000000) × (length self.old.net.constraints < self.old.room) × IsValue most × IsPlain (marks label) × IsLeastUnobserved (the_network self.old.net) (marks label) p.index)) }
+        ensures refusal { refusal_of result ≡ add_refusal self.old.room (the_session self.old) most (marks label) }
         ensures id { IfOk result (λ id. id ≡ next_id self.old.highest) }
         ensures added { IfOk result (λ id. self.new ≡ record self.old { net = record self.old.net { constraints = self.old.net.constraints ++ record { id = id; from = from; to = to; most = most; label = label } ∷ []; spare = self.old.net.spare - 1 }; edits = self.old.edits + 1; highest = Some id; last = None }) }
+        ensures session { IsOk result → the_session self.new ≡ with_added (the_session self.old) from.0 to.0 most (marks label) }
         ensures refused { OnErr result (self.new ≡ self.old) }
     {
         self.check_limit()?;
@@ -137,8 +141,10 @@ impl Session {
     pub fn remove(&mut self, id: u32) -> Result<(), EditError>
         ensures limit { IsErrOf result EditError.EditLimit ↔ (self.old.edits ≡ 1000000) }
         ensures none { (other : ℕ) → (IsErrOf result (EditError.NoSuch other) ↔ ((self.old.edits < 1000000) × All (λ c. c.id ≢ id) self.old.net.constraints × (other ≡ id))) }
+        ensures refusal { refusal_of result ≡ remove_refusal (the_session self.old) id }
         ensures removed { IsOk result → self.new ≡ record self.old { net = record self.old.net { constraints = without_id id self.old.net.constraints; spare = self.old.net.spare + 1 }; entries = self.new.entries; edits = self.old.edits + 1; last = None } }
         ensures kept { IsOk result → kept_of self.new ≡ dropped (kept_of self.old) id }
+        ensures session { IsOk result → the_session self.new ≡ with_removed (the_session self.old) id }
         ensures refused { OnErr result (self.new ≡ self.old) }
     {
         self.check_limit()?;
@@ -158,8 +164,10 @@ impl Session {
         ensures limit { IsErrOf result EditError.EditLimit ↔ (self.old.edits ≡ 1000000) }
         ensures none { (other : ℕ) → (IsErrOf result (EditError.NoSuch other) ↔ ((self.old.edits < 1000000) × All (λ c. c.id ≢ id) self.old.net.constraints × (other ≡ id))) }
         ensures value { (v : ℤ) → (IsErrOf result (EditError.ValueRange v) ↔ ((self.old.edits < 1000000) × (All (λ c. c.id ≢ id) self.old.net.constraints → ⊥) × (IsValue most → ⊥) × (v ≡ most))) }
+        ensures refusal { refusal_of result ≡ change_refusal (the_session self.old) id most }
         ensures changed { IsOk result → self.new ≡ record self.old { net = record self.old.net { constraints = map (with_most id most) self.old.net.constraints }; entries = self.new.entries; edits = self.old.edits + 1; last = None } }
         ensures kept { IsOk result → kept_of self.new ≡ dropped (kept_of self.old) id }
+        ensures session { IsOk result → the_session self.new ≡ with_changed (the_session self.old) id most }
         ensures refused { OnErr result (self.new ≡ self.old) }
     {
         self.check_limit()?;
@@ -183,6 +191,8 @@ impl Session {
         ensures outcome { self.old.last ≡ None → result ≡ outcome_of (the_network self.old.net) self.old.cap (kept_of self.old) }
         ensures kept { self.old.last ≡ None → kept_of self.new ≡ kept_after (the_network self.old.net) self.old.cap (kept_of self.old) }
         ensures same { self.new ≡ record self.old { entries = self.new.entries; last = Some result; tries = self.new.tries } }
+        ensures by_definition { result ≡ outcome_at self.old.cap (the_session self.old) }
+        ensures session { the_session self.new ≡ with_verdict self.old.cap (the_session self.old) }
         ensures again { (o : Outcome) → self.old.last ≡ Some o → (result ≡ o) × (self.new ≡ self.old) }
 
         ensures yes { (load : ℕ) → result.verdict ≡ Verdict.Yes load → IsConsistent (the_network self.old.net) }

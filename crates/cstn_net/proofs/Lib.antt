@@ -4,7 +4,7 @@ pub mod Plain
 pub mod Branch
 pub mod Late
 pub mod WellFormed
-mod ListLemmas
+pub mod ListLemmas
 mod ObserverLemmas
 pub mod ChangeLemmas
 pub mod DraftLemmas

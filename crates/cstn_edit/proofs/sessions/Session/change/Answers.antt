@@ -1,4 +1,4 @@
-use Rattle.std.proofs.Common.{◌≡◌, ◌≢◌, Err, w32, to_z, of_z, ◌<◌, ◌+◌, ◌∙◌, map, None, refl, sym, subst, ap, arith}
+use Rattle.std.proofs.Common.{◌≡◌, ◌≢◌, Err, w32, to_z, of_z, ◌<◌, ◌+◌, ◌∙◌, map, None, Some, refl, sym, subst, ap, arith}
 use Rattle.std.proofs.lemmas.List.{length-map}
 use Rattle.std.specs.List.{All}
 use Rattle.std.proofs.lemmas.Bool.{false≢true}
@@ -9,6 +9,8 @@ use Rattle.cstn_log.specs.Cuts.{dropped}
 use Rattle.cstn_log.specs.Entries.{the_entries}
 use Rattle.cstn_edit.specs.declared.errors.EditError.TheVariants.{ValueRange}
 use Rattle.cstn_edit.specs.Sessions.{SessionParts, IsSession, next_id, kept_of, kept_list}
+use Rattle.cstn_edit.specs.Edits.{ValueRange as Refused, with_value, with_changed, the_session}
+use Rattle.cstn_edit.proofs.EditLemmas.{change_none, change_out_of_range, change_some, value_true, value_false, none_seen, some_seen, with_most_seen, others_seen}
 use Rattle.cstn_edit.proofs.CutLemmas.{cut_session, kept_dropped, others_with, with_below}
 use Rattle.cstn_edit.proofs.sessions.Session.change.Goals as goal
 
@@ -55,3 +57,35 @@ returns-clause-kept c = λ ok.
     c.self.view_is
     (kept_dropped (the_network inside.net) (the_network c.set_most.new.self) inside.log c.retract.new.self c.args.id points
     c.retract.ensures.size.0 c.retract.ensures.dropped)
+
+pub returns-then-not-has_constraint-clause-refusal : goal.returns-then-not-has_constraint-clause-refusal
+returns-then-not-has_constraint-clause-refusal c =
+    let v = c.args.self.now in
+    change_none v c.args.id c.args.most (c.in_ok-check_limit.ensures.below.0 refl)
+    (none_seen _ v c.args.id c.self.view_is (c.has_constraint.ensures.0 c.if-not-has_constraint.true))
+
+pub returns-then-not-is_value-clause-refusal : goal.returns-then-not-is_value-clause-refusal
+returns-then-not-is_value-clause-refusal c =
+    let v = c.args.self.now in
+    let same = to_z-of_z w32 c.args.most c.ranges.most in
+    ap (λ z. Some (Refused z)) same
+    ∙ change_out_of_range v c.args.id c.args.most (c.in_ok-check_limit.ensures.below.0 refl)
+    (some_seen _ v c.args.id c.self.view_is (λ others. false≢true (sym (c.has_constraint.ensures.1 others) ∙ c.if-not-has_constraint.false)))
+    (value_false c.args.most (λ value. false≢true (sym c.if-not-is_value.true ∙ c.is_value.ensures.1 (subst IsValue (sym same) value))))
+
+pub returns-clause-refusal : goal.returns-clause-refusal
+returns-clause-refusal c =
+    let v = c.args.self.now in
+    change_some v c.args.id c.args.most (c.in_ok-check_limit.ensures.below.0 refl)
+    (some_seen _ v c.args.id c.self.view_is (λ others. false≢true (sym (c.has_constraint.ensures.1 others) ∙ c.if-not-has_constraint.false)))
+    (value_true c.args.most (subst IsValue (to_z-of_z w32 c.args.most c.ranges.most) (c.if-not-is_value.ensures.0 refl)))
+
+pub returns-clause-session : goal.returns-clause-session
+returns-clause-session c = λ ok.
+    let inside = c.self.inside in
+    let cs = inside.net.constraints in
+    let most = to_z w32 (of_z w32 c.args.most) in
+    others_seen c.args.self.now inside.net c.set_most.new.self inside.log c.retract.new.self (map (with_most c.args.id most) cs)
+    (map (with_value c.args.id most)) inside.room inside.edits c.args.id inside.net.spare inside.tries.count inside.highest inside.last
+    c.self.view_is c.set_most.ensures.set (with_most_seen c.args.id most cs) c.retract.ensures.size.0 c.retract.ensures.dropped
+    ∙ ap (λ z. with_changed (the_session c.args.self.now) c.args.id z) (to_z-of_z w32 c.args.most c.ranges.most)

@@ -1,10 +1,13 @@
 use Rattle.std.proofs.Common.{◌≡◌, ◌<◌, ◌+◌, ◌∙◌, None, not, refl, sym, subst, ap, arith}
+use Rattle.std.proofs.lemmas.Bool.{false≢true}
 use Rattle.std.proofs.lemmas.List.Elements.{All-filter}
 use Rattle.cstn_net.specs.Networks.{count}
 use Rattle.cstn_net.specs.Read.{NetworkParts, the_network, has_id, without_id}
 use Rattle.cstn_log.specs.Cuts.{dropped}
 use Rattle.cstn_log.specs.Entries.{the_entries}
 use Rattle.cstn_edit.specs.Sessions.{SessionParts, IsSession, next_id, kept_of, kept_list}
+use Rattle.cstn_edit.specs.Edits.{without}
+use Rattle.cstn_edit.proofs.EditLemmas.{remove_none, remove_some, none_seen, some_seen, without_seen, others_seen}
 use Rattle.cstn_edit.proofs.CutLemmas.{where_some, cut_session, kept_dropped, others_left, without_many, without_few}
 use Rattle.cstn_edit.proofs.sessions.Session.remove.Goals as goal
 
@@ -37,3 +40,24 @@ returns-clause-kept c = λ ok.
     c.self.view_is
     (kept_dropped (the_network inside.net) (the_network c.take_out.new.self) inside.log c.retract.new.self c.args.id points
     c.retract.ensures.size.0 c.retract.ensures.dropped)
+
+pub returns-then-is_none-clause-refusal : goal.returns-then-is_none-clause-refusal
+returns-then-is_none-clause-refusal c =
+    let v = c.args.self.now in
+    remove_none v c.args.id (c.in_ok-check_limit.ensures.below.0 refl)
+    (none_seen _ v c.args.id c.self.view_is (c.take_out.ensures.none.0 (c.is_none.ensures ∙ ap not c.if-is_none.true)))
+
+pub returns-clause-refusal : goal.returns-clause-refusal
+returns-clause-refusal c =
+    let v = c.args.self.now in
+    remove_some v c.args.id (c.in_ok-check_limit.ensures.below.0 refl)
+    (some_seen _ v c.args.id c.self.view_is
+    (λ others. false≢true (sym (c.take_out.ensures.none.1 others) ∙ c.is_none.ensures ∙ ap not c.if-is_none.false)))
+
+pub returns-clause-session : goal.returns-clause-session
+returns-clause-session c = λ ok.
+    let inside = c.self.inside in
+    let cs = inside.net.constraints in
+    others_seen c.args.self.now inside.net c.take_out.new.self inside.log c.retract.new.self (without_id c.args.id cs) (without c.args.id)
+    inside.room inside.edits c.args.id (inside.net.spare + 1) inside.tries.count inside.highest inside.last c.self.view_is (gone c)
+    (without_seen c.args.id cs) c.retract.ensures.size.0 c.retract.ensures.dropped

@@ -2,7 +2,7 @@ use Rattle.std.proofs.Common.{arith, sym, subst}
 use Rattle.cstn_net.specs.Read.{the_network}
 use Rattle.cstn_log.specs.Entries.{the_entries, first_entries}
 use Rattle.std.proofs.Common.{◌≡◌}
-use Rattle.cstn_edit.proofs.StartLemmas.{started_log, started_session}
+use Rattle.cstn_edit.proofs.StartLemmas.{started_log, started_session, started_seen}
 use Rattle.cstn_edit.proofs.sessions.Session.start.Goals as goal
 
 pub invariant_of-result : goal.invariant_of-result
@@ -16,3 +16,11 @@ invariant_of-result c =
     started_session c.args.net c.reserve.new.self log c.args.room c.highest_id-highest.result c.reserve.ensures.well_formed
     c.reserve.ensures.same c.requires.room c.requires.most_room c.requires.ids c.in_ok-reserve.ensures.room kept
     c.in_ok-log.ensures.births c.highest_id-highest.ensures
+
+pub returns-clause-session : goal.returns-clause-session
+returns-clause-session c =
+    let log = c.in_ok-log.log in
+    let net = c.reserve.new.self in
+    let size = c.in_ok-log.ensures.size in
+    let starts = subst (λ cap. the_entries log.entries ≡ first_entries (the_network net) cap) (sym size.0) c.in_ok-log.ensures.start in
+    started_seen c.args.net net log c.args.room 0 c.highest_id-highest.result c.reserve.ensures.same starts c.highest_id-highest.ensures
