@@ -198,6 +198,7 @@ impl Session {
         ensures yes { (load : ℕ) → result.verdict ≡ Verdict.Yes load → IsConsistent (the_network self.old.net) }
         ensures no { (load : ℕ) → result.verdict ≡ Verdict.No load → IsConsistent (the_network self.old.net) → ⊥ }
         ensures full { self.old.last ≡ None → (result.verdict ≡ Verdict.Full ↔ ((self.old.cap < length (grow (the_network self.old.net) (kept_of self.old))) × (self.old.cap < load_of (the_network self.old.net)))) }
+        ensures load { (load : ℕ) → result.verdict ≡ Verdict.No load → load ≡ length (kept_of self.new) }
         ensures prefix { result.afresh ≡ false → (more : List Entry) × (kept_of self.old ++ more ≡ kept_of self.new) }
         ensures tries { self.old.tries ≤ self.new.tries }
     {
@@ -217,6 +218,9 @@ impl Session {
         ensures part { IfOk result (λ r. the_steps r ≡ part (kept_of self.now)) }
         ensures load { IfOk result (λ r. r.load ≡ length (kept_of self.now)) }
         ensures refutes { IfOk result (λ r. IsRefutation (the_network self.now.net) (the_steps r)) }
+
+        // It can be printed with the names of the time-points.
+        ensures named { IfOk result (λ r. All (λ e. e.bound.node.0 < count (the_network self.now.net)) r.steps) }
     {
         is_well_formed(&self.net);
         let load = self.log.len();

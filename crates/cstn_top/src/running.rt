@@ -11,7 +11,7 @@ ghost use Rattle.cstn_text.specs.PrintedNames.{printed_name};
 ghost use Rattle.cstn_top.specs.Texts.{line};
 ghost use Rattle.cstn_top.specs.Plans.{EndsLine};
 ghost use Rattle.cstn_top.specs.Sessions.{the_turn};
-ghost use Rattle.cstn_top.specs.Running.{running_turn, running_ending, turn_with, with_run, moment_turn, seen_turn, refused_text, due_text, unfinished};
+ghost use Rattle.cstn_top.specs.Running.{RunningParts, running_turn, running_ending, turn_with, with_run, moment_turn, seen_turn, refused_text, due_text, unfinished};
 
 use crate::lines::{put_moment, put_number, put_outcome, put_prop, put_word};
 use crate::output::Outcome;
@@ -109,6 +109,10 @@ impl Running {
 }
 
 impl Talk for Running {
+    ghost State = { RunningParts };
+
+    ghost state = { λ r. r };
+
     ghost turn = { running_turn };
 
     ghost ending = { running_ending };

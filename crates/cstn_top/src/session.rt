@@ -25,11 +25,17 @@ pub(crate) enum Answer {
 
 /// What answers the lines of a session.
 pub(crate) trait Talk: Drop {
+    /// The states of a session.
+    ghost State: { Type 0 };
+
+    /// The state that it is in.
+    ghost state: { Self → State };
+
     /// The answer to a line.
-    ghost turn: { Self → List ℕ → Turn Self };
+    ghost turn: { State → List ℕ → Turn State };
 
     /// What is said where the lines end.
-    ghost ending: { Self → Said };
+    ghost ending: { State → Said };
 
     /// How much room an answer wants, in bytes.
     ghost room: { Self → ℕ };
@@ -43,7 +49,7 @@ pub(crate) trait Talk: Drop {
     fn answer(&mut self, line: &[u8], text: &mut Vec<u8>) -> Result<Answer, AllocError>
         requires empty { text.old.items ≡ [] }
         requires room { room self.old ≤ vec_capacity text.old }
-        ensures turn { IfOk result (λ answer. turn self.old line.now ≡ the_turn answer self.new text.new.items) }
+        ensures turn { IfOk result (λ answer. turn (state self.old) line.now ≡ the_turn answer (state self.new) text.new.items) }
         ensures lines { IfOk result (λ answer. answer ≡ Answer.More → EndsLine text.new.items) }
         ensures room { room self.new ≡ room self.old }
         ensures capacity { vec_capacity text.old ≤ vec_capacity text.new }
@@ -52,7 +58,7 @@ pub(crate) trait Talk: Drop {
     fn ending(&self, text: &mut Vec<u8>) -> Outcome
         requires empty { text.old.items ≡ [] }
         requires room { room self.now ≤ vec_capacity text.old }
-        ensures { ending self.now ≡ record { outcome = result; text = text.new.items } };
+        ensures { ending (state self.now) ≡ record { outcome = result; text = text.new.items } };
 }
 
 // How much room each text of a session itself wants, in bytes.
@@ -91,8 +97,8 @@ fn next<T: Talk, S: Source>(
     requires at_end { lines.old.ended ≡ true → IsAtEnd (S.left live.old) }
     requires room { T.room talk.old ≤ vec_capacity text.old }
     requires script { 40 ≤ vec_capacity text.old }
-    ensures goes_on { IfNone result ((start : T) (told : Option (List ℕ)) (taken said : List ℕ) → Progress T.turn T.ending start told (S.left live.old) lines.old talk.old taken said → (bytes : List ℕ) × Progress T.turn T.ending start told (S.left live.new) lines.new talk.new (taken ++ bytes) (said ++ text.new.items)) }
-    ensures ends { IfSome result (λ status. (start : T) (before : Live) (taken said opening : List ℕ) → Progress T.turn T.ending start before.left (S.left live.old) lines.old talk.old taken said → before.faults ≤ S.faults live.old → EndsLine opening → IsText (session T.turn T.ending opening start) before (record { left = S.left live.new; faults = S.faults live.new }) status ((opening ++ said) ++ text.new.items)) }
+    ensures goes_on { IfNone result ((start : T.State) (told : Option (List ℕ)) (taken said : List ℕ) → Progress T.turn T.ending start told (S.left live.old) lines.old (T.state talk.old) taken said → (bytes : List ℕ) × Progress T.turn T.ending start told (S.left live.new) lines.new (T.state talk.new) (taken ++ bytes) (said ++ text.new.items)) }
+    ensures ends { IfSome result (λ status. (start : T.State) (before : Live) (taken said opening : List ℕ) → Progress T.turn T.ending start before.left (S.left live.old) lines.old (T.state talk.old) taken said → before.faults ≤ S.faults live.old → EndsLine opening → IsText (session T.turn T.ending opening start) before (record { left = S.left live.new; faults = S.faults live.new }) status ((opening ++ said) ++ text.new.items)) }
     ensures at_end { lines.new.ended ≡ true → IsAtEnd (S.left live.new) }
     ensures count { IfNone result ((lines.new.count ≡ lines.old.count + 1) × (lines.new.count ≤ 16777216)) }
     ensures room { T.room talk.new ≡ T.room talk.old }
@@ -137,7 +143,7 @@ pub(crate) fn converse<T: Talk, S: Source, K: Sink>(
     out: &mut K,
 ) -> Status
     requires { EndsLine opening.now }
-    ensures ends { Ends (session T.turn T.ending opening.now talk) (record { left = S.left live.old; faults = S.faults live.old }) (record { left = S.left live.new; faults = S.faults live.new }) (K.written out.old) (K.written out.new) result }
+    ensures ends { Ends (session T.turn T.ending opening.now (T.state talk)) (record { left = S.left live.old; faults = S.faults live.old }) (record { left = S.left live.new; faults = S.faults live.new }) (K.written out.old) (K.written out.new) result }
     ensures flushed { result ≢ Status.WriteFault → K.flushed out.new ≡ option_map length (K.written out.new) }
     ensures read { result ≡ Status.ReadFault → Rose (S.faults live.old) (S.faults live.new) }
     ensures write { result ≡ Status.WriteFault → Rose (K.faults out.old) (K.faults out.new) }

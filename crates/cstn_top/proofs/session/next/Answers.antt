@@ -6,7 +6,7 @@ pub returns-in-Ok-More-clause-goes_on : goal.returns-in-Ok-More-clause-goes_on
 returns-in-Ok-More-clause-goes_on g c start told taken said so_far =
     let step = c.in-Line.ensures in
     let bytes = step.steps.0 in
-    let turn = turned g.T.Talk.turn c.args.talk.now c.answer.new.self _ c.step.new.self.line _ _ _ c.in-Ok-More.ensures.turn c.line.ensures c.in-Ok-More.field-0-is in (
+    let turn = turned g.T.Talk.turn (g.T.Talk.state c.args.talk.now) (g.T.Talk.state c.answer.new.self) _ c.step.new.self.line _ _ _ c.in-Ok-More.ensures.turn c.line.ensures c.in-Ok-More.field-0-is in (
       bytes,
       one_more g.T.Talk.turn g.T.Talk.ending start told _ _ _ _ _ _ taken said bytes _ c.in-Line.number
           (record { so_far = so_far; reads = step.steps.1; idle = step.steps.2; stays = step.stays; at_end = step.ended c.requires.at_end })
@@ -17,7 +17,7 @@ pub returns-in-Ok-Last-clause-ends : goal.returns-in-Ok-Last-clause-ends
 returns-in-Ok-Last-clause-ends g c start before taken said opening so_far earlier opens =
     let step = c.in-Line.ensures in
     let bytes = step.steps.0 in
-    let turn = turned g.T.Talk.turn c.args.talk.now c.answer.new.self _ c.step.new.self.line _ _ _ c.in-Ok-Last.ensures.turn c.line.ensures c.in-Ok-Last.field-0-is in
+    let turn = turned g.T.Talk.turn (g.T.Talk.state c.args.talk.now) (g.T.Talk.state c.answer.new.self) _ c.step.new.self.line _ _ _ c.in-Ok-Last.ensures.turn c.line.ensures c.in-Ok-Last.field-0-is in
     last_line g.T.Talk.turn g.T.Talk.ending opening start before _ _ _ _ _ _ taken said bytes _ c.in-Line.number _ _
     (record { so_far = so_far; reads = step.steps.1; idle = step.steps.2; stays = step.stays; at_end = step.ended c.requires.at_end })
     step.steps.3 turn c.status.ensures.status
@@ -26,7 +26,7 @@ pub returns-in-Ok-Wrong-clause-ends : goal.returns-in-Ok-Wrong-clause-ends
 returns-in-Ok-Wrong-clause-ends g c start before taken said opening so_far earlier opens =
     let step = c.in-Line.ensures in
     let bytes = step.steps.0 in
-    let turn = turned g.T.Talk.turn c.args.talk.now c.answer.new.self _ c.step.new.self.line _ _ _ c.in-Ok-Wrong.ensures.turn c.line.ensures c.in-Ok-Wrong.field-0-is in
+    let turn = turned g.T.Talk.turn (g.T.Talk.state c.args.talk.now) (g.T.Talk.state c.answer.new.self) _ c.step.new.self.line _ _ _ c.in-Ok-Wrong.ensures.turn c.line.ensures c.in-Ok-Wrong.field-0-is in
     wrong_line g.T.Talk.turn g.T.Talk.ending opening start before _ _ _ _ _ _ taken said bytes _ c.in-Line.number _
     (record { so_far = so_far; reads = step.steps.1; idle = step.steps.2; stays = step.stays; at_end = step.ended c.requires.at_end })
     step.steps.3 turn c.put_script.ensures.items refl

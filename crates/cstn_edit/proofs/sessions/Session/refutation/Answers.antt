@@ -1,7 +1,11 @@
-use Rattle.std.proofs.Common.{arith, ap, ◌∙◌}
+use Rattle.std.proofs.Common.{◌<◌, arith, subst, ap, ◌∙◌}
+use Rattle.std.specs.List.{All}
+use Rattle.cstn_net.specs.Networks.{count}
 use Rattle.cstn_net.specs.Read.{the_network}
+use Rattle.cstn_log.specs.Entries.{the_entries}
+use Rattle.cstn_rules.specs.declared.entries.Entry.{Entry}
 use Rattle.cstn_edit.specs.Sessions.{SessionParts}
-use Rattle.cstn_edit.proofs.RefutationLemmas.{last_refutes, steps_kept}
+use Rattle.cstn_edit.proofs.RefutationLemmas.{last_refutes, steps_kept, steps_named}
 use Rattle.cstn_edit.proofs.sessions.Session.refutation.Goals as goal
 
 pub new-requires : goal.new-requires
@@ -13,3 +17,12 @@ new-requires c =
       steps = steps_kept net c.is_well_formed.ensures c.self.inside.log c.self.invariant.kept last c.in_ok-steps.steps.items
           c.len-load.ensures.all_new c.in_ok-steps.ensures.part (omega (arith, c.len-load.ensures.len, c.len-load.ensures.at_most, c.len-load.ensures.largest));
     }
+
+pub returns-clause-named : goal.returns-clause-named
+returns-clause-named c =
+    let net = the_network c.self.inside.net in
+    let last = last_refutes net c.self.inside.log c.self.inside.last c.requires.no.0 c.requires.no.1
+    (ap (λ (s : SessionParts). s.last) c.self.view_is ∙ c.requires.no.2) c.requires.no.3 c.self.invariant.refuted in
+    subst (λ (s : SessionParts). All (λ (e : Entry). e.bound.node.0 < count (the_network s.net)) c.new.result.steps) c.self.view_is
+    (steps_named net c.is_well_formed.ensures c.self.inside.log c.self.invariant.kept last c.new.result.steps c.len-load.ensures.all_new
+    (ap the_entries c.new.ensures.steps ∙ c.in_ok-steps.ensures.part))

@@ -1,10 +1,23 @@
-use Rattle.std.proofs.Common.{◌≡◌, ◌++◌, sym, subst}
+use Rattle.std.proofs.Common.{◌≡◌, ◌++◌, length, sym, subst}
 use Rattle.cstn_net.specs.Strategies.{IsConsistent}
 use Rattle.cstn_net.specs.Read.{the_network}
 use Rattle.cstn_log.specs.Entries.{the_entries}
 use Rattle.cstn_edit.specs.Sessions.{SessionParts, Refuted, kept_of, kept_list}
+use Rattle.cstn_edit.proofs.RefutationLemmas.{load_kept}
 use Rattle.cstn_edit.proofs.VerdictLemmas.{no_true, prefix_of}
 use Rattle.cstn_edit.proofs.sessions.Session.verdict.Goals as goal
+
+pub returns-in-Some-clause-load : goal.returns-in-Some-clause-load
+returns-in-Some-clause-load c = λ load said.
+    let net = the_network c.self.inside.net in
+    subst (λ (v : SessionParts). load ≡ length (kept_of v)) c.self.view_is
+    (load_kept net c.self.inside.log c.in-Some.outcome load c.self.invariant.kept
+    (subst (λ o. Refuted net c.self.inside.log o) c.in-Some.is c.self.invariant.refuted) said)
+
+pub returns-clause-load : goal.returns-clause-load
+returns-clause-load c = λ load said.
+    load_kept (the_network c.self.inside.net) c.answer-outcome.new.log c.answer-outcome.result load c.answer-outcome.ensures.kept
+    c.answer-outcome.ensures.refuted said
 
 pub returns-in-Some-clause-no : goal.returns-in-Some-clause-no
 returns-in-Some-clause-no c = λ load said.
