@@ -1,16 +1,11 @@
 -- What a text says can be written.
 use Rattle.std.proofs.Common.{ℕ, ◌≡◌, ◌+◌, ◌<◌, ◌≤◌, ◌^◌, Bool, true, false, List, [], ◌∷◌, ◌++◌, length, min, arith, refl, sym, subst, length-append}
-use Rattle.std.specs.Prelude.{◌==◌, ◌&&◌, nat_le, is_some, if◌then◌else◌, bytes_eq, Option, Some, None, codes, pos}
+use Rattle.std.specs.Prelude.{◌&&◌, nat_le, is_some, if◌then◌else◌, bytes_eq, Option, Some, None, codes, pos}
 use Rattle.std.specs.List.{All}
-use Rattle.std.specs.Option.{option_and_then}
 use Rattle.std.proofs.lemmas.Int.{ints}
-use Rattle.std.proofs.lemmas.Option.{same_Some, option_and_then_some}
+use Rattle.std.proofs.lemmas.Option.{same_Some}
 use Rattle.std.proofs.lemmas.List.Elements.{All-nil, All-push}
 use Rattle.std.proofs.lemmas.List.Quantifiers.{position-Some}
-use Rattle.cstn_label.specs.declared.marks.Mark.{Mark}
-use Rattle.cstn_label.specs.declared.marks.Mark.TheVariants.{Absent, Yes, No, Unknown}
-use Rattle.cstn_label.specs.Labels.{Label, empty, with_mark}
-use Rattle.cstn_label.specs.Letters.{prop_of}
 use Rattle.cstn_label.specs.Bounds.{Bound}
 use Rattle.cstn_rules.specs.declared.entries.Why.{Why}
 use Rattle.cstn_rules.specs.declared.entries.Why.TheVariants.{Base, Chain, Wait}
@@ -18,7 +13,8 @@ use Rattle.cstn_rules.specs.Derivations.{Entry}
 use Rattle.cstn_text.specs.Names.{number_of}
 use Rattle.cstn_text.specs.Numbers.{number_read}
 use Rattle.cstn_text.specs.PrintedNames.{name_read}
-use Rattle.cstn_text.specs.PrintedLabels.{Reading, nothing_read, signed, marked, after_byte, ended, marks_read, label_read}
+use Rattle.cstn_text.specs.PrintedLabels.{label_read}
+use Rattle.cstn_text.proofs.LabelReadLemmas.{label_small}
 use Rattle.cstn_refute.specs.Steps.{◌>>=◌, part, number_within, place_read, places_read, chain_read, wait_read, why_read, is_place, rule_read, node_read, named_bound_read, step_read}
 use Rattle.cstn_refute.specs.Texts.{Told, tells, wrong, at_end, or_wrong, told_after, load_read, lines_of, told_lines, told}
 use Rattle.cstn_refute.specs.Written.{ArePlaces, IsWritten, AreWritten}
@@ -92,61 +88,6 @@ rule_said k line found e =
     let word = first_some (part place.0.1) (λ word. why_read word.0 word.1) found rest.1 in
     (is_place_said k place.0.0 rest.0, word_said (bytes_eq word.0.0 (codes "base")) (bytes_eq word.0.0 (codes "chain")) (bytes_eq word.0.0 (codes "wait")) word.0.1 found word.2)
 
--- a label marks the 52 propositions alone
-abbrev IsSmall : Label → Type 0
-IsSmall a = (p : ℕ) → 52 ≤ p → a p ≡ Absent
-
-signed_small : (a : Label) (s sign : Mark) (next : Reading) → IsSmall a → signed a s sign ≡ Some next → IsSmall next.label
-signed_small a Absent sign next small e = absurd (cc)
-signed_small a No sign next small e = absurd (cc)
-signed_small a Unknown sign next small e = absurd (cc)
-signed_small a Yes sign next small e =
-    let same : record { label = a; sign = sign } ≡ next = same_Some _ next e in
-    subst (λ (r : Reading). IsSmall r.label) same small
-
-prop_small : (b p : ℕ) → prop_of b ≡ Some p → p < 52
-prop_small b p e = grind arith
-
-with_small : (q p : ℕ) (m n : Mark) → p < 52 → 52 ≤ q → n ≡ Absent → (if q == p then m else n) ≡ Absent
-with_small q p m n low high e = grind arith
-
-marked_small : (a : Label) (sign m : Mark) (p : ℕ) (next : Reading) → IsSmall a → p < 52 → marked a sign m p ≡ Some next → IsSmall next.label
-marked_small a sign Yes p next small low e = absurd (cc)
-marked_small a sign No p next small low e = absurd (cc)
-marked_small a sign Unknown p next small low e = absurd (cc)
-marked_small a sign Absent p next small low e =
-    let same : record { label = with_mark a p sign; sign = Yes } ≡ next = same_Some _ next e in
-    subst (λ (r : Reading). IsSmall r.label) same (λ q high. with_small q p sign (a q) low high (small q high))
-
-byte_cases : (no unknown : Bool) (r : Reading) (b : ℕ) (next : Reading) → IsSmall r.label →
-    (if no then signed r.label r.sign No else if unknown then signed r.label r.sign Unknown
-    else option_and_then (λ p. marked r.label r.sign (r.label p) p) (prop_of b)) ≡ Some next → IsSmall next.label
-byte_cases true unknown r b next small e = signed_small r.label r.sign No next small e
-byte_cases false true r b next small e = signed_small r.label r.sign Unknown next small e
-byte_cases false false r b next small e =
-    option_and_then_some (λ p. marked r.label r.sign (r.label p) p) (prop_of b) next e
-    (λ p there marks. marked_small r.label r.sign (r.label p) p next small (prop_small b p there) marks)
-
-ended_small : (a : Label) (s : Mark) (b : Label) → IsSmall a → ended a s ≡ Some b → IsSmall b
-ended_small a Absent b small e = absurd (cc)
-ended_small a No b small e = absurd (cc)
-ended_small a Unknown b small e = absurd (cc)
-ended_small a Yes b small e = subst IsSmall (same_Some a b e) small
-
-marks_small : (r : Reading) (bytes : List ℕ) (a : Label) → IsSmall r.label → marks_read r bytes ≡ Some a → IsSmall a
-marks_small r [] a small e = ended_small r.label r.sign a small e
-marks_small r (b ∷ bytes) a small e =
-    option_and_then_some (λ next. marks_read next bytes) (after_byte r b) a e
-    (λ next is more. marks_small next bytes a (byte_cases (b == 33) (b == 63) r b next small is) more)
-
-label_cases : (dash : Bool) (b : ℕ) (bytes : List ℕ) (a : Label) → (if dash then Some empty else marks_read nothing_read (b ∷ bytes)) ≡ Some a → IsSmall a
-label_cases true b bytes a e = subst IsSmall (same_Some empty a e) (λ p high. refl)
-label_cases false b bytes a e = marks_small nothing_read (b ∷ bytes) a (λ p high. refl) e
-
-label_said : (text : List ℕ) (a : Label) → label_read text ≡ Some a → IsSmall a
-label_said [] a e = absurd (cc)
-label_said (b ∷ bytes) a e = label_cases (b == 45 && length bytes == 0) b bytes a e
-
 node_said : (names : List (List ℕ)) (text : List ℕ) (x : ℕ) → node_read names text ≡ Some x → x < length names
 node_said names text x e =
     let name = first_some (name_read text) (number_of names) x e in
@@ -166,7 +107,7 @@ step_said names k line e is =
     let same : record { bound = b.0; why = rule.0.0 } ≡ e = same_Some _ e b.2 in
     let rules = rule_said k line rule.0 rule.1 in
     let high : d.0 ≤ 1000001 = (within_said 0 1000001 least.0.0 d.0 d.1).1 in
-    let small = label_said least.0.1 a.0 a.1 in
+    let small = label_small least.0.1 a.0 a.1 in
     let node = node_said names name.0.0 x.0 x.1 in (
       rules.0,
       subst (IsWritten names) same (subst (λ (c : Bound). IsWritten names (record { bound = c; why = rule.0.0 })) bounded

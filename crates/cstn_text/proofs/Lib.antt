@@ -2,5 +2,6 @@ pub mod NameLemmas
 pub mod NumberLemmas
 pub mod PrintedNameLemmas
 pub mod PrintedLabelLemmas
+pub mod LabelReadLemmas
 pub mod PartLemmas
 pub mod CutLemmas
