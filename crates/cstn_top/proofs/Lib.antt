@@ -12,3 +12,4 @@ pub mod SessionEnds
 pub mod Texts
 pub mod Names
 pub mod Runs
+pub mod Edits

@@ -1,5 +1,5 @@
 -- What is answered to edit lines.
-use Rattle.std.specs.Prelude.{ℕ, ℤ, Bool, if◌then◌else◌, List, [], ◌∷◌, ◌++◌, length, ◌≡◌, Option, None, Some, codes, decimal, bytes_eq}
+use Rattle.std.specs.Prelude.{◌≤◌, ℕ, ℤ, if◌then◌else◌, List, [], ◌∷◌, ◌++◌, length, ◌≡◌, Option, None, Some, codes, decimal, bytes_eq}
 use Rattle.cstn_label.specs.Labels.{Label}
 use Rattle.cstn_label.specs.Letters.{letter_of}
 use Rattle.cstn_net.specs.Networks.{Network, count}
@@ -113,7 +113,8 @@ pub record EditingParts : Type 0 where
 abbrev pub the_editing : EditingParts → Editing
 the_editing e = record { cap = e.session.cap; names = e.names; session = the_session e.session; verdict = e.verdict }
 
--- each time-point has a name, and there is room for 16,384 constraints
+-- each of the time-points, at most 1,024, has a name, and there is room for 16,384 constraints
 pub record IsEditing (e : EditingParts) : Type 0 where
   pub named : length e.names ≡ count (the_network e.session.net)
+  pub few : length e.names ≤ 1024
   pub room : e.session.room ≡ 16384

@@ -2,6 +2,7 @@
 #![tactic(auto)]
 
 mod commands;
+mod editing;
 mod lines;
 mod output;
 mod running;

@@ -2,6 +2,7 @@
 ghost use Rattle.std.specs.Prelude.{◌≡◌, ◌≤◌, ◌<◌, ◌+◌, ◌*◌, ◌++◌, ◌∷◌, [], map, string_bytes, vec_capacity, length, codes, decimal};
 ghost use Rattle.std.specs.List.{All};
 ghost use Rattle.cstn_label.specs.Letters.{letter_of};
+ghost use Rattle.cstn_text.specs.Numbers.{printed_value};
 ghost use Rattle.cstn_lines.specs.LiveLines.{printed_truth};
 ghost use Rattle.cstn_top.specs.Plans.{EndsLine};
 ghost use Rattle.cstn_top.specs.Texts.{line};
@@ -29,6 +30,19 @@ pub(crate) fn put_number(text: &mut Vec<u8>, word: &[u8], number: u32)
     let mut digits = Buffer::new();
     text.extend_from_slice(word).unwrap();
     text.extend_from_slice(digits.format(number).as_bytes())
+        .unwrap();
+    text.extend_from_slice(b"\n").unwrap();
+}
+
+/// Puts a line that ends with a value.
+pub(crate) fn put_value(text: &mut Vec<u8>, word: &[u8], value: i32)
+    requires room { length text.old.items + length word.now + 41 ≤ vec_capacity text.old }
+    ensures items { text.new.items ≡ text.old.items ++ line (word.now ++ printed_value value) }
+    ensures capacity { vec_capacity text.old ≤ vec_capacity text.new }
+{
+    let mut digits = Buffer::new();
+    text.extend_from_slice(word).unwrap();
+    text.extend_from_slice(digits.format(value).as_bytes())
         .unwrap();
     text.extend_from_slice(b"\n").unwrap();
 }
