@@ -2,15 +2,16 @@
 use Rattle.std.proofs.Common.{◌≡◌, ℕ, List, [], ◌∷◌, ◌++◌, refl, sym, ◌∙◌, ap, subst, inl, inr, arith}
 use Rattle.std.specs.Prelude.{◌⊎◌, IsNone, IsTrue, Option, None, Some, codes, true}
 use Rattle.std.specs.List.{list_all}
+use Rattle.cstn_io.specs.Contents.{IsAllOf}
 use Rattle.cstn_top.specs.Texts.{line}
-use Rattle.cstn_top.specs.Requests.{Request, files_of, names_of}
+use Rattle.cstn_top.specs.Requests.{Request, files_of, names_of, AsksEdit}
 use Rattle.cstn_top.specs.Files.{AreContents, AreThere}
 use Rattle.cstn_top.specs.Plans.{Said, say, Plan, says, IsOutput, MayTalk, Live, IsText, is_output, is_file_fault, is_live_fault, is_memory, IsWritten, Ends, ComesTo, Untouched}
 use Rattle.cstn_top.specs.Sessions.{session}
 use Rattle.cstn_top.specs.Running.{RunningParts, running_turn, running_ending}
 use Rattle.cstn_top.specs.Outputs.{plan_of, plan_at}
-use Rattle.cstn_top.specs.Prepared.{the_plan, Planned}
-use Rattle.cstn_top.specs.Meanings.{HoldsOf, IsGood, IsBad, IsFull, IsComplete, IsStopped, files_read, ReadsLive}
+use Rattle.cstn_top.specs.Prepared.{the_plan, Planned, FitsRequest}
+use Rattle.cstn_top.specs.Meanings.{HoldsOf, IsGood, IsBad, IsFull, IsComplete, IsStopped, files_read, ReadsLive, MayStop}
 use Rattle.cstn_top.specs.Statuses.{status_of}
 use Rattle.cstn_top.specs.declared.commands.Prepared.{Prepared}
 use Rattle.cstn_top.specs.declared.status.Status.{Status}
@@ -18,7 +19,7 @@ use Rattle.cstn_top.specs.declared.status.Status.TheVariants.{Good as IsYesStatu
 use Rattle.cstn_top.specs.declared.output.Outcome.{Outcome}
 use Rattle.cstn_top.specs.declared.output.Outcome.TheVariants.{Good, Bad, Words, Full}
 use Rattle.cstn_top.proofs.Contents.{given, all_given, no_taken, some_contents, none_there}
-use Rattle.cstn_top.proofs.Meanings.{IsRight, output_right, output_complete, talks_live}
+use Rattle.cstn_top.proofs.Meanings.{IsRight, output_right, output_complete, talks_live, edits_stop}
 
 -- how a call ends, for the files that were read
 abbrev pub Answered : {S : Type 0} → Option Request → Option (List ℕ → Option (List ℕ)) → S → S → Live → Live → Option (List ℕ) → Option (List ℕ) → Status → Type 0
@@ -79,6 +80,9 @@ carried plan other before after status text comes may (is_memory first (inr line
 pub prepared_as : (r : Request) (told : Option (List ℕ → Option (List ℕ))) (p q : Prepared) → Planned r told (the_plan p) → p ≡ q → Planned r told (the_plan q)
 prepared_as r told p q planned same = subst (λ (x : Prepared). Planned r told (the_plan x)) same planned
 
+pub fits_as : (r : Request) (p q : Prepared) → FitsRequest r p → p ≡ q → FitsRequest r q
+fits_as r p q fits same = subst (FitsRequest r) same fits
+
 -- a session with an opening that is another one
 pub opened_as : (r : Request) (told : Option (List ℕ → Option (List ℕ))) (running : RunningParts) (opening : List ℕ) → {other : List ℕ} → Planned r told (session running_turn running_ending opening running) → opening ≡ other → Planned r told (session running_turn running_ending other running)
 opened_as r told running opening planned same = subst (λ (o : List ℕ). Planned r told (session running_turn running_ending o running)) same planned
@@ -89,21 +93,25 @@ talks_end words r told source now plan before after old new result there planned
     subst (λ (w : Option Request). Answered w told source now before after old new result) there
     (planned.contents, planned.are, (ends.0, ends.1, carried (plan_at r planned.contents) plan before after ends.0 ends.1 planned.comes may ends.2, ends.3), inl (planned.comes.talks may))
 
+-- a call ends with the status of an output
+abbrev EndsAs : Plan → Live → Status → Type 0
+EndsAs plan before status = (live : List ℕ) × IsAllOf before.left live × ((said : Said) × IsOutput plan live said × (status ≡ status_of said.outcome))
+
 -- an output ends with the status of its outcome, and other ends are faults or want of memory
-text_status : (plan : Plan) (before after : Live) (status : Status) (text : List ℕ) → IsText plan before after status text → ((live : List ℕ) × ((said : Said) × IsOutput plan live said × (status ≡ status_of said.outcome))) ⊎ IsStopped status
-text_status plan before after status text (is_output live said all output) = inl (live, (said, output, refl))
+text_status : (plan : Plan) (before after : Live) (status : Status) (text : List ℕ) → IsText plan before after status text → EndsAs plan before status ⊎ IsStopped status
+text_status plan before after status text (is_output live said all output) = inl (live, all, (said, output, refl))
 text_status plan before after status text (is_file_fault same) = inr (inl refl)
 text_status plan before after status text (is_live_fault taken left rose) = inr (inl refl)
 text_status plan before after status text (is_memory first why) = inr (inr (inr refl))
 
-end_status : (plan : Plan) (before after : Live) (old new : Option (List ℕ)) (result : Status) → Ends plan before after old new result → ((live : List ℕ) × ((said : Said) × IsOutput plan live said × (result ≡ status_of said.outcome))) ⊎ IsStopped result
+end_status : (plan : Plan) (before after : Live) (old new : Option (List ℕ)) (result : Status) → Ends plan before after old new result → EndsAs plan before result ⊎ IsStopped result
 end_status plan before after old new result ends = by_written ends.3
   where
-    by_text : (status : Status) → result ≡ status → ((live : List ℕ) × ((said : Said) × IsOutput plan live said × (status ≡ status_of said.outcome))) ⊎ IsStopped status → ((live : List ℕ) × ((said : Said) × IsOutput plan live said × (result ≡ status_of said.outcome))) ⊎ IsStopped result
-    by_text status same (inl (live, (said, output, is))) = inl (live, (said, output, same ∙ is))
+    by_text : (status : Status) → result ≡ status → EndsAs plan before status ⊎ IsStopped status → EndsAs plan before result ⊎ IsStopped result
+    by_text status same (inl (live, all, (said, output, is))) = inl (live, all, (said, output, same ∙ is))
     by_text status same (inr stopped) = inr (subst IsStopped (sym same) stopped)
 
-    by_written : IsWritten old new ends.1 ends.0 result → ((live : List ℕ) × ((said : Said) × IsOutput plan live said × (result ≡ status_of said.outcome))) ⊎ IsStopped result
+    by_written : IsWritten old new ends.1 ends.0 result → EndsAs plan before result ⊎ IsStopped result
     by_written (inl (same, wrote)) = by_text ends.0 same (text_status plan before after ends.0 ends.1 ends.2)
     by_written (inr (fault, cut)) = inr (inr (inl fault))
 
@@ -116,20 +124,20 @@ not_stopped outcome (inr (inl is)) = grind arith
 not_stopped outcome (inr (inr is)) = grind arith
 
 -- what the status of an output tells of a request
-request_tells : {S : Type 0} (r : Request) (told : Option (List ℕ → Option (List ℕ))) (source now : S) (before after : Live) (old new : Option (List ℕ)) (result : Status) (outcome : Outcome) (answered : Answered (Some r) told source now before after old new result) → result ≡ status_of outcome → IsRight outcome r answered.0
+request_tells : {S : Type 0} (r : Request) (told : Option (List ℕ → Option (List ℕ))) (source now : S) (before after : Live) (old new : Option (List ℕ)) (result : Status) (outcome : Outcome) (answered : Answered (Some r) told source now before after old new result) → result ≡ status_of outcome → IsRight before.left outcome r answered.0
 request_tells r told source now before after old new result outcome answered is = by_status (end_status (plan_at r answered.0) before after old new result answered.2)
   where
-    by_status : ((live : List ℕ) × ((said : Said) × IsOutput (plan_at r answered.0) live said × (result ≡ status_of said.outcome))) ⊎ IsStopped result → IsRight outcome r answered.0
-    by_status (inl (live, (said, output, at))) =
-        subst (λ (o : Outcome). IsRight o r answered.0) (status_alone said.outcome outcome (sym at ∙ is)) (output_right r answered.0 live said output)
+    by_status : EndsAs (plan_at r answered.0) before result ⊎ IsStopped result → IsRight before.left outcome r answered.0
+    by_status (inl (live, all, (said, output, at))) =
+        subst (λ (o : Outcome). IsRight before.left o r answered.0) (status_alone said.outcome outcome (sym at ∙ is)) (output_right before.left r answered.0 live said all output)
     by_status (inr stopped) = absurd (not_stopped outcome (subst IsStopped is stopped))
 
 -- no request has only the status Words
 none_tells : {S : Type 0} (told : Option (List ℕ → Option (List ℕ))) (source now : S) (before after : Live) (old new : Option (List ℕ)) (result : Status) (outcome : Outcome) → Answered None told source now before after old new result → result ≡ status_of outcome → outcome ≡ Words
 none_tells told source now before after old new result outcome answered is = by_status (end_status (plan_of None answered.0) before after old new result answered.2)
   where
-    by_status : ((live : List ℕ) × ((said : Said) × IsOutput (plan_of None answered.0) live said × (result ≡ status_of said.outcome))) ⊎ IsStopped result → outcome ≡ Words
-    by_status (inl (live, (said, output, at))) = status_alone outcome Words (sym is ∙ at ∙ ap (λ (s : Said). status_of s.outcome) output)
+    by_status : EndsAs (plan_of None answered.0) before result ⊎ IsStopped result → outcome ≡ Words
+    by_status (inl (live, all, (said, output, at))) = status_alone outcome Words (sym is ∙ at ∙ ap (λ (s : Said). status_of s.outcome) output)
     by_status (inr stopped) = absurd (not_stopped outcome (subst IsStopped is stopped))
 
 -- the status Words comes only where the words are no request
@@ -138,17 +146,17 @@ words_is None told source now before after old new result answered is = refl
 words_is (Some r) told source now before after old new result answered is = absurd (request_tells r told source now before after old new result Words answered is)
 
 -- what Good tells
-pub good_is : {S : Type 0} (words : Option Request) (told : Option (List ℕ → Option (List ℕ))) (source now : S) (before after : Live) (old new : Option (List ℕ)) (result : Status) → Answered words told source now before after old new result → result ≡ IsYesStatus → HoldsOf words told IsGood
+pub good_is : {S : Type 0} (words : Option Request) (told : Option (List ℕ → Option (List ℕ))) (source now : S) (before after : Live) (old new : Option (List ℕ)) (result : Status) → Answered words told source now before after old new result → result ≡ IsYesStatus → HoldsOf words told (IsGood before.left)
 good_is None told source now before after old new result answered is = absurd (let e : Good ≡ Words = none_tells told source now before after old new result Good answered is in cc)
 good_is (Some r) told source now before after old new result answered is = (answered.0, answered.1, request_tells r told source now before after old new result Good answered is)
 
 -- what Bad tells
-pub bad_is : {S : Type 0} (words : Option Request) (told : Option (List ℕ → Option (List ℕ))) (source now : S) (before after : Live) (old new : Option (List ℕ)) (result : Status) → Answered words told source now before after old new result → result ≡ IsNoStatus → HoldsOf words told IsBad
+pub bad_is : {S : Type 0} (words : Option Request) (told : Option (List ℕ → Option (List ℕ))) (source now : S) (before after : Live) (old new : Option (List ℕ)) (result : Status) → Answered words told source now before after old new result → result ≡ IsNoStatus → HoldsOf words told (IsBad before.left)
 bad_is None told source now before after old new result answered is = absurd (let e : Bad ≡ Words = none_tells told source now before after old new result Bad answered is in cc)
 bad_is (Some r) told source now before after old new result answered is = (answered.0, answered.1, request_tells r told source now before after old new result Bad answered is)
 
 -- what Full tells
-pub full_is : {S : Type 0} (words : Option Request) (told : Option (List ℕ → Option (List ℕ))) (source now : S) (before after : Live) (old new : Option (List ℕ)) (result : Status) → Answered words told source now before after old new result → result ≡ IsFullStatus → HoldsOf words told IsFull
+pub full_is : {S : Type 0} (words : Option Request) (told : Option (List ℕ → Option (List ℕ))) (source now : S) (before after : Live) (old new : Option (List ℕ)) (result : Status) → Answered words told source now before after old new result → result ≡ IsFullStatus → HoldsOf words told (IsFull before.left)
 full_is None told source now before after old new result answered is = absurd (let e : Full ≡ Words = none_tells told source now before after old new result Full answered is in cc)
 full_is (Some r) told source now before after old new result answered is = (answered.0, answered.1, request_tells r told source now before after old new result Full answered is)
 
@@ -158,8 +166,8 @@ complete_is None told source now before after old new result answered = inr (inl
 complete_is (Some r) told source now before after old new result answered =
     by_status (end_status (plan_at r answered.0) before after old new result answered.2)
   where
-    by_status : ((live : List ℕ) × ((said : Said) × IsOutput (plan_at r answered.0) live said × (result ≡ status_of said.outcome))) ⊎ IsStopped result → IsStopped result ⊎ (IsNone (Some r) ⊎ HoldsOf (Some r) told (IsComplete result))
-    by_status (inl (live, (said, output, at))) =
+    by_status : EndsAs (plan_at r answered.0) before result ⊎ IsStopped result → IsStopped result ⊎ (IsNone (Some r) ⊎ HoldsOf (Some r) told (IsComplete result))
+    by_status (inl (live, all, (said, output, at))) =
         inr (inr (answered.0, answered.1, subst (λ (s : Status). IsComplete s r answered.0) (sym at) (output_complete r answered.0 live said output)))
     by_status (inr stopped) = inl stopped
 
@@ -167,6 +175,11 @@ complete_is (Some r) told source now before after old new result answered =
 pub reads_live : (words : Option Request) (r : Request) (told : Option (List ℕ → Option (List ℕ))) (plan : Plan) → Some r ≡ words → Planned r told plan → MayTalk plan → HoldsOf words told ReadsLive
 reads_live words r told plan there planned may =
     subst (λ (w : Option Request). HoldsOf w told ReadsLive) there (planned.contents, planned.are, talks_live r planned.contents (planned.comes.talks may))
+
+-- an edit session was held only where one is asked for
+pub may_stop : (words : Option Request) (r : Request) (told : Option (List ℕ → Option (List ℕ))) (plan : Plan) → Some r ≡ words → Planned r told plan → AsksEdit r → MayTalk plan → HoldsOf words told MayStop
+may_stop words r told plan there planned asks may =
+    subst (λ (w : Option Request). HoldsOf w told MayStop) there (planned.contents, planned.are, edits_stop r planned.contents asks (planned.comes.talks may))
 
 -- a call that was stopped tells of no file
 stopped_there : (told : Option (List ℕ → Option (List ℕ))) (names : List (List ℕ)) (result : Status) → IsStopped result → AreThere told (files_read result names)
@@ -179,8 +192,8 @@ pub there_is : (words : Option Request) (r : Request) (told : Option (List ℕ �
 there_is words r told plan before after old new result there planned ends =
     subst (λ (w : Option Request). AreThere told (files_read result (names_of w))) there (by_status (end_status plan before after old new result ends))
   where
-    by_status : ((live : List ℕ) × ((said : Said) × IsOutput plan live said × (result ≡ status_of said.outcome))) ⊎ IsStopped result → AreThere told (files_read result (files_of r))
-    by_status (inl (live, (said, output, at))) = subst (λ (s : Status). AreThere told (files_read s (files_of r))) (sym at) (planned.there live said output)
+    by_status : EndsAs plan before result ⊎ IsStopped result → AreThere told (files_read result (files_of r))
+    by_status (inl (live, all, (said, output, at))) = subst (λ (s : Status). AreThere told (files_read s (files_of r))) (sym at) (planned.there live said output)
     by_status (inr stopped) = stopped_there told (files_of r) result stopped
 
 all_true : (names : List (List ℕ)) → list_all (λ name. true) names ≡ true

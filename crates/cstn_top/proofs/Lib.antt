@@ -3,6 +3,7 @@ pub mod Contents
 pub mod Verdicts
 pub mod Drills
 pub mod Fits
+pub mod Edited
 pub mod Meanings
 pub mod Opening
 pub mod Replays

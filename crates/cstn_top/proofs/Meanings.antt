@@ -1,6 +1,7 @@
 -- What the outcomes of outputs tell.
 use Rattle.std.proofs.Common.{◌≡◌, ℕ, ◌<◌, Bool, true, false, List, [], ◌∷◌, ◌+◌, length, map, refl, ap, sym, subst, inl, inr, arith}
 use Rattle.std.specs.Prelude.{◌⊎◌, nat_lt, if◌then◌else◌, get_or, Option, None, Some, Result, Ok, Err, IsSomeAnd, codes}
+use Rattle.cstn_io.specs.Contents.{IsAllOf}
 use Rattle.cstn_net.specs.Networks.{Network, IsWellFormed, count}
 use Rattle.cstn_net.specs.Strategies.{IsConsistent}
 use Rattle.cstn_graphml.specs.Results.{Refusal as DocumentRefusal}
@@ -19,18 +20,19 @@ use Rattle.cstn_check.specs.declared.verdicts.Verdict.{Verdict}
 use Rattle.cstn_check.specs.declared.verdicts.Verdict.TheVariants.{Yes, No, Full as IsFullVerdict}
 use Rattle.cstn_refute.specs.Texts.{Told as ToldText, tells, wrong as wrong_text, told as told_by}
 use Rattle.cstn_replay.specs.Wrong.{IsFirstWrong, EndsInVain}
-use Rattle.cstn_top.specs.Requests.{Asked, Request, check, run, save, replay, drill}
+use Rattle.cstn_top.specs.Requests.{Asked, Request, check, run, edit, save, replay, drill, AsksEdit}
 use Rattle.cstn_top.specs.Plans.{Said, say, after_text, says, IsOutput, MayTalk}
 use Rattle.cstn_top.specs.Sessions.{Turn, more, last, wrong, on_turn, script, play, session}
 use Rattle.cstn_top.specs.Running.{moment_line, executing, moment_turn, seen_turn, live_turn, run_turn, unfinished, run_ending}
 use Rattle.cstn_top.specs.Texts.{yes_line}
-use Rattle.cstn_top.specs.Outputs.{Answer, judged, on_document, verdict, on_verdict, checked, carried_out, saved, replayed, replayed_text, plan_at}
-use Rattle.cstn_top.specs.Meanings.{parts_of, HasNetwork, IsRefused, IsYes, IsNo, IsNoRefutation, IsGood, IsBad, IsFull, IsDecided, IsComplete, ReadsLive}
+use Rattle.cstn_top.specs.Outputs.{Answer, judged, on_document, verdict, on_verdict, checked, carried_out, edited, saved, replayed, replayed_text, plan_at}
+use Rattle.cstn_top.specs.Meanings.{parts_of, HasNetwork, IsRefused, IsYes, IsNo, IsNoRefutation, IsGood, IsBad, IsFull, IsDecided, IsComplete, ReadsLive, MayStop}
 use Rattle.cstn_top.specs.Statuses.{status_of}
 use Rattle.cstn_top.specs.declared.output.Outcome.{Outcome}
 use Rattle.cstn_top.specs.declared.output.Outcome.TheVariants.{Good, Bad, Words, Document, Full, Unfinished, Script}
 use Rattle.cstn_top.proofs.Verdicts.{Tells, verdict_tells}
 use Rattle.cstn_top.proofs.Drills.{counts_right}
+use Rattle.cstn_top.proofs.Edited.{document_named, EditTells, edit_tells}
 use Rattle.cstn_top.proofs.Fits.{fits}
 
 -- what is said of a document: it is refused, or this is said of its network
@@ -50,13 +52,13 @@ document_says answer bytes deadline live said output = by_length (nat_lt 8388608
     by_length true above is = inl (ap (λ (s : Said). s.outcome) is, inl (grind arith))
     by_length false above is = by_told (by_parts (document bytes deadline) is)
 
--- what follows of the network of a document
-pub network_then : (bytes : List ℕ) (deadline : Option ℕ) (one other : List (List ℕ) → Network → Type 0) → HasNetwork bytes deadline one → ((names : List (List ℕ)) (net : Network) → IsWellFormed net → one names net → other names net) → HasNetwork bytes deadline other
-network_then bytes deadline one other has follows = by_parts (parts_of (document bytes deadline)) has
+-- what follows of the network of a document, each of whose time-points has a name
+pub network_then : (bytes : List ℕ) (deadline : Option ℕ) (one other : List (List ℕ) → Network → Type 0) → HasNetwork bytes deadline one → ((names : List (List ℕ)) (net : Network) → IsWellFormed net → length names ≡ count net → one names net → other names net) → HasNetwork bytes deadline other
+network_then bytes deadline one other has follows = by_result (document bytes deadline) refl has
   where
-    by_parts : (o : Option Parts) → IsSomeAnd o (λ parts. IsWellFormed (network_of parts) × one parts.names (network_of parts)) → IsSomeAnd o (λ parts. IsWellFormed (network_of parts) × other parts.names (network_of parts))
-    by_parts None h = h
-    by_parts (Some parts) h = (h.0, follows parts.names (network_of parts) h.0 h.1)
+    by_result : (told : Result Parts DocumentRefusal) → document bytes deadline ≡ told → IsSomeAnd (parts_of told) (λ parts. IsWellFormed (network_of parts) × one parts.names (network_of parts)) → IsSomeAnd (parts_of told) (λ parts. IsWellFormed (network_of parts) × other parts.names (network_of parts))
+    by_result (Err refusal) is h = h
+    by_result (Ok parts) is h = (h.0, follows parts.names (network_of parts) h.0 (document_named bytes deadline parts is) h.1)
 
 -- what the outcome of a check tells of a network
 abbrev Verdicts : ℕ → Network → Outcome → Type 0
@@ -104,18 +106,18 @@ replay_tells text names net live said good is = by_length (nat_lt 1476395008 (le
     by_length true is = subst (λ (o : Outcome). Replays (told_by names text) net o) (sym (ap (λ (s : Said). s.outcome) is)) tt
     by_length false is = text_tells (told_by names text) net live said good is
 
--- what an outcome tells of a request
-abbrev pub IsRight : Outcome → Request → List (List ℕ) → Type 0
-IsRight Good request contents = IsGood request contents
-IsRight Bad request contents = IsBad request contents
-IsRight Full request contents = IsFull request contents
-IsRight Words request contents = ⊥
-IsRight Document request contents = Unit {0}
-IsRight Unfinished request contents = Unit {0}
-IsRight Script request contents = Unit {0}
+-- what an outcome tells of a request, by what is told of the live source
+abbrev pub IsRight : Option (List ℕ) → Outcome → Request → List (List ℕ) → Type 0
+IsRight told Good request contents = IsGood told request contents
+IsRight told Bad request contents = IsBad told request contents
+IsRight told Full request contents = IsFull told request contents
+IsRight told Words request contents = ⊥
+IsRight told Document request contents = Unit {0}
+IsRight told Unfinished request contents = Unit {0}
+IsRight told Script request contents = Unit {0}
 
 -- what is said of a document tells what is told of its network
-on_network : (answer : Answer) (bytes : List ℕ) (deadline : Option ℕ) (live : List ℕ) (said : Said) (told : Outcome → List (List ℕ) → Network → Type 0) (right : Outcome → Type 0) → (IsRefused bytes deadline → right Document) → ((names : List (List ℕ)) (net : Network) → IsWellFormed net → IsOutput (answer names net) live said → told said.outcome names net) → ((o : Outcome) → HasNetwork bytes deadline (told o) → right o) → IsOutput (on_document answer bytes deadline) live said → right said.outcome
+on_network : (answer : Answer) (bytes : List ℕ) (deadline : Option ℕ) (live : List ℕ) (said : Said) (told : Outcome → List (List ℕ) → Network → Type 0) (right : Outcome → Type 0) → (IsRefused bytes deadline → right Document) → ((names : List (List ℕ)) (net : Network) → IsWellFormed net → length names ≡ count net → IsOutput (answer names net) live said → told said.outcome names net) → ((o : Outcome) → HasNetwork bytes deadline (told o) → right o) → IsOutput (on_document answer bytes deadline) live said → right said.outcome
 on_network answer bytes deadline live said told right refused each so output = by_said (document_says answer bytes deadline live said output)
   where
     by_said : ((said.outcome ≡ Document) × IsRefused bytes deadline) ⊎ HasNetwork bytes deadline (λ names net. IsOutput (answer names net) live said) → right said.outcome
@@ -127,14 +129,14 @@ none_such : (o : Option Parts) → IsSomeAnd o (λ parts. IsWellFormed (network_
 none_such None h = h
 none_such (Some parts) h = h.1
 
-check_right : (asked : Asked) (cap : ℕ) (contents : List (List ℕ)) (o : Outcome) → HasNetwork (get_or contents 0 []) asked.deadline (λ names net. Verdicts cap net o) → IsRight o (check asked cap) contents
-check_right asked cap contents Good has = has
-check_right asked cap contents Bad has = has
-check_right asked cap contents Full has = has
-check_right asked cap contents Words has = none_such (parts_of (document (get_or contents 0 []) asked.deadline)) has
-check_right asked cap contents Document has = tt
-check_right asked cap contents Unfinished has = tt
-check_right asked cap contents Script has = tt
+check_right : (live : Option (List ℕ)) (asked : Asked) (cap : ℕ) (contents : List (List ℕ)) (o : Outcome) → HasNetwork (get_or contents 0 []) asked.deadline (λ names net. Verdicts cap net o) → IsRight live o (check asked cap) contents
+check_right live asked cap contents Good has = has
+check_right live asked cap contents Bad has = has
+check_right live asked cap contents Full has = has
+check_right live asked cap contents Words has = none_such (parts_of (document (get_or contents 0 []) asked.deadline)) has
+check_right live asked cap contents Document has = tt
+check_right live asked cap contents Unfinished has = tt
+check_right live asked cap contents Script has = tt
 
 -- what the outcome of a run tells of a network
 abbrev RunTells : ℕ → Network → Outcome → Type 0
@@ -219,14 +221,14 @@ run_tells cap names net live said good output = by_verdict (verdict cap net) (ve
     by_verdict (No load) tells' is = subst (λ (o : Outcome). RunTells cap net o) (sym (ap (λ (s : Said). s.outcome) is)) tells'
     by_verdict IsFullVerdict tells' is = subst (λ (o : Outcome). RunTells cap net o) (sym (ap (λ (s : Said). s.outcome) is)) tells'
 
-run_right : (asked : Asked) (cap : ℕ) (contents : List (List ℕ)) (o : Outcome) → HasNetwork (get_or contents 0 []) asked.deadline (λ names net. RunTells cap net o) → IsRight o (run asked cap) contents
-run_right asked cap contents Good has = has
-run_right asked cap contents Bad has = has
-run_right asked cap contents Full has = has
-run_right asked cap contents Words has = none_such (parts_of (document (get_or contents 0 []) asked.deadline)) has
-run_right asked cap contents Document has = tt
-run_right asked cap contents Unfinished has = tt
-run_right asked cap contents Script has = tt
+run_right : (live : Option (List ℕ)) (asked : Asked) (cap : ℕ) (contents : List (List ℕ)) (o : Outcome) → HasNetwork (get_or contents 0 []) asked.deadline (λ names net. RunTells cap net o) → IsRight live o (run asked cap) contents
+run_right live asked cap contents Good has = has
+run_right live asked cap contents Bad has = has
+run_right live asked cap contents Full has = has
+run_right live asked cap contents Words has = none_such (parts_of (document (get_or contents 0 []) asked.deadline)) has
+run_right live asked cap contents Document has = tt
+run_right live asked cap contents Unfinished has = tt
+run_right live asked cap contents Script has = tt
 
 -- what the outcome of a save tells
 abbrev Saves : Outcome → Type 0
@@ -238,40 +240,52 @@ Saves Document = ⊥
 Saves Unfinished = ⊥
 Saves Script = ⊥
 
-save_right : (asked : Asked) (contents : List (List ℕ)) (o : Outcome) → HasNetwork (get_or contents 0 []) asked.deadline (λ names net. Saves o) → IsRight o (save asked) contents
-save_right asked contents Good has = has
-save_right asked contents Bad has = none_such (parts_of (document (get_or contents 0 []) asked.deadline)) has
-save_right asked contents Full has = none_such (parts_of (document (get_or contents 0 []) asked.deadline)) has
-save_right asked contents Words has = none_such (parts_of (document (get_or contents 0 []) asked.deadline)) has
-save_right asked contents Document has = tt
-save_right asked contents Unfinished has = tt
-save_right asked contents Script has = tt
+save_right : (live : Option (List ℕ)) (asked : Asked) (contents : List (List ℕ)) (o : Outcome) → HasNetwork (get_or contents 0 []) asked.deadline (λ names net. Saves o) → IsRight live o (save asked) contents
+save_right live asked contents Good has = has
+save_right live asked contents Bad has = none_such (parts_of (document (get_or contents 0 []) asked.deadline)) has
+save_right live asked contents Full has = none_such (parts_of (document (get_or contents 0 []) asked.deadline)) has
+save_right live asked contents Words has = none_such (parts_of (document (get_or contents 0 []) asked.deadline)) has
+save_right live asked contents Document has = tt
+save_right live asked contents Unfinished has = tt
+save_right live asked contents Script has = tt
 
-replay_right : (asked : Asked) (proof : List ℕ) (contents : List (List ℕ)) (o : Outcome) → HasNetwork (get_or contents 0 []) asked.deadline (λ names net. Replays (told_by names (get_or contents 1 [])) net o) → IsRight o (replay asked proof) contents
-replay_right asked proof contents Good has = has
-replay_right asked proof contents Bad has = has
-replay_right asked proof contents Full has = none_such (parts_of (document (get_or contents 0 []) asked.deadline)) has
-replay_right asked proof contents Words has = none_such (parts_of (document (get_or contents 0 []) asked.deadline)) has
-replay_right asked proof contents Document has = tt
-replay_right asked proof contents Unfinished has = tt
-replay_right asked proof contents Script has = tt
+replay_right : (live : Option (List ℕ)) (asked : Asked) (proof : List ℕ) (contents : List (List ℕ)) (o : Outcome) → HasNetwork (get_or contents 0 []) asked.deadline (λ names net. Replays (told_by names (get_or contents 1 [])) net o) → IsRight live o (replay asked proof) contents
+replay_right live asked proof contents Good has = has
+replay_right live asked proof contents Bad has = has
+replay_right live asked proof contents Full has = none_such (parts_of (document (get_or contents 0 []) asked.deadline)) has
+replay_right live asked proof contents Words has = none_such (parts_of (document (get_or contents 0 []) asked.deadline)) has
+replay_right live asked proof contents Document has = tt
+replay_right live asked proof contents Unfinished has = tt
+replay_right live asked proof contents Script has = tt
+
+edit_right : (live : Option (List ℕ)) (asked : Asked) (cap : ℕ) (contents : List (List ℕ)) (o : Outcome) → HasNetwork (get_or contents 0 []) asked.deadline (EditTells live cap o) → IsRight live o (edit asked cap) contents
+edit_right live asked cap contents Good has = has
+edit_right live asked cap contents Bad has = has
+edit_right live asked cap contents Full has = has
+edit_right live asked cap contents Words has = none_such (parts_of (document (get_or contents 0 []) asked.deadline)) has
+edit_right live asked cap contents Document has = tt
+edit_right live asked cap contents Unfinished has = tt
+edit_right live asked cap contents Script has = tt
 
 -- the outcome of each output is right
-pub output_right : (request : Request) (contents : List (List ℕ)) (live : List ℕ) (said : Said) → IsOutput (plan_at request contents) live said → IsRight said.outcome request contents
-output_right (check asked cap) contents live said output =
-    on_network (checked cap) (get_or contents 0 []) asked.deadline live said (λ o names net. Verdicts cap net o) (λ o. IsRight o (check asked cap) contents) (λ refused. tt)
-    (λ names net good is. check_tells cap names net live said good is) (check_right asked cap contents) output
-output_right (run asked cap) contents live said output =
-    on_network (carried_out cap) (get_or contents 0 []) asked.deadline live said (λ o names net. RunTells cap net o) (λ o. IsRight o (run asked cap) contents) (λ refused. tt)
-    (λ names net good is. run_tells cap names net live said good is) (run_right asked cap contents) output
-output_right (save asked) contents live said output =
-    on_network saved (get_or contents 0 []) asked.deadline live said (λ o names net. Saves o) (λ o. IsRight o (save asked) contents) (λ refused. tt)
-    (λ names net good is. subst Saves (sym (ap (λ (s : Said). s.outcome) is)) tt) (save_right asked contents) output
-output_right (replay asked proof) contents live said output =
-    on_network (replayed (get_or contents 1 [])) (get_or contents 0 []) asked.deadline live said (λ o names net. Replays (told_by names (get_or contents 1 [])) net o) (λ o. IsRight o (replay asked proof) contents) (λ refused. tt)
-    (λ names net good is. replay_tells (get_or contents 1 []) names net live said good is) (replay_right asked proof contents) output
-output_right (drill number) contents live said output =
-    subst (λ (o : Outcome). IsRight o (drill number) contents) (sym (ap (λ (s : Said). s.outcome) output)) (counts_right number 64)
+pub output_right : (told : Option (List ℕ)) (request : Request) (contents : List (List ℕ)) (live : List ℕ) (said : Said) → IsAllOf told live → IsOutput (plan_at request contents) live said → IsRight told said.outcome request contents
+output_right told (check asked cap) contents live said all output =
+    on_network (checked cap) (get_or contents 0 []) asked.deadline live said (λ o names net. Verdicts cap net o) (λ o. IsRight told o (check asked cap) contents) (λ refused. tt)
+    (λ names net good named is. check_tells cap names net live said good is) (check_right told asked cap contents) output
+output_right told (run asked cap) contents live said all output =
+    on_network (carried_out cap) (get_or contents 0 []) asked.deadline live said (λ o names net. RunTells cap net o) (λ o. IsRight told o (run asked cap) contents) (λ refused. tt)
+    (λ names net good named is. run_tells cap names net live said good is) (run_right told asked cap contents) output
+output_right told (edit asked cap) contents live said all output =
+    on_network (edited cap) (get_or contents 0 []) asked.deadline live said (EditTells told cap) (λ o. IsRight told o (edit asked cap) contents) (λ refused. tt)
+    (λ names net good named is. edit_tells told cap names net live said good named all is) (edit_right told asked cap contents) output
+output_right told (save asked) contents live said all output =
+    on_network saved (get_or contents 0 []) asked.deadline live said (λ o names net. Saves o) (λ o. IsRight told o (save asked) contents) (λ refused. tt)
+    (λ names net good named is. subst Saves (sym (ap (λ (s : Said). s.outcome) is)) tt) (save_right told asked contents) output
+output_right told (replay asked proof) contents live said all output =
+    on_network (replayed (get_or contents 1 [])) (get_or contents 0 []) asked.deadline live said (λ o names net. Replays (told_by names (get_or contents 1 [])) net o) (λ o. IsRight told o (replay asked proof) contents) (λ refused. tt)
+    (λ names net good named is. replay_tells (get_or contents 1 []) names net live said good is) (replay_right told asked proof contents) output
+output_right told (drill number) contents live said all output =
+    subst (λ (o : Outcome). IsRight told o (drill number) contents) (sym (ap (λ (s : Said). s.outcome) output)) (counts_right number 64)
 
 -- a check whose log may be long enough decides the network
 decides : (cap : ℕ) (net : Network) (o : Outcome) → Verdicts cap net o → IsDecided cap net (status_of o)
@@ -287,9 +301,10 @@ decides cap net Script never below = absurd never
 pub output_complete : (request : Request) (contents : List (List ℕ)) (live : List ℕ) (said : Said) → IsOutput (plan_at request contents) live said → IsComplete (status_of said.outcome) request contents
 output_complete (check asked cap) contents live said output =
     on_network (checked cap) (get_or contents 0 []) asked.deadline live said (λ o names net. Verdicts cap net o) (λ o. IsComplete (status_of o) (check asked cap) contents) (λ refused. inl (refl, refused))
-    (λ names net good is. check_tells cap names net live said good is)
-    (λ o has. inr (network_then (get_or contents 0 []) asked.deadline (λ names net. Verdicts cap net o) (λ names net. IsDecided cap net (status_of o)) has (λ names net good told. decides cap net o told))) output
+    (λ names net good named is. check_tells cap names net live said good is)
+    (λ o has. inr (network_then (get_or contents 0 []) asked.deadline (λ names net. Verdicts cap net o) (λ names net. IsDecided cap net (status_of o)) has (λ names net good named told. decides cap net o told))) output
 output_complete (run asked cap) contents live said output = tt
+output_complete (edit asked cap) contents live said output = tt
 output_complete (save asked) contents live said output = tt
 output_complete (replay asked proof) contents live said output = tt
 output_complete (drill number) contents live said output = ap (λ (s : Said). status_of s.outcome) output
@@ -310,7 +325,7 @@ document_talks answer bytes deadline may = by_length (nat_lt 8388608 (length byt
 never_talks : (answer : Answer) (bytes : List ℕ) (deadline : Option ℕ) → ((names : List (List ℕ)) (net : Network) → MayTalk (answer names net) → ⊥) → MayTalk (on_document answer bytes deadline) → ⊥
 never_talks answer bytes deadline never may =
     none_such (parts_of (document bytes deadline))
-    (network_then bytes deadline (λ names net. MayTalk (answer names net)) (λ names net. ⊥) (document_talks answer bytes deadline may) (λ names net good is. never names net is))
+    (network_then bytes deadline (λ names net. MayTalk (answer names net)) (λ names net. ⊥) (document_talks answer bytes deadline may) (λ names net good named is. never names net is))
 
 check_silent : (cap : ℕ) (names : List (List ℕ)) (net : Network) → MayTalk (checked cap names net) → ⊥
 check_silent cap names net may = by_verdict (verdict cap net) may
@@ -344,7 +359,19 @@ pub talks_live : (request : Request) (contents : List (List ℕ)) → MayTalk (p
 talks_live (check asked cap) contents may = never_talks (checked cap) (get_or contents 0 []) asked.deadline (check_silent cap) may
 talks_live (run asked cap) contents may =
     network_then (get_or contents 0 []) asked.deadline (λ names net. MayTalk (carried_out cap names net)) (λ names net. IsYes cap net)
-    (document_talks (carried_out cap) (get_or contents 0 []) asked.deadline may) (λ names net good is. run_talks cap names net good is)
+    (document_talks (carried_out cap) (get_or contents 0 []) asked.deadline may) (λ names net good named is. run_talks cap names net good is)
+talks_live (edit asked cap) contents may =
+    network_then (get_or contents 0 []) asked.deadline (λ names net. MayTalk (edited cap names net)) (λ names net. Unit {0})
+    (document_talks (edited cap) (get_or contents 0 []) asked.deadline may) (λ names net good named is. tt)
 talks_live (save asked) contents may = never_talks saved (get_or contents 0 []) asked.deadline (λ names net is. is) may
 talks_live (replay asked proof) contents may = never_talks (replayed (get_or contents 1 [])) (get_or contents 0 []) asked.deadline (replay_silent (get_or contents 1 [])) may
 talks_live (drill number) contents may = may
+
+-- an answer may want memory in an edit session
+pub edits_stop : (request : Request) (contents : List (List ℕ)) → AsksEdit request → MayTalk (plan_at request contents) → MayStop request contents
+edits_stop (check asked cap) contents asks may = asks
+edits_stop (run asked cap) contents asks may = asks
+edits_stop (edit asked cap) contents asks may = talks_live (edit asked cap) contents may
+edits_stop (save asked) contents asks may = asks
+edits_stop (replay asked proof) contents asks may = asks
+edits_stop (drill number) contents asks may = asks

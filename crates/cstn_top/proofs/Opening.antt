@@ -1,22 +1,26 @@
 -- What is said of a document that was opened.
-use Rattle.std.proofs.Common.{◌≡◌, ℕ, ◌≤◌, ◌<◌, List, [], ◌∷◌, length, refl, ap, sym, ◌∙◌, subst, inl, inr, arith}
+use Rattle.std.proofs.Common.{◌≡◌, ℕ, zero, suc, ◌+◌, ◌^◌, get_or, ◌≤◌, ◌<◌, List, [], ◌∷◌, length, refl, ap, sym, ◌∙◌, subst, inl, inr, arith}
 use Rattle.std.specs.Prelude.{nat_lt, if◌then◌else◌, Option, Result, Ok, Err, IfOk, map, codes}
 use Rattle.cstn_io.specs.Contents.{IsLongFile}
-use Rattle.cstn_net.specs.Networks.{Network, IsWellFormed}
-use Rattle.cstn_net.specs.Read.{NetworkParts, the_network}
+use Rattle.std.specs.List.{All}
+use Rattle.std.proofs.lemmas.List.{length-map, get_or-map}
+use Rattle.cstn_net.specs.declared.constraints.Constraint.{Constraint as LentConstraint}
+use Rattle.cstn_net.specs.Networks.{Network, Constraint, IsWellFormed}
+use Rattle.cstn_net.specs.Read.{NetworkParts, the_network, the_constraint}
 use Rattle.cstn_graphml.specs.declared.errors.DocError.{DocError}
 use Rattle.cstn_graphml.specs.declared.errors.DocError.TheVariants.{NotUtf8, Shape, NameTwice, UnknownNode, Value, LabelText, Contingent, EdgeType, NoDeadline, Net, NodeLabel, Memory}
 use Rattle.cstn_graphml.specs.Results.{Refusal}
 use Rattle.cstn_graphml.specs.Results.Refusal.{not_utf8, shape, name_twice, unknown_node, bad_value, label_text, contingent, edge_type, no_deadline, node_label}
 use Rattle.cstn_graphml.specs.Answers.{IsUnfitDocument, IsRefused}
 use Rattle.cstn_graphml.specs.Document.{Parts, document}
-use Rattle.cstn_graphml.specs.Networks.{network_of}
+use Rattle.cstn_graphml.specs.Draft.{Drawn}
+use Rattle.cstn_graphml.specs.Networks.{numbered, network_of}
 use Rattle.cstn_net.specs.declared.errors.NetError.{NetError}
 use Rattle.cstn_top.specs.Files.{file_at, IsContent, AreThere}
 use Rattle.cstn_top.specs.Refusals.{refusal_text, fault_text}
-use Rattle.cstn_top.specs.Requests.{Asked, Request, check, run, save, files_of}
+use Rattle.cstn_top.specs.Requests.{Asked, Request, check, run, edit, save, files_of}
 use Rattle.cstn_top.specs.Plans.{Said, say, Plan, says, judges, IsOutput, ComesTo}
-use Rattle.cstn_top.specs.Outputs.{Answer, judged, on_document, checked, carried_out, saved, plan_at}
+use Rattle.cstn_top.specs.Outputs.{Answer, judged, on_document, checked, carried_out, edited, saved, plan_at}
 use Rattle.cstn_top.specs.Opened.{IsToldBy, IsSaidOf, OpensAs, IsOpened, IsTooLong}
 use Rattle.cstn_top.specs.Meanings.{files_read}
 use Rattle.cstn_top.specs.Statuses.{status_of}
@@ -107,6 +111,23 @@ pub file_opened : {E : Type 0} (told : Option (List ℕ → Option (List ℕ))) 
 file_opened told asked bytes (Err e) content there opens = tt
 file_opened told asked bytes (Ok opened) content there opens = record { bytes = bytes; content = content; there = there; opens = opens }
 
+-- the ids of a document's constraints are their places
+numbered_id : (k : ℕ) (cs : List Drawn) (i : ℕ) (d : Constraint) → i < length (numbered k cs) → (get_or (numbered k cs) i d).id ≡ k + i
+numbered_id k [] i d inside = absurd (omega (arith, inside))
+numbered_id k (c ∷ cs) zero d inside = omega arith
+numbered_id k (c ∷ cs) (suc i) d inside = let later = numbered_id (k + 1) cs i d (omega (arith, inside)) in omega (arith, later)
+
+pub document_ids : (told : Option (List ℕ → Option (List ℕ))) (asked : Asked) (net : NetworkParts) (names : List (List ℕ)) → IsOpened told asked (Accepted net names) → All (λ (c : LentConstraint). c.id < 2 ^ 31) net.constraints
+document_ids told asked net names opened = λ i d inside.
+    let is = opened.opens.1 in
+    let few : length (the_network net).constraints ≤ 16384 = opened.opens.2.few_constraints in
+    let long : length (the_network net).constraints ≡ length net.constraints = length-map net.constraints the_constraint in
+    let all : (the_network net).constraints ≡ numbered 0 is.parts.constraints = ap (λ (n : Network). n.constraints) is.network_is in
+    let place = numbered_id 0 is.parts.constraints i (the_constraint d) (omega (arith, inside, long, ap length all)) in
+    let there = ap (λ (cs : List Constraint). (get_or cs i (the_constraint d)).id) all in
+    let same = ap (λ (c : Constraint). c.id) (get_or-map the_constraint net.constraints i d (the_constraint d) inside) in
+    omega (arith, inside, few, long, place, there, same)
+
 -- a plan says what it says itself
 pub comes_itself : (plan : Plan) → ComesTo plan plan
 comes_itself plan = record { output = λ live said is. is; talks = λ may. may; fault = λ may taken. refl }
@@ -167,6 +188,9 @@ of_check asked cap = record { files = refl; plan = λ bytes. refl }
 pub of_run : (asked : Asked) (cap : ℕ) → IsOfOne (run asked cap) asked (carried_out cap)
 of_run asked cap = record { files = refl; plan = λ bytes. refl }
 
+pub of_edit : (asked : Asked) (cap : ℕ) → IsOfOne (edit asked cap) asked (edited cap)
+of_edit asked cap = record { files = refl; plan = λ bytes. refl }
+
 pub of_save : (asked : Asked) → IsOfOne (save asked) asked saved
 of_save asked = record { files = refl; plan = λ bytes. refl }
 
@@ -179,11 +203,14 @@ one_planned request asked answer told opened plan one is comes = record {
 }
 
 -- the plan of a document that was accepted
+pub one_said : (request : Request) (asked : Asked) (answer : Answer) (told : Option (List ℕ → Option (List ℕ))) (net : NetworkParts) (names : List (List ℕ)) (plan : Plan) → IsOfOne request asked answer → IsOpened told asked (Accepted net names) → plan ≡ answer names (the_network net) → Planned request told plan
+one_said request asked answer told net names plan one opened is =
+    one_planned request asked answer told (Accepted net names) plan one opened
+    (accepted_comes answer opened.bytes asked.deadline net names plan opened.opens (subst (λ (p : Plan). ComesTo (answer names (the_network net)) p) (sym is) (comes_itself (answer names (the_network net)))))
+
 pub one_accepted : {X E : Type 0} (request : Request) (asked : Asked) (answer : Answer) (told : Option (List ℕ → Option (List ℕ))) (net : NetworkParts) (names : List (List ℕ)) (plan : X → Plan) (r : Result X E) → IsOfOne request asked answer → IsOpened told asked (Accepted net names) → IfOk r (λ x. plan x ≡ answer names (the_network net)) → IfOk r (λ x. Planned request told (plan x))
 one_accepted request asked answer told net names plan (Err e) one opened is = tt
-one_accepted request asked answer told net names plan (Ok x) one opened is =
-    one_planned request asked answer told (Accepted net names) (plan x) one opened
-    (accepted_comes answer opened.bytes asked.deadline net names (plan x) opened.opens (subst (λ (p : Plan). ComesTo (answer names (the_network net)) p) (sym is) (comes_itself (answer names (the_network net)))))
+one_accepted request asked answer told net names plan (Ok x) one opened is = one_said request asked answer told net names (plan x) one opened is
 
 -- the plan of a document that was accepted, where it says what another plan says
 pub one_comes : {X E : Type 0} (request : Request) (asked : Asked) (answer : Answer) (told : Option (List ℕ → Option (List ℕ))) (net : NetworkParts) (names : List (List ℕ)) (plan : X → Plan) (r : Result X E) → IsOfOne request asked answer → IsOpened told asked (Accepted net names) → IfOk r (λ x. ComesTo (answer names (the_network net)) (plan x)) → IfOk r (λ x. Planned request told (plan x))

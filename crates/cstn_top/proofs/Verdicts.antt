@@ -17,7 +17,7 @@ use Rattle.cstn_check.proofs.Decided.{refutes_true}
 use Rattle.cstn_check.proofs.Decides.{log_decides}
 use Rattle.cstn_check.proofs.Last.{refuted_from_last}
 use Rattle.cstn_top.specs.Plans.{Said, Plan, says}
-use Rattle.cstn_top.specs.Texts.{yes_line, full_line}
+use Rattle.cstn_top.specs.Texts.{yes_line}
 use Rattle.cstn_top.specs.Outputs.{refutes_at, last_refutes, verdict, on_verdict}
 use Rattle.cstn_top.specs.declared.output.Outcome.TheVariants.{Bad}
 use Rattle.cstn_top.specs.Meanings.{IsYes, IsNo}

@@ -1,13 +1,14 @@
 -- What is prepared for a request.
-use Rattle.std.specs.Prelude.{◌≡◌, ℕ, List, Option, Some}
+use Rattle.std.specs.Prelude.{◌≡◌, ℕ, List, [], Option, Some}
 use Rattle.cstn_net.specs.Read.{NetworkParts, the_network}
 use Rattle.cstn_check.specs.Growth.{load_of}
 use Rattle.cstn_check.specs.declared.verdicts.Verdict.TheVariants.{Yes as IsYes}
-use Rattle.cstn_top.specs.Requests.{Request, files_of}
+use Rattle.cstn_top.specs.Requests.{Request, files_of, AsksEdit}
 use Rattle.cstn_top.specs.Files.{AreContents, AreThere}
 use Rattle.cstn_top.specs.Plans.{Said, Plan, says, EndsLine, ComesTo, IsOutput}
 use Rattle.cstn_top.specs.Sessions.{session}
 use Rattle.cstn_top.specs.Running.{running_turn, running_ending}
+use Rattle.cstn_top.specs.Editing.{the_editing, edit_turn, edit_ending}
 use Rattle.cstn_top.specs.Statuses.{status_of}
 use Rattle.cstn_top.specs.Texts.{yes_line}
 use Rattle.cstn_top.specs.Outputs.{plan_at, verdict, on_verdict}
@@ -16,17 +17,19 @@ use Rattle.cstn_top.specs.Read.{the_said}
 use Rattle.cstn_top.specs.declared.commands.verdicts.Decided.{Decided}
 use Rattle.cstn_top.specs.declared.commands.verdicts.Decided.TheVariants.{Yes, Told}
 use Rattle.cstn_top.specs.declared.commands.Prepared.{Prepared}
-use Rattle.cstn_top.specs.declared.commands.Prepared.TheVariants.{Says, Runs}
+use Rattle.cstn_top.specs.declared.commands.Prepared.TheVariants.{Says, Runs, Edits}
 
 -- the plan that is carried out
 abbrev pub the_plan : Prepared → Plan
 the_plan (Says said) = says (the_said said)
 the_plan (Runs opening running) = session running_turn running_ending opening.items running
+the_plan (Edits editing) = session edit_turn edit_ending [] (the_editing editing)
 
--- the opening is whole lines
-abbrev pub OpensWell : Prepared → Type 0
-OpensWell (Says said) = Unit {0}
-OpensWell (Runs opening running) = EndsLine opening.items
+-- an opening is whole lines, and an edit session is prepared only where one is asked for
+abbrev pub FitsRequest : Request → Prepared → Type 0
+FitsRequest request (Says said) = Unit {0}
+FitsRequest request (Runs opening running) = EndsLine opening.items
+FitsRequest request (Edits editing) = AsksEdit request
 
 -- a plan was made for the request, with the contents of its files, of which those that were read are there
 pub record Planned (request : Request) (told : Option (List ℕ → Option (List ℕ))) (plan : Plan) : Type 0 where

@@ -109,3 +109,12 @@ files_of (drill number) = []
 abbrev pub names_of : Option Request → List (List ℕ)
 names_of None = []
 names_of (Some request) = files_of request
+
+-- an edit session is asked for
+abbrev pub AsksEdit : Request → Type 0
+AsksEdit (check asked cap) = ⊥
+AsksEdit (run asked cap) = ⊥
+AsksEdit (edit asked cap) = Unit {0}
+AsksEdit (save asked) = ⊥
+AsksEdit (replay asked proof) = ⊥
+AsksEdit (drill number) = ⊥

@@ -4,23 +4,26 @@ ghost use Rattle.std.specs.List.{list_all};
 ghost use Rattle.cstn_io.specs.Causes.{Rose};
 ghost use Rattle.cstn_top.specs.Requests.{files_of};
 ghost use Rattle.cstn_top.specs.Read.{the_request, IsCapped};
-ghost use Rattle.cstn_top.specs.Prepared.{the_plan, Planned, OpensWell};
+ghost use Rattle.cstn_top.specs.Prepared.{the_plan, Planned, FitsRequest};
 
 mod check;
 mod documents;
 mod drill;
+mod edit;
 mod refusals;
 mod replay;
 mod run;
 mod save;
 mod verdicts;
 
+use crate::editing::Editing;
 use crate::output::Said;
 use crate::running::Running;
 use crate::words::Request;
 use check::check_file;
 use cstn_io::Shelf;
 use drill::drill;
+use edit::edit_file;
 use replay::replay_file;
 use run::run_file;
 use save::save_file;
@@ -33,6 +36,8 @@ pub(crate) enum Prepared {
     Says(Said),
     /// The first line, and then the answers to the live lines.
     Runs { opening: Vec<u8>, running: Running },
+    /// The answers to the edit lines.
+    Edits(Editing),
 }
 
 /// Why nothing can be said for a request.
@@ -51,7 +56,7 @@ pub(crate) fn prepare<F: Shelf>(
     requires may_ask { IsTrue (list_all (F.may_ask shelf.old) (files_of (the_request request))) }
     requires capped { IsCapped request }
     ensures plan { IfOk result (λ prepared. Planned (the_request request.entry) (F.files shelf.old) (the_plan prepared)) }
-    ensures opening { IfOk result OpensWell }
+    ensures fits { IfOk result (FitsRequest (the_request request.entry)) }
     ensures unnamed_stand { files_of (the_request request.entry) ≡ [] → shelf.new ≡ shelf.old }
     ensures fault { IsErrOf result Refused.ReadFault → Rose (F.faults shelf.old) (F.faults shelf.new) }
 {
@@ -61,6 +66,7 @@ pub(crate) fn prepare<F: Shelf>(
             Ok(Prepared::Says(said))
         }
         Request::Run { asked, cap } => run_file(alloc, asked, cap, shelf),
+        Request::Edit { asked, cap } => edit_file(alloc, asked, cap, shelf),
         Request::Save(asked) => {
             let said = save_file(alloc, asked, shelf)?;
             Ok(Prepared::Says(said))

@@ -56,6 +56,7 @@ pub fn run<F: Shelf, S: Source, K: Sink>(
     match prepare(alloc, request, shelf) {
         Ok(Prepared::Says(said)) => finish(out, &said.text, said.outcome.status()),
         Ok(Prepared::Runs { opening, running }) => converse(alloc, running, &opening, live, out),
+        Ok(Prepared::Edits(editing)) => converse(alloc, editing, b"", live, out),
         Err(Refused::ReadFault) => finish(out, b"read fault\n", Status::ReadFault),
         Err(Refused::Memory) => finish(out, b"memory\n", Status::Memory),
     }

@@ -18,6 +18,7 @@ pub(crate) struct Asked<'a> {
 pub(crate) enum Request<'a> {
     Check { asked: Asked<'a>, cap: u32 },
     Run { asked: Asked<'a>, cap: u32 },
+    Edit { asked: Asked<'a>, cap: u32 },
     Save(Asked<'a>),
     Replay { asked: Asked<'a>, proof: &'a str },
     Drill(u64),
@@ -52,6 +53,10 @@ pub(crate) fn parse(words: &[String]) -> Option<Request<'_>>
         "run" => {
             let (asked, cap) = capped_of(rest)?;
             Some(Request::Run { asked, cap })
+        }
+        "edit" => {
+            let (asked, cap) = capped_of(rest)?;
+            Some(Request::Edit { asked, cap })
         }
         "save" => Some(Request::Save(asked_of(rest)?)),
         "replay" => replay_of(rest),

@@ -6,9 +6,9 @@ ghost use Rattle.cstn_net.specs.Read.{the_network};
 ghost use Rattle.cstn_check.specs.Growth.{load_of};
 ghost use Rattle.cstn_check.specs.declared.verdicts.Verdict.TheVariants.{Yes};
 ghost use Rattle.cstn_top.specs.Texts.{yes_line};
-ghost use Rattle.cstn_top.specs.Requests.{run};
+ghost use Rattle.cstn_top.specs.Requests.{Request, run};
 ghost use Rattle.cstn_top.specs.Plans.{ComesTo};
-ghost use Rattle.cstn_top.specs.Prepared.{the_plan, Planned, OpensWell};
+ghost use Rattle.cstn_top.specs.Prepared.{the_plan, Planned, FitsRequest};
 ghost use Rattle.cstn_top.specs.Read.{the_asked};
 ghost use Rattle.cstn_top.specs.Outputs.{carried_out, verdict};
 
@@ -35,7 +35,7 @@ pub(crate) fn run_file<F: Shelf>(
     requires some { 1 ≤ cap }
     requires most { cap ≤ 4194304 }
     ensures plan { IfOk result (λ prepared. Planned (run (the_asked asked.entry) cap) (F.files shelf.old) (the_plan prepared)) }
-    ensures opening { IfOk result OpensWell }
+    ensures fits { IfOk result (FitsRequest (run (the_asked asked.entry) cap)) }
     ensures fault { IsErrOf result Refused.ReadFault → Rose (F.faults shelf.old) (F.faults shelf.new) }
 {
     match open(alloc, asked, shelf) {
@@ -52,7 +52,7 @@ fn prepare(alloc: Global, network: Network, names: &Names, cap: u32) -> Result<P
     requires well_formed { IsWellFormed (the_network network) }
     requires named { length names.now ≡ count (the_network network) }
     ensures comes { IfOk result (λ prepared. ComesTo (carried_out cap names.now (the_network network)) (the_plan prepared)) }
-    ensures opening { IfOk result OpensWell }
+    ensures fits { IfOk result (λ prepared. (request : Request) → FitsRequest request prepared) }
     ensures fault { IsErrOf result Refused.ReadFault → ⊥ }
 {
     match decide(alloc, network, names, cap) {
@@ -76,7 +76,7 @@ fn begin(
     requires named { length names.now ≡ count (the_network check.net) }
     requires few { length names.now ≤ 1024 }
     ensures comes { IfOk result (λ prepared. ComesTo (carried_out cap names.now (the_network check.net)) (the_plan prepared)) }
-    ensures opening { IfOk result OpensWell }
+    ensures fits { IfOk result (λ prepared. (request : Request) → FitsRequest request prepared) }
     ensures fault { IsErrOf result Refused.ReadFault → ⊥ }
 {
     let Ok(executive) = Executive::start(alloc, check.into_plan()) else {

@@ -1,9 +1,10 @@
-use Rattle.std.proofs.Common.{sym, inl, inr}
+use Rattle.std.proofs.Common.{[], sym, inl, inr}
 use Rattle.cstn_top.specs.Plans.{Live, says}
 use Rattle.cstn_top.specs.Sessions.{session}
 use Rattle.cstn_top.specs.Running.{running_turn, running_ending}
+use Rattle.cstn_top.specs.Editing.{the_editing, edit_turn, edit_ending}
 use Rattle.cstn_top.specs.Read.{the_request, the_said}
-use Rattle.cstn_top.proofs.Endings.{words_end, fault_end, memory_end, says_end, good_is, bad_is, full_is, complete_is, words_is, there_is, text_end, talks_end, reads_live, opened_as, prepared_as}
+use Rattle.cstn_top.proofs.Endings.{words_end, fault_end, memory_end, says_end, good_is, bad_is, full_is, complete_is, words_is, there_is, text_end, talks_end, reads_live, may_stop, opened_as, prepared_as, fits_as}
 use Rattle.cstn_top.proofs.top.run.Goals as goal
 
 pub returns-in_default-clause-output : goal.returns-in_default-clause-output
@@ -84,3 +85,45 @@ returns-in-Ok-Runs-clause-live g c =
 pub returns-in-Ok-Runs-clause-read_fault : goal.returns-in-Ok-Runs-clause-read_fault
 returns-in-Ok-Runs-clause-read_fault g c = λ is.
     inr (reads_live _ (the_request c.in-Some.request) (g.F.Shelf.files c.args.shelf.now) (session running_turn running_ending c.in-Ok-Runs.opening.items c.in-Ok-Runs.running) c.in-Some.ensures.request (prepared_as _ _ _ _ c.in-Ok-Runs.ensures.plan c.in-Ok-Runs.field-0-is) tt, c.converse.ensures.read is)
+
+pub returns-in-Ok-Edits-clause-output : goal.returns-in-Ok-Edits-clause-output
+returns-in-Ok-Edits-clause-output g c =
+    let before : Live = record { left = g.S.Source.left c.args.live.now; faults = g.S.Source.faults c.args.live.now } in
+    let after : Live = record { left = g.S.Source.left c.converse-in-Ok-Edits.new.live; faults = g.S.Source.faults c.converse-in-Ok-Edits.new.live } in
+    talks_end _ (the_request c.in-Some.request) (g.F.Shelf.files c.args.shelf.now) c.args.live.now c.converse-in-Ok-Edits.new.live (session edit_turn edit_ending [] (the_editing c.in-Ok-Edits.editing)) before after _ _ _
+    c.in-Some.ensures.request (prepared_as _ _ _ _ c.in-Ok-Edits.ensures.plan c.in-Ok-Edits.field-0-is) tt c.converse-in-Ok-Edits.ensures.ends
+
+pub returns-in-Ok-Edits-clause-good : goal.returns-in-Ok-Edits-clause-good
+returns-in-Ok-Edits-clause-good g c = good_is _ (g.F.Shelf.files c.args.shelf.now) _ _ _ _ _ _ _ (returns-in-Ok-Edits-clause-output g c)
+
+pub returns-in-Ok-Edits-clause-bad : goal.returns-in-Ok-Edits-clause-bad
+returns-in-Ok-Edits-clause-bad g c = bad_is _ (g.F.Shelf.files c.args.shelf.now) _ _ _ _ _ _ _ (returns-in-Ok-Edits-clause-output g c)
+
+pub returns-in-Ok-Edits-clause-full : goal.returns-in-Ok-Edits-clause-full
+returns-in-Ok-Edits-clause-full g c = full_is _ (g.F.Shelf.files c.args.shelf.now) _ _ _ _ _ _ _ (returns-in-Ok-Edits-clause-output g c)
+
+pub returns-in-Ok-Edits-clause-complete : goal.returns-in-Ok-Edits-clause-complete
+returns-in-Ok-Edits-clause-complete g c = complete_is _ (g.F.Shelf.files c.args.shelf.now) _ _ _ _ _ _ _ (returns-in-Ok-Edits-clause-output g c)
+
+pub returns-in-Ok-Edits-clause-words_only : goal.returns-in-Ok-Edits-clause-words_only
+returns-in-Ok-Edits-clause-words_only g c = words_is _ (g.F.Shelf.files c.args.shelf.now) _ _ _ _ _ _ _ (returns-in-Ok-Edits-clause-output g c)
+
+pub returns-in-Ok-Edits-clause-there : goal.returns-in-Ok-Edits-clause-there
+returns-in-Ok-Edits-clause-there g c =
+    let before : Live = record { left = g.S.Source.left c.args.live.now; faults = g.S.Source.faults c.args.live.now } in
+    let after : Live = record { left = g.S.Source.left c.converse-in-Ok-Edits.new.live; faults = g.S.Source.faults c.converse-in-Ok-Edits.new.live } in
+    there_is _ (the_request c.in-Some.request) (g.F.Shelf.files c.args.shelf.now) (session edit_turn edit_ending [] (the_editing c.in-Ok-Edits.editing)) before after _ _ _
+    c.in-Some.ensures.request (prepared_as _ _ _ _ c.in-Ok-Edits.ensures.plan c.in-Ok-Edits.field-0-is) c.converse-in-Ok-Edits.ensures.ends
+
+pub returns-in-Ok-Edits-clause-live : goal.returns-in-Ok-Edits-clause-live
+returns-in-Ok-Edits-clause-live g c =
+    inl (reads_live _ (the_request c.in-Some.request) (g.F.Shelf.files c.args.shelf.now) (session edit_turn edit_ending [] (the_editing c.in-Ok-Edits.editing)) c.in-Some.ensures.request (prepared_as _ _ _ _ c.in-Ok-Edits.ensures.plan c.in-Ok-Edits.field-0-is) tt)
+
+pub returns-in-Ok-Edits-clause-read_fault : goal.returns-in-Ok-Edits-clause-read_fault
+returns-in-Ok-Edits-clause-read_fault g c = λ is.
+    inr (reads_live _ (the_request c.in-Some.request) (g.F.Shelf.files c.args.shelf.now) (session edit_turn edit_ending [] (the_editing c.in-Ok-Edits.editing)) c.in-Some.ensures.request (prepared_as _ _ _ _ c.in-Ok-Edits.ensures.plan c.in-Ok-Edits.field-0-is) tt, c.converse-in-Ok-Edits.ensures.read is)
+
+pub returns-in-Ok-Edits-clause-memory : goal.returns-in-Ok-Edits-clause-memory
+returns-in-Ok-Edits-clause-memory g c = λ is.
+    inl (may_stop _ (the_request c.in-Some.request) (g.F.Shelf.files c.args.shelf.now) (session edit_turn edit_ending [] (the_editing c.in-Ok-Edits.editing)) c.in-Some.ensures.request (prepared_as _ _ _ _ c.in-Ok-Edits.ensures.plan c.in-Ok-Edits.field-0-is)
+    (fits_as _ _ _ c.in-Ok-Edits.ensures.fits c.in-Ok-Edits.field-0-is) tt)

@@ -8,5 +8,5 @@ pub returns-clause-comes : goal.returns-clause-comes
 returns-clause-comes c =
     begun c.args.cap c.args.names.now c.args.check.net c.args.line.items c.into_plan.result c.in-Ok.executive c.in-Ok-start.running c.requires.verdict c.requires.line c.into_plan.ensures.network c.into_plan.ensures.live c.in-Ok.ensures.start c.in-Ok-start.ensures.start
 
-pub returns-clause-opening : goal.returns-clause-opening
-returns-clause-opening c = line_ends c.args.line.items (codes "yes " ++ decimal (load_of (the_network c.args.check.net))) c.requires.line
+pub returns-clause-fits : goal.returns-clause-fits
+returns-clause-fits c request = line_ends c.args.line.items (codes "yes " ++ decimal (load_of (the_network c.args.check.net))) c.requires.line

@@ -1,0 +1,39 @@
+// `edit FILE [--deadline N] [--cap CAP]`
+ghost use Rattle.std.specs.Prelude.{◌≤◌, IfOk, IsTrue, IsErrOf};
+ghost use Rattle.cstn_io.specs.Causes.{Rose};
+ghost use Rattle.cstn_top.specs.Requests.{edit};
+ghost use Rattle.cstn_top.specs.Prepared.{the_plan, Planned, FitsRequest};
+ghost use Rattle.cstn_top.specs.Read.{the_asked};
+
+use super::documents::{Opened, open};
+use super::{Prepared, Refused};
+use crate::editing::Editing;
+use crate::words::Asked;
+use cstn_io::Shelf;
+use std::alloc::Global;
+
+/// The edit session on the network of a file.
+pub(crate) fn edit_file<F: Shelf>(
+    alloc: Global,
+    asked: Asked<'_>,
+    cap: u32,
+    shelf: &mut F,
+) -> Result<Prepared, Refused>
+    requires may_ask { IsTrue (F.may_ask shelf.old asked.file.now) }
+    requires some { 1 ≤ cap }
+    requires most { cap ≤ 4194304 }
+    ensures plan { IfOk result (λ prepared. Planned (edit (the_asked asked.entry) cap) (F.files shelf.old) (the_plan prepared)) }
+    ensures fits { IfOk result (FitsRequest (edit (the_asked asked.entry) cap)) }
+    ensures fault { IsErrOf result Refused.ReadFault → Rose (F.faults shelf.old) (F.faults shelf.new) }
+{
+    match open(alloc, asked, shelf) {
+        Ok(Opened::Accepted { network, names }) => {
+            let Ok(editing) = Editing::start(alloc, network, names, cap) else {
+                return Err(Refused::Memory);
+            };
+            Ok(Prepared::Edits(editing))
+        }
+        Ok(Opened::Told(said)) => Ok(Prepared::Says(said)),
+        Err(refused) => Err(refused),
+    }
+}
