@@ -1,6 +1,6 @@
 -- The numbers of a range that pass a test, the moments once they are executed, and who is named.
 use Rattle.std.proofs.Common.{ℕ, zero, suc, ◌≡◌, ◌≢◌, inl, inr, ◌+◌, ◌<◌, ◌≤◌, Bool, true, false, List, [], ◌∷◌, Option, Some, None, length, map, take, cond, ◌++◌, ◌&&◌, not, arith, refl, sym, subst, ap, ◌∙◌, get_or-set_other, get_or-set_same}
-use Rattle.std.specs.Prelude.{is_none, nat_lt, slice_index, slice_index_or, slice_set}
+use Rattle.std.specs.Prelude.{is_none, nat_lt, slice_index_or, slice_set}
 use Rattle.std.specs.List.{All, Contains, filter, range_with_len}
 use Rattle.std.specs.List.Sorted.{IsStrictlyIncreasing}
 use Rattle.std.proofs.lemmas.Bool.{cases_Bool, cases_eq, cond-true, cond-false, both_ways}
@@ -11,7 +11,7 @@ use Rattle.std.proofs.lemmas.List.Kept.{IsStrictlyIncreasing-filter}
 use Rattle.cstn_label.specs.declared.nodes.NodeId.{NodeId}
 use Rattle.cstn_label.specs.Bounds.{Bound}
 use Rattle.cstn_net.specs.Networks.{Network, count}
-use Rattle.cstn_exec.specs.Runs.{Run, executed_at, earliest, is_free, is_free_by, named}
+use Rattle.cstn_exec.specs.Runs.{Run, executed_at, AreAskedAt, is_free, is_free_by, named}
 use Rattle.cstn_exec.specs.Moves.{executed}
 
 abbrev pub passing : (ℕ → Bool) → ℕ → ℕ → List ℕ
@@ -154,7 +154,7 @@ executed_more t xs i d ms inside =
 
 -- what is free by the moments that are asked for
 pub named_by : (net : Network) (bounds : List Bound) (run : Run) (t : ℕ) (after : List ℕ) → count net ≤ 1024 → length run.moments ≡ count net →
-    ((x : ℕ) → x < 1024 → slice_index after x ≡ earliest net bounds run (t + 1) x) →
+    AreAskedAt net bounds run t after →
     filter (is_free_by run.moments after t) (range_with_len 0 (length run.moments)) ≡ named net bounds run t
 named_by net bounds run t after few size same =
     ap (λ n. filter (is_free_by run.moments after t) (range_with_len 0 n)) size

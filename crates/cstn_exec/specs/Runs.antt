@@ -1,5 +1,5 @@
 -- Runs of a network: what was executed and seen, what is known of it, and when there is something to be done.
-use Rattle.std.specs.Prelude.{ℕ, ◌+◌, ◌-◌, Bool, true, false, ◌&&◌, ◌||◌, ◌==◌, not, nat_lt, is_some, is_none, List, Option, Some, None, replicate, slice_index, slice_index_or, if◌then◌else◌}
+use Rattle.std.specs.Prelude.{ℕ, ◌≡◌, ◌+◌, ◌-◌, ◌<◌, Bool, true, false, ◌&&◌, ◌||◌, ◌==◌, not, nat_lt, is_some, is_none, List, Option, Some, None, replicate, slice_index, slice_index_or, if◌then◌else◌}
 use Rattle.std.specs.List.{position, find, filter, list_all, list_any, range_with_len}
 use Rattle.std.specs.Option.{option_and_then, option_map}
 use Rattle.cstn_label.specs.declared.marks.Mark.{Mark}
@@ -82,6 +82,15 @@ is_possible values a = list_all (λ p. fits_known (values p) (a p)) (range_with_
 -- the greatest moment that the bounds on x ask for whose labels are possible by what is known before u
 abbrev pub earliest : Network → List Bound → Run → ℕ → ℕ → ℕ
 earliest net bounds run u x = greatest (λ b. (b.node == x) && is_possible (known net run u) b.label) bounds
+
+-- the moments are those that the bounds ask for by what is known at t, for each of the 1,024 time-points that there may be
+abbrev pub AreAskedAt : Network → List Bound → Run → ℕ → List ℕ → Type 0
+AreAskedAt net bounds run t moments = (x : ℕ) → x < 1024 → slice_index moments x ≡ earliest net bounds run (t + 1) x
+
+-- the same where there are moments, and else a proposition is awaited at t
+abbrev pub AreAskedUnlessAwaited : Network → List Bound → Run → ℕ → Option (List ℕ) → Type 0
+AreAskedUnlessAwaited net bounds run t None = is_some (awaited net run (t + 1)) ≡ true
+AreAskedUnlessAwaited net bounds run t (Some moments) = AreAskedAt net bounds run t moments
 
 -- x isn't executed, and by what is known at t no bound asks for a later moment
 abbrev pub is_free : Network → List Bound → Run → ℕ → ℕ → Bool

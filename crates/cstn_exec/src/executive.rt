@@ -86,7 +86,8 @@ impl Executive {
     }
 
     /// The first moment, in ticks, at which an outcome is awaited or a time-point is to be executed; none where all is executed.
-    /// Takes a pass over the plan's bounds, and one more for each moment up to it at which more becomes known.
+    /// Takes at most one pass over the plan's bounds, and another for each moment after the next one, up to the due one, at which
+    /// more becomes known. Where each reaction is 1 there is no such moment.
     pub fn due(&self) -> Option<u32>
         ensures due { result ≡ due (the_network self.now.net) (the_bounds self.now.bounds) self.now.run }
         ensures none { IsNone result ↔ IsDone (the_network self.now.net) self.now.run }
@@ -98,7 +99,7 @@ impl Executive {
         if self.is_done() {
             None
         } else {
-            Some(self.first_due())
+            Some(self.first_due().moment)
         }
     }
 
@@ -113,8 +114,8 @@ impl Executive {
     }
 
     /// Accepts a moment, in ticks, and executes the time-points whose least moment it is, which `named` lends. Refused with the
-    /// first that applies of `Done`, `Past`, `Awaiting` and `Late`. Takes as many passes over the plan's bounds as `due`, and at
-    /// the due moment one more.
+    /// first that applies of `Done`, `Past`, `Awaiting` and `Late`. Takes at most as many passes over the plan's bounds
+    /// as `due`.
     pub fn moment(&mut self, t: u32) -> Result<(), ExecError>
         ensures refused { refusal_of result ≡ moment_refusal (the_network self.old.net) (the_bounds self.old.bounds) self.old.run t }
         ensures moved { OnOk result (self.new ≡ record self.old { run = moved (the_network self.old.net) (the_bounds self.old.bounds) self.old.run t; named = named (the_network self.old.net) (the_bounds self.old.bounds) self.old.run t }) }
@@ -128,7 +129,7 @@ impl Executive {
             Err(refusal) => return Err(refusal),
         };
         self.is_right();
-        self.name(t, due);
+        self.name(t, &due);
         execute(&mut self.moments, self.named.as_slice(), t);
         self.last = Some(t);
         Ok(())

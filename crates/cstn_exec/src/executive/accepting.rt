@@ -2,18 +2,20 @@
 ghost use Rattle.std.specs.Prelude.{◌≡◌, Some, IfOk};
 ghost use Rattle.cstn_net.specs.Read.{the_network};
 ghost use Rattle.cstn_log.specs.Plans.{the_bounds};
-ghost use Rattle.cstn_exec.specs.Runs.{due};
+ghost use Rattle.cstn_exec.specs.Runs.{AreAskedUnlessAwaited, due};
 ghost use Rattle.cstn_exec.specs.Moves.{moment_refusal};
 ghost use Rattle.cstn_exec.specs.Read.{refusal_of};
 
 use super::Executive;
+use super::search::Due;
 use crate::errors::ExecError;
 
 impl Executive {
     // The due moment, where t is accepted, and else why t is refused.
-    pub(super) fn due_if_accepted(&self, t: u32) -> Result<u32, ExecError>
+    pub(super) fn due_if_accepted(&self, t: u32) -> Result<Due, ExecError>
         ensures refused { refusal_of result ≡ moment_refusal (the_network self.now.net) (the_bounds self.now.bounds) self.now.run t }
-        ensures due { IfOk result (λ u. due (the_network self.now.net) (the_bounds self.now.bounds) self.now.run ≡ Some u) }
+        ensures due { IfOk result (λ d. due (the_network self.now.net) (the_bounds self.now.bounds) self.now.run ≡ Some d.moment) }
+        ensures asked { IfOk result (λ d. AreAskedUnlessAwaited (the_network self.now.net) (the_bounds self.now.bounds) self.now.run d.moment d.asked) }
     {
         if self.is_done() {
             return Err(ExecError::Done);
@@ -27,8 +29,8 @@ impl Executive {
             return Err(ExecError::Awaiting { prop });
         }
         let due = self.first_due();
-        if due < t {
-            return Err(ExecError::Late { due });
+        if due.moment < t {
+            return Err(ExecError::Late { due: due.moment });
         }
         Ok(due)
     }

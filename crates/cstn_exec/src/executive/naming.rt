@@ -3,11 +3,12 @@ ghost use Rattle.std.specs.Prelude.{◌≡◌, ◌<◌, ◌≤◌, ◌&&◌, not
 ghost use Rattle.std.specs.List.{All, filter, range_with_len};
 ghost use Rattle.cstn_net.specs.Read.{the_network};
 ghost use Rattle.cstn_log.specs.Plans.{the_bounds};
-ghost use Rattle.cstn_exec.specs.Runs.{due, is_free_by, named};
+ghost use Rattle.cstn_exec.specs.Runs.{AreAskedUnlessAwaited, due, is_free_by, named};
 ghost use Rattle.cstn_exec.specs.Moves.{moment_refusal, executed};
 
 use super::Executive;
 use super::asked::Moments;
+use super::search::Due;
 use cstn_label::NodeId;
 use smallvec::SmallVec;
 
@@ -18,19 +19,18 @@ const NAMES_IN_PLACE: usize = 8;
 pub type Names = SmallVec<NodeId, NAMES_IN_PLACE>;
 
 impl Executive {
-    // Names the time-points to be executed at t: none before the due moment, `first`.
-    pub(super) fn name(&mut self, t: u32, first: u32)
+    // Names the time-points to be executed at t: none before the due moment.
+    pub(super) fn name(&mut self, t: u32, first: &Due)
         requires accepted { moment_refusal (the_network self.old.net) (the_bounds self.old.bounds) self.old.run t ≡ None }
-        requires due { due (the_network self.old.net) (the_bounds self.old.bounds) self.old.run ≡ Some first }
+        requires due { due (the_network self.old.net) (the_bounds self.old.bounds) self.old.run ≡ Some first.now.moment }
+        requires asked { AreAskedUnlessAwaited (the_network self.old.net) (the_bounds self.old.bounds) self.old.run first.now.moment first.now.asked }
         ensures { self.new ≡ record self.old { named = named (the_network self.old.net) (the_bounds self.old.bounds) self.old.run t } }
     {
         self.is_right();
-        if t < first {
-            self.named.clear();
-            return;
+        match &first.asked {
+            Some(asked) if first.moment <= t => collect(&mut self.named, &self.moments, asked, t),
+            _ => self.named.clear(),
         }
-        let after = self.earliest(t);
-        collect(&mut self.named, &self.moments, &after, t);
     }
 }
 

@@ -4,16 +4,24 @@ ghost use Rattle.std.specs.List.{list_all};
 ghost use Rattle.cstn_net.specs.Networks.{count};
 ghost use Rattle.cstn_net.specs.Read.{the_network};
 ghost use Rattle.cstn_log.specs.Plans.{the_bounds};
-ghost use Rattle.cstn_exec.specs.Runs.{is_done, is_before, is_ready, earliest, due};
+ghost use Rattle.cstn_exec.specs.Runs.{is_done, is_before, is_ready, earliest, AreAskedAt, AreAskedUnlessAwaited, due};
 
 use super::Executive;
 use super::asked::{Moments, asked};
 use cstn_label::Prop;
 
+/// The due moment, and for each time-point the moment that its bounds ask for by what is known then; none where an outcome is
+/// awaited then.
+#[derive(Drop)]
+pub struct Due {
+    pub moment: u32,
+    pub asked: Option<Moments>,
+}
+
 impl Executive {
     // The moment that the bounds on each time-point ask for, by what is known at t.
-    pub(super) fn earliest(&self, t: u32) -> Moments
-        ensures { (x : ℕ) → x < 1024 → slice_index result x ≡ earliest (the_network self.now.net) (the_bounds self.now.bounds) self.now.run (t + 1) x }
+    fn earliest(&self, t: u32) -> Moments
+        ensures { AreAskedAt (the_network self.now.net) (the_bounds self.now.bounds) self.now.run t result }
     {
         let known = self.known(t);
         asked(&self.plan, &known)
@@ -34,32 +42,40 @@ impl Executive {
     }
 
     // The first moment from t on at which somebody who isn't executed is free, by what is known at t.
-    fn first_free(&self, t: u32) -> u32
-        requires { is_done self.now.run ≡ false }
+    fn first_free(&self, t: u32, asked: &Moments) -> u32
+        requires waits { is_done self.now.run ≡ false }
+        requires asked { AreAskedAt (the_network self.now.net) (the_bounds self.now.bounds) self.now.run t asked.now }
         ensures from { t ≤ result }
         ensures held { (x u : ℕ) → x < count (the_network self.now.net) → slice_index_or self.now.run.moments x None ≡ None → t ≤ u → u < result → u < earliest (the_network self.now.net) (the_bounds self.now.bounds) self.now.run (t + 1) x }
         ensures free { (x : ℕ) × (x < count (the_network self.now.net)) × (slice_index_or self.now.run.moments x None ≡ None) × (earliest (the_network self.now.net) (the_bounds self.now.bounds) self.now.run (t + 1) x ≤ result) }
     {
         self.is_right();
-        let after = self.earliest(t);
-        least_from(&self.moments, &after, t)
+        least_from(&self.moments, asked, t)
     }
 
     // The due moment, where somebody isn't executed.
-    pub(super) fn first_due(&self) -> u32
+    pub(super) fn first_due(&self) -> Due
         requires { is_done self.now.run ≡ false }
-        ensures { due (the_network self.now.net) (the_bounds self.now.bounds) self.now.run ≡ Some result }
+        ensures due { due (the_network self.now.net) (the_bounds self.now.bounds) self.now.run ≡ Some result.moment }
+        ensures asked { AreAskedUnlessAwaited (the_network self.now.net) (the_bounds self.now.bounds) self.now.run result.moment result.asked }
     {
         self.is_right();
         let mut t = self.next();
         loop {
             let None = self.awaited(t) else {
-                return t;
+                return Due {
+                    moment: t,
+                    asked: None,
+                };
             };
-            let free = self.first_free(t);
+            let asked = self.earliest(t);
+            let free = self.first_free(t, &asked);
             let ready = self.next_ready(t);
             if free < ready {
-                return free;
+                return Due {
+                    moment: free,
+                    asked: Some(asked),
+                };
             }
             t = ready;
         }

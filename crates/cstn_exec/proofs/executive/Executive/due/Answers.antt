@@ -30,13 +30,13 @@ returns-else-is_done-clause-first c =
     let known = c.is_right.ensures in
     let net = the_network c.args.self.now.net in
     let bounds = the_bounds c.args.self.now.bounds in
-    (due_is_due net bounds known.earliest.0 known.well_formed known.earliest.1 c.args.self.now.run known.right c.first_due.result
-    c.first_due.ensures).0
+    (due_is_due net bounds known.earliest.0 known.well_formed known.earliest.1 c.args.self.now.run known.right c.first_due.result.moment
+    c.first_due.ensures.due).0
 
 pub returns-else-is_done-clause-in_time : goal.returns-else-is_done-clause-in_time
 returns-else-is_done-clause-in_time c =
     let known = c.is_right.ensures in
     let net = the_network c.args.self.now.net in
     let bounds = the_bounds c.args.self.now.bounds in
-    (due_is_due net bounds known.earliest.0 known.well_formed known.earliest.1 c.args.self.now.run known.right c.first_due.result
-    c.first_due.ensures).1
+    (due_is_due net bounds known.earliest.0 known.well_formed known.earliest.1 c.args.self.now.run known.right c.first_due.result.moment
+    c.first_due.ensures.due).1

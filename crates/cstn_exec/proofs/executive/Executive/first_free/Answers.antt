@@ -10,4 +10,4 @@ returns-clause-held c x u inside none low high =
     let moments = c.deref.ensures.value ∙ ap (λ (v : ExecParts). v.run.moments) c.self.view_is in
     let there = ap (length {A = Option ℕ}) moments in
     let later = c.least_from.ensures.held x u (omega arith) (subst (λ (ms : List (Option ℕ)). slice_index_or ms x None ≡ None) (sym moments) none) low high in
-    subst (λ (n : ℕ). u < n) (c.earliest-after.ensures x (omega arith)) later
+    subst (λ (n : ℕ). u < n) (c.requires.asked x (omega arith)) later
