@@ -2,7 +2,7 @@
 use Rattle.std.specs.Prelude.{ℕ, List, [], ◌∷◌, ◌++◌, slice_index_or, codes, decimal}
 use Rattle.cstn_label.specs.Letters.{letter_of}
 use Rattle.cstn_net.specs.declared.errors.NetError.{NetError}
-use Rattle.cstn_net.specs.declared.errors.NetError.TheVariants.{TooManyNodes, NoOrigin, TooManyConstraints, DeadlineRange, ValueRange, NotObserved, TwoObservers, NotPlain, Memory}
+use Rattle.cstn_net.specs.declared.errors.NetError.TheVariants.{TooManyNodes, NoOrigin, TooManyConstraints, DeadlineRange, ValueRange, NotObserved, TwoObservers, NotPlain, ReactionRange, Memory}
 use Rattle.cstn_text.specs.PrintedNames.{printed_name}
 use Rattle.cstn_graphml.specs.Results.{Refusal}
 use Rattle.cstn_graphml.specs.Results.Refusal.{not_utf8, shape, name_twice, unknown_node, bad_value, label_text, contingent, edge_type, no_deadline, node_label}
@@ -43,4 +43,5 @@ fault_text names (NotObserved prop) = codes "document X10 N6 " ++ letter_of prop
 fault_text names (TwoObservers prop first second) =
     codes "document X10 N7 " ++ letter_of prop.index ∷ 32 ∷ printed names first.0 ++ 32 ∷ printed names second.0
 fault_text names (NotPlain constraint) = with_number 8 constraint
+fault_text names (ReactionRange node) = codes "document X10 N9 " ++ printed names node.0
 fault_text names (Memory e) = []

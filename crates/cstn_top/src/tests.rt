@@ -5,8 +5,8 @@ mod edits;
 use crate::{Status, run};
 use cstn_io::{MemoryFile, MemoryShelf, MemorySink, MemorySource};
 use documents::{
-    ASTRAY, BRANCH, BROKEN, CONTINGENT, CROSSED, EARLY, LARGE, LAST, LATE, LOOP, ORIGIN, PAIR,
-    PROCESS, SAVED, TIMED, TWICE, TWINS, UNKNOWN, UNOBSERVED,
+    ASTRAY, AT_ONCE, BRANCH, BROKEN, CONTINGENT, CROSSED, EARLY, LARGE, LAST, LATE, LOOP, ORIGIN,
+    PAIR, PROCESS, SAVED, SLOW, SLOW_LAST, TIMED, TOO_SLOW, TWICE, TWINS, UNKNOWN, UNOBSERVED,
 };
 use std::alloc::{AllocError, Global};
 use std::process::Abort;
@@ -29,6 +29,16 @@ const PROOF: &str =
     "no 7\n0 base Z 0 -\n1 chain 0 0 X 10 p\n2 chain 2 0 P 3 -\n3 wait 2 1 X 4 -\n4 chain 1 3 Z 1 !p\n";
 
 const PAIR_PROOF: &str = "no 3\n0 base Z 0 -\n1 chain 0 0 X 5 -\n";
+
+const SLOW_LAST_PROOF: &str =
+    "no 7\n0 base Z 0 -\n1 chain 0 0 X 10 p\n2 chain 2 0 P 2 -\n3 wait 2 1 X 4 -\n4 chain 1 3 Z 1 !p\n";
+
+const TOO_SLOW_PROOF: &str =
+    "no 6\n0 base Z 0 -\n1 base P 0 -\n2 chain 0 0 X 10 p\n3 wait 1 2 X 4 -\n4 chain 1 3 Z 1 !p\n";
+
+const SLOW_LIVE: &str = "moment 0\nsee p false\nmoment 1\ndue\nmoment 3\n";
+
+const SLOW_RUN: &str = "yes 5\nat 0 Z P\nseen p false\nat 1\ndue 3\nat 3 X\ndone\n";
 
 const LOOP_PROOF: &str =
     "no 6\n0 base X 0 -\n1 chain 0 0 X 1 -\n2 chain 0 1 X 2 -\n3 chain 0 2 X 3 -\n4 chain 0 3 X 4 -\n";
@@ -243,6 +253,8 @@ fn refutes(rt: HostRuntime) -> Result<(), Fail> {
     expect_no(&rt, alloc, LATE, "10", PROOF)?;
     expect_no(&rt, alloc, BROKEN, "5", BROKEN_PROOF)?;
     expect_no(&rt, alloc, UNKNOWN, "10", UNKNOWN_PROOF)?;
+    expect_no(&rt, alloc, SLOW_LAST, "10", SLOW_LAST_PROOF)?;
+    expect_no(&rt, alloc, TOO_SLOW, "10", TOO_SLOW_PROOF)?;
     let timed = quiet(TIMED.as_bytes());
     let words = ["check", "pair"];
     expect(&rt, alloc, &words, timed, Status::Bad, PAIR_PROOF)
@@ -304,6 +316,7 @@ fn runs(rt: HostRuntime) -> Result<(), Fail> {
         Status::Good,
         CROSSED_RUN,
     )?;
+    expect_run(&rt, alloc, SLOW, "10", SLOW_LIVE, Status::Good, SLOW_RUN)?;
     let text = "yes 5\nunfinished 0\n";
     expect_run(&rt, alloc, BRANCH, "10", "", Status::Unfinished, text)?;
     let text = "yes 5\nat 0 Z P\nunfinished 1\n";
@@ -380,6 +393,7 @@ fn refuses_documents(rt: HostRuntime) -> Result<(), Fail> {
     expect_refused(&rt, alloc, unobserved, "document X10 N6 p\n")?;
     expect_refused(&rt, alloc, TWINS.as_bytes(), "document X10 N7 p P Q\n")?;
     expect_refused(&rt, alloc, LARGE.as_bytes(), "document X10 N5 0\n")?;
+    expect_refused(&rt, alloc, AT_ONCE.as_bytes(), "document X5 at 67\n")?;
     let pair = quiet(PAIR.as_bytes());
     let text = "document X9\n";
     expect(&rt, alloc, &["check", "pair"], pair, Status::Document, text)?;

@@ -74,6 +74,7 @@ fn fault_line(alloc: Global, error: NetError, names: &Names) -> Result<Vec<u8>, 
             second,
         } => twins(alloc, prop, name_of(names, first), name_of(names, second)),
         NetError::NotPlain { constraint } => with_number(alloc, 8, constraint),
+        NetError::ReactionRange { node } => out_of_range(alloc, name_of(names, node)),
         NetError::Memory(e) => Err(e),
     }
 }
@@ -106,6 +107,16 @@ fn twins(alloc: Global, prop: Prop, first: &str, second: &str) -> Result<Vec<u8>
     text.extend_from_slice(first.as_bytes())?;
     text.push(b' ')?;
     text.extend_from_slice(second.as_bytes())?;
+    text.push(b'\n')?;
+    Ok(text)
+}
+
+fn out_of_range(alloc: Global, name: &str) -> Result<Vec<u8>, AllocError>
+    ensures line { IfOk result (λ text. text.items ≡ line (codes "document X10 N9 " ++ printed_name name.now)) }
+{
+    let name = print_name(alloc, name)?;
+    let mut text = b"document X10 N9 ".to_vec(alloc)?;
+    text.extend_from_slice(name.as_bytes())?;
     text.push(b'\n')?;
     Ok(text)
 }

@@ -20,6 +20,21 @@ pub(super) const LAST: &str =
 pub(super) const LATE: &str =
     "<graphml><graph><node id=\"Z\"/><node id=\"P\"><data key=\"Obs\">p</data></node><node id=\"X\"/><edge source=\"X\" target=\"Z\"><data key=\"LabeledValues\">{(-10, p)}</data></edge><edge source=\"Z\" target=\"X\"><data key=\"LabeledValues\">{(3, !p)}</data></edge><edge source=\"P\" target=\"Z\"><data key=\"LabeledValues\">{(-3, ⊡)}</data></edge></graph></graphml>";
 
+// The branch at the last tick, where the outcome of p is known two ticks after P.
+pub(super) const SLOW_LAST: &str =
+    "<graphml><graph><node id=\"Z\"/><node id=\"P\"><data key=\"Obs\">p</data><data key=\"Reaction\">2</data></node><node id=\"X\"/><edge source=\"X\" target=\"Z\"><data key=\"LabeledValues\">{(-10, p)}</data></edge><edge source=\"Z\" target=\"X\"><data key=\"LabeledValues\">{(3, !p)}</data></edge><edge source=\"P\" target=\"Z\"><data key=\"LabeledValues\">{(-2, ⊡)}</data></edge></graph></graphml>";
+
+// The branch where the outcome of p is known three ticks after P.
+pub(super) const SLOW: &str =
+    "<graphml><graph><node id=\"Z\"/><node id=\"P\"><data key=\"Obs\">p</data><data key=\"Reaction\">3</data></node><node id=\"X\"/><edge source=\"X\" target=\"Z\"><data key=\"LabeledValues\">{(-10, p)}</data></edge><edge source=\"Z\" target=\"X\"><data key=\"LabeledValues\">{(3, !p)}</data></edge></graph></graphml>";
+
+// The branch where the outcome of p is known four ticks after P.
+pub(super) const TOO_SLOW: &str =
+    "<graphml><graph><node id=\"Z\"/><node id=\"P\"><data key=\"Obs\">p</data><data key=\"Reaction\">4</data></node><node id=\"X\"/><edge source=\"X\" target=\"Z\"><data key=\"LabeledValues\">{(-10, p)}</data></edge><edge source=\"Z\" target=\"X\"><data key=\"LabeledValues\">{(3, !p)}</data></edge></graph></graphml>";
+
+pub(super) const AT_ONCE: &str =
+    "<graphml><graph><node id=\"Z\"/><node id=\"P\"><data key=\"Obs\">p</data><data key=\"Reaction\">0</data></node></graph></graphml>";
+
 // Each of two observers waits for the other.
 pub(super) const CROSSED: &str =
     "<graphml><graph><node id=\"Z\"/><node id=\"P\"><data key=\"Obs\">p</data></node><node id=\"Q\"><data key=\"Obs\">q</data></node><edge source=\"P\" target=\"Z\"><data key=\"LabeledValues\">{(-5, q)}</data></edge><edge source=\"Q\" target=\"Z\"><data key=\"LabeledValues\">{(-5, p)}</data></edge></graph></graphml>";
