@@ -15,6 +15,7 @@ use Rattle.cstn_label.specs.Read.{marks}
 use Rattle.cstn_net.specs.Read.{observed, the_constraint, the_network, reaction_of, NetworkParts}
 use Rattle.cstn_net.specs.Drafts.{constraint_of, constraints_from}
 use Rattle.cstn_net.proofs.DraftLemmas.{constraints_more}
+use Rattle.cstn_net.proofs.HandedLemmas.{prompt_reaction}
 use Rattle.cstn_gen.specs.Generated.{observed_by, props_of, point_name, constraint_at, constraint_from, state_at, span_at, literals_at, generated}
 use Rattle.cstn_gen.specs.declared.constraints.Span.{Span}
 use Rattle.cstn_gen.specs.Made.{HasPoints, HasConstraints}
@@ -89,14 +90,6 @@ drawn_is_at number size n x s l at ends label =
     ap (λ a. record { id = n; from = s.from; to = s.to; most = s.most; label = a }) label
     ∙ ap (λ e. record { id = n; from = e.from; to = e.to; most = e.most; label = (literals_at size x).label }) ends
     ∙ ap (constraint_from size n) at
-
--- where each reaction is a tick, so is that of each proposition
-prompt_reaction : (points : List TimePoint) → All (λ t. t.reaction ≡ 1) points → (p : ℕ) → reaction_of points p ≡ 1
-prompt_reaction [] all p = refl
-prompt_reaction (t ∷ ts) all p =
-    let head = All-head (λ t. t.reaction ≡ 1) t ts all in
-    let rest = prompt_reaction ts (All-tail (λ t. t.reaction ≡ 1) t ts all) p in
-    grind arith
 
 -- what was handed in is the network
 pub made_is : (number size : ℕ) (n : NetworkParts) (points : List TimePoint) (drafts : List Draft) → n.deadline ≡ 10 + 2 * size →

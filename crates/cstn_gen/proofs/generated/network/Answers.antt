@@ -1,10 +1,10 @@
 use Rattle.std.proofs.Common.{ap, ◌∙◌}
 use Rattle.std.specs.Prelude.{map}
-use Rattle.cstn_net.specs.Read.{observed}
+use Rattle.cstn_net.specs.Read.{observed, reaction_of}
 use Rattle.cstn_gen.specs.Generated.{generated}
 use Rattle.cstn_gen.proofs.MadeLemmas.{points_count, made_is}
 use Rattle.cstn_gen.proofs.WellFormed.{well_formed}
-use Rattle.cstn_net.proofs.HandedLemmas.{refused_for_memory}
+use Rattle.cstn_net.proofs.HandedLemmas.{refused_for_memory, prompt_reaction}
 use Rattle.cstn_gen.proofs.generated.network.Goals as goal
 
 pub returns-in_err-add_points-clause-well_formed : goal.returns-in_err-add_points-clause-well_formed
@@ -27,6 +27,7 @@ memory_of-requires c =
     (record {
       deadline = c.in_ok-add_constraints.ensures.rest.0 ∙ c.in_ok-add_points.ensures.rest.0 ∙ ap (λ b. b.deadline) c.new-builder.ensures.new;
       observes = ap (map observed) c.in_ok-add_constraints.ensures.rest.1 ∙ points.observes;
+      reaction = λ p. ap (λ ps. reaction_of ps p) c.in_ok-add_constraints.ensures.rest.1 ∙ prompt_reaction c.add_points.new.builder.points points.prompt p;
       constraints = c.in_ok-add_constraints.ensures.constraints;
     })
     c.in-Err.error c.in-Err.ensures.refused
