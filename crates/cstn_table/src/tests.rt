@@ -64,6 +64,20 @@ fn branch(rt: &impl Abort, alloc: Global, late: i32) -> Network {
     )
 }
 
+// The branch where the outcome of p is known so many ticks after P.
+fn slow_branch(rt: &impl Abort, alloc: Global, ticks: u32) -> Network {
+    let mut net = Builder::new(alloc, 10);
+    let origin = net.node(None).expect(rt, "memory");
+    let observer = net.node(Some(P)).expect(rt, "memory");
+    let x = net.node(None).expect(rt, "memory");
+    net.react(observer, ticks);
+    net.constrain(x, origin, -10, only(P, Mark::Yes))
+        .expect(rt, "memory");
+    net.constrain(origin, x, 3, only(P, Mark::No))
+        .expect(rt, "memory");
+    net.close().expect(rt, "a network")
+}
+
 // Z, P and Q, where P is at 5 or later where q is true, and Q where p is, and P is due at `due` where q is false.
 fn crossed(rt: &impl Abort, alloc: Global, due: i32) -> Network {
     network(
@@ -170,6 +184,10 @@ fn an_outcome_is_waited_for(rt: HostRuntime) {
     assert!(rt; has_row(&rt, alloc, &net, BOTH, &[0, 2, 10]));
     assert!(rt; has_row(&rt, alloc, &net, Q_ALONE, &[0, 2, 3]));
     assert!(rt; has_none(&rt, alloc, &branch(&rt, alloc, -3)));
+    let net = slow_branch(&rt, alloc, 3);
+    assert!(rt; has_row(&rt, alloc, &net, P_ALONE, &[0, 0, 10]));
+    assert!(rt; has_row(&rt, alloc, &net, NEITHER, &[0, 0, 3]));
+    assert!(rt; has_none(&rt, alloc, &slow_branch(&rt, alloc, 4)));
     let net = process(&rt, alloc);
     assert!(rt; has_row(&rt, alloc, &net, P_ALONE, &[0, 0, 5, 7, 10]));
     assert!(rt; has_row(&rt, alloc, &net, NEITHER, &[0, 0, 5, 13, 16]));
