@@ -6,9 +6,9 @@ use Rattle.std.proofs.Math.Pow.{pow-lt}
 use Rattle.std.proofs.lemmas.Nat.{pow_pos, div-add-mod'}
 use Rattle.std.proofs.lemmas.Bool.{cases_lt, cases_eq, eqb-true, eqb-false, eq-eqb, ne_eqb}
 use Rattle.std.proofs.lemmas.Bool.Decides.{nat_tests}
-use Rattle.std.proofs.lemmas.Nat.Bits.{bit_at_and, bit_at_or, bit_at_not, bit_at-lt, bit_at_above, same_from_bits, bit_at_cat_high, bit_at-trailing_zeros, bit_at-zero, bit_at_clear_same, bit_at_clear_other, bit_at_set_same, bit_at_set_other}
+use Rattle.std.proofs.lemmas.Nat.Bits.{bit_at_and, bit_at_or, bit_at_not, bit_at-lt, bit_at_above, same_from_bits, bit_at_cat_high, bit_at-trailing_zeros, bit_at-zero, bit_at_clear_same, bit_at_clear_other, bit_at_set_same, bit_at_set_other, bit_at_ones, bit_at_ones_above}
 use Rattle.std.specs.Int.Bits.{or_lt}
-use Rattle.cstn_label.specs.Words.{has_bit, IsApart, IsInside}
+use Rattle.cstn_label.specs.Words.{has_bit, meant, IsApart, IsInside}
 
 -- tests of bits, over numbers below 2
 or_bit : (a b : ℕ) → a < 2 → b < 2 → eqb (max a b) 1 ≡ (eqb a 1 || eqb b 1)
@@ -191,3 +191,29 @@ pub below_lowest_from : (word i : ℕ) → (word / 2 ^ i ≡ 0 → ⊥) → word
 below_lowest_from word i some fits =
     let less = div-le_self word (2 ^ i) in
     clear_from word i (trailing_zeros w64 (word / 2 ^ i)) (below_lowest (word / 2 ^ i) (omega arith) (omega arith))
+
+and_all : (b o : Bool) → o ≡ true → (b && o) ≡ b
+and_all b o e = grind arith
+
+and_none : (b o : Bool) → o ≡ false → (b && o) ≡ false
+and_none b o e = grind arith
+
+-- the bits of propositions are kept, and no others
+pub meant_below : (word p : ℕ) → p < 52 → has_bit (meant word) p ≡ has_bit word p
+meant_below word p below = has_bit_and word (2 ^ 52 - 1) p ∙
+    and_all (has_bit word p) (has_bit (2 ^ 52 - 1) p) (ap (λ n. eqb n 1) (bit_at_ones 52 p below))
+
+pub meant_above : (word p : ℕ) → 52 ≤ p → has_bit (meant word) p ≡ false
+meant_above word p above = has_bit_and word (2 ^ 52 - 1) p ∙
+    and_none (has_bit word p) (has_bit (2 ^ 52 - 1) p) (ap (λ n. eqb n 1) (bit_at_ones_above 52 p above))
+
+-- words mean the same where they have the same bits of propositions
+pub meant_from_bits : (a b : ℕ) → ((p : ℕ) → p < 52 → has_bit a p ≡ has_bit b p) → meant a ≡ meant b
+meant_from_bits a b same = same_word (meant a) (meant b) (λ p. elim (cases_lt p 52) [
+  | inl below ↦ meant_below a p below ∙ same p below ∙ sym (meant_below b p below)
+  | inr above ↦ meant_above a p above ∙ sym (meant_above b p above)
+])
+
+pub bits_from_meant : (a b : ℕ) → meant a ≡ meant b → (p : ℕ) → p < 52 → has_bit a p ≡ has_bit b p
+bits_from_meant a b same p below =
+    sym (meant_below a p below) ∙ ap (λ w. has_bit w p) same ∙ meant_below b p below

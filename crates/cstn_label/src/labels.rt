@@ -98,7 +98,7 @@ impl Label {
         is_inside(self.yes, other.yes) && is_inside(self.no, other.no)
     }
 
-    /// Whether each literal is true in the scenario. A label with an unknown mark has to be told apart before.
+    /// Whether each literal is true in the scenario. The label has no unknown mark; ask `is_plain` first.
     pub fn holds(self, s: Scenario) -> bool
         requires plain { IsPlain (marks self) }
         ensures holds { IsTrue result ↔ Holds (the_scenario s) (marks self) }

@@ -2,6 +2,11 @@
 ghost use Rattle.std.specs.Prelude.{ℕ, ◌≡◌, ◌<◌, ◌≤◌, ◌^◌, ◌==◌, true, false, cond, ◌↔◌, IsTrue, IfSome, IfNone};
 ghost use Rattle.cstn_label.specs.Words.{has_bit, IsApart, IsInside};
 
+use crate::Prop;
+
+// The bits of the 52 propositions.
+pub const MEANT: u64 = 0xf_ffff_ffff_ffff;
+
 // No bit is set in both words.
 pub fn are_apart(a: u64, b: u64) -> bool
     ensures { IsTrue result ↔ IsApart a b }
@@ -42,7 +47,7 @@ pub fn first_bit_from(word: u64, i: u8) -> Option<u8>
     ensures least { IfSome result (λ k. (j : ℕ) → i ≤ j → j < k → has_bit word j ≡ false) }
     ensures none { IfNone result ((j : ℕ) → i ≤ j → has_bit word j ≡ false) }
 {
-    if i >= 52 {
+    if i >= Prop::COUNT {
         return None;
     }
     let rest = word >> i;

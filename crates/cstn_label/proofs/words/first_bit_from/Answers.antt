@@ -2,9 +2,9 @@ use Rattle.std.proofs.Common.{arith}
 use Rattle.cstn_label.proofs.WordLemmas.{has_bit_above, none_from, set_below, lowest_from, below_lowest_from}
 use Rattle.cstn_label.proofs.words.first_bit_from.Goals as goal
 
-pub returns-then-i-ge52-clause-none : goal.returns-then-i-ge52-clause-none
-returns-then-i-ge52-clause-none c j from =
-    let high = c.if-i-ge52.true in
+pub returns-then-i-ge-COUNT-clause-none : goal.returns-then-i-ge-COUNT-clause-none
+returns-then-i-ge-COUNT-clause-none c j from =
+    let high = c.if-i-ge-COUNT.true in
     has_bit_above c.args.word 52 j c.requires (omega arith)
 
 pub returns-then-rest-eq0-clause-none : goal.returns-then-rest-eq0-clause-none
