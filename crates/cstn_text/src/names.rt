@@ -7,8 +7,8 @@ ghost use Rattle.cstn_text.specs.PrintedNames.{name_read};
 
 use crate::printed_names::{as_name, unprinted};
 use cstn_label::NodeId;
+use indexmap::IndexSet;
 use std::alloc::{AllocError, Global};
-use std::collections::BTreeMap;
 use std::marker::Model;
 use thiserror::Error;
 
@@ -27,25 +27,21 @@ pub enum NameError {
 }
 
 /// Different names of 1 to 64 bytes each, by number from 0.
-///
-/// A name is looked up by its order among the others, in as many steps as their number has binary digits, whatever the names are.
 #[derive(Drop)]
 pub struct Names {
     alloc: Global,
-    names: Vec<String>,
-    numbers: BTreeMap<String, u32>,
+    set: IndexSet<String>,
 }
 
 impl Model for Names {
-    ghost use Rattle.std.specs.Prelude.{ℕ, ◌≡◌, List, map, string_bytes};
-    ghost use Rattle.std.specs.BTreeMap.{get_by_text};
-    ghost use Rattle.cstn_text.specs.Names.{AreNames, number_of};
+    ghost use Rattle.std.specs.Prelude.{ℕ, List, map, string_bytes};
+    ghost use Rattle.cstn_text.specs.Names.{AreNames};
 
     ghost Value = { List (List ℕ) };
 
-    ghost view = { λ n. map string_bytes n.names.items };
+    ghost view = { λ n. map string_bytes n.set.keys };
 
-    ghost invariant = { λ n. AreNames (map string_bytes n.names.items) × ((name : List ℕ) → get_by_text n.numbers name ≡ number_of (map string_bytes n.names.items) name) };
+    ghost invariant = { λ n. AreNames (map string_bytes n.set.keys) };
 }
 
 impl Names {
@@ -55,8 +51,7 @@ impl Names {
     {
         Names {
             alloc,
-            names: Vec::new(alloc),
-            numbers: BTreeMap::new(alloc),
+            set: IndexSet::new(alloc),
         }
     }
 
@@ -65,14 +60,18 @@ impl Names {
         ensures count { result ≡ length self.now }
         ensures names { AreNames self.now }
     {
-        self.names.len() as u32
+        self.set.len() as u32
     }
 
     /// The number of a name, if it is in the list.
+    #[tactic(auto, using(crate::proofs::NameLemmas::position_map))]
     pub fn find(&self, name: &str) -> Option<u32>
         ensures find { result ≡ number_of self.now name.now }
     {
-        self.numbers.get(name).copied()
+        match self.set.get_index_of(name) {
+            Some(i) => Some(i as u32),
+            None => None,
+        }
     }
 
     /// The number of the name of which the bytes are the printed form, if it is in the list. It takes no memory.
@@ -89,13 +88,14 @@ impl Names {
         requires { x.0 < length self.now }
         ensures name { slice_get self.now x.0 ≡ Some result.now }
     {
-        self.names[x.index()].as_str()
+        let name = self.set.get_index(x.index()).unwrap();
+        name.as_str()
     }
 
     fn is_known(&self, name: &str) -> bool
         ensures { IsTrue result ↔ Contains self.now name.now }
     {
-        self.numbers.contains_key(name)
+        self.set.contains(name)
     }
 
     /// Puts a name at the end of the list, and answers its number.
@@ -115,18 +115,13 @@ impl Names {
         if self.is_known(name) {
             return Err(NameError::Twice);
         }
-        let (Ok(owned), Ok(key)) = (String::from_str(alloc, name), String::from_str(alloc, name))
-        else {
-            return Err(NameError::Memory(AllocError));
-        };
-        let Ok(()) = self.names.reserve(1) else {
+        let Ok(owned) = String::from_str(alloc, name) else {
             return Err(NameError::Memory(AllocError));
         };
         let number = self.count();
-        let Ok(_) = self.numbers.insert(key, number) else {
+        let Ok(_) = self.set.insert(owned) else {
             return Err(NameError::Memory(AllocError));
         };
-        self.names.push(owned).unwrap();
         Ok(number)
     }
 }
