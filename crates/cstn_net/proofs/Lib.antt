@@ -9,4 +9,5 @@ mod ObserverLemmas
 pub mod ChangeLemmas
 pub mod DraftLemmas
 mod FaultLemmas
+pub mod LinkLemmas
 pub mod HandedLemmas

@@ -5,3 +5,4 @@ pub mod Read
 pub mod Observers
 pub mod Examples
 pub mod Drafts
+pub mod Links

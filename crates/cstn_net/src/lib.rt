@@ -6,10 +6,12 @@ mod constraints;
 mod drafts;
 mod errors;
 mod laws;
+mod links;
 mod networks;
 mod observers;
 mod points;
 mod scans;
+mod walks;
 
 pub use builders::Builder;
 pub use constraints::Constraint;
@@ -20,6 +22,7 @@ pub use laws::{
     unobserved_is_unseen,
 };
 pub use networks::Network;
+pub use walks::walk_visits_each;
 
 #[cfg(test)]
 mod tests;
