@@ -1,5 +1,6 @@
 pub mod Networks
 pub mod Strategies
+pub mod Scenarios
 pub mod Bounds
 pub mod Read
 pub mod Observers
