@@ -8,6 +8,7 @@ ghost use Rattle.cstn_net.specs.Drafts.{IsSized, IsSound, IsLowestFault, IsRefus
 
 use crate::drafts::{Draft, constraints_of};
 use crate::errors::NetError;
+use crate::links::Links;
 use crate::networks::Network;
 use crate::observers::{Observers, observers_of};
 use crate::points::TimePoint;
@@ -111,6 +112,7 @@ impl Builder {
         ensures deadline { IfOk result (λ n. n.deadline ≡ self.deadline) }
         ensures points { IfOk result (λ n. n.points ≡ self.points) }
         ensures constraints { IfOk result (λ n. n.constraints ≡ constraints_from 0 self.drafts) }
+        ensures spare { IfOk result (λ n. n.spare ≡ 0) }
         ensures well_formed { IfOk result (λ n. IsWellFormed (the_network n)) }
 
         // It is refused exactly where it has a fault, and then for the lowest, but for want of memory.
@@ -125,8 +127,12 @@ impl Builder {
             return Err(fault);
         }
         let count = self.points.len() as u16;
-        match constraints_of(self.alloc, count, &self.drafts) {
-            Ok(constraints) => Ok(Network::new(self.deadline, self.points, observers, constraints)),
+        let constraints = match constraints_of(self.alloc, count, &self.drafts) {
+            Ok(constraints) => constraints,
+            Err(e) => return Err(NetError::Memory(e)),
+        };
+        match Links::of(self.alloc, self.points.len(), &constraints) {
+            Ok(links) => Ok(Network::new(self.deadline, self.points, observers, constraints, links)),
             Err(e) => Err(NetError::Memory(e)),
         }
     }

@@ -169,13 +169,29 @@ fn constraints_are_changed(rt: HostRuntime) {
         most: -3,
         label: Label::empty(),
     });
-    assert_eq!(rt; net.constraints().len(), 3);
+    assert_eq!(rt; net.first_to(NodeId(0)), Some(0));
+    assert_eq!(rt; net.next_to(0), Some(2));
+    assert_eq!(rt; net.next_to(2), None);
+    assert_eq!(rt; net.first_to(NodeId(1)), None);
+    assert_eq!(rt; net.place_of(2), Some(2));
+    assert_eq!(rt; net.place_of(7), None);
+
+    let mut other = net.copy(rt.alloc()).expect(&rt, "memory");
+    other.set_deadline(9);
+    assert_eq!(rt; other.deadline(), 9);
+    assert_eq!(rt; other.constraints().len(), 3);
+    assert_eq!(rt; net.deadline(), 10);
+
+    assert_eq!(rt; net.take_out(0).map(|c| c.most), Some(-10));
+    assert_eq!(rt; net.first_to(NodeId(0)), Some(1));
+    assert_eq!(rt; net.next_to(1), None);
     assert_eq!(rt; net.take_out(2).map(|c| c.most), Some(-3));
     assert_eq!(rt; net.take_out(2), None);
+    assert_eq!(rt; net.first_to(NodeId(0)), None);
     assert_eq!(rt; net.set_most(1, 4), true);
     assert_eq!(rt; net.set_most(9, 1), false);
-    assert_eq!(rt; net.constraints().len(), 2);
-    assert_eq!(rt; net.constraints()[1].most, 4);
+    assert_eq!(rt; net.constraints().len(), 1);
+    assert_eq!(rt; net.constraints()[0].most, 4);
 }
 
 // What closing says of Z and of another time-point that observes this with such a reaction, and of a constraint whose label has
