@@ -5,6 +5,8 @@ ghost use Rattle.cstn_io.specs.Contents.{Takes, Chooses, named, taken_after};
 
 use crate::Failed;
 use std::alloc::AllocError;
+use std::io;
+use std::io::ErrorKind;
 use thiserror::Error;
 
 /// Why a file isn't the one that is read.
@@ -14,6 +16,21 @@ pub enum ChooseError {
     Failed,
     #[error("out of memory")]
     Memory(AllocError),
+}
+
+/// What an opening that the system refused is: want of memory, or else a failure.
+impl From<io::Error> for ChooseError {
+    ghost use Rattle.std.specs.IoError.{error_kind};
+    ghost use Rattle.cstn_io.specs.Causes.{IsRefusalOf};
+
+    ghost from_gives = { λ e refusal. IsRefusalOf (error_kind e) refusal };
+
+    fn from(error: io::Error) -> ChooseError {
+        if error.kind() == ErrorKind::OutOfMemory {
+            return ChooseError::Memory(AllocError);
+        }
+        ChooseError::Failed
+    }
 }
 
 /// Named files, of which one is read at a time. Its failures are counted, and bytes are told or not: no call

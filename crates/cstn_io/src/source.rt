@@ -1,14 +1,18 @@
 // A live source of bytes.
-ghost use Rattle.std.specs.Prelude.{◌<◌, ℕ, List, Option, length};
+ghost use Rattle.std.specs.Prelude.{◌≡◌, ◌<◌, ℕ, List, Option, length};
+ghost use Rattle.cstn_io.specs.Calls.{one_more};
 ghost use Rattle.cstn_io.specs.Causes.{HasCause};
 ghost use Rattle.cstn_io.specs.Contents.{Takes};
 
 use crate::Failed;
 
-/// A live source of bytes. Its failures are counted, and the bytes left are told or not: no call changes which.
+/// A live source of bytes. Its failures are counted. A source tells the bytes left always or never.
 pub trait Source {
     /// How many calls failed. The count stands at 2^64 - 1.
     ghost faults: { Self → ℕ };
+
+    /// How many reads were made. The count stands at 2^64 - 1.
+    ghost reads: { Self → ℕ };
 
     /// The bytes left, where they are told.
     ghost left: { Self → Option (List ℕ) };
@@ -17,5 +21,6 @@ pub trait Source {
     fn read(&mut self, into: &mut [u8]) -> Result<usize, Failed>
         requires { 0 < length into.old }
         ensures bytes { Takes (left self.old) (left self.new) result into.new }
+        ensures count { reads self.new ≡ one_more (reads self.old) }
         ensures cause { HasCause (faults self.old) (faults self.new) result };
 }
