@@ -14,15 +14,9 @@ use Rattle.cstn_net.specs.declared.points.TimePoint.{TimePoint}
 use Rattle.cstn_label.specs.declared.props.Prop.{Prop}
 use Rattle.cstn_net.specs.Read.{observed, the_constraint, reaction_of}
 use Rattle.cstn_net.specs.Drafts.{BuilderParts, HasFault, IsFirst, IsRefusal, IsTimely, LacksObserver, observations, number, constraints_from, constraint_of}
+use Rattle.cstn_net.specs.Handed.{IsHanded}
 use Rattle.cstn_net.proofs.DraftLemmas.{constraints_length}
 use Rattle.cstn_net.proofs.ObserverLemmas.{reaction_at, observed_at}
-
--- the builder was handed this network
-pub record IsHanded (b : BuilderParts) (net : Network) : Type 0 where
-  pub deadline : b.deadline ≡ net.deadline
-  pub observes : map observed b.points ≡ net.observes
-  pub reaction : (p : ℕ) → reaction_of b.points p ≡ net.reaction p
-  pub constraints : map the_constraint (constraints_from 0 b.drafts) ≡ net.constraints
 
 -- what holds of the constraint of each draft
 drafts_each : (P : ℤ → Label → Type 0) (k : ℕ) (ds : List Draft) → All (λ c. P c.most c.label) (map the_constraint (constraints_from k ds)) →

@@ -7,3 +7,4 @@ pub mod Observers
 pub mod Examples
 pub mod Drafts
 pub mod Links
+pub mod Handed

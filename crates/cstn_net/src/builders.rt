@@ -8,6 +8,7 @@ ghost use Rattle.cstn_net.specs.Drafts.{IsSized, IsSound, IsLowestFault, IsRefus
 
 use crate::drafts::{Draft, constraints_of};
 use crate::errors::NetError;
+use crate::limits::{MAX_CONSTRAINTS, MAX_DEADLINE, MAX_NODES};
 use crate::links::Links;
 use crate::networks::Network;
 use crate::observers::{Observers, observers_of};
@@ -39,12 +40,6 @@ impl Model for Builder {
 
     ghost invariant = { λ b. All (IsDraftAmong (length b.points.items)) b.drafts.items };
 }
-
-const MOST_NODES: usize = 1024;
-
-const MOST_CONSTRAINTS: usize = 16384;
-
-const MOST_TICKS: u32 = 1_000_000;
 
 impl Builder {
     /// No time-points and no constraints yet. The deadline is in ticks.
@@ -132,7 +127,13 @@ impl Builder {
             Err(e) => return Err(NetError::Memory(e)),
         };
         match Links::of(self.alloc, self.points.len(), &constraints) {
-            Ok(links) => Ok(Network::new(self.deadline, self.points, observers, constraints, links)),
+            Ok(links) => Ok(Network::new(
+                self.deadline,
+                self.points,
+                observers,
+                constraints,
+                links,
+            )),
             Err(e) => Err(NetError::Memory(e)),
         }
     }
@@ -141,16 +142,16 @@ impl Builder {
     fn size_fault(&self) -> Option<NetError>
         ensures { MatchOption result (IsSized self.now) (IsLowestFault self.now) }
     {
-        if self.points.len() > MOST_NODES {
+        if self.points.len() > MAX_NODES {
             return Some(NetError::TooManyNodes);
         }
         if self.points.is_empty() {
             return Some(NetError::NoOrigin);
         }
-        if self.drafts.len() > MOST_CONSTRAINTS {
+        if self.drafts.len() > MAX_CONSTRAINTS {
             return Some(NetError::TooManyConstraints);
         }
-        if self.deadline > MOST_TICKS {
+        if self.deadline > MAX_DEADLINE {
             return Some(NetError::DeadlineRange {
                 deadline: self.deadline,
             });

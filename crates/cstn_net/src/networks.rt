@@ -1,16 +1,17 @@
 ghost use Rattle.std.specs.Prelude.{ℕ, ◌≡◌, ◌≢◌, ◌<◌, ◌≤◌, ◌+◌, ◌-◌, ◌++◌, ◌∷◌, [], ◌↔◌, ◌≤ℤ◌, pos, length, map, None, IsNone, IfNone, IfSome, IsSome, IfOk, OnOk, OnErr, MatchOption, slice_index, slice_index_or, max, vec_capacity, false};
 ghost use Rattle.std.specs.List.{All, AllPairs, Contains, HoldsAt};
 ghost use Rattle.std.specs.Option.{option_map};
-ghost use Rattle.cstn_net.specs.Networks.{Network, IsWellFormed, IsConstraint, IsValue, Observes, count, limit};
+ghost use Rattle.cstn_label.specs.Read.{marks};
+ghost use Rattle.cstn_net.specs.Networks.{Network, IsWellFormed, IsConstraint, IsLeastUnobserved, IsOnObserved, IsValue, Observes, count, limit};
 ghost use Rattle.cstn_net.specs.Observers.{KnowsObservers};
 ghost use Rattle.cstn_net.specs.Links.{AreLinked, IsNextPlace, ends};
 ghost use Rattle.cstn_net.specs.Read.{the_network, the_constraint, observed, IsInRange, without_id, with_most};
 
 use crate::constraints::Constraint;
 use crate::links::Links;
-use crate::observers::Observers;
+use crate::observers::{Observers, unobserved};
 use crate::points::TimePoint;
-use cstn_label::{NodeId, Prop};
+use cstn_label::{Label, NodeId, Prop};
 use std::alloc::{AllocError, Global};
 use std::marker::Model;
 
@@ -27,7 +28,7 @@ pub struct Network {
 impl Model for Network {
     ghost use Rattle.std.specs.Prelude.{◌-◌, ◌≤◌, vec_len, vec_capacity};
     ghost use Rattle.cstn_net.specs.Links.{AreLinked, IsNextPlace, ends};
-ghost use Rattle.cstn_net.specs.Read.{NetworkParts};
+    ghost use Rattle.cstn_net.specs.Read.{NetworkParts};
 
     ghost Value = { NetworkParts };
 
@@ -123,6 +124,13 @@ impl Network {
         &self.constraints
     }
 
+    /// The least proposition that a label names and nothing observes; none where the label names observed propositions alone.
+    pub fn unobserved(&self, label: Label) -> Option<Prop>
+        ensures { MatchOption result (IsOnObserved (the_network self.now) (marks label)) (λ p. IsLeastUnobserved (the_network self.now) (marks label) p.index) }
+    {
+        unobserved(&self.observers, label)
+    }
+
     /// The place in `constraints` of the one with an id, found by halves; none where no constraint has it.
     pub fn place_of(&self, id: u32) -> Option<usize>
         ensures none { IsNone result ↔ All (λ c. c.id ≢ id) self.now.constraints }
@@ -161,13 +169,7 @@ impl Network {
         let points = Vec::from_slice(alloc, &self.points)?;
         let constraints = Vec::from_slice(alloc, &self.constraints)?;
         let links = Links::of(alloc, points.len(), &constraints)?;
-        Ok(Network::new(
-            self.deadline,
-            points,
-            self.observers,
-            constraints,
-            links,
-        ))
+        Ok(Network::new(self.deadline, points, self.observers, constraints, links))
     }
 
     /// Sets the deadline, in ticks.

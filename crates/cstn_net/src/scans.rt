@@ -10,18 +10,15 @@ ghost use Rattle.cstn_net.specs.Drafts.{IsFirst, IsLeastOfFirst, HasTwins, AreFi
 ghost use Rattle.cstn_net.specs.Observers.{KnowsObservers, IsUnseen, IsTwin};
 
 use crate::drafts::Draft;
+use crate::limits::{MAX_REACTION, is_value};
 use crate::observers::{Observers, unobserved};
 use crate::points::TimePoint;
 use cstn_label::{NodeId, Prop};
 
-const MOST_VALUE: i32 = 1_000_000_000;
-
-const MOST_REACTION: u32 = 1000;
-
 fn is_in_range(draft: Draft) -> bool
     ensures { IsTrue result ↔ IsValue draft.most }
 {
-    -MOST_VALUE <= draft.most && draft.most <= MOST_VALUE
+    is_value(draft.most)
 }
 
 pub fn first_out_of_range(drafts: &[Draft]) -> Option<u32>
@@ -90,7 +87,7 @@ pub fn first_twins(table: &Observers, points: &[TimePoint]) -> Option<(Prop, Nod
 fn is_timely(point: TimePoint) -> bool
     ensures { IsTrue result ↔ IsTimely point }
 {
-    point.observes.is_none() || (1 <= point.reaction && point.reaction <= MOST_REACTION)
+    point.observes.is_none() || (1 <= point.reaction && point.reaction <= MAX_REACTION)
 }
 
 // The first time-point that observes and has a reaction out of range.

@@ -18,8 +18,7 @@ invariant_of-self c =
     (subst (λ v. length v.constraints < 16384) now_is c.requires.few)
     (subst (λ v. All (λ d. d.id < c.args.c.id) v.constraints) now_is c.requires.above)
     (subst (λ v. IsConstraint (the_network v) (the_constraint c.args.c)) now_is c.requires.constraint) c.requires.value in
-    let room = c.self.invariant.1 in
-    (
+    let room = c.self.invariant.1 in (
       record {
         observers = old.observers;
         well_formed = subst (λ cs. IsWellFormed (net_of inside.deadline inside.points.items cs)) (sym c.push_reserved.ensures.items)

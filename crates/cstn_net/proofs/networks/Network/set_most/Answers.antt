@@ -44,8 +44,7 @@ invariant_of-self c =
     let old = c.self.invariant.0 in
     let same : to_z w32 (of_z w32 c.args.most) ≡ c.args.most = omega (arith, ints) in
     let made = set_made c _ same in
-    let kept = kept_with net cs c.args.id c.args.most (kept_in net cs refl old.well_formed) c.requires in
-    (
+    let kept = kept_with net cs c.args.id c.args.most (kept_in net cs refl old.well_formed) c.requires in (
       record {
         observers = old.observers;
         well_formed = subst (λ cs. IsWellFormed (net_of inside.deadline inside.points.items cs)) (sym made)

@@ -31,8 +31,7 @@ pub invariant_of-self : goal.invariant_of-self
 invariant_of-self c =
     let old = c.self.invariant.0 in
     let room = c.self.invariant.1 in
-    let links = c.rebuild.new.self in
-    (
+    let links = c.rebuild.new.self in (
       record {
         observers = old.observers;
         well_formed = (left c).well_formed;
