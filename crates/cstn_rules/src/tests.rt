@@ -198,32 +198,27 @@ fn follows_too_late(rt: HostRuntime) {
     assert!(rt; is_refuted(&net, end));
 }
 
-// Where p is known after this many ticks, X is at as many or later, and the bound on Z that follows refutes or not.
-fn waits(rt: &impl Abort, alloc: Global, reaction: u32, least: i32, is_late: bool) {
+// Where p is known after this many ticks, X is at `least` or later, and so Z at `end`, which refutes above 0.
+fn waits(rt: &impl Abort, alloc: Global, reaction: u32, least: i32, end: i32) {
     let net = branch(alloc, reaction, false)
         .expect(rt, "memory")
         .close()
         .expect(rt, "a network");
-    let asked = bound(2, least, Label::empty());
-    let end = bound(0, least - 3, only(p(), Mark::No));
-    assert_eq!(rt;
-        waited(
-            &net,
-            bound(1, 0, Label::empty()),
-            bound(2, 10, only(p(), Mark::Yes))
-        ),
-        Some(asked)
-    );
-    assert_eq!(rt; chained(&net, 1, asked), Some(end));
-    assert_eq!(rt; is_refuted(&net, end), is_late);
+    let empty = Label::empty();
+    let asked = bound(2, least, empty);
+    let origin = bound(0, end, only(p(), Mark::No));
+    let late = bound(2, 10, only(p(), Mark::Yes));
+    assert_eq!(rt; waited(&net, bound(1, 0, empty), late), Some(asked));
+    assert_eq!(rt; chained(&net, 1, asked), Some(origin));
+    assert_eq!(rt; is_refuted(&net, origin), end > 0);
 }
 
 #[test]
 fn follows_by_the_reaction(rt: HostRuntime) {
     let alloc = rt.alloc();
-    waits(&rt, alloc, 1, 1, false);
-    waits(&rt, alloc, 3, 3, false);
-    waits(&rt, alloc, 4, 4, true);
+    waits(&rt, alloc, 1, 1, -2);
+    waits(&rt, alloc, 3, 3, 0);
+    waits(&rt, alloc, 4, 4, 1);
 }
 
 #[test]
