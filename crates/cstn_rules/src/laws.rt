@@ -46,7 +46,7 @@ pub fn rules_have_one_conclusion()
 {}
 
 /// A wait of two bounds has a conclusion exactly where the one is at the observer of a proposition that the other marks. So
-/// whoever passes over all other pairs passes over no conclusion.
+/// a search that passes over all other pairs passes over no conclusion.
 pub fn waits_are_at_observers()
     ensures only { (net : Network) (p : ℕ) (seen b r : Bound) → IsWait net p seen b r → Observes net seen.node p × IsMarked b.label p }
     ensures awaited { (net : Network) (p : ℕ) (seen b : Bound) → (((r : Bound) × IsWait net p seen b r) ↔ (Observes net seen.node p × IsMarked b.label p)) }
