@@ -1,4 +1,4 @@
--- Dynamic tables: whoever agrees with what is known has the same past.
+-- Dynamic tables: scenarios that agree with what is known have the same past.
 use Rattle.std.proofs.Common.{ℕ, zero, suc, ◌≡◌, ◌⊎◌, inl, inr, ◌+◌, ◌<◌, ◌≤◌, arith, sym}
 use Rattle.std.specs.Prelude.{◌↔◌}
 use Rattle.cstn_label.specs.Labels.{Scenario}
@@ -24,7 +24,7 @@ module _ (net : Network) (table : Table) (good : IsNetwork net) (never : IsNever
       let earlier = never r s j (observer_within net j p o) alike in
       sym (agrees p (record { observer = j; observes = o; passed = omega arith }))
 
-  -- a table in which whoever agrees with what is known is never later is dynamic
+  -- a table in which no scenario that agrees with what is known is later is dynamic
   pub dynamic_from_one_side : IsDynamic net table
   dynamic_from_one_side s r x here agrees =
       let upto = never s r x here agrees in
@@ -51,7 +51,7 @@ module _ (net : Network) (table : Table) (good : IsNetwork net) (dynamic : IsDyn
       let same = dynamic r s j (observer_within net j p o) back in
       sym (agrees p (record { observer = j; observes = o; passed = omega arith }))
 
-  -- whoever agrees with what is known is agreed with
+  -- agreement with what is known is symmetric
   pub agrees_back : (s r : Scenario) (t : ℕ) → Agrees net (table s) t s r → Agrees net (table r) t r s
   agrees_back s r t agrees = λ p k.
       past s r t (suc (table r k.observer)) agrees k.observer p (omega arith) k.observes k.passed

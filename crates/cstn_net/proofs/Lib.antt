@@ -5,6 +5,7 @@ pub mod Observed
 pub mod Kept
 pub mod Branch
 pub mod Late
+pub mod Ticks
 pub mod WellFormed
 pub mod ListLemmas
 mod ObserverLemmas

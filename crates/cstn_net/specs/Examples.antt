@@ -1,5 +1,5 @@
--- A small network whose strategy is known, and one that has none. The proposition 0 is called p here.
-use Rattle.std.specs.Prelude.{ℕ, zero, suc, Bool, true, false, [], ◌∷◌, ◌++◌, Some, None, pos, negsuc}
+-- Small networks whose strategies are known, and some that have none. The proposition 0 is called p here, and 1 is called q.
+use Rattle.std.specs.Prelude.{ℕ, zero, suc, Bool, true, false, [], ◌∷◌, ◌++◌, Some, None, ℤ, pos, negsuc}
 use Rattle.cstn_label.specs.declared.marks.Mark.{Mark}
 use Rattle.cstn_label.specs.declared.marks.Mark.TheVariants.{Absent, Yes, No}
 use Rattle.cstn_label.specs.Labels.{Label, empty}
@@ -46,3 +46,49 @@ abbrev pub branch_table : Table
 branch_table s zero = 0
 branch_table s (suc zero) = 0
 branch_table s (suc (suc x)) = ten_or_one (s 0)
+
+-- p has the mark m and q the mark n, and no other proposition has a mark
+abbrev pub both : Mark → Mark → Label
+both m n zero = m
+both m n (suc zero) = n
+both m n (suc (suc p)) = Absent
+
+-- Z, P, which observes p, Q, which observes q, and X. Where p is false Q is early, and X is early or late by q; where p is true
+-- Q is late.
+abbrev pub split : ℕ → ℤ → ℤ → Network
+split deadline early late_by = record {
+  deadline = deadline;
+  observes = None ∷ (Some 0 ∷ (Some 1 ∷ (None ∷ [])));
+  reaction = λ p. 1;
+  constraints =
+      record { id = 0; from = 0; to = 2; most = early; label = both No Absent } ∷
+      (record { id = 1; from = 2; to = 0; most = late_by; label = both Yes Absent } ∷
+      (record { id = 2; from = 0; to = 3; most = early; label = both No No } ∷
+      (record { id = 3; from = 3; to = 0; most = late_by; label = both No Yes } ∷ [])));
+}
+
+-- early is 1 or earlier, late is 2 or later
+abbrev pub coarse : Network
+coarse = split 3 (pos 1) (negsuc 1)
+
+-- the same with every value doubled, and the reactions left
+abbrev pub fine : Network
+fine = split 6 (pos 2) (negsuc 3)
+
+-- the moment of Q by p
+abbrev pub fine_q : Bool → ℕ
+fine_q true = 4
+fine_q false = 1
+
+-- the moment of X by p and q
+abbrev pub fine_x : Bool → Bool → ℕ
+fine_x true q = 1
+fine_x false true = 4
+fine_x false false = 2
+
+-- P is at 0, Q waits for p, and X for p, and where that is false for q
+abbrev pub fine_table : Table
+fine_table s zero = 0
+fine_table s (suc zero) = 0
+fine_table s (suc (suc zero)) = fine_q (s 0)
+fine_table s (suc (suc (suc x))) = fine_x (s 0) (s 1)

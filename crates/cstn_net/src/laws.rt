@@ -7,7 +7,7 @@ ghost use Rattle.cstn_net.specs.Networks.{Network, Constraint, IsNetwork, IsCons
 ghost use Rattle.cstn_net.specs.Strategies.{Schedule, Table, IsKnown, Agrees, IsDynamic, IsNeverLater, IsStrategy, IsConsistent, IsSchedule, IsLeast};
 ghost use Rattle.cstn_net.specs.Scenarios.{IsScenarioOf, IsStrategyOnObserved, IsLeastOnObserved, observed_alone};
 ghost use Rattle.cstn_net.specs.Bounds.{HoldsIn};
-ghost use Rattle.cstn_net.specs.Examples.{branch, branch_table, late};
+ghost use Rattle.cstn_net.specs.Examples.{branch, branch_table, late, coarse, fine, fine_table};
 
 /// An observer is a time-point, and observes one proposition.
 pub fn observers_are_time_points()
@@ -118,4 +118,12 @@ pub fn branch_has_a_strategy()
 pub fn late_has_no_strategy()
     ensures network { IsWellFormed late }
     ensures strategy { IsConsistent late → ⊥ }
+{}
+
+/// Whole ticks are stricter than dense time: this network has no strategy, though one exists in dense time, and the same network
+/// with every value doubled has one.
+pub fn ticks_are_not_dense()
+    ensures networks { IsWellFormed coarse × IsWellFormed fine }
+    ensures coarse { IsConsistent coarse → ⊥ }
+    ensures fine { IsStrategy fine fine_table }
 {}

@@ -26,7 +26,7 @@ pub use laws::{
     late_has_no_strategy, least_moment_is_one, observed_scenarios_decide,
     observers_are_time_points, other_constraints_are_well_formed, past_is_common,
     plain_strategy_is_a_schedule, possible_until_ruled_out, strategies_are_kept,
-    unobserved_is_unseen,
+    ticks_are_not_dense, unobserved_is_unseen,
 };
 pub use limits::{MAX_CONSTRAINTS, MAX_DEADLINE, MAX_MOST, MAX_NODES, MAX_REACTION, is_value};
 pub use networks::Network;

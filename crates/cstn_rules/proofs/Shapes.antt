@@ -1,14 +1,14 @@
 -- Where conclusions are, and what they mark.
 use Rattle.std.proofs.Common.{ℕ, zero, suc, ◌≡◌, ◌+◌, ◌<◌, ◌≤◌, Option, None, Some, arith, refl, sym, subst, ap, ◌∙◌}
-use Rattle.std.specs.Prelude.{ℤ, pos, ◌≤ℤ◌, slice_index_or}
+use Rattle.std.specs.Prelude.{ℤ, pos, ◌≤ℤ◌, ◌↔◌, slice_index_or}
 use Rattle.std.proofs.lemmas.Int.{ints, clamps}
 use Rattle.cstn_label.specs.declared.marks.Mark.TheVariants.{Absent}
-use Rattle.cstn_label.specs.Labels.{Label, joined, without}
+use Rattle.cstn_label.specs.Labels.{Label, IsMarked, IsPlain, joined, without}
 use Rattle.cstn_label.specs.Bounds.{Bound, Dominates}
-use Rattle.cstn_label.proofs.LabelLemmas.{kept_without, absent_joined}
-use Rattle.cstn_net.specs.Networks.{Network, IsWellFormed, IsConstraint, Constraint, count, limit}
+use Rattle.cstn_label.proofs.LabelLemmas.{kept_without, absent_joined, plain_left}
+use Rattle.cstn_net.specs.Networks.{Network, IsWellFormed, IsConstraint, Constraint, Observes, count, limit}
 use Rattle.cstn_net.proofs.Knowledge.{one_observed}
-use Rattle.cstn_rules.specs.Rules.{base, finished, carried, awaited, without_own, IsChain, IsWait, IsBoundOf}
+use Rattle.cstn_rules.specs.Rules.{base, finished, carried, awaited, without_own, IsBase, IsChain, IsWait, IsBoundOf}
 
 pub finished_high : (net : Network) (b : Bound) → (finished net b).least ≤ℤ pos (limit net b.node + 1)
 finished_high net b = omega (arith, ints, clamps)
@@ -61,6 +61,27 @@ pub one_wait : (net : Network) (p q : ℕ) (seen b r s : Bound) → IsWait net p
 one_wait net p q seen b r s one other =
     one.gives ∙ ap (λ o. finished net (awaited net o seen b)) (one_observed net seen.node p q one.observes other.observes)
     ∙ sym other.gives
+
+pub one_base : (net : Network) (r q : Bound) → IsBase net r → IsBase net q → r.node ≡ q.node → r ≡ q
+one_base net r q one other same = one.gives ∙ ap base same ∙ sym other.gives
+
+-- and has one exactly where its premises fit
+pub chained : (net : Network) (c : Constraint) (b : Bound) →
+    ((r : Bound) × IsChain net c b r) ↔ ((b.node ≡ c.to) × IsPlain (joined b.label c.label))
+chained net c b = (
+  (λ h. (h.1.at, h.1.together)),
+  (λ h. (
+    finished net (carried c b),
+    record { at = h.0; plain = plain_left b.label c.label h.1; together = h.1; gives = refl },
+  )),
+)
+
+pub waited : (net : Network) (p : ℕ) (seen b : Bound) →
+    ((r : Bound) × IsWait net p seen b r) ↔ (Observes net seen.node p × IsMarked b.label p)
+waited net p seen b = (
+  (λ h. (h.1.observes, h.1.marked)),
+  (λ h. (finished net (awaited net p seen b), record { observes = h.0; marked = h.1; gives = refl })),
+)
 
 -- a limit is at most 1,000,000
 pub limit_small : (net : Network) (x : ℕ) → IsWellFormed net → limit net x ≤ 1000000

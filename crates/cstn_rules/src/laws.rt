@@ -1,15 +1,15 @@
 // Laws of the rules.
-ghost use Rattle.std.specs.Prelude.{ℕ, ◌≡◌, ◌+◌, ◌<◌, ◌≤ℤ◌, ◌<ℤ◌, pos, List, ◌++◌, Some, slice_get};
+ghost use Rattle.std.specs.Prelude.{ℕ, ◌≡◌, ◌↔◌, ◌+◌, ◌<◌, ◌≤ℤ◌, ◌<ℤ◌, pos, List, [], ◌∷◌, ◌++◌, length, Some, slice_get};
 ghost use Rattle.std.specs.List.{Contains};
 ghost use Rattle.cstn_label.specs.declared.marks.Mark.TheVariants.{Absent};
-ghost use Rattle.cstn_label.specs.Labels.{IsMarked, Scenario, Holds};
+ghost use Rattle.cstn_label.specs.Labels.{IsMarked, IsPlain, Scenario, Holds, joined};
 ghost use Rattle.cstn_label.specs.Bounds.{Bound, Dominates};
 ghost use Rattle.cstn_net.specs.Networks.{Network, IsNetwork, IsConstraint, Constraint, Observes, count, limit};
 ghost use Rattle.cstn_net.specs.Strategies.{Table, IsDynamic, IsStrategy, IsConsistent, Meets};
 ghost use Rattle.cstn_net.specs.Bounds.{HoldsIn};
 ghost use Rattle.cstn_rules.specs.declared.entries.Why.TheVariants.{Chain};
 ghost use Rattle.cstn_rules.specs.Rules.{base, IsBase, IsChain, IsWait, Refutes};
-ghost use Rattle.cstn_rules.specs.Derivations.{Entry, IsDerivation, IsRefutation};
+ghost use Rattle.cstn_rules.specs.Derivations.{Entry, Follows, IsDerivation, IsRefutation};
 
 /// Base holds in every table, and what wait gives holds in each table in which its premises hold; what chain gives does in
 /// each dynamic table that meets its constraint. A bound that refutes a network holds in none of its strategies.
@@ -20,7 +20,7 @@ pub fn rules_are_sound()
     ensures refuting { (net : Network) (table : Table) (b : Bound) → IsStrategy net table → Refutes net b → HoldsIn net table b → ⊥ }
 {}
 
-/// Each bound of a derivation holds in every strategy, and a network with a refutation has no strategy.
+/// Each bound of a derivation holds in every strategy. So a network with a refutation has no strategy, and is inconsistent.
 pub fn derivations_are_sound()
     ensures each { (net : Network) (table : Table) (steps : List Entry) (k : ℕ) (e : Entry) → IsNetwork net → IsStrategy net table → IsDerivation net steps → slice_get steps k ≡ Some e → HoldsIn net table e.bound }
     ensures refuted { (net : Network) (steps : List Entry) → IsNetwork net → IsRefutation net steps → IsConsistent net → ⊥ }
@@ -36,14 +36,27 @@ pub fn conclusions_stay_within()
     ensures below { (r : Bound) → r.least ≤ℤ pos 0 → Dominates (base r.node) r }
 {}
 
-/// A wait of two bounds has a conclusion only where the one is at the observer of a proposition that the other marks.
-pub fn waits_are_at_observers()
-    ensures { (net : Network) (p : ℕ) (seen b r : Bound) → IsWait net p seen b r → Observes net seen.node p × IsMarked b.label p }
+/// A rule has at most one conclusion. Chain has one exactly where the bound is at the constraint's `to` and the two labels are
+/// plain together.
+pub fn rules_have_one_conclusion()
+    ensures base { (net : Network) (r q : Bound) → IsBase net r → IsBase net q → r.node ≡ q.node → r ≡ q }
+    ensures chain { (net : Network) (c : Constraint) (b r q : Bound) → IsChain net c b r → IsChain net c b q → r ≡ q }
+    ensures wait { (net : Network) (p q : ℕ) (seen b r s : Bound) → IsWait net p seen b r → IsWait net q seen b s → r ≡ s }
+    ensures chained { (net : Network) (c : Constraint) (b : Bound) → (((r : Bound) × IsChain net c b r) ↔ ((b.node ≡ c.to) × IsPlain (joined b.label c.label))) }
 {}
 
-/// The first entries of a derivation are one, and a derivation is one of each network that differs in constraints alone and
-/// has those that it uses.
+/// A wait of two bounds has a conclusion exactly where the one is at the observer of a proposition that the other marks. So
+/// a search that passes over all other pairs passes over no conclusion.
+pub fn waits_are_at_observers()
+    ensures only { (net : Network) (p : ℕ) (seen b r : Bound) → IsWait net p seen b r → Observes net seen.node p × IsMarked b.label p }
+    ensures awaited { (net : Network) (p : ℕ) (seen b : Bound) → (((r : Bound) × IsWait net p seen b r) ↔ (Observes net seen.node p × IsMarked b.label p)) }
+{}
+
+/// A derivation grows by an entry that follows from it, from the empty list on. Its first entries are one, and it is one of each
+/// network that differs in constraints alone and has those that it uses.
 pub fn derivations_move()
+    ensures empty { (net : Network) → IsDerivation net [] }
+    ensures grown { (net : Network) (steps : List Entry) (last : Entry) → IsDerivation net steps → Follows net steps (length steps) last.why last.bound → IsDerivation net (steps ++ last ∷ []) }
     ensures first { (net : Network) (steps more : List Entry) → IsDerivation net (steps ++ more) → IsDerivation net steps }
     ensures elsewhere { (net : Network) (constraints : List Constraint) (steps : List Entry) → ((c : Constraint) (b : Bound) (k i : ℕ) → Contains net.constraints c → slice_get steps k ≡ Some (record { bound = b; why = Chain c.id i }) → Contains constraints c) → IsDerivation net steps → IsDerivation (record net { constraints = constraints }) steps }
 {}

@@ -10,7 +10,7 @@ pub use counters::Tries;
 pub use entries::{Entry, Why};
 pub use laws::{
     conclusions_stay_within, derivations_are_sound, derivations_move, rules_are_sound,
-    waits_are_at_observers,
+    rules_have_one_conclusion, waits_are_at_observers,
 };
 pub use rules::{chain, refutes, wait};
 

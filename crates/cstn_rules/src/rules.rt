@@ -30,21 +30,19 @@ pub fn chain(net: &Network, c: &Constraint, b: &Bound, tries: &mut Tries) -> Opt
     is_in_range(net, c);
     let label = b.label.join(c.label);
     if b.node == c.to && label.is_plain() {
-        Some(finish(
-            net,
-            Bound {
-                node: c.from,
-                least: b.least - c.most,
-                label,
-            },
-        ))
+        let carried = Bound {
+            node: c.from,
+            least: b.least - c.most,
+            label,
+        };
+        Some(finish(net, carried))
     } else {
         None
     }
 }
 
-/// What wait gives from two bounds of the network, the first at an observer and the other marking what that observes, or
-/// None where it gives nothing. One more try is counted.
+/// What wait gives from two bounds of the network, or None where it gives nothing. It gives a bound where `seen` is at the
+/// observer of some proposition, and `b` has a mark on that. One more try is counted.
 pub fn wait(net: &Network, seen: &Bound, b: &Bound, tries: &mut Tries) -> Option<Bound>
     requires seen { IsBoundOf (the_network net.now) (the_bound seen.now) }
     requires bound { IsBoundOf (the_network net.now) (the_bound b.now) }
@@ -84,20 +82,18 @@ fn wait_for(net: &Network, p: Prop, seen: &Bound, b: &Bound) -> Option<Bound>
         return None;
     }
     is_well_formed(net);
-    let until = seen.least + reaction(net, p, seen.node);
-    Some(finish(
-        net,
-        Bound {
-            node: b.node,
-            least: b.least.min(until),
-            label: seen.label.join(b.label.without(p)),
-        },
-    ))
+    let until = seen.least + reaction(net, p);
+    let awaited = Bound {
+        node: b.node,
+        least: b.least.min(until),
+        label: seen.label.join(b.label.without(p)),
+    };
+    Some(finish(net, awaited))
 }
 
-// The ticks after its observer x at which p is known.
-fn reaction(net: &Network, p: Prop, x: NodeId) -> i32
-    requires { Observes (the_network net.now) x.0 p.index }
+// The ticks after its observer at which p is known.
+fn reaction(net: &Network, p: Prop) -> i32
+    requires { (x : ℕ) × Observes (the_network net.now) x p.index }
     ensures reaction { result ≡ pos ((the_network net.now).reaction p.index) }
     ensures range { result ≤ℤ pos 1000 }
 {

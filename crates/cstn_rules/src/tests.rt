@@ -33,13 +33,14 @@ fn bound(node: u16, least: i32, label: Label) -> Bound {
     }
 }
 
-// Z, P, which observes p, and X: X is at 10 or later where p is true, and at 3 or earlier where it is false. Where it is late,
-// P is at 3 or later.
-fn branch(alloc: Global, is_late: bool) -> Result<Builder, AllocError> {
+// Z, P, which observes p with this reaction, and X: X is at 10 or later where p is true, and at 3 or earlier where it is false.
+// Where it is late, P is at 3 or later.
+fn branch(alloc: Global, reaction: u32, is_late: bool) -> Result<Builder, AllocError> {
     let mut net = Builder::new(alloc, 10);
     net.node(None)?;
     net.node(Some(p()))?;
     net.node(None)?;
+    net.react(1, reaction);
     net.constrain(2, 0, -10, only(p(), Mark::Yes))?;
     net.constrain(0, 2, 3, only(p(), Mark::No))?;
     if is_late {
@@ -113,7 +114,7 @@ fn is_refuted(net: &Network, b: Bound) -> bool {
 
 #[test]
 fn follows_on_the_branch(rt: HostRuntime) {
-    let net = branch(rt.alloc(), false)
+    let net = branch(rt.alloc(), 1, false)
         .expect(&rt, "memory")
         .close()
         .expect(&rt, "a network");
@@ -124,6 +125,16 @@ fn follows_on_the_branch(rt: HostRuntime) {
         waited(&net, bound(1, 0, empty), late),
         Some(bound(2, 1, empty))
     );
+    let unknown = bound(2, 10, only(p(), Mark::Unknown));
+    assert_eq!(rt;
+        waited(&net, bound(1, 0, empty), unknown),
+        Some(bound(2, 1, empty))
+    );
+    assert_eq!(rt; chained(&net, 1, unknown), None);
+    assert_eq!(rt;
+        chained(&net, 1, bound(2, 10, empty)),
+        Some(bound(0, 1, only(p(), Mark::No)))
+    );
     assert_eq!(rt; chained(&net, 1, late), None);
     assert_eq!(rt;
         chained(&net, 1, bound(2, 1, empty)),
@@ -131,6 +142,7 @@ fn follows_on_the_branch(rt: HostRuntime) {
     );
     assert_eq!(rt; waited(&net, bound(0, 0, empty), late), None);
     assert_eq!(rt; waited(&net, bound(1, 0, empty), bound(2, 1, empty)), None);
+    assert!(rt; is_refuted(&net, bound(2, 12, empty)));
     assert!(rt; is_refuted(&net, bound(0, 1, only(p(), Mark::No))));
     assert!(rt;
         !is_refuted(&net, bound(0, 1, only(p(), Mark::Unknown))) && !is_refuted(&net, late)
@@ -172,7 +184,7 @@ fn follows_on_a_pair(rt: HostRuntime) {
 
 #[test]
 fn follows_too_late(rt: HostRuntime) {
-    let net = branch(rt.alloc(), true)
+    let net = branch(rt.alloc(), 1, true)
         .expect(&rt, "memory")
         .close()
         .expect(&rt, "a network");
@@ -184,6 +196,29 @@ fn follows_too_late(rt: HostRuntime) {
     assert_eq!(rt; waited(&net, seen, late), Some(bound(2, 4, empty)));
     assert_eq!(rt; chained(&net, 1, bound(2, 4, empty)), Some(end));
     assert!(rt; is_refuted(&net, end));
+}
+
+// Where p is known after this many ticks, X is at `least` or later, and so Z at `end`, which refutes above 0.
+fn waits(rt: &impl Abort, alloc: Global, reaction: u32, least: i32, end: i32) {
+    let net = branch(alloc, reaction, false)
+        .expect(rt, "memory")
+        .close()
+        .expect(rt, "a network");
+    let empty = Label::empty();
+    let asked = bound(2, least, empty);
+    let origin = bound(0, end, only(p(), Mark::No));
+    let late = bound(2, 10, only(p(), Mark::Yes));
+    assert_eq!(rt; waited(&net, bound(1, 0, empty), late), Some(asked));
+    assert_eq!(rt; chained(&net, 1, asked), Some(origin));
+    assert_eq!(rt; is_refuted(&net, origin), end > 0);
+}
+
+#[test]
+fn follows_by_the_reaction(rt: HostRuntime) {
+    let alloc = rt.alloc();
+    waits(&rt, alloc, 1, 1, -2);
+    waits(&rt, alloc, 3, 3, 0);
+    waits(&rt, alloc, 4, 4, 1);
 }
 
 #[test]

@@ -13,8 +13,8 @@ use Rattle.cstn_rules.proofs.Shapes.{chain_within, limit_small, same_bound}
 use Rattle.cstn_rules.proofs.rules.chain.Goals as goal
 use Rattle.cstn_rules.proofs.rules.chain.Goals.{else-eq-via-then-eq+else-is_plain, else-eq-via-else-eq}
 
-pub overflow_sub-b : goal.overflow_sub-b
-overflow_sub-b c =
+pub overflow_sub-carried : goal.overflow_sub-carried
+overflow_sub-carried c =
     let small = limit_small (the_network c.args.net.now) c.args.b.now.node.0 c.is_in_range.ensures.network in
     let low = c.requires.bound.low in
     let high = c.requires.bound.high in
