@@ -18,9 +18,7 @@ mod walks;
 pub use builders::Builder;
 pub use constraints::Constraint;
 pub use errors::NetError;
-pub use handing::{
-    drafts_are_numbered, handed_networks_are_closed, reactions_are_a_tick_at_first,
-};
+pub use handing::{drafts_are_numbered, handed_networks_are_closed, reactions_are_a_tick_at_first};
 pub use laws::{
     bounds_hold, branch_has_a_strategy, consistency_is_kept, dynamic_is_one_sided, knowledge_grows,
     late_has_no_strategy, least_moment_is_one, observed_scenarios_decide,

@@ -180,7 +180,10 @@ fn a_network_is_read(rt: HostRuntime) {
     assert_eq!(rt; net.observer(q), None);
     assert_eq!(rt; net.reaction(prop), 7);
     assert_eq!(rt; net.reaction(q), 1);
-    assert_eq!(rt; net.unobserved(Label::empty().with(q, Mark::Unknown)), Some(q));
+    assert_eq!(rt;
+        net.unobserved(Label::empty().with(q, Mark::Unknown)),
+        Some(q)
+    );
     assert_eq!(rt; net.unobserved(Label::empty().with(prop, Mark::Yes)), None);
 }
 
