@@ -1,4 +1,4 @@
-use Rattle.std.proofs.Common.{◌≡◌, ◌<◌, ◌++◌, ◌∷◌, [], None, Some, set, subst, sym, ◌∙◌, get_or, arith, length}
+use Rattle.std.proofs.Common.{◌≡◌, ◌++◌, ◌∷◌, [], None, Some, set, subst, sym, ◌∙◌, get_or, arith}
 use Rattle.std.proofs.lemmas.List.{get_or_default}
 use Rattle.cstn_net.specs.Links.{AreLinked}
 use Rattle.cstn_net.proofs.LinkLemmas.{chain_grown}

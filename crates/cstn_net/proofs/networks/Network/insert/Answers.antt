@@ -1,9 +1,9 @@
-use Rattle.std.proofs.Common.{◌≡◌, ◌<◌, ◌++◌, ◌∷◌, [], length, map, refl, sym, subst, ◌∙◌, ap, arith}
+use Rattle.std.proofs.Common.{◌<◌, ◌∷◌, [], length, refl, sym, subst, ◌∙◌, ap, arith}
 use Rattle.std.specs.List.{All}
-use Rattle.std.proofs.lemmas.List.{map-append, length-map}
+use Rattle.std.proofs.lemmas.List.{map-append}
 use Rattle.cstn_net.specs.Networks.{IsWellFormed, IsConstraint}
 use Rattle.cstn_net.specs.Links.{AreLinked, ends}
-use Rattle.cstn_net.specs.Read.{the_network, the_constraint, observed}
+use Rattle.cstn_net.specs.Read.{the_network, the_constraint}
 use Rattle.cstn_net.proofs.ChangeLemmas.{changed, kept_in, kept_push, net_of}
 use Rattle.cstn_net.proofs.networks.Network.insert.Goals as goal
 

@@ -1,7 +1,6 @@
-use Rattle.std.proofs.Common.{◌≡◌, ◌≢◌, ◌<◌, Option, Some, None, length, refl, sym, subst, ◌∙◌, ap}
-use Rattle.std.specs.Prelude.{ℕ, IsNone, MatchOption}
+use Rattle.std.proofs.Common.{◌≡◌, ◌≢◌, ◌<◌, length, sym, subst, ◌∙◌, ap}
+use Rattle.std.specs.Prelude.{MatchOption}
 use Rattle.std.specs.List.{All, AllPairs, HoldsAt}
-use Rattle.cstn_net.specs.declared.constraints.Constraint.{Constraint}
 use Rattle.cstn_net.proofs.ChangeLemmas.{ids_ascend, found_or_none}
 use Rattle.cstn_net.proofs.networks.Network.place_of.Goals as goal
 

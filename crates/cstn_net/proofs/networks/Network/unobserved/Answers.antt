@@ -3,7 +3,6 @@ use Rattle.std.specs.Prelude.{MatchOption}
 use Rattle.cstn_label.specs.Read.{marks}
 use Rattle.cstn_net.specs.Networks.{IsOnObserved, IsLeastUnobserved}
 use Rattle.cstn_net.specs.Read.{the_network}
-use Rattle.cstn_net.proofs.ChangeLemmas.{net_of}
 use Rattle.cstn_net.proofs.ObserverLemmas.{unseen_is_unobserved}
 use Rattle.cstn_net.proofs.networks.Network.unobserved.Goals as goal
 
