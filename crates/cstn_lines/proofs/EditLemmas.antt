@@ -146,7 +146,7 @@ add_only rest line is =
     let more = spaced one.0.1 two.0.0 two.0.1 _ _ (cut_joined 32 one.0.1 two.0.0 two.0.1 two.1) second.0 last in
     let whole = spaced rest one.0.0 one.0.1 _ _ (cut_joined 32 rest one.0.0 one.0.1 one.1) first.0 more in
     same_line (added from.0 to.0 most.0 label.0) line _ to.2
-      ((three.0.1, label.1, ap (λ bs. codes "add" ++ 32 ∷ bs) whole), (first.1, second.1, limit.1, label_small three.0.1 label.0 label.1))
+    ((three.0.1, label.1, ap (λ bs. codes "add" ++ 32 ∷ bs) whole), (first.1, second.1, limit.1, label_small three.0.1 label.0 label.1))
 
 edited_only : (word rest : List ℕ) (line : Edit) → edited_read (word, rest) ≡ Some line → IsWritten line (word ++ 32 ∷ rest)
 edited_only word rest line is = at (bytes_eq word (codes "add")) (bytes_eq word (codes "remove")) (bytes_eq word (codes "change")) refl refl refl is
@@ -155,7 +155,7 @@ edited_only word rest line is = at (bytes_eq word (codes "add")) (bytes_eq word 
     spelled bytes same written = subst (λ (w : List ℕ). IsWritten line (w ++ 32 ∷ rest)) (sym ((bytes_eq-Decides word bytes).0 same)) written
 
     at : (add remove change : Bool) → add ≡ bytes_eq word (codes "add") → remove ≡ bytes_eq word (codes "remove") → change ≡ bytes_eq word (codes "change")
-      → (if add then add_read rest else if remove then option_map removed (id_read rest) else if change then change_read rest else None) ≡ Some line → IsWritten line (word ++ 32 ∷ rest)
+        → (if add then add_read rest else if remove then option_map removed (id_read rest) else if change then change_read rest else None) ≡ Some line → IsWritten line (word ++ 32 ∷ rest)
     at true remove change a b c e = spelled (codes "add") (sym a) (add_only rest line e)
     at false true change a b c e = spelled (codes "remove") (sym b) (removed_only rest line e)
     at false false true a b c e = spelled (codes "change") (sym c) (change_only rest line e)

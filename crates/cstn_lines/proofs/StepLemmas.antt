@@ -125,13 +125,13 @@ filled kept xs piece post rest told now f n len inside some fits is step =
     let more : take n ((piece ++ post) ++ rest) ≡ take n piece = take-append-le n (piece ++ post) rest (omega (arith, length-append piece post)) ∙ take-append-le n piece post some in
     let size : f + n - 0 ≡ f + n = omega arith in
     let all : between 0 (f + n) (take len ((take f xs ++ (piece ++ post)) ++ rest)) ≡ kept ++ take n piece =
-      ap (λ k. take k (take len ((take f xs ++ (piece ++ post)) ++ rest))) size
-      ∙ take-take (f + n) len ((take f xs ++ (piece ++ post)) ++ rest) fits
-      ∙ ap (take (f + n)) (append_assoc (take f xs) (piece ++ post) rest)
-      ∙ ap (λ k. take (k + n) (take f xs ++ ((piece ++ post) ++ rest))) (sym front)
-      ∙ take-append-add (take f xs) ((piece ++ post) ++ rest) n
-      ∙ ap (λ ys. take f xs ++ ys) more
-      ∙ ap (λ ys. ys ++ take n piece) is in
+    ap (λ k. take k (take len ((take f xs ++ (piece ++ post)) ++ rest))) size
+    ∙ take-take (f + n) len ((take f xs ++ (piece ++ post)) ++ rest) fits
+    ∙ ap (take (f + n)) (append_assoc (take f xs) (piece ++ post) rest)
+    ∙ ap (λ k. take (k + n) (take f xs ++ ((piece ++ post) ++ rest))) (sym front)
+    ∙ take-append-add (take f xs) ((piece ++ post) ++ rest) n
+    ∙ ap (λ ys. take f xs ++ ys) more
+    ∙ ap (λ ys. ys ++ take n piece) is in
     (take n piece, all, step, omega (arith, length-take n piece))
 
 pub steps_from : (bytes kept : List ℕ) (count n : ℕ) (after : LinesState) (next : Next) → kept ≡ bytes → n ≡ count → Steps kept n after next → Steps bytes count after next
