@@ -33,8 +33,8 @@ impl From<io::Error> for ChooseError {
     }
 }
 
-/// Named files, of which one is read at a time. Its failures are counted, and bytes are told or not: no call
-/// changes which.
+/// Named files, of which one is read at a time. Failures are counted. A shelf tells the bytes of its files always
+/// or never.
 pub trait Shelf {
     /// Whether a name may be asked for.
     ghost may_ask: { Self → List ℕ → Bool };
@@ -57,7 +57,7 @@ pub trait Shelf {
     /// The bytes left of the chosen file, where they are told.
     ghost left: { Self → Option (List ℕ) };
 
-    /// Makes the named file the one that is read, from its start. One that isn't there is a failure.
+    /// Makes the named file the one that is read, from its start. A name that no file has is a failure.
     fn choose(&mut self, name: &str) -> Result<(), ChooseError>
         requires { IsTrue (may_ask self.old name.now) }
         ensures chosen { OnOk result (IsTrue (is_chosen self.new)) }

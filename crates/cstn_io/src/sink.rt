@@ -6,7 +6,7 @@ ghost use Rattle.cstn_io.specs.Contents.{Adds};
 
 use crate::Failed;
 
-/// A sink of bytes. Its failures are counted, and the bytes written are told or not: no call changes which.
+/// A sink of bytes. Failures are counted. A sink tells the bytes written always or never.
 pub trait Sink {
     /// How many calls failed. The count stands at 2^64 - 1.
     ghost faults: { Self → ℕ };

@@ -6,7 +6,7 @@ ghost use Rattle.cstn_io.specs.Contents.{Takes};
 
 use crate::Failed;
 
-/// A live source of bytes. Its failures are counted. A source tells the bytes left always or never.
+/// A live source of bytes. Reads and failures are counted. A source tells the bytes left always or never.
 pub trait Source {
     /// How many calls failed. The count stands at 2^64 - 1.
     ghost faults: { Self → ℕ };

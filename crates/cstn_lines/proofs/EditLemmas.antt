@@ -1,21 +1,24 @@
--- What is printed of an edit line is read again.
-use Rattle.std.proofs.Common.{◌≡◌, ℕ, suc, ◌<◌, ◌≤◌, ◌^◌, List, [], ◌∷◌, ◌++◌, refl, ap, ◌∙◌, arith, true, false, not}
+-- What is printed of an edit line is read again, and nothing else is read but for the order of a label's marks.
+use Rattle.std.proofs.Common.{◌≡◌, ℕ, suc, ◌<◌, ◌≤◌, ◌^◌, List, [], ◌∷◌, ◌++◌, refl, ap, sym, subst, ◌∙◌, arith, Bool, true, false, not}
 use Rattle.std.specs.Prelude.{◌==◌, nat_lt, ℤ, FitsSigned, Option, Some, None, All, if◌then◌else◌, codes, bytes_eq}
 use Rattle.std.specs.List.{list_all}
 use Rattle.std.specs.Int.{w32}
 use Rattle.std.specs.Option.{option_map, option_and_then}
+use Rattle.std.proofs.lemmas.Slice.Eq.{bytes_eq-Decides}
 use Rattle.cstn_label.specs.declared.marks.Mark.TheVariants.{Absent}
 use Rattle.cstn_label.specs.Labels.{Label}
 use Rattle.cstn_text.specs.Names.{IsName}
-use Rattle.cstn_text.specs.Numbers.{value_read, printed_number, printed_value}
+use Rattle.cstn_text.specs.Numbers.{number_read, value_read, printed_number, printed_value}
 use Rattle.cstn_text.specs.PrintedNames.{name_read, printed_name}
 use Rattle.cstn_text.specs.PrintedLabels.{label_read, printed_label}
-use Rattle.cstn_text.proofs.NumberLemmas.{number_back, value_back}
-use Rattle.cstn_text.proofs.PrintedNameLemmas.{name_back}
+use Rattle.cstn_text.proofs.NumberLemmas.{number_back, number_printed, value_back, value_printed}
+use Rattle.cstn_text.proofs.PrintedNameLemmas.{name_back, name_printed}
 use Rattle.cstn_text.proofs.PrintedLabelLemmas.{label_back}
+use Rattle.cstn_text.proofs.LabelReadLemmas.{label_small}
+use Rattle.cstn_text.proofs.CutLemmas.{cut_joined}
 use Rattle.cstn_text.proofs.PartLemmas.{name_part, number_part, value_part}
 use Rattle.cstn_lines.specs.LiveLines.{cut_at_space}
-use Rattle.cstn_lines.specs.EditLines.{Edit, added, removed, changed, asked, id_read, change_read, ends_read, limit_read, add_read, edited_read, edit_read, IsEdit, printed_edit}
+use Rattle.cstn_lines.specs.EditLines.{Edit, added, removed, changed, asked, id_read, change_read, ends_read, limit_read, add_read, edited_read, edit_read, IsEdit, IsTextOf, printed_edit}
 use Rattle.cstn_lines.proofs.LiveLemmas.{joined_cut}
 
 -- no byte of a part is a space
@@ -78,3 +81,100 @@ edit_back (added from to most label) is =
 edit_back (removed id) small = word_back (codes "remove") (printed_number id) refl refl ∙ ap (option_map removed) (id_back id small)
 edit_back (changed id most) is = word_back (codes "change") (printed_number id ++ 32 ∷ printed_value most) refl refl ∙ change_back id most is.0 is.1
 edit_back asked is = refl
+
+-- a line and its text
+abbrev IsWritten : Edit → List ℕ → Type 0
+IsWritten line text = IsTextOf line text × IsEdit line
+
+same_line : (a b : Edit) (text : List ℕ) → a ≡ b → IsWritten a text → IsWritten b text
+same_line a b text e is = subst (λ (line : Edit). IsWritten line text) e is
+
+-- what a reading that goes on, or one that makes something of what was read, came from
+binds : {A B : Type 0} (f : A → Option B) (o : Option A) (b : B) → option_and_then f o ≡ Some b → (a : A) × (o ≡ Some a) × (f a ≡ Some b)
+binds f None b is = absurd (cc)
+binds f (Some a) b is = (a, refl, is)
+
+maps : {A B : Type 0} (f : A → B) (o : Option A) (b : B) → option_map f o ≡ Some b → (a : A) × (o ≡ Some a) × (f a ≡ b)
+maps f None b is = absurd (cc)
+maps f (Some a) b is = (a, refl, just (f a) b is)
+  where
+    just : {X : Type 0} (x y : X) → Some x ≡ Some y → x ≡ y
+    just x y e = cc
+
+-- a text in two parts, of which the first is printed and the second is known
+spaced : (text left right printed more : List ℕ) → text ≡ left ++ 32 ∷ right → printed ≡ left → right ≡ more → text ≡ printed ++ 32 ∷ more
+spaced text left right printed more parts first second = parts ∙ ap (λ bs. bs ++ 32 ∷ right) (sym first) ∙ ap (λ bs. printed ++ 32 ∷ bs) second
+
+id_only : (text : List ℕ) (id : ℕ) → id_read text ≡ Some id → (printed_number id ≡ text) × (id < 2 ^ 32)
+id_only text id is =
+    let number = binds (λ n. if nat_lt n (2 ^ 32) then Some n else None) (number_read text) id is in
+    let same = below number.0 id number.2 in
+    (ap printed_number (sym same.0) ∙ (number_printed text number.0 number.1).0, same.1)
+  where
+    below : (n id : ℕ) → (if nat_lt n (2 ^ 32) then Some n else None) ≡ Some id → (n ≡ id) × (id < 2 ^ 32)
+    below n id is = grind arith
+
+removed_only : (rest : List ℕ) (line : Edit) → option_map removed (id_read rest) ≡ Some line → IsWritten line (codes "remove" ++ 32 ∷ rest)
+removed_only rest line is =
+    let id = maps removed (id_read rest) line is in
+    let its = id_only rest id.0 id.1 in
+    same_line (removed id.0) line _ id.2 (ap (λ bs. codes "remove" ++ 32 ∷ bs) (sym its.0), its.1)
+
+change_only : (rest : List ℕ) (line : Edit) → change_read rest ≡ Some line → IsWritten line (codes "change" ++ 32 ∷ rest)
+change_only rest line is =
+    let parts = binds with_value (cut_at_space rest) line is in
+    let id = binds (λ id. option_map (changed id) (value_read parts.0.1)) (id_read parts.0.0) line parts.2 in
+    let most = maps (changed id.0) (value_read parts.0.1) line id.2 in
+    let its = id_only parts.0.0 id.0 id.1 in
+    let limit = value_printed parts.0.1 most.0 most.1 in
+    let whole = spaced rest parts.0.0 parts.0.1 _ _ (cut_joined 32 rest parts.0.0 parts.0.1 parts.1) its.0 (sym limit.0) in
+    same_line (changed id.0 most.0) line _ most.2 (ap (λ bs. codes "change" ++ 32 ∷ bs) whole, (its.1, limit.1))
+
+add_only : (rest : List ℕ) (line : Edit) → add_read rest ≡ Some line → IsWritten line (codes "add" ++ 32 ∷ rest)
+add_only rest line is =
+    let one = binds after_name (cut_at_space rest) line is in
+    let two = binds (after_names one.0) (cut_at_space one.0.1) line one.2 in
+    let three = binds (limit_read one.0.0 two.0.0) (cut_at_space two.0.1) line two.2 in
+    let most = binds (λ most. option_and_then (ends_read one.0.0 two.0.0 most) (label_read three.0.1)) (value_read three.0.0) line three.2 in
+    let label = binds (ends_read one.0.0 two.0.0 most.0) (label_read three.0.1) line most.2 in
+    let from = binds (λ f. option_map (λ t. added f t most.0 label.0) (name_read two.0.0)) (name_read one.0.0) line label.2 in
+    let to = maps (λ t. added from.0 t most.0 label.0) (name_read two.0.0) line from.2 in
+    let first = name_printed one.0.0 from.0 from.1 in
+    let second = name_printed two.0.0 to.0 to.1 in
+    let limit = value_printed three.0.0 most.0 most.1 in
+    let last = spaced two.0.1 three.0.0 three.0.1 _ _ (cut_joined 32 two.0.1 three.0.0 three.0.1 three.1) limit.0 refl in
+    let more = spaced one.0.1 two.0.0 two.0.1 _ _ (cut_joined 32 one.0.1 two.0.0 two.0.1 two.1) second.0 last in
+    let whole = spaced rest one.0.0 one.0.1 _ _ (cut_joined 32 rest one.0.0 one.0.1 one.1) first.0 more in
+    same_line (added from.0 to.0 most.0 label.0) line _ to.2
+    ((three.0.1, label.1, ap (λ bs. codes "add" ++ 32 ∷ bs) whole), (first.1, second.1, limit.1, label_small three.0.1 label.0 label.1))
+
+edited_only : (word rest : List ℕ) (line : Edit) → edited_read (word, rest) ≡ Some line → IsWritten line (word ++ 32 ∷ rest)
+edited_only word rest line is = at (bytes_eq word (codes "add")) (bytes_eq word (codes "remove")) (bytes_eq word (codes "change")) refl refl refl is
+  where
+    spelled : (bytes : List ℕ) → bytes_eq word bytes ≡ true → IsWritten line (bytes ++ 32 ∷ rest) → IsWritten line (word ++ 32 ∷ rest)
+    spelled bytes same written = subst (λ (w : List ℕ). IsWritten line (w ++ 32 ∷ rest)) (sym ((bytes_eq-Decides word bytes).0 same)) written
+
+    at : (add remove change : Bool) → add ≡ bytes_eq word (codes "add") → remove ≡ bytes_eq word (codes "remove") → change ≡ bytes_eq word (codes "change")
+        → (if add then add_read rest else if remove then option_map removed (id_read rest) else if change then change_read rest else None) ≡ Some line → IsWritten line (word ++ 32 ∷ rest)
+    at true remove change a b c e = spelled (codes "add") (sym a) (add_only rest line e)
+    at false true change a b c e = spelled (codes "remove") (sym b) (removed_only rest line e)
+    at false false true a b c e = spelled (codes "change") (sym c) (change_only rest line e)
+    at false false false a b c e = absurd (cc)
+
+edit_written : (text : List ℕ) (line : Edit) → edit_read text ≡ Some line → IsWritten line text
+edit_written text line is = at (bytes_eq text (codes "check")) refl is
+  where
+    just : (a b : Edit) → Some a ≡ Some b → a ≡ b
+    just a b e = cc
+
+    at : (check : Bool) → check ≡ bytes_eq text (codes "check") → (if check then Some asked else option_and_then edited_read (cut_at_space text)) ≡ Some line → IsWritten line text
+    at true check e = same_line asked line text (just asked line e) ((bytes_eq-Decides text (codes "check")).0 (sym check), tt)
+    at false check e =
+        let parts = binds edited_read (cut_at_space text) line e in
+        subst (λ (x : List ℕ). IsWritten line x) (sym (cut_joined 32 text parts.0.0 parts.0.1 parts.1)) (edited_only parts.0.0 parts.0.1 line parts.2)
+
+pub edit_only : (text : List ℕ) (line : Edit) → edit_read text ≡ Some line → IsTextOf line text
+edit_only text line is = (edit_written text line is).0
+
+pub edit_is : (text : List ℕ) (line : Edit) → edit_read text ≡ Some line → IsEdit line
+edit_is text line is = (edit_written text line is).1

@@ -1,12 +1,14 @@
-use Rattle.std.proofs.Common.{◌≡◌, ◌≢◌, ℕ, ◌+◌, ◌-◌, ◌^◌, ◌<◌, ◌≤◌, List, [], ◌∷◌, ◌++◌, length, take, drop, get_or, refl, ap, sym, ◌∙◌, subst, arith, zero, suc, append_assoc, append-nil, length-drop}
+use Rattle.std.proofs.Common.{◌≡◌, ℕ, ◌+◌, ◌-◌, ◌^◌, ◌<◌, ◌≤◌, List, [], ◌∷◌, ◌++◌, length, take, drop, refl, ap, sym, ◌∙◌, subst, arith, append_assoc, append-nil, length-append, length-take}
 use Rattle.std.specs.Prelude.{true, false, Option, None, Some}
 use Rattle.std.proofs.lemmas.Bool.{false≢true}
+use Rattle.std.proofs.lemmas.List.{take-take, take-append-le}
+use Rattle.std.proofs.Math.Seq.{take-append-add}
 use Rattle.std.proofs.lemmas.Grind.{common_steps}
 use Rattle.cstn_io.specs.Contents.{after_bytes}
-use Rattle.cstn_lines.specs.Pieces.{lines_of, whole_lines, IsCut, HasNoEnd, is_past}
-use Rattle.cstn_lines.specs.Steps.{LinesState, HandsOut, IsRefused, IsBroken, IsPast, Steps}
+use Rattle.cstn_lines.specs.Pieces.{lines_of, whole_lines, IsCut, HasNoEnd, is_past, between}
+use Rattle.cstn_lines.specs.Steps.{LinesState, HandsOut, IsRefused, IsBroken, IsPast, Steps, ReadsOn}
 use Rattle.cstn_lines.specs.declared.lines.Next.{Next}
-use Rattle.cstn_lines.proofs.PieceLemmas.{cut_lines, cut_whole, open_whole, last_line, long_line, some_line}
+use Rattle.cstn_lines.proofs.PieceLemmas.{cut_lines, cut_whole, open_whole, last_line, long_line, some_line, take_between, drop_between, between_none}
 
 not_past : (n : ℕ) (line : List ℕ) → n ≤ 2 ^ 24 → length line ≤ 4096 → is_past n line ≡ false
 not_past n line h k = grind arith
@@ -17,21 +19,17 @@ past_late n line h = grind arith
 past_long : (n : ℕ) (line : List ℕ) → 4096 < length line → is_past n line ≡ true
 past_long n line h = grind arith
 
-drop-plus : (n m : ℕ) (xs : List ℕ) → drop (n + m) xs ≡ drop m (drop n xs)
-drop-plus n m xs = grind (arith, common_steps)
-
-pub hand_cut : (kept shown bytes : List ℕ) (start i count n : ℕ) (after : LinesState) → shown ≡ kept → IsCut shown i → kept ≡ drop start bytes → length bytes ≤ 4097 → count < 2 ^ 24 → after.line ≡ take (start + i - start) (drop start bytes) → after.kept ≡ drop (start + i + 1) bytes → after.count ≡ count + 1 → n ≡ count + 1 → HandsOut kept count after n
-hand_cut kept shown bytes start i count n after same cut is short below line rest counts number =
-    let here : IsCut kept i = subst (λ (x : List ℕ). IsCut x i) same cut in
-    let its : after.line ≡ take i kept = line ∙ ap (λ k. take k (drop start bytes)) (omega arith) ∙ ap (take i) (sym is) in
-    let more : after.kept ≡ drop (i + 1) kept = rest ∙ ap (λ k. drop k bytes) (omega arith) ∙ drop-plus start (i + 1) bytes ∙ ap (drop (i + 1)) (sym is) in
-    let long : length kept ≤ 4097 = omega (arith, ap length is, length-drop start bytes) in
+pub hand_cut : (kept bytes : List ℕ) (start stop i count n : ℕ) (after : LinesState) → IsCut kept i → kept ≡ between start stop bytes → stop ≤ 4097 → count < 2 ^ 24 → after.line ≡ between start (start + i) bytes → after.kept ≡ between (start + i + 1) stop bytes → after.count ≡ count + 1 → n ≡ count + 1 → HandsOut kept count after n
+hand_cut kept bytes start stop i count n after cut is short below line rest counts number =
+    let long : length kept ≤ stop - start = omega (arith, ap length is, length-take (stop - start) (drop start bytes)) in
+    let its : after.line ≡ take i kept = line ∙ sym (take_between i start stop bytes (omega (arith, cut.inside))) ∙ ap (take i) (sym is) in
+    let more : after.kept ≡ drop (i + 1) kept = rest ∙ ap (λ k. between k stop bytes) (omega arith) ∙ sym (drop_between (i + 1) start stop bytes (omega (arith, cut.inside))) ∙ ap (drop (i + 1)) (sym is) in
     record {
       is_number = number;
       counts = counts;
-      lines = λ r e. rw (its, more) (cut_lines kept r i here);
-      whole = λ r e. rw (its, more) (cut_whole kept r i here);
-      short = not_past n after.line (omega arith) (rw its (omega (arith, here.inside, Rattle.std.proofs.Common.length-take i kept)));
+      lines = λ r e. rw (its, more) (cut_lines kept r i cut);
+      whole = λ r e. rw (its, more) (cut_whole kept r i cut);
+      short = not_past n after.line (omega arith) (rw its (omega (arith, cut.inside, length-take i kept)));
     }
 
 -- a line that is refused is refused by what is kept of it
@@ -47,16 +45,13 @@ refused kept count n after number next stays same =
       stays = (now.0, now.1, all, subst (λ (k : ℕ). is_past k now.0 ≡ true) (number ∙ ap (λ k. k + 1) (sym same)) now.3);
     }
 
-pub refuse_late : (kept shown : List ℕ) (count n : ℕ) (after : LinesState) → shown ≡ kept → 0 < length shown → count ≡ 2 ^ 24 → n ≡ count + 1 → after.kept ≡ kept → after.count ≡ count → IsRefused kept count after n
-refuse_late kept shown count n after same some at number stays counts =
-    let there : 0 < length kept = omega (arith, ap length same) in
-    refused kept count n after number (λ r. let found = some_line (kept ++ r) (omega (arith, Rattle.std.proofs.Common.length-append kept r)) in (found.0, found.1, found.2, past_late n found.0 (omega arith))) stays counts
+pub refuse_late : (kept : List ℕ) (count n : ℕ) (after : LinesState) → 0 < length kept → count ≡ 2 ^ 24 → n ≡ count + 1 → after.kept ≡ kept → after.count ≡ count → IsRefused kept count after n
+refuse_late kept count n after some at number stays counts =
+    refused kept count n after number (λ r. let found = some_line (kept ++ r) (omega (arith, length-append kept r)) in (found.0, found.1, found.2, past_late n found.0 (omega arith))) stays counts
 
-pub refuse_long : (kept shown : List ℕ) (count n : ℕ) (after : LinesState) → shown ≡ kept → HasNoEnd shown → 4096 < length shown → n ≡ count + 1 → after.kept ≡ kept → after.count ≡ count → IsRefused kept count after n
-refuse_long kept shown count n after same none long number stays counts =
-    let there : 4096 < length kept = omega (arith, ap length same) in
-    let here : HasNoEnd kept = subst (λ (x : List ℕ). HasNoEnd x) same none in
-    refused kept count n after number (λ r. let found = long_line kept r here (omega arith) in (kept ++ found.0, found.1, found.2, past_long n (kept ++ found.0) (omega (arith, Rattle.std.proofs.Common.length-append kept found.0)))) stays counts
+pub refuse_long : (kept : List ℕ) (count n : ℕ) (after : LinesState) → HasNoEnd kept → 4096 < length kept → n ≡ count + 1 → after.kept ≡ kept → after.count ≡ count → IsRefused kept count after n
+refuse_long kept count n after none long number stays counts =
+    refused kept count n after number (λ r. let found = long_line kept r none (omega arith) in (kept ++ found.0, found.1, found.2, past_long n (kept ++ found.0) (omega (arith, length-append kept found.0)))) stays counts
 
 -- the first line is one line
 one_first : (kept line other : List ℕ) (lines others : List (List ℕ)) (n : ℕ) → lines_of kept ≡ line ∷ lines → lines_of kept ≡ other ∷ others → is_past n other ≡ false → is_past n line ≡ true → ⊥
@@ -68,41 +63,31 @@ one_first kept line other lines others n is its fits past =
     heads x y xs ys e = cc
 
 -- a line that is whole and short enough isn't past what a grammar has
-pub whole_not_past : (state : LinesState) (shown bytes : List ℕ) (start i : ℕ) → shown ≡ state.kept → IsCut shown i → state.kept ≡ drop start bytes → length bytes ≤ 4097 → state.count < 2 ^ 24 → IsPast state → ⊥
-whole_not_past state shown bytes start i same cut is short few past =
-    let here : IsCut state.kept i = subst (λ (x : List ℕ). IsCut x i) same cut in
-    let long : length state.kept ≤ 4097 = omega (arith, ap length is, length-drop start bytes) in
-    let first : lines_of state.kept ≡ take i state.kept ∷ lines_of (drop (i + 1) state.kept ++ []) = ap lines_of (sym (append-nil state.kept)) ∙ cut_lines state.kept [] i here in
-    one_first state.kept past.0 (take i state.kept) past.1 _ (state.count + 1) past.2 first (not_past (state.count + 1) (take i state.kept) (omega arith) (omega (arith, here.inside, Rattle.std.proofs.Common.length-take i state.kept))) past.3
+pub whole_not_past : (state : LinesState) (i : ℕ) → IsCut state.kept i → length state.kept ≤ 4097 → state.count < 2 ^ 24 → IsPast state → ⊥
+whole_not_past state i cut short few past =
+    let first : lines_of state.kept ≡ take i state.kept ∷ lines_of (drop (i + 1) state.kept ++ []) = ap lines_of (sym (append-nil state.kept)) ∙ cut_lines state.kept [] i cut in
+    one_first state.kept past.0 (take i state.kept) past.1 _ (state.count + 1) past.2 first (not_past (state.count + 1) (take i state.kept) (omega arith) (omega (arith, cut.inside, length-take i state.kept))) past.3
 
 -- nor is one that is short enough so far
-pub open_not_past : (state : LinesState) (shown : List ℕ) → shown ≡ state.kept → HasNoEnd shown → length shown ≤ 4096 → state.count < 2 ^ 24 → IsPast state → ⊥
+pub open_not_past : (state : LinesState) (kept : List ℕ) → kept ≡ state.kept → HasNoEnd kept → length kept ≤ 4096 → state.count < 2 ^ 24 → IsPast state → ⊥
 open_not_past state [] same none short few past = absurd (let e : lines_of [] ≡ past.0 ∷ past.1 = ap lines_of same ∙ past.2 in cc)
 open_not_past state (b ∷ bs) same none short few past =
     let first : lines_of state.kept ≡ (b ∷ bs) ∷ [] = ap lines_of (sym same) ∙ last_line b bs none in
     one_first state.kept past.0 (b ∷ bs) past.1 [] (state.count + 1) past.2 first (not_past (state.count + 1) (b ∷ bs) (omega arith) short) past.3
 
 -- the last line, which has no end
-pub hand_last : (kept bytes : List ℕ) (start len count n : ℕ) (after : LinesState) → kept ≡ drop start bytes → len ≡ length bytes → start < len → HasNoEnd kept → length kept ≤ 4096 → (0 < length kept → count < 2 ^ 24) → after.line ≡ take (len - start) (drop start bytes) → after.kept ≡ drop len bytes → after.count ≡ count + 1 → n ≡ count + 1 → after.ended ≡ true → HandsOut kept count after n
-hand_last kept bytes start len count n after is at some none short below line rest counts number ended =
-    let size : length kept ≡ len - start = ap length is ∙ length-drop start bytes ∙ omega arith in
-    let few : count < 2 ^ 24 = below (omega arith) in
-    let its : after.line ≡ kept = line ∙ ap (take (len - start)) (sym is) ∙ whole_take kept (len - start) size in
-    let more : after.kept ≡ [] = rest ∙ gone bytes len at in
+pub hand_last : (kept bytes : List ℕ) (stop count n : ℕ) (after : LinesState) → 0 < length kept → HasNoEnd kept → length kept ≤ 4096 → (0 < length kept → count < 2 ^ 24) → after.line ≡ kept → after.kept ≡ between stop stop bytes → after.count ≡ count + 1 → n ≡ count + 1 → after.ended ≡ true → HandsOut kept count after n
+hand_last kept bytes stop count n after some none short below its rest counts number ended =
+    let few : count < 2 ^ 24 = below some in
+    let more : after.kept ≡ [] = rest ∙ between_none stop bytes in
     record {
       is_number = number;
       counts = counts;
-      lines = λ r e. rw (its, more, e ended) (only kept (omega arith) none);
+      lines = λ r e. rw (its, more, e ended) (only kept some none);
       whole = λ r e. absurd (cc);
       short = not_past n after.line (omega arith) (rw its short);
     }
   where
-    whole_take : (xs : List ℕ) (k : ℕ) → length xs ≡ k → take k xs ≡ xs
-    whole_take xs k e = grind (arith, common_steps)
-
-    gone : (xs : List ℕ) (k : ℕ) → k ≡ length xs → drop k xs ≡ []
-    gone xs k e = grind (arith, common_steps)
-
     only : (xs : List ℕ) → 0 < length xs → HasNoEnd xs → lines_of (xs ++ []) ≡ xs ∷ lines_of ([] ++ [])
     only [] h none = absurd (omega arith)
     only (x ∷ xs) h none = let e : (x ∷ xs) ++ [] ≡ x ∷ xs = grind (arith, common_steps) in subst (λ (y : List ℕ). lines_of y ≡ (x ∷ xs) ∷ []) (sym e) (last_line x xs none)
@@ -116,8 +101,38 @@ more_bytes told mid None before taken is then = rw (is, then) refl
 more_bytes told mid (Some xs) before taken is then = rw (is, then, append_assoc) refl
 
 -- bytes were taken, and then more
-pub more_taken : (bytes kept after taken more : List ℕ) (told mid now : Option (List ℕ)) → kept ≡ bytes ++ taken → told ≡ after_bytes taken mid → after ≡ kept ++ more → mid ≡ after_bytes more now → (all : List ℕ) × (after ≡ bytes ++ all) × (told ≡ after_bytes all now)
-more_taken bytes kept after taken more told mid now is read goes reads = (taken ++ more, goes ∙ ap (λ x. x ++ more) is ∙ append_assoc bytes taken more, more_bytes told mid now taken more read reads)
+pub more_taken : (bytes kept after taken more : List ℕ) (told mid now : Option (List ℕ)) → kept ≡ bytes ++ taken → told ≡ after_bytes taken mid → after ≡ kept ++ more → mid ≡ after_bytes more now → (after ≡ bytes ++ (taken ++ more)) × (told ≡ after_bytes (taken ++ more) now)
+more_taken bytes kept after taken more told mid now is read goes reads = (goes ∙ ap (λ x. x ++ more) is ∙ append_assoc bytes taken more, more_bytes told mid now taken more read reads)
+
+-- the last read, after reads that each took a byte
+pub reads_on : (bytes kept first last : List ℕ) (count n before mid after : ℕ) → kept ≡ bytes ++ first → HasNoEnd kept → length kept ≤ 4096 → (0 < length kept → n < 2 ^ 24) → n ≡ count → mid ≤ before + length first → after ≤ mid + 1 → ReadsOn bytes count (first ++ last) before after
+reads_on bytes kept first last count n before mid after is none short early same few one =
+    let late : 0 < length kept → count < 2 ^ 24 = λ some. subst (λ (k : ℕ). k < 2 ^ 24) same (early some) in
+    record {
+      first = first;
+      last = last;
+      parts = refl;
+      open_line = subst (λ (x : List ℕ). HasNoEnd x) is none;
+      short = subst (λ (x : List ℕ). length x ≤ 4096) is short;
+      early = subst (λ (x : List ℕ). 0 < length x → count < 2 ^ 24) is late;
+      few = omega (arith, few, one);
+    }
+
+-- what a read took into the bytes behind those that are kept
+pub filled : (kept xs piece post rest : List ℕ) (told now : Option (List ℕ)) (f n len : ℕ) → f ≤ length xs → n ≤ length piece → f + n ≤ len → take f xs ≡ kept → told ≡ after_bytes (take n piece) now → (taken : List ℕ) × (between 0 (f + n) (take len ((take f xs ++ (piece ++ post)) ++ rest)) ≡ kept ++ taken) × (told ≡ after_bytes taken now) × (n ≡ length taken)
+filled kept xs piece post rest told now f n len inside some fits is step =
+    let front : length (take f xs) ≡ f = omega (arith, length-take f xs) in
+    let more : take n ((piece ++ post) ++ rest) ≡ take n piece = take-append-le n (piece ++ post) rest (omega (arith, length-append piece post)) ∙ take-append-le n piece post some in
+    let size : f + n - 0 ≡ f + n = omega arith in
+    let all : between 0 (f + n) (take len ((take f xs ++ (piece ++ post)) ++ rest)) ≡ kept ++ take n piece =
+    ap (λ k. take k (take len ((take f xs ++ (piece ++ post)) ++ rest))) size
+    ∙ take-take (f + n) len ((take f xs ++ (piece ++ post)) ++ rest) fits
+    ∙ ap (take (f + n)) (append_assoc (take f xs) (piece ++ post) rest)
+    ∙ ap (λ k. take (k + n) (take f xs ++ ((piece ++ post) ++ rest))) (sym front)
+    ∙ take-append-add (take f xs) ((piece ++ post) ++ rest) n
+    ∙ ap (λ ys. take f xs ++ ys) more
+    ∙ ap (λ ys. ys ++ take n piece) is in
+    (take n piece, all, step, omega (arith, length-take n piece))
 
 pub steps_from : (bytes kept : List ℕ) (count n : ℕ) (after : LinesState) (next : Next) → kept ≡ bytes → n ≡ count → Steps kept n after next → Steps bytes count after next
 steps_from bytes kept count n after next is at steps = subst (λ (x : List ℕ). Steps x count after next) is (subst (λ (k : ℕ). Steps kept k after next) at steps)

@@ -1,5 +1,5 @@
 -- Edit lines.
-use Rattle.std.specs.Prelude.{ℕ, ℤ, ◌≡◌, ◌<◌, ◌≤◌, ◌^◌, ◌++◌, ◌∷◌, FitsSigned, nat_lt, if◌then◌else◌, List, Option, None, Some, codes, bytes_eq}
+use Rattle.std.specs.Prelude.{ℕ, ℤ, ◌≡◌, ◌<◌, ◌≤◌, ◌^◌, ◌++◌, ◌∷◌, true, IsSomeAnd, FitsSigned, nat_lt, if◌then◌else◌, List, Option, None, Some, codes, bytes_eq}
 use Rattle.std.specs.Int.{w32}
 use Rattle.std.specs.Option.{option_map, option_and_then}
 use Rattle.cstn_label.specs.declared.marks.Mark.TheVariants.{Absent}
@@ -72,3 +72,16 @@ printed_edit (added from to most label) = codes "add" ++ 32 ∷ (printed_name fr
 printed_edit (removed id) = codes "remove" ++ 32 ∷ printed_number id
 printed_edit (changed id most) = codes "change" ++ 32 ∷ (printed_number id ++ 32 ∷ printed_value most)
 printed_edit asked = codes "check"
+
+-- the text says the line, with one space between its parts, where a label's marks may stand in any order
+abbrev pub IsTextOf : Edit → List ℕ → Type 0
+IsTextOf (added from to most label) text =
+    (written : List ℕ) × (label_read written ≡ Some label)
+    × (text ≡ codes "add" ++ 32 ∷ (printed_name from ++ 32 ∷ (printed_name to ++ 32 ∷ (printed_value most ++ 32 ∷ written))))
+IsTextOf (removed id) text = text ≡ printed_edit (removed id)
+IsTextOf (changed id most) text = text ≡ printed_edit (changed id most)
+IsTextOf asked text = text ≡ printed_edit asked
+
+-- the line's word is `add`
+abbrev pub IsAdding : List ℕ → Type 0
+IsAdding text = IsSomeAnd (cut_at_space text) (λ parts. bytes_eq parts.0 (codes "add") ≡ true)

@@ -1,5 +1,9 @@
 -- Bytes as lines.
-use Rattle.std.specs.Prelude.{◌≡◌, ◌≢◌, ℕ, ◌<◌, ◌^◌, Bool, nat_lt, ◌||◌, ◌==◌, if◌then◌else◌, List, [], ◌∷◌, ◌++◌, length, get_or}
+use Rattle.std.specs.Prelude.{◌≡◌, ◌≢◌, ℕ, ◌<◌, ◌-◌, ◌^◌, take, drop, Bool, nat_lt, ◌||◌, ◌==◌, if◌then◌else◌, List, [], ◌∷◌, ◌++◌, length, get_or}
+
+-- the bytes from a place to another
+abbrev pub between : ℕ → ℕ → List ℕ → List ℕ
+between start end bytes = take (end - start) (drop start bytes)
 
 -- the byte begins the first line
 abbrev pub onto : ℕ → List (List ℕ) → List (List ℕ)

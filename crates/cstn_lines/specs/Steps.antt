@@ -1,10 +1,10 @@
 -- Steps through the lines of a source.
-use Rattle.std.specs.Prelude.{◌≡◌, ℕ, ◌+◌, Bool, true, false, List, [], ◌∷◌, ◌++◌}
-use Rattle.cstn_lines.specs.Pieces.{lines_of, whole_lines, is_past}
+use Rattle.std.specs.Prelude.{◌≡◌, ℕ, ◌+◌, ◌≤◌, ◌<◌, ◌^◌, length, Bool, true, false, List, [], ◌∷◌, ◌++◌}
+use Rattle.cstn_lines.specs.Pieces.{lines_of, whole_lines, is_past, HasNoEnd}
 use Rattle.cstn_lines.specs.declared.lines.Next.{Next}
 use Rattle.cstn_lines.specs.declared.lines.Next.TheVariants.{Line, End, Wrong, Fault}
 
--- the line handed out last, what was taken and not handed out, how many lines were, and whether the source has ended
+-- the line that a step has just handed out, what was taken and not handed out, how many lines were, and whether the source has ended
 pub record LinesState : Type 0 where
   pub line : List ℕ
   pub kept : List ℕ
@@ -55,3 +55,14 @@ Steps bytes count after (Line number) = HandsOut bytes count after number
 Steps bytes count after End = IsOver bytes count after
 Steps bytes count after (Wrong number) = IsRefused bytes count after number
 Steps bytes count after Fault = IsBroken bytes count after
+
+-- The reads of a step that reads. Each but the last took a byte, and before the last the line that was kept had no end, was
+-- short enough and not too late. So none comes after one that took nothing, failed or brought the line.
+pub record ReadsOn (kept : List ℕ) (count : ℕ) (taken : List ℕ) (before after : ℕ) : Type 0 where
+  pub first : List ℕ
+  pub last : List ℕ
+  pub parts : taken ≡ first ++ last
+  pub open_line : HasNoEnd (kept ++ first)
+  pub short : length (kept ++ first) ≤ 4096
+  pub early : 0 < length (kept ++ first) → count < 2 ^ 24
+  pub few : after ≤ before + length first + 1

@@ -1,8 +1,8 @@
 // Edit lines.
-ghost use Rattle.std.specs.Prelude.{◌≡◌, false, IfOk, codes, bytes_eq};
+ghost use Rattle.std.specs.Prelude.{◌≡◌, false, IfOk, OnErr, codes, bytes_eq};
 ghost use Rattle.std.specs.Option.{option_map};
 ghost use Rattle.cstn_label.specs.Read.{marks};
-ghost use Rattle.cstn_lines.specs.EditLines.{the_edit, id_read, change_read, ends_read, limit_read, add_read, edited_read, edit_read};
+ghost use Rattle.cstn_lines.specs.EditLines.{the_edit, id_read, change_read, ends_read, limit_read, add_read, edited_read, edit_read, IsAdding};
 
 use crate::live::cut_at_space;
 use cstn_label::Label;
@@ -56,10 +56,11 @@ pub enum EditLine {
     Check,
 }
 
-/// The edit line that these bytes are, without their LF; none where they are of no other form, to a space. Fails for want of
-/// memory alone.
+/// The edit line that these bytes are, without its LF: exactly a form of `EditLine`, with one space between the
+/// parts and no other. None where they are no edit line. Only a line that begins with `add` may want memory.
 pub fn read_edit(alloc: Global, bytes: &[u8]) -> Result<Option<EditLine>, AllocError>
     ensures read { IfOk result (λ line. option_map the_edit line ≡ edit_read bytes.now) }
+    ensures memory { OnErr result (IsAdding bytes.now) }
 {
     if bytes == b"check".as_slice() {
         return Ok(Some(EditLine::Check));

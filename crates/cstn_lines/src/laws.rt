@@ -1,7 +1,7 @@
 //! Laws of lines. The calls do nothing: their contracts are the laws.
 ghost use Rattle.std.specs.Prelude.{◌≡◌, ◌⊎◌, ◌++◌, [], ◌∷◌, ℕ, List, Some};
 ghost use Rattle.cstn_lines.specs.Pieces.{lines_of, joined};
-ghost use Rattle.cstn_lines.specs.EditLines.{Edit, IsEdit, edit_read, printed_edit};
+ghost use Rattle.cstn_lines.specs.EditLines.{Edit, IsEdit, IsTextOf, edit_read, printed_edit};
 ghost use Rattle.cstn_lines.specs.LiveLines.{Live, IsLive, live_read, printed_live};
 
 /// Each live line has one text.
@@ -12,10 +12,13 @@ pub fn live_lines_have_one_text()
     ensures live { (text : List ℕ) (line : Live) → live_read text ≡ Some line → IsLive line }
 {}
 
-/// What is printed of an edit line is read again as the same line.
-#[tactic(auto, using(crate::proofs::EditLemmas::edit_back))]
+/// What is printed of an edit line is read again as the same line. What is read as an edit line is the text of
+/// one, where a label's marks may stand in any order.
+#[tactic(auto, using(crate::proofs::EditLemmas::edit_back, crate::proofs::EditLemmas::edit_only, crate::proofs::EditLemmas::edit_is))]
 pub fn edit_lines_are_read_back()
-    ensures { (line : Edit) → IsEdit line → edit_read (printed_edit line) ≡ Some line }
+    ensures back { (line : Edit) → IsEdit line → edit_read (printed_edit line) ≡ Some line }
+    ensures only { (text : List ℕ) (line : Edit) → edit_read text ≡ Some line → IsTextOf line text }
+    ensures edit { (text : List ℕ) (line : Edit) → edit_read text ≡ Some line → IsEdit line }
 {}
 
 /// The lines of some bytes, each with its LF, are these bytes, but for the last LF, which they may lack.

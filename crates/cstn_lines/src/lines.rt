@@ -1,9 +1,9 @@
 // The lines of a live source.
-ghost use Rattle.std.specs.Prelude.{◌≡◌, ◌≢◌, ◌≤◌, ◌<◌, ◌+◌, ◌^◌, ◌++◌, ℕ, List, Some, None, [], true, false, length, take, drop, IfOk, IfSome, IfNone, OnOk, OnErr, MatchResult};
+ghost use Rattle.std.specs.Prelude.{◌≡◌, ◌≢◌, ◌⊎◌, ◌≤◌, ◌<◌, ◌+◌, ◌-◌, ◌^◌, ◌++◌, ℕ, List, Some, None, [], true, false, length, take, drop, IfOk, IfSome, IfNone, OnOk, OnErr, MatchResult};
 ghost use Rattle.cstn_io.specs.Causes.{Rose, HasCause};
 ghost use Rattle.cstn_io.specs.Contents.{after_bytes, IsAtEnd};
-ghost use Rattle.cstn_lines.specs.Pieces.{IsCut, HasEnd, HasNoEnd};
-ghost use Rattle.cstn_lines.specs.Steps.{LinesState, Steps, IsPast, wrong_at};
+ghost use Rattle.cstn_lines.specs.Pieces.{IsCut, HasEnd, HasNoEnd, between};
+ghost use Rattle.cstn_lines.specs.Steps.{LinesState, Steps, ReadsOn, IsPast, wrong_at};
 
 use crate::places::first_place;
 use cstn_io::{Failed, Source};
@@ -12,6 +12,9 @@ use std::marker::Model;
 
 // How many bytes a line has at most, without its LF.
 const LONGEST: usize = 4096;
+
+// Room for the longest line and one byte more, which tells a longer one.
+const ROOM: usize = LONGEST + 1;
 
 // How many lines there are at most.
 const MOST: u32 = 16_777_216;
@@ -30,26 +33,30 @@ pub enum Next {
 }
 
 /// Cuts a source into lines. Each ends with LF, but the last may lack it.
-// The line handed out last stands from `first` to `last`, and what is kept from `start` on.
+// The line handed out stands from `first` to `last`, and what is kept from `start` to `end`, of which no byte
+// before `searched` is LF.
 #[derive(Drop)]
 pub struct Lines {
     bytes: Vec<u8>,
     first: usize,
     last: usize,
     start: usize,
+    searched: usize,
+    end: usize,
     count: u32,
     ended: bool,
 }
 
 impl Model for Lines {
-    ghost use Rattle.std.specs.Prelude.{◌≤◌, ◌-◌, ◌^◌, take, drop, length, vec_len, vec_capacity};
+    ghost use Rattle.std.specs.Prelude.{◌≡◌, ◌≤◌, ◌^◌, vec_len};
+    ghost use Rattle.cstn_lines.specs.Pieces.{HasNoEnd, between};
     ghost use Rattle.cstn_lines.specs.Steps.{LinesState};
 
     ghost Value = { LinesState };
 
-    ghost view = { λ s. record { line = take (s.last - s.first) (drop s.first s.bytes.items); kept = drop s.start s.bytes.items; count = s.count; ended = s.ended } };
+    ghost view = { λ s. record { line = between s.first s.last s.bytes.items; kept = between s.start s.end s.bytes.items; count = s.count; ended = s.ended } };
 
-    ghost invariant = { λ s. (s.first ≤ s.last) × (s.last ≤ s.start) × (s.start ≤ length s.bytes.items) × (length s.bytes.items ≤ 4097) × (4097 ≤ vec_capacity s.bytes) × (s.count ≤ 2 ^ 24) };
+    ghost invariant = { λ s. (s.first ≤ s.last) × (s.last ≤ s.end) × (s.start ≤ s.searched) × (s.searched ≤ s.end) × (s.end ≤ 4097) × (vec_len s.bytes ≡ 4097) × HasNoEnd (between s.start s.searched s.bytes.items) × (s.count ≤ 2 ^ 24) };
 }
 
 impl Lines {
@@ -57,28 +64,48 @@ impl Lines {
     pub fn start(alloc: Global) -> Result<Lines, AllocError>
         ensures { IfOk result (λ s. s ≡ record { line = []; kept = []; count = 0; ended = false }) }
     {
-        let bytes = Vec::with_capacity(alloc, LONGEST + 1)?;
+        let bytes = vec![in alloc; 0u8; ROOM]?;
         Ok(Lines {
             bytes,
             first: 0,
             last: 0,
             start: 0,
+            searched: 0,
+            end: 0,
             count: 0,
             ended: false,
         })
     }
 
-    /// The line that was handed out last, without its LF.
+    /// The line that the last step handed out, without its LF. After a step that handed out none these bytes
+    /// mean nothing.
     pub fn line(&self) -> &[u8]
         ensures { result.now ≡ self.now.line }
     {
         &self.bytes[self.first..self.last]
     }
 
-    fn kept(&self) -> &[u8]
-        ensures { result.now ≡ self.now.kept }
+    // How many bytes are kept.
+    fn kept_len(&self) -> usize
+        ensures count { result ≡ length self.now.kept }
+        ensures most { result ≤ 4097 }
     {
-        &self.bytes[self.start..]
+        self.end - self.start
+    }
+
+    // Where the first line of what is kept ends. What was searched before isn't searched again.
+    fn find_end(&mut self) -> Option<usize>
+        ensures cut { IfSome result (IsCut self.old.kept) }
+        ensures none { IfNone result (HasNoEnd self.old.kept) }
+        ensures same { self.new ≡ self.old }
+    {
+        match first_end(&self.bytes[self.searched..self.end]) {
+            Some(i) => Some(self.searched - self.start + i),
+            None => {
+                self.searched = self.end;
+                None
+            }
+        }
     }
 
     // The next line of what is kept, where it is whole or past what a grammar has.
@@ -93,27 +120,36 @@ impl Lines {
         ensures ended { self.new.ended ≡ self.old.ended }
         ensures fault { result ≢ Some Next.Fault }
     {
-        let kept = self.kept();
-        if kept.is_empty() {
+        let len = self.kept_len();
+        if len == 0 {
             return None;
         }
         if self.count == MOST {
             return Some(Next::Wrong { number: MOST + 1 });
         }
-        match find_end(kept) {
-            Some(i) => {
-                let start = self.start;
-                self.first = start;
-                self.last = start + i;
-                self.start = start + i + 1;
-                self.count += 1;
-                Some(Next::Line { number: self.count })
-            }
-            None if kept.len() > LONGEST => Some(Next::Wrong {
+        match self.find_end() {
+            Some(i) => Some(self.hand_out(i)),
+            None if len > LONGEST => Some(Next::Wrong {
                 number: self.count + 1,
             }),
             None => None,
         }
+    }
+
+    // The line that ends so many bytes into what is kept.
+    fn hand_out(&mut self, len: usize) -> Next
+        requires cut { IsCut self.old.kept len }
+        requires count { self.old.count < 2 ^ 24 }
+        ensures steps { Steps self.old.kept self.old.count self.new result }
+        ensures ended { self.new.ended ≡ self.old.ended }
+        ensures line { result ≡ Next.Line (self.old.count + 1) }
+    {
+        self.first = self.start;
+        self.last = self.start + len;
+        self.start = self.last + 1;
+        self.searched = self.start;
+        self.count += 1;
+        Next::Line { number: self.count }
     }
 
     // The last line, which has no end.
@@ -127,19 +163,18 @@ impl Lines {
         ensures again { self.old.kept ≡ [] → (result ≡ Next.End) × (self.new ≡ self.old) }
         ensures fault { result ≢ Next.Fault }
     {
-        let start = self.start;
-        let len = self.bytes.len();
-        if start == len {
+        if self.kept_len() == 0 {
             return Next::End;
         }
-        self.first = start;
-        self.last = len;
-        self.start = len;
+        self.first = self.start;
+        self.last = self.end;
+        self.start = self.end;
+        self.searched = self.end;
         self.count += 1;
         Next::Line { number: self.count }
     }
 
-    // Takes more bytes.
+    // Takes more bytes, by one read.
     fn fill<S: Source>(&mut self, source: &mut S) -> Result<usize, Failed>
         requires short { length self.old.kept ≤ 4096 }
         requires ended { self.old.ended ≡ false }
@@ -149,24 +184,22 @@ impl Lines {
         ensures zero { IfOk result (λ n. n ≡ 0 → self.new.ended ≡ true) }
         ensures more { IfOk result (λ n. 0 < n → self.new.ended ≡ false) }
         ensures going { OnErr result (self.new.ended ≡ false) }
+        ensures reads { S.reads source.new ≤ S.reads source.old + 1 }
         ensures cause { HasCause (S.faults source.old) (S.faults source.new) result }
     {
-        let len = self.bytes.len();
-        let start = self.start;
-        self.bytes.copy_within(start..len, 0);
-        self.bytes.truncate(len - start);
+        move_to_front(&mut self.bytes, self.start, self.end);
         self.first = 0;
         self.last = 0;
+        self.searched -= self.start;
+        self.end -= self.start;
         self.start = 0;
-        let mut piece = [0u8; LONGEST + 1];
-        let room = LONGEST + 1 - self.bytes.len();
-        match source.read(&mut piece[..room]) {
+        match source.read(&mut self.bytes[self.end..]) {
             Ok(0) => {
                 self.ended = true;
                 Ok(0)
             }
             Ok(count) => {
-                self.bytes.extend_from_slice(&piece[..count]).unwrap();
+                self.end += count;
                 Ok(count)
             }
             Err(Failed) => Err(Failed),
@@ -179,7 +212,7 @@ impl Lines {
         requires short { length self.old.kept ≤ 4096 }
         requires count { 0 < length self.old.kept → self.old.count < 2 ^ 24 }
         requires ended { self.old.ended ≡ false }
-        ensures steps { (taken : List ℕ) × (S.left source.old ≡ after_bytes taken (S.left source.new)) × Steps (self.old.kept ++ taken) self.old.count self.new result }
+        ensures steps { (taken : List ℕ) × (S.left source.old ≡ after_bytes taken (S.left source.new)) × ReadsOn self.old.kept self.old.count taken (S.reads source.old) (S.reads source.new) × Steps (self.old.kept ++ taken) self.old.count self.new result }
         ensures ended { self.new.ended ≡ true → IsAtEnd (S.left source.new) }
         ensures later { S.faults source.old ≤ S.faults source.new }
         ensures fault { result ≡ Next.Fault → Rose (S.faults source.old) (S.faults source.new) }
@@ -197,7 +230,8 @@ impl Lines {
     }
 
     /// The next line. Nothing is read where it is kept whole or is already too long, or where the source has
-    /// ended. After `End` and `Wrong` each step says the same again.
+    /// ended; else reads go on until one brings the end of the line, makes it too long, answers 0 or fails.
+    /// After `End` and `Wrong` each step says the same again.
     pub fn step<S: Source>(&mut self, source: &mut S) -> Next
         ensures steps { (taken : List ℕ) × (S.left source.old ≡ after_bytes taken (S.left source.new)) × (self.old.ended ≡ true → taken ≡ []) × Steps (self.old.kept ++ taken) self.old.count self.new result }
 
@@ -207,6 +241,7 @@ impl Lines {
         ensures idle { self.old.ended ≡ true → source.new ≡ source.old }
         ensures idle_whole { HasEnd self.old.kept → source.new ≡ source.old }
         ensures idle_past { IsPast self.old → source.new ≡ source.old }
+        ensures reads { (source.new ≡ source.old) ⊎ ((taken : List ℕ) × (S.left source.old ≡ after_bytes taken (S.left source.new)) × ReadsOn self.old.kept self.old.count taken (S.reads source.old) (S.reads source.new) × Steps (self.old.kept ++ taken) self.old.count self.new result) }
 
         ensures end_again { self.old.ended ≡ true → self.old.kept ≡ [] → (result ≡ Next.End) × (self.new ≡ self.old) }
         ensures wrong_again { IsPast self.old → (result ≡ wrong_at (self.old.count + 1)) × (self.new ≡ self.old) }
@@ -222,9 +257,21 @@ impl Lines {
     }
 }
 
+// Moves the bytes from a place to another to the front.
+fn move_to_front(bytes: &mut [u8], start: usize, end: usize)
+    requires order { start ≤ end }
+    requires inside { end ≤ length bytes.old }
+    ensures moved { take (end - start) bytes.new ≡ between start end bytes.old }
+    ensures len { length bytes.new ≡ length bytes.old }
+{
+    if start > 0 {
+        bytes.copy_within(start..end, 0);
+    }
+}
+
 // Where the first line ends.
 #[tactic(auto, using(crate::proofs::PieceLemmas::cut_if, crate::proofs::PieceLemmas::open_if))]
-fn find_end(bytes: &[u8]) -> Option<usize>
+fn first_end(bytes: &[u8]) -> Option<usize>
     ensures cut { IfSome result (IsCut bytes.now) }
     ensures none { IfNone result (HasNoEnd bytes.now) }
 {

@@ -18,7 +18,8 @@ pub enum LiveLine {
     Due,
 }
 
-/// The live line that these bytes are, without their LF; none where they are of no other form, to a space.
+/// The live line that these bytes are, without its LF: exactly a form of `LiveLine`, with one space between the
+/// parts and no other. None where they are no live line.
 pub fn read_live(bytes: &[u8]) -> Option<LiveLine>
     ensures read { option_map the_live result ≡ live_read bytes.now }
 {

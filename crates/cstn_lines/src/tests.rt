@@ -47,12 +47,35 @@ fn lines_in_any_pieces(rt: HostRuntime) -> Result<(), Fail> {
 }
 
 #[test]
+fn lines_of_little(rt: HostRuntime) -> Result<(), Fail> {
+    let alloc = rt.alloc();
+    let mut source = source_of(alloc, b"", &[], 9)?;
+    let mut lines = Lines::start(alloc)?;
+    assert_eq!(rt; lines.step(&mut source), Next::End);
+    assert_eq!(rt; lines.step(&mut source), Next::End);
+    let mut source = source_of(alloc, b"\n", &[], 9)?;
+    let mut lines = Lines::start(alloc)?;
+    expect_line(&rt, &mut lines, &mut source, 1, b"");
+    assert_eq!(rt; lines.step(&mut source), Next::End);
+    Ok(())
+}
+
+#[test]
 fn longest_line(rt: HostRuntime) -> Result<(), Fail> {
     let alloc = rt.alloc();
     let longest = vec![in alloc; b'x'; 4096]?;
     let mut source = source_of(alloc, &longest, &[], 1000)?;
     let mut lines = Lines::start(alloc)?;
     expect_line(&rt, &mut lines, &mut source, 1, &longest);
+    assert_eq!(rt; lines.step(&mut source), Next::End);
+
+    let mut ended = longest.clone()?;
+    ended.push(b'\n')?;
+    ended.extend_from_slice(&longest)?;
+    let mut source = source_of(alloc, &ended, &[], 1000)?;
+    let mut lines = Lines::start(alloc)?;
+    expect_line(&rt, &mut lines, &mut source, 1, &longest);
+    expect_line(&rt, &mut lines, &mut source, 2, &longest);
     assert_eq!(rt; lines.step(&mut source), Next::End);
 
     let longer = vec![in alloc; b'x'; 4097]?;
@@ -87,7 +110,11 @@ fn live_lines(rt: HostRuntime) -> Result<(), Fail> {
     );
     let seen = Prop::from_letter(b'p').map(|prop| LiveLine::See { prop, value: false });
     assert_eq!(rt; read_live(b"see p false"), seen);
+    let seen = Prop::from_letter(b'Z').map(|prop| LiveLine::See { prop, value: true });
+    assert_eq!(rt; read_live(b"see Z true"), seen);
     expect_none(&rt, b"moment");
+    expect_none(&rt, b"moment -1");
+    expect_none(&rt, b"moment +5");
     expect_none(&rt, b"moment 00");
     expect_none(&rt, b"moment 4294967296");
     expect_none(&rt, b"moment 1 ");
@@ -165,7 +192,8 @@ fn edit_lines(rt: HostRuntime) -> Result<(), Fail> {
     assert!(rt; is_no_edit(alloc, b"add P Z -0 -")?);
     assert!(rt; is_no_edit(alloc, b"add P Z -3")?);
     assert!(rt; is_no_edit(alloc, b"add P Z -2147483649 -")?);
-    assert!(rt; is_no_edit(alloc, b"add %50 Z -3 -")?);
+    assert!(rt; is_no_edit(alloc, b"add %41 Z -3 -")?);
+    assert!(rt; is_no_edit(alloc, b"add P Z +5 -")?);
     assert!(rt; is_no_edit(alloc, b"remove 4294967296")?);
     assert!(rt; is_no_edit(alloc, b"check ")?);
     Ok(())
