@@ -10,7 +10,7 @@ use Rattle.cstn_rules.specs.declared.entries.Why.{Why}
 use Rattle.cstn_rules.specs.declared.entries.Why.TheVariants.{Base, Chain, Wait}
 use Rattle.cstn_rules.specs.Derivations.{Entry}
 use Rattle.cstn_text.specs.Names.{IsName, AreNames, number_of}
-use Rattle.cstn_text.specs.Numbers.{printed_number, printed_value}
+use Rattle.cstn_text.specs.Numbers.{number_within, printed_number, printed_value}
 use Rattle.cstn_text.specs.Parts.{IsOnePart}
 use Rattle.cstn_text.specs.PrintedLabels.{printed_label}
 use Rattle.cstn_text.specs.PrintedNames.{printed_name}
@@ -18,7 +18,7 @@ use Rattle.cstn_text.proofs.NumberLemmas.{number_back}
 use Rattle.cstn_text.proofs.PrintedNameLemmas.{name_back}
 use Rattle.cstn_text.proofs.PrintedLabelLemmas.{label_back}
 use Rattle.cstn_text.proofs.PartLemmas.{number_part, name_part, label_part}
-use Rattle.cstn_refute.specs.Steps.{◌>>=◌, part, number_within, place_read, places_read, why_read, is_place, rule_read, bound_read, node_read, named_bound_read, step_read, printed_why, printed_bound, printed_step}
+use Rattle.cstn_refute.specs.Steps.{◌>>=◌, part, place_read, places_read, why_read, is_place, rule_read, bound_read, node_read, named_bound_read, step_read, printed_why, printed_bound, printed_step}
 use Rattle.cstn_refute.specs.Texts.{Lines, lines_of, Told, tells, at_end, or_wrong, told_after, load_read, told, printed_steps, shown}
 use Rattle.cstn_refute.specs.Written.{ArePlaces, IsWritten, AreWritten}
 use Rattle.cstn_text.proofs.CutLemmas.{cut_back}

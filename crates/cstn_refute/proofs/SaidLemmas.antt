@@ -11,11 +11,11 @@ use Rattle.cstn_rules.specs.declared.entries.Why.{Why}
 use Rattle.cstn_rules.specs.declared.entries.Why.TheVariants.{Base, Chain, Wait}
 use Rattle.cstn_rules.specs.Derivations.{Entry}
 use Rattle.cstn_text.specs.Names.{number_of}
-use Rattle.cstn_text.specs.Numbers.{number_read}
+use Rattle.cstn_text.specs.Numbers.{number_read, number_within}
 use Rattle.cstn_text.specs.PrintedNames.{name_read}
 use Rattle.cstn_text.specs.PrintedLabels.{label_read}
 use Rattle.cstn_text.proofs.LabelReadLemmas.{label_small}
-use Rattle.cstn_refute.specs.Steps.{◌>>=◌, part, number_within, place_read, places_read, chain_read, wait_read, why_read, is_place, rule_read, node_read, named_bound_read, step_read}
+use Rattle.cstn_refute.specs.Steps.{◌>>=◌, part, place_read, places_read, chain_read, wait_read, why_read, is_place, rule_read, node_read, named_bound_read, step_read}
 use Rattle.cstn_refute.specs.Texts.{Told, tells, wrong, at_end, or_wrong, told_after, load_read, lines_of, told_lines, told}
 use Rattle.cstn_refute.specs.Written.{ArePlaces, IsWritten, AreWritten}
 

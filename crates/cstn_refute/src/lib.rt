@@ -3,6 +3,7 @@
 
 mod errors;
 mod laws;
+mod limits;
 mod parts;
 mod printing;
 mod reading;

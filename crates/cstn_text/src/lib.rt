@@ -10,8 +10,8 @@ mod printed_names;
 
 pub use cuts::{cut_at, first_place};
 pub use laws::{
-    label_texts_are_marks, labels_are_read_back, names_have_one_text, numbers_have_one_text, printed_names_are_short,
-    printed_texts_are_parts, values_have_one_text,
+    label_texts_are_marks, labels_are_read_back, names_have_one_text, numbers_have_one_text,
+    printed_names_are_short, printed_texts_are_parts, values_have_one_text,
 };
 pub use names::{NameError, Names};
 pub use numbers::{push_number, push_value, read_number, read_number_within, read_value};
