@@ -10,7 +10,7 @@ mod reading;
 mod refutations;
 
 pub use errors::RefuteError;
-pub use laws::texts_are_read_back;
+pub use laws::{texts_are_read_back, texts_are_the_shown_ones};
 pub use refutations::Refutation;
 
 #[cfg(test)]
