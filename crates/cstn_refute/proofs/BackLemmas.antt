@@ -1,10 +1,9 @@
 -- What is printed of a refutation is read again.
-use Rattle.std.proofs.Common.{ℕ, ◌≡◌, ◌≢◌, ◌+◌, ◌<◌, ◌≤◌, ◌^◌, Bool, true, List, [], ◌∷◌, ◌++◌, length, get_or, min, arith, refl, sym, ap, ◌∙◌, append_assoc, append-nil, length-append}
+use Rattle.std.proofs.Common.{ℕ, ◌≡◌, ◌≢◌, ◌+◌, ◌<◌, ◌≤◌, ◌^◌, true, List, [], ◌∷◌, ◌++◌, length, get_or, min, arith, refl, sym, ap, ◌∙◌, append_assoc, append-nil, length-append}
 use Rattle.std.specs.Prelude.{◌&&◌, nat_lt, nat_le, is_some, if◌then◌else◌, bytes_eq, Option, Some, None, codes, ℤ, pos, negsuc, ◌≤ℤ◌}
 use Rattle.std.specs.List.{All, list_all}
 use Rattle.std.proofs.lemmas.Int.{ints}
 use Rattle.std.proofs.lemmas.List.Elements.{All-nil, All-cons, All-append, All-weaker, All-get_or, All-tail}
-use Rattle.cstn_label.specs.declared.marks.Mark.TheVariants.{Absent}
 use Rattle.cstn_label.specs.Labels.{Label}
 use Rattle.cstn_rules.specs.declared.entries.Why.{Why}
 use Rattle.cstn_rules.specs.declared.entries.Why.TheVariants.{Base, Chain, Wait}
@@ -20,7 +19,7 @@ use Rattle.cstn_text.proofs.PrintedLabelLemmas.{label_back}
 use Rattle.cstn_text.proofs.PartLemmas.{number_part, name_part}
 use Rattle.cstn_text.proofs.AnyOrderLemmas.{label_text_part}
 use Rattle.std.proofs.lemmas.Bool.{and_parts}
-use Rattle.cstn_refute.specs.Steps.{◌>>=◌, part, place_read, places_read, why_read, is_place, rule_read, bound_read, node_read, named_bound_read, step_read, printed_why, printed_bound, printed_step}
+use Rattle.cstn_refute.specs.Steps.{◌>>=◌, part, place_read, places_read, why_read, is_place, rule_read, bound_read, node_read, named_bound_read, step_read, printed_why}
 use Rattle.cstn_refute.specs.Texts.{Lines, lines_of, Told, tells, at_end, or_wrong, told_after, load_read, told, printed_steps, shown}
 use Rattle.cstn_refute.specs.Orders.{bound_with, step_with, AreLines, IsText}
 use Rattle.cstn_refute.specs.Written.{ArePlaces, IsWritten, AreWritten}

@@ -1,5 +1,5 @@
 -- A text that says a load and steps is theirs, but for the order of marks.
-use Rattle.std.proofs.Common.{ℕ, ◌≡◌, ◌+◌, ◌<◌, ◌≤◌, Bool, true, false, List, [], ◌∷◌, ◌++◌, length, get_or, min, arith, refl, sym, ap, ◌∙◌, subst, append_assoc, append-nil, length-append}
+use Rattle.std.proofs.Common.{ℕ, ◌≡◌, ◌+◌, ◌≤◌, Bool, true, false, List, [], ◌∷◌, ◌++◌, length, get_or, min, arith, refl, sym, ap, ◌∙◌, subst, append_assoc, append-nil, length-append}
 use Rattle.std.specs.Prelude.{◌==◌, ◌&&◌, nat_le, is_some, if◌then◌else◌, bytes_eq, Option, Some, None, codes, pos}
 use Rattle.std.proofs.lemmas.Option.{same_Some}
 use Rattle.std.proofs.lemmas.List.Quantifiers.{position-Some}
@@ -9,14 +9,14 @@ use Rattle.cstn_rules.specs.declared.entries.Why.{Why}
 use Rattle.cstn_rules.specs.declared.entries.Why.TheVariants.{Base, Chain, Wait}
 use Rattle.cstn_rules.specs.Derivations.{Entry}
 use Rattle.cstn_text.specs.Names.{number_of}
-use Rattle.cstn_text.specs.Numbers.{number_read, number_within, printed_number, printed_value}
+use Rattle.cstn_text.specs.Numbers.{number_read, number_within, printed_number}
 use Rattle.cstn_text.specs.PrintedNames.{name_read, printed_name}
 use Rattle.cstn_text.specs.PrintedLabels.{label_read}
 use Rattle.cstn_text.proofs.CutLemmas.{cut_joined}
 use Rattle.cstn_text.proofs.NumberLemmas.{number_printed}
 use Rattle.cstn_text.proofs.PrintedNameLemmas.{name_printed}
-use Rattle.cstn_refute.specs.Steps.{◌>>=◌, part, place_read, places_read, chain_read, wait_read, why_read, is_place, rule_read, bound_read, node_read, named_bound_read, step_read, printed_why}
-use Rattle.cstn_refute.specs.Texts.{Lines, begun, with_byte, lines_of, Told, tells, wrong, at_end, or_wrong, told_after, load_read, told_lines, told}
+use Rattle.cstn_refute.specs.Steps.{◌>>=◌, part, place_read, places_read, chain_read, wait_read, why_read, is_place, rule_read, node_read, named_bound_read, step_read, printed_why}
+use Rattle.cstn_refute.specs.Texts.{Lines, begun, lines_of, tells, at_end, told_after, load_read, told_lines, told}
 use Rattle.cstn_refute.specs.Orders.{bound_with, step_with, AreLines, IsText}
 use Rattle.cstn_refute.proofs.SaidLemmas.{first_some, if_some, not_wrong, tells_both, told_or_wrong}
 
@@ -133,9 +133,9 @@ named_text names bytes b e =
       least.0.1,
       a.1,
       part_text bytes name.0 name.1
-      ∙ ap (λ (t : List ℕ). t ++ 32 ∷ name.0.1) (node_text names name.0.0 x.0 x.1)
-      ∙ ap (λ (t : List ℕ). front ++ 32 ∷ t) (part_text name.0.1 least.0 least.1 ∙ ap (λ (t : List ℕ). t ++ 32 ∷ least.0.1) (within_text 0 1000001 least.0.0 d.0 d.1))
-      ∙ sym (append_assoc front (32 ∷ printed_number d.0) (32 ∷ least.0.1)),
+          ∙ ap (λ (t : List ℕ). t ++ 32 ∷ name.0.1) (node_text names name.0.0 x.0 x.1)
+          ∙ ap (λ (t : List ℕ). front ++ 32 ∷ t) (part_text name.0.1 least.0 least.1 ∙ ap (λ (t : List ℕ). t ++ 32 ∷ least.0.1) (within_text 0 1000001 least.0.0 d.0 d.1))
+          ∙ sym (append_assoc front (32 ∷ printed_number d.0) (32 ∷ least.0.1)),
     )
 
 step_text : (names : List (List ℕ)) (k : ℕ) (line : List ℕ) (e : Entry) → step_read names k line ≡ Some e →
@@ -150,8 +150,8 @@ step_text names k line e is =
       its.0,
       its.1,
       rule_text k line rule.0 rule.1
-      ∙ ap (λ (t : List ℕ). printed_number k ++ (32 ∷ printed_why rule.0.0 ++ 32 ∷ t)) its.2
-      ∙ sym (append_assoc (printed_number k) (32 ∷ printed_why rule.0.0) (32 ∷ bound_with names b.0 its.0)),
+          ∙ ap (λ (t : List ℕ). printed_number k ++ (32 ∷ printed_why rule.0.0 ++ 32 ∷ t)) its.2
+          ∙ sym (append_assoc (printed_number k) (32 ∷ printed_why rule.0.0) (32 ∷ bound_with names b.0 its.0)),
     )
 
 -- a text is its lines, each with its LF, and what stands after the last LF
@@ -194,8 +194,7 @@ after_text names load done (line ∷ lines) tail other steps e =
     let next = told_or_wrong (step_read names (length done) line) (length done + 2) (λ x. told_after names load (done ++ x ∷ []) lines tail) other steps e in
     let step = step_text names (length done) line next.0 next.1 in
     let after = after_text names load (done ++ next.0 ∷ []) lines tail other steps next.2 in
-    let longer : length (done ++ next.0 ∷ []) ≡ length done + 1 = length-append done (next.0 ∷ []) in
-    (
+    let longer : length (done ++ next.0 ∷ []) ≡ length done + 1 = length-append done (next.0 ∷ []) in (
       after.0,
       (
         next.0 ∷ after.1.0,

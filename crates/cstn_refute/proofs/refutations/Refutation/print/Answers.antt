@@ -1,12 +1,11 @@
-use Rattle.std.proofs.Common.{◌≡◌, ◌<◌, ◌∙◌, ◌++◌, ◌∷◌, [], take, map, length, get_or, ap, sym, subst, codes}
+use Rattle.std.proofs.Common.{◌≡◌, ◌<◌, ◌∙◌, [], take, map, length, get_or, ap, sym, subst}
 use Rattle.std.specs.Prelude.{string_bytes}
 use Rattle.std.specs.List.{All}
 use Rattle.std.proofs.Math.Seq.{take_all}
 use Rattle.cstn_rules.specs.Read.{the_entry}
-use Rattle.cstn_text.specs.Numbers.{printed_number}
 use Rattle.cstn_text.specs.PrintedNames.{printed_name}
 use Rattle.cstn_refute.specs.Refutations.{AreSteps}
-use Rattle.cstn_refute.specs.Texts.{printed_steps, shown}
+use Rattle.cstn_refute.specs.Texts.{shown}
 use Rattle.std.proofs.lemmas.List.Elements.{All-more, All-get_or}
 use Rattle.cstn_refute.specs.Written.{ArePlaces}
 use Rattle.cstn_refute.proofs.PrintLemmas.{one_more, line_of, name_at}
