@@ -1,6 +1,5 @@
-use Rattle.std.proofs.Common.{ℕ, List, ◌≡◌, map, sym, ◌∙◌, ap, subst, Contains}
+use Rattle.std.proofs.Common.{ℕ, List, map, sym, ◌∙◌, ap, subst, Contains}
 use Rattle.std.specs.Prelude.{string_bytes, is_some}
-use Rattle.cstn_text.specs.Names.{AreNames}
 use Rattle.cstn_text.proofs.NameLemmas.{known}
 use Rattle.cstn_text.proofs.names.Names.is_known.Goals as goal
 
