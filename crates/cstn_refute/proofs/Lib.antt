@@ -1,3 +1,4 @@
+mod OrderLemmas
 mod PrintLemmas
 mod ReadLemmas
 mod BackLemmas

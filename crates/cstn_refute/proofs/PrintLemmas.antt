@@ -1,12 +1,17 @@
 -- Texts, step by step.
 use Rattle.std.proofs.Common.{ℕ, ◌≡◌, ◌+◌, ◌<◌, List, [], ◌∷◌, ◌++◌, length, get_or, take, map, arith, sym, ap, ◌∙◌, codes}
-use Rattle.std.proofs.lemmas.List.{append_assoc, map_more, length-map}
+use Rattle.std.specs.Prelude.{String, string_bytes}
+use Rattle.std.specs.declared.alloc.Global.{Global}
+use Rattle.std.proofs.lemmas.List.{append_assoc, map_more, length-map, get_or-map}
 use Rattle.std.proofs.lemmas.Grind.{common_steps}
 use Rattle.cstn_rules.specs.declared.entries.Entry.{Entry as DeclaredEntry}
 use Rattle.cstn_rules.specs.Derivations.{Entry}
 use Rattle.cstn_rules.specs.Read.{the_entry}
-use Rattle.cstn_text.specs.Numbers.{printed_number}
-use Rattle.cstn_refute.specs.Steps.{printed_step}
+use Rattle.cstn_label.specs.Read.{marks}
+use Rattle.cstn_text.specs.Numbers.{printed_number, printed_value}
+use Rattle.cstn_text.specs.PrintedNames.{printed_name}
+use Rattle.cstn_text.specs.PrintedLabels.{printed_label}
+use Rattle.cstn_refute.specs.Steps.{printed_why, printed_step}
 use Rattle.cstn_refute.specs.Texts.{printed_steps}
 
 -- the lines of some steps and of a further one
@@ -36,3 +41,25 @@ one_more names load xs k x old inside there before =
     (ap (λ n. printed_steps names 0 (map the_entry (take k xs)) ++ (printed_step names n (the_entry x) ++ 10 ∷ [])) (sym long)
     ∙ sym (lines_of_more names 0 (map the_entry (take k xs)) (the_entry x))
     ∙ ap (printed_steps names 0) (sym more))
+
+-- a name was printed at its place
+pub name_at : (texts : List (String Global)) (names : List (List ℕ)) (i : ℕ) (d : String Global) → map string_bytes texts ≡ map printed_name names → i < length names →
+    string_bytes (get_or texts i d) ≡ printed_name (get_or names i [])
+name_at texts names i d same inside =
+    let long : length texts ≡ length names = sym (length-map texts string_bytes) ∙ ap length same ∙ length-map names printed_name in
+    sym (get_or-map string_bytes texts i d [] (omega arith)) ∙ ap (λ (ts : List (List ℕ)). get_or ts i []) same ∙ get_or-map printed_name names i [] [] inside
+
+joined : (a n v l : List ℕ) → ((a ++ 32 ∷ n) ++ v) ++ l ≡ a ++ 32 ∷ ((n ++ v) ++ l)
+joined a n v l = append_assoc (a ++ 32 ∷ n) v l ∙ append_assoc a (32 ∷ n) (v ++ l) ∙ ap (λ (t : List ℕ). a ++ 32 ∷ t) (sym (append_assoc n v l))
+
+-- the line of a step, by the text of its name
+pub line_of : (names : List (List ℕ)) (k : ℕ) (e : DeclaredEntry) (text old new : List ℕ) → text ≡ printed_name (get_or names e.bound.node.0 []) →
+    new ≡ old ++ (printed_number k ++ 32 ∷ printed_why e.why ++ 32 ∷ text ++ 32 ∷ printed_value e.bound.least ++ 32 ∷ printed_label (marks e.bound.label) ++ 10 ∷ []) →
+    new ≡ old ++ (printed_step names k (the_entry e) ++ 10 ∷ [])
+line_of names k e text old new is pushed =
+    let rule = printed_number k ++ 32 ∷ printed_why e.why in
+    let least = 32 ∷ printed_value e.bound.least in
+    let label = 32 ∷ printed_label (marks e.bound.label) in
+    pushed
+    ∙ ap (λ (t : List ℕ). old ++ (t ++ 10 ∷ [])) (joined rule text least label)
+    ∙ ap (λ (t : List ℕ). old ++ ((rule ++ 32 ∷ ((t ++ least) ++ label)) ++ 10 ∷ [])) is

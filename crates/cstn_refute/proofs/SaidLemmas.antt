@@ -11,16 +11,16 @@ use Rattle.cstn_rules.specs.declared.entries.Why.{Why}
 use Rattle.cstn_rules.specs.declared.entries.Why.TheVariants.{Base, Chain, Wait}
 use Rattle.cstn_rules.specs.Derivations.{Entry}
 use Rattle.cstn_text.specs.Names.{number_of}
-use Rattle.cstn_text.specs.Numbers.{number_read}
+use Rattle.cstn_text.specs.Numbers.{number_read, number_within}
 use Rattle.cstn_text.specs.PrintedNames.{name_read}
 use Rattle.cstn_text.specs.PrintedLabels.{label_read}
 use Rattle.cstn_text.proofs.LabelReadLemmas.{label_small}
-use Rattle.cstn_refute.specs.Steps.{◌>>=◌, part, number_within, place_read, places_read, chain_read, wait_read, why_read, is_place, rule_read, node_read, named_bound_read, step_read}
+use Rattle.cstn_refute.specs.Steps.{◌>>=◌, part, place_read, places_read, chain_read, wait_read, why_read, is_place, rule_read, node_read, named_bound_read, step_read}
 use Rattle.cstn_refute.specs.Texts.{Told, tells, wrong, at_end, or_wrong, told_after, load_read, lines_of, told_lines, told}
 use Rattle.cstn_refute.specs.Written.{ArePlaces, IsWritten, AreWritten}
 
 -- what is read of the first, where the whole is read
-first_some : {A B : Type 0} (o : Option A) (f : A → Option B) (y : B) → (o >>= f) ≡ Some y → (x : A) × (o ≡ Some x) × (f x ≡ Some y)
+pub first_some : {A B : Type 0} (o : Option A) (f : A → Option B) (y : B) → (o >>= f) ≡ Some y → (x : A) × (o ≡ Some x) × (f x ≡ Some y)
 first_some None f y e = absurd (cc)
 first_some (Some x) f y e = (x, refl, e)
 
@@ -77,7 +77,8 @@ is_place_said k text e = at (number_within k (min k 4194303) text) refl e
         let found = within_said k (min k 4194303) text n (sym from) in
         least_most k n found.0 found.1
 
-if_some : {A : Type 0} (b : Bool) (o : Option A) (y : A) → (if b then o else None) ≡ Some y → (b ≡ true) × (o ≡ Some y)
+-- a test passed where the whole is read
+pub if_some : {A : Type 0} (b : Bool) (o : Option A) (y : A) → (if b then o else None) ≡ Some y → (b ≡ true) × (o ≡ Some y)
 if_some true o y e = (refl, e)
 if_some false o y e = absurd (cc)
 
@@ -114,13 +115,16 @@ step_said names k line e is =
           (record { node = node; low = omega (arith, ints); high = omega (arith, ints, high); marks = small; places = rules.1 })),
     )
 
-not_wrong : (line load : ℕ) (steps : List Entry) → wrong line ≡ tells load steps → ⊥
+-- a text is not both wrong and read
+pub not_wrong : (line load : ℕ) (steps : List Entry) → wrong line ≡ tells load steps → ⊥
 not_wrong line load steps e = cc
 
-tells_both : (one other : ℕ) (xs ys : List Entry) → tells one xs ≡ tells other ys → (one ≡ other) × (xs ≡ ys)
+-- a text tells one load and steps
+pub tells_both : (one other : ℕ) (xs ys : List Entry) → tells one xs ≡ tells other ys → (one ≡ other) × (xs ≡ ys)
 tells_both one other xs ys e = (cc, cc)
 
-told_or_wrong : {A : Type 0} (o : Option A) (line : ℕ) (next : A → Told) (load : ℕ) (steps : List Entry) →
+-- what tells a load and steps has no wrong line first
+pub told_or_wrong : {A : Type 0} (o : Option A) (line : ℕ) (next : A → Told) (load : ℕ) (steps : List Entry) →
     or_wrong o line next ≡ tells load steps → (x : A) × (o ≡ Some x) × (next x ≡ tells load steps)
 told_or_wrong None line next load steps e = absurd (not_wrong line load steps e)
 told_or_wrong (Some x) line next load steps e = (x, refl, e)

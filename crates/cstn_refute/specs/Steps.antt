@@ -1,28 +1,24 @@
 -- Steps as lines.
-use Rattle.std.specs.Prelude.{ℕ, ◌++◌, Bool, ◌&&◌, nat_le, min, is_some, if◌then◌else◌, List, [], ◌∷◌, Option, None, Some, codes, bytes_eq, pos, slice_index_or}
+use Rattle.std.specs.Prelude.{ℕ, ◌++◌, Bool, min, is_some, if◌then◌else◌, List, [], ◌∷◌, Option, None, Some, codes, bytes_eq, pos, slice_index_or}
+use Rattle.std.specs.Option.{option_and_then}
 use Rattle.cstn_label.specs.Bounds.{Bound}
 use Rattle.cstn_rules.specs.declared.entries.Why.{Why}
 use Rattle.cstn_rules.specs.declared.entries.Why.TheVariants.{Base, Chain, Wait}
 use Rattle.cstn_rules.specs.Derivations.{Entry}
 use Rattle.cstn_text.specs.Cuts.{cut_at}
 use Rattle.cstn_text.specs.Names.{number_of}
-use Rattle.cstn_text.specs.Numbers.{number_read, printed_number, printed_value}
+use Rattle.cstn_text.specs.Numbers.{number_within, printed_number, printed_value}
 use Rattle.cstn_text.specs.PrintedNames.{name_read, printed_name}
 use Rattle.cstn_text.specs.PrintedLabels.{label_read, printed_label}
 
 infixl 20 ◌>>=◌
 -- what is read of the first, if it is there
 abbrev pub ◌>>=◌ : {A B : Type 0} → Option A → (A → Option B) → Option B
-None >>= f = None
-Some x >>= f = f x
+o >>= f = option_and_then f o
 
 -- the part before the first space, and what stands after it
 abbrev pub part : List ℕ → Option (List ℕ × List ℕ)
 part bytes = cut_at 32 bytes
-
--- a number from low to high
-abbrev pub number_within : ℕ → ℕ → List ℕ → Option ℕ
-number_within low high text = number_read text >>= (λ n. if nat_le low n && nat_le n high then Some n else None)
 
 -- a constraint's id or a step's place is a number below 2^32
 abbrev pub place_read : List ℕ → Option ℕ

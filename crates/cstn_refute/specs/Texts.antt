@@ -1,8 +1,8 @@
 -- Texts of refutations.
 use Rattle.std.specs.Prelude.{ℕ, ◌+◌, ◌++◌, ◌==◌, if◌then◌else◌, List, [], ◌∷◌, length, Option, None, Some, codes, bytes_eq}
 use Rattle.cstn_rules.specs.Derivations.{Entry}
-use Rattle.cstn_text.specs.Numbers.{printed_number}
-use Rattle.cstn_refute.specs.Steps.{◌>>=◌, part, number_within, step_read, printed_step}
+use Rattle.cstn_text.specs.Numbers.{number_within, printed_number}
+use Rattle.cstn_refute.specs.Steps.{◌>>=◌, part, step_read, printed_step}
 
 -- the lines of a text, without their LF, and what stands after the last LF
 abbrev pub Lines : Type 0

@@ -1,11 +1,11 @@
 use std::alloc::AllocError;
 use thiserror::Error;
 
-/// Why a text isn't read as a refutation.
+/// Why no refutation was read.
 #[derive(Debug, Drop, Error)]
 pub enum RefuteError {
     /// The line, counted from 1, is the first that isn't of the form.
-    #[error("line {line} isn't of the form")]
+    #[error("line {line} of the refutation is not of the form")]
     Line { line: u32 },
     /// There was no memory for it.
     #[error(transparent)]

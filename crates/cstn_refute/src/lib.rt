@@ -3,13 +3,14 @@
 
 mod errors;
 mod laws;
+mod limits;
 mod parts;
 mod printing;
 mod reading;
 mod refutations;
 
 pub use errors::RefuteError;
-pub use laws::texts_are_read_back;
+pub use laws::{texts_are_read_back, texts_are_the_shown_ones};
 pub use refutations::Refutation;
 
 #[cfg(test)]

@@ -1,33 +1,15 @@
 // The parts of a step's line.
-ghost use Rattle.std.specs.Prelude.{ℕ, ◌≡◌, ◌<◌, ◌≤◌, ◌^◌, Some, None, IfOk, IfSome, IsTrue, length, position, pos, ◌≤ℤ◌, if◌then◌else◌, ◌==◌};
+ghost use Rattle.std.specs.Prelude.{◌≡◌, ◌<◌, ◌≤◌, IfSome, IsTrue, length, pos, ◌≤ℤ◌};
 ghost use Rattle.std.specs.Option.{option_map};
 ghost use Rattle.cstn_label.specs.Read.{the_bound};
 ghost use Rattle.cstn_rules.specs.Read.{the_entry};
-ghost use Rattle.cstn_text.specs.Names.{number_of};
 ghost use Rattle.cstn_refute.specs.Refutations.{IsStep};
-ghost use Rattle.cstn_text.specs.Cuts.{cut_at};
-ghost use Rattle.cstn_refute.specs.Steps.{part, number_within, place_read, places_read, chain_read, wait_read, why_read, is_place, rule_read, bound_read, node_read, named_bound_read, step_read};
+ghost use Rattle.cstn_refute.specs.Steps.{part, place_read, places_read, chain_read, wait_read, why_read, is_place, rule_read, bound_read, node_read, named_bound_read, step_read};
 
+use crate::limits::{MOST_LEAST, MOST_STEPS};
 use cstn_label::{Bound, NodeId};
 use cstn_rules::{Entry, Why};
-use cstn_text::{Names, read_label, read_name, read_number};
-use std::alloc::{AllocError, Global};
-
-/// What stands before the first such byte, and what stands after it.
-pub(crate) fn cut_at(bytes: &[u8], byte: u8) -> Option<(&[u8], &[u8])>
-    ensures cut { option_map (λ parts. (parts.0.now, parts.1.now)) result ≡ cut_at byte bytes.now }
-{
-    let Some(i) = first_place(bytes, byte) else {
-        return None;
-    };
-    Some((&bytes[..i], &bytes[i + 1..]))
-}
-
-fn first_place(bytes: &[u8], byte: u8) -> Option<usize>
-    ensures { result ≡ position (λ b. b == byte) bytes.now }
-{
-    bytes.iter().position(|b| *b == byte)
-}
+use cstn_text::{Names, cut_at, read_label, read_number_within};
 
 /// What stands before the first space, and what stands after it.
 pub(crate) fn part(bytes: &[u8]) -> Option<(&[u8], &[u8])>
@@ -36,23 +18,10 @@ pub(crate) fn part(bytes: &[u8]) -> Option<(&[u8], &[u8])>
     cut_at(bytes, b' ')
 }
 
-/// The number from `low` to `high` that a text is.
-pub(crate) fn number_within(low: u32, high: u32, bytes: &[u8]) -> Option<u32>
-    ensures number { result ≡ number_within low high bytes.now }
-    ensures range { IfSome result (λ n. n ≤ high) }
-    ensures low { IfSome result (λ n. low ≤ n) }
-{
-    let n = read_number(bytes)?;
-    if n < low as u64 || n > high as u64 {
-        return None;
-    }
-    Some(n as u32)
-}
-
 fn read_place(bytes: &[u8]) -> Option<u32>
     ensures place { result ≡ place_read bytes.now }
 {
-    number_within(0, 4_294_967_295, bytes)
+    read_number_within(0, u32::MAX, bytes)
 }
 
 fn read_places(bytes: &[u8]) -> Option<(u32, u32, &[u8])>
@@ -103,7 +72,7 @@ fn read_bound(node: NodeId, bytes: &[u8]) -> Option<Bound>
     ensures step { IfSome result (λ b. (pos 0 ≤ℤ b.least) × (b.least ≤ℤ pos 1000001)) }
 {
     let (least, label) = part(bytes)?;
-    let least = number_within(0, 1_000_001, least)?;
+    let least = read_number_within(0, MOST_LEAST, least)?;
     let label = read_label(label)?;
     Some(Bound {
         node,
@@ -116,10 +85,7 @@ fn is_place(k: u32, bytes: &[u8]) -> bool
     ensures place { result ≡ is_place k bytes.now }
     ensures few { IsTrue result → k < 4194304 }
 {
-    match number_within(k, k.min(4_194_303), bytes) {
-        Some(_) => true,
-        None => false,
-    }
+    read_number_within(k, k.min(MOST_STEPS - 1), bytes).is_some()
 }
 
 // The rule of the step at the place k, and what follows it.
@@ -137,55 +103,32 @@ fn read_rule(k: u32, line: &[u8]) -> Option<(Why, &[u8])>
     read_why(word, rest)
 }
 
-fn read_node(alloc: Global, names: &Names, bytes: &[u8]) -> Result<Option<NodeId>, AllocError>
+fn read_node(names: &Names, bytes: &[u8]) -> Option<NodeId>
     requires few { length names.now ≤ 65536 }
-    ensures node { IfOk result (λ x. option_map (λ y. y.0) x ≡ node_read names.now bytes.now) }
+    ensures node { option_map (λ x. x.0) result ≡ node_read names.now bytes.now }
 {
-    let Some(name) = read_name(alloc, bytes)? else {
-        return Ok(None);
-    };
-    Ok(number_of(names, &name))
-}
-
-fn number_of(names: &Names, name: &str) -> Option<NodeId>
-    requires few { length names.now ≤ 65536 }
-    ensures number { option_map (λ x. x.0) result ≡ number_of names.now name.now }
-{
-    let number = names.find(name)?;
+    let number = names.find_printed(bytes)?;
     Some(NodeId(number as u16))
 }
 
-fn read_named_bound(alloc: Global, names: &Names, bytes: &[u8]) -> Result<Option<Bound>, AllocError>
+fn read_named_bound(names: &Names, bytes: &[u8]) -> Option<Bound>
     requires few { length names.now ≤ 65536 }
-    ensures bound { IfOk result (λ b. option_map the_bound b ≡ named_bound_read names.now bytes.now) }
-    ensures range { IfOk result (λ b. IfSome b (λ c. (pos 0 ≤ℤ c.least) × (c.least ≤ℤ pos 1000001))) }
+    ensures bound { option_map the_bound result ≡ named_bound_read names.now bytes.now }
+    ensures range { IfSome result (λ b. (pos 0 ≤ℤ b.least) × (b.least ≤ℤ pos 1000001)) }
 {
-    let Some((name, rest)) = part(bytes) else {
-        return Ok(None);
-    };
-    let Some(node) = read_node(alloc, names, name)? else {
-        return Ok(None);
-    };
-    Ok(read_bound(node, rest))
+    let (name, rest) = part(bytes)?;
+    let node = read_node(names, name)?;
+    read_bound(node, rest)
 }
 
-/// The step at the place k that a line is.
-pub(crate) fn read_step(
-    alloc: Global,
-    names: &Names,
-    k: u32,
-    line: &[u8],
-) -> Result<Option<Entry>, AllocError>
+/// The step that a line is, if it is one whose place is k.
+pub(crate) fn read_step(names: &Names, k: u32, line: &[u8]) -> Option<Entry>
     requires few { length names.now ≤ 65536 }
-    ensures step { IfOk result (λ e. option_map the_entry e ≡ step_read names.now k line.now) }
-    ensures form { IfOk result (λ e. IfSome e IsStep) }
-    ensures few { IfOk result (λ e. IfSome e (λ step. k < 4194304)) }
+    ensures step { option_map the_entry result ≡ step_read names.now k line.now }
+    ensures form { IfSome result IsStep }
+    ensures few { IfSome result (λ step. k < 4194304) }
 {
-    let Some((why, rest)) = read_rule(k, line) else {
-        return Ok(None);
-    };
-    let Some(bound) = read_named_bound(alloc, names, rest)? else {
-        return Ok(None);
-    };
-    Ok(Some(Entry { bound, why }))
+    let (why, rest) = read_rule(k, line)?;
+    let bound = read_named_bound(names, rest)?;
+    Some(Entry { bound, why })
 }

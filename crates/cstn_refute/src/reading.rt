@@ -10,10 +10,11 @@ ghost use Rattle.cstn_refute.specs.Written.{AreWritten};
 ghost use Rattle.cstn_refute.specs.Read.{IsWrong};
 
 use crate::errors::RefuteError;
-use crate::parts::{cut_at, number_within, part, read_step};
+use crate::limits::MOST_LOAD;
+use crate::parts::{part, read_step};
 use crate::refutations::Refutation;
 use cstn_rules::Entry;
-use cstn_text::Names;
+use cstn_text::{Names, cut_at, read_number_within};
 use std::alloc::{AllocError, Global};
 
 impl Refutation {
@@ -44,7 +45,7 @@ fn read_load(line: &[u8]) -> Option<u32>
     if word != b"no".as_slice() {
         return None;
     }
-    number_within(1, 4_194_304, rest)
+    read_number_within(1, MOST_LOAD, rest)
 }
 
 // The refutation of a load and of the lines of its steps.
@@ -62,7 +63,7 @@ fn read_steps(
     let mut left = bytes;
     while let Some((line, rest)) = cut_at(left, b'\n') {
         let k = steps.len() as u32;
-        match read_next(alloc, names, k, line) {
+        match read_next(names, k, line) {
             Ok(step) => {
                 let Ok(()) = steps.push(step) else {
                     return Err(RefuteError::Memory(AllocError));
@@ -75,8 +76,8 @@ fn read_steps(
     finish(load, steps, left)
 }
 
-// The step at the place k that its line is.
-fn read_next(alloc: Global, names: &Names, k: u32, line: &[u8]) -> Result<Entry, RefuteError>
+// The step at the place k: what its line is, if it is of the form.
+fn read_next(names: &Names, k: u32, line: &[u8]) -> Result<Entry, RefuteError>
     requires few { length names.now ≤ 65536 }
     requires place { k ≤ 4194304 }
     ensures step { IfOk result (λ e. step_read names.now k line.now ≡ Some (the_entry e)) }
@@ -84,10 +85,9 @@ fn read_next(alloc: Global, names: &Names, k: u32, line: &[u8]) -> Result<Entry,
     ensures few { IfOk result (λ e. k < 4194304) }
     ensures line { (next : TheEntry → Told) → IfErr result (IsWrong (or_wrong (step_read names.now k line.now) (k + 2) next)) }
 {
-    match read_step(alloc, names, k, line) {
-        Ok(Some(step)) => Ok(step),
-        Ok(None) => Err(RefuteError::Line { line: k + 2 }),
-        Err(e) => Err(RefuteError::Memory(e)),
+    match read_step(names, k, line) {
+        Some(step) => Ok(step),
+        None => Err(RefuteError::Line { line: k + 2 }),
     }
 }
 

@@ -51,9 +51,32 @@ fn texts_are_printed_and_read(rt: HostRuntime) -> Result<(), Fail> {
     Ok(())
 }
 
+// A refutation of some size is printed and read: 2,000 steps.
+#[test]
+fn thousands_of_steps_are_read(rt: HostRuntime) -> Result<(), Fail> {
+    let alloc = rt.alloc();
+    let mut text = String::from_str(alloc, "no 2000\n")?;
+    for k in 0..2000 {
+        text.push_str(format!(in alloc; "{k} chain 4294967295 0 X%20Y 1000001 !pq\n")?.as_str())?;
+    }
+    printed(&rt, alloc, &text, &text)
+}
+
 #[test]
 fn first_wrong_lines(rt: HostRuntime) {
     let alloc = rt.alloc();
+    wrong(
+        &rt,
+        alloc,
+        "no 7\n0 base Z 0 -\n2 base Z 0 -\n1 base Z 0 -\n",
+        3,
+    );
+    wrong(&rt, alloc, "no 7\n0 chain 0 X 0 -\n", 2);
+    wrong(&rt, alloc, "no 7\n0 wait 4294967296 0 Z 0 -\n", 2);
+    wrong(&rt, alloc, "no 7\n0 base X Y 0 -\n", 2);
+    wrong(&rt, alloc, "no 7\n0 base Z 0 pp\n", 2);
+    wrong(&rt, alloc, "no 7\n0 base Z 0  -\n", 2);
+    wrong(&rt, alloc, "no 7\r\n0 base Z 0 -\n", 1);
     wrong(&rt, alloc, "", 1);
     wrong(&rt, alloc, "no 7", 1);
     wrong(&rt, alloc, "no 0\n0 base Z 0 -\n", 1);

@@ -8,7 +8,7 @@ ghost use Rattle.cstn_refute.specs.Refutations.{AreSteps, the_steps};
 ghost use Rattle.cstn_replay.specs.Wrong.{IsFirstWrong, EndsInVain};
 
 use crate::answers::Answer;
-use crate::steps::{follows, step_at};
+use crate::steps::{follows, is_well_formed, step_at};
 use cstn_net::Network;
 use cstn_refute::Refutation;
 use cstn_rules::{Entry, refutes};
@@ -22,7 +22,7 @@ pub fn replay(net: &Network, r: &Refutation) -> Answer
     ensures rejected { (k : ℕ) → (result ≡ Answer.Rejected k) ↔ (IsFirstWrong (the_network net.now) (the_steps r.now) k ⊎ EndsInVain (the_network net.now) (the_steps r.now) k) }
 {
     let steps = r.steps();
-    let _ = net.count();
+    is_well_formed(net);
     match first_wrong(net, steps) {
         Some(step) => Answer::Rejected { step },
         None => end(net, steps),
@@ -65,7 +65,7 @@ fn is_refuting(net: &Network, steps: &[Entry]) -> bool
     requires derivation { IsDerivation (the_network net.now) (map the_entry steps.now) }
     ensures refuting { IsTrue result ↔ IsRefutation (the_network net.now) (map the_entry steps.now) }
 {
-    let _ = net.count();
+    is_well_formed(net);
     let last = step_at(steps, steps.len() - 1);
     refutes(net, &last.bound)
 }

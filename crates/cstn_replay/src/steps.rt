@@ -26,6 +26,14 @@ pub(crate) fn follows(net: &Network, steps: &[Entry], k: usize) -> bool
     is_given(net, steps, k, step.why, step.bound)
 }
 
+/// Every network is well formed.
+pub(crate) fn is_well_formed(net: &Network)
+    ensures { IsWellFormed (the_network net.now) }
+{
+    // The clauses of any reader say it.
+    let _ = net.count();
+}
+
 /// The step at a place.
 pub(crate) fn step_at(steps: &[Entry], k: usize) -> Entry
     requires inside { k < length steps.now }
@@ -75,7 +83,7 @@ fn is_chained(net: &Network, steps: &[Entry], k: usize, id: u32, i: u32, bound: 
     requires before { AreRightBefore (the_network net.now) (map the_entry steps.now) k }
     ensures chained { IsTrue result ↔ Follows (the_network net.now) (map the_entry steps.now) k (Chain id i) (the_bound bound) }
 {
-    let _ = net.count();
+    is_well_formed(net);
     let Some(constraint) = constraint_of(net, id) else {
         return false;
     };
@@ -130,7 +138,7 @@ fn premise(net: &Network, steps: &[Entry], k: usize, i: u32) -> Option<Bound>
     ensures range { IfSome result (λ b. IsBoundOf (the_network net.now) (the_bound b)) }
     ensures none { IfNone result (i < k → ⊥) }
 {
-    let _ = net.count();
+    is_well_formed(net);
     if i as usize >= k {
         return None;
     }

@@ -103,7 +103,7 @@ fn answers(
     Ok(())
 }
 
-// So it does where the step at the place k is another one.
+// The replay rejects the proof at the place k, where this is its step.
 fn changed(rt: &impl Abort, alloc: Global, net: &Network, k: usize, e: Entry) -> Result<(), Fail> {
     let mut steps = proof();
     assert!(rt; k < 5);
@@ -130,6 +130,7 @@ fn rejects_the_first_wrong_step(rt: HostRuntime) -> Result<(), Fail> {
     let net = too_late(alloc)?.close().expect(&rt, "a network");
     changed(&rt, alloc, &net, 0, base(0, 1))?;
     changed(&rt, alloc, &net, 0, base(3, 0))?;
+    changed(&rt, alloc, &net, 0, entry(Why::Base, 0, 0, p(Mark::Yes)))?;
     changed(&rt, alloc, &net, 0, chained(0, 1, 2, 10, p(Mark::Yes)))?;
     changed(&rt, alloc, &net, 1, chained(0, 0, 2, 11, p(Mark::Yes)))?;
     changed(&rt, alloc, &net, 1, chained(0, 0, 2, 9, p(Mark::Yes)))?;
@@ -139,7 +140,79 @@ fn rejects_the_first_wrong_step(rt: HostRuntime) -> Result<(), Fail> {
     changed(&rt, alloc, &net, 3, awaited(2, 1, 2, 5, Label::empty()))?;
     changed(&rt, alloc, &net, 3, awaited(2, 1, 2, 4, p(Mark::Unknown)))?;
     changed(&rt, alloc, &net, 3, awaited(1, 2, 2, 4, Label::empty()))?;
+    changed(&rt, alloc, &net, 4, chained(1, 3, 0, 1, p(Mark::Unknown)))?;
     Ok(())
+}
+
+// A step that would follow from a later one, or from itself, does not follow.
+#[test]
+fn rejects_what_follows_from_later_steps(rt: HostRuntime) -> Result<(), Fail> {
+    let alloc = rt.alloc();
+    let net = too_late(alloc)?.close().expect(&rt, "a network");
+    let later = chained(0, 1, 2, 10, p(Mark::Yes));
+    answers(
+        &rt,
+        alloc,
+        &net,
+        &[later, base(0, 0)],
+        Answer::Rejected { step: 0 },
+    )?;
+    changed(&rt, alloc, &net, 3, awaited(2, 3, 2, 4, Label::empty()))?;
+    changed(&rt, alloc, &net, 3, awaited(3, 1, 2, 4, Label::empty()))?;
+    changed(&rt, alloc, &net, 4, chained(1, 4, 0, 1, p(Mark::No)))?;
+    Ok(())
+}
+
+// The label of p and !q.
+fn told_apart() -> Label {
+    p(Mark::Yes).with(Prop { index: 42 }, Mark::No)
+}
+
+// Z, P and Q, which observe p and q, and X: P is at 20 or later where q is true, and so is X where p is true and q is false,
+// and X is at most 3 after Z.
+fn past_the_end(alloc: Global) -> Result<Builder, AllocError> {
+    let mut net = Builder::new(alloc, 10);
+    net.node(None)?;
+    net.node(Some(Prop { index: 41 }))?;
+    net.node(Some(Prop { index: 42 }))?;
+    net.node(None)?;
+    net.constrain(
+        1,
+        0,
+        -20,
+        Label::empty().with(Prop { index: 42 }, Mark::Yes),
+    )?;
+    net.constrain(3, 0, -20, told_apart())?;
+    net.constrain(0, 3, 3, Label::empty())?;
+    Ok(net)
+}
+
+// Least values are cut to one above the limit, which is 0 at the origin. A bound with an unknown mark refutes nothing.
+#[test]
+fn bounds_past_the_end(rt: HostRuntime) -> Result<(), Fail> {
+    let alloc = rt.alloc();
+    let net = past_the_end(alloc)?.close().expect(&rt, "a network");
+    let unknown = Label::empty().with(Prop { index: 42 }, Mark::Unknown);
+    let mut steps = [
+        base(0, 0),
+        chained(
+            0,
+            0,
+            1,
+            11,
+            Label::empty().with(Prop { index: 42 }, Mark::Yes),
+        ),
+        chained(1, 0, 3, 11, told_apart()),
+        awaited(1, 2, 3, 11, unknown),
+    ];
+    answers(&rt, alloc, &net, &steps[..3], Answer::Accepted)?;
+    answers(&rt, alloc, &net, &steps, Answer::Rejected { step: 3 })?;
+    steps[3] = chained(2, 2, 0, 1, told_apart());
+    answers(&rt, alloc, &net, &steps, Answer::Accepted)?;
+    steps[3] = chained(2, 2, 0, 8, told_apart());
+    answers(&rt, alloc, &net, &steps, Answer::Rejected { step: 3 })?;
+    steps[2] = chained(1, 0, 3, 20, told_apart());
+    answers(&rt, alloc, &net, &steps, Answer::Rejected { step: 2 })
 }
 
 #[test]

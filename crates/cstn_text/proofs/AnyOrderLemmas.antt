@@ -1,15 +1,18 @@
 -- A label text is its marks in any order.
-use Rattle.std.proofs.Common.{◌≡◌, ◌≢◌, ℕ, ◌+◌, ◌<◌, ◌≤◌, List, [], ◌∷◌, ◌++◌, length, refl, ap, sym, ◌∙◌, subst, arith, Bool, true, false, Option, Some, None, append_assoc, length-append}
+use Rattle.std.proofs.Common.{◌≡◌, ◌≢◌, ℕ, ◌<◌, ◌≤◌, List, [], ◌∷◌, ◌++◌, length, refl, ap, sym, ◌∙◌, subst, arith, Bool, true, false, Some, length-append}
 use Rattle.std.specs.Prelude.{◌==◌, ◌&&◌, ◌⊎◌, if◌then◌else◌}
 use Rattle.std.specs.Option.{option_and_then}
 use Rattle.std.proofs.Common.{inl, inr}
-use Rattle.std.proofs.lemmas.Bool.{false≢true}
 use Rattle.std.proofs.lemmas.Option.{same_Some, option_and_then_some}
 use Rattle.cstn_label.specs.declared.marks.Mark.{Mark}
 use Rattle.cstn_label.specs.declared.marks.Mark.TheVariants.{Absent, Yes, No, Unknown}
 use Rattle.cstn_label.specs.Labels.{Label, empty, with_mark}
 use Rattle.cstn_label.specs.Letters.{letter_of, prop_of}
 use Rattle.cstn_text.specs.PrintedLabels.{printed_mark, marks_text, label_with, AreNew, Reading, nothing_read, signed, marked, after_byte, ended, marks_read, label_read}
+use Rattle.std.specs.List.{All}
+use Rattle.std.proofs.lemmas.List.Elements.{All-nil, All-cons, All-append}
+use Rattle.cstn_text.specs.Parts.{IsOnePart}
+use Rattle.cstn_text.proofs.PartLemmas.{letter_above, mark_above}
 use Rattle.cstn_text.proofs.PrintedLabelLemmas.{read_of, mark_back, mark_some, nonempty_read}
 
 -- marks of propositions that have none yet are read one after the other
@@ -131,3 +134,23 @@ dash_said false c bytes a is e =
 pub label_said : (text : List ℕ) (a : Label) → label_read text ≡ Some a → IsLabelText text a
 label_said [] a e = absurd (cc)
 label_said (c ∷ bytes) a e = dash_said (c == 45 && length bytes == 0) c bytes a refl e
+
+-- the bytes of a label's text are above the space
+marks_above : (ms : List (ℕ × Mark)) → All (λ b. 32 < b) (marks_text ms)
+marks_above [] = All-nil (λ b. 32 < b)
+marks_above (m ∷ ms) =
+    All-append (λ b. 32 < b) (printed_mark (letter_of m.0) m.1) (marks_text ms) (mark_above (letter_of m.0) m.1 (letter_above m.0)) (marks_above ms)
+
+nonempty : (text : List ℕ) (a : Label) → label_read text ≡ Some a → 1 ≤ length text
+nonempty [] a e = absurd (cc)
+nonempty (c ∷ bytes) a e = omega arith
+
+-- a label's text is one part of a line
+pub label_text_part : (text : List ℕ) (a : Label) → label_read text ≡ Some a → IsOnePart text
+label_text_part text a e = record {
+  some = nonempty text a e;
+  high = elim (label_said text a e) [
+    | inl dash ↦ subst (All (λ b. 32 < b)) (sym dash.0) (All-cons (λ b. 32 < b) 45 [] (omega arith) (All-nil (λ b. 32 < b)))
+    | inr marks ↦ subst (All (λ b. 32 < b)) (sym marks.3) (marks_above marks.0)
+  ];
+}

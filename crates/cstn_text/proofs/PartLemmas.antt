@@ -46,10 +46,10 @@ name_above (b ∷ text) = All-append Above (printed_byte b) (printed_name text) 
 pub name_part : (text : List ℕ) → 1 ≤ length text → IsOnePart (printed_name text)
 name_part text full = record { some = omega (arith, (name_length text).0); high = name_above text }
 
-letter_above : (p : ℕ) → 32 < letter_of p
+pub letter_above : (p : ℕ) → 32 < letter_of p
 letter_above p = grind arith
 
-mark_above : (letter : ℕ) (m : Mark) → 32 < letter → AllAbove (printed_mark letter m)
+pub mark_above : (letter : ℕ) (m : Mark) → 32 < letter → AllAbove (printed_mark letter m)
 mark_above letter Absent high = All-nil Above
 mark_above letter Yes high = one letter high
 mark_above letter No high = two 33 letter (omega arith) high

@@ -56,11 +56,12 @@ pub fn label_texts_are_marks()
     ensures only { (text : List ℕ) (a : Label) → label_read text ≡ Some a → ((text ≡ 45 ∷ []) × (a ≡ empty)) ⊎ ((ms : List (ℕ × Mark)) × (1 ≤ length ms) × AreNew empty ms × (text ≡ marks_text ms) × (a ≡ label_with empty ms)) }
 {}
 
-/// What is printed has some bytes, none of them a space or below it, so a line is cut at spaces without loss.
-#[tactic(auto, using(crate::proofs::PartLemmas::number_part, crate::proofs::PartLemmas::value_part, crate::proofs::PartLemmas::name_part, crate::proofs::PartLemmas::label_part))]
+/// What is printed, and what is read as a label, has some bytes, none of them a space or below it, so a line is cut at spaces without loss.
+#[tactic(auto, using(crate::proofs::PartLemmas::number_part, crate::proofs::PartLemmas::value_part, crate::proofs::PartLemmas::name_part, crate::proofs::PartLemmas::label_part, crate::proofs::AnyOrderLemmas::label_text_part))]
 pub fn printed_texts_are_parts()
     ensures number { (n : ℕ) → n < 2 ^ 64 → IsOnePart (printed_number n) }
     ensures value { (v : ℤ) → FitsSigned w32 v → IsOnePart (printed_value v) }
     ensures name { (name : List ℕ) → 1 ≤ length name → IsOnePart (printed_name name) }
     ensures label { (a : Label) → IsOnePart (printed_label a) }
+    ensures label_text { (text : List ℕ) (a : Label) → label_read text ≡ Some a → IsOnePart text }
 {}

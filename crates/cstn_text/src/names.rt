@@ -1,6 +1,6 @@
 //! The names of a network's time-points.
 
-ghost use Rattle.std.specs.Prelude.{◌≡◌, ◌<◌, ◌^◌, ◌-◌, ◌++◌, ◌∷◌, ◌↔◌, ◌⊎◌, [], Contains, length, IfOk, IsTrue, OnErr, IsErrOf, ◌&&◌, nat_lt, nat_le, slice_get, Some};
+ghost use Rattle.std.specs.Prelude.{◌≡◌, ◌<◌, ◌^◌, ◌-◌, ◌++◌, ◌∷◌, ◌↔◌, ◌⊎◌, [], Contains, length, map, string_bytes, IfOk, IsTrue, OnErr, IsErrOf, ◌&&◌, nat_lt, nat_le, slice_get, Some};
 ghost use Rattle.std.specs.Option.{option_and_then};
 ghost use Rattle.cstn_text.specs.Names.{AreNames, number_of};
 ghost use Rattle.cstn_text.specs.PrintedNames.{name_read};
@@ -61,6 +61,14 @@ impl Names {
         ensures names { AreNames self.now }
     {
         self.set.len() as u32
+    }
+
+    /// The names, by number.
+    pub fn as_slice(&self) -> &[String]
+        ensures names { map string_bytes result.now ≡ self.now }
+        ensures each { AreNames self.now }
+    {
+        self.set.as_slice()
     }
 
     /// The number of a name, if it is in the list.

@@ -9,7 +9,7 @@ use Rattle.cstn_replay.proofs.replays.replay.Goals as goal
 
 pub returns-in-None-clause-truth : goal.returns-in-None-clause-truth
 returns-in-None-clause-truth c e =
-    refuted_inconsistent (the_network c.args.net.now) (map the_entry c.steps-steps.result.now) c.count.ensures.well_formed.network
+    refuted_inconsistent (the_network c.args.net.now) (map the_entry c.steps-steps.result.now) c.is_well_formed.ensures.network
     (c.end.ensures.accepted.0 e)
 
 pub returns-in-None-clause-rejected : goal.returns-in-None-clause-rejected

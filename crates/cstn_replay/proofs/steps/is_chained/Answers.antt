@@ -29,7 +29,7 @@ returns c =
     let given = concluded {P = λ q. IsChain net (the_constraint constraint) b q} c.chain-given.result c.args.bound c.chain-given.ensures.chain
     c.chain-given.ensures.none (λ q s one other. one_chain net (the_constraint constraint) b q s one other) in
     let follows = chain_follows net (map the_entry c.args.steps.now) c.args.k c.args.id c.args.i (the_constraint constraint) b (the_bound c.args.bound)
-    c.count.ensures.well_formed.ascending
+    c.is_well_formed.ensures.ascending
     (contains_image the_constraint c.args.net.now.constraints constraint c.in-Some.ensures.there) c.in-Some.ensures.id c.in-Some-premise.ensures.earlier in
     record {
       chained = (

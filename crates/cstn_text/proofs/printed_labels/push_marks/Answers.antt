@@ -1,4 +1,4 @@
-use Rattle.std.proofs.Common.{◌≡◌, ◌∙◌, ◌++◌, ap, sym, arith, append-nil}
+use Rattle.std.proofs.Common.{◌∙◌, ◌++◌, ap, sym, arith, append-nil}
 use Rattle.std.specs.Prelude.{string_bytes}
 use Rattle.cstn_label.specs.Read.{marks}
 use Rattle.cstn_text.specs.PrintedLabels.{marks_below}

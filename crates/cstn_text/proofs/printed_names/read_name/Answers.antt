@@ -1,6 +1,5 @@
-use Rattle.std.proofs.Common.{◌≡◌, ℕ, List, Some, None, sym, ◌∙◌, ap, subst}
+use Rattle.std.proofs.Common.{ℕ, List, Some, sym, ◌∙◌, ap, subst}
 use Rattle.cstn_text.specs.Names.{IsName}
-use Rattle.cstn_text.specs.PrintedNames.{name_read}
 use Rattle.cstn_text.proofs.PrintedNameLemmas.{name_of, not_named}
 use Rattle.cstn_text.proofs.printed_names.read_name.Goals as goal
 

@@ -1,5 +1,5 @@
 use Rattle.std.proofs.Common.{◌<◌, ◌≤◌, length, arith}
-use Rattle.cstn_text.proofs.PrintedNameLemmas.{none_first, too_long, in_any_case, byte_read, shorter}
+use Rattle.cstn_text.proofs.PrintedNameLemmas.{none_first, too_long, in_any_case}
 use Rattle.cstn_text.proofs.printed_names.unprinted.Goals as goal
 
 pub returns-in_err-b-clause-none : goal.returns-in_err-b-clause-none

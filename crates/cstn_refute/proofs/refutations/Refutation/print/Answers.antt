@@ -1,34 +1,45 @@
-use Rattle.std.proofs.Common.{◌≡◌, ◌∙◌, ◌++◌, ◌∷◌, take, map, ap, subst, codes}
+use Rattle.std.proofs.Common.{◌≡◌, ◌<◌, ◌∙◌, [], take, map, length, get_or, ap, sym, subst}
 use Rattle.std.specs.Prelude.{string_bytes}
 use Rattle.std.specs.List.{All}
 use Rattle.std.proofs.Math.Seq.{take_all}
 use Rattle.cstn_rules.specs.Read.{the_entry}
-use Rattle.cstn_text.specs.Numbers.{printed_number}
+use Rattle.cstn_text.specs.PrintedNames.{printed_name}
 use Rattle.cstn_refute.specs.Refutations.{AreSteps}
-use Rattle.cstn_refute.specs.Texts.{printed_steps, shown}
-use Rattle.std.proofs.lemmas.List.Elements.{All-more}
+use Rattle.cstn_refute.specs.Texts.{shown}
+use Rattle.std.proofs.lemmas.List.Elements.{All-more, All-get_or}
 use Rattle.cstn_refute.specs.Written.{ArePlaces}
-use Rattle.cstn_refute.proofs.PrintLemmas.{one_more}
+use Rattle.cstn_refute.proofs.PrintLemmas.{one_more, line_of, name_at}
 use Rattle.cstn_refute.proofs.WrittenLemmas.{refutation_back}
 use Rattle.cstn_refute.proofs.refutations.Refutation.print.Goals as goal
 
 pub loop-k-preserved : goal.loop-k-preserved
-loop-k-preserved c = record {
-  text =
-      c.in_ok-push_step.ensures.pushed
-      ∙ one_more c.args.names.now c.load-load.result c.steps-step-items.result.now c.loop-k.k c.step-item.result _ c.loop-k-test.true c.step-item.is c.loop-k.invariant.text;
-  places =
-      All-more (λ e. ArePlaces e.why) c.steps-step-items.result.now c.loop-k.k c.step-item.result c.loop-k-test.true c.loop-k.invariant.places
-      (subst (λ e. ArePlaces e.why) c.step-item.is c.in_ok-push_step.ensures.places);
-}
+loop-k-preserved c =
+    let names = c.args.names.now in
+    let steps = c.steps-steps.result.now in
+    let step = c.index-steps-k.result in
+    let named : All (λ e. e.bound.node.0 < length names) steps = subst (All (λ e. e.bound.node.0 < length names)) (sym c.steps-steps.ensures.steps) c.requires.named in
+    let inside : step.bound.node.0 < length names = subst (λ e. e.bound.node.0 < length names) (sym c.index-steps-k.is) (All-get_or (λ e. e.bound.node.0 < length names) steps c.loop-k.k step c.loop-k-test.true named) in
+    let texts = c.in_ok-printed.printed.items in
+    let other = c.index-in-loop-k.result.now in
+    let name : c.deref.result.now ≡ printed_name (get_or names step.bound.node.0 []) =
+    c.deref.ensures
+    ∙ ap string_bytes (c.index-in-loop-k.ensures ∙ ap (λ i. get_or texts i other) c.index.ensures.index)
+    ∙ name_at texts names step.bound.node.0 other c.in_ok-printed.ensures.printed inside in
+    record {
+      text =
+          line_of names c.loop-k.k step c.deref.result.now (string_bytes c.loop-k.text) (string_bytes c.push_step.new.text) name c.in_ok-push_step.ensures.pushed
+          ∙ one_more names c.args.self.now.load steps c.loop-k.k step _ c.loop-k-test.true c.index-steps-k.is c.loop-k.invariant.text;
+      places =
+          All-more (λ e. ArePlaces e.why) steps c.loop-k.k step c.loop-k-test.true c.loop-k.invariant.places
+          (subst (λ e. ArePlaces e.why) c.index-steps-k.is c.in_ok-push_step.ensures.places);
+    }
 
 pub returns-clause-back : goal.returns-clause-back
 returns-clause-back c fits =
-    let xs = c.steps-step-items.result.now in
-    let all : take c.loop-k.k xs ≡ c.args.self.now.steps = take_all c.loop-k.k xs c.loop-k-test.false ∙ c.steps-step-items.ensures.steps in
-    refutation_back c.args.names.now c.args.self.now (string_bytes c.loop-k.text) c.are_names.ensures
-    (subst AreSteps c.steps-step-items.ensures.steps c.steps-step-items.ensures.form) c.requires.named
+    let xs = c.steps-steps.result.now in
+    let all : take c.loop-k.k xs ≡ c.args.self.now.steps = take_all c.loop-k.k xs c.loop-k-test.false ∙ c.steps-steps.ensures.steps in
+    refutation_back c.args.names.now c.args.self.now (string_bytes c.loop-k.text) c.print_names.ensures.names
+    (subst AreSteps c.steps-steps.ensures.steps c.steps-steps.ensures.form) c.requires.named
     (subst (All (λ e. ArePlaces e.why)) all c.loop-k.invariant.places) fits
     (c.loop-k.invariant.text
-    ∙ ap (λ n. codes "no " ++ printed_number n ++ 10 ∷ printed_steps c.args.names.now 0 (map the_entry (take c.loop-k.k xs))) c.load-load.ensures.load
     ∙ ap (λ steps. shown c.args.names.now c.args.self.now.load (map the_entry steps)) all)

@@ -9,6 +9,6 @@ use Rattle.cstn_refute.proofs.refutations.Refutation.print.Given as goal
 
 abbrev pub invariant-loop-k : goal.invariant-loop-k
 invariant-loop-k l = record {
-  text : string_bytes l.text ≡ codes "no " ++ printed_number l.load ++ 10 ∷ printed_steps l.names 0 (map the_entry (take l.k l.step-items));
-  places : All (λ e. ArePlaces e.why) (take l.k l.step-items);
+  text : string_bytes l.text ≡ codes "no " ++ printed_number l.self.load ++ 10 ∷ printed_steps l.names 0 (map the_entry (take l.k l.steps));
+  places : All (λ e. ArePlaces e.why) (take l.k l.steps);
 }

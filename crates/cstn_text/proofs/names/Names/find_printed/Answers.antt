@@ -1,7 +1,6 @@
-use Rattle.std.proofs.Common.{◌≡◌, ℕ, List, Some, None, sym, ◌∙◌, ap, subst}
+use Rattle.std.proofs.Common.{ℕ, List, sym, ◌∙◌, ap, subst}
 use Rattle.std.specs.Option.{option_and_then}
 use Rattle.cstn_text.specs.Names.{IsName, number_of}
-use Rattle.cstn_text.specs.PrintedNames.{name_read}
 use Rattle.cstn_text.proofs.PrintedNameLemmas.{name_of, not_named}
 use Rattle.cstn_text.proofs.names.Names.find_printed.Goals as goal
 
