@@ -31,9 +31,9 @@ pub record IsFree {T : Type 0} (slots : List (Option (ℕ × T))) (free : List �
   pub distinct : AllPairs (λ i j. i ≢ j) free
   pub count : live_of slots + length free ≡ length slots
 
--- the used slots, and empty ones up to the capacity
-abbrev pub padded : {T : Type 0} → ℕ → List (Option (ℕ × T)) → List (Option (ℕ × T))
-padded capacity used = used ++ replicate (capacity - length used) None
+-- what was written, and blanks up to so many
+abbrev pub padded : {A : Type 0} → A → ℕ → List A → List A
+padded blank count written = written ++ replicate (count - length written) blank
 
 -- a pool that is in order: its free list has all empty slots of those that were used, and there is room for every slot
 pub record IsPool {T : Type 0} (capacity : ℕ) (used : List (Option (ℕ × T))) (free : List ℕ) (room free_room births : ℕ) : Type 0 where

@@ -29,12 +29,12 @@ pub struct Pool<T: Copy> {
 }
 
 impl<T: Copy> Model for Pool<T> {
-    ghost use Rattle.std.specs.Prelude.{vec_capacity};
+    ghost use Rattle.std.specs.Prelude.{vec_capacity, None};
     ghost use Rattle.cstn_pool.specs.Slots.{Slots, IsPool, padded};
 
     ghost Value = { Slots T };
 
-    ghost view = { λ p. record { slots = padded p.capacity p.slots.items; births = p.births } };
+    ghost view = { λ p. record { slots = padded None p.capacity p.slots.items; births = p.births } };
 
     ghost invariant = { λ p. IsPool p.capacity p.slots.items p.free.items (vec_capacity p.slots) (vec_capacity p.free) p.births };
 }
