@@ -4,7 +4,7 @@ use Rattle.cstn_label.specs.declared.bounds.Bound.{Bound}
 use Rattle.cstn_label.specs.Bounds.{Dominates}
 use Rattle.cstn_label.specs.Read.{the_bound}
 use Rattle.cstn_pool.specs.declared.slot_id.SlotId.{SlotId}
-use Rattle.cstn_minset.specs.Links.{IsLinked}
+use Rattle.cstn_minset.specs.Links.{Ring, AreLinks}
 
 -- what each slot holds: nothing, or a birth and a bound
 abbrev pub Entries : Type 0
@@ -86,9 +86,13 @@ pub record IsMinimal (nodes : ℕ) (table : Entries) : Type 0 where
   pub apart : (s t : ℕ) (e f : ℕ × Bound) → IsPlaced table s e → IsPlaced table t f → e.0 ≡ f.0 → s ≡ t
   pub in_range : (s : ℕ) (e : ℕ × Bound) → IsPlaced table s e → (e.1.node.0 < nodes) × (e.0 < 2 ^ 64)
 
+-- the links run through the entries by the keys that the order gives them
+pub record AreOrdered (order : Option (ℕ × Bound) → Option (ℕ × ℕ)) (heads : ℕ) (links : Ring) (table : Entries) : Type 0 where
+  pub slots : links.slots ≡ length table
+  pub heads_are : links.heads ≡ heads
+  pub linked : AreLinks links (map order table)
+
 -- a minimal set whose links run through each time-point's entries by birth
-pub record IsChained (slots count : ℕ) (next prev : List ℕ) (nodes : ℕ) (table : Entries) : Type 0 where
-  pub size : slots ≡ length table
-  pub heads : count ≡ nodes
-  pub linked : IsLinked slots count (map by_birth table) next prev
+pub record IsChained (births : Ring) (nodes : ℕ) (table : Entries) : Type 0 where
+  pub by_births : AreOrdered by_birth nodes births table
   pub minimal : IsMinimal nodes table

@@ -5,6 +5,8 @@
 mod laws;
 mod links;
 mod min_set;
+mod places;
+mod table;
 
 pub use laws::walks_meet_each_once;
 pub use min_set::MinSet;

@@ -2,6 +2,7 @@ ghost use Rattle.std.specs.Prelude.{◌≡◌, ◌<◌, ◌≤◌, ◌+◌, ◌^
 ghost use Rattle.cstn_minset.specs.Sets.{Places, Entries, entry_at, IsPlaced, IsThere, IsOver, IsCovered, IsCleared, AllBornBefore, IsAt, IsFirst, IsFirstSlot, IsMinimal};
 
 use crate::links::Links;
+use crate::table::Table;
 use cstn_label::{Bound, NodeId};
 use cstn_pool::SlotId;
 use std::alloc::{AllocError, Global};
@@ -13,9 +14,9 @@ use std::marker::Model;
 /// and 8 for each time-point. No other call takes any.
 #[derive(Drop)]
 pub struct MinSet {
-    table: Vec<Option<(u64, Bound)>>,
+    table: Table,
     // The slots of each time-point by birth.
-    links: Links,
+    births: Links,
     nodes: u16,
 }
 
@@ -24,9 +25,9 @@ impl Model for MinSet {
 
     ghost Value = { Places };
 
-    ghost view = { λ m. record { nodes = m.nodes; table = m.table.items } };
+    ghost view = { λ m. record { nodes = m.nodes; table = m.table } };
 
-    ghost invariant = { λ m. IsChained m.links.slots m.links.heads m.links.next m.links.prev m.nodes m.table.items };
+    ghost invariant = { λ m. IsChained m.births m.nodes m.table };
 }
 
 impl MinSet {
@@ -38,11 +39,11 @@ impl MinSet {
         let Some(_) = capacity.checked_add(nodes as u32) else {
             return Err(AllocError);
         };
-        let table = free(alloc, capacity)?;
-        let links = Links::start(alloc, nodes as u32, capacity)?;
+        let table = Table::start(alloc, capacity)?;
+        let births = Links::start(alloc, nodes as u32, capacity)?;
         Ok(MinSet {
             table,
-            links,
+            births,
             nodes,
         })
     }
@@ -100,18 +101,17 @@ impl MinSet {
         requires birth { AllBornBefore self.old.table birth }
         ensures { self.new ≡ record self.old { table = slice_set self.old.table slot (Some (birth, b.now)) } }
     {
-        let end = self.table.len() as u32 + b.node.0 as u32;
-        let before = self.links.before(end);
-        self.links.insert(slot, before);
-        self.table[slot as usize] = Some((birth, *b));
+        let last = self.births.before(self.births.end(b.node.0 as u32));
+        self.births.insert(slot, last);
+        self.table.set(slot, Some((birth, *b)));
     }
 
     fn take_out(&mut self, slot: u32)
         requires { IsSome (entry_at self.old.table slot) }
         ensures { self.new ≡ record self.old { table = slice_set self.old.table slot None } }
     {
-        self.links.remove(slot);
-        self.table[slot as usize] = None;
+        self.births.remove(slot);
+        self.table.set(slot, None);
     }
 
     // Whether the bound in the slot dominates this one.
@@ -119,7 +119,7 @@ impl MinSet {
         requires { slot < length self.now.table }
         ensures { (e : ℕ × Bound) → IsPlaced self.now.table slot e → (IsTrue result ↔ IsOver e.1 b.now) }
     {
-        match &self.table[slot as usize] {
+        match self.table.at(slot) {
             Some((_, kept)) => kept.dominates(b),
             None => false,
         }
@@ -130,8 +130,8 @@ impl MinSet {
         requires { slot < length self.now.table }
         ensures { (e : ℕ × Bound) → IsPlaced self.now.table slot e → (IsTrue result ↔ IsOver b.now e.1) }
     {
-        match &self.table[slot as usize] {
-            Some((_, kept)) => b.dominates(kept),
+        match self.table.at(slot) {
+            Some((_, kept)) => b.dominates(&kept),
             None => false,
         }
     }
@@ -142,7 +142,7 @@ impl MinSet {
         ensures minimal { IsMinimal self.now.nodes self.now.table }
     {
         if node.0 < self.nodes {
-            self.links.first(node.0 as u32)
+            self.births.first(node.0 as u32)
         } else {
             None
         }
@@ -154,7 +154,7 @@ impl MinSet {
         ensures next { (e : ℕ × Bound) → IsPlaced self.now.table slot e → IsFirstSlot self.now.table (IsAt e.1.node.0) (e.0 + 1) result }
         ensures minimal { IsMinimal self.now.nodes self.now.table }
     {
-        self.links.next(slot)
+        self.births.next(slot)
     }
 
     // The id of a slot.
@@ -163,8 +163,8 @@ impl MinSet {
         ensures slot { result.slot ≡ slot }
         ensures birth { (e : ℕ × Bound) → IsPlaced self.now.table slot e → result.birth ≡ e.0 }
     {
-        let birth = match &self.table[slot as usize] {
-            Some((birth, _)) => *birth,
+        let birth = match self.table.at(slot) {
+            Some((birth, _)) => birth,
             None => 0,
         };
         SlotId { slot, birth }
@@ -220,36 +220,15 @@ impl MinSet {
         ensures entry { result ≡ entry_at self.now.table slot }
         ensures minimal { IsMinimal self.now.nodes self.now.table }
     {
-        match self.table.get(slot as usize) {
-            Some(Some(entry)) => Some(*entry),
-            _ => None,
-        }
+        self.table.at(slot)
     }
 
     /// Takes all bounds out.
     pub fn clear(&mut self)
         ensures { self.new ≡ record self.old { table = replicate (length self.old.table) None } }
     {
-        self.links.clear();
-        empty(&mut self.table);
-    }
-}
-
-fn free(alloc: Global, slots: u32) -> Result<Vec<Option<(u64, Bound)>>, AllocError>
-    ensures { IfOk result (λ v. v.items ≡ replicate slots None) }
-{
-    let mut table = Vec::with_capacity(alloc, slots as usize)?;
-    for _slot in 0..slots {
-        table.push(None)?;
-    }
-    Ok(table)
-}
-
-fn empty(table: &mut [Option<(u64, Bound)>])
-    ensures { table.new ≡ replicate (length table.old) None }
-{
-    for entry in table.iter_mut() {
-        *entry = None;
+        self.births.clear();
+        self.table.clear();
     }
 }
 
