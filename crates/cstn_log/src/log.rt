@@ -26,9 +26,10 @@ use std::marker::Model;
 ///
 /// An entry is live while no later one dominates it. The entries lie in a pool, and the bounds of
 /// the live ones in a minimal set, each under the id that [`Log::slot`] answers. All memory is
-/// taken by [`Log::start`]: 169 bytes for each entry that there may be, so 709 MB for the largest
-/// cap of 4,194,304, and 8 bytes for each time-point. Of these, 45 bytes an entry are used by
-/// [`Log::retract`] alone.
+/// taken by [`Log::start`]: room for 585 bytes for each entry that there may be, so 2.45 GB for the
+/// largest cap of 4,194,304, and 8 bytes for each time-point. What no entry ever used of it is not
+/// touched. Of these, 416 bytes an entry are for the marks of the 52 propositions, and 45 are used
+/// by [`Log::retract`] alone.
 #[derive(Drop)]
 pub struct Log {
     pool: Pool<Entry>,

@@ -1,10 +1,10 @@
-use Rattle.std.proofs.Common.{◌≡◌, ◌≢◌, ◌⊎◌, inl, inr, ℕ, zero, suc, ◌+◌, ◌<◌, ◌≤◌, ◌^◌, List, [], ◌∷◌, ◌++◌, length, get_or, set, take, drop, replicate, refl, sym, ◌∙◌, arith}
-use Rattle.std.specs.Prelude.{None, Some, All}
-use Rattle.std.proofs.lemmas.List.{get_or-set_other, get_or-set_same, length-set, length-replicate, get_or_read, drop_all, take_all, append-nil, get_or_default}
+use Rattle.std.proofs.Common.{◌≡◌, ◌≢◌, ◌⊎◌, inl, inr, ℕ, zero, suc, ◌+◌, ◌<◌, ◌≤◌, ◌^◌, List, [], ◌∷◌, length, get_or, set, replicate, refl, sym, ◌∙◌, arith}
+use Rattle.std.specs.Prelude.{None, Some}
+use Rattle.std.proofs.lemmas.List.{get_or-set_other, get_or-set_same, length-set, length-replicate}
 use Rattle.std.proofs.lemmas.Bool.{cases_eq, cases_lt}
 use Rattle.std.proofs.lemmas.Option.{some_pair_parts, none-some}
 use Rattle.cstn_minset.specs.Chains.{Table, IsIn, HasLeastKey}
-use Rattle.cstn_minset.specs.Links.{IsStart, IsStop, IsGap, IsNext, IsPrev, IsKeyed, IsLinked, IsOwn}
+use Rattle.cstn_minset.specs.Links.{IsStart, IsStop, IsGap, IsNext, IsPrev, IsKeyed, IsLinked, AreEnds}
 
 -- a slot that is in a chain is inside the table
 pub in_inside : (T : Table) (h s k : ℕ) → IsIn T h s k → s < length T
@@ -407,15 +407,11 @@ removed T n heads slot head k next prev linked there =
     }
 
 -- what is read of the links
-pub next_of : (T : Table) (n heads i h low l : ℕ) (next prev : List ℕ) → IsLinked n heads T next prev → IsStart T n heads i h low → l ≡ get_or next i l → IsNext T n heads h low l
-next_of T n heads i h low l next prev linked start read =
-    let inside : i < length next = omega (arith, start_inside T n heads i h low linked.size start, linked.next_size) in
-    rw (get_or_read next i l inside read 0) (linked.after i h low start)
+pub next_of : (T : Table) (n heads i h low l : ℕ) (next prev : List ℕ) → IsLinked n heads T next prev → IsStart T n heads i h low → l ≡ get_or next i 0 → IsNext T n heads h low l
+next_of T n heads i h low l next prev linked start read = rw read (linked.after i h low start)
 
-pub prev_of : (T : Table) (n heads i h high l : ℕ) (next prev : List ℕ) → IsLinked n heads T next prev → IsStop T n heads i h high → l ≡ get_or prev i l → IsPrev T n heads h high l
-prev_of T n heads i h high l next prev linked stop read =
-    let inside : i < length prev = omega (arith, stop_inside T n heads i h high linked.size stop, linked.prev_size) in
-    rw (get_or_read prev i l inside read 0) (linked.before i h high stop)
+pub prev_of : (T : Table) (n heads i h high l : ℕ) (next prev : List ℕ) → IsLinked n heads T next prev → IsStop T n heads i h high → l ≡ get_or prev i 0 → IsPrev T n heads h high l
+prev_of T n heads i h high l next prev linked stop read = rw read (linked.before i h high stop)
 
 next_least : (T : Table) (n heads h low l : ℕ) → IsNext T n heads h low l → l < n → HasLeastKey T h low l
 next_least T n heads h low l is inside = go is.stop
@@ -431,12 +427,12 @@ next_none T n heads h low l size keyed is outside u j there = go is.stop
     go (inl one) = absurd (omega (arith, in_inside T h l is.high one))
     go (inr one) = elim (is.gap u j there) [ inl p ↦ p | inr p ↦ absurd (omega (arith, one.2, (keyed.in_range u h j there).1)) ]
 
-pub first_answers : (T : Table) (n heads head len l : ℕ) (next prev : List ℕ) → IsLinked n heads T next prev → head < heads → len ≡ n → l ≡ get_or next (len + head) l → (l < len → HasLeastKey T head 0 l) × (len ≤ l → (u j : ℕ) → IsIn T head u j → j < 0)
+pub first_answers : (T : Table) (n heads head len l : ℕ) (next prev : List ℕ) → IsLinked n heads T next prev → head < heads → len ≡ n → l ≡ get_or next (len + head) 0 → (l < len → HasLeastKey T head 0 l) × (len ≤ l → (u j : ℕ) → IsIn T head u j → j < 0)
 first_answers T n heads head len l next prev linked in_heads size read =
     let N : IsNext T n heads head 0 l = next_of T n heads (len + head) head 0 l next prev linked (inr (omega arith, in_heads, refl)) read in
     ((λ h. next_least T n heads head 0 l N (omega arith)), (λ h. next_none T n heads head 0 l linked.size linked.keyed N (omega arith)))
 
-pub next_answers : (T : Table) (n heads h slot k len l : ℕ) (next prev : List ℕ) → IsLinked n heads T next prev → IsIn T h slot k → len ≡ n → l ≡ get_or next slot l → (l < len → HasLeastKey T h (k + 1) l) × (len ≤ l → (u j : ℕ) → IsIn T h u j → j < k + 1)
+pub next_answers : (T : Table) (n heads h slot k len l : ℕ) (next prev : List ℕ) → IsLinked n heads T next prev → IsIn T h slot k → len ≡ n → l ≡ get_or next slot 0 → (l < len → HasLeastKey T h (k + 1) l) × (len ≤ l → (u j : ℕ) → IsIn T h u j → j < k + 1)
 next_answers T n heads h slot k len l next prev linked there size read =
     let N : IsNext T n heads h (k + 1) l = next_of T n heads slot h (k + 1) l next prev linked (inl (k, there, refl)) read in
     ((λ h'. next_least T n heads h (k + 1) l N (omega arith)), (λ h'. next_none T n heads h (k + 1) l linked.size linked.keyed N (omega arith)))
@@ -459,8 +455,8 @@ none_in zero h u j is = cc
 none_in (suc n) h zero j is = cc
 none_in (suc n) h (suc u) j is = none_in n h u j is
 
-pub all_free : (n heads : ℕ) (next prev : List ℕ) → length next ≡ n + heads → length prev ≡ n + heads → n + heads < 2 ^ 32 → IsOwn next → IsOwn prev → IsLinked n heads (replicate n None) next prev
-all_free n heads next prev next_size prev_size small own_next own_prev = record {
+pub all_free : (n heads : ℕ) (next prev : List ℕ) → length next ≡ n + heads → length prev ≡ n + heads → n + heads < 2 ^ 32 → AreEnds n heads next → AreEnds n heads prev → IsLinked n heads (replicate n None) next prev
+all_free n heads next prev next_size prev_size small next_ends prev_ends = record {
   size = length-replicate n None;
   next_size = next_size;
   prev_size = prev_size;
@@ -472,17 +468,8 @@ all_free n heads next prev next_size prev_size small own_next own_prev = record 
   where
     after : (i h low : ℕ) → IsStart (replicate n None) n heads i h low → IsNext (replicate n None) n heads h low (get_or next i 0)
     after i h low (inl one) = absurd (none_in n h i one.0 one.1)
-    after i h low (inr one) = rw (own_next i (omega (arith, one.0, one.1)), one.2) (record { high = 2 ^ 128; stop = inr (one.0, one.1, refl); up = omega arith; gap = λ u j is. absurd (none_in n h u j is) })
+    after i h low (inr one) = rw (one.0, next_ends h one.1, one.2) (record { high = 2 ^ 128; stop = inr (refl, one.1, refl); up = omega arith; gap = λ u j is. absurd (none_in n h u j is) })
 
     before : (i h high : ℕ) → IsStop (replicate n None) n heads i h high → IsPrev (replicate n None) n heads h high (get_or prev i 0)
     before i h high (inl one) = absurd (none_in n h i high one)
-    before i h high (inr one) = rw (own_prev i (omega (arith, one.0, one.1)), one.2) (record { low = 0; start = inr (one.0, one.1, refl); up = omega arith; gap = λ u j is. absurd (none_in n h u j is) })
-
--- a whole list written through a slice
-pub whole : {X : Type 0} (xs new : List X) (n : ℕ) → length new ≡ length xs → n ≡ length xs → take n (new ++ drop (length new) xs) ≡ new
-whole xs new n same all =
-    let none : drop (length new) xs ≡ [] = drop_all (length new) xs (omega arith) in
-    rw (none, append-nil new) (take_all n new (omega arith))
-
-pub own_inside : (places : List ℕ) (n : ℕ) → length places ≡ n → IsOwn places → All (λ x. x < n) places
-own_inside places n len own k d inside = rw (get_or_default places k d 0 inside, own k inside) (omega arith)
+    before i h high (inr one) = rw (one.0, prev_ends h one.1, one.2) (record { low = 0; start = inr (refl, one.1, refl); up = omega arith; gap = λ u j is. absurd (none_in n h u j is) })

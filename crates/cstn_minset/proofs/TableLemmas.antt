@@ -1,13 +1,14 @@
 use Rattle.std.proofs.Common.{◌≡◌, ◌≢◌, ◌⊎◌, inl, inr, ℕ, zero, suc, ◌+◌, ◌<◌, ◌^◌, List, [], ◌∷◌, length, get_or, set, map, replicate, nat_eq, true, refl, ap, sym, ◌∙◌, subst, arith}
 use Rattle.std.specs.Prelude.{Option, None, Some, IsSome, IsTrue}
 use Rattle.std.proofs.lemmas.List.{get_or-set_other, get_or-set_same, length-set, length-replicate, map-set}
+use Rattle.std.proofs.Math.Seq.{map-set_same}
 use Rattle.std.proofs.lemmas.Bool.{cases_eq}
 use Rattle.std.proofs.lemmas.Option.{some_pair_parts, none-some, same_Some}
 use Rattle.cstn_label.specs.declared.bounds.Bound.{Bound}
 use Rattle.cstn_pool.specs.declared.slot_id.SlotId.{SlotId}
 use Rattle.cstn_minset.specs.Chains.{Table, IsIn, IsFirstKey}
-use Rattle.cstn_minset.specs.Links.{Ring, IsLinked, IsPrev, AreLinks, SameSize}
-use Rattle.cstn_minset.specs.Sets.{Entries, IsPlaced, IsOver, IsCovered, AllBornBefore, IsAt, IsLeast, IsFirstSlot, by_birth, IsMinimal, IsChained}
+use Rattle.cstn_minset.specs.Links.{Ring, IsStop, IsPrev, AreLinks, SameSize}
+use Rattle.cstn_minset.specs.Sets.{Entries, IsPlaced, IsOver, IsCovered, AllBornBefore, IsAt, IsLeast, IsFirstSlot, by_birth, IsMinimal, AreOrdered}
 use Rattle.cstn_minset.proofs.LinkLemmas.{narrowed}
 
 pub at_map : (f : Option (ℕ × Bound) → Option (ℕ × ℕ)) → f None ≡ None → (T : Entries) (u : ℕ) → get_or (map f T) u None ≡ f (get_or T u None)
@@ -18,31 +19,48 @@ at_map f none (x ∷ T) (suc u) = at_map f none T u
 abbrev some_entry : ℕ → Bound → Option (ℕ × Bound)
 some_entry n b = Some (n, b)
 
--- the entries of the table are those of its chains
+-- the entries of the table are those of the chains of each order
+module _ (order : Option (ℕ × Bound) → Option (ℕ × ℕ)) (none : order None ≡ None) (T : Entries) where
+  pub placed_at : (s h k : ℕ) (e : ℕ × Bound) → IsPlaced T s e → order (Some e) ≡ Some (h, k) → IsIn (map order T) h s k
+  placed_at s h k e is key = at_map order none T s ∙ ap order is ∙ key
+
+  pub at_placed : (h s k : ℕ) → IsIn (map order T) h s k → (e : ℕ × Bound) × IsPlaced T s e × (order (Some e) ≡ Some (h, k))
+  at_placed h s k is = go (get_or T s None) refl (sym (at_map order none T s) ∙ is)
+    where
+      go : (o : Option (ℕ × Bound)) → get_or T s None ≡ o → order o ≡ Some (h, k) → (e : ℕ × Bound) × IsPlaced T s e × (order (Some e) ≡ Some (h, k))
+      go None here key = absurd (none-some (h, k) (sym none ∙ key))
+      go (Some e) here key = (e, here, key)
+
 pub placed_in : (T : Entries) (s : ℕ) (e : ℕ × Bound) → IsPlaced T s e → IsIn (map by_birth T) e.1.node.0 s e.0
-placed_in T s e is = at_map by_birth refl T s ∙ ap by_birth is
+placed_in T s e is = placed_at by_birth refl T s e.1.node.0 e.0 e is refl
 
 pub in_placed : (T : Entries) (h s k : ℕ) → IsIn (map by_birth T) h s k → (b : Bound) × IsPlaced T s (k, b) × (b.node.0 ≡ h)
-in_placed T h s k is = go (get_or T s None) (sym (at_map by_birth refl T s) ∙ is)
-  where
-    go : (o : Option (ℕ × Bound)) → by_birth o ≡ Some (h, k) → (b : Bound) × (o ≡ Some (k, b)) × (b.node.0 ≡ h)
-    go None e = absurd (none-some (h, k) e)
-    go (Some e) is' = let both = some_pair_parts e.1.node.0 h e.0 k is' in (e.1, ap (λ (n : ℕ). some_entry n e.1) both.1, both.0)
+in_placed T h s k is =
+    let found = at_placed by_birth refl T h s k is in
+    let both = some_pair_parts found.0.1.node.0 h found.0.0 k found.2 in
+    (found.0.1, found.1 ∙ ap (λ (n : ℕ). some_entry n found.0.1) both.1, both.0)
 
--- the first slot of a chain is that of the time-point
+-- the first slot of a chain is that of the entries that are in it
+module _ (order : Option (ℕ × Bound) → Option (ℕ × ℕ)) (none : order None ≡ None) (T : Entries) (Kind : Bound → Type 0) (h : ℕ) (in_chain : (e : ℕ × Bound) → Kind e.1 → order (Some e) ≡ Some (h, e.0)) (of_chain : (e : ℕ × Bound) (k : ℕ) → order (Some e) ≡ Some (h, k) → Kind e.1 × (e.0 ≡ k)) where
+  pub first_of_kind : (low : ℕ) (answer : Option ℕ) → IsFirstKey (map order T) h low answer → IsFirstSlot T Kind low answer
+  first_of_kind low None is = λ u e there kind. is u e.0 (placed_at order none T u h e.0 e there (in_chain e kind))
+  first_of_kind low (Some s) is =
+      let found = at_placed order none T h s is.key is.there in
+      let kind = of_chain found.0 is.key found.2 in (
+        is.key,
+        record {
+          bound = found.0.1;
+          there = found.1 ∙ ap (λ (n : ℕ). some_entry n found.0.1) kind.1;
+          kind = kind.0;
+          above = is.above;
+          least = λ u e there also. is.least u e.0 (placed_at order none T u h e.0 e there (in_chain e also));
+        },
+      )
+
+-- of those at a time-point by birth
 pub first_of : (T : Entries) (h low : ℕ) (answer : Option ℕ) → IsFirstKey (map by_birth T) h low answer → IsFirstSlot T (IsAt h) low answer
-first_of T h low None none = λ u e is at'. none u e.0 (rw at' at (placed_in T u e is))
-first_of T h low (Some s) is =
-    let found = in_placed T h s is.key is.there in (
-      is.key,
-      record {
-        bound = found.0;
-        there = found.1;
-        kind = found.2;
-        above = is.above;
-        least = λ u e p at'. is.least u e.0 (rw at' at (placed_in T u e p));
-      },
-    )
+first_of T h low answer is =
+    first_of_kind by_birth refl T (IsAt h) h (λ e at'. rw at' refl) (λ e k key. some_pair_parts e.1.node.0 h e.0 k key) low answer is
 
 -- what stands in the table after a slot was filled
 pub placed_more : (T : Entries) (slot u : ℕ) (x e : ℕ × Bound) → slot < length T → IsPlaced (set T slot (Some x)) u e → ((u ≡ slot) × (x ≡ e)) ⊎ ((u ≢ slot) × IsPlaced T u e)
@@ -66,14 +84,14 @@ placed_less T slot u e is = elim (cases_eq u slot) [
 pub less_placed : (T : Entries) (slot u : ℕ) (e : ℕ × Bound) → u ≢ slot → IsPlaced T u e → IsPlaced (set T slot None) u e
 less_placed T slot u e other is = get_or-set_other T slot u None None other ∙ is
 
-minimal_less : (nodes slot : ℕ) (T : Entries) → IsMinimal nodes T → IsMinimal nodes (set T slot None)
+pub minimal_less : (nodes slot : ℕ) (T : Entries) → IsMinimal nodes T → IsMinimal nodes (set T slot None)
 minimal_less nodes slot T is = record {
   minimal = λ s t e f p q other. is.minimal s t e f (placed_less T slot s e p).1 (placed_less T slot t f q).1 other;
   apart = λ s t e f p q same. is.apart s t e f (placed_less T slot s e p).1 (placed_less T slot t f q).1 same;
   in_range = λ s e p. is.in_range s e (placed_less T slot s e p).1;
 }
 
-minimal_more : (nodes slot birth : ℕ) (b : Bound) (T : Entries) → slot < length T → b.node.0 < nodes → birth < 2 ^ 64 → ¬ IsCovered T b → ((u : ℕ) (e : ℕ × Bound) → IsPlaced T u e → ¬ IsOver b e.1) → AllBornBefore T birth → IsMinimal nodes T → IsMinimal nodes (set T slot (Some (birth, b)))
+pub minimal_more : (nodes slot birth : ℕ) (b : Bound) (T : Entries) → slot < length T → b.node.0 < nodes → birth < 2 ^ 64 → ¬ IsCovered T b → ((u : ℕ) (e : ℕ × Bound) → IsPlaced T u e → ¬ IsOver b e.1) → AllBornBefore T birth → IsMinimal nodes T → IsMinimal nodes (set T slot (Some (birth, b)))
 minimal_more nodes slot birth b T inside node small uncovered least births is = record {
   minimal = λ s t e f p q other over.
       elim (placed_more T slot s (birth, b) e inside p) [
@@ -99,60 +117,82 @@ pub some_entry_is : (o : Option (ℕ × Bound)) → IsSome o → (e : ℕ × Bou
 some_entry_is None is = absurd (cc)
 some_entry_is (Some e) is = (e, refl)
 
--- the steps of the code: an entry is taken out
-pub take_out_step : (old new : Ring) (nodes slot : ℕ) (T : Entries) → IsChained old.slots old.heads old.next old.prev nodes T → IsSome (get_or T slot None) → SameSize old new → ((t : Table) (head key : ℕ) → AreLinks old t → IsIn t head slot key → IsLinked old.slots old.heads (set t slot None) new.next new.prev) → IsChained new.slots new.heads new.next new.prev nodes (set T slot None)
-take_out_step old new nodes slot T is some sizes step =
-    let e = some_entry_is (get_or T slot None) some in
-    let linked = step (map by_birth T) e.0.1.node.0 e.0.0 is.linked (placed_in T slot e.0 e.1) in
-    rw (sizes.0, sizes.1) (record {
-      size = is.size ∙ sym (length-set T slot None);
-      heads = is.heads;
-      linked = rw (map-set by_birth T slot None) linked;
-      minimal = minimal_less nodes slot T is.minimal;
-    })
+-- what the calls of links promise
+abbrev pub Removes : Ring → Ring → ℕ → Type 0
+Removes old new slot = (t : Table) (head key : ℕ) → AreLinks old t → IsIn t head slot key → AreLinks new (set t slot None)
 
--- the place before the end is the one behind which the greatest birth belongs
-pub last_prev : (slots count nodes slot birth : ℕ) (b : Bound) (next prev : List ℕ) (T : Entries) → IsChained slots count next prev nodes T → b.node.0 < nodes → birth < 2 ^ 64 → AllBornBefore T birth → IsPrev (map by_birth T) slots count b.node.0 birth (get_or prev (slots + b.node.0) 0)
-last_prev slots count nodes slot birth b next prev T is node small births =
-    let below : b.node.0 < count = omega (arith, is.heads) in
-    let last = is.linked.before (slots + b.node.0) b.node.0 (2 ^ 128) (inr (refl, below, refl)) in
-    narrowed (map by_birth T) slots count b.node.0 (2 ^ 128) birth (get_or prev (slots + b.node.0) 0) last (omega arith) (λ u there. let f = in_placed T b.node.0 u birth there in omega (arith, births u (birth, f.0) f.1)) (λ k there. let f = in_placed T b.node.0 (get_or prev (slots + b.node.0) 0) k there in omega (arith, births (get_or prev (slots + b.node.0) 0) (k, f.0) f.1))
+abbrev pub Inserts : Ring → Ring → ℕ → ℕ → Type 0
+Inserts old new slot before = (t : Table) (head key : ℕ) → AreLinks old t → head < old.heads → key < 2 ^ 128 → get_or t slot None ≡ None → ((u : ℕ) → ¬ IsIn t head u key) → IsPrev t old.slots old.heads head key before → AreLinks new (set t slot (Some (head, key)))
 
--- and one is put in
-pub put_step : (old new : Ring) (nodes slot birth before : ℕ) (b : Bound) (T : Entries) → IsChained old.slots old.heads old.next old.prev nodes T → SameSize old new → ((t : Table) (head key : ℕ) → AreLinks old t → head < old.heads → key < 2 ^ 128 → get_or t slot None ≡ None → ((u : ℕ) → ¬ IsIn t head u key) → IsPrev t old.slots old.heads head key before → IsLinked old.slots old.heads (set t slot (Some (head, key))) new.next new.prev) → before ≡ get_or old.prev (old.slots + b.node.0) 0 → slot < length T → get_or T slot None ≡ None → b.node.0 < nodes → birth < 2 ^ 64 → ¬ IsCovered T b → ((u : ℕ) (e : ℕ × Bound) → IsPlaced T u e → ¬ IsOver b e.1) → AllBornBefore T birth → IsChained new.slots new.heads new.next new.prev nodes (set T slot (Some (birth, b)))
-put_step old new nodes slot birth before b T is sizes step read inside free node small uncovered least births =
-    let prev = last_prev old.slots old.heads nodes slot birth b old.next old.prev T is node small births in
-    let linked = step (map by_birth T) b.node.0 birth is.linked (omega (arith, is.heads)) (omega arith) (at_map by_birth refl T slot ∙ ap by_birth free) (λ u there. let f = in_placed T b.node.0 u birth there in omega (arith, births u (birth, f.0) f.1)) (rw read prev) in
-    rw (sizes.0, sizes.1) (record {
-      size = is.size ∙ sym (length-set T slot (Some (birth, b)));
-      heads = is.heads;
-      linked = rw (map-set by_birth T slot (Some (birth, b))) linked;
-      minimal = minimal_more nodes slot birth b T inside node small uncovered least births is.minimal;
-    })
+abbrev pub IsBefore : Ring → ℕ → ℕ → Type 0
+IsBefore links place before = (t : Table) (h high : ℕ) → AreLinks links t → IsStop t links.slots links.heads place h high → IsPrev t links.slots links.heads h high before
 
-none_at : (n u : ℕ) (e : ℕ × Bound) → IsPlaced (replicate n None) u e → ⊥
+module _ (order : Option (ℕ × Bound) → Option (ℕ × ℕ)) (none : order None ≡ None) (heads : ℕ) (T : Entries) where
+  -- an entry is taken out of the chain that it is in
+  pub order_less : (old new : Ring) (slot h k : ℕ) (e : ℕ × Bound) → AreOrdered order heads old T → IsPlaced T slot e → order (Some e) ≡ Some (h, k) → SameSize old new → Removes old new slot → AreOrdered order heads new (set T slot None)
+  order_less old new slot h k e is there key sizes step = record {
+    slots = sizes.0 ∙ is.slots ∙ sym (length-set T slot None);
+    heads_are = sizes.1 ∙ is.heads_are;
+    linked = rw (map-set order T slot None, none) (step (map order T) h k is.linked (placed_at order none T slot h k e there key));
+  }
+
+  -- or isn't in a chain
+  pub order_less_other : (links : Ring) (slot : ℕ) (e : ℕ × Bound) → AreOrdered order heads links T → IsPlaced T slot e → order (Some e) ≡ None → AreOrdered order heads links (set T slot None)
+  order_less_other links slot e is there key = record {
+    slots = is.slots ∙ sym (length-set T slot None);
+    heads_are = is.heads_are;
+    linked = rw (map-set_same order T slot None None (none ∙ sym (ap order there ∙ key))) is.linked;
+  }
+
+  -- one is put in
+  pub order_more : (old new : Ring) (slot before h k : ℕ) (e : ℕ × Bound) → AreOrdered order heads old T → slot < length T → get_or T slot None ≡ None → order (Some e) ≡ Some (h, k) → h < heads → k < 2 ^ 128 → ((u : ℕ) → ¬ IsIn (map order T) h u k) → IsPrev (map order T) old.slots old.heads h k before → SameSize old new → Inserts old new slot before → AreOrdered order heads new (set T slot (Some e))
+  order_more old new slot before h k e is inside free key in_heads small new_key prev sizes step = record {
+    slots = sizes.0 ∙ is.slots ∙ sym (length-set T slot (Some e));
+    heads_are = sizes.1 ∙ is.heads_are;
+    linked = rw (map-set order T slot (Some e), key) (step (map order T) h k is.linked (omega (arith, is.heads_are)) small (at_map order none T slot ∙ ap order free ∙ none) new_key prev);
+  }
+
+  -- or is in no chain
+  pub order_more_other : (links : Ring) (slot : ℕ) (e : ℕ × Bound) → AreOrdered order heads links T → get_or T slot None ≡ None → order (Some e) ≡ None → AreOrdered order heads links (set T slot (Some e))
+  order_more_other links slot e is free key = record {
+    slots = is.slots ∙ sym (length-set T slot (Some e));
+    heads_are = is.heads_are;
+    linked = rw (map-set_same order T slot (Some e) None (key ∙ sym (ap order free ∙ none))) is.linked;
+  }
+
+  -- the place before the end is the one behind which the greatest key belongs
+  pub order_last : (links : Ring) (h k end before : ℕ) → AreOrdered order heads links T → h < heads → k < 2 ^ 128 → end ≡ links.slots + h → IsBefore links end before → ((u j : ℕ) → IsIn (map order T) h u j → j < k) → IsPrev (map order T) links.slots links.heads h k before
+  order_last links h k end before is in_heads small end_is step below =
+      let last = step (map order T) h (2 ^ 128) is.linked (inr (end_is, omega (arith, is.heads_are), refl)) in
+      narrowed (map order T) links.slots links.heads h (2 ^ 128) k before last (omega arith) (λ u there. omega (arith, below u k there)) (λ j there. omega (arith, below before j there))
+
+-- each key of a time-point by birth is below a birth above all
+pub births_below : (T : Entries) (birth h u j : ℕ) → AllBornBefore T birth → IsIn (map by_birth T) h u j → j < birth
+births_below T birth h u j births there = let f = in_placed T h u j there in omega (arith, births u (j, f.0) f.1)
+
+pub none_at : (n u : ℕ) (e : ℕ × Bound) → IsPlaced (replicate n None) u e → ⊥
 none_at zero u e is = cc
 none_at (suc n) zero e is = cc
 none_at (suc n) (suc u) e is = none_at n u e is
 
-none_map : (n : ℕ) → replicate n None ≡ map by_birth (replicate n None)
-none_map zero = refl
-none_map (suc n) = ap (λ (t : Table). None ∷ t) (none_map n)
+none_map : (order : Option (ℕ × Bound) → Option (ℕ × ℕ)) → order None ≡ None → (n : ℕ) → replicate n None ≡ map order (replicate n None)
+none_map order none zero = refl
+none_map order none (suc n) = rw none (ap (λ (t : Table). None ∷ t) (none_map order none n))
 
 -- no slot holds an entry
-pub all_free : (ring : Ring) (nodes n : ℕ) (T : Entries) → (ring.slots ≡ n) × (ring.heads ≡ nodes) → AreLinks ring (replicate ring.slots None) → T ≡ replicate n None → IsChained ring.slots ring.heads ring.next ring.prev nodes T
-all_free ring nodes n T sizes linked free =
-    let none : replicate {A = Option (ℕ × ℕ)} ring.slots None ≡ map by_birth T = rw (sizes.0, free) (none_map n) in
-    record {
-      size = sizes.0 ∙ sym (ap length free ∙ length-replicate n None);
-      heads = sizes.1;
-      linked = subst (λ (t : Table). IsLinked ring.slots ring.heads t ring.next ring.prev) none linked;
-      minimal = rw free (record {
-        minimal = λ s t e f p q other. absurd (none_at n s e p);
-        apart = λ s t e f p q same. absurd (none_at n s e p);
-        in_range = λ s e p. absurd (none_at n s e p);
-      });
-    }
+pub order_none : (order : Option (ℕ × Bound) → Option (ℕ × ℕ)) → order None ≡ None → (links : Ring) (heads n : ℕ) → links.slots ≡ n → links.heads ≡ heads → AreLinks links (replicate links.slots None) → AreOrdered order heads links (replicate n None)
+order_none order none links heads n slots heads_are linked = record {
+  slots = slots ∙ sym (length-replicate n None);
+  heads_are = heads_are;
+  linked = rw (← none_map order none n, ← slots) linked;
+}
+
+pub minimal_none : (nodes n : ℕ) → IsMinimal nodes (replicate n None)
+minimal_none nodes n = record {
+  minimal = λ s t e f p q other. absurd (none_at n s e p);
+  apart = λ s t e f p q same. absurd (none_at n s e p);
+  in_range = λ s e p. absurd (none_at n s e p);
+}
 
 -- whether a slot holds the birth
 pub holds_there : (T : Entries) (slot birth asked : ℕ) (b : Bound) → IsPlaced T slot (birth, b) → (IsTrue (nat_eq birth asked) → (x : Bound) × IsPlaced T slot (asked, x)) × ((x : Bound) × IsPlaced T slot (asked, x) → IsTrue (nat_eq birth asked))

@@ -1,3 +1,4 @@
 pub mod Chains
 pub mod Links
 pub mod Sets
+pub mod Placings

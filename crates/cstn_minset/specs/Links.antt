@@ -44,9 +44,14 @@ pub record IsLinked (n heads : ℕ) (table : Table) (next prev : List ℕ) : Typ
   pub after : (i h low : ℕ) → IsStart table n heads i h low → IsNext table n heads h low (slice_index_or next i 0)
   pub before : (i h high : ℕ) → IsStop table n heads i h high → IsPrev table n heads h high (slice_index_or prev i 0)
 
--- each place leads to itself
-abbrev pub IsOwn : List ℕ → Type 0
-IsOwn places = (i : ℕ) → i < length places → slice_index_or places i 0 ≡ i
+-- the end of each chain leads to itself
+abbrev pub AreEnds : ℕ → ℕ → List ℕ → Type 0
+AreEnds n heads places = (h : ℕ) → h < heads → slice_index_or places (n + h) 0 ≡ n + h
+
+-- where places lead, of which the first are slots
+pub record Leads : Type 0 where
+  pub slots : ℕ
+  pub places : List ℕ
 
 -- what contracts see of links alone
 pub record Ring : Type 0 where
@@ -64,9 +69,11 @@ abbrev pub SameSize : Ring → Ring → Type 0
 SameSize old new = (new.slots ≡ old.slots) × (new.heads ≡ old.heads)
 
 -- each place leads to a place
-pub record IsRing (slots heads : ℕ) (next prev : List ℕ) : Type 0 where
-  pub next_size : length next ≡ slots + heads
-  pub prev_size : length prev ≡ slots + heads
+pub record IsRing (slots heads : ℕ) (next prev : Leads) : Type 0 where
+  pub next_slots : next.slots ≡ slots
+  pub prev_slots : prev.slots ≡ slots
+  pub next_size : length next.places ≡ slots + heads
+  pub prev_size : length prev.places ≡ slots + heads
   pub small : slots + heads < 2 ^ 32
-  pub next_inside : All (λ x. x < slots + heads) next
-  pub prev_inside : All (λ x. x < slots + heads) prev
+  pub next_inside : All (λ x. x < slots + heads) next.places
+  pub prev_inside : All (λ x. x < slots + heads) prev.places

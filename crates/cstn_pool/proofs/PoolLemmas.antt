@@ -1,12 +1,12 @@
 use Rattle.std.proofs.Common.{◌≡◌, ◌≢◌, ◌⊎◌, inl, inr, ℕ, ◌+◌, ◌<◌, List, [], ◌∷◌, ◌++◌, length, get_or, set, replicate, true, cond, zero, suc, refl, ap, sym, ◌∙◌, arith, length-append}
 use Rattle.std.specs.Prelude.{Option, None, Some, is_some, slice_get, All, AllPairs}
-use Rattle.std.proofs.lemmas.List.{get_or_append_left, get_or-set_other, get_or-set_same, length-set, length-replicate, ext_get_or}
+use Rattle.std.proofs.lemmas.List.{get_or_append_left, get_or-set_other, get_or-set_same, length-set, length-replicate}
 use Rattle.std.proofs.lemmas.List.Elements.{All-push, All-weaker}
 use Rattle.std.proofs.lemmas.List.Quantifiers.{all_pairs_push}
-use Rattle.std.proofs.lemmas.List.Sums.{sum_by-set}
+use Rattle.std.proofs.lemmas.List.Sums.{sum_by-set, sum_by-append}
 use Rattle.std.proofs.Math.Seq.{get_or-append_seam}
 use Rattle.std.proofs.lemmas.Bool.{cases_eq}
-use Rattle.std.proofs.lemmas.Option.{same_Some, slice_get-get_or}
+use Rattle.std.proofs.lemmas.Option.{same_Some}
 use Rattle.cstn_pool.specs.Slots.{IsFree, IsBorn, live_of, value_at}
 
 pub count_filled : {T : Type 0} (slots : List (Option (ℕ × T))) (slot : ℕ) (entry : ℕ × T) → slot < length slots → get_or slots slot None ≡ None → live_of (set slots slot (Some entry)) ≡ live_of slots + 1
@@ -45,11 +45,11 @@ last_inside slots rest slot free =
     let was = rw (get_or-append_seam rest slot [] 0) at (free.empty (length rest) 0 (omega arith)) in
     was.0
 
-pub last_empty : {T : Type 0} (slots : List (Option (ℕ × T))) (rest : List ℕ) (slot : ℕ) → IsFree slots (rest ++ slot ∷ []) → slice_get slots slot ≡ Some None
+pub last_empty : {T : Type 0} (slots : List (Option (ℕ × T))) (rest : List ℕ) (slot : ℕ) → IsFree slots (rest ++ slot ∷ []) → get_or slots slot None ≡ None
 last_empty slots rest slot free =
     let long : length (rest ++ slot ∷ []) ≡ length rest + 1 = length-append rest (slot ∷ []) in
     let was = rw (get_or-append_seam rest slot [] 0) at (free.empty (length rest) 0 (omega arith)) in
-    slice_get-get_or slots slot None was.0 ∙ ap (λ x. Some x) was.1
+    was.1
 
 -- a slot is given back
 pub given_free : {T : Type 0} (slots : List (Option (ℕ × T))) (free : List ℕ) (slot : ℕ) → slot < length slots → is_some (get_or slots slot None) ≡ true → IsFree slots free → IsFree (set slots slot None) (free ++ slot ∷ [])
@@ -71,16 +71,20 @@ none_there T zero i = refl
 none_there T (suc n) zero = refl
 none_there T (suc n) (suc i) = none_there T n i
 
-none_live : (T : Type 0) (n : ℕ) → live_of {T = T} (replicate n None) ≡ 0
+pub none_live : (T : Type 0) (n : ℕ) → live_of {T = T} (replicate n None) ≡ 0
 none_live T zero = refl
 none_live T (suc n) = none_live T n
 
--- all slots are empty
-pub start_free : {T : Type 0} (n : ℕ) (free : List ℕ) → length free ≡ n → All (λ i. i < n) free → AllPairs (λ i j. i ≢ j) free → IsFree {T = T} (replicate n None) free
-start_free {T} n free len below distinct = record {
-  empty = λ k d inside. (omega (arith, below k d inside, length-replicate {A = Option (ℕ × T)} n None), none_there T n (get_or free k d));
-  distinct = distinct;
-  count = omega (arith, none_live T n, length-replicate {A = Option (ℕ × T)} n None);
+-- no slot was used yet
+pub none_used : {T : Type 0} → IsFree {T = T} [] []
+none_used {T} = record { empty = λ k d inside. absurd (omega arith); distinct = λ i j d below inside e. absurd (omega arith); count = refl }
+
+-- the first slot that was never used is taken
+pub new_free : {T : Type 0} (slots : List (Option (ℕ × T))) (free rest : List ℕ) (entry : ℕ × T) → IsFree slots free → length free ≡ 0 → length rest ≡ 0 → IsFree (slots ++ Some entry ∷ []) rest
+new_free {T} slots free rest entry is none no_more = record {
+  empty = λ k d inside. absurd (omega (arith, inside, no_more));
+  distinct = λ i j d below inside e. absurd (omega (arith, inside, no_more));
+  count = omega (arith, is.count, none, no_more, length-append slots (Some entry ∷ []), sum_by-append (λ x. cond (is_some x) 1 0) slots (Some entry ∷ []));
 }
 
 -- what is held stands in a slot in use
@@ -127,6 +131,26 @@ taken_born {T} births slot value slots inside born = record {
       | inr other ↦ inr (sym (get_or-set_other slots slot i (Some (births, value)) None other) ∙ is)
     ]
 
+-- a birth goes into a new slot
+pub new_born : {T : Type 0} (births : ℕ) (value : T) (slots : List (Option (ℕ × T))) → IsBorn births slots → IsBorn (births + 1) (slots ++ Some (births, value) ∷ [])
+new_born {T} births value slots born = record {
+  before = λ i e is. elim (there i e is) [ inl new ↦ omega (arith, new.1) | inr old ↦ omega (arith, born.before i e old) ];
+  apart = λ i j e f is others same.
+      elim (there i e is) [
+        | inl new ↦ elim (there j f others) [ inl also ↦ new.0 ∙ sym also.0 | inr old ↦ absurd (omega (arith, born.before j f old, new.1, same)) ]
+        | inr old ↦ elim (there j f others) [ inl new ↦ absurd (omega (arith, born.before i e old, new.1, same)) | inr older ↦ born.apart i j e f old older same ]
+      ];
+}
+  where
+    there : (i : ℕ) (e : ℕ × T) → get_or (slots ++ Some (births, value) ∷ []) i None ≡ Some e → ((i ≡ length slots) × (e.0 ≡ births)) ⊎ (get_or slots i None ≡ Some e)
+    there i e is = go slots i is
+      where
+        go : (xs : List (Option (ℕ × T))) (k : ℕ) → get_or (xs ++ Some (births, value) ∷ []) k None ≡ Some e → ((k ≡ length xs) × (e.0 ≡ births)) ⊎ (get_or xs k None ≡ Some e)
+        go [] zero is = inl (refl, ap (λ p. p.0) (sym (same_Some (births, value) e is)))
+        go [] (suc k) is = inr is
+        go (x ∷ xs) zero is = inr is
+        go (x ∷ xs) (suc k) is = elim (go xs k is) [ inl new ↦ inl (omega (arith, new.0), new.1) | inr old ↦ inr old ]
+
 -- no slot is in use
 pub none_born : {T : Type 0} (births : ℕ) (slots : List (Option (ℕ × T))) → ((i : ℕ) → get_or slots i None ≡ None) → IsBorn births slots
 none_born births slots none = record {
@@ -136,16 +160,3 @@ none_born births slots none = record {
 
 pub none_of : {T : Type 0} (n i : ℕ) → get_or (replicate {A = Option (ℕ × T)} n None) i None ≡ None
 none_of {T} n i = none_there T n i
-
--- all slots were emptied
-pub emptied : {T : Type 0} (slots : List (Option (ℕ × T))) (n : ℕ) → length slots ≡ n → ((i : ℕ) → i < n → get_or slots i None ≡ None) → slots ≡ replicate n None
-emptied {T} slots n len none =
-    ext_get_or None slots (replicate n None) (len ∙ sym (length-replicate n None)) (λ i h. none i (omega arith) ∙ sym (none_there T n i))
-
-pub none_more : {T : Type 0} (slots : List (Option (ℕ × T))) (i : ℕ) → i < length slots → ((k : ℕ) → k < i → get_or slots k None ≡ None) → (k : ℕ) → k < i + 1 → get_or (set slots i None) k None ≡ None
-none_more slots i inside none k h =
-    elim (cases_eq k i) [ inl same ↦ rw same (get_or-set_same slots i None None inside) | inr other ↦ get_or-set_other slots i k None None other ∙ none k (omega arith) ]
-
--- where a slot is free there is room
-pub room_of : {T : Type 0} (slots : List (Option (ℕ × T))) (rest : List ℕ) (slot : ℕ) → IsFree slots (rest ++ slot ∷ []) → live_of slots < length slots
-room_of slots rest slot free = omega (arith, free.count, length-append rest (slot ∷ []))

@@ -1,5 +1,5 @@
 -- A pool as its slots.
-use Rattle.std.specs.Prelude.{◌≡◌, ◌≢◌, ℕ, ◌+◌, ◌<◌, ◌≤◌, ◌^◌, is_some, List, length, Option, None, Some, slice_get, slice_index_or, All, AllPairs, count_by, ◌==◌, if◌then◌else◌}
+use Rattle.std.specs.Prelude.{◌≡◌, ◌≢◌, ℕ, ◌+◌, ◌-◌, ◌<◌, ◌≤◌, ◌^◌, ◌++◌, is_some, List, length, replicate, Option, None, Some, slice_get, slice_index_or, All, AllPairs, count_by, ◌==◌, if◌then◌else◌}
 
 -- what contracts see of a pool: what each slot holds, a birth and a value, and how many births there were
 pub record Slots (T : Type 0) : Type 0 where
@@ -31,9 +31,15 @@ pub record IsFree {T : Type 0} (slots : List (Option (ℕ × T))) (free : List �
   pub distinct : AllPairs (λ i j. i ≢ j) free
   pub count : live_of slots + length free ≡ length slots
 
--- a pool that is in order: its free list has all empty slots, and room for every slot
-pub record IsPool {T : Type 0} (slots : List (Option (ℕ × T))) (free : List ℕ) (room births : ℕ) : Type 0 where
-  pub empty : IsFree slots free
-  pub room_for_all : length slots ≤ room
-  pub short : length slots < 2 ^ 32
-  pub born : IsBorn births slots
+-- what was written, and blanks up to so many
+abbrev pub padded : {A : Type 0} → A → ℕ → List A → List A
+padded blank count written = written ++ replicate (count - length written) blank
+
+-- a pool that is in order: its free list has all empty slots of those that were used, and there is room for every slot
+pub record IsPool {T : Type 0} (capacity : ℕ) (used : List (Option (ℕ × T))) (free : List ℕ) (room free_room births : ℕ) : Type 0 where
+  pub empty : IsFree used free
+  pub within : length used ≤ capacity
+  pub room_for_all : capacity ≤ room
+  pub room_for_free : capacity ≤ free_room
+  pub short : capacity < 2 ^ 32
+  pub born : IsBorn births used

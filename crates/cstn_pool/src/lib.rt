@@ -5,8 +5,10 @@
 //! that was given back never reads the value that came after it.
 #![tactic(auto)]
 
+mod laws;
 mod pool;
 mod slot_id;
 
+pub use laws::births_never_come_back;
 pub use pool::{Full, Pool};
 pub use slot_id::SlotId;

@@ -15,24 +15,28 @@ pub struct Full;
 /// A fixed number of slots, each free or holding one value under its [`SlotId`].
 ///
 /// All memory is taken by [`Pool::start`]: a slot takes the bytes of `Option<(u64, T)>` and 4
-/// for the free list. Every other call takes none, and `take`, `get` and `give` cost the same
-/// however full the pool is.
+/// for the free list. Every other call takes none. `take`, `get` and `give` cost the same however
+/// full the pool is; `start` and `clear` cost nothing for a slot that was never used.
 #[derive(Drop)]
 pub struct Pool<T: Copy> {
+    // The slots that were used since the pool was empty. The others are empty and not yet written,
+    // and a new slot is the next of them.
     slots: Vec<Option<(u64, T)>>,
+    // Those of the used slots that came back.
     free: Vec<u32>,
+    capacity: u32,
     births: u64,
 }
 
 impl<T: Copy> Model for Pool<T> {
-    ghost use Rattle.std.specs.Prelude.{vec_capacity};
-    ghost use Rattle.cstn_pool.specs.Slots.{Slots, IsPool};
+    ghost use Rattle.std.specs.Prelude.{vec_capacity, None};
+    ghost use Rattle.cstn_pool.specs.Slots.{Slots, IsPool, padded};
 
     ghost Value = { Slots T };
 
-    ghost view = { λ p. record { slots = p.slots.items; births = p.births } };
+    ghost view = { λ p. record { slots = padded None p.capacity p.slots.items; births = p.births } };
 
-    ghost invariant = { λ p. IsPool p.slots.items p.free.items (vec_capacity p.free) p.births };
+    ghost invariant = { λ p. IsPool p.capacity p.slots.items p.free.items (vec_capacity p.slots) (vec_capacity p.free) p.births };
 }
 
 impl<T: Copy> Pool<T> {
@@ -40,16 +44,12 @@ impl<T: Copy> Pool<T> {
     pub fn start(alloc: Global, capacity: u32) -> Result<Pool<T>, AllocError>
         ensures empty { IfOk result (λ pool. pool ≡ record { slots = replicate capacity None; births = 0 }) }
     {
-        let size = capacity as usize;
-        let mut slots = Vec::with_capacity(alloc, size)?;
-        let mut free = Vec::with_capacity(alloc, size)?;
-        for slot in 0..capacity {
-            slots.push(None)?;
-            free.push(slot)?;
-        }
+        let slots = Vec::with_capacity(alloc, capacity as usize)?;
+        let free = Vec::with_capacity(alloc, capacity as usize)?;
         Ok(Pool {
             slots,
             free,
+            capacity,
             births: 0,
         })
     }
@@ -61,6 +61,7 @@ impl<T: Copy> Pool<T> {
 
         ensures full { IsErr result ↔ (live_of self.old.slots ≡ length self.old.slots) }
         ensures refused { OnErr result (self.new ≡ self.old) }
+        ensures births { self.old.births ≤ self.new.births }
 
         ensures empty { IfOk result (λ id. slice_get self.old.slots id.slot ≡ Some None) }
         ensures birth { IfOk result (λ id. id.birth ≡ self.old.births) }
@@ -69,12 +70,18 @@ impl<T: Copy> Pool<T> {
         // Whichever slots were given back: after any calls there is room up to the capacity.
         ensures after_calls { (capacity : ℕ) (calls : List (Call T)) → AfterCalls calls (record { slots = replicate capacity None; births = 0 }) self.old → (IsOk result ↔ (live_of self.old.slots < capacity)) }
     {
-        let Some(slot) = self.free.pop() else {
-            return Err(Full);
-        };
         let birth = self.births;
+        if let Some(slot) = self.free.pop() {
+            self.births += 1;
+            self.slots[slot as usize] = Some((birth, value));
+            return Ok(SlotId { slot, birth });
+        }
+        let slot = self.slots.len() as u32;
+        if slot == self.capacity {
+            return Err(Full);
+        }
         self.births += 1;
-        self.slots[slot as usize] = Some((birth, value));
+        self.slots.push_reserved(Some((birth, value)));
         Ok(SlotId { slot, birth })
     }
 
@@ -83,21 +90,19 @@ impl<T: Copy> Pool<T> {
         ensures value { result ≡ value_at self.now.slots id.slot id.birth }
         ensures births { IsBorn self.now.births self.now.slots }
     {
-        match self.slots.get(id.slot as usize) {
-            Some(Some((birth, value))) if *birth == id.birth => Some(*value),
-            _ => None,
-        }
+        value_in(&self.slots, id)
     }
 
     /// Gives the slot back and answers the value; `None` exactly where `get` answers it.
     pub fn give(&mut self, id: SlotId) -> Option<T>
         ensures value { result ≡ value_at self.old.slots id.slot id.birth }
         ensures none { IfNone result (self.new ≡ self.old) }
+        ensures births { self.old.births ≤ self.new.births }
         ensures given { IsSome result → self.new ≡ record self.old { slots = slice_set self.old.slots id.slot None } }
     {
         let value = self.get(id)?;
         self.slots[id.slot as usize] = None;
-        self.free.push(id.slot).unwrap();
+        self.free.push_reserved(id.slot);
         Some(value)
     }
 
@@ -111,13 +116,21 @@ impl<T: Copy> Pool<T> {
 
     /// Empties the pool. Births go on from where they were.
     pub fn clear(&mut self)
-        ensures { self.new ≡ record self.old { slots = replicate (length self.old.slots) None } }
+        ensures cleared { self.new ≡ record self.old { slots = replicate (length self.old.slots) None } }
+        ensures births { self.old.births ≤ self.new.births }
     {
+        self.slots.clear();
         self.free.clear();
-        for slot in 0..self.slots.len() {
-            self.slots[slot] = None;
-            self.free.push(slot as u32).unwrap();
-        }
+    }
+}
+
+// The value under this id among the used slots.
+fn value_in<T: Copy>(slots: &[Option<(u64, T)>], id: SlotId) -> Option<T>
+    ensures { result ≡ value_at slots.now id.slot id.birth }
+{
+    match slots.get(id.slot as usize) {
+        Some(Some((birth, value))) if *birth == id.birth => Some(*value),
+        _ => None,
     }
 }
 
@@ -160,6 +173,28 @@ mod tests {
         assert_eq!(rt; pool.take(6), Err(Full));
         assert_eq!(rt; pool.live(), 3);
         assert_eq!(rt; pool.get(three), Some(3));
+        Ok(())
+    }
+
+    #[test]
+    fn no_slot_and_no_such_slot(rt: HostRuntime) -> Result<(), AllocError> {
+        let mut none = Pool::start(rt.alloc(), 0)?;
+        assert_eq!(rt; none.take(7), Err(Full));
+        assert_eq!(rt; none.get(SlotId { slot: 0, birth: 0 }), None);
+        assert_eq!(rt; none.live(), 0);
+        let mut one = Pool::start(rt.alloc(), 1)?;
+        let id = one.take(5).unwrap();
+        let beyond = SlotId {
+            slot: u32::MAX,
+            birth: 0,
+        };
+        assert_eq!(rt; one.give(beyond), None);
+        let later = SlotId {
+            slot: 0,
+            birth: u64::MAX,
+        };
+        assert_eq!(rt; one.give(later), None);
+        assert_eq!(rt; one.get(id), Some(5));
         Ok(())
     }
 }

@@ -1,13 +1,12 @@
-use Rattle.std.proofs.Common.{◌≡◌, ℕ, List, Option, length, replicate, None, ap, ◌∙◌, arith}
-use Rattle.cstn_label.specs.declared.bounds.Bound.{Bound}
-use Rattle.cstn_minset.proofs.LinkLemmas.{whole}
-use Rattle.cstn_minset.proofs.TableLemmas.{all_free}
+use Rattle.std.proofs.Common.{◌≡◌, ◌+◌, length, replicate, None, ◌∙◌}
+use Rattle.cstn_minset.proofs.MarkLemmas.{marks_none}
+use Rattle.cstn_minset.proofs.StepLemmas.{all_free}
 use Rattle.cstn_minset.proofs.min_set.MinSet.clear.Goals as goal
 
 pub invariant_of-self : goal.invariant_of-self
 invariant_of-self c =
-    let n : ℕ = length c.self.inside.table.items in
-    let len : length c.empty.new.table ≡ n = c.empty.auto.table ∙ ap length c.deref_mut.ensures.value in
-    let empty : c.empty.new.table ≡ replicate n None = c.empty.ensures ∙ ap (λ (t : List (Option (ℕ × Bound))). replicate {A = Option (ℕ × Bound)} (length t) None) c.deref_mut.ensures.value in
-    rw (whole c.self.inside.table.items c.empty.new.table c.self.inside.table.len len (omega (arith, c.self.inside.table.ok)))
-    (all_free c.clear.new.self c.self.inside.nodes n c.empty.new.table (c.clear.ensures.size.0 ∙ c.self.invariant.size, c.clear.ensures.size.1 ∙ c.self.invariant.heads) c.clear.ensures.linked empty)
+    let marks = c.self.invariant.by_marks in
+    let n = length c.self.inside.table in
+    rw c.clear-3.ensures
+    (all_free c.clear.new.self c.clear-2.new.self.chains.items c.self.inside.nodes n (c.clear.ensures.size.0 ∙ c.self.invariant.by_births.slots, c.clear.ensures.size.1 ∙ c.self.invariant.by_births.heads_are) c.clear.ensures.linked
+    (marks_none c.clear-2.new.self.chains.items n c.clear-2.ensures.count (λ p less. ((c.clear-2.ensures.size p less).0 ∙ (marks.each p less).slots, (c.clear-2.ensures.size p less).1 ∙ (marks.each p less).heads_are, c.clear-2.ensures.linked p less))))

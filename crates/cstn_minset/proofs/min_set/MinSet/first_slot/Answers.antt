@@ -5,4 +5,4 @@ use Rattle.cstn_minset.proofs.min_set.MinSet.first_slot.Goals as goal
 
 pub returns-then-node-self-clause-first : goal.returns-then-node-self-clause-first
 returns-then-node-self-clause-first c =
-    subst (λ (v : Places). IsFirstSlot v.table (IsAt c.args.node.0) 0 c.first.result) c.self.view_is (first_of c.self.inside.table.items c.args.node.0 0 c.first.result (c.first.ensures (map by_birth c.self.inside.table.items) c.self.invariant.linked))
+    subst (λ (v : Places). IsFirstSlot v.table (IsAt c.args.node.0) 0 c.first.result) c.self.view_is (first_of c.self.inside.table c.args.node.0 0 c.first.result (c.first.ensures (map by_birth c.self.inside.table) c.self.invariant.by_births.linked))

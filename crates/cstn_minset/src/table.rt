@@ -1,0 +1,65 @@
+ghost use Rattle.std.specs.Prelude.{◌≡◌, ◌<◌, ◌≤◌, ℕ, Some, None, length, IfOk, slice_set, replicate};
+ghost use Rattle.cstn_minset.specs.Sets.{entry_at};
+
+use cstn_label::Bound;
+use std::alloc::{AllocError, Global};
+use std::marker::Model;
+
+/// A birth and a bound for each slot in use.
+///
+/// Room for every slot is taken once, and slots from the first on that was never used are not
+/// written.
+#[derive(Drop)]
+pub struct Table {
+    used: Vec<Option<(u64, Bound)>>,
+    capacity: u32,
+}
+
+impl Model for Table {
+    ghost use Rattle.std.specs.Prelude.{◌≤◌, None, length, vec_capacity};
+    ghost use Rattle.cstn_pool.specs.Slots.{padded};
+    ghost use Rattle.cstn_minset.specs.Sets.{Entries};
+
+    ghost Value = { Entries };
+
+    ghost view = { λ t. padded None t.capacity t.used.items };
+
+    ghost invariant = { λ t. (length t.used.items ≤ t.capacity) × (t.capacity ≤ vec_capacity t.used) };
+}
+
+impl Table {
+    /// Slots that hold nothing. Fails for want of memory alone.
+    pub fn start(alloc: Global, capacity: u32) -> Result<Table, AllocError>
+        ensures { IfOk result (λ table. table ≡ replicate capacity None) }
+    {
+        let used = Vec::with_capacity(alloc, capacity as usize)?;
+        Ok(Table { used, capacity })
+    }
+
+    /// What a slot holds, which may be any number.
+    pub fn at(&self, slot: u32) -> Option<(u64, Bound)>
+        ensures { result ≡ entry_at self.now slot }
+    {
+        match self.used.get(slot as usize) {
+            Some(entry) => *entry,
+            None => None,
+        }
+    }
+
+    /// Writes a slot.
+    pub fn set(&mut self, slot: u32, entry: Option<(u64, Bound)>)
+        requires { slot < length self.old }
+        ensures { self.new ≡ slice_set self.old slot entry }
+    {
+        let count = self.used.len().max(slot as usize + 1);
+        self.used.resize(count, None).unwrap();
+        self.used[slot as usize] = entry;
+    }
+
+    /// Empties every slot.
+    pub fn clear(&mut self)
+        ensures { self.new ≡ replicate (length self.old) None }
+    {
+        self.used.clear();
+    }
+}
