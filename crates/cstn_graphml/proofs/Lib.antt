@@ -2,6 +2,8 @@ pub mod Examples
 pub mod Places
 pub mod PassedOver
 pub mod Folds
+pub mod ChildLemmas
+pub mod FreshNames
 pub mod DatumRead
 pub mod Wholes
 pub mod Judging

@@ -8,7 +8,9 @@ pub mod DrawnGraphLaws
 pub mod Judged
 pub mod Document
 pub mod Networks
+pub mod Faults
 pub mod Reads
+pub mod Children
 pub mod Passing
 pub mod PartSeen
 pub mod Answers

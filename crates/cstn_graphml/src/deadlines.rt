@@ -18,7 +18,7 @@ pub fn judge_deadline(datum: Option<Datum>, graph: &mut DrawnGraph) -> Result<()
     let Some(datum) = datum else {
         return Ok(());
     };
-    let Some(ticks) = deadline_of(datum.value.as_slice()) else {
+    let Some(ticks) = deadline_of(datum.value()) else {
         return Err(DocError::Value { at: datum.at });
     };
     put_deadline(graph, datum, ticks)?;

@@ -1,12 +1,13 @@
 //! The document around its root.
 
-ghost use Rattle.std.specs.Prelude.{◌≡◌, ℕ, List, [], None, ◌≤◌, length, option_map};
-ghost use Rattle.cstn_markup.specs.Tokens.{Attribute};
+ghost use Rattle.std.specs.Prelude.{◌≡◌, [], ◌≤◌, length, option_map};
 ghost use Rattle.cstn_graphml.specs.Contents.{content_of};
 ghost use Rattle.cstn_graphml.specs.Document.{document_child, in_document};
+ghost use Rattle.cstn_graphml.specs.Children.{tag_seen};
 ghost use Rattle.cstn_graphml.specs.DrawnGraphSeen.{graph_seen};
 ghost use Rattle.cstn_graphml.specs.Reads.{Gives, ReadsWhole};
 
+use crate::children::Start;
 use crate::drawn_graph::DrawnGraph;
 use crate::errors::DocError;
 use crate::root::read_whole_root;
@@ -18,21 +19,20 @@ use std::alloc::Global;
 fn read_document_child(
     alloc: Global,
     scanner: &mut Scanner,
-    at: usize,
-    name: &[u8],
-    closed: bool,
+    start: &Start,
     seen: &mut Option<DrawnGraph>,
 ) -> Result<(), DocError>
-    ensures reads { (attributes : List Attribute) → ReadsWhole (λ u. option_map graph_seen seen.new) (document_child (option_map graph_seen seen.old) (record { at = at; name = name.now; attributes = attributes })) closed at name.now [] scanner.old scanner.new result }
+    ensures reads { ReadsWhole (λ u. option_map graph_seen seen.new) (document_child (option_map graph_seen seen.old) (tag_seen start.now)) start.now.closed start.now.at start.now.name.now [] scanner.old scanner.new result }
     ensures less { length scanner.new ≤ length scanner.old }
 {
+    let at = start.at;
     let None = seen else {
         return Err(DocError::Shape { at });
     };
-    if name != b"graphml".as_slice() {
+    if start.name != b"graphml".as_slice() {
         return Err(DocError::Shape { at });
     }
-    let graph = read_whole_root(alloc, scanner, at, name, closed, 0)?;
+    let graph = read_whole_root(alloc, scanner, start)?;
     *seen = Some(graph);
     Ok(())
 }
@@ -46,11 +46,17 @@ pub fn read_document(alloc: Global, scanner: &mut Scanner) -> Result<DrawnGraph,
         let Token { at, kind } = scanner.step();
         match kind {
             Kind::Start {
-                name: child,
-                attributes: _,
+                name,
+                attributes,
                 closed,
             } => {
-                read_document_child(alloc, scanner, at, child, closed, &mut seen)?;
+                let start = Start {
+                    at,
+                    name,
+                    attributes,
+                    closed,
+                };
+                read_document_child(alloc, scanner, &start, &mut seen)?;
             }
             Kind::End { name: _ } => return Err(DocError::Shape { at }),
             Kind::Text { raw } => {

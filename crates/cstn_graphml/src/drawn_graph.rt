@@ -1,13 +1,13 @@
 //! What was read of a graph so far.
 
-ghost use Rattle.std.specs.Prelude.{◌≡◌, IfOk, OnOk};
+ghost use Rattle.std.specs.Prelude.{◌≡◌, ◌<◌, ◌≤◌, None, length, IfOk, OnOk};
 ghost use Rattle.cstn_graphml.specs.DrawnGraph.{node_of, with_node, with_constraint, with_deadline, empty_graph};
 ghost use Rattle.cstn_graphml.specs.DataElementSeen.{datum_seen};
 ghost use Rattle.cstn_graphml.specs.DrawnGraphSeen.{observed_seen, drawn_seen, graph_seen};
 
 use crate::data_element::Datum;
 use cstn_label::{Label, Prop};
-use cstn_text::Names;
+use cstn_text::{NameError, Names};
 use std::alloc::{AllocError, Global};
 
 /// What a time-point observes, and after how many ticks it is known.
@@ -69,12 +69,14 @@ pub fn node_of(graph: &DrawnGraph, name: &str) -> Option<u32>
     }
 }
 
-/// Puts in a node of a name that no node has.
+/// Puts in a node of a name of 1 to 64 bytes that no node has.
 pub fn put_node(
     graph: &mut DrawnGraph,
     name: &str,
     observed: Option<Observation>,
 ) -> Result<(), AllocError>
+    requires fresh { node_of name.now (graph_seen graph.old) ≡ None }
+    requires sized { (0 < length name.now) × (length name.now ≤ 64) }
     ensures { OnOk result (graph_seen graph.new ≡ with_node name.now (observed_seen observed) (graph_seen graph.old)) }
 {
     if name == "Z" {
@@ -84,11 +86,15 @@ pub fn put_node(
     if graph.names.count() == u32::MAX {
         return Err(AllocError);
     }
-    let Ok(_) = graph.names.push(name) else {
-        return Err(AllocError);
-    };
-    graph.observes.push(observed)?;
-    Ok(())
+    match graph.names.push(name) {
+        Ok(_) => {
+            graph.observes.push(observed)?;
+            Ok(())
+        }
+        Err(NameError::Memory(e)) => Err(e),
+        Err(NameError::Shape) => unreachable!(),
+        Err(NameError::Twice) => unreachable!(),
+    }
 }
 
 /// Puts in a constraint.

@@ -1,33 +1,34 @@
 //! Edges, judged when they end.
 
-ghost use Rattle.std.specs.Prelude.{◌≡◌, ℕ, List, map, true};
+ghost use Rattle.std.specs.Prelude.{◌≡◌, map, true};
 ghost use Rattle.cstn_graphml.specs.Judged.{is_kept, with_pair, with_pairs, with_values, with_edge, judged_edge};
+ghost use Rattle.cstn_graphml.specs.Children.{tag_seen};
 ghost use Rattle.cstn_graphml.specs.DataElementSeen.{lent_datum, datum_seen};
 ghost use Rattle.cstn_data.specs.TextsSeen.{pair_seen};
 ghost use Rattle.cstn_graphml.specs.DrawnGraphSeen.{graph_seen};
-ghost use Rattle.cstn_graphml.specs.Reads.{Gives};
+ghost use Rattle.cstn_graphml.specs.Reads.{Gives, raised};
 
 use crate::attributes::text_attribute;
+use crate::children::Start;
 use crate::data_element::{Datum, datum_of};
 use crate::drawn_graph::{DrawnConstraint, DrawnGraph, node_of, put_constraint};
-use crate::errors::DocError;
+use crate::errors::{DocError, Fault};
 use cstn_data::{EdgeType, Pair, edge_type_of, values_of};
-use cstn_markup::Attributes;
 use std::alloc::Global;
 
 /// Whether an edge of this type is kept.
-fn is_kept(datum: Option<&Datum>) -> Result<bool, DocError>
-    ensures { Gives (λ b. b) result (is_kept (lent_datum datum.entry)) }
+fn is_kept(datum: Option<&Datum>) -> Result<bool, Fault>
+    ensures { Gives (λ b. b) (raised result) (is_kept (lent_datum datum.entry)) }
 {
     let Some(datum) = datum else {
         return Ok(true);
     };
     let at = datum.at;
-    match edge_type_of(datum.value.as_slice()) {
+    match edge_type_of(datum.value()) {
         Some(EdgeType::Kept) => Ok(true),
         Some(EdgeType::PassedOver) => Ok(false),
-        Some(EdgeType::Contingent) => Err(DocError::Contingent { at }),
-        None => Err(DocError::EdgeType { at }),
+        Some(EdgeType::Contingent) => Err(Fault::Contingent { at }),
+        None => Err(Fault::EdgeType { at }),
     }
 }
 
@@ -87,7 +88,7 @@ fn put_values(
     let Some(datum) = datum else {
         return Ok(());
     };
-    let Some(pairs) = values_of(alloc, datum.value.as_slice())? else {
+    let Some(pairs) = values_of(alloc, datum.value())? else {
         return Err(DocError::Value { at: datum.at });
     };
     put_pairs(datum.at, from, to, pairs.as_slice(), graph)
@@ -116,17 +117,17 @@ fn put_edge(
 /// Puts in an edge whose data were read.
 pub fn judge_edge(
     alloc: Global,
-    at: usize,
-    attributes: &Attributes,
+    start: &Start,
     found: &[Datum],
     graph: &mut DrawnGraph,
 ) -> Result<(), DocError>
-    ensures { (name : List ℕ) → Gives (λ u. graph_seen graph.new) result (judged_edge (record { at = at; name = name; attributes = attributes.now }) (graph_seen graph.old) (map datum_seen found.now)) }
+    ensures { Gives (λ u. graph_seen graph.new) result (judged_edge (tag_seen start.now) (graph_seen graph.old) (map datum_seen found.now)) }
 {
-    let Some(source) = text_attribute(alloc, attributes, b"source")? else {
+    let at = start.at;
+    let Some(source) = text_attribute(alloc, &start.attributes, b"source")? else {
         return Err(DocError::Shape { at });
     };
-    let Some(target) = text_attribute(alloc, attributes, b"target")? else {
+    let Some(target) = text_attribute(alloc, &start.attributes, b"target")? else {
         return Err(DocError::Shape { at });
     };
     if !is_kept(datum_of(found, b"Type"))? {

@@ -2,6 +2,7 @@
 #![tactic(auto)]
 
 mod attributes;
+mod children;
 mod data_element;
 mod data_element_text;
 mod deadlines;

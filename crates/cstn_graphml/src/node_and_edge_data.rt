@@ -1,49 +1,35 @@
 //! The data of a node or an edge.
 
-ghost use Rattle.std.specs.Prelude.{◌≡◌, ℕ, List, ◌≤◌, ◌<◌, ◌+◌, length, map, IsSome, codes};
-ghost use Rattle.std.specs.List.{list_all};
-ghost use Rattle.cstn_markup.specs.Bytes.{is_same, resolved, is_white};
+ghost use Rattle.std.specs.Prelude.{◌≡◌, ℕ, List, ◌≤◌, length, map, codes};
+ghost use Rattle.cstn_markup.specs.Bytes.{is_same};
 ghost use Rattle.cstn_graphml.specs.Elements.{child, data_of};
+ghost use Rattle.cstn_graphml.specs.Children.{tag_seen};
 ghost use Rattle.cstn_graphml.specs.DataElementSeen.{datum_seen};
 ghost use Rattle.cstn_graphml.specs.Reads.{Reads, ReadsWhole};
 
+use crate::children::{Next, Start, next_child};
 use crate::data_element::{Datum, read_datum};
 use crate::errors::DocError;
 use crate::passing::pass_element;
-use cstn_data::is_blank;
-use cstn_markup::{Attributes, Kind, Scanner, Token};
+use cstn_markup::Scanner;
 use std::alloc::Global;
 
 /// An element in a node or an edge, of which the start tag was read.
 fn read_child<'a>(
     alloc: Global,
     scanner: &mut Scanner<'a>,
-    at: usize,
-    name: &'a [u8],
-    attributes: &Attributes,
-    closed: bool,
+    start: &Start<'a>,
     used: &[&[u8]],
     found: &mut Vec<Datum>,
-    depth: usize,
 ) -> Result<(), DocError>
-    requires deep { depth < 32 }
-    ensures reads { (names : List (List ℕ)) → length names ≡ depth → ReadsWhole (λ u. map datum_seen found.new.items) (child (is_same name.now (codes "data")) (map (λ u. u.now) used.now) (map datum_seen found.old.items) (record { at = at; name = name.now; attributes = attributes.now })) closed at name.now names scanner.old scanner.new result }
+    ensures reads { (names : List (List ℕ)) → length names ≡ 3 → ReadsWhole (λ u. map datum_seen found.new.items) (child (is_same start.now.name.now (codes "data")) (map (λ u. u.now) used.now) (map datum_seen found.old.items) (tag_seen start.now)) start.now.closed start.now.at start.now.name.now names scanner.old scanner.new result }
     ensures less { length scanner.new ≤ length scanner.old }
 {
-    if name != b"data".as_slice() {
-        return pass_element(scanner, name, closed, depth);
+    if start.name != b"data".as_slice() {
+        pass_element(scanner, start, 3)?;
+        return Ok(());
     }
-    match read_datum(
-        alloc,
-        scanner,
-        at,
-        name,
-        attributes,
-        closed,
-        used,
-        found.as_slice(),
-        depth,
-    )? {
+    match read_datum(alloc, scanner, start, used, found.as_slice(), 3)? {
         None => Ok(()),
         Some(datum) => {
             found.push(datum)?;
@@ -53,54 +39,37 @@ fn read_child<'a>(
 }
 
 /// The data in the rest of a node or an edge of this name.
-pub fn read_data(
+fn read_data(
     alloc: Global,
     scanner: &mut Scanner,
     name: &[u8],
     used: &[&[u8]],
-    depth: usize,
 ) -> Result<Vec<Datum>, DocError>
-    requires { depth < 32 }
-    ensures reads { (others : List (List ℕ)) → length others ≡ depth → Reads (λ v. map datum_seen v.items) (data_of (map (λ u. u.now) used.now)) name.now others scanner.old scanner.new result }
+    ensures reads { (others : List (List ℕ)) → length others ≡ 2 → Reads (λ v. map datum_seen v.items) (data_of (map (λ u. u.now) used.now)) name.now others scanner.old scanner.new result }
     ensures less { length scanner.new ≤ length scanner.old }
 {
     let mut found = Vec::new(alloc);
     loop {
-        let Token { at, kind } = scanner.step();
-        match kind {
-            Kind::Start {
-                name: child,
-                attributes,
-                closed,
-            } => {
-                if depth + 1 >= 32 {
-                    return Err(DocError::Shape { at });
-                }
-                read_child(
-                    alloc,
-                    scanner,
-                    at,
-                    child,
-                    &attributes,
-                    closed,
-                    used,
-                    &mut found,
-                    depth + 1,
-                )?;
-            }
-            Kind::End { name: last } => {
-                if last == name {
-                    return Ok(found);
-                }
-                return Err(DocError::Shape { at });
-            }
-            Kind::Text { raw } => {
-                if !is_blank(raw) {
-                    return Err(DocError::Shape { at });
-                }
-            }
-            Kind::Wrong => return Err(DocError::Shape { at }),
-            Kind::Finish => return Err(DocError::Shape { at }),
+        match next_child(scanner, name) {
+            Next::Child(start) => read_child(alloc, scanner, &start, used, &mut found)?,
+            Next::End { at: _ } => return Ok(found),
+            Next::Wrong { at } => return Err(DocError::Shape { at }),
         }
     }
+}
+
+/// The data of a node or an edge of which the start tag was read.
+pub fn read_element_data(
+    alloc: Global,
+    scanner: &mut Scanner,
+    start: &Start,
+    used: &[&[u8]],
+) -> Result<Vec<Datum>, DocError>
+    ensures reads { (names : List (List ℕ)) → length names ≡ 2 → ReadsWhole (λ v. map datum_seen v.items) (data_of (map (λ u. u.now) used.now)) start.now.closed start.now.at start.now.name.now names scanner.old scanner.new result }
+    ensures less { length scanner.new ≤ length scanner.old }
+{
+    if start.closed {
+        return Ok(Vec::new(alloc));
+    }
+    read_data(alloc, scanner, start.name, used)
 }

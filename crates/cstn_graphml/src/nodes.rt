@@ -1,44 +1,45 @@
 //! Nodes, judged when they end.
 
-ghost use Rattle.std.specs.Prelude.{◌≡◌, ℕ, List, map, option_map};
+ghost use Rattle.std.specs.Prelude.{◌≡◌, map, option_map};
 ghost use Rattle.cstn_graphml.specs.Judged.{observed, reacting, unlabelled, judged_node};
+ghost use Rattle.cstn_graphml.specs.Children.{tag_seen};
 ghost use Rattle.cstn_graphml.specs.DataElementSeen.{lent_datum, datum_seen};
 ghost use Rattle.cstn_data.specs.TextsSeen.{prop_seen};
 ghost use Rattle.cstn_graphml.specs.DrawnGraph.{observation};
 ghost use Rattle.cstn_graphml.specs.DrawnGraphSeen.{observed_seen, graph_seen};
-ghost use Rattle.cstn_graphml.specs.Reads.{Gives};
+ghost use Rattle.cstn_graphml.specs.Reads.{Gives, raised};
 
 use crate::attributes::text_attribute;
+use crate::children::Start;
 use crate::data_element::{Datum, datum_of};
 use crate::drawn_graph::{DrawnGraph, Observation, node_of, put_node};
-use crate::errors::DocError;
+use crate::errors::{DocError, Fault};
 use cstn_data::{is_of_empty, label_of, observed_in, reaction_in};
 use cstn_label::Prop;
-use cstn_markup::Attributes;
 use std::alloc::Global;
 
 /// What a node observes.
-fn observed(datum: Option<&Datum>) -> Result<Option<Prop>, DocError>
-    ensures { Gives prop_seen result (observed (lent_datum datum.entry)) }
+fn observed(datum: Option<&Datum>) -> Result<Option<Prop>, Fault>
+    ensures { Gives prop_seen (raised result) (observed (lent_datum datum.entry)) }
 {
     let Some(datum) = datum else {
         return Ok(None);
     };
-    let Some(prop) = observed_in(datum.value.as_slice()) else {
-        return Err(DocError::LabelText { at: datum.at });
+    let Some(prop) = observed_in(datum.value()) else {
+        return Err(Fault::LabelText { at: datum.at });
     };
     Ok(prop)
 }
 
 /// The reaction of a node in ticks, and a tick where none is written.
-fn reacting(datum: Option<&Datum>) -> Result<u32, DocError>
-    ensures { Gives (λ n. n) result (reacting (lent_datum datum.entry)) }
+fn reacting(datum: Option<&Datum>) -> Result<u32, Fault>
+    ensures { Gives (λ n. n) (raised result) (reacting (lent_datum datum.entry)) }
 {
     let Some(datum) = datum else {
         return Ok(1);
     };
-    let Some(ticks) = reaction_in(datum.value.as_slice()) else {
-        return Err(DocError::Value { at: datum.at });
+    let Some(ticks) = reaction_in(datum.value()) else {
+        return Err(Fault::Value { at: datum.at });
     };
     Ok(ticks)
 }
@@ -54,17 +55,17 @@ fn observation(prop: Option<Prop>, reaction: u32) -> Option<Observation>
 }
 
 /// A node has no label but the empty one.
-fn unlabelled(datum: Option<&Datum>) -> Result<(), DocError>
-    ensures { Gives (λ u. u) result (unlabelled (lent_datum datum.entry)) }
+fn unlabelled(datum: Option<&Datum>) -> Result<(), Fault>
+    ensures { Gives (λ u. u) (raised result) (unlabelled (lent_datum datum.entry)) }
 {
     let Some(datum) = datum else {
         return Ok(());
     };
-    let Some(_) = label_of(datum.value.as_slice()) else {
-        return Err(DocError::LabelText { at: datum.at });
+    let Some(_) = label_of(datum.value()) else {
+        return Err(Fault::LabelText { at: datum.at });
     };
-    if !is_of_empty(datum.value.as_slice()) {
-        return Err(DocError::NodeLabel { at: datum.at });
+    if !is_of_empty(datum.value()) {
+        return Err(Fault::NodeLabel { at: datum.at });
     }
     Ok(())
 }
@@ -72,14 +73,14 @@ fn unlabelled(datum: Option<&Datum>) -> Result<(), DocError>
 /// Puts in a node whose data were read.
 pub fn judge_node(
     alloc: Global,
-    at: usize,
-    attributes: &Attributes,
+    start: &Start,
     found: &[Datum],
     graph: &mut DrawnGraph,
 ) -> Result<(), DocError>
-    ensures { (name : List ℕ) → Gives (λ u. graph_seen graph.new) result (judged_node (record { at = at; name = name; attributes = attributes.now }) (graph_seen graph.old) (map datum_seen found.now)) }
+    ensures { Gives (λ u. graph_seen graph.new) result (judged_node (tag_seen start.now) (graph_seen graph.old) (map datum_seen found.now)) }
 {
-    let Some(id) = text_attribute(alloc, attributes, b"id")? else {
+    let at = start.at;
+    let Some(id) = text_attribute(alloc, &start.attributes, b"id")? else {
         return Err(DocError::Shape { at });
     };
     if id.is_empty() || id.len() > 64 {

@@ -5,7 +5,7 @@ use Rattle.cstn_graphml.proofs.data_element_text.read_texts.Given as goal
 
 abbrev pub invariant-loop-found : goal.invariant-loop-found
 invariant-loop-found l = record {
-  same : (others : List (List ℕ)) → length others ≡ l.depth → Continues (read_by texts_reading []) (read_by texts_reading l.found.items) (l.name ∷ others) l.fn.scanner l.scanner;
+  same : (others : List (List ℕ)) → Continues (read_by texts_reading []) (read_by texts_reading l.found.items) (l.name ∷ others) l.fn.scanner l.scanner;
   less : length l.scanner ≤ length l.fn.scanner;
 }
 
