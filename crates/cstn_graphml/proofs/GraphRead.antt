@@ -1,26 +1,28 @@
 -- The ends of the graph, the root and the document.
-use Rattle.std.proofs.Common.{◌≡◌, ℕ, List, ◌∷◌, Bool, true, Option, Some, None, Result, Ok, Err, ap, sym, ◌∙◌, subst}
+use Rattle.std.proofs.Common.{◌≡◌, ℕ, List, ◌∷◌, Bool, true, false, Option, Some, None, Result, Ok, Err, ap, sym, ◌∙◌, subst}
 use Rattle.cstn_markup.specs.Tokens.{Token}
 use Rattle.cstn_graphml.specs.Results.{Refusal, ◌>>=◌}
 use Rattle.cstn_graphml.specs.Results.Refusal.{shape}
 use Rattle.cstn_graphml.specs.Contents.{Tag, Content, contents, inner}
 use Rattle.cstn_graphml.specs.Contents.Content.{done}
-use Rattle.cstn_graphml.specs.Elements.{Reading, read_by}
-use Rattle.cstn_graphml.specs.Draft.{Draft, empty_draft}
-use Rattle.cstn_graphml.specs.DraftSeen.{draft_seen}
-use Rattle.cstn_graphml.specs.Document.{in_graph, root_child}
+use Rattle.cstn_graphml.specs.Elements.{Reading, read_by, passed}
+use Rattle.cstn_graphml.specs.DrawnGraph.{DrawnGraph, empty_graph}
+use Rattle.cstn_graphml.specs.DrawnGraphSeen.{graph_seen}
+use Rattle.cstn_graphml.specs.Document.{Part, in_graph, graph_child, root_child}
+use Rattle.cstn_graphml.specs.Document.Part.{another}
 use Rattle.cstn_graphml.specs.Reads.{Reads, ReadsWhole, Continues, Fails, inside}
-use Rattle.cstn_graphml.specs.declared.draft.Draft.{Draft as LentGraph}
+use Rattle.cstn_graphml.specs.declared.drawn_graph.DrawnGraph.{DrawnGraph as LentGraph}
 use Rattle.cstn_graphml.specs.declared.errors.DocError.{DocError}
 use Rattle.cstn_graphml.specs.declared.errors.DocError.TheVariants.{Shape}
+use Rattle.cstn_graphml.proofs.Judging.{passed_as}
 
 -- the first graph was read
-pub root_read : (b : Bool) (s : Option Draft) (tag : Tag) (closed : Bool) (name : List ℕ) (names : List (List ℕ)) (before after : List Token) (d : LentGraph) → b ≡ true → s ≡ None
-    → ReadsWhole draft_seen (in_graph empty_draft) closed tag.at name names before after (Ok d) → ReadsWhole {A = Unit {0}} (λ u. Some (draft_seen d)) (root_child b s tag) closed tag.at name names before after (Ok tt)
+pub root_read : (b : Bool) (s : Option DrawnGraph) (tag : Tag) (closed : Bool) (name : List ℕ) (names : List (List ℕ)) (before after : List Token) (d : LentGraph) → b ≡ true → s ≡ None
+    → ReadsWhole graph_seen (in_graph empty_graph) closed tag.at name names before after (Ok d) → ReadsWhole {A = Unit {0}} (λ u. Some (graph_seen d)) (root_child b s tag) closed tag.at name names before after (Ok tt)
 root_read b s tag closed name names before after d e n h =
     let content = inside closed tag.at name names before in
     record {
-      told = ap (λ q. root_child q s tag content) e ∙ ap (λ o. root_child true o tag content) n ∙ ap (λ o. o >>= λ draft. Ok (Some draft)) h.told;
+      told = ap (λ q. root_child q s tag content) e ∙ ap (λ o. root_child true o tag content) n ∙ ap (λ o. o >>= λ graph. Ok (Some graph)) h.told;
       left = h.left;
     }
 
@@ -34,3 +36,13 @@ end_fails r start view s name others at first before after c e d = record { told
 pub closed_fails : {V D : Type 0} (view : V → D) (meaning : Content → Result D Refusal) (e : DocError) (closed : Bool) (at : ℕ) (name : List ℕ) (names : List (List ℕ)) (before after : List Token)
     → closed ≡ true → Fails e (meaning (done at)) → ReadsWhole view meaning closed at name names before after (Err e)
 closed_fails view meaning e closed at name names before after is f = record { told = subst (λ q. Fails e (meaning (inside q at name names before))) (sym is) f; left = tt }
+
+-- an element in the root that is no graph is passed over
+pub root_passed : (b : Bool) (s : Option DrawnGraph) (tag : Tag) (closed : Bool) (name : List ℕ) (names : List (List ℕ)) (before after : List Token) (r : Result (Unit {0}) DocError) → b ≡ false
+    → ReadsWhole {A = Unit {0}} (λ u. u) passed closed tag.at name names before after r → ReadsWhole {A = Unit {0}} (λ u. s) (root_child b s tag) closed tag.at name names before after r
+root_passed b s tag closed name names before after r e h = subst (λ q. ReadsWhole {A = Unit {0}} (λ u. s) (root_child q s tag) closed tag.at name names before after r) (sym e) (passed_as s closed tag.at name names before after r h)
+
+-- an element in the graph of another name is passed over
+pub part_passed : (part : Part) (d : DrawnGraph) (tag : Tag) (closed : Bool) (name : List ℕ) (names : List (List ℕ)) (before after : List Token) (r : Result (Unit {0}) DocError) → another ≡ part
+    → ReadsWhole {A = Unit {0}} (λ u. u) passed closed tag.at name names before after r → ReadsWhole {A = Unit {0}} (λ u. d) (graph_child part d tag) closed tag.at name names before after r
+part_passed part d tag closed name names before after r e h = subst (λ q. ReadsWhole {A = Unit {0}} (λ u. d) (graph_child q d tag) closed tag.at name names before after r) e (passed_as d closed tag.at name names before after r h)

@@ -1,114 +1,64 @@
-//! The data of a node or an edge.
+//! What stands next in an element.
 
-ghost use Rattle.std.specs.Prelude.{◌≡◌, ℕ, List, ◌≤◌, ◌<◌, ◌+◌, length, map, IsSome, codes};
-ghost use Rattle.std.specs.List.{list_all};
-ghost use Rattle.cstn_markup.specs.Bytes.{is_same, resolved, is_white};
-ghost use Rattle.cstn_graphml.specs.Elements.{child, data_of};
-ghost use Rattle.cstn_graphml.specs.Data.{datum_seen};
-ghost use Rattle.cstn_graphml.specs.Reads.{Reads, ReadsWhole};
+ghost use Rattle.std.specs.Prelude.{ℕ, List, length, ◌<◌};
+ghost use Rattle.cstn_graphml.specs.Children.{IsNext, Takes};
 
-use crate::data::read_datum;
-use crate::data_element::Datum;
-use crate::errors::DocError;
-use crate::numbers::is_white;
-use crate::passing::pass_element;
+use cstn_data::is_blank;
 use cstn_markup::{Attributes, Kind, Scanner, Token};
-use std::alloc::Global;
 
-/// An element in a node or an edge, of which the start tag was read.
-fn read_child<'a>(
-    alloc: Global,
-    scanner: &mut Scanner<'a>,
-    at: usize,
-    name: &'a [u8],
-    attributes: &Attributes,
-    closed: bool,
-    used: &[&[u8]],
-    found: &mut Vec<Datum>,
-    depth: usize,
-) -> Result<(), DocError>
-    requires deep { depth < 32 }
-    ensures reads { (names : List (List ℕ)) → length names ≡ depth → ReadsWhole (λ u. map datum_seen found.new.items) (child (is_same name.now (codes "data")) (map (λ u. u.now) used.now) (map datum_seen found.old.items) (record { at = at; name = name.now; attributes = attributes.now })) closed at name.now names scanner.old scanner.new result }
-    ensures less { length scanner.new ≤ length scanner.old }
-{
-    if name != b"data".as_slice() {
-        return pass_element(scanner, name, closed, depth);
-    }
-    match read_datum(
-        alloc,
-        scanner,
-        at,
-        name,
-        attributes,
-        closed,
-        used,
-        found.as_slice(),
-        depth,
-    )? {
-        None => Ok(()),
-        Some(datum) => {
-            found.push(datum)?;
-            Ok(())
-        }
-    }
+/// The start tag of an element.
+#[derive(Drop)]
+pub struct Start<'a> {
+    pub at: usize,
+    pub name: &'a [u8],
+    pub attributes: Attributes<'a>,
+    pub closed: bool,
 }
 
-/// Whether a text is white space only.
-pub fn is_blank(raw: &[u8]) -> bool
-    ensures { result ≡ list_all is_white raw.now }
-{
-    raw.iter().all(|b| is_white(*b))
+/// What stands next in an element that holds elements and white space alone.
+#[derive(Drop)]
+pub enum Next<'a> {
+    /// An element, of which the start tag was read.
+    Child(Start<'a>),
+    /// The end, which was read.
+    End { at: usize },
+    /// A token that isn't allowed there.
+    Wrong { at: usize },
 }
 
-/// The data in the rest of a node or an edge of this name.
-pub fn read_data(
-    alloc: Global,
-    scanner: &mut Scanner,
-    name: &[u8],
-    used: &[&[u8]],
-    depth: usize,
-) -> Result<Vec<Datum>, DocError>
-    requires { depth < 32 }
-    ensures reads { (others : List (List ℕ)) → length others ≡ depth → Reads (λ v. map datum_seen v.items) (data_of (map (λ u. u.now) used.now)) name.now others scanner.old scanner.new result }
-    ensures less { length scanner.new ≤ length scanner.old }
+/// Reads what stands next in the element of this name, which is less than 31 deep.
+pub fn next_child<'a>(scanner: &mut Scanner<'a>, name: &[u8]) -> Next<'a>
+    ensures next { (others : List (List ℕ)) → length others < 31 → IsNext result name.now others scanner.old scanner.new }
+    ensures takes { Takes result (length scanner.old) (length scanner.new) }
 {
-    let mut found = Vec::new(alloc);
     loop {
         let Token { at, kind } = scanner.step();
         match kind {
             Kind::Start {
-                name: child,
+                name,
                 attributes,
                 closed,
             } => {
-                if depth + 1 >= 32 {
-                    return Err(DocError::Shape { at });
-                }
-                read_child(
-                    alloc,
-                    scanner,
+                return Next::Child(Start {
                     at,
-                    child,
-                    &attributes,
+                    name,
+                    attributes,
                     closed,
-                    used,
-                    &mut found,
-                    depth + 1,
-                )?;
+                });
             }
             Kind::End { name: last } => {
                 if last == name {
-                    return Ok(found);
+                    return Next::End { at };
                 }
-                return Err(DocError::Shape { at });
+                return Next::Wrong { at };
             }
             Kind::Text { raw } => {
                 if !is_blank(raw) {
-                    return Err(DocError::Shape { at });
+                    return Next::Wrong { at };
                 }
             }
-            Kind::Wrong => return Err(DocError::Shape { at }),
-            Kind::Finish => return Err(DocError::Shape { at }),
+            Kind::Wrong => return Next::Wrong { at },
+            Kind::Finish => return Next::Wrong { at },
         }
     }
 }

@@ -1,33 +1,50 @@
-//! The network of a draft.
+//! The network of a graph.
 
 ghost use Rattle.std.specs.Prelude.{◌≡◌, ◌<◌, ◌+◌, ◌-◌, ◌^◌, ◌++◌, ◌∷◌, [], length, OnOk, IfOk, IfErr, All};
 ghost use Rattle.cstn_net.specs.Drafts.{IsRefusal};
 ghost use Rattle.cstn_net.specs.Networks.{IsWellFormed};
 ghost use Rattle.cstn_net.specs.Read.{the_network};
-ghost use Rattle.cstn_graphml.specs.DraftSeen.{draft_seen};
-ghost use Rattle.cstn_graphml.specs.DraftLaws.{IsDraft};
-ghost use Rattle.cstn_graphml.specs.Networks.{with_points, with_drafts, draft_of, builder_of, IsBuilt};
+ghost use Rattle.cstn_graphml.specs.DrawnGraphSeen.{graph_seen};
+ghost use Rattle.cstn_graphml.specs.DrawnGraphLaws.{IsDrawnGraph};
+ghost use Rattle.cstn_graphml.specs.Networks.{point_of, with_points, with_drafts, draft_of, builder_of, IsBuilt};
 
-use crate::draft::{Draft, Drawn};
-use cstn_label::Prop;
+use crate::drawn_graph::{DrawnConstraint, DrawnGraph, Observation};
 use cstn_net::{Builder, NetError, Network};
 use std::alloc::{AllocError, Global};
 
+/// Hands in a time-point.
+fn put_point(builder: &mut Builder, observed: Option<Observation>) -> Result<(), AllocError>
+    requires { length builder.old.points < 2 ^ 32 - 1 }
+    ensures { OnOk result (builder.new ≡ record builder.old { points = builder.old.points ++ point_of observed ∷ [] }) }
+{
+    match observed {
+        Some(observation) => {
+            let number = builder.node(Some(observation.prop))?;
+            builder.react(number, observation.reaction);
+            Ok(())
+        }
+        None => {
+            builder.node(None)?;
+            Ok(())
+        }
+    }
+}
+
 /// Hands in the time-points.
-fn put_points(builder: &mut Builder, observes: &[Option<Prop>]) -> Result<(), AllocError>
+fn put_points(builder: &mut Builder, observes: &[Option<Observation>]) -> Result<(), AllocError>
     requires { length builder.old.points + length observes.now < 2 ^ 32 }
     ensures { OnOk result (builder.new ≡ with_points observes.now builder.old) }
 {
     let mut rest = observes;
-    while let Some((prop, next)) = rest.split_first() {
-        builder.node(*prop)?;
+    while let Some((observed, next)) = rest.split_first() {
+        put_point(builder, *observed)?;
         rest = next;
     }
     Ok(())
 }
 
 /// Hands in a constraint.
-fn put_constraint(builder: &mut Builder, c: Drawn) -> Result<(), AllocError>
+fn put_constraint(builder: &mut Builder, c: DrawnConstraint) -> Result<(), AllocError>
     requires room { length builder.old.drafts < 2 ^ 32 - 1 }
     requires from { c.from < length builder.old.points }
     requires to { c.to < length builder.old.points }
@@ -38,7 +55,7 @@ fn put_constraint(builder: &mut Builder, c: Drawn) -> Result<(), AllocError>
 }
 
 /// Hands in the constraints.
-fn put_constraints(builder: &mut Builder, constraints: &[Drawn]) -> Result<(), AllocError>
+fn put_constraints(builder: &mut Builder, constraints: &[DrawnConstraint]) -> Result<(), AllocError>
     requires room { length builder.old.drafts + length constraints.now < 2 ^ 32 }
     requires among { All (λ c. (c.from < length builder.old.points) × (c.to < length builder.old.points)) constraints.now }
     ensures { OnOk result (builder.new ≡ with_drafts constraints.now builder.old) }
@@ -51,33 +68,33 @@ fn put_constraints(builder: &mut Builder, constraints: &[Drawn]) -> Result<(), A
     Ok(())
 }
 
-/// A builder that was handed what a draft holds.
-fn builder_of(alloc: Global, deadline: u32, draft: &Draft) -> Result<Builder, AllocError>
-    requires { IsDraft (draft_seen draft.now) }
-    ensures { IfOk result (λ b. b ≡ builder_of deadline draft.now) }
+/// A builder that was handed what a graph holds.
+fn builder_of(alloc: Global, deadline: u32, graph: &DrawnGraph) -> Result<Builder, AllocError>
+    requires { IsDrawnGraph (graph_seen graph.now) }
+    ensures { IfOk result (λ b. b ≡ builder_of deadline graph.now) }
 {
     let mut builder = Builder::new(alloc, deadline);
-    let origin = match draft.origin {
-        Some(prop) => prop,
+    let origin = match graph.origin {
+        Some(observed) => observed,
         None => None,
     };
-    builder.node(origin)?;
-    if draft.names.count() == u32::MAX || draft.constraints.len() >= u32::MAX as usize {
+    put_point(&mut builder, origin)?;
+    if graph.names.count() == u32::MAX || graph.constraints.len() >= u32::MAX as usize {
         return Err(AllocError);
     }
-    put_points(&mut builder, draft.observes.as_slice())?;
-    put_constraints(&mut builder, draft.constraints.as_slice())?;
+    put_points(&mut builder, graph.observes.as_slice())?;
+    put_constraints(&mut builder, graph.constraints.as_slice())?;
     Ok(builder)
 }
 
-/// The network of a draft with this deadline.
-pub fn network_of(alloc: Global, deadline: u32, draft: &Draft) -> Result<Network, NetError>
-    requires { IsDraft (draft_seen draft.now) }
-    ensures accepted { IfOk result (IsBuilt (builder_of deadline draft.now)) }
+/// The network of a graph with this deadline.
+pub fn network_of(alloc: Global, deadline: u32, graph: &DrawnGraph) -> Result<Network, NetError>
+    requires { IsDrawnGraph (graph_seen graph.now) }
+    ensures accepted { IfOk result (IsBuilt (builder_of deadline graph.now)) }
     ensures well_formed { IfOk result (λ n. IsWellFormed (the_network n)) }
-    ensures refused { IfErr result (IsRefusal (builder_of deadline draft.now)) }
+    ensures refused { IfErr result (IsRefusal (builder_of deadline graph.now)) }
 {
-    match builder_of(alloc, deadline, draft) {
+    match builder_of(alloc, deadline, graph) {
         Ok(builder) => builder.close(),
         Err(e) => Err(NetError::Memory(e)),
     }

@@ -1,60 +1,71 @@
 //! Nodes, judged when they end.
 
-ghost use Rattle.std.specs.Prelude.{◌≡◌, ℕ, List, map, option_map};
-ghost use Rattle.cstn_graphml.specs.Judged.{observed_in, observed, unlabelled, judged_node};
-ghost use Rattle.cstn_graphml.specs.Data.{lent_datum, datum_seen};
-ghost use Rattle.cstn_graphml.specs.DraftSeen.{prop_seen, draft_seen};
-ghost use Rattle.cstn_graphml.specs.Reads.{Gives};
+ghost use Rattle.std.specs.Prelude.{◌≡◌, map, option_map};
+ghost use Rattle.cstn_graphml.specs.Judged.{observed, reacting, unlabelled, judged_node};
+ghost use Rattle.cstn_graphml.specs.Children.{tag_seen};
+ghost use Rattle.cstn_graphml.specs.DataElementSeen.{lent_datum, datum_seen};
+ghost use Rattle.cstn_data.specs.TextsSeen.{prop_seen};
+ghost use Rattle.cstn_graphml.specs.DrawnGraph.{observation};
+ghost use Rattle.cstn_graphml.specs.DrawnGraphSeen.{observed_seen, graph_seen};
+ghost use Rattle.cstn_graphml.specs.Reads.{Gives, raised};
 
 use crate::attributes::text_attribute;
-use crate::data::datum_of;
-use crate::data_element::Datum;
-use crate::draft::{Draft, node_of, put_node};
-use crate::errors::DocError;
-use crate::label_texts::{is_of_empty, label_of};
+use crate::children::Start;
+use crate::data_element::{Datum, datum_of};
+use crate::drawn_graph::{DrawnGraph, Observation, node_of, put_node};
+use crate::errors::{DocError, Fault};
+use cstn_data::{is_of_empty, label_of, observed_in, reaction_in};
 use cstn_label::Prop;
-use cstn_markup::Attributes;
 use std::alloc::Global;
 
-/// The proposition of an observed letter; an empty text is none.
-fn observed_in(bytes: &[u8]) -> Option<Option<Prop>>
-    ensures { option_map prop_seen result ≡ observed_in bytes.now }
-{
-    match bytes {
-        [] => Some(None),
-        [letter] => {
-            let prop = Prop::from_letter(*letter)?;
-            Some(Some(prop))
-        }
-        [_, _, ..] => None,
-    }
-}
-
 /// What a node observes.
-fn observed(datum: Option<&Datum>) -> Result<Option<Prop>, DocError>
-    ensures { Gives prop_seen result (observed (lent_datum datum.entry)) }
+fn observed(datum: Option<&Datum>) -> Result<Option<Prop>, Fault>
+    ensures { Gives prop_seen (raised result) (observed (lent_datum datum.entry)) }
 {
     let Some(datum) = datum else {
         return Ok(None);
     };
-    let Some(prop) = observed_in(datum.value.as_slice()) else {
-        return Err(DocError::LabelText { at: datum.at });
+    let Some(prop) = observed_in(datum.value()) else {
+        return Err(Fault::LabelText { at: datum.at });
     };
     Ok(prop)
 }
 
+/// The reaction of a node in ticks, and a tick where none is written.
+fn reacting(datum: Option<&Datum>) -> Result<u32, Fault>
+    ensures { Gives (λ n. n) (raised result) (reacting (lent_datum datum.entry)) }
+{
+    let Some(datum) = datum else {
+        return Ok(1);
+    };
+    let Some(ticks) = reaction_in(datum.value()) else {
+        return Err(Fault::Value { at: datum.at });
+    };
+    Ok(ticks)
+}
+
+/// The observation of this proposition, if any.
+fn observation(prop: Option<Prop>, reaction: u32) -> Option<Observation>
+    ensures { observed_seen result ≡ observation (prop_seen prop) reaction }
+{
+    match prop {
+        Some(prop) => Some(Observation { prop, reaction }),
+        None => None,
+    }
+}
+
 /// A node has no label but the empty one.
-fn unlabelled(datum: Option<&Datum>) -> Result<(), DocError>
-    ensures { Gives (λ u. u) result (unlabelled (lent_datum datum.entry)) }
+fn unlabelled(datum: Option<&Datum>) -> Result<(), Fault>
+    ensures { Gives (λ u. u) (raised result) (unlabelled (lent_datum datum.entry)) }
 {
     let Some(datum) = datum else {
         return Ok(());
     };
-    let Some(_) = label_of(datum.value.as_slice()) else {
-        return Err(DocError::LabelText { at: datum.at });
+    let Some(_) = label_of(datum.value()) else {
+        return Err(Fault::LabelText { at: datum.at });
     };
-    if !is_of_empty(datum.value.as_slice()) {
-        return Err(DocError::NodeLabel { at: datum.at });
+    if !is_of_empty(datum.value()) {
+        return Err(Fault::NodeLabel { at: datum.at });
     }
     Ok(())
 }
@@ -62,24 +73,25 @@ fn unlabelled(datum: Option<&Datum>) -> Result<(), DocError>
 /// Puts in a node whose data were read.
 pub fn judge_node(
     alloc: Global,
-    at: usize,
-    attributes: &Attributes,
+    start: &Start,
     found: &[Datum],
-    draft: &mut Draft,
+    graph: &mut DrawnGraph,
 ) -> Result<(), DocError>
-    ensures { (name : List ℕ) → Gives (λ u. draft_seen draft.new) result (judged_node (record { at = at; name = name; attributes = attributes.now }) (draft_seen draft.old) (map datum_seen found.now)) }
+    ensures { Gives (λ u. graph_seen graph.new) result (judged_node (tag_seen start.now) (graph_seen graph.old) (map datum_seen found.now)) }
 {
-    let Some(id) = text_attribute(alloc, attributes, b"id")? else {
+    let at = start.at;
+    let Some(id) = text_attribute(alloc, &start.attributes, b"id")? else {
         return Err(DocError::Shape { at });
     };
     if id.is_empty() || id.len() > 64 {
         return Err(DocError::Value { at });
     }
-    let None = node_of(draft, id.as_str()) else {
+    let None = node_of(graph, id.as_str()) else {
         return Err(DocError::NameTwice { at });
     };
     let prop = observed(datum_of(found, b"Obs"))?;
+    let reaction = reacting(datum_of(found, b"Reaction"))?;
     unlabelled(datum_of(found, b"Label"))?;
-    put_node(draft, id.as_str(), prop)?;
+    put_node(graph, id.as_str(), observation(prop, reaction))?;
     Ok(())
 }

@@ -2,20 +2,17 @@
 
 ghost use Rattle.std.specs.Prelude.{◌≡◌, ℕ, List, ◌≤◌, ◌<◌, ◌+◌, length};
 ghost use Rattle.cstn_graphml.specs.Elements.{passed};
-ghost use Rattle.cstn_graphml.specs.Reads.{Reads, ReadsWhole};
+ghost use Rattle.cstn_graphml.specs.Reads.{Reads, ReadsWhole, raised};
 
-use crate::errors::DocError;
+use crate::children::Start;
+use crate::errors::Fault;
 use crate::open_names::OpenNames;
 use cstn_markup::{Kind, Scanner, Token};
 
 /// Passes over the rest of the element of this name, in which only tokens and nesting count.
-pub fn pass_over<'a>(
-    scanner: &mut Scanner<'a>,
-    name: &'a [u8],
-    depth: usize,
-) -> Result<(), DocError>
+fn pass_over<'a>(scanner: &mut Scanner<'a>, name: &'a [u8], depth: usize) -> Result<(), Fault>
     requires { depth < 32 }
-    ensures reads { (others : List (List ℕ)) → length others ≡ depth → Reads (λ u. u) passed name.now others scanner.old scanner.new result }
+    ensures reads { (others : List (List ℕ)) → length others ≡ depth → Reads (λ u. u) passed name.now others scanner.old scanner.new (raised result) }
     ensures less { length scanner.new ≤ length scanner.old }
 {
     let mut open_names = OpenNames::new(name);
@@ -28,7 +25,7 @@ pub fn pass_over<'a>(
                 closed,
             } => {
                 if depth + open_names.len() >= 32 {
-                    return Err(DocError::Shape { at });
+                    return Err(Fault::Shape { at });
                 }
                 if !closed {
                     open_names.push(child);
@@ -36,30 +33,29 @@ pub fn pass_over<'a>(
             }
             Kind::End { name: last } => {
                 if last != open_names.pop() {
-                    return Err(DocError::Shape { at });
+                    return Err(Fault::Shape { at });
                 }
             }
             Kind::Text { raw: _ } => {}
-            Kind::Wrong => return Err(DocError::Shape { at }),
-            Kind::Finish => return Err(DocError::Shape { at }),
+            Kind::Wrong => return Err(Fault::Shape { at }),
+            Kind::Finish => return Err(Fault::Shape { at }),
         }
     }
     Ok(())
 }
 
-/// Passes over an element of which the start tag was read.
+/// Passes over an element of which the start tag was read, with so many elements around it.
 pub fn pass_element<'a>(
     scanner: &mut Scanner<'a>,
-    name: &'a [u8],
-    closed: bool,
+    start: &Start<'a>,
     depth: usize,
-) -> Result<(), DocError>
+) -> Result<(), Fault>
     requires { depth < 32 }
-    ensures reads { (names : List (List ℕ)) (at : ℕ) → length names ≡ depth → ReadsWhole (λ u. u) passed closed at name.now names scanner.old scanner.new result }
+    ensures reads { (names : List (List ℕ)) → length names ≡ depth → ReadsWhole (λ u. u) passed start.now.closed start.now.at start.now.name.now names scanner.old scanner.new (raised result) }
     ensures less { length scanner.new ≤ length scanner.old }
 {
-    if closed {
+    if start.closed {
         return Ok(());
     }
-    pass_over(scanner, name, depth)
+    pass_over(scanner, start.name, depth)
 }

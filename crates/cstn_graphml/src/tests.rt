@@ -7,10 +7,7 @@ const PAIR: &str =
     "<graphml><graph><node id=\"Z\"/><node id=\"X\"/><edge source=\"X\" target=\"Z\"><data key=\"LabeledValues\">{(-5, ⊡)}</data></edge></graph></graphml>";
 
 const PROCESS: &str =
-    "<?xml version=\"1.0\"?><graphml><key id=\"Obs\" for=\"node\"/><graph><data key=\"Deadline\">40</data><node id=\"S\"/><node id=\"P\"><data key=\"Obs\">p</data><data key=\"x\">1.0</data></node><node id=\"Z\"/><edge source=\"S\" target=\"P\"><data key=\"LabeledValues\">{(10, ⊡) (−2, ¬p)}</data></edge><edge source=\"S\" target=\"Z\"><data key=\"Type\">derived</data></edge></graph></graphml>";
-
-const UNOBSERVED: &str =
-    "<graphml><graph><node id=\"Z\"/><edge source=\"Z\" target=\"Z\"><data key=\"LabeledValues\">{(5, p)}</data></edge></graph></graphml>";
+    "<?xml version=\"1.0\"?><graphml><key id=\"Obs\" for=\"node\"/><graph><data key=\"Deadline\">40</data><node id=\"S\"/><node id=\"P\"><data key=\"Obs\">p</data><data key=\"Reaction\">3</data><data key=\"x\">1.0</data></node><node id=\"Z\"/><node id=\"A\"/><node id=\"B\"/><node id=\"C\"/><node id=\"D\"/><node id=\"E\"/><edge source=\"S\" target=\"P\"><data key=\"LabeledValues\">{(10, ⊡) (−2, ¬p), (!p, 7)}</data></edge><edge source=\"S\" target=\"Z\"><data key=\"Type\">derived</data></edge></graph></graphml>";
 
 // Elements that are passed over, one inside the other.
 const NESTED: &str = "<graphml><a><b><c/>t</b><b></b></a><graph/></graphml>";
@@ -64,29 +61,174 @@ fn expect_refused(
     Ok(())
 }
 
+// The graph that holds this is refused, in these words.
+fn expect_refused_in(
+    rt: &impl Abort,
+    alloc: Global,
+    inside: &str,
+    words: &str,
+) -> Result<(), Fail> {
+    let text = format!(in alloc; "<graphml><graph>{inside}</graph></graphml>")?;
+    expect_refused(rt, alloc, text.as_bytes(), Some(5), words)
+}
+
 #[test]
 fn documents(rt: HostRuntime) -> Result<(), Fail> {
     let alloc = rt.alloc();
     expect_accepted(&rt, alloc, PAIR, Some(5), 2, 1)?;
-    expect_accepted(&rt, alloc, PROCESS, None, 3, 2)?;
+    expect_accepted(&rt, alloc, PROCESS, None, 8, 3)?;
+    expect_accepted(&rt, alloc, NESTED, Some(0), 1, 0)?;
+    let words = "a token that isn't allowed at byte 15";
+    expect_refused(&rt, alloc, CROSSED.as_bytes(), Some(0), words)?;
     expect_refused(&rt, alloc, PAIR.as_bytes(), None, "no deadline")?;
-    expect_refused(&rt, alloc, b"\xff", Some(5), "no UTF-8 at byte 0")?;
-    expect_refused(
+    expect_refused(&rt, alloc, b"\xff", Some(5), "no UTF-8 at byte 0")
+}
+
+// The graph that holds an edge from Z to Z with this data is refused, in these words.
+fn expect_refused_edge(
+    rt: &impl Abort,
+    alloc: Global,
+    key: &str,
+    value: &str,
+    words: &str,
+) -> Result<(), Fail> {
+    let inside = format!(in alloc;
+        "<node id=\"Z\"/><edge source=\"Z\" target=\"Z\"><data key=\"{key}\">{value}</data></edge>"
+    )?;
+    expect_refused_in(rt, alloc, inside.as_str(), words)
+}
+
+// The graph that holds a node with this data is refused, in these words.
+fn expect_refused_node(
+    rt: &impl Abort,
+    alloc: Global,
+    key: &str,
+    value: &str,
+    words: &str,
+) -> Result<(), Fail> {
+    let inside = format!(in alloc; "<node id=\"X\"><data key=\"{key}\">{value}</data></node>")?;
+    expect_refused_in(rt, alloc, inside.as_str(), words)
+}
+
+// One document for each refusal of an element, and of a network that isn't large.
+#[test]
+fn refusals(rt: HostRuntime) -> Result<(), Fail> {
+    let alloc = rt.alloc();
+    let twice = "<node id=\"X\"/><node id=\"X\"/>";
+    expect_refused_in(
         &rt,
         alloc,
-        UNOBSERVED.as_bytes(),
-        Some(5),
+        twice,
+        "the node at byte 30 has the id of an earlier one",
+    )?;
+    let early = "<node id=\"X\"/><edge source=\"X\" target=\"Z\"/><node id=\"Z\"/>";
+    expect_refused_in(
+        &rt,
+        alloc,
+        early,
+        "the edge at byte 30 names no node before it",
+    )?;
+    expect_refused_in(
+        &rt,
+        alloc,
+        "<node id=\"\"/>",
+        "a value that isn't of its form at byte 16",
+    )?;
+    expect_refused_node(
+        &rt,
+        alloc,
+        "Reaction",
+        "0",
+        "a value that isn't of its form at byte 29",
+    )?;
+    expect_refused_node(
+        &rt,
+        alloc,
+        "Obs",
+        "1",
+        "a label that isn't of its form at byte 29",
+    )?;
+    expect_refused_node(
+        &rt,
+        alloc,
+        "Label",
+        "p",
+        "the label of a node at byte 29 isn't empty",
+    )?;
+    expect_refused_edge(
+        &rt,
+        alloc,
+        "LabeledValues",
+        "{(5, 6)}",
+        "a value that isn't of its form at byte 58",
+    )?;
+    expect_refused_edge(
+        &rt,
+        alloc,
+        "LabeledValues",
+        "{(5, pp)}",
+        "a label that isn't of its form at byte 58",
+    )?;
+    expect_refused_edge(
+        &rt,
+        alloc,
+        "Type",
+        "contingent",
+        "the type at byte 58 is contingent",
+    )?;
+    expect_refused_edge(&rt, alloc, "Type", "x", "no type of an edge at byte 58")?;
+    expect_refused_edge(
+        &rt,
+        alloc,
+        "LabeledValues",
+        "{(5, p)}",
         "no network: nothing observes the proposition 41",
     )?;
-    Ok(())
+    expect_refused_edge(
+        &rt,
+        alloc,
+        "LabeledValues",
+        "{(1000000001,)}",
+        "no network: the value of constraint 0 is out of range",
+    )?;
+    let observers =
+        "<node id=\"P\"><data key=\"Obs\">p</data></node><node id=\"Z\"><data key=\"Obs\">p</data></node>";
+    expect_refused_in(
+        &rt,
+        alloc,
+        observers,
+        "no network: the time-points 0 and 1 observe the proposition 41",
+    )?;
+    let words = "no network: the deadline 1000001 is above 1000000";
+    expect_refused(&rt, alloc, PAIR.as_bytes(), Some(1_000_001), words)
+}
+
+// A document of so many time-points besides the origin, and of so many constraints on one edge.
+fn large(alloc: Global, nodes: u32, pairs: u32) -> Result<String, AllocError> {
+    let mut text = String::from_str(alloc, "<graphml><graph><node id=\"Z\"/>")?;
+    for n in 0..nodes {
+        let node = format!(in alloc; "<node id=\"{n}\"/>")?;
+        text.push_str(node.as_str())?;
+    }
+    text.push_str("<edge source=\"Z\" target=\"Z\"><data key=\"LabeledValues\">{")?;
+    for _pair in 0..pairs {
+        text.push_str("(1,)")?;
+    }
+    text.push_str("}</data></edge></graph></graphml>")?;
+    Ok(text)
 }
 
 #[test]
-fn elements_are_passed_over(rt: HostRuntime) -> Result<(), Fail> {
+fn limits(rt: HostRuntime) -> Result<(), Fail> {
     let alloc = rt.alloc();
-    expect_accepted(&rt, alloc, NESTED, Some(0), 1, 0)?;
-    let words = "a token that isn't allowed at byte 15";
-    expect_refused(&rt, alloc, CROSSED.as_bytes(), Some(0), words)
+    let most = large(alloc, 1023, 16384)?;
+    expect_accepted(&rt, alloc, most.as_str(), Some(5), 1024, 16384)?;
+    let nodes = large(alloc, 1024, 0)?;
+    let words = "no network: more than 1024 time-points";
+    expect_refused(&rt, alloc, nodes.as_bytes(), Some(5), words)?;
+    let pairs = large(alloc, 0, 16385)?;
+    let words = "no network: more than 16384 constraints";
+    expect_refused(&rt, alloc, pairs.as_bytes(), Some(5), words)
 }
 
 // Why so many of the first bytes of `PAIR` are refused: at the tag that they end in, and else at their end.

@@ -1,73 +1,47 @@
-use Rattle.std.proofs.Common.{◌∷◌, length, arith, sym, ap, ◌∙◌, refl}
+use Rattle.std.proofs.Common.{ℕ, List, [], ◌∷◌, length, arith, refl, map, Vec, Global, Bor, None}
 use Rattle.std.proofs.lemmas.Result.{err_from_is_err_and}
+use Rattle.std.proofs.Common.{sym, ap, ◌∙◌}
 use Rattle.cstn_graphml.specs.Contents.{contents, inner}
 use Rattle.cstn_graphml.specs.Elements.{read_by}
 use Rattle.cstn_graphml.specs.Document.{graph_reading}
-use Rattle.cstn_graphml.specs.Draft.{empty_draft}
-use Rattle.cstn_graphml.specs.DraftSeen.{draft_seen}
-use Rattle.cstn_graphml.proofs.Places.{step_of, ended_is, misnamed_is, wrong_is, unfinished_is, deep_is}
-use Rattle.cstn_graphml.proofs.Folds.{fold_cut, fold_end, fold_run, fold_run_fails, fold_whole, fold_whole_fails}
-use Rattle.cstn_graphml.proofs.Judging.{blank_refused, blank_passed}
+use Rattle.cstn_graphml.specs.DrawnGraph.{empty_graph}
+use Rattle.cstn_graphml.specs.DrawnGraphSeen.{graph_seen}
+use Rattle.cstn_graphml.proofs.ChildLemmas.{takes_one, next_is, fold_child, fold_child_fails, fold_wrong, fold_done}
 use Rattle.cstn_graphml.proofs.graph.read_graph.Goals as goal
 
-pub loop-child-init : goal.loop-child-init
-loop-child-init c = record {
-  same = λ others l. record { told = ap (λ d. read_by graph_reading d (inner (contents (c.args.name.now ∷ others) c.args.scanner.now))) (sym c.in_ok-draft.ensures); left = refl };
+pub loop-start-init : goal.loop-start-init
+loop-start-init c = record {
+  same = λ others l. record { told = ap (λ d. read_by graph_reading d (inner (contents (c.args.name.now ∷ others) c.args.scanner.now))) (sym c.in_ok-graph.ensures); left = refl };
   less = omega arith;
 }
 
-pub returns-then-depth-ge32-clause-reads : goal.returns-then-depth-ge32-clause-reads
-returns-then-depth-ge32-clause-reads c = λ others l.
-    fold_cut graph_reading empty_draft draft_seen (draft_seen c.loop-child.draft) _ others _ _ _ _ (c.loop-child.invariant.same others l)
-    (deep_is _ _ _ _ _ _ _ (step_of _ _ _ _ c.step-at.ensures.steps c.in-Start.is) (omega (arith, l)))
-
-pub loop-child-preserved-in-Continue-branch-2 : goal.loop-child-preserved-in-Continue-branch-2
-loop-child-preserved-in-Continue-branch-2 c =
-    let h = step_of _ _ _ _ c.step-at.ensures.steps c.in-Start.is in
+pub loop-start-preserved : goal.loop-start-preserved
+loop-start-preserved c =
+    let r = graph_reading in
     record {
       same = λ others l.
-          let q = c.in_ok-read_graph_child-in-Start.ensures.reads (c.args.name.now ∷ others) (omega (arith, l)) in
-          fold_whole graph_reading empty_draft (draft_seen c.loop-child.draft) _ _ _ _ _ _ _ _ _ _ (c.loop-child.invariant.same others l) h (omega (arith, l)) q.told q.left;
-      less = omega (arith, ap length h, c.in_ok-read_graph_child-in-Start.ensures.less);
+          let n = next_is _ _ _ others _ _ (c.next_child.ensures.next others (omega (arith, l))) c.in-Child.is in
+          let q = c.in_ok-read_graph_child-in-Child.ensures.reads (c.args.name.now ∷ others) (omega (arith, l)) in
+          fold_child r (λ s at raw. refl) empty_graph (graph_seen c.loop-start.graph) _ others _ _ (c.loop-start.invariant.same others l) _ _ _ _ _ n q.told q.left;
+      less = omega (arith, c.in_ok-read_graph_child-in-Child.ensures.less, takes_one _ _ _ _ c.next_child.ensures.takes c.in-Child.is, c.loop-start.invariant.less);
     }
 
-pub returns-in_err-read_graph_child-in-Start-clause-reads : goal.returns-in_err-read_graph_child-in-Start-clause-reads
-returns-in_err-read_graph_child-in-Start-clause-reads c = λ others l.
-    let p = err_from_is_err_and c.from_residual-in_err-read_graph_child-in-Start.result c.from_residual-in_err-read_graph_child-in-Start.ensures.1 in
-    let h = step_of _ _ _ _ c.step-at.ensures.steps c.in-Start.is in
-    let q = c.in_err-read_graph_child-in-Start.ensures.reads (c.args.name.now ∷ others) (omega (arith, l)) in
-    rw (p.1, p.2) (fold_whole_fails graph_reading empty_draft draft_seen (draft_seen c.loop-child.draft) _ _ _ others _ _ _ _ _ _ _ (c.loop-child.invariant.same others l) h (omega (arith, l)) q.told)
-
-pub returns-then-eq-clause-reads : goal.returns-then-eq-clause-reads
-returns-then-eq-clause-reads c = λ others l.
-    fold_end graph_reading empty_draft draft_seen (draft_seen c.loop-child.draft) c.loop-child.draft _ others _ _ _ _ (c.loop-child.invariant.same others l)
-    (ended_is _ _ _ _ _ _ (step_of _ _ _ _ c.step-at.ensures.steps c.in-End.is) c.if-eq.ensures) refl
+pub returns-in_err-read_graph_child-in-Child-clause-reads : goal.returns-in_err-read_graph_child-in-Child-clause-reads
+returns-in_err-read_graph_child-in-Child-clause-reads c = λ others l.
+    let r = graph_reading in
+    let p = err_from_is_err_and c.from_residual-in_err-read_graph_child-in-Child.result c.from_residual-in_err-read_graph_child-in-Child.ensures.1 in
+    let n = next_is _ _ _ others _ _ (c.next_child.ensures.next others (omega (arith, l))) c.in-Child.is in
+    let q = c.in_err-read_graph_child-in-Child.ensures.reads (c.args.name.now ∷ others) (omega (arith, l)) in
+    rw (p.1, p.2) (fold_child_fails r (λ s at raw. refl) empty_graph (graph_seen c.loop-start.graph) _ others _ _ (c.loop-start.invariant.same others l) graph_seen _ _ _ _ _ n q.told)
 
 pub returns-in-End-clause-reads : goal.returns-in-End-clause-reads
 returns-in-End-clause-reads c = λ others l.
-    fold_cut graph_reading empty_draft draft_seen (draft_seen c.loop-child.draft) _ others _ _ _ _ (c.loop-child.invariant.same others l)
-    (misnamed_is _ _ _ _ _ _ (step_of _ _ _ _ c.step-at.ensures.steps c.in-End.is) c.if-eq.ensures)
-
-pub returns-then-not-is_blank-clause-reads : goal.returns-then-not-is_blank-clause-reads
-returns-then-not-is_blank-clause-reads c = λ others l.
-    fold_run_fails graph_reading empty_draft draft_seen (draft_seen c.loop-child.draft) _ _ others _ _ _ _ _ (c.loop-child.invariant.same others l)
-    (step_of _ _ _ _ c.step-at.ensures.steps c.in-Text.is) (blank_refused (draft_seen c.loop-child.draft) c.step-at.result.at c.in-Text.raw.now (sym c.is_blank.ensures ∙ c.if-not-is_blank.true))
-
-pub loop-child-preserved : goal.loop-child-preserved
-loop-child-preserved c =
-    let h = step_of _ _ _ _ c.step-at.ensures.steps c.in-Text.is in
-    record {
-      same = λ others l. fold_run graph_reading empty_draft draft_seen (draft_seen c.loop-child.draft) (draft_seen c.loop-child.draft) _ _ _ _ _ _ (c.loop-child.invariant.same others l) h
-          (blank_passed (draft_seen c.loop-child.draft) c.step-at.result.at c.in-Text.raw.now (sym c.is_blank.ensures ∙ c.if-not-is_blank.false));
-      less = omega (arith, ap length h);
-    }
+    let r = graph_reading in
+    let n = next_is _ _ _ others _ _ (c.next_child.ensures.next others (omega (arith, l))) c.in-End.is in
+    fold_done r (λ s at raw. refl) empty_graph (graph_seen c.loop-start.graph) _ others _ _ (c.loop-start.invariant.same others l) graph_seen c.loop-start.graph _ _ n refl
 
 pub returns-in-Wrong-clause-reads : goal.returns-in-Wrong-clause-reads
 returns-in-Wrong-clause-reads c = λ others l.
-    fold_cut graph_reading empty_draft draft_seen (draft_seen c.loop-child.draft) _ others _ _ _ _ (c.loop-child.invariant.same others l)
-    (wrong_is _ _ _ _ (step_of _ _ _ _ c.step-at.ensures.steps c.in-Wrong.is))
-
-pub returns-in-Finish-clause-reads : goal.returns-in-Finish-clause-reads
-returns-in-Finish-clause-reads c = λ others l.
-    fold_cut graph_reading empty_draft draft_seen (draft_seen c.loop-child.draft) _ others _ _ _ _ (c.loop-child.invariant.same others l)
-    (unfinished_is _ _ _ _ _ (step_of _ _ _ _ c.step-at.ensures.steps c.in-Finish.is))
+    let r = graph_reading in
+    let n = next_is _ _ _ others _ _ (c.next_child.ensures.next others (omega (arith, l))) c.in-Wrong.is in
+    fold_wrong r (λ s at raw. refl) empty_graph (graph_seen c.loop-start.graph) _ others _ _ (c.loop-start.invariant.same others l) graph_seen _ _ n

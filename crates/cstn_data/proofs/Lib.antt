@@ -1,0 +1,3 @@
+pub mod PlainLabels
+pub mod PairTexts
+pub mod ReactionLemmas
