@@ -1,4 +1,4 @@
--- What a builder holds of a draft, and the network that it makes.
+-- What a builder holds of a graph, and the network that it makes.
 use Rattle.std.proofs.Common.{◌≡◌, ℕ, ◌+◌, ◌<◌, Bool, true, false, List, [], ◌∷◌, ◌++◌, length, map, refl, ap, sym, ◌∙◌, Option, Some, None, subst, arith, cond}
 use Rattle.std.specs.Prelude.{option_map}
 use Rattle.std.specs.List.{All}
@@ -10,10 +10,11 @@ use Rattle.cstn_label.specs.declared.props.Prop.{Prop}
 use Rattle.cstn_net.specs.Drafts.{BuilderParts, constraint_of, constraints_from}
 use Rattle.cstn_net.specs.declared.drafts.Draft.{Draft as LentDraft}
 use Rattle.cstn_net.specs.Read.{NetworkParts, the_network, the_constraint, observed, reaction_of, is_prop}
-use Rattle.cstn_graphml.specs.declared.draft.Drawn.{Drawn as Lent}
-use Rattle.cstn_graphml.specs.declared.draft.Draft.{Draft as LentGraph}
-use Rattle.cstn_graphml.specs.DraftSeen.{prop_seen, drawn_seen}
-use Rattle.cstn_graphml.specs.DraftLaws.{IsDrawnAmong}
+use Rattle.cstn_graphml.specs.declared.drawn_graph.DrawnConstraint.{DrawnConstraint as Lent}
+use Rattle.cstn_graphml.specs.declared.drawn_graph.DrawnGraph.{DrawnGraph as LentGraph}
+use Rattle.cstn_data.specs.TextsSeen.{prop_seen}
+use Rattle.cstn_graphml.specs.DrawnGraphSeen.{drawn_seen}
+use Rattle.cstn_graphml.specs.DrawnGraphLaws.{IsDrawnAmong}
 use Rattle.cstn_graphml.specs.Document.{Parts, or_nothing}
 use Rattle.cstn_graphml.specs.Networks.{with_points, with_drafts, point_of, draft_of, drawn_of, numbered, builder_of, or_no_prop, HasParts, network_of, IsBuilt}
 
@@ -57,7 +58,7 @@ seen_origin : (o : Option (Option Prop)) → prop_seen (or_no_prop o) ≡ or_not
 seen_origin (Some prop) = refl
 seen_origin None = refl
 
--- the parts of a draft with a deadline
+-- the parts of a graph with a deadline
 abbrev pub parts_with : ℕ → LentGraph → Parts
 parts_with deadline d = record {
   deadline = deadline;
@@ -121,7 +122,7 @@ points_count props b c e = rw (e, points_are props b, length-append b.points (ma
 pub among_rest : (n m : ℕ) (c : Lent) (rest next : List Lent) → rest ≡ c ∷ next → m ≡ n → All (λ (c : Lent). (c.from < n) × (c.to < n)) rest → All (λ (c : Lent). (c.from < m) × (c.to < m)) next
 among_rest n m c rest next e f h = subst (λ k. All (λ (c : Lent). (c.from < k) × (c.to < k)) next) (sym f) (All-tail (λ (c : Lent). (c.from < n) × (c.to < n)) c next (subst (All (λ (c : Lent). (c.from < n) × (c.to < n))) e h))
 
--- constraints between time-points of a draft, of the program
+-- constraints between time-points of a graph, of the program
 pub among_seen : (n m : ℕ) (cs ds : List Lent) → ds ≡ cs → m ≡ n → All (IsDrawnAmong n) (map drawn_seen cs) → All (λ (c : Lent). (c.from < m) × (c.to < m)) ds
 among_seen n m [] ds e f h = rw e (λ k d inside. absurd (omega (arith, inside)))
 among_seen n m (c ∷ cs) ds e f h = rw (e, f) (All-cons (λ (c : Lent). (c.from < n) × (c.to < n)) c cs (All-head (IsDrawnAmong n) (drawn_seen c) (map drawn_seen cs) h) (among_seen n n cs cs refl refl (All-tail (IsDrawnAmong n) (drawn_seen c) (map drawn_seen cs) h)))

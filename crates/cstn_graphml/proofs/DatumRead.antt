@@ -6,7 +6,7 @@ use Rattle.cstn_markup.specs.Bytes.{is_same}
 use Rattle.cstn_markup.specs.Tokens.{Token, raw_with}
 use Rattle.cstn_graphml.specs.Results.{Refusal, ◌>>=◌, or_refused}
 use Rattle.cstn_graphml.specs.Results.Refusal.{shape}
-use Rattle.cstn_graphml.specs.Numbers.{trimmed}
+use Rattle.cstn_data.specs.WhiteSpace.{trimmed}
 use Rattle.cstn_graphml.specs.Contents.{Tag, Content}
 use Rattle.cstn_graphml.specs.Elements.{Datum, datum, datum_by, passed, texts, read_option}
 use Rattle.cstn_graphml.specs.Reads.{ReadsWhole, inside, Fails}

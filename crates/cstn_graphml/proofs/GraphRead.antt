@@ -6,21 +6,21 @@ use Rattle.cstn_graphml.specs.Results.Refusal.{shape}
 use Rattle.cstn_graphml.specs.Contents.{Tag, Content, contents, inner}
 use Rattle.cstn_graphml.specs.Contents.Content.{done}
 use Rattle.cstn_graphml.specs.Elements.{Reading, read_by}
-use Rattle.cstn_graphml.specs.Draft.{Draft, empty_draft}
-use Rattle.cstn_graphml.specs.DraftSeen.{draft_seen}
+use Rattle.cstn_graphml.specs.DrawnGraph.{DrawnGraph, empty_graph}
+use Rattle.cstn_graphml.specs.DrawnGraphSeen.{graph_seen}
 use Rattle.cstn_graphml.specs.Document.{in_graph, root_child}
 use Rattle.cstn_graphml.specs.Reads.{Reads, ReadsWhole, Continues, Fails, inside}
-use Rattle.cstn_graphml.specs.declared.draft.Draft.{Draft as LentGraph}
+use Rattle.cstn_graphml.specs.declared.drawn_graph.DrawnGraph.{DrawnGraph as LentGraph}
 use Rattle.cstn_graphml.specs.declared.errors.DocError.{DocError}
 use Rattle.cstn_graphml.specs.declared.errors.DocError.TheVariants.{Shape}
 
 -- the first graph was read
-pub root_read : (b : Bool) (s : Option Draft) (tag : Tag) (closed : Bool) (name : List ℕ) (names : List (List ℕ)) (before after : List Token) (d : LentGraph) → b ≡ true → s ≡ None
-    → ReadsWhole draft_seen (in_graph empty_draft) closed tag.at name names before after (Ok d) → ReadsWhole {A = Unit {0}} (λ u. Some (draft_seen d)) (root_child b s tag) closed tag.at name names before after (Ok tt)
+pub root_read : (b : Bool) (s : Option DrawnGraph) (tag : Tag) (closed : Bool) (name : List ℕ) (names : List (List ℕ)) (before after : List Token) (d : LentGraph) → b ≡ true → s ≡ None
+    → ReadsWhole graph_seen (in_graph empty_graph) closed tag.at name names before after (Ok d) → ReadsWhole {A = Unit {0}} (λ u. Some (graph_seen d)) (root_child b s tag) closed tag.at name names before after (Ok tt)
 root_read b s tag closed name names before after d e n h =
     let content = inside closed tag.at name names before in
     record {
-      told = ap (λ q. root_child q s tag content) e ∙ ap (λ o. root_child true o tag content) n ∙ ap (λ o. o >>= λ draft. Ok (Some draft)) h.told;
+      told = ap (λ q. root_child q s tag content) e ∙ ap (λ o. root_child true o tag content) n ∙ ap (λ o. o >>= λ graph. Ok (Some graph)) h.told;
       left = h.left;
     }
 

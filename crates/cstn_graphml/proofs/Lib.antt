@@ -7,10 +7,8 @@ pub mod Wholes
 pub mod Judging
 pub mod Tops
 pub mod GraphRead
-pub mod PlainLabels
-pub mod DraftLaws
+pub mod DrawnGraphLaws
 pub mod Built
 pub mod Excluded
 pub mod Refusing
-pub mod PairTexts
 pub mod TextsRead

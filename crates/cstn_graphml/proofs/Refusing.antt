@@ -12,18 +12,18 @@ use Rattle.cstn_net.specs.Read.{NetworkParts}
 use Rattle.cstn_graphml.specs.Results.{Refusal, ◌>>=◌, or_refused, demand}
 use Rattle.cstn_graphml.specs.Results.Refusal.{not_utf8, no_deadline}
 use Rattle.cstn_graphml.specs.Contents.{content_of}
-use Rattle.cstn_graphml.specs.DraftSeen.{draft_seen}
-use Rattle.cstn_graphml.specs.DraftLaws.{IsDraft}
+use Rattle.cstn_graphml.specs.DrawnGraphSeen.{graph_seen}
+use Rattle.cstn_graphml.specs.DrawnGraphLaws.{IsDrawnGraph}
 use Rattle.cstn_graphml.specs.Document.{Parts, document, in_document, parts_of, first_of_two}
 use Rattle.cstn_graphml.specs.Networks.{IsBuilt, builder_of}
 use Rattle.cstn_graphml.specs.Answers.{IsDocument, IsUnfitDocument, IsRefused, IsTold}
 use Rattle.cstn_graphml.specs.Reads.{Fails}
-use Rattle.cstn_graphml.specs.declared.draft.Draft.{Draft as LentGraph}
+use Rattle.cstn_graphml.specs.declared.drawn_graph.DrawnGraph.{DrawnGraph as LentGraph}
 use Rattle.cstn_graphml.specs.declared.errors.DocError.{DocError}
 use Rattle.cstn_graphml.specs.declared.errors.DocError.TheVariants.{NotUtf8, Shape, NameTwice, UnknownNode, Value, LabelText, Contingent, EdgeType, NoDeadline, Net, NodeLabel, Memory}
 use Rattle.cstn_graphml.proofs.PassedOver.{fails_through}
 use Rattle.cstn_graphml.proofs.Built.{parts_with, has_parts, made_network}
-use Rattle.cstn_graphml.proofs.DraftLaws.{document_is_draft}
+use Rattle.cstn_graphml.proofs.DrawnGraphLaws.{document_is_drawn}
 
 told_at : (m n : ℕ) → m ≡ n → ◌≡◌ {A = Result Parts Refusal} (Err (not_utf8 m)) (Err (not_utf8 n))
 told_at m n e = rw e refl
@@ -57,15 +57,15 @@ pub refused_before : (bytes : List ℕ) (word : Option ℕ) (e : DocError) → I
 refused_before bytes word e u h = refused_by e (document bytes word) (subst (Fails e) (sym (of_text bytes word u)) (fails_through e (in_document (content_of (tokens bytes))) (parts_of word) h))
 
 -- read, without a deadline
-pub lacks_deadline : (bytes : List ℕ) (word : Option ℕ) (d : LentGraph) → IsUtf8 bytes → in_document (content_of (tokens bytes)) ≡ Ok (draft_seen d) → first_of_two word d.deadline ≡ None → document bytes word ≡ Err no_deadline
+pub lacks_deadline : (bytes : List ℕ) (word : Option ℕ) (d : LentGraph) → IsUtf8 bytes → in_document (content_of (tokens bytes)) ≡ Ok (graph_seen d) → first_of_two word d.deadline ≡ None → document bytes word ≡ Err no_deadline
 lacks_deadline bytes word d u h e = of_text bytes word u ∙ ap (λ o. o >>= parts_of word) h ∙ ap (λ o. or_refused o no_deadline >>= λ deadline. Ok (parts_with deadline d)) e
 
 -- read, with one
-pub has_deadline : (bytes : List ℕ) (word : Option ℕ) (n : ℕ) (d : LentGraph) → IsUtf8 bytes → in_document (content_of (tokens bytes)) ≡ Ok (draft_seen d) → first_of_two word d.deadline ≡ Some n → document bytes word ≡ Ok (parts_with n d)
+pub has_deadline : (bytes : List ℕ) (word : Option ℕ) (n : ℕ) (d : LentGraph) → IsUtf8 bytes → in_document (content_of (tokens bytes)) ≡ Ok (graph_seen d) → first_of_two word d.deadline ≡ Some n → document bytes word ≡ Ok (parts_with n d)
 has_deadline bytes word n d u h e = of_text bytes word u ∙ ap (λ o. o >>= parts_of word) h ∙ ap (λ o. or_refused o no_deadline >>= λ deadline. Ok (parts_with deadline d)) e
 
-pub read_is_draft : (bytes : List ℕ) (d : LentGraph) → in_document (content_of (tokens bytes)) ≡ Ok (draft_seen d) → IsDraft (draft_seen d)
-read_is_draft bytes d h = document_is_draft (content_of (tokens bytes)) (draft_seen d) h
+pub read_is_drawn : (bytes : List ℕ) (d : LentGraph) → in_document (content_of (tokens bytes)) ≡ Ok (graph_seen d) → IsDrawnGraph (graph_seen d)
+read_is_drawn bytes d h = document_is_drawn (content_of (tokens bytes)) (graph_seen d) h
 
 -- its network was made
 pub made_document : (told : Result Parts Refusal) (n : ℕ) (d : LentGraph) (network : NetworkParts) (names : List (List ℕ)) → told ≡ Ok (parts_with n d) → IsBuilt (builder_of n d) network → names ≡ d.names → IsDocument told network names

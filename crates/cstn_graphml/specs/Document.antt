@@ -9,7 +9,7 @@ use Rattle.cstn_graphml.specs.Results.{Refusal, ◌>>=◌, or_refused, demand}
 use Rattle.cstn_graphml.specs.Results.Refusal.{not_utf8, shape, no_deadline}
 use Rattle.cstn_graphml.specs.Contents.{Tag, Content, content_of}
 use Rattle.cstn_graphml.specs.Elements.{Reading, read_by, blank, passed, datum, data_of}
-use Rattle.cstn_graphml.specs.Draft.{Draft, Drawn, empty_draft}
+use Rattle.cstn_graphml.specs.DrawnGraph.{DrawnGraph, DrawnConstraint, empty_graph}
 use Rattle.cstn_graphml.specs.Judged.{judged_node, judged_edge, judged_deadline}
 
 pub data Part : Type 0 where
@@ -25,54 +25,54 @@ part_of name =
     if is_same name (codes "edge") then an_edge else another
 
 -- an element in the graph
-abbrev pub graph_child : Part → Draft → Tag → Content → Result Draft Refusal
-graph_child a_datum draft tag inside = datum (codes "Deadline" ∷ []) (λ key. list_any (λ d. is_same d.key key) draft.own) tag inside >>= judged_deadline draft
-graph_child a_node draft tag inside = data_of (codes "Obs" ∷ (codes "Label" ∷ [])) inside >>= judged_node tag draft
-graph_child an_edge draft tag inside = data_of (codes "Type" ∷ (codes "LabeledValues" ∷ [])) inside >>= judged_edge tag draft
-graph_child another draft tag inside = passed inside >>= λ same. Ok draft
+abbrev pub graph_child : Part → DrawnGraph → Tag → Content → Result DrawnGraph Refusal
+graph_child a_datum graph tag inside = datum (codes "Deadline" ∷ []) (λ key. list_any (λ d. is_same d.key key) graph.own) tag inside >>= judged_deadline graph
+graph_child a_node graph tag inside = data_of (codes "Obs" ∷ (codes "Label" ∷ [])) inside >>= judged_node tag graph
+graph_child an_edge graph tag inside = data_of (codes "Type" ∷ (codes "LabeledValues" ∷ [])) inside >>= judged_edge tag graph
+graph_child another graph tag inside = passed inside >>= λ same. Ok graph
 
--- what a graph makes of a draft
-abbrev pub graph_reading : Reading Draft Draft
+-- what a graph makes of a graph
+abbrev pub graph_reading : Reading DrawnGraph DrawnGraph
 graph_reading = record {
-  ends = λ draft at. Ok draft;
-  runs = λ draft at raw. blank at raw >>= λ same. Ok draft;
-  elements = λ draft tag inside. graph_child (part_of tag.name) draft tag inside;
+  ends = λ graph at. Ok graph;
+  runs = λ graph at raw. blank at raw >>= λ same. Ok graph;
+  elements = λ graph tag inside. graph_child (part_of tag.name) graph tag inside;
 }
 
-abbrev pub in_graph : Draft → Content → Result Draft Refusal
-in_graph draft inside = read_by graph_reading draft inside
+abbrev pub in_graph : DrawnGraph → Content → Result DrawnGraph Refusal
+in_graph graph inside = read_by graph_reading graph inside
 
 -- an element in the root: exactly one is a graph
-abbrev pub root_child : Bool → Option Draft → Tag → Content → Result (Option Draft) Refusal
-root_child true (Some draft) tag inside = Err (shape tag.at)
-root_child true None tag inside = in_graph empty_draft inside >>= λ draft. Ok (Some draft)
+abbrev pub root_child : Bool → Option DrawnGraph → Tag → Content → Result (Option DrawnGraph) Refusal
+root_child true (Some graph) tag inside = Err (shape tag.at)
+root_child true None tag inside = in_graph empty_graph inside >>= λ graph. Ok (Some graph)
 root_child false seen tag inside = passed inside >>= λ same. Ok seen
 
--- the root, with its graph's draft once that is read
-abbrev pub root_reading : Reading (Option Draft) Draft
+-- the root, with its graph's graph once that is read
+abbrev pub root_reading : Reading (Option DrawnGraph) DrawnGraph
 root_reading = record {
   ends = λ seen at. or_refused seen (shape at);
   runs = λ seen at raw. blank at raw >>= λ same. Ok seen;
   elements = λ seen tag inside. root_child (is_same tag.name (codes "graph")) seen tag inside;
 }
 
-abbrev pub in_root : Content → Result Draft Refusal
+abbrev pub in_root : Content → Result DrawnGraph Refusal
 in_root inside = read_by root_reading None inside
 
 -- an element of the document: the root, and nothing behind it
-abbrev pub document_child : Option Draft → Tag → Content → Result (Option Draft) Refusal
-document_child (Some draft) tag inside = Err (shape tag.at)
-document_child None tag inside = demand (is_same tag.name (codes "graphml")) (shape tag.at) >>= λ same. in_root inside >>= λ draft. Ok (Some draft)
+abbrev pub document_child : Option DrawnGraph → Tag → Content → Result (Option DrawnGraph) Refusal
+document_child (Some graph) tag inside = Err (shape tag.at)
+document_child None tag inside = demand (is_same tag.name (codes "graphml")) (shape tag.at) >>= λ same. in_root inside >>= λ graph. Ok (Some graph)
 
--- the document, with its root's draft once that is read
-abbrev pub document_reading : Reading (Option Draft) Draft
+-- the document, with its root's graph once that is read
+abbrev pub document_reading : Reading (Option DrawnGraph) DrawnGraph
 document_reading = record {
   ends = λ seen at. or_refused seen (shape at);
   runs = λ seen at raw. blank at raw >>= λ same. Ok seen;
   elements = document_child;
 }
 
-abbrev pub in_document : Content → Result Draft Refusal
+abbrev pub in_document : Content → Result DrawnGraph Refusal
 in_document whole = read_by document_reading None whole
 
 -- the network of a document: names and observed propositions by number, and the constraints by id
@@ -80,7 +80,7 @@ pub record Parts : Type 0 where
   pub deadline : ℕ
   pub names : List (List ℕ)
   pub observes : List (Option ℕ)
-  pub constraints : List Drawn
+  pub constraints : List DrawnConstraint
 
 -- the deadline handed in, else the document's
 abbrev pub first_of_two : Option ℕ → Option ℕ → Option ℕ
@@ -92,9 +92,9 @@ abbrev pub or_nothing : Option (Option ℕ) → Option ℕ
 or_nothing (Some prop) = prop
 or_nothing None = None
 
-abbrev pub parts_of : Option ℕ → Draft → Result Parts Refusal
-parts_of word draft = or_refused (first_of_two word draft.deadline) no_deadline >>= λ deadline.
-    Ok (record { deadline = deadline; names = draft.names; observes = or_nothing draft.origin ∷ draft.observes; constraints = draft.constraints })
+abbrev pub parts_of : Option ℕ → DrawnGraph → Result Parts Refusal
+parts_of word graph = or_refused (first_of_two word graph.deadline) no_deadline >>= λ deadline.
+    Ok (record { deadline = deadline; names = graph.names; observes = or_nothing graph.origin ∷ graph.observes; constraints = graph.constraints })
 
 -- the bytes are UTF-8, or refused at the first byte of the first wrong sequence
 abbrev pub is_text : List ℕ → Result (Unit {0}) Refusal

@@ -5,17 +5,17 @@ use Rattle.cstn_markup.specs.Bytes.{is_same, is_white, resolved}
 use Rattle.cstn_markup.specs.Tokens.{raw_with}
 use Rattle.cstn_graphml.specs.Results.{Refusal, ◌>>=◌, or_refused, demand}
 use Rattle.cstn_graphml.specs.Results.Refusal.{shape}
-use Rattle.cstn_graphml.specs.Numbers.{trimmed}
+use Rattle.cstn_data.specs.WhiteSpace.{trimmed}
 use Rattle.cstn_graphml.specs.Contents.{Tag, Content}
 use Rattle.cstn_graphml.specs.Contents.Content.{done, cut, run, element}
 
-abbrev pub or_empty : Option (List ℕ) → List ℕ
-or_empty (Some bytes) = bytes
-or_empty None = []
+abbrev pub or_no_bytes : Option (List ℕ) → List ℕ
+or_no_bytes (Some bytes) = bytes
+or_no_bytes None = []
 
 -- the bytes with references put in; where the scanner gave them, each reference is of its form
 abbrev pub read_of : List ℕ → List ℕ
-read_of raw = or_empty (resolved raw)
+read_of raw = or_no_bytes (resolved raw)
 
 abbrev pub read_option : Option (List ℕ) → Option (List ℕ)
 read_option (Some raw) = Some (read_of raw)

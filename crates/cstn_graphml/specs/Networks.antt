@@ -8,13 +8,13 @@ use Rattle.cstn_net.specs.Networks.{Constraint, Network}
 use Rattle.cstn_net.specs.Drafts.{BuilderParts, observations, constraints_from, IsLowestFault}
 use Rattle.cstn_net.specs.Read.{NetworkParts}
 use Rattle.cstn_label.specs.Read.{marks}
-use Rattle.cstn_graphml.specs.declared.draft.Drawn.{Drawn as Lent}
-use Rattle.cstn_graphml.specs.declared.draft.Draft.{Draft as LentGraph}
-use Rattle.cstn_graphml.specs.Draft.{Drawn}
+use Rattle.cstn_graphml.specs.declared.drawn_graph.DrawnConstraint.{DrawnConstraint as Lent}
+use Rattle.cstn_graphml.specs.declared.drawn_graph.DrawnGraph.{DrawnGraph as LentGraph}
+use Rattle.cstn_graphml.specs.DrawnGraph.{DrawnConstraint}
 use Rattle.cstn_graphml.specs.Document.{Parts}
 
 -- the constraints, with ids from k on
-abbrev pub numbered : ℕ → List Drawn → List Constraint
+abbrev pub numbered : ℕ → List DrawnConstraint → List Constraint
 numbered k [] = []
 numbered k (c ∷ cs) = record { id = k; from = c.from; to = c.to; most = c.most; label = c.label } ∷ numbered (k + 1) cs
 
@@ -33,7 +33,7 @@ point_of prop = record { observes = prop; reaction = 1 }
 abbrev pub draft_of : Lent → LentDraft
 draft_of c = record { from = c.from; to = c.to; most = c.most; label = c.label }
 
-abbrev pub drawn_of : LentDraft → Drawn
+abbrev pub drawn_of : LentDraft → DrawnConstraint
 drawn_of d = record { from = d.from; to = d.to; most = d.most; label = marks d.label }
 
 -- the builder with the time-points at its end
@@ -50,7 +50,7 @@ abbrev pub or_no_prop : Option (Option Prop) → Option Prop
 or_no_prop (Some prop) = prop
 or_no_prop None = None
 
--- the builder of a draft
+-- the builder of a graph
 abbrev pub builder_of : ℕ → LentGraph → BuilderParts
 builder_of deadline d = with_drafts d.constraints.items (with_points (or_no_prop d.origin ∷ d.observes.items) (record { deadline = deadline; points = []; drafts = [] }))
 

@@ -4,13 +4,13 @@ ghost use Rattle.std.specs.Prelude.{◌≡◌, ℕ, List, [], None, ◌≤◌, l
 ghost use Rattle.cstn_markup.specs.Tokens.{Attribute};
 ghost use Rattle.cstn_graphml.specs.Contents.{content_of};
 ghost use Rattle.cstn_graphml.specs.Document.{document_child, in_document};
-ghost use Rattle.cstn_graphml.specs.DraftSeen.{draft_seen};
+ghost use Rattle.cstn_graphml.specs.DrawnGraphSeen.{graph_seen};
 ghost use Rattle.cstn_graphml.specs.Reads.{Gives, ReadsWhole};
 
-use crate::children::is_blank;
-use crate::draft::Draft;
+use crate::drawn_graph::DrawnGraph;
 use crate::errors::DocError;
 use crate::root::read_whole_root;
+use cstn_data::is_blank;
 use cstn_markup::{Kind, Scanner, Token};
 use std::alloc::Global;
 
@@ -21,9 +21,9 @@ fn read_document_child(
     at: usize,
     name: &[u8],
     closed: bool,
-    seen: &mut Option<Draft>,
+    seen: &mut Option<DrawnGraph>,
 ) -> Result<(), DocError>
-    ensures reads { (attributes : List Attribute) → ReadsWhole (λ u. option_map draft_seen seen.new) (document_child (option_map draft_seen seen.old) (record { at = at; name = name.now; attributes = attributes })) closed at name.now [] scanner.old scanner.new result }
+    ensures reads { (attributes : List Attribute) → ReadsWhole (λ u. option_map graph_seen seen.new) (document_child (option_map graph_seen seen.old) (record { at = at; name = name.now; attributes = attributes })) closed at name.now [] scanner.old scanner.new result }
     ensures less { length scanner.new ≤ length scanner.old }
 {
     let None = seen else {
@@ -32,14 +32,14 @@ fn read_document_child(
     if name != b"graphml".as_slice() {
         return Err(DocError::Shape { at });
     }
-    let draft = read_whole_root(alloc, scanner, at, name, closed, 0)?;
-    *seen = Some(draft);
+    let graph = read_whole_root(alloc, scanner, at, name, closed, 0)?;
+    *seen = Some(graph);
     Ok(())
 }
 
 /// The document of which no token was read.
-pub fn read_document(alloc: Global, scanner: &mut Scanner) -> Result<Draft, DocError>
-    ensures { Gives draft_seen result (in_document (content_of scanner.old)) }
+pub fn read_document(alloc: Global, scanner: &mut Scanner) -> Result<DrawnGraph, DocError>
+    ensures { Gives graph_seen result (in_document (content_of scanner.old)) }
 {
     let mut seen = None;
     loop {
@@ -61,7 +61,7 @@ pub fn read_document(alloc: Global, scanner: &mut Scanner) -> Result<Draft, DocE
             Kind::Wrong => return Err(DocError::Shape { at }),
             Kind::Finish => {
                 return match seen {
-                    Some(draft) => Ok(draft),
+                    Some(graph) => Ok(graph),
                     None => Err(DocError::Shape { at }),
                 };
             }

@@ -1,35 +1,19 @@
 //! Edges, judged when they end.
 
 ghost use Rattle.std.specs.Prelude.{◌≡◌, ℕ, List, map, true};
-ghost use Rattle.cstn_graphml.specs.Judged.{is_kept_type, is_passed_type, is_kept, with_pair, with_pairs, with_values, with_edge, judged_edge};
-ghost use Rattle.cstn_graphml.specs.Data.{lent_datum, datum_seen};
-ghost use Rattle.cstn_graphml.specs.TextsSeen.{pair_seen};
-ghost use Rattle.cstn_graphml.specs.DraftSeen.{draft_seen};
+ghost use Rattle.cstn_graphml.specs.Judged.{is_kept, with_pair, with_pairs, with_values, with_edge, judged_edge};
+ghost use Rattle.cstn_graphml.specs.DataElementSeen.{lent_datum, datum_seen};
+ghost use Rattle.cstn_data.specs.TextsSeen.{pair_seen};
+ghost use Rattle.cstn_graphml.specs.DrawnGraphSeen.{graph_seen};
 ghost use Rattle.cstn_graphml.specs.Reads.{Gives};
 
 use crate::attributes::text_attribute;
-use crate::data::datum_of;
-use crate::data_element::Datum;
-use crate::draft::{Draft, Drawn, node_of, put_constraint};
+use crate::data_element::{Datum, datum_of};
+use crate::drawn_graph::{DrawnConstraint, DrawnGraph, node_of, put_constraint};
 use crate::errors::DocError;
-use crate::value_texts::{Pair, values_of};
+use cstn_data::{EdgeType, Pair, edge_type_of, values_of};
 use cstn_markup::Attributes;
 use std::alloc::Global;
-
-fn is_kept_type(bytes: &[u8]) -> bool
-    ensures { result ≡ is_kept_type bytes.now }
-{
-    bytes == b"".as_slice()
-        || bytes == b"requirement".as_slice()
-        || bytes == b"normal".as_slice()
-        || bytes == b"constraint".as_slice()
-}
-
-fn is_passed_type(bytes: &[u8]) -> bool
-    ensures { result ≡ is_passed_type bytes.now }
-{
-    bytes == b"derived".as_slice() || bytes == b"internal".as_slice()
-}
 
 /// Whether an edge of this type is kept.
 fn is_kept(datum: Option<&Datum>) -> Result<bool, DocError>
@@ -38,34 +22,36 @@ fn is_kept(datum: Option<&Datum>) -> Result<bool, DocError>
     let Some(datum) = datum else {
         return Ok(true);
     };
-    let name = datum.value.as_slice();
-    if is_kept_type(name) {
-        return Ok(true);
+    let at = datum.at;
+    match edge_type_of(datum.value.as_slice()) {
+        Some(EdgeType::Kept) => Ok(true),
+        Some(EdgeType::PassedOver) => Ok(false),
+        Some(EdgeType::Contingent) => Err(DocError::Contingent { at }),
+        None => Err(DocError::EdgeType { at }),
     }
-    if is_passed_type(name) {
-        return Ok(false);
-    }
-    if name == b"contingent".as_slice() {
-        return Err(DocError::Contingent { at: datum.at });
-    }
-    Err(DocError::EdgeType { at: datum.at })
 }
 
 /// Puts in the constraint of a pair.
-fn put_pair(at: usize, from: u32, to: u32, pair: Pair, draft: &mut Draft) -> Result<(), DocError>
-    ensures { Gives (λ u. draft_seen draft.new) result (with_pair at from to (pair_seen pair) (draft_seen draft.old)) }
+fn put_pair(
+    at: usize,
+    from: u32,
+    to: u32,
+    pair: Pair,
+    graph: &mut DrawnGraph,
+) -> Result<(), DocError>
+    ensures { Gives (λ u. graph_seen graph.new) result (with_pair at from to (pair_seen pair) (graph_seen graph.old)) }
 {
     let Some(label) = pair.label else {
         return Err(DocError::LabelText { at });
     };
     let most = pair.most;
-    let constraint = Drawn {
+    let constraint = DrawnConstraint {
         from,
         to,
         most,
         label,
     };
-    put_constraint(draft, constraint)?;
+    put_constraint(graph, constraint)?;
     Ok(())
 }
 
@@ -76,13 +62,13 @@ fn put_pairs(
     from: u32,
     to: u32,
     pairs: &[Pair],
-    draft: &mut Draft,
+    graph: &mut DrawnGraph,
 ) -> Result<(), DocError>
-    ensures { Gives (λ u. draft_seen draft.new) result (with_pairs at from to (map pair_seen pairs.now) (draft_seen draft.old)) }
+    ensures { Gives (λ u. graph_seen graph.new) result (with_pairs at from to (map pair_seen pairs.now) (graph_seen graph.old)) }
 {
     let mut rest = pairs;
     while let Some((pair, next)) = rest.split_first() {
-        put_pair(at, from, to, *pair, draft)?;
+        put_pair(at, from, to, *pair, graph)?;
         rest = next;
     }
     Ok(())
@@ -94,9 +80,9 @@ fn put_values(
     from: u32,
     to: u32,
     datum: Option<&Datum>,
-    draft: &mut Draft,
+    graph: &mut DrawnGraph,
 ) -> Result<(), DocError>
-    ensures { Gives (λ u. draft_seen draft.new) result (with_values from to (lent_datum datum.entry) (draft_seen draft.old)) }
+    ensures { Gives (λ u. graph_seen graph.new) result (with_values from to (lent_datum datum.entry) (graph_seen graph.old)) }
 {
     let Some(datum) = datum else {
         return Ok(());
@@ -104,7 +90,7 @@ fn put_values(
     let Some(pairs) = values_of(alloc, datum.value.as_slice())? else {
         return Err(DocError::Value { at: datum.at });
     };
-    put_pairs(datum.at, from, to, pairs.as_slice(), draft)
+    put_pairs(datum.at, from, to, pairs.as_slice(), graph)
 }
 
 /// Puts in the constraints of an edge that is kept.
@@ -114,17 +100,17 @@ fn put_edge(
     source: &str,
     target: &str,
     found: &[Datum],
-    draft: &mut Draft,
+    graph: &mut DrawnGraph,
 ) -> Result<(), DocError>
-    ensures { Gives (λ u. draft_seen draft.new) result (with_edge true at source.now target.now (draft_seen draft.old) (map datum_seen found.now)) }
+    ensures { Gives (λ u. graph_seen graph.new) result (with_edge true at source.now target.now (graph_seen graph.old) (map datum_seen found.now)) }
 {
-    let Some(from) = node_of(draft, source) else {
+    let Some(from) = node_of(graph, source) else {
         return Err(DocError::UnknownNode { at });
     };
-    let Some(to) = node_of(draft, target) else {
+    let Some(to) = node_of(graph, target) else {
         return Err(DocError::UnknownNode { at });
     };
-    put_values(alloc, from, to, datum_of(found, b"LabeledValues"), draft)
+    put_values(alloc, from, to, datum_of(found, b"LabeledValues"), graph)
 }
 
 /// Puts in an edge whose data were read.
@@ -133,9 +119,9 @@ pub fn judge_edge(
     at: usize,
     attributes: &Attributes,
     found: &[Datum],
-    draft: &mut Draft,
+    graph: &mut DrawnGraph,
 ) -> Result<(), DocError>
-    ensures { (name : List ℕ) → Gives (λ u. draft_seen draft.new) result (judged_edge (record { at = at; name = name; attributes = attributes.now }) (draft_seen draft.old) (map datum_seen found.now)) }
+    ensures { (name : List ℕ) → Gives (λ u. graph_seen graph.new) result (judged_edge (record { at = at; name = name; attributes = attributes.now }) (graph_seen graph.old) (map datum_seen found.now)) }
 {
     let Some(source) = text_attribute(alloc, attributes, b"source")? else {
         return Err(DocError::Shape { at });
@@ -146,5 +132,5 @@ pub fn judge_edge(
     if !is_kept(datum_of(found, b"Type"))? {
         return Ok(());
     }
-    put_edge(alloc, at, source.as_str(), target.as_str(), found, draft)
+    put_edge(alloc, at, source.as_str(), target.as_str(), found, graph)
 }

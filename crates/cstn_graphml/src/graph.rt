@@ -2,23 +2,23 @@
 
 ghost use Rattle.std.specs.Prelude.{◌≡◌, ℕ, List, ◌≤◌, ◌<◌, ◌+◌, length, map};
 ghost use Rattle.cstn_graphml.specs.Elements.{data_of};
-ghost use Rattle.cstn_graphml.specs.Draft.{empty_draft};
+ghost use Rattle.cstn_graphml.specs.DrawnGraph.{empty_graph};
 ghost use Rattle.cstn_graphml.specs.Document.{part_of, graph_child, in_graph};
 ghost use Rattle.cstn_graphml.specs.Document.Part.{a_datum, a_node, an_edge};
-ghost use Rattle.cstn_graphml.specs.Data.{datum_seen};
-ghost use Rattle.cstn_graphml.specs.DraftSeen.{draft_seen};
-ghost use Rattle.cstn_graphml.specs.GraphSeen.{part_seen};
+ghost use Rattle.cstn_graphml.specs.DataElementSeen.{datum_seen};
+ghost use Rattle.cstn_graphml.specs.DrawnGraphSeen.{graph_seen};
+ghost use Rattle.cstn_graphml.specs.PartSeen.{part_seen};
 ghost use Rattle.cstn_graphml.specs.Reads.{Reads, ReadsWhole};
 
-use crate::children::{is_blank, read_data};
-use crate::data::read_datum;
-use crate::data_element::Datum;
+use crate::data_element::{Datum, read_datum};
 use crate::deadlines::judge_deadline;
-use crate::draft::{Draft, empty_draft};
+use crate::drawn_graph::{DrawnGraph, empty_graph};
 use crate::edges::judge_edge;
 use crate::errors::DocError;
+use crate::node_and_edge_data::read_data;
 use crate::nodes::judge_node;
 use crate::passing::pass_element;
+use cstn_data::is_blank;
 use cstn_markup::{Attributes, Kind, Scanner, Token};
 use std::alloc::Global;
 
@@ -73,19 +73,19 @@ fn read_graph_datum<'a>(
     name: &'a [u8],
     attributes: &Attributes,
     closed: bool,
-    draft: &mut Draft,
+    graph: &mut DrawnGraph,
     depth: usize,
 ) -> Result<(), DocError>
     requires { depth < 32 }
-    ensures reads { (names : List (List ℕ)) → length names ≡ depth → ReadsWhole (λ u. draft_seen draft.new) (graph_child a_datum (draft_seen draft.old) (record { at = at; name = name.now; attributes = attributes.now })) closed at name.now names scanner.old scanner.new result }
+    ensures reads { (names : List (List ℕ)) → length names ≡ depth → ReadsWhole (λ u. graph_seen graph.new) (graph_child a_datum (graph_seen graph.old) (record { at = at; name = name.now; attributes = attributes.now })) closed at name.now names scanner.old scanner.new result }
     ensures less { length scanner.new ≤ length scanner.old }
 {
     let used: [&[u8]; 1] = [b"Deadline"];
-    let found = draft.own.as_slice();
+    let found = graph.own.as_slice();
     let datum = read_datum(
         alloc, scanner, at, name, attributes, closed, &used, found, depth,
     )?;
-    judge_deadline(datum, draft)
+    judge_deadline(datum, graph)
 }
 
 /// A node of which the start tag was read.
@@ -96,16 +96,16 @@ fn read_node(
     name: &[u8],
     attributes: &Attributes,
     closed: bool,
-    draft: &mut Draft,
+    graph: &mut DrawnGraph,
     depth: usize,
 ) -> Result<(), DocError>
     requires { depth < 32 }
-    ensures reads { (names : List (List ℕ)) → length names ≡ depth → ReadsWhole (λ u. draft_seen draft.new) (graph_child a_node (draft_seen draft.old) (record { at = at; name = name.now; attributes = attributes.now })) closed at name.now names scanner.old scanner.new result }
+    ensures reads { (names : List (List ℕ)) → length names ≡ depth → ReadsWhole (λ u. graph_seen graph.new) (graph_child a_node (graph_seen graph.old) (record { at = at; name = name.now; attributes = attributes.now })) closed at name.now names scanner.old scanner.new result }
     ensures less { length scanner.new ≤ length scanner.old }
 {
     let used: [&[u8]; 2] = [b"Obs", b"Label"];
     let found = read_element_data(alloc, scanner, name, closed, &used, depth)?;
-    judge_node(alloc, at, attributes, found.as_slice(), draft)
+    judge_node(alloc, at, attributes, found.as_slice(), graph)
 }
 
 /// An edge of which the start tag was read.
@@ -116,16 +116,16 @@ fn read_edge(
     name: &[u8],
     attributes: &Attributes,
     closed: bool,
-    draft: &mut Draft,
+    graph: &mut DrawnGraph,
     depth: usize,
 ) -> Result<(), DocError>
     requires { depth < 32 }
-    ensures reads { (names : List (List ℕ)) → length names ≡ depth → ReadsWhole (λ u. draft_seen draft.new) (graph_child an_edge (draft_seen draft.old) (record { at = at; name = name.now; attributes = attributes.now })) closed at name.now names scanner.old scanner.new result }
+    ensures reads { (names : List (List ℕ)) → length names ≡ depth → ReadsWhole (λ u. graph_seen graph.new) (graph_child an_edge (graph_seen graph.old) (record { at = at; name = name.now; attributes = attributes.now })) closed at name.now names scanner.old scanner.new result }
     ensures less { length scanner.new ≤ length scanner.old }
 {
     let used: [&[u8]; 2] = [b"Type", b"LabeledValues"];
     let found = read_element_data(alloc, scanner, name, closed, &used, depth)?;
-    judge_edge(alloc, at, attributes, found.as_slice(), draft)
+    judge_edge(alloc, at, attributes, found.as_slice(), graph)
 }
 
 /// An element in the graph, of which the start tag was read.
@@ -136,17 +136,17 @@ fn read_graph_child<'a>(
     name: &'a [u8],
     attributes: &Attributes,
     closed: bool,
-    draft: &mut Draft,
+    graph: &mut DrawnGraph,
     depth: usize,
 ) -> Result<(), DocError>
     requires { depth < 32 }
-    ensures reads { (names : List (List ℕ)) → length names ≡ depth → ReadsWhole (λ u. draft_seen draft.new) (graph_child (part_of name.now) (draft_seen draft.old) (record { at = at; name = name.now; attributes = attributes.now })) closed at name.now names scanner.old scanner.new result }
+    ensures reads { (names : List (List ℕ)) → length names ≡ depth → ReadsWhole (λ u. graph_seen graph.new) (graph_child (part_of name.now) (graph_seen graph.old) (record { at = at; name = name.now; attributes = attributes.now })) closed at name.now names scanner.old scanner.new result }
     ensures less { length scanner.new ≤ length scanner.old }
 {
     match part_of(name) {
-        Part::Datum => read_graph_datum(alloc, scanner, at, name, attributes, closed, draft, depth),
-        Part::Node => read_node(alloc, scanner, at, name, attributes, closed, draft, depth),
-        Part::Edge => read_edge(alloc, scanner, at, name, attributes, closed, draft, depth),
+        Part::Datum => read_graph_datum(alloc, scanner, at, name, attributes, closed, graph, depth),
+        Part::Node => read_node(alloc, scanner, at, name, attributes, closed, graph, depth),
+        Part::Edge => read_edge(alloc, scanner, at, name, attributes, closed, graph, depth),
         Part::Another => pass_element(scanner, name, closed, depth),
     }
 }
@@ -157,12 +157,12 @@ fn read_graph(
     scanner: &mut Scanner,
     name: &[u8],
     depth: usize,
-) -> Result<Draft, DocError>
+) -> Result<DrawnGraph, DocError>
     requires { depth < 32 }
-    ensures reads { (others : List (List ℕ)) → length others ≡ depth → Reads draft_seen (in_graph empty_draft) name.now others scanner.old scanner.new result }
+    ensures reads { (others : List (List ℕ)) → length others ≡ depth → Reads graph_seen (in_graph empty_graph) name.now others scanner.old scanner.new result }
     ensures less { length scanner.new ≤ length scanner.old }
 {
-    let mut draft = empty_draft(alloc)?;
+    let mut graph = empty_graph(alloc)?;
     loop {
         let Token { at, kind } = scanner.step();
         match kind {
@@ -181,13 +181,13 @@ fn read_graph(
                     child,
                     &attributes,
                     closed,
-                    &mut draft,
+                    &mut graph,
                     depth + 1,
                 )?;
             }
             Kind::End { name: last } => {
                 if last == name {
-                    return Ok(draft);
+                    return Ok(graph);
                 }
                 return Err(DocError::Shape { at });
             }
@@ -209,13 +209,13 @@ pub fn read_whole_graph(
     name: &[u8],
     closed: bool,
     depth: usize,
-) -> Result<Draft, DocError>
+) -> Result<DrawnGraph, DocError>
     requires { depth < 32 }
-    ensures reads { (names : List (List ℕ)) (at : ℕ) → length names ≡ depth → ReadsWhole draft_seen (in_graph empty_draft) closed at name.now names scanner.old scanner.new result }
+    ensures reads { (names : List (List ℕ)) (at : ℕ) → length names ≡ depth → ReadsWhole graph_seen (in_graph empty_graph) closed at name.now names scanner.old scanner.new result }
     ensures less { length scanner.new ≤ length scanner.old }
 {
     if closed {
-        return Ok(empty_draft(alloc)?);
+        return Ok(empty_graph(alloc)?);
     }
     read_graph(alloc, scanner, name, depth)
 }

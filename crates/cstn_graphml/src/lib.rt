@@ -2,25 +2,21 @@
 #![tactic(auto)]
 
 mod attributes;
-mod children;
-mod data;
 mod data_element;
+mod data_element_text;
 mod deadlines;
 mod document;
-mod draft;
+mod drawn_graph;
 mod edges;
 mod errors;
 mod graph;
-mod label_texts;
 mod networks;
+mod node_and_edge_data;
 mod nodes;
-mod numbers;
 mod open_names;
 mod passing;
 mod reading;
 mod root;
-mod value_texts;
-mod values;
 
 pub use errors::DocError;
 pub use reading::read;

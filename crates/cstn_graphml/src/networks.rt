@@ -1,14 +1,14 @@
-//! The network of a draft.
+//! The network of a graph.
 
 ghost use Rattle.std.specs.Prelude.{◌≡◌, ◌<◌, ◌+◌, ◌-◌, ◌^◌, ◌++◌, ◌∷◌, [], length, OnOk, IfOk, IfErr, All};
 ghost use Rattle.cstn_net.specs.Drafts.{IsRefusal};
 ghost use Rattle.cstn_net.specs.Networks.{IsWellFormed};
 ghost use Rattle.cstn_net.specs.Read.{the_network};
-ghost use Rattle.cstn_graphml.specs.DraftSeen.{draft_seen};
-ghost use Rattle.cstn_graphml.specs.DraftLaws.{IsDraft};
+ghost use Rattle.cstn_graphml.specs.DrawnGraphSeen.{graph_seen};
+ghost use Rattle.cstn_graphml.specs.DrawnGraphLaws.{IsDrawnGraph};
 ghost use Rattle.cstn_graphml.specs.Networks.{with_points, with_drafts, draft_of, builder_of, IsBuilt};
 
-use crate::draft::{Draft, Drawn};
+use crate::drawn_graph::{DrawnConstraint, DrawnGraph};
 use cstn_label::Prop;
 use cstn_net::{Builder, NetError, Network};
 use std::alloc::{AllocError, Global};
@@ -27,7 +27,7 @@ fn put_points(builder: &mut Builder, observes: &[Option<Prop>]) -> Result<(), Al
 }
 
 /// Hands in a constraint.
-fn put_constraint(builder: &mut Builder, c: Drawn) -> Result<(), AllocError>
+fn put_constraint(builder: &mut Builder, c: DrawnConstraint) -> Result<(), AllocError>
     requires room { length builder.old.drafts < 2 ^ 32 - 1 }
     requires from { c.from < length builder.old.points }
     requires to { c.to < length builder.old.points }
@@ -38,7 +38,7 @@ fn put_constraint(builder: &mut Builder, c: Drawn) -> Result<(), AllocError>
 }
 
 /// Hands in the constraints.
-fn put_constraints(builder: &mut Builder, constraints: &[Drawn]) -> Result<(), AllocError>
+fn put_constraints(builder: &mut Builder, constraints: &[DrawnConstraint]) -> Result<(), AllocError>
     requires room { length builder.old.drafts + length constraints.now < 2 ^ 32 }
     requires among { All (λ c. (c.from < length builder.old.points) × (c.to < length builder.old.points)) constraints.now }
     ensures { OnOk result (builder.new ≡ with_drafts constraints.now builder.old) }
@@ -51,33 +51,33 @@ fn put_constraints(builder: &mut Builder, constraints: &[Drawn]) -> Result<(), A
     Ok(())
 }
 
-/// A builder that was handed what a draft holds.
-fn builder_of(alloc: Global, deadline: u32, draft: &Draft) -> Result<Builder, AllocError>
-    requires { IsDraft (draft_seen draft.now) }
-    ensures { IfOk result (λ b. b ≡ builder_of deadline draft.now) }
+/// A builder that was handed what a graph holds.
+fn builder_of(alloc: Global, deadline: u32, graph: &DrawnGraph) -> Result<Builder, AllocError>
+    requires { IsDrawnGraph (graph_seen graph.now) }
+    ensures { IfOk result (λ b. b ≡ builder_of deadline graph.now) }
 {
     let mut builder = Builder::new(alloc, deadline);
-    let origin = match draft.origin {
+    let origin = match graph.origin {
         Some(prop) => prop,
         None => None,
     };
     builder.node(origin)?;
-    if draft.names.count() == u32::MAX || draft.constraints.len() >= u32::MAX as usize {
+    if graph.names.count() == u32::MAX || graph.constraints.len() >= u32::MAX as usize {
         return Err(AllocError);
     }
-    put_points(&mut builder, draft.observes.as_slice())?;
-    put_constraints(&mut builder, draft.constraints.as_slice())?;
+    put_points(&mut builder, graph.observes.as_slice())?;
+    put_constraints(&mut builder, graph.constraints.as_slice())?;
     Ok(builder)
 }
 
-/// The network of a draft with this deadline.
-pub fn network_of(alloc: Global, deadline: u32, draft: &Draft) -> Result<Network, NetError>
-    requires { IsDraft (draft_seen draft.now) }
-    ensures accepted { IfOk result (IsBuilt (builder_of deadline draft.now)) }
+/// The network of a graph with this deadline.
+pub fn network_of(alloc: Global, deadline: u32, graph: &DrawnGraph) -> Result<Network, NetError>
+    requires { IsDrawnGraph (graph_seen graph.now) }
+    ensures accepted { IfOk result (IsBuilt (builder_of deadline graph.now)) }
     ensures well_formed { IfOk result (λ n. IsWellFormed (the_network n)) }
-    ensures refused { IfErr result (IsRefusal (builder_of deadline draft.now)) }
+    ensures refused { IfErr result (IsRefusal (builder_of deadline graph.now)) }
 {
-    match builder_of(alloc, deadline, draft) {
+    match builder_of(alloc, deadline, graph) {
         Ok(builder) => builder.close(),
         Err(e) => Err(NetError::Memory(e)),
     }

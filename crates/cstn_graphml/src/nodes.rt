@@ -1,34 +1,20 @@
 //! Nodes, judged when they end.
 
 ghost use Rattle.std.specs.Prelude.{◌≡◌, ℕ, List, map, option_map};
-ghost use Rattle.cstn_graphml.specs.Judged.{observed_in, observed, unlabelled, judged_node};
-ghost use Rattle.cstn_graphml.specs.Data.{lent_datum, datum_seen};
-ghost use Rattle.cstn_graphml.specs.DraftSeen.{prop_seen, draft_seen};
+ghost use Rattle.cstn_graphml.specs.Judged.{observed, unlabelled, judged_node};
+ghost use Rattle.cstn_graphml.specs.DataElementSeen.{lent_datum, datum_seen};
+ghost use Rattle.cstn_data.specs.TextsSeen.{prop_seen};
+ghost use Rattle.cstn_graphml.specs.DrawnGraphSeen.{graph_seen};
 ghost use Rattle.cstn_graphml.specs.Reads.{Gives};
 
 use crate::attributes::text_attribute;
-use crate::data::datum_of;
-use crate::data_element::Datum;
-use crate::draft::{Draft, node_of, put_node};
+use crate::data_element::{Datum, datum_of};
+use crate::drawn_graph::{DrawnGraph, node_of, put_node};
 use crate::errors::DocError;
-use crate::label_texts::{is_of_empty, label_of};
+use cstn_data::{is_of_empty, label_of, observed_in};
 use cstn_label::Prop;
 use cstn_markup::Attributes;
 use std::alloc::Global;
-
-/// The proposition of an observed letter; an empty text is none.
-fn observed_in(bytes: &[u8]) -> Option<Option<Prop>>
-    ensures { option_map prop_seen result ≡ observed_in bytes.now }
-{
-    match bytes {
-        [] => Some(None),
-        [letter] => {
-            let prop = Prop::from_letter(*letter)?;
-            Some(Some(prop))
-        }
-        [_, _, ..] => None,
-    }
-}
 
 /// What a node observes.
 fn observed(datum: Option<&Datum>) -> Result<Option<Prop>, DocError>
@@ -65,9 +51,9 @@ pub fn judge_node(
     at: usize,
     attributes: &Attributes,
     found: &[Datum],
-    draft: &mut Draft,
+    graph: &mut DrawnGraph,
 ) -> Result<(), DocError>
-    ensures { (name : List ℕ) → Gives (λ u. draft_seen draft.new) result (judged_node (record { at = at; name = name; attributes = attributes.now }) (draft_seen draft.old) (map datum_seen found.now)) }
+    ensures { (name : List ℕ) → Gives (λ u. graph_seen graph.new) result (judged_node (record { at = at; name = name; attributes = attributes.now }) (graph_seen graph.old) (map datum_seen found.now)) }
 {
     let Some(id) = text_attribute(alloc, attributes, b"id")? else {
         return Err(DocError::Shape { at });
@@ -75,11 +61,11 @@ pub fn judge_node(
     if id.is_empty() || id.len() > 64 {
         return Err(DocError::Value { at });
     }
-    let None = node_of(draft, id.as_str()) else {
+    let None = node_of(graph, id.as_str()) else {
         return Err(DocError::NameTwice { at });
     };
     let prop = observed(datum_of(found, b"Obs"))?;
     unlabelled(datum_of(found, b"Label"))?;
-    put_node(draft, id.as_str(), prop)?;
+    put_node(graph, id.as_str(), prop)?;
     Ok(())
 }

@@ -5,12 +5,12 @@ ghost use Rattle.cstn_net.specs.Networks.{IsWellFormed, count};
 ghost use Rattle.cstn_net.specs.Read.{the_network};
 ghost use Rattle.cstn_net.specs.declared.errors.NetError.TheVariants.{NoOrigin, NotPlain};
 ghost use Rattle.cstn_graphml.specs.declared.errors.DocError.TheVariants.{Net};
-ghost use Rattle.cstn_graphml.specs.Draft.{origin_name};
+ghost use Rattle.cstn_graphml.specs.DrawnGraph.{origin_name};
 ghost use Rattle.cstn_graphml.specs.Document.{first_of_two, document};
 ghost use Rattle.cstn_graphml.specs.Answers.{IsDocument, IsRefused, IsTold};
 
 use crate::document::read_document;
-use crate::draft::Draft;
+use crate::drawn_graph::DrawnGraph;
 use crate::errors::DocError;
 use crate::networks::network_of;
 use cstn_markup::Scanner;
@@ -49,11 +49,11 @@ fn refusal(error: NetError, names: Names) -> DocError
     }
 }
 
-/// The names of a draft.
-fn names_of(draft: Draft) -> Names
-    ensures { result ≡ draft.names }
+/// The names of a graph.
+fn names_of(graph: DrawnGraph) -> Names
+    ensures { result ≡ graph.names }
 {
-    draft.names
+    graph.names
 }
 
 /// Reads a document: its network, and the names of the time-points by number, of which the first is `Z`. A deadline in
@@ -78,12 +78,12 @@ pub fn read(
         });
     }
     let mut scanner = Scanner::new(bytes);
-    let draft = read_document(alloc, &mut scanner)?;
-    let Some(deadline) = first_of_two(deadline, draft.deadline) else {
+    let graph = read_document(alloc, &mut scanner)?;
+    let Some(deadline) = first_of_two(deadline, graph.deadline) else {
         return Err(DocError::NoDeadline);
     };
-    match network_of(alloc, deadline, &draft) {
-        Ok(network) => Ok((network, names_of(draft))),
-        Err(error) => Err(refusal(error, names_of(draft))),
+    match network_of(alloc, deadline, &graph) {
+        Ok(network) => Ok((network, names_of(graph))),
+        Err(error) => Err(refusal(error, names_of(graph))),
     }
 }

@@ -4,14 +4,14 @@ ghost use Rattle.std.specs.Prelude.{◌≡◌, ℕ, List, None, ◌≤◌, ◌<�
 ghost use Rattle.cstn_markup.specs.Bytes.{is_same};
 ghost use Rattle.cstn_markup.specs.Tokens.{Attribute};
 ghost use Rattle.cstn_graphml.specs.Document.{root_child, in_root};
-ghost use Rattle.cstn_graphml.specs.DraftSeen.{draft_seen};
+ghost use Rattle.cstn_graphml.specs.DrawnGraphSeen.{graph_seen};
 ghost use Rattle.cstn_graphml.specs.Reads.{Reads, ReadsWhole};
 
-use crate::children::is_blank;
-use crate::draft::Draft;
+use crate::drawn_graph::DrawnGraph;
 use crate::errors::DocError;
 use crate::graph::read_whole_graph;
 use crate::passing::pass_element;
+use cstn_data::is_blank;
 use cstn_markup::{Kind, Scanner, Token};
 use std::alloc::Global;
 
@@ -22,11 +22,11 @@ fn read_root_child<'a>(
     at: usize,
     name: &'a [u8],
     closed: bool,
-    seen: &mut Option<Draft>,
+    seen: &mut Option<DrawnGraph>,
     depth: usize,
 ) -> Result<(), DocError>
     requires { depth < 32 }
-    ensures reads { (names : List (List ℕ)) (attributes : List Attribute) → length names ≡ depth → ReadsWhole (λ u. option_map draft_seen seen.new) (root_child (is_same name.now (codes "graph")) (option_map draft_seen seen.old) (record { at = at; name = name.now; attributes = attributes })) closed at name.now names scanner.old scanner.new result }
+    ensures reads { (names : List (List ℕ)) (attributes : List Attribute) → length names ≡ depth → ReadsWhole (λ u. option_map graph_seen seen.new) (root_child (is_same name.now (codes "graph")) (option_map graph_seen seen.old) (record { at = at; name = name.now; attributes = attributes })) closed at name.now names scanner.old scanner.new result }
     ensures less { length scanner.new ≤ length scanner.old }
 {
     if name != b"graph".as_slice() {
@@ -35,8 +35,8 @@ fn read_root_child<'a>(
     let None = seen else {
         return Err(DocError::Shape { at });
     };
-    let draft = read_whole_graph(alloc, scanner, name, closed, depth)?;
-    *seen = Some(draft);
+    let graph = read_whole_graph(alloc, scanner, name, closed, depth)?;
+    *seen = Some(graph);
     Ok(())
 }
 
@@ -46,9 +46,9 @@ fn read_root(
     scanner: &mut Scanner,
     name: &[u8],
     depth: usize,
-) -> Result<Draft, DocError>
+) -> Result<DrawnGraph, DocError>
     requires { depth < 32 }
-    ensures reads { (others : List (List ℕ)) → length others ≡ depth → Reads draft_seen in_root name.now others scanner.old scanner.new result }
+    ensures reads { (others : List (List ℕ)) → length others ≡ depth → Reads graph_seen in_root name.now others scanner.old scanner.new result }
     ensures less { length scanner.new ≤ length scanner.old }
 {
     let mut seen = None;
@@ -70,7 +70,7 @@ fn read_root(
                     return Err(DocError::Shape { at });
                 }
                 return match seen {
-                    Some(draft) => Ok(draft),
+                    Some(graph) => Ok(graph),
                     None => Err(DocError::Shape { at }),
                 };
             }
@@ -93,9 +93,9 @@ pub fn read_whole_root(
     name: &[u8],
     closed: bool,
     depth: usize,
-) -> Result<Draft, DocError>
+) -> Result<DrawnGraph, DocError>
     requires { depth < 32 }
-    ensures reads { (names : List (List ℕ)) → length names ≡ depth → ReadsWhole draft_seen in_root closed at name.now names scanner.old scanner.new result }
+    ensures reads { (names : List (List ℕ)) → length names ≡ depth → ReadsWhole graph_seen in_root closed at name.now names scanner.old scanner.new result }
     ensures less { length scanner.new ≤ length scanner.old }
 {
     if closed {

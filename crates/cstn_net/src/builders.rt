@@ -4,14 +4,16 @@ ghost use Rattle.cstn_net.specs.declared.errors.NetError.{NetError};
 ghost use Rattle.cstn_net.specs.Networks.{IsWellFormed};
 ghost use Rattle.cstn_net.specs.Read.{the_network, observed};
 ghost use Rattle.cstn_net.specs.Observers.{KnowsObservers};
-ghost use Rattle.cstn_net.specs.Drafts.{IsSized, IsSound, IsLowestFault, IsRefusal, HasFault, constraints_from};
+ghost use Rattle.cstn_net.specs.Drafts.{IsSized, IsSound, IsLowestFault, IsRefusal, HasFault, constraints_from, with_reaction};
 
 use crate::drafts::{Draft, constraints_of};
 use crate::errors::NetError;
 use crate::networks::Network;
 use crate::observers::{Observers, observers_of};
 use crate::points::TimePoint;
-use crate::scans::{first_not_plain, first_out_of_range, first_twins, first_unobserved};
+use crate::scans::{
+    first_not_plain, first_out_of_range, first_twins, first_unobserved, first_untimely,
+};
 use cstn_label::{Label, Prop};
 use std::alloc::{AllocError, Global};
 use std::marker::Model;
@@ -26,7 +28,7 @@ pub struct Builder {
 }
 
 impl Model for Builder {
-    ghost use Rattle.std.specs.Prelude.{◌≡◌, length};
+    ghost use Rattle.std.specs.Prelude.{length};
     ghost use Rattle.std.specs.List.{All};
     ghost use Rattle.cstn_net.specs.Drafts.{BuilderParts, IsDraftAmong};
 
@@ -34,7 +36,7 @@ impl Model for Builder {
 
     ghost view = { λ b. record { deadline = b.deadline; points = b.points.items; drafts = b.drafts.items } };
 
-    ghost invariant = { λ b. All (λ t. t.reaction ≡ 1) b.points.items × All (IsDraftAmong (length b.points.items)) b.drafts.items };
+    ghost invariant = { λ b. All (IsDraftAmong (length b.points.items)) b.drafts.items };
 }
 
 const MOST_NODES: usize = 1024;
@@ -69,6 +71,14 @@ impl Builder {
             reaction: 1,
         })?;
         Ok(number)
+    }
+
+    /// Sets the ticks after which the outcome of a time-point is known, by its number. `close` judges them.
+    pub fn react(&mut self, node: u32, ticks: u32)
+        requires { node < length self.old.points }
+        ensures react { self.new ≡ record self.old { points = with_reaction node ticks self.old.points } }
+    {
+        self.points[node as usize].reaction = ticks;
     }
 
     /// Adds a constraint between two time-points by their numbers, and answers its id. `close` judges `most` and the label.
@@ -142,7 +152,7 @@ impl Builder {
         None
     }
 
-    // The lowest fault of the constraints and the observers.
+    // The lowest fault of the constraints, the observers and the reactions.
     fn other_fault(&self, observers: &Observers) -> Option<NetError>
         requires sized { IsSized self.now }
         requires observers { KnowsObservers (map observed self.now.points) observers.now }
@@ -163,6 +173,9 @@ impl Builder {
         }
         if let Some(constraint) = first_not_plain(&self.drafts) {
             return Some(NetError::NotPlain { constraint });
+        }
+        if let Some(node) = first_untimely(&self.points) {
+            return Some(NetError::ReactionRange { node });
         }
         None
     }

@@ -41,6 +41,11 @@ pub enum NetError {
     NotPlain {
         constraint: u32,
     },
+    /// N9: the first time-point that observes and has a reaction below 1 or above 1,000 ticks.
+    #[error("the reaction of the time-point {} is out of range", node.0)]
+    ReactionRange {
+        node: NodeId,
+    },
     #[error("out of memory")]
     Memory(AllocError),
 }

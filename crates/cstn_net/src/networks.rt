@@ -96,6 +96,8 @@ impl Network {
     /// The ticks after its observer at which a proposition is known, from 1 to 1,000; 1 where nothing observes it.
     pub fn reaction(&self, p: Prop) -> u32
         ensures reaction { result ≡ (the_network self.now).reaction p.index }
+        ensures range { (1 ≤ result) × (result ≤ 1000) }
+        ensures unobserved { ((x : ℕ) → Observes (the_network self.now) x p.index → ⊥) → result ≡ 1 }
     {
         match self.observers[p.index as usize] {
             Some(x) => self.points[x.index()].reaction,

@@ -152,11 +152,14 @@ fn constraints_are_changed(rt: HostRuntime) {
     let is_false = Label::empty().with(prop, Mark::No);
     builder.constrain(2, 0, -10, is_true).expect(&rt, "memory");
     builder.constrain(0, 2, 3, is_false).expect(&rt, "memory");
+    builder.react(1, 7);
     let mut net = builder.close().expect(&rt, "a network");
     assert_eq!(rt; net.count(), 3);
     assert_eq!(rt; net.limit(NodeId(0)), 0);
     assert_eq!(rt; net.observer(prop), Some(NodeId(1)));
-    assert_eq!(rt; net.reaction(prop), 1);
+    assert_eq!(rt; net.reaction(prop), 7);
+    let q = Prop::from_letter(b'q').expect(&rt, "a letter");
+    assert_eq!(rt; net.reaction(q), 1);
 
     net.reserve(16384).expect(&rt, "memory");
     net.insert(Constraint {
@@ -173,4 +176,37 @@ fn constraints_are_changed(rt: HostRuntime) {
     assert_eq!(rt; net.set_most(9, 1), false);
     assert_eq!(rt; net.constraints().len(), 2);
     assert_eq!(rt; net.constraints()[1].most, 4);
+}
+
+// What closing says of Z and of another time-point that observes this with such a reaction, and of a constraint whose label has
+// this mark on `p`.
+fn reacting(
+    rt: &impl Abort,
+    alloc: Global,
+    observes: Option<Prop>,
+    ticks: u32,
+    mark: Mark,
+) -> Option<NetError> {
+    let mut builder = Builder::new(alloc, 9);
+    builder.node(None).expect(rt, "memory");
+    let node = builder.node(observes).expect(rt, "memory");
+    builder.react(node, ticks);
+    let label = Label::empty().with(p(rt), mark);
+    builder.constrain(0, 1, 0, label).expect(rt, "memory");
+    builder.close().err()
+}
+
+#[test]
+fn reactions_are_judged(rt: HostRuntime) {
+    let alloc = rt.alloc();
+    let prop = Some(p(&rt));
+    let refused = Some(NetError::ReactionRange { node: NodeId(1) });
+    let not_plain = Some(NetError::NotPlain { constraint: 0 });
+    assert_eq!(rt; reacting(&rt, alloc, prop, 0, Mark::Absent), refused);
+    assert_eq!(rt; reacting(&rt, alloc, prop, 1001, Mark::Yes), refused);
+    assert_eq!(rt; reacting(&rt, alloc, prop, 1, Mark::Yes), None);
+    assert_eq!(rt; reacting(&rt, alloc, prop, 1000, Mark::No), None);
+    assert_eq!(rt; reacting(&rt, alloc, None, 0, Mark::Absent), None);
+    assert_eq!(rt; reacting(&rt, alloc, None, 1001, Mark::Absent), None);
+    assert_eq!(rt; reacting(&rt, alloc, prop, 0, Mark::Unknown), not_plain);
 }

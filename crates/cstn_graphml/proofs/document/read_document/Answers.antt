@@ -4,7 +4,7 @@ use Rattle.std.proofs.lemmas.Result.{err_from_is_err_and}
 use Rattle.cstn_graphml.specs.Document.{document_reading}
 use Rattle.cstn_graphml.specs.Results.{or_refused}
 use Rattle.cstn_graphml.specs.Results.Refusal.{shape}
-use Rattle.cstn_graphml.specs.DraftSeen.{draft_seen}
+use Rattle.cstn_graphml.specs.DrawnGraphSeen.{graph_seen}
 use Rattle.cstn_graphml.specs.declared.errors.DocError.TheVariants.{Shape}
 use Rattle.cstn_graphml.proofs.Places.{step_of, wrong_is}
 use Rattle.cstn_graphml.proofs.Folds.{fold_run, fold_whole}
@@ -16,35 +16,35 @@ pub loop-child-preserved-in-Continue-1 : goal.loop-child-preserved-in-Continue-1
 loop-child-preserved-in-Continue-1 c =
     let h = step_of _ _ _ _ c.step-at.ensures.steps c.in-Start.is in
     let q = c.in_ok-read_document_child-in-Start.ensures.reads c.in-Start.attributes in
-    record { same = fold_whole document_reading None (option_map draft_seen c.loop-child.seen) _ _ _ _ _ _ _ _ _ _ c.loop-child.invariant.same h (omega arith) q.told q.left }
+    record { same = fold_whole document_reading None (option_map graph_seen c.loop-child.seen) _ _ _ _ _ _ _ _ _ _ c.loop-child.invariant.same h (omega arith) q.told q.left }
 
 pub returns-in_err-read_document_child-in-Start : goal.returns-in_err-read_document_child-in-Start
 returns-in_err-read_document_child-in-Start c =
     let p = err_from_is_err_and c.from_residual.result c.from_residual.ensures.1 in
     let h = step_of _ _ _ _ c.step-at.ensures.steps c.in-Start.is in
     let q = c.in_err-read_document_child-in-Start.ensures.reads c.in-Start.attributes in
-    rw (p.1, p.2) (top_whole_fails document_reading None (option_map draft_seen c.loop-child.seen) _ _ _ _ _ _ _ _ c.loop-child.invariant.same h q.told)
+    rw (p.1, p.2) (top_whole_fails document_reading None (option_map graph_seen c.loop-child.seen) _ _ _ _ _ _ _ _ c.loop-child.invariant.same h q.told)
 
 pub returns-in-End : goal.returns-in-End
-returns-in-End c = top_cut document_reading None (option_map draft_seen c.loop-child.seen) _ _ _ c.loop-child.invariant.same (ends_none _ _ _ _ (step_of _ _ _ _ c.step-at.ensures.steps c.in-End.is))
+returns-in-End c = top_cut document_reading None (option_map graph_seen c.loop-child.seen) _ _ _ c.loop-child.invariant.same (ends_none _ _ _ _ (step_of _ _ _ _ c.step-at.ensures.steps c.in-End.is))
 
 pub returns-then-not-is_blank : goal.returns-then-not-is_blank
-returns-then-not-is_blank c = top_run_fails document_reading None (option_map draft_seen c.loop-child.seen) (Shape c.step-at.result.at) _ _ _ _ _ c.loop-child.invariant.same
-    (step_of _ _ _ _ c.step-at.ensures.steps c.in-Text.is) (blank_refused (option_map draft_seen c.loop-child.seen) c.step-at.result.at c.in-Text.raw.now (sym c.is_blank.ensures ∙ c.if-not-is_blank.true))
+returns-then-not-is_blank c = top_run_fails document_reading None (option_map graph_seen c.loop-child.seen) (Shape c.step-at.result.at) _ _ _ _ _ c.loop-child.invariant.same
+    (step_of _ _ _ _ c.step-at.ensures.steps c.in-Text.is) (blank_refused (option_map graph_seen c.loop-child.seen) c.step-at.result.at c.in-Text.raw.now (sym c.is_blank.ensures ∙ c.if-not-is_blank.true))
 
 pub loop-child-preserved : goal.loop-child-preserved
 loop-child-preserved c =
-    let s = option_map draft_seen c.loop-child.seen in
+    let s = option_map graph_seen c.loop-child.seen in
     let h = step_of _ _ _ _ c.step-at.ensures.steps c.in-Text.is in
-    record { same = fold_run document_reading None draft_seen s s _ _ _ _ _ _ c.loop-child.invariant.same h (blank_passed s c.step-at.result.at c.in-Text.raw.now (sym c.is_blank.ensures ∙ c.if-not-is_blank.false)) }
+    record { same = fold_run document_reading None graph_seen s s _ _ _ _ _ _ c.loop-child.invariant.same h (blank_passed s c.step-at.result.at c.in-Text.raw.now (sym c.is_blank.ensures ∙ c.if-not-is_blank.false)) }
 
 pub returns-in-Wrong : goal.returns-in-Wrong
-returns-in-Wrong c = top_cut document_reading None (option_map draft_seen c.loop-child.seen) _ _ _ c.loop-child.invariant.same (wrong_is _ _ _ _ (step_of _ _ _ _ c.step-at.ensures.steps c.in-Wrong.is))
+returns-in-Wrong c = top_cut document_reading None (option_map graph_seen c.loop-child.seen) _ _ _ c.loop-child.invariant.same (wrong_is _ _ _ _ (step_of _ _ _ _ c.step-at.ensures.steps c.in-Wrong.is))
 
 pub returns-in-Some : goal.returns-in-Some
-returns-in-Some c = top_end document_reading None (option_map draft_seen c.loop-child.seen) _ _ _ c.loop-child.invariant.same (finished_is _ _ _ (step_of _ _ _ _ c.step-at.ensures.steps c.in-Finish.is))
-    ∙ ap (λ o. or_refused (option_map draft_seen o) (shape c.step-at.result.at)) c.in-Some.is
+returns-in-Some c = top_end document_reading None (option_map graph_seen c.loop-child.seen) _ _ _ c.loop-child.invariant.same (finished_is _ _ _ (step_of _ _ _ _ c.step-at.ensures.steps c.in-Finish.is))
+    ∙ ap (λ o. or_refused (option_map graph_seen o) (shape c.step-at.result.at)) c.in-Some.is
 
 pub returns-in-None : goal.returns-in-None
-returns-in-None c = top_end document_reading None (option_map draft_seen c.loop-child.seen) _ _ _ c.loop-child.invariant.same (finished_is _ _ _ (step_of _ _ _ _ c.step-at.ensures.steps c.in-Finish.is))
-    ∙ ap (λ o. or_refused (option_map draft_seen o) (shape c.step-at.result.at)) c.in-None.is
+returns-in-None c = top_end document_reading None (option_map graph_seen c.loop-child.seen) _ _ _ c.loop-child.invariant.same (finished_is _ _ _ (step_of _ _ _ _ c.step-at.ensures.steps c.in-Finish.is))
+    ∙ ap (λ o. or_refused (option_map graph_seen o) (shape c.step-at.result.at)) c.in-None.is

@@ -2,13 +2,13 @@ use Rattle.std.proofs.Common.{[], None, length}
 use Rattle.std.specs.Prelude.{option_map}
 use Rattle.cstn_graphml.specs.Elements.{read_by}
 use Rattle.cstn_graphml.specs.Document.{document_reading}
-use Rattle.cstn_graphml.specs.DraftSeen.{draft_seen}
+use Rattle.cstn_graphml.specs.DrawnGraphSeen.{graph_seen}
 use Rattle.cstn_graphml.specs.Reads.{Continues}
 use Rattle.cstn_graphml.proofs.document.read_document.Given as goal
 
 abbrev pub invariant-loop-child : goal.invariant-loop-child
 invariant-loop-child l = record {
-  same : Continues (read_by document_reading None) (read_by document_reading (option_map draft_seen l.seen)) [] l.fn.scanner l.scanner;
+  same : Continues (read_by document_reading None) (read_by document_reading (option_map graph_seen l.seen)) [] l.fn.scanner l.scanner;
 }
 
 abbrev pub decreases-loop-child : goal.decreases-loop-child

@@ -1,6 +1,6 @@
 use Rattle.std.proofs.Common.{ℕ, List, ap, sym, map, Vec, Global, Ok, Bor}
 use Rattle.cstn_graphml.specs.Elements.{data_of, read_by}
-use Rattle.cstn_graphml.specs.Data.{datum_seen}
+use Rattle.cstn_graphml.specs.DataElementSeen.{datum_seen}
 use Rattle.cstn_graphml.specs.declared.data_element.Datum.{Datum as Lent}
 use Rattle.cstn_graphml.proofs.Wholes.{closed_whole}
 use Rattle.cstn_graphml.proofs.graph.read_element_data.Goals as goal

@@ -1,14 +1,14 @@
 use Rattle.std.proofs.Common.{◌≡◌, ℕ, List, ◌∷◌, ◌≤◌, length}
 use Rattle.cstn_graphml.specs.Elements.{read_by}
 use Rattle.cstn_graphml.specs.Document.{graph_reading}
-use Rattle.cstn_graphml.specs.Draft.{empty_draft}
-use Rattle.cstn_graphml.specs.DraftSeen.{draft_seen}
+use Rattle.cstn_graphml.specs.DrawnGraph.{empty_graph}
+use Rattle.cstn_graphml.specs.DrawnGraphSeen.{graph_seen}
 use Rattle.cstn_graphml.specs.Reads.{Continues}
 use Rattle.cstn_graphml.proofs.graph.read_graph.Given as goal
 
 abbrev pub invariant-loop-child : goal.invariant-loop-child
 invariant-loop-child l = record {
-  same : (others : List (List ℕ)) → length others ≡ l.depth → Continues (read_by graph_reading empty_draft) (read_by graph_reading (draft_seen l.draft)) (l.name ∷ others) l.fn.scanner l.scanner;
+  same : (others : List (List ℕ)) → length others ≡ l.depth → Continues (read_by graph_reading empty_graph) (read_by graph_reading (graph_seen l.graph)) (l.name ∷ others) l.fn.scanner l.scanner;
   less : length l.scanner ≤ length l.fn.scanner;
 }
 

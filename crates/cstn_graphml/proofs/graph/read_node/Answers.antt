@@ -3,8 +3,8 @@ use Rattle.std.specs.Prelude.{codes}
 use Rattle.cstn_graphml.specs.Contents.{Tag}
 use Rattle.cstn_graphml.specs.Elements.{data_of}
 use Rattle.cstn_graphml.specs.Judged.{judged_node}
-use Rattle.cstn_graphml.specs.Data.{datum_seen}
-use Rattle.cstn_graphml.specs.DraftSeen.{draft_seen}
+use Rattle.cstn_graphml.specs.DataElementSeen.{datum_seen}
+use Rattle.cstn_graphml.specs.DrawnGraphSeen.{graph_seen}
 use Rattle.cstn_graphml.specs.Reads.{Gives}
 use Rattle.cstn_graphml.specs.declared.data_element.Datum.{Datum as Lent}
 use Rattle.cstn_graphml.proofs.Judging.{judged}
@@ -13,6 +13,6 @@ use Rattle.cstn_graphml.proofs.graph.read_node.Goals as goal
 pub returns-clause-reads : goal.returns-clause-reads
 returns-clause-reads c = λ names l.
     let tag : Tag = record { at = c.args.at; name = c.args.name.now; attributes = c.args.attributes.now } in
-    judged (λ (v : Vec Lent Global). map datum_seen v.items) (data_of (codes "Obs" ∷ (codes "Label" ∷ []))) (λ (u : Unit {0}). draft_seen c.judge_node.new.draft) (judged_node tag (draft_seen c.args.draft.now))
+    judged (λ (v : Vec Lent Global). map datum_seen v.items) (data_of (codes "Obs" ∷ (codes "Label" ∷ []))) (λ (u : Unit {0}). graph_seen c.judge_node.new.graph) (judged_node tag (graph_seen c.args.graph.now))
     c.args.closed c.args.at c.args.name.now names _ _ c.in_ok-found.found c.judge_node.result (c.in_ok-found.ensures.reads names c.args.at l)
-    (subst (λ (items : List Lent). Gives (λ (u : Unit {0}). draft_seen c.judge_node.new.draft) c.judge_node.result (judged_node tag (draft_seen c.args.draft.now) (map datum_seen items))) c.as_slice.ensures.value (c.judge_node.ensures c.args.name.now))
+    (subst (λ (items : List Lent). Gives (λ (u : Unit {0}). graph_seen c.judge_node.new.graph) c.judge_node.result (judged_node tag (graph_seen c.args.graph.now) (map datum_seen items))) c.as_slice.ensures.value (c.judge_node.ensures c.args.name.now))

@@ -1,11 +1,11 @@
 use Rattle.std.proofs.Common.{ap, sym, Ok}
 use Rattle.cstn_graphml.specs.Elements.{read_by}
-use Rattle.cstn_graphml.specs.Draft.{empty_draft}
+use Rattle.cstn_graphml.specs.DrawnGraph.{empty_graph}
 use Rattle.cstn_graphml.specs.Document.{in_graph}
-use Rattle.cstn_graphml.specs.DraftSeen.{draft_seen}
+use Rattle.cstn_graphml.specs.DrawnGraphSeen.{graph_seen}
 use Rattle.cstn_graphml.proofs.Wholes.{closed_whole}
 use Rattle.cstn_graphml.proofs.graph.read_whole_graph.Goals as goal
 
 pub returns-then-closed-clause-reads : goal.returns-then-closed-clause-reads
 unfolding read_by
-returns-then-closed-clause-reads c = λ names at l. closed_whole draft_seen (in_graph empty_draft) c.in_ok-empty_draft.field-0 _ at _ names _ c.if-closed.true (ap (λ d. Ok d) (sym c.in_ok-empty_draft.ensures))
+returns-then-closed-clause-reads c = λ names at l. closed_whole graph_seen (in_graph empty_graph) c.in_ok-empty_graph.field-0 _ at _ names _ c.if-closed.true (ap (λ d. Ok d) (sym c.in_ok-empty_graph.ensures))

@@ -1,7 +1,7 @@
 use Rattle.std.proofs.Common.{◌≡◌, length, arith, ap, ◌∙◌, [], ◌∷◌, ◌++◌}
 use Rattle.std.proofs.lemmas.List.{length-map}
 use Rattle.cstn_net.specs.Drafts.{BuilderParts}
-use Rattle.cstn_graphml.specs.DraftSeen.{prop_seen}
+use Rattle.cstn_data.specs.TextsSeen.{prop_seen}
 use Rattle.cstn_graphml.specs.Networks.{point_of}
 use Rattle.cstn_graphml.proofs.Built.{points_leave_drafts, points_count, among_seen}
 use Rattle.cstn_graphml.proofs.networks.builder_of.Goals as goal
@@ -15,6 +15,6 @@ put_constraints-requires-clause-room c =
 pub put_constraints-requires-clause-among : goal.put_constraints-requires-clause-among
 put_constraints-requires-clause-among c =
     let count = points_count c.as_slice.result.now c.node.new.self c.put_points.new.builder c.in_ok-put_points.ensures in
-    let one = ap (λ (b : BuilderParts). length b.points) c.in_ok-node.ensures.appended ∙ ap (λ (b : BuilderParts). length (b.points ++ (point_of c.match-draft.origin ∷ []))) c.new-builder.ensures.new in
-    let same : length c.put_points.new.builder.points ≡ length c.args.draft.now.names = omega (arith, count, one, ap length c.as_slice.ensures.value, c.requires.each, length-map c.args.draft.now.observes.items prop_seen) in
-    among_seen (length c.args.draft.now.names) (length c.put_points.new.builder.points) c.args.draft.now.constraints.items c.as_slice-2.result.now c.as_slice-2.ensures.value same c.requires.among
+    let one = ap (λ (b : BuilderParts). length b.points) c.in_ok-node.ensures.appended ∙ ap (λ (b : BuilderParts). length (b.points ++ (point_of c.match-graph.origin ∷ []))) c.new-builder.ensures.new in
+    let same : length c.put_points.new.builder.points ≡ length c.args.graph.now.names = omega (arith, count, one, ap length c.as_slice.ensures.value, c.requires.each, length-map c.args.graph.now.observes.items prop_seen) in
+    among_seen (length c.args.graph.now.names) (length c.put_points.new.builder.points) c.args.graph.now.constraints.items c.as_slice-2.result.now c.as_slice-2.ensures.value same c.requires.among

@@ -1,11 +1,11 @@
 use Rattle.std.proofs.Common.{refl}
 use Rattle.cstn_graphml.specs.Elements.{read_by}
 use Rattle.cstn_graphml.specs.Document.{in_root}
-use Rattle.cstn_graphml.specs.DraftSeen.{draft_seen}
+use Rattle.cstn_graphml.specs.DrawnGraphSeen.{graph_seen}
 use Rattle.cstn_graphml.specs.declared.errors.DocError.TheVariants.{Shape}
 use Rattle.cstn_graphml.proofs.GraphRead.{closed_fails}
 use Rattle.cstn_graphml.proofs.root.read_whole_root.Goals as goal
 
 pub returns-then-closed-clause-reads : goal.returns-then-closed-clause-reads
 unfolding read_by
-returns-then-closed-clause-reads c = λ names l. closed_fails draft_seen in_root (Shape c.args.at) _ c.args.at _ names _ _ c.if-closed.true refl
+returns-then-closed-clause-reads c = λ names l. closed_fails graph_seen in_root (Shape c.args.at) _ c.args.at _ names _ _ c.if-closed.true refl

@@ -16,7 +16,7 @@ new-requires-clause-well_formed c =
     let items = c.in-Ok.ensures ∙ ap (constraints_from 0) c.deref-2.ensures.value in
     subst (λ cs. IsWellFormed (net_of inside.deadline inside.points.items cs)) (sym items)
     (made_well_formed (record { deadline = inside.deadline; points = inside.points.items; drafts = inside.drafts.items }) _
-    knows sized sound c.self.invariant.0 c.self.invariant.1)
+    knows sized sound c.self.invariant)
 
 pub returns-in-Ok-clause-faultless : goal.returns-in-Ok-clause-faultless
 returns-in-Ok-clause-faultless c = no_fault c.args.self c.in_default.ensures c.in_default-other_fault.ensures

@@ -1,0 +1,2 @@
+pub mod PlainLabels
+pub mod PairTexts

@@ -1,0 +1,7 @@
+pub mod WhiteSpace
+pub mod NumberTexts
+pub mod LabelTexts
+pub mod ValueTexts
+pub mod EdgeTypes
+pub mod ObservedLetters
+pub mod TextsSeen

@@ -1,0 +1,51 @@
+//! Numbers as texts.
+
+ghost use Rattle.std.specs.Prelude.{◌≡◌, ℕ, ◌≤◌, ◌<◌, ◌+◌, ◌*◌, ◌^◌, length};
+ghost use Rattle.cstn_markup.specs.Bytes.{number_after};
+ghost use Rattle.cstn_data.specs.NumberTexts.{short_number, integer_text};
+
+/// The number that up to ten digits write.
+#[tactic(auto, unfolding(cstn_markup::specs::Bytes::number_after))]
+fn number(digits: &[u8]) -> Option<u64>
+    requires { length digits.now ≤ 10 }
+    ensures { result ≡ number_after 10 0 digits.now }
+{
+    let mut n: u64 = 0;
+    let mut rest = digits;
+    while let Some((d, next)) = rest.split_first() {
+        let value = (*d as char).to_digit(10)?;
+        n = n * 10 + value as u64;
+        rest = next;
+    }
+    Some(n)
+}
+
+/// The number that 1 to 10 digits write, below the limit.
+pub(crate) fn short_number(limit: u64, digits: &[u8]) -> Option<u64>
+    ensures { result ≡ short_number limit digits.now }
+{
+    if digits.is_empty() || digits.len() > 10 {
+        return None;
+    }
+    let n = number(digits)?;
+    if n >= limit {
+        return None;
+    }
+    Some(n)
+}
+
+/// An integer text.
+pub(crate) fn integer_text(bytes: &[u8]) -> Option<i32>
+    ensures { result ≡ integer_text bytes.now }
+{
+    if let Some(digits) = bytes.strip_prefix(b"-") {
+        let n = short_number(2147483649, digits)?;
+        return Some((-(n as i64)) as i32);
+    }
+    if let Some(digits) = bytes.strip_prefix(&[226, 136, 146]) {
+        let n = short_number(2147483649, digits)?;
+        return Some((-(n as i64)) as i32);
+    }
+    let n = short_number(2147483648, bytes)?;
+    Some(n as i32)
+}

@@ -1,0 +1,174 @@
+-- Every graph of a graph is one.
+use Rattle.std.proofs.Common.{◌≡◌, ℕ, ◌<◌, Bool, true, false, List, [], ◌∷◌, ◌++◌, length, refl, ap, subst, arith, Option, Some, None, Result, Ok, Err}
+use Rattle.std.specs.Prelude.{if◌then◌else◌, is_some, codes, not, nat_lt, nat_le, ◌&&◌}
+use Rattle.std.specs.List.{All, list_any}
+use Rattle.std.proofs.lemmas.List.{length-append}
+use Rattle.std.proofs.lemmas.List.Elements.{All-push, All-weaker, All-head, All-tail}
+use Rattle.std.proofs.lemmas.List.Quantifiers.{position-Some}
+use Rattle.cstn_markup.specs.Bytes.{is_same, when}
+use Rattle.cstn_text.specs.Names.{number_of}
+use Rattle.cstn_graphml.specs.Results.{Refusal, ◌>>=◌, or_refused, demand}
+use Rattle.cstn_graphml.specs.Results.Refusal.{shape, bad_value, unknown_node, name_twice, label_text}
+use Rattle.cstn_data.specs.NumberTexts.{deadline_of}
+use Rattle.cstn_data.specs.ValueTexts.{Pair, values_of}
+use Rattle.cstn_graphml.specs.Contents.{Tag, Content}
+use Rattle.cstn_graphml.specs.Contents.Content.{done, cut, run, element}
+use Rattle.cstn_graphml.specs.Elements.{Reading, read_by, Datum, blank, passed, datum, data_of, datum_of, attribute}
+use Rattle.cstn_graphml.specs.DrawnGraph.{DrawnGraph, DrawnConstraint, empty_graph, origin_name, node_of, with_node, with_constraint, with_deadline}
+use Rattle.cstn_graphml.specs.Judged.{judged_node, judged_edge, judged_deadline, with_pair, with_pairs, with_values, with_edge, is_kept, observed, unlabelled}
+use Rattle.cstn_graphml.specs.Document.{Part, graph_child, graph_reading, in_graph, root_child, root_reading, in_root, document_child, document_reading, in_document, part_of}
+use Rattle.cstn_graphml.specs.Document.Part.{a_datum, a_node, an_edge, another}
+use Rattle.cstn_graphml.specs.DrawnGraphLaws.{IsDrawnGraph, IsDrawnAmong}
+use Rattle.cstn_label.specs.Labels.{IsPlain}
+use Rattle.cstn_data.proofs.PlainLabels.{HasPlainLabel, values_plain}
+
+pub bind_ok : {A B : Type 0} (o : Result A Refusal) (f : A → Result B Refusal) (y : B) → (o >>= f) ≡ Ok y → (x : A) × (o ≡ Ok x) × (f x ≡ Ok y)
+bind_ok (Ok x) f y e = (x, refl, e)
+bind_ok (Err r) f y e = absurd (cc)
+
+ok_is : {A : Type 0} (x y : A) → ◌≡◌ {A = Result A Refusal} (Ok x) (Ok y) → x ≡ y
+ok_is x y e = cc
+
+given : {A : Type 0} (o : Option A) (e : Refusal) (x : A) → or_refused o e ≡ Ok x → o ≡ Some x
+given (Some y) e x h = cc
+given None e x h = absurd (cc)
+
+-- what each step keeps, the whole reading keeps
+read_keeps : {S A : Type 0} (r : Reading S A) (P : S → Type 0) (Q : A → Type 0)
+    → ((s : S) (at : ℕ) (a : A) → P s → r.ends s at ≡ Ok a → Q a)
+    → ((s t : S) (at : ℕ) (raw : List ℕ) → P s → r.runs s at raw ≡ Ok t → P t)
+    → ((s t : S) (tag : Tag) (inside : Content) → P s → r.elements s tag inside ≡ Ok t → P t)
+    → (c : Content) (s : S) (a : A) → P s → read_by r s c ≡ Ok a → Q a
+unfolding read_by
+read_keeps r P Q ends runs elements (done at) s a p h = ends s at a p h
+read_keeps r P Q ends runs elements (cut at) s a p h = absurd (cc)
+read_keeps r P Q ends runs elements (run at raw after) s a p h =
+    let b = bind_ok (r.runs s at raw) (λ t. read_by r t after) a h in
+    read_keeps r P Q ends runs elements after b.0 a (runs s b.0 at raw p b.1) b.2
+read_keeps r P Q ends runs elements (element tag inside after) s a p h =
+    let b = bind_ok (r.elements s tag inside) (λ t. read_by r t after) a h in
+    read_keeps r P Q ends runs elements after b.0 a (elements s b.0 tag inside p b.1) b.2
+
+-- a blank text changes nothing
+blank_keeps : {S : Type 0} (P : S → Type 0) (s t : S) (at : ℕ) (raw : List ℕ) → P s → (blank at raw >>= λ same. Ok s) ≡ Ok t → P t
+blank_keeps P s t at raw p h = let b = bind_ok (blank at raw) (λ same. Ok s) t h in subst P (ok_is s t b.2) p
+
+pub empty_is : IsDrawnGraph empty_graph
+empty_is = record { later = []; first = refl; each = refl; among = λ k d inside. absurd (omega (arith, inside)); plain = λ k d inside. absurd (omega (arith, inside)) }
+
+picked : (b c : Bool) (later : Option ℕ) (k n : ℕ) → (if b then when c 0 else later) ≡ Some k → 0 < n → ((j : ℕ) → later ≡ Some j → j < n) → k < n
+picked true true later k n e z h = let i : 0 ≡ k = cc in subst (λ j. j < n) i z
+picked true false later k n e z h = absurd (cc)
+picked false c later k n e z h = h k e
+
+-- a node that was read has one of the numbers
+node_inside : (name : List ℕ) (d : DrawnGraph) (k : ℕ) → IsDrawnGraph d → node_of name d ≡ Some k → k < length d.names
+node_inside name d k h e = picked (is_same name origin_name) (is_some d.origin) (number_of d.names name) k (length d.names) e (omega (arith, h.each)) (λ j f. (position-Some _ d.names j [] f).0)
+
+constraint_kept : (c : DrawnConstraint) (d : DrawnGraph) → IsDrawnGraph d → IsDrawnAmong (length d.names) c → IsPlain c.label → IsDrawnGraph (with_constraint c d)
+constraint_kept c d h i p = record {
+  later = h.later;
+  first = h.first;
+  each = h.each;
+  among = All-push (IsDrawnAmong (length d.names)) d.constraints c h.among i;
+  plain = All-push (λ (c : DrawnConstraint). IsPlain c.label) d.constraints c h.plain p;
+}
+
+deadline_kept : (found : Datum) (n : ℕ) (d : DrawnGraph) → IsDrawnGraph d → IsDrawnGraph (with_deadline found n d)
+deadline_kept found n d h = record { later = h.later; first = h.first; each = h.each; among = h.among; plain = h.plain }
+
+node_by : (b : Bool) (name : List ℕ) (prop : Option ℕ) (d : DrawnGraph) → IsDrawnGraph d
+    → IsDrawnGraph (if b then record d { origin = Some prop } else record d { names = d.names ++ (name ∷ []); observes = d.observes ++ (prop ∷ []) })
+node_by true name prop d h = record { later = h.later; first = h.first; each = h.each; among = h.among; plain = h.plain }
+node_by false name prop d h =
+    let longer = length-append d.names (name ∷ []) in
+    let each = length-append d.observes (prop ∷ []) in
+    record {
+      later = h.later ++ (name ∷ []);
+      first = ap (λ names. names ++ (name ∷ [])) h.first;
+      each = omega (arith, longer, each, h.each);
+      among = All-weaker (IsDrawnAmong (length d.names)) (IsDrawnAmong (length (d.names ++ (name ∷ [])))) (λ c i. (omega (arith, longer, i.0), omega (arith, longer, i.1))) d.constraints h.among;
+      plain = h.plain;
+    }
+
+node_kept : (name : List ℕ) (prop : Option ℕ) (d : DrawnGraph) → IsDrawnGraph d → IsDrawnGraph (with_node name prop d)
+node_kept name prop d h = node_by (is_same name origin_name) name prop d h
+
+pairs_kept : (at from to : ℕ) (pairs : List Pair) (d e : DrawnGraph) → IsDrawnGraph d → All HasPlainLabel pairs → from < length d.names → to < length d.names → with_pairs at from to pairs d ≡ Ok e → IsDrawnGraph e
+unfolding with_pairs
+pairs_kept at from to [] d e h plain f t k = subst IsDrawnGraph (ok_is d e k) h
+pairs_kept at from to (p ∷ pairs) d e h plain f t k =
+    let b = bind_ok (with_pair at from to p d) (with_pairs at from to pairs) e k in
+    let q = bind_ok (or_refused p.label (label_text at)) (λ label. Ok (with_constraint (record { from = from; to = to; most = p.most; label = label }) d)) b.0 b.1 in
+    let is = ok_is (with_constraint (record { from = from; to = to; most = p.most; label = q.0 }) d) b.0 q.2 in
+    let here : IsPlain q.0 = All-head HasPlainLabel p pairs plain q.0 (given p.label (label_text at) q.0 q.1) in
+    pairs_kept at from to pairs b.0 e (subst IsDrawnGraph is (constraint_kept (record { from = from; to = to; most = p.most; label = q.0 }) d h (f, t) here)) (All-tail HasPlainLabel p pairs plain) (subst (λ (x : DrawnGraph). from < length x.names) is f) (subst (λ (x : DrawnGraph). to < length x.names) is t) b.2
+
+values_kept : (from to : ℕ) (found : Option Datum) (d e : DrawnGraph) → IsDrawnGraph d → from < length d.names → to < length d.names → with_values from to found d ≡ Ok e → IsDrawnGraph e
+values_kept from to None d e h f t k = subst IsDrawnGraph (ok_is d e k) h
+values_kept from to (Some x) d e h f t k = let b = bind_ok (or_refused (values_of x.value) (bad_value x.at)) (λ pairs. with_pairs x.at from to pairs d) e k in pairs_kept x.at from to b.0 d e h (values_plain x.value b.0 (given (values_of x.value) (bad_value x.at) b.0 b.1)) f t b.2
+
+edge_by : (keeps : Bool) (at : ℕ) (source target : List ℕ) (d e : DrawnGraph) (found : List Datum) → IsDrawnGraph d → with_edge keeps at source target d found ≡ Ok e → IsDrawnGraph e
+edge_by false at source target d e found h k = subst IsDrawnGraph (ok_is d e k) h
+edge_by true at source target d e found h k =
+    let a = bind_ok (or_refused (node_of source d) (unknown_node at)) (λ from. or_refused (node_of target d) (unknown_node at) >>= λ to. with_values from to (datum_of (codes "LabeledValues") found) d) e k in
+    let b = bind_ok (or_refused (node_of target d) (unknown_node at)) (λ to. with_values a.0 to (datum_of (codes "LabeledValues") found) d) e a.2 in
+    values_kept a.0 b.0 (datum_of (codes "LabeledValues") found) d e h (node_inside source d a.0 h (given (node_of source d) (unknown_node at) a.0 a.1)) (node_inside target d b.0 h (given (node_of target d) (unknown_node at) b.0 b.1)) b.2
+
+edge_kept : (tag : Tag) (d e : DrawnGraph) (found : List Datum) → IsDrawnGraph d → judged_edge tag d found ≡ Ok e → IsDrawnGraph e
+edge_kept tag d e found h k =
+    let a = bind_ok (or_refused (attribute (codes "source") tag) (shape tag.at)) (λ source. or_refused (attribute (codes "target") tag) (shape tag.at) >>= λ target. is_kept (datum_of (codes "Type") found) >>= λ keeps. with_edge keeps tag.at source target d found) e k in
+    let b = bind_ok (or_refused (attribute (codes "target") tag) (shape tag.at)) (λ target. is_kept (datum_of (codes "Type") found) >>= λ keeps. with_edge keeps tag.at a.0 target d found) e a.2 in
+    let c = bind_ok (is_kept (datum_of (codes "Type") found)) (λ keeps. with_edge keeps tag.at a.0 b.0 d found) e b.2 in
+    edge_by c.0 tag.at a.0 b.0 d e found h c.2
+
+node_judged : (tag : Tag) (d e : DrawnGraph) (found : List Datum) → IsDrawnGraph d → judged_node tag d found ≡ Ok e → IsDrawnGraph e
+node_judged tag d e found h k =
+    let a = bind_ok (or_refused (attribute (codes "id") tag) (shape tag.at)) (λ id. demand (nat_lt 0 (length id) && nat_le (length id) 64) (bad_value tag.at) >>= λ sized. demand (not (is_some (node_of id d))) (name_twice tag.at) >>= λ fresh. observed (datum_of (codes "Obs") found) >>= λ prop. unlabelled (datum_of (codes "Label") found) >>= λ same. Ok (with_node id prop d)) e k in
+    let b = bind_ok (demand (nat_lt 0 (length a.0) && nat_le (length a.0) 64) (bad_value tag.at)) (λ sized. demand (not (is_some (node_of a.0 d))) (name_twice tag.at) >>= λ fresh. observed (datum_of (codes "Obs") found) >>= λ prop. unlabelled (datum_of (codes "Label") found) >>= λ same. Ok (with_node a.0 prop d)) e a.2 in
+    let c = bind_ok (demand (not (is_some (node_of a.0 d))) (name_twice tag.at)) (λ fresh. observed (datum_of (codes "Obs") found) >>= λ prop. unlabelled (datum_of (codes "Label") found) >>= λ same. Ok (with_node a.0 prop d)) e b.2 in
+    let p = bind_ok (observed (datum_of (codes "Obs") found)) (λ prop. unlabelled (datum_of (codes "Label") found) >>= λ same. Ok (with_node a.0 prop d)) e c.2 in
+    let u = bind_ok (unlabelled (datum_of (codes "Label") found)) (λ same. Ok (with_node a.0 p.0 d)) e p.2 in
+    subst IsDrawnGraph (ok_is (with_node a.0 p.0 d) e u.2) (node_kept a.0 p.0 d h)
+
+deadline_judged : (d e : DrawnGraph) (found : Option Datum) → IsDrawnGraph d → judged_deadline d found ≡ Ok e → IsDrawnGraph e
+deadline_judged d e None h k = subst IsDrawnGraph (ok_is d e k) h
+deadline_judged d e (Some x) h k = let b = bind_ok (or_refused (deadline_of x.value) (bad_value x.at)) (λ n. Ok (with_deadline x n d)) e k in subst IsDrawnGraph (ok_is (with_deadline x b.0 d) e b.2) (deadline_kept x b.0 d h)
+
+child_kept : (part : Part) (d e : DrawnGraph) (tag : Tag) (inside : Content) → IsDrawnGraph d → graph_child part d tag inside ≡ Ok e → IsDrawnGraph e
+child_kept a_datum d e tag inside h k = let b = bind_ok (datum (codes "Deadline" ∷ []) (λ key. list_any (λ (q : Datum). is_same q.key key) d.own) tag inside) (judged_deadline d) e k in deadline_judged d e b.0 h b.2
+child_kept a_node d e tag inside h k = let b = bind_ok (data_of (codes "Obs" ∷ (codes "Label" ∷ [])) inside) (judged_node tag d) e k in node_judged tag d e b.0 h b.2
+child_kept an_edge d e tag inside h k = let b = bind_ok (data_of (codes "Type" ∷ (codes "LabeledValues" ∷ [])) inside) (judged_edge tag d) e k in edge_kept tag d e b.0 h b.2
+child_kept another d e tag inside h k = let b = bind_ok (passed inside) (λ same. Ok d) e k in subst IsDrawnGraph (ok_is d e b.2) h
+
+pub graph_is_drawn : (inside : Content) (d : DrawnGraph) → in_graph empty_graph inside ≡ Ok d → IsDrawnGraph d
+graph_is_drawn inside d k = read_keeps graph_reading IsDrawnGraph IsDrawnGraph (λ s at a h e. subst IsDrawnGraph (ok_is s a e) h) (λ s t at raw h e. blank_keeps IsDrawnGraph s t at raw h e)
+    (λ s t tag content h e. child_kept (part_of tag.name) s t tag content h e) inside empty_graph d empty_is k
+
+-- a graph that is there is one
+abbrev Seen : Option DrawnGraph → Type 0
+Seen (Some d) = IsDrawnGraph d
+Seen None = Unit {0}
+
+ended : (seen : Option DrawnGraph) (at : ℕ) (d : DrawnGraph) → Seen seen → or_refused seen (shape at) ≡ Ok d → IsDrawnGraph d
+ended (Some x) at d h e = subst IsDrawnGraph (ok_is x d e) h
+ended None at d h e = absurd (cc)
+
+root_kept : (b : Bool) (s t : Option DrawnGraph) (tag : Tag) (inside : Content) → Seen s → root_child b s tag inside ≡ Ok t → Seen t
+root_kept true (Some d) t tag inside h k = absurd (cc)
+root_kept true None t tag inside h k = let b = bind_ok (in_graph empty_graph inside) (λ d. Ok (Some d)) t k in subst Seen (ok_is (Some b.0) t b.2) (graph_is_drawn inside b.0 b.1)
+root_kept false s t tag inside h k = let b = bind_ok (passed inside) (λ same. Ok s) t k in subst Seen (ok_is s t b.2) h
+
+root_is_drawn : (inside : Content) (d : DrawnGraph) → in_root inside ≡ Ok d → IsDrawnGraph d
+root_is_drawn inside d k = read_keeps root_reading Seen IsDrawnGraph (λ s at a h e. ended s at a h e) (λ s t at raw h e. blank_keeps Seen s t at raw h e)
+    (λ s t tag content h e. root_kept (is_same tag.name (codes "graph")) s t tag content h e) inside None d tt k
+
+whole_kept : (s t : Option DrawnGraph) (tag : Tag) (inside : Content) → Seen s → document_child s tag inside ≡ Ok t → Seen t
+whole_kept (Some d) t tag inside h k = absurd (cc)
+whole_kept None t tag inside h k =
+    let a = bind_ok (demand (is_same tag.name (codes "graphml")) (shape tag.at)) (λ same. in_root inside >>= λ d. Ok (Some d)) t k in
+    let b = bind_ok (in_root inside) (λ d. Ok (Some d)) t a.2 in
+    subst Seen (ok_is (Some b.0) t b.2) (root_is_drawn inside b.0 b.1)
+
+pub document_is_drawn : (whole : Content) (d : DrawnGraph) → in_document whole ≡ Ok d → IsDrawnGraph d
+document_is_drawn whole d k = read_keeps document_reading Seen IsDrawnGraph (λ s at a h e. ended s at a h e) (λ s t at raw h e. blank_keeps Seen s t at raw h e) whole_kept whole None d tt k

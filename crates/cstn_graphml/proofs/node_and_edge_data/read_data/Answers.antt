@@ -1,0 +1,92 @@
+use Rattle.std.proofs.Common.{ℕ, List, [], ◌∷◌, length, arith, sym, ap, ◌∙◌, refl, map, Vec, Global, Bor}
+use Rattle.std.proofs.lemmas.Result.{err_from_is_err_and}
+use Rattle.cstn_graphml.specs.DataElementSeen.{datum_seen}
+use Rattle.cstn_graphml.specs.Elements.{data_reading}
+use Rattle.cstn_graphml.specs.declared.data_element.Datum.{Datum as Lent}
+use Rattle.cstn_graphml.proofs.Places.{step_of, ended_is, misnamed_is, wrong_is, unfinished_is, deep_is}
+use Rattle.cstn_graphml.proofs.Folds.{fold_cut, fold_end, fold_run, fold_run_fails, fold_whole, fold_whole_fails}
+use Rattle.cstn_graphml.proofs.Judging.{blank_refused, blank_passed}
+use Rattle.cstn_graphml.proofs.node_and_edge_data.read_data.Goals as goal
+
+pub returns-then-depth-ge32-clause-reads : goal.returns-then-depth-ge32-clause-reads
+returns-then-depth-ge32-clause-reads c = λ others l.
+    let r = data_reading (map (λ (u : Bor (List ℕ)). u.now) c.args.used.now) in
+    let view = λ (v : Vec Lent Global). map datum_seen v.items in
+    let s = map datum_seen c.loop-child.found.items in
+    fold_cut r [] view s _ others _ _ _ _ (c.loop-child.invariant.same others l)
+    (deep_is _ _ _ _ _ _ _ (step_of _ _ _ _ c.step-at.ensures.steps c.in-Start.is) (omega (arith, l)))
+
+pub loop-child-preserved-in-Continue-1 : goal.loop-child-preserved-in-Continue-1
+loop-child-preserved-in-Continue-1 c =
+    let r = data_reading (map (λ (u : Bor (List ℕ)). u.now) c.args.used.now) in
+    let view = λ (v : Vec Lent Global). map datum_seen v.items in
+    let s = map datum_seen c.loop-child.found.items in
+    let h = step_of _ _ _ _ c.step-at.ensures.steps c.in-Start.is in
+    record {
+      same = λ others l.
+          let q = c.in_ok-read_child-in-Start.ensures.reads (c.args.name.now ∷ others) (omega (arith, l)) in
+          fold_whole r [] s _ _ _ _ _ _ _ _ _ _ (c.loop-child.invariant.same others l) h (omega (arith, l)) q.told q.left;
+      less = omega (arith, ap length h, c.in_ok-read_child-in-Start.ensures.less);
+    }
+
+pub returns-in_err-read_child-in-Start-clause-reads : goal.returns-in_err-read_child-in-Start-clause-reads
+returns-in_err-read_child-in-Start-clause-reads c = λ others l.
+    let r = data_reading (map (λ (u : Bor (List ℕ)). u.now) c.args.used.now) in
+    let view = λ (v : Vec Lent Global). map datum_seen v.items in
+    let s = map datum_seen c.loop-child.found.items in
+    let p = err_from_is_err_and c.from_residual.result c.from_residual.ensures.1 in
+    let h = step_of _ _ _ _ c.step-at.ensures.steps c.in-Start.is in
+    let q = c.in_err-read_child-in-Start.ensures.reads (c.args.name.now ∷ others) (omega (arith, l)) in
+    rw (p.1, p.2) (fold_whole_fails r [] view s _ _ _ others _ _ _ _ _ _ _ (c.loop-child.invariant.same others l) h (omega (arith, l)) q.told)
+
+pub returns-then-eq-clause-reads : goal.returns-then-eq-clause-reads
+returns-then-eq-clause-reads c = λ others l.
+    let r = data_reading (map (λ (u : Bor (List ℕ)). u.now) c.args.used.now) in
+    let view = λ (v : Vec Lent Global). map datum_seen v.items in
+    let s = map datum_seen c.loop-child.found.items in
+    fold_end r [] view s c.loop-child.found _ others _ _ _ _ (c.loop-child.invariant.same others l)
+    (ended_is _ _ _ _ _ _ (step_of _ _ _ _ c.step-at.ensures.steps c.in-End.is) c.if-eq.ensures) refl
+
+pub returns-in-End-clause-reads : goal.returns-in-End-clause-reads
+returns-in-End-clause-reads c = λ others l.
+    let r = data_reading (map (λ (u : Bor (List ℕ)). u.now) c.args.used.now) in
+    let view = λ (v : Vec Lent Global). map datum_seen v.items in
+    let s = map datum_seen c.loop-child.found.items in
+    fold_cut r [] view s _ others _ _ _ _ (c.loop-child.invariant.same others l)
+    (misnamed_is _ _ _ _ _ _ (step_of _ _ _ _ c.step-at.ensures.steps c.in-End.is) c.if-eq.ensures)
+
+pub returns-then-not-is_blank-clause-reads : goal.returns-then-not-is_blank-clause-reads
+returns-then-not-is_blank-clause-reads c = λ others l.
+    let r = data_reading (map (λ (u : Bor (List ℕ)). u.now) c.args.used.now) in
+    let view = λ (v : Vec Lent Global). map datum_seen v.items in
+    let s = map datum_seen c.loop-child.found.items in
+    fold_run_fails r [] view s _ _ others _ _ _ _ _ (c.loop-child.invariant.same others l)
+    (step_of _ _ _ _ c.step-at.ensures.steps c.in-Text.is) (blank_refused s c.step-at.result.at c.in-Text.raw.now (sym c.is_blank.ensures ∙ c.if-not-is_blank.true))
+
+pub loop-child-preserved : goal.loop-child-preserved
+loop-child-preserved c =
+    let r = data_reading (map (λ (u : Bor (List ℕ)). u.now) c.args.used.now) in
+    let view = λ (v : Vec Lent Global). map datum_seen v.items in
+    let s = map datum_seen c.loop-child.found.items in
+    let h = step_of _ _ _ _ c.step-at.ensures.steps c.in-Text.is in
+    record {
+      same = λ others l. fold_run r [] view s s _ _ _ _ _ _ (c.loop-child.invariant.same others l) h
+          (blank_passed s c.step-at.result.at c.in-Text.raw.now (sym c.is_blank.ensures ∙ c.if-not-is_blank.false));
+      less = omega (arith, ap length h);
+    }
+
+pub returns-in-Wrong-clause-reads : goal.returns-in-Wrong-clause-reads
+returns-in-Wrong-clause-reads c = λ others l.
+    let r = data_reading (map (λ (u : Bor (List ℕ)). u.now) c.args.used.now) in
+    let view = λ (v : Vec Lent Global). map datum_seen v.items in
+    let s = map datum_seen c.loop-child.found.items in
+    fold_cut r [] view s _ others _ _ _ _ (c.loop-child.invariant.same others l)
+    (wrong_is _ _ _ _ (step_of _ _ _ _ c.step-at.ensures.steps c.in-Wrong.is))
+
+pub returns-in-Finish-clause-reads : goal.returns-in-Finish-clause-reads
+returns-in-Finish-clause-reads c = λ others l.
+    let r = data_reading (map (λ (u : Bor (List ℕ)). u.now) c.args.used.now) in
+    let view = λ (v : Vec Lent Global). map datum_seen v.items in
+    let s = map datum_seen c.loop-child.found.items in
+    fold_cut r [] view s _ others _ _ _ _ (c.loop-child.invariant.same others l)
+    (unfinished_is _ _ _ _ _ (step_of _ _ _ _ c.step-at.ensures.steps c.in-Finish.is))

@@ -1,0 +1,21 @@
+-- Drawn graphs of the program.
+use Rattle.std.specs.Prelude.{option_map, map}
+use Rattle.cstn_data.specs.TextsSeen.{prop_seen}
+use Rattle.cstn_label.specs.Read.{marks}
+use Rattle.cstn_graphml.specs.declared.drawn_graph.DrawnConstraint.{DrawnConstraint as LentDrawn}
+use Rattle.cstn_graphml.specs.declared.drawn_graph.DrawnGraph.{DrawnGraph as Lent}
+use Rattle.cstn_graphml.specs.DataElementSeen.{datum_seen}
+use Rattle.cstn_graphml.specs.DrawnGraph.{DrawnConstraint, DrawnGraph}
+
+abbrev pub drawn_seen : LentDrawn → DrawnConstraint
+drawn_seen c = record { from = c.from; to = c.to; most = c.most; label = marks c.label }
+
+abbrev pub graph_seen : Lent → DrawnGraph
+graph_seen d = record {
+  own = map datum_seen d.own.items;
+  deadline = d.deadline;
+  origin = option_map prop_seen d.origin;
+  names = d.names;
+  observes = map prop_seen d.observes.items;
+  constraints = map drawn_seen d.constraints.items;
+}
