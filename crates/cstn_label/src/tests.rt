@@ -105,3 +105,13 @@ fn has_52_letters(rt: HostRuntime) {
     assert_eq!(rt; NodeId(7).number(), 7);
     assert_eq!(rt; NodeId(7).index(), 7);
 }
+
+#[test]
+fn is_walked_mark_by_mark(rt: HostRuntime) {
+    let label = only(p(), Mark::No).with(z(), Mark::Unknown);
+    assert_eq!(rt; label.first_marked_from(0), Some(p()));
+    assert_eq!(rt; label.first_marked_from(41), Some(p()));
+    assert_eq!(rt; label.first_marked_from(42), Some(z()));
+    assert_eq!(rt; label.first_marked_from(52), None);
+    assert_eq!(rt; Label::empty().first_marked_from(0), None);
+}

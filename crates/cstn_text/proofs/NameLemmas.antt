@@ -1,49 +1,27 @@
--- Names of a set of texts, as lists of bytes.
-use Rattle.std.proofs.Common.{◌≡◌, ◌≢◌, ℕ, ◌+◌, ◌<◌, ◌≤◌, ◌^◌, Some, List, [], ◌∷◌, ◌++◌, map, length, get_or, Bool, true, false, not, ◌||◌, refl, ap, sym, ◌∙◌, arith, length-append}
-use Rattle.std.specs.Prelude.{String, string_bytes, position, if◌then◌else◌, Contains, ◌↔◌, ◌&&◌, nat_lt, nat_le}
-use Rattle.std.specs.String.{string_eq}
+-- Names, as lists of bytes.
+use Rattle.std.proofs.Common.{◌≡◌, ◌≢◌, ℕ, zero, suc, ◌+◌, ◌<◌, ◌≤◌, ◌^◌, Option, Some, None, List, [], ◌∷◌, ◌++◌, map, length, get_or, Bool, true, false, not, ◌||◌, refl, ap, sym, ◌∙◌, subst, arith, length-append}
+use Rattle.std.proofs.Common.{inl, inr}
+use Rattle.std.proofs.lemmas.Bool.{cases_lt, false≢true}
+use Rattle.std.specs.Prelude.{◌==◌, String, string_bytes, position, if◌then◌else◌, Contains, ◌↔◌, ◌&&◌, nat_lt, nat_le, is_some}
 use Rattle.std.specs.Str.{bytes_eq, IsUtf8}
-use Rattle.std.specs.List.{list_any, prefix_len}
+use Rattle.std.specs.String.{string_cmp}
+use Rattle.std.specs.BTreeMap.{BTreeMap, get_by_text, Updates}
+use Rattle.std.specs.List.{prefix_len}
 use Rattle.std.specs.declared.alloc.Global.{Global}
-use Rattle.std.proofs.lemmas.List.{length-map, map-append, get_or_default}
+use Rattle.std.proofs.lemmas.List.{map-append, get_or_default}
 use Rattle.std.proofs.lemmas.List.Elements.{All-push}
-use Rattle.std.proofs.lemmas.List.Quantifiers.{all_pairs_push}
-use Rattle.std.proofs.lemmas.Map.Views.{Contains-from_any, list_any-from_Contains}
+use Rattle.std.proofs.lemmas.List.Folds.{prefix_len-append}
+use Rattle.std.proofs.lemmas.List.Sums.{prefix_len-le-length}
+use Rattle.std.proofs.lemmas.List.Quantifiers.{all_pairs_push, position-Some}
+use Rattle.std.proofs.lemmas.Map.Text.{btree_map_updates_text}
 use Rattle.std.proofs.lemmas.Slice.Eq.{bytes_eq-Decides}
 use Rattle.std.proofs.lemmas.Str.{is_utf8-from_IsUtf8}
-use Rattle.std.proofs.lemmas.Cmp.{nat_list_eq_equiv}
 use Rattle.cstn_text.specs.Names.{IsName, AreNames, number_of}
 use Rattle.cstn_text.proofs.CutLemmas.{position_at}
-
-any_map : (p : List ℕ → Bool) (xs : List (String Global)) → list_any p (map string_bytes xs) ≡ list_any (λ s. p (string_bytes s)) xs
-any_map p [] = refl
-any_map p (x ∷ xs) = ap (λ b. p (string_bytes x) || b) (any_map p xs)
-
-prefix_map : (p : List ℕ → Bool) (xs : List (String Global)) → prefix_len p (map string_bytes xs) ≡ prefix_len (λ s. p (string_bytes s)) xs
-prefix_map p [] = refl
-prefix_map p (x ∷ xs) = rw (prefix_map p xs) refl
-
-pub position_map : (p : List ℕ → Bool) (xs : List (String Global)) → position p (map string_bytes xs) ≡ position (λ s. p (string_bytes s)) xs
-position_map p xs = rw (prefix_map (λ b. not (p b)) xs, length-map) refl
-
--- a text that a look-up finds is one of the names, and the other way round
-pub known : (keys : List (String Global)) (name : List ℕ) → (list_any (λ s. bytes_eq name (string_bytes s)) keys ≡ true) ↔ Contains (map string_bytes keys) name
-known keys name = (
-  (λ e. Contains-from_any {eq = bytes_eq} (λ x y. (bytes_eq-Decides x y).0) name (map string_bytes keys) (any_map (bytes_eq name) keys ∙ e)),
-  (λ there. sym (any_map (bytes_eq name) keys) ∙ list_any-from_Contains {eq = bytes_eq} nat_list_eq_equiv name (map string_bytes keys) there),
-)
 
 not_true : (b : Bool) → (b ≡ true → ⊥) → b ≡ false
 not_true true wrong = absurd (wrong refl)
 not_true false wrong = refl
-
--- the texts of a set with one more
-pub pushed : (keys new : List (String Global)) (owned : String Global) (name : List ℕ) → string_bytes owned ≡ name → (Contains (map string_bytes keys) name → ⊥)
-    → new ≡ (if list_any (string_eq owned) keys then keys else keys ++ owned ∷ []) → map string_bytes new ≡ map string_bytes keys ++ name ∷ []
-pushed keys new owned name text unknown is =
-    let absent : list_any (λ s. bytes_eq name (string_bytes s)) keys ≡ false = not_true _ (λ e. unknown ((known keys name).0 e)) in
-    let absent_too : list_any (string_eq owned) keys ≡ false = ap (λ b. list_any (λ k. bytes_eq b (string_bytes k)) keys) text ∙ absent in
-    rw (is, absent_too, ← text) (map-append string_bytes keys (owned ∷ []))
 
 -- names stay names with a new one at the end
 pub names_more : (names : List (List ℕ)) (name : List ℕ) → AreNames names → IsName name → (Contains names name → ⊥) → length names + 1 < 2 ^ 32 → AreNames (names ++ name ∷ [])
@@ -68,3 +46,73 @@ found_back names x are inside =
     position_at (bytes_eq (get_or names x [])) names x [] inside
     (λ k h. not_true _ (λ e. are.different k x [] h inside (sym ((bytes_eq-Decides (get_or names x []) (get_or names k [])).0 e))))
     ((bytes_eq-Decides (get_or names x []) (get_or names x [])).1 refl)
+
+some_is : (o : Option ℕ) → is_some o ≡ true → (i : ℕ) × (o ≡ Some i)
+some_is None e = absurd (cc)
+some_is (Some i) e = (i, refl)
+
+-- a name has a number exactly where it is in the list
+pub known : (names : List (List ℕ)) (name : List ℕ) → AreNames names → (is_some (number_of names name) ≡ true) ↔ Contains names name
+known names name are = (
+  λ e.
+      let number = some_is (number_of names name) e in
+      let its = position-Some (bytes_eq name) names number.0 [] number.1 in (
+        number.0,
+        its.0,
+        get_or_default names number.0 name [] its.0 ∙ sym ((bytes_eq-Decides name (get_or names number.0 [])).0 its.1),
+      ),
+  λ there.
+      let here : get_or names there.0 [] ≡ name = get_or_default names there.0 [] name there.1 ∙ there.2 in
+      ap is_some (ap (number_of names) (sym here) ∙ found_back names there.0 are there.1),
+)
+
+-- the number found, or that of one more at the end
+abbrev or_last : Option ℕ → Bool → ℕ → Option ℕ
+or_last None last n = if last then Some n else None
+or_last (Some i) last n = Some i
+
+last_at : (n m k : ℕ) (last : Bool) → n ≤ m → k ≡ (if n == m then m + (if not last then 1 else 0) else n) →
+    (if nat_lt k (m + 1) then Some k else None) ≡ or_last (if nat_lt n m then Some n else None) last m
+last_at n m k last le is = elim (cases_lt n m) [
+  | inl before ↦ grind arith
+  | inr past ↦ let same : n ≡ m = omega arith in grind arith
+]
+
+position_push : {X : Type 0} (p : X → Bool) (xs : List X) (x : X) → position p (xs ++ x ∷ []) ≡ or_last (position p xs) (p x) (length xs)
+position_push p xs x =
+    ap (λ (m : ℕ). if nat_lt (prefix_len (λ b. not (p b)) (xs ++ x ∷ [])) m then Some (prefix_len (λ b. not (p b)) (xs ++ x ∷ [])) else None) (length-append xs (x ∷ []))
+    ∙ last_at (prefix_len (λ b. not (p b)) xs) (length xs) (prefix_len (λ b. not (p b)) (xs ++ x ∷ [])) (p x) (prefix_len-le-length (λ b. not (p b)) xs)
+    (prefix_len-append (λ b. not (p b)) xs (x ∷ []))
+
+or_none : (o : Option ℕ) (n : ℕ) → or_last o false n ≡ o
+or_none None n = refl
+or_none (Some i) n = refl
+
+-- with one more at the end, that name has the number after the last, and every other name the one it had
+number_pushed : (names : List (List ℕ)) (name other : List ℕ) (same : Bool) → bytes_eq name other ≡ same → number_of names name ≡ None →
+    number_of (names ++ name ∷ []) other ≡ (if same then Some (length names) else number_of names other)
+number_pushed names name other true is unknown =
+    let equal : name ≡ other = (bytes_eq-Decides name other).0 is in
+    subst (λ (text : List ℕ). number_of (names ++ name ∷ []) text ≡ Some (length names)) equal
+    (position_push (bytes_eq name) names name
+    ∙ ap (λ (o : Option ℕ). or_last o (bytes_eq name name) (length names)) unknown
+    ∙ ap (λ b. or_last None b (length names)) ((bytes_eq-Decides name name).1 refl))
+number_pushed names name other false is unknown =
+    position_push (bytes_eq other) names name
+    ∙ ap (λ b. or_last (position (bytes_eq other) names) b (length names))
+    (not_true _ (λ e. false≢true (sym is ∙ (bytes_eq-Decides name other).1 (sym ((bytes_eq-Decides other name).0 e)))))
+    ∙ or_none (position (bytes_eq other) names) (length names)
+
+none_is : (o : Option ℕ) → (is_some o ≡ true → ⊥) → o ≡ None
+none_is None e = refl
+none_is (Some i) e = absurd (e refl)
+
+-- the numbers of the names, by order, after a push
+pub numbers_pushed : (names : List (List ℕ)) (name : List ℕ) (old new : BTreeMap (String Global) ℕ) (key : String Global) → AreNames names → string_bytes key ≡ name →
+    (Contains names name → ⊥) → ((text : List ℕ) → get_by_text old text ≡ number_of names text) → Updates string_cmp old new key (Some (length names)) →
+    (text : List ℕ) → get_by_text new text ≡ number_of (names ++ name ∷ []) text
+numbers_pushed names name old new key are is unknown numbers updates text =
+    btree_map_updates_text (string_bytes key) old new (Some (length names)) updates text
+    ∙ ap (λ (o : Option ℕ). if bytes_eq (string_bytes key) text then Some (length names) else o) (numbers text)
+    ∙ ap (λ (bytes : List ℕ). if bytes_eq bytes text then Some (length names) else number_of names text) is
+    ∙ sym (number_pushed names name text (bytes_eq name text) refl (none_is _ (λ e. unknown ((known names name are).0 e))))

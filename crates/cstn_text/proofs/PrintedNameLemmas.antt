@@ -1,12 +1,13 @@
 -- A printed name is text, and gives the name back.
-use Rattle.std.proofs.Common.{◌≡◌, ◌≢◌, ℕ, zero, suc, ◌+◌, ◌*◌, ◌/◌, ◌%◌, ◌<◌, ◌≤◌, List, [], ◌∷◌, ◌++◌, length, get_or, drop, refl, ap, sym, ◌∙◌, subst, arith, Bool, true, false, not, ◌&&◌, append_assoc, append-nil, ⊎_elim, ◌⊎◌, length-append}
-use Rattle.std.specs.Prelude.{◌==◌, nat_lt, nat_le, Some, None, if◌then◌else◌, bytes_eq}
+use Rattle.std.proofs.Common.{◌≡◌, ◌≢◌, ℕ, zero, suc, ◌+◌, ◌*◌, ◌/◌, ◌%◌, ◌<◌, ◌≤◌, List, [], ◌∷◌, ◌++◌, length, get_or, drop, refl, ap, sym, ◌∙◌, subst, arith, Bool, true, false, not, ◌&&◌, Option, append_assoc, append-nil, ⊎_elim, ◌⊎◌, length-append}
+use Rattle.std.specs.Prelude.{◌==◌, nat_lt, nat_le, IfNone, Some, None, if◌then◌else◌, bytes_eq}
 use Rattle.std.specs.Fmt.{digit_glyph}
 use Rattle.std.specs.Str.{IsUtf8, IsAscii, is_utf8, encode_utf8_all, all_scalars}
 use Rattle.std.proofs.Math.Utf8.{encode, scalar}
 use Rattle.std.proofs.lemmas.Bool.{false≢true}
 use Rattle.std.proofs.lemmas.Slice.Eq.{bytes_eq-Decides}
 use Rattle.std.proofs.lemmas.Grind.{flat_map-append}
+use Rattle.std.proofs.lemmas.List.{append_cancel_left}
 use Rattle.std.proofs.lemmas.Str.{inside_one, encode_ascii, IsUtf8-nil, IsUtf8-append, IsUtf8-from_ascii, IsUtf8-encode, is_utf8-from_IsUtf8, IsUtf8-from_is_utf8}
 use Rattle.cstn_text.specs.PrintedNames.{is_plain_byte, printed_byte, printed_name, hex_value, escaped_byte, unprinted_after, unprinted, name_read}
 use Rattle.cstn_text.specs.Names.{IsName, is_name}
@@ -99,23 +100,6 @@ text_back [] rest = refl
 text_back (b ∷ text) rest =
     rw append_assoc (byte_back b (is_plain_byte b) (printed_name text ++ rest) refl ∙ ap (λ (bs : List ℕ). b ∷ bs) (text_back text rest))
 
--- a step over an escape, and over a byte that stands for itself
-pub past_escape : (text left rest whole : List ℕ) (b : ℕ) → left ≡ b ∷ rest → b ≡ 37 → text ++ unprinted left ≡ whole → (text ++ escaped_byte rest ∷ []) ++ unprinted (drop 2 rest) ≡ whole
-unfolding unprinted_after
-past_escape text left rest whole b is escape so_far =
-    rw append_assoc (ap (λ (bs : List ℕ). text ++ escaped_byte rest ∷ bs) (sym (unprinted_skip 2 rest)) ∙ (rw (is, escape) at so_far))
-
-pub past_plain : (text left rest whole : List ℕ) (b : ℕ) → left ≡ b ∷ rest → b ≢ 37 → text ++ unprinted left ≡ whole → (text ++ b ∷ []) ++ unprinted rest ≡ whole
-unfolding unprinted_after
-past_plain text left rest whole b is plain so_far =
-    let other : (b == 37) ≡ false = grind arith in
-    rw append_assoc (rw (is, other) at so_far)
-
-pub all_told : (text left whole : List ℕ) → length left ≡ 0 → text ++ unprinted left ≡ whole → text ≡ whole
-unfolding unprinted_after
-all_told text [] whole none so_far = sym (append-nil text) ∙ so_far
-all_told text (b ∷ left) whole none so_far = absurd (omega (arith, none))
-
 choose : {A : Type 0} (utf8 shape same : Bool) (x : A) → utf8 ≡ true → shape ≡ true → same ≡ true → Some x ≡ (if (utf8 && shape) && same then Some x else None)
 choose utf8 shape same x e f g = rw (e, f, g) refl
 
@@ -126,16 +110,6 @@ accepted bytes text printed is utf8 shape p same =
     let read : Some text ≡ (if is_name text && bytes_eq (printed_name text) bytes then Some text else None) =
     choose (is_utf8 text) (nat_lt 0 (length text) && nat_le (length text) 64) (bytes_eq (printed_name text) bytes) text (is_utf8-from_IsUtf8 text utf8) shape (rw (← p) same) in
     read ∙ ap (λ (t : List ℕ). if is_name t && bytes_eq (printed_name t) bytes then Some t else None) is
-
--- what isn't text isn't read
-pub no_text : (bytes text : List ℕ) → text ≡ unprinted bytes → (IsUtf8 text → ⊥) → None ≡ name_read bytes
-no_text bytes text is not_text =
-    let wrong : is_utf8 (unprinted bytes) ≡ false = not_true _ (λ e. not_text (rw is (IsUtf8-from_is_utf8 (unprinted bytes) e))) in
-    rw wrong refl
-
-pub true_from_not : (b : Bool) → not b ≡ false → b ≡ true
-true_from_not true e = refl
-true_from_not false e = sym e
 
 shape_true : (n : ℕ) → 1 ≤ n → n ≤ 64 → (nat_lt 0 n && nat_le n 64) ≡ true
 shape_true n some few = grind arith
@@ -170,6 +144,60 @@ name_printed bytes name e =
     subst (λ (t : List ℕ). (printed_name t ≡ bytes) × IsName t) found.4
     ((bytes_eq-Decides (printed_name text) bytes).0 found.3, record { some = sizes.0; few = sizes.1; utf8 = found.0 })
 
+-- what is printed at the front of the bytes of a name is a front of the name
+rest_read : (bytes text left name : List ℕ) → bytes ≡ printed_name text ++ left → name_read bytes ≡ Some name →
+    (more : List ℕ) × (name ≡ text ++ more) × (printed_name more ≡ left)
+rest_read bytes text left name is e =
+    let printed = (name_printed bytes name e).0 in
+    let told : name ≡ text ++ unprinted left = sym (told_back name) ∙ ap unprinted (printed ∙ is) ∙ text_back text left in
+    let both : printed_name text ++ printed_name (unprinted left) ≡ printed_name text ++ left =
+    sym (flat_map-append printed_byte text (unprinted left)) ∙ ap printed_name (sym told) ∙ printed ∙ is in
+    (unprinted left, told, append_cancel_left (printed_name text) (printed_name (unprinted left)) left both)
+
+-- no name is read where none begins with the text and ends with what is left
+no_name : (bytes text left : List ℕ) → bytes ≡ printed_name text ++ left →
+    ((name more : List ℕ) → IsName name → name ≡ text ++ more → printed_name more ≡ left → ⊥) → name_read bytes ≡ None
+no_name bytes text left is wrong = at (name_read bytes) refl
+  where
+    at : (o : Option (List ℕ)) → name_read bytes ≡ o → name_read bytes ≡ None
+    at None e = e
+    at (Some name) e =
+        let rest = rest_read bytes text left name is e in
+        absurd (wrong name rest.0 (name_printed bytes name e).1 rest.1 rest.2)
+
+-- where no printed byte stands first, no name does
+pub none_first : (bytes text left : List ℕ) → bytes ≡ printed_name text ++ left → 0 < length left →
+    ((b : ℕ) (rest : List ℕ) → left ≡ printed_byte b ++ rest → ⊥) → name_read bytes ≡ None
+none_first bytes text left is some none = no_name bytes text left is (λ name more named e printed. at more printed)
+  where
+    at : (more : List ℕ) → printed_name more ≡ left → ⊥
+    at [] printed = omega (arith, some, ap length printed)
+    at (b ∷ more) printed = none b (printed_name more) (sym printed)
+
+-- a name has at most 64 bytes
+pub too_long : (bytes text left : List ℕ) → bytes ≡ printed_name text ++ left → 0 < length left → 64 ≤ length text → name_read bytes ≡ None
+too_long bytes text left is some full = no_name bytes text left is (λ name more named e printed. at name more named e printed)
+  where
+    at : (name more : List ℕ) → IsName name → name ≡ text ++ more → printed_name more ≡ left → ⊥
+    at name [] named e printed = omega (arith, some, ap length printed)
+    at name (b ∷ more) named e printed = omega (arith, named.few, full, ap length e ∙ length-append text (b ∷ more))
+
+-- the bytes of a printed name are read
+pub name_of : (bytes text : List ℕ) → printed_name text ≡ bytes → IsName text → name_read bytes ≡ Some text
+name_of bytes text printed is = subst (λ (bs : List ℕ). name_read bs ≡ Some text) printed (name_back text is)
+
+pub not_named : (bytes text : List ℕ) → printed_name text ≡ bytes → (IsName text → ⊥) → name_read bytes ≡ None
+not_named bytes text printed wrong =
+    no_name bytes text [] (sym printed ∙ sym (append-nil (printed_name text)))
+    (λ name more named e none. wrong (subst IsName (printed_once name text ((ap printed_name e ∙ flat_map-append printed_byte text more) ∙ ap (λ (bs : List ℕ). printed_name text ++ bs) none ∙ append-nil (printed_name text))) named))
+
+-- one more byte is read
+pub byte_read : (bytes text left rest : List ℕ) (b : ℕ) → bytes ≡ printed_name text ++ left → left ≡ printed_byte b ++ rest → bytes ≡ printed_name (text ++ b ∷ []) ++ rest
+byte_read bytes text left rest b is first =
+    is ∙ ap (λ (bs : List ℕ). printed_name text ++ bs) first
+    ∙ sym (append_assoc (printed_name text) (printed_byte b) rest)
+    ∙ ap (λ (bs : List ℕ). bs ++ rest) (ap (λ (bs : List ℕ). printed_name text ++ bs) (sym (append-nil (printed_byte b))) ∙ sym (flat_map-append printed_byte text (b ∷ [])))
+
 byte_length : (b : ℕ) (plain : Bool) → is_plain_byte b ≡ plain → (1 ≤ length (printed_byte b)) × (length (printed_byte b) ≤ 3)
 byte_length b true e = rw e (omega arith, omega arith)
 byte_length b false e = rw e (omega arith, omega arith)
@@ -181,3 +209,12 @@ name_length (b ∷ text) =
     let more = name_length text in
     let here = byte_length b (is_plain_byte b) refl in
     rw length-append (omega arith, omega arith)
+
+-- what follows a printed byte is shorter
+pub shorter : (b : ℕ) (left rest : List ℕ) → left ≡ printed_byte b ++ rest → length rest < length left
+shorter b left rest e = omega (arith, (byte_length b (is_plain_byte b) refl).0, ap length e ∙ length-append (printed_byte b) rest)
+
+-- what holds in any case holds where there is none
+pub in_any_case : {T P : Type 0} (o : Option T) → P → IfNone o P
+in_any_case None p = p
+in_any_case (Some x) p = tt

@@ -5,3 +5,4 @@ pub mod PrintedLabels
 pub mod Readings
 pub mod Parts
 pub mod Cuts
+pub mod Pushes

@@ -1,5 +1,5 @@
 -- Labels as they stand in lines.
-use Rattle.std.specs.Prelude.{ℕ, zero, suc, ◌&&◌, ◌==◌, List, [], ◌∷◌, ◌++◌, length, Option, Some, None, if◌then◌else◌}
+use Rattle.std.specs.Prelude.{ℕ, zero, suc, ◌≡◌, ◌≢◌, ◌<◌, ◌&&◌, ◌==◌, List, [], ◌∷◌, ◌++◌, length, flat_map, Option, Some, None, if◌then◌else◌}
 use Rattle.std.specs.Option.{option_and_then}
 use Rattle.cstn_label.specs.declared.marks.Mark.{Mark}
 use Rattle.cstn_label.specs.declared.marks.Mark.TheVariants.{Absent, Yes, No, Unknown}
@@ -72,3 +72,17 @@ marks_read r (b ∷ bytes) = option_and_then (λ next. marks_read next bytes) (a
 abbrev pub label_read : List ℕ → Option Label
 label_read [] = None
 label_read (b ∷ bytes) = if b == 45 && length bytes == 0 then Some empty else marks_read nothing_read (b ∷ bytes)
+
+-- marks in any order, as a text
+abbrev pub marks_text : List (ℕ × Mark) → List ℕ
+marks_text ms = flat_map (λ m. printed_mark (letter_of m.0) m.1) ms
+
+-- the label with these marks more
+abbrev pub label_with : Label → List (ℕ × Mark) → Label
+label_with a [] = a
+label_with a (m ∷ ms) = label_with (with_mark a m.0 m.1) ms
+
+-- each is a mark of one of the 52 propositions that has none in the label, nor before in the list
+abbrev pub AreNew : Label → List (ℕ × Mark) → Type 0
+AreNew a [] = Unit {0}
+AreNew a (m ∷ ms) = (m.0 < 52) × (m.1 ≢ Absent) × (a m.0 ≡ Absent) × AreNew (with_mark a m.0 m.1) ms

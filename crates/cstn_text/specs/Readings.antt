@@ -1,4 +1,4 @@
--- How a reading of the program is read.
+-- What a reading of the program stands for.
 use Rattle.cstn_label.specs.Read.{marks}
 use Rattle.cstn_text.specs.declared.printed_labels.Reading.{Reading}
 use Rattle.cstn_text.specs.PrintedLabels.{Reading as TheReading}

@@ -1,12 +1,13 @@
 //! What is printed is read again, and nothing else is read. The calls do nothing: their contracts are the laws.
 
-ghost use Rattle.std.specs.Prelude.{◌≡◌, ◌<◌, ◌≤◌, ◌*◌, ◌^◌, ℕ, ℤ, List, Some, FitsSigned, length};
+ghost use Rattle.std.specs.Prelude.{◌≡◌, ◌<◌, ◌≤◌, ◌*◌, ◌^◌, ◌∷◌, [], ◌⊎◌, ℕ, ℤ, List, Some, FitsSigned, length};
 ghost use Rattle.std.specs.Int.{w32};
 ghost use Rattle.cstn_label.specs.declared.marks.Mark.TheVariants.{Absent};
-ghost use Rattle.cstn_label.specs.Labels.{Label};
+ghost use Rattle.cstn_label.specs.declared.marks.Mark.{Mark};
+ghost use Rattle.cstn_label.specs.Labels.{Label, empty};
 ghost use Rattle.cstn_text.specs.Names.{IsName};
 ghost use Rattle.cstn_text.specs.Numbers.{number_read, printed_number, value_read, printed_value};
-ghost use Rattle.cstn_text.specs.PrintedLabels.{label_read, printed_label};
+ghost use Rattle.cstn_text.specs.PrintedLabels.{label_read, printed_label, marks_text, label_with, AreNew};
 ghost use Rattle.cstn_text.specs.PrintedNames.{name_read, printed_name};
 ghost use Rattle.cstn_text.specs.Parts.{IsOnePart};
 
@@ -46,6 +47,13 @@ pub fn printed_names_are_short()
 #[tactic(auto, using(crate::proofs::PrintedLabelLemmas::label_back))]
 pub fn labels_are_read_back()
     ensures back { (a : Label) → ((p : ℕ) → 52 ≤ p → a p ≡ Absent) → label_read (printed_label a) ≡ Some a }
+{}
+
+/// The texts of labels are `-`, and marks in any order, a letter at most once.
+#[tactic(auto, using(crate::proofs::AnyOrderLemmas::label_of_marks, crate::proofs::AnyOrderLemmas::label_said))]
+pub fn label_texts_are_marks()
+    ensures read { (ms : List (ℕ × Mark)) → AreNew empty ms → 1 ≤ length ms → label_read (marks_text ms) ≡ Some (label_with empty ms) }
+    ensures only { (text : List ℕ) (a : Label) → label_read text ≡ Some a → ((text ≡ 45 ∷ []) × (a ≡ empty)) ⊎ ((ms : List (ℕ × Mark)) × (1 ≤ length ms) × AreNew empty ms × (text ≡ marks_text ms) × (a ≡ label_with empty ms)) }
 {}
 
 /// What is printed has some bytes, none of them a space or below it, so a line is cut at spaces without loss.

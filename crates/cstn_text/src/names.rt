@@ -1,11 +1,14 @@
 //! The names of a network's time-points.
 
 ghost use Rattle.std.specs.Prelude.{◌≡◌, ◌<◌, ◌^◌, ◌-◌, ◌++◌, ◌∷◌, ◌↔◌, ◌⊎◌, [], Contains, length, IfOk, IsTrue, OnErr, IsErrOf, ◌&&◌, nat_lt, nat_le, slice_get, Some};
+ghost use Rattle.std.specs.Option.{option_and_then};
 ghost use Rattle.cstn_text.specs.Names.{AreNames, number_of};
+ghost use Rattle.cstn_text.specs.PrintedNames.{name_read};
 
+use crate::printed_names::{as_name, unprinted};
 use cstn_label::NodeId;
-use indexmap::IndexSet;
 use std::alloc::{AllocError, Global};
+use std::collections::BTreeMap;
 use std::marker::Model;
 use thiserror::Error;
 
@@ -16,7 +19,7 @@ pub enum NameError {
     #[error("a name has 1 to 64 bytes")]
     Shape,
     /// It is in the list already.
-    #[error("the name stands already")]
+    #[error("the name is in the list already")]
     Twice,
     /// There was no memory for it.
     #[error(transparent)]
@@ -24,21 +27,25 @@ pub enum NameError {
 }
 
 /// Different names of 1 to 64 bytes each, by number from 0.
+///
+/// A name is looked up by its order among the others, in as many steps as their number has binary digits, whatever the names are.
 #[derive(Drop)]
 pub struct Names {
     alloc: Global,
-    set: IndexSet<String>,
+    names: Vec<String>,
+    numbers: BTreeMap<String, u32>,
 }
 
 impl Model for Names {
-    ghost use Rattle.std.specs.Prelude.{ℕ, List, map, string_bytes};
-    ghost use Rattle.cstn_text.specs.Names.{AreNames};
+    ghost use Rattle.std.specs.Prelude.{ℕ, ◌≡◌, List, map, string_bytes};
+    ghost use Rattle.std.specs.BTreeMap.{get_by_text};
+    ghost use Rattle.cstn_text.specs.Names.{AreNames, number_of};
 
     ghost Value = { List (List ℕ) };
 
-    ghost view = { λ n. map string_bytes n.set.keys };
+    ghost view = { λ n. map string_bytes n.names.items };
 
-    ghost invariant = { λ n. AreNames (map string_bytes n.set.keys) };
+    ghost invariant = { λ n. AreNames (map string_bytes n.names.items) × ((name : List ℕ) → get_by_text n.numbers name ≡ number_of (map string_bytes n.names.items) name) };
 }
 
 impl Names {
@@ -48,7 +55,8 @@ impl Names {
     {
         Names {
             alloc,
-            set: IndexSet::new(alloc),
+            names: Vec::new(alloc),
+            numbers: BTreeMap::new(alloc),
         }
     }
 
@@ -57,18 +65,23 @@ impl Names {
         ensures count { result ≡ length self.now }
         ensures names { AreNames self.now }
     {
-        self.set.len() as u32
+        self.names.len() as u32
     }
 
     /// The number of a name, if it is in the list.
-    #[tactic(auto, using(crate::proofs::NameLemmas::position_map))]
     pub fn find(&self, name: &str) -> Option<u32>
         ensures find { result ≡ number_of self.now name.now }
     {
-        match self.set.get_index_of(name) {
-            Some(i) => Some(i as u32),
-            None => None,
-        }
+        self.numbers.get(name).copied()
+    }
+
+    /// The number of the name of which the bytes are the printed form, if it is in the list. It takes no memory.
+    pub fn find_printed(&self, bytes: &[u8]) -> Option<u32>
+        ensures find { result ≡ option_and_then (number_of self.now) (name_read bytes.now) }
+    {
+        let text = unprinted(bytes)?;
+        let name = as_name(text.as_slice())?;
+        self.find(name)
     }
 
     /// The name of a number.
@@ -76,14 +89,13 @@ impl Names {
         requires { x.0 < length self.now }
         ensures name { slice_get self.now x.0 ≡ Some result.now }
     {
-        let name = self.set.get_index(x.index()).unwrap();
-        name.as_str()
+        self.names[x.index()].as_str()
     }
 
     fn is_known(&self, name: &str) -> bool
         ensures { IsTrue result ↔ Contains self.now name.now }
     {
-        self.set.contains(name)
+        self.numbers.contains_key(name)
     }
 
     /// Puts a name at the end of the list, and answers its number.
@@ -103,13 +115,18 @@ impl Names {
         if self.is_known(name) {
             return Err(NameError::Twice);
         }
-        let Ok(owned) = String::from_str(alloc, name) else {
+        let (Ok(owned), Ok(key)) = (String::from_str(alloc, name), String::from_str(alloc, name))
+        else {
+            return Err(NameError::Memory(AllocError));
+        };
+        let Ok(()) = self.names.reserve(1) else {
             return Err(NameError::Memory(AllocError));
         };
         let number = self.count();
-        let Ok(_) = self.set.insert(owned) else {
+        let Ok(_) = self.numbers.insert(key, number) else {
             return Err(NameError::Memory(AllocError));
         };
+        self.names.push(owned).unwrap();
         Ok(number)
     }
 }

@@ -1,9 +1,12 @@
-//! Numbers and values. `{n}` of a format prints a `u64` and an `i32` in just these forms.
+//! Numbers and values.
 
-ghost use Rattle.std.specs.Prelude.{◌≡◌, ◌&&◌, ◌||◌, not, ◌==◌, ◌^◌, length, nat_le, nat_lt, pos, neg_ℤ, Some, None, if◌then◌else◌};
+ghost use Rattle.std.specs.Prelude.{◌≡◌, ◌≤◌, ◌++◌, ◌&&◌, ◌||◌, not, ◌==◌, ◌^◌, IfSome, OnOk, OnErr, length, nat_le, nat_lt, pos, neg_ℤ, string_bytes, Some, None, if◌then◌else◌};
 ghost use Rattle.std.specs.Char.{is_ascii_digit};
 ghost use Rattle.std.specs.List.{list_all};
-ghost use Rattle.cstn_text.specs.Numbers.{is_numeral, number_read, value_read};
+ghost use Rattle.cstn_text.specs.Numbers.{is_numeral, number_read, number_within, value_read, printed_number, printed_value};
+
+use itoa::Buffer;
+use std::alloc::AllocError;
 
 /// The number below 2^64 that a text is: `0`, or digits that don't begin with `0`.
 pub fn read_number(bytes: &[u8]) -> Option<u64>
@@ -16,6 +19,37 @@ pub fn read_number(bytes: &[u8]) -> Option<u64>
         return None;
     };
     text.parse().ok()
+}
+
+/// The number from `low` to `high` that a text is. From 0 to `u32::MAX` it is an id, a place or a moment.
+pub fn read_number_within(low: u32, high: u32, bytes: &[u8]) -> Option<u32>
+    ensures read { result ≡ number_within low high bytes.now }
+    ensures low { IfSome result (λ n. low ≤ n) }
+    ensures high { IfSome result (λ n. n ≤ high) }
+{
+    let n = read_number(bytes)?;
+    if n < low as u64 || n > high as u64 {
+        return None;
+    }
+    Some(n as u32)
+}
+
+/// Appends the text of a number. It takes no memory but for the room in the text; refused, the text stays.
+pub fn push_number(text: &mut String, n: u64) -> Result<(), AllocError>
+    ensures pushed { OnOk result (string_bytes text.new ≡ string_bytes text.old ++ printed_number n) }
+    ensures refused { OnErr result (string_bytes text.new ≡ string_bytes text.old) }
+{
+    let mut digits = Buffer::new();
+    text.push_str(digits.format(n))
+}
+
+/// Appends the text of a value. It takes no memory but for the room in the text; refused, the text stays.
+pub fn push_value(text: &mut String, v: i32) -> Result<(), AllocError>
+    ensures pushed { OnOk result (string_bytes text.new ≡ string_bytes text.old ++ printed_value v) }
+    ensures refused { OnErr result (string_bytes text.new ≡ string_bytes text.old) }
+{
+    let mut digits = Buffer::new();
+    text.push_str(digits.format(v))
 }
 
 /// The value that a text is: `0`, or `-` or nothing and a number above 0, from -2,147,483,648 to 2,147,483,647.

@@ -1,11 +1,11 @@
 //! Labels as they stand in lines.
 
-ghost use Rattle.std.specs.Prelude.{◌≡◌, ◌<◌, ◌++◌, ◌∷◌, [], IfOk, OnOk, string_bytes};
+ghost use Rattle.std.specs.Prelude.{◌≡◌, ◌<◌, ◌++◌, IfOk, OnOk, OnErr, string_bytes};
 ghost use Rattle.std.specs.Option.{option_map};
 ghost use Rattle.cstn_label.specs.Read.{marks};
-ghost use Rattle.cstn_label.specs.Letters.{letter_of};
 ghost use Rattle.cstn_text.specs.PrintedLabels.{printed_mark, printed_label, marks_below, nothing_read, signed, marked, after_byte, ended, marks_read, label_read};
 ghost use Rattle.cstn_text.specs.Readings.{the_reading};
+ghost use Rattle.cstn_text.specs.Pushes.{IsLonger};
 
 use cstn_label::{Label, Mark, Prop};
 use std::alloc::{AllocError, Global};
@@ -14,11 +14,20 @@ use std::alloc::{AllocError, Global};
 pub fn print_label(alloc: Global, label: Label) -> Result<String, AllocError>
     ensures printed { IfOk result (λ text. string_bytes text ≡ printed_label (marks label)) }
 {
-    let text = print_marks(alloc, label)?;
-    if text.is_empty() {
-        return String::from_str(alloc, "-");
-    }
+    let mut text = String::new(alloc);
+    push_label(&mut text, label)?;
     Ok(text)
+}
+
+/// Appends the printed form of a label. Refused, the text is the old one and maybe some bytes more.
+pub fn push_label(text: &mut String, label: Label) -> Result<(), AllocError>
+    ensures pushed { OnOk result (string_bytes text.new ≡ string_bytes text.old ++ printed_label (marks label)) }
+    ensures refused { OnErr result (IsLonger (string_bytes text.old) (string_bytes text.new)) }
+{
+    match label.first_marked_from(0) {
+        Some(_) => push_marks(text, label),
+        None => text.push('-'),
+    }
 }
 
 /// The label of a text, if it is one: `-`, or marks in any order with a letter at most once.
@@ -32,39 +41,30 @@ pub fn read_label(bytes: &[u8]) -> Option<Label>
     }
 }
 
-fn print_marks(alloc: Global, label: Label) -> Result<String, AllocError>
-    ensures { IfOk result (λ text. string_bytes text ≡ marks_below (marks label) 52) }
+// Appends the marks, one step for each.
+fn push_marks(text: &mut String, label: Label) -> Result<(), AllocError>
+    ensures pushed { OnOk result (string_bytes text.new ≡ string_bytes text.old ++ marks_below (marks label) 52) }
+    ensures refused { OnErr result (IsLonger (string_bytes text.old) (string_bytes text.new)) }
 {
-    let mut text = String::new(alloc);
-    for index in 0..52 {
-        push_mark(&mut text, label, index)?;
+    let mut from = 0;
+    while let Some(p) = label.first_marked_from(from) {
+        push_mark(text, label.mark(p), p.letter())?;
+        from = p.index + 1;
     }
-    Ok(text)
+    Ok(())
 }
 
-fn push_mark(text: &mut String, label: Label, index: u8) -> Result<(), AllocError>
-    requires { index < 52 }
-    ensures { OnOk result (string_bytes text.new ≡ string_bytes text.old ++ printed_mark (letter_of index) (marks label index)) }
-{
-    let p = Prop::new(index).unwrap();
-    match label.mark(p) {
-        Mark::Absent => Ok(()),
-        Mark::Yes => push_letter(text, p.letter()),
-        Mark::No => {
-            text.push('!')?;
-            push_letter(text, p.letter())
-        }
-        Mark::Unknown => {
-            text.push('?')?;
-            push_letter(text, p.letter())
-        }
-    }
-}
-
-fn push_letter(text: &mut String, letter: u8) -> Result<(), AllocError>
+fn push_mark(text: &mut String, mark: Mark, letter: u8) -> Result<(), AllocError>
     requires { letter < 128 }
-    ensures { OnOk result (string_bytes text.new ≡ string_bytes text.old ++ letter ∷ []) }
+    ensures pushed { OnOk result (string_bytes text.new ≡ string_bytes text.old ++ printed_mark letter mark) }
+    ensures refused { OnErr result (IsLonger (string_bytes text.old) (string_bytes text.new)) }
 {
+    match mark {
+        Mark::Absent => return Ok(()),
+        Mark::Yes => {}
+        Mark::No => text.push('!')?,
+        Mark::Unknown => text.push('?')?,
+    }
     text.push(char::from(letter))
 }
 

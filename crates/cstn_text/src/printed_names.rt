@@ -1,39 +1,94 @@
 //! Names as they stand in lines: what a line can't hold is written as `%` and two hexadecimal digits.
 
-ghost use Rattle.std.specs.Prelude.{◌≡◌, ◌*◌, ◌+◌, ◌++◌, ◌&&◌, ◌||◌, not, ◌==◌, nat_le, length, map, string_bytes, IfOk, OnOk, IfSome, IfNone, Some, None, true, drop, ◌<◌};
+ghost use Rattle.std.specs.Prelude.{◌≡◌, ◌<◌, ◌++◌, ◌∷◌, [], ℕ, List, string_bytes, IfOk, OnOk, IfSome, IfNone, None, true};
 ghost use Rattle.std.specs.Fmt.{digit_glyph};
 ghost use Rattle.std.specs.Option.{option_map};
-ghost use Rattle.cstn_text.specs.PrintedNames.{is_plain_byte, printed_byte, printed_name, hex_value, escaped_byte, unprinted, name_read};
+ghost use Rattle.cstn_text.specs.Names.{IsName};
+ghost use Rattle.cstn_text.specs.PrintedNames.{is_plain_byte, printed_byte, printed_name, hex_value, name_read};
 
 use crate::names::has_shape;
+use arrayvec::ArrayVec;
 use std::alloc::{AllocError, Global};
 
 /// The printed form of a name, or of any other text.
 pub fn print_name(alloc: Global, name: &str) -> Result<String, AllocError>
     ensures printed { IfOk result (λ text. string_bytes text ≡ printed_name name.now) }
 {
-    let mut bytes = Vec::new(alloc);
+    let mut bytes = Vec::with_capacity(alloc, name.len())?;
     for b in name.as_bytes() {
         push_byte(&mut bytes, *b)?;
     }
     Ok(String::from_utf8(bytes).unwrap())
 }
 
-/// The name of which the bytes are the printed form, if they are one's.
+/// The name of which the bytes are the printed form; none where they are no name's. It looks at 192 bytes at most, and takes
+/// memory for the name alone.
 pub fn read_name(alloc: Global, bytes: &[u8]) -> Result<Option<String>, AllocError>
     ensures read { IfOk result (λ name. option_map string_bytes name ≡ name_read bytes.now) }
 {
-    let Ok(name) = String::from_utf8(unprinted(alloc, bytes)?) else {
+    let Some(text) = unprinted(bytes) else {
         return Ok(None);
     };
-    if !has_shape(name.as_str()) {
+    let Some(name) = as_name(text.as_slice()) else {
         return Ok(None);
+    };
+    Ok(Some(String::from_str(alloc, name)?))
+}
+
+/// The name that a text is, if it is one.
+pub(crate) fn as_name(text: &[u8]) -> Option<&str>
+    ensures some { IfSome result (λ name. (name.now ≡ text.now) × IsName text.now) }
+    ensures none { IfNone result (IsName text.now → ⊥) }
+{
+    let Ok(name) = str::from_utf8(text) else {
+        return None;
+    };
+    if !has_shape(name) {
+        return None;
     }
-    let printed = print_name(alloc, name.as_str())?;
-    if printed.as_bytes() != bytes {
-        return Ok(None);
+    Some(name)
+}
+
+/// The text that was printed as these bytes, if one of at most 64 bytes was.
+pub(crate) fn unprinted(bytes: &[u8]) -> Option<ArrayVec<u8, 64>>
+    ensures printed { IfSome result (λ text. printed_name text.items ≡ bytes.now) }
+    ensures none { IfNone result (name_read bytes.now ≡ None) }
+{
+    let mut text = ArrayVec::new();
+    let mut left = bytes;
+    while !left.is_empty() {
+        let (b, rest) = first_printed(left)?;
+        if text.is_full() {
+            return None;
+        }
+        text.push(b);
+        left = rest;
     }
-    Ok(Some(name))
+    Some(text)
+}
+
+// The byte of which the printed form stands first, and what follows.
+fn first_printed(bytes: &[u8]) -> Option<(u8, &[u8])>
+    ensures first { IfSome result (λ r. bytes.now ≡ printed_byte r.0 ++ r.1.now) }
+    ensures none { IfNone result ((b : ℕ) (rest : List ℕ) → bytes.now ≡ printed_byte b ++ rest → ⊥) }
+{
+    match bytes {
+        [b'%', high, low, rest @ ..] => Some((escaped_byte(*high, *low)?, rest)),
+        [b, rest @ ..] if is_plain_byte(*b) => Some((*b, rest)),
+        _ => None,
+    }
+}
+
+// The byte that is printed as `%` and these two digits.
+fn escaped_byte(high: u8, low: u8) -> Option<u8>
+    ensures byte { IfSome result (λ b. printed_byte b ≡ 37 ∷ high ∷ low ∷ []) }
+    ensures none { IfNone result ((b : ℕ) → printed_byte b ≡ 37 ∷ high ∷ low ∷ [] → ⊥) }
+{
+    let b = 16 * hex_value(high) + hex_value(low);
+    if is_plain_byte(b) || hex_digit(b / 16) != high || hex_digit(b % 16) != low {
+        return None;
+    }
+    Some(b)
 }
 
 fn is_plain_byte(b: u8) -> bool
@@ -58,39 +113,6 @@ fn push_byte(text: &mut Vec<u8>, b: u8) -> Result<(), AllocError>
     }
     let escape = [b'%', hex_digit(b / 16), hex_digit(b % 16)];
     text.extend_from_slice(&escape)
-}
-
-// The text that was printed as these bytes, if one was.
-fn unprinted(alloc: Global, bytes: &[u8]) -> Result<Vec<u8>, AllocError>
-    ensures { IfOk result (λ text. text.items ≡ unprinted bytes.now) }
-{
-    let mut text = Vec::new(alloc);
-    let mut left = bytes;
-    while let Some((b, rest)) = left.split_first() {
-        if *b == b'%' {
-            text.push(escaped_byte(rest))?;
-            left = past_digits(rest);
-        } else {
-            text.push(*b)?;
-            left = rest;
-        }
-    }
-    Ok(text)
-}
-
-// What follows the two digits after a `%`.
-fn past_digits(bytes: &[u8]) -> &[u8]
-    ensures { result.now ≡ drop 2 bytes.now }
-{
-    &bytes[bytes.len().min(2)..]
-}
-
-fn escaped_byte(bytes: &[u8]) -> u8
-    ensures { result ≡ escaped_byte bytes.now }
-{
-    let high = bytes.first().copied().unwrap_or(0);
-    let low = bytes.get(1).copied().unwrap_or(0);
-    16 * hex_value(high) + hex_value(low)
 }
 
 fn hex_value(b: u8) -> u8

@@ -1,5 +1,6 @@
 use crate::{
-    NameError, Names, print_label, print_name, read_label, read_name, read_number, read_value,
+    NameError, Names, cut_at, print_label, print_name, push_label, push_number, push_value,
+    read_label, read_name, read_number, read_number_within, read_value,
 };
 use cstn_label::NodeId;
 use std::alloc::Global;
@@ -10,6 +11,12 @@ use std::test::Fail;
 fn pushed(rt: &impl Abort, names: &mut Names, name: &str) -> Option<u32> {
     assert!(rt; names.count() < 1000);
     names.push(name).ok()
+}
+
+// The name is refused for its bytes.
+fn no_shape(rt: &impl Abort, names: &mut Names, name: &str) {
+    assert!(rt; names.count() < 1000);
+    assert!(rt; matches!(names.push(name), Err(NameError::Shape)));
 }
 
 #[test]
@@ -23,14 +30,22 @@ fn names_are_numbered_in_order(rt: HostRuntime) -> Result<(), Fail> {
     assert_eq!(rt; names.count(), 2);
     assert_eq!(rt; names.name(NodeId(0)), "Z");
     assert!(rt; matches!(names.push("Z"), Err(NameError::Twice)));
-    assert!(rt; names.count() < 1000);
-    assert!(rt; matches!(names.push(""), Err(NameError::Shape)));
+    no_shape(&rt, &mut names, "");
     let long = "é123456789012345678901234567890123456789012345678901234567890123";
-    assert_eq!(rt; pushed(&rt, &mut names, long), None);
+    no_shape(&rt, &mut names, long);
     assert_eq!(rt; pushed(&rt, &mut names, &long[2..]), Some(2));
     assert_eq!(rt; pushed(&rt, &mut names, &long[..64]), Some(3));
+    assert_eq!(rt; pushed(&rt, &mut names, "a b"), Some(4));
+    assert_eq!(rt; names.find_printed(b"a%20b"), Some(4));
+    assert_eq!(rt; names.find_printed(b"X"), Some(1));
+    assert_eq!(rt; names.find_printed(b"Y"), None);
+    assert_eq!(rt; names.find_printed(b"%58"), None);
     Ok(())
 }
+
+// 64 times the text of `%`.
+const PERCENTS: &str =
+    "%25%25%25%25%25%25%25%25%25%25%25%25%25%25%25%25%25%25%25%25%25%25%25%25%25%25%25%25%25%25%25%25%25%25%25%25%25%25%25%25%25%25%25%25%25%25%25%25%25%25%25%25%25%25%25%25%25%25%25%25%25%25%25%25";
 
 // The name is printed so, and read again.
 fn printed(rt: &impl Abort, alloc: Global, name: &str, text: &str) -> Result<(), Fail> {
@@ -53,6 +68,8 @@ fn names_are_printed_and_read(rt: HostRuntime) -> Result<(), Fail> {
     printed(&rt, alloc, "a b", "a%20b")?;
     printed(&rt, alloc, "100%", "100%25")?;
     printed(&rt, alloc, "\u{7F}\0/é", "%7F%00/é")?;
+    let percents = "%%%%%%%%%%%%%%%%%%%%%%%%%%%%%%%%%%%%%%%%%%%%%%%%%%%%%%%%%%%%%%%%";
+    printed(&rt, alloc, percents, PERCENTS)?;
     no_name(&rt, alloc, b"")?;
     no_name(&rt, alloc, b"%2f")?;
     no_name(&rt, alloc, b"%2F")?;
@@ -63,6 +80,9 @@ fn names_are_printed_and_read(rt: HostRuntime) -> Result<(), Fail> {
     no_name(&rt, alloc, b"%C3%A9")?;
     no_name(&rt, alloc, b"\xFF")?;
     no_name(&rt, alloc, &[b'a'; 65])?;
+    let mut long = PERCENTS.to_owned(alloc)?;
+    long.push_str("%25")?;
+    no_name(&rt, alloc, long.as_bytes())?;
     assert_eq!(rt; print_name(alloc, "")?.as_str(), "");
     Ok(())
 }
@@ -114,6 +134,12 @@ fn numbers_and_values_are_read(rt: HostRuntime) {
     ] {
         assert_eq!(rt; read_number(text), None);
     }
+    assert_eq!(rt;
+        read_number_within(0, u32::MAX, b"4294967295"),
+        Some(u32::MAX)
+    );
+    assert_eq!(rt; read_number_within(0, u32::MAX, b"4294967296"), None);
+    assert_eq!(rt; read_number_within(1, 7, b"0"), None);
     assert_eq!(rt; read_value(b"0"), Some(0));
     assert_eq!(rt; read_value(b"2147483647"), Some(i32::MAX));
     assert_eq!(rt; read_value(b"-2147483648"), Some(i32::MIN));
@@ -128,4 +154,20 @@ fn numbers_and_values_are_read(rt: HostRuntime) {
     ] {
         assert_eq!(rt; read_value(text), None);
     }
+}
+
+#[test]
+fn texts_grow_and_are_cut(rt: HostRuntime) -> Result<(), Fail> {
+    let mut text = String::new(rt.alloc());
+    push_number(&mut text, 17)?;
+    text.push(' ')?;
+    push_value(&mut text, -5)?;
+    text.push(' ')?;
+    push_label(&mut text, read_label(b"?q!p").expect(&rt, "a label"))?;
+    assert_eq!(rt; text.as_str(), "17 -5 !p?q");
+    let (front, rest) = cut_at(text.as_bytes(), b' ').expect(&rt, "a space");
+    assert_eq!(rt; front, b"17".as_slice());
+    assert_eq!(rt; rest, b"-5 !p?q".as_slice());
+    assert!(rt; cut_at(front, b' ').is_none());
+    Ok(())
 }

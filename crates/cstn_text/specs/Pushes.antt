@@ -1,0 +1,6 @@
+-- Texts that grow.
+use Rattle.std.specs.Prelude.{ℕ, ◌≡◌, ◌++◌, List}
+
+-- the old text, and maybe some bytes more
+abbrev pub IsLonger : List ℕ → List ℕ → Type 0
+IsLonger old new = (more : List ℕ) × (new ≡ old ++ more)
