@@ -7,9 +7,9 @@ ghost use Rattle.cstn_label.specs.declared.marks.Mark.TheVariants.{Absent};
 ghost use Rattle.cstn_text.specs.Numbers.{printed_number, printed_value};
 ghost use Rattle.cstn_markup.specs.Bytes.{resolved};
 ghost use Rattle.cstn_markup.specs.Tokens.{value_at};
-ghost use Rattle.cstn_graphml.specs.Numbers.{short_number, integer_text};
-ghost use Rattle.cstn_graphml.specs.LabelTexts.{label_of};
-ghost use Rattle.cstn_graphml.specs.ValueTexts.{values_of};
+ghost use Rattle.cstn_data.specs.NumberTexts.{short_number, integer_text};
+ghost use Rattle.cstn_data.specs.LabelTexts.{label_of};
+ghost use Rattle.cstn_data.specs.ValueTexts.{values_of};
 ghost use Rattle.cstn_graphml.specs.Document.{document};
 ghost use Rattle.cstn_net.specs.Networks.{Network, IsWellFormed};
 ghost use Rattle.cstn_save.specs.Canonical.{canonical, escaped_name, document_label};
@@ -38,10 +38,8 @@ pub fn values_are_read_back()
         → values_of (codes "{(" ++ printed_value v ++ codes ", " ++ document_label a ++ codes ")}") ≡ Some (record { most = v; label = Some a } ∷ []) }
 {}
 
-/// Reading the canonical document gives the same names and the same network, with its constraints numbered from 0. It is
-/// the very same where its ids have no gap and each reaction takes a tick.
+/// Reading the canonical document gives the same names and the same network.
 #[tactic(auto, using(crate::proofs::LawLemmas::document_back))]
 pub fn documents_are_read_back()
     ensures back { (net : Network) (names : List (List ℕ)) → IsWellFormed net → AreNamesOf net names → document (canonical net names) None ≡ Ok (parts net names) }
-    ensures same { (net : Network) (names : List (List ℕ)) → ((p : ℕ) → net.reaction p ≡ 1) → AreNumbered net.constraints → network_of (parts net names) ≡ net }
 {}
