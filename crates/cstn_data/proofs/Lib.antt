@@ -1,2 +1,3 @@
 pub mod PlainLabels
 pub mod PairTexts
+pub mod ReactionLemmas

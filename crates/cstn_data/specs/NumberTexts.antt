@@ -1,5 +1,5 @@
 -- Numbers as texts.
-use Rattle.std.specs.Prelude.{ℕ, ◌&&◌, nat_lt, nat_le, List, ◌∷◌, [], length, drop, Option, Some, None, if◌then◌else◌, codes, ℤ, pos, neg_ℤ}
+use Rattle.std.specs.Prelude.{ℕ, ◌<◌, ◌≤◌, ◌&&◌, nat_lt, nat_le, List, ◌∷◌, [], length, drop, Option, Some, None, if◌then◌else◌, codes, ℤ, pos, neg_ℤ}
 use Rattle.cstn_markup.specs.Bytes.{◌>>=◌, when, begins, past, number_after}
 
 -- 1 to 10 decimal digits, of a value below the limit
@@ -11,6 +11,19 @@ short_number limit digits =
 -- a deadline is below 2 to the power of 32
 abbrev pub deadline_of : List ℕ → Option ℕ
 deadline_of bytes = short_number 4294967296 bytes
+
+-- from 1 to 1,000 ticks
+abbrev pub IsReaction : ℕ → Type 0
+IsReaction ticks = (0 < ticks) × (ticks ≤ 1000)
+
+-- 1 to 4 digits of a value from 1 to 1,000
+abbrev pub few_ticks : List ℕ → Option ℕ
+few_ticks digits = when (nat_le (length digits) 4) digits >>= λ few. short_number 1001 few >>= λ n. when (nat_lt 0 n) n
+
+-- a reaction; an empty text is one of a tick
+abbrev pub reaction_in : List ℕ → Option ℕ
+reaction_in [] = Some 1
+reaction_in (b ∷ bytes) = few_ticks (b ∷ bytes)
 
 -- `-`, or the three bytes of U+2212, and what follows it
 abbrev pub past_minus : List ℕ → Option (List ℕ)

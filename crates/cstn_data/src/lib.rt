@@ -1,4 +1,4 @@
-//! The texts that `data` elements hold: values with their labels, deadlines, types of edges and observed letters.
+//! The texts that `data` elements hold: values with their labels, deadlines, reactions, types of edges and observed letters.
 #![tactic(auto)]
 
 mod deadlines;
@@ -6,6 +6,7 @@ mod edge_types;
 mod label_texts;
 mod number_texts;
 mod observed_letters;
+mod reactions;
 mod value_texts;
 mod white_space;
 
@@ -13,5 +14,6 @@ pub use deadlines::deadline_of;
 pub use edge_types::{EdgeType, edge_type_of};
 pub use label_texts::{is_of_empty, label_of};
 pub use observed_letters::observed_in;
+pub use reactions::reaction_in;
 pub use value_texts::{Pair, Pairs, values_of};
 pub use white_space::{is_blank, trimmed};

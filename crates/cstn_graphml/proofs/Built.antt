@@ -1,36 +1,37 @@
 -- What a builder holds of a graph, and the network that it makes.
 use Rattle.std.proofs.Common.{◌≡◌, ℕ, ◌+◌, ◌<◌, Bool, true, false, List, [], ◌∷◌, ◌++◌, length, map, refl, ap, sym, ◌∙◌, Option, Some, None, subst, arith, cond}
-use Rattle.std.specs.Prelude.{option_map}
+use Rattle.std.specs.Prelude.{option_map, if◌then◌else◌}
 use Rattle.std.specs.List.{All}
 use Rattle.cstn_net.specs.Networks.{Network, Constraint}
 use Rattle.std.proofs.lemmas.List.{append_assoc, append-nil, length-append, length-map}
 use Rattle.std.proofs.lemmas.List.Elements.{All-tail, All-head, All-cons}
 use Rattle.std.proofs.Math.Path.{fun_ext}
-use Rattle.cstn_label.specs.declared.props.Prop.{Prop}
-use Rattle.cstn_net.specs.Drafts.{BuilderParts, constraint_of, constraints_from}
+use Rattle.cstn_net.specs.declared.points.TimePoint.{TimePoint}
+use Rattle.cstn_net.specs.Drafts.{BuilderParts, constraint_of, constraints_from, with_reaction}
 use Rattle.cstn_net.specs.declared.drafts.Draft.{Draft as LentDraft}
 use Rattle.cstn_net.specs.Read.{NetworkParts, the_network, the_constraint, observed, reaction_of, is_prop}
+use Rattle.cstn_graphml.specs.declared.drawn_graph.Observation.{Observation as LentObservation}
 use Rattle.cstn_graphml.specs.declared.drawn_graph.DrawnConstraint.{DrawnConstraint as Lent}
 use Rattle.cstn_graphml.specs.declared.drawn_graph.DrawnGraph.{DrawnGraph as LentGraph}
-use Rattle.cstn_data.specs.TextsSeen.{prop_seen}
-use Rattle.cstn_graphml.specs.DrawnGraphSeen.{drawn_seen}
+use Rattle.cstn_graphml.specs.DrawnGraphSeen.{observed_seen, drawn_seen}
 use Rattle.cstn_graphml.specs.DrawnGraphLaws.{IsDrawnAmong}
+use Rattle.cstn_graphml.specs.DrawnGraph.{observation}
 use Rattle.cstn_graphml.specs.Document.{Parts, or_nothing}
-use Rattle.cstn_graphml.specs.Networks.{with_points, with_drafts, point_of, draft_of, drawn_of, numbered, builder_of, or_no_prop, HasParts, network_of, IsBuilt}
+use Rattle.cstn_graphml.specs.Networks.{with_points, with_drafts, point_of, draft_of, drawn_of, numbered, observed_prop, reaction_by, reaction_among, observation_of, builder_of, at_origin, HasParts, network_of, IsBuilt}
 
 -- one element more in the middle
 seam : {A : Type 0} (xs : List A) (x : A) (ys : List A) → (xs ++ (x ∷ [])) ++ ys ≡ xs ++ (x ∷ ys)
 seam xs x ys = append_assoc xs (x ∷ []) ys
 
-pub points_are : (props : List (Option Prop)) (b : BuilderParts) → (with_points props b).points ≡ b.points ++ map point_of props
+pub points_are : (props : List (Option LentObservation)) (b : BuilderParts) → (with_points props b).points ≡ b.points ++ map point_of props
 points_are [] b = sym (append-nil b.points)
 points_are (p ∷ props) b = points_are props (record b { points = b.points ++ (point_of p ∷ []) }) ∙ seam b.points (point_of p) (map point_of props)
 
-pub points_leave_drafts : (props : List (Option Prop)) (b : BuilderParts) → (with_points props b).drafts ≡ b.drafts
+pub points_leave_drafts : (props : List (Option LentObservation)) (b : BuilderParts) → (with_points props b).drafts ≡ b.drafts
 points_leave_drafts [] b = refl
 points_leave_drafts (p ∷ props) b = points_leave_drafts props (record b { points = b.points ++ (point_of p ∷ []) })
 
-points_leave_deadline : (props : List (Option Prop)) (b : BuilderParts) → (with_points props b).deadline ≡ b.deadline
+points_leave_deadline : (props : List (Option LentObservation)) (b : BuilderParts) → (with_points props b).deadline ≡ b.deadline
 points_leave_deadline [] b = refl
 points_leave_deadline (p ∷ props) b = points_leave_deadline props (record b { points = b.points ++ (point_of p ∷ []) })
 
@@ -46,16 +47,37 @@ drafts_leave_deadline : (cs : List Lent) (b : BuilderParts) → (with_drafts cs 
 drafts_leave_deadline [] b = refl
 drafts_leave_deadline (c ∷ cs) b = drafts_leave_deadline cs (record b { drafts = b.drafts ++ (draft_of c ∷ []) })
 
-seen_points : (props : List (Option Prop)) → map observed (map point_of props) ≡ map prop_seen props
+seen_point : (observed : Option LentObservation) → observation_of (point_of observed) ≡ observed_seen observed
+seen_point (Some o) = refl
+seen_point None = refl
+
+seen_points : (observes : List (Option LentObservation)) → map observation_of (map point_of observes) ≡ map observed_seen observes
 seen_points [] = refl
-seen_points (p ∷ props) = ap (λ xs. prop_seen p ∷ xs) (seen_points props)
+seen_points (o ∷ observes) = rw (seen_point o, seen_points observes) refl
+
+-- a builder's observations and reactions, by what its time-points observe
+prop_kept : (prop : Option ℕ) (ticks : ℕ) → prop ≡ observed_prop (observation prop ticks)
+prop_kept (Some p) ticks = refl
+prop_kept None ticks = refl
+
+props_kept : (points : List TimePoint) → map observed points ≡ map observed_prop (map observation_of points)
+props_kept [] = refl
+props_kept (t ∷ points) = rw (sym (prop_kept (observed t) t.reaction), props_kept points) refl
+
+reaction_kept : (prop : Option ℕ) (ticks p later : ℕ) → (if is_prop p prop then ticks else later) ≡ reaction_by (observation prop ticks) p later
+reaction_kept (Some q) ticks p later = refl
+reaction_kept None ticks p later = refl
+
+reactions_kept : (points : List TimePoint) (p : ℕ) → reaction_of points p ≡ reaction_among (map observation_of points) p
+reactions_kept [] p = refl
+reactions_kept (t ∷ points) p = ap (λ later. if is_prop p (observed t) then t.reaction else later) (reactions_kept points p) ∙ reaction_kept (observed t) t.reaction p (reaction_among (map observation_of points) p)
 
 seen_drafts : (cs : List Lent) → map drawn_of (map draft_of cs) ≡ map drawn_seen cs
 seen_drafts [] = refl
 seen_drafts (c ∷ cs) = ap (λ xs. drawn_seen c ∷ xs) (seen_drafts cs)
 
-seen_origin : (o : Option (Option Prop)) → prop_seen (or_no_prop o) ≡ or_nothing (option_map prop_seen o)
-seen_origin (Some prop) = refl
+seen_origin : (o : Option (Option LentObservation)) → observed_seen (at_origin o) ≡ or_nothing (option_map observed_seen o)
+seen_origin (Some observed) = refl
 seen_origin None = refl
 
 -- the parts of a graph with a deadline
@@ -63,12 +85,12 @@ abbrev pub parts_with : ℕ → LentGraph → Parts
 parts_with deadline d = record {
   deadline = deadline;
   names = d.names;
-  observes = or_nothing (option_map prop_seen d.origin) ∷ map prop_seen d.observes.items;
+  observes = or_nothing (option_map observed_seen d.origin) ∷ map observed_seen d.observes.items;
   constraints = map drawn_seen d.constraints.items;
 }
 
-abbrev pub all_points : LentGraph → List (Option Prop)
-all_points d = or_no_prop d.origin ∷ d.observes.items
+abbrev pub all_points : LentGraph → List (Option LentObservation)
+all_points d = at_origin d.origin ∷ d.observes.items
 
 abbrev begun : ℕ → BuilderParts
 begun deadline = record { deadline = deadline; points = []; drafts = [] }
@@ -82,17 +104,9 @@ built_drafts deadline d = drafts_are d.constraints.items (with_points (all_point
 pub has_parts : (deadline : ℕ) (d : LentGraph) → HasParts (builder_of deadline d) (parts_with deadline d)
 has_parts deadline d = record {
   deadline = drafts_leave_deadline d.constraints.items (with_points (all_points d) (begun deadline)) ∙ points_leave_deadline (all_points d) (begun deadline);
-  observes = ap (map observed) (built_points deadline d) ∙ seen_points (all_points d) ∙ ap (λ o. o ∷ map prop_seen d.observes.items) (seen_origin d.origin);
+  observes = ap (map observation_of) (built_points deadline d) ∙ seen_points (all_points d) ∙ ap (λ o. o ∷ map observed_seen d.observes.items) (seen_origin d.origin);
   constraints = ap (map drawn_of) (built_drafts deadline d) ∙ seen_drafts d.constraints.items;
 }
-
-reaction_by : (b : Bool) (n : ℕ) → n ≡ 1 → cond b 1 n ≡ 1
-reaction_by true n e = refl
-reaction_by false n e = e
-
-reaction_one : (props : List (Option Prop)) (p : ℕ) → reaction_of (map point_of props) p ≡ 1
-reaction_one [] p = refl
-reaction_one (prop ∷ props) p = reaction_by (is_prop p (prop_seen prop)) _ (reaction_one props p)
 
 pub made_constraints : (k : ℕ) (ds : List LentDraft) → map the_constraint (constraints_from k ds) ≡ numbered k (map drawn_of ds)
 made_constraints k [] = refl
@@ -106,17 +120,22 @@ same_network a b c d = rw (a, b, c, d) refl
 pub made_network : (deadline : ℕ) (d : LentGraph) (n : NetworkParts) → IsBuilt (builder_of deadline d) n → the_network n ≡ network_of (parts_with deadline d)
 made_network deadline d n h =
     let parts = has_parts deadline d in
-    let points : n.points ≡ map point_of (all_points d) = h.points ∙ built_points deadline d in
-    same_network (h.deadline ∙ parts.deadline) (ap (map observed) h.points ∙ parts.observes)
-    (ap reaction_of points ∙ fun_ext (λ p. reaction_one (all_points d) p))
+    let observed_is : map observation_of n.points ≡ (parts_with deadline d).observes = ap (map observation_of) h.points ∙ parts.observes in
+    same_network (h.deadline ∙ parts.deadline) (props_kept n.points ∙ ap (map observed_prop) observed_is)
+    (fun_ext (λ p. reactions_kept n.points p ∙ ap (λ os. reaction_among os p) observed_is))
     (ap (map the_constraint) h.constraints ∙ made_constraints 0 (builder_of deadline d).drafts ∙ ap (numbered 0) parts.constraints)
 
 -- the names of a network that was made
 pub made_count : (deadline : ℕ) (d : LentGraph) (n : NetworkParts) → IsBuilt (builder_of deadline d) n → length d.names ≡ length d.observes.items + 1 → length d.names ≡ length (the_network n).observes
-made_count deadline d n h e = omega (arith, e, length-map d.observes.items prop_seen, ap (λ (x : Network). length x.observes) (made_network deadline d n h))
+made_count deadline d n h e = omega (arith, e, length-map d.observes.items observed_seen, length-map (parts_with deadline d).observes observed_prop, ap (λ (x : Network). length x.observes) (made_network deadline d n h))
+
+-- the reaction of the last time-point
+pub last_reacts : (points : List TimePoint) (t : TimePoint) (ticks : ℕ) → with_reaction (length points) ticks (points ++ (t ∷ [])) ≡ points ++ (record t { reaction = ticks } ∷ [])
+last_reacts [] t ticks = refl
+last_reacts (first ∷ points) t ticks = ap (λ later. first ∷ later) (last_reacts points t ticks)
 
 -- what a builder holds before the constraints are handed in
-pub points_count : (props : List (Option Prop)) (b c : BuilderParts) → c ≡ with_points props b → length c.points ≡ length b.points + length props
+pub points_count : (props : List (Option LentObservation)) (b c : BuilderParts) → c ≡ with_points props b → length c.points ≡ length b.points + length props
 points_count props b c e = rw (e, points_are props b, length-append b.points (map point_of props), length-map props point_of) refl
 
 pub among_rest : (n m : ℕ) (c : Lent) (rest next : List Lent) → rest ≡ c ∷ next → m ≡ n → All (λ (c : Lent). (c.from < n) × (c.to < n)) rest → All (λ (c : Lent). (c.from < m) × (c.to < m)) next

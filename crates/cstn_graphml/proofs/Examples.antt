@@ -96,7 +96,7 @@ zero_reference : document (codes "<graphml><graph>&#0;") (Some 5) ≡ Err (shape
 unfolding tokens_after tail_at resolved_after piece_at number_after past_first contents passed read_by label_after pairs_after with_pairs chars is_utf8 utf8_valid_len encode_utf8
 zero_reference = refl
 
-process : document (codes "<?xml version=\"1.0\" encoding=\"UTF-8\"?>" ++ (10 ∷ []) ++ codes "<graphml xmlns=\"http://graphml.graphdrawing.org/xmlns\">" ++ (10 ∷ []) ++ codes "<key id=\"NetworkType\" for=\"graph\"><desc>Network type</desc><default>CSTN</default></key>" ++ (10 ∷ []) ++ codes "<key id=\"x\" for=\"node\"><default>0</default></key>" ++ (10 ∷ []) ++ codes "<key id=\"Obs\" for=\"node\"/>" ++ (10 ∷ []) ++ codes "<graph edgedefault=\"directed\">" ++ (10 ∷ []) ++ codes "<data key=\"NetworkType\">CSTN</data>" ++ (10 ∷ []) ++ codes "<node id=\"Z\"><data key=\"x\">10.0</data><data key=\"y\">50.5</data><data key=\"Label\">" ++ (226 ∷ (138 ∷ (161 ∷ []))) ++ codes "</data></node>" ++ (10 ∷ []) ++ codes "<node id=\"S\"><data key=\"x\">90.0</data><data key=\"Label\">" ++ (226 ∷ (138 ∷ (161 ∷ []))) ++ codes "</data></node>" ++ (10 ∷ []) ++ codes "<node id=\"P\"><data key=\"Obs\">p</data><data key=\"Label\">" ++ (226 ∷ (138 ∷ (161 ∷ []))) ++ codes "</data></node>" ++ (10 ∷ []) ++ codes "<node id=\"T\"><data key=\"Label\">" ++ (226 ∷ (138 ∷ (161 ∷ []))) ++ codes "</data></node>" ++ (10 ∷ []) ++ codes "<node id=\"E\"><data key=\"Label\">" ++ (226 ∷ (138 ∷ (161 ∷ []))) ++ codes "</data></node>" ++ (10 ∷ []) ++ codes "<edge id=\"e1\" source=\"P\" target=\"S\"><data key=\"Type\">requirement</data><data key=\"LabeledValues\">{(-5, " ++ (226 ∷ (138 ∷ (161 ∷ []))) ++ codes ") }</data></edge>" ++ (10 ∷ []) ++ codes "<edge id=\"e2\" source=\"S\" target=\"P\"><data key=\"Type\">requirement</data><data key=\"LabeledValues\">{(" ++ (226 ∷ (138 ∷ (161 ∷ []))) ++ codes ", 10) }</data></edge>" ++ (10 ∷ []) ++ codes "<edge id=\"e3\" source=\"T\" target=\"P\"><data key=\"LabeledValues\">{(-2, p) (-8, " ++ (194 ∷ (172 ∷ [])) ++ codes "p) }</data><data key=\"Type\">normal</data></edge>" ++ (10 ∷ []) ++ codes "<edge id=\"e4\" source=\"E\" target=\"T\"><data key=\"Type\">constraint</data><data key=\"LabeledValues\">{(" ++ (226 ∷ (136 ∷ (146 ∷ []))) ++ codes "3, " ++ (226 ∷ (138 ∷ (161 ∷ []))) ++ codes ")}</data></edge>" ++ (10 ∷ []) ++ codes "<edge id=\"e5\" source=\"E\" target=\"Z\"><data key=\"Type\">derived</data><data key=\"LabeledValues\">{(-9, " ++ (194 ∷ (191 ∷ [])) ++ codes "p) }</data></edge>" ++ (10 ∷ []) ++ codes "<edge id=\"e6\" source=\"Z\" target=\"E\"><data key=\"LabeledValues\">{(30, " ++ (226 ∷ (138 ∷ (161 ∷ []))) ++ codes ")}</data></edge>" ++ (10 ∷ []) ++ codes "</graph>" ++ (10 ∷ []) ++ codes "</graphml>" ++ (10 ∷ [])) (Some 40) ≡ Ok (record { deadline = 40; names = (codes "Z" ∷ (codes "S" ∷ (codes "P" ∷ (codes "T" ∷ (codes "E" ∷ []))))); observes = (None ∷ (None ∷ (Some 41 ∷ (None ∷ (None ∷ []))))); constraints = (record { from = 2; to = 1; most = negsuc 4; label = empty } ∷ (record { from = 1; to = 2; most = pos 10; label = empty } ∷ (record { from = 3; to = 2; most = negsuc 1; label = with_mark empty 41 Yes } ∷ (record { from = 3; to = 2; most = negsuc 7; label = with_mark empty 41 No } ∷ (record { from = 4; to = 3; most = negsuc 2; label = empty } ∷ (record { from = 0; to = 4; most = pos 30; label = empty } ∷ [])))))) })
+process : document (codes "<?xml version=\"1.0\" encoding=\"UTF-8\"?>" ++ (10 ∷ []) ++ codes "<graphml xmlns=\"http://graphml.graphdrawing.org/xmlns\">" ++ (10 ∷ []) ++ codes "<key id=\"NetworkType\" for=\"graph\"><desc>Network type</desc><default>CSTN</default></key>" ++ (10 ∷ []) ++ codes "<key id=\"x\" for=\"node\"><default>0</default></key>" ++ (10 ∷ []) ++ codes "<key id=\"Obs\" for=\"node\"/>" ++ (10 ∷ []) ++ codes "<graph edgedefault=\"directed\">" ++ (10 ∷ []) ++ codes "<data key=\"NetworkType\">CSTN</data>" ++ (10 ∷ []) ++ codes "<node id=\"Z\"><data key=\"x\">10.0</data><data key=\"y\">50.5</data><data key=\"Label\">" ++ (226 ∷ (138 ∷ (161 ∷ []))) ++ codes "</data></node>" ++ (10 ∷ []) ++ codes "<node id=\"S\"><data key=\"x\">90.0</data><data key=\"Label\">" ++ (226 ∷ (138 ∷ (161 ∷ []))) ++ codes "</data></node>" ++ (10 ∷ []) ++ codes "<node id=\"P\"><data key=\"Obs\">p</data><data key=\"Label\">" ++ (226 ∷ (138 ∷ (161 ∷ []))) ++ codes "</data></node>" ++ (10 ∷ []) ++ codes "<node id=\"T\"><data key=\"Label\">" ++ (226 ∷ (138 ∷ (161 ∷ []))) ++ codes "</data></node>" ++ (10 ∷ []) ++ codes "<node id=\"E\"><data key=\"Label\">" ++ (226 ∷ (138 ∷ (161 ∷ []))) ++ codes "</data></node>" ++ (10 ∷ []) ++ codes "<edge id=\"e1\" source=\"P\" target=\"S\"><data key=\"Type\">requirement</data><data key=\"LabeledValues\">{(-5, " ++ (226 ∷ (138 ∷ (161 ∷ []))) ++ codes ") }</data></edge>" ++ (10 ∷ []) ++ codes "<edge id=\"e2\" source=\"S\" target=\"P\"><data key=\"Type\">requirement</data><data key=\"LabeledValues\">{(" ++ (226 ∷ (138 ∷ (161 ∷ []))) ++ codes ", 10) }</data></edge>" ++ (10 ∷ []) ++ codes "<edge id=\"e3\" source=\"T\" target=\"P\"><data key=\"LabeledValues\">{(-2, p) (-8, " ++ (194 ∷ (172 ∷ [])) ++ codes "p) }</data><data key=\"Type\">normal</data></edge>" ++ (10 ∷ []) ++ codes "<edge id=\"e4\" source=\"E\" target=\"T\"><data key=\"Type\">constraint</data><data key=\"LabeledValues\">{(" ++ (226 ∷ (136 ∷ (146 ∷ []))) ++ codes "3, " ++ (226 ∷ (138 ∷ (161 ∷ []))) ++ codes ")}</data></edge>" ++ (10 ∷ []) ++ codes "<edge id=\"e5\" source=\"E\" target=\"Z\"><data key=\"Type\">derived</data><data key=\"LabeledValues\">{(-9, " ++ (194 ∷ (191 ∷ [])) ++ codes "p) }</data></edge>" ++ (10 ∷ []) ++ codes "<edge id=\"e6\" source=\"Z\" target=\"E\"><data key=\"LabeledValues\">{(30, " ++ (226 ∷ (138 ∷ (161 ∷ []))) ++ codes ")}</data></edge>" ++ (10 ∷ []) ++ codes "</graph>" ++ (10 ∷ []) ++ codes "</graphml>" ++ (10 ∷ [])) (Some 40) ≡ Ok (record { deadline = 40; names = (codes "Z" ∷ (codes "S" ∷ (codes "P" ∷ (codes "T" ∷ (codes "E" ∷ []))))); observes = (None ∷ (None ∷ (Some (record { prop = 41; reaction = 1 }) ∷ (None ∷ (None ∷ []))))); constraints = (record { from = 2; to = 1; most = negsuc 4; label = empty } ∷ (record { from = 1; to = 2; most = pos 10; label = empty } ∷ (record { from = 3; to = 2; most = negsuc 1; label = with_mark empty 41 Yes } ∷ (record { from = 3; to = 2; most = negsuc 7; label = with_mark empty 41 No } ∷ (record { from = 4; to = 3; most = negsuc 2; label = empty } ∷ (record { from = 0; to = 4; most = pos 30; label = empty } ∷ [])))))) })
 unfolding tokens_after tail_at resolved_after piece_at number_after past_first contents passed read_by label_after pairs_after with_pairs chars is_utf8 utf8_valid_len encode_utf8
 process = refl
 
@@ -271,3 +271,48 @@ reference_10 = refl
 references : document (codes "<graphml><graph><node id=\"&lt;&gt;&amp;&quot;&apos;&#65;&#x4a;&#00000066;&amp;lt;\"/></graph></graphml>") (Some 3) ≡ Ok (record { deadline = 3; names = (codes "Z" ∷ (codes "<>&\"'AJB&lt;" ∷ [])); observes = (None ∷ (None ∷ [])); constraints = ([]) })
 unfolding tokens_after tail_at resolved_after piece_at number_after past_first contents passed read_by label_after pairs_after with_pairs chars is_utf8 utf8_valid_len encode_utf8
 references = refl
+
+-- reactions
+five : document (codes "<graphml><graph><node id=\"Z\"/><node id=\"P\"><data key=\"Obs\">p</data><data key=\"Reaction\"> 5 </data></node></graph></graphml>") (Some 5) ≡ Ok (record { deadline = 5; names = (codes "Z" ∷ (codes "P" ∷ [])); observes = (None ∷ (Some (record { prop = 41; reaction = 5 }) ∷ [])); constraints = [] })
+unfolding tokens_after tail_at resolved_after piece_at number_after past_first contents passed read_by label_after pairs_after with_pairs chars is_utf8 utf8_valid_len encode_utf8
+five = refl
+
+zero_ticks : document (codes "<graphml><graph><node id=\"Z\"/><node id=\"P\"><data key=\"Obs\">p</data><data key=\"Reaction\">0</data></node></graph></graphml>") (Some 5) ≡ Err (bad_value 67)
+unfolding tokens_after tail_at resolved_after piece_at number_after past_first contents passed read_by label_after pairs_after with_pairs chars is_utf8 utf8_valid_len encode_utf8
+zero_ticks = refl
+
+thousand : document (codes "<graphml><graph><node id=\"Z\"><data key=\"Reaction\">1000</data><data key=\"Obs\">p</data></node></graph></graphml>") (Some 5) ≡ Ok (record { deadline = 5; names = (codes "Z" ∷ []); observes = (Some (record { prop = 41; reaction = 1000 }) ∷ []); constraints = [] })
+unfolding tokens_after tail_at resolved_after piece_at number_after past_first contents passed read_by label_after pairs_after with_pairs chars is_utf8 utf8_valid_len encode_utf8
+thousand = refl
+
+thousand_and_one : document (codes "<graphml><graph><node id=\"Z\"><data key=\"Reaction\">1001</data></node></graph></graphml>") (Some 5) ≡ Err (bad_value 29)
+unfolding tokens_after tail_at resolved_after piece_at number_after past_first contents passed read_by label_after pairs_after with_pairs chars is_utf8 utf8_valid_len encode_utf8
+thousand_and_one = refl
+
+five_digits : document (codes "<graphml><graph><node id=\"Z\"><data key=\"Reaction\">00005</data></node></graph></graphml>") (Some 5) ≡ Err (bad_value 29)
+unfolding tokens_after tail_at resolved_after piece_at number_after past_first contents passed read_by label_after pairs_after with_pairs chars is_utf8 utf8_valid_len encode_utf8
+five_digits = refl
+
+empty_reaction : document (codes "<graphml><graph><node id=\"Z\"><data key=\"Obs\">p</data><data key=\"Reaction\"/></node></graph></graphml>") (Some 5) ≡ Ok (record { deadline = 5; names = (codes "Z" ∷ []); observes = (Some (record { prop = 41; reaction = 1 }) ∷ []); constraints = [] })
+unfolding tokens_after tail_at resolved_after piece_at number_after past_first contents passed read_by label_after pairs_after with_pairs chars is_utf8 utf8_valid_len encode_utf8
+empty_reaction = refl
+
+unobserved_reaction : document (codes "<graphml><graph><node id=\"Z\"><data key=\"Reaction\">0007</data></node></graph></graphml>") (Some 5) ≡ Ok (record { deadline = 5; names = (codes "Z" ∷ []); observes = (None ∷ []); constraints = [] })
+unfolding tokens_after tail_at resolved_after piece_at number_after past_first contents passed read_by label_after pairs_after with_pairs chars is_utf8 utf8_valid_len encode_utf8
+unobserved_reaction = refl
+
+element_in_reaction : document (codes "<graphml><graph><node id=\"Z\"><data key=\"Reaction\">5<a/></data></node></graph></graphml>") (Some 5) ≡ Err (shape 51)
+unfolding tokens_after tail_at resolved_after piece_at number_after past_first contents passed read_by label_after pairs_after with_pairs chars is_utf8 utf8_valid_len encode_utf8
+element_in_reaction = refl
+
+reaction_twice : document (codes "<graphml><graph><node id=\"Z\"><data key=\"Reaction\">5</data><data key=\"Reaction\">5</data></node></graph></graphml>") (Some 5) ≡ Err (shape 58)
+unfolding tokens_after tail_at resolved_after piece_at number_after past_first contents passed read_by label_after pairs_after with_pairs chars is_utf8 utf8_valid_len encode_utf8
+reaction_twice = refl
+
+obs_before_reaction : document (codes "<graphml><graph><node id=\"X\"><data key=\"Reaction\">0</data><data key=\"Obs\">12</data></node></graph></graphml>") (Some 3) ≡ Err (label_text 58)
+unfolding tokens_after tail_at resolved_after piece_at number_after past_first contents passed read_by label_after pairs_after with_pairs chars is_utf8 utf8_valid_len encode_utf8
+obs_before_reaction = refl
+
+reaction_before_label : document (codes "<graphml><graph><node id=\"X\"><data key=\"Label\">pp</data><data key=\"Reaction\">0</data></node></graph></graphml>") (Some 3) ≡ Err (bad_value 56)
+unfolding tokens_after tail_at resolved_after piece_at number_after past_first contents passed read_by label_after pairs_after with_pairs chars is_utf8 utf8_valid_len encode_utf8
+reaction_before_label = refl

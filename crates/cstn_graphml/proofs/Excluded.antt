@@ -1,5 +1,6 @@
--- A network of a document has an origin, and its labels are plain.
-use Rattle.std.proofs.Common.{◌≢◌, ℕ, List, [], ◌∷◌, length, map, ap, subst, arith, inl, inr, Result}
+-- A network of a document has an origin, its labels are plain, and its reactions are in range.
+use Rattle.std.proofs.Common.{◌≡◌, ◌≢◌, ℕ, List, [], ◌∷◌, length, map, ap, subst, arith, inl, inr, Result, Option, Some, None}
+use Rattle.std.specs.Prelude.{option_map}
 use Rattle.std.specs.List.{All}
 use Rattle.std.proofs.lemmas.List.Elements.{All-nil, All-cons, All-head, All-tail}
 use Rattle.cstn_label.specs.Labels.{IsPlain}
@@ -7,20 +8,22 @@ use Rattle.cstn_label.specs.Read.{marks}
 use Rattle.cstn_net.specs.declared.drafts.Draft.{Draft as LentDraft}
 use Rattle.cstn_net.specs.declared.points.TimePoint.{TimePoint}
 use Rattle.cstn_net.specs.declared.errors.NetError.{NetError}
-use Rattle.cstn_net.specs.declared.errors.NetError.TheVariants.{TooManyNodes, NoOrigin, TooManyConstraints, DeadlineRange, ValueRange, NotObserved, TwoObservers, NotPlain, Memory as NoMemory}
-use Rattle.cstn_net.specs.Drafts.{IsRefusal, IsFirst}
+use Rattle.cstn_net.specs.declared.errors.NetError.TheVariants.{TooManyNodes, NoOrigin, TooManyConstraints, DeadlineRange, ValueRange, NotObserved, TwoObservers, NotPlain, ReactionRange, Memory as NoMemory}
+use Rattle.cstn_label.specs.declared.nodes.NodeId.{NodeId}
+use Rattle.cstn_net.specs.Drafts.{IsRefusal, IsFirst, IsTimely as IsInTime}
+use Rattle.cstn_graphml.specs.declared.drawn_graph.Observation.{Observation as LentObservation}
 use Rattle.cstn_graphml.specs.declared.drawn_graph.DrawnConstraint.{DrawnConstraint as Lent}
 use Rattle.cstn_graphml.specs.declared.drawn_graph.DrawnGraph.{DrawnGraph as LentGraph}
 use Rattle.cstn_graphml.specs.declared.errors.DocError.{DocError}
 use Rattle.cstn_graphml.specs.declared.errors.DocError.TheVariants.{Net}
 use Rattle.cstn_graphml.specs.DrawnGraph.{DrawnConstraint}
-use Rattle.cstn_graphml.specs.DrawnGraphSeen.{drawn_seen, graph_seen}
-use Rattle.cstn_graphml.specs.DrawnGraphLaws.{IsDrawnGraph}
+use Rattle.cstn_graphml.specs.DrawnGraphSeen.{observed_seen, drawn_seen, graph_seen}
+use Rattle.cstn_graphml.specs.DrawnGraphLaws.{IsDrawnGraph, IsTimely, IsTimelyOrigin}
 use Rattle.cstn_graphml.specs.Results.{Refusal}
-use Rattle.cstn_graphml.specs.Networks.{builder_of, draft_of}
+use Rattle.cstn_graphml.specs.Networks.{builder_of, draft_of, point_of, at_origin}
 use Rattle.cstn_graphml.specs.Answers.{IsTold}
 use Rattle.cstn_graphml.specs.Reads.{Fails}
-use Rattle.cstn_graphml.proofs.Built.{built_points, built_drafts}
+use Rattle.cstn_graphml.proofs.Built.{all_points, built_points, built_drafts}
 
 -- what is refused before a network is made is no fault of one
 pub no_net : {B : Type 0} (e : DocError) (told : Result B Refusal) → Fails e told → (error : NetError) (names : List (List ℕ)) → e ≢ Net error names
@@ -37,6 +40,31 @@ all_plain : (cs : List Lent) (k : ℕ) → All (λ (c : DrawnConstraint). IsPlai
 all_plain [] k h first = absurd (omega (arith, first.inside))
 all_plain (c ∷ cs) k h first = first.here (draft_of c) (plain_drafts (c ∷ cs) h k (draft_of c) first.inside)
 
+point_timely : (observed : Option LentObservation) → IsTimely (observed_seen observed) → IsInTime (point_of observed)
+point_timely (Some o) h = λ some. h
+point_timely None h = λ some. absurd (cc)
+
+points_timely : (observes : List (Option LentObservation)) → All IsTimely (map observed_seen observes) → All IsInTime (map point_of observes)
+points_timely [] h = All-nil IsInTime
+points_timely (o ∷ observes) h = All-cons IsInTime (point_of o) (map point_of observes) (point_timely o (All-head IsTimely (observed_seen o) (map observed_seen observes) h)) (points_timely observes (All-tail IsTimely (observed_seen o) (map observed_seen observes) h))
+
+origin_is_timely : (o : Option (Option LentObservation)) → IsTimelyOrigin (option_map observed_seen o) → IsTimely (observed_seen (at_origin o))
+origin_is_timely (Some observed) h = h
+origin_is_timely None h = tt
+
+-- the fault that a document is refused for is the builder's
+told_net : (error fault : NetError) (names others : List (List ℕ)) (e : DocError) → IsTold error names e → e ≡ Net fault others → error ≡ fault
+told_net (NoMemory x) fault names others e t is = absurd (cc)
+told_net TooManyNodes fault names others e t is = cc
+told_net NoOrigin fault names others e t is = cc
+told_net TooManyConstraints fault names others e t is = cc
+told_net (DeadlineRange deadline) fault names others e t is = cc
+told_net (ValueRange constraint) fault names others e t is = cc
+told_net (NotObserved prop) fault names others e t is = cc
+told_net (TwoObservers prop first second) fault names others e t is = cc
+told_net (NotPlain constraint) fault names others e t is = cc
+told_net (ReactionRange node) fault names others e t is = cc
+
 module _ (n : ℕ) (d : LentGraph) where
   origin_there : IsRefusal (builder_of n d) NoOrigin → ⊥
   origin_there (inl z) = absurd (omega (arith, z))
@@ -46,24 +74,18 @@ module _ (n : ℕ) (d : LentGraph) where
   plain_there graph k (inl z) = absurd (omega (arith, z))
   plain_there graph k (inr l) = all_plain d.constraints.items k graph.plain (subst (λ (ds : List LentDraft). IsFirst (λ (x : LentDraft). IsPlain (marks x.label) → ⊥) ds k) (built_drafts n d) l.has)
 
+  timely_there : IsDrawnGraph (graph_seen d) → (node : NodeId) → IsRefusal (builder_of n d) (ReactionRange node) → ⊥
+  timely_there graph node (inl z) = absurd (omega (arith, z))
+  timely_there graph node (inr l) =
+      let first = subst (λ (ts : List TimePoint). IsFirst (λ (x : TimePoint). IsInTime x → ⊥) ts node.0) (built_points n d) l.has in
+      let other : TimePoint = record { observes = None; reaction = 1 } in
+      first.here other (points_timely (all_points d) (All-cons IsTimely (observed_seen (at_origin d.origin)) (map observed_seen d.observes.items) (origin_is_timely d.origin graph.origin_timely) graph.timely) node.0 other first.inside)
+
   pub has_origin : (error : NetError) (names others : List (List ℕ)) (e : DocError) → IsRefusal (builder_of n d) error → IsTold error names e → e ≢ Net NoOrigin others
-  has_origin (NoMemory x) names others e h t is = absurd (cc)
-  has_origin TooManyNodes names others e h t is = absurd (cc)
-  has_origin NoOrigin names others e h t is = origin_there h
-  has_origin TooManyConstraints names others e h t is = absurd (cc)
-  has_origin (DeadlineRange deadline) names others e h t is = absurd (cc)
-  has_origin (ValueRange constraint) names others e h t is = absurd (cc)
-  has_origin (NotObserved prop) names others e h t is = absurd (cc)
-  has_origin (TwoObservers prop first second) names others e h t is = absurd (cc)
-  has_origin (NotPlain constraint) names others e h t is = absurd (cc)
+  has_origin error names others e h t is = origin_there (subst (IsRefusal (builder_of n d)) (told_net error NoOrigin names others e t is) h)
 
   pub has_plain_labels : IsDrawnGraph (graph_seen d) → (error : NetError) (names others : List (List ℕ)) (k : ℕ) (e : DocError) → IsRefusal (builder_of n d) error → IsTold error names e → e ≢ Net (NotPlain k) others
-  has_plain_labels graph (NoMemory x) names others k e h t is = absurd (cc)
-  has_plain_labels graph TooManyNodes names others k e h t is = absurd (cc)
-  has_plain_labels graph NoOrigin names others k e h t is = absurd (cc)
-  has_plain_labels graph TooManyConstraints names others k e h t is = absurd (cc)
-  has_plain_labels graph (DeadlineRange deadline) names others k e h t is = absurd (cc)
-  has_plain_labels graph (ValueRange constraint) names others k e h t is = absurd (cc)
-  has_plain_labels graph (NotObserved prop) names others k e h t is = absurd (cc)
-  has_plain_labels graph (TwoObservers prop first second) names others k e h t is = absurd (cc)
-  has_plain_labels graph (NotPlain constraint) names others k e h t is = plain_there graph constraint h
+  has_plain_labels graph error names others k e h t is = plain_there graph k (subst (IsRefusal (builder_of n d)) (told_net error (NotPlain k) names others e t is) h)
+
+  pub has_timely_reactions : IsDrawnGraph (graph_seen d) → (error : NetError) (names others : List (List ℕ)) (node : NodeId) (e : DocError) → IsRefusal (builder_of n d) error → IsTold error names e → e ≢ Net (ReactionRange node) others
+  has_timely_reactions graph error names others node e h t is = timely_there graph node (subst (IsRefusal (builder_of n d)) (told_net error (ReactionRange node) names others e t is) h)

@@ -9,6 +9,7 @@ pub mod Tops
 pub mod GraphRead
 pub mod DrawnGraphLaws
 pub mod Built
+pub mod HandedPoints
 pub mod Excluded
 pub mod Refusing
 pub mod TextsRead

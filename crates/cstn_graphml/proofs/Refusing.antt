@@ -6,7 +6,7 @@ use Rattle.std.specs.Str.Lossy.{utf8_valid_len}
 use Rattle.std.proofs.lemmas.Str.{IsUtf8-from_is_utf8, is_utf8-from_IsUtf8}
 use Rattle.cstn_markup.specs.Tokens.{tokens}
 use Rattle.cstn_net.specs.declared.errors.NetError.{NetError}
-use Rattle.cstn_net.specs.declared.errors.NetError.TheVariants.{TooManyNodes, NoOrigin, TooManyConstraints, DeadlineRange, ValueRange, NotObserved, TwoObservers, NotPlain, Memory as NoMemory}
+use Rattle.cstn_net.specs.declared.errors.NetError.TheVariants.{TooManyNodes, NoOrigin, TooManyConstraints, DeadlineRange, ValueRange, NotObserved, TwoObservers, NotPlain, ReactionRange, Memory as NoMemory}
 use Rattle.cstn_net.specs.Drafts.{BuilderParts, IsRefusal, IsLowestFault, number}
 use Rattle.cstn_net.specs.Read.{NetworkParts}
 use Rattle.cstn_graphml.specs.Results.{Refusal, ◌>>=◌, or_refused, demand}
@@ -90,3 +90,4 @@ module _ (told : Result Parts Refusal) (n : ℕ) (d : LentGraph) (names : List (
   unfit_is_refused (NotObserved prop) h t = subst (IsRefused told) (sym t) (unfit _ h (λ z. omega (arith, z)))
   unfit_is_refused (TwoObservers prop first second) h t = subst (IsRefused told) (sym t) (unfit _ h (λ z. omega (arith, z)))
   unfit_is_refused (NotPlain constraint) h t = subst (IsRefused told) (sym t) (unfit _ h (λ z. omega (arith, z)))
+  unfit_is_refused (ReactionRange node) h t = subst (IsRefused told) (sym t) (unfit _ h (λ z. omega (arith, z)))

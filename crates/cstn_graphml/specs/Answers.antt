@@ -1,7 +1,7 @@
 -- What reading a document answers.
 use Rattle.std.specs.Prelude.{◌≡◌, ℕ, List, Result, Ok}
 use Rattle.cstn_net.specs.declared.errors.NetError.{NetError}
-use Rattle.cstn_net.specs.declared.errors.NetError.TheVariants.{TooManyNodes, NoOrigin, TooManyConstraints, DeadlineRange, ValueRange, NotObserved, TwoObservers, NotPlain, Memory as NoMemory}
+use Rattle.cstn_net.specs.declared.errors.NetError.TheVariants.{TooManyNodes, NoOrigin, TooManyConstraints, DeadlineRange, ValueRange, NotObserved, TwoObservers, NotPlain, ReactionRange, Memory as NoMemory}
 use Rattle.cstn_net.specs.Read.{NetworkParts, the_network}
 use Rattle.cstn_graphml.specs.declared.errors.DocError.{DocError}
 use Rattle.cstn_graphml.specs.declared.errors.DocError.TheVariants.{NotUtf8, Shape, NameTwice, UnknownNode, Value, LabelText, Contingent, EdgeType, NoDeadline, Net, NodeLabel, Memory}
@@ -50,3 +50,4 @@ IsTold (ValueRange constraint) names error = error ≡ Net (ValueRange constrain
 IsTold (NotObserved prop) names error = error ≡ Net (NotObserved prop) names
 IsTold (TwoObservers prop first second) names error = error ≡ Net (TwoObservers prop first second) names
 IsTold (NotPlain constraint) names error = error ≡ Net (NotPlain constraint) names
+IsTold (ReactionRange node) names error = error ≡ Net (ReactionRange node) names

@@ -9,7 +9,7 @@ use Rattle.cstn_graphml.specs.Results.{Refusal, ◌>>=◌, or_refused, demand}
 use Rattle.cstn_graphml.specs.Results.Refusal.{not_utf8, shape, no_deadline}
 use Rattle.cstn_graphml.specs.Contents.{Tag, Content, content_of}
 use Rattle.cstn_graphml.specs.Elements.{Reading, read_by, blank, passed, datum, data_of}
-use Rattle.cstn_graphml.specs.DrawnGraph.{DrawnGraph, DrawnConstraint, empty_graph}
+use Rattle.cstn_graphml.specs.DrawnGraph.{Observation, DrawnGraph, DrawnConstraint, empty_graph}
 use Rattle.cstn_graphml.specs.Judged.{judged_node, judged_edge, judged_deadline}
 
 pub data Part : Type 0 where
@@ -27,7 +27,7 @@ part_of name =
 -- an element in the graph
 abbrev pub graph_child : Part → DrawnGraph → Tag → Content → Result DrawnGraph Refusal
 graph_child a_datum graph tag inside = datum (codes "Deadline" ∷ []) (λ key. list_any (λ d. is_same d.key key) graph.own) tag inside >>= judged_deadline graph
-graph_child a_node graph tag inside = data_of (codes "Obs" ∷ (codes "Label" ∷ [])) inside >>= judged_node tag graph
+graph_child a_node graph tag inside = data_of (codes "Obs" ∷ (codes "Reaction" ∷ (codes "Label" ∷ []))) inside >>= judged_node tag graph
 graph_child an_edge graph tag inside = data_of (codes "Type" ∷ (codes "LabeledValues" ∷ [])) inside >>= judged_edge tag graph
 graph_child another graph tag inside = passed inside >>= λ same. Ok graph
 
@@ -75,11 +75,11 @@ document_reading = record {
 abbrev pub in_document : Content → Result DrawnGraph Refusal
 in_document whole = read_by document_reading None whole
 
--- the network of a document: names and observed propositions by number, and the constraints by id
+-- the network of a document: names and what is observed by number, and the constraints by id
 pub record Parts : Type 0 where
   pub deadline : ℕ
   pub names : List (List ℕ)
-  pub observes : List (Option ℕ)
+  pub observes : List (Option Observation)
   pub constraints : List DrawnConstraint
 
 -- the deadline handed in, else the document's
@@ -88,8 +88,8 @@ first_of_two (Some n) m = Some n
 first_of_two None m = m
 
 -- an origin that is added observes nothing
-abbrev pub or_nothing : Option (Option ℕ) → Option ℕ
-or_nothing (Some prop) = prop
+abbrev pub or_nothing : Option (Option Observation) → Option Observation
+or_nothing (Some observed) = observed
 or_nothing None = None
 
 abbrev pub parts_of : Option ℕ → DrawnGraph → Result Parts Refusal

@@ -5,6 +5,16 @@ use Rattle.cstn_markup.specs.Bytes.{is_same, when}
 use Rattle.cstn_text.specs.Names.{number_of}
 use Rattle.cstn_graphml.specs.Elements.{Datum}
 
+-- what a time-point observes: a proposition, and after how many ticks it is known
+pub record Observation : Type 0 where
+  pub prop : ℕ
+  pub reaction : ℕ
+
+-- the reaction of what observes nothing is ignored
+abbrev pub observation : Option ℕ → ℕ → Option Observation
+observation (Some p) ticks = Some (record { prop = p; reaction = ticks })
+observation None ticks = None
+
 -- a constraint: at most so much from one time-point to another
 pub record DrawnConstraint : Type 0 where
   pub from : ℕ
@@ -17,9 +27,9 @@ pub record DrawnConstraint : Type 0 where
 pub record DrawnGraph : Type 0 where
   pub own : List Datum
   pub deadline : Option ℕ
-  pub origin : Option (Option ℕ)
+  pub origin : Option (Option Observation)
   pub names : List (List ℕ)
-  pub observes : List (Option ℕ)
+  pub observes : List (Option Observation)
   pub constraints : List DrawnConstraint
 
 abbrev pub origin_name : List ℕ
@@ -33,10 +43,10 @@ abbrev pub node_of : List ℕ → DrawnGraph → Option ℕ
 node_of name graph = if is_same name origin_name then when (is_some graph.origin) 0 else number_of graph.names name
 
 -- the graph with a node more, and what it observes
-abbrev pub with_node : List ℕ → Option ℕ → DrawnGraph → DrawnGraph
-with_node name prop graph = if is_same name origin_name
-    then record graph { origin = Some prop }
-    else record graph { names = graph.names ++ (name ∷ []); observes = graph.observes ++ (prop ∷ []) }
+abbrev pub with_node : List ℕ → Option Observation → DrawnGraph → DrawnGraph
+with_node name observed graph = if is_same name origin_name
+    then record graph { origin = Some observed }
+    else record graph { names = graph.names ++ (name ∷ []); observes = graph.observes ++ (observed ∷ []) }
 
 abbrev pub with_constraint : DrawnConstraint → DrawnGraph → DrawnGraph
 with_constraint c graph = record graph { constraints = graph.constraints ++ (c ∷ []) }

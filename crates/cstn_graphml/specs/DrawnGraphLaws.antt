@@ -1,18 +1,31 @@
 -- What holds of every graph of a graph.
-use Rattle.std.specs.Prelude.{ℕ, ◌≡◌, ◌<◌, ◌+◌, List, ◌∷◌, length}
+use Rattle.std.specs.Prelude.{ℕ, ◌≡◌, ◌<◌, ◌+◌, List, ◌∷◌, length, Option, Some, None}
 use Rattle.std.specs.List.{All}
 use Rattle.cstn_label.specs.Labels.{IsPlain}
-use Rattle.cstn_graphml.specs.DrawnGraph.{DrawnGraph, DrawnConstraint, origin_name}
+use Rattle.cstn_data.specs.NumberTexts.{IsReaction}
+use Rattle.cstn_graphml.specs.DrawnGraph.{Observation, DrawnGraph, DrawnConstraint, origin_name}
 
 -- the ends are two of the first n time-points
 abbrev pub IsDrawnAmong : ℕ → DrawnConstraint → Type 0
 IsDrawnAmong n c = (c.from < n) × (c.to < n)
 
+-- the reaction of what is observed is from 1 to 1,000 ticks
+abbrev pub IsTimely : Option Observation → Type 0
+IsTimely (Some o) = IsReaction o.reaction
+IsTimely None = Unit {0}
+
+-- and so is the origin's, once its node was read
+abbrev pub IsTimelyOrigin : Option (Option Observation) → Type 0
+IsTimelyOrigin (Some observed) = IsTimely observed
+IsTimelyOrigin None = Unit {0}
+
 -- the origin's name stands first, each name after it has its observation, and each constraint is between two time-points
--- and has a plain label
+-- and has a plain label; reactions are in range
 pub record IsDrawnGraph (d : DrawnGraph) : Type 0 where
   pub later : List (List ℕ)
   pub first : d.names ≡ origin_name ∷ later
   pub each : length d.names ≡ length d.observes + 1
   pub among : All (IsDrawnAmong (length d.names)) d.constraints
+  pub origin_timely : IsTimelyOrigin d.origin
+  pub timely : All IsTimely d.observes
   pub plain : All (λ c. IsPlain c.label) d.constraints

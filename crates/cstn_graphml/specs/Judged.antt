@@ -2,7 +2,7 @@
 use Rattle.std.specs.Prelude.{ℕ, ◌&&◌, not, Bool, true, false, nat_lt, nat_le, List, [], ◌∷◌, length, Option, Some, None, is_some, Result, Ok, Err, codes}
 use Rattle.cstn_graphml.specs.Results.{Refusal, ◌>>=◌, or_refused, demand}
 use Rattle.cstn_graphml.specs.Results.Refusal.{shape, name_twice, unknown_node, bad_value, label_text, contingent, edge_type, node_label}
-use Rattle.cstn_data.specs.NumberTexts.{deadline_of}
+use Rattle.cstn_data.specs.NumberTexts.{deadline_of, reaction_in}
 use Rattle.cstn_data.specs.EdgeTypes.{edge_type_of}
 use Rattle.cstn_data.specs.declared.edge_types.EdgeType.{EdgeType}
 use Rattle.cstn_data.specs.declared.edge_types.EdgeType.TheVariants.{Kept, PassedOver, Contingent}
@@ -11,12 +11,17 @@ use Rattle.cstn_data.specs.LabelTexts.{is_of_empty, label_of}
 use Rattle.cstn_data.specs.ValueTexts.{Pair, values_of}
 use Rattle.cstn_graphml.specs.Contents.{Tag}
 use Rattle.cstn_graphml.specs.Elements.{attribute, Datum, datum_of}
-use Rattle.cstn_graphml.specs.DrawnGraph.{DrawnGraph, node_of, with_node, with_constraint, with_deadline}
+use Rattle.cstn_graphml.specs.DrawnGraph.{DrawnGraph, observation, node_of, with_node, with_constraint, with_deadline}
 
 -- what a node observes
 abbrev pub observed : Option Datum → Result (Option ℕ) Refusal
 observed None = Ok None
 observed (Some d) = or_refused (observed_in d.value) (label_text d.at)
+
+-- the reaction of a node, and a tick where none is written
+abbrev pub reacting : Option Datum → Result ℕ Refusal
+reacting None = Ok 1
+reacting (Some d) = or_refused (reaction_in d.value) (bad_value d.at)
 
 -- a node has no label but the empty one
 abbrev pub unlabelled : Option Datum → Result (Unit {0}) Refusal
@@ -30,8 +35,9 @@ judged_node tag graph found =
     demand (nat_lt 0 (length id) && nat_le (length id) 64) (bad_value tag.at) >>= λ sized.
     demand (not (is_some (node_of id graph))) (name_twice tag.at) >>= λ fresh.
     observed (datum_of (codes "Obs") found) >>= λ prop.
+    reacting (datum_of (codes "Reaction") found) >>= λ ticks.
     unlabelled (datum_of (codes "Label") found) >>= λ same.
-    Ok (with_node id prop graph)
+    Ok (with_node id (observation prop ticks) graph)
 
 -- whether an edge of this type, named at this place, is kept
 abbrev pub is_kept_as : ℕ → EdgeType → Result Bool Refusal

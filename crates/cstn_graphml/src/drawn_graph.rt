@@ -3,13 +3,19 @@
 ghost use Rattle.std.specs.Prelude.{◌≡◌, IfOk, OnOk};
 ghost use Rattle.cstn_graphml.specs.DrawnGraph.{node_of, with_node, with_constraint, with_deadline, empty_graph};
 ghost use Rattle.cstn_graphml.specs.DataElementSeen.{datum_seen};
-ghost use Rattle.cstn_data.specs.TextsSeen.{prop_seen};
-ghost use Rattle.cstn_graphml.specs.DrawnGraphSeen.{drawn_seen, graph_seen};
+ghost use Rattle.cstn_graphml.specs.DrawnGraphSeen.{observed_seen, drawn_seen, graph_seen};
 
 use crate::data_element::Datum;
 use cstn_label::{Label, Prop};
 use cstn_text::Names;
 use std::alloc::{AllocError, Global};
+
+/// What a time-point observes, and after how many ticks it is known.
+#[derive(Clone, Copy)]
+pub struct Observation {
+    pub prop: Prop,
+    pub reaction: u32,
+}
 
 /// A constraint, by the numbers of its time-points: at most so many ticks from one to the other where the label holds.
 #[derive(Clone, Copy)]
@@ -26,9 +32,9 @@ pub struct DrawnConstraint {
 pub struct DrawnGraph {
     pub own: Vec<Datum>,
     pub deadline: Option<u32>,
-    pub origin: Option<Option<Prop>>,
+    pub origin: Option<Option<Observation>>,
     pub names: Names,
-    pub observes: Vec<Option<Prop>>,
+    pub observes: Vec<Option<Observation>>,
     pub constraints: Vec<DrawnConstraint>,
 }
 
@@ -64,11 +70,15 @@ pub fn node_of(graph: &DrawnGraph, name: &str) -> Option<u32>
 }
 
 /// Puts in a node of a name that no node has.
-pub fn put_node(graph: &mut DrawnGraph, name: &str, prop: Option<Prop>) -> Result<(), AllocError>
-    ensures { OnOk result (graph_seen graph.new ≡ with_node name.now (prop_seen prop) (graph_seen graph.old)) }
+pub fn put_node(
+    graph: &mut DrawnGraph,
+    name: &str,
+    observed: Option<Observation>,
+) -> Result<(), AllocError>
+    ensures { OnOk result (graph_seen graph.new ≡ with_node name.now (observed_seen observed) (graph_seen graph.old)) }
 {
     if name == "Z" {
-        graph.origin = Some(prop);
+        graph.origin = Some(observed);
         return Ok(());
     }
     if graph.names.count() == u32::MAX {
@@ -77,7 +87,7 @@ pub fn put_node(graph: &mut DrawnGraph, name: &str, prop: Option<Prop>) -> Resul
     let Ok(_) = graph.names.push(name) else {
         return Err(AllocError);
     };
-    graph.observes.push(prop)?;
+    graph.observes.push(observed)?;
     Ok(())
 }
 

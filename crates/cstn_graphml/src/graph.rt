@@ -103,7 +103,7 @@ fn read_node(
     ensures reads { (names : List (List ℕ)) → length names ≡ depth → ReadsWhole (λ u. graph_seen graph.new) (graph_child a_node (graph_seen graph.old) (record { at = at; name = name.now; attributes = attributes.now })) closed at name.now names scanner.old scanner.new result }
     ensures less { length scanner.new ≤ length scanner.old }
 {
-    let used: [&[u8]; 2] = [b"Obs", b"Label"];
+    let used: [&[u8]; 3] = [b"Obs", b"Reaction", b"Label"];
     let found = read_element_data(alloc, scanner, name, closed, &used, depth)?;
     judge_node(alloc, at, attributes, found.as_slice(), graph)
 }

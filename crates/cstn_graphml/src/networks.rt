@@ -6,21 +6,38 @@ ghost use Rattle.cstn_net.specs.Networks.{IsWellFormed};
 ghost use Rattle.cstn_net.specs.Read.{the_network};
 ghost use Rattle.cstn_graphml.specs.DrawnGraphSeen.{graph_seen};
 ghost use Rattle.cstn_graphml.specs.DrawnGraphLaws.{IsDrawnGraph};
-ghost use Rattle.cstn_graphml.specs.Networks.{with_points, with_drafts, draft_of, builder_of, IsBuilt};
+ghost use Rattle.cstn_graphml.specs.Networks.{point_of, with_points, with_drafts, draft_of, builder_of, IsBuilt};
 
-use crate::drawn_graph::{DrawnConstraint, DrawnGraph};
-use cstn_label::Prop;
+use crate::drawn_graph::{DrawnConstraint, DrawnGraph, Observation};
 use cstn_net::{Builder, NetError, Network};
 use std::alloc::{AllocError, Global};
 
+/// Hands in a time-point.
+fn put_point(builder: &mut Builder, observed: Option<Observation>) -> Result<(), AllocError>
+    requires { length builder.old.points < 2 ^ 32 - 1 }
+    ensures { OnOk result (builder.new ≡ record builder.old { points = builder.old.points ++ point_of observed ∷ [] }) }
+{
+    match observed {
+        Some(observation) => {
+            let number = builder.node(Some(observation.prop))?;
+            builder.react(number, observation.reaction);
+            Ok(())
+        }
+        None => {
+            builder.node(None)?;
+            Ok(())
+        }
+    }
+}
+
 /// Hands in the time-points.
-fn put_points(builder: &mut Builder, observes: &[Option<Prop>]) -> Result<(), AllocError>
+fn put_points(builder: &mut Builder, observes: &[Option<Observation>]) -> Result<(), AllocError>
     requires { length builder.old.points + length observes.now < 2 ^ 32 }
     ensures { OnOk result (builder.new ≡ with_points observes.now builder.old) }
 {
     let mut rest = observes;
-    while let Some((prop, next)) = rest.split_first() {
-        builder.node(*prop)?;
+    while let Some((observed, next)) = rest.split_first() {
+        put_point(builder, *observed)?;
         rest = next;
     }
     Ok(())
@@ -58,10 +75,10 @@ fn builder_of(alloc: Global, deadline: u32, graph: &DrawnGraph) -> Result<Builde
 {
     let mut builder = Builder::new(alloc, deadline);
     let origin = match graph.origin {
-        Some(prop) => prop,
+        Some(observed) => observed,
         None => None,
     };
-    builder.node(origin)?;
+    put_point(&mut builder, origin)?;
     if graph.names.count() == u32::MAX || graph.constraints.len() >= u32::MAX as usize {
         return Err(AllocError);
     }

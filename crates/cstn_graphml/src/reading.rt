@@ -1,9 +1,10 @@
 //! Reading a document.
 
 ghost use Rattle.std.specs.Prelude.{◌≡◌, ◌≢◌, ℕ, List, ◌∷◌, length, IfOk, IfErr};
+ghost use Rattle.cstn_label.specs.declared.nodes.NodeId.{NodeId};
 ghost use Rattle.cstn_net.specs.Networks.{IsWellFormed, count};
 ghost use Rattle.cstn_net.specs.Read.{the_network};
-ghost use Rattle.cstn_net.specs.declared.errors.NetError.TheVariants.{NoOrigin, NotPlain};
+ghost use Rattle.cstn_net.specs.declared.errors.NetError.TheVariants.{NoOrigin, NotPlain, ReactionRange};
 ghost use Rattle.cstn_graphml.specs.declared.errors.DocError.TheVariants.{Net};
 ghost use Rattle.cstn_graphml.specs.DrawnGraph.{origin_name};
 ghost use Rattle.cstn_graphml.specs.Document.{first_of_two, document};
@@ -46,6 +47,7 @@ fn refusal(error: NetError, names: Names) -> DocError
             second: _,
         } => DocError::Net { error, names },
         NetError::NotPlain { constraint: _ } => DocError::Net { error, names },
+        NetError::ReactionRange { node: _ } => DocError::Net { error, names },
     }
 }
 
@@ -71,6 +73,7 @@ pub fn read(
     ensures refused { IfErr result (IsRefused (document bytes.now deadline)) }
     ensures has_origin { IfErr result (λ e. (names : List (List ℕ)) → e ≢ Net NoOrigin names) }
     ensures has_plain_labels { IfErr result (λ e. (names : List (List ℕ)) (constraint : ℕ) → e ≢ Net (NotPlain constraint) names) }
+    ensures has_timely_reactions { IfErr result (λ e. (names : List (List ℕ)) (node : NodeId) → e ≢ Net (ReactionRange node) names) }
 {
     if let Err(e) = str::from_utf8(bytes) {
         return Err(DocError::NotUtf8 {

@@ -13,6 +13,6 @@ use Rattle.cstn_graphml.proofs.graph.read_node.Goals as goal
 pub returns-clause-reads : goal.returns-clause-reads
 returns-clause-reads c = λ names l.
     let tag : Tag = record { at = c.args.at; name = c.args.name.now; attributes = c.args.attributes.now } in
-    judged (λ (v : Vec Lent Global). map datum_seen v.items) (data_of (codes "Obs" ∷ (codes "Label" ∷ []))) (λ (u : Unit {0}). graph_seen c.judge_node.new.graph) (judged_node tag (graph_seen c.args.graph.now))
+    judged (λ (v : Vec Lent Global). map datum_seen v.items) (data_of (codes "Obs" ∷ (codes "Reaction" ∷ (codes "Label" ∷ [])))) (λ (u : Unit {0}). graph_seen c.judge_node.new.graph) (judged_node tag (graph_seen c.args.graph.now))
     c.args.closed c.args.at c.args.name.now names _ _ c.in_ok-found.found c.judge_node.result (c.in_ok-found.ensures.reads names c.args.at l)
     (subst (λ (items : List Lent). Gives (λ (u : Unit {0}). graph_seen c.judge_node.new.graph) c.judge_node.result (judged_node tag (graph_seen c.args.graph.now) (map datum_seen items))) c.as_slice.ensures.value (c.judge_node.ensures c.args.name.now))

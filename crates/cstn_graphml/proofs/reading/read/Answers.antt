@@ -4,11 +4,11 @@ use Rattle.std.proofs.lemmas.Result.{err_from_is_err_and}
 use Rattle.cstn_markup.specs.Tokens.{Token}
 use Rattle.cstn_graphml.specs.Contents.{content_of}
 use Rattle.cstn_graphml.specs.Document.{document, in_document}
-use Rattle.cstn_data.specs.TextsSeen.{prop_seen}
+use Rattle.cstn_graphml.specs.DrawnGraphSeen.{observed_seen}
 use Rattle.cstn_graphml.specs.Reads.{Fails}
-use Rattle.cstn_net.specs.declared.errors.NetError.TheVariants.{NoOrigin, NotPlain}
+use Rattle.cstn_net.specs.declared.errors.NetError.TheVariants.{NoOrigin, NotPlain, ReactionRange}
 use Rattle.cstn_graphml.proofs.Built.{made_count}
-use Rattle.cstn_graphml.proofs.Excluded.{no_net, has_origin, has_plain_labels}
+use Rattle.cstn_graphml.proofs.Excluded.{no_net, has_origin, has_plain_labels, has_timely_reactions}
 use Rattle.cstn_graphml.proofs.Refusing.{not_text, refused_before, lacks_deadline, has_deadline, read_is_drawn, made_document, unfit_is_refused}
 use Rattle.cstn_graphml.proofs.reading.read.Goals as goal
 
@@ -38,7 +38,7 @@ pub returns-in-Ok-clause-named : goal.returns-in-Ok-clause-named
 returns-in-Ok-clause-named c =
     let told = ap (λ (ts : List Token). in_document (content_of ts)) (sym c.new-scanner.ensures.new) ∙ c.in_ok-graph.ensures in
     let each = (read_is_drawn c.args.bytes.now c.in_ok-graph.graph told).each in
-    ap length c.names_of.ensures ∙ made_count c.in-Some.deadline c.in_ok-graph.graph c.in-Ok.network c.in-Ok.ensures.accepted (omega (arith, each, length-map c.in_ok-graph.graph.observes.items prop_seen))
+    ap length c.names_of.ensures ∙ made_count c.in-Some.deadline c.in_ok-graph.graph c.in-Ok.network c.in-Ok.ensures.accepted (omega (arith, each, length-map c.in_ok-graph.graph.observes.items observed_seen))
 
 pub returns-in-Ok-clause-origin : goal.returns-in-Ok-clause-origin
 returns-in-Ok-clause-origin c =
@@ -72,3 +72,14 @@ returns-in-Err-network_of-clause-has_plain_labels c = λ names k.
     let told = ap (λ (ts : List Token). in_document (content_of ts)) (sym c.new-scanner.ensures.new) ∙ c.in_ok-graph.ensures in
     has_plain_labels c.in-Some.deadline c.in_ok-graph.graph (read_is_drawn c.args.bytes.now c.in_ok-graph.graph told)
     c.in-Err-network_of.error c.names_of-in-Err-network_of.result names k c.refusal.result c.in-Err-network_of.ensures.refused c.refusal.ensures
+
+pub returns-in_err-graph-clause-has_timely_reactions : goal.returns-in_err-graph-clause-has_timely_reactions
+returns-in_err-graph-clause-has_timely_reactions c =
+    let p = err_from_is_err_and c.from_residual.result c.from_residual.ensures.1 in
+    rw (p.1, p.2) (λ names node. no_net c.in_err-graph.field-0.0 _ c.in_err-graph.ensures (ReactionRange node) names)
+
+pub returns-in-Err-network_of-clause-has_timely_reactions : goal.returns-in-Err-network_of-clause-has_timely_reactions
+returns-in-Err-network_of-clause-has_timely_reactions c = λ names node.
+    let told = ap (λ (ts : List Token). in_document (content_of ts)) (sym c.new-scanner.ensures.new) ∙ c.in_ok-graph.ensures in
+    has_timely_reactions c.in-Some.deadline c.in_ok-graph.graph (read_is_drawn c.args.bytes.now c.in_ok-graph.graph told)
+    c.in-Err-network_of.error c.names_of-in-Err-network_of.result names node c.refusal.result c.in-Err-network_of.ensures.refused c.refusal.ensures
