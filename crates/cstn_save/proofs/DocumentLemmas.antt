@@ -1,16 +1,17 @@
 -- The lines of a document, one after the other.
-use Rattle.std.proofs.Common.{◌≡◌, ℕ, ◌+◌, ◌<◌, List, [], ◌∷◌, ◌++◌, ◌∙◌, ap, sym, append-nil, add-one, length, length-append, arith, take, map, get_or, Option, Some, None}
-use Rattle.std.specs.Prelude.{slice_get, slice_index_or}
+use Rattle.std.proofs.Common.{◌≡◌, ◌≢◌, false, ℕ, ◌+◌, ◌<◌, List, [], ◌∷◌, ◌++◌, ◌∙◌, ap, sym, append-nil, add-one, length, length-append, arith, take, map, get_or, Option, Some, None}
+use Rattle.std.specs.Prelude.{◌==◌, codes, slice_get, slice_index_or}
 use Rattle.std.proofs.lemmas.Grind.{flat_map-append}
 use Rattle.std.proofs.lemmas.List.{take_more, map-append}
 use Rattle.std.proofs.lemmas.Option.{get_or_from_slice_get}
 use Rattle.cstn_label.specs.Labels.{Label}
 use Rattle.cstn_label.specs.Letters.{letter_of}
+use Rattle.cstn_text.specs.Numbers.{printed_number}
 use Rattle.cstn_net.specs.Networks.{Constraint}
 use Rattle.cstn_net.specs.declared.constraints.Constraint.{Constraint as NetConstraint}
 use Rattle.cstn_net.specs.Read.{the_constraint}
 use Rattle.cstn_graphml.specs.DrawnGraph.{Observation}
-use Rattle.cstn_save.specs.Canonical.{literal, literals_below, or_empty, node_line, nodes_below, edge_tag, edge_data, edge_line, edges}
+use Rattle.cstn_save.specs.Canonical.{literal, literals_below, or_empty, reaction_data, node_line, nodes_below, edge_tag, edge_data, edge_line, edges}
 use Rattle.cstn_save.proofs.JoinLemmas.{two}
 
 -- a constraint's line is put
@@ -64,3 +65,7 @@ no_literal (b ∷ literals) old text new is same put = absurd (omega (arith, sam
 pub some_literal : (literals old text : List ℕ) → text ≡ old ++ literals → (length text ≡ length old → ⊥) → text ≡ old ++ or_empty literals
 some_literal [] old text is other = absurd (other (ap length (is ∙ append-nil old)))
 some_literal (b ∷ literals) old text is other = is
+
+-- the data of a reaction that is no tick
+pub reaction_put : (ticks : ℕ) (old new : List ℕ) → ticks ≢ 1 → new ≡ old ++ (codes "<data key=\"Reaction\">" ++ printed_number ticks ++ codes "</data>") → new ≡ old ++ reaction_data ticks
+reaction_put ticks old new other put = let no : (ticks == 1) ≡ false = grind arith in rw no put

@@ -1,5 +1,5 @@
 -- Reading what is saved gives the same names and the same network.
-use Rattle.std.proofs.Common.{◌≡◌, ◌≢◌, ℕ, zero, suc, ◌+◌, ◌-◌, ◌<◌, ◌≤◌, ◌^◌, List, [], ◌∷◌, ◌++◌, length, refl, ap, sym, ◌∙◌, arith, true, subst, map, Ok}
+use Rattle.std.proofs.Common.{◌≡◌, ◌≢◌, ℕ, zero, suc, ◌-◌, ◌<◌, ◌≤◌, ◌^◌, List, [], ◌∷◌, ◌++◌, length, refl, ap, sym, ◌∙◌, arith, true, subst, map, Ok}
 use Rattle.std.specs.Prelude.{Option, Some, None, codes, nat_lt, nat_le, ◌&&◌, slice_index_or, ℤ, pos, negsuc, ◌≤ℤ◌, FitsSigned}
 use Rattle.std.specs.Int.{w32}
 use Rattle.std.specs.List.{All}
@@ -17,7 +17,7 @@ use Rattle.cstn_markup.specs.Tokens.{tokens}
 use Rattle.cstn_graphml.specs.Results.{◌>>=◌}
 use Rattle.cstn_data.specs.LabelTexts.{is_absent}
 use Rattle.cstn_graphml.specs.Contents.{content_of}
-use Rattle.cstn_graphml.specs.DrawnGraph.{Observation, DrawnGraph, with_constraint}
+use Rattle.cstn_graphml.specs.DrawnGraph.{DrawnGraph, with_constraint}
 use Rattle.cstn_graphml.specs.Document.{in_document, parts_of, document}
 use Rattle.cstn_save.specs.Canonical.{canonical, observed_by, observations, head, nodes_below, edges, tail}
 use Rattle.cstn_save.specs.ReadBack.{drawn, parts, AreNamesOf}
@@ -95,7 +95,7 @@ content_back net names wf is =
     let shape : (at : ℕ) → IsShaped names (observations net) net.deadline n (drafted names (observations net) (begun net.deadline at) (count net)) =
     λ at. subst (λ k. IsShaped names (observations net) net.deadline n (drafted names (observations net) (begun net.deadline at) k)) count_is (shaped names (observations net) net.deadline at n given (omega (arith, all))) in
     let new : (at i : ℕ) → i < count net → IsNew names (observations net) (begun net.deadline at) i =
-    λ at i h. record { sized = given.sized i (omega (arith, h, is.each)); fresh = fresh names (observations net) net.deadline at i given (omega (arith, h, is.each)); prop = given.props i h } in
+    λ at i h. record { sized = given.sized i (omega (arith, h, is.each)); fresh = fresh names (observations net) net.deadline at i given (omega (arith, h, is.each)); prop = given.props i (omega (arith, h, observations_count net)) } in
     let known : (at : ℕ) → All (IsKnown names (drafted names (observations net) (begun net.deadline at) (count net))) net.constraints =
     λ at k x h. let c = wf.network.constraints k x h in let v = wf.values k x h in record {
       fits = value_fits (slice_index_or net.constraints k x).most v;

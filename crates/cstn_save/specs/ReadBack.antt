@@ -1,6 +1,6 @@
 -- What the canonical document says of a network.
 use Rattle.std.specs.Prelude.{◌≡◌, ℕ, ◌<◌, List, length, map, Some, slice_get, slice_index_or, codes}
-use Rattle.cstn_net.specs.Networks.{Network, Constraint, count}
+use Rattle.cstn_net.specs.Networks.{Network, Constraint, count, Observes}
 use Rattle.cstn_text.specs.Names.{AreNames}
 use Rattle.cstn_graphml.specs.DrawnGraph.{DrawnConstraint}
 use Rattle.cstn_save.specs.Canonical.{observations}
@@ -23,3 +23,10 @@ pub record AreNamesOf (net : Network) (names : List (List ℕ)) : Type 0 where
 -- the ids are from 0 up, without a gap
 abbrev pub AreNumbered : List Constraint → Type 0
 AreNumbered cs = (k : ℕ) (d : Constraint) → k < length cs → (slice_index_or cs k d).id ≡ k
+
+-- the two networks are one, but for the ids of their constraints and the reactions of what nothing observes
+pub record AreSameButIds (read net : Network) : Type 0 where
+  pub deadline : read.deadline ≡ net.deadline
+  pub observes : read.observes ≡ net.observes
+  pub reaction : (x p : ℕ) → Observes net x p → read.reaction p ≡ net.reaction p
+  pub constraints : map drawn read.constraints ≡ map drawn net.constraints
