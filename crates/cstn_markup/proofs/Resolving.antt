@@ -1,12 +1,12 @@
 -- What references put in: UTF-8 from UTF-8, and the same bytes where there is none.
-use Rattle.std.proofs.Common.{◌≡◌, ℕ, zero, suc, ◌+◌, ◌<◌, ◌≤◌, ◌≢◌, ◌⊎◌, inl, inr, true, false, not, List, [], ◌∷◌, ◌++◌, length, take, drop, get_or, refl, ap, sym, ◌∙◌, subst, arith, Some, None, append_assoc, length-drop}
+use Rattle.std.proofs.Common.{◌≡◌, ℕ, zero, suc, ◌+◌, ◌<◌, ◌≤◌, ◌≢◌, ◌⊎◌, inl, inr, true, false, not, List, [], ◌∷◌, ◌++◌, length, take, drop, get_or, refl, ap, sym, ◌∙◌, subst, arith, Some, None, append_assoc, length-drop, IsSome}
 use Rattle.std.specs.Prelude.{codes, ◌==◌, nat_lt, nat_le, ◌&&◌}
 use Rattle.std.specs.List.{prefix_len, list_all}
 use Rattle.std.specs.Str.{IsUtf8}
 use Rattle.std.specs.Char.{IsScalar, encode_utf8}
 use Rattle.std.proofs.Math.Seq.{drop-cons, drop-append_seam, take-append_seam, get_or-append_seam}
-use Rattle.std.proofs.lemmas.Bool.{and_parts, eqb-true, ltb-true}
-use Rattle.std.proofs.lemmas.List.{length-append, append-nil}
+use Rattle.std.proofs.lemmas.Bool.{and_parts, eqb-true, ltb-true, false≢true}
+use Rattle.std.proofs.lemmas.List.{length-append}
 use Rattle.std.proofs.lemmas.List.Sums.{prefix_len_stops}
 use Rattle.std.proofs.lemmas.Str.{IsUtf8-take, IsUtf8-drop, IsUtf8-append, IsUtf8-encode, IsCharBoundary-before_ascii}
 use Rattle.cstn_markup.specs.Bytes.{◌>>=◌, when, is_same, begins, is_character, scalar_of, number_after, character_of, reference_at, piece_at, resolved, resolved_after}
@@ -153,8 +153,12 @@ resolved_plain (b ∷ raw) h =
     let p = and_parts _ (list_all (λ b. not (b == 38)) raw) h in
     rw (plain_piece b raw p.0, resolved_plain raw p.1) refl
 
--- where nothing is left to put in
-pub all_put : (raw rest put : List ℕ) → length rest ≡ 0 → resolved_after 0 raw ≡ (resolved_after 0 rest >>= λ more. Some (put ++ more)) → resolved raw ≡ Some put
-unfolding resolved_after
-all_put raw [] put h e = e ∙ ap Some (append-nil put)
-all_put raw (b ∷ rest) put h e = absurd (omega arith)
+-- where no reference is left to put in
+pub all_put : (raw rest put done : List ℕ) → list_all (λ b. not (b == 38)) rest ≡ true → done ≡ put ++ rest → resolved_after 0 raw ≡ (resolved_after 0 rest >>= λ more. Some (put ++ more)) → resolved raw ≡ Some done
+all_put raw rest put done h d e = e ∙ rw (resolved_plain rest h, d) refl
+
+-- what is left is right where the whole is
+pub none_left : (raw rest put : List ℕ) → resolved_after 0 rest ≡ None → resolved_after 0 raw ≡ (resolved_after 0 rest >>= λ more. Some (put ++ more)) → IsSome (resolved raw) → ⊥
+none_left raw rest put e so some =
+    let none : resolved raw ≡ None = so ∙ rw e refl in
+    false≢true (subst IsSome none some)

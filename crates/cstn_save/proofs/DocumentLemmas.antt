@@ -1,13 +1,17 @@
 -- The lines of a document, one after the other.
-use Rattle.std.proofs.Common.{◌≡◌, ℕ, ◌+◌, ◌<◌, List, [], ◌∷◌, ◌++◌, ◌∙◌, ap, sym, append-nil, add-one, length, take, map, get_or, Option, Some, None}
-use Rattle.std.specs.Prelude.{slice_get, slice_index_or}
+use Rattle.std.proofs.Common.{◌≡◌, ◌≢◌, false, ℕ, ◌+◌, ◌<◌, List, [], ◌∷◌, ◌++◌, ◌∙◌, ap, sym, append-nil, add-one, length, length-append, arith, take, map, get_or, Option, Some, None}
+use Rattle.std.specs.Prelude.{◌==◌, codes, slice_get, slice_index_or}
 use Rattle.std.proofs.lemmas.Grind.{flat_map-append}
 use Rattle.std.proofs.lemmas.List.{take_more, map-append}
 use Rattle.std.proofs.lemmas.Option.{get_or_from_slice_get}
+use Rattle.cstn_label.specs.Labels.{Label}
+use Rattle.cstn_label.specs.Letters.{letter_of}
+use Rattle.cstn_text.specs.Numbers.{printed_number}
 use Rattle.cstn_net.specs.Networks.{Constraint}
 use Rattle.cstn_net.specs.declared.constraints.Constraint.{Constraint as NetConstraint}
 use Rattle.cstn_net.specs.Read.{the_constraint}
-use Rattle.cstn_save.specs.Canonical.{node_line, nodes_below, edge_tag, edge_data, edge_line, edges}
+use Rattle.cstn_graphml.specs.DrawnGraph.{Observation}
+use Rattle.cstn_save.specs.Canonical.{literal, literals_below, or_empty, reaction_data, node_line, nodes_below, edge_tag, edge_data, edge_line, edges}
 use Rattle.cstn_save.proofs.JoinLemmas.{two}
 
 -- a constraint's line is put
@@ -31,15 +35,37 @@ edges_more names xs i x old text new inside is so_far put =
     ∙ ap (λ (ys : List ℕ). edges names (map the_constraint (take i xs)) ++ ys) (append-nil (edge_line names (the_constraint x))) in
     two old (edges names (map the_constraint (take i xs))) (edge_line names (the_constraint x)) text new so_far put ∙ ap (λ (ys : List ℕ). old ++ ys) (sym lines)
 
-pub nodes_none : (names : List (List ℕ)) (observes : List (Option ℕ)) (old : List ℕ) → old ≡ old ++ nodes_below names observes 0
+pub nodes_none : (names : List (List ℕ)) (observes : List (Option Observation)) (old : List ℕ) → old ≡ old ++ nodes_below names observes 0
 unfolding nodes_below
 nodes_none names observes old = sym (append-nil old)
 
 -- the lines of one more time-point
-pub nodes_more : (names : List (List ℕ)) (observes : List (Option ℕ)) (n : ℕ) (name : List ℕ) (o : Option ℕ) (old text new : List ℕ) → slice_get names n ≡ Some name → o ≡ slice_index_or observes n None
+pub nodes_more : (names : List (List ℕ)) (observes : List (Option Observation)) (n : ℕ) (name : List ℕ) (o : Option Observation) (old text new : List ℕ) → slice_get names n ≡ Some name → o ≡ slice_index_or observes n None
     → text ≡ old ++ nodes_below names observes n → new ≡ text ++ node_line name o → new ≡ old ++ nodes_below names observes (n + 1)
 unfolding nodes_below
 nodes_more names observes n name o old text new named observed so_far put =
     let same : node_line name o ≡ node_line (get_or names n []) (slice_index_or observes n None) =
-    ap (λ (x : List ℕ). node_line x o) (sym (get_or_from_slice_get names n name [] named)) ∙ ap (λ (y : Option ℕ). node_line (get_or names n []) y) observed in
+    ap (λ (x : List ℕ). node_line x o) (sym (get_or_from_slice_get names n name [] named)) ∙ ap (λ (y : Option Observation). node_line (get_or names n []) y) observed in
     rw add-one (two old (nodes_below names observes n) (node_line (get_or names n []) (slice_index_or observes n None)) text new so_far (put ∙ ap (λ (x : List ℕ). text ++ x) same))
+
+pub literals_none : (a : Label) (old : List ℕ) → old ≡ old ++ literals_below a 0
+unfolding literals_below
+literals_none a old = sym (append-nil old)
+
+-- one more literal
+pub literals_more : (a : Label) (n : ℕ) (old text new : List ℕ) → text ≡ old ++ literals_below a n → new ≡ text ++ literal (letter_of n) (a n) → new ≡ old ++ literals_below a (n + 1)
+unfolding literals_below
+literals_more a n old text new so_far put = rw add-one (two old (literals_below a n) (literal (letter_of n) (a n)) text new so_far put)
+
+-- a label is its literals, or what stands for none where they add nothing
+pub no_literal : (literals old text new : List ℕ) → text ≡ old ++ literals → length text ≡ length old → new ≡ text ++ (226 ∷ 138 ∷ 161 ∷ []) → new ≡ old ++ or_empty literals
+no_literal [] old text new is same put = put ∙ ap (λ (t : List ℕ). t ++ (226 ∷ 138 ∷ 161 ∷ [])) (is ∙ append-nil old)
+no_literal (b ∷ literals) old text new is same put = absurd (omega (arith, same, ap length is, length-append old (b ∷ literals)))
+
+pub some_literal : (literals old text : List ℕ) → text ≡ old ++ literals → (length text ≡ length old → ⊥) → text ≡ old ++ or_empty literals
+some_literal [] old text is other = absurd (other (ap length (is ∙ append-nil old)))
+some_literal (b ∷ literals) old text is other = is
+
+-- the data of a reaction that is no tick
+pub reaction_put : (ticks : ℕ) (old new : List ℕ) → ticks ≢ 1 → new ≡ old ++ (codes "<data key=\"Reaction\">" ++ printed_number ticks ++ codes "</data>") → new ≡ old ++ reaction_data ticks
+reaction_put ticks old new other put = let no : (ticks == 1) ≡ false = grind arith in rw no put

@@ -9,8 +9,8 @@ use Rattle.std.proofs.lemmas.List.Sums.{position_or_len_is}
 use Rattle.std.proofs.lemmas.Slice.Eq.{bytes_eq-Decides}
 use Rattle.cstn_net.specs.Networks.{Constraint}
 use Rattle.cstn_markup.specs.Bytes.{is_same}
-use Rattle.cstn_graphml.specs.Draft.{Draft, node_of, with_node, with_constraint}
-use Rattle.cstn_save.proofs.WholeLemmas.{drafted, IsProp}
+use Rattle.cstn_graphml.specs.DrawnGraph.{Observation, DrawnGraph, node_of, with_node, with_constraint}
+use Rattle.cstn_save.proofs.WholeLemmas.{drafted, IsInReach}
 use Rattle.cstn_save.proofs.EdgeLemmas.{with_all}
 use Rattle.cstn_save.specs.ReadBack.{drawn}
 use Rattle.cstn_save.proofs.ReadBackLemmas.{begun}
@@ -22,38 +22,38 @@ self : (xs : List ℕ) → bytes_eq xs xs ≡ true
 self xs = (bytes_eq-Decides xs xs).1 refl
 
 -- one name for each time-point, the first `Z`, different, and each of its size
-pub record AreGiven (names : List (List ℕ)) (observes : List (Option ℕ)) : Type 0 where
+pub record AreGiven (names : List (List ℕ)) (observes : List (Option Observation)) : Type 0 where
   pub sized : (i : ℕ) → i < length names → (nat_lt 0 (length (slice_index_or names i [])) && nat_le (length (slice_index_or names i [])) 64) ≡ true
   pub different : AllPairs (λ a b. a ≢ b) names
   pub origin : slice_index_or names 0 [] ≡ codes "Z"
   pub each : length names ≡ length observes
   pub some : 0 < length names
-  pub props : (i : ℕ) → i < length observes → IsProp (slice_index_or observes i None)
+  pub props : (i : ℕ) → i < length observes → IsInReach (slice_index_or observes i None)
 
-other_name : (names : List (List ℕ)) (observes : List (Option ℕ)) (i j : ℕ) → AreGiven names observes → i < j → j < length names → bytes_eq (slice_index_or names j []) (slice_index_or names i []) ≡ false
+other_name : (names : List (List ℕ)) (observes : List (Option Observation)) (i j : ℕ) → AreGiven names observes → i < j → j < length names → bytes_eq (slice_index_or names j []) (slice_index_or names i []) ≡ false
 other_name names observes i j given h k = differ _ _ (λ e. given.different i j [] h k (sym e))
 
-no_origin : (names : List (List ℕ)) (observes : List (Option ℕ)) (j : ℕ) → AreGiven names observes → 0 < j → j < length names → is_same (slice_index_or names j []) (codes "Z") ≡ false
+no_origin : (names : List (List ℕ)) (observes : List (Option Observation)) (j : ℕ) → AreGiven names observes → 0 < j → j < length names → is_same (slice_index_or names j []) (codes "Z") ≡ false
 no_origin names observes j given h k = subst (λ (x : List ℕ). is_same (slice_index_or names j []) x ≡ false) given.origin (other_name names observes 0 j given h k)
 
 more : {X : Type 0} → (xs : List X) (i : ℕ) (d : X) → i < length xs → take (suc i) xs ≡ take i xs ++ slice_index_or xs i d ∷ []
 more xs i d h = let e : suc i ≡ i + 1 = omega arith in ap (λ k. take k xs) e ∙ take_more xs i d h
 
 -- the draft of the first n + 1 time-points
-pub record IsShaped (names : List (List ℕ)) (observes : List (Option ℕ)) (deadline n : ℕ) (d : Draft) : Type 0 where
+pub record IsShaped (names : List (List ℕ)) (observes : List (Option Observation)) (deadline n : ℕ) (d : DrawnGraph) : Type 0 where
   pub deadline_is : d.deadline ≡ Some deadline
   pub origin_is : d.origin ≡ Some (slice_index_or observes 0 None)
   pub names_are : d.names ≡ take (suc n) names
   pub observes_are : slice_index_or observes 0 None ∷ d.observes ≡ take (suc n) observes
   pub none : d.constraints ≡ []
 
-later_node : (name : List ℕ) (o : Option ℕ) (d : Draft) → is_same name (codes "Z") ≡ false → with_node name o d ≡ record d { names = d.names ++ (name ∷ []); observes = d.observes ++ (o ∷ []) }
+later_node : (name : List ℕ) (o : Option Observation) (d : DrawnGraph) → is_same name (codes "Z") ≡ false → with_node name o d ≡ record d { names = d.names ++ (name ∷ []); observes = d.observes ++ (o ∷ []) }
 later_node name o d h = rw h refl
 
-pub shaped : (names : List (List ℕ)) (observes : List (Option ℕ)) (deadline at n : ℕ) → AreGiven names observes → n < length names → IsShaped names observes deadline n (drafted names observes (begun deadline at) (suc n))
+pub shaped : (names : List (List ℕ)) (observes : List (Option Observation)) (deadline at n : ℕ) → AreGiven names observes → n < length names → IsShaped names observes deadline n (drafted names observes (begun deadline at) (suc n))
 unfolding drafted
 shaped names observes deadline at zero given h =
-    let o : Option ℕ = slice_index_or observes 0 None in
+    let o : Option Observation = slice_index_or observes 0 None in
     let ends : 0 < length observes = omega (arith, given.each) in
     subst (λ (x : List ℕ). IsShaped names observes deadline 0 (with_node x o (begun deadline at))) (sym given.origin)
     (record {
@@ -65,20 +65,20 @@ shaped names observes deadline at zero given h =
     })
 shaped names observes deadline at (suc n) given h =
     let name : List ℕ = slice_index_or names (suc n) [] in
-    let o : Option ℕ = slice_index_or observes (suc n) None in
-    let d : Draft = drafted names observes (begun deadline at) (suc n) in
+    let o : Option Observation = slice_index_or observes (suc n) None in
+    let d : DrawnGraph = drafted names observes (begun deadline at) (suc n) in
     let so = shaped names observes deadline at n given (omega arith) in
     let ends : suc n < length observes = omega (arith, given.each) in
-    subst (λ (x : Draft). IsShaped names observes deadline (suc n) x) (sym (later_node name o d (no_origin names observes (suc n) given (omega arith) h)))
+    subst (λ (x : DrawnGraph). IsShaped names observes deadline (suc n) x) (sym (later_node name o d (no_origin names observes (suc n) given (omega arith) h)))
     (record {
       deadline_is = so.deadline_is;
       origin_is = so.origin_is;
       names_are = ap (λ (x : List (List ℕ)). x ++ (name ∷ [])) so.names_are ∙ sym (more names (suc n) [] h);
-      observes_are = ap (λ (x : List (Option ℕ)). x ++ (o ∷ [])) so.observes_are ∙ sym (more observes (suc n) None ends);
+      observes_are = ap (λ (x : List (Option Observation)). x ++ (o ∷ [])) so.observes_are ∙ sym (more observes (suc n) None ends);
       none = so.none;
     })
 
-later_of : (name : List ℕ) (d : Draft) → is_same name (codes "Z") ≡ false → node_of name d ≡ position (bytes_eq name) d.names
+later_of : (name : List ℕ) (d : DrawnGraph) → is_same name (codes "Z") ≡ false → node_of name d ≡ position (bytes_eq name) d.names
 later_of name d h = rw h refl
 
 found_at : (p : List ℕ → Bool) (xs : List (List ℕ)) (i : ℕ) → i < length xs → position_or_len p xs ≡ i → position p xs ≡ Some i
@@ -88,12 +88,12 @@ found_none : (p : List ℕ → Bool) (xs : List (List ℕ)) → position_or_len 
 found_none p xs e = let t : nat_lt (length xs) (length xs) ≡ false = grind arith in rw (e, t) refl
 
 -- a name is new where those before it stand
-pub fresh : (names : List (List ℕ)) (observes : List (Option ℕ)) (deadline at i : ℕ) → AreGiven names observes → i < length names → node_of (slice_index_or names i []) (drafted names observes (begun deadline at) i) ≡ None
+pub fresh : (names : List (List ℕ)) (observes : List (Option Observation)) (deadline at i : ℕ) → AreGiven names observes → i < length names → node_of (slice_index_or names i []) (drafted names observes (begun deadline at) i) ≡ None
 unfolding drafted
 fresh names observes deadline at zero given h = subst (λ (x : List ℕ). node_of x (begun deadline at) ≡ None) (sym given.origin) refl
 fresh names observes deadline at (suc n) given h =
     let name : List ℕ = slice_index_or names (suc n) [] in
-    let d : Draft = drafted names observes (begun deadline at) (suc n) in
+    let d : DrawnGraph = drafted names observes (begun deadline at) (suc n) in
     let so = shaped names observes deadline at n given (omega arith) in
     let size : length (take (suc n) names) ≡ suc n = length-taken (suc n) names (omega arith) in
     later_of name d (no_origin names observes (suc n) given (omega arith) h)
@@ -108,7 +108,7 @@ fresh names observes deadline at (suc n) given h =
     length-taken m xs h = omega (arith, length-take m xs)
 
 -- and is found at its number at the end
-pub found : (names : List (List ℕ)) (observes : List (Option ℕ)) (deadline n i : ℕ) (d : Draft) → AreGiven names observes → suc n ≡ length names → IsShaped names observes deadline n d → i < length names → node_of (slice_index_or names i []) d ≡ Some i
+pub found : (names : List (List ℕ)) (observes : List (Option Observation)) (deadline n i : ℕ) (d : DrawnGraph) → AreGiven names observes → suc n ≡ length names → IsShaped names observes deadline n d → i < length names → node_of (slice_index_or names i []) d ≡ Some i
 found names observes deadline n zero d given all so h = subst (λ (x : List ℕ). node_of x d ≡ Some 0) (sym given.origin) (rw so.origin_is refl)
 found names observes deadline n (suc i) d given all so h =
     let name : List ℕ = slice_index_or names (suc i) [] in
@@ -118,7 +118,7 @@ found names observes deadline n (suc i) d given all so h =
     (position_or_len_is (bytes_eq name) names (suc i) [] (omega arith) (λ k below. other_name names observes k (suc i) given below h) (λ below. self name))
 
 -- constraints are put behind those of the draft
-pub with_all_is : (cs : List Constraint) (d : Draft) → with_all cs d ≡ record d { constraints = d.constraints ++ map drawn cs }
+pub with_all_is : (cs : List Constraint) (d : DrawnGraph) → with_all cs d ≡ record d { constraints = d.constraints ++ map drawn cs }
 unfolding with_all
 with_all_is [] d = rw (append-nil d.constraints) refl
 with_all_is (c ∷ cs) d = with_all_is cs (with_constraint (drawn c) d) ∙ rw (append_assoc d.constraints (drawn c ∷ []) (map drawn cs)) refl

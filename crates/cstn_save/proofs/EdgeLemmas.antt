@@ -10,9 +10,9 @@ use Rattle.cstn_label.specs.declared.marks.Mark.TheVariants.{Absent}
 use Rattle.cstn_net.specs.Networks.{Constraint}
 use Rattle.cstn_text.specs.Numbers.{printed_value}
 use Rattle.cstn_markup.specs.Bytes.{is_white}
-use Rattle.cstn_graphml.specs.Numbers.{trimmed}
-use Rattle.cstn_graphml.specs.ValueTexts.{values_of}
-use Rattle.cstn_graphml.specs.Draft.{Draft, node_of, with_constraint}
+use Rattle.cstn_data.specs.WhiteSpace.{trimmed}
+use Rattle.cstn_data.specs.ValueTexts.{values_of}
+use Rattle.cstn_graphml.specs.DrawnGraph.{DrawnGraph, node_of, with_constraint}
 use Rattle.cstn_save.specs.Canonical.{escaped_name, or_empty, literals_below, document_label, edge_tag, edge_data, edge_line, edges, tail}
 use Rattle.cstn_save.specs.ReadBack.{drawn}
 use Rattle.cstn_save.proofs.NumberTextLemmas.{decimal_digits}
@@ -75,7 +75,7 @@ values_trimmed v a =
     (trimmed_braces (40 ∷ (printed_value v ++ 44 ∷ 32 ∷ (document_label a ++ 41 ∷ []))))
 
 -- a constraint between two time-points that were read
-pub record IsKnown (names : List (List ℕ)) (d : Draft) (c : Constraint) : Type 0 where
+pub record IsKnown (names : List (List ℕ)) (d : DrawnGraph) (c : Constraint) : Type 0 where
   pub fits : FitsSigned w32 c.most
   pub plain : IsPlain c.label
   pub letters : (p : ℕ) → 52 ≤ p → c.label p ≡ Absent
@@ -89,7 +89,7 @@ line_flat source target rest v a =
     ∙ ap (λ (x : List ℕ). codes "<edge source=" ++ 34 ∷ (escaped_name source ++ 34 ∷ (codes " target=" ++ 34 ∷ (escaped_name target ++ 34 ∷ 62 ∷ (codes "<data key=\"Type\">requirement</data><data key=\"LabeledValues\">" ++ x)))))
     (sym (value_flat (codes "{(") (printed_value v) (codes ", ") (document_label a) (codes ")}") (codes "</data></edge>\n" ++ 60 ∷ rest)))
 
-pub edge_line_made : (names : List (List ℕ)) (c : Constraint) (rest : List ℕ) (at : ℕ) (d : Draft) → IsKnown names d c → Makes d (with_constraint (drawn c) d) at (edge_line names c ++ 60 ∷ rest) (60 ∷ rest)
+pub edge_line_made : (names : List (List ℕ)) (c : Constraint) (rest : List ℕ) (at : ℕ) (d : DrawnGraph) → IsKnown names d c → Makes d (with_constraint (drawn c) d) at (edge_line names c ++ 60 ∷ rest) (60 ∷ rest)
 edge_line_made names c rest at d is =
     let source : List ℕ = slice_index_or names c.from [] in
     let target : List ℕ = slice_index_or names c.to [] in
@@ -99,11 +99,11 @@ edge_line_made names c rest at d is =
     (edge_made source target (values_inside c.most c.label) rest c.from c.to at c.most c.label d (no_less c.most c.label is.fits) (no_ampersand c.most c.label is.fits) (values_trimmed c.most c.label) values is.from is.to)
 
 -- the draft with constraints more
-unfoldable pub with_all : List Constraint → Draft → Draft
+unfoldable pub with_all : List Constraint → DrawnGraph → DrawnGraph
 with_all [] d = d
 with_all (c ∷ cs) d = with_all cs (with_constraint (drawn c) d)
 
-unfoldable pub AreKnown : List (List ℕ) → Draft → List Constraint → Type 0
+unfoldable pub AreKnown : List (List ℕ) → DrawnGraph → List Constraint → Type 0
 AreKnown names d [] = Unit {0}
 AreKnown names d (c ∷ cs) = IsKnown names d c × AreKnown names (with_constraint (drawn c) d) cs
 
@@ -111,7 +111,7 @@ pub edges_begin : (names : List (List ℕ)) (cs : List Constraint) → (rest : L
 edges_begin names [] = (_, refl)
 edges_begin names (c ∷ cs) = (_, refl)
 
-pub edges_made : (names : List (List ℕ)) (cs : List Constraint) (at : ℕ) (d : Draft) → AreKnown names d cs → Makes d (with_all cs d) at (edges names cs ++ tail) tail
+pub edges_made : (names : List (List ℕ)) (cs : List Constraint) (at : ℕ) (d : DrawnGraph) → AreKnown names d cs → Makes d (with_all cs d) at (edges names cs ++ tail) tail
 unfolding with_all AreKnown
 edges_made names [] at d known = record { place = at; told = refl; left = refl }
 edges_made names (c ∷ cs) at d known =

@@ -7,8 +7,8 @@ use Rattle.cstn_label.specs.declared.marks.Mark.TheVariants.{Absent, Yes, No, Un
 use Rattle.cstn_label.specs.Labels.{Label, empty, IsPlain, IsMarkPlain}
 use Rattle.cstn_label.specs.Letters.{letter_of}
 use Rattle.cstn_markup.specs.Bytes.{is_same, is_white}
-use Rattle.cstn_graphml.specs.LabelTexts.{label_after, label_of}
-use Rattle.cstn_graphml.specs.LabelTexts.Expects.{literal as for_literal}
+use Rattle.cstn_data.specs.LabelTexts.{label_after, label_of}
+use Rattle.cstn_data.specs.LabelTexts.Expects.{literal as for_literal}
 use Rattle.cstn_text.proofs.PrintedLabelLemmas.{below, below_none, below_more, below_absent, below_here, below_all, letter_back}
 use Rattle.cstn_save.specs.Canonical.{literal, literals_below, or_empty, document_label}
 

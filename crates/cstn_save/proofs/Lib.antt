@@ -12,4 +12,5 @@ pub mod EdgeLemmas
 pub mod ReadBackLemmas
 pub mod DraftedLemmas
 pub mod LawLemmas
+pub mod SameLemmas
 pub mod TextLemmas

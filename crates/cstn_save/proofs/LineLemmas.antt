@@ -10,29 +10,30 @@ use Rattle.cstn_markup.specs.Tokens.{tokens, tokens_after, tail_at}
 use Rattle.cstn_markup.proofs.Resolving.{resolved_plain}
 use Rattle.cstn_markup.proofs.Stepping.{tokens_skip}
 use Rattle.cstn_graphml.specs.Results.{Refusal, ◌>>=◌}
-use Rattle.cstn_graphml.specs.Numbers.{trimmed, short_number}
-use Rattle.cstn_graphml.specs.ValueTexts.{values_of}
+use Rattle.cstn_data.specs.WhiteSpace.{trimmed}
+use Rattle.cstn_data.specs.NumberTexts.{short_number, reaction_in}
+use Rattle.cstn_data.specs.ValueTexts.{values_of}
 use Rattle.cstn_graphml.specs.Judged.{with_pairs}
 use Rattle.cstn_graphml.specs.Contents.{Content, contents, inner, outer, content_of}
 use Rattle.cstn_graphml.specs.Elements.{read_by}
-use Rattle.cstn_graphml.specs.Draft.{Draft, empty_draft, node_of, with_node, with_constraint, with_deadline}
+use Rattle.cstn_graphml.specs.DrawnGraph.{DrawnGraph, empty_graph, node_of, with_node, with_constraint, with_deadline}
 use Rattle.cstn_graphml.specs.Document.{in_graph, in_document, root_reading, document_reading}
 use Rattle.cstn_save.specs.Canonical.{escaped_name, tail}
 use Rattle.cstn_save.proofs.EscapedNameLemmas.{name_back}
-use Rattle.cstn_save.proofs.TokenLemmas.{next_token, text_piece, graphml_tag, graph_tag, node_closed, node_open, node_end_tag, edge_open, edge_end_tag, deadline_tag, obs_tag, type_tag, values_tag, data_end, line_end}
+use Rattle.cstn_save.proofs.TokenLemmas.{next_token, text_piece, graphml_tag, graph_tag, node_closed, node_open, node_end_tag, edge_open, edge_end_tag, deadline_tag, obs_tag, reaction_tag, type_tag, values_tag, data_end, line_end}
 
 -- the names of the elements around a line
 abbrev pub around : List (List ℕ)
 around = codes "graph" ∷ codes "graphml" ∷ []
 
 -- the bytes in front of the rest make this draft of that one
-pub record Makes (before after : Draft) (at : ℕ) (bytes rest : List ℕ) : Type 0 where
+pub record Makes (before after : DrawnGraph) (at : ℕ) (bytes rest : List ℕ) : Type 0 where
   pub place : ℕ
   pub told : in_graph before (inner (contents around (tokens_after 0 at bytes))) ≡ in_graph after (inner (contents around (tokens_after 0 place rest)))
   pub left : outer (contents around (tokens_after 0 at bytes)) ≡ outer (contents around (tokens_after 0 place rest))
 
 -- the line of a time-point that observes nothing
-pub plain_node : (name rest : List ℕ) (at : ℕ) (draft : Draft) → (nat_lt 0 (length name) && nat_le (length name) 64) ≡ true → node_of name draft ≡ None
+pub plain_node : (name rest : List ℕ) (at : ℕ) (draft : DrawnGraph) → (nat_lt 0 (length name) && nat_le (length name) 64) ≡ true → node_of name draft ≡ None
     → Makes draft (with_node name None draft) at (codes "<node id=" ++ 34 ∷ (escaped_name name ++ 34 ∷ 47 ∷ 62 ∷ 10 ∷ 60 ∷ rest)) (60 ∷ rest)
 unfolding contents read_by
 plain_node name rest at draft sized fresh =
@@ -56,10 +57,10 @@ values_read = resolved_plain (codes "LabeledValues") refl
 deadline_read : resolved (codes "Deadline") ≡ Some (codes "Deadline")
 deadline_read = resolved_plain (codes "Deadline") refl
 
--- the line of a time-point that observes a proposition
-pub observing_node : (name rest : List ℕ) (l p at : ℕ) (draft : Draft) → (nat_lt 0 (length name) && nat_le (length name) 64) ≡ true → node_of name draft ≡ None
+-- the line of a time-point that observes a proposition and reacts after a tick
+pub observing_node : (name rest : List ℕ) (l p at : ℕ) (draft : DrawnGraph) → (nat_lt 0 (length name) && nat_le (length name) 64) ≡ true → node_of name draft ≡ None
     → list_all (λ c. not (c == 60)) (l ∷ []) ≡ true → list_all (λ c. not (c == 38)) (l ∷ []) ≡ true → trimmed (l ∷ []) ≡ l ∷ [] → prop_of l ≡ Some p
-    → Makes draft (with_node name (Some p) draft) at (codes "<node id=" ++ 34 ∷ (escaped_name name ++ 34 ∷ 62 ∷ (codes "<data key=\"Obs\">" ++ l ∷ (codes "</data></node>\n" ++ 60 ∷ rest)))) (60 ∷ rest)
+    → Makes draft (with_node name (Some (record { prop = p; reaction = 1 })) draft) at (codes "<node id=" ++ 34 ∷ (escaped_name name ++ 34 ∷ 62 ∷ (codes "<data key=\"Obs\">" ++ l ∷ (codes "</data></node>\n" ++ 60 ∷ rest)))) (60 ∷ rest)
 unfolding contents read_by
 observing_node name rest l p at draft sized fresh h k trims letter =
     let t1 = next_token 60 (codes "node id=" ++ 34 ∷ (escaped_name name ++ 34 ∷ 62 ∷ (codes "<data key=\"Obs\">" ++ l ∷ (codes "</data></node>\n" ++ 60 ∷ rest)))) (codes "<data key=\"Obs\">" ++ l ∷ (codes "</data></node>\n" ++ 60 ∷ rest)) at _ (node_open name (codes "<data key=\"Obs\">" ++ l ∷ (codes "</data></node>\n" ++ 60 ∷ rest))) in
@@ -74,11 +75,43 @@ observing_node name rest l p at draft sized fresh h k trims letter =
       left = rw (t1.1, t2.1, t3.1, t4.1, t5.1, t6.1) refl;
     }
 
+reaction_read : resolved (codes "Reaction") ≡ Some (codes "Reaction")
+reaction_read = resolved_plain (codes "Reaction") refl
+
+-- the line of a time-point that observes a proposition and has another reaction
+pub reacting_node : (name ds rest : List ℕ) (l p d ticks at : ℕ) (draft : DrawnGraph) → (nat_lt 0 (length name) && nat_le (length name) 64) ≡ true → node_of name draft ≡ None
+    → list_all (λ c. not (c == 60)) (l ∷ []) ≡ true → list_all (λ c. not (c == 38)) (l ∷ []) ≡ true → trimmed (l ∷ []) ≡ l ∷ [] → prop_of l ≡ Some p
+    → list_all (λ c. not (c == 60)) (d ∷ ds) ≡ true → list_all (λ c. not (c == 38)) (d ∷ ds) ≡ true → trimmed (d ∷ ds) ≡ d ∷ ds → reaction_in (d ∷ ds) ≡ Some ticks
+    → Makes draft (with_node name (Some (record { prop = p; reaction = ticks })) draft) at
+    (codes "<node id=" ++ 34 ∷ (escaped_name name ++ 34 ∷ 62 ∷ (codes "<data key=\"Obs\">" ++ l ∷ (codes "</data><data key=\"Reaction\">" ++ d ∷ (ds ++ (codes "</data></node>\n" ++ 60 ∷ rest)))))) (60 ∷ rest)
+unfolding contents read_by
+reacting_node name ds rest l p d ticks at draft sized fresh h k trims letter few plain short number =
+    let r6 : List ℕ = codes "</node>\n" ++ 60 ∷ rest in
+    let r5 : List ℕ = codes "</data></node>\n" ++ 60 ∷ rest in
+    let r4 : List ℕ = d ∷ (ds ++ r5) in
+    let r3 : List ℕ = codes "<data key=\"Reaction\">" ++ r4 in
+    let r2 : List ℕ = codes "</data>" ++ r3 in
+    let r1 : List ℕ = codes "<data key=\"Obs\">" ++ l ∷ r2 in
+    let t1 = next_token 60 (codes "node id=" ++ 34 ∷ (escaped_name name ++ 34 ∷ 62 ∷ r1)) r1 at _ (node_open name r1) in
+    let t2 = next_token 60 (codes "data key=\"Obs\">" ++ (l ∷ r2)) (l ∷ r2) t1.0 _ (obs_tag (l ∷ r2)) in
+    let t3 = next_token l r2 r2 t2.0 _ (text_piece l [] (codes "/data>" ++ r3) h k) in
+    let t4 = next_token 60 (codes "/data>" ++ r3) r3 t3.0 _ (data_end r3) in
+    let t5 = next_token 60 (codes "data key=\"Reaction\">" ++ r4) r4 t4.0 _ (reaction_tag r4) in
+    let t6 = next_token d (ds ++ r5) r5 t5.0 _ (text_piece d ds (codes "/data></node>\n" ++ 60 ∷ rest) few plain) in
+    let t7 = next_token 60 (codes "/data>" ++ r6) r6 t6.0 _ (data_end r6) in
+    let t8 = next_token 60 (codes "/node>" ++ (10 ∷ 60 ∷ rest)) (10 ∷ 60 ∷ rest) t7.0 _ (node_end_tag (10 ∷ 60 ∷ rest)) in
+    let t9 = next_token 10 (60 ∷ rest) (60 ∷ rest) t8.0 _ (line_end rest) in
+    record {
+      place = t9.0;
+      told = rw (t1.1, t2.1, t3.1, t4.1, t5.1, t6.1, t7.1, t8.1, t9.1, obs_read, reaction_read, resolved_plain (l ∷ []) k, resolved_plain (d ∷ ds) plain, trims, short, name_back name, sized, fresh, letter, number) refl;
+      left = rw (t1.1, t2.1, t3.1, t4.1, t5.1, t6.1, t7.1, t8.1, t9.1) refl;
+    }
+
 requirement_read : resolved (codes "requirement") ≡ Some (codes "requirement")
 requirement_read = resolved_plain (codes "requirement") refl
 
 -- the line of a constraint
-pub edge_made : (source target raw rest : List ℕ) (from to at : ℕ) (v : ℤ) (a : Label) (draft : Draft)
+pub edge_made : (source target raw rest : List ℕ) (from to at : ℕ) (v : ℤ) (a : Label) (draft : DrawnGraph)
     → list_all (λ c. not (c == 60)) (123 ∷ raw) ≡ true → list_all (λ c. not (c == 38)) (123 ∷ raw) ≡ true → trimmed (123 ∷ raw) ≡ 123 ∷ raw
     → values_of (123 ∷ raw) ≡ Some (record { most = v; label = Some a } ∷ []) → node_of source draft ≡ Some from → node_of target draft ≡ Some to
     → Makes draft (with_constraint (record { from = from; to = to; most = v; label = a }) draft) at
@@ -109,7 +142,7 @@ edge_made source target raw rest from to at v a draft h k trims values is_from i
 
 -- the line of the deadline
 pub deadline_made : (d n : ℕ) (ds rest : List ℕ) (at : ℕ) → list_all (λ c. not (c == 60)) (d ∷ ds) ≡ true → list_all (λ c. not (c == 38)) (d ∷ ds) ≡ true → trimmed (d ∷ ds) ≡ d ∷ ds → short_number 4294967296 (d ∷ ds) ≡ Some n
-    → Makes empty_draft (with_deadline (record { key = codes "Deadline"; at = at; value = d ∷ ds }) n empty_draft) at (codes "<data key=\"Deadline\">" ++ d ∷ (ds ++ (codes "</data>\n" ++ 60 ∷ rest))) (60 ∷ rest)
+    → Makes empty_graph (with_deadline (record { key = codes "Deadline"; at = at; value = d ∷ ds }) n empty_graph) at (codes "<data key=\"Deadline\">" ++ d ∷ (ds ++ (codes "</data>\n" ++ 60 ∷ rest))) (60 ∷ rest)
 unfolding contents read_by
 deadline_made d n ds rest at h k trims number =
     let r2 : List ℕ = codes "</data>\n" ++ 60 ∷ rest in
@@ -125,22 +158,22 @@ deadline_made d n ds rest at h k trims number =
     }
 
 -- one after the other
-pub then : {a b c : Draft} {at : ℕ} {x y z : List ℕ} → Makes a b at x y → ((place : ℕ) → Makes b c place y z) → Makes a c at x z
+pub then : {a b c : DrawnGraph} {at : ℕ} {x y z : List ℕ} → Makes a b at x y → ((place : ℕ) → Makes b c place y z) → Makes a c at x z
 then m next = let n = next m.place in record { place = n.place; told = m.told ∙ n.told; left = m.left ∙ n.left }
 
 -- what the contents left of the graph, the root and the document make of a draft
-abbrev pub ending : Draft → List Content → Result Draft Refusal
+abbrev pub ending : DrawnGraph → List Content → Result DrawnGraph Refusal
 ending d cs = (((in_graph d (inner cs) >>= λ draft. Ok (Some draft)) >>= λ seen. read_by root_reading seen (inner (outer cs))) >>= λ draft. Ok (Some draft)) >>= λ seen. read_by document_reading seen (inner (outer (outer cs)))
 
-pub makes_ending : {a b : Draft} {at : ℕ} {x y : List ℕ} → (m : Makes a b at x y) → ending a (contents around (tokens_after 0 at x)) ≡ ending b (contents around (tokens_after 0 m.place y))
+pub makes_ending : {a b : DrawnGraph} {at : ℕ} {x y : List ℕ} → (m : Makes a b at x y) → ending a (contents around (tokens_after 0 at x)) ≡ ending b (contents around (tokens_after 0 m.place y))
 makes_ending m = rw (m.told, m.left) refl
 
-pub tail_ending : (d : Draft) (at : ℕ) → ending d (contents around (tokens_after 0 at tail)) ≡ Ok d
+pub tail_ending : (d : DrawnGraph) (at : ℕ) → ending d (contents around (tokens_after 0 at tail)) ≡ Ok d
 unfolding contents read_by tokens_after resolved_after bytes_piece_at tail_at
 tail_ending d at = refl
 
 -- the lines in front of the deadline
-pub head_ending : (rest : List ℕ) → (place : ℕ) × (in_document (content_of (tokens (codes "<?xml version=\"1.0\" encoding=\"UTF-8\"?>\n<graphml>\n<graph edgedefault=\"directed\">\n" ++ 60 ∷ rest))) ≡ ending empty_draft (contents around (tokens_after 0 place (60 ∷ rest))))
+pub head_ending : (rest : List ℕ) → (place : ℕ) × (in_document (content_of (tokens (codes "<?xml version=\"1.0\" encoding=\"UTF-8\"?>\n<graphml>\n<graph edgedefault=\"directed\">\n" ++ 60 ∷ rest))) ≡ ending empty_graph (contents around (tokens_after 0 place (60 ∷ rest))))
 unfolding contents read_by past_first
 head_ending rest =
     let r4 : List ℕ = 60 ∷ rest in

@@ -10,7 +10,7 @@ use Rattle.std.proofs.lemmas.Fmt.{digits_decimal, digits_value-decimal, decimal_
 use Rattle.cstn_text.specs.Numbers.{printed_number, printed_value}
 use Rattle.cstn_text.proofs.NumberLemmas.{digits}
 use Rattle.cstn_markup.specs.Bytes.{number_after}
-use Rattle.cstn_graphml.specs.Numbers.{short_number, integer_text, past_minus}
+use Rattle.cstn_data.specs.NumberTexts.{short_number, few_ticks, reaction_in, integer_text, past_minus}
 
 digit_is : (d : ℕ) → is_ascii_digit d ≡ true → is_digit d 10 ≡ true
 digit_is d h = grind arith
@@ -43,6 +43,19 @@ short_back limit n small low =
 
 pub deadline_back : (n : ℕ) → n < 2 ^ 32 → short_number (2 ^ 32) (printed_number n) ≡ Some n
 deadline_back n small = short_back (2 ^ 32) n small (omega arith)
+
+not_empty : (bytes : List ℕ) (n : ℕ) → 0 < length bytes → few_ticks bytes ≡ Some n → reaction_in bytes ≡ Some n
+not_empty [] n some e = absurd (omega arith)
+not_empty (b ∷ bytes) n some e = e
+
+-- a reaction is read back
+pub reaction_back : (n : ℕ) → 0 < n → n ≤ 1000 → reaction_in (printed_number n) ≡ Some n
+reaction_back n some soon =
+    let n64 : n < 2 ^ 64 = omega arith in
+    let short : length (decimal n) ≤ 4 = length-decimal-le 4 n (omega arith) (omega arith) n64 in
+    let few : nat_le (length (decimal n)) 4 ≡ true = grind arith in
+    let above : nat_lt 0 n ≡ true = grind arith in
+    not_empty (decimal n) n (decimal_nonempty n n64) (rw (few, short_back 1001 n (omega arith) (omega arith), above) refl)
 
 no_minus : (bytes : List ℕ) → list_all is_ascii_digit bytes ≡ true → past_minus bytes ≡ None
 no_minus [] h = refl

@@ -14,9 +14,10 @@ use Rattle.std.proofs.lemmas.Str.{IsUtf8-append, IsUtf8-encode, IsUtf8-nil, IsUt
 use Rattle.cstn_markup.proofs.Utf8.{past_ascii}
 use Rattle.cstn_markup.proofs.Resolving.{cut}
 use Rattle.cstn_text.specs.Numbers.{printed_number, printed_value}
-use Rattle.cstn_save.specs.Canonical.{is_numbered, escaped_byte, escaped_name, literal, literals_below, or_empty, document_label, head, node_end, node_line, nodes_below, edge_tag, edge_data, edge_line, edges, tail}
+use Rattle.cstn_graphml.specs.DrawnGraph.{Observation}
+use Rattle.cstn_save.specs.Canonical.{is_numbered, escaped_byte, escaped_name, literal, literals_below, or_empty, document_label, head, reaction_data, node_end, node_line, nodes_below, edge_tag, edge_data, edge_line, edges, tail}
 use Rattle.cstn_net.specs.Networks.{Constraint}
-use Rattle.cstn_save.proofs.WholeLemmas.{IsProp}
+use Rattle.cstn_save.proofs.WholeLemmas.{IsInReach}
 use Rattle.cstn_save.proofs.NumberTextLemmas.{decimal_digits}
 use Rattle.cstn_save.proofs.RunLemmas.{all_for, both_all}
 
@@ -128,11 +129,28 @@ edge_utf8 source target v a s t fits =
     (five (codes "<data key=\"Type\">requirement</data><data key=\"LabeledValues\">{(") (printed_value v) (codes ", ") (document_label a) (codes ")}</data></edge>\n")
     (ascii_utf8 (codes "<data key=\"Type\">requirement</data><data key=\"LabeledValues\">{(") refl) (value_utf8 v fits) (ascii_utf8 (codes ", ") refl) (label_utf8 a) (ascii_utf8 (codes ")}</data></edge>\n") refl))
 
-node_end_utf8 : (o : Option ℕ) → IsProp o → IsUtf8 (node_end o)
-node_end_utf8 None small = ascii_utf8 (codes "\"/>\n") refl
-node_end_utf8 (Some p) small = both (codes "\"><data key=\"Obs\">") (letter_of p ∷ codes "</data></node>\n") (ascii_utf8 (codes "\"><data key=\"Obs\">") refl) (both (letter_of p ∷ []) (codes "</data></node>\n") (single (letter_of p) (letter_low p small)) (ascii_utf8 (codes "</data></node>\n") refl))
+or_none : (b : Bool) (text : List ℕ) → IsUtf8 text → IsUtf8 (if b then [] else text)
+or_none true text u = IsUtf8-nil
+or_none false text u = u
 
-pub nodes_utf8 : (names : List (List ℕ)) (observes : List (Option ℕ)) (n : ℕ) → ((i : ℕ) → i < n → IsUtf8 (slice_index_or names i []) × IsProp (slice_index_or observes i None)) → IsUtf8 (nodes_below names observes n)
+reaction_utf8 : (ticks : ℕ) → ticks < 2 ^ 64 → IsUtf8 (reaction_data ticks)
+reaction_utf8 ticks small =
+    or_none (ticks == 1) (codes "<data key=\"Reaction\">" ++ printed_number ticks ++ codes "</data>")
+    (three (codes "<data key=\"Reaction\">") (printed_number ticks) (codes "</data>") (ascii_utf8 (codes "<data key=\"Reaction\">") refl)
+    (ascii_utf8 (decimal ticks) (all_for is_ascii_digit (λ c. nat_lt c 128) (decimal ticks) digit_low (decimal_digits ticks small)))
+    (ascii_utf8 (codes "</data>") refl))
+
+node_end_utf8 : (o : Option Observation) → IsInReach o → IsUtf8 (node_end o)
+node_end_utf8 None small = ascii_utf8 (codes "\"/>\n") refl
+node_end_utf8 (Some o) reach =
+    both (codes "\"><data key=\"Obs\">" ++ letter_of o.prop ∷ codes "</data>" ++ reaction_data o.reaction) (codes "</node>\n")
+    (both (codes "\"><data key=\"Obs\">" ++ letter_of o.prop ∷ codes "</data>") (reaction_data o.reaction)
+    (both (codes "\"><data key=\"Obs\">") (letter_of o.prop ∷ codes "</data>") (ascii_utf8 (codes "\"><data key=\"Obs\">") refl)
+    (both (letter_of o.prop ∷ []) (codes "</data>") (single (letter_of o.prop) (letter_low o.prop reach.0)) (ascii_utf8 (codes "</data>") refl)))
+    (reaction_utf8 o.reaction (omega (arith, reach.2))))
+    (ascii_utf8 (codes "</node>\n") refl)
+
+pub nodes_utf8 : (names : List (List ℕ)) (observes : List (Option Observation)) (n : ℕ) → ((i : ℕ) → i < n → IsUtf8 (slice_index_or names i []) × IsInReach (slice_index_or observes i None)) → IsUtf8 (nodes_below names observes n)
 unfolding nodes_below
 nodes_utf8 names observes zero each = IsUtf8-nil
 nodes_utf8 names observes (suc n) each =

@@ -49,6 +49,10 @@ pub obs_tag : (rest : List ℕ) → piece_at (codes "<data key=\"Obs\">" ++ rest
 unfolding tail_at resolved_after bytes_piece_at
 obs_tag rest = refl
 
+pub reaction_tag : (rest : List ℕ) → piece_at (codes "<data key=\"Reaction\">" ++ rest) ≡ Some (Some (Kind.start_tag (codes "data") (record { name = codes "key"; raw = codes "Reaction" } ∷ []) false), rest)
+unfolding tail_at resolved_after bytes_piece_at
+reaction_tag rest = refl
+
 pub type_tag : (rest : List ℕ) → piece_at (codes "<data key=\"Type\">" ++ rest) ≡ Some (Some (Kind.start_tag (codes "data") (record { name = codes "key"; raw = codes "Type" } ∷ []) false), rest)
 unfolding tail_at resolved_after bytes_piece_at
 type_tag rest = refl

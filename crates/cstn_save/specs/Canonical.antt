@@ -1,10 +1,11 @@
 -- The canonical document of a network.
-use Rattle.std.specs.Prelude.{ℕ, zero, suc, Bool, ◌&&◌, ◌||◌, ◌==◌, nat_le, List, [], ◌∷◌, ◌++◌, slice_index_or, flat_map, Option, Some, None, if◌then◌else◌, codes, ℤ}
+use Rattle.std.specs.Prelude.{ℕ, zero, suc, Bool, ◌&&◌, ◌||◌, ◌==◌, nat_le, List, [], ◌∷◌, ◌++◌, slice_index_or, map, flat_map, Option, Some, None, if◌then◌else◌, codes, ℤ}
 use Rattle.cstn_label.specs.declared.marks.Mark.{Mark}
 use Rattle.cstn_label.specs.declared.marks.Mark.TheVariants.{Absent, Yes, No, Unknown}
 use Rattle.cstn_label.specs.Labels.{Label}
 use Rattle.cstn_label.specs.Letters.{letter_of}
 use Rattle.cstn_net.specs.Networks.{Network, Constraint, count}
+use Rattle.cstn_graphml.specs.DrawnGraph.{Observation}
 use Rattle.cstn_text.specs.Numbers.{printed_number, printed_value}
 
 -- a byte that is written by its number: from 01 to 1F hexadecimal, and 7F
@@ -52,17 +53,30 @@ head deadline =
     codes "<?xml version=\"1.0\" encoding=\"UTF-8\"?>\n<graphml>\n<graph edgedefault=\"directed\">\n<data key=\"Deadline\">"
     ++ printed_number deadline ++ codes "</data>\n"
 
+-- what is observed has its reaction
+abbrev pub observed_by : (ℕ → ℕ) → Option ℕ → Option Observation
+observed_by reaction (Some p) = Some (record { prop = p; reaction = reaction p })
+observed_by reaction None = None
+
+-- what each time-point observes, and its reaction
+abbrev pub observations : Network → List (Option Observation)
+observations net = map (observed_by net.reaction) net.observes
+
+-- the data of a reaction, of which there is none for a tick
+abbrev pub reaction_data : ℕ → List ℕ
+reaction_data ticks = if ticks == 1 then [] else codes "<data key=\"Reaction\">" ++ printed_number ticks ++ codes "</data>"
+
 -- what follows the name in the line of a time-point, by what it observes
-abbrev pub node_end : Option ℕ → List ℕ
+abbrev pub node_end : Option Observation → List ℕ
 node_end None = codes "\"/>\n"
-node_end (Some p) = codes "\"><data key=\"Obs\">" ++ letter_of p ∷ codes "</data></node>\n"
+node_end (Some o) = codes "\"><data key=\"Obs\">" ++ letter_of o.prop ∷ codes "</data>" ++ reaction_data o.reaction ++ codes "</node>\n"
 
 -- the line of a time-point
-abbrev pub node_line : List ℕ → Option ℕ → List ℕ
-node_line name observes = codes "<node id=\"" ++ escaped_name name ++ node_end observes
+abbrev pub node_line : List ℕ → Option Observation → List ℕ
+node_line name observed = codes "<node id=\"" ++ escaped_name name ++ node_end observed
 
 -- the lines of the first n time-points
-unfoldable pub nodes_below : List (List ℕ) → List (Option ℕ) → ℕ → List ℕ
+unfoldable pub nodes_below : List (List ℕ) → List (Option Observation) → ℕ → List ℕ
 nodes_below names observes zero = []
 nodes_below names observes (suc n) = nodes_below names observes n ++ node_line (slice_index_or names n []) (slice_index_or observes n None)
 
@@ -89,4 +103,4 @@ tail = codes "</graph>\n</graphml>\n"
 
 -- the canonical document: the deadline, the time-points by number, and the constraints by id
 abbrev pub canonical : Network → List (List ℕ) → List ℕ
-canonical net names = head net.deadline ++ nodes_below names net.observes (count net) ++ edges names net.constraints ++ tail
+canonical net names = head net.deadline ++ nodes_below names (observations net) (count net) ++ edges names net.constraints ++ tail

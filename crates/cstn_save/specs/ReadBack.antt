@@ -1,17 +1,18 @@
 -- What the canonical document says of a network.
 use Rattle.std.specs.Prelude.{◌≡◌, ℕ, ◌<◌, List, length, map, Some, slice_get, slice_index_or, codes}
-use Rattle.cstn_net.specs.Networks.{Network, Constraint, count}
+use Rattle.cstn_net.specs.Networks.{Network, Constraint, count, Observes}
 use Rattle.cstn_text.specs.Names.{AreNames}
-use Rattle.cstn_graphml.specs.Draft.{Drawn}
+use Rattle.cstn_graphml.specs.DrawnGraph.{DrawnConstraint}
+use Rattle.cstn_save.specs.Canonical.{observations}
 use Rattle.cstn_graphml.specs.Document.{Parts}
 
 -- a constraint without its id
-abbrev pub drawn : Constraint → Drawn
+abbrev pub drawn : Constraint → DrawnConstraint
 drawn c = record { from = c.from; to = c.to; most = c.most; label = c.label }
 
 -- the names and the network, but for the ids of its constraints
 abbrev pub parts : Network → List (List ℕ) → Parts
-parts net names = record { deadline = net.deadline; names = names; observes = net.observes; constraints = map drawn net.constraints }
+parts net names = record { deadline = net.deadline; names = names; observes = observations net; constraints = map drawn net.constraints }
 
 -- one name for each time-point, all different, and the first is `Z`
 pub record AreNamesOf (net : Network) (names : List (List ℕ)) : Type 0 where
@@ -22,3 +23,10 @@ pub record AreNamesOf (net : Network) (names : List (List ℕ)) : Type 0 where
 -- the ids are from 0 up, without a gap
 abbrev pub AreNumbered : List Constraint → Type 0
 AreNumbered cs = (k : ℕ) (d : Constraint) → k < length cs → (slice_index_or cs k d).id ≡ k
+
+-- the two networks are one, but for the ids of their constraints and the reactions of what nothing observes
+pub record AreSameButIds (read net : Network) : Type 0 where
+  pub deadline : read.deadline ≡ net.deadline
+  pub observes : read.observes ≡ net.observes
+  pub reaction : (x p : ℕ) → Observes net x p → read.reaction p ≡ net.reaction p
+  pub constraints : map drawn read.constraints ≡ map drawn net.constraints

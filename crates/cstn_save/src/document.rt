@@ -1,13 +1,14 @@
 //! The canonical document.
 
-ghost use Rattle.std.specs.Prelude.{◌≡◌, ◌<◌, ◌++◌, OnOk, IfOk, Ok, Some, None, length, slice_get, codes, map};
+ghost use Rattle.std.specs.Prelude.{◌≡◌, ◌<◌, ◌++◌, OnOk, IfOk, Ok, Some, None, length, slice_get, slice_index_or, codes, map};
 ghost use Rattle.cstn_net.specs.Networks.{count};
 ghost use Rattle.cstn_net.specs.Read.{the_network, the_constraint};
 ghost use Rattle.cstn_graphml.specs.Document.{document};
 ghost use Rattle.cstn_save.specs.ReadBack.{parts};
-ghost use Rattle.cstn_save.specs.Canonical.{canonical, nodes_below, edges, edge_line};
+ghost use Rattle.cstn_save.specs.Canonical.{canonical, observations, nodes_below, edges, edge_line};
+ghost use Rattle.cstn_save.specs.Seen.{observed_seen};
 
-use crate::lines::{push_edge_data, push_edge_tag, push_head, push_node};
+use crate::lines::{Observation, push_edge_data, push_edge_tag, push_head, push_node};
 use cstn_label::NodeId;
 use cstn_net::{Constraint, Network};
 use cstn_text::Names;
@@ -25,54 +26,51 @@ pub fn write(alloc: Global, net: &Network, names: &Names) -> Result<Vec<u8>, All
 {
     prove!(names.count() == net.count() as u32);
     let mut text = Vec::new(alloc);
-    push_head(alloc, &mut text, net.deadline())?;
-    push_nodes(alloc, &mut text, net, names)?;
-    push_edges(alloc, &mut text, net, names)?;
+    push_head(&mut text, net.deadline())?;
+    push_nodes(&mut text, net, names)?;
+    push_edges(&mut text, net, names)?;
     text.extend_from_slice(b"</graph>\n</graphml>\n")?;
     Ok(text)
 }
 
-fn push_nodes(
-    alloc: Global,
-    text: &mut Vec<u8>,
-    net: &Network,
-    names: &Names,
-) -> Result<(), AllocError>
+fn push_nodes(text: &mut Vec<u8>, net: &Network, names: &Names) -> Result<(), AllocError>
     requires { length names.now ≡ count (the_network net.now) }
-    ensures { OnOk result (text.new.items ≡ text.old.items ++ nodes_below names.now (the_network net.now).observes (count (the_network net.now))) }
+    ensures { OnOk result (text.new.items ≡ text.old.items ++ nodes_below names.now (observations (the_network net.now)) (count (the_network net.now))) }
 {
     for x in 0..net.count() {
-        push_node(alloc, text, names.name(NodeId(x)), net.observes(NodeId(x)))?;
+        let x = NodeId(x);
+        push_node(text, names.name(x), observation(net, x))?;
     }
     Ok(())
 }
 
-fn push_edges(
-    alloc: Global,
-    text: &mut Vec<u8>,
-    net: &Network,
-    names: &Names,
-) -> Result<(), AllocError>
+fn observation(net: &Network, x: NodeId) -> Option<Observation>
+    requires { x.0 < count (the_network net.now) }
+    ensures { observed_seen result ≡ slice_index_or (observations (the_network net.now)) x.0 None }
+{
+    let prop = net.observes(x)?;
+    Some(Observation {
+        prop,
+        reaction: net.reaction(prop),
+    })
+}
+
+fn push_edges(text: &mut Vec<u8>, net: &Network, names: &Names) -> Result<(), AllocError>
     requires { length names.now ≡ count (the_network net.now) }
     ensures { OnOk result (text.new.items ≡ text.old.items ++ edges names.now (the_network net.now).constraints) }
 {
     for c in net.constraints() {
-        push_edge(alloc, text, names, c)?;
+        push_edge(text, names, c)?;
     }
     Ok(())
 }
 
-fn push_edge(
-    alloc: Global,
-    text: &mut Vec<u8>,
-    names: &Names,
-    c: &Constraint,
-) -> Result<(), AllocError>
+fn push_edge(text: &mut Vec<u8>, names: &Names, c: &Constraint) -> Result<(), AllocError>
     requires from { c.now.from.0 < length names.now }
     requires to { c.now.to.0 < length names.now }
     ensures { OnOk result (text.new.items ≡ text.old.items ++ edge_line names.now (the_constraint c.now)) }
 {
-    push_edge_tag(alloc, text, names.name(c.from), names.name(c.to))?;
-    push_edge_data(alloc, text, c.most, c.label)?;
+    push_edge_tag(text, names.name(c.from), names.name(c.to))?;
+    push_edge_data(text, c.most, c.label)?;
     Ok(())
 }

@@ -7,32 +7,33 @@ ghost use Rattle.cstn_text.specs.Numbers.{printed_number, printed_value};
 ghost use Rattle.cstn_save.specs.Canonical.{is_numbered, escaped_byte, escaped_name, literal, literals_below, document_label, or_empty};
 
 use cstn_label::{Label, Mark, Prop};
-use std::alloc::{AllocError, Global};
+use itoa::Buffer;
+use std::alloc::AllocError;
 
-pub(crate) fn push_number(alloc: Global, text: &mut Vec<u8>, n: u32) -> Result<(), AllocError>
+pub(crate) fn push_number(text: &mut Vec<u8>, n: u32) -> Result<(), AllocError>
     ensures { OnOk result (text.new.items ≡ text.old.items ++ printed_number n) }
 {
-    let digits = format!(in alloc; "{n}")?;
-    text.extend_from_slice(digits.as_bytes())
+    let mut digits = Buffer::new();
+    text.extend_from_slice(digits.format(n).as_bytes())
 }
 
-pub(crate) fn push_value(alloc: Global, text: &mut Vec<u8>, v: i32) -> Result<(), AllocError>
+pub(crate) fn push_value(text: &mut Vec<u8>, v: i32) -> Result<(), AllocError>
     ensures { OnOk result (text.new.items ≡ text.old.items ++ printed_value v) }
 {
-    let digits = format!(in alloc; "{v}")?;
-    text.extend_from_slice(digits.as_bytes())
+    let mut digits = Buffer::new();
+    text.extend_from_slice(digits.format(v).as_bytes())
 }
 
-pub(crate) fn push_name(alloc: Global, text: &mut Vec<u8>, name: &str) -> Result<(), AllocError>
+pub(crate) fn push_name(text: &mut Vec<u8>, name: &str) -> Result<(), AllocError>
     ensures { OnOk result (text.new.items ≡ text.old.items ++ escaped_name name.now) }
 {
     for b in name.as_bytes() {
-        push_byte(alloc, text, *b)?;
+        push_byte(text, *b)?;
     }
     Ok(())
 }
 
-fn push_byte(alloc: Global, text: &mut Vec<u8>, b: u8) -> Result<(), AllocError>
+fn push_byte(text: &mut Vec<u8>, b: u8) -> Result<(), AllocError>
     ensures { OnOk result (text.new.items ≡ text.old.items ++ escaped_byte b) }
 {
     if b == b'&' {
@@ -48,7 +49,7 @@ fn push_byte(alloc: Global, text: &mut Vec<u8>, b: u8) -> Result<(), AllocError>
         return text.extend_from_slice(b"&quot;");
     }
     if is_numbered(b) {
-        return push_reference(alloc, text, b);
+        return push_reference(text, b);
     }
     text.push(b)?;
     Ok(())
@@ -60,32 +61,32 @@ fn is_numbered(b: u8) -> bool
     b >= 0x01 && b <= 0x1F || b == 0x7F
 }
 
-fn push_reference(alloc: Global, text: &mut Vec<u8>, b: u8) -> Result<(), AllocError>
+fn push_reference(text: &mut Vec<u8>, b: u8) -> Result<(), AllocError>
     ensures { OnOk result (text.new.items ≡ text.old.items ++ (codes "&#" ++ printed_number b ++ codes ";")) }
 {
     text.extend_from_slice(b"&#")?;
-    push_number(alloc, text, b as u32)?;
+    push_number(text, b as u32)?;
     text.extend_from_slice(b";")
 }
 
-pub(crate) fn push_label(alloc: Global, text: &mut Vec<u8>, label: Label) -> Result<(), AllocError>
+pub(crate) fn push_label(text: &mut Vec<u8>, label: Label) -> Result<(), AllocError>
     ensures { OnOk result (text.new.items ≡ text.old.items ++ document_label (marks label)) }
 {
-    let literals = literals(alloc, label)?;
-    if literals.is_empty() {
+    let before = text.len();
+    push_literals(text, label)?;
+    if text.len() == before {
         return text.extend_from_slice("⊡".as_bytes());
     }
-    text.extend_from_slice(&literals)
+    Ok(())
 }
 
-fn literals(alloc: Global, label: Label) -> Result<Vec<u8>, AllocError>
-    ensures { IfOk result (λ text. text.items ≡ literals_below (marks label) 52) }
+fn push_literals(text: &mut Vec<u8>, label: Label) -> Result<(), AllocError>
+    ensures { OnOk result (text.new.items ≡ text.old.items ++ literals_below (marks label) 52) }
 {
-    let mut text = Vec::new(alloc);
     for index in 0..52 {
-        push_literal(&mut text, label, index)?;
+        push_literal(text, label, index)?;
     }
-    Ok(text)
+    Ok(())
 }
 
 fn push_literal(text: &mut Vec<u8>, label: Label, index: u8) -> Result<(), AllocError>

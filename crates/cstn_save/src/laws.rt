@@ -7,14 +7,15 @@ ghost use Rattle.cstn_label.specs.declared.marks.Mark.TheVariants.{Absent};
 ghost use Rattle.cstn_text.specs.Numbers.{printed_number, printed_value};
 ghost use Rattle.cstn_markup.specs.Bytes.{resolved};
 ghost use Rattle.cstn_markup.specs.Tokens.{value_at};
-ghost use Rattle.cstn_graphml.specs.Numbers.{short_number, integer_text};
-ghost use Rattle.cstn_graphml.specs.LabelTexts.{label_of};
-ghost use Rattle.cstn_graphml.specs.ValueTexts.{values_of};
+ghost use Rattle.cstn_data.specs.NumberTexts.{short_number, integer_text};
+ghost use Rattle.cstn_data.specs.LabelTexts.{label_of};
+ghost use Rattle.cstn_data.specs.ValueTexts.{values_of};
 ghost use Rattle.cstn_graphml.specs.Document.{document};
-ghost use Rattle.cstn_net.specs.Networks.{Network, IsWellFormed};
+ghost use Rattle.cstn_net.specs.Networks.{Network, IsWellFormed, Observes};
+ghost use Rattle.cstn_net.specs.declared.errors.NetError.{NetError};
 ghost use Rattle.cstn_save.specs.Canonical.{canonical, escaped_name, document_label};
-ghost use Rattle.cstn_graphml.specs.Networks.{network_of};
-ghost use Rattle.cstn_save.specs.ReadBack.{parts, AreNamesOf, AreNumbered};
+ghost use Rattle.cstn_graphml.specs.Networks.{network_of, IsUnfit};
+ghost use Rattle.cstn_save.specs.ReadBack.{parts, AreNamesOf, AreNumbered, AreSameButIds};
 
 /// An escaped name between quotes is a value of an attribute, and its references put in give the name back.
 #[tactic(auto, using(crate::proofs::EscapedNameLemmas::name_back, crate::proofs::EscapedNameLemmas::name_quoted))]
@@ -38,10 +39,18 @@ pub fn values_are_read_back()
         → values_of (codes "{(" ++ printed_value v ++ codes ", " ++ document_label a ++ codes ")}") ≡ Some (record { most = v; label = Some a } ∷ []) }
 {}
 
-/// Reading the canonical document gives the same names and the same network, with its constraints numbered from 0. It is
-/// the very same where its ids have no gap and each reaction takes a tick.
-#[tactic(auto, using(crate::proofs::LawLemmas::document_back))]
+/// Reading the canonical document gives the same names and the same network, with its constraints numbered from 0, and it isn't
+/// refused. It is the very same network where its ids have no gap and a proposition that nothing observes has a reaction of a tick.
+#[tactic(auto, using(crate::proofs::LawLemmas::document_back, crate::proofs::SameLemmas::same_but_ids))]
 pub fn documents_are_read_back()
     ensures back { (net : Network) (names : List (List ℕ)) → IsWellFormed net → AreNamesOf net names → document (canonical net names) None ≡ Ok (parts net names) }
-    ensures same { (net : Network) (names : List (List ℕ)) → ((p : ℕ) → net.reaction p ≡ 1) → AreNumbered net.constraints → network_of (parts net names) ≡ net }
+    ensures accepted { (net : Network) (names : List (List ℕ)) (error : NetError) → IsWellFormed net → IsUnfit (parts net names) error → ⊥ }
+    ensures same_but_ids { (net : Network) (names : List (List ℕ)) → AreSameButIds (network_of (parts net names)) net }
+    ensures same { (net : Network) (names : List (List ℕ)) → ((p : ℕ) → ((x : ℕ) → Observes net x p → ⊥) → net.reaction p ≡ 1) → AreNumbered net.constraints → network_of (parts net names) ≡ net }
+{}
+
+/// Equal canonical texts are of equal names and of networks that differ in ids alone.
+pub fn canonical_texts_tell_networks_apart()
+    ensures { (net other : Network) (names more : List (List ℕ)) → IsWellFormed net → AreNamesOf net names → IsWellFormed other → AreNamesOf other more
+        → canonical net names ≡ canonical other more → (names ≡ more) × AreSameButIds net other }
 {}

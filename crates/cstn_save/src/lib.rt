@@ -8,7 +8,8 @@ mod lines;
 
 pub use document::write;
 pub use laws::{
-    documents_are_read_back, names_are_read_back, numbers_are_read_back, values_are_read_back,
+    canonical_texts_tell_networks_apart, documents_are_read_back, names_are_read_back,
+    numbers_are_read_back, values_are_read_back,
 };
 
 #[cfg(test)]

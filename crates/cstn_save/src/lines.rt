@@ -1,58 +1,78 @@
 //! The lines of a document.
 
-ghost use Rattle.std.specs.Prelude.{◌≡◌, ◌<◌, ◌++◌, ◌∷◌, [], OnOk, option_map, Some};
+ghost use Rattle.std.specs.Prelude.{◌≡◌, ◌<◌, ◌++◌, ◌∷◌, [], OnOk, Some};
 ghost use Rattle.cstn_label.specs.Read.{marks};
-ghost use Rattle.cstn_save.specs.Canonical.{head, node_line, node_end, edge_tag, edge_data};
+ghost use Rattle.cstn_save.specs.Canonical.{head, node_line, node_end, reaction_data, edge_tag, edge_data};
+ghost use Rattle.cstn_save.specs.Seen.{observed_seen};
 
 use crate::escapes::{push_label, push_name, push_number, push_value};
 use cstn_label::{Label, Prop};
-use std::alloc::{AllocError, Global};
+use std::alloc::AllocError;
 
-pub(crate) fn push_head(alloc: Global, text: &mut Vec<u8>, deadline: u32) -> Result<(), AllocError>
+pub(crate) fn push_head(text: &mut Vec<u8>, deadline: u32) -> Result<(), AllocError>
     ensures { OnOk result (text.new.items ≡ text.old.items ++ head deadline) }
 {
     text.extend_from_slice(
         b"<?xml version=\"1.0\" encoding=\"UTF-8\"?>\n<graphml>\n<graph edgedefault=\"directed\">\n<data key=\"Deadline\">",
     )?;
-    push_number(alloc, text, deadline)?;
+    push_number(text, deadline)?;
     text.extend_from_slice(b"</data>\n")?;
     Ok(())
 }
 
+/// What a time-point observes, and after how many ticks it is known.
+#[derive(Clone, Copy)]
+pub(crate) struct Observation {
+    pub prop: Prop,
+    pub reaction: u32,
+}
+
 pub(crate) fn push_node(
-    alloc: Global,
     text: &mut Vec<u8>,
     name: &str,
-    observes: Option<Prop>,
+    observed: Option<Observation>,
 ) -> Result<(), AllocError>
-    ensures { OnOk result (text.new.items ≡ text.old.items ++ node_line name.now (option_map (λ p. p.index) observes)) }
+    ensures { OnOk result (text.new.items ≡ text.old.items ++ node_line name.now (observed_seen observed)) }
 {
     text.extend_from_slice(b"<node id=\"")?;
-    push_name(alloc, text, name)?;
-    push_node_end(text, observes)?;
+    push_name(text, name)?;
+    push_node_end(text, observed)?;
     Ok(())
 }
 
-fn push_node_end(text: &mut Vec<u8>, observes: Option<Prop>) -> Result<(), AllocError>
-    ensures { OnOk result (text.new.items ≡ text.old.items ++ node_end (option_map (λ p. p.index) observes)) }
+fn push_node_end(text: &mut Vec<u8>, observed: Option<Observation>) -> Result<(), AllocError>
+    ensures { OnOk result (text.new.items ≡ text.old.items ++ node_end (observed_seen observed)) }
 {
-    match observes {
+    match observed {
         None => text.extend_from_slice(b"\"/>\n"),
-        Some(p) => push_observation(text, p),
+        Some(observation) => push_observation(text, observation),
     }
 }
 
-fn push_observation(text: &mut Vec<u8>, p: Prop) -> Result<(), AllocError>
-    ensures { OnOk result (text.new.items ≡ text.old.items ++ node_end (Some p.index)) }
+fn push_observation(text: &mut Vec<u8>, observation: Observation) -> Result<(), AllocError>
+    ensures { OnOk result (text.new.items ≡ text.old.items ++ node_end (observed_seen (Some observation))) }
 {
     text.extend_from_slice(b"\"><data key=\"Obs\">")?;
-    text.push(p.letter())?;
-    text.extend_from_slice(b"</data></node>\n")?;
+    text.push(observation.prop.letter())?;
+    text.extend_from_slice(b"</data>")?;
+    push_reaction(text, observation.reaction)?;
+    text.extend_from_slice(b"</node>\n")?;
+    Ok(())
+}
+
+fn push_reaction(text: &mut Vec<u8>, ticks: u32) -> Result<(), AllocError>
+    ensures { OnOk result (text.new.items ≡ text.old.items ++ reaction_data ticks) }
+{
+    if ticks == 1 {
+        return Ok(());
+    }
+    text.extend_from_slice(b"<data key=\"Reaction\">")?;
+    push_number(text, ticks)?;
+    text.extend_from_slice(b"</data>")?;
     Ok(())
 }
 
 pub(crate) fn push_edge_tag(
-    alloc: Global,
     text: &mut Vec<u8>,
     source: &str,
     target: &str,
@@ -60,25 +80,20 @@ pub(crate) fn push_edge_tag(
     ensures { OnOk result (text.new.items ≡ text.old.items ++ edge_tag source.now target.now) }
 {
     text.extend_from_slice(b"<edge source=\"")?;
-    push_name(alloc, text, source)?;
+    push_name(text, source)?;
     text.extend_from_slice(b"\" target=\"")?;
-    push_name(alloc, text, target)?;
+    push_name(text, target)?;
     text.extend_from_slice(b"\">")?;
     Ok(())
 }
 
-pub(crate) fn push_edge_data(
-    alloc: Global,
-    text: &mut Vec<u8>,
-    most: i32,
-    label: Label,
-) -> Result<(), AllocError>
+pub(crate) fn push_edge_data(text: &mut Vec<u8>, most: i32, label: Label) -> Result<(), AllocError>
     ensures { OnOk result (text.new.items ≡ text.old.items ++ edge_data most (marks label)) }
 {
     text.extend_from_slice(b"<data key=\"Type\">requirement</data><data key=\"LabeledValues\">{(")?;
-    push_value(alloc, text, most)?;
+    push_value(text, most)?;
     text.extend_from_slice(b", ")?;
-    push_label(alloc, text, label)?;
+    push_label(text, label)?;
     text.extend_from_slice(b")}</data></edge>\n")?;
     Ok(())
 }

@@ -84,6 +84,8 @@ fn names_are_escaped(rt: HostRuntime) -> Result<(), Fail> {
     let net = builder.close()?;
     let text = document(&rt, alloc, &net, &names)?;
     assert_eq!(rt; text.as_str(), ESCAPED);
+    let (_, again) = read(alloc, text.as_bytes(), None)?;
+    assert_eq!(rt; again.find("a&<>\"'\n\t\u{7F}\0é"), Some(1));
     Ok(())
 }
 
@@ -106,5 +108,44 @@ fn ids_are_closed_up(rt: HostRuntime) -> Result<(), Fail> {
     };
     assert_eq!(rt; (first.id, first.most), (0, 1));
     assert_eq!(rt; (second.id, second.most), (1, 3));
+    Ok(())
+}
+
+const REACTING: &str = "<?xml version=\"1.0\" encoding=\"UTF-8\"?>
+<graphml>
+<graph edgedefault=\"directed\">
+<data key=\"Deadline\">1000000</data>
+<node id=\"Z\"><data key=\"Obs\">z</data></node>
+<node id=\"P\"><data key=\"Obs\">b</data><data key=\"Reaction\">3</data></node>
+<node id=\"X\"><data key=\"Obs\">A</data><data key=\"Reaction\">1000</data></node>
+<edge source=\"Z\" target=\"X\"><data key=\"Type\">requirement</data><data key=\"LabeledValues\">{(0, A¬bz)}</data></edge>
+</graph>
+</graphml>
+";
+
+#[test]
+fn reactions_are_written_and_read_back(rt: HostRuntime) -> Result<(), Fail> {
+    let alloc = rt.alloc();
+    let (a, b, z) = (prop(&rt, b'A'), prop(&rt, b'b'), prop(&rt, b'z'));
+    let mut names = Names::new(alloc);
+    name(&rt, &mut names, "Z")?;
+    name(&rt, &mut names, "P")?;
+    name(&rt, &mut names, "X")?;
+    let mut builder = Builder::new(alloc, 1_000_000);
+    builder.node(Some(z))?;
+    builder.node(Some(b))?;
+    builder.node(Some(a))?;
+    builder.react(1, 3);
+    builder.react(2, 1000);
+    let label = Label::empty().with(z, Mark::Yes).with(b, Mark::No);
+    builder.constrain(0, 2, 0, label.with(a, Mark::Yes))?;
+    let net = builder.close()?;
+    let text = document(&rt, alloc, &net, &names)?;
+    assert_eq!(rt; text.as_str(), REACTING);
+    let (again, _) = read(alloc, text.as_bytes(), None)?;
+    assert_eq!(rt;
+        (again.reaction(z), again.reaction(b), again.reaction(a)),
+        (1, 3, 1000)
+    );
     Ok(())
 }

@@ -1,0 +1,183 @@
+-- The network that is read back is the one that was written, but for ids.
+use Rattle.std.proofs.Common.{◌≡◌, ℕ, zero, suc, ◌+◌, ◌<◌, ◌≤◌, List, [], ◌∷◌, length, refl, ap, sym, ◌∙◌, arith, Bool, true, false, subst, map, Ok, Result}
+use Rattle.std.specs.Prelude.{Option, Some, None, ◌==◌, slice_index_or, if◌then◌else◌}
+use Rattle.std.specs.List.{All}
+use Rattle.std.proofs.Math.Path.{fun_ext}
+use Rattle.std.proofs.lemmas.Bool.{eqb-true}
+use Rattle.std.proofs.lemmas.List.Elements.{All-tail, All-head, All-cons, All-nil, All-weaker}
+use Rattle.cstn_net.specs.Networks.{Network, Constraint, count, Observes, IsConstraint, IsWellFormed, IsValue}
+use Rattle.cstn_net.specs.declared.errors.NetError.{NetError}
+use Rattle.cstn_net.specs.declared.points.TimePoint.{TimePoint}
+use Rattle.cstn_net.specs.Read.{observed, reaction_of, is_prop}
+use Rattle.cstn_net.proofs.HandedLemmas.{no_fault}
+use Rattle.cstn_graphml.specs.DrawnGraph.{observation, DrawnConstraint}
+use Rattle.cstn_graphml.specs.Document.{Parts, document}
+use Rattle.cstn_graphml.specs.Results.{Refusal}
+use Rattle.cstn_graphml.specs.Networks.{numbered, observed_prop, reaction_by, reaction_among, observation_of, network_of, IsUnfit}
+use Rattle.cstn_graphml.proofs.Built.{made_constraints}
+use Rattle.cstn_save.specs.Canonical.{canonical, observed_by, observations}
+use Rattle.cstn_save.specs.ReadBack.{drawn, parts, AreNamesOf, AreNumbered, AreSameButIds}
+use Rattle.cstn_save.proofs.LawLemmas.{document_back}
+
+observed_back : (reaction : ℕ → ℕ) (o : Option ℕ) → observed_prop (observed_by reaction o) ≡ o
+observed_back reaction None = refl
+observed_back reaction (Some p) = refl
+
+props_back : (reaction : ℕ → ℕ) (os : List (Option ℕ)) → map observed_prop (map (observed_by reaction) os) ≡ os
+props_back reaction [] = refl
+props_back reaction (o ∷ os) = rw (observed_back reaction o, props_back reaction os) refl
+
+differs : (q p : ℕ) → (q == p) ≡ false → Some q ≡ Some p → ⊥
+differs q p e same = let is : q ≡ p = cc in grind arith
+
+here_or_later : (reaction : ℕ → ℕ) (q p later : ℕ) (b : Bool) → (q == p) ≡ b → (b ≡ false → later ≡ reaction p) → reaction_by (observed_by reaction (Some q)) p later ≡ reaction p
+here_or_later reaction q p later true e next = rw e (ap reaction (eqb-true q p e))
+here_or_later reaction q p later false e next = rw e (next refl)
+
+-- the reaction of an observed proposition
+reaction_found : (reaction : ℕ → ℕ) (os : List (Option ℕ)) (x p : ℕ) → slice_index_or os x None ≡ Some p → reaction_among (map (observed_by reaction) os) p ≡ reaction p
+reaction_found reaction [] x p e = absurd (cc)
+reaction_found reaction (None ∷ os) zero p e = absurd (cc)
+reaction_found reaction (None ∷ os) (suc x) p e = reaction_found reaction os x p e
+reaction_found reaction (Some q ∷ os) zero p e = here_or_later reaction q p (reaction_among (map (observed_by reaction) os) p) (q == p) refl (λ other. absurd (differs q p other e))
+reaction_found reaction (Some q ∷ os) (suc x) p e = here_or_later reaction q p (reaction_among (map (observed_by reaction) os) p) (q == p) refl (λ other. reaction_found reaction os x p e)
+
+nowhere : (o : Option ℕ) (os : List (Option ℕ)) (p : ℕ) → (o ≡ Some p → ⊥) → ((x : ℕ) → slice_index_or os x None ≡ Some p → ⊥) → (x : ℕ) → slice_index_or (o ∷ os) x None ≡ Some p → ⊥
+nowhere o os p first later zero e = first e
+nowhere o os p first later (suc x) e = later x e
+
+-- and of every other one, where it is of a tick
+reaction_all : (reaction : ℕ → ℕ) (os : List (Option ℕ)) (p : ℕ) → (((x : ℕ) → slice_index_or os x None ≡ Some p → ⊥) → reaction p ≡ 1) → reaction_among (map (observed_by reaction) os) p ≡ reaction p
+reaction_all reaction [] p tick = sym (tick (λ x e. absurd (cc)))
+reaction_all reaction (None ∷ os) p tick = reaction_all reaction os p (λ none. tick (nowhere None os p (λ e. absurd (cc)) none))
+reaction_all reaction (Some q ∷ os) p tick =
+    here_or_later reaction q p (reaction_among (map (observed_by reaction) os) p) (q == p) refl
+    (λ other. reaction_all reaction os p (λ none. tick (nowhere (Some q) os p (differs q p other) none)))
+
+drawn_numbered : (j : ℕ) (ds : List DrawnConstraint) → map drawn (numbered j ds) ≡ ds
+drawn_numbered j [] = refl
+drawn_numbered j (d ∷ ds) = ap (λ (es : List DrawnConstraint). d ∷ es) (drawn_numbered (j + 1) ds)
+
+-- the network that is read
+pub same_but_ids : (net : Network) (names : List (List ℕ)) → AreSameButIds (network_of (parts net names)) net
+same_but_ids net names = record {
+  deadline = refl;
+  observes = props_back net.reaction net.observes;
+  reaction = λ x p o. reaction_found net.reaction net.observes x p o.what;
+  constraints = drawn_numbered 0 (map drawn net.constraints);
+}
+
+renumbered : (j : ℕ) (cs : List Constraint) → ((k : ℕ) (d : Constraint) → k < length cs → (slice_index_or cs k d).id ≡ j + k) → numbered j (map drawn cs) ≡ cs
+renumbered j [] h = refl
+renumbered j (c ∷ cs) h =
+    let here : j ≡ c.id = omega (arith, h 0 c (omega arith)) in
+    ap (λ i. record { id = i; from = c.from; to = c.to; most = c.most; label = c.label } ∷ numbered (j + 1) (map drawn cs)) here
+    ∙ ap (λ (ds : List Constraint). c ∷ ds) (renumbered (j + 1) cs (λ k d i. omega (arith, h (suc k) d (omega (arith, i)))))
+
+same_network : (h k : ℕ) (os ps : List (Option ℕ)) (r s : ℕ → ℕ) (cs ds : List Constraint) → h ≡ k → os ≡ ps → r ≡ s → cs ≡ ds
+    → ◌≡◌ {A = Network} (record { deadline = h; observes = os; reaction = r; constraints = cs }) (record { deadline = k; observes = ps; reaction = s; constraints = ds })
+same_network h k os ps r s cs ds a b c d = rw (a, b, c, d) refl
+
+-- it is the very same, where ids have no gap and what nothing observes has a reaction of a tick
+pub network_back : (net : Network) (names : List (List ℕ)) → ((p : ℕ) → ((x : ℕ) → Observes net x p → ⊥) → net.reaction p ≡ 1) → AreNumbered net.constraints → network_of (parts net names) ≡ net
+network_back net names ticks ids =
+    same_network net.deadline net.deadline _ net.observes _ net.reaction _ net.constraints refl (props_back net.reaction net.observes)
+    (fun_ext (λ p. reaction_all net.reaction net.observes p (λ none. ticks p (λ x o. none x o.what))))
+    (renumbered 0 net.constraints (λ k d i. omega (arith, ids k d i)))
+
+-- what holds of constraints whatever their ids
+all_numbered : (P : Constraint → Type 0) → ((i : ℕ) (c : Constraint) → P c → P (record { id = i; from = c.from; to = c.to; most = c.most; label = c.label }))
+    → (j : ℕ) (cs : List Constraint) → All P cs → All P (numbered j (map drawn cs))
+all_numbered P keeps j [] all = All-nil P
+all_numbered P keeps j (c ∷ cs) all = All-cons P _ _ (keeps j c (All-head P c cs all)) (all_numbered P keeps (j + 1) cs (All-tail P c cs all))
+
+numbered_length : (j : ℕ) (cs : List Constraint) → length (numbered j (map drawn cs)) ≡ length cs
+numbered_length j [] = refl
+numbered_length j (c ∷ cs) = omega (arith, numbered_length (j + 1) cs)
+
+numbered_id : (j : ℕ) (ds : List DrawnConstraint) (k : ℕ) (c : Constraint) → k < length (numbered j ds) → (slice_index_or (numbered j ds) k c).id ≡ j + k
+numbered_id j [] k c h = absurd (omega arith)
+numbered_id j (d ∷ ds) zero c h = omega arith
+numbered_id j (d ∷ ds) (suc k) c h = omega (arith, numbered_id (j + 1) ds k c (omega arith))
+
+-- the network that is read is well-formed, as the one that was written
+well_formed_back : (net : Network) (names : List (List ℕ)) → IsWellFormed net → IsWellFormed (network_of (parts net names))
+well_formed_back net names wf =
+    let read : Network = network_of (parts net names) in
+    let same : read.observes ≡ net.observes = props_back net.reaction net.observes in
+    let size : count read ≡ count net = ap length same in
+    let back : (x p : ℕ) → Observes read x p → Observes net x p = λ x p o. record { what = sym (ap (λ os. slice_index_or os x None) same) ∙ o.what } in
+    let forth : (x p : ℕ) → Observes net x p → Observes read x p = λ x p o. record { what = ap (λ os. slice_index_or os x None) same ∙ o.what } in
+    let reacts : (x p : ℕ) → Observes read x p → net.reaction p ≡ read.reaction p = λ x p o. sym (reaction_found net.reaction net.observes x p (back x p o).what) in
+    record {
+      network = record {
+        origin = subst (λ n. 0 < n) (sym size) wf.network.origin;
+        one_observer = λ x y p a b. wf.network.one_observer x y p (back x p a) (back y p b);
+        reacts = λ x p o. subst (λ n. 0 < n) (reacts x p o) (wf.network.reacts x p (back x p o));
+        constraints = all_numbered (IsConstraint read) (λ i c h. record { from = h.from; to = h.to; plain = h.plain; observed = h.observed }) 0 net.constraints
+            (All-weaker (IsConstraint net) (IsConstraint read)
+            (λ c h. record { from = subst (λ n. c.from < n) (sym size) h.from; to = subst (λ n. c.to < n) (sym size) h.to; plain = h.plain; observed = λ p marked. let o = h.observed p marked in (o.0, forth o.0 p o.1) })
+            net.constraints wf.network.constraints);
+      };
+      few_points = omega (arith, size, wf.few_points);
+      letters = λ x p o. wf.letters x p (back x p o);
+      soon = λ x p o. subst (λ n. n ≤ 1000) (reacts x p o) (wf.soon x p (back x p o));
+      few_constraints = omega (arith, numbered_length 0 net.constraints, wf.few_constraints);
+      ascending = λ i j d below inside. omega (arith, below, numbered_id 0 (map drawn net.constraints) i d (omega (arith, below, inside)), numbered_id 0 (map drawn net.constraints) j d inside);
+      values = all_numbered (λ c. IsValue c.most) (λ i c h. h) 0 net.constraints wf.values;
+      in_time = wf.in_time;
+    }
+
+prop_kept : (prop : Option ℕ) (ticks : ℕ) → prop ≡ observed_prop (observation prop ticks)
+prop_kept (Some p) ticks = refl
+prop_kept None ticks = refl
+
+props_kept : (points : List TimePoint) → map observed points ≡ map observed_prop (map observation_of points)
+props_kept [] = refl
+props_kept (t ∷ points) = rw (sym (prop_kept (observed t) t.reaction), props_kept points) refl
+
+reaction_kept : (prop : Option ℕ) (ticks p later : ℕ) → (if is_prop p prop then ticks else later) ≡ reaction_by (observation prop ticks) p later
+reaction_kept (Some q) ticks p later = refl
+reaction_kept None ticks p later = refl
+
+reactions_kept : (points : List TimePoint) (p : ℕ) → reaction_of points p ≡ reaction_among (map observation_of points) p
+reactions_kept [] p = refl
+reactions_kept (t ∷ points) p =
+    ap (λ later. if is_prop p (observed t) then t.reaction else later) (reactions_kept points p) ∙ reaction_kept (observed t) t.reaction p (reaction_among (map observation_of points) p)
+
+-- parts that make a well-formed network have no fault
+pub fits : (parts : Parts) (error : NetError) → IsWellFormed (network_of parts) → IsUnfit parts error → ⊥
+fits parts error good unfit =
+    no_fault unfit.builder (network_of parts) good
+    (record {
+      deadline = unfit.parts_are.deadline;
+      observes = props_kept unfit.builder.points ∙ ap (map observed_prop) unfit.parts_are.observes;
+      reaction = λ p. reactions_kept unfit.builder.points p ∙ ap (λ os. reaction_among os p) unfit.parts_are.observes;
+      constraints = made_constraints 0 unfit.builder.drafts ∙ ap (numbered 0) unfit.parts_are.constraints;
+    })
+    error unfit.fault.has
+
+-- and so have the parts of a canonical document
+pub accepted : (net : Network) (names : List (List ℕ)) (error : NetError) → IsWellFormed net → IsUnfit (parts net names) error → ⊥
+accepted net names error wf unfit = fits (parts net names) error (well_formed_back net names wf) unfit
+
+parts_are : (a b : Parts) → ◌≡◌ {A = Result Parts Refusal} (Ok a) (Ok b) → a ≡ b
+parts_are a b e = cc
+
+-- one text is the canonical document of one network under one list of names
+pub told_apart : (net other : Network) (names more : List (List ℕ)) → IsWellFormed net → AreNamesOf net names → IsWellFormed other → AreNamesOf other more
+    → canonical net names ≡ canonical other more → (names ≡ more) × AreSameButIds net other
+told_apart net other names more wf is good are same =
+    let read : parts net names ≡ parts other more = parts_are _ _ (sym (document_back net names wf is) ∙ ap (λ text. document text None) same ∙ document_back other more good are) in
+    let seen : observations net ≡ observations other = ap (λ (p : Parts). p.observes) read in
+    let props : net.observes ≡ other.observes = sym (props_back net.reaction net.observes) ∙ ap (map observed_prop) seen ∙ props_back other.reaction other.observes in (
+      ap (λ (p : Parts). p.names) read,
+      record {
+        deadline = ap (λ (p : Parts). p.deadline) read;
+        observes = props;
+        reaction = λ x p o.
+            sym (reaction_found net.reaction net.observes x p (ap (λ os. slice_index_or os x None) props ∙ o.what))
+            ∙ ap (λ os. reaction_among os p) seen ∙ reaction_found other.reaction other.observes x p o.what;
+        constraints = ap (λ (p : Parts). p.constraints) read;
+      },
+    )

@@ -1,7 +1,0 @@
-use Rattle.std.proofs.Common.{◌≡◌}
-use Rattle.cstn_label.specs.Read.{marks}
-use Rattle.cstn_save.specs.Canonical.{literals_below}
-use Rattle.cstn_save.proofs.escapes.literals.Given as goal
-
-abbrev pub invariant-loop-index : goal.invariant-loop-index
-invariant-loop-index l = l.text.items ≡ literals_below (marks l.label) l.index
