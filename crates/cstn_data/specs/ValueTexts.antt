@@ -50,8 +50,8 @@ pairs_by false b bytes found later =
     if b == 125 then when (is_same bytes []) found else
     (when (b == 40) bytes >>= λ inside. pair_at inside >>= λ pair. later pair.1 (found ++ (pair.0 ∷ [])))
 
--- the pairs up to the closing brace, which ends the text, behind those that were found; the first so many bytes belong
--- to what stands before
+-- the pairs up to the closing brace, which ends the text, put behind those that were found; `skip` bytes of a pair that was
+-- read are passed first
 unfoldable pub pairs_after : ℕ → List Pair → List ℕ → Option (List Pair)
 pairs_after skip found [] = None
 pairs_after zero found (b ∷ bytes) = pairs_by (is_separator b) b bytes found (λ skip more. pairs_after skip more bytes)

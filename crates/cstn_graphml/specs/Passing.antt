@@ -15,8 +15,8 @@ unfoldable pub around_all : List (List ℕ) → List Content → List Content
 around_all [] later = later
 around_all (name ∷ names) later = around_all names (outer later)
 
--- From some tokens in the element of this name to later ones, where these elements are open in its place: passing over
--- what is left of them all tells what passing over the rest of the element tells.
+-- Some tokens of the element of this name were read, and now these elements are open in its place: passing over the rest
+-- of them all tells what passing over the rest of the element told.
 pub record Passes (name : List ℕ) (open_names others : List (List ℕ)) (before after : List Token) : Type 0 where
   pub told : passed (inner (contents (name ∷ others) before)) ≡ all_passed open_names (contents (open_names ++ others) after)
   pub left : outer (contents (name ∷ others) before) ≡ around_all open_names (contents (open_names ++ others) after)
