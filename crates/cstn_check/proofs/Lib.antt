@@ -12,6 +12,7 @@ pub mod Ends
 pub mod Reading
 pub mod TurnLemmas
 pub mod Sequences
+pub mod Skips
 pub mod Growing
 pub mod Starts
 pub mod Outcomes
