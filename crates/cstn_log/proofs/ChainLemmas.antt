@@ -124,3 +124,22 @@ first_later test from low end place upto past f = record {
   here = λ h. (past, (f.here h).1);
   none = λ k high inside before t. f.none k (omega arith) inside before t;
 }
+
+-- from a place of a chain to the next
+pub first_next : (test : ℕ → Type 0) (end last from n place : ℕ) (link : ℕ → ℕ) → end < no_place → IsChain test end link last → from ≤ end → n ≤ from →
+    IsFirst test n end place → place < from → (m : ℕ) × (m ≤ from) × IsFirst test m end (link (place + 1))
+first_next test end last from n place link few c upto low f before =
+    let s : place + 1 ≡ suc place = omega arith in
+    let here = f.here (omega arith) in
+    (suc place, omega arith, subst (λ k. IsFirst test (suc place) end (link k)) (sym s) (c.leads (suc place) (omega arith) here.1))
+
+pub next_above : (test : ℕ → Type 0) (end last from n place : ℕ) (link : ℕ → ℕ) → end < no_place → IsChain test end link last → from ≤ end →
+    IsFirst test n end place → place < from → place < link (place + 1)
+next_above test end last from n place link few c upto f before =
+    let s : place + 1 ≡ suc place = omega arith in
+    let here = f.here (omega arith) in
+    let next = c.leads (suc place) (omega arith) here.1 in
+    subst (λ k. place < link k) (sym s) (elim next.within [
+      | inl below ↦ let above = next.here below in omega (arith, above.0)
+      | inr none ↦ omega arith
+    ])

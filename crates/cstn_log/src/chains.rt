@@ -1,9 +1,9 @@
 // Chains of places through a list of entries, which grow with the list.
-ghost use Rattle.std.specs.Prelude.{ℕ, ◌≡◌, ◌+◌, ◌*◌, ◌<◌, ◌≤◌, ◌++◌, ◌∷◌, [], List, length, set, slice_index_or, vec_capacity, IfOk, IsTrue, ◌↔◌};
+ghost use Rattle.std.specs.Prelude.{ℕ, ◌≡◌, ◌+◌, ◌*◌, ◌<◌, ◌≤◌, ◌++◌, ◌∷◌, [], List, Some, length, slice_get, set, slice_index_or, vec_capacity, IfOk, IsTrue, ◌↔◌};
 ghost use Rattle.cstn_label.specs.Labels.{IsMarked};
 ghost use Rattle.cstn_label.specs.Read.{marks};
 ghost use Rattle.cstn_rules.specs.declared.entries.Entry.{Entry as TheEntry};
-ghost use Rattle.cstn_log.specs.Chains.{AreMarkChains, AreMarkChainsUpto, AreNodeChains, mark_link, node_cell, node_link};
+ghost use Rattle.cstn_log.specs.Chains.{AreMarkChains, AreMarkChainsUpto, AreNodeChains, IsMarkedAt, IsAtNode, IsFirst, IsBehind, mark_link, node_cell, node_link};
 
 use cstn_label::{Mark, NodeId, Prop};
 use cstn_rules::Entry;
@@ -86,6 +86,20 @@ impl MarkChains {
         let last = self.lasts[p.index as usize];
         self.links[last as usize * 52 + p.index as usize] = place;
         self.lasts[p.index as usize] = place + 1;
+    }
+
+    // The first place of the chain of p from `from` on, looked for behind a place of it before, or from its start.
+    pub fn first(&self, p: Prop, from: u32, start: u32) -> u32
+        requires upto { start ≤ from }
+        requires chains { (entries : List TheEntry) × AreMarkChains entries self.now.links.items self.now.lasts.items × (from ≤ length entries) × IsBehind (IsMarkedAt entries p.index) start }
+        requires few { length self.now.links.items ≤ 4194304 * 52 + 52 }
+        ensures first { (entries : List TheEntry) → AreMarkChains entries self.now.links.items self.now.lasts.items → from ≤ length entries → IsBehind (IsMarkedAt entries p.index) start → IsFirst (IsMarkedAt entries p.index) from (length entries) result }
+    {
+        let mut place = self.next(p, start);
+        while place < from {
+            place = self.next(p, place + 1);
+        }
+        place
     }
 
     // The place of the chain of p that comes next from there on, behind a place of it or at its start.
@@ -177,6 +191,21 @@ impl NodeChains {
         }
     }
 
+    // The first place of the chain of x from `from` on, looked for behind a place of it before, or from its start.
+    pub fn first(&self, x: NodeId, from: u32, start: u32) -> u32
+        requires upto { start ≤ from }
+        requires node { x.0 < length self.now.lasts.items }
+        requires chains { (entries : List TheEntry) × AreNodeChains (length self.now.lasts.items) entries self.now.links.items self.now.lasts.items × (from ≤ length entries) × IsBehind (IsAtNode entries x.0) start }
+        requires few { (length self.now.links.items ≤ 4194304 + 65536) × (length self.now.lasts.items < 65536) }
+        ensures first { (entries : List TheEntry) → AreNodeChains (length self.now.lasts.items) entries self.now.links.items self.now.lasts.items → from ≤ length entries → IsBehind (IsAtNode entries x.0) start → IsFirst (IsAtNode entries x.0) from (length entries) result }
+    {
+        let mut place = self.next(x, start);
+        while place < from {
+            place = self.next(x, place + 1);
+        }
+        place
+    }
+
     // The place of the chain of x that comes next from there on, behind a place of it or at its start.
     pub fn next(&self, x: NodeId, from: u32) -> u32
         requires few { length self.now.lasts.items < 65536 }
@@ -185,5 +214,22 @@ impl NodeChains {
         ensures { result ≡ node_link (length self.now.lasts.items) self.now.links.items x.0 from }
     {
         self.links[self.cell(x, from)]
+    }
+}
+
+// Puts the entries of a list in, in order.
+pub fn append_all(marks: &mut MarkChains, nodes: &mut NodeChains, steps: &[Entry])
+    requires empty { AreMarkChains [] marks.old.links.items marks.old.lasts.items × AreNodeChains (length nodes.old.lasts.items) [] nodes.old.links.items nodes.old.lasts.items }
+    requires room { (length steps.now * 52 + 52 ≤ vec_capacity marks.old.links) × (length nodes.old.lasts.items + length steps.now ≤ vec_capacity nodes.old.links) }
+    requires few { (length steps.now ≤ 4194304) × (length nodes.old.lasts.items < 65536) }
+    requires inside { (k : ℕ) (e : TheEntry) → slice_get steps.now k ≡ Some e → e.bound.node.0 < length nodes.old.lasts.items }
+    ensures marks { AreMarkChains steps.now marks.new.links.items marks.new.lasts.items }
+    ensures nodes { AreNodeChains (length nodes.old.lasts.items) steps.now nodes.new.links.items nodes.new.lasts.items }
+    ensures size { length nodes.new.lasts.items ≡ length nodes.old.lasts.items }
+    ensures room { (vec_capacity marks.old.links ≤ vec_capacity marks.new.links) × (vec_capacity marks.old.lasts ≤ vec_capacity marks.new.lasts) × (vec_capacity nodes.old.links ≤ vec_capacity nodes.new.links) }
+{
+    for k in 0..steps.len() {
+        marks.append(k as u32, steps[k]);
+        nodes.append(k as u32, steps[k]);
     }
 }
