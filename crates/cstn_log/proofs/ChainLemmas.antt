@@ -143,3 +143,6 @@ next_above test end last from n place link few c upto f before =
       | inl below ↦ let above = next.here below in omega (arith, above.0)
       | inr none ↦ omega arith
     ])
+
+pub behind_next : (test : ℕ → Type 0) (k : ℕ) → test k → IsBehind test (k + 1)
+behind_next test k t = let s : k + 1 ≡ suc k = omega arith in subst (λ n. IsBehind test n) (sym s) t

@@ -68,10 +68,10 @@ pub record IsRoom (cap told ids marks places steps : ℕ) : Type 0 where
   pub few : cap ≤ 4194304
 
 -- the room for the links of each place in the chains of the propositions and in that of its time-point
-pub record IsChainRoom (cap nodes for_marks for_ends for_nodes : ℕ) : Type 0 where
-  pub for_marks : cap * 52 + 52 ≤ for_marks
-  pub for_ends : 52 ≤ for_ends
-  pub for_nodes : nodes + cap ≤ for_nodes
+pub record IsChainRoom (cap nodes marks ends stands : ℕ) : Type 0 where
+  pub for_marks : cap * 52 + 52 ≤ marks
+  pub for_ends : 52 ≤ ends
+  pub for_nodes : nodes + cap ≤ stands
   pub few : nodes < 65536
 
 -- the links of the chains of the propositions and of the time-points, with their ends, and what there is room for

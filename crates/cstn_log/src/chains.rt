@@ -112,10 +112,17 @@ impl MarkChains {
 }
 
 // Whether the label of the entry marks p.
-fn is_marked(e: Entry, p: Prop) -> bool
+pub fn is_marked(e: Entry, p: Prop) -> bool
     ensures { IsTrue result ↔ IsMarked (marks e.bound.label) p.index }
 {
     e.bound.label.mark(p) != Mark::Absent
+}
+
+// Whether the entry is at the time-point.
+pub fn is_at(e: Entry, x: NodeId) -> bool
+    ensures { IsTrue result ↔ (e.bound.node.0 ≡ x.0) }
+{
+    e.bound.node == x
 }
 
 // For each time-point the places at it, in order.
