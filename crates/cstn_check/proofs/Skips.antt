@@ -4,8 +4,10 @@ use Rattle.std.specs.Prelude.{slice_get}
 use Rattle.std.specs.List.{filter}
 use Rattle.std.proofs.lemmas.Bool.{cases_Bool, cases_lt, and_parts, cond-true, cond-false}
 use Rattle.std.proofs.lemmas.Option.{slice_get_within}
-use Rattle.cstn_label.specs.Read.{the_bound}
-use Rattle.cstn_net.specs.Networks.{Network, IsWellFormed}
+use Rattle.cstn_label.specs.Read.{the_bound, marks}
+use Rattle.cstn_label.specs.Labels.{IsMarked}
+use Rattle.cstn_net.specs.Networks.{Network, IsWellFormed, Observes}
+use Rattle.cstn_log.specs.Chains.{IsMarkedAt, IsAtNode}
 use Rattle.cstn_rules.specs.Derivations.{Entry as TheEntry}
 use Rattle.cstn_rules.specs.declared.entries.Entry.{Entry}
 use Rattle.cstn_rules.specs.Rules.{IsWait}
@@ -99,19 +101,21 @@ waits_to net old new j i r good ready inside short upto none t =
     not_waiting net new good ready k j (omega arith) inside (none k low high)) in
     record { entries = is; refuted_is = t.refuted_is ∙ ap (is_refuted net) (sym t.entries ∙ is); longer = t.longer }
 
-pub waiting_either : (net : Network) (entries : List Entry) (i j : ℕ) (e f : Entry) → IsWaiting net entries i j →
-    slice_get entries i ≡ Some e → slice_get entries j ≡ Some f →
-    Waits net (the_bound e.bound) (the_bound f.bound) ⊎ Waits net (the_bound f.bound) (the_bound e.bound)
-waiting_either net entries i j e f w at_e at_f =
-    let first : w.one ≡ e = let h = w.one_at in cc in
-    let second : w.other ≡ f = let h = w.other_at in cc in
-    subst (λ (x : Entry). Waits net (the_bound x.bound) (the_bound f.bound) ⊎ Waits net (the_bound f.bound) (the_bound x.bound)) first
-    (subst (λ (y : Entry). Waits net (the_bound w.one.bound) (the_bound y.bound) ⊎ Waits net (the_bound y.bound) (the_bound w.one.bound)) second w.either)
-
-pub upto_next : (net : Network) (entries : List Entry) (from i j : ℕ) →
-    ((k : ℕ) → from ≤ k → k < i → IsWaiting net entries k j → ⊥) → (IsWaiting net entries i j → ⊥) →
-    (k : ℕ) → from ≤ k → k < i + 1 → IsWaiting net entries k j → ⊥
-upto_next net entries from i j before here k low high w = elim (cases_lt k i) [
-  | inl below ↦ before k low below w
-  | inr last ↦ let e : k ≡ i = omega arith in here (subst (λ n. IsWaiting net entries n j) e w)
-]
+-- no wait has a conclusion where no place is at the observer of a proposition that the entry at j marks, and none marks
+-- what its time-point observes
+pub none_waiting : (net : Network) (entries : List Entry) (from next j : ℕ) (e : Entry) → slice_get entries j ≡ Some e → next ≤ length entries →
+    ((k p : ℕ) → from ≤ k → k < length entries → k < next → Observes net e.bound.node.0 p → IsMarkedAt entries p k → ⊥) →
+    ((k p x : ℕ) → from ≤ k → k < length entries → k < next → IsMarked (marks e.bound.label) p → Observes net x p → IsAtNode entries x k → ⊥) →
+    (k : ℕ) → from ≤ k → k < next → IsWaiting net entries k j → ⊥
+none_waiting net entries from next j e there upto marking seen k low high w =
+    let same : w.other ≡ e = let h = w.other_at in cc in
+    elim w.either [
+      | inl a ↦
+          seen k a.prop w.one.bound.node.0 low (omega arith) high
+          (subst (λ (y : Entry). IsMarked (marks y.bound.label) a.prop) same a.marked) a.observes
+          (record { entry = w.one; there = w.one_at; node = refl })
+      | inr a ↦
+          marking k a.prop low (omega arith) high
+          (subst (λ (y : Entry). Observes net y.bound.node.0 a.prop) same a.observes)
+          (record { entry = w.one; there = w.one_at; marked = a.marked })
+    ]

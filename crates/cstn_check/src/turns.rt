@@ -1,4 +1,4 @@
-ghost use Rattle.std.specs.Prelude.{ℕ, ◌≡◌, ◌+◌, ◌^◌, ◌<◌, ◌≤◌, false, [], ◌∷◌, ◌++◌, length, map, cond, IfOk, IsErr, IsTrue, ◌↔◌, ◌⊎◌};
+ghost use Rattle.std.specs.Prelude.{ℕ, ◌≡◌, ◌+◌, ◌^◌, ◌<◌, ◌≤◌, false, [], ◌∷◌, ◌++◌, length, map, cond, IfOk, IsErr, IsTrue, ◌↔◌};
 ghost use Rattle.std.specs.List.{Contains};
 ghost use Rattle.cstn_label.specs.Labels.{IsMarked};
 ghost use Rattle.cstn_label.specs.Read.{the_bound};
@@ -10,8 +10,9 @@ ghost use Rattle.cstn_log.specs.Entries.{the_entries};
 ghost use Rattle.cstn_check.specs.Growth.{Instance, is_covered, step, tried, waits_below, turn, chains_at};
 ghost use Rattle.cstn_check.specs.Growth.Instance.{chain_at, wait_at};
 ghost use Rattle.cstn_check.specs.Turns.{IsOpen, IsTaken, IsCut};
-ghost use Rattle.cstn_check.specs.Waits.{Waits, IsWaiting};
+ghost use Rattle.cstn_check.specs.Waits.{Waits};
 
+use crate::walks::{WALKS, Walk, next_waiting};
 use cstn_label::{Bound, Mark};
 use cstn_log::Log;
 use cstn_net::{Constraint, Network};
@@ -181,60 +182,16 @@ fn try_waits(net: &Network, log: &mut Log, j: u32, tries: &mut Tries) -> Result<
 {
     is_well_formed(net);
     let _room = log.len();
-    let mut i = next_waiting(net, log, 0, j);
+    let mut walks = [Walk::new(); WALKS];
+    let mut i = next_waiting(net, log, 0, j, &mut walks);
     while i <= j {
         match try_both(net, log, i, j, tries) {
             Ok(true) => return Ok(true),
-            Ok(false) => i = next_waiting(net, log, i + 1, j),
+            Ok(false) => i = next_waiting(net, log, i + 1, j, &mut walks),
             Err(full) => return Err(full),
         }
     }
     Ok(false)
-}
-
-// The first place from `from` up to `j` with an entry of which wait with the entry at `j`, either way round, has a
-// conclusion; `j + 1` where none has.
-fn next_waiting(net: &Network, log: &Log, from: u32, j: u32) -> u32
-    requires nodes { log.now.nodes ≡ count (the_network net.now) }
-    requires place { j < length log.now.entries }
-    requires upto { from ≤ j + 1 }
-    ensures upto { (from ≤ result) × (result ≤ j + 1) }
-    ensures none { (k : ℕ) → from ≤ k → k < result → IsWaiting (the_network net.now) log.now.entries k j → ⊥ }
-{
-    let _room = log.len();
-    for i in from..j + 1 {
-        if is_waiting(net, log, i, j) {
-            return i;
-        }
-    }
-    j + 1
-}
-
-// Whether the entries at both places are live, and wait of them has a conclusion, one way round or the other.
-fn is_waiting(net: &Network, log: &Log, i: u32, j: u32) -> bool
-    requires nodes { log.now.nodes ≡ count (the_network net.now) }
-    requires first { i < length log.now.entries }
-    requires place { j < length log.now.entries }
-    ensures waiting { IsTrue result ↔ IsWaiting (the_network net.now) log.now.entries i j }
-{
-    let one = log.entry(i).bound;
-    let other = log.entry(j).bound;
-    if !waits_either(net, &one, &other) {
-        return false;
-    }
-    if !log.live(i) {
-        return false;
-    }
-    log.live(j)
-}
-
-// Whether wait of the bounds has a conclusion, one way round or the other.
-fn waits_either(net: &Network, one: &Bound, other: &Bound) -> bool
-    requires one { one.now.node.0 < count (the_network net.now) }
-    requires other { other.now.node.0 < count (the_network net.now) }
-    ensures waits { IsTrue result ↔ (Waits (the_network net.now) (the_bound one.now) (the_bound other.now) ⊎ Waits (the_network net.now) (the_bound other.now) (the_bound one.now)) }
-{
-    waits(net, one, other) || waits(net, other, one)
 }
 
 // Takes the turn of the entry at a place, and says whether the list is refuted then.
