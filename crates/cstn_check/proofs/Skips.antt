@@ -1,19 +1,17 @@
 -- Instances that change nothing may be left out.
-use Rattle.std.proofs.Common.{ℕ, zero, suc, ◌≡◌, ◌⊎◌, inl, inr, ◌+◌, ◌<◌, ◌≤◌, Bool, true, false, List, [], ◌∷◌, ◌++◌, length, Some, arith, refl, sym, subst, ap, ◌∙◌}
+use Rattle.std.proofs.Common.{ℕ, zero, suc, ◌≡◌, inl, inr, ◌+◌, ◌<◌, ◌≤◌, Bool, false, List, [], ◌∷◌, length, Some, arith, refl, sym, subst, ap, ◌∙◌}
 use Rattle.std.specs.Prelude.{slice_get}
 use Rattle.std.specs.List.{filter}
 use Rattle.std.proofs.lemmas.Bool.{cases_Bool, cases_lt, and_parts, cond-true, cond-false}
-use Rattle.std.proofs.lemmas.Option.{slice_get_within}
 use Rattle.cstn_label.specs.Read.{the_bound, marks}
 use Rattle.cstn_label.specs.Labels.{IsMarked}
 use Rattle.cstn_net.specs.Networks.{Network, IsWellFormed, Observes}
 use Rattle.cstn_log.specs.Chains.{IsMarkedAt, IsAtNode}
 use Rattle.cstn_rules.specs.Derivations.{Entry as TheEntry}
 use Rattle.cstn_rules.specs.declared.entries.Entry.{Entry}
-use Rattle.cstn_rules.specs.Rules.{IsWait}
 use Rattle.cstn_log.specs.Entries.{State, the_entries, IsLive}
 use Rattle.cstn_check.specs.Growth.{Instance, is_live, is_refuted, premises_live, conclusion, step, tried, waits_below}
-use Rattle.cstn_check.specs.Growth.Instance.{chain_at, wait_at}
+use Rattle.cstn_check.specs.Growth.Instance.{wait_at}
 use Rattle.cstn_check.specs.Turns.{IsOpen, IsTaken}
 use Rattle.cstn_check.specs.Waits.{Waits, IsWaiting}
 use Rattle.cstn_check.proofs.Lists.{Extends, extends_itself, extends_through}
@@ -84,9 +82,9 @@ module _ (net : Network) (s : State) (good : IsWellFormed net) (ready : IsOpen n
       IsIdle net (the_entries s.entries) (wait_at i j) × IsIdle net (the_entries s.entries) (wait_at j i)
   not_waiting i j in_i in_j none = (
     wait_idle i j in_i in_j (λ e f at_e at_f live_e live_f w.
-    none (record { one = e; other = f; one_at = at_e; other_at = at_f; one_live = live_e; other_live = live_f; either = inl w })),
+        none (record { one = e; other = f; one_at = at_e; other_at = at_f; one_live = live_e; other_live = live_f; either = inl w })),
     wait_idle j i in_j in_i (λ e f at_e at_f live_e live_f w.
-    none (record { one = f; other = e; one_at = at_f; other_at = at_e; one_live = live_f; other_live = live_e; either = inr w })),
+        none (record { one = f; other = e; one_at = at_f; other_at = at_e; one_live = live_f; other_live = live_e; either = inr w })),
   )
 
 -- a turn's waits go on at the next place, where the waits of those between are idle

@@ -83,7 +83,7 @@ upto_marked entries e p links lasts next ends small few marked is to c =
     let end : get_or ends p 0 ≡ length entries + 1 = ap (λ l. get_or l p 0) to ∙ get_or-set_same lasts p (length entries + 1) 0 (omega arith) in
     let others : (q : ℕ) → q < 52 → q ≢ p → (from : ℕ) → mark_link next q from ≡ mark_link links q from =
     λ q h ne from. ap (λ l. get_or l (from * 52 + q) no_place) is
-        ∙ get_or-set_other links (last * 52 + p) (from * 52 + q) (length entries) no_place (λ s. ne (apart from last q p h small s)) in
+    ∙ get_or-set_other links (last * 52 + p) (from * 52 + q) (length entries) no_place (λ s. ne (apart from last q p h small s)) in
     let other_ends : (q : ℕ) → q ≢ p → get_or lasts q 0 ≡ get_or ends q 0 =
     λ q ne. sym (ap (λ l. get_or l q 0) to ∙ get_or-set_other lasts p q (length entries + 1) 0 ne) in
     record {
@@ -102,7 +102,7 @@ upto_marked entries e p links lasts next ends small few marked is to c =
             ∙ get_or-set_other links (last * 52 + p) ((length entries + 1) * 52 + p) (length entries) no_place (λ s. omega arith)
             ∙ c.ends p (omega arith) small)
             (λ from low b ne. ap (λ l. get_or l (from * 52 + p) no_place) is
-                ∙ get_or-set_other links (last * 52 + p) (from * 52 + p) (length entries) no_place (λ s. ne (omega arith)))
+            ∙ get_or-set_other links (last * 52 + p) (from * 52 + p) (length entries) no_place (λ s. ne (omega arith)))
             mine))
       ];
       left = λ q h k.

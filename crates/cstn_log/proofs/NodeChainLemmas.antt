@@ -130,7 +130,7 @@ module _ (nodes : ℕ) (entries : List Entry) (e : Entry) (links lasts next ends
       (node_on entries e e.bound.node.0) (node_back entries e e.bound.node.0) (node_link nodes links e.bound.node.0)
       (node_link nodes next e.bound.node.0) (get_or lasts e.bound.node.0 0) (node_last entries e) to_last to_none
       (λ from low b ne. other_link e.bound.node.0 from inside low
-          (λ s. ne (apart e.bound.node.0 from inside low b (get_or lasts e.bound.node.0 0) mine.upto mine.behind s).1))
+      (λ s. ne (apart e.bound.node.0 from inside low b (get_or lasts e.bound.node.0 0) mine.upto mine.behind s).1))
       mine)
 
   pub nodes_more : AreNodeChains nodes (entries ++ e ∷ []) next ends

@@ -28,9 +28,9 @@ use std::marker::Model;
 ///
 /// An entry is live while no later one dominates it. The entries lie in a pool, and the bounds of
 /// the live ones in a minimal set, each under the id that [`Log::slot`] answers. All memory is
-/// taken by [`Log::start`]: 169 bytes for each entry that there may be, so 709 MB for the largest
-/// cap of 4,194,304, and 8 bytes for each time-point. Of these, 45 bytes an entry are used by
-/// [`Log::retract`] alone.
+/// taken by [`Log::start`]: 381 bytes for each entry that there may be, so 1,598 MB for the largest
+/// cap of 4,194,304, and 16 bytes for each time-point. Of these, 212 bytes an entry are links of
+/// chains, written for entries that are pushed alone, and 45 are used by [`Log::retract`] alone.
 #[derive(Drop)]
 pub struct Log {
     pool: Pool<Entry>,
@@ -274,7 +274,8 @@ impl Log {
         requires { from ≤ length self.now.entries }
         ensures first { IsFirst (IsMarkedAt self.now.entries p.index) from (length self.now.entries) result }
     {
-        self.marking.first(p, from, self.start_marked(p, from, near))
+        self.marking
+            .first(p, from, self.start_marked(p, from, near))
     }
 
     // Where to begin to look for the first place from `from` on that marks p.

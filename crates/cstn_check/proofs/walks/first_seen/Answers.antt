@@ -1,4 +1,4 @@
-use Rattle.std.proofs.Common.{◌≡◌, ◌<◌, inl, inr, arith, sym, subst, length-set}
+use Rattle.std.proofs.Common.{◌≡◌, inl, inr, arith, subst, length-set}
 use Rattle.std.proofs.lemmas.Bool.{cases_lt}
 use Rattle.cstn_label.specs.Labels.{IsMarked}
 use Rattle.cstn_label.specs.Read.{marks}

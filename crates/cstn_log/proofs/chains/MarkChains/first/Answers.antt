@@ -4,9 +4,12 @@ use Rattle.cstn_log.proofs.ChainLemmas.{first_next, first_later, next_above}
 use Rattle.cstn_log.proofs.chains.MarkChains.first.Goals as goal
 
 pub loop-place-init : goal.loop-place-init
-loop-place-init c = λ entries is upto b.
-    (c.args.start, c.requires.upto, subst (λ r. IsFirst (IsMarkedAt entries c.args.p.index) c.args.start (length entries) r) (sym c.next-place.ensures)
-    ((is.chains c.args.p.index c.args.p.in_range).leads c.args.start (omega (arith, c.requires.upto)) b))
+loop-place-init c = λ entries is upto b. (
+  c.args.start,
+  c.requires.upto,
+  subst (λ r. IsFirst (IsMarkedAt entries c.args.p.index) c.args.start (length entries) r) (sym c.next-place.ensures)
+      ((is.chains c.args.p.index c.args.p.in_range).leads c.args.start (omega (arith, c.requires.upto)) b),
+)
 
 pub loop-place-preserved : goal.loop-place-preserved
 loop-place-preserved c = λ entries is upto b.
