@@ -79,3 +79,16 @@ same_label a b same = same_words a b
 pub unmarked_above : (a : Label) (p : ℕ) → 52 ≤ p → marks a p ≡ Absent
 unmarked_above a p above =
     rw (has_bit_above a.yes 52 p a.yes_in_range above, has_bit_above a.no 52 p a.no_in_range above) refl
+
+bits_marked : (y n : Bool) → (y || n) ≡ true → mark_of y n ≡ Absent → ⊥
+bits_marked y n set gone = grind arith
+
+bits_absent : (y n : Bool) → (y || n) ≡ false → mark_of y n ≡ Absent
+bits_absent y n clear = grind arith
+
+-- the propositions that a label marks are the bits of its words together
+pub marked_at : (a : Label) (p : ℕ) → has_bit (bit_or a.yes a.no) p ≡ true → marks a p ≡ Absent → ⊥
+marked_at a p set = bits_marked (has_bit a.yes p) (has_bit a.no p) (sym (has_bit_or a.yes a.no p) ∙ set)
+
+pub absent_at : (a : Label) (p : ℕ) → has_bit (bit_or a.yes a.no) p ≡ false → marks a p ≡ Absent
+absent_at a p clear = bits_absent (has_bit a.yes p) (has_bit a.no p) (sym (has_bit_or a.yes a.no p) ∙ clear)

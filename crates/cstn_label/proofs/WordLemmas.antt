@@ -1,12 +1,14 @@
 -- Laws of words as sets of their bits.
-use Rattle.std.proofs.Common.{ℕ, ◌≡◌, inl, inr, ◌*◌, ◌%◌, ◌^◌, ◌<◌, ◌≤◌, min, max, Bool, true, false, cond, ◌||◌, ◌&&◌, eqb, arith, sym, subst, ◌∙◌, ap, bit_and, bit_or, w64}
-use Rattle.std.specs.Int.{bit_at, bit_not}
+use Rattle.std.proofs.Common.{ℕ, suc, ◌≡◌, inl, inr, ◌+◌, ◌-◌, ◌*◌, ◌/◌, ◌%◌, mod-lt, ◌^◌, ◌<◌, ◌≤◌, min, max, Bool, true, false, cond, ◌||◌, ◌&&◌, eqb, arith, sym, subst, ◌∙◌, ap, bit_and, bit_or, w64}
+use Rattle.std.specs.Int.{bit_at, bit_not, trailing_zeros}
+use Rattle.std.proofs.Math.Nat.{div-le_self}
 use Rattle.std.proofs.Math.Pow.{pow-lt}
+use Rattle.std.proofs.lemmas.Nat.{pow_pos, div-add-mod'}
 use Rattle.std.proofs.lemmas.Bool.{cases_lt, cases_eq, eqb-true, eqb-false, eq-eqb, ne_eqb}
 use Rattle.std.proofs.lemmas.Bool.Decides.{nat_tests}
-use Rattle.std.proofs.lemmas.Nat.Bits.{bit_at_and, bit_at_or, bit_at_not, bit_at-lt, bit_at_above, same_from_bits, bit_at-zero, bit_at_clear_same, bit_at_clear_other, bit_at_set_same, bit_at_set_other}
+use Rattle.std.proofs.lemmas.Nat.Bits.{bit_at_and, bit_at_or, bit_at_not, bit_at-lt, bit_at_above, same_from_bits, bit_at_cat_high, bit_at-trailing_zeros, bit_at-zero, bit_at_clear_same, bit_at_clear_other, bit_at_set_same, bit_at_set_other, bit_at_ones, bit_at_ones_above}
 use Rattle.std.specs.Int.Bits.{or_lt}
-use Rattle.cstn_label.specs.Words.{has_bit, IsApart, IsInside}
+use Rattle.cstn_label.specs.Words.{has_bit, meant, IsApart, IsInside}
 
 -- tests of bits, over numbers below 2
 or_bit : (a b : ℕ) → a < 2 → b < 2 → eqb (max a b) 1 ≡ (eqb a 1 || eqb b 1)
@@ -137,3 +139,81 @@ pub still_among : (bits seen wide more i : ℕ) (v : Bool) → bit_and bits seen
 still_among bits seen wide more i v among widened grown = same_word (bit_and wide more) wide (λ k.
     let both : (has_bit bits k && has_bit seen k) ≡ has_bit bits k = sym (has_bit_and bits seen k) ∙ ap (λ w. has_bit w k) among in
     has_bit_and wide more k ∙ rw (widened k, grown k) (inside_bits (eqb k i) (has_bit bits k) (has_bit seen k) v both))
+
+-- `word >> i` has the bits of the word from i on
+pub has_bit_shifted : (word i k : ℕ) → has_bit (word / 2 ^ i) k ≡ has_bit word (i + k)
+has_bit_shifted word i k =
+    let power = pow_pos i in
+    let below : word % 2 ^ i < 2 ^ i = mod-lt word power in
+    let high = bit_at_cat_high (word / 2 ^ i) i (word % 2 ^ i) (i + k) below (omega arith) in
+    let whole : bit_at word (i + k) ≡ bit_at (word / 2 ^ i) (i + k - i) =
+    subst (λ n. bit_at n (i + k) ≡ bit_at (word / 2 ^ i) (i + k - i)) (div-add-mod' word (2 ^ i)) high in
+    let same : i + k - i ≡ k = omega arith in
+    ap (λ n. eqb n 1) (sym (whole ∙ ap (λ j. bit_at (word / 2 ^ i) j) same))
+
+-- the bits of a word from i on, by those of `word >> i`
+pub clear_from : (word i low : ℕ) → ((k : ℕ) → k < low → has_bit (word / 2 ^ i) k ≡ false) →
+    (j : ℕ) → i ≤ j → j < i + low → has_bit word j ≡ false
+clear_from word i low clear j from below =
+    let place : i + (j - i) ≡ j = omega arith in
+    subst (λ k. has_bit word k ≡ false) place
+    (sym (has_bit_shifted word i (j - i)) ∙ clear (j - i) (omega arith))
+
+-- the least bit of a word that isn't 0
+pub lowest_bit : (rest : ℕ) → 0 < rest → rest < 2 ^ 64 → has_bit rest (trailing_zeros w64 rest) ≡ true
+lowest_bit rest some fits =
+    eq-eqb (bit_at rest (trailing_zeros w64 rest)) 1 (bit_at-trailing_zeros w64 rest some fits).1
+
+pub below_lowest : (rest : ℕ) → 0 < rest → rest < 2 ^ 64 → (k : ℕ) → k < trailing_zeros w64 rest → has_bit rest k ≡ false
+below_lowest rest some fits k below = ap (λ n. eqb n 1) ((bit_at-trailing_zeros w64 rest some fits).2 k below)
+
+-- a word has no bit from i on where `word >> i` is 0
+pub none_from : (word i : ℕ) → word / 2 ^ i ≡ 0 → (j : ℕ) → i ≤ j → has_bit word j ≡ false
+none_from word i none j from =
+    clear_from word i (suc j) (λ k below. subst (λ rest. has_bit rest k ≡ false) (sym none) (has_bit-zero k)) j from (omega arith)
+
+-- a bit that is set in a word below 2 ^ k is below k
+pub set_below : (word k i : ℕ) → word < 2 ^ k → has_bit word i ≡ true → i < k
+set_below word k i fits set = elim (cases_lt i k) [
+  | inl below ↦ below
+  | inr above ↦ let clear = has_bit_above word k i fits above in cc
+]
+
+-- the least bit of `word >> i`, in the word
+pub lowest_from : (word i : ℕ) → (word / 2 ^ i ≡ 0 → ⊥) → word < 2 ^ 64 →
+    has_bit word (i + trailing_zeros w64 (word / 2 ^ i)) ≡ true
+lowest_from word i some fits =
+    let less = div-le_self word (2 ^ i) in
+    sym (has_bit_shifted word i (trailing_zeros w64 (word / 2 ^ i))) ∙ lowest_bit (word / 2 ^ i) (omega arith) (omega arith)
+
+pub below_lowest_from : (word i : ℕ) → (word / 2 ^ i ≡ 0 → ⊥) → word < 2 ^ 64 →
+    (j : ℕ) → i ≤ j → j < i + trailing_zeros w64 (word / 2 ^ i) → has_bit word j ≡ false
+below_lowest_from word i some fits =
+    let less = div-le_self word (2 ^ i) in
+    clear_from word i (trailing_zeros w64 (word / 2 ^ i)) (below_lowest (word / 2 ^ i) (omega arith) (omega arith))
+
+and_all : (b o : Bool) → o ≡ true → (b && o) ≡ b
+and_all b o e = grind arith
+
+and_none : (b o : Bool) → o ≡ false → (b && o) ≡ false
+and_none b o e = grind arith
+
+-- the bits of propositions are kept, and no others
+pub meant_below : (word p : ℕ) → p < 52 → has_bit (meant word) p ≡ has_bit word p
+meant_below word p below = has_bit_and word (2 ^ 52 - 1) p ∙
+    and_all (has_bit word p) (has_bit (2 ^ 52 - 1) p) (ap (λ n. eqb n 1) (bit_at_ones 52 p below))
+
+pub meant_above : (word p : ℕ) → 52 ≤ p → has_bit (meant word) p ≡ false
+meant_above word p above = has_bit_and word (2 ^ 52 - 1) p ∙
+    and_none (has_bit word p) (has_bit (2 ^ 52 - 1) p) (ap (λ n. eqb n 1) (bit_at_ones_above 52 p above))
+
+-- words mean the same where they have the same bits of propositions
+pub meant_from_bits : (a b : ℕ) → ((p : ℕ) → p < 52 → has_bit a p ≡ has_bit b p) → meant a ≡ meant b
+meant_from_bits a b same = same_word (meant a) (meant b) (λ p. elim (cases_lt p 52) [
+  | inl below ↦ meant_below a p below ∙ same p below ∙ sym (meant_below b p below)
+  | inr above ↦ meant_above a p above ∙ sym (meant_above b p above)
+])
+
+pub bits_from_meant : (a b : ℕ) → meant a ≡ meant b → (p : ℕ) → p < 52 → has_bit a p ≡ has_bit b p
+bits_from_meant a b same p below =
+    sym (meant_below a p below) ∙ ap (λ w. has_bit w p) same ∙ meant_below b p below

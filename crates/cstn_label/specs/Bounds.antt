@@ -8,7 +8,7 @@ pub record Bound : Type 0 where
   pub least : ℤ
   pub label : Label
 
--- a bound dominates another of the same time-point where it asks for no less, of no fewer cases
+-- a bound dominates another of the same time-point where its least value is no lower and its label is within the other's
 pub record Dominates (a b : Bound) : Type 0 where
   pub node : a.node ≡ b.node
   pub least : b.least ≤ℤ a.least

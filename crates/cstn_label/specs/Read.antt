@@ -1,5 +1,5 @@
 -- How the values of the program are read.
-use Rattle.std.specs.Prelude.{ℕ, Bool, true, false, IsTrue}
+use Rattle.std.specs.Prelude.{ℕ, Bool, true, false, IsTrue, ◌==◌, ◌&&◌, Option, Some, None, if◌then◌else◌}
 use Rattle.cstn_label.specs.declared.marks.Mark.{Mark}
 use Rattle.cstn_label.specs.declared.marks.Mark.TheVariants.{Absent, Yes, No, Unknown}
 use Rattle.cstn_label.specs.declared.labels.Label.{Label}
@@ -8,7 +8,7 @@ use Rattle.cstn_label.specs.declared.knowledge.Known.{Known}
 use Rattle.cstn_label.specs.declared.bounds.Bound.{Bound}
 use Rattle.cstn_label.specs.Labels.{Label as TheLabel, Scenario as TheScenario}
 use Rattle.cstn_label.specs.Bounds.{Bound as TheBound}
-use Rattle.cstn_label.specs.Words.{has_bit}
+use Rattle.cstn_label.specs.Words.{has_bit, meant}
 
 -- the mark of a proposition by its bits in the two words
 abbrev pub mark_of : Bool → Bool → Mark
@@ -32,6 +32,18 @@ is_known k p = IsTrue (has_bit k.seen p)
 -- the values of the propositions that are known
 abbrev pub the_values : Known → TheScenario
 the_values k = λ p. has_bit k.bits p
+
+-- the value of a proposition, where it is known
+abbrev pub known_value : Known → ℕ → Option Bool
+known_value k p = if has_bit k.seen p then Some (the_values k p) else None
+
+-- the scenarios have the same bits of propositions
+abbrev pub same_scenario : Scenario → Scenario → Bool
+same_scenario s r = meant s.bits == meant r.bits
+
+-- the same propositions are known, and the same of them are known true
+abbrev pub same_known : Known → Known → Bool
+same_known k l = (meant k.seen == meant l.seen) && (meant k.bits == meant l.bits)
 
 -- a bound's time-point, least value and marks
 abbrev pub the_bound : Bound → TheBound

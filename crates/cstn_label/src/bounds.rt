@@ -14,7 +14,8 @@ impl Bound {
     ghost use Rattle.cstn_label.specs.Bounds.{Dominates};
     ghost use Rattle.cstn_label.specs.Read.{the_bound};
 
-    /// Whether this bound asks of the same time-point for no less, in no fewer cases, than the other.
+    /// Whether the two bounds are on one time-point, the least value of this one is at least that of the other, and its
+    /// label is within the other's. The other bound then follows from this one.
     pub fn dominates(&self, other: &Bound) -> bool
         ensures dominates { IsTrue result ↔ Dominates (the_bound self.now) (the_bound other.now) }
     {

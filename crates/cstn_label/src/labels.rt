@@ -1,6 +1,6 @@
-ghost use Rattle.std.specs.Prelude.{ℕ, ◌≡◌, ◌<◌, ◌^◌, ◌↔◌, IsTrue};
+ghost use Rattle.std.specs.Prelude.{ℕ, ◌≡◌, ◌<◌, ◌≤◌, ◌^◌, ◌↔◌, IsTrue, IfSome, IfNone};
 
-use crate::words::{are_apart, has_bit, is_inside, with_bit};
+use crate::words::{are_apart, first_bit_from, has_bit, is_inside, with_bit};
 use crate::{Known, Mark, Prop, Scenario};
 
 /// A mark for each proposition. Bit p of `yes` alone is yes, of `no` alone is no, of both is unknown, of neither is absent.
@@ -13,7 +13,8 @@ pub struct Label {
 }
 
 impl Label {
-    ghost use Rattle.cstn_label.specs.Labels.{empty, joined, with_mark, without, IsPlain, IsWithin, Holds, IsPossible};
+    ghost use Rattle.cstn_label.specs.declared.marks.Mark.TheVariants.{Absent};
+    ghost use Rattle.cstn_label.specs.Labels.{IsMarked, empty, joined, with_mark, without, IsPlain, IsWithin, Holds, IsPossible};
     ghost use Rattle.cstn_label.specs.Read.{marks, the_scenario, is_known, the_values};
 
     /// The label with no mark.
@@ -32,6 +33,20 @@ impl Label {
             (true, false) => Mark::Yes,
             (false, true) => Mark::No,
             (false, false) => Mark::Absent,
+        }
+    }
+
+    /// The least marked proposition of this number or a higher one; none where there is none. With the number after it
+    /// this goes on to the next, so a label is walked from 0 in as many steps as it has marks.
+    pub fn first_marked_from(self, from: u8) -> Option<Prop>
+        ensures marked { IfSome result (λ p. IsMarked (marks self) p.index) }
+        ensures from { IfSome result (λ p. from ≤ p.index) }
+        ensures least { IfSome result (λ p. (q : ℕ) → from ≤ q → q < p.index → marks self q ≡ Absent) }
+        ensures none { IfNone result ((q : ℕ) → from ≤ q → marks self q ≡ Absent) }
+    {
+        match first_bit_from(self.yes | self.no, from) {
+            Some(index) => Some(Prop { index }),
+            None => None,
         }
     }
 
@@ -83,7 +98,7 @@ impl Label {
         is_inside(self.yes, other.yes) && is_inside(self.no, other.no)
     }
 
-    /// Whether each literal is true in the scenario. A label with an unknown mark has to be told apart before.
+    /// Whether each literal is true in the scenario. The label has no unknown mark; ask `is_plain` first.
     pub fn holds(self, s: Scenario) -> bool
         requires plain { IsPlain (marks self) }
         ensures holds { IsTrue result ↔ Holds (the_scenario s) (marks self) }

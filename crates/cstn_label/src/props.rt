@@ -10,12 +10,15 @@ pub struct Prop {
 }
 
 impl Prop {
+    /// How many propositions there are.
+    pub const COUNT: u8 = 52;
+
     /// The proposition of a number; none at 52 and above.
     pub fn new(index: u8) -> Option<Prop>
         ensures some { IsSome result ↔ (index < 52) }
         ensures index { IfSome result (λ p. p.index ≡ index) }
     {
-        if index < 52 {
+        if index < Prop::COUNT {
             Some(Prop { index })
         } else {
             None

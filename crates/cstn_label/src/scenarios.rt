@@ -1,8 +1,9 @@
 use crate::Prop;
-use crate::words::{has_bit, with_bit};
+use crate::words::{MEANT, has_bit, with_bit};
 
-/// The propositions that are true. Bit p stands for the proposition p; bits above 51 mean nothing.
-#[derive(Clone, Copy, Debug, PartialEq, Eq, Hash)]
+/// The propositions that are true. Bit p stands for the proposition p; bits above 51 mean nothing, and `==` passes over
+/// them.
+#[derive(Clone, Copy, Debug)]
 pub struct Scenario {
     pub bits: u64,
 }
@@ -26,4 +27,25 @@ impl Scenario {
             bits: with_bit(self.bits, p.index, value),
         }
     }
+}
+
+impl PartialEq for Scenario {
+    ghost use Rattle.std.proofs.Common.{rules};
+    ghost use Rattle.std.specs.Cmp.Rules.{comparing};
+    ghost use Rattle.cstn_label.specs.Read.{same_scenario};
+
+    ghost eq = { same_scenario };
+
+    ghost laws = { Prim.search (comparing, rules) };
+
+    fn eq(&self, other: &Scenario) -> bool {
+        self.bits & MEANT == other.bits & MEANT
+    }
+}
+
+impl Eq for Scenario {
+    ghost use Rattle.std.proofs.Common.{rules};
+    ghost use Rattle.std.specs.Cmp.Rules.{comparing};
+
+    ghost laws = { Prim.search (comparing, rules) };
 }

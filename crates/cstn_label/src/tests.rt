@@ -62,6 +62,10 @@ fn is_ruled_out_by_what_is_known(rt: HostRuntime) {
     assert!(rt; !no.possible(so) && !unknown.possible(so));
     let not_so = Known::of(1 << p().index, Scenario { bits: 0 });
     assert!(rt; no.possible(not_so) && !yes.possible(not_so) && !unknown.possible(not_so));
+    let told = Known::nothing().with(p(), false);
+    assert!(rt; no.possible(told) && !yes.possible(told) && !unknown.possible(told));
+    assert_eq!(rt; told.value(p()), Some(false));
+    assert_eq!(rt; told.with(p(), true).value(p()), Some(true));
     assert_eq!(rt; so.value(p()), Some(true));
     assert_eq!(rt; not_so.value(q()), None);
 }
@@ -85,6 +89,14 @@ fn dominates_what_asks_for_less(rt: HostRuntime) {
     let empty = Label::empty();
     let yes = only(p(), Mark::Yes);
     let unknown = only(p(), Mark::Unknown);
+    let other = only(q(), Mark::Yes);
+    let no = only(p(), Mark::No);
+    assert!(rt; bound(1, 7, empty).dominates(&bound(1, 0, empty)));
+    assert!(rt; bound(2, 7, empty).dominates(&bound(2, 7, no)));
+    assert!(rt; bound(1, 8, empty).dominates(&bound(1, 8, other)));
+    assert!(rt; bound(1, 8, empty).dominates(&bound(1, 1, yes)));
+    assert!(rt; bound(1, 8, empty).dominates(&bound(1, 8, empty)));
+    assert!(rt; !bound(1, 7, empty).dominates(&bound(1, 8, empty)));
     assert!(rt; !bound(1, 10, yes).dominates(&bound(1, 1, empty)));
     assert!(rt; !bound(1, 1, empty).dominates(&bound(1, 10, yes)));
     assert!(rt; bound(1, 8, empty).dominates(&bound(1, 8, unknown)));
@@ -104,4 +116,44 @@ fn has_52_letters(rt: HostRuntime) {
     assert_eq!(rt; NodeId::from_number(65536), None);
     assert_eq!(rt; NodeId(7).number(), 7);
     assert_eq!(rt; NodeId(7).index(), 7);
+}
+
+#[test]
+fn is_walked_mark_by_mark(rt: HostRuntime) {
+    let label = only(p(), Mark::No).with(z(), Mark::Unknown);
+    assert_eq!(rt; label.first_marked_from(0), Some(p()));
+    assert_eq!(rt; label.first_marked_from(41), Some(p()));
+    assert_eq!(rt; label.first_marked_from(42), Some(z()));
+    assert_eq!(rt; label.first_marked_from(52), None);
+    assert_eq!(rt; Label::empty().first_marked_from(0), None);
+}
+
+#[test]
+fn takes_the_last_proposition(rt: HostRuntime) {
+    let yes = only(z(), Mark::Yes);
+    let no = only(z(), Mark::No);
+    let unknown = only(z(), Mark::Unknown);
+    assert_eq!(rt; yes.mark(z()), Mark::Yes);
+    assert_eq!(rt; unknown.without(z()), Label::empty());
+    assert_eq!(rt; yes.join(no), unknown);
+    assert!(rt; no.is_plain() && !unknown.is_plain());
+    assert!(rt; no.is_within(unknown) && !unknown.is_within(no));
+    let z_alone = Scenario { bits: 0 }.with(z(), true);
+    assert!(rt; z_alone.is_true(z()) && !z_alone.with(z(), false).is_true(z()));
+    assert!(rt; holds(yes, z_alone) && !holds(no, z_alone));
+    let known = Known::nothing().with(z(), false);
+    assert_eq!(rt; known.value(z()), Some(false));
+    assert!(rt; no.possible(known) && !yes.possible(known) && !unknown.possible(known));
+    assert!(rt; !bound(1, 5, yes).dominates(&bound(1, 5, Label::empty())));
+    assert_eq!(rt; Prop::from_letter(b'z'), Some(z()));
+}
+
+#[test]
+fn compares_what_is_meant(rt: HostRuntime) {
+    let above = 1 << 52;
+    let none = Scenario { bits: 0 };
+    assert_eq!(rt; Scenario { bits: above }, none);
+    assert_ne!(rt; none.with(z(), true), none);
+    assert_eq!(rt; Known::of(above, none), Known::nothing());
+    assert_ne!(rt; Known::of(1, none), Known::nothing());
 }

@@ -1,18 +1,25 @@
 -- The constraints of a network of the program, and what a change leaves of them.
-use Rattle.std.proofs.Common.{ℕ, zero, suc, ◌≡◌, ◌≢◌, ◌<◌, ◌≤◌, true, false, not, cond, Some, None, List, [], ◌∷◌, ◌++◌, length, get_or, set, map, arith, refl, sym, subst, ap}
+use Rattle.std.proofs.Common.{ℕ, zero, suc, inl, inr, ◌≡◌, ◌≢◌, ◌<◌, ◌≤◌, true, false, not, cond, Option, Some, None, List, [], ◌∷◌, ◌++◌, length, get_or, set, map, arith, refl, sym, subst, ap, ◌∙◌}
 use Rattle.std.specs.Prelude.{ℤ}
-use Rattle.std.specs.List.{All, AllPairs, remove, position}
-use Rattle.std.proofs.lemmas.Bool.{eq-eqb, ne_eqb, eqb-true, eqb-false}
+use Rattle.std.specs.Prelude.{MatchResult, MatchOption, IsNone, ◌↔◌, Result, Ok, Err}
+use Rattle.std.specs.List.{All, AllPairs, remove}
+use Rattle.std.specs.List.Sorted.{IsSearchInRange, IsBinarySearchResult, IsNonDecreasingBy}
+use Rattle.std.specs.Ordering.{nat_cmp, ordering_index}
+use Rattle.std.proofs.lemmas.Cmp.{ranked}
+use Rattle.std.proofs.lemmas.Bool.Decides.{nat_tests}
+use Rattle.cstn_net.specs.Links.{ends}
+use Rattle.std.proofs.lemmas.Bool.{eq-eqb, ne_eqb, cases_lt}
 use Rattle.std.proofs.lemmas.List.{length-map, length-append}
+use Rattle.std.proofs.lemmas.List.Edits.{length-remove}
 use Rattle.std.proofs.lemmas.List.Elements.{All-map, All-push, All-filter, All-head, All-tail, All-weaker}
-use Rattle.std.proofs.lemmas.List.Quantifiers.{all_pairs_push, position-Some}
+use Rattle.std.proofs.lemmas.List.Quantifiers.{all_pairs_push}
 use Rattle.std.proofs.lemmas.List.Filters.{length-filter_both}
 use Rattle.std.proofs.lemmas.List.Kept.{AllPairs-filter}
 use Rattle.cstn_net.specs.declared.constraints.Constraint.{Constraint}
 use Rattle.cstn_net.specs.declared.points.TimePoint.{TimePoint}
 use Rattle.cstn_net.specs.Networks.{Network, IsConstraint, IsValue, IsWellFormed}
 use Rattle.cstn_net.specs.Read.{NetworkParts, the_network, the_constraint, has_id, without_id, with_most, observed, IsInRange}
-use Rattle.cstn_net.proofs.ListLemmas.{none_passes, all_unmap, pairs_unmap, pairs_map, pairs_head, pairs_tail}
+use Rattle.cstn_net.proofs.ListLemmas.{all_unmap, pairs_unmap, pairs_map, pairs_head, pairs_tail}
 use Rattle.cstn_net.proofs.WellFormed.{well_formed_with}
 
 -- the constraints are those of a well-formed network with these time-points
@@ -32,6 +39,19 @@ kept_in net cs is h = record {
   ascending = pairs_unmap (λ b c. b.id < c.id) the_constraint cs (subst (AllPairs (λ b c. b.id < c.id)) is h.ascending);
   values = all_unmap (λ c. IsValue c.most) the_constraint cs (subst (All (λ c. IsValue c.most)) is h.values);
 }
+
+-- the ids of a network of the program ascend, and its constraints end at time-points
+pub ids_ascend : (deadline : ℕ) (points : List TimePoint) (cs : List Constraint) → IsWellFormed (net_of deadline points cs) →
+    AllPairs (λ b c. b.id < c.id) cs
+ids_ascend deadline points cs h = (kept_in (net_of deadline points cs) cs refl h).ascending
+
+pub ends_inside : (deadline n : ℕ) (points : List TimePoint) (cs : List Constraint) → IsWellFormed (net_of deadline points cs) → length points ≡ n →
+    All (λ c. c.to.0 < n) cs
+ends_inside deadline n points cs h is = λ k d inside.
+    let one = (kept_in (net_of deadline points cs) cs refl h).constraints k d inside in
+    let to = one.to in
+    let same = length-map points observed in
+    omega arith
 
 -- a network with other constraints that are kept is well-formed
 pub changed : (deadline : ℕ) (points : List TimePoint) (cs ds : List Constraint) → IsWellFormed (net_of deadline points cs) →
@@ -94,6 +114,9 @@ has_it id c e = eq-eqb c.id id e
 has_other : (id : ℕ) (c : Constraint) → c.id ≢ id → has_id id c ≡ false
 has_other id c n = ne_eqb c.id id n
 
+same_end : (id : ℕ) (most : ℤ) (c : Constraint) → (with_most id most c).to.0 ≡ c.to.0
+same_end id most c = elim (has_id id c) as (λ b. (cond b (record c { most = most }) c).to.0 ≡ c.to.0) [ true ↦ refl | false ↦ refl ]
+
 pub others_stay : (id : ℕ) (most : ℤ) (cs : List Constraint) → All (λ c. c.id ≢ id) cs → map (with_most id most) cs ≡ cs
 others_stay id most [] others = refl
 others_stay id most (c ∷ cs) others =
@@ -137,18 +160,34 @@ set_is id most (c ∷ cs) (suc at) old new inside is stood made ascending =
     (ap (λ ds. c ∷ ds)
     (set_is id most cs at old new (omega arith) is stood made (pairs_tail (λ b c. b.id < c.id) c cs ascending)))
 
--- where a place is found, the id stands there
-pub found_at : (id : ℕ) (cs : List Constraint) (at : ℕ) → position (has_id id) cs ≡ Some at →
-    (at < length cs) × ((d : Constraint) → (get_or cs at d).id ≡ id)
-found_at id [] at e = cc
-found_at id (c ∷ cs) at e = (
-  (position-Some (has_id id) (c ∷ cs) at c e).0,
-  (λ d. eqb-true (get_or (c ∷ cs) at d).id id (position-Some (has_id id) (c ∷ cs) at d e).1),
-)
+module _ (id : ℕ) (cs : List Constraint) (ascending : AllPairs (λ b c. b.id < c.id) cs) where
+  -- the comparisons with an id rise along the constraints, as a search by halves asks
+  comparisons_rise : IsNonDecreasingBy (λ c. ordering_index (nat_cmp c.id id)) cs
+  comparisons_rise i j d upto inside = elim (cases_lt i j) [
+    | inl before ↦ let ordered = ascending i j d before inside in grind (arith, nat_tests)
+    | inr after ↦ let same : i ≡ j = omega arith in subst (λ k. ordering_index (nat_cmp (get_or cs i d).id id) ≤ ordering_index (nat_cmp (get_or cs k d).id id)) same (omega arith)
+  ]
 
--- and elsewhere no constraint has it
-pub found_none : (id : ℕ) (cs : List Constraint) → position (has_id id) cs ≡ None → All (λ c. c.id ≢ id) cs
-found_none id cs e = λ k d inside. eqb-false (get_or cs k d).id id (none_passes (has_id id) cs e k d inside)
+  -- where a search by halves ends at a place, the id stands there, and elsewhere no constraint has it
+  pub searched : (r : Result ℕ ℕ) → IsSearchInRange r (length cs) → IsBinarySearchResult (λ c. nat_cmp c.id id) cs r →
+      MatchResult r (λ k. (k < length cs) × ((d : Constraint) → (get_or cs k d).id ≡ id)) (λ _. All (λ c. c.id ≢ id) cs)
+  searched (Ok k) inside equal = (inside, λ d. ranked (get_or cs k d).id id _ (sym (equal d)))
+  searched (Err k) inside parted = λ i d within same. elim (cases_lt i k) [
+    | inl before ↦ let less = ranked (get_or cs i d).id id _ (sym ((parted comparisons_rise).0 i d (omega arith) before)) in omega arith
+    | inr after ↦ let greater = ranked (get_or cs i d).id id _ (sym ((parted comparisons_rise).1 i d after within)) in omega arith
+  ]
+
+-- no place is found exactly where no constraint has the id
+pub found_or_none : (id : ℕ) (cs : List Constraint) (o : Option ℕ) →
+    MatchOption o (All (λ c. c.id ≢ id) cs) (λ k. (k < length cs) × ((d : Constraint) → (get_or cs k d).id ≡ id)) → IsNone o ↔ All (λ c. c.id ≢ id) cs
+found_or_none id cs None none = (λ e. none, λ others. refl)
+found_or_none id [] (Some k) found = (λ e. cc, λ others. let inside = found.0 in absurd (omega arith))
+found_or_none id (c ∷ cs) (Some k) found = (λ e. cc, λ others. absurd (others k c found.0 (found.1 c)))
+
+-- a constraint with another value ends where it did
+pub same_ends : (id : ℕ) (most : ℤ) (cs : List Constraint) → ends (map (with_most id most) cs) ≡ ends cs
+same_ends id most [] = refl
+same_ends id most (c ∷ cs) = rw (same_ends id most cs) (ap (λ x. x ∷ ends cs) (same_end id most c))
 
 -- what contracts see of a network after a change of its constraints
 pub same_parts : (deadline : ℕ) (points : List TimePoint) (cs ds : List Constraint) (m n : ℕ) → cs ≡ ds → m ≡ n →
@@ -167,3 +206,24 @@ ranges deadline n points cs h is =
     let to = one.to in
     let same = length-map points observed in
     record { from = omega arith; to = omega arith; value = kept.values k d inside }
+
+-- what is left when the place of an id is taken out, which is a network still
+pub record IsLeft (deadline id : ℕ) (points : List TimePoint) (cs left : List Constraint) : Type 0 where
+  pub is : left ≡ without_id id cs
+  pub well_formed : IsWellFormed (net_of deadline points left)
+  pub inside : All (λ c. c.to.0 < length points) left
+  pub fewer : length left < length cs
+
+pub left_over : (deadline id at : ℕ) (points : List TimePoint) (cs left : List Constraint) → IsWellFormed (net_of deadline points cs) →
+    (at < length cs) × ((d : Constraint) → (get_or cs at d).id ≡ id) → left ≡ remove cs at → IsLeft deadline id points cs left
+left_over deadline id at points cs left good found removed =
+    let net = net_of deadline points cs in
+    let is : left ≡ without_id id cs = removed ∙ remove_is id cs at found.0 found.1 (ids_ascend deadline points cs good) in
+    let left_good = subst (λ cs. IsWellFormed (net_of deadline points cs)) (sym is) (changed deadline points cs _ good (kept_without net cs id (kept_in net cs refl good))) in
+    let inside = found.0 in
+    record {
+      is = is;
+      well_formed = left_good;
+      inside = ends_inside deadline (length points) points left left_good refl;
+      fewer = omega (arith, ap length removed, length-remove cs at inside);
+    }

@@ -1,12 +1,13 @@
--- The constraints of drafts.
-use Rattle.std.proofs.Common.{ℕ, suc, ◌≡◌, ◌+◌, ◌<◌, List, [], ◌∷◌, ◌++◌, length, take, get_or, refl, ap, arith}
+-- The constraints of drafts, and the time-points of a builder.
+use Rattle.std.proofs.Common.{ℕ, zero, suc, set, ◌≡◌, ◌+◌, ◌<◌, List, [], ◌∷◌, ◌++◌, length, take, get_or, refl, ap, arith}
 use Rattle.std.specs.List.{All, AllPairs}
 use Rattle.std.proofs.lemmas.List.{take_more, length-take-le}
 use Rattle.std.proofs.lemmas.List.Elements.{All-cons, All-nil, All-head, All-tail}
 use Rattle.std.proofs.lemmas.List.Kept.{AllPairs-cons}
 use Rattle.cstn_net.specs.declared.constraints.Constraint.{Constraint}
 use Rattle.cstn_net.specs.declared.drafts.Draft.{Draft}
-use Rattle.cstn_net.specs.Drafts.{constraint_of, constraints_from}
+use Rattle.cstn_net.specs.declared.points.TimePoint.{TimePoint}
+use Rattle.cstn_net.specs.Drafts.{constraint_of, constraints_from, with_reaction}
 
 -- one more draft gives one more constraint
 pub constraints_more : (k i : ℕ) (ds : List Draft) (d : Draft) → i ≡ k + length ds →
@@ -44,3 +45,10 @@ ids_ascend k [] = λ i j d before inside. absurd (omega arith)
 ids_ascend k (d ∷ ds) =
     AllPairs-cons (λ b c. b.id < c.id) (constraint_of k d) (constraints_from (k + 1) ds) (above k (k + 1) ds (omega arith))
     (ids_ascend (k + 1) ds)
+
+-- setting the reaction of the time-point at a place
+pub reaction_is_set : (ticks : ℕ) (points : List TimePoint) (node : ℕ) (t : TimePoint) → t ≡ get_or points node t →
+    set points node (record t { reaction = ticks }) ≡ with_reaction node ticks points
+reaction_is_set ticks [] node t stood = refl
+reaction_is_set ticks (u ∷ us) zero t stood = ap {A = TimePoint} (λ t. record t { reaction = ticks } ∷ us) stood
+reaction_is_set ticks (u ∷ us) (suc node) t stood = ap (λ ts. u ∷ ts) (reaction_is_set ticks us node t stood)

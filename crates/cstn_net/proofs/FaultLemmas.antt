@@ -1,5 +1,6 @@
 -- Faults of a builder, and the network of one that has none.
 use Rattle.std.proofs.Common.{ℕ, zero, suc, ◌≡◌, ◌≢◌, inl, inr, ◌<◌, ◌≤◌, true, false, cond, Option, Some, None, List, [], ◌∷◌, length, get_or, map, refl, arith}
+use Rattle.std.specs.Prelude.{IsSome, option_map}
 use Rattle.std.specs.List.{All}
 use Rattle.std.proofs.lemmas.Bool.{cases_lt}
 use Rattle.std.proofs.lemmas.List.{length-map}
@@ -8,13 +9,14 @@ use Rattle.cstn_label.specs.declared.nodes.NodeId.{NodeId}
 use Rattle.cstn_label.specs.declared.marks.Mark.TheVariants.{Absent}
 use Rattle.cstn_label.specs.Labels.{Label, IsPlain}
 use Rattle.cstn_label.specs.Read.{marks}
+use Rattle.cstn_label.specs.declared.props.Prop.{Prop}
 use Rattle.cstn_net.specs.declared.points.TimePoint.{TimePoint}
 use Rattle.cstn_net.specs.declared.errors.NetError.{NetError}
-use Rattle.cstn_net.specs.declared.errors.NetError.TheVariants.{TooManyNodes, NoOrigin, TooManyConstraints, DeadlineRange, ValueRange, NotObserved, TwoObservers, NotPlain, Memory}
+use Rattle.cstn_net.specs.declared.errors.NetError.TheVariants.{TooManyNodes, NoOrigin, TooManyConstraints, DeadlineRange, ValueRange, NotObserved, TwoObservers, NotPlain, ReactionRange, Memory}
 use Rattle.cstn_net.specs.Networks.{IsConstraint, IsValue, IsWellFormed}
 use Rattle.cstn_net.specs.Read.{observed, is_prop, reaction_of, the_constraint}
 use Rattle.cstn_net.specs.Observers.{KnowsObservers, IsUnseen}
-use Rattle.cstn_net.specs.Drafts.{BuilderParts, LacksObserver, HasTwins, IsFirst, IsLeastOfFirst, IsDraftAmong, IsSized, IsSound, HasFault, number, observations, constraints_from}
+use Rattle.cstn_net.specs.Drafts.{BuilderParts, LacksObserver, HasTwins, IsFirst, IsLeastOfFirst, IsDraftAmong, IsSized, IsSound, HasFault, IsTimely, number, observations, constraints_from}
 use Rattle.cstn_net.proofs.ListLemmas.{pairs_map}
 use Rattle.cstn_net.proofs.ObserverLemmas.{prop_below, stands_within}
 use Rattle.cstn_net.proofs.ChangeLemmas.{net_of}
@@ -30,24 +32,24 @@ never_fails : {X : Type 0} (P : X → Type 0) (xs : List X) (k : ℕ) → IsFirs
 never_fails P xs k first all = no_first (λ x. P x → ⊥) xs k first (λ i d inside fails. fails (all i d inside))
 
 -- a builder with few enough things has no fault below N5, nor a later one that was looked for
-pub lowest_from : (b : BuilderParts) (k : ℕ) → IsSized b → k ≤ 8 → (5 < k → All (λ d. IsValue d.most) b.drafts) →
+pub lowest_from : (b : BuilderParts) (k : ℕ) → IsSized b → k ≤ 9 → (5 < k → All (λ d. IsValue d.most) b.drafts) →
     (6 < k → All (λ d. (q : ℕ) → LacksObserver (observations b) (marks d.label) q → ⊥) b.drafts) →
-    (7 < k → HasTwins (observations b) (length b.points) → ⊥) → (f : NetError) → HasFault b f → k ≤ number f
-lowest_from b k sized upto values named single TooManyNodes has = let few = sized.few_points in absurd (omega arith)
-lowest_from b k sized upto values named single NoOrigin has = let origin = sized.origin in absurd (omega arith)
-lowest_from b k sized upto values named single TooManyConstraints has =
+    (7 < k → HasTwins (observations b) (length b.points) → ⊥) → (8 < k → All (λ d. IsPlain (marks d.label)) b.drafts) → (f : NetError) → HasFault b f → k ≤ number f
+lowest_from b k sized upto values named single plain TooManyNodes has = let few = sized.few_points in absurd (omega arith)
+lowest_from b k sized upto values named single plain NoOrigin has = let origin = sized.origin in absurd (omega arith)
+lowest_from b k sized upto values named single plain TooManyConstraints has =
     let few = sized.few_constraints in absurd (omega arith)
-lowest_from b k sized upto values named single (DeadlineRange deadline) has =
+lowest_from b k sized upto values named single plain (DeadlineRange deadline) has =
     let in_time = sized.in_time in let late = has.1 in absurd (omega arith)
-lowest_from b k sized upto values named single (ValueRange constraint) has = elim (cases_lt 5 k) [
+lowest_from b k sized upto values named single plain (ValueRange constraint) has = elim (cases_lt 5 k) [
   | inl looked ↦ absurd (never_fails (λ d. IsValue d.most) b.drafts constraint has (values looked))
   | inr below ↦ below
 ]
-lowest_from b k sized upto values named single (NotObserved prop) has = elim (cases_lt 6 k) [
+lowest_from b k sized upto values named single plain (NotObserved prop) has = elim (cases_lt 6 k) [
   | inl looked ↦ absurd (no_first _ b.drafts has.place has.first (λ i d inside h. named looked i d inside h.0 h.1))
   | inr below ↦ below
 ]
-lowest_from b k sized upto values named single (TwoObservers prop first second) has = elim (cases_lt 7 k) [
+lowest_from b k sized upto values named single plain (TwoObservers prop first second) has = elim (cases_lt 7 k) [
   | inl looked ↦
       let within = stands_within (observations b) second.0 prop.index has.other in
       let many = length-map b.points observed in
@@ -62,15 +64,20 @@ lowest_from b k sized upto values named single (TwoObservers prop first second) 
       }))
   | inr below ↦ below
 ]
-lowest_from b k sized upto values named single (NotPlain constraint) has = upto
-lowest_from b k sized upto values named single (Memory e) has = absurd has
+lowest_from b k sized upto values named single plain (NotPlain constraint) has = elim (cases_lt 8 k) [
+  | inl looked ↦ absurd (never_fails (λ d. IsPlain (marks d.label)) b.drafts constraint has (plain looked))
+  | inr below ↦ below
+]
+lowest_from b k sized upto values named single plain (ReactionRange node) has = upto
+lowest_from b k sized upto values named single plain (Memory e) has = absurd has
 
 -- a builder that is sized and sound has no fault
 pub no_fault : (b : BuilderParts) → IsSized b → IsSound b → (f : NetError) → HasFault b f → ⊥
-no_fault b sized sound f has = go f has (lowest_from b 8 sized (omega arith) (λ h. sound.values) (λ h. sound.observed) (λ h. sound.no_twins) f has)
+no_fault b sized sound f has = go f has (lowest_from b 9 sized (omega arith) (λ h. sound.values) (λ h. sound.observed) (λ h. sound.no_twins) (λ h. sound.plain) f has)
   where
-    go : (f : NetError) → HasFault b f → 8 ≤ number f → ⊥
-    go (NotPlain constraint) has at = never_fails (λ d. IsPlain (marks d.label)) b.drafts constraint has sound.plain
+    go : (f : NetError) → HasFault b f → 9 ≤ number f → ⊥
+    go (ReactionRange node) has at = never_fails IsTimely b.points node.0 has sound.timely
+    go (NotPlain constraint) has at = omega arith
     go TooManyNodes has at = omega arith
     go NoOrigin has at = omega arith
     go TooManyConstraints has at = omega arith
@@ -122,19 +129,30 @@ letters_below [] x p e = cc
 letters_below (t ∷ ts) zero p e = prop_below t.observes p e
 letters_below (t ∷ ts) (suc x) p e = letters_below ts x p e
 
-reaction_one : (points : List TimePoint) (p : ℕ) → All (λ t. t.reaction ≡ 1) points → reaction_of points p ≡ 1
-reaction_one [] p all = refl
-reaction_one (t ∷ ts) p all =
-    elim (is_prop p (observed t)) as (λ b. cond b t.reaction (reaction_of ts p) ≡ 1) [
-      | true ↦ All-head (λ t. t.reaction ≡ 1) t ts all
-      | false ↦ reaction_one ts p (All-tail (λ t. t.reaction ≡ 1) t ts all)
+observes_some : (o : Option Prop) (q : ℕ) → option_map (λ p. p.index) o ≡ Some q → IsSome o
+observes_some None q e = cc
+observes_some (Some p) q e = refl
+
+timely_first : (t : TimePoint) (p n : ℕ) → IsTimely t → (0 < n) × (n ≤ 1000) → (o : Option ℕ) → observed t ≡ o →
+    (0 < cond (is_prop p o) t.reaction n) × (cond (is_prop p o) t.reaction n ≤ 1000)
+timely_first t p n timely rest None e = rest
+timely_first t p n timely rest (Some q) e =
+    elim (is_prop p (Some q)) as (λ b. (0 < cond b t.reaction n) × (cond b t.reaction n ≤ 1000)) [
+      | true ↦ timely (observes_some t.observes q e)
+      | false ↦ rest
     ]
+
+-- where each time-point that observes reacts in time, so does the first that observes a proposition
+pub timely_reaction : (points : List TimePoint) (p : ℕ) → All IsTimely points → (0 < reaction_of points p) × (reaction_of points p ≤ 1000)
+timely_reaction [] p all = (omega arith, omega arith)
+timely_reaction (t ∷ ts) p all =
+    timely_first t p (reaction_of ts p) (All-head IsTimely t ts all) (timely_reaction ts p (All-tail IsTimely t ts all)) (observed t) refl
 
 -- the network of a builder that is sized and sound is well-formed
 pub made_well_formed : (b : BuilderParts) (table : List (Option NodeId)) → KnowsObservers (observations b) table →
-    IsSized b → IsSound b → All (λ t. t.reaction ≡ 1) b.points → All (IsDraftAmong (length b.points)) b.drafts →
+    IsSized b → IsSound b → All (IsDraftAmong (length b.points)) b.drafts →
     IsWellFormed (net_of b.deadline b.points (constraints_from 0 b.drafts))
-made_well_formed b table h sized sound ones among =
+made_well_formed b table h sized sound among =
     let net = net_of b.deadline b.points (constraints_from 0 b.drafts) in
     let many = length-map b.points observed in
     let long = constraints_length 0 b.drafts in
@@ -156,7 +174,7 @@ made_well_formed b table h sized sound ones among =
             | inr downto ↦ omega arith
           ]
         ];
-        reacts = λ x p o. let one = reaction_one b.points p ones in omega arith;
+        reacts = λ x p o. (timely_reaction b.points p sound.timely).0;
         constraints = All-map (IsConstraint net) the_constraint (constraints_from 0 b.drafts)
             (all_constraints (λ c. IsConstraint net (the_constraint c)) 0 b.drafts (λ k d inside id.
             let ends = among k d inside in
@@ -173,7 +191,7 @@ made_well_formed b table h sized sound ones among =
       };
       few_points = omega arith;
       letters = λ x p o. letters_below b.points x p o.what;
-      soon = λ x p o. let one = reaction_one b.points p ones in omega arith;
+      soon = λ x p o. (timely_reaction b.points p sound.timely).1;
       few_constraints = omega arith;
       ascending = pairs_map (λ b c. b.id < c.id) the_constraint (constraints_from 0 b.drafts) (ids_ascend 0 b.drafts);
       values = All-map (λ c. IsValue c.most) the_constraint (constraints_from 0 b.drafts)

@@ -1,24 +1,22 @@
 -- A builder that was handed a well-formed network has no fault.
-use Rattle.std.proofs.Common.{ℕ, ◌≡◌, ◌+◌, ◌<◌, inl, inr, Some, None, List, [], ◌∷◌, length, ap, sym, subst, arith, ◌∙◌}
-use Rattle.std.specs.Prelude.{map, ℤ, slice_index_or}
+use Rattle.std.proofs.Common.{refl, Option, ◌≤◌, ℕ, ◌≡◌, ◌+◌, ◌<◌, inl, inr, Some, None, List, [], ◌∷◌, length, ap, sym, subst, arith, ◌∙◌}
+use Rattle.std.specs.Prelude.{map, ℤ, slice_index_or, IsSome, option_map}
 use Rattle.std.specs.List.{All}
-use Rattle.std.proofs.lemmas.List.{length-map}
+use Rattle.std.proofs.lemmas.List.{length-map, get_or_default}
 use Rattle.std.proofs.lemmas.List.Elements.{All-cons, All-nil, All-head, All-tail, All-weaker}
 use Rattle.cstn_label.specs.Labels.{Label, IsPlain}
 use Rattle.cstn_label.specs.Read.{marks}
 use Rattle.cstn_net.specs.declared.drafts.Draft.{Draft}
 use Rattle.cstn_net.specs.declared.errors.NetError.{NetError}
-use Rattle.cstn_net.specs.declared.errors.NetError.TheVariants.{TooManyNodes, NoOrigin, TooManyConstraints, DeadlineRange, ValueRange, NotObserved, TwoObservers, NotPlain, Memory}
+use Rattle.cstn_net.specs.declared.errors.NetError.TheVariants.{TooManyNodes, NoOrigin, TooManyConstraints, DeadlineRange, ValueRange, NotObserved, TwoObservers, NotPlain, ReactionRange, Memory}
 use Rattle.cstn_net.specs.Networks.{Network, IsConstraint, IsOnObserved, IsValue, IsWellFormed, Observes}
-use Rattle.cstn_net.specs.Read.{observed, the_constraint}
-use Rattle.cstn_net.specs.Drafts.{BuilderParts, HasFault, IsRefusal, LacksObserver, observations, number, constraints_from, constraint_of}
+use Rattle.cstn_net.specs.declared.points.TimePoint.{TimePoint}
+use Rattle.cstn_label.specs.declared.props.Prop.{Prop}
+use Rattle.cstn_net.specs.Read.{observed, the_constraint, reaction_of}
+use Rattle.cstn_net.specs.Drafts.{BuilderParts, HasFault, IsFirst, IsRefusal, IsTimely, LacksObserver, observations, number, constraints_from, constraint_of}
+use Rattle.cstn_net.specs.Handed.{IsHanded}
 use Rattle.cstn_net.proofs.DraftLemmas.{constraints_length}
-
--- the builder was handed this network
-pub record IsHanded (b : BuilderParts) (net : Network) : Type 0 where
-  pub deadline : b.deadline ≡ net.deadline
-  pub observes : map observed b.points ≡ net.observes
-  pub constraints : map the_constraint (constraints_from 0 b.drafts) ≡ net.constraints
+use Rattle.cstn_net.proofs.ObserverLemmas.{reaction_at, observed_at}
 
 -- what holds of the constraint of each draft
 drafts_each : (P : ℤ → Label → Type 0) (k : ℕ) (ds : List Draft) → All (λ c. P c.most c.label) (map the_constraint (constraints_from k ds)) →
@@ -34,6 +32,45 @@ nowhere : (P Q : Draft → Type 0) (ds : List Draft) (k : ℕ) → k < length ds
     ((d : Draft) → Q (slice_index_or ds k d)) → ⊥
 nowhere P Q [] k inside all apart fails = absurd (omega arith)
 nowhere P Q (d ∷ ds) k inside all apart fails = apart (slice_index_or (d ∷ ds) k d) (all k d inside) (fails d)
+
+observes_one : (o : Option Prop) → IsSome o → (p : ℕ) × (option_map (λ p. p.index) o ≡ Some p)
+observes_one None some = cc
+observes_one (Some p) some = (p.index, refl)
+
+-- at no place fails what holds wherever something is observed
+nowhere_timely : (points : List TimePoint) (k : ℕ) → k < length points → ((t : TimePoint) → IsTimely (slice_index_or points k t) → ⊥) →
+    ((t : TimePoint) → t ≡ slice_index_or points k t → (p : ℕ) → slice_index_or (map observed points) k None ≡ Some p → (0 < t.reaction) × (t.reaction ≤ 1000)) → ⊥
+nowhere_timely [] k inside fails timely = absurd (omega arith)
+nowhere_timely (u ∷ us) k inside fails timely =
+    let t = slice_index_or (u ∷ us) k u in
+    let is_t : t ≡ slice_index_or (u ∷ us) k t = get_or_default (u ∷ us) k u (slice_index_or (u ∷ us) k u) inside in
+    fails u (λ some. let one = observes_one t.observes some in
+    timely t is_t one.0 (observed_at (u ∷ us) k t inside is_t ∙ one.1))
+
+-- each time-point that was handed in reacts in time, since it alone observes what it observes
+untimely_nowhere : (b : BuilderParts) (net : Network) → IsWellFormed net → IsHanded b net → (k : ℕ) → IsFirst (λ t. IsTimely t → ⊥) b.points k → ⊥
+untimely_nowhere b net good handed k f =
+    nowhere_timely b.points k f.inside f.here (λ t is_t p is.
+    let at : (x : ℕ) → slice_index_or (observations b) x None ≡ Some p → Observes net x p =
+    λ x is. record { what = sym (ap (λ os. slice_index_or os x None) handed.observes) ∙ is } in
+    let only : (y : ℕ) → slice_index_or (observations b) y None ≡ Some p → k ≤ y =
+    λ y there. let same = good.network.one_observer k y p (at k is) (at y there) in omega arith in
+    let ticks : t.reaction ≡ net.reaction p = ap (λ t. t.reaction) is_t ∙ sym (reaction_at b.points p k t is only) ∙ handed.reaction p in
+    let some = good.network.reacts k p (at k is) in
+    let soon = good.soon k p (at k is) in
+    (omega (arith, ticks, some), omega (arith, ticks, soon)))
+
+-- a builder of which each time-point has a reaction of a tick gives each proposition that reaction
+pub prompt_reaction : (points : List TimePoint) → All (λ t. t.reaction ≡ 1) points → (p : ℕ) → reaction_of points p ≡ 1
+prompt_reaction [] all p = refl
+prompt_reaction (t ∷ ts) all p =
+    let head = All-head (λ t. t.reaction ≡ 1) t ts all in
+    let rest = prompt_reaction ts (All-tail (λ t. t.reaction ≡ 1) t ts all) p in
+    grind arith
+
+-- so no reaction of it is out of range
+pub prompt_is_timely : (points : List TimePoint) → All (λ t. t.reaction ≡ 1) points → All IsTimely points
+prompt_is_timely points all = All-weaker (λ t. t.reaction ≡ 1) IsTimely (λ t one some. (omega arith, omega arith)) points all
 
 pub no_fault : (b : BuilderParts) (net : Network) → IsWellFormed net → IsHanded b net → (e : NetError) → HasFault b e → ⊥
 no_fault b net good handed TooManyNodes f = let few = good.few_points in let len = ap length handed.observes in omega (arith, f, few, len, length-map b.points observed)
@@ -64,6 +101,7 @@ no_fault b net good handed (TwoObservers prop first second) f =
     let same = good.network.one_observer first.0 second.0 prop.index (at first.0 prop.index f.one) (at second.0 prop.index f.other) in
     let before = f.ordered in
     absurd (omega (arith, same, before))
+no_fault b net good handed (ReactionRange node) f = untimely_nowhere b net good handed node.0 f
 no_fault b net good handed (Memory e) f = f
 
 -- so it is refused for want of memory alone

@@ -4,7 +4,7 @@ use Rattle.std.specs.Prelude.{pos, ◌≤ℤ◌, ◌↔◌}
 use Rattle.std.proofs.lemmas.Bool.{cases_lt}
 use Rattle.std.proofs.lemmas.Int.{ints, by_lt_z}
 use Rattle.std.proofs.lemmas.List.{get_or_past}
-use Rattle.cstn_label.specs.Labels.{Label, Scenario, Holds, IsPossible, IsPlain, empty}
+use Rattle.cstn_label.specs.Labels.{Label, Scenario, MarkFits, Holds, IsPossible, IsPlain, empty}
 use Rattle.cstn_label.specs.Bounds.{Bound, Dominates}
 use Rattle.cstn_label.proofs.LabelLemmas.{made_true, made_holds, made_agrees, possible_within}
 use Rattle.cstn_net.specs.Networks.{Network, IsNetwork, Observes, count}
@@ -53,6 +53,16 @@ known_or_not net at t x p good o = elim (cases_lt t (at x + net.reaction p)) [
   | inr soon ↦ inl soon
 ]
 
+-- what a time-point observes is known exactly once its reaction has passed
+pub known_when_passed : (net : Network) (at : Schedule) (t x p : ℕ) → IsNetwork net → Observes net x p →
+    IsKnown net at t p ↔ (at x + net.reaction p ≤ t)
+known_when_passed net at t x p good o = (
+  (λ known.
+      let same = good.one_observer known.observer x p known.observes o in
+      subst (λ y. at y + net.reaction p ≤ t) same known.passed),
+  (λ passed. record { observer = x; observes = o; passed = passed }),
+)
+
 -- what a time-point observes isn't known at its own moment
 pub unknown_at_observer : (net : Network) (at : Schedule) (x p : ℕ) → IsNetwork net → Observes net x p →
     IsKnown net at (at x) p → ⊥
@@ -67,6 +77,11 @@ pub flipped : (net : Network) (at : Schedule) (t : ℕ) (s : Scenario) (a : Labe
     IsPossible (IsKnown net at t) s a → (r : Scenario) × Agrees net at t s r × Holds r a
 flipped net at t s a plain possible =
     (made_true a s, made_agrees (IsKnown net at t) s a possible, made_holds a s plain)
+
+-- what holds in a scenario that agrees with what is known is possible
+pub holds_possible : (net : Network) (at : Schedule) (t : ℕ) (s r : Scenario) (a : Label) → Agrees net at t s r → Holds r a →
+    IsPossible (IsKnown net at t) s a
+holds_possible net at t s r a agrees holds p k = subst (λ v. MarkFits v (a p)) (agrees p k) (holds p)
 
 -- a time-point is at 0 or later
 pub base_holds : (net : Network) (table : Table) (x : ℕ) →

@@ -1,6 +1,8 @@
 pub mod Knowledge
 pub mod Dynamic
 pub mod Plain
+pub mod Observed
+pub mod Kept
 pub mod Branch
 pub mod Late
 pub mod WellFormed
@@ -9,4 +11,5 @@ mod ObserverLemmas
 pub mod ChangeLemmas
 pub mod DraftLemmas
 mod FaultLemmas
+pub mod LinkLemmas
 pub mod HandedLemmas

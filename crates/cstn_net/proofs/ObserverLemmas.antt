@@ -1,6 +1,9 @@
 -- The table of observers, a time-point at a time.
-use Rattle.std.proofs.Common.{ℕ, zero, suc, ◌≡◌, ◌⊎◌, inl, inr, ◌+◌, ◌<◌, ◌≤◌, Option, Some, None, List, [], ◌∷◌, ◌++◌, length, get_or, set, take, map, replicate, arith, refl, sym, subst, ◌∙◌, ap, cond, false}
-use Rattle.std.specs.Prelude.{is_some}
+use Rattle.std.proofs.Common.{ℕ, zero, suc, ◌≡◌, ◌≢◌, ◌⊎◌, inl, inr, ◌+◌, ◌<◌, ◌≤◌, Option, Some, None, List, [], ◌∷◌, ◌++◌, length, get_or, set, take, map, replicate, arith, refl, sym, subst, ◌∙◌, ap, cond, false}
+use Rattle.std.specs.Prelude.{is_some, MatchOption}
+use Rattle.cstn_label.specs.declared.marks.Mark.TheVariants.{Absent}
+use Rattle.cstn_label.specs.Labels.{Label}
+use Rattle.cstn_net.specs.Networks.{Network, Observes, IsOnObserved, IsLeastUnobserved}
 use Rattle.std.specs.Option.{option_map}
 use Rattle.std.proofs.lemmas.Bool.{cases_lt, cases_eq, eq-eqb, ne_eqb}
 use Rattle.std.proofs.lemmas.List.{map_more, get_or-map, length-map, get_or_past, length-take-le, get_or-set_same, get_or-set_other, length-set}
@@ -9,7 +12,7 @@ use Rattle.cstn_label.specs.declared.props.Prop.{Prop}
 use Rattle.cstn_net.specs.declared.points.TimePoint.{TimePoint}
 use Rattle.cstn_net.specs.Read.{observed, is_prop, reaction_of}
 use Rattle.cstn_net.specs.Drafts.{HasTwins, AreFirstTwins}
-use Rattle.cstn_net.specs.Observers.{KnowsObservers, IsTwin, noted}
+use Rattle.cstn_net.specs.Observers.{KnowsObservers, IsTwin, IsUnseen, noted}
 
 -- a proposition is below 52
 pub prop_below : (o : Option Prop) (q : ℕ) → option_map (λ p. p.index) o ≡ Some q → q < 52
@@ -229,3 +232,25 @@ module _ (observes : List (Option ℕ)) (table : List (Option NodeId)) (h : Know
 pub observed_at : (points : List TimePoint) (i : ℕ) (t : TimePoint) → i < length points → t ≡ get_or points i t →
     get_or (map observed points) i None ≡ observed t
 observed_at points i t inside is = get_or-map observed points i t None inside ∙ ap observed (sym is)
+
+module _ (net : Network) (table : List (Option NodeId)) (a : Label) (h : KnowsObservers net.observes table) where
+  has_observer : (p : ℕ) → (o : Option NodeId) → get_or table p None ≡ o → a p ≢ Absent → (IsUnseen table a p → ⊥) → (x : ℕ) × Observes net x p
+  has_observer p None free named seen = absurd (seen (record { named = named; unseen = free }))
+  has_observer p (Some y) there named seen = (y.0, record { what = h.right p y there })
+
+  has_none : (p : ℕ) → IsUnseen table a p → (x : ℕ) → Observes net x p → ⊥
+  has_none p u x o = let first = h.first p x o.what in let there = first.1 in let free = u.unseen in cc
+
+  free_there : (q : ℕ) (o : Option NodeId) → get_or table q None ≡ o → ((x : ℕ) → Observes net x q → ⊥) → get_or table q None ≡ None
+  free_there q None e none = e
+  free_there q (Some y) e none = absurd (none y.0 (record { what = h.right q y e }))
+
+  -- what the table has no observer of is observed by nothing, and the other way round
+  pub unseen_is_unobserved : (o : Option Prop) →
+      MatchOption o ((q : ℕ) → IsUnseen table a q → ⊥) (λ p. IsUnseen table a p.index × ((q : ℕ) → q < p.index → IsUnseen table a q → ⊥)) →
+      MatchOption o (IsOnObserved net a) (λ p. IsLeastUnobserved net a p.index)
+  unseen_is_unobserved None none = λ p named. has_observer p (get_or table p None) refl named (none p)
+  unseen_is_unobserved (Some p) found = (
+    (found.0.named, has_none p.index found.0),
+    λ q below u. found.1 q below (record { named = u.0; unseen = free_there q (get_or table q None) refl u.1 }),
+  )

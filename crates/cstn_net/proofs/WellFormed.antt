@@ -13,6 +13,29 @@ pub observes_with : (net : Network) (cs : List Constraint) (x p : ℕ) → Obser
     Observes (record net { constraints = cs }) x p
 observes_with net cs x p o = record { what = o.what }
 
+-- a well-formed network stays so with another deadline in range
+pub well_formed_by : (net : Network) (deadline : ℕ) → IsWellFormed net → deadline ≤ 1000000 → IsWellFormed (record net { deadline = deadline })
+well_formed_by net deadline h in_time = record {
+  network = record {
+    origin = h.network.origin;
+    one_observer = λ x y p o q. h.network.one_observer x y p (record { what = o.what }) (record { what = q.what });
+    reacts = λ x p o. h.network.reacts x p (record { what = o.what });
+    constraints = All-weaker (IsConstraint net) (IsConstraint (record net { deadline = deadline })) (λ c h. record {
+      from = h.from;
+      to = h.to;
+      plain = h.plain;
+      observed = λ p marked. let o = h.observed p marked in (o.0, record { what = o.1.what });
+    }) net.constraints h.network.constraints;
+  };
+  few_points = h.few_points;
+  letters = λ x p o. h.letters x p (record { what = o.what });
+  soon = λ x p o. h.soon x p (record { what = o.what });
+  few_constraints = h.few_constraints;
+  ascending = h.ascending;
+  values = h.values;
+  in_time = in_time;
+}
+
 -- nor does what is a constraint of it
 pub constraint_with : (net : Network) (cs : List Constraint) (c : Constraint) → IsConstraint net c →
     IsConstraint (record net { constraints = cs }) c

@@ -1,5 +1,5 @@
 -- What a builder holds, and what keeps it from being a network.
-use Rattle.std.specs.Prelude.{ℕ, ◌≡◌, ◌≢◌, ◌<◌, ◌≤◌, ◌+◌, ◌⊎◌, List, [], ◌∷◌, length, map, take, Option, None, Some, slice_index_or}
+use Rattle.std.specs.Prelude.{ℕ, zero, suc, ◌≡◌, ◌≢◌, ◌<◌, ◌≤◌, ◌+◌, ◌⊎◌, List, [], ◌∷◌, length, map, take, Option, None, Some, IsSome, slice_index_or}
 use Rattle.std.specs.List.{All, HoldsAt}
 use Rattle.cstn_label.specs.declared.marks.Mark.TheVariants.{Absent}
 use Rattle.cstn_label.specs.Labels.{Label, IsPlain}
@@ -8,7 +8,7 @@ use Rattle.cstn_net.specs.declared.constraints.Constraint.{Constraint}
 use Rattle.cstn_net.specs.declared.points.TimePoint.{TimePoint}
 use Rattle.cstn_net.specs.declared.drafts.Draft.{Draft}
 use Rattle.cstn_net.specs.declared.errors.NetError.{NetError}
-use Rattle.cstn_net.specs.declared.errors.NetError.TheVariants.{TooManyNodes, NoOrigin, TooManyConstraints, DeadlineRange, ValueRange, NotObserved, TwoObservers, NotPlain, Memory}
+use Rattle.cstn_net.specs.declared.errors.NetError.TheVariants.{TooManyNodes, NoOrigin, TooManyConstraints, DeadlineRange, ValueRange, NotObserved, TwoObservers, NotPlain, ReactionRange, Memory}
 use Rattle.cstn_net.specs.Networks.{IsValue}
 use Rattle.cstn_net.specs.Read.{observed}
 
@@ -21,6 +21,12 @@ pub record BuilderParts : Type 0 where
 -- what each time-point observes
 abbrev pub observations : BuilderParts → List (Option ℕ)
 observations b = map observed b.points
+
+-- the time-points, of which the one with this number has another reaction
+abbrev pub with_reaction : ℕ → ℕ → List TimePoint → List TimePoint
+with_reaction node ticks [] = []
+with_reaction zero ticks (t ∷ ts) = record t { reaction = ticks } ∷ ts
+with_reaction (suc node) ticks (t ∷ ts) = t ∷ with_reaction node ticks ts
 
 -- the constraint of a draft, under its id
 abbrev pub constraint_of : ℕ → Draft → Constraint
@@ -70,6 +76,10 @@ pub record AreFirstTwins (observes : List (Option ℕ)) (p first second : ℕ) :
   pub other : slice_index_or observes second None ≡ Some p
   pub none_before : HasTwins observes second → ⊥
 
+-- the time-point has a reaction from 1 to 1,000 ticks where it observes something
+abbrev pub IsTimely : TimePoint → Type 0
+IsTimely t = IsSome t.observes → (0 < t.reaction) × (t.reaction ≤ 1000)
+
 -- what each refusal says of a builder
 abbrev pub HasFault : BuilderParts → NetError → Type 0
 HasFault b TooManyNodes = 1024 < length b.points
@@ -81,6 +91,7 @@ HasFault b (NotObserved prop) =
     IsLeastOfFirst (λ q d. LacksObserver (observations b) (marks d.label) q) b.drafts prop.index
 HasFault b (TwoObservers prop first second) = AreFirstTwins (observations b) prop.index first.0 second.0
 HasFault b (NotPlain constraint) = IsFirst (λ d. IsPlain (marks d.label) → ⊥) b.drafts constraint
+HasFault b (ReactionRange node) = IsFirst (λ t. IsTimely t → ⊥) b.points node.0
 HasFault b (Memory e) = ⊥
 
 -- a builder without the faults of N1 to N4
@@ -90,12 +101,13 @@ pub record IsSized (b : BuilderParts) : Type 0 where
   pub few_constraints : length b.drafts ≤ 16384
   pub in_time : b.deadline ≤ 1000000
 
--- a builder without the faults of N5 to N8
+-- a builder without the faults of N5 to N9
 pub record IsSound (b : BuilderParts) : Type 0 where
   pub values : All (λ d. IsValue d.most) b.drafts
   pub observed : All (λ d. (q : ℕ) → LacksObserver (observations b) (marks d.label) q → ⊥) b.drafts
   pub no_twins : HasTwins (observations b) (length b.points) → ⊥
   pub plain : All (λ d. IsPlain (marks d.label)) b.drafts
+  pub timely : All IsTimely b.points
 
 -- the number of a refusal, and 0 for want of memory
 abbrev pub number : NetError → ℕ
@@ -108,6 +120,7 @@ number (ValueRange constraint) = 5
 number (NotObserved prop) = 6
 number (TwoObservers prop first second) = 7
 number (NotPlain constraint) = 8
+number (ReactionRange node) = 9
 
 -- the builder has this fault, and none with a lower number
 pub record IsLowestFault (b : BuilderParts) (e : NetError) : Type 0 where

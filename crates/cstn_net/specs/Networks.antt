@@ -37,6 +37,14 @@ limit net (suc x) = net.deadline
 abbrev pub IsOnObserved : Network → Label → Type 0
 IsOnObserved net a = (p : ℕ) → a p ≢ Absent → (x : ℕ) × Observes net x p
 
+-- the label names the proposition, which nothing observes
+abbrev pub IsUnobserved : Network → Label → ℕ → Type 0
+IsUnobserved net a p = (a p ≢ Absent) × ((x : ℕ) → Observes net x p → ⊥)
+
+-- and it is the least such proposition
+abbrev pub IsLeastUnobserved : Network → Label → ℕ → Type 0
+IsLeastUnobserved net a p = IsUnobserved net a p × ((q : ℕ) → q < p → IsUnobserved net a q → ⊥)
+
 -- the ends are time-points, and the label is plain and names observed propositions alone
 pub record IsConstraint (net : Network) (c : Constraint) : Type 0 where
   pub from : c.from < count net

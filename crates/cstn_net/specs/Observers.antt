@@ -1,11 +1,13 @@
 -- The table of the time-points that observe each proposition.
-use Rattle.std.specs.Prelude.{ℕ, ◌≡◌, ◌≢◌, ◌≤◌, List, Option, None, Some, is_some, slice_index_or, slice_set, map, if◌then◌else◌}
+use Rattle.std.specs.Prelude.{ℕ, ◌≡◌, ◌≢◌, ◌≤◌, List, Option, None, Some, is_some, length, slice_index_or, slice_set, map, if◌then◌else◌}
 use Rattle.cstn_label.specs.declared.marks.Mark.TheVariants.{Absent}
 use Rattle.cstn_label.specs.declared.nodes.NodeId.{NodeId}
 use Rattle.cstn_label.specs.Labels.{Label}
 use Rattle.cstn_net.specs.declared.constraints.Constraint.{Constraint}
 use Rattle.cstn_net.specs.declared.points.TimePoint.{TimePoint}
 use Rattle.cstn_net.specs.Networks.{IsWellFormed}
+use Rattle.cstn_net.specs.declared.links.Chain.{Chain}
+use Rattle.cstn_net.specs.Links.{AreLinked, ends}
 use Rattle.cstn_net.specs.Read.{the_network, observed}
 
 -- the table has the first observer of each proposition
@@ -31,6 +33,8 @@ pub record IsTwin (table : List (Option NodeId)) (observes : Option ℕ) (x : No
   pub other : y ≢ x
 
 -- what a network of the program keeps
-pub record IsKept (deadline : ℕ) (points : List TimePoint) (table : List (Option NodeId)) (constraints : List Constraint) : Type 0 where
+pub record IsKept (deadline : ℕ) (points : List TimePoint) (table : List (Option NodeId)) (constraints : List Constraint) (chains : List (Option Chain)) (nexts : List (Option ℕ)) : Type 0 where
   pub observers : KnowsObservers (map observed points) table
   pub well_formed : IsWellFormed (the_network (record { deadline = deadline; points = points; constraints = constraints; spare = 0 }))
+  pub linked : AreLinked (ends constraints) chains nexts
+  pub wide : length chains ≡ length points

@@ -4,14 +4,18 @@ ghost use Rattle.cstn_net.specs.declared.errors.NetError.{NetError};
 ghost use Rattle.cstn_net.specs.Networks.{IsWellFormed};
 ghost use Rattle.cstn_net.specs.Read.{the_network, observed};
 ghost use Rattle.cstn_net.specs.Observers.{KnowsObservers};
-ghost use Rattle.cstn_net.specs.Drafts.{IsSized, IsSound, IsLowestFault, IsRefusal, HasFault, constraints_from};
+ghost use Rattle.cstn_net.specs.Drafts.{IsSized, IsSound, IsLowestFault, IsRefusal, HasFault, constraints_from, with_reaction};
 
 use crate::drafts::{Draft, constraints_of};
 use crate::errors::NetError;
+use crate::limits::{MAX_CONSTRAINTS, MAX_DEADLINE, MAX_NODES};
+use crate::links::Links;
 use crate::networks::Network;
 use crate::observers::{Observers, observers_of};
 use crate::points::TimePoint;
-use crate::scans::{first_not_plain, first_out_of_range, first_twins, first_unobserved};
+use crate::scans::{
+    first_not_plain, first_out_of_range, first_twins, first_unobserved, first_untimely,
+};
 use cstn_label::{Label, Prop};
 use std::alloc::{AllocError, Global};
 use std::marker::Model;
@@ -26,7 +30,7 @@ pub struct Builder {
 }
 
 impl Model for Builder {
-    ghost use Rattle.std.specs.Prelude.{◌≡◌, length};
+    ghost use Rattle.std.specs.Prelude.{length};
     ghost use Rattle.std.specs.List.{All};
     ghost use Rattle.cstn_net.specs.Drafts.{BuilderParts, IsDraftAmong};
 
@@ -34,14 +38,8 @@ impl Model for Builder {
 
     ghost view = { λ b. record { deadline = b.deadline; points = b.points.items; drafts = b.drafts.items } };
 
-    ghost invariant = { λ b. All (λ t. t.reaction ≡ 1) b.points.items × All (IsDraftAmong (length b.points.items)) b.drafts.items };
+    ghost invariant = { λ b. All (IsDraftAmong (length b.points.items)) b.drafts.items };
 }
-
-const MOST_NODES: usize = 1024;
-
-const MOST_CONSTRAINTS: usize = 16384;
-
-const MOST_TICKS: u32 = 1_000_000;
 
 impl Builder {
     /// No time-points and no constraints yet. The deadline is in ticks.
@@ -69,6 +67,14 @@ impl Builder {
             reaction: 1,
         })?;
         Ok(number)
+    }
+
+    /// Sets the ticks after which the outcome of a time-point is known, by its number. `close` judges them.
+    pub fn react(&mut self, node: u32, ticks: u32)
+        requires { node < length self.old.points }
+        ensures react { self.new ≡ record self.old { points = with_reaction node ticks self.old.points } }
+    {
+        self.points[node as usize].reaction = ticks;
     }
 
     /// Adds a constraint between two time-points by their numbers, and answers its id. `close` judges `most` and the label.
@@ -101,6 +107,7 @@ impl Builder {
         ensures deadline { IfOk result (λ n. n.deadline ≡ self.deadline) }
         ensures points { IfOk result (λ n. n.points ≡ self.points) }
         ensures constraints { IfOk result (λ n. n.constraints ≡ constraints_from 0 self.drafts) }
+        ensures spare { IfOk result (λ n. n.spare ≡ 0) }
         ensures well_formed { IfOk result (λ n. IsWellFormed (the_network n)) }
 
         // It is refused exactly where it has a fault, and then for the lowest, but for want of memory.
@@ -115,8 +122,18 @@ impl Builder {
             return Err(fault);
         }
         let count = self.points.len() as u16;
-        match constraints_of(self.alloc, count, &self.drafts) {
-            Ok(constraints) => Ok(Network::new(self.deadline, self.points, observers, constraints)),
+        let constraints = match constraints_of(self.alloc, count, &self.drafts) {
+            Ok(constraints) => constraints,
+            Err(e) => return Err(NetError::Memory(e)),
+        };
+        match Links::of(self.alloc, self.points.len(), &constraints) {
+            Ok(links) => Ok(Network::new(
+                self.deadline,
+                self.points,
+                observers,
+                constraints,
+                links,
+            )),
             Err(e) => Err(NetError::Memory(e)),
         }
     }
@@ -125,16 +142,16 @@ impl Builder {
     fn size_fault(&self) -> Option<NetError>
         ensures { MatchOption result (IsSized self.now) (IsLowestFault self.now) }
     {
-        if self.points.len() > MOST_NODES {
+        if self.points.len() > MAX_NODES {
             return Some(NetError::TooManyNodes);
         }
         if self.points.is_empty() {
             return Some(NetError::NoOrigin);
         }
-        if self.drafts.len() > MOST_CONSTRAINTS {
+        if self.drafts.len() > MAX_CONSTRAINTS {
             return Some(NetError::TooManyConstraints);
         }
-        if self.deadline > MOST_TICKS {
+        if self.deadline > MAX_DEADLINE {
             return Some(NetError::DeadlineRange {
                 deadline: self.deadline,
             });
@@ -142,7 +159,7 @@ impl Builder {
         None
     }
 
-    // The lowest fault of the constraints and the observers.
+    // The lowest fault of the constraints, the observers and the reactions.
     fn other_fault(&self, observers: &Observers) -> Option<NetError>
         requires sized { IsSized self.now }
         requires observers { KnowsObservers (map observed self.now.points) observers.now }
@@ -163,6 +180,9 @@ impl Builder {
         }
         if let Some(constraint) = first_not_plain(&self.drafts) {
             return Some(NetError::NotPlain { constraint });
+        }
+        if let Some(node) = first_untimely(&self.points) {
+            return Some(NetError::ReactionRange { node });
         }
         None
     }

@@ -29,7 +29,7 @@ pub fn constraints_of(
     let mut constraints = Vec::with_capacity(alloc, drafts.len())?;
     for draft in drafts {
         let id = constraints.len() as u32;
-        constraints.push(constraint_of(id, count, draft))?;
+        constraints.push_reserved(constraint_of(id, count, draft));
     }
     Ok(constraints)
 }

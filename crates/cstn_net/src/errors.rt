@@ -25,12 +25,12 @@ pub enum NetError {
         constraint: u32,
     },
     /// N6: the least proposition that nothing observes, of the first constraint that names one.
-    #[error("nothing observes the proposition {}", prop.index)]
+    #[error("nothing observes the proposition {}", prop.letter() as char)]
     NotObserved {
         prop: Prop,
     },
     /// N7: `second` is the first time-point whose proposition an earlier one, `first`, observes.
-    #[error("the time-points {} and {} observe the proposition {}", first.0, second.0, prop.index)]
+    #[error("the time-points {} and {} observe the proposition {}", first.0, second.0, prop.letter() as char)]
     TwoObservers {
         prop: Prop,
         first: NodeId,
@@ -41,6 +41,12 @@ pub enum NetError {
     NotPlain {
         constraint: u32,
     },
+    /// N9: the first time-point that observes and has a reaction below 1 or above 1,000 ticks.
+    #[error("the reaction of the time-point {} is out of range", node.0)]
+    ReactionRange {
+        node: NodeId,
+    },
+    /// There wasn't the memory that the network takes.
     #[error("out of memory")]
     Memory(AllocError),
 }

@@ -1,18 +1,39 @@
 // Laws of networks, tables and bounds.
-ghost use Rattle.std.specs.Prelude.{ℕ, ◌≡◌, ◌<◌, ◌≤◌, ◌↔◌, ◌⊎◌, ◌≤ℤ◌, pos};
-ghost use Rattle.cstn_label.specs.Labels.{Label, Scenario, Holds, IsPlain, IsPossible, empty};
+ghost use Rattle.std.specs.Prelude.{ℕ, ◌≡◌, ◌+◌, ◌<◌, ◌≤◌, ◌↔◌, ◌⊎◌, ◌≤ℤ◌, pos, List, length};
+ghost use Rattle.std.specs.List.{All, AllPairs, Contains};
+ghost use Rattle.cstn_label.specs.Labels.{Label, Scenario, Holds, IsMarked, IsPlain, IsPossible, IsWithin, empty, joined};
 ghost use Rattle.cstn_label.specs.Bounds.{Bound, Dominates};
-ghost use Rattle.cstn_net.specs.Networks.{Network, IsNetwork, IsWellFormed, Observes, count};
+ghost use Rattle.cstn_net.specs.Networks.{Network, Constraint, IsNetwork, IsConstraint, IsValue, IsWellFormed, Observes, count};
 ghost use Rattle.cstn_net.specs.Strategies.{Schedule, Table, IsKnown, Agrees, IsDynamic, IsNeverLater, IsStrategy, IsConsistent, IsSchedule, IsLeast};
+ghost use Rattle.cstn_net.specs.Scenarios.{IsScenarioOf, IsStrategyOnObserved, IsLeastOnObserved, observed_alone};
 ghost use Rattle.cstn_net.specs.Bounds.{HoldsIn};
 ghost use Rattle.cstn_net.specs.Examples.{branch, branch_table, late};
 
-/// What is known stays known, but a proposition isn't known at its own observer's moment. A scenario agrees with what is known
-/// in itself. Where a plain label is possible, it holds in a scenario that agrees with what is known.
+/// An observer is a time-point, and observes one proposition.
+pub fn observers_are_time_points()
+    ensures within { (net : Network) (x p : ℕ) → Observes net x p → x < count net }
+    ensures one { (net : Network) (x p q : ℕ) → Observes net x p → Observes net x q → p ≡ q }
+{}
+
+/// What is known stays known. What a time-point observes is known exactly once its reaction has passed, so not at its own
+/// moment. A scenario agrees with what is known in itself.
 pub fn knowledge_grows()
     ensures later { (net : Network) (at : Schedule) (t u p : ℕ) → t ≤ u → IsKnown net at t p → IsKnown net at u p }
+    ensures passed { (net : Network) (at : Schedule) (t x p : ℕ) → IsNetwork net → Observes net x p → (IsKnown net at t p ↔ (at x + net.reaction p ≤ t)) }
     ensures observer { (net : Network) (at : Schedule) (x p : ℕ) → IsNetwork net → Observes net x p → IsKnown net at (at x) p → ⊥ }
-    ensures itself { (net : Network) (at : Schedule) (t : ℕ) (s : Scenario) → Agrees net at t s s }
+    ensures reflexive { (net : Network) (at : Schedule) (t : ℕ) (s : Scenario) → Agrees net at t s s }
+{}
+
+/// What is within a possible label is possible, a join is possible where both labels are, and what was ruled out stays ruled
+/// out. What holds in a scenario that agrees with what is known is possible. A possible label holds where all that it marks
+/// is known, and a plain one holds in some scenario that agrees with what is known.
+pub fn possible_until_ruled_out()
+    ensures within { (net : Network) (at : Schedule) (t : ℕ) (s : Scenario) (a b : Label) → IsWithin a b → IsPossible (IsKnown net at t) s b → IsPossible (IsKnown net at t) s a }
+    ensures joined { (net : Network) (at : Schedule) (t : ℕ) (s : Scenario) (a b : Label) → (IsPossible (IsKnown net at t) s (joined a b) ↔ (IsPossible (IsKnown net at t) s a × IsPossible (IsKnown net at t) s b)) }
+    ensures earlier { (net : Network) (at : Schedule) (t u : ℕ) (s : Scenario) (a : Label) → t ≤ u → IsPossible (IsKnown net at u) s a → IsPossible (IsKnown net at t) s a }
+    ensures agrees { (net : Network) (at : Schedule) (t : ℕ) (s r : Scenario) (a : Label) → Agrees net at t s r → IsPossible (IsKnown net at t) s a → IsPossible (IsKnown net at t) r a }
+    ensures holds { (net : Network) (at : Schedule) (t : ℕ) (s r : Scenario) (a : Label) → Agrees net at t s r → Holds r a → IsPossible (IsKnown net at t) s a }
+    ensures settled { (net : Network) (at : Schedule) (t : ℕ) (s : Scenario) (a : Label) → ((p : ℕ) → IsMarked a p → IsKnown net at t p) → IsPossible (IsKnown net at t) s a → Holds s a }
     ensures flipped { (net : Network) (at : Schedule) (t : ℕ) (s : Scenario) (a : Label) → IsPlain a → IsPossible (IsKnown net at t) s a → (r : Scenario) × Agrees net at t s r × Holds r a }
 {}
 
@@ -21,9 +42,10 @@ pub fn dynamic_is_one_sided()
     ensures { (net : Network) (table : Table) → IsNetwork net → IsDynamic net table ↔ IsNeverLater net table }
 {}
 
-/// In a dynamic table, whoever agrees with what is known is agreed with, has the same moments up to then, and knows the same.
+/// Agreement with what is known is mutual in a dynamic table: where r agrees with what is known at t in s, s agrees with what
+/// is known at t in r, each moment up to t is the same in both, and the same is known at t in both.
 pub fn past_is_common()
-    ensures back { (net : Network) (table : Table) → IsNetwork net → IsDynamic net table → (s r : Scenario) (t : ℕ) → Agrees net (table s) t s r → Agrees net (table r) t r s }
+    ensures symmetric { (net : Network) (table : Table) → IsNetwork net → IsDynamic net table → (s r : Scenario) (t : ℕ) → Agrees net (table s) t s r → Agrees net (table r) t r s }
     ensures moments { (net : Network) (table : Table) → IsNetwork net → IsDynamic net table → (s r : Scenario) (t x : ℕ) → x < count net → Agrees net (table s) t s r → (table s x ≤ t) ⊎ (table r x ≤ t) → table r x ≡ table s x }
     ensures known { (net : Network) (table : Table) → IsNetwork net → IsDynamic net table → (s r : Scenario) (t p : ℕ) → Agrees net (table s) t s r → IsKnown net (table s) t p → IsKnown net (table r) t p }
 {}
@@ -33,10 +55,42 @@ pub fn unobserved_is_unseen()
     ensures { (net : Network) (table : Table) (s r : Scenario) (x : ℕ) → IsDynamic net table → x < count net → ((y p : ℕ) → Observes net y p → r p ≡ s p) → table r x ≡ table s x }
 {}
 
-/// For a network that observes nothing a strategy is one schedule: it is consistent exactly where a schedule is within the
-/// limits and meets every constraint.
+/// It makes no difference that scenarios give values to propositions that nothing observes. A network is consistent exactly
+/// where it has a strategy on its own scenarios, those in which only observed propositions are true, and its least moments in
+/// them are the least over such strategies. The least moment in any scenario is that in the scenario of the network with the
+/// same observed values.
+pub fn observed_scenarios_decide()
+    ensures own { (net : Network) (s : Scenario) → IsScenarioOf net (observed_alone net s) }
+    ensures value { (net : Network) (s : Scenario) (x p : ℕ) → Observes net x p → observed_alone net s p ≡ s p }
+    ensures consistent { (net : Network) → IsNetwork net → (IsConsistent net ↔ ((table : Table) × IsStrategyOnObserved net table)) }
+    ensures least { (net : Network) (s : Scenario) (x t : ℕ) → IsNetwork net → IsScenarioOf net s → (IsLeast net s x t ↔ IsLeastOnObserved net s x t) }
+    ensures any { (net : Network) (s : Scenario) (x t : ℕ) → x < count net → (IsLeast net s x t ↔ IsLeast net (observed_alone net s) x t) }
+{}
+
+/// Where a network observes nothing, a table is a strategy exactly where each row is a schedule that is within the limits and
+/// meets every constraint, and all rows are the same. So it is consistent exactly where there is such a schedule, and a least
+/// moment is the least in such schedules.
 pub fn plain_strategy_is_a_schedule()
-    ensures { (net : Network) → IsNetwork net → ((x p : ℕ) → Observes net x p → ⊥) → IsConsistent net ↔ ((at : Schedule) × IsSchedule net at) }
+    ensures consistent { (net : Network) → IsNetwork net → ((x p : ℕ) → Observes net x p → ⊥) → IsConsistent net ↔ ((at : Schedule) × IsSchedule net at) }
+    ensures rows { (net : Network) → IsNetwork net → ((x p : ℕ) → Observes net x p → ⊥) → (table : Table) → (IsStrategy net table ↔ (((s : Scenario) → IsSchedule net (table s)) × ((s r : Scenario) (x : ℕ) → x < count net → table r x ≡ table s x))) }
+    ensures least { (net : Network) → IsNetwork net → ((x p : ℕ) → Observes net x p → ⊥) → (s : Scenario) (x t : ℕ) → (IsLeast net s x t ↔ (((at : Schedule) × IsSchedule net at × (at x ≡ t)) × ((at : Schedule) → IsSchedule net at → t ≤ at x))) }
+{}
+
+/// A strategy stays one with a later deadline and with fewer constraints, where the rest of the network is the same.
+pub fn strategies_are_kept()
+    ensures deadline { (net : Network) (table : Table) (h : ℕ) → net.deadline ≤ h → IsStrategy net table → IsStrategy (record net { deadline = h }) table }
+    ensures constraints { (net : Network) (table : Table) (cs : List Constraint) → ((c : Constraint) → Contains cs c → Contains net.constraints c) → IsStrategy net table → IsStrategy (record net { constraints = cs }) table }
+{}
+
+/// A consistent network stays so with a later deadline and with fewer constraints.
+pub fn consistency_is_kept()
+    ensures deadline { (net : Network) (h : ℕ) → net.deadline ≤ h → IsConsistent net → IsConsistent (record net { deadline = h }) }
+    ensures constraints { (net : Network) (cs : List Constraint) → ((c : Constraint) → Contains cs c → Contains net.constraints c) → IsConsistent net → IsConsistent (record net { constraints = cs }) }
+{}
+
+/// A well-formed network stays so with other constraints of it, in ascending id and in range.
+pub fn other_constraints_are_well_formed()
+    ensures { (net : Network) (cs : List Constraint) → IsWellFormed net → length cs ≤ 16384 → All (IsConstraint net) cs → AllPairs (λ b c. b.id < c.id) cs → All (λ c. IsValue c.most) cs → IsWellFormed (record net { constraints = cs }) }
 {}
 
 /// A bound that holds in a table makes each one hold there that it dominates, and the bound 0 with the empty label holds in

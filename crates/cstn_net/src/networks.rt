@@ -1,15 +1,18 @@
-ghost use Rattle.std.specs.Prelude.{ℕ, ◌≡◌, ◌≢◌, ◌<◌, ◌≤◌, ◌+◌, ◌-◌, ◌++◌, ◌∷◌, [], ◌↔◌, ◌≤ℤ◌, pos, length, map, None, IsNone, IfNone, IfSome, IsSome, OnOk, OnErr, MatchOption, slice_index_or, false};
-ghost use Rattle.std.specs.List.{All, Contains, position};
+ghost use Rattle.std.specs.Prelude.{ℕ, ◌≡◌, ◌≢◌, ◌<◌, ◌≤◌, ◌+◌, ◌-◌, ◌++◌, ◌∷◌, [], ◌↔◌, ◌≤ℤ◌, pos, length, map, None, IsNone, IfNone, IfSome, IsSome, IfOk, OnOk, OnErr, MatchOption, slice_index, slice_index_or, max, vec_capacity, false};
+ghost use Rattle.std.specs.List.{All, AllPairs, Contains, HoldsAt};
 ghost use Rattle.std.specs.Option.{option_map};
-ghost use Rattle.cstn_net.specs.Networks.{Network, IsWellFormed, IsConstraint, IsValue, Observes, count, limit};
+ghost use Rattle.cstn_label.specs.Read.{marks};
+ghost use Rattle.cstn_net.specs.Networks.{Network, IsWellFormed, IsConstraint, IsLeastUnobserved, IsOnObserved, IsValue, Observes, count, limit};
 ghost use Rattle.cstn_net.specs.Observers.{KnowsObservers};
-ghost use Rattle.cstn_net.specs.Read.{the_network, the_constraint, observed, IsInRange, has_id, without_id, with_most};
+ghost use Rattle.cstn_net.specs.Links.{AreLinked, IsNextPlace, ends};
+ghost use Rattle.cstn_net.specs.Read.{the_network, the_constraint, observed, IsInRange, without_id, with_most};
 
 use crate::constraints::Constraint;
-use crate::observers::Observers;
+use crate::links::Links;
+use crate::observers::{Observers, unobserved};
 use crate::points::TimePoint;
-use cstn_label::{NodeId, Prop};
-use std::alloc::AllocError;
+use cstn_label::{Label, NodeId, Prop};
+use std::alloc::{AllocError, Global};
 use std::marker::Model;
 
 /// A well-formed network. A time-point that is handed to it has a number below `count`.
@@ -19,19 +22,21 @@ pub struct Network {
     points: Vec<TimePoint>,
     observers: Observers,
     constraints: Vec<Constraint>,
+    links: Links,
 }
 
 impl Model for Network {
-    ghost use Rattle.std.specs.Prelude.{◌-◌, vec_len, vec_capacity};
+    ghost use Rattle.std.specs.Prelude.{◌-◌, ◌≤◌, vec_len, vec_capacity};
+    ghost use Rattle.cstn_net.specs.Links.{AreLinked, IsNextPlace, ends};
     ghost use Rattle.cstn_net.specs.Read.{NetworkParts};
 
     ghost Value = { NetworkParts };
 
-    ghost view = { λ n. record { deadline = n.deadline; points = n.points.items; constraints = n.constraints.items; spare = vec_capacity n.constraints - vec_len n.constraints } };
+    ghost view = { λ n. record { deadline = n.deadline; points = n.points.items; constraints = n.constraints.items; spare = vec_capacity n.links.nexts - vec_len n.constraints } };
 
     ghost use Rattle.cstn_net.specs.Observers.{IsKept};
 
-    ghost invariant = { λ n. IsKept n.deadline n.points.items n.observers n.constraints.items };
+    ghost invariant = { λ n. IsKept n.deadline n.points.items n.observers n.constraints.items n.links.chains.items n.links.nexts.items × (vec_capacity n.links.nexts ≤ vec_capacity n.constraints) };
 }
 
 impl Network {
@@ -40,16 +45,21 @@ impl Network {
         points: Vec<TimePoint>,
         observers: Observers,
         constraints: Vec<Constraint>,
+        links: Links,
     ) -> Network
         requires observers { KnowsObservers (map observed points.items) observers }
         requires well_formed { IsWellFormed (the_network (record { deadline = deadline; points = points.items; constraints = constraints.items; spare = 0 })) }
-        ensures { result ≡ record { deadline = deadline; points = points.items; constraints = constraints.items; spare = result.spare } }
+        requires linked { AreLinked (ends constraints.items) links.chains.items links.nexts.items }
+        requires wide { length links.chains.items ≡ length points.items }
+        requires room { vec_capacity links.nexts ≡ length constraints.items }
+        ensures { result ≡ record { deadline = deadline; points = points.items; constraints = constraints.items; spare = 0 } }
     {
         Network {
             deadline,
             points,
             observers,
             constraints,
+            links,
         }
     }
 
@@ -96,6 +106,8 @@ impl Network {
     /// The ticks after its observer at which a proposition is known, from 1 to 1,000; 1 where nothing observes it.
     pub fn reaction(&self, p: Prop) -> u32
         ensures reaction { result ≡ (the_network self.now).reaction p.index }
+        ensures range { (1 ≤ result) × (result ≤ 1000) }
+        ensures unobserved { ((x : ℕ) → Observes (the_network self.now) x p.index → ⊥) → result ≡ 1 }
     {
         match self.observers[p.index as usize] {
             Some(x) => self.points[x.index()].reaction,
@@ -112,17 +124,75 @@ impl Network {
         &self.constraints
     }
 
+    /// The least proposition that a label names and nothing observes; none where the label names observed propositions alone.
+    pub fn unobserved(&self, label: Label) -> Option<Prop>
+        ensures { MatchOption result (IsOnObserved (the_network self.now) (marks label)) (λ p. IsLeastUnobserved (the_network self.now) (marks label) p.index) }
+    {
+        unobserved(&self.observers, label)
+    }
+
+    /// The place in `constraints` of the one with an id, found by halves; none where no constraint has it.
+    pub fn place_of(&self, id: u32) -> Option<usize>
+        ensures none { IsNone result ↔ All (λ c. c.id ≢ id) self.now.constraints }
+        ensures place { IfSome result (λ k. (k < length self.now.constraints) × HoldsAt (λ c. c.id ≡ id) self.now.constraints k) }
+    {
+        place_in(&self.constraints, id)
+    }
+
+    /// The place in `constraints` of the first one that ends at a time-point; none where none does.
+    pub fn first_to(&self, x: NodeId) -> Option<usize>
+        requires { x.0 < count (the_network self.now) }
+        ensures first { IsNextPlace x.0 0 (ends self.now.constraints) result }
+    {
+        match self.links.chains[x.index()] {
+            Some(chain) => Some(chain.first as usize),
+            None => None,
+        }
+    }
+
+    /// The place of the next constraint that ends where the one at this place does; none where no later one does.
+    pub fn next_to(&self, place: usize) -> Option<usize>
+        requires { place < length self.now.constraints }
+        ensures next { IsNextPlace (slice_index (ends self.now.constraints) place) (place + 1) (ends self.now.constraints) result }
+    {
+        match self.links.nexts[place] {
+            Some(next) => Some(next as usize),
+            None => None,
+        }
+    }
+
+    /// An equal network with no room for more constraints.
+    pub fn copy(&self, alloc: Global) -> Result<Network, AllocError>
+        ensures equal { IfOk result (λ n. n ≡ record self.now { spare = 0 }) }
+        ensures well_formed { IsWellFormed (the_network self.now) }
+    {
+        let points = Vec::from_slice(alloc, &self.points)?;
+        let constraints = Vec::from_slice(alloc, &self.constraints)?;
+        let links = Links::of(alloc, points.len(), &constraints)?;
+        Ok(Network::new(self.deadline, points, self.observers, constraints, links))
+    }
+
+    /// Sets the deadline, in ticks.
+    pub fn set_deadline(&mut self, deadline: u32)
+        requires { deadline ≤ 1000000 }
+        ensures set { self.new ≡ record self.old { deadline = deadline } }
+        ensures well_formed { IsWellFormed (the_network self.new) }
+    {
+        self.deadline = deadline;
+    }
+
     /// Makes room, so that in all `room` constraints can be held without taking memory again.
     pub fn reserve(&mut self, room: u32) -> Result<(), AllocError>
         ensures room { OnOk result (room - length self.old.constraints ≤ self.new.spare) }
+        ensures exact { OnOk result (self.new.spare ≡ max self.old.spare (room - length self.old.constraints)) }
         ensures same { self.new ≡ record self.old { spare = self.new.spare } }
         ensures spare { self.old.spare ≤ self.new.spare }
         ensures refused { OnErr result (self.new ≡ self.old) }
         ensures well_formed { IsWellFormed (the_network self.new) }
     {
-        let held = self.constraints.len();
-        self.constraints
-            .reserve((room as usize).saturating_sub(held))
+        let missing = (room as usize).saturating_sub(self.constraints.len());
+        self.constraints.reserve_exact(missing)?;
+        self.links.nexts.reserve_exact(missing)
     }
 
     /// Puts in a constraint, where there is room, with an id above all others.
@@ -136,6 +206,7 @@ impl Network {
         ensures spare { self.new.spare + 1 ≡ self.old.spare }
         ensures well_formed { IsWellFormed (the_network self.new) }
     {
+        self.links.append(c.to);
         self.constraints.push_reserved(c);
     }
 
@@ -147,10 +218,12 @@ impl Network {
         ensures gone { IfSome result (λ _. self.new ≡ record self.old { constraints = without_id id self.old.constraints; spare = self.old.spare + 1 }) }
         ensures well_formed { IsWellFormed (the_network self.new) }
     {
-        let Some(at) = place_of(&self.constraints, id) else {
+        let Some(at) = place_in(&self.constraints, id) else {
             return None;
         };
-        Some(self.constraints.remove(at))
+        let taken = self.constraints.remove(at);
+        self.links.rebuild(&self.constraints);
+        Some(taken)
     }
 
     /// Sets the value of the constraint of an id, in ticks; false where no constraint has it.
@@ -161,7 +234,7 @@ impl Network {
         ensures set { self.new ≡ record self.old { constraints = map (with_most id most) self.old.constraints } }
         ensures well_formed { IsWellFormed (the_network self.new) }
     {
-        let Some(at) = place_of(&self.constraints, id) else {
+        let Some(at) = place_in(&self.constraints, id) else {
             return false;
         };
         self.constraints[at].most = most;
@@ -169,8 +242,12 @@ impl Network {
     }
 }
 
-fn place_of(constraints: &[Constraint], id: u32) -> Option<usize>
-    ensures { result ≡ position (has_id id) constraints.now }
+fn place_in(constraints: &[Constraint], id: u32) -> Option<usize>
+    requires { AllPairs (λ b c. b.id < c.id) constraints.now }
+    ensures { MatchOption result (All (λ c. c.id ≢ id) constraints.now) (λ k. (k < length constraints.now) × HoldsAt (λ c. c.id ≡ id) constraints.now k) }
 {
-    constraints.iter().position(|c| c.id == id)
+    match constraints.binary_search_by_key(&id, |c| c.id) {
+        Ok(place) => Some(place),
+        Err(_) => None,
+    }
 }

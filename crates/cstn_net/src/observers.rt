@@ -7,7 +7,7 @@ ghost use Rattle.cstn_net.specs.Drafts.{HasTwins, AreFirstTwins};
 ghost use Rattle.cstn_net.specs.Observers.{KnowsObservers, IsUnseen, noted};
 
 use crate::points::TimePoint;
-use cstn_label::{Label, Mark, NodeId, Prop};
+use cstn_label::{Label, NodeId, Prop};
 
 /// For each proposition the first time-point that observes it.
 pub type Observers = [Option<NodeId>; 52];
@@ -33,24 +33,16 @@ fn note(table: &mut Observers, x: NodeId, observes: Option<Prop>)
     }
 }
 
-fn is_unseen(table: &Observers, label: Label, p: Prop) -> bool
-    ensures { IsTrue result ↔ IsUnseen table.now (marks label) p.index }
-{
-    match label.mark(p) {
-        Mark::Absent => false,
-        _ => table[p.index as usize].is_none(),
-    }
-}
-
-// The least proposition that the label names and nothing observes.
+// The least proposition that the label names and nothing observes, found in as many steps as the label has marks.
 pub fn unobserved(table: &Observers, label: Label) -> Option<Prop>
     ensures { MatchOption result ((q : ℕ) → IsUnseen table.now (marks label) q → ⊥) (λ p. IsUnseen table.now (marks label) p.index × ((q : ℕ) → q < p.index → IsUnseen table.now (marks label) q → ⊥)) }
 {
-    for index in 0..52 {
-        let p = Prop { index };
-        if is_unseen(table, label, p) {
+    let mut from = 0;
+    while let Some(p) = label.first_marked_from(from) {
+        if table[p.index as usize].is_none() {
             return Some(p);
         }
+        from = p.index + 1;
     }
     None
 }

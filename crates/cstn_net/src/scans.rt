@@ -6,20 +6,19 @@ ghost use Rattle.cstn_label.specs.Labels.{IsPlain};
 ghost use Rattle.cstn_label.specs.Read.{marks};
 ghost use Rattle.cstn_net.specs.Networks.{IsValue};
 ghost use Rattle.cstn_net.specs.Read.{observed};
-ghost use Rattle.cstn_net.specs.Drafts.{IsFirst, IsLeastOfFirst, HasTwins, AreFirstTwins};
+ghost use Rattle.cstn_net.specs.Drafts.{IsFirst, IsLeastOfFirst, HasTwins, AreFirstTwins, IsTimely};
 ghost use Rattle.cstn_net.specs.Observers.{KnowsObservers, IsUnseen, IsTwin};
 
 use crate::drafts::Draft;
+use crate::limits::{MAX_REACTION, is_value};
 use crate::observers::{Observers, unobserved};
 use crate::points::TimePoint;
 use cstn_label::{NodeId, Prop};
 
-const MOST_VALUE: i32 = 1_000_000_000;
-
 fn is_in_range(draft: Draft) -> bool
     ensures { IsTrue result ↔ IsValue draft.most }
 {
-    -MOST_VALUE <= draft.most && draft.most <= MOST_VALUE
+    is_value(draft.most)
 }
 
 pub fn first_out_of_range(drafts: &[Draft]) -> Option<u32>
@@ -80,6 +79,25 @@ pub fn first_twins(table: &Observers, points: &[TimePoint]) -> Option<(Prop, Nod
     for (i, point) in points.iter().enumerate() {
         if let Some(found) = twin(table, NodeId(i as u16), point.observes) {
             return Some(found);
+        }
+    }
+    None
+}
+
+fn is_timely(point: TimePoint) -> bool
+    ensures { IsTrue result ↔ IsTimely point }
+{
+    point.observes.is_none() || (1 <= point.reaction && point.reaction <= MAX_REACTION)
+}
+
+// The first time-point that observes and has a reaction out of range.
+pub fn first_untimely(points: &[TimePoint]) -> Option<NodeId>
+    requires { length points.now ≤ 1024 }
+    ensures { MatchOption result (All IsTimely points.now) (λ x. IsFirst (λ t. IsTimely t → ⊥) points.now x.0) }
+{
+    for (i, point) in points.iter().enumerate() {
+        if !is_timely(*point) {
+            return Some(NodeId(i as u16));
         }
     }
     None

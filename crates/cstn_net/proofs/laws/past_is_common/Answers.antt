@@ -1,8 +1,8 @@
 use Rattle.cstn_net.proofs.Dynamic.{agrees_back, same_past, same_known}
 use Rattle.cstn_net.proofs.laws.past_is_common.Goals as goal
 
-pub returns-clause-back : goal.returns-clause-back
-returns-clause-back c = agrees_back
+pub returns-clause-symmetric : goal.returns-clause-symmetric
+returns-clause-symmetric c = agrees_back
 
 pub returns-clause-moments : goal.returns-clause-moments
 returns-clause-moments c = same_past

@@ -2,4 +2,4 @@ use Rattle.std.proofs.Common.{◌≡◌, length}
 use Rattle.cstn_net.proofs.tests.constrained.Given as goal
 
 abbrev pub invariant-loop : goal.invariant-loop
-invariant-loop g l = record { points : length l.builder.points ≡ 1; drafts : length l.builder.drafts ≡ l.counter }
+invariant-loop g l = record { points : length l.builder.points ≡ 1024; drafts : length l.builder.drafts ≡ l.counter }

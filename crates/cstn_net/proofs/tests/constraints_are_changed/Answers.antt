@@ -8,6 +8,6 @@ pub insert-requires-clause-constraint : goal.insert-requires-clause-constraint
 insert-requires-clause-constraint g c = record {
   from = search rules;
   to = search rules;
-  plain = subst IsPlain (sym c.empty-3.ensures.empty) (λ p. tt);
-  observed = subst (IsOnObserved (the_network c.reserve.new.self)) (sym c.empty-3.ensures.empty) (λ p named. absurd (named refl));
+  plain = subst IsPlain (sym c.empty.ensures.empty) (λ p. tt);
+  observed = subst (IsOnObserved (the_network c.reserve.new.self)) (sym c.empty.ensures.empty) (λ p named. absurd (named refl));
 }

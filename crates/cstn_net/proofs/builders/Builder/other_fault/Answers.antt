@@ -7,7 +7,7 @@ use Rattle.cstn_net.specs.Networks.{IsValue}
 use Rattle.cstn_net.specs.Read.{observed}
 use Rattle.cstn_label.specs.declared.nodes.NodeId.{NodeId}
 use Rattle.cstn_net.specs.Observers.{KnowsObservers, IsUnseen}
-use Rattle.cstn_net.specs.Drafts.{BuilderParts, LacksObserver, IsFirst, IsLeastOfFirst, HasTwins, AreFirstTwins, observations}
+use Rattle.cstn_net.specs.Drafts.{BuilderParts, LacksObserver, IsFirst, IsLeastOfFirst, HasTwins, AreFirstTwins, IsTimely, observations}
 use Rattle.cstn_net.proofs.FaultLemmas.{lowest_from, least_alike, unseen_lacks, lacks_unseen}
 use Rattle.cstn_net.proofs.builders.Builder.other_fault.Goals as goal
 
@@ -31,7 +31,7 @@ returns-in-Some-first_unobserved c =
     record {
       has = least_alike _ _ (λ q d. unseen_lacks (observations b) table knows (marks d.label) q)
           (λ q d. lacks_unseen (observations b) table knows (marks d.label) q) b.drafts c.in-Some-first_unobserved.prop.index least;
-      lowest = lowest_from b 6 c.requires.sized (omega arith) (λ h. values) (λ h. absurd (omega arith)) (λ h. absurd (omega arith));
+      lowest = lowest_from b 6 c.requires.sized (omega arith) (λ h. values) (λ h. absurd (omega arith)) (λ h. absurd (omega arith)) (λ h. absurd (omega arith));
     }
 
 pub returns-in-Some-first_twins : goal.returns-in-Some-first_twins
@@ -45,7 +45,7 @@ returns-in-Some-first_twins c =
       has = subst (λ ps. AreFirstTwins (map observed ps) found.prop.index found.first.0 found.second.0)
           (c.deref-3.ensures.value ∙ ap (λ v. v.points) c.self.view_is) found.ensures;
       lowest = lowest_from b 7 c.requires.sized (omega arith) (λ h. values)
-          (λ h. all_observed b c.args.observers.now c.requires.observers seen) (λ h. absurd (omega arith));
+          (λ h. all_observed b c.args.observers.now c.requires.observers seen) (λ h. absurd (omega arith)) (λ h. absurd (omega arith));
     }
 
 pub returns-in-Some-first_not_plain : goal.returns-in-Some-first_not_plain
@@ -61,7 +61,23 @@ returns-in-Some-first_not_plain c =
       has = subst (λ ds. IsFirst (λ d. IsPlain (marks d.label) → ⊥) ds found.constraint)
           (c.deref-4.ensures.value ∙ drafts_are) found.ensures;
       lowest = lowest_from b 8 c.requires.sized (omega arith) (λ h. values)
-          (λ h. all_observed b c.args.observers.now c.requires.observers seen) (λ h. single);
+          (λ h. all_observed b c.args.observers.now c.requires.observers seen) (λ h. single) (λ h. absurd (omega arith));
+    }
+
+pub returns-in-Some-first_untimely : goal.returns-in-Some-first_untimely
+returns-in-Some-first_untimely c =
+    let b = c.args.self.now in
+    let drafts_are = ap (λ v. v.drafts) c.self.view_is in
+    let found = c.in-Some-first_untimely in
+    let values = subst (All (λ d. IsValue d.most)) (c.deref.ensures.value ∙ drafts_are) c.in_default.ensures in
+    let seen = none_unseen (c.deref-2.ensures.value ∙ drafts_are) c.in_default-first_unobserved.ensures in
+    let single = subst (λ ps. HasTwins (map observed ps) (length ps) → ⊥) (c.deref-3.ensures.value ∙ ap (λ v. v.points) c.self.view_is)
+    c.in_default-first_twins.ensures in
+    let plain = subst (All (λ d. IsPlain (marks d.label))) (c.deref-4.ensures.value ∙ drafts_are) c.in_default-first_not_plain.ensures in
+    record {
+      has = subst (λ ps. IsFirst (λ t. IsTimely t → ⊥) ps found.node.0) (c.deref-5.ensures.value ∙ ap (λ v. v.points) c.self.view_is) found.ensures;
+      lowest = lowest_from b 9 c.requires.sized (omega arith) (λ h. values)
+          (λ h. all_observed b c.args.observers.now c.requires.observers seen) (λ h. single) (λ h. plain);
     }
 
 pub returns : goal.returns
@@ -75,4 +91,5 @@ returns c =
       no_twins = subst (λ ps. HasTwins (map observed ps) (length ps) → ⊥) (c.deref-3.ensures.value ∙ ap (λ v. v.points) c.self.view_is)
           c.in_default-first_twins.ensures;
       plain = subst (All (λ d. IsPlain (marks d.label))) (c.deref-4.ensures.value ∙ drafts_are) c.in_default-first_not_plain.ensures;
+      timely = subst (All IsTimely) (c.deref-5.ensures.value ∙ ap (λ v. v.points) c.self.view_is) c.in_default-first_untimely.ensures;
     }

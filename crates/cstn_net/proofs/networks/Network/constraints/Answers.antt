@@ -11,4 +11,4 @@ returns-clause-ranges c =
     let inside = c.self.inside in
     let many = sym (length-map inside.points.items observed) ∙ ap (λ v. count (the_network v)) c.self.view_is in
     subst (All (IsInRange (count (the_network c.args.self.now)))) (sym c.deref.ensures.value)
-    (ranges inside.deadline (count (the_network c.args.self.now)) inside.points.items inside.constraints.items c.self.invariant.well_formed many)
+    (ranges inside.deadline (count (the_network c.args.self.now)) inside.points.items inside.constraints.items c.self.invariant.0.well_formed many)

@@ -1,0 +1,5 @@
+use Rattle.cstn_net.proofs.WellFormed.{well_formed_with}
+use Rattle.cstn_net.proofs.laws.other_constraints_are_well_formed.Goals as goal
+
+pub returns : goal.returns
+returns c = well_formed_with
