@@ -13,6 +13,7 @@ pub mod Reading
 pub mod TurnLemmas
 pub mod Sequences
 pub mod Skips
+pub mod ChainSkips
 pub mod Growing
 pub mod Starts
 pub mod Outcomes
