@@ -149,7 +149,7 @@ of_two_none : (f : Bound → Bound → Option Bound) (o : Option Entry) → of_t
 of_two_none f None = refl
 of_two_none f (Some e) = refl
 
-step_idle : (net : Network) (L : List Entry) (i : Instance) → conclusion net L i ≡ None → step net L i ≡ L
+pub step_idle : (net : Network) (L : List Entry) (i : Instance) → conclusion net L i ≡ None → step net L i ≡ L
 unfolding step
 step_idle net L i e = elim (cases_Bool (is_refuted net L)) [
   | inl over ↦ cond-true _ _ _ over

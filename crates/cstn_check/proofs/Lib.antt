@@ -12,6 +12,8 @@ pub mod Ends
 pub mod Reading
 pub mod TurnLemmas
 pub mod Sequences
+pub mod Skips
+pub mod ChainSkips
 pub mod Growing
 pub mod Starts
 pub mod Outcomes

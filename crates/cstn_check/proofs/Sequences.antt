@@ -17,7 +17,7 @@ use Rattle.cstn_check.proofs.Derives.{OfNetwork, tried_keeps, tried_derived}
 use Rattle.cstn_check.proofs.Bounded.{kept_more}
 use Rattle.cstn_check.proofs.Last.{refuted_idle}
 
-tried_append : (net : Network) (xs ys : List Instance) (L : List Entry) → tried net L (xs ++ ys) ≡ tried net (tried net L xs) ys
+pub tried_append : (net : Network) (xs ys : List Instance) (L : List Entry) → tried net L (xs ++ ys) ≡ tried net (tried net L xs) ys
 tried_append net [] ys L = refl
 tried_append net (x ∷ xs) ys L = tried_append net xs ys (step net L x)
 

@@ -1,5 +1,5 @@
 -- What the calls of a turn make of a log.
-use Rattle.std.proofs.Common.{ℕ, ◌≡◌, ◌+◌, ◌<◌, ◌≤◌, Bool, true, false, not, cond, ◌&&◌, ◌||◌, List, [], ◌∷◌, ◌++◌, length, Option, Some, None, arith, refl, sym, subst, ap, ◌∙◌, length-append}
+use Rattle.std.proofs.Common.{ℕ, zero, suc, ◌≡◌, ◌+◌, ◌<◌, ◌≤◌, Bool, true, false, not, cond, ◌&&◌, ◌||◌, List, [], ◌∷◌, ◌++◌, length, Option, Some, None, arith, refl, sym, subst, ap, ◌∙◌, length-append}
 use Rattle.std.specs.Prelude.{slice_get, slice_index_or, IsTrue, ◌↔◌}
 use Rattle.std.specs.List.{Contains}
 use Rattle.std.proofs.lemmas.Bool.{cond-true, cond-false, and_from, and_right}
@@ -98,7 +98,7 @@ step_on : (net : Network) (L : List TheEntry) (i : Instance) → is_refuted net 
 unfolding step
 step_on net L i on = cond-false _ _ _ on
 
-with_dead : (L : List TheEntry) (i : Instance) (o : Option Bound) → premises_live L i ≡ false → with_conclusion L i o ≡ L
+pub with_dead : (L : List TheEntry) (i : Instance) (o : Option Bound) → premises_live L i ≡ false → with_conclusion L i o ≡ L
 with_dead L i None dead = refl
 with_dead L i (Some r) dead = cond-false _ _ _ (ap (λ b. b && not (is_covered L r)) dead)
 
@@ -135,6 +135,11 @@ put_is_step net s i r ready live gives =
     turned : (b : Bool) (x y : List TheEntry) → cond (true && not b) y x ≡ cond b x y
     turned true x y = refl
     turned false x y = refl
+
+pub entry_there : (entries : List Entry) (k : ℕ) → k < length entries → (e : Entry) × (slice_get entries k ≡ Some e)
+entry_there [] k h = absurd (omega arith)
+entry_there (x ∷ xs) zero h = (x, refl)
+entry_there (x ∷ xs) (suc k) h = entry_there xs k (omega arith)
 
 none_given : {X : Type 0} (o : Option X) → ((x : X) → o ≡ Some x → ⊥) → o ≡ None
 none_given None h = refl

@@ -3,4 +3,5 @@ pub mod Growth
 pub mod Examples
 pub mod Kept
 pub mod Turns
+pub mod Waits
 pub mod Checks

@@ -7,6 +7,7 @@ mod laws;
 mod plans;
 mod turns;
 mod verdicts;
+mod walks;
 
 pub use checks::Check;
 pub use growth::{Grown, grow};

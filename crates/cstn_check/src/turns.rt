@@ -1,8 +1,9 @@
-ghost use Rattle.std.specs.Prelude.{ℕ, ◌≡◌, ◌+◌, ◌^◌, ◌<◌, ◌≤◌, false, [], ◌∷◌, ◌++◌, length, map, cond, IfOk, IsErr, IsTrue, ◌↔◌};
+ghost use Rattle.std.specs.Prelude.{ℕ, ◌≡◌, ◌+◌, ◌^◌, ◌<◌, ◌≤◌, false, [], ◌∷◌, ◌++◌, length, map, slice_index_or, cond, IfOk, IsErr, IsTrue, ◌↔◌};
 ghost use Rattle.std.specs.List.{Contains};
 ghost use Rattle.cstn_label.specs.Labels.{IsMarked};
 ghost use Rattle.cstn_label.specs.Read.{the_bound};
 ghost use Rattle.cstn_net.specs.Networks.{IsWellFormed, Observes, count};
+ghost use Rattle.cstn_net.specs.Links.{ends};
 ghost use Rattle.cstn_net.specs.Read.{the_network, the_constraint};
 ghost use Rattle.cstn_rules.specs.Derivations.{Follows};
 ghost use Rattle.cstn_rules.specs.Read.{the_entry};
@@ -10,8 +11,10 @@ ghost use Rattle.cstn_log.specs.Entries.{the_entries};
 ghost use Rattle.cstn_check.specs.Growth.{Instance, is_covered, step, tried, waits_below, turn, chains_at};
 ghost use Rattle.cstn_check.specs.Growth.Instance.{chain_at, wait_at};
 ghost use Rattle.cstn_check.specs.Turns.{IsOpen, IsTaken, IsCut};
+ghost use Rattle.cstn_check.specs.Waits.{Waits};
 
-use cstn_label::{Bound, Mark};
+use crate::walks::{WALKS, Walk, next_waiting};
+use cstn_label::{Bound, Mark, NodeId};
 use cstn_log::Log;
 use cstn_net::{Constraint, Network};
 use cstn_pool::Full;
@@ -100,7 +103,7 @@ fn try_wait(net: &Network, log: &mut Log, i: u32, j: u32, tries: &mut Tries) -> 
 // Whether the first bound is at the observer of a proposition that the second marks.
 fn waits(net: &Network, seen: &Bound, b: &Bound) -> bool
     requires { seen.now.node.0 < count (the_network net.now) }
-    ensures waits { IsTrue result ↔ (p : ℕ) × Observes (the_network net.now) (the_bound seen.now).node p × IsMarked (the_bound b.now).label p }
+    ensures waits { IsTrue result ↔ Waits (the_network net.now) (the_bound seen.now) (the_bound b.now) }
 {
     match net.observes(seen.node) {
         None => false,
@@ -124,30 +127,67 @@ fn is_of_network(net: &Network, c: &Constraint)
     let _ = net.constraints();
 }
 
-// Tries chain of each constraint with the entry at a place, and says whether the list is refuted then.
-fn try_chains(
-    net: &Network,
-    log: &mut Log,
-    constraints: &[Constraint],
-    j: u32,
-    tries: &mut Tries,
-) -> Result<bool, Full>
-    requires constraints { constraints.now ≡ net.now.constraints }
+// Tries chain of each constraint that ends at its time-point with the entry at a place, and says whether the list is refuted
+// then.
+fn try_chains(net: &Network, log: &mut Log, j: u32, tries: &mut Tries) -> Result<bool, Full>
     requires ready { IsOpen (the_network net.now) log.old }
     requires place { j < length log.old.entries }
-    ensures taken { IfOk result (λ r. IsTaken (the_network net.now) log.old log.new (tried (the_network net.now) (the_entries log.old.entries) (chains_at (map the_constraint constraints.now) j)) r) }
-    ensures cut { IsErr result → IsCut log.old log.new (tried (the_network net.now) (the_entries log.old.entries) (chains_at (map the_constraint constraints.now) j)) }
+    ensures taken { IfOk result (λ r. IsTaken (the_network net.now) log.old log.new (tried (the_network net.now) (the_entries log.old.entries) (chains_at (map the_constraint net.now.constraints) j)) r) }
+    ensures cut { IsErr result → IsCut log.old log.new (tried (the_network net.now) (the_entries log.old.entries) (chains_at (map the_constraint net.now.constraints) j)) }
     ensures ready { IfOk result (λ r. r ≡ false → IsOpen (the_network net.now) log.new) }
     ensures tries { tries.old.count ≤ tries.new.count }
 {
-    for c in constraints {
-        match try_chain(net, log, c, j, tries) {
+    is_well_formed(net);
+    let x = log.entry(j).bound.node;
+    let mut place = first_ending(net, x);
+    while place < constraint_count(net) {
+        match try_chain(net, log, constraint_at(net, place), j, tries) {
             Ok(true) => return Ok(true),
-            Ok(false) => {}
+            Ok(false) => place = next_ending(net, place),
             Err(full) => return Err(full),
         }
     }
     Ok(false)
+}
+
+fn constraint_count(net: &Network) -> usize
+    ensures { result ≡ length net.now.constraints }
+{
+    net.constraints().len()
+}
+
+fn constraint_at(net: &Network, place: usize) -> &Constraint
+    requires { place < length net.now.constraints }
+    ensures at { result.now ≡ slice_index_or net.now.constraints place result.now }
+    ensures has { Contains net.now.constraints result.now }
+{
+    &net.constraints()[place]
+}
+
+// The place of the first constraint that ends at the time-point, or the number of constraints where none does.
+fn first_ending(net: &Network, x: NodeId) -> usize
+    requires { x.0 < count (the_network net.now) }
+    ensures upto { result ≤ length net.now.constraints }
+    ensures here { result < length net.now.constraints → slice_index_or (ends net.now.constraints) result 0 ≡ x.0 }
+    ensures none { (k : ℕ) → k < result → k < length net.now.constraints → slice_index_or (ends net.now.constraints) k 0 ≡ x.0 → ⊥ }
+{
+    match net.first_to(x) {
+        None => net.constraints().len(),
+        Some(place) => place,
+    }
+}
+
+// The place of the next constraint that ends where the one at this place does, or their number where none does.
+fn next_ending(net: &Network, at: usize) -> usize
+    requires { at < length net.now.constraints }
+    ensures upto { (at + 1 ≤ result) × (result ≤ length net.now.constraints) }
+    ensures here { result < length net.now.constraints → slice_index_or (ends net.now.constraints) result 0 ≡ slice_index_or (ends net.now.constraints) at 0 }
+    ensures none { (k : ℕ) → at + 1 ≤ k → k < result → k < length net.now.constraints → slice_index_or (ends net.now.constraints) k 0 ≡ slice_index_or (ends net.now.constraints) at 0 → ⊥ }
+{
+    match net.next_to(at) {
+        None => net.constraints().len(),
+        Some(place) => place,
+    }
 }
 
 // Tries wait of the entries at two places, either way round, and says whether the list is refuted then.
@@ -168,7 +208,8 @@ fn try_both(net: &Network, log: &mut Log, i: u32, j: u32, tries: &mut Tries) -> 
     }
 }
 
-// Tries the waits of the entry at a place with each entry up to it, and says whether the list is refuted then.
+// Tries the waits of the entry at a place with those up to it of which a wait has a conclusion, and says whether the list
+// is refuted then.
 fn try_waits(net: &Network, log: &mut Log, j: u32, tries: &mut Tries) -> Result<bool, Full>
     requires ready { IsOpen (the_network net.now) log.old }
     requires place { j < length log.old.entries }
@@ -179,10 +220,12 @@ fn try_waits(net: &Network, log: &mut Log, j: u32, tries: &mut Tries) -> Result<
 {
     is_well_formed(net);
     let _room = log.len();
-    for i in 0..j + 1 {
+    let mut walks = [Walk::new(); WALKS];
+    let mut i = next_waiting(net, log, 0, j, &mut walks);
+    while i <= j {
         match try_both(net, log, i, j, tries) {
             Ok(true) => return Ok(true),
-            Ok(false) => {}
+            Ok(false) => i = next_waiting(net, log, i + 1, j, &mut walks),
             Err(full) => return Err(full),
         }
     }
@@ -204,7 +247,7 @@ pub(crate) fn take_turn(
     ensures tries { tries.old.count ≤ tries.new.count }
 {
     is_well_formed(net);
-    match try_chains(net, log, net.constraints(), j, tries) {
+    match try_chains(net, log, j, tries) {
         Ok(true) => Ok(true),
         Ok(false) => try_waits(net, log, j, tries),
         Err(full) => Err(full),

@@ -1,3 +1,6 @@
+pub mod ChainLemmas
+pub mod MarkChainLemmas
+pub mod NodeChainLemmas
 pub mod ListLemmas
 pub mod LiveLemmas
 pub mod KeptLemmas

@@ -1,5 +1,5 @@
 -- How a log keeps its entries.
-use Rattle.std.specs.Prelude.{◌≡◌, ℕ, ◌<◌, ◌≤◌, List, map, length, Option, None, Some, pos, slice_get, slice_index_or}
+use Rattle.std.specs.Prelude.{◌≡◌, ℕ, ◌<◌, ◌≤◌, ◌+◌, ◌*◌, List, map, length, Option, None, Some, pos, slice_get, slice_index_or}
 use Rattle.std.proofs.Common.{lit<}
 use Rattle.cstn_label.specs.declared.bounds.Bound.{Bound}
 use Rattle.cstn_rules.specs.declared.entries.Entry.{Entry}
@@ -9,6 +9,7 @@ use Rattle.cstn_pool.specs.Slots.{live_of}
 use Rattle.cstn_minset.specs.Sets.{Entries, IsPlaced, IsCovered}
 use Rattle.cstn_log.specs.Entries.{State, the_entries, IsCoveredBy, IsLive, AllNew}
 use Rattle.cstn_log.specs.Cuts.{AllEarlier}
+use Rattle.cstn_log.specs.Chains.{AreMarkChains, AreNodeChains}
 
 -- what stands for the entry of an id that the pool doesn't hold, which no log has
 abbrev pub no_entry : Entry
@@ -66,8 +67,32 @@ pub record IsRoom (cap told ids marks places steps : ℕ) : Type 0 where
   pub for_steps : cap ≤ steps
   pub few : cap ≤ 4194304
 
+-- the room for the links of each place in the chains of the propositions and in that of its time-point
+pub record IsChainRoom (cap nodes marks ends stands : ℕ) : Type 0 where
+  pub for_marks : cap * 52 + 52 ≤ marks
+  pub for_ends : 52 ≤ ends
+  pub for_nodes : nodes + cap ≤ stands
+  pub few : nodes < 65536
+
+-- the links of the chains of the propositions and of the time-points, with their ends, and what there is room for
+pub record ChainParts : Type 0 where
+  pub mark_links : List ℕ
+  pub mark_lasts : List ℕ
+  pub node_links : List ℕ
+  pub node_lasts : List ℕ
+  pub for_marks : ℕ
+  pub for_ends : ℕ
+  pub for_nodes : ℕ
+
+-- the chains are those of the entries, and there is room
+pub record IsIndexed (entries : List Entry) (nodes cap : ℕ) (c : ChainParts) : Type 0 where
+  pub marked : AreMarkChains entries c.mark_links c.mark_lasts
+  pub stand : AreNodeChains nodes entries c.node_links c.node_lasts
+  pub room : IsChainRoom cap nodes c.for_marks c.for_ends c.for_nodes
+
 -- and premises are places before the entry, and there is room
-pub record IsLog (slots : List (Option (ℕ × Entry))) (births : ℕ) (table : Entries) (ids : List SlotId) (nodes cap for_ids for_marks for_places for_steps : ℕ) : Type 0 where
+pub record IsLog (slots : List (Option (ℕ × Entry))) (births : ℕ) (table : Entries) (ids : List SlotId) (nodes cap for_ids for_marks for_places for_steps : ℕ) (chains : ChainParts) : Type 0 where
   pub kept : IsKept slots births table ids nodes
   pub earlier : AllEarlier (the_entries (entries_of slots ids))
   pub room : IsRoom (length slots) cap for_ids for_marks for_places for_steps
+  pub indexed : IsIndexed (entries_of slots ids) nodes (length slots) chains

@@ -2,6 +2,7 @@
 //! bounds to which the rules add nothing.
 #![tactic(auto)]
 
+mod chains;
 mod cuts;
 mod cutting;
 mod laws;

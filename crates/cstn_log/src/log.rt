@@ -11,10 +11,12 @@ ghost use Rattle.cstn_minset.specs.Sets.{IsPlaced};
 ghost use Rattle.cstn_log.specs.Entries.{State, the_entries, IsCoveredBy, IsLive, AllNew, bases, first_entries};
 ghost use Rattle.cstn_log.specs.Cuts.{PremisesBelow, part, dropped};
 ghost use Rattle.cstn_log.specs.Kept.{IsIdAt};
+ghost use Rattle.cstn_log.specs.Chains.{IsFirst, IsBehind, IsMarkedAt, IsAtNode};
 
+use crate::chains::{MarkChains, NodeChains, append_all, is_at, is_marked};
 use crate::cutting::{cut, entry_at, mark_ancestors, mark_staying};
 use crate::putting::{clear, put_all};
-use cstn_label::{Bound, Label, NodeId};
+use cstn_label::{Bound, Label, NodeId, Prop};
 use cstn_minset::MinSet;
 use cstn_net::Network;
 use cstn_pool::{Full, Pool, SlotId};
@@ -26,15 +28,17 @@ use std::marker::Model;
 ///
 /// An entry is live while no later one dominates it. The entries lie in a pool, and the bounds of
 /// the live ones in a minimal set, each under the id that [`Log::slot`] answers. All memory is
-/// taken by [`Log::start`]: room for 585 bytes for each entry that there may be, so 2.45 GB for the
-/// largest cap of 4,194,304, and 8 bytes for each time-point. What no entry ever used of it is not
-/// touched. Of these, 416 bytes an entry are for the marks of the 52 propositions, and 45 are used
-/// by [`Log::retract`] alone.
+/// taken by [`Log::start`]: 381 bytes for each entry that there may be, so 1,598 MB for the largest
+/// cap of 4,194,304, and 16 bytes for each time-point. Of these, 212 bytes an entry are links of
+/// chains, written for entries that are pushed alone, and 45 are used by [`Log::retract`] alone.
 #[derive(Drop)]
 pub struct Log {
     pool: Pool<Entry>,
     minimal: MinSet,
     ids: Vec<SlotId>,
+    // The places whose labels mark each proposition, and those at each time-point.
+    marking: MarkChains,
+    standing: NodeChains,
     cap: u32,
     // Which entries stay when some are taken out, the new place of each, and what is left.
     marks: Vec<bool>,
@@ -51,7 +55,7 @@ impl Model for Log {
 
     ghost view = { λ l. state_of l.pool.slots l.ids.items l.pool.births l.minimal.nodes };
 
-    ghost invariant = { λ l. IsLog l.pool.slots l.pool.births l.minimal.table l.ids.items l.minimal.nodes l.cap (vec_capacity l.ids) (vec_capacity l.marks) (vec_capacity l.places) (vec_capacity l.steps) };
+    ghost invariant = { λ l. IsLog l.pool.slots l.pool.births l.minimal.table l.ids.items l.minimal.nodes l.cap (vec_capacity l.ids) (vec_capacity l.marks) (vec_capacity l.places) (vec_capacity l.steps) (record { mark_links = l.marking.links.items; mark_lasts = l.marking.lasts.items; node_links = l.standing.links.items; node_lasts = l.standing.lasts.items; for_marks = vec_capacity l.marking.links; for_ends = vec_capacity l.marking.lasts; for_nodes = vec_capacity l.standing.links }) };
 }
 
 impl Log {
@@ -81,6 +85,8 @@ impl Log {
         let pool = Pool::start(alloc, cap)?;
         let minimal = MinSet::start(alloc, nodes, cap)?;
         let ids = Vec::with_capacity(alloc, cap as usize)?;
+        let marking = MarkChains::empty(alloc, cap)?;
+        let standing = NodeChains::empty(alloc, nodes, cap)?;
         let marks = Vec::with_capacity(alloc, cap as usize)?;
         let places = Vec::with_capacity(alloc, cap as usize)?;
         let steps = Vec::with_capacity(alloc, cap as usize)?;
@@ -88,6 +94,8 @@ impl Log {
             pool,
             minimal,
             ids,
+            marking,
+            standing,
             cap,
             marks,
             places,
@@ -132,6 +140,8 @@ impl Log {
         self.minimal.place(&e.bound, id);
         let place = self.ids.len() as u32;
         self.ids.push(id).unwrap();
+        self.marking.append(place, e);
+        self.standing.append(place, e);
         Ok(place)
     }
 
@@ -228,6 +238,9 @@ impl Log {
             &mut self.ids,
             &self.steps,
         );
+        self.marking.clear();
+        self.standing.clear();
+        append_all(&mut self.marking, &mut self.standing, &self.steps);
         (before - self.ids.len()) as u32
     }
 
@@ -251,6 +264,58 @@ impl Log {
         ensures { self.new ≡ record self.old { entries = []; ids = [] } }
     {
         clear(&mut self.pool, &mut self.minimal, &mut self.ids);
+        self.marking.clear();
+        self.standing.clear();
+    }
+
+    /// The first place from `from` on whose entry's label marks p, or `u32::MAX` where there is none. `near`, a place of
+    /// that kind before `from`, makes it quick, and nothing else.
+    pub fn first_marked(&self, p: Prop, from: u32, near: u32) -> u32
+        requires { from ≤ length self.now.entries }
+        ensures first { IsFirst (IsMarkedAt self.now.entries p.index) from (length self.now.entries) result }
+    {
+        self.marking
+            .first(p, from, self.start_marked(p, from, near))
+    }
+
+    // Where to begin to look for the first place from `from` on that marks p.
+    fn start_marked(&self, p: Prop, from: u32, near: u32) -> u32
+        requires { from ≤ length self.now.entries }
+        ensures upto { result ≤ from }
+        ensures behind { IsBehind (IsMarkedAt self.now.entries p.index) result }
+    {
+        if near >= from {
+            return 0;
+        }
+        if !is_marked(self.entry(near), p) {
+            return 0;
+        }
+        near + 1
+    }
+
+    /// The first place from `from` on whose entry is at a time-point, or `u32::MAX` where there is none. `near`, a place of
+    /// that kind before `from`, makes it quick, and nothing else.
+    pub fn first_at(&self, x: NodeId, from: u32, near: u32) -> u32
+        requires from { from ≤ length self.now.entries }
+        requires node { x.0 < self.now.nodes }
+        ensures first { IsFirst (IsAtNode self.now.entries x.0) from (length self.now.entries) result }
+    {
+        self.standing.first(x, from, self.start_at(x, from, near))
+    }
+
+    // Where to begin to look for the first place from `from` on at the time-point.
+    fn start_at(&self, x: NodeId, from: u32, near: u32) -> u32
+        requires { from ≤ length self.now.entries }
+        ensures upto { result ≤ from }
+        ensures behind { IsBehind (IsAtNode self.now.entries x.0) result }
+    {
+        if near >= from {
+            return 0;
+        }
+        if !is_at(self.entry(near), x) {
+            return 0;
+        }
+        near + 1
     }
 
     /// The id under which the pool keeps an entry.

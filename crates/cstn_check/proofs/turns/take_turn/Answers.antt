@@ -1,4 +1,4 @@
-use Rattle.std.proofs.Common.{◌+◌, map, true, arith, subst}
+use Rattle.std.proofs.Common.{◌+◌, map, true, arith, refl, subst}
 use Rattle.cstn_net.specs.Read.{the_network, the_constraint}
 use Rattle.cstn_log.specs.Entries.{the_entries}
 use Rattle.cstn_check.specs.Growth.{tried, chains_at, waits_below, turn}
@@ -15,24 +15,24 @@ try_waits-requires-clause-place c = omega (arith, c.requires.place, c.in-Ok-fals
 pub returns-in-Ok-true-clause-taken : goal.returns-in-Ok-true-clause-taken
 returns-in-Ok-true-clause-taken c =
     subst (λ l. IsTaken (the_network c.args.net.now) c.args.log.now c.try_chains.new.log (tried (the_network c.args.net.now) (the_entries c.args.log.now.entries) l) true)
-    (turn_is c.args.net.now c.constraints.result.now c.args.j c.constraints.ensures.constraints)
-    (refuted_then (the_network c.args.net.now) c.args.log.now (chains_at (map the_constraint c.constraints.result.now) c.args.j)
+    (turn_is c.args.net.now c.args.net.now.constraints c.args.j refl)
+    (refuted_then (the_network c.args.net.now) c.args.log.now (chains_at (map the_constraint c.args.net.now.constraints) c.args.j)
     (waits_below (c.args.j + 1) c.args.j) c.try_chains.new.log
     (taken_as c.in-Ok-true.field-0-test c.in-Ok-true.ensures.taken))
 
 pub returns-in-Ok-false-clause-taken : goal.returns-in-Ok-false-clause-taken
 returns-in-Ok-false-clause-taken c =
     then_on (the_network c.args.net.now) c.args.log.now c.try_chains.new.log c.try_waits.new.log
-    (chains_at (map the_constraint c.constraints.result.now) c.args.j) (waits_below (c.args.j + 1) c.args.j)
-    (turn (the_network c.args.net.now) c.args.j) c.try_waits.result (turn_is c.args.net.now c.constraints.result.now c.args.j c.constraints.ensures.constraints)
+    (chains_at (map the_constraint c.args.net.now.constraints) c.args.j) (waits_below (c.args.j + 1) c.args.j)
+    (turn (the_network c.args.net.now) c.args.j) c.try_waits.result (turn_is c.args.net.now c.args.net.now.constraints c.args.j refl)
     (taken_as c.in-Ok-false.field-0-test c.in-Ok-false.ensures.taken)
     c.try_waits.ensures.taken
 
 pub returns-in-Ok-false-clause-cut : goal.returns-in-Ok-false-clause-cut
 returns-in-Ok-false-clause-cut c = λ is.
     subst (λ l. IsCut c.args.log.now c.try_waits.new.log (tried (the_network c.args.net.now) (the_entries c.args.log.now.entries) l))
-    (turn_is c.args.net.now c.constraints.result.now c.args.j c.constraints.ensures.constraints)
-    (cut_then (the_network c.args.net.now) c.args.log.now (chains_at (map the_constraint c.constraints.result.now) c.args.j)
+    (turn_is c.args.net.now c.args.net.now.constraints c.args.j refl)
+    (cut_then (the_network c.args.net.now) c.args.log.now (chains_at (map the_constraint c.args.net.now.constraints) c.args.j)
     (waits_below (c.args.j + 1) c.args.j) c.try_chains.new.log c.try_waits.new.log
     (taken_as c.in-Ok-false.field-0-test c.in-Ok-false.ensures.taken)
     (c.try_waits.ensures.cut is))
@@ -40,6 +40,6 @@ returns-in-Ok-false-clause-cut c = λ is.
 pub returns-in-Err-clause-cut : goal.returns-in-Err-clause-cut
 returns-in-Err-clause-cut c = λ is.
     subst (λ l. IsCut c.args.log.now c.try_chains.new.log (tried (the_network c.args.net.now) (the_entries c.args.log.now.entries) l))
-    (turn_is c.args.net.now c.constraints.result.now c.args.j c.constraints.ensures.constraints)
-    (cut_first (the_network c.args.net.now) c.args.log.now (chains_at (map the_constraint c.constraints.result.now) c.args.j)
+    (turn_is c.args.net.now c.args.net.now.constraints c.args.j refl)
+    (cut_first (the_network c.args.net.now) c.args.log.now (chains_at (map the_constraint c.args.net.now.constraints) c.args.j)
     (waits_below (c.args.j + 1) c.args.j) c.try_chains.new.log (c.in-Err.ensures.cut is))

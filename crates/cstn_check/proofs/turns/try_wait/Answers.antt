@@ -27,7 +27,7 @@ returns-then-not-waits-clause-taken c =
     idle_none (the_network c.args.net.now) c.args.log.now (wait_at c.args.i c.args.j) c.requires.ready
     (wait_ends _ _ c.is_well_formed.ensures c.requires.ready c.args.i c.args.j c.entry.result c.entry-2.result
     c.entry.ensures.entry c.entry-2.ensures.entry
-    (λ p r w. false≢true (c.if-not-waits.ensures.waits.1 (p, w.observes, w.marked))))
+    (λ p r w. false≢true (c.if-not-waits.ensures.waits.1 (record { prop = p; observes = w.observes; marked = w.marked }))))
 
 pub wait-requires-clause-seen : goal.wait-requires-clause-seen
 wait-requires-clause-seen c =

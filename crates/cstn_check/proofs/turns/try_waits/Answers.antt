@@ -1,9 +1,21 @@
-use Rattle.std.proofs.Common.{◌+◌, [], ◌∷◌, false, arith, sym}
+use Rattle.std.proofs.Common.{◌+◌, [], ◌∷◌, false, arith, refl, sym}
 use Rattle.cstn_net.specs.Read.{the_network}
 use Rattle.cstn_check.specs.Growth.{waits_below}
 use Rattle.cstn_check.specs.Growth.Instance.{wait_at}
+use Rattle.cstn_check.proofs.TurnLemmas.{idle}
 use Rattle.cstn_check.proofs.Sequences.{taken_as, go_on, go_true, go_cut, waits_next, waits_whole}
+use Rattle.cstn_check.proofs.Skips.{waits_to}
 use Rattle.cstn_check.proofs.turns.try_waits.Goals as goal
+
+pub loop-i-init : goal.loop-i-init
+loop-i-init c = record {
+  taken = waits_to (the_network c.args.net.now) c.args.log.now c.args.log.now c.args.j 0 c.next_waiting-i.result c.is_well_formed.ensures
+      c.requires.ready c.requires.place c.next_waiting-i.ensures.upto.1 c.next_waiting-i.ensures.upto.0
+      c.next_waiting-i.ensures.none (idle (the_network c.args.net.now) c.args.log.now _ c.requires.ready refl);
+  ready = c.requires.ready;
+  upto = c.next_waiting-i.ensures.upto.1;
+  tries = omega arith;
+}
 
 pub try_both-requires-clause-first : goal.try_both-requires-clause-first
 try_both-requires-clause-first c = omega (arith, c.requires.place, c.loop-i.invariant.taken.longer.longer, c.loop-i-test.true)
@@ -25,13 +37,23 @@ returns-in-Err-clause-cut c = λ is.
     (wait_at c.loop-i.i c.args.j ∷ (wait_at c.args.j c.loop-i.i ∷ [])) c.loop-i.invariant.taken
     (waits_below (c.args.j + 1) c.args.j) w.0 w.1 (c.in-Err.ensures.cut is)
 
+pub overflow_add-i : goal.overflow_add-i
+overflow_add-i c = omega (arith, c.requires.place, c.loop-i-test.true, c.len-room.ensures.len, c.len-room.ensures.at_most, c.len-room.ensures.largest)
+
 pub loop-i-preserved : goal.loop-i-preserved
 loop-i-preserved c =
+    let ready = c.in-Ok-false.ensures.ready c.in-Ok-false.field-0-test in
+    let next = c.next_waiting-i-in-Ok-false in
     record {
-      taken = go_on (the_network c.args.net.now) c.args.log.now c.loop-i.log c.try_both.new.log (waits_below c.loop-i.i c.args.j)
+      taken = waits_to (the_network c.args.net.now) c.args.log.now c.try_both.new.log c.args.j (c.loop-i.i + 1) next.result
+          c.is_well_formed.ensures ready
+          (omega (arith, c.requires.place, c.loop-i.invariant.taken.longer.longer, c.in-Ok-false.ensures.taken.longer.longer))
+          next.ensures.upto.1 next.ensures.upto.0 next.ensures.none
+          (go_on (the_network c.args.net.now) c.args.log.now c.loop-i.log c.try_both.new.log (waits_below c.loop-i.i c.args.j)
           (wait_at c.loop-i.i c.args.j ∷ (wait_at c.args.j c.loop-i.i ∷ [])) c.loop-i.invariant.taken
           (waits_below (c.loop-i.i + 1) c.args.j) false (sym (waits_next c.loop-i.i c.args.j))
-          (taken_as c.in-Ok-false.field-0-test c.in-Ok-false.ensures.taken);
-      ready = c.in-Ok-false.ensures.ready c.in-Ok-false.field-0-test;
+          (taken_as c.in-Ok-false.field-0-test c.in-Ok-false.ensures.taken));
+      ready = ready;
+      upto = next.ensures.upto.1;
       tries = omega (arith, c.loop-i.invariant.tries, c.in-Ok-false.ensures.tries);
     }

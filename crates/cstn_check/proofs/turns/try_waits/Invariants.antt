@@ -1,4 +1,4 @@
-use Rattle.std.proofs.Common.{◌≤◌, false}
+use Rattle.std.proofs.Common.{◌≤◌, ◌+◌, ◌-◌, false}
 use Rattle.cstn_net.specs.Read.{the_network}
 use Rattle.cstn_log.specs.Entries.{the_entries}
 use Rattle.cstn_check.specs.Growth.{tried, waits_below}
@@ -9,5 +9,9 @@ abbrev pub invariant-loop-i : goal.invariant-loop-i
 invariant-loop-i l = record {
   taken : IsTaken (the_network l.fn.net) l.fn.log l.log (tried (the_network l.fn.net) (the_entries l.fn.log.entries) (waits_below l.i l.fn.j)) false;
   ready : IsOpen (the_network l.fn.net) l.log;
+  upto : l.i ≤ l.fn.j + 1;
   tries : l.fn.tries.count ≤ l.tries.count;
 }
+
+abbrev pub decreases-loop-i : goal.decreases-loop-i
+decreases-loop-i l = l.fn.j + 1 - l.i

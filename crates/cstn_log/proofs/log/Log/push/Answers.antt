@@ -1,12 +1,13 @@
 use Rattle.std.proofs.Common.{◌≡◌, ◌++◌, ◌∷◌, [], ◌+◌, ◌<◌, ℕ, length, Some, None, arith, ap, subst, sym, ◌∙◌, length-set}
 use Rattle.std.specs.Prelude.{slice_get}
+use Rattle.std.proofs.lemmas.List.{length-map}
 use Rattle.std.proofs.lemmas.Option.{slice_get_within, get_or_from_slice_get}
 use Rattle.cstn_label.specs.Read.{the_bound}
 use Rattle.cstn_net.specs.Read.{the_network}
 use Rattle.cstn_rules.specs.declared.entries.Entry.{Entry}
 use Rattle.cstn_rules.specs.Derivations.{Follows, IsDerivation}
 use Rattle.cstn_log.specs.Entries.{State, the_entries, IsCoveredBy}
-use Rattle.cstn_log.specs.Kept.{state_of, entries_of}
+use Rattle.cstn_log.specs.Kept.{state_of, entries_of, stored}
 use Rattle.cstn_log.proofs.KeptLemmas.{few, unplaced, uncovered_there}
 use Rattle.cstn_log.proofs.PushLemmas.{push_step, push_entries, push_state}
 use Rattle.cstn_log.proofs.DerivedLemmas.{follows_inside, pushed_derivation}
@@ -53,6 +54,11 @@ invariant_of-self-2 c =
     let room = c.self.invariant.room in
     let longer = push_entries c.self.inside.pool.slots c.self.inside.pool.births c.self.inside.minimal.table c.self.inside.minimal.nodes c.self.inside.ids.items id c.args.e c.take.new.self c.push.new.self.items c.self.invariant.kept taken.empty taken.birth taken.taken pushed in
     let follows = subst (λ (v : State). Follows (the_network c.args.net.now) (the_entries v.entries) (length v.entries) c.args.e.why (the_bound c.args.e.bound)) (sym c.self.view_is) c.requires.follows in
+    let L = entries_of c.self.inside.pool.slots c.self.inside.ids.items in
+    let index = c.self.invariant.indexed in
+    let ends : length c.self.inside.standing.lasts.items ≡ c.self.inside.minimal.nodes = index.stand.lasts_size in
+    let same : c.place.new.self.nodes ≡ c.self.inside.minimal.nodes = ap (λ v. v.nodes) placed.2 in
+    let long : length L ≡ c.len-place.result = omega (arith, length-map c.self.inside.ids.items (stored c.self.inside.pool.slots), c.len-place.ensures, c.self.inside.ids.ok) in
     record {
       kept = push_step c.self.inside.pool.slots c.self.inside.pool.births c.self.inside.minimal placed.0 c.self.inside.ids.items id c.args.e c.take.new.self c.place.new.self c.push.new.self.items c.self.invariant.kept taken.empty taken.birth taken.taken placed.1 placed.2 pushed uncovered (omega (arith, nodes, c.requires.net, c.if-prove.false, c.count-count.ensures.count));
       earlier = rw longer (more_earlier (entries_of c.self.inside.pool.slots c.self.inside.ids.items) c.args.e c.self.invariant.earlier (follows_below (the_network c.args.net.now) _ _ c.args.e.why (the_bound c.args.e.bound) follows));
@@ -64,7 +70,22 @@ invariant_of-self-2 c =
         for_steps = omega (arith, size, room.for_steps);
         few = omega (arith, size, room.few);
       };
+      indexed = record {
+        marked = rw longer (c.append.ensures.chains L index.marked long);
+        stand = rw (longer, same, ← ends) (c.append-2.ensures.chains L (rw ends index.stand) long);
+        room = record {
+          for_marks = omega (arith, size, index.room.for_marks, c.append.ensures.room.0);
+          for_ends = omega (arith, index.room.for_ends, c.append.ensures.room.1);
+          for_nodes = omega (arith, size, same, index.room.for_nodes, c.append-2.ensures.room);
+          few = omega (arith, same, index.room.few);
+        };
+      };
     }
+
+pub append-requires-clause-chains : goal.append-requires-clause-chains
+append-requires-clause-chains c =
+    let L = entries_of c.self.inside.pool.slots c.self.inside.ids.items in
+    (L, c.self.invariant.indexed.marked, omega (arith, length-map c.self.inside.ids.items (stored c.self.inside.pool.slots), c.len-place.ensures, c.self.inside.ids.ok))
 
 pub returns-clause-pushed : goal.returns-clause-pushed
 returns-clause-pushed c = λ _.

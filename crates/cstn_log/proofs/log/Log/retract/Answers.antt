@@ -37,6 +37,9 @@ invariant_of-self c =
     let put : entries_of c.put_all.new.pool.slots c.put_all.new.ids.items ≡ c.cut.new.steps.items = c.put_all.ensures.entries ∙ c.deref-4.ensures.value in
     let size : length c.put_all.new.pool.slots ≡ length c.self.inside.pool.slots = c.put_all.ensures.size.0 ∙ c.clear-4.ensures.size.0 in
     let room = c.self.invariant.room in
+    let index = c.self.invariant.indexed in
+    let ends : length c.self.inside.standing.lasts.items ≡ c.self.inside.minimal.nodes = index.stand.lasts_size in
+    let same : c.put_all.new.minimal.nodes ≡ c.self.inside.minimal.nodes = c.put_all.ensures.size.1 ∙ c.clear-4.ensures.size.1 in
     record {
       kept = c.put_all.ensures.kept;
       earlier = rw (put, whole) (dropped_earlier (the_entries L) c.args.constraint c.self.invariant.earlier);
@@ -47,6 +50,16 @@ invariant_of-self c =
         for_places = omega (arith, size, room.for_places, c.cut.ensures.room.0, c.clear-2.ensures.capacity);
         for_steps = omega (arith, size, room.for_steps, c.cut.ensures.room.1, c.clear-3.ensures.capacity);
         few = omega (arith, size, room.few);
+      };
+      indexed = record {
+        marked = rw put (rw c.deref-5.ensures.value at c.append_all.ensures.marks);
+        stand = rw (put, same, ← ends, ← c.clear-6.ensures.chains.lasts_size) (rw c.deref-5.ensures.value at c.append_all.ensures.nodes);
+        room = record {
+          for_marks = omega (arith, size, index.room.for_marks, c.clear-5.ensures.room.0, c.append_all.ensures.room.0);
+          for_ends = omega (arith, index.room.for_ends, c.clear-5.ensures.room.1, c.append_all.ensures.room.1);
+          for_nodes = omega (arith, size, same, index.room.for_nodes, c.clear-6.ensures.room, c.append_all.ensures.room.2);
+          few = omega (arith, same, index.room.few);
+        };
       };
     }
 

@@ -1,0 +1,139 @@
+-- The chains of the propositions, as the list of entries grows.
+use Rattle.std.proofs.Common.{ℕ, zero, suc, ◌≡◌, ◌⊎◌, ◌≢◌, inl, inr, ◌+◌, ◌*◌, ◌-◌, ◌<◌, ◌≤◌, List, [], ◌∷◌, ◌++◌, length, Some, get_or, set, replicate, arith, refl, sym, subst, ap, ◌∙◌, length-append, length-set}
+use Rattle.std.specs.Prelude.{slice_get}
+use Rattle.std.proofs.lemmas.Bool.{cases_lt}
+use Rattle.std.proofs.lemmas.List.{get_or-replicate, get_or-set_same, get_or-set_other, length-replicate}
+use Rattle.std.proofs.lemmas.Option.{slice_get_within}
+use Rattle.cstn_label.specs.Labels.{IsMarked}
+use Rattle.cstn_label.specs.Read.{marks}
+use Rattle.cstn_rules.specs.declared.entries.Entry.{Entry}
+use Rattle.cstn_log.specs.Chains.{no_place, IsMarkedAt, IsFirst, IsBehind, IsChain, mark_link, AreMarkChains, AreMarkChainsUpto}
+use Rattle.cstn_log.proofs.ListLemmas.{get_left, get_last, get_more, one_there}
+use Rattle.cstn_log.proofs.ChainLemmas.{chain_empty, chain_passed, chain_more}
+
+pub marked_on : (entries : List Entry) (e : Entry) (p k : ℕ) → k < length entries → IsMarkedAt entries p k → IsMarkedAt (entries ++ e ∷ []) p k
+marked_on entries e p k h m = record { entry = m.entry; there = get_left entries e k m.entry m.there; marked = m.marked }
+
+pub marked_back : (entries : List Entry) (e : Entry) (p k : ℕ) → k < length entries → IsMarkedAt (entries ++ e ∷ []) p k → IsMarkedAt entries p k
+marked_back entries e p k h m = elim (get_more entries e k m.entry m.there) [
+  | inl there ↦ record { entry = m.entry; there = there; marked = m.marked }
+  | inr last ↦ absurd (let l = last.0 in omega arith)
+]
+
+pub marked_last : (entries : List Entry) (e : Entry) (p : ℕ) → IsMarked (marks e.bound.label) p → IsMarkedAt (entries ++ e ∷ []) p (length entries)
+marked_last entries e p m = record { entry = e; there = get_last entries e; marked = m }
+
+pub last_marked : (entries : List Entry) (e : Entry) (p : ℕ) → IsMarkedAt (entries ++ e ∷ []) p (length entries) → IsMarked (marks e.bound.label) p
+last_marked entries e p m =
+    subst (λ (x : Entry). IsMarked (marks x.bound.label) p) (one_there (entries ++ e ∷ []) (length entries) m.entry e m.there (get_last entries e)) m.marked
+
+-- the new entry has its row of links, and stands in no chain yet
+pub upto_none : (entries : List Entry) (e : Entry) (links more lasts : List ℕ) → AreMarkChains entries links lasts →
+    length more ≡ length links + 52 → ((k : ℕ) (d : ℕ) → k < length links → get_or more k d ≡ get_or links k d) →
+    ((k : ℕ) → k < 52 → get_or more (length links + k) no_place ≡ no_place) → AreMarkChainsUpto entries e 0 more lasts
+upto_none entries e links more lasts c size same row =
+    let links_size = c.links_size in
+    record {
+      done = λ p h k. absurd (omega arith);
+      left = λ p h k.
+          let was = c.chains p k in
+          record {
+            upto = was.upto;
+            behind = was.behind;
+            none = was.none;
+            leads = λ from upto b.
+                subst (λ r. IsFirst (IsMarkedAt entries p) from (length entries) r)
+                (sym (same (from * 52 + p) no_place (omega arith))) (was.leads from upto b);
+          };
+      ends = λ p h k.
+          let at : (length entries + 1) * 52 + p ≡ length links + p = omega arith in
+          ap (λ i. get_or more i no_place) at ∙ row p k;
+      links_size = omega arith;
+      lasts_size = c.lasts_size;
+    }
+
+-- the label of the new entry doesn't mark p
+pub upto_passed : (entries : List Entry) (e : Entry) (p : ℕ) (links lasts : List ℕ) → length entries < no_place →
+    (IsMarked (marks e.bound.label) p → ⊥) → AreMarkChainsUpto entries e p links lasts → AreMarkChainsUpto entries e (p + 1) links lasts
+upto_passed entries e p links lasts few not c = record {
+  done = λ q h k. elim (cases_lt q p) [
+    | inl below ↦ c.done q below k
+    | inr at ↦
+        let same : q ≡ p = omega arith in
+        chain_passed (IsMarkedAt entries q) (IsMarkedAt (entries ++ e ∷ []) q) (length entries) few (marked_on entries e q) (marked_back entries e q)
+        (mark_link links q) (mark_link links q) (get_or lasts q 0)
+        (λ m. not (subst (λ n. IsMarked (marks e.bound.label) n) same (last_marked entries e q m))) (λ from upto. refl) (c.left q (omega arith) k)
+  ];
+  left = λ q h k. c.left q (omega arith) k;
+  ends = λ q h k. c.ends q (omega arith) k;
+  links_size = c.links_size;
+  lasts_size = c.lasts_size;
+}
+
+-- the label of the new entry marks p, and its place goes to the end of the chain of p
+pub upto_marked : (entries : List Entry) (e : Entry) (p : ℕ) (links lasts next ends : List ℕ) → p < 52 → length entries < no_place →
+    IsMarked (marks e.bound.label) p → next ≡ set links (get_or lasts p 0 * 52 + p) (length entries) →
+    ends ≡ set lasts p (length entries + 1) → AreMarkChainsUpto entries e p links lasts → AreMarkChainsUpto entries e (p + 1) next ends
+upto_marked entries e p links lasts next ends small few marked is to c =
+    let last = get_or lasts p 0 in
+    let mine = c.left p (omega arith) small in
+    let upto = mine.upto in
+    let links_size = c.links_size in
+    let lasts_size = c.lasts_size in
+    let end : get_or ends p 0 ≡ length entries + 1 = ap (λ l. get_or l p 0) to ∙ get_or-set_same lasts p (length entries + 1) 0 (omega arith) in
+    let others : (q : ℕ) → q < 52 → q ≢ p → (from : ℕ) → mark_link next q from ≡ mark_link links q from =
+    λ q h ne from. ap (λ l. get_or l (from * 52 + q) no_place) is
+    ∙ get_or-set_other links (last * 52 + p) (from * 52 + q) (length entries) no_place (λ s. ne (apart from last q p h small s)) in
+    let other_ends : (q : ℕ) → q ≢ p → get_or lasts q 0 ≡ get_or ends q 0 =
+    λ q ne. sym (ap (λ l. get_or l q 0) to ∙ get_or-set_other lasts p q (length entries + 1) 0 ne) in
+    record {
+      done = λ q h k. elim (cases_lt q p) [
+        | inl below ↦
+            let ne : q ≢ p = λ s. omega arith in
+            moved (entries ++ e ∷ []) q (length entries + 1) links next (get_or lasts q 0) (get_or ends q 0) (λ from. others q k ne from) (other_ends q ne) (c.done q below k)
+        | inr at ↦
+            let same : p ≡ q = omega arith in
+            subst (λ n. IsChain (IsMarkedAt (entries ++ e ∷ []) n) (length entries + 1) (mark_link next n) (get_or ends n 0)) same
+            (subst (λ n. IsChain (IsMarkedAt (entries ++ e ∷ []) p) (length entries + 1) (mark_link next p) n) (sym end)
+            (chain_more (IsMarkedAt entries p) (IsMarkedAt (entries ++ e ∷ []) p) (length entries) few (marked_on entries e p) (marked_back entries e p)
+            (mark_link links p) (mark_link next p) last (marked_last entries e p marked)
+            (ap (λ l. get_or l (last * 52 + p) no_place) is ∙ get_or-set_same links (last * 52 + p) (length entries) no_place (omega arith))
+            (ap (λ l. get_or l ((length entries + 1) * 52 + p) no_place) is
+            ∙ get_or-set_other links (last * 52 + p) ((length entries + 1) * 52 + p) (length entries) no_place (λ s. omega arith)
+            ∙ c.ends p (omega arith) small)
+            (λ from low b ne. ap (λ l. get_or l (from * 52 + p) no_place) is
+            ∙ get_or-set_other links (last * 52 + p) (from * 52 + p) (length entries) no_place (λ s. ne (omega arith)))
+            mine))
+      ];
+      left = λ q h k.
+          let ne : q ≢ p = λ s. omega arith in
+          moved entries q (length entries) links next (get_or lasts q 0) (get_or ends q 0) (λ from. others q k ne from) (other_ends q ne) (c.left q (omega arith) k);
+      ends = λ q h k. let ne : q ≢ p = λ s. omega arith in others q k ne (length entries + 1) ∙ c.ends q (omega arith) k;
+      links_size = ap length is ∙ length-set links (last * 52 + p) (length entries) ∙ c.links_size;
+      lasts_size = ap length to ∙ length-set lasts p (length entries + 1) ∙ c.lasts_size;
+    }
+  where
+    apart : (a b q r : ℕ) → q < 52 → r < 52 → a * 52 + q ≡ b * 52 + r → q ≡ r
+    apart a b q r h k s = omega arith
+
+    moved : (entries : List Entry) (q end : ℕ) (links next : List ℕ) (m n : ℕ) → ((from : ℕ) → mark_link next q from ≡ mark_link links q from) → m ≡ n →
+        IsChain (IsMarkedAt entries q) end (mark_link links q) m → IsChain (IsMarkedAt entries q) end (mark_link next q) n
+    moved entries q end links next m n same e c =
+        subst (λ i. IsChain (IsMarkedAt entries q) end (mark_link next q) i) e (record {
+          upto = c.upto;
+          behind = c.behind;
+          none = c.none;
+          leads = λ from upto b. subst (λ r. IsFirst (IsMarkedAt entries q) from end r) (sym (same from)) (c.leads from upto b);
+        })
+
+pub marks_whole : (entries : List Entry) (e : Entry) (n : ℕ) (links lasts : List ℕ) → 52 ≤ n → AreMarkChainsUpto entries e n links lasts →
+    AreMarkChains (entries ++ e ∷ []) links lasts
+marks_whole entries e n links lasts all c =
+    let size : length (entries ++ e ∷ []) ≡ length entries + 1 = length-append entries (e ∷ []) in
+    let links_size = c.links_size in
+    record {
+      chains = λ p h.
+          subst (λ m. IsChain (IsMarkedAt (entries ++ e ∷ []) p) m (mark_link links p) (get_or lasts p 0)) (sym size) (c.done p (omega arith) h);
+      links_size = omega arith;
+      lasts_size = c.lasts_size;
+    }
