@@ -6,8 +6,6 @@ use cstn_label::{Label, Mark, Prop};
 
 const P: u8 = 41;
 
-const Q: u8 = 42;
-
 fn set(alloc: Global) -> Result<MinSet, AllocError>
     ensures { IfOk result (λ set. (set.nodes ≡ 3) × (length set.table ≡ 8) × ((u : ℕ) → entry_at set.table u ≡ None) × AllBornBefore set.table 0) }
 {
@@ -46,60 +44,6 @@ fn bound(node: u16, least: i32, mark: Mark) -> Bound
         least,
         label: Label::empty().with(Prop { index: P }, mark),
     }
-}
-
-fn marked(node: u16, least: i32, p: Mark, q: Mark) -> Bound
-    ensures { result.node.0 ≡ node }
-{
-    Bound {
-        node: NodeId(node),
-        least,
-        label: Label::empty()
-            .with(Prop { index: P }, p)
-            .with(Prop { index: Q }, q),
-    }
-}
-
-fn id(slot: u32) -> SlotId {
-    SlotId {
-        slot,
-        birth: slot as u64,
-    }
-}
-
-fn emptied(set: &mut MinSet)
-    ensures size { (set.new.nodes ≡ set.old.nodes) × (length set.new.table ≡ length set.old.table) }
-    ensures free { (u : ℕ) → entry_at set.new.table u ≡ None }
-    ensures born { AllBornBefore set.new.table 0 }
-{
-    set.clear();
-}
-
-#[test]
-fn the_bounds_that_mark_a_proposition(rt: HostRuntime) -> Result<(), AllocError> {
-    let mut set = set(rt.alloc())?;
-    add(&mut set, marked(2, 9, Mark::Yes, Mark::Yes), 0);
-    add(&mut set, marked(1, 7, Mark::No, Mark::Absent), 1);
-    add(&mut set, marked(2, 8, Mark::Unknown, Mark::Absent), 2);
-    add(&mut set, marked(2, 8, Mark::Absent, Mark::Yes), 3);
-    let p = Prop { index: P };
-    let q = Prop { index: Q };
-    let ids = [id(0), id(1), id(2), id(3)];
-    assert_eq!(rt; set.marked_from(p, 0), Some(ids[0]));
-    assert_eq!(rt; set.marked_from(p, 1), Some(ids[1]));
-    assert_eq!(rt; set.marked_from(p, 2), Some(ids[2]));
-    assert_eq!(rt; set.marked_from(p, 3), None);
-    assert_eq!(rt; set.marked_from(q, 1), Some(ids[3]));
-    assert_eq!(rt; set.first_from(NodeId(2), 1), Some(ids[2]));
-    assert_eq!(rt; set.first_from(NodeId(2), 4), None);
-    assert_eq!(rt; set.first_from(NodeId(3), 0), None);
-    assert!(rt; set.lift(ids[1]));
-    assert_eq!(rt; set.marked_from(p, 1), Some(ids[2]));
-    emptied(&mut set);
-    assert_eq!(rt; set.marked_from(p, 0), None);
-    add(&mut set, marked(1, 7, Mark::No, Mark::Absent), 0);
-    assert_eq!(rt; set.marked_from(p, 0), Some(ids[0]));
-    Ok(())
 }
 
 #[test]
