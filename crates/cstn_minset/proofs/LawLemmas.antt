@@ -1,18 +1,15 @@
 -- Walks from the first entry of a kind by the next ones.
-use Rattle.std.proofs.Common.{◌≡◌, ◌≢◌, ◌⊎◌, inl, inr, ℕ, zero, suc, ◌+◌, ◌<◌, ◌≤◌, ◌^◌, List, [], ◌∷◌, length, set, refl, ap, sym, ◌∙◌, subst, arith}
-use Rattle.std.specs.Prelude.{Option, Some, None, is_some, slice_get}
-use Rattle.std.proofs.lemmas.Bool.{cases_eq, cases_lt}
+use Rattle.std.proofs.Common.{◌≡◌, inl, inr, ℕ, zero, suc, ◌+◌, ◌<◌, ◌≤◌, List, [], ◌∷◌, length, set, refl, sym, ◌∙◌, subst, arith}
+use Rattle.std.specs.Prelude.{Some, None, is_some, slice_get}
+use Rattle.std.proofs.lemmas.Bool.{cases_eq}
 use Rattle.std.proofs.lemmas.List.{get_or-set_other}
 use Rattle.std.proofs.lemmas.List.Sums.{count_by-le-length}
 use Rattle.std.proofs.lemmas.Option.{none-some, same_Some, some_pair_parts}
 use Rattle.cstn_label.specs.declared.bounds.Bound.{Bound}
-use Rattle.cstn_label.specs.declared.marks.Mark.{Mark}
-use Rattle.cstn_label.specs.declared.marks.Mark.TheVariants.{Absent, Yes, No, Unknown}
-use Rattle.cstn_label.specs.Read.{marks}
 use Rattle.cstn_pool.specs.declared.slot_id.SlotId.{SlotId}
 use Rattle.cstn_pool.specs.Slots.{live_of}
 use Rattle.cstn_pool.proofs.PoolLemmas.{count_emptied}
-use Rattle.cstn_minset.specs.Sets.{Entries, entry_at, IsPlaced, IsThere, IsAt, IsMarking, IsWalk, IsMinimal}
+use Rattle.cstn_minset.specs.Sets.{Entries, IsPlaced, IsThere, IsWalk, IsMinimal}
 use Rattle.cstn_minset.proofs.TableLemmas.{placed_within}
 
 -- placed ids in ascending birth are at most as many as the slots in use
@@ -65,118 +62,3 @@ module _ (table : Entries) (Kind : Bound → Type 0) where
   walk_within low ids walk =
       let few = ids_within table ids (λ k id is. let found = walk_there low ids k id walk is in (found.0, found.1)) (λ j k earlier later a b less. walk_ascends low ids j k earlier later walk a b less) in
       omega (arith, few, count_by-le-length is_some table)
-
--- the entry of a kind with the least birth from `low` on, of the first slots
-abbrev NoneBefore : Entries → (Bound → Type 0) → ℕ → ℕ → Type 0
-NoneBefore table Kind low n = (u : ℕ) (e : ℕ × Bound) → u < n → IsPlaced table u e → Kind e.1 → e.0 < low
-
-record IsLeastBefore (table : Entries) (Kind : Bound → Type 0) (low n : ℕ) : Type 0 where
-  slot : ℕ
-  birth : ℕ
-  bound : Bound
-  there : IsPlaced table slot (birth, bound)
-  kind : Kind bound
-  above : low ≤ birth
-  least : (u : ℕ) (e : ℕ × Bound) → u < n → IsPlaced table u e → Kind e.1 → (e.0 < low) ⊎ (birth ≤ e.0)
-
-module _ (nodes : ℕ) (table : Entries) (Kind : Bound → Type 0) (decide : (b : Bound) → Kind b ⊎ ¬ Kind b) (minimal : IsMinimal nodes table) where
-  -- the next slot holds no entry of the kind from `low` on
-  pass : (low n : ℕ) → ((e : ℕ × Bound) → IsPlaced table n e → Kind e.1 → e.0 < low) → NoneBefore table Kind low n ⊎ IsLeastBefore table Kind low n → NoneBefore table Kind low (suc n) ⊎ IsLeastBefore table Kind low (suc n)
-  pass low n early (inl none) = inl (λ u e less there kind. elim (cases_eq u n) [ inl same ↦ early e (rw same at there) kind | inr other ↦ none u e (omega (arith, less, other)) there kind ])
-  pass low n early (inr found) = inr (record {
-    slot = found.slot;
-    birth = found.birth;
-    bound = found.bound;
-    there = found.there;
-    kind = found.kind;
-    above = found.above;
-    least = λ u e less there kind. elim (cases_eq u n) [ inl same ↦ inl (early e (rw same at there) kind) | inr other ↦ found.least u e (omega (arith, less, other)) there kind ];
-  })
-
-  same_entry : (n u : ℕ) (e f : ℕ × Bound) → IsPlaced table n e → u ≡ n → IsPlaced table u f → e ≡ f
-  same_entry n u e f here same there = same_Some e f (sym here ∙ rw same at there)
-
-  -- or it holds one
-  meet : (low n : ℕ) (e : ℕ × Bound) → IsPlaced table n e → Kind e.1 → low ≤ e.0 → NoneBefore table Kind low n ⊎ IsLeastBefore table Kind low n → IsLeastBefore table Kind low (suc n)
-  meet low n e here kind late (inl none) = record {
-    slot = n;
-    birth = e.0;
-    bound = e.1;
-    there = here;
-    kind = kind;
-    above = late;
-    least = λ u f less there also. elim (cases_eq u n) [ inl same ↦ inr (omega (arith, ap (λ z. z.0) (same_entry n u e f here same there))) | inr other ↦ inl (none u f (omega (arith, less, other)) there also) ];
-  }
-  meet low n e here kind late (inr found) = elim (cases_lt found.birth e.0) [
-    | inl before ↦ record {
-      slot = found.slot;
-      birth = found.birth;
-      bound = found.bound;
-      there = found.there;
-      kind = found.kind;
-      above = found.above;
-      least = λ u f less there also. elim (cases_eq u n) [ inl same ↦ inr (omega (arith, before, ap (λ z. z.0) (same_entry n u e f here same there))) | inr other ↦ found.least u f (omega (arith, less, other)) there also ];
-    }
-    | inr after ↦ record {
-      slot = n;
-      birth = e.0;
-      bound = e.1;
-      there = here;
-      kind = kind;
-      above = late;
-      least = λ u f less there also. elim (cases_eq u n) [
-        | inl same ↦ inr (omega (arith, ap (λ z. z.0) (same_entry n u e f here same there)))
-        | inr other ↦ elim (found.least u f (omega (arith, less, other)) there also) [ inl early ↦ inl early | inr more ↦ inr (omega (arith, after, more)) ]
-      ];
-    }
-  ]
-
-  look : (low n : ℕ) (o : Option (ℕ × Bound)) → entry_at table n ≡ o → NoneBefore table Kind low n ⊎ IsLeastBefore table Kind low n → NoneBefore table Kind low (suc n) ⊎ IsLeastBefore table Kind low (suc n)
-  look low n None none found = pass low n (λ e here kind. absurd (none-some e (sym none ∙ here))) found
-  look low n (Some e) here found = elim (decide e.1) [
-    | inr not ↦ pass low n (λ f there kind. absurd (not (subst (λ (z : ℕ × Bound). Kind z.1) (sym (same_entry n n e f here refl there)) kind))) found
-    | inl kind ↦ elim (cases_lt e.0 low) [
-      | inl early ↦ pass low n (λ f there also. omega (arith, early, ap (λ z. z.0) (same_entry n n e f here refl there))) found
-      | inr late ↦ inr (meet low n e here kind late found)
-    ]
-  ]
-
-  find_least : (low n : ℕ) → NoneBefore table Kind low n ⊎ IsLeastBefore table Kind low n
-  find_least low zero = inl (λ u e less. absurd (omega (arith, less)))
-  find_least low (suc n) = look low n (entry_at table n) refl (find_least low n)
-
-  walk_from : (more low : ℕ) → 2 ^ 64 ≤ low + more → (ids : List SlotId) × IsWalk table Kind low ids
-  walk_from zero low all = ([], λ u e there kind. omega (arith, all, (minimal.in_range u e there).1))
-  walk_from (suc more) low all = elim (find_least low (length table)) [
-    | inl none ↦ ([], λ u e there kind. none u e (placed_within table u e there) there kind)
-    | inr found ↦
-        let rest = walk_from more (found.birth + 1) (omega (arith, all, found.above)) in (
-          record { slot = found.slot; birth = found.birth } ∷ rest.0,
-          (
-            record {
-              bound = found.bound;
-              there = found.there;
-              kind = found.kind;
-              above = found.above;
-              least = λ u e there kind. found.least u e (placed_within table u e there) there kind;
-            },
-            rest.1,
-          ),
-        )
-  ]
-
-  -- there is a walk
-  pub walk_ends : (ids : List SlotId) × IsWalk table Kind 0 ids
-  walk_ends = walk_from (2 ^ 64) 0 (omega arith)
-
-pub at_or_not : (node : ℕ) (b : Bound) → IsAt node b ⊎ ¬ IsAt node b
-at_or_not node b = elim (cases_eq b.node.0 node) [ inl same ↦ inl same | inr other ↦ inr other ]
-
-pub marking_or_not : (p : ℕ) (b : Bound) → IsMarking p b ⊎ ¬ IsMarking p b
-marking_or_not p b = go (marks b.label p)
-  where
-    go : (m : Mark) → (m ≢ Absent) ⊎ ¬ (m ≢ Absent)
-    go Absent = inr (λ not. not refl)
-    go Yes = inl (λ no. cc)
-    go No = inl (λ no. cc)
-    go Unknown = inl (λ no. cc)

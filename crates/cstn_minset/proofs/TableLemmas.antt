@@ -8,7 +8,7 @@ use Rattle.cstn_label.specs.declared.bounds.Bound.{Bound}
 use Rattle.cstn_pool.specs.declared.slot_id.SlotId.{SlotId}
 use Rattle.cstn_minset.specs.Chains.{Table, IsIn, IsFirstKey}
 use Rattle.cstn_minset.specs.Links.{Ring, IsStop, IsPrev, AreLinks, SameSize}
-use Rattle.cstn_minset.specs.Sets.{Entries, IsPlaced, IsOver, IsCovered, AllBornBefore, IsAt, IsLeast, IsFirstSlot, by_birth, IsMinimal, AreOrdered}
+use Rattle.cstn_minset.specs.Sets.{Entries, IsPlaced, IsOver, IsCovered, AllBornBefore, IsAt, IsLeast, IsFirstSlot, by_birth, IsMinimal, AreOrdered, IsChained}
 use Rattle.cstn_minset.proofs.LinkLemmas.{narrowed}
 
 pub at_map : (f : Option (ℕ × Bound) → Option (ℕ × ℕ)) → f None ≡ None → (T : Entries) (u : ℕ) → get_or (map f T) u None ≡ f (get_or T u None)
@@ -40,27 +40,20 @@ in_placed T h s k is =
     let both = some_pair_parts found.0.1.node.0 h found.0.0 k found.2 in
     (found.0.1, found.1 ∙ ap (λ (n : ℕ). some_entry n found.0.1) both.1, both.0)
 
--- the first slot of a chain is that of the entries that are in it
-module _ (order : Option (ℕ × Bound) → Option (ℕ × ℕ)) (none : order None ≡ None) (T : Entries) (Kind : Bound → Type 0) (h : ℕ) (in_chain : (e : ℕ × Bound) → Kind e.1 → order (Some e) ≡ Some (h, e.0)) (of_chain : (e : ℕ × Bound) (k : ℕ) → order (Some e) ≡ Some (h, k) → Kind e.1 × (e.0 ≡ k)) where
-  pub first_of_kind : (low : ℕ) (answer : Option ℕ) → IsFirstKey (map order T) h low answer → IsFirstSlot T Kind low answer
-  first_of_kind low None is = λ u e there kind. is u e.0 (placed_at order none T u h e.0 e there (in_chain e kind))
-  first_of_kind low (Some s) is =
-      let found = at_placed order none T h s is.key is.there in
-      let kind = of_chain found.0 is.key found.2 in (
-        is.key,
-        record {
-          bound = found.0.1;
-          there = found.1 ∙ ap (λ (n : ℕ). some_entry n found.0.1) kind.1;
-          kind = kind.0;
-          above = is.above;
-          least = λ u e there also. is.least u e.0 (placed_at order none T u h e.0 e there (in_chain e also));
-        },
-      )
-
--- of those at a time-point by birth
+-- the first slot of a chain is that of the time-point
 pub first_of : (T : Entries) (h low : ℕ) (answer : Option ℕ) → IsFirstKey (map by_birth T) h low answer → IsFirstSlot T (IsAt h) low answer
-first_of T h low answer is =
-    first_of_kind by_birth refl T (IsAt h) h (λ e at'. rw at' refl) (λ e k key. some_pair_parts e.1.node.0 h e.0 k key) low answer is
+first_of T h low None none = λ u e is at'. none u e.0 (rw at' at (placed_in T u e is))
+first_of T h low (Some s) is =
+    let found = in_placed T h s is.key is.there in (
+      is.key,
+      record {
+        bound = found.0;
+        there = found.1;
+        kind = found.2;
+        above = is.above;
+        least = λ u e p at'. is.least u e.0 (rw at' at (placed_in T u e p));
+      },
+    )
 
 -- what stands in the table after a slot was filled
 pub placed_more : (T : Entries) (slot u : ℕ) (x e : ℕ × Bound) → slot < length T → IsPlaced (set T slot (Some x)) u e → ((u ≡ slot) × (x ≡ e)) ⊎ ((u ≢ slot) × IsPlaced T u e)
@@ -84,14 +77,14 @@ placed_less T slot u e is = elim (cases_eq u slot) [
 pub less_placed : (T : Entries) (slot u : ℕ) (e : ℕ × Bound) → u ≢ slot → IsPlaced T u e → IsPlaced (set T slot None) u e
 less_placed T slot u e other is = get_or-set_other T slot u None None other ∙ is
 
-pub minimal_less : (nodes slot : ℕ) (T : Entries) → IsMinimal nodes T → IsMinimal nodes (set T slot None)
+minimal_less : (nodes slot : ℕ) (T : Entries) → IsMinimal nodes T → IsMinimal nodes (set T slot None)
 minimal_less nodes slot T is = record {
   minimal = λ s t e f p q other. is.minimal s t e f (placed_less T slot s e p).1 (placed_less T slot t f q).1 other;
   apart = λ s t e f p q same. is.apart s t e f (placed_less T slot s e p).1 (placed_less T slot t f q).1 same;
   in_range = λ s e p. is.in_range s e (placed_less T slot s e p).1;
 }
 
-pub minimal_more : (nodes slot birth : ℕ) (b : Bound) (T : Entries) → slot < length T → b.node.0 < nodes → birth < 2 ^ 64 → ¬ IsCovered T b → ((u : ℕ) (e : ℕ × Bound) → IsPlaced T u e → ¬ IsOver b e.1) → AllBornBefore T birth → IsMinimal nodes T → IsMinimal nodes (set T slot (Some (birth, b)))
+minimal_more : (nodes slot birth : ℕ) (b : Bound) (T : Entries) → slot < length T → b.node.0 < nodes → birth < 2 ^ 64 → ¬ IsCovered T b → ((u : ℕ) (e : ℕ × Bound) → IsPlaced T u e → ¬ IsOver b e.1) → AllBornBefore T birth → IsMinimal nodes T → IsMinimal nodes (set T slot (Some (birth, b)))
 minimal_more nodes slot birth b T inside node small uncovered least births is = record {
   minimal = λ s t e f p q other over.
       elim (placed_more T slot s (birth, b) e inside p) [
@@ -167,10 +160,29 @@ module _ (order : Option (ℕ × Bound) → Option (ℕ × ℕ)) (none : order N
       narrowed (map order T) links.slots links.heads h (2 ^ 128) k before last (omega arith) (λ u there. omega (arith, below u k there)) (λ j there. omega (arith, below before j there))
 
 -- each key of a time-point by birth is below a birth above all
-pub births_below : (T : Entries) (birth h u j : ℕ) → AllBornBefore T birth → IsIn (map by_birth T) h u j → j < birth
+births_below : (T : Entries) (birth h u j : ℕ) → AllBornBefore T birth → IsIn (map by_birth T) h u j → j < birth
 births_below T birth h u j births there = let f = in_placed T h u j there in omega (arith, births u (j, f.0) f.1)
 
-pub none_at : (n u : ℕ) (e : ℕ × Bound) → IsPlaced (replicate n None) u e → ⊥
+-- the steps of the code: an entry is taken out
+pub take_out_step : (old new : Ring) (nodes slot : ℕ) (T : Entries) → IsChained old nodes T → IsSome (get_or T slot None) → SameSize old new → Removes old new slot → IsChained new nodes (set T slot None)
+take_out_step old new nodes slot T is some sizes step =
+    let e = some_entry_is (get_or T slot None) some in
+    record {
+      by_births = order_less by_birth refl nodes T old new slot e.0.1.node.0 e.0.0 e.0 is.by_births e.1 refl sizes step;
+      minimal = minimal_less nodes slot T is.minimal;
+    }
+
+-- and one is put in
+pub put_step : (old new : Ring) (nodes slot birth end before : ℕ) (b : Bound) (T : Entries) → IsChained old nodes T → SameSize old new → Inserts old new slot before → end ≡ old.slots + b.node.0 → IsBefore old end before → slot < length T → get_or T slot None ≡ None → b.node.0 < nodes → birth < 2 ^ 64 → ¬ IsCovered T b → ((u : ℕ) (e : ℕ × Bound) → IsPlaced T u e → ¬ IsOver b e.1) → AllBornBefore T birth → IsChained new nodes (set T slot (Some (birth, b)))
+put_step old new nodes slot birth end before b T is sizes step end_is back inside free node small uncovered least births =
+    let below : (u j : ℕ) → IsIn (map by_birth T) b.node.0 u j → j < birth = λ u j there. births_below T birth b.node.0 u j births there in
+    record {
+      by_births = order_more by_birth refl nodes T old new slot before b.node.0 birth (birth, b) is.by_births inside free refl node (omega arith) (λ u there. omega (arith, below u birth there))
+          (order_last by_birth refl nodes T old b.node.0 birth end before is.by_births node (omega arith) end_is back below) sizes step;
+      minimal = minimal_more nodes slot birth b T inside node small uncovered least births is.minimal;
+    }
+
+none_at : (n u : ℕ) (e : ℕ × Bound) → IsPlaced (replicate n None) u e → ⊥
 none_at zero u e is = cc
 none_at (suc n) zero e is = cc
 none_at (suc n) (suc u) e is = none_at n u e is
@@ -187,11 +199,17 @@ order_none order none links heads n slots heads_are linked = record {
   linked = rw (← none_map order none n, ← slots) linked;
 }
 
-pub minimal_none : (nodes n : ℕ) → IsMinimal nodes (replicate n None)
+minimal_none : (nodes n : ℕ) → IsMinimal nodes (replicate n None)
 minimal_none nodes n = record {
   minimal = λ s t e f p q other. absurd (none_at n s e p);
   apart = λ s t e f p q same. absurd (none_at n s e p);
   in_range = λ s e p. absurd (none_at n s e p);
+}
+
+pub all_free : (births : Ring) (nodes n : ℕ) → (births.slots ≡ n) × (births.heads ≡ nodes) → AreLinks births (replicate births.slots None) → IsChained births nodes (replicate n None)
+all_free births nodes n sizes linked = record {
+  by_births = order_none by_birth refl births nodes n sizes.0 sizes.1 linked;
+  minimal = minimal_none nodes n;
 }
 
 -- whether a slot holds the birth

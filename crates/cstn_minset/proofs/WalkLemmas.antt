@@ -1,11 +1,10 @@
-use Rattle.std.proofs.Common.{◌≡◌, ◌≢◌, ◌⊎◌, inl, inr, ℕ, ◌+◌, ◌-◌, ◌<◌, ◌≤◌, ◌^◌, length, set, Bool, true, false, refl, ap, sym, ◌∙◌, subst, arith}
+use Rattle.std.proofs.Common.{◌≡◌, ◌≢◌, inl, inr, ℕ, ◌+◌, ◌-◌, ◌<◌, ◌≤◌, ◌^◌, length, set, Bool, true, false, refl, ap, sym, ◌∙◌, subst, arith}
 use Rattle.std.specs.Prelude.{Option, None, Some, IsTrue, ◌↔◌}
 use Rattle.std.proofs.lemmas.List.{get_or-set_other, length-set}
 use Rattle.std.proofs.lemmas.Bool.{cases_eq}
 use Rattle.std.proofs.lemmas.Option.{same_Some}
 use Rattle.cstn_label.specs.declared.bounds.Bound.{Bound}
-use Rattle.cstn_pool.specs.declared.slot_id.SlotId.{SlotId}
-use Rattle.cstn_minset.specs.Sets.{Entries, entry_at, IsPlaced, IsOver, IsCovered, IsCleared, IsAt, IsLeast, IsNone, IsFirstSlot, IsMinimal}
+use Rattle.cstn_minset.specs.Sets.{Entries, entry_at, IsPlaced, IsOver, IsCovered, IsCleared, IsAt, IsLeast, IsFirstSlot, IsMinimal}
 use Rattle.cstn_minset.proofs.TableLemmas.{placed_less, less_placed}
 
 abbrev pub entry_rank : Option (ℕ × Bound) → ℕ
@@ -170,36 +169,3 @@ swept_all nodes now_nodes old T b None not walk = record {
   none_under = λ u e there over. omega (arith, walk.none_under u e there over, walk.here u e there (sym over.node));
   kept = walk.kept;
 }
-
--- a walk that looks for a birth: none from it on is before the place
-pub record IsSought (T : Entries) (Kind : Bound → Type 0) (birth : ℕ) (place : Option ℕ) : Type 0 where
-  pub low : ℕ
-  pub below : low ≤ birth
-  pub here : IsFirstSlot T Kind low place
-
-module _ (nodes : ℕ) (T : Entries) (Kind : Bound → Type 0) (birth : ℕ) where
-  pub sought_start : (place : Option ℕ) → IsFirstSlot T Kind 0 place → IsSought T Kind birth place
-  sought_start place first = record { low = 0; below = omega arith; here = first }
-
-  pub sought_more : (slot born : ℕ) (next : Option ℕ) → IsMinimal nodes T → IsSought T Kind birth (Some slot) → ((e : ℕ × Bound) → IsPlaced T slot e → born ≡ e.0) → (birth ≤ born → ⊥) → ((e : ℕ × Bound) → IsPlaced T slot e → Kind e.1 → IsFirstSlot T Kind (e.0 + 1) next) → IsSought T Kind birth next × (rank T next < rank T (Some slot))
-  sought_more slot born next minimal walk is early step =
-      let k : ℕ = walk.here.0 in
-      let L : IsLeast T Kind walk.low slot k = walk.here.1 in
-      let first = step (k, L.bound) L.there L.kind in
-      let same = is (k, L.bound) L.there in (
-        record { low = k + 1; below = omega (arith, early, same); here = first },
-        rank_falls T T Kind slot k L.bound next L.there (minimal.in_range slot (k, L.bound) L.there).1 first,
-      )
-
-  pub sought_here : (slot : ℕ) (id : SlotId) → IsSought T Kind birth (Some slot) → id.slot ≡ slot → ((e : ℕ × Bound) → IsPlaced T slot e → id.birth ≡ e.0) → birth ≤ id.birth → IsLeast T Kind birth id.slot id.birth
-  sought_here slot id walk slot_is birth_is late =
-      let k : ℕ = walk.here.0 in
-      let L : IsLeast T Kind walk.low slot k = walk.here.1 in
-      let same = birth_is (k, L.bound) L.there in
-      let low : birth ≤ k = omega (arith, late, same) in
-      let least : (u : ℕ) (e : ℕ × Bound) → IsPlaced T u e → Kind e.1 → (e.0 < birth) ⊎ (k ≤ e.0) = λ u e there kind. elim (L.least u e there kind) [ inl less ↦ inl (omega (arith, less, walk.below)) | inr more ↦ inr more ] in
-      rw (slot_is, same) (record { bound = L.bound; there = L.there; kind = L.kind; above = low; least = least })
-
-  pub sought_end : (place : Option ℕ) → ((s : ℕ) → place ≡ Some s → ⊥) → IsSought T Kind birth place → IsNone T Kind birth
-  sought_end (Some s) not walk = absurd (not s refl)
-  sought_end None not walk = λ u e there kind. omega (arith, walk.here u e there kind, walk.below)

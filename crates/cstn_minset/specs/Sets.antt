@@ -1,13 +1,10 @@
 -- Minimal sets of bounds, each bound in a slot with its birth.
-use Rattle.std.specs.Prelude.{◌≡◌, ◌≢◌, ◌⊎◌, ℕ, ◌+◌, ◌<◌, ◌≤◌, ◌^◌, List, [], ◌∷◌, map, length, Option, None, Some, slice_index_or, slice_set, MatchOption}
+use Rattle.std.specs.Prelude.{◌≡◌, ◌≢◌, ◌⊎◌, ℕ, ◌+◌, ◌<◌, ◌≤◌, ◌^◌, List, [], ◌∷◌, map, length, Option, None, Some, slice_index_or, MatchOption}
 use Rattle.cstn_label.specs.declared.bounds.Bound.{Bound}
-use Rattle.cstn_label.specs.declared.labels.Label.{Label}
-use Rattle.cstn_label.specs.declared.marks.Mark.{Mark}
-use Rattle.cstn_label.specs.declared.marks.Mark.TheVariants.{Absent, Yes, No, Unknown}
 use Rattle.cstn_label.specs.Bounds.{Dominates}
-use Rattle.cstn_label.specs.Read.{marks, the_bound}
+use Rattle.cstn_label.specs.Read.{the_bound}
 use Rattle.cstn_pool.specs.declared.slot_id.SlotId.{SlotId}
-use Rattle.cstn_minset.specs.Links.{Ring, AreLinks, SameSize}
+use Rattle.cstn_minset.specs.Links.{Ring, AreLinks}
 
 -- what each slot holds: nothing, or a birth and a bound
 abbrev pub Entries : Type 0
@@ -53,10 +50,6 @@ AllBornBefore table birth = (slot : ℕ) (entry : ℕ × Bound) → IsPlaced tab
 abbrev pub IsAt : ℕ → Bound → Type 0
 IsAt node b = b.node.0 ≡ node
 
--- the label of the bound marks the proposition
-abbrev pub IsMarking : ℕ → Bound → Type 0
-IsMarking p b = marks b.label p ≢ Absent
-
 -- of the bounds of a kind, the one with the least birth from `low` on
 pub record IsLeast (table : Entries) (Kind : Bound → Type 0) (low slot birth : ℕ) : Type 0 where
   pub bound : Bound
@@ -87,17 +80,6 @@ abbrev pub by_birth : Option (ℕ × Bound) → Option (ℕ × ℕ)
 by_birth None = None
 by_birth (Some entry) = Some (entry.1.node.0, entry.0)
 
--- an entry is in the chain of a proposition where its label has a mark of it, and its key there is its birth
-abbrev pub key_of_mark : Mark → ℕ → Option (ℕ × ℕ)
-key_of_mark Absent birth = None
-key_of_mark Yes birth = Some (0, birth)
-key_of_mark No birth = Some (0, birth)
-key_of_mark Unknown birth = Some (0, birth)
-
-abbrev pub by_mark : ℕ → Option (ℕ × Bound) → Option (ℕ × ℕ)
-by_mark p None = None
-by_mark p (Some entry) = key_of_mark (marks entry.1.label p) entry.0
-
 -- no entry dominates another, no two have the same birth, and each is at a time-point of the set
 pub record IsMinimal (nodes : ℕ) (table : Entries) : Type 0 where
   pub minimal : (s t : ℕ) (e f : ℕ × Bound) → IsPlaced table s e → IsPlaced table t f → s ≢ t → ¬ IsOver e.1 f.1
@@ -110,35 +92,7 @@ pub record AreOrdered (order : Option (ℕ × Bound) → Option (ℕ × ℕ)) (h
   pub heads_are : links.heads ≡ heads
   pub linked : AreLinks links (map order table)
 
--- links without a chain
-abbrev pub no_ring : Ring
-no_ring = record { slots = 0; heads = 0; next = []; prev = [] }
-
--- the links of a proposition
-abbrev pub ring_of : List Ring → ℕ → Ring
-ring_of rings p = slice_index_or rings p no_ring
-
--- for each proposition, links that run through the entries whose label marks it
-pub record AreMarks (rings : List Ring) (table : Entries) : Type 0 where
-  pub count : length rings ≡ 52
-  pub each : (p : ℕ) → p < 52 → AreOrdered (by_mark p) 1 (ring_of rings p) table
-
--- for each proposition, links of one chain that have the slot
-pub record HaveRoom (rings : List Ring) (slot : ℕ) : Type 0 where
-  pub count : length rings ≡ 52
-  pub slots : (p : ℕ) → p < 52 → slot < (ring_of rings p).slots
-  pub heads : (p : ℕ) → p < 52 → (ring_of rings p).heads ≡ 1
-
--- the links of a proposition after an entry of that label was put into the slot
-abbrev pub LinksMarked : ℕ → Label → ℕ → Ring → Ring → Type 0
-LinksMarked slot label p old new = (table : Entries) (birth : ℕ) (b : Bound) → b.label ≡ label → AreOrdered (by_mark p) 1 old table → slot < length table → entry_at table slot ≡ None → AllBornBefore table birth → birth < 2 ^ 64 → AreOrdered (by_mark p) 1 new (slice_set table slot (Some (birth, b)))
-
--- and after it was taken out
-abbrev pub UnlinksMarked : ℕ → Label → ℕ → Ring → Ring → Type 0
-UnlinksMarked slot label p old new = (table : Entries) (entry : ℕ × Bound) → entry.1.label ≡ label → AreOrdered (by_mark p) 1 old table → IsPlaced table slot entry → AreOrdered (by_mark p) 1 new (slice_set table slot None)
-
--- a minimal set whose links run through each time-point's entries by birth, and through those of each mark
-pub record IsChained (births : Ring) (rings : List Ring) (nodes : ℕ) (table : Entries) : Type 0 where
+-- a minimal set whose links run through each time-point's entries by birth
+pub record IsChained (births : Ring) (nodes : ℕ) (table : Entries) : Type 0 where
   pub by_births : AreOrdered by_birth nodes births table
-  pub by_marks : AreMarks rings table
   pub minimal : IsMinimal nodes table

@@ -4,10 +4,9 @@
 
 mod laws;
 mod links;
-mod marks;
 mod min_set;
 mod places;
 mod table;
 
-pub use laws::{the_last_are_left, walks_end, walks_meet_each_once};
+pub use laws::walks_meet_each_once;
 pub use min_set::MinSet;

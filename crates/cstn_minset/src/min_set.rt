@@ -1,27 +1,22 @@
 ghost use Rattle.std.specs.Prelude.{◌≡◌, ◌<◌, ◌≤◌, ◌+◌, ◌^◌, ◌↔◌, ℕ, Some, None, length, IsTrue, IfOk, IsSome, slice_set, slice_index_or, replicate, if◌then◌else◌};
-ghost use Rattle.cstn_minset.specs.Sets.{Places, Entries, entry_at, IsPlaced, IsThere, IsOver, IsCovered, IsCleared, AllBornBefore, IsAt, IsMarking, IsFirst, IsFirstSlot, IsMinimal};
+ghost use Rattle.cstn_minset.specs.Sets.{Places, Entries, entry_at, IsPlaced, IsThere, IsOver, IsCovered, IsCleared, AllBornBefore, IsAt, IsFirst, IsFirstSlot, IsMinimal};
 
 use crate::links::Links;
-use crate::marks::Marks;
 use crate::table::Table;
-use cstn_label::{Bound, NodeId, Prop};
+use cstn_label::{Bound, NodeId};
 use cstn_pool::SlotId;
 use std::alloc::{AllocError, Global};
 use std::marker::Model;
 
 /// Bounds of which none dominates another, each under the id of a pool's slot.
 ///
-/// All memory is taken by [`MinSet::start`]: for each slot 40 bytes for its bound, 8 for its place in
-/// the chain of its time-point, and 8 for that of each of the 52 propositions, 464 in all; and 8 for
-/// each time-point. No other call takes any, and no call costs anything for a slot that was never
-/// used.
+/// All memory is taken by [`MinSet::start`]: 40 bytes a slot for the bounds and 8 for the links,
+/// and 8 for each time-point. No other call takes any.
 #[derive(Drop)]
 pub struct MinSet {
     table: Table,
     // The slots of each time-point by birth.
     births: Links,
-    // The slots of each proposition by birth.
-    marks: Marks,
     nodes: u16,
 }
 
@@ -32,7 +27,7 @@ impl Model for MinSet {
 
     ghost view = { λ m. record { nodes = m.nodes; table = m.table } };
 
-    ghost invariant = { λ m. IsChained m.births m.marks.chains.items m.nodes m.table };
+    ghost invariant = { λ m. IsChained m.births m.nodes m.table };
 }
 
 impl MinSet {
@@ -41,16 +36,14 @@ impl MinSet {
     pub fn start(alloc: Global, nodes: u16, capacity: u32) -> Result<MinSet, AllocError>
         ensures empty { IfOk result (λ set. set ≡ record { nodes = nodes; table = replicate capacity None }) }
     {
-        let Some(_) = capacity.checked_add((nodes as u32).max(1)) else {
+        let Some(_) = capacity.checked_add(nodes as u32) else {
             return Err(AllocError);
         };
         let table = Table::start(alloc, capacity)?;
         let births = Links::start(alloc, nodes as u32, capacity)?;
-        let marks = Marks::start(alloc, capacity)?;
         Ok(MinSet {
             table,
             births,
-            marks,
             nodes,
         })
     }
@@ -110,7 +103,6 @@ impl MinSet {
     {
         let last = self.births.before(self.births.end(b.node.0 as u32));
         self.births.insert(slot, last);
-        self.marks.link(slot, b.label);
         self.table.set(slot, Some((birth, *b)));
     }
 
@@ -118,11 +110,7 @@ impl MinSet {
         requires { IsSome (entry_at self.old.table slot) }
         ensures { self.new ≡ record self.old { table = slice_set self.old.table slot None } }
     {
-        let Some((_, bound)) = self.table.at(slot) else {
-            return;
-        };
         self.births.remove(slot);
-        self.marks.unlink(slot, bound.label);
         self.table.set(slot, None);
     }
 
@@ -169,23 +157,6 @@ impl MinSet {
         self.births.next(slot)
     }
 
-    // The slot with the least birth whose label marks the proposition.
-    fn first_marked(&self, p: Prop) -> Option<u32>
-        ensures first { IsFirstSlot self.now.table (IsMarking p.index) 0 result }
-        ensures minimal { IsMinimal self.now.nodes self.now.table }
-    {
-        self.marks.chains[p.index as usize].first(0)
-    }
-
-    // The slot with the next birth whose label marks the proposition.
-    fn next_marked_slot(&self, p: Prop, slot: u32) -> Option<u32>
-        requires { slot < length self.now.table }
-        ensures next { (e : ℕ × Bound) → IsPlaced self.now.table slot e → IsMarking p.index e.1 → IsFirstSlot self.now.table (IsMarking p.index) (e.0 + 1) result }
-        ensures minimal { IsMinimal self.now.nodes self.now.table }
-    {
-        self.marks.chains[p.index as usize].next(slot)
-    }
-
     // The id of a slot.
     fn id(&self, slot: u32) -> SlotId
         requires { slot < length self.now.table }
@@ -215,49 +186,6 @@ impl MinSet {
         ensures next { (b : Bound) → IsPlaced self.now.table id.slot (id.birth, b) → IsFirst self.now.table (IsAt b.node.0) (id.birth + 1) result }
     {
         match self.next_slot(id.slot) {
-            Some(slot) => Some(self.id(slot)),
-            None => None,
-        }
-    }
-
-    /// The id of the time-point's entry with the least birth from this one on.
-    pub fn first_from(&self, node: NodeId, birth: u64) -> Option<SlotId>
-        ensures first { IsFirst self.now.table (IsAt node.0) birth result }
-    {
-        let mut place = self.first_slot(node);
-        while let Some(slot) = place {
-            let id = self.id(slot);
-            if birth <= id.birth {
-                return Some(id);
-            }
-            place = self.next_slot(slot);
-        }
-        None
-    }
-
-    /// The id of the entry with the least birth from this one on, of every time-point, whose label
-    /// has a mark of the proposition: yes, no or unknown.
-    pub fn marked_from(&self, p: Prop, birth: u64) -> Option<SlotId>
-        ensures first { IsFirst self.now.table (IsMarking p.index) birth result }
-    {
-        let mut place = self.first_marked(p);
-        while let Some(slot) = place {
-            let id = self.id(slot);
-            if birth <= id.birth {
-                return Some(id);
-            }
-            place = self.next_marked_slot(p, slot);
-        }
-        None
-    }
-
-    /// The id of the entry with the next birth, of every time-point, whose label marks the
-    /// proposition.
-    pub fn next_marked(&self, p: Prop, id: SlotId) -> Option<SlotId>
-        requires { (b : Bound) × IsPlaced self.now.table id.slot (id.birth, b) × IsMarking p.index b }
-        ensures next { IsFirst self.now.table (IsMarking p.index) (id.birth + 1) result }
-    {
-        match self.next_marked_slot(p, id.slot) {
             Some(slot) => Some(self.id(slot)),
             None => None,
         }
@@ -300,7 +228,6 @@ impl MinSet {
         ensures { self.new ≡ record self.old { table = replicate (length self.old.table) None } }
     {
         self.births.clear();
-        self.marks.clear();
         self.table.clear();
     }
 }
