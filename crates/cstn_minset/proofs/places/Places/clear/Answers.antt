@@ -57,7 +57,7 @@ returns-clause-ends c = λ heads size.
     let loop = c.loop-head.invariant in
     let all : length c.loop-head.self-inside.ends.items ≡ heads = omega (arith, size, loop.count, loop.slots) in
     let home : AreEnds c.loop-head.self-inside.slots heads (padded 0 c.loop-head.self-inside.slots [] ++ c.loop-head.self-inside.ends.items) =
-        at_home c.loop-head.self-inside.slots heads c.loop-head.self-inside.ends.items all (λ h inside. loop.home h (omega (arith, inside, all, loop.end, c.loop-head-test.false))) in
+    at_home c.loop-head.self-inside.slots heads c.loop-head.self-inside.ends.items all (λ h inside. loop.home h (omega (arith, inside, all, loop.end, c.loop-head-test.false))) in
     rw (loop.none, ← loop.slots) home
 
 pub returns-clause-inside : goal.returns-clause-inside
