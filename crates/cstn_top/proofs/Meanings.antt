@@ -33,7 +33,7 @@ use Rattle.cstn_top.specs.declared.output.Outcome.TheVariants.{Good, Bad, Words,
 use Rattle.cstn_top.proofs.Verdicts.{Tells, verdict_tells}
 use Rattle.cstn_top.proofs.Drills.{counts_right}
 use Rattle.cstn_top.proofs.Edited.{document_named, EditTells, edit_tells}
-use Rattle.cstn_top.proofs.Fits.{fits}
+use Rattle.cstn_save.proofs.SameLemmas.{fits}
 
 -- what is said of a document: it is refused, or this is said of its network
 pub document_says : (answer : Answer) (bytes : List ℕ) (deadline : Option ℕ) (live : List ℕ) (said : Said) → IsOutput (on_document answer bytes deadline) live said → ((said.outcome ≡ Document) × IsRefused bytes deadline) ⊎ HasNetwork bytes deadline (λ names net. IsOutput (answer names net) live said)
