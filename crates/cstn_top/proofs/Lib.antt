@@ -2,7 +2,6 @@ pub mod Written
 pub mod Contents
 pub mod Verdicts
 pub mod Drills
-pub mod Fits
 pub mod Edited
 pub mod Meanings
 pub mod Opening

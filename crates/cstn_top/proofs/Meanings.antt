@@ -1,12 +1,13 @@
 -- What the outcomes of outputs tell.
-use Rattle.std.proofs.Common.{◌≡◌, ℕ, ◌<◌, Bool, true, false, List, [], ◌∷◌, ◌+◌, length, map, refl, ap, sym, subst, inl, inr, arith}
+use Rattle.std.proofs.Common.{◌≡◌, ℕ, ◌<◌, Bool, true, false, List, [], ◌∷◌, ◌+◌, length, map, refl, ap, sym, ◌∙◌, subst, inl, inr, arith}
 use Rattle.std.specs.Prelude.{◌⊎◌, nat_lt, if◌then◌else◌, get_or, Option, None, Some, Result, Ok, Err, IsSomeAnd, codes}
+use Rattle.std.proofs.lemmas.List.{length-map}
 use Rattle.cstn_io.specs.Contents.{IsAllOf}
 use Rattle.cstn_net.specs.Networks.{Network, IsWellFormed, count}
 use Rattle.cstn_net.specs.Strategies.{IsConsistent}
 use Rattle.cstn_graphml.specs.Results.{Refusal as DocumentRefusal}
 use Rattle.cstn_graphml.specs.Document.{Parts, document}
-use Rattle.cstn_graphml.specs.Networks.{network_of}
+use Rattle.cstn_graphml.specs.Networks.{observed_prop, network_of}
 use Rattle.cstn_rules.specs.Derivations.{Entry, IsRefutation}
 use Rattle.cstn_rules.proofs.Derived.{refuted_inconsistent}
 use Rattle.cstn_label.specs.Bounds.{Bound}
@@ -33,7 +34,7 @@ use Rattle.cstn_top.specs.declared.output.Outcome.TheVariants.{Good, Bad, Words,
 use Rattle.cstn_top.proofs.Verdicts.{Tells, verdict_tells}
 use Rattle.cstn_top.proofs.Drills.{counts_right}
 use Rattle.cstn_top.proofs.Edited.{document_named, EditTells, edit_tells}
-use Rattle.cstn_top.proofs.Fits.{fits}
+use Rattle.cstn_save.proofs.SameLemmas.{fits}
 
 -- what is said of a document: it is refused, or this is said of its network
 pub document_says : (answer : Answer) (bytes : List ℕ) (deadline : Option ℕ) (live : List ℕ) (said : Said) → IsOutput (on_document answer bytes deadline) live said → ((said.outcome ≡ Document) × IsRefused bytes deadline) ⊎ HasNetwork bytes deadline (λ names net. IsOutput (answer names net) live said)
@@ -58,7 +59,7 @@ network_then bytes deadline one other has follows = by_result (document bytes de
   where
     by_result : (told : Result Parts DocumentRefusal) → document bytes deadline ≡ told → IsSomeAnd (parts_of told) (λ parts. IsWellFormed (network_of parts) × one parts.names (network_of parts)) → IsSomeAnd (parts_of told) (λ parts. IsWellFormed (network_of parts) × other parts.names (network_of parts))
     by_result (Err refusal) is h = h
-    by_result (Ok parts) is h = (h.0, follows parts.names (network_of parts) h.0 (document_named bytes deadline parts is) h.1)
+    by_result (Ok parts) is h = (h.0, follows parts.names (network_of parts) h.0 (document_named bytes deadline parts is ∙ sym (length-map parts.observes observed_prop)) h.1)
 
 -- what the outcome of a check tells of a network
 abbrev Verdicts : ℕ → Network → Outcome → Type 0

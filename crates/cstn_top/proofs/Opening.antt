@@ -13,7 +13,7 @@ use Rattle.cstn_graphml.specs.Results.{Refusal}
 use Rattle.cstn_graphml.specs.Results.Refusal.{not_utf8, shape, name_twice, unknown_node, bad_value, label_text, contingent, edge_type, no_deadline, node_label}
 use Rattle.cstn_graphml.specs.Answers.{IsUnfitDocument, IsRefused}
 use Rattle.cstn_graphml.specs.Document.{Parts, document}
-use Rattle.cstn_graphml.specs.Draft.{Drawn}
+use Rattle.cstn_graphml.specs.DrawnGraph.{DrawnConstraint}
 use Rattle.cstn_graphml.specs.Networks.{numbered, network_of}
 use Rattle.cstn_net.specs.declared.errors.NetError.{NetError}
 use Rattle.cstn_top.specs.Files.{file_at, IsContent, AreThere}
@@ -112,7 +112,7 @@ file_opened told asked bytes (Err e) content there opens = tt
 file_opened told asked bytes (Ok opened) content there opens = record { bytes = bytes; content = content; there = there; opens = opens }
 
 -- the ids of a document's constraints are their places
-numbered_id : (k : ℕ) (cs : List Drawn) (i : ℕ) (d : Constraint) → i < length (numbered k cs) → (get_or (numbered k cs) i d).id ≡ k + i
+numbered_id : (k : ℕ) (cs : List DrawnConstraint) (i : ℕ) (d : Constraint) → i < length (numbered k cs) → (get_or (numbered k cs) i d).id ≡ k + i
 numbered_id k [] i d inside = absurd (omega (arith, inside))
 numbered_id k (c ∷ cs) zero d inside = omega arith
 numbered_id k (c ∷ cs) (suc i) d inside = let later = numbered_id (k + 1) cs i d (omega (arith, inside)) in omega (arith, later)

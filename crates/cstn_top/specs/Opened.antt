@@ -7,7 +7,7 @@ use Rattle.cstn_graphml.specs.declared.errors.DocError.TheVariants.{NotUtf8, Sha
 use Rattle.cstn_graphml.specs.Results.Refusal.{not_utf8, shape, name_twice, unknown_node, bad_value, label_text, contingent, edge_type, no_deadline, node_label}
 use Rattle.cstn_graphml.specs.Answers.{IsDocument}
 use Rattle.cstn_graphml.specs.Document.{document}
-use Rattle.cstn_graphml.specs.Draft.{origin_name}
+use Rattle.cstn_graphml.specs.DrawnGraph.{origin_name}
 use Rattle.cstn_top.specs.declared.output.Outcome.TheVariants.{Document}
 use Rattle.cstn_top.specs.declared.commands.documents.Opened.{Opened}
 use Rattle.cstn_top.specs.declared.commands.documents.Opened.TheVariants.{Accepted, Told}
