@@ -8,7 +8,7 @@ ghost use Rattle.cstn_log.specs.Chains.{IsMarkedAt, IsAtNode};
 ghost use Rattle.cstn_check.specs.Waits.{IsWaiting};
 
 use crate::turns::is_well_formed;
-use cstn_label::{Bound, Mark, NodeId, Prop};
+use cstn_label::{Bound, NodeId, Prop};
 use cstn_log::Log;
 use cstn_net::Network;
 
@@ -90,26 +90,25 @@ fn first_seen(net: &Network, log: &Log, b: &Bound, from: u32, walks: &mut [Walk]
     ensures walks { length walks.new ≡ 53 }
 {
     let mut next = u32::MAX;
-    for index in 0..52 {
-        let near = walks[index as usize].near(from);
-        let place = first_at_observer(net, log, b, Prop { index }, from, near);
-        walks[index as usize].found = place;
+    let mut index = 0;
+    while let Some(p) = b.label.first_marked_from(index) {
+        let near = walks[p.index as usize].near(from);
+        let place = first_at_observer(net, log, p, from, near);
+        walks[p.index as usize].found = place;
         next = least(next, place);
+        index = p.index + 1;
     }
     next
 }
 
-// The first place from `from` on at the observer of p, where the label of the bound marks p.
-fn first_at_observer(net: &Network, log: &Log, b: &Bound, p: Prop, from: u32, near: u32) -> u32
+// The first place from `from` on at the observer of p.
+fn first_at_observer(net: &Network, log: &Log, p: Prop, from: u32, near: u32) -> u32
     requires nodes { log.now.nodes ≡ count (the_network net.now) }
     requires upto { from ≤ length log.now.entries }
     ensures upto { from ≤ result }
-    ensures none { (k x : ℕ) → from ≤ k → k < length log.now.entries → k < result → IsMarked (marks b.now.label) p.index → Observes (the_network net.now) x p.index → IsAtNode log.now.entries x k → ⊥ }
+    ensures none { (k x : ℕ) → from ≤ k → k < length log.now.entries → k < result → Observes (the_network net.now) x p.index → IsAtNode log.now.entries x k → ⊥ }
 {
     is_well_formed(net);
-    if b.label.mark(p) == Mark::Absent {
-        return u32::MAX;
-    }
     match net.observer(p) {
         None => u32::MAX,
         Some(x) => log.first_at(x, from, near),

@@ -66,6 +66,7 @@ impl Session {
         ensures size { IfOk result (λ s. (s.cap ≡ cap) × (s.room ≡ room)) }
         ensures kept { IfOk result (λ s. kept_of s ≡ bases (count (the_network net))) }
         ensures edits { IfOk result (λ s. s.edits ≡ 0) }
+        ensures tries { IfOk result (λ s. s.tries ≡ 0) }
         ensures highest { IfOk result (λ s. s.highest ≡ highest_of None (the_network net).constraints) }
         ensures last { IfOk result (λ s. s.last ≡ None) }
         ensures session { IfOk result (λ s. the_session s ≡ begun (the_network net)) }
