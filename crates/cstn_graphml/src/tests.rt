@@ -182,7 +182,7 @@ fn refusals(rt: HostRuntime) -> Result<(), Fail> {
         alloc,
         "LabeledValues",
         "{(5, p)}",
-        "no network: nothing observes the proposition 41",
+        "no network: nothing observes the proposition p",
     )?;
     expect_refused_edge(
         &rt,
@@ -197,7 +197,7 @@ fn refusals(rt: HostRuntime) -> Result<(), Fail> {
         &rt,
         alloc,
         observers,
-        "no network: the time-points 0 and 1 observe the proposition 41",
+        "no network: the time-points 0 and 1 observe the proposition p",
     )?;
     let words = "no network: the deadline 1000001 is above 1000000";
     expect_refused(&rt, alloc, PAIR.as_bytes(), Some(1_000_001), words)
