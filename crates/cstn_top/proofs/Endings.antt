@@ -3,22 +3,22 @@ use Rattle.std.proofs.Common.{◌≡◌, ℕ, List, [], ◌∷◌, ◌++◌, ref
 use Rattle.std.specs.Prelude.{◌⊎◌, IsNone, IsTrue, Option, None, Some, codes, true}
 use Rattle.std.specs.List.{list_all}
 use Rattle.cstn_io.specs.Contents.{IsAllOf}
-use Rattle.cstn_top.specs.Texts.{line}
-use Rattle.cstn_top.specs.Requests.{Request, files_of, names_of, AsksEdit}
-use Rattle.cstn_top.specs.Files.{AreContents, AreThere}
-use Rattle.cstn_top.specs.Plans.{Said, say, Plan, says, IsOutput, MayTalk, Live, IsText, is_output, is_file_fault, is_live_fault, is_memory, IsWritten, Ends, ComesTo, Untouched}
-use Rattle.cstn_top.specs.Sessions.{session}
-use Rattle.cstn_top.specs.Running.{RunningParts, running_turn, running_ending}
+use Rattle.cstn_reply.specs.Texts.{line}
+use Rattle.cstn_words.specs.Requests.{Request, files_of, names_of, AsksEdit}
+use Rattle.cstn_reply.specs.Files.{AreContents, AreThere}
+use Rattle.cstn_reply.specs.Plans.{Said, say, Plan, says, IsOutput, MayTalk, Live, IsText, is_output, is_file_fault, is_live_fault, is_memory, IsWritten, Ends, ComesTo, Untouched}
+use Rattle.cstn_reply.specs.Sessions.{session}
+use Rattle.cstn_talk.specs.Running.{RunningParts, running_turn, running_ending}
 use Rattle.cstn_top.specs.Outputs.{plan_of, plan_at}
 use Rattle.cstn_top.specs.Prepared.{the_plan, Planned, FitsRequest}
 use Rattle.cstn_top.specs.Meanings.{HoldsOf, IsGood, IsBad, IsFull, IsComplete, IsStopped, files_read, ReadsLive, MayStop}
-use Rattle.cstn_top.specs.Statuses.{status_of}
+use Rattle.cstn_reply.specs.Statuses.{status_of}
 use Rattle.cstn_top.specs.declared.commands.Prepared.{Prepared}
-use Rattle.cstn_top.specs.declared.status.Status.{Status}
-use Rattle.cstn_top.specs.declared.status.Status.TheVariants.{Good as IsYesStatus, Bad as IsNoStatus, Words as IsWords, Full as IsFullStatus, ReadFault, Memory}
-use Rattle.cstn_top.specs.declared.output.Outcome.{Outcome}
-use Rattle.cstn_top.specs.declared.output.Outcome.TheVariants.{Good, Bad, Words, Full}
-use Rattle.cstn_top.proofs.Contents.{given, all_given, no_taken, some_contents, none_there}
+use Rattle.cstn_reply.specs.declared.status.Status.{Status}
+use Rattle.cstn_reply.specs.declared.status.Status.TheVariants.{Good as IsYesStatus, Bad as IsNoStatus, Words as IsWords, Full as IsFullStatus, ReadFault, Memory}
+use Rattle.cstn_reply.specs.declared.output.Outcome.{Outcome}
+use Rattle.cstn_reply.specs.declared.output.Outcome.TheVariants.{Good, Bad, Words, Full}
+use Rattle.cstn_reply.proofs.Contents.{given, all_given, no_taken, some_contents, none_there}
 use Rattle.cstn_top.proofs.Meanings.{IsRight, output_right, output_complete, talks_live, edits_stop}
 
 -- how a call ends, for the files that were read

@@ -1,15 +1,7 @@
-pub mod Written
-pub mod Contents
-pub mod Verdicts
 pub mod Drills
 pub mod Edited
 pub mod Meanings
 pub mod Opening
 pub mod Replays
 pub mod Endings
-pub mod Talking
-pub mod SessionEnds
-pub mod Texts
-pub mod Names
 pub mod Runs
-pub mod Edits

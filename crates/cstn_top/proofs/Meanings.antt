@@ -21,17 +21,23 @@ use Rattle.cstn_check.specs.declared.verdicts.Verdict.{Verdict}
 use Rattle.cstn_check.specs.declared.verdicts.Verdict.TheVariants.{Yes, No, Full as IsFullVerdict}
 use Rattle.cstn_refute.specs.Texts.{Told as ToldText, tells, wrong as wrong_text, told as told_by}
 use Rattle.cstn_replay.specs.Wrong.{IsFirstWrong, EndsInVain}
-use Rattle.cstn_top.specs.Requests.{Asked, Request, check, run, edit, save, replay, drill, AsksEdit}
-use Rattle.cstn_top.specs.Plans.{Said, say, after_text, says, IsOutput, MayTalk}
-use Rattle.cstn_top.specs.Sessions.{Turn, more, last, wrong, on_turn, script, play, session}
-use Rattle.cstn_top.specs.Running.{moment_line, executing, moment_turn, seen_turn, live_turn, run_turn, unfinished, run_ending}
-use Rattle.cstn_top.specs.Texts.{yes_line}
-use Rattle.cstn_top.specs.Outputs.{Answer, judged, on_document, verdict, on_verdict, checked, carried_out, edited, saved, replayed, replayed_text, plan_at}
-use Rattle.cstn_top.specs.Meanings.{parts_of, HasNetwork, IsRefused, IsYes, IsNo, IsNoRefutation, IsGood, IsBad, IsFull, IsDecided, IsComplete, ReadsLive, MayStop}
-use Rattle.cstn_top.specs.Statuses.{status_of}
-use Rattle.cstn_top.specs.declared.output.Outcome.{Outcome}
-use Rattle.cstn_top.specs.declared.output.Outcome.TheVariants.{Good, Bad, Words, Document, Full, Unfinished, Script}
-use Rattle.cstn_top.proofs.Verdicts.{Tells, verdict_tells}
+use Rattle.cstn_words.specs.Requests.{Asked, Request, check, run, edit, save, replay, drill, AsksEdit}
+use Rattle.cstn_reply.specs.Plans.{Said, say, after_text, says, IsOutput, MayTalk}
+use Rattle.cstn_reply.specs.Sessions.{Turn, more, last, wrong, on_turn, script, play, session}
+use Rattle.cstn_talk.specs.Running.{moment_line, executing, moment_turn, seen_turn, live_turn, run_turn, unfinished, run_ending}
+use Rattle.cstn_reply.specs.Texts.{yes_line}
+use Rattle.cstn_verdict.specs.Documents.{Answer, judged, on_document}
+use Rattle.cstn_verdict.specs.Verdicts.{verdict, on_verdict, checked}
+use Rattle.cstn_talk.specs.Running.{carried_out}
+use Rattle.cstn_talk.specs.Editing.{edited}
+use Rattle.cstn_top.specs.Outputs.{saved, replayed, replayed_text, plan_at}
+use Rattle.cstn_verdict.specs.Documents.{parts_of, HasNetwork, IsRefused}
+use Rattle.cstn_verdict.specs.Verdicts.{IsYes, IsNo}
+use Rattle.cstn_top.specs.Meanings.{IsNoRefutation, IsGood, IsBad, IsFull, IsDecided, IsComplete, ReadsLive, MayStop}
+use Rattle.cstn_reply.specs.Statuses.{status_of}
+use Rattle.cstn_reply.specs.declared.output.Outcome.{Outcome}
+use Rattle.cstn_reply.specs.declared.output.Outcome.TheVariants.{Good, Bad, Words, Document, Full, Unfinished, Script}
+use Rattle.cstn_verdict.proofs.Deciding.{Tells, verdict_tells}
 use Rattle.cstn_top.proofs.Drills.{counts_right}
 use Rattle.cstn_top.proofs.Edited.{document_named, EditTells, edit_tells}
 use Rattle.cstn_save.proofs.SameLemmas.{fits}

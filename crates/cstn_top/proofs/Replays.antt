@@ -7,23 +7,24 @@ use Rattle.cstn_net.specs.Read.{NetworkParts, the_network}
 use Rattle.cstn_rules.specs.Derivations.{Entry}
 use Rattle.cstn_refute.specs.Texts.{told as told_by}
 use Rattle.cstn_replay.specs.Wrong.{IsFirstWrong, EndsInVain}
-use Rattle.cstn_top.specs.Files.{IsContent, AreThere}
-use Rattle.cstn_top.specs.Requests.{Asked, replay}
-use Rattle.cstn_top.specs.Plans.{Said, say, Plan, says, IsOutput, IsReplay}
+use Rattle.cstn_reply.specs.Files.{IsContent, AreThere}
+use Rattle.cstn_words.specs.Requests.{Asked, replay}
+use Rattle.cstn_reply.specs.Plans.{Said, say, Plan, says, IsOutput, IsReplay}
 use Rattle.cstn_top.specs.Outputs.{replayed, replayed_text}
-use Rattle.cstn_top.specs.Opened.{IsOpened, IsSaidBy}
+use Rattle.cstn_verdict.specs.Opened.{IsOpened}
+use Rattle.cstn_top.specs.Opened.{IsSaidBy}
 use Rattle.cstn_top.specs.Prepared.{Planned}
 use Rattle.cstn_top.specs.Meanings.{files_read}
-use Rattle.cstn_top.specs.Statuses.{status_of}
-use Rattle.cstn_top.specs.Read.{the_said}
-use Rattle.cstn_top.specs.declared.output.Said.{Said as SaidText}
-use Rattle.cstn_top.specs.declared.status.Status.{Status}
-use Rattle.cstn_top.specs.declared.status.Status.TheVariants.{Good as IsGood, Bad as IsBad, Words as IsWords, Document as IsDocument, Full as IsFull, ReadFault, WriteFault, Memory, Unfinished as IsUnfinished, Script as IsScript}
-use Rattle.cstn_top.specs.declared.output.Outcome.{Outcome}
-use Rattle.cstn_top.specs.declared.output.Outcome.TheVariants.{Bad, Script}
-use Rattle.cstn_top.specs.declared.commands.documents.Opened.TheVariants.{Accepted, Told}
-use Rattle.cstn_top.proofs.Contents.{some_content, two_contents, long_content, long_is_there, none_there, two_there}
-use Rattle.cstn_top.proofs.Opening.{accepted_comes, told_comes, comes_to_text}
+use Rattle.cstn_reply.specs.Statuses.{status_of}
+use Rattle.cstn_reply.specs.Read.{the_said}
+use Rattle.cstn_reply.specs.declared.output.Said.{Said as SaidText}
+use Rattle.cstn_reply.specs.declared.status.Status.{Status}
+use Rattle.cstn_reply.specs.declared.status.Status.TheVariants.{Good as IsGood, Bad as IsBad, Words as IsWords, Document as IsDocument, Full as IsFull, ReadFault, WriteFault, Memory, Unfinished as IsUnfinished, Script as IsScript}
+use Rattle.cstn_reply.specs.declared.output.Outcome.{Outcome}
+use Rattle.cstn_reply.specs.declared.output.Outcome.TheVariants.{Bad, Script}
+use Rattle.cstn_verdict.specs.declared.documents.Opened.TheVariants.{Accepted, Told}
+use Rattle.cstn_reply.proofs.Contents.{some_content, two_contents, long_content, long_is_there, none_there, two_there}
+use Rattle.cstn_verdict.proofs.Opening.{accepted_comes, told_comes, comes_to_text}
 
 -- both files were read, whatever the status
 two_read : (told : Option (List ℕ → Option (List ℕ))) (name other : List ℕ) (status : Status) → AreThere told (name ∷ []) → AreThere told (other ∷ []) → AreThere told (files_read status (name ∷ other ∷ []))

@@ -6,7 +6,7 @@ use Rattle.cstn_check.specs.Growth.{is_refuted, log_of}
 use Rattle.cstn_check.specs.declared.verdicts.Verdict.{Verdict}
 use Rattle.cstn_check.specs.declared.verdicts.Verdict.TheVariants.{Yes, No, Full}
 use Rattle.cstn_gen.specs.Generated.{generated}
-use Rattle.cstn_top.specs.Texts.{line}
+use Rattle.cstn_reply.specs.Texts.{line}
 use Rattle.cstn_top.specs.declared.commands.drill.Counts.{Counts}
 
 -- the i-th small network from a number on; after 2 ^ 64 - 1 comes 0

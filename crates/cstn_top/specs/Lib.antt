@@ -1,15 +1,5 @@
-pub mod Texts
-pub mod Requests
-pub mod Statuses
-pub mod Files
-pub mod Refusals
-pub mod Plans
-pub mod Sessions
-pub mod Running
-pub mod Editing
 pub mod Drills
 pub mod Outputs
 pub mod Meanings
-pub mod Read
 pub mod Opened
 pub mod Prepared

@@ -10,38 +10,17 @@ use Rattle.cstn_rules.specs.Derivations.{IsRefutation}
 use Rattle.cstn_check.specs.Growth.{load_of}
 use Rattle.cstn_lines.specs.Pieces.{lines_of}
 use Rattle.cstn_refute.specs.Texts.{Told, tells, wrong, told as told_by}
-use Rattle.cstn_top.specs.Requests.{Request, check, run, edit, save, replay, drill, files_of}
-use Rattle.cstn_top.specs.Files.{AreContents}
+use Rattle.cstn_words.specs.Requests.{Request, check, run, edit, save, replay, drill, files_of}
+use Rattle.cstn_reply.specs.Files.{AreContents}
 use Rattle.cstn_top.specs.Drills.{unrefuted, AreConsistent}
-use Rattle.cstn_top.specs.Editing.{begun_editing, last_checked}
-use Rattle.cstn_top.specs.declared.status.Status.{Status}
-use Rattle.cstn_top.specs.declared.status.Status.TheVariants.{Good, Bad, Words, Document, Full, ReadFault, WriteFault, Memory, Unfinished, Script}
+use Rattle.cstn_talk.specs.Editing.{begun_editing, last_checked}
+use Rattle.cstn_reply.specs.declared.status.Status.{Status}
+use Rattle.cstn_reply.specs.declared.status.Status.TheVariants.{Good, Bad, Words, Document, Full, ReadFault, WriteFault, Memory, Unfinished, Script}
 
 -- the words are a request, and it holds of the request and the contents of its files
 abbrev pub HoldsOf : Option Request → Option (List ℕ → Option (List ℕ)) → (Request → List (List ℕ) → Type 0) → Type 0
 HoldsOf None told holds = ⊥
 HoldsOf (Some request) told holds = (contents : List (List ℕ)) × AreContents told (files_of request) contents × holds request contents
-
--- the parts of a document, where it isn't refused by the grammar
-abbrev pub parts_of : Result Parts Refusal → Option Parts
-parts_of (Ok parts) = Some parts
-parts_of (Err refusal) = None
-
--- the document of the bytes has a network, of which this holds under the names of its time-points
-abbrev pub HasNetwork : List ℕ → Option ℕ → (List (List ℕ) → Network → Type 0) → Type 0
-HasNetwork bytes deadline holds = IsSomeAnd (parts_of (document bytes deadline)) (λ parts. IsWellFormed (network_of parts) × holds parts.names (network_of parts))
-
--- the document of the bytes is refused: it is too long, or has no network
-abbrev pub IsRefused : List ℕ → Option ℕ → Type 0
-IsRefused bytes deadline = (8388608 < length bytes) ⊎ (HasNetwork bytes deadline (λ names net. Unit {0}) → ⊥)
-
--- the network has a strategy, and no more than so many entries in its log
-abbrev pub IsYes : ℕ → Network → Type 0
-IsYes cap net = IsConsistent net × (load_of net ≤ cap)
-
--- it has none
-abbrev pub IsNo : ℕ → Network → Type 0
-IsNo cap net = (IsConsistent net → ⊥) × (load_of net ≤ cap)
 
 -- the text is a refutation's, and its steps are none of the network
 abbrev pub IsNoRefutation : Told → Network → Type 0

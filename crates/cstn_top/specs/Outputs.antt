@@ -14,64 +14,15 @@ use Rattle.cstn_check.specs.declared.verdicts.Verdict.TheVariants.{Yes, No, Full
 use Rattle.cstn_refute.specs.Texts.{Told, tells, wrong, shown, told as told_by}
 use Rattle.cstn_exec.specs.Runs.{start}
 use Rattle.cstn_text.specs.PrintedNames.{printed_name}
-use Rattle.cstn_top.specs.Texts.{yes_line, full_line}
-use Rattle.cstn_top.specs.Requests.{Request, check, run, edit, save, replay, drill}
-use Rattle.cstn_top.specs.Refusals.{refusal_text}
-use Rattle.cstn_top.specs.Plans.{Said, say, Plan, says, replays, judges}
-use Rattle.cstn_top.specs.Sessions.{session}
+use Rattle.cstn_reply.specs.Texts.{yes_line, full_line}
+use Rattle.cstn_words.specs.Requests.{Request, check, run, edit, save, replay, drill}
+use Rattle.cstn_reply.specs.Refusals.{refusal_text}
+use Rattle.cstn_reply.specs.Plans.{Said, say, Plan, says, replays, judges}
+use Rattle.cstn_reply.specs.Sessions.{session}
 use Rattle.cstn_top.specs.Drills.{large, counts_of, small_line, large_line}
-use Rattle.cstn_top.specs.Running.{run_turn, run_ending}
-use Rattle.cstn_top.specs.Editing.{begun_editing, edit_turn, edit_ending}
-use Rattle.cstn_top.specs.declared.output.Outcome.TheVariants.{Good, Bad, Words, Document, Full, Script}
-
--- what is said of a network under the names of its time-points
-abbrev pub Answer : Type 0
-Answer = List (List ℕ) → Network → Plan
-
--- the document of a file, given what is said of its network
-abbrev pub judged : Answer → Result Parts Refusal → Plan
-judged answer (Err refusal) = says (say Document (refusal_text refusal))
-judged answer (Ok parts) = judges parts (answer parts.names (network_of parts))
-
--- the document of a file with these bytes, which is refused where they are more than 8,388,608
-abbrev pub on_document : Answer → List ℕ → Option ℕ → Plan
-on_document answer bytes deadline =
-    if nat_lt 8388608 (length bytes) then says (say Document (codes "document long")) else judged answer (document bytes deadline)
-
--- an entry refutes the network, if it is there
-abbrev pub refutes_at : Network → Option Entry → Bool
-refutes_at net None = false
-refutes_at net (Some e) = refutes net e.bound
-
--- the last entry of a log refutes the network
-abbrev pub last_refutes : Network → List Entry → Bool
-last_refutes net log = refutes_at net (slice_get log (length log - 1))
-
--- the verdict on a network by a log that may have so many entries
-abbrev pub verdict : ℕ → Network → Verdict
-verdict cap net =
-    if nat_lt cap (load_of net) then IsFull else if last_refutes net (log_of net) then No (load_of net) else Yes (load_of net)
-
--- what is said of a verdict on a network, given what follows after yes: the cap where it is exceeded, after no the refutation
-abbrev pub on_verdict : ℕ → List (List ℕ) → Network → Plan → Verdict → Plan
-on_verdict cap names net after_yes (Yes load) = after_yes
-on_verdict cap names net after_yes (No load) = says (record { outcome = Bad; text = shown names load (part (log_of net)) })
-on_verdict cap names net after_yes IsFull = says (record { outcome = Full; text = full_line cap })
-
--- what `check` says of a network
-abbrev pub checked : ℕ → Answer
-checked cap names net = on_verdict cap names net (says (record { outcome = Good; text = yes_line (load_of net) })) (verdict cap net)
-
--- what `run` says of a network: after yes the answers to the live lines, by the bounds of the live entries of its log
-abbrev pub carried_out : ℕ → Answer
-carried_out cap names net =
-    on_verdict cap names net
-    (session (run_turn (map printed_name names) net (live_bounds (log_of net))) (run_ending net (live_bounds (log_of net))) (yes_line (load_of net)) (start (count net)))
-    (verdict cap net)
-
--- what `edit` says of a network: the answers to the edit lines
-abbrev pub edited : ℕ → Answer
-edited cap names net = session edit_turn edit_ending [] (begun_editing cap names net)
+use Rattle.cstn_talk.specs.Running.{run_turn, run_ending}
+use Rattle.cstn_talk.specs.Editing.{begun_editing, edit_turn, edit_ending}
+use Rattle.cstn_reply.specs.declared.output.Outcome.TheVariants.{Good, Bad, Words, Document, Full, Script}
 
 -- what `save` says of a network: its canonical document
 abbrev pub saved : Answer

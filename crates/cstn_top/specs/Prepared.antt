@@ -3,19 +3,20 @@ use Rattle.std.specs.Prelude.{◌≡◌, ℕ, List, [], Option, Some}
 use Rattle.cstn_net.specs.Read.{NetworkParts, the_network}
 use Rattle.cstn_check.specs.Growth.{load_of}
 use Rattle.cstn_check.specs.declared.verdicts.Verdict.TheVariants.{Yes as IsYes}
-use Rattle.cstn_top.specs.Requests.{Request, files_of, AsksEdit}
-use Rattle.cstn_top.specs.Files.{AreContents, AreThere}
-use Rattle.cstn_top.specs.Plans.{Said, Plan, says, EndsLine, ComesTo, IsOutput}
-use Rattle.cstn_top.specs.Sessions.{session}
-use Rattle.cstn_top.specs.Running.{running_turn, running_ending}
-use Rattle.cstn_top.specs.Editing.{the_editing, edit_turn, edit_ending}
-use Rattle.cstn_top.specs.Statuses.{status_of}
-use Rattle.cstn_top.specs.Texts.{yes_line}
-use Rattle.cstn_top.specs.Outputs.{plan_at, verdict, on_verdict}
+use Rattle.cstn_words.specs.Requests.{Request, files_of, AsksEdit}
+use Rattle.cstn_reply.specs.Files.{AreContents, AreThere}
+use Rattle.cstn_reply.specs.Plans.{Said, Plan, says, EndsLine, ComesTo, IsOutput}
+use Rattle.cstn_reply.specs.Sessions.{session}
+use Rattle.cstn_talk.specs.Running.{running_turn, running_ending}
+use Rattle.cstn_talk.specs.Editing.{the_editing, edit_turn, edit_ending}
+use Rattle.cstn_reply.specs.Statuses.{status_of}
+use Rattle.cstn_reply.specs.Texts.{yes_line}
+use Rattle.cstn_top.specs.Outputs.{plan_at}
+use Rattle.cstn_verdict.specs.Verdicts.{verdict, on_verdict}
 use Rattle.cstn_top.specs.Meanings.{files_read}
-use Rattle.cstn_top.specs.Read.{the_said}
-use Rattle.cstn_top.specs.declared.commands.verdicts.Decided.{Decided}
-use Rattle.cstn_top.specs.declared.commands.verdicts.Decided.TheVariants.{Yes, Told}
+use Rattle.cstn_reply.specs.Read.{the_said}
+use Rattle.cstn_verdict.specs.declared.verdicts.Decided.{Decided}
+use Rattle.cstn_verdict.specs.declared.verdicts.Decided.TheVariants.{Yes, Told}
 use Rattle.cstn_top.specs.declared.commands.Prepared.{Prepared}
 use Rattle.cstn_top.specs.declared.commands.Prepared.TheVariants.{Says, Runs, Edits}
 
@@ -37,9 +38,3 @@ pub record Planned (request : Request) (told : Option (List ℕ → Option (List
   pub are : AreContents told (files_of request) contents
   pub comes : ComesTo (plan_at request contents) plan
   pub there : (live : List ℕ) (said : Said) → IsOutput plan live said → AreThere told (files_read (status_of said.outcome) (files_of request))
-
--- the verdict on a network is yes, with its line, or this is said of it
-abbrev pub IsDecided : ℕ → List (List ℕ) → NetworkParts → Decided → Type 0
-IsDecided cap names network (Yes line check) =
-    (verdict cap (the_network network) ≡ IsYes (load_of (the_network network))) × (line.items ≡ yes_line (load_of (the_network network))) × (check.net ≡ network) × ((load : ℕ) × (check.verdict ≡ Some (IsYes load)))
-IsDecided cap names network (Told said) = (after_yes : Plan) → on_verdict cap names (the_network network) after_yes (verdict cap (the_network network)) ≡ says (the_said said)

@@ -2,26 +2,22 @@
 ghost use Rattle.std.specs.Prelude.{◌≡◌, [], IfOk, IfSome, IsTrue, IsErrOf};
 ghost use Rattle.std.specs.List.{list_all};
 ghost use Rattle.cstn_io.specs.Causes.{Rose};
-ghost use Rattle.cstn_top.specs.Requests.{files_of};
-ghost use Rattle.cstn_top.specs.Read.{the_request, IsCapped};
+ghost use Rattle.cstn_words.specs.Requests.{files_of};
+ghost use Rattle.cstn_words.specs.Read.{the_request, IsCapped};
 ghost use Rattle.cstn_top.specs.Prepared.{the_plan, Planned, FitsRequest};
 
 mod check;
-mod documents;
 mod drill;
 mod edit;
-mod refusals;
 mod replay;
 mod run;
 mod save;
-mod verdicts;
 
-use crate::editing::Editing;
-use crate::output::Said;
-use crate::running::Running;
-use crate::words::Request;
 use check::check_file;
 use cstn_io::Shelf;
+use cstn_reply::{Refused, Said};
+use cstn_talk::{Editing, Running};
+use cstn_words::Request;
 use drill::drill;
 use edit::edit_file;
 use replay::replay_file;
@@ -38,13 +34,6 @@ pub(crate) enum Prepared {
     Runs { opening: Vec<u8>, running: Running },
     /// The answers to the edit lines.
     Edits(Editing),
-}
-
-/// Why nothing can be said for a request.
-#[derive(Clone, Copy, Debug, PartialEq, Eq)]
-pub(crate) enum Refused {
-    ReadFault,
-    Memory,
 }
 
 /// Reads the files of a request, and prepares what is said for it.

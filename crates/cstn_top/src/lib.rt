@@ -2,16 +2,9 @@
 #![tactic(auto)]
 
 mod commands;
-mod editing;
-mod lines;
-mod output;
-mod running;
-mod session;
-mod status;
 mod top;
-mod words;
 
-pub use status::Status;
+pub use cstn_reply::Status;
 pub use top::run;
 
 #[cfg(test)]

@@ -4,19 +4,17 @@ ghost use Rattle.std.specs.Option.{option_map};
 ghost use Rattle.std.specs.List.{list_all};
 ghost use Rattle.cstn_io.specs.Causes.{Rose};
 ghost use Rattle.cstn_io.specs.Contents.{with_bytes};
-ghost use Rattle.cstn_top.specs.Texts.{line};
-ghost use Rattle.cstn_top.specs.Requests.{request_of, names_of};
-ghost use Rattle.cstn_top.specs.Files.{AreContents, AreThere};
-ghost use Rattle.cstn_top.specs.Plans.{Live, Ends, Untouched};
+ghost use Rattle.cstn_reply.specs.Texts.{line};
+ghost use Rattle.cstn_words.specs.Requests.{request_of, names_of};
+ghost use Rattle.cstn_reply.specs.Files.{AreContents, AreThere};
+ghost use Rattle.cstn_reply.specs.Plans.{Live, Ends, Untouched};
 ghost use Rattle.cstn_top.specs.Outputs.{plan_of};
 ghost use Rattle.cstn_top.specs.Meanings.{HoldsOf, IsGood, IsBad, IsFull, IsComplete, IsStopped, files_read, ReadsLive, MayStop};
 
-use crate::Status;
-use crate::commands::{Prepared, Refused, prepare};
-use crate::output::finish;
-use crate::session::converse;
-use crate::words::parse;
+use crate::commands::{Prepared, prepare};
 use cstn_io::{Shelf, Sink, Source};
+use cstn_reply::{Refused, Status, converse, finish};
+use cstn_words::parse;
 use std::alloc::Global;
 
 /// Answers one request: writes what it says to `out`, and tells how it ended.

@@ -3,20 +3,19 @@ ghost use Rattle.std.specs.Prelude.{◌≡◌, ◌≤◌, length, IfOk, IsTrue, 
 ghost use Rattle.cstn_io.specs.Causes.{Rose};
 ghost use Rattle.cstn_net.specs.Networks.{IsWellFormed, count};
 ghost use Rattle.cstn_net.specs.Read.{the_network};
-ghost use Rattle.cstn_top.specs.Requests.{check};
-ghost use Rattle.cstn_top.specs.Plans.{says};
-ghost use Rattle.cstn_top.specs.Outputs.{checked};
+ghost use Rattle.cstn_words.specs.Requests.{check};
+ghost use Rattle.cstn_reply.specs.Plans.{says};
+ghost use Rattle.cstn_verdict.specs.Verdicts.{checked};
 ghost use Rattle.cstn_top.specs.Prepared.{Planned};
-ghost use Rattle.cstn_top.specs.Read.{the_asked, the_said};
+ghost use Rattle.cstn_words.specs.Read.{the_asked};
+ghost use Rattle.cstn_reply.specs.Read.{the_said};
 
-use super::Refused;
-use super::documents::{Opened, open};
-use super::verdicts::{Decided, decide};
-use crate::output::{Outcome, Said};
-use crate::words::Asked;
 use cstn_io::Shelf;
 use cstn_net::Network;
 use cstn_text::Names;
+use cstn_reply::{Outcome, Refused, Said};
+use cstn_verdict::{Decided, Opened, decide, open};
+use cstn_words::Asked;
 use std::alloc::Global;
 
 /// The verdict on the network of a file, whose log may have `cap` entries.

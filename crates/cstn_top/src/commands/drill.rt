@@ -4,16 +4,16 @@ ghost use Rattle.cstn_net.specs.Networks.{IsWellFormed};
 ghost use Rattle.cstn_net.specs.Read.{the_network};
 ghost use Rattle.cstn_check.specs.Growth.{most_entries};
 ghost use Rattle.cstn_table.specs.Tables.{observed_props};
-ghost use Rattle.cstn_top.specs.Outputs.{verdict, drilled};
+ghost use Rattle.cstn_verdict.specs.Verdicts.{verdict};
+ghost use Rattle.cstn_top.specs.Outputs.{drilled};
 ghost use Rattle.cstn_top.specs.Drills.{small, large, is_unrefuted, counts_of, small_line, large_line};
-ghost use Rattle.cstn_top.specs.Read.{the_said};
+ghost use Rattle.cstn_reply.specs.Read.{the_said};
 
-use super::Refused;
-use crate::output::{Outcome, Said};
 use cstn_check::{Check, Verdict};
 use cstn_gen::network;
 use cstn_net::Network;
 use cstn_table::{TableError, decide};
+use cstn_reply::{Outcome, Refused, Said};
 use std::alloc::Global;
 
 const SMALL_NETWORKS: u32 = 64;

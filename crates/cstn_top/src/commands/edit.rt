@@ -1,15 +1,16 @@
 // `edit FILE [--deadline N] [--cap CAP]`
 ghost use Rattle.std.specs.Prelude.{◌≤◌, IfOk, IsTrue, IsErrOf};
 ghost use Rattle.cstn_io.specs.Causes.{Rose};
-ghost use Rattle.cstn_top.specs.Requests.{edit};
+ghost use Rattle.cstn_words.specs.Requests.{edit};
 ghost use Rattle.cstn_top.specs.Prepared.{the_plan, Planned, FitsRequest};
-ghost use Rattle.cstn_top.specs.Read.{the_asked};
+ghost use Rattle.cstn_words.specs.Read.{the_asked};
 
-use super::documents::{Opened, open};
-use super::{Prepared, Refused};
-use crate::editing::Editing;
-use crate::words::Asked;
+use super::Prepared;
 use cstn_io::Shelf;
+use cstn_reply::{Refused};
+use cstn_talk::Editing;
+use cstn_verdict::{Opened, open};
+use cstn_words::Asked;
 use std::alloc::Global;
 
 /// The edit session on the network of a file.

@@ -5,23 +5,24 @@ ghost use Rattle.cstn_net.specs.Networks.{IsWellFormed, count};
 ghost use Rattle.cstn_net.specs.Read.{the_network};
 ghost use Rattle.cstn_check.specs.Growth.{load_of};
 ghost use Rattle.cstn_check.specs.declared.verdicts.Verdict.TheVariants.{Yes};
-ghost use Rattle.cstn_top.specs.Texts.{yes_line};
-ghost use Rattle.cstn_top.specs.Requests.{Request, run};
-ghost use Rattle.cstn_top.specs.Plans.{ComesTo};
+ghost use Rattle.cstn_reply.specs.Texts.{yes_line};
+ghost use Rattle.cstn_words.specs.Requests.{Request, run};
+ghost use Rattle.cstn_reply.specs.Plans.{ComesTo};
 ghost use Rattle.cstn_top.specs.Prepared.{the_plan, Planned, FitsRequest};
-ghost use Rattle.cstn_top.specs.Read.{the_asked};
-ghost use Rattle.cstn_top.specs.Outputs.{carried_out, verdict};
+ghost use Rattle.cstn_words.specs.Read.{the_asked};
+ghost use Rattle.cstn_talk.specs.Running.{carried_out};
+ghost use Rattle.cstn_verdict.specs.Verdicts.{verdict};
 
-use super::documents::{Opened, open};
-use super::verdicts::{Decided, decide};
-use super::{Prepared, Refused};
-use crate::running::Running;
-use crate::words::Asked;
+use super::Prepared;
 use cstn_check::Check;
 use cstn_exec::Executive;
 use cstn_io::Shelf;
 use cstn_net::Network;
 use cstn_text::Names;
+use cstn_reply::{Refused};
+use cstn_talk::Running;
+use cstn_verdict::{Decided, Opened, decide, open};
+use cstn_words::Asked;
 use std::alloc::Global;
 
 /// The verdict on the network of a file, and after yes the run of its plan.

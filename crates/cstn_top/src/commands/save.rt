@@ -3,20 +3,20 @@ ghost use Rattle.std.specs.Prelude.{◌≡◌, IfOk, IsTrue, IsErrOf, Some, leng
 ghost use Rattle.cstn_io.specs.Causes.{Rose};
 ghost use Rattle.cstn_net.specs.Networks.{count};
 ghost use Rattle.cstn_net.specs.Read.{the_network};
-ghost use Rattle.cstn_top.specs.Requests.{save};
-ghost use Rattle.cstn_top.specs.Plans.{says};
+ghost use Rattle.cstn_words.specs.Requests.{save};
+ghost use Rattle.cstn_reply.specs.Plans.{says};
 ghost use Rattle.cstn_top.specs.Prepared.{Planned};
-ghost use Rattle.cstn_top.specs.Read.{the_asked, the_said};
+ghost use Rattle.cstn_words.specs.Read.{the_asked};
+ghost use Rattle.cstn_reply.specs.Read.{the_said};
 ghost use Rattle.cstn_top.specs.Outputs.{saved};
 
-use super::Refused;
-use super::documents::{Opened, open};
-use crate::output::{Outcome, Said};
-use crate::words::Asked;
 use cstn_io::Shelf;
 use cstn_net::Network;
 use cstn_save::write;
 use cstn_text::Names;
+use cstn_reply::{Outcome, Refused, Said};
+use cstn_verdict::{Opened, open};
+use cstn_words::Asked;
 use std::alloc::Global;
 
 /// The canonical document of the network of a file.

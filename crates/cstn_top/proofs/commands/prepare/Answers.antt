@@ -1,8 +1,9 @@
 use Rattle.std.proofs.Common.{sym, subst}
-use Rattle.cstn_top.specs.Plans.{says}
-use Rattle.cstn_top.specs.Read.{the_request, the_said}
+use Rattle.cstn_reply.specs.Plans.{says}
+use Rattle.cstn_words.specs.Read.{the_request}
+use Rattle.cstn_reply.specs.Read.{the_said}
 use Rattle.cstn_top.specs.Prepared.{Planned}
-use Rattle.cstn_top.specs.declared.words.Request.{Request}
+use Rattle.cstn_words.specs.declared.words.Request.{Request}
 use Rattle.cstn_top.proofs.Drills.{drill_planned}
 use Rattle.cstn_top.proofs.commands.prepare.Goals as goal
 

@@ -1,9 +1,10 @@
 use Rattle.std.proofs.Common.{[], sym, inl, inr}
-use Rattle.cstn_top.specs.Plans.{Live, says}
-use Rattle.cstn_top.specs.Sessions.{session}
-use Rattle.cstn_top.specs.Running.{running_turn, running_ending}
-use Rattle.cstn_top.specs.Editing.{the_editing, edit_turn, edit_ending}
-use Rattle.cstn_top.specs.Read.{the_request, the_said}
+use Rattle.cstn_reply.specs.Plans.{Live, says}
+use Rattle.cstn_reply.specs.Sessions.{session}
+use Rattle.cstn_talk.specs.Running.{running_turn, running_ending}
+use Rattle.cstn_talk.specs.Editing.{the_editing, edit_turn, edit_ending}
+use Rattle.cstn_words.specs.Read.{the_request}
+use Rattle.cstn_reply.specs.Read.{the_said}
 use Rattle.cstn_top.proofs.Endings.{words_end, fault_end, memory_end, says_end, good_is, bad_is, full_is, complete_is, words_is, there_is, text_end, talks_end, reads_live, may_stop, opened_as, prepared_as, fits_as}
 use Rattle.cstn_top.proofs.top.run.Goals as goal
 

@@ -1,9 +1,11 @@
 use Rattle.std.proofs.Common.{subst, List, ℕ}
 use Rattle.std.specs.Prelude.{Option, IfOk}
 use Rattle.cstn_net.specs.Read.{the_network}
-use Rattle.cstn_top.specs.Opened.{IsOpened, IsSaidBy}
-use Rattle.cstn_top.specs.Read.{the_asked, the_said}
-use Rattle.cstn_top.specs.declared.commands.documents.Opened.{Opened}
+use Rattle.cstn_verdict.specs.Opened.{IsOpened}
+use Rattle.cstn_top.specs.Opened.{IsSaidBy}
+use Rattle.cstn_words.specs.Read.{the_asked}
+use Rattle.cstn_reply.specs.Read.{the_said}
+use Rattle.cstn_verdict.specs.declared.documents.Opened.{Opened}
 use Rattle.cstn_top.proofs.Replays.{replay_accepted, replay_told}
 use Rattle.cstn_top.proofs.commands.replay.replay_file.Goals as goal
 

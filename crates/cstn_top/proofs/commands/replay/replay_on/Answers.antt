@@ -1,8 +1,8 @@
 use Rattle.std.proofs.Common.{ap, sym, subst, List, ℕ}
 use Rattle.std.specs.Prelude.{Err}
 use Rattle.cstn_net.specs.Read.{the_network}
-use Rattle.cstn_top.specs.Files.{IsContent}
-use Rattle.cstn_top.proofs.Contents.{is_content, is_there}
+use Rattle.cstn_reply.specs.Files.{IsContent}
+use Rattle.cstn_reply.proofs.Contents.{is_content, is_there}
 use Rattle.cstn_top.proofs.Replays.{long_said, text_said}
 use Rattle.cstn_top.proofs.commands.replay.replay_on.Goals as goal
 

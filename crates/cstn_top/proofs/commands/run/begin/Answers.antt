@@ -1,7 +1,7 @@
 use Rattle.std.proofs.Common.{◌++◌, codes, decimal}
 use Rattle.cstn_net.specs.Read.{the_network}
 use Rattle.cstn_check.specs.Growth.{load_of}
-use Rattle.cstn_top.proofs.Runs.{begun, line_ends}
+use Rattle.cstn_talk.proofs.Runs.{begun, line_ends}
 use Rattle.cstn_top.proofs.commands.run.begin.Goals as goal
 
 pub returns-clause-comes : goal.returns-clause-comes

@@ -1,7 +1,7 @@
 use Rattle.std.proofs.Common.{subst}
-use Rattle.cstn_top.specs.Prepared.{IsDecided}
-use Rattle.cstn_top.specs.declared.commands.verdicts.Decided.{Decided}
-use Rattle.cstn_top.specs.declared.commands.verdicts.Decided.TheVariants.{Yes}
+use Rattle.cstn_verdict.specs.Verdicts.{IsDecided}
+use Rattle.cstn_verdict.specs.declared.verdicts.Decided.{Decided}
+use Rattle.cstn_verdict.specs.declared.verdicts.Decided.TheVariants.{Yes}
 use Rattle.cstn_top.proofs.Runs.{begun_for}
 use Rattle.cstn_top.proofs.commands.run.prepare.Goals as goal
 

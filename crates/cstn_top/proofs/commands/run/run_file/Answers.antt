@@ -1,10 +1,10 @@
 use Rattle.std.proofs.Common.{subst}
-use Rattle.cstn_top.specs.Opened.{IsOpened}
+use Rattle.cstn_verdict.specs.Opened.{IsOpened}
 use Rattle.cstn_top.specs.Prepared.{the_plan}
-use Rattle.cstn_top.specs.Requests.{run}
-use Rattle.cstn_top.specs.Outputs.{carried_out}
-use Rattle.cstn_top.specs.Read.{the_asked}
-use Rattle.cstn_top.specs.declared.commands.documents.Opened.{Opened}
+use Rattle.cstn_words.specs.Requests.{run}
+use Rattle.cstn_talk.specs.Running.{carried_out}
+use Rattle.cstn_words.specs.Read.{the_asked}
+use Rattle.cstn_verdict.specs.declared.documents.Opened.{Opened}
 use Rattle.cstn_top.proofs.Opening.{one_comes, one_told, of_run}
 use Rattle.cstn_top.proofs.commands.run.run_file.Goals as goal
 

@@ -1,10 +1,11 @@
 use Rattle.std.proofs.Common.{subst}
-use Rattle.cstn_top.specs.Plans.{says}
-use Rattle.cstn_top.specs.Opened.{IsOpened}
-use Rattle.cstn_top.specs.Requests.{save}
+use Rattle.cstn_reply.specs.Plans.{says}
+use Rattle.cstn_verdict.specs.Opened.{IsOpened}
+use Rattle.cstn_words.specs.Requests.{save}
 use Rattle.cstn_top.specs.Outputs.{saved}
-use Rattle.cstn_top.specs.Read.{the_asked, the_said}
-use Rattle.cstn_top.specs.declared.commands.documents.Opened.{Opened}
+use Rattle.cstn_words.specs.Read.{the_asked}
+use Rattle.cstn_reply.specs.Read.{the_said}
+use Rattle.cstn_verdict.specs.declared.documents.Opened.{Opened}
 use Rattle.cstn_top.proofs.Opening.{one_accepted, one_told, of_save}
 use Rattle.cstn_top.proofs.commands.save.save_file.Goals as goal
 

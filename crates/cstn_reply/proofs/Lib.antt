@@ -1,0 +1,4 @@
+pub mod Written
+pub mod Contents
+pub mod Talking
+pub mod SessionEnds

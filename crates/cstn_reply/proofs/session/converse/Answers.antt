@@ -1,0 +1,53 @@
+use Rattle.std.proofs.Common.{arith, ◌++◌}
+use Rattle.cstn_reply.specs.Plans.{Live, Plan}
+use Rattle.cstn_reply.specs.Sessions.{session}
+use Rattle.cstn_reply.proofs.SessionEnds.{no_memory, cut_opening, cut_short, finishes, regroup, regroup_cut, shown}
+use Rattle.cstn_reply.proofs.session.converse.Goals as goal
+
+pub returns-in_default-clause-ends : goal.returns-in_default-clause-ends
+returns-in_default-clause-ends g c =
+    let seen : Live = record { left = g.S.Source.left c.args.live.now; faults = g.S.Source.faults c.args.live.now } in
+    let plan : Plan = session g.T.Talk.turn g.T.Talk.ending c.args.opening.now (g.T.Talk.state c.args.talk) in
+    no_memory plan seen seen _ _ _ c.finish.ensures.written
+
+pub returns-in_default-with_capacity-clause-ends : goal.returns-in_default-with_capacity-clause-ends
+returns-in_default-with_capacity-clause-ends g c =
+    let seen : Live = record { left = g.S.Source.left c.args.live.now; faults = g.S.Source.faults c.args.live.now } in
+    let plan : Plan = session g.T.Talk.turn g.T.Talk.ending c.args.opening.now (g.T.Talk.state c.args.talk) in
+    no_memory plan seen seen _ _ _ c.finish-in_default-with_capacity.ensures.written
+
+pub returns-in_default-send-clause-ends : goal.returns-in_default-send-clause-ends
+returns-in_default-send-clause-ends g c =
+    let failed = c.in_default-send.ensures.prefix in
+    cut_opening g.T.Talk.turn g.T.Talk.ending c.args.opening.now (g.T.Talk.state c.args.talk) _ _ _ _ failed.0 failed.1
+
+pub session-preserved : goal.session-preserved
+session-preserved g c =
+    let was = c.session.invariant.progress in
+    let now = c.in-None.ensures.goes_on (g.T.Talk.state c.args.talk) (g.S.Source.left c.args.live.now) was.0 was.1 was.2 in
+    let wrote = c.in-Ok-send-2.ensures.whole in
+    record {
+      progress = (was.0 ++ now.0, was.1 ++ c.next.new.text.items, now.1, regroup _ _ _ c.args.opening.now was.1 _ _ was.3 wrote c.deref.ensures.value);
+      at_end = c.in-None.ensures.at_end;
+      room = omega (arith, c.in-None.ensures.capacity, c.in-None.ensures.room, c.session.invariant.room);
+      script = omega (arith, c.in-None.ensures.capacity, c.session.invariant.script);
+      count = omega (arith, c.in-None.ensures.count.1);
+      live = omega (arith, c.in-None.ensures.later, c.session.invariant.live);
+      out = omega (arith, c.in-Ok-send-2.ensures.later, c.session.invariant.out);
+    }
+
+pub returns-in_default-send-2-clause-ends : goal.returns-in_default-send-2-clause-ends
+returns-in_default-send-2-clause-ends g c =
+    let was = c.session.invariant.progress in
+    let now = c.in-None.ensures.goes_on (g.T.Talk.state c.args.talk) (g.S.Source.left c.args.live.now) was.0 was.1 was.2 in
+    let failed = c.in_default-send-2.ensures.prefix in
+    cut_short g.T.Talk.turn g.T.Talk.ending c.args.opening.now (g.T.Talk.state c.args.talk) _ _ _ _ _ (was.0 ++ now.0) (was.1 ++ c.next.new.text.items) _ _ _ now.1 c.in-None.ensures.at_end
+    (regroup_cut _ _ _ c.args.opening.now was.1 _ _ failed.0 was.3 failed.1 c.deref.ensures.value)
+
+pub returns-in-Some-clause-ends : goal.returns-in-Some-clause-ends
+returns-in-Some-clause-ends g c =
+    let was = c.session.invariant.progress in
+    let after : Live = record { left = g.S.Source.left c.next.new.live; faults = g.S.Source.faults c.next.new.live } in
+    finishes _ _ after _ _ _ (c.args.opening.now ++ was.1) _ _ _
+    (c.in-Some.ensures.ends (g.T.Talk.state c.args.talk) _ was.0 was.1 c.args.opening.now was.2 c.session.invariant.live c.requires)
+    was.3 (shown _ _ _ _ _ _ c.finish-in-Some.ensures.written c.deref-in-Some.ensures.value)

@@ -1,0 +1,64 @@
+use Rattle.std.proofs.Common.{refl}
+use Rattle.cstn_reply.proofs.Talking.{turned, one_more, last_line, wrong_line, past_line, no_line, fault_line, memory_line}
+use Rattle.cstn_reply.proofs.session.next.Goals as goal
+
+pub returns-in-Ok-More-clause-goes_on : goal.returns-in-Ok-More-clause-goes_on
+returns-in-Ok-More-clause-goes_on g c start told taken said so_far =
+    let step = c.in-Line.ensures in
+    let bytes = step.steps.0 in
+    let turn = turned g.T.Talk.turn (g.T.Talk.state c.args.talk.now) (g.T.Talk.state c.answer.new.self) _ c.step.new.self.line _ _ _ c.in-Ok-More.ensures.turn c.line.ensures c.in-Ok-More.field-0-is in (
+      bytes,
+      one_more g.T.Talk.turn g.T.Talk.ending start told _ _ _ _ _ _ taken said bytes _ c.in-Line.number
+          (record { so_far = so_far; reads = step.steps.1; idle = step.steps.2; stays = step.stays; at_end = step.ended c.requires.at_end })
+          step.steps.3 turn (c.in-Ok-More.ensures.lines c.in-Ok-More.field-0-is),
+    )
+
+pub returns-in-Ok-Last-clause-ends : goal.returns-in-Ok-Last-clause-ends
+returns-in-Ok-Last-clause-ends g c start before taken said opening so_far earlier opens =
+    let step = c.in-Line.ensures in
+    let bytes = step.steps.0 in
+    let turn = turned g.T.Talk.turn (g.T.Talk.state c.args.talk.now) (g.T.Talk.state c.answer.new.self) _ c.step.new.self.line _ _ _ c.in-Ok-Last.ensures.turn c.line.ensures c.in-Ok-Last.field-0-is in
+    last_line g.T.Talk.turn g.T.Talk.ending opening start before _ _ _ _ _ _ taken said bytes _ c.in-Line.number _ _
+    (record { so_far = so_far; reads = step.steps.1; idle = step.steps.2; stays = step.stays; at_end = step.ended c.requires.at_end })
+    step.steps.3 turn c.status.ensures.status
+
+pub returns-in-Ok-Wrong-clause-ends : goal.returns-in-Ok-Wrong-clause-ends
+returns-in-Ok-Wrong-clause-ends g c start before taken said opening so_far earlier opens =
+    let step = c.in-Line.ensures in
+    let bytes = step.steps.0 in
+    let turn = turned g.T.Talk.turn (g.T.Talk.state c.args.talk.now) (g.T.Talk.state c.answer.new.self) _ c.step.new.self.line _ _ _ c.in-Ok-Wrong.ensures.turn c.line.ensures c.in-Ok-Wrong.field-0-is in
+    wrong_line g.T.Talk.turn g.T.Talk.ending opening start before _ _ _ _ _ _ taken said bytes _ c.in-Line.number _
+    (record { so_far = so_far; reads = step.steps.1; idle = step.steps.2; stays = step.stays; at_end = step.ended c.requires.at_end })
+    step.steps.3 turn c.put_script.ensures.items refl
+
+pub returns-in-Err-clause-ends : goal.returns-in-Err-clause-ends
+returns-in-Err-clause-ends g c start before taken said opening so_far earlier opens =
+    let step = c.in-Line.ensures in
+    let bytes = step.steps.0 in
+    memory_line g.T.Talk.turn g.T.Talk.ending opening start before _ _ _ _ c.step.new.self _ taken said bytes _ _
+    (record { so_far = so_far; reads = step.steps.1; idle = step.steps.2; stays = step.stays; at_end = step.ended c.requires.at_end })
+    opens c.put.ensures.items refl
+
+pub returns-in-End-clause-ends : goal.returns-in-End-clause-ends
+returns-in-End-clause-ends g c start before taken said opening so_far earlier opens =
+    let step = c.in-End.ensures in
+    let bytes = step.steps.0 in
+    no_line g.T.Talk.turn g.T.Talk.ending opening start before _ _ _ _ _ _ taken said bytes _ _ _
+    (record { so_far = so_far; reads = step.steps.1; idle = step.steps.2; stays = step.stays; at_end = step.ended c.requires.at_end })
+    step.steps.3 c.ending.ensures c.status-in-End.ensures.status
+
+pub returns-in-Wrong-clause-ends : goal.returns-in-Wrong-clause-ends
+returns-in-Wrong-clause-ends g c start before taken said opening so_far earlier opens =
+    let step = c.in-Wrong.ensures in
+    let bytes = step.steps.0 in
+    past_line g.T.Talk.turn g.T.Talk.ending opening start before _ _ _ _ _ _ taken said bytes _ c.in-Wrong.number _
+    (record { so_far = so_far; reads = step.steps.1; idle = step.steps.2; stays = step.stays; at_end = step.ended c.requires.at_end })
+    step.steps.3 c.put_script-in-Wrong.ensures.items refl
+
+pub returns-in-Fault-clause-ends : goal.returns-in-Fault-clause-ends
+returns-in-Fault-clause-ends g c start before taken said opening so_far earlier opens =
+    let step = c.in-Fault.ensures in
+    let bytes = step.steps.0 in
+    fault_line g.T.Talk.turn g.T.Talk.ending opening start before _ _ _ _ _ _ _ taken said bytes _ _
+    (record { so_far = so_far; reads = step.steps.1; idle = step.steps.2; stays = step.stays; at_end = step.ended c.requires.at_end })
+    step.steps.3 earlier (step.fault refl) c.put-in-Fault.ensures.items refl

@@ -1,0 +1,115 @@
+-- What a request says, and what is written for it, also after a fault.
+use Rattle.std.specs.Prelude.{◌≡◌, ◌⊎◌, ℕ, List, [], ◌++◌, take, Option, codes, decimal}
+use Rattle.cstn_io.specs.Causes.{Rose}
+use Rattle.cstn_io.specs.Contents.{after_bytes, with_bytes, IsAllOf}
+use Rattle.cstn_lines.specs.Pieces.{lines_of, whole_lines}
+use Rattle.cstn_net.specs.Networks.{Network, IsWellFormed}
+use Rattle.cstn_net.specs.declared.errors.NetError.{NetError}
+use Rattle.cstn_graphml.specs.Document.{Parts}
+use Rattle.cstn_graphml.specs.Networks.{network_of, IsUnfit}
+use Rattle.cstn_rules.specs.Derivations.{Entry, IsRefutation}
+use Rattle.cstn_replay.specs.Wrong.{IsFirstWrong, EndsInVain}
+use Rattle.cstn_reply.specs.Texts.{line}
+use Rattle.cstn_reply.specs.Refusals.{fault_text}
+use Rattle.cstn_reply.specs.Statuses.{status_of}
+use Rattle.cstn_reply.specs.declared.status.Status.{Status}
+use Rattle.cstn_reply.specs.declared.status.Status.TheVariants.{ReadFault, WriteFault, Memory}
+use Rattle.cstn_reply.specs.declared.output.Outcome.{Outcome}
+use Rattle.cstn_reply.specs.declared.output.Outcome.TheVariants.{Good, Bad, Document}
+
+-- a text, and how the request ends
+pub record Said : Type 0 where
+  pub outcome : Outcome
+  pub text : List ℕ
+
+-- a line, and how the request ends
+abbrev pub say : Outcome → List ℕ → Said
+say outcome text = record { outcome = outcome; text = line text }
+
+-- after a text
+abbrev pub after_text : List ℕ → Said → Said
+after_text text said = record { outcome = said.outcome; text = text ++ said.text }
+
+-- what the replay of steps says: they refute the network, or the first wrong one is told, the last where all of them follow
+abbrev pub IsReplay : List Entry → Network → Said → Type 0
+IsReplay steps net said =
+    (IsRefutation net steps × (said ≡ say Good (codes "accepted")))
+    ⊎ ((k : ℕ) × (IsFirstWrong net steps k ⊎ EndsInVain net steps k) × (said ≡ say Bad (codes "rejected " ++ decimal k)))
+
+-- What a request says: a text and no more; or what the replay of steps on a network says; or an opening and then a session over
+-- the lines of the live source, of which is told what it says of all lines, and what it answers to some of them alone; or what
+-- is said of the network of a document's parts, where they make one.
+pub data Plan : Type 0 where
+  says : Said → Plan
+  replays : List Entry → Network → Plan
+  talks : List ℕ → (List (List ℕ) → Said) → (List (List ℕ) → List ℕ) → Plan
+  judges : Parts → Plan → Plan
+
+-- The whole output, where the live source has these bytes. Where the parts of a document make no network, their lowest fault is
+-- told.
+abbrev pub IsOutput : Plan → List ℕ → Said → Type 0
+IsOutput (says text) live said = said ≡ text
+IsOutput (replays steps net) live said = IsReplay steps net said
+IsOutput (talks opening whole heard) live said = said ≡ after_text opening (whole (lines_of live))
+IsOutput (judges parts plan) live said =
+    (IsWellFormed (network_of parts) × IsOutput plan live said)
+    ⊎ ((error : NetError) × IsUnfit parts error × (said ≡ say Document (fault_text parts.names error)))
+
+-- what is said before a fault of the live source that has given these bytes
+abbrev pub before_fault : Plan → List ℕ → List ℕ
+before_fault (says said) taken = []
+before_fault (replays steps net) taken = []
+before_fault (talks opening whole heard) taken = opening ++ heard (whole_lines taken)
+before_fault (judges parts plan) taken = before_fault plan taken
+
+-- a session is held
+abbrev pub MayTalk : Plan → Type 0
+MayTalk (says said) = ⊥
+MayTalk (replays steps net) = ⊥
+MayTalk (talks opening whole heard) = Unit {0}
+MayTalk (judges parts plan) = IsWellFormed (network_of parts) × MayTalk plan
+
+-- the live source stands as it was, but for a session
+abbrev pub Untouched : {S : Type 0} → Plan → S → S → Type 0
+Untouched plan before after = MayTalk plan ⊎ (after ≡ before)
+
+-- what a plan says is what another one says
+pub record ComesTo (plan other : Plan) : Type 0 where
+  pub output : (live : List ℕ) (said : Said) → IsOutput other live said → IsOutput plan live said
+  pub talks : MayTalk other → MayTalk plan
+  pub fault : MayTalk other → (taken : List ℕ) → before_fault other taken ≡ before_fault plan taken
+
+-- the text is empty or ends with LF
+abbrev pub EndsLine : List ℕ → Type 0
+EndsLine text = (text ≡ []) ⊎ ((front : List ℕ) × (text ≡ line front))
+
+-- what is seen of the live source: the bytes left, where they are told, and how many calls failed
+pub record Live : Type 0 where
+  pub left : Option (List ℕ)
+  pub faults : ℕ
+
+-- the text is the first lines of the output, perhaps none
+pub record AreFirstLines (plan : Plan) (before : Live) (text : List ℕ) : Type 0 where
+  pub live : List ℕ
+  pub said : Said
+  pub rest : List ℕ
+  pub all : IsAllOf before.left live
+  pub output : IsOutput plan live said
+  pub first : said.text ≡ text ++ rest
+  pub lines : EndsLine text
+
+-- What is written where each write is accepted: the output, or what comes after a fault.
+pub data IsText (plan : Plan) (before after : Live) : Status → List ℕ → Type 0 where
+  is_output : (live : List ℕ) (said : Said) → IsAllOf before.left live → IsOutput plan live said → IsText plan before after (status_of said.outcome) said.text
+  is_file_fault : after ≡ before → IsText plan before after ReadFault (line (codes "read fault"))
+  is_live_fault : (taken : List ℕ) → before.left ≡ after_bytes taken after.left → Rose before.faults after.faults → IsText plan before after ReadFault (before_fault plan taken ++ line (codes "read fault"))
+  is_memory : (text : List ℕ) → (text ≡ []) ⊎ AreFirstLines plan before text → IsText plan before after Memory (text ++ line (codes "memory"))
+
+-- The text was written whole with its status, or after a fault of the sink a prefix of it.
+abbrev pub IsWritten : Option (List ℕ) → Option (List ℕ) → List ℕ → Status → Status → Type 0
+IsWritten old new text status result = ((result ≡ status) × (new ≡ with_bytes old text)) ⊎ ((result ≡ WriteFault) × ((n : ℕ) × (new ≡ with_bytes old (take n text))))
+
+-- A call ends with this status: a text of the plan was written, whole or in part.
+abbrev pub Ends : Plan → Live → Live → Option (List ℕ) → Option (List ℕ) → Status → Type 0
+Ends plan before after old new result =
+    (status : Status) × (text : List ℕ) × IsText plan before after status text × IsWritten old new text status result

@@ -1,0 +1,56 @@
+-- Sessions over lines.
+use Rattle.std.specs.Prelude.{◌≡◌, ℕ, ◌+◌, true, false, if◌then◌else◌, List, [], ◌∷◌, ◌++◌, Option, codes, decimal}
+use Rattle.cstn_io.specs.Contents.{after_bytes}
+use Rattle.cstn_lines.specs.Pieces.{lines_of, whole_lines, is_past}
+use Rattle.cstn_lines.specs.Steps.{LinesState}
+use Rattle.cstn_reply.specs.Plans.{Said, say, after_text, Plan, talks, EndsLine}
+use Rattle.cstn_reply.specs.declared.output.Outcome.TheVariants.{Script}
+use Rattle.cstn_reply.specs.declared.session.Answer.{Answer}
+use Rattle.cstn_reply.specs.declared.session.Answer.TheVariants.{More, Last, Wrong}
+
+-- What a session answers to a line: a text and the state after it, a last text, or that the line is of no grammar.
+pub data Turn (State : Type 0) : Type 0 where
+  more : List ℕ → State → Turn State
+  last : Said → Turn State
+  wrong : Turn State
+
+-- what follows from an answer
+abbrev pub on_turn : {S R : Type 0} → Turn S → (List ℕ → S → R) → (Said → R) → R → R
+on_turn (more text state) going ended refused = going text state
+on_turn (last said) going ended refused = ended said
+on_turn wrong going ended refused = refused
+
+-- what is said of a line that is of no grammar
+abbrev pub script : ℕ → Said
+script number = say Script (codes "script " ++ decimal number)
+
+-- what a session says from a state on, after so many lines: its answers to these lines, and then how it ends
+abbrev pub play : {S : Type 0} → (S → List ℕ → Turn S) → (S → Said) → S → ℕ → List (List ℕ) → Said
+play turn ending state count [] = ending state
+play turn ending state count (first ∷ lines) =
+    if is_past (count + 1) first then script (count + 1) else
+    on_turn (turn state first) (λ text next. after_text text (play turn ending next (count + 1) lines)) (λ said. said) (script (count + 1))
+
+-- its answers to these lines alone
+abbrev pub answers : {S : Type 0} → (S → List ℕ → Turn S) → S → ℕ → List (List ℕ) → List ℕ
+answers turn state count [] = []
+answers turn state count (first ∷ lines) =
+    if is_past (count + 1) first then [] else
+    on_turn (turn state first) (λ text next. text ++ answers turn next (count + 1) lines) (λ said. said.text) []
+
+-- an opening, and then a session from a state on
+abbrev pub session : {S : Type 0} → (S → List ℕ → Turn S) → (S → Said) → List ℕ → S → Plan
+session turn ending opening state = talks opening (play turn ending state 0) (answers turn state 0)
+
+-- an answer with the state and the text that it leaves
+abbrev pub the_turn : {S : Type 0} → Answer → S → List ℕ → Turn S
+the_turn More state text = more text state
+the_turn (Last outcome) state text = last (record { outcome = outcome; text = text })
+the_turn Wrong state text = wrong
+
+-- How far a session has come: what was taken and said so far, and what goes on from here.
+pub record Progress {S : Type 0} (turn : S → List ℕ → Turn S) (ending : S → Said) (start : S) (told now : Option (List ℕ)) (lines : LinesState) (state : S) (taken said : List ℕ) : Type 0 where
+  pub read : told ≡ after_bytes taken now
+  pub whole : (rest : List ℕ) → (lines.ended ≡ true → rest ≡ []) → play turn ending start 0 (lines_of (taken ++ rest)) ≡ after_text said (play turn ending state lines.count (lines_of (lines.kept ++ rest)))
+  pub heard : (rest : List ℕ) → lines.ended ≡ false → answers turn start 0 (whole_lines (taken ++ rest)) ≡ said ++ answers turn state lines.count (whole_lines (lines.kept ++ rest))
+  pub lines_end : EndsLine said

@@ -1,0 +1,171 @@
+// Lines of the live source, answered one after another.
+ghost use Rattle.std.specs.Prelude.{◌≡◌, ◌≢◌, ◌⊎◌, ◌≤◌, ◌+◌, ◌++◌, ℕ, List, Option, [], Bool, true, false, IsTrue, IfOk, IfSome, IfNone, OnErr, OnOk, vec_capacity, length, codes, decimal};
+ghost use Rattle.std.specs.Option.{option_map};
+ghost use Rattle.cstn_io.specs.Causes.{Rose};
+ghost use Rattle.cstn_io.specs.Contents.{after_bytes, with_bytes, IsAtEnd};
+ghost use Rattle.cstn_lines.specs.Steps.{LinesState};
+ghost use Rattle.cstn_reply.specs.Texts.{line};
+ghost use Rattle.cstn_reply.specs.Plans.{Said, EndsLine, Live, IsText, Ends};
+ghost use Rattle.cstn_reply.specs.Sessions.{Turn, script, session, the_turn, Progress};
+
+use crate::Status;
+use crate::output::{Outcome, finish, send};
+use cstn_io::{Sink, Source};
+use cstn_lines::{Lines, Next};
+use itoa::Buffer;
+use std::alloc::{AllocError, Global};
+
+/// How a session goes on after a line.
+#[derive(Clone, Copy, Debug, PartialEq, Eq)]
+pub enum Answer {
+    More,
+    Last(Outcome),
+    Wrong,
+}
+
+/// What answers the lines of a session.
+pub trait Talk: Drop {
+    /// The states of a session.
+    ghost State: { Type 0 };
+
+    /// The state that it is in.
+    ghost state: { Self → State };
+
+    /// The answer to a line.
+    ghost turn: { State → List ℕ → Turn State };
+
+    /// What is said where the lines end.
+    ghost ending: { State → Said };
+
+    /// How much room an answer wants, in bytes.
+    ghost room: { Self → ℕ };
+
+    /// Whether an answer may want memory.
+    ghost may_stop: { Bool };
+
+    fn room(&self) -> usize
+        ensures { result ≡ room self.now };
+
+    fn answer(&mut self, line: &[u8], text: &mut Vec<u8>) -> Result<Answer, AllocError>
+        requires empty { text.old.items ≡ [] }
+        requires room { room self.old ≤ vec_capacity text.old }
+        ensures turn { IfOk result (λ answer. turn (state self.old) line.now ≡ the_turn answer (state self.new) text.new.items) }
+        ensures lines { IfOk result (λ answer. answer ≡ Answer.More → EndsLine text.new.items) }
+        ensures room { room self.new ≡ room self.old }
+        ensures capacity { vec_capacity text.old ≤ vec_capacity text.new }
+        ensures memory { OnErr result (IsTrue may_stop) };
+
+    fn ending(&self, text: &mut Vec<u8>) -> Outcome
+        requires empty { text.old.items ≡ [] }
+        requires room { room self.now ≤ vec_capacity text.old }
+        ensures { ending (state self.now) ≡ record { outcome = result; text = text.new.items } };
+}
+
+// How much room each text of a session itself wants, in bytes.
+const ROOM: usize = 40;
+
+// Puts a text in place of what was there.
+fn put(text: &mut Vec<u8>, bytes: &[u8])
+    requires { length bytes.now ≤ vec_capacity text.old }
+    ensures items { text.new.items ≡ bytes.now }
+    ensures capacity { vec_capacity text.old ≤ vec_capacity text.new }
+{
+    text.clear();
+    text.extend_from_slice(bytes).unwrap();
+}
+
+// Says that a line is of no grammar.
+fn put_script(text: &mut Vec<u8>, number: u32)
+    requires { 40 ≤ vec_capacity text.old }
+    ensures items { text.new.items ≡ (script number).text }
+    ensures capacity { vec_capacity text.old ≤ vec_capacity text.new }
+{
+    put(text, b"script ");
+    let mut digits = Buffer::new();
+    text.extend_from_slice(digits.format(number).as_bytes())
+        .unwrap();
+    text.extend_from_slice(b"\n").unwrap();
+}
+
+// Takes a line and puts the answer to it, or what is said at the end with the status of it.
+fn next<T: Talk, S: Source>(
+    talk: &mut T,
+    lines: &mut Lines,
+    live: &mut S,
+    text: &mut Vec<u8>,
+) -> Option<Status>
+    requires at_end { lines.old.ended ≡ true → IsAtEnd (S.left live.old) }
+    requires room { T.room talk.old ≤ vec_capacity text.old }
+    requires script { 40 ≤ vec_capacity text.old }
+    ensures goes_on { IfNone result ((start : T.State) (told : Option (List ℕ)) (taken said : List ℕ) → Progress T.turn T.ending start told (S.left live.old) lines.old (T.state talk.old) taken said → (bytes : List ℕ) × Progress T.turn T.ending start told (S.left live.new) lines.new (T.state talk.new) (taken ++ bytes) (said ++ text.new.items)) }
+    ensures ends { IfSome result (λ status. (start : T.State) (before : Live) (taken said opening : List ℕ) → Progress T.turn T.ending start before.left (S.left live.old) lines.old (T.state talk.old) taken said → before.faults ≤ S.faults live.old → EndsLine opening → IsText (session T.turn T.ending opening start) before (record { left = S.left live.new; faults = S.faults live.new }) status ((opening ++ said) ++ text.new.items)) }
+    ensures at_end { lines.new.ended ≡ true → IsAtEnd (S.left live.new) }
+    ensures count { IfNone result ((lines.new.count ≡ lines.old.count + 1) × (lines.new.count ≤ 16777216)) }
+    ensures room { T.room talk.new ≡ T.room talk.old }
+    ensures capacity { IfNone result (vec_capacity text.old ≤ vec_capacity text.new) }
+    ensures later { S.faults live.old ≤ S.faults live.new }
+    ensures read { result ≡ Some Status.ReadFault → Rose (S.faults live.old) (S.faults live.new) }
+    ensures write { result ≢ Some Status.WriteFault }
+    ensures memory { result ≡ Some Status.Memory → IsTrue T.may_stop }
+{
+    text.clear();
+    match lines.step(live) {
+        Next::Line { number } => match talk.answer(lines.line(), text) {
+            Ok(Answer::More) => None,
+            Ok(Answer::Last(outcome)) => Some(outcome.status()),
+            Ok(Answer::Wrong) => {
+                put_script(text, number);
+                Some(Status::Script)
+            }
+            Err(_) => {
+                put(text, b"memory\n");
+                Some(Status::Memory)
+            }
+        },
+        Next::End => Some(talk.ending(text).status()),
+        Next::Wrong { number } => {
+            put_script(text, number);
+            Some(Status::Script)
+        }
+        Next::Fault => {
+            put(text, b"read fault\n");
+            Some(Status::ReadFault)
+        }
+    }
+}
+
+/// Says the opening, and answers the lines of the live source.
+pub fn converse<T: Talk, S: Source, K: Sink>(
+    alloc: Global,
+    mut talk: T,
+    opening: &[u8],
+    live: &mut S,
+    out: &mut K,
+) -> Status
+    requires { EndsLine opening.now }
+    ensures ends { Ends (session T.turn T.ending opening.now (T.state talk)) (record { left = S.left live.old; faults = S.faults live.old }) (record { left = S.left live.new; faults = S.faults live.new }) (K.written out.old) (K.written out.new) result }
+    ensures flushed { result ≢ Status.WriteFault → K.flushed out.new ≡ option_map length (K.written out.new) }
+    ensures read { result ≡ Status.ReadFault → Rose (S.faults live.old) (S.faults live.new) }
+    ensures write { result ≡ Status.WriteFault → Rose (K.faults out.old) (K.faults out.new) }
+    ensures memory { result ≡ Status.Memory → IsTrue T.may_stop ⊎ (K.written out.new ≡ with_bytes (K.written out.old) (line (codes "memory"))) }
+{
+    let Ok(mut lines) = Lines::start(alloc) else {
+        return finish(out, b"memory\n", Status::Memory);
+    };
+    let Ok(mut text) = Vec::with_capacity(alloc, talk.room().max(ROOM)) else {
+        return finish(out, b"memory\n", Status::Memory);
+    };
+    let Ok(()) = send(out, opening) else {
+        return Status::WriteFault;
+    };
+    'session: loop {
+        match next(&mut talk, &mut lines, live, &mut text) {
+            None => {
+                let Ok(()) = send(out, &text) else {
+                    return Status::WriteFault;
+                };
+            }
+            Some(status) => return finish(out, &text, status),
+        }
+    }
+}

@@ -1,0 +1,48 @@
+// How a request ended.
+ghost use Rattle.std.specs.Prelude.{◌≡◌};
+ghost use Rattle.cstn_reply.specs.Statuses.{number_of};
+
+/// How a request ended.
+#[derive(Clone, Copy, Debug, PartialEq, Eq)]
+pub enum Status {
+    /// Yes.
+    Good,
+    /// No.
+    Bad,
+    /// The words are no request.
+    Words,
+    /// The document is refused.
+    Document,
+    /// The log has more entries than it may.
+    Full,
+    /// A file or the live source couldn't be read.
+    ReadFault,
+    /// The output couldn't be written.
+    WriteFault,
+    /// Memory was refused.
+    Memory,
+    /// The live source ended before all was executed.
+    Unfinished,
+    /// A line is of no grammar.
+    Script,
+}
+
+impl Status {
+    /// The program's exit status.
+    pub fn number(self) -> u8
+        ensures number { result ≡ number_of self }
+    {
+        match self {
+            Status::Good => 0,
+            Status::Bad => 1,
+            Status::Words => 2,
+            Status::Document => 3,
+            Status::Full => 4,
+            Status::ReadFault => 5,
+            Status::WriteFault => 6,
+            Status::Memory => 7,
+            Status::Unfinished => 8,
+            Status::Script => 9,
+        }
+    }
+}

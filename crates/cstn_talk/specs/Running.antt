@@ -1,0 +1,125 @@
+-- What is answered to live lines.
+use Rattle.std.specs.Prelude.{◌≡◌, ◌≤◌, ℕ, Bool, List, [], ◌∷◌, ◌++◌, length, map, flat_map, get_or, Option, None, Some, codes, decimal}
+use Rattle.std.specs.List.{All}
+use Rattle.cstn_label.specs.declared.nodes.NodeId.{NodeId}
+use Rattle.cstn_label.specs.Bounds.{Bound}
+use Rattle.cstn_label.specs.Letters.{letter_of}
+use Rattle.cstn_label.specs.declared.bounds.Bound.{Bound as PlanBound}
+use Rattle.cstn_net.specs.Networks.{Network, count}
+use Rattle.cstn_net.specs.Read.{NetworkParts, the_network}
+use Rattle.cstn_log.specs.Plans.{the_bounds}
+use Rattle.cstn_lines.specs.LiveLines.{Live, moment_at, seen, due_now, live_read, printed_truth}
+use Rattle.cstn_exec.specs.Runs.{Run, named, due}
+use Rattle.cstn_exec.specs.Moves.{Refusal, Done, Past, Late, Awaiting, NotExecuted, Known, moment_refusal, moved, outcome_refusal, handed}
+use Rattle.cstn_reply.specs.Texts.{line}
+use Rattle.cstn_reply.specs.Plans.{Said, say}
+use Rattle.cstn_reply.specs.Sessions.{Turn, more, last, wrong}
+use Rattle.cstn_reply.specs.declared.output.Outcome.TheVariants.{Good, Unfinished}
+use Rattle.cstn_exec.specs.Runs.{start}
+use Rattle.cstn_check.specs.Growth.{log_of, load_of, live_bounds}
+use Rattle.cstn_text.specs.PrintedNames.{printed_name}
+use Rattle.cstn_verdict.specs.Documents.{Answer}
+use Rattle.cstn_verdict.specs.Verdicts.{verdict, on_verdict}
+use Rattle.cstn_reply.specs.Sessions.{session}
+use Rattle.cstn_reply.specs.Texts.{yes_line}
+
+-- the names of time-points, each after a space
+abbrev pub spaced : List (List ℕ) → List ℕ → List ℕ
+spaced names xs = flat_map (λ x. 32 ∷ get_or names x []) xs
+
+-- the time-points that are executed at a moment
+abbrev pub moment_line : List (List ℕ) → ℕ → List ℕ → List ℕ
+moment_line names t xs = line (codes "at " ++ decimal t ++ spaced names xs)
+
+-- a proposition's letter
+abbrev pub letter : ℕ → List ℕ
+letter p = letter_of p ∷ []
+
+-- a refused moment or outcome
+abbrev pub refused_text : Refusal → List ℕ
+refused_text Done = codes "refused E6"
+refused_text (Past now) = codes "refused E1 " ++ decimal now
+refused_text (Late u) = codes "refused E2 " ++ decimal u
+refused_text (Awaiting p) = codes "refused E3 " ++ letter p
+refused_text (NotExecuted p) = codes "refused E4 " ++ letter p
+refused_text (Known p value) = codes "refused E5 " ++ letter p ++ 32 ∷ printed_truth value
+
+-- an outcome that was handed in
+abbrev pub seen_text : ℕ → Bool → List ℕ
+seen_text p value = codes "seen " ++ letter p ++ 32 ∷ printed_truth value
+
+-- the moment that is due, or that all is executed
+abbrev pub due_text : Option ℕ → List ℕ
+due_text None = codes "done"
+due_text (Some t) = codes "due " ++ decimal t
+
+-- the answer to a moment that was accepted, by what is due after it: it is the last where all is executed and nothing is due
+abbrev pub executing : List ℕ → Run → Option ℕ → Turn Run
+executing text run None = last (record { outcome = Good; text = text ++ line (codes "done") })
+executing text run (Some t) = more text run
+
+abbrev pub moment_turn : List (List ℕ) → Network → List Bound → Run → ℕ → Option Refusal → Turn Run
+moment_turn names net bounds run t None = executing (moment_line names t (named net bounds run t)) (moved net bounds run t) (due net bounds (moved net bounds run t))
+moment_turn names net bounds run t (Some refusal) = more (line (refused_text refusal)) run
+
+abbrev pub seen_turn : Run → ℕ → Bool → Option Refusal → Turn Run
+seen_turn run p value None = more (line (seen_text p value)) (handed run p value)
+seen_turn run p value (Some refusal) = more (line (refused_text refusal)) run
+
+-- the answer to what a live line says
+abbrev pub live_turn : List (List ℕ) → Network → List Bound → Run → Option Live → Turn Run
+live_turn names net bounds run None = wrong
+live_turn names net bounds run (Some (moment_at t)) = moment_turn names net bounds run t (moment_refusal net bounds run t)
+live_turn names net bounds run (Some (seen p value)) = seen_turn run p value (outcome_refusal net run p)
+live_turn names net bounds run (Some due_now) = more (line (due_text (due net bounds run))) run
+
+-- the answer to a live line of a run of a network by the bounds of a plan, under printed names
+abbrev pub run_turn : List (List ℕ) → Network → List Bound → Run → List ℕ → Turn Run
+run_turn names net bounds run text = live_turn names net bounds run (live_read text)
+
+-- what is said where the live lines end
+abbrev pub unfinished : Option ℕ → Said
+unfinished None = say Good (codes "done")
+unfinished (Some t) = say Unfinished (codes "unfinished " ++ decimal t)
+
+abbrev pub run_ending : Network → List Bound → Run → Said
+run_ending net bounds run = unfinished (due net bounds run)
+
+-- what contracts see of a run: the network and the bounds of its plan, what was executed and seen, and the printed names
+pub record RunningParts : Type 0 where
+  pub net : NetworkParts
+  pub bounds : List PlanBound
+  pub run : Run
+  pub names : List (List ℕ)
+
+abbrev pub with_run : RunningParts → Run → RunningParts
+with_run running run = record { net = running.net; bounds = running.bounds; run = run; names = running.names }
+
+-- an answer with another state
+abbrev pub turn_with : {S R : Type 0} → (S → R) → Turn S → Turn R
+turn_with f (more text state) = more text (f state)
+turn_with f (last said) = last said
+turn_with f wrong = wrong
+
+abbrev pub running_turn : RunningParts → List ℕ → Turn RunningParts
+running_turn running text = turn_with (with_run running) (run_turn running.names (the_network running.net) (the_bounds running.bounds) running.run text)
+
+abbrev pub running_ending : RunningParts → Said
+running_ending running = run_ending (the_network running.net) (the_bounds running.bounds) running.run
+
+-- each time-point has a printed name, which is at most 192 bytes long
+pub record AreShort (net : NetworkParts) (names : List (List ℕ)) : Type 0 where
+  pub all : length names ≡ count (the_network net)
+  pub few : count (the_network net) ≤ 1024
+  pub each : All (λ name. length name ≤ 192) names
+
+-- time-points by their numbers
+abbrev pub the_nodes : List NodeId → List ℕ
+the_nodes xs = map (λ (x : NodeId). x.0) xs
+
+-- what `run` says of a network: after yes the answers to the live lines, by the bounds of the live entries of its log
+abbrev pub carried_out : ℕ → Answer
+carried_out cap names net =
+    on_verdict cap names net
+    (session (run_turn (map printed_name names) net (live_bounds (log_of net))) (run_ending net (live_bounds (log_of net))) (yes_line (load_of net)) (start (count net)))
+    (verdict cap net)

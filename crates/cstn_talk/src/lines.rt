@@ -1,0 +1,120 @@
+// Lines that are put into room that was taken before.
+ghost use Rattle.std.specs.Prelude.{◌≡◌, ◌≤◌, ◌<◌, ◌+◌, ◌*◌, ◌++◌, ◌∷◌, [], map, string_bytes, vec_capacity, length, codes, decimal};
+ghost use Rattle.std.specs.List.{All};
+ghost use Rattle.cstn_label.specs.Letters.{letter_of};
+ghost use Rattle.cstn_text.specs.Numbers.{printed_value};
+ghost use Rattle.cstn_lines.specs.LiveLines.{printed_truth};
+ghost use Rattle.cstn_reply.specs.Plans.{EndsLine};
+ghost use Rattle.cstn_reply.specs.Texts.{line};
+ghost use Rattle.cstn_talk.specs.Running.{the_nodes, moment_line, spaced};
+
+use cstn_label::{NodeId, Prop};
+use itoa::Buffer;
+
+/// Puts a word and the end of a line.
+pub(crate) fn put_word(text: &mut Vec<u8>, word: &[u8])
+    requires room { length text.old.items + length word.now + 1 ≤ vec_capacity text.old }
+    ensures items { text.new.items ≡ text.old.items ++ line word.now }
+    ensures capacity { vec_capacity text.old ≤ vec_capacity text.new }
+{
+    text.extend_from_slice(word).unwrap();
+    text.extend_from_slice(b"\n").unwrap();
+}
+
+/// Puts a line that ends with a number.
+pub(crate) fn put_number(text: &mut Vec<u8>, word: &[u8], number: u32)
+    requires room { length text.old.items + length word.now + 41 ≤ vec_capacity text.old }
+    ensures items { text.new.items ≡ text.old.items ++ line (word.now ++ decimal number) }
+    ensures capacity { vec_capacity text.old ≤ vec_capacity text.new }
+{
+    let mut digits = Buffer::new();
+    text.extend_from_slice(word).unwrap();
+    text.extend_from_slice(digits.format(number).as_bytes())
+        .unwrap();
+    text.extend_from_slice(b"\n").unwrap();
+}
+
+/// Puts a line that ends with a value.
+pub(crate) fn put_value(text: &mut Vec<u8>, word: &[u8], value: i32)
+    requires room { length text.old.items + length word.now + 41 ≤ vec_capacity text.old }
+    ensures items { text.new.items ≡ text.old.items ++ line (word.now ++ printed_value value) }
+    ensures capacity { vec_capacity text.old ≤ vec_capacity text.new }
+{
+    let mut digits = Buffer::new();
+    text.extend_from_slice(word).unwrap();
+    text.extend_from_slice(digits.format(value).as_bytes())
+        .unwrap();
+    text.extend_from_slice(b"\n").unwrap();
+}
+
+/// Puts a line that ends with a proposition.
+pub(crate) fn put_prop(text: &mut Vec<u8>, word: &[u8], prop: Prop)
+    requires room { length text.old.items + length word.now + 2 ≤ vec_capacity text.old }
+    ensures items { text.new.items ≡ text.old.items ++ line (word.now ++ letter_of prop.index ∷ []) }
+    ensures capacity { vec_capacity text.old ≤ vec_capacity text.new }
+{
+    text.extend_from_slice(word).unwrap();
+    text.push(prop.letter()).unwrap();
+    text.push(b'\n').unwrap();
+}
+
+/// Puts a line that ends with a proposition and a value of it.
+pub(crate) fn put_outcome(text: &mut Vec<u8>, word: &[u8], prop: Prop, value: bool)
+    requires room { length text.old.items + length word.now + 8 ≤ vec_capacity text.old }
+    ensures items { text.new.items ≡ text.old.items ++ line (word.now ++ letter_of prop.index ∷ 32 ∷ printed_truth value) }
+    ensures capacity { vec_capacity text.old ≤ vec_capacity text.new }
+{
+    text.extend_from_slice(word).unwrap();
+    text.push(prop.letter()).unwrap();
+    text.push(b' ').unwrap();
+    text.extend_from_slice(truth(value)).unwrap();
+    text.push(b'\n').unwrap();
+}
+
+fn truth(value: bool) -> &'static [u8]
+    ensures truth { result.now ≡ printed_truth value }
+    ensures short { length result.now ≤ 5 }
+{
+    if value { b"true" } else { b"false" }
+}
+
+/// Puts the line of a moment, with the names of the time-points that are executed.
+pub(crate) fn put_moment(text: &mut Vec<u8>, t: u32, named: &[NodeId], names: &[String])
+    requires empty { text.old.items ≡ [] }
+    requires inside { All (λ x. x.0 < length names.now) named.now }
+    requires short { All (λ name. length name ≤ 192) (map string_bytes names.now) }
+    requires room { 193 * length named.now + 60 ≤ vec_capacity text.old }
+    ensures items { text.new.items ≡ moment_line (map string_bytes names.now) t (the_nodes named.now) }
+    ensures short { length text.new.items ≤ 193 * length named.now + 60 }
+    ensures capacity { vec_capacity text.old ≤ vec_capacity text.new }
+{
+    let mut digits = Buffer::new();
+    text.extend_from_slice(b"at ").unwrap();
+    text.extend_from_slice(digits.format(t).as_bytes()).unwrap();
+    put_names(text, named, names);
+    text.extend_from_slice(b"\n").unwrap();
+}
+
+// Puts the names of time-points, each after a space.
+fn put_names(text: &mut Vec<u8>, named: &[NodeId], names: &[String])
+    requires inside { All (λ x. x.0 < length names.now) named.now }
+    requires short { All (λ name. length name ≤ 192) (map string_bytes names.now) }
+    requires room { length text.old.items + 193 * length named.now ≤ vec_capacity text.old }
+    ensures items { text.new.items ≡ text.old.items ++ spaced (map string_bytes names.now) (the_nodes named.now) }
+    ensures length { length text.new.items ≤ length text.old.items + 193 * length named.now }
+    ensures capacity { vec_capacity text.old ≤ vec_capacity text.new }
+{
+    for x in named {
+        put_name(text, names[x.index()].as_str());
+    }
+}
+
+// Puts a name after a space.
+fn put_name(text: &mut Vec<u8>, name: &str)
+    requires room { length text.old.items + length name.now + 1 ≤ vec_capacity text.old }
+    ensures items { text.new.items ≡ text.old.items ++ 32 ∷ name.now }
+    ensures capacity { vec_capacity text.old ≤ vec_capacity text.new }
+{
+    text.push(b' ').unwrap();
+    text.extend_from_slice(name.as_bytes()).unwrap();
+}

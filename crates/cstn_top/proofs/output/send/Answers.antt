@@ -1,5 +1,0 @@
-use Rattle.cstn_top.proofs.Written.{prefixed}
-use Rattle.cstn_top.proofs.output.send.Goals as goal
-
-pub returns-clause-prefix : goal.returns-clause-prefix
-returns-clause-prefix g c = prefixed c.flush.result _ _ _ _ c.in_ok-put_all.ensures.ok c.flush.ensures.bytes

@@ -1,0 +1,160 @@
+-- What is said of a document that was opened.
+use Rattle.std.proofs.Common.{◌≡◌, ℕ, zero, suc, ◌+◌, ◌^◌, get_or, ◌≤◌, ◌<◌, List, [], ◌∷◌, length, refl, ap, sym, ◌∙◌, subst, inl, inr, arith}
+use Rattle.std.specs.Prelude.{nat_lt, if◌then◌else◌, Option, Result, Ok, Err, IfOk, map, codes}
+use Rattle.cstn_io.specs.Contents.{IsLongFile}
+use Rattle.std.specs.List.{All}
+use Rattle.std.proofs.lemmas.List.{length-map, get_or-map}
+use Rattle.cstn_net.specs.declared.constraints.Constraint.{Constraint as LentConstraint}
+use Rattle.cstn_net.specs.Networks.{Network, Constraint, IsWellFormed}
+use Rattle.cstn_net.specs.Read.{NetworkParts, the_network, the_constraint}
+use Rattle.cstn_graphml.specs.declared.errors.DocError.{DocError}
+use Rattle.cstn_graphml.specs.declared.errors.DocError.TheVariants.{NotUtf8, Shape, NameTwice, UnknownNode, Value, LabelText, Contingent, EdgeType, NoDeadline, Net, NodeLabel, Memory}
+use Rattle.cstn_graphml.specs.Results.{Refusal}
+use Rattle.cstn_graphml.specs.Results.Refusal.{not_utf8, shape, name_twice, unknown_node, bad_value, label_text, contingent, edge_type, no_deadline, node_label}
+use Rattle.cstn_graphml.specs.Answers.{IsUnfitDocument, IsRefused}
+use Rattle.cstn_graphml.specs.Document.{Parts, document}
+use Rattle.cstn_graphml.specs.DrawnGraph.{DrawnConstraint}
+use Rattle.cstn_graphml.specs.Networks.{numbered, network_of}
+use Rattle.cstn_net.specs.declared.errors.NetError.{NetError}
+use Rattle.cstn_reply.specs.Files.{file_at, IsContent, AreThere}
+use Rattle.cstn_reply.specs.Refusals.{refusal_text, fault_text}
+use Rattle.cstn_words.specs.Requests.{Asked}
+use Rattle.cstn_reply.specs.Plans.{Said, say, Plan, says, judges, IsOutput, ComesTo}
+use Rattle.cstn_verdict.specs.Documents.{Answer, judged, on_document}
+use Rattle.cstn_verdict.specs.Opened.{IsToldBy, IsSaidOf, OpensAs, IsOpened, IsTooLong}
+use Rattle.cstn_reply.specs.Read.{the_said}
+use Rattle.cstn_reply.specs.declared.output.Said.{Said as SaidText}
+use Rattle.cstn_reply.specs.declared.output.Outcome.TheVariants.{Document}
+use Rattle.cstn_verdict.specs.declared.documents.Opened.{Opened}
+use Rattle.cstn_verdict.specs.declared.documents.Opened.TheVariants.{Accepted, Told}
+use Rattle.cstn_reply.proofs.Contents.{one_content, long_content, long_is_there, none_there}
+
+within : (n m : ℕ) (plan other : Plan) → m ≤ n → (if nat_lt n m then plan else other) ≡ other
+within n m plan other le = grind arith
+
+beyond : (n m : ℕ) (plan other : Plan) → n < m → (if nat_lt n m then plan else other) ≡ plan
+beyond n m plan other lt = grind arith
+
+-- a document that isn't too long
+short_document : (answer : Answer) (bytes : List ℕ) (deadline : Option ℕ) → length bytes ≤ 8388608 → on_document answer bytes deadline ≡ judged answer (document bytes deadline)
+short_document answer bytes deadline short = within 8388608 (length bytes) (says (say Document (codes "document long"))) (judged answer (document bytes deadline)) short
+
+short_output : (answer : Answer) (bytes : List ℕ) (deadline : Option ℕ) (live : List ℕ) (said : Said) → length bytes ≤ 8388608 → IsOutput (judged answer (document bytes deadline)) live said → IsOutput (on_document answer bytes deadline) live said
+short_output answer bytes deadline live said short output = subst (λ (plan : Plan). IsOutput plan live said) (sym (short_document answer bytes deadline short)) output
+
+-- a refusal by the grammar
+refused_output : (answer : Answer) (told : Result Parts Refusal) (refusal : Refusal) (live : List ℕ) (said : Said) → told ≡ Err refusal → said ≡ say Document (refusal_text refusal) → IsOutput (judged answer told) live said
+refused_output answer told refusal live said is same = subst (λ (r : Result Parts Refusal). IsOutput (judged answer r) live said) (sym is) same
+
+-- a refusal of the network
+unfit_output : (answer : Answer) (told : Result Parts Refusal) (error : NetError) (names : List (List ℕ)) (live : List ℕ) (said : Said) → IsUnfitDocument told error names → said ≡ say Document (fault_text names error) → IsOutput (judged answer told) live said
+unfit_output answer told error names live said unfit same =
+    subst (λ (r : Result Parts Refusal). IsOutput (judged answer r) live said) (sym unfit.told_are)
+    (inr (error, unfit.unfit, same ∙ ap (λ (ns : List (List ℕ)). say Document (fault_text ns error)) unfit.names_are))
+
+error_output : (answer : Answer) (told : Result Parts Refusal) (error : DocError) (live : List ℕ) (said : Said) → IsRefused told error → IsToldBy error said → IsOutput (judged answer told) live said
+error_output answer told (NotUtf8 at) live said is same = refused_output answer told (not_utf8 at) live said is same
+error_output answer told (Shape at) live said is same = refused_output answer told (shape at) live said is same
+error_output answer told (NameTwice at) live said is same = refused_output answer told (name_twice at) live said is same
+error_output answer told (UnknownNode at) live said is same = refused_output answer told (unknown_node at) live said is same
+error_output answer told (Value at) live said is same = refused_output answer told (bad_value at) live said is same
+error_output answer told (LabelText at) live said is same = refused_output answer told (label_text at) live said is same
+error_output answer told (Contingent at) live said is same = refused_output answer told (contingent at) live said is same
+error_output answer told (EdgeType at) live said is same = refused_output answer told (edge_type at) live said is same
+error_output answer told NoDeadline live said is same = refused_output answer told no_deadline live said is same
+error_output answer told (Net error names) live said is same = unfit_output answer told error names live said is same
+error_output answer told (NodeLabel at) live said is same = refused_output answer told (node_label at) live said is same
+error_output answer told (Memory e) live said is same = absurd same
+
+told_by : (error : DocError) (said : Said) → IsToldBy error said → said.outcome ≡ Document
+told_by (NotUtf8 at) said same = ap (λ (s : Said). s.outcome) same
+told_by (Shape at) said same = ap (λ (s : Said). s.outcome) same
+told_by (NameTwice at) said same = ap (λ (s : Said). s.outcome) same
+told_by (UnknownNode at) said same = ap (λ (s : Said). s.outcome) same
+told_by (Value at) said same = ap (λ (s : Said). s.outcome) same
+told_by (LabelText at) said same = ap (λ (s : Said). s.outcome) same
+told_by (Contingent at) said same = ap (λ (s : Said). s.outcome) same
+told_by (EdgeType at) said same = ap (λ (s : Said). s.outcome) same
+told_by NoDeadline said same = ap (λ (s : Said). s.outcome) same
+told_by (Net error names) said same = ap (λ (s : Said). s.outcome) same
+told_by (NodeLabel at) said same = ap (λ (s : Said). s.outcome) same
+told_by (Memory e) said same = absurd same
+
+-- a document that is refused
+pub refused_opens : (bytes : List ℕ) (deadline : Option ℕ) (error : DocError) (said : SaidText) → length bytes ≤ 8388608 → IsRefused (document bytes deadline) error → IsToldBy error (the_said said) → OpensAs bytes deadline (Told said)
+refused_opens bytes deadline error said short is same =
+    ((λ answer live. short_output answer bytes deadline live (the_said said) short (error_output answer (document bytes deadline) error live (the_said said) is same)), told_by error (the_said said) same)
+
+-- a file that is too long
+pub long_opened : {E : Type 0} (told : Option (List ℕ → Option (List ℕ))) (asked : Asked) (r : Result Opened E) → IsLongFile told asked.file 8388608 → IfOk r IsTooLong → IfOk r (IsOpened told asked)
+long_opened told asked (Err e) long is = tt
+long_opened told asked (Ok (Accepted network names)) long is = absurd is
+long_opened told asked (Ok (Told said)) long is =
+    let found = long_content told asked.file 8388608 long in
+    let said_of : IsSaidOf found.0 asked.deadline (the_said said) = λ answer live.
+    let same : on_document answer found.0 asked.deadline ≡ says (say Document (codes "document long")) = beyond 8388608 (length found.0) (says (say Document (codes "document long"))) (judged answer (document found.0 asked.deadline)) found.2 in
+    subst (λ (plan : Plan). IsOutput plan live (the_said said)) (sym same) is in
+    record {
+      bytes = found.0;
+      content = found.1;
+      there = long_is_there told asked.file 8388608 long;
+      opens = (said_of, ap (λ (s : Said). s.outcome) is);
+    }
+
+-- a file that was read
+pub file_opened : {E : Type 0} (told : Option (List ℕ → Option (List ℕ))) (asked : Asked) (bytes : List ℕ) (r : Result Opened E) → IsContent told asked.file bytes → AreThere told (asked.file ∷ []) → IfOk r (OpensAs bytes asked.deadline) → IfOk r (IsOpened told asked)
+file_opened told asked bytes (Err e) content there opens = tt
+file_opened told asked bytes (Ok opened) content there opens = record { bytes = bytes; content = content; there = there; opens = opens }
+
+-- the ids of a document's constraints are their places
+numbered_id : (k : ℕ) (cs : List DrawnConstraint) (i : ℕ) (d : Constraint) → i < length (numbered k cs) → (get_or (numbered k cs) i d).id ≡ k + i
+numbered_id k [] i d inside = absurd (omega (arith, inside))
+numbered_id k (c ∷ cs) zero d inside = omega arith
+numbered_id k (c ∷ cs) (suc i) d inside = let later = numbered_id (k + 1) cs i d (omega (arith, inside)) in omega (arith, later)
+
+pub document_ids : (told : Option (List ℕ → Option (List ℕ))) (asked : Asked) (net : NetworkParts) (names : List (List ℕ)) → IsOpened told asked (Accepted net names) → All (λ (c : LentConstraint). c.id < 2 ^ 31) net.constraints
+document_ids told asked net names opened = λ i d inside.
+    let is = opened.opens.1 in
+    let few : length (the_network net).constraints ≤ 16384 = opened.opens.2.few_constraints in
+    let long : length (the_network net).constraints ≡ length net.constraints = length-map net.constraints the_constraint in
+    let all : (the_network net).constraints ≡ numbered 0 is.parts.constraints = ap (λ (n : Network). n.constraints) is.network_is in
+    let place = numbered_id 0 is.parts.constraints i (the_constraint d) (omega (arith, inside, long, ap length all)) in
+    let there = ap (λ (cs : List Constraint). (get_or cs i (the_constraint d)).id) all in
+    let same = ap (λ (c : Constraint). c.id) (get_or-map the_constraint net.constraints i d (the_constraint d) inside) in
+    omega (arith, inside, few, long, place, there, same)
+
+-- a plan says what it says itself
+pub comes_itself : (plan : Plan) → ComesTo plan plan
+comes_itself plan = record { output = λ live said is. is; talks = λ may. may; fault = λ may taken. refl }
+
+-- a plan that says a text
+pub comes_to_text : (plan : Plan) (said : Said) → ((live : List ℕ) → IsOutput plan live said) → ComesTo plan (says said)
+comes_to_text plan said output = record {
+  output = λ live other is. subst (λ (s : Said). IsOutput plan live s) (sym is) (output live);
+  talks = λ may. absurd may;
+  fault = λ may taken. absurd may;
+}
+
+-- what is said of the parts of a document, where they make a network
+judges_comes : (parts : Parts) (plan other : Plan) → IsWellFormed (network_of parts) → ComesTo plan other → ComesTo (judges parts plan) other
+judges_comes parts plan other good comes = record {
+  output = λ live said is. inl (good, comes.output live said is);
+  talks = λ may. (good, comes.talks may);
+  fault = λ may taken. comes.fault may taken;
+}
+
+-- what is said of a document that was accepted
+pub accepted_comes : (answer : Answer) (bytes : List ℕ) (deadline : Option ℕ) (net : NetworkParts) (names : List (List ℕ)) (plan : Plan) → OpensAs bytes deadline (Accepted net names) → ComesTo (answer names (the_network net)) plan → ComesTo (on_document answer bytes deadline) plan
+accepted_comes answer bytes deadline net names plan opens comes =
+    let is = opens.1 in
+    let parts : Parts = is.parts in
+    let same : on_document answer bytes deadline ≡ judges parts (answer names (the_network net)) =
+    short_document answer bytes deadline opens.0
+    ∙ ap (judged answer) is.told_are
+    ∙ ap (λ (ns : List (List ℕ)). judges parts (answer ns (network_of parts))) (sym is.names_are)
+    ∙ ap (λ (n : Network). judges parts (answer names n)) (sym is.network_is) in
+    subst (λ (p : Plan). ComesTo p plan) (sym same) (judges_comes parts (answer names (the_network net)) plan (subst IsWellFormed is.network_is opens.2) comes)
+
+-- what is said of a document that was refused
+pub told_comes : (answer : Answer) (bytes : List ℕ) (deadline : Option ℕ) (said : SaidText) → OpensAs bytes deadline (Told said) → ComesTo (on_document answer bytes deadline) (says (the_said said))
+told_comes answer bytes deadline said opens = comes_to_text (on_document answer bytes deadline) (the_said said) (λ live. opens.0 answer live)

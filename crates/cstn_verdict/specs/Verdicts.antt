@@ -1,0 +1,58 @@
+-- Verdicts on networks, and what is said of them.
+use Rattle.std.specs.Prelude.{◌≡◌, ◌≤◌, ℕ, ◌-◌, Bool, false, nat_lt, if◌then◌else◌, List, length, slice_get, Option, None, Some}
+use Rattle.cstn_net.specs.Networks.{Network}
+use Rattle.cstn_net.specs.Strategies.{IsConsistent}
+use Rattle.cstn_net.specs.Read.{NetworkParts, the_network}
+use Rattle.cstn_rules.specs.Derivations.{Entry}
+use Rattle.cstn_log.specs.Cuts.{part}
+use Rattle.cstn_check.specs.Tests.{refutes}
+use Rattle.cstn_check.specs.Growth.{log_of, load_of}
+use Rattle.cstn_check.specs.declared.verdicts.Verdict.{Verdict}
+use Rattle.cstn_check.specs.declared.verdicts.Verdict.TheVariants.{Yes, No, Full as IsFull}
+use Rattle.cstn_refute.specs.Texts.{shown}
+use Rattle.cstn_reply.specs.Texts.{yes_line, full_line}
+use Rattle.cstn_reply.specs.Plans.{Plan, says}
+use Rattle.cstn_reply.specs.Read.{the_said}
+use Rattle.cstn_reply.specs.declared.output.Outcome.TheVariants.{Good, Bad, Full}
+use Rattle.cstn_verdict.specs.Documents.{Answer}
+use Rattle.cstn_verdict.specs.declared.verdicts.Decided.{Decided}
+use Rattle.cstn_verdict.specs.declared.verdicts.Decided.TheVariants.{Yes as SaysYes, Told}
+
+-- an entry refutes the network, if it is there
+abbrev pub refutes_at : Network → Option Entry → Bool
+refutes_at net None = false
+refutes_at net (Some e) = refutes net e.bound
+
+-- the last entry of a log refutes the network
+abbrev pub last_refutes : Network → List Entry → Bool
+last_refutes net log = refutes_at net (slice_get log (length log - 1))
+
+-- the verdict on a network by a log that may have so many entries
+abbrev pub verdict : ℕ → Network → Verdict
+verdict cap net =
+    if nat_lt cap (load_of net) then IsFull else if last_refutes net (log_of net) then No (load_of net) else Yes (load_of net)
+
+-- what is said of a verdict on a network, given what follows after yes: the cap where it is exceeded, after no the refutation
+abbrev pub on_verdict : ℕ → List (List ℕ) → Network → Plan → Verdict → Plan
+on_verdict cap names net after_yes (Yes load) = after_yes
+on_verdict cap names net after_yes (No load) = says (record { outcome = Bad; text = shown names load (part (log_of net)) })
+on_verdict cap names net after_yes IsFull = says (record { outcome = Full; text = full_line cap })
+
+-- what `check` says of a network
+abbrev pub checked : ℕ → Answer
+checked cap names net = on_verdict cap names net (says (record { outcome = Good; text = yes_line (load_of net) })) (verdict cap net)
+
+-- the network has a strategy, and no more than so many entries in its log
+abbrev pub IsYes : ℕ → Network → Type 0
+IsYes cap net = IsConsistent net × (load_of net ≤ cap)
+
+-- it has none
+abbrev pub IsNo : ℕ → Network → Type 0
+IsNo cap net = (IsConsistent net → ⊥) × (load_of net ≤ cap)
+
+-- the verdict on a network is yes, with its line, or this is said of it
+abbrev pub IsDecided : ℕ → List (List ℕ) → NetworkParts → Decided → Type 0
+IsDecided cap names network (SaysYes line check) =
+    (verdict cap (the_network network) ≡ Yes (load_of (the_network network))) × (line.items ≡ yes_line (load_of (the_network network))) × (check.net ≡ network) × ((load : ℕ) × (check.verdict ≡ Some (Yes load)))
+IsDecided cap names network (Told said) = (after_yes : Plan) → on_verdict cap names (the_network network) after_yes (verdict cap (the_network network)) ≡ says (the_said said)
+

@@ -1,0 +1,79 @@
+// The documents of files.
+ghost use Rattle.std.specs.Prelude.{◌≡◌, ◌≤◌, length, IfOk, IsTrue, IsErrOf};
+ghost use Rattle.cstn_io.specs.Causes.{Rose};
+ghost use Rattle.cstn_verdict.specs.Opened.{IsOpened, IsNamed, IsTooLong, OpensAs};
+ghost use Rattle.cstn_words.specs.Read.{the_asked};
+
+use crate::refusals::refuse;
+use cstn_graphml::read;
+use cstn_io::{Shelf, TakeError, take_all};
+use cstn_net::Network;
+use cstn_reply::{Outcome, Refused, Said};
+use cstn_text::Names;
+use cstn_words::Asked;
+use std::alloc::Global;
+
+const MAX_DOCUMENT: usize = 8_388_608;
+
+/// A document that was read.
+#[derive(Drop)]
+pub enum Opened {
+    /// Its network, and the names of the time-points.
+    Accepted { network: Network, names: Names },
+    /// What is said where it is refused.
+    Told(Said),
+}
+
+/// Reads the document of a file.
+pub fn open<F: Shelf>(
+    alloc: Global,
+    asked: Asked<'_>,
+    shelf: &mut F,
+) -> Result<Opened, Refused>
+    requires may_ask { IsTrue (F.may_ask shelf.old asked.file.now) }
+    ensures opened { IfOk result (IsOpened (F.files shelf.old) (the_asked asked.entry)) }
+    ensures named { IfOk result IsNamed }
+    ensures names { F.may_ask shelf.new ≡ F.may_ask shelf.old }
+    ensures files { F.files shelf.new ≡ F.files shelf.old }
+    ensures later { F.faults shelf.old ≤ F.faults shelf.new }
+    ensures fault { IsErrOf result Refused.ReadFault → Rose (F.faults shelf.old) (F.faults shelf.new) }
+{
+    let bytes = match take_all(alloc, shelf, asked.file, MAX_DOCUMENT) {
+        Ok(bytes) => bytes,
+        Err(TakeError::TooLong) => return too_long(alloc),
+        Err(TakeError::ReadFault) => return Err(Refused::ReadFault),
+        Err(TakeError::Memory(_)) => return Err(Refused::Memory),
+    };
+    open_bytes(alloc, &bytes, asked.deadline)
+}
+
+// The document of these bytes.
+fn open_bytes(alloc: Global, bytes: &[u8], deadline: Option<u32>) -> Result<Opened, Refused>
+    requires few { length bytes.now ≤ MAX_DOCUMENT }
+    ensures opens { IfOk result (OpensAs bytes.now deadline) }
+    ensures named { IfOk result IsNamed }
+    ensures fault { IsErrOf result Refused.ReadFault → ⊥ }
+{
+    match read(alloc, bytes, deadline) {
+        Ok((network, names)) => Ok(Opened::Accepted { network, names }),
+        Err(error) => match refuse(alloc, error) {
+            Ok(said) => Ok(Opened::Told(said)),
+            Err(_) => Err(Refused::Memory),
+        },
+    }
+}
+
+// What is said of a file that is too long.
+fn too_long(alloc: Global) -> Result<Opened, Refused>
+    ensures told { IfOk result IsTooLong }
+    ensures named { IfOk result IsNamed }
+    ensures fault { IsErrOf result Refused.ReadFault → ⊥ }
+{
+    let Ok(text) = b"document long\n".to_vec(alloc) else {
+        return Err(Refused::Memory);
+    };
+    Ok(Opened::Told(Said {
+        outcome: Outcome::Document,
+        text,
+    }))
+}

@@ -1,0 +1,9 @@
+// What is said of a document and of the verdict on its network.
+#![tactic(auto)]
+
+mod documents;
+mod refusals;
+mod verdicts;
+
+pub use documents::{Opened, open};
+pub use verdicts::{Decided, decide};

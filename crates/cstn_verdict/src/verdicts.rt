@@ -1,0 +1,104 @@
+// Verdicts on networks.
+ghost use Rattle.std.specs.Prelude.{ℕ, ◌≡◌, ◌≤◌, ◌++◌, IfOk, IsErrOf, Some, length, codes, decimal};
+ghost use Rattle.cstn_net.specs.Networks.{IsWellFormed, count};
+ghost use Rattle.cstn_net.specs.Read.{the_network};
+ghost use Rattle.cstn_check.specs.Growth.{log_of, load_of};
+ghost use Rattle.cstn_check.specs.declared.verdicts.Verdict.TheVariants.{No};
+ghost use Rattle.cstn_log.specs.Cuts.{part};
+ghost use Rattle.cstn_refute.specs.Texts.{shown};
+ghost use Rattle.cstn_reply.specs.Plans.{say};
+ghost use Rattle.cstn_reply.specs.Texts.{yes_line, full_line};
+ghost use Rattle.cstn_verdict.specs.Verdicts.{IsDecided};
+ghost use Rattle.cstn_reply.specs.Read.{the_said};
+
+use cstn_check::{Check, Verdict};
+use cstn_net::Network;
+use cstn_reply::{Outcome, Refused, Said};
+use cstn_text::Names;
+use std::alloc::Global;
+
+/// The verdict on a network.
+#[derive(Drop)]
+pub enum Decided {
+    /// Yes, with its line.
+    Yes { line: Vec<u8>, check: Check },
+    /// What is said after no, or where the log is full.
+    Told(Said),
+}
+
+/// Checks a network, whose log may have `cap` entries.
+pub fn decide(
+    alloc: Global,
+    network: Network,
+    names: &Names,
+    cap: u32,
+) -> Result<Decided, Refused>
+    requires some { 1 ≤ cap }
+    requires most { cap ≤ 4194304 }
+    requires well_formed { IsWellFormed (the_network network) }
+    requires named { length names.now ≡ count (the_network network) }
+    ensures decided { IfOk result (IsDecided cap names.now network) }
+    ensures fault { IsErrOf result Refused.ReadFault → ⊥ }
+{
+    let Ok(mut check) = Check::start(alloc, network, cap) else {
+        return Err(Refused::Memory);
+    };
+    match check.run() {
+        Verdict::Yes { load } => {
+            let line = yes_line(alloc, load)?;
+            Ok(Decided::Yes { line, check })
+        }
+        Verdict::No { .. } => {
+            let said = refuted(alloc, &check, names)?;
+            Ok(Decided::Told(said))
+        }
+        Verdict::Full => {
+            let said = full(alloc, cap)?;
+            Ok(Decided::Told(said))
+        }
+    }
+}
+
+// The line after yes.
+fn yes_line(alloc: Global, load: u32) -> Result<Vec<u8>, Refused>
+    ensures line { IfOk result (λ line. line.items ≡ yes_line load) }
+    ensures fault { IsErrOf result Refused.ReadFault → ⊥ }
+{
+    let Ok(line) = format!(in alloc; "yes {load}\n") else {
+        return Err(Refused::Memory);
+    };
+    Ok(line.into_bytes())
+}
+
+// The text of the refutation that a check has found.
+fn refuted(alloc: Global, check: &Check, names: &Names) -> Result<Said, Refused>
+    requires no { (load : ℕ) × (check.now.verdict ≡ Some (No load)) }
+    requires named { length names.now ≡ count (the_network check.now.net) }
+    ensures said { IfOk result (λ said. the_said said ≡ record { outcome = Outcome.Bad; text = shown names.now (load_of (the_network check.now.net)) (part (log_of (the_network check.now.net))) }) }
+    ensures fault { IsErrOf result Refused.ReadFault → ⊥ }
+{
+    let Ok(refutation) = check.refutation(alloc) else {
+        return Err(Refused::Memory);
+    };
+    let Ok(text) = refutation.print(alloc, names) else {
+        return Err(Refused::Memory);
+    };
+    Ok(Said {
+        outcome: Outcome::Bad,
+        text: text.into_bytes(),
+    })
+}
+
+// What is said where the log has more entries than it may.
+fn full(alloc: Global, cap: u32) -> Result<Said, Refused>
+    ensures said { IfOk result (λ said. the_said said ≡ record { outcome = Outcome.Full; text = full_line cap }) }
+    ensures fault { IsErrOf result Refused.ReadFault → ⊥ }
+{
+    let Ok(text) = format!(in alloc; "full {cap}\n") else {
+        return Err(Refused::Memory);
+    };
+    Ok(Said {
+        outcome: Outcome::Full,
+        text: text.into_bytes(),
+    })
+}

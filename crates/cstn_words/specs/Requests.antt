@@ -1,0 +1,124 @@
+-- Which words are a request.
+use Rattle.std.specs.Prelude.{ℕ, Bool, nat_le, nat_eq, ◌&&◌, if◌then◌else◌, List, [], ◌∷◌, length, Option, None, Some, codes}
+use Rattle.std.specs.Option.{option_map, option_and_then, unwrap_or}
+use Rattle.std.specs.Cmp.Lexicographic.{pointwise}
+use Rattle.cstn_text.specs.Numbers.{number_read}
+
+-- the two texts are one
+abbrev pub is_same : List ℕ → List ℕ → Bool
+is_same xs ys = pointwise nat_eq xs ys
+
+-- `FILE [--deadline N]`
+pub record Asked : Type 0 where
+  pub file : List ℕ
+  pub deadline : Option ℕ
+
+-- A request: the file of a document with the deadline that is to hold, and what its command asks for beside; or the number of a
+-- drill.
+pub data Request : Type 0 where
+  check : Asked → ℕ → Request
+  run : Asked → ℕ → Request
+  edit : Asked → ℕ → Request
+  save : Asked → Request
+  replay : Asked → List ℕ → Request
+  drill : ℕ → Request
+
+-- a number from least to most
+abbrev pub number_within : ℕ → ℕ → List ℕ → Option ℕ
+number_within least most text = option_and_then (λ n. if nat_le least n && nat_le n most then Some n else None) (number_read text)
+
+-- the number of an option, if it is there, and the words after it
+pub record Taken : Type 0 where
+  pub value : Option ℕ
+  pub rest : List (List ℕ)
+
+-- the number after an option's name
+abbrev pub value_at : ℕ → ℕ → List (List ℕ) → Option Taken
+value_at least most [] = None
+value_at least most (word ∷ rest) = option_map (λ n. record { value = Some n; rest = rest }) (number_within least most word)
+
+-- an option that the words may begin with
+abbrev pub option_at : List ℕ → ℕ → ℕ → List (List ℕ) → Option Taken
+option_at name least most [] = Some (record { value = None; rest = [] })
+option_at name least most (word ∷ rest) =
+    if is_same word name then value_at least most rest else Some (record { value = None; rest = word ∷ rest })
+
+-- `[--deadline N]`, with N up to 1,000,000
+abbrev pub deadline_at : List (List ℕ) → Option Taken
+deadline_at words = option_at (codes "--deadline") 0 1000000 words
+
+-- `[--cap CAP]`, with CAP from 1 to 4,194,304
+abbrev pub cap_at : List (List ℕ) → Option Taken
+cap_at words = option_at (codes "--cap") 1 4194304 words
+
+-- the number of an option after which no word is left
+abbrev pub last_value : Taken → Option (Option ℕ)
+last_value taken = if nat_eq (length taken.rest) 0 then Some taken.value else None
+
+-- `[--deadline N]` and no more
+abbrev pub deadline_of : List (List ℕ) → Option (Option ℕ)
+deadline_of words = option_and_then last_value (deadline_at words)
+
+-- `[--cap CAP]` and no more; 65,536 where it isn't there
+abbrev pub cap_of : List (List ℕ) → Option ℕ
+cap_of words = option_map (λ cap. unwrap_or cap 65536) (option_and_then last_value (cap_at words))
+
+-- a file, and its deadline
+abbrev pub asked_of : List (List ℕ) → Option Asked
+asked_of [] = None
+asked_of (file ∷ rest) = option_map (λ deadline. record { file = file; deadline = deadline }) (deadline_of rest)
+
+-- a file with its deadline, and how many entries its log may have
+abbrev pub capped_of : List (List ℕ) → Option (Asked × ℕ)
+capped_of [] = None
+capped_of (file ∷ rest) =
+    option_and_then (λ (taken : Taken). option_map (λ cap. (record { file = file; deadline = taken.value }, cap)) (cap_of taken.rest)) (deadline_at rest)
+
+-- a file, the file of a refutation's text, and the deadline of the first
+abbrev pub replay_of : List (List ℕ) → Option Request
+replay_of (file ∷ proof ∷ rest) =
+    option_map (λ deadline. replay (record { file = file; deadline = deadline }) proof) (deadline_of rest)
+replay_of words = None
+
+-- a number below 2 ^ 64
+abbrev pub drill_of : List (List ℕ) → Option Request
+drill_of (number ∷ []) = option_map drill (number_read number)
+drill_of words = None
+
+-- the request of a command with these words after it
+abbrev pub request_at : List ℕ → List (List ℕ) → Option Request
+request_at command rest =
+    if is_same command (codes "check") then option_map (λ found. check found.0 found.1) (capped_of rest)
+    else if is_same command (codes "run") then option_map (λ found. run found.0 found.1) (capped_of rest)
+    else if is_same command (codes "edit") then option_map (λ found. edit found.0 found.1) (capped_of rest)
+    else if is_same command (codes "save") then option_map save (asked_of rest)
+    else if is_same command (codes "replay") then replay_of rest
+    else if is_same command (codes "drill") then drill_of rest else None
+
+-- the request that the words are, if they are one
+abbrev pub request_of : List (List ℕ) → Option Request
+request_of [] = None
+request_of (command ∷ rest) = request_at command rest
+
+-- the files that a request names, in the order of the words
+abbrev pub files_of : Request → List (List ℕ)
+files_of (check asked cap) = asked.file ∷ []
+files_of (run asked cap) = asked.file ∷ []
+files_of (edit asked cap) = asked.file ∷ []
+files_of (save asked) = asked.file ∷ []
+files_of (replay asked proof) = asked.file ∷ proof ∷ []
+files_of (drill number) = []
+
+-- the files that words name
+abbrev pub names_of : Option Request → List (List ℕ)
+names_of None = []
+names_of (Some request) = files_of request
+
+-- an edit session is asked for
+abbrev pub AsksEdit : Request → Type 0
+AsksEdit (check asked cap) = ⊥
+AsksEdit (run asked cap) = ⊥
+AsksEdit (edit asked cap) = Unit {0}
+AsksEdit (save asked) = ⊥
+AsksEdit (replay asked proof) = ⊥
+AsksEdit (drill number) = ⊥

@@ -1,0 +1,212 @@
+// The words of a request.
+ghost use Rattle.std.specs.Prelude.{◌≡◌, ◌≤◌, IfSome, map, string_bytes};
+ghost use Rattle.std.specs.Option.{option_map};
+ghost use Rattle.cstn_words.specs.Requests.{number_within, value_at, option_at, deadline_at, cap_at, deadline_of, cap_of, asked_of, capped_of, replay_of, drill_of, request_of};
+ghost use Rattle.cstn_words.specs.Read.{the_asked, the_capped, the_taken, the_request, IsCapped};
+
+use cstn_text::read_number;
+
+/// `FILE [--deadline N]`
+#[derive(Clone, Copy)]
+pub struct Asked<'a> {
+    pub file: &'a str,
+    pub deadline: Option<u32>,
+}
+
+/// What the words ask for.
+#[derive(Clone, Copy)]
+pub enum Request<'a> {
+    Check { asked: Asked<'a>, cap: u32 },
+    Run { asked: Asked<'a>, cap: u32 },
+    Edit { asked: Asked<'a>, cap: u32 },
+    Save(Asked<'a>),
+    Replay { asked: Asked<'a>, proof: &'a str },
+    Drill(u64),
+}
+
+// The number of an option, if it is there, and the words after it.
+#[derive(Clone, Copy)]
+struct Taken<'a> {
+    value: Option<u64>,
+    rest: &'a [String],
+}
+
+const MAX_DEADLINE: u64 = 1_000_000;
+
+const MAX_CAP: u64 = 4_194_304;
+
+const USUAL_CAP: u32 = 65_536;
+
+/// The request that the words are, if they are one.
+pub fn parse(words: &[String]) -> Option<Request<'_>>
+    ensures request { option_map the_request result ≡ request_of (map string_bytes words.now) }
+    ensures capped { IfSome result IsCapped }
+{
+    let [command, rest @ ..] = words else {
+        return None;
+    };
+    match command.as_str() {
+        "check" => {
+            let (asked, cap) = capped_of(rest)?;
+            Some(Request::Check { asked, cap })
+        }
+        "run" => {
+            let (asked, cap) = capped_of(rest)?;
+            Some(Request::Run { asked, cap })
+        }
+        "edit" => {
+            let (asked, cap) = capped_of(rest)?;
+            Some(Request::Edit { asked, cap })
+        }
+        "save" => Some(Request::Save(asked_of(rest)?)),
+        "replay" => replay_of(rest),
+        "drill" => drill_of(rest),
+        _ => None,
+    }
+}
+
+fn replay_of(words: &[String]) -> Option<Request<'_>>
+    ensures request { option_map the_request result ≡ replay_of (map string_bytes words.now) }
+{
+    let [file, proof, rest @ ..] = words else {
+        return None;
+    };
+    let deadline = deadline_of(rest)?;
+    let asked = Asked {
+        file: file.as_str(),
+        deadline,
+    };
+    Some(Request::Replay {
+        asked,
+        proof: proof.as_str(),
+    })
+}
+
+fn drill_of(words: &[String]) -> Option<Request<'_>>
+    ensures request { option_map the_request result ≡ drill_of (map string_bytes words.now) }
+    ensures capped { IfSome result IsCapped }
+{
+    let [number] = words else {
+        return None;
+    };
+    Some(Request::Drill(read_number(number.as_bytes())?))
+}
+
+fn asked_of(words: &[String]) -> Option<Asked<'_>>
+    ensures asked { option_map the_asked result ≡ asked_of (map string_bytes words.now) }
+{
+    let [file, rest @ ..] = words else {
+        return None;
+    };
+    let deadline = deadline_of(rest)?;
+    Some(Asked {
+        file: file.as_str(),
+        deadline,
+    })
+}
+
+// A file with its deadline, and how many entries its log may have.
+fn capped_of(words: &[String]) -> Option<(Asked<'_>, u32)>
+    ensures capped { option_map the_capped result ≡ capped_of (map string_bytes words.now) }
+    ensures some { IfSome result (λ found. 1 ≤ found.1) }
+    ensures most { IfSome result (λ found. found.1 ≤ MAX_CAP) }
+{
+    let [file, rest @ ..] = words else {
+        return None;
+    };
+    let (deadline, rest) = deadline_at(rest)?;
+    let cap = cap_of(rest)?;
+    let asked = Asked {
+        file: file.as_str(),
+        deadline,
+    };
+    Some((asked, cap))
+}
+
+// The deadline that the words give, perhaps none.
+fn deadline_of(words: &[String]) -> Option<Option<u32>>
+    ensures deadline { result ≡ deadline_of (map string_bytes words.now) }
+{
+    let (deadline, rest) = deadline_at(words)?;
+    if !rest.is_empty() {
+        return None;
+    }
+    Some(deadline)
+}
+
+// The deadline that words begin with, perhaps none, and the words after it.
+fn deadline_at(words: &[String]) -> Option<(Option<u32>, &[String])>
+    ensures taken { option_map (λ t. record { value = t.0; rest = map string_bytes t.1.now }) result ≡ deadline_at (map string_bytes words.now) }
+{
+    let taken = option_at(words, "--deadline", 0, MAX_DEADLINE)?;
+    match taken.value {
+        None => Some((None, taken.rest)),
+        Some(n) => Some((Some(n as u32), taken.rest)),
+    }
+}
+
+// How many entries the log may have by the words.
+fn cap_of(words: &[String]) -> Option<u32>
+    ensures cap { result ≡ cap_of (map string_bytes words.now) }
+    ensures some { IfSome result (λ cap. 1 ≤ cap) }
+    ensures most { IfSome result (λ cap. cap ≤ MAX_CAP) }
+{
+    let taken = option_at(words, "--cap", 1, MAX_CAP)?;
+    if !taken.rest.is_empty() {
+        return None;
+    }
+    match taken.value {
+        None => Some(USUAL_CAP),
+        Some(n) => Some(n as u32),
+    }
+}
+
+// An option that the words may begin with.
+fn option_at<'a>(words: &'a [String], name: &str, least: u64, most: u64) -> Option<Taken<'a>>
+    ensures taken { option_map the_taken result ≡ option_at name.now least most (map string_bytes words.now) }
+    ensures least { IfSome result (λ taken. IfSome taken.value (λ n. least ≤ n)) }
+    ensures most { IfSome result (λ taken. IfSome taken.value (λ n. n ≤ most)) }
+{
+    let [word, rest @ ..] = words else {
+        return Some(Taken {
+            value: None,
+            rest: words,
+        });
+    };
+    if word.as_str() != name {
+        return Some(Taken {
+            value: None,
+            rest: words,
+        });
+    }
+    value_at(rest, least, most)
+}
+
+// The number after an option's name.
+fn value_at(words: &[String], least: u64, most: u64) -> Option<Taken<'_>>
+    ensures taken { option_map the_taken result ≡ value_at least most (map string_bytes words.now) }
+    ensures least { IfSome result (λ taken. IfSome taken.value (λ n. least ≤ n)) }
+    ensures most { IfSome result (λ taken. IfSome taken.value (λ n. n ≤ most)) }
+{
+    let [word, rest @ ..] = words else {
+        return None;
+    };
+    let n = number_within(word.as_bytes(), least, most)?;
+    Some(Taken {
+        value: Some(n),
+        rest,
+    })
+}
+
+// The number of the digits, if it is from `least` to `most`.
+fn number_within(bytes: &[u8], least: u64, most: u64) -> Option<u64>
+    ensures value { result ≡ number_within least most bytes.now }
+    ensures least { IfSome result (λ n. least ≤ n) }
+    ensures most { IfSome result (λ n. n ≤ most) }
+{
+    let number = read_number(bytes)?;
+    if number < least || number > most {
+        return None;
+    }
+    Some(number)
+}
