@@ -1,21 +1,20 @@
 -- What the status of a request tells.
-use Rattle.std.specs.Prelude.{◌≡◌, ◌≤◌, ◌<◌, ◌⊎◌, ℕ, List, [], length, take, get_or, Option, None, Some, IfSome, IsSomeAnd, Result, Ok, Err}
+use Rattle.std.specs.Prelude.{◌≡◌, ◌≤◌, ◌<◌, ◌⊎◌, ℕ, List, [], take, get_or, Option, None, Some, IfSome, IsSomeAnd}
 use Rattle.cstn_io.specs.Contents.{IsAllOf}
-use Rattle.cstn_net.specs.Networks.{Network, IsWellFormed}
+use Rattle.cstn_net.specs.Networks.{Network}
 use Rattle.cstn_net.specs.Strategies.{IsConsistent}
-use Rattle.cstn_graphml.specs.Results.{Refusal}
-use Rattle.cstn_graphml.specs.Document.{Parts, document}
-use Rattle.cstn_graphml.specs.Networks.{network_of}
 use Rattle.cstn_rules.specs.Derivations.{IsRefutation}
 use Rattle.cstn_check.specs.Growth.{load_of}
 use Rattle.cstn_lines.specs.Pieces.{lines_of}
 use Rattle.cstn_refute.specs.Texts.{Told, tells, wrong, told as told_by}
 use Rattle.cstn_words.specs.Requests.{Request, check, run, edit, save, replay, drill, files_of}
 use Rattle.cstn_reply.specs.Files.{AreContents}
-use Rattle.cstn_top.specs.Drills.{unrefuted, AreConsistent}
-use Rattle.cstn_talk.specs.Editing.{begun_editing, last_checked}
 use Rattle.cstn_reply.specs.declared.status.Status.{Status}
 use Rattle.cstn_reply.specs.declared.status.Status.TheVariants.{Good, Bad, Words, Document, Full, ReadFault, WriteFault, Memory, Unfinished, Script}
+use Rattle.cstn_verdict.specs.Documents.{HasNetwork, IsRefused}
+use Rattle.cstn_verdict.specs.Verdicts.{IsYes, IsNo}
+use Rattle.cstn_talk.specs.Editing.{begun_editing, last_checked}
+use Rattle.cstn_top.specs.Drills.{unrefuted, AreConsistent}
 
 -- the words are a request, and it holds of the request and the contents of its files
 abbrev pub HoldsOf : Option Request → Option (List ℕ → Option (List ℕ)) → (Request → List (List ℕ) → Type 0) → Type 0

@@ -1,28 +1,16 @@
 -- What each request says.
-use Rattle.std.specs.Prelude.{ℕ, ◌-◌, Bool, false, nat_lt, if◌then◌else◌, List, [], ◌++◌, length, map, slice_get, get_or, Option, None, Some, codes, decimal, Result, Ok, Err}
-use Rattle.cstn_net.specs.Networks.{Network, count}
-use Rattle.cstn_graphml.specs.Results.{Refusal}
-use Rattle.cstn_graphml.specs.Document.{Parts, document}
-use Rattle.cstn_graphml.specs.Networks.{network_of}
+use Rattle.std.specs.Prelude.{ℕ, nat_lt, if◌then◌else◌, List, [], ◌++◌, length, get_or, Option, None, Some, codes, decimal}
+use Rattle.cstn_net.specs.Networks.{Network}
 use Rattle.cstn_save.specs.Canonical.{canonical}
-use Rattle.cstn_rules.specs.Derivations.{Entry}
-use Rattle.cstn_log.specs.Cuts.{part}
-use Rattle.cstn_check.specs.Tests.{refutes}
-use Rattle.cstn_check.specs.Growth.{log_of, load_of, live_bounds}
-use Rattle.cstn_check.specs.declared.verdicts.Verdict.{Verdict}
-use Rattle.cstn_check.specs.declared.verdicts.Verdict.TheVariants.{Yes, No, Full as IsFull}
-use Rattle.cstn_refute.specs.Texts.{Told, tells, wrong, shown, told as told_by}
-use Rattle.cstn_exec.specs.Runs.{start}
-use Rattle.cstn_text.specs.PrintedNames.{printed_name}
-use Rattle.cstn_reply.specs.Texts.{yes_line, full_line}
+use Rattle.cstn_refute.specs.Texts.{Told, tells, wrong, told as told_by}
 use Rattle.cstn_words.specs.Requests.{Request, check, run, edit, save, replay, drill}
-use Rattle.cstn_reply.specs.Refusals.{refusal_text}
-use Rattle.cstn_reply.specs.Plans.{Said, say, Plan, says, replays, judges}
-use Rattle.cstn_reply.specs.Sessions.{session}
+use Rattle.cstn_reply.specs.Plans.{Said, say, Plan, says, replays}
+use Rattle.cstn_reply.specs.declared.output.Outcome.TheVariants.{Good, Words, Script}
+use Rattle.cstn_verdict.specs.Documents.{Answer, on_document}
+use Rattle.cstn_verdict.specs.Verdicts.{verdict, checked}
+use Rattle.cstn_talk.specs.Running.{carried_out}
+use Rattle.cstn_talk.specs.Editing.{edited}
 use Rattle.cstn_top.specs.Drills.{large, counts_of, small_line, large_line}
-use Rattle.cstn_talk.specs.Running.{run_turn, run_ending}
-use Rattle.cstn_talk.specs.Editing.{begun_editing, edit_turn, edit_ending}
-use Rattle.cstn_reply.specs.declared.output.Outcome.TheVariants.{Good, Bad, Words, Document, Full, Script}
 
 -- what `save` says of a network: its canonical document
 abbrev pub saved : Answer
