@@ -1,10 +1,10 @@
 -- How values of the program are read.
 use Rattle.std.specs.Prelude.{ℕ, ◌≤◌, map, string_bytes}
-use Rattle.cstn_words.specs.Requests.{Asked, Taken, Request, check, run, edit, save, replay, drill}
+use Rattle.cstn_words.specs.Requests.{Asked, Taken, Request, check, run, edit, closed, tight, conflict, save, replay, closedcheck, drill}
 use Rattle.cstn_words.specs.declared.words.Asked.{Asked as AskedWords}
 use Rattle.cstn_words.specs.declared.words.Taken.{Taken as TakenWords}
 use Rattle.cstn_words.specs.declared.words.Request.{Request as RequestWords}
-use Rattle.cstn_words.specs.declared.words.Request.TheVariants.{Check, Run, Edit, Save, Replay, Drill}
+use Rattle.cstn_words.specs.declared.words.Request.TheVariants.{Check, Run, Edit, Closed, Tight, Conflict, Save, Replay, Closedcheck, Drill}
 
 -- what is asked
 abbrev pub the_asked : AskedWords → Asked
@@ -22,8 +22,12 @@ abbrev pub the_request : RequestWords → Request
 the_request (Check asked cap) = check (the_asked asked) cap
 the_request (Run asked cap) = run (the_asked asked) cap
 the_request (Edit asked cap) = edit (the_asked asked) cap
+the_request (Closed asked cap) = closed (the_asked asked) cap
+the_request (Tight asked cap) = tight (the_asked asked) cap
+the_request (Conflict asked cap) = conflict (the_asked asked) cap
 the_request (Save asked) = save (the_asked asked)
 the_request (Replay asked proof) = replay (the_asked asked) proof.now
+the_request (Closedcheck asked proof) = closedcheck (the_asked asked) proof.now
 the_request (Drill number) = drill number
 
 -- the log may have from 1 to 4,194,304 entries
@@ -31,6 +35,10 @@ abbrev pub IsCapped : RequestWords → Type 0
 IsCapped (Check asked cap) = (1 ≤ cap) × (cap ≤ 4194304)
 IsCapped (Run asked cap) = (1 ≤ cap) × (cap ≤ 4194304)
 IsCapped (Edit asked cap) = (1 ≤ cap) × (cap ≤ 4194304)
+IsCapped (Closed asked cap) = (1 ≤ cap) × (cap ≤ 4194304)
+IsCapped (Tight asked cap) = (1 ≤ cap) × (cap ≤ 4194304)
+IsCapped (Conflict asked cap) = (1 ≤ cap) × (cap ≤ 4194304)
 IsCapped (Save asked) = Unit {0}
 IsCapped (Replay asked proof) = Unit {0}
+IsCapped (Closedcheck asked proof) = Unit {0}
 IsCapped (Drill number) = Unit {0}

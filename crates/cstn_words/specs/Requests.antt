@@ -19,8 +19,12 @@ pub data Request : Type 0 where
   check : Asked → ℕ → Request
   run : Asked → ℕ → Request
   edit : Asked → ℕ → Request
+  closed : Asked → ℕ → Request
+  tight : Asked → ℕ → Request
+  conflict : Asked → ℕ → Request
   save : Asked → Request
   replay : Asked → List ℕ → Request
+  closedcheck : Asked → List ℕ → Request
   drill : ℕ → Request
 
 -- a number from least to most
@@ -74,26 +78,35 @@ capped_of [] = None
 capped_of (file ∷ rest) =
     option_and_then (λ (taken : Taken). option_map (λ cap. (record { file = file; deadline = taken.value }, cap)) (cap_of taken.rest)) (deadline_at rest)
 
--- a file, the file of a refutation's text, and the deadline of the first
-abbrev pub replay_of : List (List ℕ) → Option Request
-replay_of (file ∷ proof ∷ rest) =
-    option_map (λ deadline. replay (record { file = file; deadline = deadline }) proof) (deadline_of rest)
-replay_of words = None
+-- a file, the file of a text that speaks of its network, and the deadline of the first
+abbrev pub checked_of : List (List ℕ) → Option (Asked × List ℕ)
+checked_of (file ∷ proof ∷ rest) =
+    option_map (λ deadline. (record { file = file; deadline = deadline }, proof)) (deadline_of rest)
+checked_of words = None
 
 -- a number below 2 ^ 64
 abbrev pub drill_of : List (List ℕ) → Option Request
 drill_of (number ∷ []) = option_map drill (number_read number)
 drill_of words = None
 
+-- the request of a command that asks for a file and says how many entries a log may have
+abbrev pub capped_at : List ℕ → Asked × ℕ → Option Request
+capped_at command found =
+    if is_same command (codes "check") then Some (check found.0 found.1)
+    else if is_same command (codes "run") then Some (run found.0 found.1)
+    else if is_same command (codes "edit") then Some (edit found.0 found.1)
+    else if is_same command (codes "closed") then Some (closed found.0 found.1)
+    else if is_same command (codes "tight") then Some (tight found.0 found.1)
+    else if is_same command (codes "conflict") then Some (conflict found.0 found.1) else None
+
 -- the request of a command with these words after it
 abbrev pub request_at : List ℕ → List (List ℕ) → Option Request
 request_at command rest =
-    if is_same command (codes "check") then option_map (λ found. check found.0 found.1) (capped_of rest)
-    else if is_same command (codes "run") then option_map (λ found. run found.0 found.1) (capped_of rest)
-    else if is_same command (codes "edit") then option_map (λ found. edit found.0 found.1) (capped_of rest)
-    else if is_same command (codes "save") then option_map save (asked_of rest)
-    else if is_same command (codes "replay") then replay_of rest
-    else if is_same command (codes "drill") then drill_of rest else None
+    if is_same command (codes "save") then option_map save (asked_of rest)
+    else if is_same command (codes "replay") then option_map (λ found. replay found.0 found.1) (checked_of rest)
+    else if is_same command (codes "closedcheck") then option_map (λ found. closedcheck found.0 found.1) (checked_of rest)
+    else if is_same command (codes "drill") then drill_of rest
+    else option_and_then (capped_at command) (capped_of rest)
 
 -- the request that the words are, if they are one
 abbrev pub request_of : List (List ℕ) → Option Request
@@ -105,8 +118,12 @@ abbrev pub files_of : Request → List (List ℕ)
 files_of (check asked cap) = asked.file ∷ []
 files_of (run asked cap) = asked.file ∷ []
 files_of (edit asked cap) = asked.file ∷ []
+files_of (closed asked cap) = asked.file ∷ []
+files_of (tight asked cap) = asked.file ∷ []
+files_of (conflict asked cap) = asked.file ∷ []
 files_of (save asked) = asked.file ∷ []
 files_of (replay asked proof) = asked.file ∷ proof ∷ []
+files_of (closedcheck asked proof) = asked.file ∷ proof ∷ []
 files_of (drill number) = []
 
 -- the files that words name
@@ -116,9 +133,5 @@ names_of (Some request) = files_of request
 
 -- an edit session is asked for
 abbrev pub AsksEdit : Request → Type 0
-AsksEdit (check asked cap) = ⊥
-AsksEdit (run asked cap) = ⊥
 AsksEdit (edit asked cap) = Unit {0}
-AsksEdit (save asked) = ⊥
-AsksEdit (replay asked proof) = ⊥
-AsksEdit (drill number) = ⊥
+AsksEdit request = ⊥

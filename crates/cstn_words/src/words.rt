@@ -1,7 +1,7 @@
 // The words of a request.
 ghost use Rattle.std.specs.Prelude.{◌≡◌, ◌≤◌, IfSome, map, string_bytes};
-ghost use Rattle.std.specs.Option.{option_map};
-ghost use Rattle.cstn_words.specs.Requests.{number_within, value_at, option_at, deadline_at, cap_at, deadline_of, cap_of, asked_of, capped_of, replay_of, drill_of, request_of};
+ghost use Rattle.std.specs.Option.{option_map, option_and_then};
+ghost use Rattle.cstn_words.specs.Requests.{number_within, value_at, option_at, deadline_at, cap_at, deadline_of, cap_of, asked_of, capped_of, capped_at, checked_of, drill_of, request_at, request_of};
 ghost use Rattle.cstn_words.specs.Read.{the_asked, the_capped, the_taken, the_request, IsCapped};
 
 use cstn_text::read_number;
@@ -19,8 +19,12 @@ pub enum Request<'a> {
     Check { asked: Asked<'a>, cap: u32 },
     Run { asked: Asked<'a>, cap: u32 },
     Edit { asked: Asked<'a>, cap: u32 },
+    Closed { asked: Asked<'a>, cap: u32 },
+    Tight { asked: Asked<'a>, cap: u32 },
+    Conflict { asked: Asked<'a>, cap: u32 },
     Save(Asked<'a>),
     Replay { asked: Asked<'a>, proof: &'a str },
+    Closedcheck { asked: Asked<'a>, proof: &'a str },
     Drill(u64),
 }
 
@@ -45,28 +49,59 @@ pub fn parse(words: &[String]) -> Option<Request<'_>>
     let [command, rest @ ..] = words else {
         return None;
     };
-    match command.as_str() {
-        "check" => {
-            let (asked, cap) = capped_of(rest)?;
-            Some(Request::Check { asked, cap })
-        }
-        "run" => {
-            let (asked, cap) = capped_of(rest)?;
-            Some(Request::Run { asked, cap })
-        }
-        "edit" => {
-            let (asked, cap) = capped_of(rest)?;
-            Some(Request::Edit { asked, cap })
-        }
+    request_at(command.as_str(), rest)
+}
+
+// The request of a command with these words after it.
+fn request_at<'a>(command: &str, rest: &'a [String]) -> Option<Request<'a>>
+    ensures request { option_map the_request result ≡ request_at command.now (map string_bytes rest.now) }
+    ensures capped { IfSome result IsCapped }
+{
+    match command {
         "save" => Some(Request::Save(asked_of(rest)?)),
-        "replay" => replay_of(rest),
+        "replay" => {
+            let (asked, proof) = checked_of(rest)?;
+            Some(Request::Replay { asked, proof })
+        }
+        "closedcheck" => {
+            let (asked, proof) = checked_of(rest)?;
+            Some(Request::Closedcheck { asked, proof })
+        }
         "drill" => drill_of(rest),
+        command => capped_request(command, rest),
+    }
+}
+
+// The request of a command with these words after it that say a file and how many entries a log may have.
+fn capped_request<'a>(command: &str, words: &'a [String]) -> Option<Request<'a>>
+    ensures request { option_map the_request result ≡ option_and_then (capped_at command.now) (capped_of (map string_bytes words.now)) }
+    ensures capped { IfSome result IsCapped }
+{
+    let (asked, cap) = capped_of(words)?;
+    capped_at(command, asked, cap)
+}
+
+// The request of a command that asks for a file and says how many entries a log may have.
+fn capped_at<'a>(command: &str, asked: Asked<'a>, cap: u32) -> Option<Request<'a>>
+    requires some { 1 ≤ cap }
+    requires most { cap ≤ MAX_CAP }
+    ensures request { option_map the_request result ≡ capped_at command.now (the_asked asked.entry, cap) }
+    ensures capped { IfSome result IsCapped }
+{
+    match command {
+        "check" => Some(Request::Check { asked, cap }),
+        "run" => Some(Request::Run { asked, cap }),
+        "edit" => Some(Request::Edit { asked, cap }),
+        "closed" => Some(Request::Closed { asked, cap }),
+        "tight" => Some(Request::Tight { asked, cap }),
+        "conflict" => Some(Request::Conflict { asked, cap }),
         _ => None,
     }
 }
 
-fn replay_of(words: &[String]) -> Option<Request<'_>>
-    ensures request { option_map the_request result ≡ replay_of (map string_bytes words.now) }
+// A file with its deadline, and the file of a text that speaks of its network.
+fn checked_of(words: &[String]) -> Option<(Asked<'_>, &str)>
+    ensures checked { option_map (λ found. (the_asked found.0, found.1.now)) result ≡ checked_of (map string_bytes words.now) }
 {
     let [file, proof, rest @ ..] = words else {
         return None;
@@ -76,10 +111,7 @@ fn replay_of(words: &[String]) -> Option<Request<'_>>
         file: file.as_str(),
         deadline,
     };
-    Some(Request::Replay {
-        asked,
-        proof: proof.as_str(),
-    })
+    Some((asked, proof.as_str()))
 }
 
 fn drill_of(words: &[String]) -> Option<Request<'_>>
