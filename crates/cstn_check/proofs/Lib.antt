@@ -7,6 +7,7 @@ pub mod Closes
 pub mod Bounded
 pub mod Last
 pub mod Decides
+pub mod InRange
 mod Examples
 pub mod Ends
 pub mod Reading

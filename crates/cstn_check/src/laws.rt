@@ -1,5 +1,6 @@
 // Laws of growth.
 ghost use Rattle.std.specs.Prelude.{ℕ, ◌≡◌, ◌<◌, ◌≤◌, ◌-◌, ◌+◌, ◌++◌, ◌↔◌, true, false, length, slice_get, List, [], ◌∷◌, Some, None};
+ghost use Rattle.std.specs.List.{Contains};
 ghost use Rattle.cstn_label.specs.declared.marks.Mark.TheVariants.{Absent, No};
 ghost use Rattle.cstn_label.specs.Labels.{Scenario, empty};
 ghost use Rattle.cstn_label.specs.Bounds.{Bound};
@@ -7,7 +8,7 @@ ghost use Rattle.cstn_net.specs.Networks.{Network, IsNetwork, IsWellFormed, coun
 ghost use Rattle.cstn_net.specs.Strategies.{Table, IsStrategy, IsConsistent, IsLeast};
 ghost use Rattle.cstn_rules.specs.Closed.{IsClosed};
 ghost use Rattle.cstn_rules.specs.Derivations.{Entry, IsDerivation};
-ghost use Rattle.cstn_rules.specs.Rules.{Refutes};
+ghost use Rattle.cstn_rules.specs.Rules.{Refutes, IsBoundOf};
 ghost use Rattle.cstn_log.specs.Entries.{bases};
 ghost use Rattle.cstn_check.specs.Examples.{HasLog, Shows, of_two_marks, after, before, prompt, branch_and, crossed_and, unknown_mark, process, drawn, crossed_lines, unknown_mark_lines, process_lines};
 ghost use Rattle.cstn_check.specs.Growth.{grown, grow, log_of, load_of, most_entries, is_refuted, live_bounds};
@@ -33,6 +34,11 @@ pub fn growth_decides()
     ensures closed { (net : Network) → IsWellFormed net → is_refuted net (log_of net) ≡ false → IsClosed net (live_bounds (log_of net)) }
     ensures decides { (net : Network) → IsWellFormed net → (IsConsistent net ↔ (is_refuted net (log_of net) ≡ false)) }
     ensures least { (net : Network) → IsWellFormed net → IsConsistent net → (table : Table) × IsStrategy net table × ((s : Scenario) (x : ℕ) → x < count net → IsLeast net s x (table s x)) }
+{}
+
+/// The bounds of the live entries are at time-points of the network, with least values from 0 to the limit + 1.
+pub fn live_bounds_are_in_range()
+    ensures ranged { (net : Network) → IsWellFormed net → (b : Bound) → Contains (live_bounds (log_of net)) b → IsBoundOf net b }
 {}
 
 /// The loads of small networks, and whether their logs refute.

@@ -50,9 +50,8 @@ IsYes cap net = IsConsistent net × (load_of net ≤ cap)
 abbrev pub IsNo : ℕ → Network → Type 0
 IsNo cap net = (IsConsistent net → ⊥) × (load_of net ≤ cap)
 
--- the verdict on a network is yes, with its line, or this is said of it
+-- the verdict on a network is yes, with its load, or this is said of it
 abbrev pub IsDecided : ℕ → List (List ℕ) → NetworkParts → Decided → Type 0
-IsDecided cap names network (SaysYes line check) =
-    (verdict cap (the_network network) ≡ Yes (load_of (the_network network))) × (line.items ≡ yes_line (load_of (the_network network))) × (check.net ≡ network) × ((load : ℕ) × (check.verdict ≡ Some (Yes load)))
+IsDecided cap names network (SaysYes load check) =
+    (verdict cap (the_network network) ≡ Yes (load_of (the_network network))) × (load ≡ load_of (the_network network)) × (check.net ≡ network) × (check.verdict ≡ Some (Yes load))
 IsDecided cap names network (Told said) = (after_yes : Plan) → on_verdict cap names (the_network network) after_yes (verdict cap (the_network network)) ≡ says (the_said said)
-

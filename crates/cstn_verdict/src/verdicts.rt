@@ -20,8 +20,8 @@ use std::alloc::Global;
 /// The verdict on a network.
 #[derive(Drop)]
 pub enum Decided {
-    /// Yes, with its line.
-    Yes { line: Vec<u8>, check: Check },
+    /// Yes, with the load of the check.
+    Yes { load: u32, check: Check },
     /// What is said after no, or where the log is full.
     Told(Said),
 }
@@ -44,10 +44,7 @@ pub fn decide(
         return Err(Refused::Memory);
     };
     match check.run() {
-        Verdict::Yes { load } => {
-            let line = yes_line(alloc, load)?;
-            Ok(Decided::Yes { line, check })
-        }
+        Verdict::Yes { load } => Ok(Decided::Yes { load, check }),
         Verdict::No { .. } => {
             let said = refuted(alloc, &check, names)?;
             Ok(Decided::Told(said))
@@ -59,8 +56,8 @@ pub fn decide(
     }
 }
 
-// The line after yes.
-fn yes_line(alloc: Global, load: u32) -> Result<Vec<u8>, Refused>
+/// The line after yes.
+pub fn yes_line(alloc: Global, load: u32) -> Result<Vec<u8>, Refused>
     ensures line { IfOk result (λ line. line.items ≡ yes_line load) }
     ensures fault { IsErrOf result Refused.ReadFault → ⊥ }
 {

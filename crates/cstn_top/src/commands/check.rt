@@ -14,7 +14,7 @@ use cstn_io::Shelf;
 use cstn_net::Network;
 use cstn_text::Names;
 use cstn_reply::{Outcome, Refused, Said};
-use cstn_verdict::{Decided, Opened, decide, open};
+use cstn_verdict::{Decided, Opened, decide, open, yes_line};
 use cstn_words::Asked;
 use std::alloc::Global;
 
@@ -48,10 +48,13 @@ fn judge(alloc: Global, network: Network, names: &Names, cap: u32) -> Result<Sai
     ensures fault { IsErrOf result Refused.ReadFault → ⊥ }
 {
     match decide(alloc, network, names, cap) {
-        Ok(Decided::Yes { line, .. }) => Ok(Said {
-            outcome: Outcome::Good,
-            text: line,
-        }),
+        Ok(Decided::Yes { load, .. }) => {
+            let text = yes_line(alloc, load)?;
+            Ok(Said {
+                outcome: Outcome::Good,
+                text,
+            })
+        }
         Ok(Decided::Told(said)) => Ok(said),
         Err(refused) => Err(refused),
     }

@@ -5,7 +5,6 @@ ghost use Rattle.cstn_net.specs.Networks.{IsWellFormed, count};
 ghost use Rattle.cstn_net.specs.Read.{the_network};
 ghost use Rattle.cstn_check.specs.Growth.{load_of};
 ghost use Rattle.cstn_check.specs.declared.verdicts.Verdict.TheVariants.{Yes};
-ghost use Rattle.cstn_reply.specs.Texts.{yes_line};
 ghost use Rattle.cstn_words.specs.Requests.{Request, run};
 ghost use Rattle.cstn_reply.specs.Plans.{ComesTo};
 ghost use Rattle.cstn_top.specs.Prepared.{the_plan, Planned, FitsRequest};
@@ -21,7 +20,7 @@ use cstn_net::Network;
 use cstn_text::Names;
 use cstn_reply::{Refused};
 use cstn_talk::Running;
-use cstn_verdict::{Decided, Opened, decide, open};
+use cstn_verdict::{Decided, Opened, decide, open, yes_line};
 use cstn_words::Asked;
 use std::alloc::Global;
 
@@ -57,7 +56,7 @@ fn prepare(alloc: Global, network: Network, names: &Names, cap: u32) -> Result<P
     ensures fault { IsErrOf result Refused.ReadFault → ⊥ }
 {
     match decide(alloc, network, names, cap) {
-        Ok(Decided::Yes { line, check }) => begin(alloc, line, check, names, cap),
+        Ok(Decided::Yes { load, check }) => begin(alloc, load, check, names, cap),
         Ok(Decided::Told(said)) => Ok(Prepared::Says(said)),
         Err(refused) => Err(refused),
     }
@@ -66,28 +65,26 @@ fn prepare(alloc: Global, network: Network, names: &Names, cap: u32) -> Result<P
 // The run of the plan that a yes leaves. All memory for the answers is taken here.
 fn begin(
     alloc: Global,
-    line: Vec<u8>,
+    load: u32,
     check: Check,
     names: &Names,
     cap: u32,
 ) -> Result<Prepared, Refused>
     requires yes { (load : ℕ) × (check.verdict ≡ Some (Yes load)) }
     requires verdict { verdict cap (the_network check.net) ≡ Yes (load_of (the_network check.net)) }
-    requires line { line.items ≡ yes_line (load_of (the_network check.net)) }
+    requires load { load ≡ load_of (the_network check.net) }
     requires named { length names.now ≡ count (the_network check.net) }
     requires few { length names.now ≤ 1024 }
     ensures comes { IfOk result (λ prepared. ComesTo (carried_out cap names.now (the_network check.net)) (the_plan prepared)) }
     ensures fits { IfOk result (λ prepared. (request : Request) → FitsRequest request prepared) }
     ensures fault { IsErrOf result Refused.ReadFault → ⊥ }
 {
+    let opening = yes_line(alloc, load)?;
     let Ok(executive) = Executive::start(alloc, check.into_plan()) else {
         return Err(Refused::Memory);
     };
     let Ok(running) = Running::start(alloc, executive, names) else {
         return Err(Refused::Memory);
     };
-    Ok(Prepared::Runs {
-        opening: line,
-        running,
-    })
+    Ok(Prepared::Runs { opening, running })
 }

@@ -4,13 +4,13 @@ use Rattle.cstn_reply.specs.Read.{the_said}
 use Rattle.cstn_verdict.proofs.Deciding.{yes_decided, no_decided}
 use Rattle.cstn_verdict.proofs.verdicts.decide.Goals as goal
 
-pub returns-in_ok-line-in-Yes-clause-decided : goal.returns-in_ok-line-in-Yes-clause-decided
-returns-in_ok-line-in-Yes-clause-decided c =
-    let decided = yes_decided c.args.cap c.in-Yes.load c.args.network c.in_ok-line-in-Yes.line.items c.in-Ok.check c.requires.well_formed c.in-Ok.ensures.start c.in-Yes.ensures.yes c.in_ok-line-in-Yes.ensures.line in (
+pub returns-in-Yes-clause-decided : goal.returns-in-Yes-clause-decided
+returns-in-Yes-clause-decided c =
+    let decided = yes_decided c.args.cap c.in-Yes.load c.args.network c.in-Ok.check c.requires.well_formed c.in-Ok.ensures.start c.in-Yes.ensures.yes in (
       decided.0,
       decided.1,
       ap (λ (s : CheckParts). s.net) c.in-Yes.ensures.answered ∙ ap (λ (s : CheckParts). s.net) c.in-Ok.ensures.start,
-      (c.in-Yes.load, ap (λ (s : CheckParts). s.verdict) c.in-Yes.ensures.answered),
+      ap (λ (s : CheckParts). s.verdict) c.in-Yes.ensures.answered,
     )
 
 pub returns-in_ok-said-in-No-clause-decided : goal.returns-in_ok-said-in-No-clause-decided
