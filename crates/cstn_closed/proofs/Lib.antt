@@ -1,0 +1,5 @@
+mod ListLemmas
+mod WalkLemmas
+mod PlaceLemmas
+mod FaultLemmas
+mod InstanceLemmas

@@ -1,0 +1,46 @@
+-- What a list has, and where.
+use Rattle.std.proofs.Common.{ℕ, ◌≡◌, ◌+◌, ◌≤◌, ◌<◌, List, Some, length, arith, inl, inr, ap, ◌∙◌, subst}
+use Rattle.std.specs.Prelude.{slice_get, map, option_map}
+use Rattle.std.specs.List.{Contains}
+use Rattle.std.proofs.lemmas.Bool.{cases_lt}
+use Rattle.std.proofs.lemmas.Option.{slice_get-map, slice_get_within, slice_get-get_or, get_or_from_slice_get}
+use Rattle.cstn_label.specs.declared.bounds.Bound.{Bound as Declared}
+use Rattle.cstn_label.specs.Bounds.{Bound}
+use Rattle.cstn_label.specs.Read.{the_bound}
+use Rattle.cstn_net.specs.Networks.{Network}
+use Rattle.cstn_log.proofs.ListLemmas.{one_there}
+use Rattle.cstn_closed.specs.Faults.{IsFit}
+use Rattle.cstn_closed.specs.Instances.{AreFit, IsSoBefore}
+
+pub there_is : {X : Type 0} (xs : List X) (x : X) → Contains xs x → (k : ℕ) × (slice_get xs k ≡ Some x)
+there_is xs x has = (has.0, slice_get-get_or xs has.0 x has.1 ∙ ap Some has.2)
+
+pub is_there : {X : Type 0} (xs : List X) (k : ℕ) (x : X) → slice_get xs k ≡ Some x → Contains xs x
+is_there xs k x there = (k, slice_get_within xs k x there, get_or_from_slice_get xs k x x there)
+
+pub so_none : (P : Bound → Type 0) (bounds : List Bound) → IsSoBefore P bounds 0
+so_none P bounds j b h there = absurd (omega arith)
+
+pub so_more : (P : Bound → Type 0) (bounds : List Bound) (i : ℕ) → IsSoBefore P bounds i → ((b : Bound) → slice_get bounds i ≡ Some b → P b) →
+    IsSoBefore P bounds (i + 1)
+so_more P bounds i before here j b h there = elim (cases_lt j i) [
+  | inl earlier ↦ before j b earlier there
+  | inr past ↦ let same : j ≡ i = omega arith in here b (subst (λ k. slice_get bounds k ≡ Some b) same there)
+]
+
+pub so_all : (P : Bound → Type 0) (bounds : List Bound) (n : ℕ) → length bounds ≤ n → IsSoBefore P bounds n → (b : Bound) → Contains bounds b → P b
+so_all P bounds n long before b has =
+    let there = there_is bounds b has in
+    let within = slice_get_within bounds there.0 b there.1 in
+    before there.0 b (omega arith) there.1
+
+-- the bound at a place, as it stands for one
+pub image_there : (bounds : List Declared) (i : ℕ) (b : Declared) → slice_get bounds i ≡ Some b → slice_get (map the_bound bounds) i ≡ Some (the_bound b)
+image_there bounds i b there = slice_get-map the_bound bounds i ∙ ap (option_map the_bound) there
+
+pub so_here : (P : Bound → Type 0) (bounds : List Declared) (i : ℕ) (b : Declared) → slice_get bounds i ≡ Some b → P (the_bound b) →
+    (d : Bound) → slice_get (map the_bound bounds) i ≡ Some d → P d
+so_here P bounds i b there so d at = subst P (one_there (map the_bound bounds) i (the_bound b) d (image_there bounds i b there) at) so
+
+pub fit_here : (net : Network) (bounds : List Declared) (i : ℕ) (b : Declared) → AreFit net (map the_bound bounds) → slice_get bounds i ≡ Some b → IsFit net (the_bound b)
+fit_here net bounds i b fit there = fit (the_bound b) (is_there (map the_bound bounds) i (the_bound b) (image_there bounds i b there))

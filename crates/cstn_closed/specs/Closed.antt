@@ -1,0 +1,20 @@
+-- Lists of bounds with the load of the check that gave them.
+use Rattle.std.specs.Prelude.{ℕ, ◌<◌, ◌^◌, List, length, map}
+use Rattle.cstn_label.specs.declared.bounds.Bound.{Bound}
+use Rattle.cstn_label.specs.Bounds.{Bound as TheBound}
+use Rattle.cstn_label.specs.Read.{the_bound}
+use Rattle.cstn_closed.specs.Places.{ArePlaces, nodes}
+
+-- a load, and bounds at places from 0
+pub record ClosedParts : Type 0 where
+  pub load : ℕ
+  pub bounds : List Bound
+
+-- the bounds that the list stands for
+abbrev pub the_bounds : ClosedParts → List TheBound
+the_bounds c = map the_bound c.bounds
+
+-- the bounds can be counted in 32 bits, and are found by their time-points
+pub record IsKept (bounds : List Bound) (firsts nexts : List ℕ) : Type 0 where
+  pub few : length bounds < 2 ^ 32
+  pub places : ArePlaces (nodes bounds) firsts nexts

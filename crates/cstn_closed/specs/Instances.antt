@@ -1,0 +1,46 @@
+-- What a list of bounds covers, instance by instance.
+use Rattle.std.specs.Prelude.{ℕ, ◌≡◌, ◌<◌, List, Some, slice_get}
+use Rattle.std.specs.List.{Contains}
+use Rattle.cstn_label.specs.Bounds.{Bound}
+use Rattle.cstn_net.specs.Networks.{Network, Constraint, count}
+use Rattle.cstn_rules.specs.Rules.{IsChain, IsWait, base}
+use Rattle.cstn_rules.specs.Closed.{IsCovered}
+use Rattle.cstn_closed.specs.Faults.{Fault, IsFault, IsFit, kind, place, other, IsBefore}
+
+-- each bound of the list fits the network
+abbrev pub AreFit : Network → List Bound → Type 0
+AreFit net bounds = (b : Bound) → Contains bounds b → IsFit net b
+
+-- the base bounds are covered
+abbrev pub AreBasesCovered : Network → List Bound → Type 0
+AreBasesCovered net bounds = (x : ℕ) → x < count net → IsCovered bounds (base x)
+
+-- what chain gives of a constraint and the bound is covered
+abbrev pub IsChainCovered : Network → List Bound → Constraint → Bound → Type 0
+IsChainCovered net bounds c b = (r : Bound) → IsChain net c b r → IsCovered bounds r
+
+-- and so for each constraint
+abbrev pub AreChainsCovered : Network → List Bound → Bound → Type 0
+AreChainsCovered net bounds b = (c : Constraint) → Contains net.constraints c → IsChainCovered net bounds c b
+
+-- what wait gives of the two bounds is covered
+abbrev pub IsWaitCovered : Network → List Bound → Bound → Bound → Type 0
+IsWaitCovered net bounds seen b = (p : ℕ) (r : Bound) → IsWait net p seen b r → IsCovered bounds r
+
+-- and so for each other bound of the list
+abbrev pub AreWaitsCovered : Network → List Bound → Bound → Type 0
+AreWaitsCovered net bounds seen = (b : Bound) → Contains bounds b → IsWaitCovered net bounds seen b
+
+-- the bound at each place before i is one of which P holds
+abbrev pub IsSoBefore : (Bound → Type 0) → List Bound → ℕ → Type 0
+IsSoBefore P bounds i = (j : ℕ) (b : Bound) → j < i → slice_get bounds j ≡ Some b → P b
+
+-- a fault of the list, before which it has none of the kind
+pub record IsFirstOfKind (net : Network) (bounds : List Bound) (f : Fault) : Type 0 where
+  pub fault : IsFault net bounds f
+  pub before : (g : Fault) → kind g ≡ kind f → IsBefore g f → IsFault net bounds g → ⊥
+
+-- a fault of the list, before which it has none of the kind and of the same place
+pub record IsFirstThere (net : Network) (bounds : List Bound) (f : Fault) : Type 0 where
+  pub fault : IsFault net bounds f
+  pub before : (g : Fault) → kind g ≡ kind f → place g ≡ place f → other g < other f → IsFault net bounds g → ⊥

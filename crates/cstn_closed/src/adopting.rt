@@ -1,0 +1,34 @@
+// Lists of bounds and plans.
+ghost use Rattle.std.specs.Prelude.{◌≡◌, ◌≤◌, IfOk};
+ghost use Rattle.cstn_net.specs.Read.{the_network};
+ghost use Rattle.cstn_rules.specs.Closed.{IsClosed};
+ghost use Rattle.cstn_closed.specs.Closed.{the_bounds};
+
+use crate::lists::Closed;
+use cstn_log::{Plan, SoundPlan};
+use cstn_net::Network;
+use std::alloc::{AllocError, Global};
+
+impl Closed {
+    /// The bounds of a plan, in order, with the load of its check. The plan stays as it is.
+    pub fn of(alloc: Global, plan: &SoundPlan, load: u32) -> Result<Closed, AllocError>
+        requires low { 1 ≤ load }
+        requires high { load ≤ 4194304 }
+        ensures of { IfOk result (λ c. c ≡ record { load = load; bounds = plan.now.bounds }) }
+    {
+        let mut bounds = Vec::with_capacity(alloc, plan.count() as usize)?;
+        for k in 0..plan.count() {
+            bounds.push(plan.bound(k))?;
+        }
+        Closed::new(alloc, load, bounds)
+    }
+}
+
+/// The plan of a network and a list that is closed for it, as `check` finds out. Its bounds need not hold in every strategy,
+/// so it isn't a sound plan.
+pub fn adopt(net: Network, closed: Closed) -> Plan
+    requires closed { IsClosed (the_network net) (the_bounds closed) }
+    ensures adopt { result ≡ record { net = net; bounds = closed.bounds } }
+{
+    Plan::adopt(net, closed.into_bounds())
+}

@@ -1,0 +1,96 @@
+// The check of a list of bounds against a network, in the order of the faults.
+ghost use Rattle.std.specs.Prelude.{◌≡◌, ◌↔◌, IfSome, IfNone};
+ghost use Rattle.std.specs.List.{Contains};
+ghost use Rattle.cstn_label.specs.Bounds.{Bound as TheBound};
+ghost use Rattle.cstn_net.specs.Read.{the_network};
+ghost use Rattle.cstn_net.specs.Strategies.{IsConsistent};
+ghost use Rattle.cstn_rules.specs.Closed.{IsClosed};
+ghost use Rattle.cstn_closed.specs.Closed.{the_bounds};
+ghost use Rattle.cstn_closed.specs.Faults.{IsFaultless, bad, no_base, no_chain, no_wait};
+ghost use Rattle.cstn_closed.specs.Answers.{IsAnswer};
+ghost use Rattle.cstn_closed.specs.Instances.{AreFit, AreBasesCovered, AreChainsCovered, AreWaitsCovered, IsFirstOfKind};
+
+use crate::answers::ClosedAnswer;
+use crate::instances::{base, is_fit, is_well_formed, uncovered_chain, uncovered_wait};
+use crate::lists::Closed;
+use cstn_label::NodeId;
+use cstn_net::Network;
+
+/// Whether the list is closed for the network, which then has a strategy, and its first fault where it isn't. The load isn't
+/// looked at. It takes no memory.
+pub fn check(net: &Network, closed: &Closed) -> ClosedAnswer
+    ensures answer { IsAnswer (the_network net.now) (the_bounds closed.now) result }
+    ensures accepted { (result ≡ ClosedAnswer.Accepted) ↔ IsFaultless (the_network net.now) (the_bounds closed.now) }
+    ensures closed { result ≡ ClosedAnswer.Accepted → IsClosed (the_network net.now) (the_bounds closed.now) }
+    ensures consistent { result ≡ ClosedAnswer.Accepted → IsConsistent (the_network net.now) }
+{
+    is_well_formed(net);
+    if let Some(at) = first_bad(net, closed) {
+        return ClosedAnswer::Bad { at };
+    }
+    if let Some(node) = first_without_base(net, closed) {
+        return ClosedAnswer::NoBase { node };
+    }
+    if let Some((constraint, at)) = first_chain(net, closed) {
+        return ClosedAnswer::NoChain { constraint, at };
+    }
+    match first_wait(net, closed) {
+        Some((seen, at)) => ClosedAnswer::NoWait { seen, at },
+        None => ClosedAnswer::Accepted,
+    }
+}
+
+// The first bound that doesn't fit the network.
+fn first_bad(net: &Network, closed: &Closed) -> Option<u32>
+    ensures some { IfSome result (λ i. IsFirstOfKind (the_network net.now) (the_bounds closed.now) (bad i)) }
+    ensures none { IfNone result (AreFit (the_network net.now) (the_bounds closed.now)) }
+{
+    for at in 0..closed.count() {
+        if !is_fit(net, &closed.bound(at)) {
+            return Some(at);
+        }
+    }
+    None
+}
+
+// The first time-point whose base bound isn't covered.
+fn first_without_base(net: &Network, closed: &Closed) -> Option<NodeId>
+    ensures some { IfSome result (λ x. IsFirstOfKind (the_network net.now) (the_bounds closed.now) (no_base x.0)) }
+    ensures none { IfNone result (AreBasesCovered (the_network net.now) (the_bounds closed.now)) }
+{
+    for number in 0..net.count() {
+        let node = NodeId(number);
+        if !closed.covers(&base(node)) {
+            return Some(node);
+        }
+    }
+    None
+}
+
+// The first bound, and the constraint of the least id, of which chain gives what isn't covered.
+fn first_chain(net: &Network, closed: &Closed) -> Option<(u32, u32)>
+    requires fit { AreFit (the_network net.now) (the_bounds closed.now) }
+    ensures some { IfSome result (λ f. IsFirstOfKind (the_network net.now) (the_bounds closed.now) (no_chain f.0 f.1)) }
+    ensures none { IfNone result ((b : TheBound) → Contains (the_bounds closed.now) b → AreChainsCovered (the_network net.now) (the_bounds closed.now) b) }
+{
+    for at in 0..closed.count() {
+        if let Some(constraint) = uncovered_chain(net, closed, at) {
+            return Some((constraint, at));
+        }
+    }
+    None
+}
+
+// The first bound, and the first other, of which wait gives what isn't covered.
+fn first_wait(net: &Network, closed: &Closed) -> Option<(u32, u32)>
+    requires fit { AreFit (the_network net.now) (the_bounds closed.now) }
+    ensures some { IfSome result (λ f. IsFirstOfKind (the_network net.now) (the_bounds closed.now) (no_wait f.0 f.1)) }
+    ensures none { IfNone result ((b : TheBound) → Contains (the_bounds closed.now) b → AreWaitsCovered (the_network net.now) (the_bounds closed.now) b) }
+{
+    for seen in 0..closed.count() {
+        if let Some(at) = uncovered_wait(net, closed, seen) {
+            return Some((seen, at));
+        }
+    }
+    None
+}

@@ -1,0 +1,168 @@
+// The instances of the rules, one bound at a time.
+ghost use Rattle.std.specs.Prelude.{ℕ, ◌≡◌, ◌<◌, ◌↔◌, ◌+◌, Some, false, length, slice_get, slice_index_or, IfSome, IfNone, IsTrue};
+ghost use Rattle.std.specs.List.{Contains};
+ghost use Rattle.cstn_label.specs.Bounds.{Bound as TheBound};
+ghost use Rattle.cstn_label.specs.Read.{the_bound};
+ghost use Rattle.cstn_net.specs.Networks.{IsWellFormed, Observes, count};
+ghost use Rattle.cstn_net.specs.Links.{ends};
+ghost use Rattle.cstn_net.specs.Read.{the_network, the_constraint};
+ghost use Rattle.cstn_rules.specs.Rules.{IsBoundOf, IsChain, IsWait, base};
+ghost use Rattle.cstn_rules.specs.Closed.{IsCovered};
+ghost use Rattle.cstn_closed.specs.Closed.{the_bounds};
+ghost use Rattle.cstn_closed.specs.Faults.{IsFit, no_chain, no_wait};
+ghost use Rattle.cstn_closed.specs.Instances.{AreFit, AreChainsCovered, AreWaitsCovered, IsChainCovered, IsWaitCovered, IsFirstThere};
+ghost use Rattle.cstn_closed.specs.Places.{IsNext};
+
+use crate::lists::Closed;
+use cstn_label::{Bound, Label, NodeId};
+use cstn_net::{Constraint, Network};
+use cstn_rules::{Tries, chain, refutes, wait};
+
+/// Every network is well formed.
+pub(crate) fn is_well_formed(net: &Network)
+    ensures { IsWellFormed (the_network net.now) }
+{
+    // The clauses of any reader say it.
+    let _ = net.count();
+}
+
+/// The base bound of a time-point.
+pub(crate) fn base(x: NodeId) -> Bound
+    ensures base { the_bound result ≡ base x.0 }
+{
+    Bound {
+        node: x,
+        least: 0,
+        label: Label::empty(),
+    }
+}
+
+/// Whether the bound is at a time-point of the network, in range, with marks on observed propositions alone, and doesn't
+/// refute the network.
+pub(crate) fn is_fit(net: &Network, b: &Bound) -> bool
+    ensures fit { IsTrue result ↔ IsFit (the_network net.now) (the_bound b.now) }
+{
+    if b.node.0 >= net.count() {
+        return false;
+    }
+    is_in_range(net, b) && net.unobserved(b.label).is_none() && !refutes(net, b)
+}
+
+// Whether the bound's least value is from 0 to the limit + 1.
+fn is_in_range(net: &Network, b: &Bound) -> bool
+    requires node { b.now.node.0 < count (the_network net.now) }
+    ensures range { IsTrue result ↔ IsBoundOf (the_network net.now) (the_bound b.now) }
+{
+    0 <= b.least && b.least <= net.limit(b.node) + 1
+}
+
+/// The least id of a constraint of which chain, with the bound at a place, gives what isn't covered.
+pub(crate) fn uncovered_chain(net: &Network, closed: &Closed, at: u32) -> Option<u32>
+    requires fit { AreFit (the_network net.now) (the_bounds closed.now) }
+    requires place { at < length closed.now.bounds }
+    ensures some { IfSome result (λ id. IsFirstThere (the_network net.now) (the_bounds closed.now) (no_chain id at)) }
+    ensures none { IfNone result ((b : TheBound) → slice_get (the_bounds closed.now) at ≡ Some b → AreChainsCovered (the_network net.now) (the_bounds closed.now) b) }
+{
+    is_well_formed(net);
+    let b = closed.bound(at);
+    let mut place = first_ending(net, b.node);
+    while place < constraint_count(net) {
+        let c = constraint_at(net, place);
+        if !is_chain_covered(net, closed, c, &b) {
+            return Some(c.id);
+        }
+        place = next_ending(net, place);
+    }
+    None
+}
+
+// Whether what chain gives of the constraint and the bound is covered.
+fn is_chain_covered(net: &Network, closed: &Closed, c: &Constraint, b: &Bound) -> bool
+    requires constraint { Contains net.now.constraints c.now }
+    requires bound { IsBoundOf (the_network net.now) (the_bound b.now) }
+    ensures covered { IsTrue result → IsChainCovered (the_network net.now) (the_bounds closed.now) (the_constraint c.now) (the_bound b.now) }
+    ensures uncovered { result ≡ false → (r : TheBound) × IsChain (the_network net.now) (the_constraint c.now) (the_bound b.now) r × (IsCovered (the_bounds closed.now) r → ⊥) }
+{
+    let mut tries = Tries { count: 0 };
+    match chain(net, c, b, &mut tries) {
+        None => true,
+        Some(r) => closed.covers(&r),
+    }
+}
+
+/// The first place of a bound of which wait, with the bound at the place of an observer, gives what isn't covered.
+pub(crate) fn uncovered_wait(net: &Network, closed: &Closed, seen: u32) -> Option<u32>
+    requires fit { AreFit (the_network net.now) (the_bounds closed.now) }
+    requires place { seen < length closed.now.bounds }
+    ensures some { IfSome result (λ at. IsFirstThere (the_network net.now) (the_bounds closed.now) (no_wait seen at)) }
+    ensures none { IfNone result ((b : TheBound) → slice_get (the_bounds closed.now) seen ≡ Some b → AreWaitsCovered (the_network net.now) (the_bounds closed.now) b) }
+{
+    let first = closed.bound(seen);
+    if !is_at_observer(net, &first) {
+        return None;
+    }
+    for at in 0..closed.count() {
+        if !is_wait_covered(net, closed, &first, &closed.bound(at)) {
+            return Some(at);
+        }
+    }
+    None
+}
+
+// Whether the bound's time-point observes a proposition.
+fn is_at_observer(net: &Network, b: &Bound) -> bool
+    requires node { b.now.node.0 < count (the_network net.now) }
+    ensures observer { result ≡ false → (p : ℕ) → Observes (the_network net.now) b.now.node.0 p → ⊥ }
+{
+    net.observes(b.node).is_some()
+}
+
+// Whether what wait gives of the two bounds is covered.
+fn is_wait_covered(net: &Network, closed: &Closed, seen: &Bound, b: &Bound) -> bool
+    requires seen { IsBoundOf (the_network net.now) (the_bound seen.now) }
+    requires bound { IsBoundOf (the_network net.now) (the_bound b.now) }
+    ensures covered { IsTrue result → IsWaitCovered (the_network net.now) (the_bounds closed.now) (the_bound seen.now) (the_bound b.now) }
+    ensures uncovered { result ≡ false → (p : ℕ) × (r : TheBound) × IsWait (the_network net.now) p (the_bound seen.now) (the_bound b.now) r × (IsCovered (the_bounds closed.now) r → ⊥) }
+{
+    let mut tries = Tries { count: 0 };
+    match wait(net, seen, b, &mut tries) {
+        None => true,
+        Some(r) => closed.covers(&r),
+    }
+}
+
+fn constraint_count(net: &Network) -> usize
+    ensures count { result ≡ length net.now.constraints }
+{
+    net.constraints().len()
+}
+
+fn constraint_at(net: &Network, place: usize) -> &Constraint
+    requires place { place < length net.now.constraints }
+    ensures at { slice_get net.now.constraints place ≡ Some result.now }
+    ensures has { Contains net.now.constraints result.now }
+{
+    &net.constraints()[place]
+}
+
+// The place of the first constraint that ends at the time-point, or the number of constraints where none does.
+fn first_ending(net: &Network, x: NodeId) -> usize
+    requires node { x.0 < count (the_network net.now) }
+    ensures first { IsNext (ends net.now.constraints) x.0 0 result }
+{
+    match net.first_to(x) {
+        None => net.constraints().len(),
+        Some(place) => place,
+    }
+}
+
+// The place of the next constraint that ends where the one at this place does, or their number where none does.
+fn next_ending(net: &Network, at: usize) -> usize
+    requires place { at < length net.now.constraints }
+    ensures next { IsNext (ends net.now.constraints) (slice_index_or (ends net.now.constraints) at 0) (at + 1) result }
+{
+    match net.next_to(at) {
+        None => net.constraints().len(),
+        Some(place) => place,
+    }
+}

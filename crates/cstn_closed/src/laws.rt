@@ -1,0 +1,24 @@
+// Laws of lists of bounds. The calls do nothing: their contracts are the laws.
+ghost use Rattle.std.specs.Prelude.{ℕ, ◌≡◌, List};
+ghost use Rattle.std.specs.List.{Contains};
+ghost use Rattle.cstn_label.specs.Bounds.{Bound};
+ghost use Rattle.cstn_net.specs.Networks.{Network};
+ghost use Rattle.cstn_rules.specs.Closed.{IsClosed};
+ghost use Rattle.cstn_rules.specs.Rules.{IsBoundOf};
+ghost use Rattle.cstn_text.specs.Names.{AreNames};
+ghost use Rattle.cstn_closed.specs.Faults.{Fault, IsFirstFault, IsFaultless};
+ghost use Rattle.cstn_closed.specs.Texts.{tells, told, shown};
+ghost use Rattle.cstn_closed.specs.Written.{AreWritten};
+
+/// A closed list whose least values are from 0 to the limit + 1 has no fault. A list has at most one first fault.
+pub fn closed_lists_are_accepted()
+    ensures accepted { (net : Network) (bounds : List Bound) → IsClosed net bounds → ((b : Bound) → Contains bounds b → IsBoundOf net b) → IsFaultless net bounds }
+    ensures one { (net : Network) (bounds : List Bound) (f g : Fault) → IsFirstFault net bounds f → IsFirstFault net bounds g → f ≡ g }
+{}
+
+/// The text of a load and bounds says them, where each bound's time-point has a name and the numbers are in their ranges.
+/// What any text says is in these ranges.
+pub fn texts_of_bounds_are_read_back()
+    ensures back { (names : List (List ℕ)) (load : ℕ) (bounds : List Bound) → AreNames names → AreWritten names load bounds → told names (shown names load bounds) ≡ tells load bounds }
+    ensures ranges { (names : List (List ℕ)) (bytes : List ℕ) (load : ℕ) (bounds : List Bound) → told names bytes ≡ tells load bounds → AreWritten names load bounds }
+{}

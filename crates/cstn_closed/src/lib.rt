@@ -1,0 +1,24 @@
+//! A yes as the list of its bounds: the list as data and as a text, and the check that it is closed for a network.
+#![tactic(auto)]
+
+mod adopting;
+mod answers;
+mod checks;
+mod errors;
+mod instances;
+mod laws;
+mod limits;
+mod lists;
+mod places;
+mod printing;
+mod reading;
+
+pub use adopting::adopt;
+pub use answers::ClosedAnswer;
+pub use checks::check;
+pub use errors::ClosedError;
+pub use laws::{closed_lists_are_accepted, texts_of_bounds_are_read_back};
+pub use lists::Closed;
+
+#[cfg(test)]
+mod tests;

@@ -1,0 +1,90 @@
+ghost use Rattle.std.specs.Prelude.{◌≡◌, ◌<◌, ◌^◌, ◌↔◌, length, slice_get, IsTrue, IfOk, Some};
+ghost use Rattle.cstn_label.specs.Read.{the_bound};
+ghost use Rattle.cstn_rules.specs.Closed.{IsCovered};
+ghost use Rattle.cstn_closed.specs.Closed.{the_bounds};
+
+use crate::places::Places;
+use cstn_label::Bound;
+use std::alloc::{AllocError, Global};
+use std::marker::Model;
+
+/// What stands for a yes: the load that a check had, and bounds that are to be closed for the network. Nothing says that they
+/// are.
+///
+/// The bounds can be looked up by their time-points, for which the list holds some memory beside them.
+#[derive(Debug, Drop)]
+pub struct Closed {
+    load: u32,
+    bounds: Vec<Bound>,
+    places: Places,
+}
+
+impl Model for Closed {
+    ghost use Rattle.cstn_closed.specs.Closed.{ClosedParts, IsKept};
+
+    ghost Value = { ClosedParts };
+
+    ghost view = { λ c. record { load = c.load; bounds = c.bounds.items } };
+
+    ghost invariant = { λ c. IsKept c.bounds.items c.places.firsts.items c.places.nexts.items };
+}
+
+impl Closed {
+    /// The list of these bounds, fewer than 2^32, in their order.
+    pub fn new(alloc: Global, load: u32, bounds: Vec<Bound>) -> Result<Closed, AllocError>
+        requires few { length bounds.items < 2 ^ 32 }
+        ensures new { IfOk result (λ c. c ≡ record { load = load; bounds = bounds.items }) }
+    {
+        let places = Places::of(alloc, &bounds)?;
+        Ok(Closed {
+            load,
+            bounds,
+            places,
+        })
+    }
+
+    /// The load that the check had.
+    pub fn load(&self) -> u32
+        ensures load { result ≡ self.now.load }
+    {
+        self.load
+    }
+
+    /// The bounds, at places from 0.
+    pub fn bounds(&self) -> &[Bound]
+        ensures bounds { result.now ≡ self.now.bounds }
+        ensures few { length result.now < 2 ^ 32 }
+    {
+        &self.bounds
+    }
+
+    // How many bounds there are.
+    pub(crate) fn count(&self) -> u32
+        ensures count { result ≡ length self.now.bounds }
+    {
+        self.bounds.len() as u32
+    }
+
+    // The bound at a place.
+    pub(crate) fn bound(&self, k: u32) -> Bound
+        requires { k < length self.now.bounds }
+        ensures bound { slice_get self.now.bounds k ≡ Some result }
+    {
+        self.bounds[k as usize]
+    }
+
+    /// Whether some bound of the list dominates r. Only the bounds at the time-point of r are looked at.
+    pub fn covers(&self, r: &Bound) -> bool
+        ensures covers { IsTrue result ↔ IsCovered (the_bounds self.now) (the_bound r.now) }
+    {
+        self.places.covers(&self.bounds, r)
+    }
+
+    /// The bounds alone.
+    pub fn into_bounds(self) -> Vec<Bound>
+        ensures bounds { result.items ≡ self.bounds }
+        ensures few { length result.items < 2 ^ 32 }
+    {
+        self.bounds
+    }
+}

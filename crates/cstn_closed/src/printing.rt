@@ -1,0 +1,75 @@
+// Lists of bounds as texts.
+ghost use Rattle.std.specs.Prelude.{◌≡◌, ◌++◌, ◌∷◌, [], map, string_bytes, IfOk, OnOk, codes};
+ghost use Rattle.std.specs.List.{All};
+ghost use Rattle.cstn_label.specs.Read.{marks};
+ghost use Rattle.cstn_text.specs.Names.{AreNames};
+ghost use Rattle.cstn_text.specs.Numbers.{printed_number, printed_value};
+ghost use Rattle.cstn_text.specs.PrintedLabels.{printed_label};
+ghost use Rattle.cstn_text.specs.PrintedNames.{printed_name};
+ghost use Rattle.cstn_closed.specs.Closed.{the_bounds};
+ghost use Rattle.cstn_closed.specs.Texts.{shown, told, tells};
+ghost use Rattle.cstn_closed.specs.Written.{FitsText, IsNamed};
+
+use crate::lists::Closed;
+use cstn_label::Bound;
+use cstn_text::{Names, print_name, push_label, push_number, push_value};
+use std::alloc::{AllocError, Global};
+
+// A usual line has fewer bytes. Room for longer ones is taken as they come.
+const USUAL_LINE: usize = 24;
+
+impl Closed {
+    /// The text of the list: a line for its load, and one for each bound.
+    ///
+    /// Where the load is from 1 to 4,194,304 and there are 1 to 4,194,304 bounds, the text is read again as the same list.
+    /// Beside the text it takes memory for the printed names, and none for a line.
+    pub fn print(&self, alloc: Global, names: &Names) -> Result<String, AllocError>
+        requires named { All (IsNamed names.now) self.now.bounds }
+        ensures shown { IfOk result (λ text. string_bytes text ≡ shown names.now self.now.load (the_bounds self.now)) }
+        ensures back { FitsText self.now → IfOk result (λ text. told names.now (string_bytes text) ≡ tells self.now.load (the_bounds self.now)) }
+    {
+        let printed = print_names(alloc, names)?;
+        let bounds = self.bounds();
+        let mut text = String::with_capacity(alloc, USUAL_LINE * (bounds.len() + 1))?;
+        push_load(&mut text, self.load())?;
+        for bound in bounds {
+            push_bound(&mut text, *bound, &printed[bound.node.index()])?;
+        }
+        Ok(text)
+    }
+}
+
+// The printed form of each name.
+fn print_names(alloc: Global, names: &Names) -> Result<Vec<String>, AllocError>
+    ensures printed { IfOk result (λ texts. map string_bytes texts.items ≡ map printed_name names.now) }
+    ensures names { AreNames names.now }
+{
+    let names = names.as_slice();
+    let mut texts = Vec::with_capacity(alloc, names.len())?;
+    for name in names {
+        texts.push(print_name(alloc, name)?)?;
+    }
+    Ok(texts)
+}
+
+// Appends the first line.
+fn push_load(text: &mut String, load: u32) -> Result<(), AllocError>
+    ensures pushed { OnOk result (string_bytes text.new ≡ string_bytes text.old ++ (codes "yes " ++ printed_number load ++ 10 ∷ [])) }
+{
+    text.push_str("yes ")?;
+    push_number(text, load as u64)?;
+    text.push('\n')
+}
+
+// Appends the line of a bound, at the time-point of this printed name.
+fn push_bound(text: &mut String, bound: Bound, name: &str) -> Result<(), AllocError>
+    ensures pushed { OnOk result (string_bytes text.new ≡ string_bytes text.old ++ (codes "bound " ++ (name.now ++ 32 ∷ printed_value bound.least ++ 32 ∷ printed_label (marks bound.label)) ++ 10 ∷ [])) }
+{
+    text.push_str("bound ")?;
+    text.push_str(name)?;
+    text.push(' ')?;
+    push_value(text, bound.least)?;
+    text.push(' ')?;
+    push_label(text, bound.label)?;
+    text.push('\n')
+}

@@ -1,0 +1,154 @@
+// Lists of bounds read from their texts.
+ghost use Rattle.std.specs.Prelude.{ℕ, ◌≡◌, ◌<◌, ◌≤◌, ◌+◌, ◌≤ℤ◌, pos, Some, [], length, map, IfOk, IfErr, IfSome};
+ghost use Rattle.std.specs.List.{All};
+ghost use Rattle.std.specs.Option.{option_map};
+ghost use Rattle.cstn_label.specs.Bounds.{Bound as TheBound};
+ghost use Rattle.cstn_label.specs.Read.{the_bound};
+ghost use Rattle.cstn_refute.specs.Steps.{part, node_read, bound_read, named_bound_read};
+ghost use Rattle.cstn_refute.specs.Texts.{lines_of};
+ghost use Rattle.cstn_closed.specs.Closed.{the_bounds};
+ghost use Rattle.cstn_closed.specs.Texts.{Told, tells, wrong, at_end, or_wrong, told_after, told, load_read, line_read};
+ghost use Rattle.cstn_closed.specs.Written.{AreWritten, FitsText, IsNamed};
+ghost use Rattle.cstn_closed.specs.Read.{IsWrong};
+
+use crate::errors::ClosedError;
+use crate::limits::{MOST_BOUNDS, MOST_LEAST, MOST_LOAD};
+use crate::lists::Closed;
+use cstn_label::{Bound, NodeId};
+use cstn_text::{Names, cut_at, read_label, read_number_within};
+use std::alloc::{AllocError, Global};
+
+impl Closed {
+    /// The list that a text is. `Line` with the first line that isn't of the form, counted from 1. A text that ends without a
+    /// bound, or without its last LF, is wrong at the line that is missing or cut.
+    pub fn read(alloc: Global, names: &Names, bytes: &[u8]) -> Result<Closed, ClosedError>
+        requires few { length names.now ≤ 65536 }
+        ensures accepted { IfOk result (λ c. told names.now bytes.now ≡ tells c.load (the_bounds c)) }
+        ensures line { IfErr result (IsWrong (told names.now bytes.now)) }
+
+        ensures named { IfOk result (λ c. All (IsNamed names.now) c.bounds) }
+        ensures fits { IfOk result FitsText }
+    {
+        let Some((line, rest)) = cut_at(bytes, b'\n') else {
+            return Err(ClosedError::Line { line: 1 });
+        };
+        let Some(load) = read_load(line) else {
+            return Err(ClosedError::Line { line: 1 });
+        };
+        read_bounds(alloc, names, load, rest)
+    }
+}
+
+// What stands before the first space, and what stands after it.
+fn part(bytes: &[u8]) -> Option<(&[u8], &[u8])>
+    ensures part { option_map (λ parts. (parts.0.now, parts.1.now)) result ≡ part bytes.now }
+{
+    cut_at(bytes, b' ')
+}
+
+fn read_load(line: &[u8]) -> Option<u32>
+    ensures load { result ≡ load_read line.now }
+{
+    let (word, rest) = part(line)?;
+    if word != b"yes".as_slice() {
+        return None;
+    }
+    read_number_within(1, MOST_LOAD, rest)
+}
+
+// The list of a load and of the lines of its bounds.
+fn read_bounds(alloc: Global, names: &Names, load: u32, bytes: &[u8]) -> Result<Closed, ClosedError>
+    requires few { length names.now ≤ 65536 }
+    ensures accepted { IfOk result (λ c. told_after names.now load [] (lines_of bytes.now).0 (lines_of bytes.now).1 ≡ tells c.load (the_bounds c)) }
+    ensures line { IfErr result (IsWrong (told_after names.now load [] (lines_of bytes.now).0 (lines_of bytes.now).1)) }
+{
+    let mut bounds = Vec::new(alloc);
+    let mut left = bytes;
+    while let Some((line, rest)) = cut_at(left, b'\n') {
+        let k = bounds.len() as u32;
+        match read_next(names, k, line) {
+            Ok(bound) => {
+                let Ok(()) = bounds.push(bound) else {
+                    return Err(ClosedError::Memory(AllocError));
+                };
+                left = rest;
+            }
+            Err(e) => return Err(e),
+        }
+    }
+    finish(alloc, load, bounds, left)
+}
+
+// The bound at the place k: what its line is, if it is of the form.
+fn read_next(names: &Names, k: u32, line: &[u8]) -> Result<Bound, ClosedError>
+    requires few { length names.now ≤ 65536 }
+    requires place { k ≤ 4194304 }
+    ensures bound { IfOk result (λ b. line_read names.now k line.now ≡ Some (the_bound b)) }
+    ensures few { IfOk result (λ b. k < 4194304) }
+    ensures line { (next : TheBound → Told) → IfErr result (IsWrong (or_wrong (line_read names.now k line.now) (k + 2) next)) }
+{
+    match read_line(names, k, line) {
+        Some(bound) => Ok(bound),
+        None => Err(ClosedError::Line { line: k + 2 }),
+    }
+}
+
+// The bound that a line is, if there is a place for it.
+fn read_line(names: &Names, k: u32, line: &[u8]) -> Option<Bound>
+    requires few { length names.now ≤ 65536 }
+    ensures bound { option_map the_bound result ≡ line_read names.now k line.now }
+    ensures few { IfSome result (λ b. k < 4194304) }
+{
+    let (word, rest) = part(line)?;
+    if word == b"bound".as_slice() && k < MOST_BOUNDS {
+        read_named_bound(names, rest)
+    } else {
+        None
+    }
+}
+
+fn read_named_bound(names: &Names, bytes: &[u8]) -> Option<Bound>
+    requires few { length names.now ≤ 65536 }
+    ensures bound { option_map the_bound result ≡ named_bound_read names.now bytes.now }
+{
+    let (name, rest) = part(bytes)?;
+    let node = read_node(names, name)?;
+    read_bound(node, rest)
+}
+
+fn read_node(names: &Names, bytes: &[u8]) -> Option<NodeId>
+    requires few { length names.now ≤ 65536 }
+    ensures node { option_map (λ x. x.0) result ≡ node_read names.now bytes.now }
+{
+    let number = names.find_printed(bytes)?;
+    Some(NodeId(number as u16))
+}
+
+fn read_bound(node: NodeId, bytes: &[u8]) -> Option<Bound>
+    ensures bound { option_map the_bound result ≡ bound_read node.0 bytes.now }
+{
+    let (least, label) = part(bytes)?;
+    let least = read_number_within(0, MOST_LEAST, least)?;
+    let label = read_label(label)?;
+    Some(Bound {
+        node,
+        least: least as i32,
+        label,
+    })
+}
+
+// The list of the bounds, where the text ends after one, with LF.
+fn finish(alloc: Global, load: u32, bounds: Vec<Bound>, left: &[u8]) -> Result<Closed, ClosedError>
+    requires few { length bounds.items ≤ 4194304 }
+    ensures accepted { IfOk result (λ c. at_end load (map the_bound bounds.items) left.now ≡ tells c.load (the_bounds c)) }
+    ensures line { IfErr result (IsWrong (at_end load (map the_bound bounds.items) left.now)) }
+{
+    let count = bounds.len() as u32;
+    if count == 0 || !left.is_empty() {
+        return Err(ClosedError::Line { line: count + 2 });
+    }
+    match Closed::new(alloc, load, bounds) {
+        Ok(closed) => Ok(closed),
+        Err(e) => Err(ClosedError::Memory(e)),
+    }
+}

@@ -1,0 +1,133 @@
+use crate::{Closed, ClosedAnswer, ClosedError, adopt, check};
+use cstn_label::{Bound, Label, Mark, NodeId, Prop};
+use cstn_net::{Builder, Network};
+use cstn_text::Names;
+use std::alloc::{AllocError, Global};
+use std::process::Abort;
+use std::test::Fail;
+
+fn p(mark: Mark) -> Label {
+    Label::empty().with(Prop { index: 41 }, mark)
+}
+
+// Z, P, which observes p, and X: X is at 10 or later where p is true, and at 3 or earlier where it is false.
+fn branch(alloc: Global) -> Result<Builder, AllocError> {
+    let mut net = Builder::new(alloc, 10);
+    net.node(None)?;
+    net.node(Some(Prop { index: 41 }))?;
+    net.node(None)?;
+    net.constrain(2, 0, -10, p(Mark::Yes))?;
+    net.constrain(0, 2, 3, p(Mark::No))?;
+    Ok(net)
+}
+
+fn names(rt: &impl Abort, alloc: Global) -> Names {
+    let mut names = Names::new(alloc);
+    for name in ["Z", "P", "X"] {
+        assert!(rt; names.count() < 1000);
+        assert!(rt; names.push(name).is_ok());
+    }
+    names
+}
+
+// The text is read, printed so again, and the list gets this answer on the branch network.
+fn answered(
+    rt: &impl Abort,
+    alloc: Global,
+    text: &str,
+    expected: ClosedAnswer,
+) -> Result<(), Fail> {
+    let names = names(rt, alloc);
+    let net = branch(alloc)?.close().expect(rt, "a network");
+    assert!(rt; names.count() < 1000);
+    let closed = Closed::read(alloc, &names, text.as_bytes()).expect(rt, text);
+    assert_eq!(rt; closed.print(alloc, &names)?.as_str(), text);
+    assert_eq!(rt; check(&net, &closed), expected);
+    Ok(())
+}
+
+// The line is the first wrong one of the text.
+fn wrong(rt: &impl Abort, alloc: Global, text: &str, expected: u32) {
+    let names = names(rt, alloc);
+    assert!(rt; names.count() < 1000);
+    match Closed::read(alloc, &names, text.as_bytes()) {
+        Err(ClosedError::Line { line }) => assert_eq!(rt; line, expected),
+        _ => assert!(rt; false),
+    }
+}
+
+#[test]
+fn lists_are_answered(rt: HostRuntime) -> Result<(), Fail> {
+    let alloc = rt.alloc();
+    let whole = "yes 5\nbound Z 0 -\nbound P 0 -\nbound X 10 p\nbound X 1 -\n";
+    answered(&rt, alloc, whole, ClosedAnswer::Accepted)?;
+    let whole = "yes 9\nbound Z 0 -\nbound P 0 -\nbound X 10 p\nbound X 1 -\n";
+    answered(&rt, alloc, whole, ClosedAnswer::Accepted)?;
+    let short = "yes 5\nbound Z 0 -\nbound P 0 -\nbound X 10 p\n";
+    answered(&rt, alloc, short, ClosedAnswer::NoBase { node: NodeId(2) })?;
+    let early = "yes 5\nbound Z 0 -\nbound P 0 -\nbound X 10 p\nbound X 0 -\n";
+    answered(&rt, alloc, early, ClosedAnswer::NoWait { seen: 1, at: 2 })?;
+    let late = "yes 5\nbound Z 0 -\nbound P 0 -\nbound X 10 p\nbound X 11 -\n";
+    answered(&rt, alloc, late, ClosedAnswer::Bad { at: 3 })?;
+    let unseen = "yes 5\nbound Z 0 -\nbound P 0 -\nbound X 10 p\nbound X 10 q\n";
+    answered(&rt, alloc, unseen, ClosedAnswer::Bad { at: 3 })?;
+    let bases = "yes 5\nbound Z 0 -\nbound P 0 -\nbound X 0 -\n";
+    let first = ClosedAnswer::NoChain {
+        constraint: 0,
+        at: 0,
+    };
+    answered(&rt, alloc, bases, first)
+}
+
+#[test]
+fn the_empty_list(rt: HostRuntime) -> Result<(), Fail> {
+    let alloc = rt.alloc();
+    let net = branch(alloc)?.close().expect(&rt, "a network");
+    let closed = Closed::new(alloc, 5, Vec::new(alloc))?;
+    assert_eq!(rt;
+        check(&net, &closed),
+        ClosedAnswer::NoBase { node: NodeId(0) }
+    );
+    Ok(())
+}
+
+#[test]
+fn first_wrong_lines(rt: HostRuntime) {
+    let alloc = rt.alloc();
+    wrong(&rt, alloc, "", 1);
+    wrong(&rt, alloc, "no 5\nbound Z 0 -\n", 1);
+    wrong(&rt, alloc, "yes 0\nbound Z 0 -\n", 1);
+    wrong(&rt, alloc, "yes 4194305\nbound Z 0 -\n", 1);
+    wrong(&rt, alloc, "yes 5\n", 2);
+    wrong(
+        &rt,
+        alloc,
+        "yes 5\nbound Z 0 -\nbound P 0 -\nbound X 10 p\nbound X 1 -",
+        5,
+    );
+    wrong(&rt, alloc, "yes 5\nbound Z 0 -\nbound Y 0 -\n", 3);
+    wrong(&rt, alloc, "yes 5\nbound Z 1000002 -\n", 2);
+    wrong(&rt, alloc, "yes 5\nbound Z 0  -\n", 2);
+    wrong(&rt, alloc, "yes 5\n0 base Z 0 -\n", 2);
+}
+
+// The plan of a list that is accepted, if it is.
+fn adopted(net: Network, closed: Closed) -> Option<u32> {
+    if check(&net, &closed) == ClosedAnswer::Accepted {
+        Some(adopt(net, closed).count())
+    } else {
+        None
+    }
+}
+
+#[test]
+fn lists_are_adopted(rt: HostRuntime) -> Result<(), Fail> {
+    let alloc = rt.alloc();
+    let names = names(&rt, alloc);
+    assert!(rt; names.count() < 1000);
+    let text = "yes 5\nbound Z 0 -\nbound P 0 -\nbound X 10 p\nbound X 1 -\n";
+    let closed = Closed::read(alloc, &names, text.as_bytes()).expect(&rt, text);
+    let net = branch(alloc)?.close().expect(&rt, "a network");
+    assert_eq!(rt; adopted(net, closed), Some(4));
+    Ok(())
+}

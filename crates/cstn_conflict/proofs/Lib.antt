@@ -1,0 +1,4 @@
+pub mod SetLemmas
+pub mod LeftLemmas
+pub mod TrialLemmas
+pub mod ConflictLemmas

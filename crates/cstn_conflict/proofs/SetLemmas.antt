@@ -1,0 +1,146 @@
+-- Networks with some of their constraints.
+use Rattle.std.proofs.Common.{ℕ, zero, suc, ◌≡◌, ◌+◌, ◌<◌, ◌≤◌, Bool, true, false, not, cond, eqb, ◌&&◌, ◌||◌, inl, inr, List, [], ◌∷◌, length, get_or, map, arith, refl, sym, subst, ap, ◌∙◌}
+use Rattle.std.specs.Prelude.{◌↔◌}
+use Rattle.std.specs.List.{All, AllPairs, Contains, filter, list_any}
+use Rattle.std.proofs.lemmas.Bool.{cases_Bool, false≢true, or_cases, or_left, or_right, or_from, and_from, and_parts, and_left, and_right, cond-true, cond-false, eqb-true, eq-eqb, ne_eqb, not-true, not_from_true, not_from_false, true_from_ne_false, both_ways}
+use Rattle.std.proofs.lemmas.List.{length-map}
+use Rattle.std.proofs.lemmas.List.Elements.{All-filter, All-contains, filter_agree}
+use Rattle.std.proofs.lemmas.List.Filters.{length-filter_both}
+use Rattle.std.proofs.lemmas.List.Kept.{AllPairs-filter}
+use Rattle.cstn_net.specs.Networks.{Network, Constraint, IsConstraint, IsValue, IsWellFormed}
+use Rattle.cstn_net.specs.declared.constraints.Constraint.{Constraint as DeclaredConstraint}
+use Rattle.cstn_net.specs.Read.{the_constraint}
+use Rattle.cstn_net.specs.Strategies.{IsConsistent}
+use Rattle.cstn_net.proofs.Kept.{fewer_constraints}
+use Rattle.cstn_net.proofs.WellFormed.{well_formed_with}
+use Rattle.cstn_check.specs.Growth.{is_refuted, log_of}
+use Rattle.cstn_check.proofs.Decides.{log_decides}
+use Rattle.cstn_conflict.specs.Sets.{ids_of, has, less, with_ids, is_consistent}
+use Rattle.cstn_conflict.specs.Trials.{without}
+
+-- the set without an id has the others
+pub less_has : (id x : ℕ) (set : List ℕ) → has (less id set) x ≡ (has set x && not (eqb x id))
+less_has id x [] = refl
+less_has id x (i ∷ is) = elim (cases_Bool (eqb i id)) [
+  | inl same ↦
+      let gone : less id (i ∷ is) ≡ less id is = cond-false (not (eqb i id)) (i ∷ less id is) (less id is) (not_from_true (eqb i id) same) in
+      ap (λ s. has s x) gone ∙ less_has id x is ∙ first same
+  | inr other ↦
+      let stays : less id (i ∷ is) ≡ i ∷ less id is = cond-true (not (eqb i id)) (i ∷ less id is) (less id is) (not_from_false (eqb i id) other) in
+      ap (λ s. has s x) stays ∙ ap (λ b. eqb i x || b) (less_has id x is) ∙ first_stays other
+]
+  where
+    first : eqb i id ≡ true → (has is x && not (eqb x id)) ≡ ((eqb i x || has is x) && not (eqb x id))
+    first same = elim (cases_Bool (eqb i x)) [
+      | inl here ↦
+          let e : eqb x id ≡ true = eq-eqb x id (sym (eqb-true i x here) ∙ eqb-true i id same) in
+          and_right (has is x) (not (eqb x id)) (not_from_true (eqb x id) e)
+          ∙ sym (and_right (eqb i x || has is x) (not (eqb x id)) (not_from_true (eqb x id) e))
+      | inr there ↦ ap (λ b. (b || has is x) && not (eqb x id)) (sym there)
+    ]
+
+    first_stays : eqb i id ≡ false → (eqb i x || (has is x && not (eqb x id))) ≡ ((eqb i x || has is x) && not (eqb x id))
+    first_stays other = elim (cases_Bool (eqb i x)) [
+      | inl here ↦
+          let e : eqb x id ≡ false = ap (λ k. eqb k id) (sym (eqb-true i x here)) ∙ other in
+          or_left (eqb i x) (has is x && not (eqb x id)) here
+          ∙ sym (and_from (eqb i x || has is x) (not (eqb x id)) (or_left (eqb i x) (has is x) here) (not_from_false (eqb x id) e))
+      | inr there ↦
+          ap (λ b. b || (has is x && not (eqb x id))) there ∙ ap (λ b. (b || has is x) && not (eqb x id)) (sym there)
+    ]
+
+pub filter_twice : {X : Type 0} (p q : X → Bool) (xs : List X) → filter p (filter q xs) ≡ filter (λ x. q x && p x) xs
+filter_twice p q [] = refl
+filter_twice p q (x ∷ xs) = elim (cases_Bool (q x)) [
+  | inl t ↦ rw (t, filter_twice p q xs) refl
+  | inr f ↦ rw (f, filter_twice p q xs) refl
+]
+
+-- taking the constraint of an id out of a network with a set leaves that with one id less
+pub without_is : (net : Network) (set : List ℕ) (id : ℕ) → without id (with_ids net set) ≡ with_ids net (less id set)
+without_is net set id = ap (λ cs. record net { constraints = cs })
+    (filter_twice (λ c. not (eqb c.id id)) (λ c. has set c.id) net.constraints
+    ∙ filter_agree (λ c. has set c.id && not (eqb c.id id)) (λ c. has (less id set) c.id) (λ c. sym (less_has id c.id set)) net.constraints)
+
+-- and the ids without it
+pub ids_without : (id : ℕ) (net : Network) → ids_of (without id net) ≡ less id (ids_of net)
+ids_without id net = go net.constraints
+  where
+    go : (cs : List Constraint) → map (λ (c : Constraint). c.id) (filter (λ c. not (eqb c.id id)) cs) ≡ less id (map (λ (c : Constraint). c.id) cs)
+    go [] = refl
+    go (c ∷ cs) = elim (cases_Bool (not (eqb c.id id))) [
+      | inl t ↦ rw t (ap (λ is. c.id ∷ is) (go cs))
+      | inr f ↦ rw f (go cs)
+    ]
+
+-- a network has its own ids
+pub whole_is : (net : Network) → with_ids net (ids_of net) ≡ net
+whole_is net = ap (λ cs. record net { constraints = cs }) (go net.constraints (λ id h. h))
+  where
+    go : (cs : List Constraint) → ((id : ℕ) → has (map (λ (c : Constraint). c.id) cs) id ≡ true → has (ids_of net) id ≡ true) →
+        filter (λ c. has (ids_of net) c.id) cs ≡ cs
+    go [] among = refl
+    go (c ∷ cs) among =
+        let here = among c.id (or_left (eqb c.id c.id) (has (map (λ (d : Constraint). d.id) cs) c.id) (eq-eqb c.id c.id refl)) in
+        cond-true (has (ids_of net) c.id) (c ∷ filter (λ d. has (ids_of net) d.id) cs) (filter (λ d. has (ids_of net) d.id) cs) here
+        ∙ ap (λ ds. c ∷ ds) (go cs (λ id h. among id (or_right (eqb c.id id) (has (map (λ (d : Constraint). d.id) cs) id) h)))
+
+-- a network with some of its constraints is well-formed
+some_well_formed : (net : Network) (test : Constraint → Bool) → IsWellFormed net → IsWellFormed (record net { constraints = filter test net.constraints })
+some_well_formed net test h =
+    let cs = net.constraints in
+    well_formed_with net (filter test cs) h
+    (let few = h.few_constraints in
+    let both = length-filter_both test (λ c. not (test c)) (λ c. refl) cs in omega arith)
+    (All-filter test (IsConstraint net) cs h.network.constraints)
+    (AllPairs-filter (λ b c. b.id < c.id) test cs h.ascending)
+    (All-filter test (λ c. IsValue c.most) cs h.values)
+
+pub set_well_formed : (net : Network) (set : List ℕ) → IsWellFormed net → IsWellFormed (with_ids net set)
+set_well_formed net set = some_well_formed net (λ c. has set c.id)
+
+pub without_well_formed : (id : ℕ) (net : Network) → IsWellFormed net → IsWellFormed (without id net)
+without_well_formed id net = some_well_formed net (λ c. not (eqb c.id id))
+
+-- an element behind another, if that is there
+contains_behind : {X : Type 0} (y : X) (ys : List X) (b : Bool) (x : X) → Contains ys x → Contains (cond b (y ∷ ys) ys) x
+contains_behind y ys true x h = (suc h.0, (let less = h.1 in omega arith), h.2)
+contains_behind y ys false x h = h
+
+contains_first : {X : Type 0} (p q : X → Bool) (y : X) (ys : List X) (x : X) → (Contains (filter p ys) x → Contains (filter q ys) x) → q y ≡ true →
+    (k : ℕ) → k < length (y ∷ filter p ys) → get_or (y ∷ filter p ys) k x ≡ x → Contains (filter q (y ∷ ys)) x
+contains_first p q y ys x rest passes zero inside at = rw passes (0, omega arith, at)
+contains_first p q y ys x rest passes (suc k) inside at = contains_behind y (filter q ys) (q y) x (rest (k, omega arith, at))
+
+-- what passes a test passes a weaker one
+contains_more : {X : Type 0} (p q : X → Bool) → ((x : X) → p x ≡ true → q x ≡ true) → (xs : List X) (x : X) →
+    Contains (filter p xs) x → Contains (filter q xs) x
+contains_more p q more [] x h = h
+contains_more p q more (y ∷ ys) x h = go (contains_more p q more ys x) (p y) refl h
+  where
+    go : (Contains (filter p ys) x → Contains (filter q ys) x) → (b : Bool) → p y ≡ b → Contains (cond b (y ∷ filter p ys) (filter p ys)) x → Contains (filter q (y ∷ ys)) x
+    go rest true t g = contains_first p q y ys x rest (more y t) g.0 g.1 g.2
+    go rest false f g = contains_behind y (filter q ys) (q y) x (rest g)
+
+-- a network is consistent with fewer of its constraints
+pub fewer_ids : (net : Network) (a b : List ℕ) → ((id : ℕ) → has a id ≡ true → has b id ≡ true) → IsConsistent (with_ids net b) →
+    IsConsistent (with_ids net a)
+fewer_ids net a b among consistent = (
+  consistent.0,
+  fewer_constraints (with_ids net b) consistent.0 (filter (λ c. has a c.id) net.constraints)
+  (contains_more (λ c. has a c.id) (λ c. has b c.id) (λ c. among c.id) net.constraints) consistent.1,
+)
+
+-- the log decides whether a network is consistent
+pub decided : (net : Network) → IsWellFormed net → (is_consistent net ≡ true) ↔ IsConsistent net
+decided net good =
+    let decides = log_decides net good.network good.letters in
+    (λ t. decides.1 (not-true (is_refuted net (log_of net)) t), λ consistent. not_from_false (is_refuted net (log_of net)) (decides.0 consistent))
+
+pub not_consistent : (net : Network) → IsWellFormed net → is_consistent net ≡ false → IsConsistent net → ⊥
+not_consistent net good f consistent = both_ways (is_consistent net) f ((decided net good).1 consistent)
+
+-- the ids of the program's constraints
+pub the_ids : (cs : List DeclaredConstraint) → map (λ (c : Constraint). c.id) (map the_constraint cs) ≡ map (λ (c : DeclaredConstraint). c.id) cs
+the_ids [] = refl
+the_ids (c ∷ cs) = ap (λ ids. c.id ∷ ids) (the_ids cs)

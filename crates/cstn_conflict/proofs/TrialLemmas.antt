@@ -1,0 +1,131 @@
+-- The verdict of a check, and its refutation.
+use Rattle.std.proofs.Common.{ℕ, ◌≡◌, ◌<◌, ◌≤◌, ◌≢◌, ◌+◌, Bool, true, false, not, cond, eqb, inl, inr, Option, Some, None, Ok, Err, Result, List, [], ◌∷◌, map, refl, sym, subst, ap, ◌∙◌}
+use Rattle.std.specs.Prelude.{◌↔◌, nat_lt, IfOk, IsNone, IfNone, IfSome}
+use Rattle.std.specs.List.{All, filter}
+use Rattle.std.specs.declared.alloc.AllocError.{AllocError}
+use Rattle.std.proofs.lemmas.Bool.{cases_Bool, lt-ltb, le-ltb, ltb-true, ltb-false, cond-true, cond-false, false_from_ne_true}
+use Rattle.cstn_net.specs.Networks.{Network, IsWellFormed, count}
+use Rattle.cstn_net.specs.Strategies.{IsConsistent}
+use Rattle.cstn_net.specs.Read.{NetworkParts, the_network, the_constraint, without_id}
+use Rattle.cstn_net.specs.declared.constraints.Constraint.{Constraint}
+use Rattle.cstn_net.proofs.ChangeLemmas.{none_taken}
+use Rattle.cstn_rules.specs.Derivations.{IsRefutation}
+use Rattle.cstn_log.specs.Cuts.{part}
+use Rattle.cstn_refute.specs.Refutations.{RefutationParts, FitsText, the_steps}
+use Rattle.cstn_check.specs.Growth.{log_of, load_of}
+use Rattle.cstn_check.specs.Checks.{CheckParts}
+use Rattle.cstn_check.specs.declared.verdicts.Verdict.{Verdict}
+use Rattle.cstn_check.specs.declared.verdicts.Verdict.TheVariants.{Yes, No, Full}
+use Rattle.cstn_conflict.specs.Sets.{is_consistent}
+use Rattle.cstn_conflict.specs.Trials.{verdict_on, without, smaller, IsRefutationOf}
+use Rattle.cstn_conflict.proofs.SetLemmas.{without_well_formed, decided, not_consistent}
+
+-- what the clauses of a check say of its verdict
+abbrev pub IsAnswer : ℕ → Network → Verdict → Type 0
+IsAnswer cap net v =
+    (v ≡ Full ↔ (cap < load_of net))
+    × ((load : ℕ) → (v ≡ Yes load ↔ ((load ≡ load_of net) × (load_of net ≤ cap) × IsConsistent net)))
+    × ((load : ℕ) → (v ≡ No load ↔ ((load ≡ load_of net) × (load_of net ≤ cap) × ¬ IsConsistent net)))
+
+module _ (cap : ℕ) (net : Network) (good : IsWellFormed net) where
+  within : load_of net ≤ cap → verdict_on cap net ≡ cond (is_consistent net) (Yes (load_of net)) (No (load_of net))
+  within below = cond-false _ Full _ (le-ltb cap (load_of net) below)
+
+  verdict_is : (v : Verdict) → IsAnswer cap net v → v ≡ verdict_on cap net
+  verdict_is (Yes load) is =
+      let told = (is.1 load).0 refl in
+      ap Yes told.0 ∙ sym (within told.1 ∙ cond-true _ (Yes (load_of net)) (No (load_of net)) ((decided net good).1 told.2))
+  verdict_is (No load) is =
+      let told = (is.2 load).0 refl in
+      ap No told.0 ∙ sym (within told.1 ∙ cond-false _ (Yes (load_of net)) (No (load_of net))
+      (false_from_ne_true (is_consistent net) (λ t. told.2 ((decided net good).0 t))))
+  verdict_is Full is = sym (cond-true _ Full _ (lt-ltb cap (load_of net) (is.0.0 refl)))
+
+-- the verdict of a check that was just started
+pub started_verdict : (cap : ℕ) (net : NetworkParts) (check : CheckParts) (v : Verdict) → IsWellFormed (the_network net) →
+    check ≡ record { net = net; cap = cap; verdict = None } → IsAnswer check.cap (the_network check.net) v → v ≡ verdict_on cap (the_network net)
+started_verdict cap net check v good is answer =
+    verdict_is cap (the_network net) good v (subst (λ (c : CheckParts). IsAnswer c.cap (the_network c.net) v) is answer)
+
+-- what a verdict tells
+abbrev pub Tells : ℕ → Network → Verdict → Type 0
+Tells cap net (Yes load) = (load ≡ load_of net) × (load_of net ≤ cap) × IsConsistent net
+Tells cap net (No load) = (load ≡ load_of net) × (load_of net ≤ cap) × ¬ IsConsistent net
+Tells cap net Full = cap < load_of net
+
+pub verdict_tells : (cap : ℕ) (net : Network) → IsWellFormed net → Tells cap net (verdict_on cap net)
+verdict_tells cap net good = by (nat_lt cap (load_of net)) (is_consistent net) refl refl
+  where
+    by : (long consistent : Bool) → nat_lt cap (load_of net) ≡ long → is_consistent net ≡ consistent →
+        Tells cap net (cond long Full (cond consistent (Yes (load_of net)) (No (load_of net))))
+    by true consistent is t = ltb-true cap (load_of net) is
+    by false true is t = (refl, ltb-false cap (load_of net) is, (decided net good).0 t)
+    by false false is f = (refl, ltb-false cap (load_of net) is, not_consistent net good f)
+
+-- what the verdict on a network without a constraint tells
+module _ (cap id : ℕ) (net : Network) (v : Verdict) (well_formed : IsWellFormed net) (is : v ≡ verdict_on cap (without id net)) where
+  good : IsWellFormed (without id net)
+  good = without_well_formed id net well_formed
+
+  told : Tells cap (without id net) v
+  told = subst (Tells cap (without id net)) (sym is) (verdict_tells cap (without id net) good)
+
+  pub trial_full : v ≡ Full → cap < load_of (without id net)
+  trial_full e = subst (Tells cap (without id net)) e told
+
+  pub trial_yes : (load : ℕ) → v ≡ Yes load → (load_of (without id net) ≤ cap) × (net ≡ smaller id net)
+  trial_yes load e =
+      let t = subst (Tells cap (without id net)) e told in
+      (t.1, sym (cond-true (is_consistent (without id net)) net (without id net) ((decided (without id net) good).1 t.2)))
+
+  pub trial_no : (load : ℕ) → v ≡ No load → (load_of (without id net) ≤ cap) × (without id net ≡ smaller id net)
+  trial_no load e =
+      let t = subst (Tells cap (without id net)) e told in
+      (t.1, sym (cond-false (is_consistent (without id net)) net (without id net)
+      (false_from_ne_true (is_consistent (without id net)) (λ e. t.2 ((decided (without id net) good).0 e)))))
+
+map_without : (id : ℕ) (cs : List Constraint) → map the_constraint (without_id id cs) ≡ filter (λ c. not (eqb c.id id)) (map the_constraint cs)
+map_without id [] = refl
+map_without id (c ∷ cs) = elim (cases_Bool (not (eqb c.id id))) [
+  | inl t ↦ rw t (ap (λ ds. the_constraint c ∷ ds) (map_without id cs))
+  | inr f ↦ rw f (map_without id cs)
+]
+
+-- what is left of the program's network when the constraint of an id was taken out, if it was there
+pub taken_out : (id : ℕ) (old new : NetworkParts) (r : Option Constraint) → (IsNone r ↔ All (λ c. c.id ≢ id) old.constraints) → IfNone r (new ≡ old) →
+    IfSome r (λ _. new ≡ record old { constraints = without_id id old.constraints; spare = old.spare + 1 }) →
+    the_network new ≡ without id (the_network old)
+taken_out id old new None absent same gone =
+    ap the_network (same)
+    ∙ ap (λ cs. record (the_network old) { constraints = cs })
+    (sym (sym (map_without id old.constraints) ∙ ap (map the_constraint) (none_taken id old.constraints (absent.0 refl))))
+taken_out id old new (Some c) absent same gone =
+    ap the_network gone ∙ ap (λ cs. record (the_network old) { constraints = cs }) (map_without id old.constraints)
+
+-- a copy stands for the same network
+pub copied : (old new : NetworkParts) → new ≡ record old { spare = 0 } → the_network new ≡ the_network old
+copied old new is = ap the_network is
+
+-- the verdict of a check of a network that isn't consistent
+pub refuted_verdict : (cap : ℕ) (net : NetworkParts) (check new : CheckParts) (v : Verdict) → check ≡ record { net = net; cap = cap; verdict = None } →
+    new ≡ record check { verdict = Some v } →
+    ((load : ℕ) → (v ≡ No load ↔ ((load ≡ load_of (the_network check.net)) × (load_of (the_network check.net) ≤ check.cap) × ¬ IsConsistent (the_network check.net)))) →
+    load_of (the_network net) ≤ cap → ¬ IsConsistent (the_network net) → (load : ℕ) × (new.verdict ≡ Some (No load))
+refuted_verdict cap net check new v is answered exactly below never =
+    let said : v ≡ No (load_of (the_network check.net)) = (exactly (load_of (the_network check.net))).1 (
+      refl,
+      subst (λ (c : CheckParts). load_of (the_network c.net) ≤ c.cap) (sym is) below,
+      subst (λ (c : CheckParts). ¬ IsConsistent (the_network c.net)) (sym is) never,
+    ) in
+    (load_of (the_network check.net), ap (λ (c : CheckParts). c.verdict) answered ∙ ap Some said)
+
+-- the network of the check is the one that was handed in
+pub same_net : (cap : ℕ) (net : NetworkParts) (check new : CheckParts) (v : Verdict) → check ≡ record { net = net; cap = cap; verdict = None } →
+    new ≡ record check { verdict = Some v } → new.net ≡ net
+same_net cap net check new v is answered = ap (λ (c : CheckParts). c.net) answered ∙ ap (λ (c : CheckParts). c.net) is
+
+-- the clauses of a refutation, as one
+pub refutation_of : (net : Network) (r : Result RefutationParts AllocError) → IfOk r (λ r. the_steps r ≡ part (log_of net)) → IfOk r (λ r. r.load ≡ load_of net) →
+    IfOk r (λ r. IsRefutation net (the_steps r)) → IfOk r (λ r. All (λ e. e.bound.node.0 < count net) r.steps) → IfOk r FitsText → IfOk r (IsRefutationOf net)
+refutation_of net (Ok r) part load refutes named text = record { part = part; load = load; refutes = refutes; named = named; text = text }
+refutation_of net (Err e) part load refutes named text = tt

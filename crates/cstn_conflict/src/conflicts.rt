@@ -1,0 +1,109 @@
+// The conflict set of a network, by a fresh check of each set that is tried.
+ghost use Rattle.std.specs.Prelude.{ℕ, ◌≡◌, ◌<◌, ◌≤◌, true, false, IfOk, IsOk, IsErrOf, length};
+ghost use Rattle.std.specs.List.{All, AllPairs, Contains};
+ghost use Rattle.cstn_net.specs.Networks.{count};
+ghost use Rattle.cstn_net.specs.Strategies.{IsConsistent};
+ghost use Rattle.cstn_net.specs.Read.{the_network};
+ghost use Rattle.cstn_rules.specs.Derivations.{IsRefutation};
+ghost use Rattle.cstn_log.specs.Cuts.{part};
+ghost use Rattle.cstn_check.specs.Growth.{log_of, load_of, most_entries};
+ghost use Rattle.cstn_refute.specs.Refutations.{FitsText, the_steps};
+ghost use Rattle.cstn_conflict.specs.Sets.{with_ids, less, ids_of};
+ghost use Rattle.cstn_conflict.specs.Conflicts.{conflict_set, is_full};
+ghost use Rattle.cstn_conflict.specs.Trials.{is_any_above, IsRefutationOf};
+
+use crate::errors::ConflictError;
+use crate::ids::{Ids, ids_of};
+use crate::trials::{is_well_formed, leave_out, verdict_on};
+use cstn_check::{Check, Verdict};
+use cstn_net::Network;
+use cstn_refute::Refutation;
+use std::alloc::{AllocError, Global};
+
+/// Ids of constraints that can't be met together, and what refutes the network with these alone.
+#[derive(Debug, Drop)]
+pub struct Conflict {
+    pub ids: Ids,
+    pub refutation: Refutation,
+}
+
+/// The conflict set of a network that isn't consistent: each constraint in ascending id is left out for good where the
+/// network isn't consistent without it. Each set is tried by a check whose log may have `cap` entries, and the refutation is
+/// that of the check of the network with the conflict set. The network is dropped, also where there is none.
+pub fn smallest(alloc: Global, net: Network, cap: u32) -> Result<Conflict, ConflictError>
+    requires some { 1 ≤ cap }
+    requires most { cap ≤ 4194304 }
+    // It is refused exactly where the network is consistent or a log is full, but for want of memory.
+    ensures consistent { (load : ℕ) → IsErrOf result (ConflictError.Consistent load) → (load ≡ load_of (the_network net)) × (load_of (the_network net) ≤ cap) × IsConsistent (the_network net) }
+    ensures full { IsErrOf result ConflictError.Full → is_full cap (the_network net) ≡ true }
+    ensures bounded { IsErrOf result ConflictError.Full → cap < most_entries (the_network net) }
+    ensures refused { IsOk result → (IsConsistent (the_network net) → ⊥) × (is_full cap (the_network net) ≡ false) }
+
+    ensures ids { IfOk result (λ conflict. conflict.ids ≡ conflict_set (the_network net)) }
+    ensures ascending { IfOk result (λ conflict. AllPairs (λ a b. a < b) conflict.ids) }
+    ensures some { IfOk result (λ conflict. 1 ≤ length conflict.ids) }
+
+    // The constraints can't be met together, and with any one of them less they can.
+    ensures inconsistent { IfOk result (λ conflict. IsConsistent (with_ids (the_network net) conflict.ids) → ⊥) }
+    ensures needed { IfOk result (λ conflict. (id : ℕ) → Contains conflict.ids id → IsConsistent (with_ids (the_network net) (less id conflict.ids))) }
+
+    ensures part { IfOk result (λ conflict. the_steps conflict.refutation ≡ part (log_of (with_ids (the_network net) (conflict_set (the_network net))))) }
+    ensures load { IfOk result (λ conflict. conflict.refutation.load ≡ load_of (with_ids (the_network net) (conflict_set (the_network net)))) }
+    ensures refutes { IfOk result (λ conflict. IsRefutation (with_ids (the_network net) conflict.ids) (the_steps conflict.refutation)) }
+    ensures named { IfOk result (λ conflict. All (λ e. e.bound.node.0 < count (the_network net)) conflict.refutation.steps) }
+    ensures text { IfOk result (λ conflict. FitsText conflict.refutation) }
+{
+    is_well_formed(&net);
+    match verdict_on(alloc, net.copy(alloc)?, cap)? {
+        Verdict::Yes { load } => Err(ConflictError::Consistent { load }),
+        Verdict::Full => Err(ConflictError::Full),
+        Verdict::No { .. } => conflict_of(alloc, net, cap),
+    }
+}
+
+// The conflict set of a network whose check is no.
+fn conflict_of(alloc: Global, net: Network, cap: u32) -> Result<Conflict, ConflictError>
+    requires cap { (1 ≤ cap) × (cap ≤ 4194304) }
+    requires within { load_of (the_network net) ≤ cap }
+    requires inconsistent { IsConsistent (the_network net) → ⊥ }
+    ensures never { (load : ℕ) → IsErrOf result (ConflictError.Consistent load) → ⊥ }
+    ensures full { IsErrOf result ConflictError.Full → is_any_above cap (the_network net) ≡ true }
+    ensures within { IsOk result → is_any_above cap (the_network net) ≡ false }
+    ensures ids { IfOk result (λ conflict. conflict.ids ≡ conflict_set (the_network net)) }
+    ensures refuted { IfOk result (λ conflict. IsRefutationOf (with_ids (the_network net) (conflict_set (the_network net))) conflict.refutation) }
+{
+    is_well_formed(&net);
+    let net = least(alloc, net, cap)?;
+    let ids = ids_of(alloc, &net)?;
+    let refutation = refuted(alloc, net, cap)?;
+    Ok(Conflict { ids, refutation })
+}
+
+// What is left of the network when each constraint was tried.
+fn least(alloc: Global, net: Network, cap: u32) -> Result<Network, ConflictError>
+    requires cap { (1 ≤ cap) × (cap ≤ 4194304) }
+    ensures never { (load : ℕ) → IsErrOf result (ConflictError.Consistent load) → ⊥ }
+    ensures full { IsErrOf result ConflictError.Full → is_any_above cap (the_network net) ≡ true }
+    ensures within { IsOk result → is_any_above cap (the_network net) ≡ false }
+    ensures left { IfOk result (λ left. the_network left ≡ with_ids (the_network net) (conflict_set (the_network net))) }
+    ensures ids { IfOk result (λ left. ids_of (the_network left) ≡ conflict_set (the_network net)) }
+{
+    let mut net = net;
+    let ids = ids_of(alloc, &net)?;
+    for id in ids.as_slice() {
+        leave_out(alloc, &mut net, *id, cap)?;
+    }
+    Ok(net)
+}
+
+// What refutes a network whose check is no.
+fn refuted(alloc: Global, net: Network, cap: u32) -> Result<Refutation, AllocError>
+    requires cap { (1 ≤ cap) × (cap ≤ 4194304) }
+    requires within { load_of (the_network net) ≤ cap }
+    requires inconsistent { IsConsistent (the_network net) → ⊥ }
+    ensures { IfOk result (IsRefutationOf (the_network net)) }
+{
+    let mut check = Check::start(alloc, net, cap)?;
+    check.run();
+    check.refutation(alloc)
+}

@@ -1,0 +1,16 @@
+//! Conflict sets: a smallest set of constraints of a network that can't be met together.
+#![tactic(auto)]
+
+mod conflicts;
+mod errors;
+mod ids;
+mod laws;
+mod trials;
+
+pub use conflicts::{Conflict, smallest};
+pub use errors::ConflictError;
+pub use ids::Ids;
+pub use laws::sets_are_decided;
+
+#[cfg(test)]
+mod tests;
