@@ -6,4 +6,4 @@ mod refusals;
 mod verdicts;
 
 pub use documents::{Opened, open};
-pub use verdicts::{Decided, decide, yes_line};
+pub use verdicts::{Decided, decide, full, yes_line};

@@ -86,8 +86,8 @@ fn refuted(alloc: Global, check: &Check, names: &Names) -> Result<Said, Refused>
     })
 }
 
-// What is said where the log has more entries than it may.
-fn full(alloc: Global, cap: u32) -> Result<Said, Refused>
+/// What is said where a log has more entries than it may.
+pub fn full(alloc: Global, cap: u32) -> Result<Said, Refused>
     ensures said { IfOk result (λ said. the_said said ≡ record { outcome = Outcome.Full; text = full_line cap }) }
     ensures fault { IsErrOf result Refused.ReadFault → ⊥ }
 {

@@ -1,0 +1,6 @@
+// What stands for an answer: the bounds of a yes, and the constraints to blame for a no.
+#![tactic(auto)]
+
+mod conflicts;
+
+pub use conflicts::blame;
