@@ -1,18 +1,16 @@
 -- Faults, in their order.
-use Rattle.std.proofs.Common.{ℕ, ◌≡◌, ◌≢◌, ◌+◌, ◌≤◌, ◌<◌, ◌⊎◌, ◌↔◌, List, Some, length, map, arith, inl, inr, refl, sym, subst, ap, ◌∙◌}
+use Rattle.std.proofs.Common.{ℕ, ◌≡◌, ◌<◌, ◌⊎◌, ◌↔◌, List, Some, arith, inl, inr, refl, sym, subst, ap}
 use Rattle.std.specs.Prelude.{slice_get}
 use Rattle.std.specs.List.{Contains}
-use Rattle.std.proofs.lemmas.Bool.{cases_lt, cases_eq}
-use Rattle.std.proofs.lemmas.Option.{slice_get_within, same_Some}
+use Rattle.std.proofs.lemmas.Bool.{cases_lt}
 use Rattle.cstn_label.specs.Bounds.{Bound}
-use Rattle.cstn_net.specs.Networks.{Network, Constraint, count}
-use Rattle.cstn_rules.specs.Rules.{IsBoundOf, IsBase, IsChain, IsWait, base}
+use Rattle.cstn_net.specs.Networks.{Network, count}
+use Rattle.cstn_rules.specs.Rules.{IsBoundOf, base}
 use Rattle.cstn_rules.specs.Closed.{IsCovered, IsClosed}
-use Rattle.cstn_log.proofs.ListLemmas.{one_there}
 use Rattle.cstn_closed.specs.declared.answers.ClosedAnswer.{ClosedAnswer}
 use Rattle.cstn_closed.specs.declared.answers.ClosedAnswer.TheVariants.{Accepted}
 use Rattle.cstn_closed.specs.Faults.{Fault, bad, no_base, no_chain, no_wait, IsFault, IsFit, IsBefore, IsFirstFault, IsFaultless, kind, place, other}
-use Rattle.cstn_closed.specs.Instances.{AreFit, AreBasesCovered, AreChainsCovered, AreWaitsCovered, IsChainCovered, IsWaitCovered, IsSoBefore, IsFirstOfKind, IsFirstThere}
+use Rattle.cstn_closed.specs.Instances.{AreFit, AreBasesCovered, AreChainsCovered, AreWaitsCovered, IsSoBefore, IsFirstOfKind, IsFirstThere}
 use Rattle.cstn_closed.proofs.ListLemmas.{is_there}
 
 -- what fits, or is covered, is no fault

@@ -3,3 +3,7 @@ mod WalkLemmas
 mod PlaceLemmas
 mod FaultLemmas
 mod InstanceLemmas
+mod LineLemmas
+mod BackLemmas
+mod SaidLemmas
+mod PrintLemmas

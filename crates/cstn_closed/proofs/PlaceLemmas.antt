@@ -1,9 +1,9 @@
 -- Places by time-points, linked from the last to the first, and walked.
-use Rattle.std.proofs.Common.{ℕ, ◌≡◌, ◌+◌, ◌≤◌, ◌<◌, List, Some, length, get_or, set, map, replicate, arith, inl, inr, refl, sym, subst, ap, ◌∙◌}
+use Rattle.std.proofs.Common.{ℕ, ◌≡◌, ◌+◌, ◌≤◌, ◌<◌, List, Some, length, get_or, set, map, replicate, arith, inl, inr, sym, subst, ap, ◌∙◌}
 use Rattle.std.specs.Prelude.{slice_get}
 use Rattle.std.proofs.lemmas.Bool.{cases_lt, cases_eq}
 use Rattle.std.proofs.lemmas.List.{get_or-set_same, get_or-set_other, get_or-replicate, get_or-map, get_or_past, length-map, length-replicate}
-use Rattle.std.proofs.lemmas.Option.{slice_get_within, get_or_from_slice_get, slice_get-get_or}
+use Rattle.std.proofs.lemmas.Option.{slice_get_within, get_or_from_slice_get}
 use Rattle.cstn_label.specs.declared.bounds.Bound.{Bound as Declared}
 use Rattle.cstn_label.specs.Bounds.{Bound, Dominates}
 use Rattle.cstn_label.specs.Read.{the_bound}

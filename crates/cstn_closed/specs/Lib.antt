@@ -4,5 +4,6 @@ pub mod Faults
 pub mod Instances
 pub mod Answers
 pub mod Texts
+pub mod Orders
 pub mod Written
 pub mod Read

@@ -8,6 +8,7 @@ ghost use Rattle.cstn_rules.specs.Rules.{IsBoundOf};
 ghost use Rattle.cstn_text.specs.Names.{AreNames};
 ghost use Rattle.cstn_closed.specs.Faults.{Fault, IsFirstFault, IsFaultless};
 ghost use Rattle.cstn_closed.specs.Texts.{tells, told, shown};
+ghost use Rattle.cstn_closed.specs.Orders.{IsText};
 ghost use Rattle.cstn_closed.specs.Written.{AreWritten};
 
 /// A closed list whose least values are from 0 to the limit + 1 has no fault. A list has at most one first fault.
@@ -18,7 +19,13 @@ pub fn closed_lists_are_accepted()
 
 /// The text of a load and bounds says them, where each bound's time-point has a name and the numbers are in their ranges.
 /// What any text says is in these ranges.
-pub fn texts_of_bounds_are_read_back()
+pub fn closed_texts_are_read_back()
     ensures back { (names : List (List ℕ)) (load : ℕ) (bounds : List Bound) → AreNames names → AreWritten names load bounds → told names (shown names load bounds) ≡ tells load bounds }
     ensures ranges { (names : List (List ℕ)) (bytes : List ℕ) (load : ℕ) (bounds : List Bound) → told names bytes ≡ tells load bounds → AreWritten names load bounds }
+{}
+
+/// The texts that say a load and bounds in their ranges are the printed one, but for the order of the marks in its labels.
+pub fn closed_texts_are_the_shown_ones()
+    ensures said { (names : List (List ℕ)) (bytes : List ℕ) (load : ℕ) (bounds : List Bound) → told names bytes ≡ tells load bounds → IsText names load bounds bytes }
+    ensures says { (names : List (List ℕ)) (load : ℕ) (bounds : List Bound) (bytes : List ℕ) → AreNames names → AreWritten names load bounds → IsText names load bounds bytes → told names bytes ≡ tells load bounds }
 {}

@@ -17,7 +17,9 @@ pub use adopting::adopt;
 pub use answers::ClosedAnswer;
 pub use checks::check;
 pub use errors::ClosedError;
-pub use laws::{closed_lists_are_accepted, texts_of_bounds_are_read_back};
+pub use laws::{
+    closed_lists_are_accepted, closed_texts_are_read_back, closed_texts_are_the_shown_ones,
+};
 pub use lists::Closed;
 
 #[cfg(test)]

@@ -1,5 +1,10 @@
+ghost use Rattle.std.specs.Prelude.{◌≡◌};
+ghost use Rattle.cstn_label.specs.Read.{the_bound};
+ghost use Rattle.cstn_rules.specs.Rules.{base};
+
 use crate::{Closed, ClosedAnswer, ClosedError, adopt, check};
 use cstn_label::{Bound, Label, Mark, NodeId, Prop};
+use cstn_log::SoundPlan;
 use cstn_net::{Builder, Network};
 use cstn_text::Names;
 use std::alloc::{AllocError, Global};
@@ -113,10 +118,9 @@ fn first_wrong_lines(rt: HostRuntime) {
 
 // The plan of a list that is accepted, if it is.
 fn adopted(net: Network, closed: Closed) -> Option<u32> {
-    if check(&net, &closed) == ClosedAnswer::Accepted {
-        Some(adopt(net, closed).count())
-    } else {
-        None
+    match check(&net, &closed) {
+        ClosedAnswer::Accepted => Some(adopt(net, closed).count()),
+        _ => None,
     }
 }
 
@@ -129,5 +133,41 @@ fn lists_are_adopted(rt: HostRuntime) -> Result<(), Fail> {
     let closed = Closed::read(alloc, &names, text.as_bytes()).expect(&rt, text);
     let net = branch(alloc)?.close().expect(&rt, "a network");
     assert_eq!(rt; adopted(net, closed), Some(4));
+    Ok(())
+}
+
+fn base_of_origin() -> Bound
+    ensures { the_bound result ≡ base 0 }
+{
+    Bound {
+        node: NodeId(0),
+        least: 0,
+        label: Label::empty(),
+    }
+}
+
+// The plan of a network that has its origin alone and no constraint.
+fn origin_plan(alloc: Global, net: Network) -> Result<Option<SoundPlan>, AllocError> {
+    let mut bounds = Vec::with_capacity(alloc, 1)?;
+    bounds.push(base_of_origin())?;
+    if net.count() == 1 && net.constraints().is_empty() {
+        Ok(Some(SoundPlan::new(net, bounds)))
+    } else {
+        Ok(None)
+    }
+}
+
+#[test]
+fn the_list_of_a_plan(rt: HostRuntime) -> Result<(), Fail> {
+    let alloc = rt.alloc();
+    let names = names(&rt, alloc);
+    assert!(rt; names.count() < 1000);
+    let mut net = Builder::new(alloc, 5);
+    net.node(None)?;
+    let net = net.close().expect(&rt, "a network");
+    let plan = origin_plan(alloc, net)?.expect(&rt, "a plan");
+    let closed = Closed::of(alloc, &plan, 7)?;
+    assert_eq!(rt; closed.load(), 7);
+    assert_eq!(rt; closed.bounds(), [base_of_origin()].as_slice());
     Ok(())
 }

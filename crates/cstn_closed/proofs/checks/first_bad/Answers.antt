@@ -1,4 +1,4 @@
-use Rattle.std.proofs.Common.{map, ◌≤◌, length, arith, ◌∙◌}
+use Rattle.std.proofs.Common.{arith}
 use Rattle.std.proofs.lemmas.Bool.{both_ways}
 use Rattle.std.proofs.lemmas.List.{length-map}
 use Rattle.cstn_label.specs.Read.{the_bound}

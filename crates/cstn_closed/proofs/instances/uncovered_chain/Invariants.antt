@@ -1,7 +1,6 @@
 use Rattle.std.proofs.Common.{◌-◌, length}
 use Rattle.cstn_label.specs.Read.{the_bound}
 use Rattle.cstn_net.specs.Links.{ends}
-use Rattle.cstn_net.specs.Read.{the_network}
 use Rattle.cstn_closed.specs.Closed.{the_bounds}
 use Rattle.cstn_closed.proofs.InstanceLemmas.{IsChainedAt}
 use Rattle.cstn_closed.proofs.WalkLemmas.{IsWalked}

@@ -1,7 +1,6 @@
-use Rattle.std.proofs.Common.{◌≤◌, length, arith}
+use Rattle.std.proofs.Common.{arith}
 use Rattle.std.proofs.lemmas.List.{length-map}
 use Rattle.cstn_label.specs.Read.{the_bound}
-use Rattle.cstn_net.specs.Networks.{Observes}
 use Rattle.cstn_net.specs.Read.{the_network}
 use Rattle.cstn_closed.specs.Closed.{the_bounds}
 use Rattle.cstn_closed.specs.Instances.{AreWaitsCovered, IsWaitCovered}
@@ -9,17 +8,17 @@ use Rattle.cstn_closed.proofs.InstanceLemmas.{first_awaited, none_observed}
 use Rattle.cstn_closed.proofs.ListLemmas.{fit_here, image_there, so_here, so_more, so_all}
 use Rattle.cstn_closed.proofs.instances.uncovered_wait.Goals as goal
 
-pub is_at_observer-requires : goal.is_at_observer-requires
-is_at_observer-requires c = record {
+pub observed-requires : goal.observed-requires
+observed-requires c = record {
   node = (fit_here (the_network c.args.net.now) c.args.closed.now.bounds c.args.seen c.bound-first.result c.requires.fit c.bound-first.ensures.bound).range.node;
 }
 
-pub returns-then-not-is_at_observer-clause-none : goal.returns-then-not-is_at_observer-clause-none
-returns-then-not-is_at_observer-clause-none c =
+pub returns-in_default-clause-none : goal.returns-in_default-clause-none
+returns-in_default-clause-none c =
     let net = the_network c.args.net.now in
     let bounds = the_bounds c.args.closed.now in
     so_here (AreWaitsCovered net bounds) c.args.closed.now.bounds c.args.seen c.bound-first.result c.bound-first.ensures.bound
-    (none_observed net bounds (the_bound c.bound-first.result) (c.is_at_observer.ensures.observer c.if-not-is_at_observer.true))
+    (none_observed net bounds (the_bound c.bound-first.result) c.in_default.ensures.none)
 
 pub is_wait_covered-requires-clause-seen : goal.is_wait_covered-requires-clause-seen
 is_wait_covered-requires-clause-seen c =

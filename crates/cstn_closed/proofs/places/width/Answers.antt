@@ -1,4 +1,4 @@
-use Rattle.std.proofs.Common.{◌<◌, ◌≤◌, arith, subst, sym, take}
+use Rattle.std.proofs.Common.{◌<◌, ◌≤◌, arith, subst, take}
 use Rattle.std.proofs.lemmas.List.Elements.{All-more, All-weaker}
 use Rattle.std.proofs.Math.Seq.{take_all}
 use Rattle.std.specs.List.{All}

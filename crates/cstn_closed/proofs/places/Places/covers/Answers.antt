@@ -1,4 +1,4 @@
-use Rattle.std.proofs.Common.{◌≡◌, ◌+◌, ◌<◌, length, get_or, arith, sym, subst, ◌∙◌}
+use Rattle.std.proofs.Common.{◌+◌, ◌<◌, length, get_or, arith, sym, subst, ◌∙◌}
 use Rattle.std.proofs.lemmas.Bool.{both_ways}
 use Rattle.std.proofs.lemmas.List.{length-map}
 use Rattle.cstn_label.specs.declared.bounds.Bound.{Bound}

@@ -1,5 +1,4 @@
-use Rattle.std.proofs.Common.{◌≡◌, ◌≤◌, ◌<◌, length}
-use Rattle.std.specs.List.{All}
+use Rattle.std.proofs.Common.{◌≡◌, ◌≤◌, length}
 use Rattle.cstn_closed.specs.Places.{ArePlacesFrom, nodes}
 use Rattle.cstn_closed.proofs.places.Places.link.Given as goal
 

@@ -1,0 +1,97 @@
+-- Texts, bound by bound.
+use Rattle.std.proofs.Common.{ℕ, ◌≡◌, ◌+◌, ◌<◌, List, [], ◌∷◌, ◌++◌, length, get_or, take, map, arith, refl, sym, subst, ap, ◌∙◌, codes}
+use Rattle.std.specs.Prelude.{String, string_bytes}
+use Rattle.std.specs.List.{All}
+use Rattle.std.specs.declared.alloc.Global.{Global}
+use Rattle.std.proofs.lemmas.List.{append_assoc, map_more, length-map, get_or-map}
+use Rattle.std.proofs.lemmas.List.Elements.{All-nil, All-cons, All-get_or, All-tail}
+use Rattle.cstn_label.specs.declared.bounds.Bound.{Bound as Declared}
+use Rattle.cstn_label.specs.Bounds.{Bound}
+use Rattle.cstn_label.specs.Read.{marks, the_bound}
+use Rattle.cstn_label.proofs.ReadLemmas.{unmarked_above}
+use Rattle.cstn_text.specs.Names.{AreNames}
+use Rattle.cstn_text.specs.Numbers.{printed_number, printed_value}
+use Rattle.cstn_text.specs.PrintedNames.{printed_name}
+use Rattle.cstn_text.specs.PrintedLabels.{printed_label}
+use Rattle.cstn_refute.specs.Steps.{printed_bound}
+use Rattle.cstn_closed.specs.Closed.{ClosedParts, the_bounds}
+use Rattle.cstn_closed.specs.Texts.{printed_bounds, shown, told, tells}
+use Rattle.cstn_closed.specs.Written.{FitsText, IsNamed, IsWritten, AreWritten}
+use Rattle.cstn_closed.proofs.BackLemmas.{shown_back}
+
+-- the lines of some bounds and of a further one
+lines_of_more : (names : List (List ℕ)) (bounds : List Bound) (b : Bound) →
+    printed_bounds names (bounds ++ b ∷ []) ≡ printed_bounds names bounds ++ (codes "bound " ++ printed_bound names b ++ 10 ∷ [])
+lines_of_more names [] b = refl
+lines_of_more names (x ∷ xs) b =
+    ap (λ (t : List ℕ). codes "bound " ++ printed_bound names x ++ 10 ∷ t) (lines_of_more names xs b)
+    ∙ sym (append_assoc (codes "bound " ++ printed_bound names x) (10 ∷ printed_bounds names xs) (codes "bound " ++ printed_bound names b ++ 10 ∷ []))
+
+-- a text of some bounds goes on with the line of the next
+pub one_more : (names : List (List ℕ)) (load : ℕ) (xs : List Declared) (k : ℕ) (x : Declared) (old : List ℕ) →
+    k < length xs → x ≡ get_or xs k x → old ≡ shown names load (map the_bound (take k xs)) →
+    old ++ (codes "bound " ++ printed_bound names (the_bound x) ++ 10 ∷ []) ≡ shown names load (map the_bound (take (k + 1) xs))
+one_more names load xs k x old inside there before =
+    let more = map_more the_bound xs k x inside ∙ ap (λ y. map the_bound (take k xs) ++ the_bound y ∷ []) (sym there) in
+    let line = codes "bound " ++ printed_bound names (the_bound x) ++ 10 ∷ [] in
+    ap (λ t. t ++ line) before
+    ∙ append_assoc (codes "yes " ++ printed_number load) (10 ∷ printed_bounds names (map the_bound (take k xs))) line
+    ∙ ap (λ t. codes "yes " ++ printed_number load ++ 10 ∷ t)
+    (sym (lines_of_more names (map the_bound (take k xs)) (the_bound x)) ∙ ap (printed_bounds names) (sym more))
+
+-- a name was printed at its place
+pub name_at : (texts : List (String Global)) (names : List (List ℕ)) (i : ℕ) (d : String Global) → map string_bytes texts ≡ map printed_name names → i < length names →
+    string_bytes (get_or texts i d) ≡ printed_name (get_or names i [])
+name_at texts names i d same inside =
+    let long : length texts ≡ length names = sym (length-map texts string_bytes) ∙ ap length same ∙ length-map names printed_name in
+    sym (get_or-map string_bytes texts i d [] (omega arith)) ∙ ap (λ (ts : List (List ℕ)). get_or ts i []) same ∙ get_or-map printed_name names i [] [] inside
+
+-- the line of a bound, by the text of its name
+pub line_of : (names : List (List ℕ)) (b : Declared) (text old new : List ℕ) → text ≡ printed_name (get_or names b.node.0 []) →
+    new ≡ old ++ (codes "bound " ++ (text ++ 32 ∷ printed_value b.least ++ 32 ∷ printed_label (marks b.label)) ++ 10 ∷ []) →
+    new ≡ old ++ (codes "bound " ++ printed_bound names (the_bound b) ++ 10 ∷ [])
+line_of names b text old new is pushed =
+    pushed
+    ∙ ap (λ (t : List ℕ). old ++ (codes "bound " ++ (t ++ 32 ∷ printed_value b.least ++ 32 ∷ printed_label (marks b.label)) ++ 10 ∷ [])) is
+
+first : (P : Declared → Type 0) (x : Declared) (xs : List Declared) → All P (x ∷ xs) → P x
+first P x xs all = All-get_or P (x ∷ xs) 0 x (omega arith) all
+
+-- bounds that have names can be written
+are_written : (names : List (List ℕ)) (xs : List Declared) → All (IsNamed names) xs → All (IsWritten names) (map the_bound xs)
+are_written names [] named = All-nil (IsWritten names)
+are_written names (x ∷ xs) named =
+    let here = first (IsNamed names) x xs named in
+    All-cons (IsWritten names) (the_bound x) (map the_bound xs)
+    (record { node = here.node; low = here.low; high = here.high; marks = unmarked_above x.label })
+    (are_written names xs (All-tail (IsNamed names) x xs named))
+
+-- what is printed of a list is read again
+pub closed_back : (names : List (List ℕ)) (c : ClosedParts) (text : List ℕ) → AreNames names → All (IsNamed names) c.bounds → FitsText c →
+    text ≡ shown names c.load (the_bounds c) → told names text ≡ tells c.load (the_bounds c)
+closed_back names c text are named fits is =
+    let written : AreWritten names c.load (the_bounds c) = record {
+      load_low = fits.load_low;
+      load_high = fits.load_high;
+      some = rw (length-map c.bounds the_bound) fits.some;
+      few = rw (length-map c.bounds the_bound) fits.few;
+      each = are_written names c.bounds named;
+    } in
+    subst (λ t. told names t ≡ tells c.load (the_bounds c)) (sym is) (shown_back names c.load (the_bounds c) are written)
+
+-- bounds that can be written have names
+pub are_named : (names : List (List ℕ)) (xs : List Declared) → All (IsWritten names) (map the_bound xs) → All (IsNamed names) xs
+are_named names [] all = All-nil (IsNamed names)
+are_named names (x ∷ xs) all =
+    let here = All-get_or (IsWritten names) (the_bound x ∷ map the_bound xs) 0 (the_bound x) (omega arith) all in
+    All-cons (IsNamed names) x xs (record { node = here.node; low = here.low; high = here.high })
+    (are_named names xs (All-tail (IsWritten names) (the_bound x) (map the_bound xs) all))
+
+-- and a load and bounds that can be written fit a text
+pub fits_text : (names : List (List ℕ)) (c : ClosedParts) → AreWritten names c.load (the_bounds c) → FitsText c
+fits_text names c are = record {
+  load_low = are.load_low;
+  load_high = are.load_high;
+  some = rw (sym (length-map c.bounds the_bound)) are.some;
+  few = rw (sym (length-map c.bounds the_bound)) are.few;
+}
