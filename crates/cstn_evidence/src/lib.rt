@@ -2,5 +2,7 @@
 #![tactic(auto)]
 
 mod conflicts;
+mod lists;
 
 pub use conflicts::blame;
+pub use lists::list_bounds;

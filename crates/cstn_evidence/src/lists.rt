@@ -1,0 +1,65 @@
+// The bounds that make a yes.
+ghost use Rattle.std.specs.Prelude.{ℕ, ◌≡◌, ◌≤◌, IfOk, IsErrOf, Some, length};
+ghost use Rattle.cstn_net.specs.Networks.{IsWellFormed, count};
+ghost use Rattle.cstn_net.specs.Read.{the_network};
+ghost use Rattle.cstn_check.specs.Growth.{log_of, load_of, live_bounds};
+ghost use Rattle.cstn_check.specs.declared.verdicts.Verdict.TheVariants.{Yes};
+ghost use Rattle.cstn_closed.specs.Texts.{shown};
+ghost use Rattle.cstn_reply.specs.Plans.{says};
+ghost use Rattle.cstn_reply.specs.Read.{the_said};
+ghost use Rattle.cstn_evidence.specs.Bounds.{listed};
+
+use cstn_check::{Check, growth_ends, live_bounds_are_in_range};
+use cstn_closed::Closed;
+use cstn_net::Network;
+use cstn_reply::{Outcome, Refused, Said};
+use cstn_text::Names;
+use cstn_verdict::{Decided, decide};
+use std::alloc::Global;
+
+/// Says the bounds of the live entries of a network's log, which may have `cap` entries; after no what refutes the network.
+pub fn list_bounds(
+    alloc: Global,
+    network: Network,
+    names: &Names,
+    cap: u32,
+) -> Result<Said, Refused>
+    requires some { 1 ≤ cap }
+    requires most { cap ≤ 4194304 }
+    requires well_formed { IsWellFormed (the_network network) }
+    requires named { length names.now ≡ count (the_network network) }
+    ensures said { IfOk result (λ said. says (the_said said) ≡ listed cap names.now (the_network network)) }
+    ensures fault { IsErrOf result Refused.ReadFault → ⊥ }
+{
+    growth_ends();
+    match decide(alloc, network, names, cap) {
+        Ok(Decided::Yes { load, check }) => list(alloc, load, check, names),
+        Ok(Decided::Told(said)) => Ok(said),
+        Err(refused) => Err(refused),
+    }
+}
+
+// The bounds that a check leaves after yes.
+fn list(alloc: Global, load: u32, check: Check, names: &Names) -> Result<Said, Refused>
+    requires yes { (l : ℕ) × (check.verdict ≡ Some (Yes l)) }
+    requires low { 1 ≤ load }
+    requires high { load ≤ 4194304 }
+    requires load { load ≡ load_of (the_network check.net) }
+    requires well_formed { IsWellFormed (the_network check.net) }
+    requires named { length names.now ≡ count (the_network check.net) }
+    ensures said { IfOk result (λ said. the_said said ≡ record { outcome = Outcome.Good; text = shown names.now (load_of (the_network check.net)) (live_bounds (log_of (the_network check.net))) }) }
+    ensures fault { IsErrOf result Refused.ReadFault → ⊥ }
+{
+    let plan = check.into_plan();
+    live_bounds_are_in_range();
+    let Ok(closed) = Closed::of(alloc, &plan, load) else {
+        return Err(Refused::Memory);
+    };
+    let Ok(text) = closed.print(alloc, names) else {
+        return Err(Refused::Memory);
+    };
+    Ok(Said {
+        outcome: Outcome::Good,
+        text: text.into_bytes(),
+    })
+}
