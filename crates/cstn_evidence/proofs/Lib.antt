@@ -1,3 +1,5 @@
 pub mod Lines
 pub mod Blaming
 pub mod Listing
+pub mod Replaying
+pub mod Certifying

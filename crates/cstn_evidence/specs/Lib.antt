@@ -1,2 +1,3 @@
 pub mod Bounds
 pub mod Blame
+pub mod Texts

@@ -1,8 +1,13 @@
-// What stands for an answer: the bounds of a yes, and the constraints to blame for a no.
+// What stands for an answer: the bounds of a yes, the constraints to blame for a no, and the texts that tell them.
 #![tactic(auto)]
 
+mod answers;
+mod certificates;
 mod conflicts;
 mod lists;
+mod replays;
 
+pub use certificates::check_text;
 pub use conflicts::blame;
 pub use lists::list_bounds;
+pub use replays::replay_text;

@@ -10,7 +10,10 @@ use Rattle.cstn_graphml.specs.Networks.{network_of, IsUnfit}
 use Rattle.cstn_rules.specs.Derivations.{Entry, IsRefutation}
 use Rattle.cstn_replay.specs.Wrong.{IsFirstWrong, EndsInVain}
 use Rattle.cstn_reply.specs.Texts.{line}
+use Rattle.cstn_label.specs.Bounds.{Bound}
+use Rattle.cstn_closed.specs.Faults.{Fault, IsFirstFault, IsFaultless}
 use Rattle.cstn_reply.specs.Refusals.{fault_text}
+use Rattle.cstn_reply.specs.Faults.{fault_words}
 use Rattle.cstn_reply.specs.Statuses.{status_of}
 use Rattle.cstn_reply.specs.declared.status.Status.{Status}
 use Rattle.cstn_reply.specs.declared.status.Status.TheVariants.{ReadFault, WriteFault, Memory}
@@ -36,12 +39,20 @@ IsReplay steps net said =
     (IsRefutation net steps × (said ≡ say Good (codes "accepted")))
     ⊎ ((k : ℕ) × (IsFirstWrong net steps k ⊎ EndsInVain net steps k) × (said ≡ say Bad (codes "rejected " ++ decimal k)))
 
--- What a request says: a text and no more; or what the replay of steps on a network says; or an opening and then a session over
+-- what the check of a list of bounds says: it has no fault for the network, or its first fault is told
+abbrev pub IsCertificate : List (List ℕ) → List Bound → Network → Said → Type 0
+IsCertificate names bounds net said =
+    (IsFaultless net bounds × (said ≡ say Good (codes "accepted")))
+    ⊎ ((f : Fault) × IsFirstFault net bounds f × (said ≡ say Bad (codes "rejected " ++ fault_words names f)))
+
+-- What a request says: a text and no more; or what the replay of steps on a network says; or what the check of a list of bounds
+-- says, under the names of the time-points; or an opening and then a session over
 -- the lines of the live source, of which is told what it says of all lines, and what it answers to some of them alone; or what
 -- is said of the network of a document's parts, where they make one.
 pub data Plan : Type 0 where
   says : Said → Plan
   replays : List Entry → Network → Plan
+  certifies : List (List ℕ) → List Bound → Network → Plan
   talks : List ℕ → (List (List ℕ) → Said) → (List (List ℕ) → List ℕ) → Plan
   judges : Parts → Plan → Plan
 
@@ -50,6 +61,7 @@ pub data Plan : Type 0 where
 abbrev pub IsOutput : Plan → List ℕ → Said → Type 0
 IsOutput (says text) live said = said ≡ text
 IsOutput (replays steps net) live said = IsReplay steps net said
+IsOutput (certifies names bounds net) live said = IsCertificate names bounds net said
 IsOutput (talks opening whole heard) live said = said ≡ after_text opening (whole (lines_of live))
 IsOutput (judges parts plan) live said =
     (IsWellFormed (network_of parts) × IsOutput plan live said)
@@ -59,6 +71,7 @@ IsOutput (judges parts plan) live said =
 abbrev pub before_fault : Plan → List ℕ → List ℕ
 before_fault (says said) taken = []
 before_fault (replays steps net) taken = []
+before_fault (certifies names bounds net) taken = []
 before_fault (talks opening whole heard) taken = opening ++ heard (whole_lines taken)
 before_fault (judges parts plan) taken = before_fault plan taken
 
@@ -66,6 +79,7 @@ before_fault (judges parts plan) taken = before_fault plan taken
 abbrev pub MayTalk : Plan → Type 0
 MayTalk (says said) = ⊥
 MayTalk (replays steps net) = ⊥
+MayTalk (certifies names bounds net) = ⊥
 MayTalk (talks opening whole heard) = Unit {0}
 MayTalk (judges parts plan) = IsWellFormed (network_of parts) × MayTalk plan
 

@@ -2,8 +2,8 @@ use Rattle.std.proofs.Common.{◌≡◌}
 use Rattle.cstn_net.specs.Read.{the_network}
 use Rattle.cstn_refute.specs.Refutations.{the_steps}
 use Rattle.cstn_replay.specs.declared.answers.Answer.TheVariants.{Rejected}
-use Rattle.cstn_top.proofs.Replays.{rejected_said}
-use Rattle.cstn_top.proofs.commands.replay.replay_steps.Goals as goal
+use Rattle.cstn_evidence.proofs.Replaying.{rejected_said}
+use Rattle.cstn_evidence.proofs.replays.replay_steps.Goals as goal
 
 pub returns-in-Rejected-clause-said : goal.returns-in-Rejected-clause-said
 returns-in-Rejected-clause-said c =

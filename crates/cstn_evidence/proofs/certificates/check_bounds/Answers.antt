@@ -1,0 +1,13 @@
+use Rattle.cstn_net.specs.Read.{the_network}
+use Rattle.cstn_closed.specs.Closed.{the_bounds}
+use Rattle.cstn_closed.specs.Faults.{no_chain, no_wait}
+use Rattle.cstn_evidence.proofs.Certifying.{fault_said}
+use Rattle.cstn_evidence.proofs.certificates.check_bounds.Goals as goal
+
+pub returns-in-NoChain-clause-said : goal.returns-in-NoChain-clause-said
+returns-in-NoChain-clause-said c =
+    fault_said c.args.names.now (the_bounds c.args.closed.now) (the_network c.args.network.now) (no_chain c.in-NoChain.constraint c.in-NoChain.at) c.no_chain.result c.in-NoChain.ensures.answer c.no_chain.ensures.said
+
+pub returns-in-NoWait-clause-said : goal.returns-in-NoWait-clause-said
+returns-in-NoWait-clause-said c =
+    fault_said c.args.names.now (the_bounds c.args.closed.now) (the_network c.args.network.now) (no_wait c.in-NoWait.seen c.in-NoWait.at) c.no_wait.result c.in-NoWait.ensures.answer c.no_wait.ensures.said

@@ -1,0 +1,11 @@
+use Rattle.std.proofs.Common.{ℕ, List, ap, ◌∙◌, Vec, Global, codes}
+use Rattle.cstn_reply.specs.Plans.{Said}
+use Rattle.cstn_reply.specs.declared.output.Outcome.TheVariants.{Bad}
+use Rattle.cstn_evidence.proofs.Certifying.{two_numbers}
+use Rattle.cstn_evidence.proofs.certificates.no_wait.Goals as goal
+
+abbrev said_text : List ℕ → Said
+said_text text = record { outcome = Bad; text = text }
+
+pub returns-clause-said : goal.returns-clause-said
+returns-clause-said c = ap said_text (ap (λ (v : Vec ℕ Global). v.items) c.into_bytes.ensures.value ∙ (c.in-Ok.ensures.ok ∙ two_numbers (codes "rejected wait ") c.args.seen c.args.at))

@@ -1,0 +1,113 @@
+// The check of a text of bounds.
+ghost use Rattle.std.specs.Prelude.{◌≡◌, ◌≤◌, ◌<◌, ◌++◌, ℕ, List, length, IfOk, IsErrOf, codes, decimal, ◌∷◌};
+ghost use Rattle.cstn_net.specs.Networks.{count};
+ghost use Rattle.cstn_net.specs.Read.{the_network};
+ghost use Rattle.cstn_closed.specs.Closed.{the_bounds};
+ghost use Rattle.cstn_reply.specs.Refusals.{printed};
+ghost use Rattle.cstn_reply.specs.Plans.{say, IsCertificate, IsOutput};
+ghost use Rattle.cstn_reply.specs.Read.{the_said};
+ghost use Rattle.cstn_evidence.specs.Texts.{certified};
+
+use crate::answers::{accepted, wrong_line};
+use cstn_closed::{Closed, ClosedAnswer, ClosedError, check};
+use cstn_label::NodeId;
+use cstn_net::Network;
+use cstn_reply::{Outcome, Refused, Said};
+use cstn_text::{Names, print_name};
+use std::alloc::Global;
+
+/// Says whether the bounds of a text are closed for the network, or what their first fault is; of another text, which line is
+/// wrong.
+pub fn check_text(
+    alloc: Global,
+    network: &Network,
+    names: &Names,
+    text: &[u8],
+) -> Result<Said, Refused>
+    requires named { length names.now ≡ count (the_network network.now) }
+    requires few { length names.now ≤ 65536 }
+    ensures said { (live : List ℕ) → IfOk result (λ said. IsOutput (certified text.now names.now (the_network network.now)) live (the_said said)) }
+    ensures fault { IsErrOf result Refused.ReadFault → ⊥ }
+{
+    match Closed::read(alloc, names, text) {
+        Ok(closed) => check_bounds(alloc, network, names, &closed),
+        Err(ClosedError::Line { line }) => wrong_line(alloc, line),
+        Err(ClosedError::Memory(_)) => Err(Refused::Memory),
+    }
+}
+
+// The check of bounds for a network.
+fn check_bounds(
+    alloc: Global,
+    network: &Network,
+    names: &Names,
+    closed: &Closed,
+) -> Result<Said, Refused>
+    requires named { length names.now ≡ count (the_network network.now) }
+    ensures said { IfOk result (λ said. IsCertificate names.now (the_bounds closed.now) (the_network network.now) (the_said said)) }
+    ensures fault { IsErrOf result Refused.ReadFault → ⊥ }
+{
+    match check(network, closed) {
+        ClosedAnswer::Accepted => accepted(alloc),
+        ClosedAnswer::Bad { at } => bad_bound(alloc, at),
+        ClosedAnswer::NoBase { node } => no_base(alloc, node, names),
+        ClosedAnswer::NoChain { constraint, at } => no_chain(alloc, constraint, at),
+        ClosedAnswer::NoWait { seen, at } => no_wait(alloc, seen, at),
+    }
+}
+
+fn bad_bound(alloc: Global, at: u32) -> Result<Said, Refused>
+    ensures said { IfOk result (λ said. the_said said ≡ say Outcome.Bad (codes "rejected bound " ++ decimal at)) }
+    ensures fault { IsErrOf result Refused.ReadFault → ⊥ }
+{
+    let Ok(text) = format!(in alloc; "rejected bound {at}\n") else {
+        return Err(Refused::Memory);
+    };
+    Ok(Said {
+        outcome: Outcome::Bad,
+        text: text.into_bytes(),
+    })
+}
+
+fn no_base(alloc: Global, node: NodeId, names: &Names) -> Result<Said, Refused>
+    requires node { node.0 < length names.now }
+    ensures said { IfOk result (λ said. the_said said ≡ say Outcome.Bad (codes "rejected base " ++ printed names.now node.0)) }
+    ensures fault { IsErrOf result Refused.ReadFault → ⊥ }
+{
+    let Ok(name) = print_name(alloc, names.name(node)) else {
+        return Err(Refused::Memory);
+    };
+    let Ok(text) = format!(in alloc; "rejected base {name}\n") else {
+        return Err(Refused::Memory);
+    };
+    Ok(Said {
+        outcome: Outcome::Bad,
+        text: text.into_bytes(),
+    })
+}
+
+fn no_chain(alloc: Global, constraint: u32, at: u32) -> Result<Said, Refused>
+    ensures said { IfOk result (λ said. the_said said ≡ say Outcome.Bad (codes "rejected chain " ++ decimal constraint ++ 32 ∷ decimal at)) }
+    ensures fault { IsErrOf result Refused.ReadFault → ⊥ }
+{
+    let Ok(text) = format!(in alloc; "rejected chain {constraint} {at}\n") else {
+        return Err(Refused::Memory);
+    };
+    Ok(Said {
+        outcome: Outcome::Bad,
+        text: text.into_bytes(),
+    })
+}
+
+fn no_wait(alloc: Global, seen: u32, at: u32) -> Result<Said, Refused>
+    ensures said { IfOk result (λ said. the_said said ≡ say Outcome.Bad (codes "rejected wait " ++ decimal seen ++ 32 ∷ decimal at)) }
+    ensures fault { IsErrOf result Refused.ReadFault → ⊥ }
+{
+    let Ok(text) = format!(in alloc; "rejected wait {seen} {at}\n") else {
+        return Err(Refused::Memory);
+    };
+    Ok(Said {
+        outcome: Outcome::Bad,
+        text: text.into_bytes(),
+    })
+}
