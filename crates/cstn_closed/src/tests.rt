@@ -26,6 +26,18 @@ fn branch(alloc: Global) -> Result<Builder, AllocError> {
     Ok(net)
 }
 
+// And P is at 2 or later.
+fn last_tick(alloc: Global) -> Result<Builder, AllocError> {
+    let mut net = Builder::new(alloc, 10);
+    net.node(None)?;
+    net.node(Some(Prop { index: 41 }))?;
+    net.node(None)?;
+    net.constrain(2, 0, -10, p(Mark::Yes))?;
+    net.constrain(0, 2, 3, p(Mark::No))?;
+    net.constrain(1, 0, -2, Label::empty())?;
+    Ok(net)
+}
+
 fn names(rt: &impl Abort, alloc: Global) -> Names {
     let mut names = Names::new(alloc);
     for name in ["Z", "P", "X"] {
@@ -35,15 +47,16 @@ fn names(rt: &impl Abort, alloc: Global) -> Names {
     names
 }
 
-// The text is read, printed so again, and the list gets this answer on the branch network.
+// The text is read, printed so again, and the list gets this answer on the network.
 fn answered(
     rt: &impl Abort,
     alloc: Global,
+    net: Builder,
     text: &str,
     expected: ClosedAnswer,
 ) -> Result<(), Fail> {
     let names = names(rt, alloc);
-    let net = branch(alloc)?.close().expect(rt, "a network");
+    let net = net.close().expect(rt, "a network");
     assert!(rt; names.count() < 1000);
     let closed = Closed::read(alloc, &names, text.as_bytes()).expect(rt, text);
     assert_eq!(rt; closed.print(alloc, &names)?.as_str(), text);
@@ -65,23 +78,49 @@ fn wrong(rt: &impl Abort, alloc: Global, text: &str, expected: u32) {
 fn lists_are_answered(rt: HostRuntime) -> Result<(), Fail> {
     let alloc = rt.alloc();
     let whole = "yes 5\nbound Z 0 -\nbound P 0 -\nbound X 10 p\nbound X 1 -\n";
-    answered(&rt, alloc, whole, ClosedAnswer::Accepted)?;
+    answered(&rt, alloc, branch(alloc)?, whole, ClosedAnswer::Accepted)?;
     let whole = "yes 9\nbound Z 0 -\nbound P 0 -\nbound X 10 p\nbound X 1 -\n";
-    answered(&rt, alloc, whole, ClosedAnswer::Accepted)?;
+    answered(&rt, alloc, branch(alloc)?, whole, ClosedAnswer::Accepted)?;
     let short = "yes 5\nbound Z 0 -\nbound P 0 -\nbound X 10 p\n";
-    answered(&rt, alloc, short, ClosedAnswer::NoBase { node: NodeId(2) })?;
+    answered(
+        &rt,
+        alloc,
+        branch(alloc)?,
+        short,
+        ClosedAnswer::NoBase { node: NodeId(2) },
+    )?;
     let early = "yes 5\nbound Z 0 -\nbound P 0 -\nbound X 10 p\nbound X 0 -\n";
-    answered(&rt, alloc, early, ClosedAnswer::NoWait { seen: 1, at: 2 })?;
+    answered(
+        &rt,
+        alloc,
+        branch(alloc)?,
+        early,
+        ClosedAnswer::NoWait { seen: 1, at: 2 },
+    )?;
     let late = "yes 5\nbound Z 0 -\nbound P 0 -\nbound X 10 p\nbound X 11 -\n";
-    answered(&rt, alloc, late, ClosedAnswer::Bad { at: 3 })?;
+    answered(
+        &rt,
+        alloc,
+        branch(alloc)?,
+        late,
+        ClosedAnswer::Bad { at: 3 },
+    )?;
     let unseen = "yes 5\nbound Z 0 -\nbound P 0 -\nbound X 10 p\nbound X 10 q\n";
-    answered(&rt, alloc, unseen, ClosedAnswer::Bad { at: 3 })?;
+    answered(
+        &rt,
+        alloc,
+        branch(alloc)?,
+        unseen,
+        ClosedAnswer::Bad { at: 3 },
+    )?;
     let bases = "yes 5\nbound Z 0 -\nbound P 0 -\nbound X 0 -\n";
     let first = ClosedAnswer::NoChain {
         constraint: 0,
         at: 0,
     };
-    answered(&rt, alloc, bases, first)
+    answered(&rt, alloc, branch(alloc)?, bases, first)?;
+    let whole = "yes 6\nbound Z 0 -\nbound X 10 p\nbound P 2 -\nbound X 3 -\n";
+    answered(&rt, alloc, last_tick(alloc)?, whole, ClosedAnswer::Accepted)
 }
 
 #[test]

@@ -1,7 +1,7 @@
 -- The conflict set of a network that isn't consistent.
-use Rattle.std.proofs.Common.{ℕ, zero, suc, ◌≡◌, ◌<◌, ◌≤◌, Bool, true, false, cond, eqb, ltb, ◌||◌, inl, inr, Result, Ok, Err, List, [], ◌∷◌, length, get_or, map, arith, refl, sym, subst, ap, ◌∙◌}
-use Rattle.std.specs.Prelude.{IfOk, IsErrAnd, IsErrOf}
-use Rattle.std.specs.List.{All, AllPairs, Contains, filter, list_any}
+use Rattle.std.proofs.Common.{ℕ, zero, suc, ◌≡◌, ◌<◌, ◌≤◌, true, false, cond, eqb, ltb, inl, inr, Result, Ok, Err, List, [], ◌∷◌, length, get_or, arith, refl, sym, subst, ap, ◌∙◌}
+use Rattle.std.specs.Prelude.{IsErrAnd, IsErrOf}
+use Rattle.std.specs.List.{AllPairs, Contains, filter, list_any}
 use Rattle.std.proofs.lemmas.Bool.{or_cases, or_left, or_right, or_from, lt-ltb, le-ltb, ltb-true, cond-false, eq-eqb, false_from_ne_true, both_ways}
 use Rattle.std.proofs.lemmas.List.Kept.{AllPairs-filter}
 use Rattle.cstn_net.specs.Networks.{Network, Constraint, IsWellFormed}
@@ -12,8 +12,6 @@ use Rattle.cstn_check.specs.Growth.{load_of, most_entries}
 use Rattle.cstn_check.proofs.Decides.{load_bounded}
 use Rattle.cstn_check.specs.declared.verdicts.Verdict.{Verdict}
 use Rattle.cstn_check.specs.declared.verdicts.Verdict.TheVariants.{Yes, No, Full}
-use Rattle.cstn_conflict.specs.declared.conflicts.Conflict.{Conflict}
-use Rattle.cstn_conflict.specs.declared.errors.ConflictError.{ConflictError}
 use Rattle.cstn_conflict.specs.Sets.{ids_of, has, less, with_ids, is_consistent}
 use Rattle.cstn_conflict.specs.Conflicts.{left_out, left_of, tried_from, conflict_set, is_above, is_full}
 use Rattle.cstn_conflict.specs.Trials.{verdict_on, is_any_above}
@@ -69,9 +67,6 @@ module _ (net : Network) (good : IsWellFormed net) where
     others cap = ap (list_any (is_above cap net)) (cond-false (is_consistent net) [] (tried_from net (ids_of net) (ids_of net))
         (false_from_ne_true (is_consistent net) (λ t. never ((decided net good).0 t))))
 
-    pub later_full : (cap : ℕ) → is_any_above cap net ≡ true → is_full cap net ≡ true
-    later_full cap above = or_right (is_above cap net (ids_of net)) _ (others cap ∙ above)
-
     pub not_full : (cap : ℕ) → load_of net ≤ cap → is_any_above cap net ≡ false → is_full cap net ≡ false
     not_full cap below none = or_from (is_above cap net (ids_of net)) _ (whole_above cap ∙ le-ltb cap (load_of net) below) (others cap ∙ none)
 
@@ -126,9 +121,3 @@ module _ (cap : ℕ) (net other : NetworkParts) (good : IsWellFormed (the_networ
 
   pub first_no : (load : ℕ) → v ≡ No load → (load ≡ load_of (the_network net)) × (load_of (the_network net) ≤ cap) × ¬ IsConsistent (the_network net)
   first_no load e = subst (Tells cap (the_network net)) e first
-
--- what holds of the set holds of the ids of an answer that has it
-pub by_ids : (P : List ℕ → Type 0) (set : List ℕ) (r : Result Conflict ConflictError) → IfOk r (λ conflict. conflict.ids ≡ set) → P set →
-    IfOk r (λ conflict. P conflict.ids)
-by_ids P set (Ok conflict) is holds = subst P (sym is) holds
-by_ids P set (Err e) is holds = tt

@@ -1,5 +1,5 @@
 -- What is left of a set when ids were left out of it in turn.
-use Rattle.std.proofs.Common.{ℕ, suc, ◌≡◌, ◌+◌, ◌<◌, ◌≤◌, Bool, true, false, not, cond, eqb, ltb, ◌&&◌, ◌||◌, inl, inr, List, [], ◌∷◌, length, get_or, drop, arith, refl, sym, subst, ap, ◌∙◌}
+use Rattle.std.proofs.Common.{ℕ, suc, ◌≡◌, ◌+◌, ◌<◌, ◌≤◌, Bool, true, false, not, eqb, ◌||◌, inl, inr, List, [], ◌∷◌, length, get_or, drop, arith, refl, sym, subst, ap, ◌∙◌}
 use Rattle.std.specs.List.{list_any}
 use Rattle.std.proofs.lemmas.Bool.{cases_Bool, or_cases, or_parts, and_from, and_parts, cond-true, cond-false, cond_both, eqb-true, eq-eqb, not-true, both_ways, or_left, lt-ltb, le-ltb, ltb-false}
 use Rattle.std.proofs.lemmas.List.{drop_all}

@@ -1,10 +1,9 @@
 -- Networks with some of their constraints.
-use Rattle.std.proofs.Common.{ℕ, zero, suc, ◌≡◌, ◌+◌, ◌<◌, ◌≤◌, Bool, true, false, not, cond, eqb, ◌&&◌, ◌||◌, inl, inr, List, [], ◌∷◌, length, get_or, map, arith, refl, sym, subst, ap, ◌∙◌}
+use Rattle.std.proofs.Common.{ℕ, zero, suc, ◌≡◌, ◌<◌, Bool, true, false, not, cond, eqb, ◌&&◌, ◌||◌, inl, inr, List, [], ◌∷◌, length, get_or, map, arith, refl, sym, ap, ◌∙◌}
 use Rattle.std.specs.Prelude.{◌↔◌}
-use Rattle.std.specs.List.{All, AllPairs, Contains, filter, list_any}
-use Rattle.std.proofs.lemmas.Bool.{cases_Bool, false≢true, or_cases, or_left, or_right, or_from, and_from, and_parts, and_left, and_right, cond-true, cond-false, eqb-true, eq-eqb, ne_eqb, not-true, not_from_true, not_from_false, true_from_ne_false, both_ways}
-use Rattle.std.proofs.lemmas.List.{length-map}
-use Rattle.std.proofs.lemmas.List.Elements.{All-filter, All-contains, filter_agree}
+use Rattle.std.specs.List.{Contains, filter}
+use Rattle.std.proofs.lemmas.Bool.{cases_Bool, or_left, or_right, and_from, and_right, cond-true, cond-false, eqb-true, eq-eqb, not-true, not_from_true, not_from_false, both_ways}
+use Rattle.std.proofs.lemmas.List.Elements.{All-filter, filter_agree}
 use Rattle.std.proofs.lemmas.List.Filters.{length-filter_both}
 use Rattle.std.proofs.lemmas.List.Kept.{AllPairs-filter}
 use Rattle.cstn_net.specs.Networks.{Network, Constraint, IsConstraint, IsValue, IsWellFormed}
@@ -128,7 +127,7 @@ pub fewer_ids : (net : Network) (a b : List ℕ) → ((id : ℕ) → has a id �
 fewer_ids net a b among consistent = (
   consistent.0,
   fewer_constraints (with_ids net b) consistent.0 (filter (λ c. has a c.id) net.constraints)
-  (contains_more (λ c. has a c.id) (λ c. has b c.id) (λ c. among c.id) net.constraints) consistent.1,
+      (contains_more (λ c. has a c.id) (λ c. has b c.id) (λ c. among c.id) net.constraints) consistent.1,
 )
 
 -- the log decides whether a network is consistent

@@ -80,9 +80,11 @@ module _ (cap id : ℕ) (net : Network) (v : Verdict) (well_formed : IsWellForme
 
   pub trial_no : (load : ℕ) → v ≡ No load → (load_of (without id net) ≤ cap) × (without id net ≡ smaller id net)
   trial_no load e =
-      let t = subst (Tells cap (without id net)) e told in
-      (t.1, sym (cond-false (is_consistent (without id net)) net (without id net)
-      (false_from_ne_true (is_consistent (without id net)) (λ e. t.2 ((decided (without id net) good).0 e)))))
+      let t = subst (Tells cap (without id net)) e told in (
+        t.1,
+        sym (cond-false (is_consistent (without id net)) net (without id net)
+            (false_from_ne_true (is_consistent (without id net)) (λ e. t.2 ((decided (without id net) good).0 e)))),
+      )
 
 map_without : (id : ℕ) (cs : List Constraint) → map the_constraint (without_id id cs) ≡ filter (λ c. not (eqb c.id id)) (map the_constraint cs)
 map_without id [] = refl

@@ -1,7 +1,7 @@
 -- Networks with some of their constraints, by the ids of these.
 use Rattle.std.specs.Prelude.{ℕ, Bool, not, ◌==◌, List, map}
 use Rattle.std.specs.List.{filter, list_any}
-use Rattle.cstn_net.specs.Networks.{Network, Constraint}
+use Rattle.cstn_net.specs.Networks.{Network}
 use Rattle.cstn_check.specs.Growth.{is_refuted, log_of}
 
 -- the ids of the constraints, in order

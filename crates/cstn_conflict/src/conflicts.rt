@@ -10,15 +10,15 @@ ghost use Rattle.cstn_check.specs.Growth.{log_of, load_of, most_entries};
 ghost use Rattle.cstn_refute.specs.Refutations.{FitsText, the_steps};
 ghost use Rattle.cstn_conflict.specs.Sets.{with_ids, less, ids_of};
 ghost use Rattle.cstn_conflict.specs.Conflicts.{conflict_set, is_full};
-ghost use Rattle.cstn_conflict.specs.Trials.{is_any_above, IsRefutationOf};
+ghost use Rattle.cstn_conflict.specs.Trials.{is_any_above};
 
 use crate::errors::ConflictError;
 use crate::ids::{Ids, ids_of};
-use crate::trials::{is_well_formed, leave_out, verdict_on};
-use cstn_check::{Check, Verdict};
+use crate::trials::{is_well_formed, leave_out, refuted, verdict_on};
+use cstn_check::Verdict;
 use cstn_net::Network;
 use cstn_refute::Refutation;
-use std::alloc::{AllocError, Global};
+use std::alloc::Global;
 
 /// Ids of constraints that can't be met together, and what refutes the network with these alone.
 #[derive(Debug, Drop)]
@@ -57,26 +57,13 @@ pub fn smallest(alloc: Global, net: Network, cap: u32) -> Result<Conflict, Confl
     match verdict_on(alloc, net.copy(alloc)?, cap)? {
         Verdict::Yes { load } => Err(ConflictError::Consistent { load }),
         Verdict::Full => Err(ConflictError::Full),
-        Verdict::No { .. } => conflict_of(alloc, net, cap),
+        Verdict::No { .. } => {
+            let net = least(alloc, net, cap)?;
+            let ids = ids_of(alloc, &net)?;
+            let refutation = refuted(alloc, net, cap)?;
+            Ok(Conflict { ids, refutation })
+        }
     }
-}
-
-// The conflict set of a network whose check is no.
-fn conflict_of(alloc: Global, net: Network, cap: u32) -> Result<Conflict, ConflictError>
-    requires cap { (1 ≤ cap) × (cap ≤ 4194304) }
-    requires within { load_of (the_network net) ≤ cap }
-    requires inconsistent { IsConsistent (the_network net) → ⊥ }
-    ensures never { (load : ℕ) → IsErrOf result (ConflictError.Consistent load) → ⊥ }
-    ensures full { IsErrOf result ConflictError.Full → is_any_above cap (the_network net) ≡ true }
-    ensures within { IsOk result → is_any_above cap (the_network net) ≡ false }
-    ensures ids { IfOk result (λ conflict. conflict.ids ≡ conflict_set (the_network net)) }
-    ensures refuted { IfOk result (λ conflict. IsRefutationOf (with_ids (the_network net) (conflict_set (the_network net))) conflict.refutation) }
-{
-    is_well_formed(&net);
-    let net = least(alloc, net, cap)?;
-    let ids = ids_of(alloc, &net)?;
-    let refutation = refuted(alloc, net, cap)?;
-    Ok(Conflict { ids, refutation })
 }
 
 // What is left of the network when each constraint was tried.
@@ -94,16 +81,4 @@ fn least(alloc: Global, net: Network, cap: u32) -> Result<Network, ConflictError
         leave_out(alloc, &mut net, *id, cap)?;
     }
     Ok(net)
-}
-
-// What refutes a network whose check is no.
-fn refuted(alloc: Global, net: Network, cap: u32) -> Result<Refutation, AllocError>
-    requires cap { (1 ≤ cap) × (cap ≤ 4194304) }
-    requires within { load_of (the_network net) ≤ cap }
-    requires inconsistent { IsConsistent (the_network net) → ⊥ }
-    ensures { IfOk result (IsRefutationOf (the_network net)) }
-{
-    let mut check = Check::start(alloc, net, cap)?;
-    check.run();
-    check.refutation(alloc)
 }

@@ -11,6 +11,7 @@ pub use conflicts::{Conflict, smallest};
 pub use errors::ConflictError;
 pub use ids::Ids;
 pub use laws::sets_are_decided;
+pub use trials::{refuted, verdict_on};
 
 #[cfg(test)]
 mod tests;

@@ -102,7 +102,15 @@ fn leaves_needed_constraints_alone(rt: HostRuntime) -> Result<(), Fail> {
         base(0),
         chained(0, 0, 2, 10, p(Mark::Yes)),
         chained(2, 0, 1, 3, Label::empty()),
-        entry(Why::Wait { seen: 2, premise: 1 }, 2, 4, Label::empty()),
+        entry(
+            Why::Wait {
+                seen: 2,
+                premise: 1,
+            },
+            2,
+            4,
+            Label::empty(),
+        ),
         chained(1, 3, 0, 1, p(Mark::No)),
     ];
     conflicts(&rt, alloc, branch(alloc, true)?, &[0, 1, 2], 7, &too_late)

@@ -1,17 +1,19 @@
 // Checks of a network, and of what is left of it without one constraint.
 ghost use Rattle.std.specs.Prelude.{ℕ, ◌≡◌, ◌≤◌, ◌<◌, IsOk, IsErrOf, IfOk};
 ghost use Rattle.cstn_net.specs.Networks.{IsWellFormed};
+ghost use Rattle.cstn_net.specs.Strategies.{IsConsistent};
 ghost use Rattle.cstn_net.specs.Read.{the_network};
 ghost use Rattle.cstn_check.specs.Growth.{load_of};
-ghost use Rattle.cstn_conflict.specs.Trials.{verdict_on, without, smaller};
+ghost use Rattle.cstn_conflict.specs.Trials.{verdict_on, without, smaller, IsRefutationOf};
 
 use crate::errors::ConflictError;
 use cstn_check::{Check, Verdict};
 use cstn_net::Network;
+use cstn_refute::Refutation;
 use std::alloc::{AllocError, Global};
 
-/// The verdict on a network, which is dropped.
-pub(crate) fn verdict_on(alloc: Global, net: Network, cap: u32) -> Result<Verdict, AllocError>
+/// The verdict of a check of a network, which is dropped.
+pub fn verdict_on(alloc: Global, net: Network, cap: u32) -> Result<Verdict, AllocError>
     requires some { 1 ≤ cap }
     requires most { cap ≤ 4194304 }
     ensures verdict { IfOk result (λ v. v ≡ verdict_on cap (the_network net)) }
@@ -21,13 +23,21 @@ pub(crate) fn verdict_on(alloc: Global, net: Network, cap: u32) -> Result<Verdic
     Ok(check.run())
 }
 
+/// What refutes a network whose check is no: the refutation of that check.
+pub fn refuted(alloc: Global, net: Network, cap: u32) -> Result<Refutation, AllocError>
+    requires some { 1 ≤ cap }
+    requires most { cap ≤ 4194304 }
+    requires within { load_of (the_network net) ≤ cap }
+    requires inconsistent { IsConsistent (the_network net) → ⊥ }
+    ensures refutation { IfOk result (IsRefutationOf (the_network net)) }
+{
+    let mut check = Check::start(alloc, net, cap)?;
+    check.run();
+    check.refutation(alloc)
+}
+
 /// The verdict on the network without the constraint of an id.
-fn verdict_without(
-    alloc: Global,
-    net: &Network,
-    id: u32,
-    cap: u32,
-) -> Result<Verdict, AllocError>
+fn verdict_without(alloc: Global, net: &Network, id: u32, cap: u32) -> Result<Verdict, AllocError>
     requires some { 1 ≤ cap }
     requires most { cap ≤ 4194304 }
     ensures verdict { IfOk result (λ v. v ≡ verdict_on cap (without id (the_network net.now))) }

@@ -24,10 +24,10 @@ Whole = (net : Network) → with_ids net (ids_of net) ≡ net
 abbrev pub Decided : Type 0
 Decided = (net : Network) (set : List ℕ) → IsWellFormed net → (is_consistent (with_ids net set) ≡ true) ↔ IsConsistent (with_ids net set)
 
-decided_whole : (net : Network) → IsWellFormed net → Whole → Decided → (is_consistent net ≡ true) ↔ IsConsistent net
+pub decided_whole : (net : Network) → IsWellFormed net → Whole → Decided → (is_consistent net ≡ true) ↔ IsConsistent net
 decided_whole net good whole decided = subst (λ (n : Network). (is_consistent n ≡ true) ↔ IsConsistent n) (whole net) (decided net (ids_of net) good)
 
-not_true : (b : Bool) → (b ≡ true → ⊥) → b ≡ false
+pub not_true : (b : Bool) → (b ≡ true → ⊥) → b ≡ false
 not_true true never = absurd (never refl)
 not_true false never = refl
 

@@ -1,5 +1,6 @@
 pub mod Lines
 pub mod Blaming
+pub mod Tightening
 pub mod Listing
 pub mod Replaying
 pub mod Certifying

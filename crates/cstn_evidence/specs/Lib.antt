@@ -1,3 +1,5 @@
 pub mod Bounds
 pub mod Blame
+pub mod Tight
+pub mod Told
 pub mod Texts

@@ -6,8 +6,10 @@ mod certificates;
 mod conflicts;
 mod lists;
 mod replays;
+mod tight;
 
 pub use certificates::check_text;
 pub use conflicts::blame;
 pub use lists::list_bounds;
 pub use replays::replay_text;
+pub use tight::tighten;

@@ -11,6 +11,7 @@ use Rattle.cstn_rules.specs.Derivations.{Entry, IsRefutation}
 use Rattle.cstn_replay.specs.Wrong.{IsFirstWrong, EndsInVain}
 use Rattle.cstn_reply.specs.Texts.{line}
 use Rattle.cstn_label.specs.Bounds.{Bound}
+use Rattle.cstn_rules.specs.Closed.{IsClosed}
 use Rattle.cstn_closed.specs.Faults.{Fault, IsFirstFault, IsFaultless}
 use Rattle.cstn_reply.specs.Refusals.{fault_text}
 use Rattle.cstn_reply.specs.Faults.{fault_words}
@@ -39,10 +40,10 @@ IsReplay steps net said =
     (IsRefutation net steps × (said ≡ say Good (codes "accepted")))
     ⊎ ((k : ℕ) × (IsFirstWrong net steps k ⊎ EndsInVain net steps k) × (said ≡ say Bad (codes "rejected " ++ decimal k)))
 
--- what the check of a list of bounds says: it has no fault for the network, or its first fault is told
+-- what the check of a list of bounds says: it has no fault for the network, so that it is closed, or its first fault is told
 abbrev pub IsCertificate : List (List ℕ) → List Bound → Network → Said → Type 0
 IsCertificate names bounds net said =
-    (IsFaultless net bounds × (said ≡ say Good (codes "accepted")))
+    (IsFaultless net bounds × IsClosed net bounds × (said ≡ say Good (codes "accepted")))
     ⊎ ((f : Fault) × IsFirstFault net bounds f × (said ≡ say Bad (codes "rejected " ++ fault_words names f)))
 
 -- What a request says: a text and no more; or what the replay of steps on a network says; or what the check of a list of bounds

@@ -2,6 +2,6 @@ pub mod Drills
 pub mod Edited
 pub mod Meanings
 pub mod Opening
-pub mod Replays
+pub mod ByText
 pub mod Endings
 pub mod Runs

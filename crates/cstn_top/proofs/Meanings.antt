@@ -21,19 +21,19 @@ use Rattle.cstn_check.specs.declared.verdicts.Verdict.{Verdict}
 use Rattle.cstn_check.specs.declared.verdicts.Verdict.TheVariants.{Yes, No, Full as IsFullVerdict}
 use Rattle.cstn_refute.specs.Texts.{Told as ToldText, tells, wrong as wrong_text, told as told_by}
 use Rattle.cstn_replay.specs.Wrong.{IsFirstWrong, EndsInVain}
-use Rattle.cstn_words.specs.Requests.{Asked, Request, check, run, edit, save, replay, drill, AsksEdit}
+use Rattle.cstn_words.specs.Requests.{Asked, Request, check, run, edit, closed, tight, conflict, save, replay, closedcheck, drill, AsksEdit}
 use Rattle.cstn_reply.specs.Plans.{Said, say, after_text, says, IsOutput, MayTalk}
 use Rattle.cstn_reply.specs.Sessions.{Turn, more, last, wrong, on_turn, script, play, session}
 use Rattle.cstn_talk.specs.Running.{moment_line, executing, moment_turn, seen_turn, live_turn, run_turn, unfinished, run_ending}
-use Rattle.cstn_reply.specs.Texts.{yes_line}
+use Rattle.cstn_reply.specs.Texts.{yes_line, full_line}
 use Rattle.cstn_verdict.specs.Documents.{Answer, judged, on_document}
 use Rattle.cstn_verdict.specs.Verdicts.{verdict, on_verdict, checked}
 use Rattle.cstn_talk.specs.Running.{carried_out}
 use Rattle.cstn_talk.specs.Editing.{edited}
-use Rattle.cstn_top.specs.Outputs.{saved, replayed, replayed_text, plan_at}
+use Rattle.cstn_top.specs.Outputs.{saved, plan_at}
 use Rattle.cstn_verdict.specs.Documents.{parts_of, HasNetwork, IsRefused}
 use Rattle.cstn_verdict.specs.Verdicts.{IsYes, IsNo}
-use Rattle.cstn_top.specs.Meanings.{IsNoRefutation, IsGood, IsBad, IsFull, IsDecided, IsComplete, ReadsLive, MayStop}
+use Rattle.cstn_top.specs.Meanings.{AreFaulty, IsNoRefutation, IsGood, IsBad, IsFull, IsDecided, IsComplete, ReadsLive, MayStop}
 use Rattle.cstn_reply.specs.Statuses.{status_of}
 use Rattle.cstn_reply.specs.declared.output.Outcome.{Outcome}
 use Rattle.cstn_reply.specs.declared.output.Outcome.TheVariants.{Good, Bad, Words, Document, Full, Unfinished, Script}
@@ -41,6 +41,17 @@ use Rattle.cstn_verdict.proofs.Deciding.{Tells, verdict_tells}
 use Rattle.cstn_top.proofs.Drills.{counts_right}
 use Rattle.cstn_top.proofs.Edited.{document_named, EditTells, edit_tells}
 use Rattle.cstn_save.proofs.SameLemmas.{fits}
+use Rattle.cstn_log.specs.Asked.{asked as table_of}
+use Rattle.cstn_log.proofs.Strategies.{asked_strategy}
+use Rattle.cstn_closed.specs.Texts.{Told as ToldBounds, tells as tells_bounds, wrong as wrong_bound, told as told_bounds, shown as shown_bounds}
+use Rattle.cstn_conflict.specs.Sets.{is_consistent}
+use Rattle.cstn_conflict.specs.Conflicts.{conflict_set, is_full as is_blame_full}
+use Rattle.cstn_conflict.proofs.SetLemmas.{decided}
+use Rattle.cstn_tight.specs.Bisection.{least_deadline, is_full as is_tight_full}
+use Rattle.cstn_evidence.specs.Bounds.{listed}
+use Rattle.cstn_evidence.specs.Blame.{blame_text, blamed}
+use Rattle.cstn_evidence.specs.Tight.{refuted_text, tight_text, tightened}
+use Rattle.cstn_evidence.specs.Texts.{by_text, replayed_steps, replayed, certified_bounds, certified}
 
 -- what is said of a document: it is refused, or this is said of its network
 pub document_says : (answer : Answer) (bytes : List ℕ) (deadline : Option ℕ) (live : List ℕ) (said : Said) → IsOutput (on_document answer bytes deadline) live said → ((said.outcome ≡ Document) × IsRefused bytes deadline) ⊎ HasNetwork bytes deadline (λ names net. IsOutput (answer names net) live said)
@@ -77,13 +88,32 @@ Verdicts cap net Document = ⊥
 Verdicts cap net Unfinished = ⊥
 Verdicts cap net Script = ⊥
 
-check_tells : (cap : ℕ) (names : List (List ℕ)) (net : Network) (live : List ℕ) (said : Said) → IsWellFormed net → IsOutput (checked cap names net) live said → Verdicts cap net said.outcome
-check_tells cap names net live said good output = by_verdict (verdict cap net) (verdict_tells cap net good) output
+verdict_says : (cap : ℕ) (names : List (List ℕ)) (net : Network) (text live : List ℕ) (said : Said) → IsWellFormed net → IsOutput (on_verdict cap names net (says (record { outcome = Good; text = text })) (verdict cap net)) live said → Verdicts cap net said.outcome
+verdict_says cap names net text live said good output = by_verdict (verdict cap net) (verdict_tells cap net good) output
   where
-    by_verdict : (v : Verdict) → Tells cap net v → IsOutput (on_verdict cap names net (says (record { outcome = Good; text = yes_line (load_of net) })) v) live said → Verdicts cap net said.outcome
+    by_verdict : (v : Verdict) → Tells cap net v → IsOutput (on_verdict cap names net (says (record { outcome = Good; text = text })) v) live said → Verdicts cap net said.outcome
     by_verdict (Yes load) tells' is = subst (λ (o : Outcome). Verdicts cap net o) (sym (ap (λ (s : Said). s.outcome) is)) tells'
     by_verdict (No load) tells' is = subst (λ (o : Outcome). Verdicts cap net o) (sym (ap (λ (s : Said). s.outcome) is)) tells'
     by_verdict IsFullVerdict tells' is = subst (λ (o : Outcome). Verdicts cap net o) (sym (ap (λ (s : Said). s.outcome) is)) tells'
+
+-- what the outcome of a search over several logs tells of a network, of which one may be too long
+abbrev Finds : Bool → Network → Outcome → Type 0
+Finds full net Good = IsConsistent net
+Finds full net Bad = IsConsistent net → ⊥
+Finds full net Full = full ≡ true
+Finds full net Words = ⊥
+Finds full net Document = ⊥
+Finds full net Unfinished = ⊥
+Finds full net Script = ⊥
+
+search_says : (full ok : Bool) (net : Network) (one two three live : List ℕ) (said : Said) → IsWellFormed net → is_consistent net ≡ ok → IsOutput (if full then says (record { outcome = Full; text = one }) else if ok then says (record { outcome = Good; text = two }) else says (record { outcome = Bad; text = three })) live said → Finds full net said.outcome
+search_says true ok net one two three live said good is output = subst (Finds true net) (sym (ap (λ (s : Said). s.outcome) output)) refl
+search_says false true net one two three live said good is output = subst (Finds false net) (sym (ap (λ (s : Said). s.outcome) output)) ((decided net good).0 is)
+search_says false false net one two three live said good is output =
+    subst (Finds false net) (sym (ap (λ (s : Said). s.outcome) output)) (λ consistent. differ ((decided net good).1 consistent) is)
+  where
+    differ : is_consistent net ≡ true → is_consistent net ≡ false → ⊥
+    differ yes' no' = let same : true ≡ false = sym yes' ∙ no' in let f : ⊥ = cc in f
 
 no_refutation : (net : Network) (steps : List Entry) (k : ℕ) → IsFirstWrong net steps k ⊎ EndsInVain net steps k → IsRefutation net steps → ⊥
 no_refutation net steps k (inl first) refutation = first.wrong (λ e there. refutation.derivation k e there)
@@ -99,19 +129,43 @@ Replays told net Document = ⊥
 Replays told net Full = ⊥
 Replays told net Unfinished = ⊥
 
-text_tells : (told : ToldText) (net : Network) (live : List ℕ) (said : Said) → IsWellFormed net → IsOutput (replayed_text told net) live said → Replays told net said.outcome
-text_tells (wrong_text at) net live said good is = subst (λ (o : Outcome). Replays (wrong_text at) net o) (sym (ap (λ (s : Said). s.outcome) is)) tt
-text_tells (tells load steps) net live said good (inl found) =
+steps_tell : (told : ToldText) (net : Network) (live : List ℕ) (said : Said) → IsWellFormed net → IsOutput (replayed_steps told net) live said → Replays told net said.outcome
+steps_tell (wrong_text at) net live said good is = subst (λ (o : Outcome). Replays (wrong_text at) net o) (sym (ap (λ (s : Said). s.outcome) is)) tt
+steps_tell (tells load steps) net live said good (inl found) =
     subst (λ (o : Outcome). Replays (tells load steps) net o) (sym (ap (λ (s : Said). s.outcome) found.1)) (refuted_inconsistent net steps good.network found.0)
-text_tells (tells load steps) net live said good (inr found) =
+steps_tell (tells load steps) net live said good (inr found) =
     subst (λ (o : Outcome). Replays (tells load steps) net o) (sym (ap (λ (s : Said). s.outcome) found.2)) (no_refutation net steps found.0 found.1)
 
-replay_tells : (text : List ℕ) (names : List (List ℕ)) (net : Network) (live : List ℕ) (said : Said) → IsWellFormed net → IsOutput (replayed text names net) live said → Replays (told_by names text) net said.outcome
+replay_tells : (text : List ℕ) (names : List (List ℕ)) (net : Network) (live : List ℕ) (said : Said) → IsWellFormed net → IsOutput (by_text replayed text names net) live said → Replays (told_by names text) net said.outcome
 replay_tells text names net live said good is = by_length (nat_lt 1476395008 (length text)) is
   where
-    by_length : (long : Bool) → IsOutput (if long then says (say Script (codes "script long")) else replayed_text (told_by names text) net) live said → Replays (told_by names text) net said.outcome
+    by_length : (long : Bool) → IsOutput (if long then says (say Script (codes "script long")) else replayed text names net) live said → Replays (told_by names text) net said.outcome
     by_length true is = subst (λ (o : Outcome). Replays (told_by names text) net o) (sym (ap (λ (s : Said). s.outcome) is)) tt
-    by_length false is = text_tells (told_by names text) net live said good is
+    by_length false is = steps_tell (told_by names text) net live said good is
+
+-- what the outcome of a check of bounds tells of a network
+abbrev Certifies : ToldBounds → Network → Outcome → Type 0
+Certifies told net Good = IsConsistent net
+Certifies told net Bad = AreFaulty told net
+Certifies told net Script = Unit {0}
+Certifies told net Words = ⊥
+Certifies told net Document = ⊥
+Certifies told net Full = ⊥
+Certifies told net Unfinished = ⊥
+
+bounds_tell : (names : List (List ℕ)) (told : ToldBounds) (net : Network) (live : List ℕ) (said : Said) → IsWellFormed net → IsOutput (certified_bounds names told net) live said → Certifies told net said.outcome
+bounds_tell names (wrong_bound at) net live said good is = subst (λ (o : Outcome). Certifies (wrong_bound at) net o) (sym (ap (λ (s : Said). s.outcome) is)) tt
+bounds_tell names (tells_bounds load bounds) net live said good (inl found) =
+    subst (λ (o : Outcome). Certifies (tells_bounds load bounds) net o) (sym (ap (λ (s : Said). s.outcome) found.2)) (table_of net bounds, asked_strategy net bounds good.network found.1)
+bounds_tell names (tells_bounds load bounds) net live said good (inr found) =
+    subst (λ (o : Outcome). Certifies (tells_bounds load bounds) net o) (sym (ap (λ (s : Said). s.outcome) found.2)) (found.0, found.1)
+
+certificate_tells : (text : List ℕ) (names : List (List ℕ)) (net : Network) (live : List ℕ) (said : Said) → IsWellFormed net → IsOutput (by_text certified text names net) live said → Certifies (told_bounds names text) net said.outcome
+certificate_tells text names net live said good is = by_length (nat_lt 1476395008 (length text)) is
+  where
+    by_length : (long : Bool) → IsOutput (if long then says (say Script (codes "script long")) else certified text names net) live said → Certifies (told_bounds names text) net said.outcome
+    by_length true is = subst (λ (o : Outcome). Certifies (told_bounds names text) net o) (sym (ap (λ (s : Said). s.outcome) is)) tt
+    by_length false is = bounds_tell names (told_bounds names text) net live said good is
 
 -- what an outcome tells of a request, by what is told of the live source
 abbrev pub IsRight : Option (List ℕ) → Outcome → Request → List (List ℕ) → Type 0
@@ -265,6 +319,42 @@ replay_right live asked proof contents Document has = tt
 replay_right live asked proof contents Unfinished has = tt
 replay_right live asked proof contents Script has = tt
 
+closed_right : (live : Option (List ℕ)) (asked : Asked) (cap : ℕ) (contents : List (List ℕ)) (o : Outcome) → HasNetwork (get_or contents 0 []) asked.deadline (λ names net. Verdicts cap net o) → IsRight live o (closed asked cap) contents
+closed_right live asked cap contents Good has = has
+closed_right live asked cap contents Bad has = has
+closed_right live asked cap contents Full has = has
+closed_right live asked cap contents Words has = none_such (parts_of (document (get_or contents 0 []) asked.deadline)) has
+closed_right live asked cap contents Document has = tt
+closed_right live asked cap contents Unfinished has = tt
+closed_right live asked cap contents Script has = tt
+
+tight_right : (live : Option (List ℕ)) (asked : Asked) (cap : ℕ) (contents : List (List ℕ)) (o : Outcome) → HasNetwork (get_or contents 0 []) asked.deadline (λ names net. Finds (is_tight_full cap net) net o) → IsRight live o (tight asked cap) contents
+tight_right live asked cap contents Good has = has
+tight_right live asked cap contents Bad has = has
+tight_right live asked cap contents Full has = has
+tight_right live asked cap contents Words has = none_such (parts_of (document (get_or contents 0 []) asked.deadline)) has
+tight_right live asked cap contents Document has = tt
+tight_right live asked cap contents Unfinished has = tt
+tight_right live asked cap contents Script has = tt
+
+conflict_right : (live : Option (List ℕ)) (asked : Asked) (cap : ℕ) (contents : List (List ℕ)) (o : Outcome) → HasNetwork (get_or contents 0 []) asked.deadline (λ names net. Finds (is_blame_full cap net) net o) → IsRight live o (conflict asked cap) contents
+conflict_right live asked cap contents Good has = has
+conflict_right live asked cap contents Bad has = has
+conflict_right live asked cap contents Full has = has
+conflict_right live asked cap contents Words has = none_such (parts_of (document (get_or contents 0 []) asked.deadline)) has
+conflict_right live asked cap contents Document has = tt
+conflict_right live asked cap contents Unfinished has = tt
+conflict_right live asked cap contents Script has = tt
+
+closedcheck_right : (live : Option (List ℕ)) (asked : Asked) (proof : List ℕ) (contents : List (List ℕ)) (o : Outcome) → HasNetwork (get_or contents 0 []) asked.deadline (λ names net. Certifies (told_bounds names (get_or contents 1 [])) net o) → IsRight live o (closedcheck asked proof) contents
+closedcheck_right live asked proof contents Good has = has
+closedcheck_right live asked proof contents Bad has = has
+closedcheck_right live asked proof contents Full has = none_such (parts_of (document (get_or contents 0 []) asked.deadline)) has
+closedcheck_right live asked proof contents Words has = none_such (parts_of (document (get_or contents 0 []) asked.deadline)) has
+closedcheck_right live asked proof contents Document has = tt
+closedcheck_right live asked proof contents Unfinished has = tt
+closedcheck_right live asked proof contents Script has = tt
+
 edit_right : (live : Option (List ℕ)) (asked : Asked) (cap : ℕ) (contents : List (List ℕ)) (o : Outcome) → HasNetwork (get_or contents 0 []) asked.deadline (EditTells live cap o) → IsRight live o (edit asked cap) contents
 edit_right live asked cap contents Good has = has
 edit_right live asked cap contents Bad has = has
@@ -278,19 +368,31 @@ edit_right live asked cap contents Script has = tt
 pub output_right : (told : Option (List ℕ)) (request : Request) (contents : List (List ℕ)) (live : List ℕ) (said : Said) → IsAllOf told live → IsOutput (plan_at request contents) live said → IsRight told said.outcome request contents
 output_right told (check asked cap) contents live said all output =
     on_network (checked cap) (get_or contents 0 []) asked.deadline live said (λ o names net. Verdicts cap net o) (λ o. IsRight told o (check asked cap) contents) (λ refused. tt)
-    (λ names net good named is. check_tells cap names net live said good is) (check_right told asked cap contents) output
+    (λ names net good named is. verdict_says cap names net (yes_line (load_of net)) live said good is) (check_right told asked cap contents) output
 output_right told (run asked cap) contents live said all output =
     on_network (carried_out cap) (get_or contents 0 []) asked.deadline live said (λ o names net. RunTells cap net o) (λ o. IsRight told o (run asked cap) contents) (λ refused. tt)
     (λ names net good named is. run_tells cap names net live said good is) (run_right told asked cap contents) output
 output_right told (edit asked cap) contents live said all output =
     on_network (edited cap) (get_or contents 0 []) asked.deadline live said (EditTells told cap) (λ o. IsRight told o (edit asked cap) contents) (λ refused. tt)
     (λ names net good named is. edit_tells told cap names net live said good named all is) (edit_right told asked cap contents) output
+output_right told (closed asked cap) contents live said all output =
+    on_network (listed cap) (get_or contents 0 []) asked.deadline live said (λ o names net. Verdicts cap net o) (λ o. IsRight told o (closed asked cap) contents) (λ refused. tt)
+    (λ names net good named is. verdict_says cap names net (shown_bounds names (load_of net) (live_bounds (log_of net))) live said good is) (closed_right told asked cap contents) output
+output_right told (tight asked cap) contents live said all output =
+    on_network (tightened cap) (get_or contents 0 []) asked.deadline live said (λ o names net. Finds (is_tight_full cap net) net o) (λ o. IsRight told o (tight asked cap) contents) (λ refused. tt)
+    (λ names net good named is. search_says (is_tight_full cap net) (is_consistent net) net (full_line cap) (tight_text names net (least_deadline net)) (refuted_text names net) live said good refl is) (tight_right told asked cap contents) output
+output_right told (conflict asked cap) contents live said all output =
+    on_network (blamed cap) (get_or contents 0 []) asked.deadline live said (λ o names net. Finds (is_blame_full cap net) net o) (λ o. IsRight told o (conflict asked cap) contents) (λ refused. tt)
+    (λ names net good named is. search_says (is_blame_full cap net) (is_consistent net) net (full_line cap) (yes_line (load_of net)) (blame_text names net (conflict_set net)) live said good refl is) (conflict_right told asked cap contents) output
 output_right told (save asked) contents live said all output =
     on_network saved (get_or contents 0 []) asked.deadline live said (λ o names net. Saves o) (λ o. IsRight told o (save asked) contents) (λ refused. tt)
     (λ names net good named is. subst Saves (sym (ap (λ (s : Said). s.outcome) is)) tt) (save_right told asked contents) output
 output_right told (replay asked proof) contents live said all output =
-    on_network (replayed (get_or contents 1 [])) (get_or contents 0 []) asked.deadline live said (λ o names net. Replays (told_by names (get_or contents 1 [])) net o) (λ o. IsRight told o (replay asked proof) contents) (λ refused. tt)
+    on_network (by_text replayed (get_or contents 1 [])) (get_or contents 0 []) asked.deadline live said (λ o names net. Replays (told_by names (get_or contents 1 [])) net o) (λ o. IsRight told o (replay asked proof) contents) (λ refused. tt)
     (λ names net good named is. replay_tells (get_or contents 1 []) names net live said good is) (replay_right told asked proof contents) output
+output_right told (closedcheck asked proof) contents live said all output =
+    on_network (by_text certified (get_or contents 1 [])) (get_or contents 0 []) asked.deadline live said (λ o names net. Certifies (told_bounds names (get_or contents 1 [])) net o) (λ o. IsRight told o (closedcheck asked proof) contents) (λ refused. tt)
+    (λ names net good named is. certificate_tells (get_or contents 1 []) names net live said good is) (closedcheck_right told asked proof contents) output
 output_right told (drill number) contents live said all output =
     subst (λ (o : Outcome). IsRight told o (drill number) contents) (sym (ap (λ (s : Said). s.outcome) output)) (counts_right number 64)
 
@@ -308,8 +410,15 @@ decides cap net Script never below = absurd never
 pub output_complete : (request : Request) (contents : List (List ℕ)) (live : List ℕ) (said : Said) → IsOutput (plan_at request contents) live said → IsComplete (status_of said.outcome) request contents
 output_complete (check asked cap) contents live said output =
     on_network (checked cap) (get_or contents 0 []) asked.deadline live said (λ o names net. Verdicts cap net o) (λ o. IsComplete (status_of o) (check asked cap) contents) (λ refused. inl (refl, refused))
-    (λ names net good named is. check_tells cap names net live said good is)
+    (λ names net good named is. verdict_says cap names net (yes_line (load_of net)) live said good is)
     (λ o has. inr (network_then (get_or contents 0 []) asked.deadline (λ names net. Verdicts cap net o) (λ names net. IsDecided cap net (status_of o)) has (λ names net good named told. decides cap net o told))) output
+output_complete (closed asked cap) contents live said output =
+    on_network (listed cap) (get_or contents 0 []) asked.deadline live said (λ o names net. Verdicts cap net o) (λ o. IsComplete (status_of o) (closed asked cap) contents) (λ refused. inl (refl, refused))
+    (λ names net good named is. verdict_says cap names net (shown_bounds names (load_of net) (live_bounds (log_of net))) live said good is)
+    (λ o has. inr (network_then (get_or contents 0 []) asked.deadline (λ names net. Verdicts cap net o) (λ names net. IsDecided cap net (status_of o)) has (λ names net good named told. decides cap net o told))) output
+output_complete (tight asked cap) contents live said output = tt
+output_complete (conflict asked cap) contents live said output = tt
+output_complete (closedcheck asked proof) contents live said output = tt
 output_complete (run asked cap) contents live said output = tt
 output_complete (edit asked cap) contents live said output = tt
 output_complete (save asked) contents live said output = tt
@@ -334,24 +443,33 @@ never_talks answer bytes deadline never may =
     none_such (parts_of (document bytes deadline))
     (network_then bytes deadline (λ names net. MayTalk (answer names net)) (λ names net. ⊥) (document_talks answer bytes deadline may) (λ names net good named is. never names net is))
 
-check_silent : (cap : ℕ) (names : List (List ℕ)) (net : Network) → MayTalk (checked cap names net) → ⊥
-check_silent cap names net may = by_verdict (verdict cap net) may
+verdict_silent : (cap : ℕ) (names : List (List ℕ)) (net : Network) (text : List ℕ) → MayTalk (on_verdict cap names net (says (record { outcome = Good; text = text })) (verdict cap net)) → ⊥
+verdict_silent cap names net text may = by_verdict (verdict cap net) may
   where
-    by_verdict : (v : Verdict) → MayTalk (on_verdict cap names net (says (record { outcome = Good; text = yes_line (load_of net) })) v) → ⊥
+    by_verdict : (v : Verdict) → MayTalk (on_verdict cap names net (says (record { outcome = Good; text = text })) v) → ⊥
     by_verdict (Yes load) is = is
     by_verdict (No load) is = is
     by_verdict IsFullVerdict is = is
 
-replay_silent : (text : List ℕ) (names : List (List ℕ)) (net : Network) → MayTalk (replayed text names net) → ⊥
-replay_silent text names net may = by_length (nat_lt 1476395008 (length text)) may
-  where
-    by_text : (told : ToldText) → MayTalk (replayed_text told net) → ⊥
-    by_text (tells load steps) is = is
-    by_text (wrong_text at) is = is
+search_silent : (full ok : Bool) (one two three : List ℕ) → MayTalk (if full then says (record { outcome = Full; text = one }) else if ok then says (record { outcome = Good; text = two }) else says (record { outcome = Bad; text = three })) → ⊥
+search_silent true ok one two three may = may
+search_silent false true one two three may = may
+search_silent false false one two three may = may
 
-    by_length : (long : Bool) → MayTalk (if long then says (say Script (codes "script long")) else replayed_text (told_by names text) net) → ⊥
+text_silent : (speaks : List ℕ → Answer) (text : List ℕ) (names : List (List ℕ)) (net : Network) → (MayTalk (speaks text names net) → ⊥) → MayTalk (by_text speaks text names net) → ⊥
+text_silent speaks text names net never may = by_length (nat_lt 1476395008 (length text)) may
+  where
+    by_length : (long : Bool) → MayTalk (if long then says (say Script (codes "script long")) else speaks text names net) → ⊥
     by_length true is = is
-    by_length false is = by_text (told_by names text) is
+    by_length false is = never is
+
+steps_silent : (told : ToldText) (net : Network) → MayTalk (replayed_steps told net) → ⊥
+steps_silent (tells load steps) net is = is
+steps_silent (wrong_text at) net is = is
+
+bounds_silent : (names : List (List ℕ)) (told : ToldBounds) (net : Network) → MayTalk (certified_bounds names told net) → ⊥
+bounds_silent names (tells_bounds load bounds) net is = is
+bounds_silent names (wrong_bound at) net is = is
 
 run_talks : (cap : ℕ) (names : List (List ℕ)) (net : Network) → IsWellFormed net → MayTalk (carried_out cap names net) → IsYes cap net
 run_talks cap names net good may = by_verdict (verdict cap net) (verdict_tells cap net good) may
@@ -363,15 +481,24 @@ run_talks cap names net good may = by_verdict (verdict cap net) (verdict_tells c
 
 -- a session is held only by a request that reads the live source
 pub talks_live : (request : Request) (contents : List (List ℕ)) → MayTalk (plan_at request contents) → ReadsLive request contents
-talks_live (check asked cap) contents may = never_talks (checked cap) (get_or contents 0 []) asked.deadline (check_silent cap) may
+talks_live (check asked cap) contents may = never_talks (checked cap) (get_or contents 0 []) asked.deadline (λ names net. verdict_silent cap names net (yes_line (load_of net))) may
 talks_live (run asked cap) contents may =
     network_then (get_or contents 0 []) asked.deadline (λ names net. MayTalk (carried_out cap names net)) (λ names net. IsYes cap net)
     (document_talks (carried_out cap) (get_or contents 0 []) asked.deadline may) (λ names net good named is. run_talks cap names net good is)
 talks_live (edit asked cap) contents may =
     network_then (get_or contents 0 []) asked.deadline (λ names net. MayTalk (edited cap names net)) (λ names net. Unit {0})
     (document_talks (edited cap) (get_or contents 0 []) asked.deadline may) (λ names net good named is. tt)
+talks_live (closed asked cap) contents may =
+    never_talks (listed cap) (get_or contents 0 []) asked.deadline (λ names net. verdict_silent cap names net (shown_bounds names (load_of net) (live_bounds (log_of net)))) may
+talks_live (tight asked cap) contents may =
+    never_talks (tightened cap) (get_or contents 0 []) asked.deadline (λ names net. search_silent (is_tight_full cap net) (is_consistent net) (full_line cap) (tight_text names net (least_deadline net)) (refuted_text names net)) may
+talks_live (conflict asked cap) contents may =
+    never_talks (blamed cap) (get_or contents 0 []) asked.deadline (λ names net. search_silent (is_blame_full cap net) (is_consistent net) (full_line cap) (yes_line (load_of net)) (blame_text names net (conflict_set net))) may
 talks_live (save asked) contents may = never_talks saved (get_or contents 0 []) asked.deadline (λ names net is. is) may
-talks_live (replay asked proof) contents may = never_talks (replayed (get_or contents 1 [])) (get_or contents 0 []) asked.deadline (replay_silent (get_or contents 1 [])) may
+talks_live (replay asked proof) contents may =
+    never_talks (by_text replayed (get_or contents 1 [])) (get_or contents 0 []) asked.deadline (λ names net. text_silent replayed (get_or contents 1 []) names net (steps_silent (told_by names (get_or contents 1 [])) net)) may
+talks_live (closedcheck asked proof) contents may =
+    never_talks (by_text certified (get_or contents 1 [])) (get_or contents 0 []) asked.deadline (λ names net. text_silent certified (get_or contents 1 []) names net (bounds_silent names (told_bounds names (get_or contents 1 [])) net)) may
 talks_live (drill number) contents may = may
 
 -- an answer may want memory in an edit session
@@ -379,6 +506,10 @@ pub edits_stop : (request : Request) (contents : List (List ℕ)) → AsksEdit r
 edits_stop (check asked cap) contents asks may = asks
 edits_stop (run asked cap) contents asks may = asks
 edits_stop (edit asked cap) contents asks may = talks_live (edit asked cap) contents may
+edits_stop (closed asked cap) contents asks may = asks
+edits_stop (tight asked cap) contents asks may = asks
+edits_stop (conflict asked cap) contents asks may = asks
+edits_stop (closedcheck asked proof) contents asks may = asks
 edits_stop (save asked) contents asks may = asks
 edits_stop (replay asked proof) contents asks may = asks
 edits_stop (drill number) contents asks may = asks

@@ -3,7 +3,7 @@ use Rattle.std.proofs.Common.{◌≡◌, ℕ, List, [], ◌∷◌, refl, sym, su
 use Rattle.std.specs.Prelude.{Option, Result, Ok, Err, IfOk, map}
 use Rattle.cstn_net.specs.Networks.{Network}
 use Rattle.cstn_net.specs.Read.{NetworkParts, the_network}
-use Rattle.cstn_words.specs.Requests.{Asked, Request, check, run, edit, save, files_of}
+use Rattle.cstn_words.specs.Requests.{Asked, Request, check, run, edit, closed, tight, conflict, save, files_of}
 use Rattle.cstn_reply.specs.Files.{file_at, AreThere}
 use Rattle.cstn_reply.specs.Plans.{Plan, says, IsOutput, ComesTo}
 use Rattle.cstn_reply.specs.Statuses.{status_of}
@@ -18,6 +18,9 @@ use Rattle.cstn_verdict.specs.Opened.{IsOpened}
 use Rattle.cstn_verdict.specs.declared.documents.Opened.{Opened}
 use Rattle.cstn_verdict.specs.declared.documents.Opened.TheVariants.{Accepted, Told}
 use Rattle.cstn_verdict.proofs.Opening.{comes_itself, accepted_comes, told_comes}
+use Rattle.cstn_evidence.specs.Bounds.{listed}
+use Rattle.cstn_evidence.specs.Blame.{blamed}
+use Rattle.cstn_evidence.specs.Tight.{tightened}
 use Rattle.cstn_talk.specs.Running.{carried_out}
 use Rattle.cstn_talk.specs.Editing.{edited}
 use Rattle.cstn_top.specs.Outputs.{saved, plan_at}
@@ -50,6 +53,15 @@ of_run asked cap = record { files = refl; plan = λ bytes. refl }
 
 pub of_edit : (asked : Asked) (cap : ℕ) → IsOfOne (edit asked cap) asked (edited cap)
 of_edit asked cap = record { files = refl; plan = λ bytes. refl }
+
+pub of_closed : (asked : Asked) (cap : ℕ) → IsOfOne (closed asked cap) asked (listed cap)
+of_closed asked cap = record { files = refl; plan = λ bytes. refl }
+
+pub of_tight : (asked : Asked) (cap : ℕ) → IsOfOne (tight asked cap) asked (tightened cap)
+of_tight asked cap = record { files = refl; plan = λ bytes. refl }
+
+pub of_conflict : (asked : Asked) (cap : ℕ) → IsOfOne (conflict asked cap) asked (blamed cap)
+of_conflict asked cap = record { files = refl; plan = λ bytes. refl }
 
 pub of_save : (asked : Asked) → IsOfOne (save asked) asked saved
 of_save asked = record { files = refl; plan = λ bytes. refl }

@@ -1,5 +1,5 @@
 -- What the status of a request tells.
-use Rattle.std.specs.Prelude.{◌≡◌, ◌≤◌, ◌<◌, ◌⊎◌, ℕ, List, [], take, get_or, Option, None, Some, IfSome, IsSomeAnd}
+use Rattle.std.specs.Prelude.{◌≡◌, ◌≤◌, ◌<◌, ◌⊎◌, ℕ, true, List, [], take, get_or, Option, None, Some, IfSome, IsSomeAnd}
 use Rattle.cstn_io.specs.Contents.{IsAllOf}
 use Rattle.cstn_net.specs.Networks.{Network}
 use Rattle.cstn_net.specs.Strategies.{IsConsistent}
@@ -7,10 +7,14 @@ use Rattle.cstn_rules.specs.Derivations.{IsRefutation}
 use Rattle.cstn_check.specs.Growth.{load_of}
 use Rattle.cstn_lines.specs.Pieces.{lines_of}
 use Rattle.cstn_refute.specs.Texts.{Told, tells, wrong, told as told_by}
-use Rattle.cstn_words.specs.Requests.{Request, check, run, edit, save, replay, drill, files_of}
+use Rattle.cstn_words.specs.Requests.{Request, check, run, edit, closed, tight, conflict, save, replay, closedcheck, drill, files_of}
 use Rattle.cstn_reply.specs.Files.{AreContents}
 use Rattle.cstn_reply.specs.declared.status.Status.{Status}
 use Rattle.cstn_reply.specs.declared.status.Status.TheVariants.{Good, Bad, Words, Document, Full, ReadFault, WriteFault, Memory, Unfinished, Script}
+use Rattle.cstn_closed.specs.Faults.{Fault, IsFirstFault}
+use Rattle.cstn_closed.specs.Texts.{Told as ToldBounds, tells as tells_bounds, wrong as wrong_bound, told as told_bounds}
+use Rattle.cstn_conflict.specs.Conflicts.{is_full as is_blame_full}
+use Rattle.cstn_tight.specs.Bisection.{is_full as is_tight_full}
 use Rattle.cstn_verdict.specs.Documents.{HasNetwork, IsRefused}
 use Rattle.cstn_verdict.specs.Verdicts.{IsYes, IsNo}
 use Rattle.cstn_talk.specs.Editing.{begun_editing, last_checked}
@@ -26,6 +30,11 @@ abbrev pub IsNoRefutation : Told → Network → Type 0
 IsNoRefutation (tells load steps) net = IsRefutation net steps → ⊥
 IsNoRefutation (wrong at) net = ⊥
 
+-- the text is that of bounds, and they have a fault for the network
+abbrev pub AreFaulty : ToldBounds → Network → Type 0
+AreFaulty (tells_bounds load bounds) net = (f : Fault) × IsFirstFault net bounds f
+AreFaulty (wrong_bound at) net = ⊥
+
 -- this holds of the network as edited at the last check of the edit lines, if there is one, where the live source has these bytes
 abbrev pub AtLastCheck : Option (List ℕ) → ℕ → List (List ℕ) → Network → (Option Network → Type 0) → Type 0
 AtLastCheck told cap names net holds =
@@ -39,8 +48,12 @@ IsGood told (check asked cap) contents = HasNetwork (get_or contents 0 []) asked
 IsGood told (run asked cap) contents = HasNetwork (get_or contents 0 []) asked.deadline (λ names net. IsYes cap net)
 IsGood told (edit asked cap) contents =
     HasNetwork (get_or contents 0 []) asked.deadline (λ names net. AtLastCheck told cap names net (λ last. IfSome last IsConsistent))
+IsGood told (closed asked cap) contents = HasNetwork (get_or contents 0 []) asked.deadline (λ names net. IsYes cap net)
+IsGood told (tight asked cap) contents = HasNetwork (get_or contents 0 []) asked.deadline (λ names net. IsConsistent net)
+IsGood told (conflict asked cap) contents = HasNetwork (get_or contents 0 []) asked.deadline (λ names net. IsConsistent net)
 IsGood told (save asked) contents = HasNetwork (get_or contents 0 []) asked.deadline (λ names net. Unit {0})
 IsGood told (replay asked proof) contents = HasNetwork (get_or contents 0 []) asked.deadline (λ names net. IsConsistent net → ⊥)
+IsGood told (closedcheck asked proof) contents = HasNetwork (get_or contents 0 []) asked.deadline (λ names net. IsConsistent net)
 IsGood told (drill number) contents = AreConsistent number 64 (unrefuted number 64)
 
 -- what the status Bad tells of it: its document has a network that isn't consistent, or of which the text is no refutation
@@ -49,9 +62,14 @@ IsBad told (check asked cap) contents = HasNetwork (get_or contents 0 []) asked.
 IsBad told (run asked cap) contents = HasNetwork (get_or contents 0 []) asked.deadline (λ names net. IsNo cap net)
 IsBad told (edit asked cap) contents =
     HasNetwork (get_or contents 0 []) asked.deadline (λ names net. AtLastCheck told cap names net (λ last. IsSomeAnd last (λ edited. IsConsistent edited → ⊥)))
+IsBad told (closed asked cap) contents = HasNetwork (get_or contents 0 []) asked.deadline (λ names net. IsNo cap net)
+IsBad told (tight asked cap) contents = HasNetwork (get_or contents 0 []) asked.deadline (λ names net. IsConsistent net → ⊥)
+IsBad told (conflict asked cap) contents = HasNetwork (get_or contents 0 []) asked.deadline (λ names net. IsConsistent net → ⊥)
 IsBad told (save asked) contents = ⊥
 IsBad told (replay asked proof) contents =
     HasNetwork (get_or contents 0 []) asked.deadline (λ names net. IsNoRefutation (told_by names (get_or contents 1 [])) net)
+IsBad told (closedcheck asked proof) contents =
+    HasNetwork (get_or contents 0 []) asked.deadline (λ names net. AreFaulty (told_bounds names (get_or contents 1 [])) net)
 IsBad told (drill number) contents = ⊥
 
 -- what the status Full tells of it: the log of its network has more entries than it may
@@ -60,9 +78,10 @@ IsFull told (check asked cap) contents = HasNetwork (get_or contents 0 []) asked
 IsFull told (run asked cap) contents = HasNetwork (get_or contents 0 []) asked.deadline (λ names net. cap < load_of net)
 IsFull told (edit asked cap) contents =
     HasNetwork (get_or contents 0 []) asked.deadline (λ names net. AtLastCheck told cap names net (λ last. IsSomeAnd last (λ edited. cap < load_of edited)))
-IsFull told (save asked) contents = ⊥
-IsFull told (replay asked proof) contents = ⊥
-IsFull told (drill number) contents = ⊥
+IsFull told (closed asked cap) contents = HasNetwork (get_or contents 0 []) asked.deadline (λ names net. cap < load_of net)
+IsFull told (tight asked cap) contents = HasNetwork (get_or contents 0 []) asked.deadline (λ names net. is_tight_full cap net ≡ true)
+IsFull told (conflict asked cap) contents = HasNetwork (get_or contents 0 []) asked.deadline (λ names net. is_blame_full cap net ≡ true)
+IsFull told request contents = ⊥
 
 -- a network whose log has no more entries than it may is decided: Good where it is consistent, and Bad where it isn't
 abbrev pub IsDecided : ℕ → Network → Status → Type 0
@@ -73,11 +92,11 @@ abbrev pub IsComplete : Status → Request → List (List ℕ) → Type 0
 IsComplete status (check asked cap) contents =
     ((status ≡ Document) × IsRefused (get_or contents 0 []) asked.deadline)
     ⊎ HasNetwork (get_or contents 0 []) asked.deadline (λ names net. IsDecided cap net status)
-IsComplete status (run asked cap) contents = Unit {0}
-IsComplete status (edit asked cap) contents = Unit {0}
-IsComplete status (save asked) contents = Unit {0}
-IsComplete status (replay asked proof) contents = Unit {0}
+IsComplete status (closed asked cap) contents =
+    ((status ≡ Document) × IsRefused (get_or contents 0 []) asked.deadline)
+    ⊎ HasNetwork (get_or contents 0 []) asked.deadline (λ names net. IsDecided cap net status)
 IsComplete status (drill number) contents = status ≡ Good
+IsComplete status request contents = Unit {0}
 
 -- a call was stopped by a fault or by want of memory
 abbrev pub IsStopped : Status → Type 0
@@ -98,18 +117,11 @@ files_read Script names = names
 
 -- the request reads the live source: a run of a network that has a strategy, or an edit session
 abbrev pub ReadsLive : Request → List (List ℕ) → Type 0
-ReadsLive (check asked cap) contents = ⊥
 ReadsLive (run asked cap) contents = HasNetwork (get_or contents 0 []) asked.deadline (λ names net. IsYes cap net)
 ReadsLive (edit asked cap) contents = HasNetwork (get_or contents 0 []) asked.deadline (λ names net. Unit {0})
-ReadsLive (save asked) contents = ⊥
-ReadsLive (replay asked proof) contents = ⊥
-ReadsLive (drill number) contents = ⊥
+ReadsLive request contents = ⊥
 
 -- an answer to a line may want memory, after something was written: in an edit session
 abbrev pub MayStop : Request → List (List ℕ) → Type 0
-MayStop (check asked cap) contents = ⊥
-MayStop (run asked cap) contents = ⊥
 MayStop (edit asked cap) contents = HasNetwork (get_or contents 0 []) asked.deadline (λ names net. Unit {0})
-MayStop (save asked) contents = ⊥
-MayStop (replay asked proof) contents = ⊥
-MayStop (drill number) contents = ⊥
+MayStop request contents = ⊥

@@ -1,14 +1,22 @@
 -- What is said of a network by the text of a file.
-use Rattle.std.specs.Prelude.{ℕ, List, [], ◌∷◌, Option}
+use Rattle.std.specs.Prelude.{◌≤◌, ℕ, List, [], ◌∷◌, length, Option}
 use Rattle.cstn_net.specs.Networks.{Network}
 use Rattle.cstn_reply.specs.Files.{IsContent, AreThere}
 use Rattle.cstn_reply.specs.Plans.{Said, IsOutput}
-use Rattle.cstn_top.specs.Outputs.{replayed}
+use Rattle.cstn_reply.specs.Read.{the_said}
+use Rattle.cstn_verdict.specs.Documents.{Answer}
+use Rattle.cstn_evidence.specs.Texts.{by_text}
+use Rattle.cstn_top.specs.declared.commands.texts.TextRead.{TextRead}
+use Rattle.cstn_top.specs.declared.commands.texts.TextRead.TheVariants.{Whole, Told}
 
 -- this is said of a network and of the text that a file has
-pub record IsSaidBy (told : Option (List ℕ → Option (List ℕ))) (proof : List ℕ) (names : List (List ℕ)) (net : Network) (said : Said) : Type 0 where
+pub record IsSaidBy (told : Option (List ℕ → Option (List ℕ))) (proof : List ℕ) (says : List ℕ → Answer) (names : List (List ℕ)) (net : Network) (said : Said) : Type 0 where
   pub text : List ℕ
   pub content : IsContent told proof text
   pub there : AreThere told (proof ∷ [])
-  pub answer : (live : List ℕ) → IsOutput (replayed text names net) live said
+  pub answer : (live : List ℕ) → IsOutput (by_text says text names net) live said
 
+-- the text of a file was read, or is told to be too long, whatever it is to say
+abbrev pub IsTextOf : Option (List ℕ → Option (List ℕ)) → List ℕ → TextRead → Type 0
+IsTextOf told proof (Whole bytes) = IsContent told proof bytes.items × AreThere told (proof ∷ []) × (length bytes.items ≤ 1476395008)
+IsTextOf told proof (Told said) = (says : List ℕ → Answer) (names : List (List ℕ)) (net : Network) → IsSaidBy told proof says names net (the_said said)

@@ -1,13 +1,16 @@
 -- What each request says.
-use Rattle.std.specs.Prelude.{ℕ, nat_lt, if◌then◌else◌, List, [], ◌++◌, length, get_or, Option, None, Some, codes, decimal}
+use Rattle.std.specs.Prelude.{ℕ, List, [], ◌++◌, get_or, Option, None, Some, codes}
 use Rattle.cstn_net.specs.Networks.{Network}
 use Rattle.cstn_save.specs.Canonical.{canonical}
-use Rattle.cstn_refute.specs.Texts.{Told, tells, wrong, told as told_by}
-use Rattle.cstn_words.specs.Requests.{Request, check, run, edit, save, replay, drill}
-use Rattle.cstn_reply.specs.Plans.{Said, say, Plan, says, replays}
-use Rattle.cstn_reply.specs.declared.output.Outcome.TheVariants.{Good, Words, Script}
+use Rattle.cstn_words.specs.Requests.{Request, check, run, edit, closed, tight, conflict, save, replay, closedcheck, drill}
+use Rattle.cstn_reply.specs.Plans.{Said, say, Plan, says}
+use Rattle.cstn_reply.specs.declared.output.Outcome.TheVariants.{Good, Words}
 use Rattle.cstn_verdict.specs.Documents.{Answer, on_document}
 use Rattle.cstn_verdict.specs.Verdicts.{verdict, checked}
+use Rattle.cstn_evidence.specs.Bounds.{listed}
+use Rattle.cstn_evidence.specs.Blame.{blamed}
+use Rattle.cstn_evidence.specs.Tight.{tightened}
+use Rattle.cstn_evidence.specs.Texts.{by_text, replayed, certified}
 use Rattle.cstn_talk.specs.Running.{carried_out}
 use Rattle.cstn_talk.specs.Editing.{edited}
 use Rattle.cstn_top.specs.Drills.{large, counts_of, small_line, large_line}
@@ -15,16 +18,6 @@ use Rattle.cstn_top.specs.Drills.{large, counts_of, small_line, large_line}
 -- what `save` says of a network: its canonical document
 abbrev pub saved : Answer
 saved names net = says (record { outcome = Good; text = canonical net names })
-
--- a refutation's text is replayed, and of another one the first wrong line is told
-abbrev pub replayed_text : Told → Network → Plan
-replayed_text (tells load steps) net = replays steps net
-replayed_text (wrong at) net = says (say Script (codes "script " ++ decimal at))
-
--- what `replay` says of a network by a text, which is refused where it has more than 1,476,395,008 bytes
-abbrev pub replayed : List ℕ → Answer
-replayed text names net =
-    if nat_lt 1476395008 (length text) then says (say Script (codes "script long")) else replayed_text (told_by names text) net
 
 -- what the drill of a number says: the counts of 64 small networks, and the verdict on the large one
 abbrev pub drilled : ℕ → Said
@@ -36,8 +29,12 @@ abbrev pub plan_at : Request → List (List ℕ) → Plan
 plan_at (check asked cap) contents = on_document (checked cap) (get_or contents 0 []) asked.deadline
 plan_at (run asked cap) contents = on_document (carried_out cap) (get_or contents 0 []) asked.deadline
 plan_at (edit asked cap) contents = on_document (edited cap) (get_or contents 0 []) asked.deadline
+plan_at (closed asked cap) contents = on_document (listed cap) (get_or contents 0 []) asked.deadline
+plan_at (tight asked cap) contents = on_document (tightened cap) (get_or contents 0 []) asked.deadline
+plan_at (conflict asked cap) contents = on_document (blamed cap) (get_or contents 0 []) asked.deadline
 plan_at (save asked) contents = on_document saved (get_or contents 0 []) asked.deadline
-plan_at (replay asked proof) contents = on_document (replayed (get_or contents 1 [])) (get_or contents 0 []) asked.deadline
+plan_at (replay asked proof) contents = on_document (by_text replayed (get_or contents 1 [])) (get_or contents 0 []) asked.deadline
+plan_at (closedcheck asked proof) contents = on_document (by_text certified (get_or contents 1 [])) (get_or contents 0 []) asked.deadline
 plan_at (drill number) contents = says (drilled number)
 
 -- the plan of words

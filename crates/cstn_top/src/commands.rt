@@ -7,13 +7,21 @@ ghost use Rattle.cstn_words.specs.Read.{the_request, IsCapped};
 ghost use Rattle.cstn_top.specs.Prepared.{the_plan, Planned, FitsRequest};
 
 mod check;
+mod closed;
+mod closedcheck;
+mod conflict;
 mod drill;
 mod edit;
 mod replay;
 mod run;
 mod save;
+mod texts;
+mod tight;
 
 use check::check_file;
+use closed::closed_file;
+use closedcheck::closedcheck_file;
+use conflict::conflict_file;
 use cstn_io::Shelf;
 use cstn_reply::{Refused, Said};
 use cstn_talk::{Editing, Running};
@@ -24,6 +32,7 @@ use replay::replay_file;
 use run::run_file;
 use save::save_file;
 use std::alloc::Global;
+use tight::tight_file;
 
 /// What is to be written for a request.
 #[derive(Drop)]
@@ -56,12 +65,28 @@ pub(crate) fn prepare<F: Shelf>(
         }
         Request::Run { asked, cap } => run_file(alloc, asked, cap, shelf),
         Request::Edit { asked, cap } => edit_file(alloc, asked, cap, shelf),
+        Request::Closed { asked, cap } => {
+            let said = closed_file(alloc, asked, cap, shelf)?;
+            Ok(Prepared::Says(said))
+        }
+        Request::Tight { asked, cap } => {
+            let said = tight_file(alloc, asked, cap, shelf)?;
+            Ok(Prepared::Says(said))
+        }
+        Request::Conflict { asked, cap } => {
+            let said = conflict_file(alloc, asked, cap, shelf)?;
+            Ok(Prepared::Says(said))
+        }
         Request::Save(asked) => {
             let said = save_file(alloc, asked, shelf)?;
             Ok(Prepared::Says(said))
         }
         Request::Replay { asked, proof } => {
             let said = replay_file(alloc, asked, proof, shelf)?;
+            Ok(Prepared::Says(said))
+        }
+        Request::Closedcheck { asked, proof } => {
+            let said = closedcheck_file(alloc, asked, proof, shelf)?;
             Ok(Prepared::Says(said))
         }
         Request::Drill(number) => {

@@ -1,9 +1,8 @@
 use Rattle.std.specs.Prelude.{IsErrAnd}
-use Rattle.std.proofs.Common.{Err, refl, ◌≡◌, ◌+◌, ◌∷◌, [], get_or, drop, subst, sym, ap, ◌∙◌, arith}
+use Rattle.std.proofs.Common.{Err, refl, ◌≡◌, ◌+◌, drop, subst, sym, ap, ◌∙◌}
 use Rattle.cstn_net.specs.Networks.{Network}
 use Rattle.cstn_net.specs.Read.{the_network}
 use Rattle.cstn_conflict.specs.Sets.{ids_of}
-use Rattle.cstn_conflict.specs.Trials.{smaller}
 use Rattle.cstn_conflict.proofs.LeftLemmas.{Reaches, reaches_start, step_full, step_next, step_end, reaches_end}
 use Rattle.cstn_conflict.specs.declared.errors.ConflictError.TheVariants.{Full}
 use Rattle.cstn_conflict.proofs.ConflictLemmas.{handed_on}

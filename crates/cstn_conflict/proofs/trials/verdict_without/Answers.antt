@@ -1,7 +1,6 @@
 use Rattle.std.proofs.Common.{◌≡◌, subst, ap, ◌∙◌}
 use Rattle.std.specs.Prelude.{IfOk}
 use Rattle.cstn_net.specs.Networks.{Network}
-use Rattle.cstn_net.specs.Read.{the_network}
 use Rattle.cstn_conflict.specs.Trials.{verdict_on, without}
 use Rattle.cstn_conflict.proofs.TrialLemmas.{taken_out, copied}
 use Rattle.cstn_conflict.proofs.trials.verdict_without.Goals as goal

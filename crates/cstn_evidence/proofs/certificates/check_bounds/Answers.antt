@@ -1,7 +1,9 @@
+use Rattle.std.proofs.Common.{◌≡◌}
 use Rattle.cstn_net.specs.Read.{the_network}
 use Rattle.cstn_closed.specs.Closed.{the_bounds}
 use Rattle.cstn_closed.specs.Faults.{no_chain, no_wait}
-use Rattle.cstn_evidence.proofs.Certifying.{fault_said}
+use Rattle.cstn_closed.specs.declared.answers.ClosedAnswer.TheVariants.{Accepted}
+use Rattle.cstn_evidence.proofs.Certifying.{fault_said, faultless_said}
 use Rattle.cstn_evidence.proofs.certificates.check_bounds.Goals as goal
 
 pub returns-in-NoChain-clause-said : goal.returns-in-NoChain-clause-said
@@ -11,3 +13,9 @@ returns-in-NoChain-clause-said c =
 pub returns-in-NoWait-clause-said : goal.returns-in-NoWait-clause-said
 returns-in-NoWait-clause-said c =
     fault_said c.args.names.now (the_bounds c.args.closed.now) (the_network c.args.network.now) (no_wait c.in-NoWait.seen c.in-NoWait.at) c.no_wait.result c.in-NoWait.ensures.answer c.no_wait.ensures.said
+
+pub returns-in-Accepted-clause-said : goal.returns-in-Accepted-clause-said
+returns-in-Accepted-clause-said c =
+    let is = c.in-Accepted.is in
+    let same : c.check.result ≡ Accepted = cc in
+    faultless_said c.args.names.now (the_bounds c.args.closed.now) (the_network c.args.network.now) c.accepted.result (c.check.ensures.accepted.0 same) (c.check.ensures.closed same) c.accepted.ensures.said

@@ -1,4 +1,12 @@
-use Rattle.std.proofs.Common.{◌++◌, ◌∷◌, [], take, sym, ap, ◌∙◌}
+use Rattle.std.proofs.Common.{◌≡◌, List, map, arith, subst, ◌++◌, ◌∷◌, [], take, sym, ap, ◌∙◌}
+use Rattle.std.proofs.Math.Seq.{take_all}
+use Rattle.std.proofs.lemmas.Result.{IfOk-weaker}
+use Rattle.cstn_label.specs.declared.bounds.Bound.{Bound}
+use Rattle.cstn_label.specs.Read.{the_bound}
+use Rattle.cstn_net.specs.Read.{the_network}
+use Rattle.cstn_closed.specs.Closed.{the_bounds}
+use Rattle.cstn_closed.specs.Faults.{IsFaultless}
+use Rattle.cstn_closed.proofs.FaultLemmas.{closed_faultless}
 use Rattle.std.proofs.lemmas.List.{take_more}
 use Rattle.std.proofs.lemmas.Option.{slice_get_within, get_or_from_slice_get}
 use Rattle.cstn_closed.proofs.lists.Closed.of.Goals as goal
@@ -11,7 +19,18 @@ loop-k-preserved c =
     let at = get_or_from_slice_get bounds c.loop-k.k b b c.bound.ensures.bound in
     record {
       end = c.count-k-end.ensures.count;
-      taken = c.in_ok-push.ensures.items
-          ∙ ap (λ xs. xs ++ b ∷ []) c.loop-k.invariant.taken
-          ∙ sym (take_more bounds c.loop-k.k b within ∙ ap (λ x. take c.loop-k.k bounds ++ x ∷ []) at);
+      taken = ◌∙◌ {A = List Bound} c.in_ok-push.ensures.items
+          (◌∙◌ {A = List Bound} (ap (λ (xs : List Bound). xs ++ b ∷ []) c.loop-k.invariant.taken)
+          (sym (◌∙◌ {A = List Bound} (take_more bounds c.loop-k.k b within) (ap (λ (x : Bound). take c.loop-k.k bounds ++ x ∷ []) at))));
     }
+
+pub returns-clause-accepted : goal.returns-clause-accepted
+returns-clause-accepted c range =
+    let net = the_network c.args.plan.now.net in
+    let bounds = c.args.plan.now.bounds in
+    let none = closed_faultless net (map the_bound bounds) c.is_closed.ensures.closed range in
+    let all : c.loop-k.bounds.items ≡ bounds = c.loop-k.invariant.taken
+    ∙ take_all c.loop-k.k bounds (omega (arith, c.loop-k-test.false, c.count-k-end.ensures.count)) in
+    IfOk-weaker c.new.result (λ r. r ≡ record { load = c.args.load; bounds = c.loop-k.bounds.items }) (λ r. IsFaultless net (the_bounds r))
+    (λ r is. subst (λ v. IsFaultless net (the_bounds v)) (sym is) (subst (λ (bs : List Bound). IsFaultless net (map the_bound bs)) (sym all) none))
+    c.new.ensures.new

@@ -1,0 +1,51 @@
+-- Networks at other deadlines, and their least deadline.
+use Rattle.std.proofs.Common.{ℕ, ◌≡◌, ◌≤◌, ◌+◌, ◌-◌, ◌^◌, true, inl, inr, arith}
+use Rattle.std.specs.Prelude.{◌↔◌}
+use Rattle.std.proofs.Math.Nat.{mul-le-mul_left, mul-le-mul_right}
+use Rattle.std.proofs.lemmas.Bool.{cases_lt}
+use Rattle.cstn_net.specs.Networks.{Network, IsWellFormed, count}
+use Rattle.cstn_net.specs.Strategies.{IsConsistent}
+use Rattle.cstn_net.proofs.Kept.{later_deadline}
+use Rattle.cstn_net.proofs.WellFormed.{well_formed_by}
+use Rattle.cstn_check.specs.Growth.{load_of, most_entries, observed}
+use Rattle.cstn_check.proofs.Decides.{load_bounded}
+use Rattle.cstn_conflict.specs.Sets.{is_consistent}
+use Rattle.cstn_conflict.proofs.SetLemmas.{decided}
+use Rattle.cstn_tight.specs.Deadlines.{at_deadline, IsLeastDeadline}
+
+-- a network that is consistent at a deadline is so at every later one
+pub consistent_later : (net : Network) (h k : ℕ) → h ≤ k → IsConsistent (at_deadline net h) → IsConsistent (at_deadline net k)
+consistent_later net h k upto consistent = (consistent.0, later_deadline (at_deadline net h) consistent.0 k upto consistent.1)
+
+-- and at no earlier one than the least
+pub least_upto : (net : Network) (h k : ℕ) → IsLeastDeadline net h → IsConsistent (at_deadline net k) → h ≤ k
+least_upto net h k least consistent = elim (cases_lt k h) [
+  | inr upto ↦ upto
+  | inl before ↦ elim least.least [
+    | inl none ↦ absurd (omega arith)
+    | inr never ↦ absurd (never (consistent_later net k (h - 1) (omega arith) consistent))
+  ]
+]
+
+pub one_least : (net : Network) (g h : ℕ) → IsLeastDeadline net g → IsLeastDeadline net h → g ≡ h
+one_least net g h first second =
+    let up = least_upto net g h first second.consistent in
+    let down = least_upto net h g second first.consistent in
+    omega arith
+
+module _ (net : Network) (good : IsWellFormed net) where
+  pub good_at_deadline : (h : ℕ) → h ≤ 1000000 → IsWellFormed (at_deadline net h)
+  good_at_deadline h upto = well_formed_by net h good upto
+
+  pub decided_at : (h : ℕ) → h ≤ 1000000 → (is_consistent (at_deadline net h) ≡ true) ↔ IsConsistent (at_deadline net h)
+  decided_at h upto = decided (at_deadline net h) (good_at_deadline h upto)
+
+  -- an earlier deadline allows no more entries
+  pub load_upto : (h : ℕ) → h ≤ net.deadline → load_of (at_deadline net h) ≤ most_entries net
+  load_upto h upto =
+      let in_time = good.in_time in
+      let short : load_of (at_deadline net h) ≤ most_entries (at_deadline net h) = load_bounded (at_deadline net h) (good_at_deadline h (omega arith)) in
+      let wider : h + 2 ≤ net.deadline + 2 = omega arith in
+      let more : most_entries (at_deadline net h) ≤ most_entries net =
+      mul-le-mul_right (4 ^ observed net.observes) (mul-le-mul_left (count net) wider) in
+      omega arith

@@ -1,0 +1,4 @@
+pub mod LeastLemmas
+pub mod HalfLemmas
+pub mod BracketLemmas
+pub mod ClosedLemmas

@@ -1,0 +1,55 @@
+-- The deadlines that are tried for the least one, by halves.
+use Rattle.std.specs.Prelude.{ℕ, zero, suc, ◌+◌, ◌/◌, ◌++◌, Bool, nat_lt, if◌then◌else◌, List, [], ◌∷◌}
+use Rattle.std.specs.List.{list_any}
+use Rattle.cstn_net.specs.Networks.{Network}
+use Rattle.cstn_check.specs.Growth.{load_of}
+use Rattle.cstn_conflict.specs.Sets.{is_consistent}
+use Rattle.cstn_tight.specs.declared.ranges.Range.{Range}
+use Rattle.cstn_tight.specs.Deadlines.{at_deadline}
+
+-- the deadline between the ends of a range
+abbrev pub middle : Range → ℕ
+middle r = (r.low + r.high) / 2
+
+-- the half that is left once the network was tried there: up to it after a yes, above it after a no
+abbrev pub halved : Network → Range → Range
+halved net r =
+    if is_consistent (at_deadline net (middle r)) then record { low = r.low; high = middle r } else record { low = middle r + 1; high = r.high }
+
+-- the range is halved while it has more than one deadline
+abbrev pub next : Network → Range → Range
+next net r = if nat_lt r.low r.high then halved net r else r
+
+-- the range after so many tries
+abbrev pub narrowed : Network → ℕ → Range → Range
+narrowed net zero r = r
+narrowed net (suc n) r = narrowed net n (next net r)
+
+-- the deadlines that are tried
+abbrev pub tried_from : Network → ℕ → Range → List ℕ
+tried_from net zero r = []
+tried_from net (suc n) r = (if nat_lt r.low r.high then middle r ∷ [] else []) ++ tried_from net n (next net r)
+
+-- the deadlines up to the network's own, of which there are fewer than 2^20
+abbrev pub whole : Network → Range
+whole net = record { low = 0; high = net.deadline }
+
+-- the least deadline of a consistent network, where a range of fewer than 2^20 was halved 20 times
+abbrev pub least_deadline : Network → ℕ
+least_deadline net = (narrowed net 20 (whole net)).high
+
+-- the deadlines that are tried: the network's own, and, where it is consistent, those of the halves
+abbrev pub tried_deadlines : Network → List ℕ
+tried_deadlines net = net.deadline ∷ (if is_consistent net then tried_from net 20 (whole net) else [])
+
+-- the load of the network at h is above the cap
+abbrev pub is_above : ℕ → Network → ℕ → Bool
+is_above cap net h = nat_lt cap (load_of (at_deadline net h))
+
+-- some tried deadline has a load above the cap
+abbrev pub is_full : ℕ → Network → Bool
+is_full cap net = list_any (is_above cap net) (tried_deadlines net)
+
+-- some deadline that is tried after the network's own has
+abbrev pub is_any_above : ℕ → Network → Bool
+is_any_above cap net = list_any (is_above cap net) (tried_from net 20 (whole net))

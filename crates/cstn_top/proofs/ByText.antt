@@ -1,0 +1,105 @@
+-- What is said by a text.
+use Rattle.std.proofs.Common.{◌≡◌, ℕ, ◌≤◌, ◌<◌, List, [], ◌∷◌, ◌++◌, length, refl, ap, sym, ◌∙◌, subst, arith}
+use Rattle.std.specs.Prelude.{nat_lt, if◌then◌else◌, Option, Result, Ok, Err, IfOk, map, codes}
+use Rattle.cstn_io.specs.Contents.{IsLongFile}
+use Rattle.cstn_net.specs.Networks.{Network}
+use Rattle.cstn_net.specs.Read.{NetworkParts, the_network}
+use Rattle.cstn_words.specs.Requests.{Asked, Request, replay, closedcheck, files_of}
+use Rattle.cstn_reply.specs.Files.{IsContent, AreContents, AreThere}
+use Rattle.cstn_reply.specs.Plans.{Said, say, Plan, says, IsOutput, ComesTo}
+use Rattle.cstn_reply.specs.Statuses.{status_of}
+use Rattle.cstn_reply.specs.Read.{the_said}
+use Rattle.cstn_reply.specs.declared.output.Said.{Said as SaidText}
+use Rattle.cstn_reply.specs.declared.status.Status.{Status}
+use Rattle.cstn_reply.specs.declared.status.Status.TheVariants.{Good as IsGood, Bad as IsBad, Words as IsWords, Document as IsDocument, Full as IsFull, ReadFault, WriteFault, Memory, Unfinished as IsUnfinished, Script as IsScript}
+use Rattle.cstn_reply.specs.declared.output.Outcome.{Outcome}
+use Rattle.cstn_reply.specs.declared.output.Outcome.TheVariants.{Script}
+use Rattle.cstn_reply.proofs.Contents.{some_content, two_contents, long_content, long_is_there, none_there, two_there}
+use Rattle.cstn_verdict.specs.Documents.{Answer, on_document}
+use Rattle.cstn_verdict.specs.Opened.{IsOpened}
+use Rattle.cstn_verdict.specs.declared.documents.Opened.TheVariants.{Accepted, Told}
+use Rattle.cstn_verdict.proofs.Opening.{accepted_comes, told_comes, comes_to_text}
+use Rattle.cstn_evidence.specs.Texts.{by_text, replayed, certified}
+use Rattle.cstn_top.specs.Opened.{IsSaidBy, IsTextOf}
+use Rattle.cstn_top.specs.Outputs.{plan_at}
+use Rattle.cstn_top.specs.Meanings.{files_read}
+use Rattle.cstn_top.specs.Prepared.{Planned}
+use Rattle.cstn_top.specs.declared.commands.texts.TextRead.TheVariants.{Told as ToldText}
+
+-- both files were read, whatever the status
+two_read : (told : Option (List ℕ → Option (List ℕ))) (name other : List ℕ) (status : Status) → AreThere told (name ∷ []) → AreThere told (other ∷ []) → AreThere told (files_read status (name ∷ other ∷ []))
+two_read told name other IsGood one two = two_there told name other one two
+two_read told name other IsBad one two = two_there told name other one two
+two_read told name other IsWords one two = none_there told
+two_read told name other IsDocument one two = one
+two_read told name other IsFull one two = two_there told name other one two
+two_read told name other ReadFault one two = none_there told
+two_read told name other WriteFault one two = none_there told
+two_read told name other Memory one two = none_there told
+two_read told name other IsUnfinished one two = two_there told name other one two
+two_read told name other IsScript one two = two_there told name other one two
+
+-- a request that is answered by a document and by a text
+pub record IsOfTwo (request : Request) (asked : Asked) (proof : List ℕ) (speaks : List ℕ → Answer) : Type 0 where
+  pub files : files_of request ≡ asked.file ∷ proof ∷ []
+  pub plan : (bytes text : List ℕ) → plan_at request (bytes ∷ text ∷ []) ≡ on_document (by_text speaks text) bytes asked.deadline
+
+pub of_replay : (asked : Asked) (proof : List ℕ) → IsOfTwo (replay asked proof) asked proof replayed
+of_replay asked proof = record { files = refl; plan = λ bytes text. refl }
+
+pub of_closedcheck : (asked : Asked) (proof : List ℕ) → IsOfTwo (closedcheck asked proof) asked proof certified
+of_closedcheck asked proof = record { files = refl; plan = λ bytes text. refl }
+
+-- the plan where the document was accepted
+pub two_accepted : {E : Type 0} (request : Request) (asked : Asked) (proof : List ℕ) (speaks : List ℕ → Answer) (told : Option (List ℕ → Option (List ℕ))) (net : NetworkParts) (names : List (List ℕ)) (r : Result SaidText E) → IsOfTwo request asked proof speaks → IsOpened told asked (Accepted net names) → IfOk r (λ said. IsSaidBy told proof speaks names (the_network net) (the_said said)) → IfOk r (λ said. Planned request told (says (the_said said)))
+two_accepted request asked proof speaks told net names (Err e) two opened is = tt
+two_accepted request asked proof speaks told net names (Ok said) two opened is = record {
+  contents = opened.bytes ∷ is.text ∷ [];
+  are = subst (λ (files : List (List ℕ)). AreContents told files (opened.bytes ∷ is.text ∷ [])) (sym two.files) (two_contents told asked.file proof opened.bytes is.text opened.content is.content);
+  comes = subst (λ (p : Plan). ComesTo p (says (the_said said))) (sym (two.plan opened.bytes is.text))
+      (accepted_comes (by_text speaks is.text) opened.bytes asked.deadline net names (says (the_said said)) opened.opens
+      (comes_to_text (by_text speaks is.text names (the_network net)) (the_said said) is.answer));
+  there = λ live other output. subst (λ (files : List (List ℕ)). AreThere told (files_read (status_of other.outcome) files)) (sym two.files) (two_read told asked.file proof (status_of other.outcome) opened.there is.there);
+}
+
+-- the plan where it was refused
+pub two_told : (request : Request) (asked : Asked) (proof : List ℕ) (speaks : List ℕ → Answer) (told : Option (List ℕ → Option (List ℕ))) (said : SaidText) → IsOfTwo request asked proof speaks → IsOpened told asked (Told said) → Planned request told (says (the_said said))
+two_told request asked proof speaks told said two opened =
+    let text = some_content told proof in
+    record {
+      contents = opened.bytes ∷ text.0 ∷ [];
+      are = subst (λ (files : List (List ℕ)). AreContents told files (opened.bytes ∷ text.0 ∷ [])) (sym two.files) (two_contents told asked.file proof opened.bytes text.0 opened.content text.1);
+      comes = subst (λ (p : Plan). ComesTo p (says (the_said said))) (sym (two.plan opened.bytes text.0)) (told_comes (by_text speaks text.0) opened.bytes asked.deadline said opened.opens);
+      there = λ live other output. subst (λ (files : List (List ℕ)). AreThere told (files_read (status_of other.outcome) files)) (sym two.files)
+          (subst (λ (o : Outcome). AreThere told (files_read (status_of o) (asked.file ∷ proof ∷ [])))
+          (sym (ap (λ (s : Said). s.outcome) output ∙ opened.opens.1)) opened.there);
+    }
+
+long_answer : (speaks : List ℕ → Answer) (text : List ℕ) (names : List (List ℕ)) (net : Network) (live : List ℕ) (said : Said) → 1476395008 < length text → said ≡ say Script (codes "script long") → IsOutput (by_text speaks text names net) live said
+long_answer speaks text names net live said long is =
+    let same : by_text speaks text names net ≡ says (say Script (codes "script long")) = beyond 1476395008 (length text) (says (say Script (codes "script long"))) (speaks text names net) long in
+    subst (λ (a : Plan). IsOutput a live said) (sym same) is
+  where
+    beyond : (n m : ℕ) (one other : Plan) → n < m → (if nat_lt n m then one else other) ≡ one
+    beyond n m one other lt = grind arith
+
+-- what is said of a text that is short enough
+short_answer : (speaks : List ℕ → Answer) (text : List ℕ) (names : List (List ℕ)) (net : Network) (live : List ℕ) (said : Said) → length text ≤ 1476395008 → IsOutput (speaks text names net) live said → IsOutput (by_text speaks text names net) live said
+short_answer speaks text names net live said short is =
+    let same : by_text speaks text names net ≡ speaks text names net = within 1476395008 (length text) (says (say Script (codes "script long"))) (speaks text names net) short in
+    subst (λ (a : Plan). IsOutput a live said) (sym same) is
+  where
+    within : (n m : ℕ) (one other : Plan) → m ≤ n → (if nat_lt n m then one else other) ≡ other
+    within n m one other le = grind arith
+
+-- a text that is too long
+pub long_text : (told : Option (List ℕ → Option (List ℕ))) (proof : List ℕ) (said : SaidText) → IsLongFile told proof 1476395008 → the_said said ≡ say Script (codes "script long") → IsTextOf told proof (ToldText said)
+long_text told proof said long is = λ speaks names net.
+    let found = long_content told proof 1476395008 long in
+    record { text = found.0; content = found.1; there = long_is_there told proof 1476395008 long; answer = λ live. long_answer speaks found.0 names net live (the_said said) found.2 is }
+
+-- a text that was read
+pub text_said : {E : Type 0} (speaks : List ℕ → Answer) (told : Option (List ℕ → Option (List ℕ))) (proof text : List ℕ) (names : List (List ℕ)) (net : Network) (r : Result SaidText E) → IsContent told proof text → AreThere told (proof ∷ []) → length text ≤ 1476395008 → ((live : List ℕ) → IfOk r (λ said. IsOutput (speaks text names net) live (the_said said))) → IfOk r (λ said. IsSaidBy told proof speaks names net (the_said said))
+text_said speaks told proof text names net (Err e) content there short is = tt
+text_said speaks told proof text names net (Ok said) content there short is =
+    record { text = text; content = content; there = there; answer = λ live. short_answer speaks text names net live (the_said said) short (is live) }

@@ -1,0 +1,18 @@
+use Rattle.std.proofs.Common.{subst}
+use Rattle.cstn_net.specs.Read.{the_network}
+use Rattle.cstn_evidence.specs.Texts.{certified}
+use Rattle.cstn_top.specs.Opened.{IsTextOf}
+use Rattle.cstn_top.specs.declared.commands.texts.TextRead.{TextRead}
+use Rattle.cstn_top.specs.declared.commands.texts.TextRead.TheVariants.{Whole, Told}
+use Rattle.cstn_top.proofs.ByText.{text_said}
+use Rattle.cstn_top.proofs.commands.closedcheck.check_on.Goals as goal
+
+pub returns-in-Ok-Whole-clause-said : goal.returns-in-Ok-Whole-clause-said
+returns-in-Ok-Whole-clause-said g c =
+    let read : IsTextOf (g.F.Shelf.files c.args.shelf.now) c.args.proof.now (Whole c.in-Ok-Whole.text) = subst (λ (t : TextRead). IsTextOf (g.F.Shelf.files c.args.shelf.now) c.args.proof.now t) c.in-Ok-Whole.field-0-is c.in-Ok-Whole.ensures.text in
+    text_said certified (g.F.Shelf.files c.args.shelf.now) c.args.proof.now c.in-Ok-Whole.text.items c.args.names.now (the_network c.args.network.now) c.check_text.result read.0 read.1 read.2 c.check_text.ensures.said
+
+pub returns-in-Ok-Told-clause-said : goal.returns-in-Ok-Told-clause-said
+returns-in-Ok-Told-clause-said g c =
+    let read : IsTextOf (g.F.Shelf.files c.args.shelf.now) c.args.proof.now (Told c.in-Ok-Told.said) = subst (λ (t : TextRead). IsTextOf (g.F.Shelf.files c.args.shelf.now) c.args.proof.now t) c.in-Ok-Told.field-0-is c.in-Ok-Told.ensures.text in
+    read certified c.args.names.now (the_network c.args.network.now)
