@@ -1,5 +1,6 @@
-use Rattle.std.proofs.Common.{subst}
+use Rattle.std.proofs.Common.{subst, sym, List, ℕ, ◌≤◌, length}
 use Rattle.cstn_net.specs.Read.{the_network}
+use Rattle.cstn_reply.specs.Files.{IsContent}
 use Rattle.cstn_evidence.specs.Texts.{replayed}
 use Rattle.cstn_top.specs.Opened.{IsTextOf}
 use Rattle.cstn_top.specs.declared.commands.texts.TextRead.{TextRead}
@@ -10,7 +11,9 @@ use Rattle.cstn_top.proofs.commands.replay.replay_on.Goals as goal
 pub returns-in-Ok-Whole-clause-said : goal.returns-in-Ok-Whole-clause-said
 returns-in-Ok-Whole-clause-said g c =
     let read : IsTextOf (g.F.Shelf.files c.args.shelf.now) c.args.proof.now (Whole c.in-Ok-Whole.text) = subst (λ (t : TextRead). IsTextOf (g.F.Shelf.files c.args.shelf.now) c.args.proof.now t) c.in-Ok-Whole.field-0-is c.in-Ok-Whole.ensures.text in
-    text_said replayed (g.F.Shelf.files c.args.shelf.now) c.args.proof.now c.in-Ok-Whole.text.items c.args.names.now (the_network c.args.network.now) c.replay_text.result read.0 read.1 read.2 c.replay_text.ensures.said
+    text_said replayed (g.F.Shelf.files c.args.shelf.now) c.args.proof.now c.deref.result.now c.args.names.now (the_network c.args.network.now) c.replay_text.result
+    (subst (λ (bytes : List ℕ). IsContent (g.F.Shelf.files c.args.shelf.now) c.args.proof.now bytes) (sym c.deref.ensures.value) read.0) read.1
+    (subst (λ (bytes : List ℕ). length bytes ≤ 1476395008) (sym c.deref.ensures.value) read.2) c.replay_text.ensures.said
 
 pub returns-in-Ok-Told-clause-said : goal.returns-in-Ok-Told-clause-said
 returns-in-Ok-Told-clause-said g c =
