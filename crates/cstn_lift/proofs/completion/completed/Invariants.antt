@@ -5,4 +5,4 @@ use Rattle.cstn_lift.specs.Read.{with_labels}
 use Rattle.cstn_lift.proofs.completion.completed.Given as goal
 
 abbrev pub invariant-loop-round : goal.invariant-loop-round
-invariant-loop-round l = marks l.whole ≡ rounds (with_labels l.net l.labels) l._round (marks l.label)
+invariant-loop-round l = marks l.whole ≡ rounds (with_labels l.net l.labels) l._round (marks l.initial.whole)

@@ -1,0 +1,23 @@
+-- Labels in words, and lists of them.
+use Rattle.std.proofs.Common.{ℕ, ◌≡◌, ◌<◌, ◌+◌, Bool, true, false, ◌&&◌, eqb, List, arith, refl, sym, ap, ◌∙◌, length}
+use Rattle.std.specs.Prelude.{map, slice_index_or}
+use Rattle.std.proofs.lemmas.Bool.{eqb-true}
+use Rattle.std.proofs.lemmas.List.{get_or-map}
+use Rattle.cstn_label.specs.declared.labels.Label.{Label as Words}
+use Rattle.cstn_label.specs.Labels.{Label, empty}
+use Rattle.cstn_label.specs.Words.{has_bit}
+use Rattle.cstn_label.specs.Read.{mark_of, marks}
+use Rattle.cstn_lift.specs.Labelled.{label_in}
+
+both_left : (b c : Bool) → (b && c) ≡ true → b ≡ true
+both_left b c e = grind arith
+
+both_right : (b c : Bool) → (b && c) ≡ true → c ≡ true
+both_right b c e = grind arith
+
+-- labels that are the same words have the same marks
+pub same_marks : (a b : Words) → (eqb a.yes b.yes && eqb a.no b.no) ≡ true → marks a ≡ marks b
+same_marks a b e =
+    let y = eqb-true a.yes b.yes (both_left (eqb a.yes b.yes) (eqb a.no b.no) e) in
+    let n = eqb-true a.no b.no (both_right (eqb a.yes b.yes) (eqb a.no b.no) e) in
+    ap (λ w. λ p. mark_of (has_bit w p) (has_bit a.no p)) y ∙ ap (λ w. λ p. mark_of (has_bit b.yes p) (has_bit w p)) n
