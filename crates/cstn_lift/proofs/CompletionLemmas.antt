@@ -9,6 +9,7 @@ use Rattle.cstn_label.proofs.LabelLemmas.{within_itself, within_through, within_
 use Rattle.cstn_net.specs.Networks.{Network, Observes, count}
 use Rattle.cstn_net.proofs.Knowledge.{observer_within}
 use Rattle.cstn_lift.specs.Labelled.{Labelled, label_of}
+use Rattle.cstn_lift.specs.Faults.{IsSeenBy}
 use Rattle.cstn_lift.specs.Completion.{is_marked, is_observed_by, brought_by, joined_upto, rounds, completed, IsComplete, IsLabelOfObserver}
 
 mark_within_left : (m n : Mark) → IsMarkWithin m (joined_mark m n)
@@ -270,3 +271,16 @@ module _ (m : Labelled) (one : (x y p : ℕ) → Observes m.base x p → Observe
     | inl found ↦ subst (λ l. IsWithin l (round m a)) (sym found.2) (round_has m a found.0 p found.1 marked)
     | inr none ↦ subst (λ l. IsWithin l (round m a)) (sym none.1) (empty_within (round m a))
   ])
+
+-- the test whether a label marks what x observes
+pub seen_by : (net : Network) (a b : Label) (o : Option ℕ) (x : ℕ) → o ≡ slice_index_or net.observes x None → a ≡ b →
+    is_observed_by o a ≡ true → IsSeenBy net b x
+seen_by net a b None x at same e = absurd (cc)
+seen_by net a b (Some p) x at same e =
+    (p, record { what = sym at }, subst (λ l. IsMarked l p) same (marked_back (a p) e))
+
+pub unseen_by : (net : Network) (a b : Label) (o : Option ℕ) (x : ℕ) → o ≡ slice_index_or net.observes x None → a ≡ b →
+    is_observed_by o a ≡ false → IsSeenBy net b x → ⊥
+unseen_by net a b o x at same e seen =
+    let set : is_observed_by o a ≡ true = ap (λ l. is_observed_by o l) same ∙ rw (at ∙ seen.1.what) (marked_true (b seen.0) seen.2) in
+    cc
