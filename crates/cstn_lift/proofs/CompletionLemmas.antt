@@ -44,10 +44,10 @@ observed_more None a b h k = k
 observed_more (Some p) a b h k = marked_more (a p) (b p) (h p) k
 
 module _ (m : Labelled) where
-  abbrev what : ℕ → Option ℕ
+  abbrev pub what : ℕ → Option ℕ
   what x = slice_index_or m.base.observes x None
 
-  seen_marked : (a : Label) (x p : ℕ) → Observes m.base x p → IsMarked a p → is_observed_by (what x) a ≡ true
+  pub seen_marked : (a : Label) (x p : ℕ) → Observes m.base x p → IsMarked a p → is_observed_by (what x) a ≡ true
   seen_marked a x p o marked = rw o.what (marked_true (a p) marked)
 
   -- what is brought by x is within c where its label is, if a marks what x observes
@@ -128,7 +128,7 @@ module _ (m : Labelled) where
   bit true = 1
   bit false = 0
 
-  seen : ℕ → Label → ℕ
+  pub seen : ℕ → Label → ℕ
   seen zero a = 0
   seen (suc n) a = seen n a + bit (is_observed_by (what n) a)
 
@@ -152,10 +152,10 @@ module _ (m : Labelled) where
   bits false true h = inr (refl, refl, omega arith)
   bits false false h = inl (refl, refl)
 
-  abbrev Alike : ℕ → Label → Label → Type 0
+  abbrev pub Alike : ℕ → Label → Label → Type 0
   Alike n a b = (x : ℕ) → x < n → is_observed_by (what x) a ≡ is_observed_by (what x) b
 
-  same_or_more : (n : ℕ) (a b : Label) → IsWithin a b → (Alike n a b × (seen n a ≡ seen n b)) ⊎ (seen n a < seen n b)
+  pub same_or_more : (n : ℕ) (a b : Label) → IsWithin a b → (Alike n a b × (seen n a ≡ seen n b)) ⊎ (seen n a < seen n b)
   unfolding seen
   same_or_more zero a b h = inl ((λ x before. absurd (omega arith)), refl)
   same_or_more (suc n) a b h =

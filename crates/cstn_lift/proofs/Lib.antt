@@ -1,3 +1,11 @@
 pub mod Rows
 pub mod CompletionLemmas
 pub mod LabelLemmas
+pub mod ListLemmas
+pub mod FullLemmas
+pub mod Executed
+pub mod Dichotomy
+pub mod ToLabelled
+pub mod ToPlain
+pub mod LoweredLemmas
+pub mod Equivalent

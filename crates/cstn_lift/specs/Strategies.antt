@@ -54,3 +54,8 @@ pub record IsLabelledLeast (m : Labelled) (s : Scenario) (x t : ℕ) : Type 0 wh
 pub record IsEquivalent (m : Labelled) (net : Network) : Type 0 where
   pub consistent : IsLabelledConsistent m ↔ IsConsistent net
   pub least : (s : Scenario) (x t : ℕ) → x < count m.base → IsExecuted m s x → (IsLabelledLeast m s x t ↔ IsLeast net s x t)
+
+-- the scenario r has the values of s for what is observed in s, and those of d for what isn't
+pub record IsDefaulted (m : Labelled) (d s r : Scenario) : Type 0 where
+  pub executed : (j p : ℕ) → Observes m.base j p → IsExecuted m s j → r p ≡ s p
+  pub rest : (j p : ℕ) → Observes m.base j p → (IsExecuted m s j → ⊥) → r p ≡ d p
