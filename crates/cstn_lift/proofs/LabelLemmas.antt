@@ -7,6 +7,7 @@ use Rattle.cstn_label.specs.declared.labels.Label.{Label as Words}
 use Rattle.cstn_label.specs.Labels.{Label, empty}
 use Rattle.cstn_label.specs.Words.{has_bit}
 use Rattle.cstn_label.specs.Read.{mark_of, marks}
+use Rattle.cstn_label.proofs.ReadLemmas.{same_label}
 use Rattle.cstn_lift.specs.Labelled.{label_in}
 
 both_left : (b c : Bool) → (b && c) ≡ true → b ≡ true
@@ -34,3 +35,13 @@ upto_next P n before here y upto = elim (cases_lt y n) [
   | inl earlier ↦ before y earlier
   | inr later ↦ let at : n ≡ y = omega arith in subst P at here
 ]
+
+tested : (a b : ℕ) → a ≡ b → eqb a b ≡ true
+tested a b e = grind arith
+
+pub same_tested : (a b : Words) → marks a ≡ marks b → (eqb a.yes b.yes && eqb a.no b.no) ≡ true
+same_tested a b e =
+    let same : a ≡ b = same_label a b (λ p. ap (λ l. l p) e) in
+    let y = tested a.yes b.yes (ap (λ w. w.yes) same) in
+    let n = tested a.no b.no (ap (λ w. w.no) same) in
+    rw (y, n) refl

@@ -13,7 +13,7 @@ use crate::completion::completed_labels;
 use crate::errors::LiftError;
 use crate::lowering::lowered;
 use crate::networks::{Labelled, Labels};
-use crate::scans::{first_in_circle, first_not_plain, first_unobserved};
+use crate::scans::{first_in_circle, first_not_plain, first_unobserved, is_empty};
 use cstn_label::Label;
 use cstn_net::Network;
 use std::alloc::Global;
@@ -83,7 +83,7 @@ fn is_origin_labelled(labels: &[Label]) -> bool
     ensures { IsTrue result ↔ (label_in (map marks labels.now) 0 ≢ empty) }
 {
     match labels.first() {
-        Some(label) => *label != Label::empty(),
+        Some(label) => !is_empty(*label),
         None => false,
     }
 }

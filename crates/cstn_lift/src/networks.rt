@@ -1,16 +1,16 @@
-ghost use Rattle.std.specs.Prelude.{◌≡◌, ◌<◌, ◌⊎◌, ◌↔◌, IsTrue, length};
-ghost use Rattle.std.specs.List.{All};
+ghost use Rattle.std.specs.Prelude.{ℕ, ◌≡◌, ◌≢◌, ◌<◌, ◌↔◌, IsTrue, length, map};
 ghost use Rattle.cstn_label.specs.Labels.{empty};
 ghost use Rattle.cstn_label.specs.Read.{marks};
 ghost use Rattle.cstn_net.specs.Networks.{IsWellFormed, count};
 ghost use Rattle.cstn_net.specs.Read.{the_network};
-ghost use Rattle.cstn_lift.specs.Labelled.{label_of};
+ghost use Rattle.cstn_lift.specs.Labelled.{label_in, label_of};
 ghost use Rattle.cstn_lift.specs.Completion.{completed_label};
 ghost use Rattle.cstn_lift.specs.WellFormed.{IsLabelled};
 ghost use Rattle.cstn_lift.specs.Lowered.{lowered};
 ghost use Rattle.cstn_lift.specs.Strategies.{IsEquivalent};
 ghost use Rattle.cstn_lift.specs.Read.{the_labelled, with_labels, AreCompleted};
 
+use crate::scans::is_empty;
 use cstn_label::{Label, NodeId};
 use cstn_net::Network;
 use std::marker::Model;
@@ -24,15 +24,17 @@ pub struct Labelled {
 
 impl Model for Labelled {
     ghost use Rattle.std.specs.Prelude.{◌≡◌};
+    ghost use Rattle.cstn_net.specs.Networks.{IsWellFormed};
     ghost use Rattle.cstn_net.specs.Read.{the_network};
     ghost use Rattle.cstn_lift.specs.Lowered.{lowered};
+    ghost use Rattle.cstn_lift.specs.WellFormed.{IsLabelled};
     ghost use Rattle.cstn_lift.specs.Read.{LabelledParts, the_labelled};
 
     ghost Value = { LabelledParts };
 
     ghost view = { λ l. l.rest };
 
-    ghost invariant = { λ l. the_network l.plain ≡ lowered (the_labelled l.rest) };
+    ghost invariant = { λ l. (the_network l.plain ≡ lowered (the_labelled l.rest)) × IsWellFormed (the_network l.plain) × IsLabelled (the_labelled l.rest) };
 }
 
 /// A labelled network without the plain network that it is lowered to: the network as it was handed in, the labels of its
@@ -59,6 +61,8 @@ impl Labelled {
     // The labelled network and the plain one that it is lowered to.
     pub(crate) fn new(plain: Network, rest: Labels) -> Labelled
         requires lowered { the_network plain ≡ lowered (the_labelled rest) }
+        requires well_formed { IsWellFormed (the_network plain) }
+        requires labelled { IsLabelled (the_labelled rest) }
         ensures same { result ≡ rest }
     {
         Labelled { plain, rest }
@@ -93,9 +97,9 @@ impl Labelled {
 
     /// Whether some time-point's label isn't empty.
     pub fn is_labelled(&self) -> bool
-        ensures labelled { IsTrue result ↔ (All (λ a. a ≡ empty) (the_labelled self.now).labels → ⊥) }
+        ensures labelled { IsTrue result ↔ ((x : ℕ) × (x < count (the_network self.now.base)) × (label_of (the_labelled self.now) x ≢ empty)) }
     {
-        self.rest.given.iter().any(|label| *label != Label::empty())
+        some_label(&self.rest.given)
     }
 
     /// The plain network that it is lowered to, and the rest.
@@ -132,4 +136,16 @@ impl Labels {
     {
         self.whole[x.index()]
     }
+}
+
+// Whether some label isn't empty.
+fn some_label(labels: &[Label]) -> bool
+    ensures { IsTrue result ↔ ((x : ℕ) × (x < length labels.now) × (label_in (map marks labels.now) x ≢ empty)) }
+{
+    for label in labels {
+        if !is_empty(*label) {
+            return true;
+        }
+    }
+    false
 }

@@ -1,7 +1,7 @@
 // The first time-point at which something is wrong.
-ghost use Rattle.std.specs.Prelude.{ℕ, ◌≡◌, ◌<◌, length, map, MatchOption};
+ghost use Rattle.std.specs.Prelude.{ℕ, ◌≡◌, ◌<◌, ◌↔◌, length, map, IsTrue, MatchOption};
 ghost use Rattle.std.specs.Option.{option_map};
-ghost use Rattle.cstn_label.specs.Labels.{IsPlain};
+ghost use Rattle.cstn_label.specs.Labels.{IsPlain, empty};
 ghost use Rattle.cstn_label.specs.Read.{marks};
 ghost use Rattle.cstn_net.specs.Networks.{IsLeastUnobserved, IsOnObserved, IsWellFormed, count};
 ghost use Rattle.cstn_net.specs.Read.{the_network};
@@ -63,4 +63,11 @@ fn is_observed_by(p: Option<Prop>, label: Label) -> bool
         Some(p) => label.mark(p) != Mark::Absent,
         None => false,
     }
+}
+
+// Whether the label has no mark.
+pub fn is_empty(label: Label) -> bool
+    ensures { IsTrue result ↔ (marks label ≡ empty) }
+{
+    label == Label::empty()
 }
