@@ -58,8 +58,8 @@ module _ (m : Labelled) (good : IsLabelled m) where
   pub mixed_defaulted : (d s : Scenario) → IsDefaulted m d s (mixed d s)
   unfolding mixed mixed_at
   mixed_defaulted d s = record {
-    executed = λ j p o h. ap (mixed_at d s p) (observer_found m good j p o) ∙ value_left (executed_or_not m good s j) (s p) (d p) h;
-    rest = λ j p o h. ap (mixed_at d s p) (observer_found m good j p o) ∙ value_right (executed_or_not m good s j) (s p) (d p) h;
+    executed = λ j p o h. ap (mixed_at d s p) (observer_found m.base good.base.network j p o) ∙ value_left (executed_or_not m good s j) (s p) (d p) h;
+    rest = λ j p o h. ap (mixed_at d s p) (observer_found m.base good.base.network j p o) ∙ value_right (executed_or_not m good s j) (s p) (d p) h;
   }
 
   own_at : (s : Scenario) (p : ℕ) (o : Option ℕ) → mixed_at s s p o ≡ s p

@@ -10,13 +10,13 @@ use Rattle.std.proofs.lemmas.List.Sums.{list_all-from_AllPass, AllPass-from_list
 use Rattle.cstn_label.specs.declared.marks.Mark.{Mark}
 use Rattle.cstn_label.specs.declared.marks.Mark.TheVariants.{Absent, Yes, No, Unknown}
 use Rattle.cstn_label.specs.Labels.{Label, IsMarked, IsMarkPlain, IsPlain, empty}
-use Rattle.cstn_net.specs.Networks.{Network, Constraint, IsOnObserved, Observes, count}
+use Rattle.cstn_net.specs.Networks.{Network, IsNetwork, Constraint, IsOnObserved, Observes, count}
 use Rattle.cstn_net.specs.Read.{is_prop}
 use Rattle.cstn_net.proofs.Knowledge.{observer_within}
 use Rattle.cstn_lift.specs.Labelled.{Labelled, label_in, label_of}
 use Rattle.cstn_lift.specs.Completion.{is_marked, completed, completed_label, full_label}
 use Rattle.cstn_lift.specs.WellFormed.{IsLabelled}
-use Rattle.cstn_lift.specs.Lowered.{is_mark_plain, is_plain, observer_of, with_full_label, full_constraints, guard, guards_with, guards, numbered, lowered}
+use Rattle.cstn_lift.specs.Lowered.{is_mark_plain, is_plain, observer_of, with_full_label, full_constraints, guard, waits, guards_with, guards, numbered, lowered}
 use Rattle.cstn_lift.proofs.CompletionLemmas.{marked_true, marked_back}
 use Rattle.cstn_lift.proofs.ListLemmas.{filter_map_contains, flat_map_contains, range_contains, numbered_contains, numbered_all, filter_map_all, flat_map_all, range_all, position_found}
 
@@ -27,10 +27,12 @@ mark_plain_back : (a : Mark) → is_mark_plain a ≡ true → IsMarkPlain a
 mark_plain_back a h = grind arith
 
 pub plain_true : (a : Label) → IsPlain a → is_plain a ≡ true
+unfolding is_plain
 plain_true a h = list_all-from_AllPass (λ p. is_mark_plain (a p)) (range_with_len 0 52)
     (range_all (λ p. is_mark_plain (a p) ≡ true) 0 52 (λ p low high. mark_plain_true (a p) (h p)))
 
 pub plain_back : (a : Label) → ((p : ℕ) → 52 ≤ p → a p ≡ Absent) → is_plain a ≡ true → IsPlain a
+unfolding is_plain
 plain_back a above h p = elim (cases_lt p 52) [
   | inl inside ↦ mark_plain_back (a p) (All-contains (λ q. is_mark_plain (a q) ≡ true) (range_with_len 0 52) p
       (AllPass-from_list_all (λ q. is_mark_plain (a q)) (range_with_len 0 52) h) (range_contains 52 p inside))
@@ -43,6 +45,33 @@ prop_true p q e = grind arith
 prop_back : (p : ℕ) (o : Option ℕ) → is_prop p o ≡ true → o ≡ Some p
 prop_back p None e = absurd (cc)
 prop_back p (Some q) e = let same : q ≡ p = grind arith in ap Some same
+
+-- the time-point that is found for a proposition is its observer
+pub observer_found : (net : Network) → IsNetwork net → (j p : ℕ) → Observes net j p → observer_of net p ≡ Some j
+observer_found net good j p o =
+    position_found (is_prop p) net.observes j None (observer_within net j p o)
+    (λ k before. elim (cases_Bool (is_prop p (slice_index_or net.observes k None))) [
+      | inr other ↦ other
+      | inl found ↦
+          let same = good.one_observer k j p (record { what = prop_back p (slice_index_or net.observes k None) found }) o in
+          absurd (omega arith)
+    ])
+    (ap (is_prop p) o.what ∙ prop_true p p refl)
+
+pub observer_back : (net : Network) (j p : ℕ) → observer_of net p ≡ Some j → Observes net j p
+observer_back net j p e =
+    let at = position-Some (is_prop p) net.observes j None e in
+    record { what = prop_back p (slice_index_or net.observes j None) at.1 }
+
+some_or_none : (o : Option ℕ) → ((j : ℕ) × (o ≡ Some j)) ⊎ (o ≡ None)
+some_or_none None = inr refl
+some_or_none (Some j) = inl (j, refl)
+
+pub observer_none : (net : Network) (p : ℕ) → ((x : ℕ) → Observes net x p → ⊥) → observer_of net p ≡ None
+observer_none net p none = elim (some_or_none (observer_of net p)) [
+  | inr absent ↦ absent
+  | inl found ↦ absurd (none found.0 (observer_back net found.0 p found.1))
+]
 
 -- a constraint between x and y with this value and label
 pub record IsBetween (c : Constraint) (x y : ℕ) (most : ℤ) (label : Label) : Type 0 where
@@ -65,17 +94,6 @@ IsOfLowered m d =
     ⊎ ((x : ℕ) × (j : ℕ) × (p : ℕ) × IsGuard m d x j p)
 
 module _ (m : Labelled) (good : IsLabelled m) where
-  pub observer_found : (j p : ℕ) → Observes m.base j p → observer_of m.base p ≡ Some j
-  observer_found j p o =
-      position_found (is_prop p) m.base.observes j None (observer_within m.base j p o)
-      (λ k before. elim (cases_Bool (is_prop p (slice_index_or m.base.observes k None))) [
-        | inr other ↦ other
-        | inl found ↦
-            let same = good.base.network.one_observer k j p (record { what = prop_back p (slice_index_or m.base.observes k None) found }) o in
-            absurd (omega arith)
-      ])
-      (ap (is_prop p) o.what ∙ prop_true p p refl)
-
   -- the label among the completed ones
   pub completed_at : (x : ℕ) → x < count m.base → label_in (map (completed m) m.labels) x ≡ completed_label m x
   completed_at x inside = let long = good.one_each in get_or-map (completed m) m.labels x empty empty (omega arith)
@@ -92,10 +110,11 @@ module _ (m : Labelled) (good : IsLabelled m) where
 
   guard_is : (x j p : ℕ) (a : Label) → Observes m.base j p → IsMarked a p →
       guard m.base x a p ≡ Some (record { id = 0; from = x; to = j; most = pos 0 -ℤ pos (m.base.reaction p); label = a })
-  guard_is x j p a o marked = rw (marked_true (a p) marked, observer_found j p o) refl
+  guard_is x j p a o marked = rw (marked_true (a p) marked, observer_found m.base good.base.network j p o) refl
 
   pub guarded : (x j p : ℕ) → x < count m.base → Observes m.base j p → IsMarked (completed_label m x) p →
       (d : Constraint) × Contains (lowered m).constraints d × IsGuard m d x j p
+  unfolding waits
   guarded x j p here o marked =
       let a = label_in (map (completed m) m.labels) x in
       let same : a ≡ completed_label m x = completed_at x here in
@@ -120,11 +139,6 @@ module _ (m : Labelled) (good : IsLabelled m) where
           subst (λ f. IsOfLowered m (record f { id = id })) same
           (inl (c, has, e, record { from = refl; to = refl; value = refl; marks = refl }))
 
-  pub observer_back : (j p : ℕ) → observer_of m.base p ≡ Some j → Observes m.base j p
-  observer_back j p e =
-      let at = position-Some (is_prop p) m.base.observes j None e in
-      record { what = prop_back p (slice_index_or m.base.observes j None) at.1 }
-
   of_guard : (x p : ℕ) → x < count m.base → (a : Label) → a ≡ completed_label m x → (d : Constraint) (b : Bool) → is_marked (a p) ≡ b →
       (o : Option ℕ) → observer_of m.base p ≡ o →
       (if b then option_map (λ j. record { id = 0; from = x; to = j; most = pos 0 -ℤ pos (m.base.reaction p); label = a }) o else None) ≡ Some d →
@@ -136,12 +150,13 @@ module _ (m : Labelled) (good : IsLabelled m) where
       let same : c ≡ d = cc in
       subst (λ g. IsOfLowered m (record g { id = id })) same (inr (x, j, p, record {
         here = here;
-        observes = observer_back j p f;
+        observes = observer_back m.base j p f;
         marked = subst (λ l. IsMarked l p) whole (marked_back (a p) e);
         between = record { from = refl; to = refl; value = refl; marks = whole };
       }))
 
   guards_only : All (λ d. (id : ℕ) → IsOfLowered m (record d { id = id })) (guards m)
+  unfolding waits
   guards_only =
       let own = map (completed m) m.labels in
       let P : Constraint → Type 0 = λ d. (id : ℕ) → IsOfLowered m (record d { id = id }) in

@@ -17,7 +17,7 @@ is_mark_plain No = true
 is_mark_plain Unknown = false
 
 -- none of the 52 propositions has an unknown mark
-abbrev pub is_plain : Label → Bool
+unfoldable pub is_plain : Label → Bool
 is_plain a = list_all (λ p. is_mark_plain (a p)) (range_with_len 0 52)
 
 -- the time-point that observes p
@@ -39,9 +39,13 @@ guard net x a p =
     then option_map (λ j. record { id = 0; from = x; to = j; most = pos 0 -ℤ pos (net.reaction p); label = a }) (observer_of net p)
     else None
 
--- x waits until each of the 52 propositions is known that its label among these marks
+-- x waits until each of the 52 propositions is known that the label marks
+unfoldable pub waits : Network → ℕ → Label → List Constraint
+waits net x a = filter_map (guard net x a) (range_with_len 0 52)
+
+-- each time-point waits for what its label among these marks
 abbrev pub guards_with : Network → List Label → ℕ → List Constraint
-guards_with net labels x = filter_map (guard net x (label_in labels x)) (range_with_len 0 52)
+guards_with net labels x = waits net x (label_in labels x)
 
 -- for each time-point those by which it waits for what its completed label marks
 abbrev pub guards : Labelled → List Constraint

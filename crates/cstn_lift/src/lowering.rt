@@ -1,20 +1,21 @@
 // The plain network that a labelled network is lowered to.
-ghost use Rattle.std.specs.Prelude.{ℕ, ◌≡◌, ◌≢◌, ◌<◌, ◌≤◌, ◌+◌, ◌^◌, ◌-◌, ◌++◌, ◌⊎◌, [], List, length, map, IfOk, IfErr};
+ghost use Rattle.std.specs.Prelude.{ℕ, ◌≡◌, ◌≢◌, ◌<◌, ◌≤◌, ◌+◌, ◌^◌, ◌-◌, ◌++◌, ◌∷◌, ◌⊎◌, [], List, length, map, IfOk, IfErr};
 ghost use Rattle.std.specs.List.{filter_map, flat_map, range_with_len};
+ghost use Rattle.cstn_label.specs.Labels.{IsMarked};
 ghost use Rattle.cstn_label.specs.Read.{marks};
-ghost use Rattle.cstn_net.specs.Networks.{Constraint as TheConstraint, count};
+ghost use Rattle.cstn_net.specs.Networks.{Constraint as TheConstraint, IsWellFormed, count};
 ghost use Rattle.cstn_net.specs.Read.{the_network, the_constraint};
 ghost use Rattle.cstn_net.specs.Drafts.{constraints_from};
 ghost use Rattle.cstn_lift.specs.Completion.{full_label};
 ghost use Rattle.cstn_lift.specs.WellFormed.{IsLabelled};
-ghost use Rattle.cstn_lift.specs.Lowered.{lowered, full_constraints, guard, guards_with};
+ghost use Rattle.cstn_lift.specs.Lowered.{lowered, full_constraints, with_full_label, guard, guards_with, waits};
 ghost use Rattle.cstn_lift.specs.Faults.{number};
 ghost use Rattle.cstn_lift.specs.Read.{with_labels, AreCompleted};
 ghost use Rattle.cstn_lift.specs.Handed.{HasPoints, HasConstraints};
 
 use crate::completion::completed;
 use crate::errors::LiftError;
-use cstn_label::{Label, NodeId};
+use cstn_label::{Label, NodeId, Prop};
 use cstn_net::{Builder, Constraint, NetError, Network};
 use std::alloc::{AllocError, Global};
 
@@ -29,7 +30,8 @@ pub fn lowered(
     requires labelled { IsLabelled (with_labels net.now labels.now) }
     requires completed { AreCompleted (with_labels net.now labels.now) whole.now }
     ensures lowered { IfOk result (λ n. the_network n ≡ lowered (with_labels net.now labels.now)) }
-    ensures few { IfOk result (λ n. length (lowered (with_labels net.now labels.now)).constraints ≤ 16384) }
+    ensures few { IfOk result (λ _. length (lowered (with_labels net.now labels.now)).constraints ≤ 16384) }
+    ensures well_formed { IfOk result (λ n. IsWellFormed (the_network n)) }
     ensures refused { IfErr result (λ e. (number e ≡ 0) ⊎ ((e ≡ LiftError.TooManyConstraints) × (16384 < length (lowered (with_labels net.now labels.now)).constraints))) }
 {
     let builder = match handed(alloc, net, labels, whole) {
@@ -66,16 +68,26 @@ fn handed(
 // Adds the time-points of the network, with what they observe and their reactions.
 fn add_points(builder: &mut Builder, net: &Network) -> Result<(), AllocError>
     requires none { builder.old.points ≡ [] }
-    requires no_drafts { builder.old.drafts ≡ [] }
     ensures points { IfOk result (λ _. HasPoints (the_network net.now) (count (the_network net.now)) builder.new.points) }
     ensures rest { (builder.new.deadline ≡ builder.old.deadline) × (builder.new.drafts ≡ builder.old.drafts) }
 {
     for x in 0..net.count() {
-        let observes = net.observes(NodeId(x));
-        let node = builder.node(observes)?;
-        if let Some(p) = observes {
-            builder.react(node, net.reaction(p));
-        }
+        add_point(builder, net, NodeId(x))?;
+    }
+    Ok(())
+}
+
+// Adds the next time-point of the network.
+fn add_point(builder: &mut Builder, net: &Network, x: NodeId) -> Result<(), AllocError>
+    requires inside { x.0 < count (the_network net.now) }
+    requires before { HasPoints (the_network net.now) x.0 builder.old.points }
+    ensures added { IfOk result (λ _. HasPoints (the_network net.now) (x.0 + 1) builder.new.points) }
+    ensures rest { (builder.new.deadline ≡ builder.old.deadline) × (builder.new.drafts ≡ builder.old.drafts) }
+{
+    let observes = net.observes(x);
+    let node = builder.node(observes)?;
+    if let Some(p) = observes {
+        builder.react(node, net.reaction(p));
     }
     Ok(())
 }
@@ -86,16 +98,36 @@ fn add_full(builder: &mut Builder, net: &Network, labels: &[Label]) -> Result<()
     requires points { length builder.old.points ≡ count (the_network net.now) }
     requires none { builder.old.drafts ≡ [] }
     ensures added { IfOk result (λ _. HasConstraints (full_constraints (with_labels net.now labels.now)) builder.new.drafts) }
-    ensures few { length builder.new.drafts ≤ 16384 }
+    ensures few { IfOk result (λ _. length builder.new.drafts ≤ 16384) }
     ensures rest { (builder.new.deadline ≡ builder.old.deadline) × (builder.new.points ≡ builder.old.points) }
 {
     for c in net.constraints() {
-        let label = full_label(net, labels, c);
-        if label.is_plain() {
-            let (from, to) = (c.from.number(), c.to.number());
-            builder.constrain(from, to, c.most, label)?;
-        }
+        add_one_full(builder, net, labels, c)?;
     }
+    Ok(())
+}
+
+// Adds a constraint with its full label, where this is plain.
+fn add_one_full(
+    builder: &mut Builder,
+    net: &Network,
+    labels: &[Label],
+    c: &Constraint,
+) -> Result<(), AllocError>
+    requires one_each { length labels.now ≡ count (the_network net.now) }
+    requires points { length builder.old.points ≡ count (the_network net.now) }
+    requires from { c.now.from.0 < count (the_network net.now) }
+    requires to { c.now.to.0 < count (the_network net.now) }
+    requires few { length builder.old.drafts ≤ 100000 }
+    ensures added { IfOk result (λ _. (cs : List TheConstraint) → HasConstraints cs builder.old.drafts → HasConstraints (cs ++ filter_map (with_full_label (with_labels net.now labels.now)) (the_constraint c.now ∷ [])) builder.new.drafts) }
+    ensures few { length builder.new.drafts ≤ length builder.old.drafts + 1 }
+    ensures rest { (builder.new.deadline ≡ builder.old.deadline) × (builder.new.points ≡ builder.old.points) }
+{
+    let label = full_label(net, labels, c);
+    if !label.is_plain() {
+        return Ok(());
+    }
+    builder.constrain(c.from.number(), c.to.number(), c.most, label)?;
     Ok(())
 }
 
@@ -133,19 +165,42 @@ fn add_guards_of(
     label: Label,
 ) -> Result<(), AllocError>
     requires inside { x.0 < count (the_network net.now) }
+    requires well_formed { IsWellFormed (the_network net.now) }
     requires points { length builder.old.points ≡ count (the_network net.now) }
-    requires few { length builder.old.drafts ≤ 100000 }
-    ensures added { IfOk result (λ _. (cs : List TheConstraint) → HasConstraints cs builder.old.drafts → HasConstraints (cs ++ filter_map (guard (the_network net.now) x.0 (marks label)) (range_with_len 0 52)) builder.new.drafts) }
-    ensures few { length builder.new.drafts ≤ length builder.old.drafts + 52 }
+    requires few { length builder.old.drafts ≤ 90000 }
+    ensures added { IfOk result (λ _. (cs : List TheConstraint) → HasConstraints cs builder.old.drafts → HasConstraints (cs ++ waits (the_network net.now) x.0 (marks label)) builder.new.drafts) }
+    ensures few { IfOk result (λ _. length builder.new.drafts ≤ length builder.old.drafts + 52) }
     ensures rest { (builder.new.deadline ≡ builder.old.deadline) × (builder.new.points ≡ builder.old.points) }
 {
     let mut from = 0;
     while let Some(p) = label.first_marked_from(from) {
-        if let Some(observer) = net.observer(p) {
-            let most = -(net.reaction(p) as i32);
-            builder.constrain(x.number(), observer.number(), most, label)?;
-        }
+        add_guard(builder, net, x, label, p)?;
         from = p.index + 1;
     }
+    Ok(())
+}
+
+// Adds the constraint by which a time-point waits for a proposition that its completed label marks.
+fn add_guard(
+    builder: &mut Builder,
+    net: &Network,
+    x: NodeId,
+    label: Label,
+    p: Prop,
+) -> Result<(), AllocError>
+    requires inside { x.0 < count (the_network net.now) }
+    requires well_formed { IsWellFormed (the_network net.now) }
+    requires marked { IsMarked (marks label) p.index }
+    requires points { length builder.old.points ≡ count (the_network net.now) }
+    requires few { length builder.old.drafts ≤ 100000 }
+    ensures added { IfOk result (λ _. (cs : List TheConstraint) → HasConstraints cs builder.old.drafts → HasConstraints (cs ++ filter_map (guard (the_network net.now) x.0 (marks label)) (p.index ∷ [])) builder.new.drafts) }
+    ensures few { length builder.new.drafts ≤ length builder.old.drafts + 1 }
+    ensures rest { (builder.new.deadline ≡ builder.old.deadline) × (builder.new.points ≡ builder.old.points) }
+{
+    let Some(observer) = net.observer(p) else {
+        return Ok(());
+    };
+    let most = -(net.reaction(p) as i32);
+    builder.constrain(x.number(), observer.number(), most, label)?;
     Ok(())
 }
