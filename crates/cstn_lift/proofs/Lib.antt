@@ -9,3 +9,6 @@ pub mod ToLabelled
 pub mod ToPlain
 pub mod LoweredLemmas
 pub mod Equivalent
+pub mod Built
+pub mod WellFormed
+pub mod Taken

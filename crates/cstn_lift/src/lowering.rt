@@ -4,8 +4,8 @@ ghost use Rattle.std.specs.List.{filter_map, flat_map, range_with_len};
 ghost use Rattle.cstn_label.specs.Labels.{IsMarked};
 ghost use Rattle.cstn_label.specs.Read.{marks};
 ghost use Rattle.cstn_net.specs.Networks.{Constraint as TheConstraint, IsWellFormed, count};
-ghost use Rattle.cstn_net.specs.Read.{the_network, the_constraint};
-ghost use Rattle.cstn_net.specs.Drafts.{constraints_from};
+ghost use Rattle.cstn_net.specs.Read.{the_network, the_constraint, IsInRange};
+ghost use Rattle.cstn_net.specs.Drafts.{constraints_from, number as net_number};
 ghost use Rattle.cstn_lift.specs.Completion.{full_label};
 ghost use Rattle.cstn_lift.specs.WellFormed.{IsLabelled};
 ghost use Rattle.cstn_lift.specs.Lowered.{lowered, full_constraints, with_full_label, guard, guards_with, waits};
@@ -40,8 +40,18 @@ pub fn lowered(
     };
     match builder.close() {
         Ok(network) => Ok(network),
-        Err(NetError::Memory(e)) => Err(LiftError::Memory(e)),
-        Err(_) => Err(LiftError::TooManyConstraints),
+        Err(error) => Err(error_of(error)),
+    }
+}
+
+// What a builder's error says of a labelled network, which is well-formed but for the number of constraints.
+fn error_of(error: NetError) -> LiftError
+    ensures memory { net_number error ≡ 0 → number result ≡ 0 }
+    ensures constraints { net_number error ≢ 0 → result ≡ LiftError.TooManyConstraints }
+{
+    match error {
+        NetError::Memory(e) => LiftError::Memory(e),
+        _ => LiftError::TooManyConstraints,
     }
 }
 
@@ -116,8 +126,7 @@ fn add_one_full(
 ) -> Result<(), AllocError>
     requires one_each { length labels.now ≡ count (the_network net.now) }
     requires points { length builder.old.points ≡ count (the_network net.now) }
-    requires from { c.now.from.0 < count (the_network net.now) }
-    requires to { c.now.to.0 < count (the_network net.now) }
+    requires range { IsInRange (count (the_network net.now)) c.now }
     requires few { length builder.old.drafts ≤ 100000 }
     ensures added { IfOk result (λ _. (cs : List TheConstraint) → HasConstraints cs builder.old.drafts → HasConstraints (cs ++ filter_map (with_full_label (with_labels net.now labels.now)) (the_constraint c.now ∷ [])) builder.new.drafts) }
     ensures few { length builder.new.drafts ≤ length builder.old.drafts + 1 }
