@@ -12,3 +12,4 @@ pub mod Equivalent
 pub mod Built
 pub mod WellFormed
 pub mod Taken
+pub mod FaultLemmas

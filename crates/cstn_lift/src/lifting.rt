@@ -41,7 +41,7 @@ pub fn lift(alloc: Global, net: Network, labels: Vec<Label>) -> Result<Labelled,
     }
     match lowered(alloc, &net, &labels, &whole) {
         Ok(plain) => Ok(Labelled::new(plain, Labels::new(net, labels, whole))),
-        Err(e) => Err(e),
+        Err(fault) => Err(fault),
     }
 }
 
