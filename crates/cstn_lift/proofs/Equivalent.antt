@@ -72,7 +72,7 @@ module _ (m : Labelled) (good : IsLabelled m) where
   own s p = own_at s p (observer_of m.base p)
 
   -- the full label of a constraint: complete, and with the completed labels of the ends within it
-  full_closed : (c : Constraint) → IsComplete m (full_label m c)
+  pub full_closed : (c : Constraint) → IsComplete m (full_label m c)
   full_closed c = completed_complete m (joined c.label (joined (label_of m c.from) (label_of m c.to)))
 
   full_from : (c : Constraint) → IsWithin (completed_label m c.from) (full_label m c)
@@ -101,7 +101,7 @@ module _ (m : Labelled) (good : IsLabelled m) where
       (joined_on m.base c.label ends (of_network c has).observed
       (joined_on m.base (label_of m c.from) (label_of m c.to) (label_on m good c.from) (label_on m good c.to)))
 
-  dynamic_base : (table : Table) → IsDynamic (lowered m) table → IsDynamic m.base table
+  pub dynamic_base : (table : Table) → IsDynamic (lowered m) table → IsDynamic m.base table
   dynamic_base table dynamic s r x here agrees = dynamic s r x here (λ p k.
       agrees p (record { observer = k.observer; observes = record { what = k.observes.what }; passed = k.passed }))
 

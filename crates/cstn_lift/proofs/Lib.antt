@@ -13,3 +13,5 @@ pub mod Built
 pub mod WellFormed
 pub mod Taken
 pub mod FaultLemmas
+pub mod Twins
+pub mod Unlabelled

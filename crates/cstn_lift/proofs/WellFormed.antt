@@ -62,6 +62,11 @@ module _ (m : Labelled) (good : IsLabelled m) where
         observed = observed_there d.label (completed_label m x) b.marks (full_on m good x);
       }
 
+  pub plain_and_observed : (d : Constraint) → IsOfLowered m d → IsPlain d.label × IsOnObserved m.base d.label
+  plain_and_observed d of =
+      let there = constraint_there d of in
+      (there.plain, λ p marked. let o = there.observed p marked in (o.0, record { what = o.1.what }))
+
   value_there : (d : Constraint) → IsOfLowered m d → IsValue d.most
   value_there d (inl f) =
       let c = f.0 in

@@ -59,3 +59,7 @@ pub record IsEquivalent (m : Labelled) (net : Network) : Type 0 where
 pub record IsDefaulted (m : Labelled) (d s r : Scenario) : Type 0 where
   pub executed : (j p : ℕ) → Observes m.base j p → IsExecuted m s j → r p ≡ s p
   pub rest : (j p : ℕ) → Observes m.base j p → (IsExecuted m s j → ⊥) → r p ≡ d p
+
+-- the scenario r agrees with s on what is observed in s
+abbrev pub AreTwins : Labelled → Scenario → Scenario → Type 0
+AreTwins m s r = (j p : ℕ) → Observes m.base j p → IsExecuted m s j → r p ≡ s p

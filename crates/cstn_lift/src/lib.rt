@@ -10,7 +10,11 @@ mod networks;
 mod scans;
 
 pub use errors::LiftError;
-pub use laws::{completed_labels_are_ordered, completion_is_a_closure, lowered_is_equivalent};
+pub use laws::{
+    completed_labels_are_ordered, completion_is_a_closure, defaults_give_a_labelled_strategy,
+    labels_are_decided_in_time, lowered_is_equivalent, lowered_is_well_formed,
+    twins_are_executed_alike, unlabelled_is_plain,
+};
 pub use lifting::lift;
 pub use networks::{Labelled, Labels};
 
