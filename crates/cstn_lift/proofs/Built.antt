@@ -50,7 +50,7 @@ full_added m c cs ds from to most l from_is to_is most_is label_is plain has =
     let full = full_label m (the_constraint c) in
     let with_full = record (the_constraint c) { label = full } in
     let given : with_full_label m (the_constraint c) ≡ Some with_full =
-        ap (λ b. if b then Some with_full else None) (plain_true full (subst IsPlain label_is plain)) in
+    ap (λ b. if b then Some with_full else None) (plain_true full (subst IsPlain label_is plain)) in
     subst (λ (o : Option TheConstraint). HasConstraints (cs ++ cons_option o []) (ds ++ record { from = from; to = to; most = most; label = l } ∷ [])) (sym given)
     (constraint_added cs ds with_full (record { from = from; to = to; most = most; label = l }) has
     (λ i. rw (from_is, to_is, most_is, label_is) refl))
@@ -63,11 +63,11 @@ full_skipped m c cs ds l label_is unplain has =
     let full = full_label m (the_constraint c) in
     let with_full = record (the_constraint c) { label = full } in
     elim (cases_Bool (is_plain full)) [
-    | inl set ↦ absurd (unplain (subst IsPlain (sym label_is) (plain_back full (λ p above. ap (λ a. a p) (sym label_is) ∙ unmarked_above l p above) set)))
-    | inr clear ↦
-        let given : with_full_label m (the_constraint c) ≡ None = ap (λ b. if b then Some with_full else None) clear in
-        subst (λ (o : Option TheConstraint). HasConstraints (cs ++ cons_option o []) ds) (sym given)
-        (subst (λ es. HasConstraints es ds) (sym (append-nil cs)) has)
+      | inl set ↦ absurd (unplain (subst IsPlain (sym label_is) (plain_back full (λ p above. ap (λ a. a p) (sym label_is) ∙ unmarked_above l p above) set)))
+      | inr clear ↦
+          let given : with_full_label m (the_constraint c) ≡ None = ap (λ b. if b then Some with_full else None) clear in
+          subst (λ (o : Option TheConstraint). HasConstraints (cs ++ cons_option o []) ds) (sym given)
+          (subst (λ es. HasConstraints es ds) (sym (append-nil cs)) has)
     ]
 
 -- a constraint by which x waits
@@ -145,7 +145,7 @@ pub full_turn : (m : Labelled) (cs : List Constraint) (i : ℕ) (c : Constraint)
 full_turn m cs i c inside is =
     sym (filter_map-append (with_full_label m) (map the_constraint (take i cs)) (the_constraint c ∷ []))
     ∙ ap (filter_map (with_full_label m)) (sym (map-append the_constraint (take i cs) (c ∷ []))
-        ∙ ap (λ d. map the_constraint (take i cs ++ d ∷ [])) is ∙ ap (map the_constraint) (sym (take_more cs i c inside)))
+    ∙ ap (λ d. map the_constraint (take i cs ++ d ∷ [])) is ∙ ap (map the_constraint) (sym (take_more cs i c inside)))
 
 -- how many time-points there are so far
 pub points_long : (net : Network) (n : ℕ) (points : List TimePoint) → n ≤ count net → HasPoints net n points → length points ≡ n
@@ -193,8 +193,8 @@ reaction_told f [] p all tick = sym (tick (λ x e. absurd (cc)))
 reaction_told f (t ∷ ts) p all tick =
     let P : TimePoint → Type 0 = λ t. (q : ℕ) → observed t ≡ Some q → t.reaction ≡ f q in
     elim (cases_Bool (is_prop p (observed t))) [
-    | inl here ↦ reaction_if ts t p true here ∙ All-head P t ts all p (prop_is p (observed t) here)
-    | inr later ↦ reaction_if ts t p false later ∙ reaction_told f ts p (All-tail P t ts all) (λ none. tick (λ x. nowhere (prop_not p (observed t) later) none x))
+      | inl here ↦ reaction_if ts t p true here ∙ All-head P t ts all p (prop_is p (observed t) here)
+      | inr later ↦ reaction_if ts t p false later ∙ reaction_told f ts p (All-tail P t ts all) (λ none. tick (λ x. nowhere (prop_not p (observed t) later) none x))
     ]
   where
     nowhere : (observed t ≡ Some p → ⊥) → NoneObserves ts p → (x : ℕ) → slice_index_or (observed t ∷ map observed ts) x None ≡ Some p → ⊥

@@ -121,7 +121,7 @@ module _ (m : Labelled) where
   rounds_least (suc n) a c h closed =
       let before = rounds_least n a c h closed in
       upto_least (count m.base) (rounds m n a) c before (λ x p o marked.
-          closed x p o (marked_within (rounds m n a) c p before marked))
+      closed x p o (marked_within (rounds m n a) c p before marked))
 
   -- how many of the first n time-points observe what the label marks
   bit : Bool → ℕ
@@ -161,21 +161,24 @@ module _ (m : Labelled) where
   same_or_more (suc n) a b h =
       let here = bits (is_observed_by (what n) a) (is_observed_by (what n) b) (observed_more (what n) a b h) in
       elim (same_or_more n a b h) [
-      | inr less ↦ elim here [
-        | inl same ↦ let e = same.1 in inr (omega arith)
-        | inr more ↦ let e = more.2 in inr (omega arith)
+        | inr less ↦ elim here [
+          | inl same ↦ let e = same.1 in inr (omega arith)
+          | inr more ↦ let e = more.2 in inr (omega arith)
         ]
-      | inl alike ↦ elim here [
-        | inl same ↦
-            let e = same.1 in
-            let f = alike.1 in
-            inl ((λ x before. elim (cases_lt x n) [
-            | inl earlier ↦ alike.0 x earlier
-            | inr later ↦
-                let at : n ≡ x = omega arith in
-                subst (λ y. is_observed_by (what y) a ≡ is_observed_by (what y) b) at same.0
-            ]), omega arith)
-        | inr more ↦ let e = more.2 in let f = alike.1 in inr (omega arith)
+        | inl alike ↦ elim here [
+          | inl same ↦
+              let e = same.1 in
+              let f = alike.1 in
+              inl (
+                (λ x before. elim (cases_lt x n) [
+                  | inl earlier ↦ alike.0 x earlier
+                  | inr later ↦
+                      let at : n ≡ x = omega arith in
+                      subst (λ y. is_observed_by (what y) a ≡ is_observed_by (what y) b) at same.0
+                ]),
+                omega arith,
+              )
+          | inr more ↦ let e = more.2 in let f = alike.1 in inr (omega arith)
         ]
       ]
 
@@ -195,26 +198,26 @@ module _ (m : Labelled) where
   fixed_or_more a = elim (same_or_more (count m.base) a (round a) (round_contains a)) [
     | inr more ↦ inr more
     | inl alike ↦ inl (sym (round_is (round a) (round a) (within_itself (round a)) (λ x p o marked.
-          let here = observer_within m.base x p o in
-          let set = alike.0 x here ∙ seen_marked (round a) x p o marked in
-          let back = marked_here a (what x) set in
-          let same : Observes m.base x back.0 = record { what = back.1 } in
-          round_has a x back.0 same back.2) (round_contains (round a))))
+        let here = observer_within m.base x p o in
+        let set = alike.0 x here ∙ seen_marked (round a) x p o marked in
+        let back = marked_here a (what x) set in
+        let same : Observes m.base x back.0 = record { what = back.1 } in
+        round_has a x back.0 same back.2) (round_contains (round a))))
   ]
 
   fixed_or_seen : (n : ℕ) (a : Label) → (round (rounds m n a) ≡ rounds m n a) ⊎ (n < seen (count m.base) (rounds m n a))
   fixed_or_seen zero a = elim (cases_lt 0 (seen (count m.base) a)) [
     | inl some ↦ inr some
     | inr none ↦ inl (sym (round_is a a (within_itself a) (λ x p o marked.
-          let some = seen_some (count m.base) a x (observer_within m.base x p o) (seen_marked a x p o marked) in
-          absurd (omega arith)) (round_contains a)))
+        let some = seen_some (count m.base) a x (observer_within m.base x p o) (seen_marked a x p o marked) in
+        absurd (omega arith)) (round_contains a)))
   ]
   fixed_or_seen (suc n) a = elim (fixed_or_seen n a) [
     | inl fixed ↦ inl (ap round fixed)
     | inr some ↦ elim (fixed_or_more (rounds m n a)) [
       | inl fixed ↦ inl fixed
       | inr more ↦ inr (omega arith)
-      ]
+    ]
   ]
 
   pub completed_complete : (a : Label) → IsComplete m (completed m a)
@@ -258,12 +261,12 @@ module _ (m : Labelled) (one : (x y p : ℕ) → Observes m.base x p → Observe
           let at : q ≡ p = omega arith in
           let o_p : Observes m.base x p = subst (λ r. Observes m.base x r) at o in
           elim new [
-          | inl found ↦
-              let same : c ≡ label_of m x = found.2 ∙ ap (λ y. label_of m y) (one found.0 x p found.1 o_p) in
-              subst (λ l. IsWithin l (joined b c)) same (within_right b c)
-          | inr none ↦ absurd (none.0 x o_p)
+            | inl found ↦
+                let same : c ≡ label_of m x = found.2 ∙ ap (λ y. label_of m y) (one found.0 x p found.1 o_p) in
+                subst (λ l. IsWithin l (joined b c)) same (within_right b c)
+            | inr none ↦ absurd (none.0 x o_p)
           ]
-      ]
+    ]
   ]
 
   pub turn_upto : IsMarked a p → IsWithin b (round m a) → IsWithin (joined b c) (round m a)

@@ -75,9 +75,9 @@ module _ (m : Labelled) (good : IsLabelled m) where
       | inl fit ↦ inl (λ p before. elim (cases_lt p q) [
         | inl earlier ↦ below p earlier
         | inr later ↦ let at : q ≡ p = omega arith in subst (λ r. MarkFits (s r) (a r)) at fit
-        ])
-      ]
+      ])
     ]
+  ]
 
   -- whoever has a label with no misfit is executed
   pub executed_or_not : (s : Scenario) (x : ℕ) → IsExecuted m s x ⊎ (IsExecuted m s x → ⊥)
@@ -88,6 +88,6 @@ module _ (m : Labelled) (good : IsLabelled m) where
       | inr past ↦ elim (absent_or_not (full x p)) [
         | inl none ↦ fits_absent (s p) (full x p) none
         | inr marked ↦ let o = full_on m good x p marked in let letter = good.base.letters o.0 p o.1 in absurd (omega arith)
-        ]
-      ])
-    ]
+      ]
+    ])
+  ]

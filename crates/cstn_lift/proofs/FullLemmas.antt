@@ -80,10 +80,10 @@ module _ (m : Labelled) (good : IsLabelled m) where
   rank_falls j p k q o_j o_k marked =
       let full = completed_label m in
       elim (same_or_more m (count m.base) (full k) (full j) (label_within j k q o_k marked)) [
-      | inr less ↦ less
-      | inl alike ↦
-          let same = alike.0 k (observer_within m.base k q o_k) in
-          let set = seen_marked m (full j) k q o_k marked in
-          let clear : is_observed_by (what m k) (full k) ≡ false = rw (o_k.what, good.no_circle k q o_k) refl in
-          cc
+        | inr less ↦ less
+        | inl alike ↦
+            let same = alike.0 k (observer_within m.base k q o_k) in
+            let set = seen_marked m (full j) k q o_k marked in
+            let clear : is_observed_by (what m k) (full k) ≡ false = rw (o_k.what, good.no_circle k q o_k) refl in
+            cc
       ]

@@ -25,8 +25,8 @@ filter_map_contains h (z ∷ zs) x y (zero, inside, here) is =
 filter_map_contains h (z ∷ zs) x y (suc k, inside, here) is =
     let rest = filter_map_contains h zs x y (k, omega arith, here) is in
     elim (h z) as (λ o. Contains (cons_option o (filter_map h zs)) y) [
-    | None ↦ rest
-    | Some w ↦ contains_tail w y (filter_map h zs) rest
+      | None ↦ rest
+      | Some w ↦ contains_tail w y (filter_map h zs) rest
     ]
 
 pub flat_map_contains : {X Y : Type 0} → (f : X → List Y) (xs : List X) (x : X) (y : Y) → Contains xs x → Contains (f x) y →
@@ -101,9 +101,10 @@ numbered_ascending k [] = (All-nil (λ c. k ≤ c.id), λ i j d before inside. a
 numbered_ascending k (c ∷ cs) =
     let first = record c { id = k } in
     let rest = numbered (k + 1) cs in
-    let below = numbered_ascending (k + 1) cs in
-    (All-cons (λ c. k ≤ c.id) first rest (omega arith) (All-weaker (λ c. k + 1 ≤ c.id) (λ c. k ≤ c.id) (λ c low. omega arith) rest below.0),
-     AllPairs-cons (λ b c. b.id < c.id) first rest (All-weaker (λ c. k + 1 ≤ c.id) (λ c. k < c.id) (λ c low. omega arith) rest below.0) below.1)
+    let below = numbered_ascending (k + 1) cs in (
+      All-cons (λ c. k ≤ c.id) first rest (omega arith) (All-weaker (λ c. k + 1 ≤ c.id) (λ c. k ≤ c.id) (λ c low. omega arith) rest below.0),
+      AllPairs-cons (λ b c. b.id < c.id) first rest (All-weaker (λ c. k + 1 ≤ c.id) (λ c. k < c.id) (λ c low. omega arith) rest below.0) below.1,
+    )
 
 -- the first place that passes, where there is one alone
 pub position_found : {X : Type 0} → (p : X → Bool) (xs : List X) (i : ℕ) (d : X) → i < length xs →

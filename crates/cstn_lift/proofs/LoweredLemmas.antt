@@ -102,9 +102,9 @@ module _ (m : Labelled) (good : IsLabelled m) where
       (d : Constraint) × Contains (lowered m).constraints d × IsBetween d c.from c.to c.most (full_label m c)
   forced c has plain =
       let given : with_full_label m c ≡ Some (record c { label = full_label m c }) =
-          ap (λ b. if b then Some (record c { label = full_label m c }) else None) (plain_true (full_label m c) plain) in
+      ap (λ b. if b then Some (record c { label = full_label m c }) else None) (plain_true (full_label m c) plain) in
       let among = Contains-append_left (full_constraints m) (guards m) (record c { label = full_label m c })
-          (filter_map_contains (with_full_label m) m.base.constraints c (record c { label = full_label m c }) has given) in
+      (filter_map_contains (with_full_label m) m.base.constraints c (record c { label = full_label m c }) has given) in
       let there = numbered_contains 0 (full_constraints m ++ guards m) (record c { label = full_label m c }) among in
       (record c { id = there.0; label = full_label m c }, there.1, record { from = refl; to = refl; value = refl; marks = refl })
 
@@ -122,7 +122,7 @@ module _ (m : Labelled) (good : IsLabelled m) where
       let marked_a : IsMarked a p = subst (λ l. IsMarked l p) (sym same) marked in
       let own = filter_map_contains (guard m.base x a) (range_with_len 0 52) p c (range_contains 52 p (good.base.letters j p o)) (guard_is x j p a o marked_a) in
       let among = Contains-append_right (full_constraints m) (guards m) c
-          (flat_map_contains (guards_with m.base (map (completed m) m.labels)) (range_with_len 0 (count m.base)) x c (range_contains (count m.base) x here) own) in
+      (flat_map_contains (guards_with m.base (map (completed m) m.labels)) (range_with_len 0 (count m.base)) x c (range_contains (count m.base) x here) own) in
       let there = numbered_contains 0 (full_constraints m ++ guards m) c among in
       (record c { id = there.0 }, there.1, record { here = here; observes = o; marked = marked; between = record { from = refl; to = refl; value = refl; marks = same } })
 
@@ -148,12 +148,17 @@ module _ (m : Labelled) (good : IsLabelled m) where
   of_guard x p here a whole d true e (Some j) f is id =
       let c : Constraint = record { id = 0; from = x; to = j; most = pos 0 -ℤ pos (m.base.reaction p); label = a } in
       let same : c ≡ d = cc in
-      subst (λ g. IsOfLowered m (record g { id = id })) same (inr (x, j, p, record {
-        here = here;
-        observes = observer_back m.base j p f;
-        marked = subst (λ l. IsMarked l p) whole (marked_back (a p) e);
-        between = record { from = refl; to = refl; value = refl; marks = whole };
-      }))
+      subst (λ g. IsOfLowered m (record g { id = id })) same (inr (
+        x,
+        j,
+        p,
+        record {
+          here = here;
+          observes = observer_back m.base j p f;
+          marked = subst (λ l. IsMarked l p) whole (marked_back (a p) e);
+          between = record { from = refl; to = refl; value = refl; marks = whole };
+        },
+      ))
 
   guards_only : All (λ d. (id : ℕ) → IsOfLowered m (record d { id = id })) (guards m)
   unfolding waits
@@ -162,10 +167,10 @@ module _ (m : Labelled) (good : IsLabelled m) where
       let P : Constraint → Type 0 = λ d. (id : ℕ) → IsOfLowered m (record d { id = id }) in
       flat_map_all P (guards_with m.base own) (range_with_len 0 (count m.base))
       (range_all (λ x. All P (guards_with m.base own x)) 0 (count m.base) (λ x low here.
-          filter_map_all P (guard m.base x (label_in own x)) (range_with_len 0 52)
-          (range_all (λ p. (d : Constraint) → guard m.base x (label_in own x) p ≡ Some d → P d) 0 52 (λ p low_p high_p d is.
-              let inside : x < count m.base = omega arith in
-              of_guard x p inside (label_in own x) (completed_at x inside) d (is_marked (label_in own x p)) refl (observer_of m.base p) refl is))))
+      filter_map_all P (guard m.base x (label_in own x)) (range_with_len 0 52)
+      (range_all (λ p. (d : Constraint) → guard m.base x (label_in own x) p ≡ Some d → P d) 0 52 (λ p low_p high_p d is.
+      let inside : x < count m.base = omega arith in
+      of_guard x p inside (label_in own x) (completed_at x inside) d (is_marked (label_in own x p)) refl (observer_of m.base p) refl is))))
 
   pub only : (d : Constraint) → Contains (lowered m).constraints d → IsOfLowered m d
   only d = All-contains (IsOfLowered m) (lowered m).constraints d

@@ -51,7 +51,11 @@ pub refused_long : (m : Labelled) → IsLabelled m → (b : BuilderParts) → b.
 refused_long m good b deadline observes reaction constraints e refusal other = elim (cases_lt 16384 (length (lowered m).constraints)) [
   | inl long ↦ long
   | inr few ↦ absurd (other (refused_for_memory b (lowered m) (lowered_well_formed m good few) (record {
-      deadline = deadline; observes = observes; reaction = reaction; constraints = constraints }) e refusal))
+    deadline = deadline;
+    observes = observes;
+    reaction = reaction;
+    constraints = constraints;
+  }) e refusal))
 ]
 
 -- a builder that is closed has few

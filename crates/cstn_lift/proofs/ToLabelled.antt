@@ -32,7 +32,7 @@ module _ (m : Labelled) (good : IsLabelled m) (table : Table) (d : Scenario) (tw
         let there = observers_executed m good s y o.0 p h o.1 marked in
         let soon = guarded (twin s) y o.0 p here (twin_right m good s (twin s) (same s) y h) marked o.1 in
         let known : IsKnownExecuted m s (table (twin s)) t p =
-            record { observer = o.0; observes = o.1; executed = there; passed = omega arith } in
+        record { observer = o.0; observes = o.1; executed = there; passed = omega arith } in
         subst (λ v. MarkFits v (full y p)) (sym (agrees p known)) (h p)
   ]
 
@@ -41,18 +41,18 @@ module _ (m : Labelled) (good : IsLabelled m) (table : Table) (d : Scenario) (tw
   backward s r t agrees zero j p lt o by_then h = absurd (omega arith)
   backward s r t agrees (suc n) j p lt o by_then h =
       let possible : IsPossible (IsKnown m.base (table (twin s)) (table (twin s) j)) (twin s) (full j) = λ q k.
-          elim (absent_or_not (full j q)) [
-          | inl none ↦ fits_absent (twin s q) (full j q) none
-          | inr marks ↦
-              let soon = k.passed in
-              let lower = rank_falls m good j p k.observer q o k.observes marks in
-              let there = observers_executed m good r j k.observer q h k.observes marks in
-              let seen = backward s r t agrees n k.observer q (omega arith) k.observes (omega arith) there in
-              let known : IsKnownExecuted m s (table (twin s)) t q =
-                  record { observer = k.observer; observes = k.observes; executed = seen; passed = omega arith } in
-              let value : r q ≡ twin s q = agrees q known ∙ sym (same s k.observer q k.observes seen) in
-              subst (λ v. MarkFits v (full j q)) value (h q)
-          ] in
+      elim (absent_or_not (full j q)) [
+        | inl none ↦ fits_absent (twin s q) (full j q) none
+        | inr marks ↦
+            let soon = k.passed in
+            let lower = rank_falls m good j p k.observer q o k.observes marks in
+            let there = observers_executed m good r j k.observer q h k.observes marks in
+            let seen = backward s r t agrees n k.observer q (omega arith) k.observes (omega arith) there in
+            let known : IsKnownExecuted m s (table (twin s)) t q =
+            record { observer = k.observer; observes = k.observes; executed = seen; passed = omega arith } in
+            let value : r q ≡ twin s q = agrees q known ∙ sym (same s k.observer q k.observes seen) in
+            subst (λ v. MarkFits v (full j q)) value (h q)
+      ] in
       twin_left m good s (twin s) (same s) j
       (possible_executed m good table dynamic guarded (twin s) j (observer_within m.base j p o) possible)
 
@@ -60,16 +60,16 @@ module _ (m : Labelled) (good : IsLabelled m) (table : Table) (d : Scenario) (tw
   lowered_dynamic s r x here h agrees =
       let t = table (twin s) x in
       let all : Agrees m.base (table (twin s)) (table (twin s) x) (twin s) (twin r) = λ p k.
-          let soon = k.passed in
-          elim (executed_or_not m good s k.observer) [
-          | inl seen ↦
-              let there = onward s r t agrees k.observer (observer_within m.base k.observer p k.observes) (omega arith) seen in
-              same r k.observer p k.observes there
-              ∙ agrees p (record { observer = k.observer; observes = k.observes; executed = seen; passed = k.passed })
-              ∙ sym (same s k.observer p k.observes seen)
-          | inr unseen ↦
-              let not_there : IsExecuted m r k.observer → ⊥ = λ e. unseen (backward s r t agrees
-              (suc (rank m good k.observer)) k.observer p (omega arith) k.observes (omega arith) e) in
-              (defaulted r).rest k.observer p k.observes not_there ∙ sym ((defaulted s).rest k.observer p k.observes unseen)
-          ] in
+      let soon = k.passed in
+      elim (executed_or_not m good s k.observer) [
+        | inl seen ↦
+            let there = onward s r t agrees k.observer (observer_within m.base k.observer p k.observes) (omega arith) seen in
+            same r k.observer p k.observes there
+            ∙ agrees p (record { observer = k.observer; observes = k.observes; executed = seen; passed = k.passed })
+            ∙ sym (same s k.observer p k.observes seen)
+        | inr unseen ↦
+            let not_there : IsExecuted m r k.observer → ⊥ = λ e. unseen (backward s r t agrees
+            (suc (rank m good k.observer)) k.observer p (omega arith) k.observes (omega arith) e) in
+            (defaulted r).rest k.observer p k.observes not_there ∙ sym ((defaulted s).rest k.observer p k.observes unseen)
+      ] in
       (onward s r t agrees x here (omega arith) h, dynamic (twin s) (twin r) x here all)

@@ -72,17 +72,17 @@ module _ (m : Labelled) (good : IsLabelled m) (labelled : Table) (strategy : IsL
     | inr soon ↦ soon
     | inl late ↦
         let both = strategy.dynamic s (turned s p) x here h (λ q k. elim (cases_eq q p) [
-        | inl e ↦
-            let o_q : Observes m.base k.observer p = subst (λ r. Observes m.base k.observer r) e k.observes in
-            let one = good.base.network.one_observer k.observer j p o_q o in
-            let soon = k.passed in
-            let at : labelled s k.observer ≡ labelled s j = ap (λ y. labelled s y) one in
-            let reacts : m.base.reaction q ≡ m.base.reaction p = ap (λ y. m.base.reaction y) e in
-            absurd (omega arith)
-        | inr other ↦ turned_same s p q other
+          | inl e ↦
+              let o_q : Observes m.base k.observer p = subst (λ r. Observes m.base k.observer r) e k.observes in
+              let one = good.base.network.one_observer k.observer j p o_q o in
+              let soon = k.passed in
+              let at : labelled s k.observer ≡ labelled s j = ap (λ y. labelled s y) one in
+              let reacts : m.base.reaction q ≡ m.base.reaction p = ap (λ y. m.base.reaction y) e in
+              absurd (omega arith)
+          | inr other ↦ turned_same s p q other
         ]) in
         let round : MarkFits (not (s p)) (completed_label m x p) =
-            subst (λ v. MarkFits v (completed_label m x p)) (turned_there s p) (both.0 p) in
+        subst (λ v. MarkFits v (completed_label m x p)) (turned_there s p) (both.0 p) in
         absurd (marked (fits_both (s p) (completed_label m x p) (h p) round))
   ]
 
@@ -91,9 +91,9 @@ module _ (m : Labelled) (good : IsLabelled m) (labelled : Table) (strategy : IsL
     | inl seen ↦
         let e = filled_at s x seen in
         let both = strategy.dynamic s r x here seen (λ p k.
-            let k_at = filled_at s k.observer k.executed in
-            let soon = k.passed in
-            agrees p (record { observer = k.observer; observes = k.observes; passed = omega arith })) in
+        let k_at = filled_at s k.observer k.executed in
+        let soon = k.passed in
+        agrees p (record { observer = k.observer; observes = k.observes; passed = omega arith })) in
         let e_r = filled_at r x both.0 in
         let e_l = both.1 in
         omega arith

@@ -80,8 +80,8 @@ module _ (m : Labelled) (good : IsLabelled m) (none : (x : ℕ) → x < count m.
       let own = map (completed m) m.labels in
       flat_map_none (guards_with m.base own) (range_with_len 0 (count m.base))
       (range_all (λ x. guards_with m.base own x ≡ []) 0 (count m.base) (λ x low here.
-          let inside : x < count m.base = omega arith in
-          waits_none x (label_in own x) (completed_at m good x inside ∙ completed_same (label_of m x) ∙ all_empty x)))
+      let inside : x < count m.base = omega arith in
+      waits_none x (label_in own x) (completed_at m good x inside ∙ completed_same (label_of m x) ∙ all_empty x)))
 
   pub unlabelled_lowered : lowered m ≡ record m.base { constraints = numbered 0 m.base.constraints }
   unlabelled_lowered =

@@ -10,25 +10,16 @@ pub enum LiftError {
     OriginLabel,
     /// L2: the label of the first such time-point isn't plain.
     #[error("the label of the time-point {} isn't plain", node.0)]
-    NotPlain {
-        node: NodeId,
-    },
+    NotPlain { node: NodeId },
     /// L3: the least proposition that nothing observes, of the first time-point whose label names one.
     #[error("nothing observes the proposition {}, which the label of the time-point {} names", prop.letter() as char, node.0)]
-    NotObserved {
-        node: NodeId,
-        prop: Prop,
-    },
+    NotObserved { node: NodeId, prop: Prop },
     /// L4: the first time-point whose completed label marks what it observes itself.
     #[error("the time-point {} would have to know what it observes itself", node.0)]
-    Circle {
-        node: NodeId,
-    },
+    Circle { node: NodeId },
     /// L5: the completed label of the first such time-point isn't plain.
     #[error("the time-point {} is never executed", node.0)]
-    Never {
-        node: NodeId,
-    },
+    Never { node: NodeId },
     /// L6: the lowered network has more than 16,384 constraints.
     #[error("more than 16384 constraints with those for labels")]
     TooManyConstraints,

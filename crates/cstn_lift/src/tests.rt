@@ -1,4 +1,4 @@
-ghost use Rattle.std.specs.Prelude.{◌≡◌, length};
+ghost use Rattle.std.specs.Prelude.{◌≡◌, ◌≤◌, IfOk};
 ghost use Rattle.cstn_net.specs.Networks.{count};
 ghost use Rattle.cstn_net.specs.Read.{the_network};
 
@@ -42,7 +42,9 @@ fn lifted(
     of_p: Label,
     of_q: Label,
     of_x: Label,
-) -> Result<Labelled, LiftError> {
+) -> Result<Labelled, LiftError>
+    ensures { IfOk result (λ l. count (the_network l.base) ≡ 4) }
+{
     let mut labels = Vec::new(alloc);
     labels.push(origin).expect(rt, "memory");
     labels.push(of_p).expect(rt, "memory");
@@ -106,12 +108,21 @@ fn faults_are_named(rt: HostRuntime) {
         node: NodeId(1),
         prop: Prop { index: 2 },
     };
-    assert_eq!(rt; refusal(&rt, alloc, p, strange, r, q), Some(LiftError::OriginLabel));
+    assert_eq!(rt;
+        refusal(&rt, alloc, p, strange, r, q),
+        Some(LiftError::OriginLabel)
+    );
     assert_eq!(rt; refusal(&rt, alloc, none, r, strange, strange), not_plain);
     assert_eq!(rt; refusal(&rt, alloc, none, none, unseen, r), not_plain);
     assert_eq!(rt; refusal(&rt, alloc, none, r, r, q), Some(unobserved));
-    assert_eq!(rt; refusal(&rt, alloc, none, q, p, q.join(is(P, Mark::No))), circle);
-    assert_eq!(rt; refusal(&rt, alloc, none, none, p, q.join(is(P, Mark::No))), never);
+    assert_eq!(rt;
+        refusal(&rt, alloc, none, q, p, q.join(is(P, Mark::No))),
+        circle
+    );
+    assert_eq!(rt;
+        refusal(&rt, alloc, none, none, p, q.join(is(P, Mark::No))),
+        never
+    );
     assert_eq!(rt; refusal(&rt, alloc, none, none, none, none), None);
 }
 
@@ -131,4 +142,61 @@ fn labels_are_completed_in_a_chain(rt: HostRuntime) {
     assert!(rt; has(&net, 3, 3, 2, -1, both));
     assert_eq!(rt; rest.get(NodeId(3)), both);
     assert_eq!(rt; rest.get(NodeId(2)), p);
+}
+
+#[test]
+fn a_network_without_labels_stays(rt: HostRuntime) {
+    let none = Label::empty();
+    let lifted = lifted(&rt, rt.alloc(), 1, none, none, none, none).expect(&rt, "labels");
+    assert!(rt; !lifted.is_labelled());
+    assert_eq!(rt; lifted.lowered().constraints(), lifted.base().constraints());
+}
+
+// What lifting says of the network of the origin and of a time-point that observes p, with so many equal constraints, and of
+// one that has the label p.
+fn counted(rt: &impl Abort, alloc: Global, constraints: u32) -> Option<LiftError>
+    requires { constraints ≤ 16384 }
+{
+    let mut builder = Builder::new(alloc, 10);
+    builder.node(None).expect(rt, "memory");
+    builder.node(Some(P)).expect(rt, "memory");
+    builder.node(None).expect(rt, "memory");
+    for _ in 0..constraints {
+        builder
+            .constrain(1, 0, -3, Label::empty())
+            .expect(rt, "memory");
+    }
+    let net = builder.close().expect(rt, "a network");
+    let mut labels = Vec::new(alloc);
+    labels.push(Label::empty()).expect(rt, "memory");
+    labels.push(Label::empty()).expect(rt, "memory");
+    labels.push(is(P, Mark::Yes)).expect(rt, "memory");
+    lift(alloc, net, labels).err()
+}
+
+#[test]
+fn lowered_constraints_are_counted(rt: HostRuntime) {
+    let alloc = rt.alloc();
+    assert_eq!(rt; counted(&rt, alloc, 16383), None);
+    assert_eq!(rt;
+        counted(&rt, alloc, 16384),
+        Some(LiftError::TooManyConstraints)
+    );
+}
+
+// Whether an error has this message.
+fn says(rt: &impl Abort, alloc: Global, error: LiftError, message: &str) -> bool {
+    let text = format!(in alloc; "{error}").expect(rt, "memory");
+    text.as_str() == message
+}
+
+#[test]
+fn errors_name_letters_and_numbers(rt: HostRuntime) {
+    let alloc = rt.alloc();
+    let node = NodeId(3);
+    let unseen = LiftError::NotObserved { node, prop: P };
+    let text = "nothing observes the proposition p, which the label of the time-point 3 names";
+    assert!(rt; says(&rt, alloc, unseen, text));
+    let never = LiftError::Never { node };
+    assert!(rt; says(&rt, alloc, never, "the time-point 3 is never executed"));
 }

@@ -24,7 +24,7 @@ returns-then-eq c =
     let a = marks c.args.label in
     let so_far = c.loop-round.invariant in
     let fixed = sym (ap (λ l. round m l) so_far) ∙ sym c.with_observers-next.ensures.joined
-        ∙ same_marks c.with_observers-next.result c.loop-round.whole (sym c.if-eq.ensures) ∙ so_far in
+    ∙ same_marks c.with_observers-next.result c.loop-round.whole (sym c.if-eq.ensures) ∙ so_far in
     record { completed = so_far ∙ rounds_end m c.loop-round._round a fixed }
 
 pub returns : goal.returns

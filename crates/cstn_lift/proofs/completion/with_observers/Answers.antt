@@ -41,7 +41,7 @@ returns c =
     record {
       joined = round_is m (marks c.args.label) (marks c.loop-p.joined) loop.contains (λ x p o marked.
           elim (cases_lt p c.loop-p.from) [
-          | inl before ↦ loop.joined x p before o marked
-          | inr after ↦ absurd (marked (c.in_default.ensures.none p after))
+            | inl before ↦ loop.joined x p before o marked
+            | inr after ↦ absurd (marked (c.in_default.ensures.none p after))
           ]) loop.upto;
     }

@@ -42,7 +42,7 @@ returns-in-Some-first_not_plain c =
     let one_each = length-map c.args.labels.now marks ∙ c.requires.one_each in
     let at = whole_at m one_each own c.requires.completed in
     let none : (x : ℕ) → x < count net → IsSeenBy net (completed_label m x) x → ⊥ = λ x inside seen.
-        c.in_default.ensures.first x inside (subst (λ a. IsSeenBy net a x) (sym (at x inside)) seen) in
+    c.in_default.ensures.first x inside (subst (λ a. IsSeenBy net a x) (sym (at x inside)) seen) in
     record {
       has = first_same (count net) (λ x. IsPlain (label_in own x) → ⊥) (λ x. IsPlain (completed_label m x) → ⊥) c.in-Some-first_not_plain.node.0
           (λ x inside unplain plain. unplain (subst IsPlain (sym (at x inside)) plain)) (λ x inside unplain plain. unplain (subst IsPlain (at x inside) plain))
@@ -58,6 +58,6 @@ returns c =
     let one_each = length-map c.args.labels.now marks ∙ c.requires.one_each in
     let at = whole_at m one_each own c.requires.completed in
     let none : (x : ℕ) → x < count net → IsSeenBy net (completed_label m x) x → ⊥ = λ x inside seen.
-        c.in_default.ensures.first x inside (subst (λ a. IsSeenBy net a x) (sym (at x inside)) seen) in
+    c.in_default.ensures.first x inside (subst (λ a. IsSeenBy net a x) (sym (at x inside)) seen) in
     labelled_from m c.requires.good c.in_default-first_not_plain.ensures.well_formed one_each none
     (λ x inside. subst IsPlain (at x inside) (c.in_default-first_not_plain.ensures.first x inside))

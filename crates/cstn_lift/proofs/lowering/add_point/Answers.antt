@@ -15,8 +15,8 @@ returns-in-Some-clause-added c =
     let ticks = c.reaction.result in
     let at = c.in_ok-node.ensures.number in
     let points = ap (λ b. b.points) c.react.ensures.react
-        ∙ ap (λ (b : _). with_reaction c.in_ok-node.node ticks b.points) c.in_ok-node.ensures.appended
-        ∙ reaction_set old t c.in_ok-node.node ticks at in
+    ∙ ap (λ (b : _). with_reaction c.in_ok-node.node ticks b.points) c.in_ok-node.ensures.appended
+    ∙ reaction_set old t c.in_ok-node.node ticks at in
     subst (λ ps. HasPoints net (c.args.x.0 + 1) ps) (sym points)
     (point_added net c.args.x.0 old (record { observes = observes; reaction = ticks }) c.requires.inside c.requires.before c.observes-observes.ensures.observes
     (reacts_there observes c.in-Some.p (reaction_of c.args.net.now.points) ticks c.in-Some.is c.reaction.ensures.reaction))

@@ -21,8 +21,10 @@ returns-in-Err-close-clause-refused c =
     let given = c.in-Ok.ensures in
     let error = c.in-Err-close.error in
     elim (cases_eq (number error) 0) [
-    | inl memory ↦ inl (c.error_of.ensures.memory memory)
-    | inr other ↦ inr (c.error_of.ensures.constraints other,
+      | inl memory ↦ inl (c.error_of.ensures.memory memory)
+      | inr other ↦ inr (
+        c.error_of.ensures.constraints other,
         refused_long m c.requires.labelled b given.deadline (same_observes c.args.net.now b.points given.points)
-        (same_reaction c.args.net.now b.points given.points) given.constraints error c.in-Err-close.ensures.refused other)
+            (same_reaction c.args.net.now b.points given.points) given.constraints error c.in-Err-close.ensures.refused other,
+      )
     ]

@@ -26,9 +26,12 @@ returns-in-Some c =
     let is = label_there c.args.labels.now c.index.result c.loop-x.x c.index-labels-index.result (omega arith) c.index.ensures.index c.index-labels-index.is in
     let least = subst (λ l. IsLeastUnobserved net l c.in-Some.prop.index) is c.in-Some.ensures in
     record {
-      first = (record {
-        inside = omega arith;
-        here = (c.in-Some.prop.index, least.0);
-        before = λ y before names. let o = c.loop-x.invariant y before names.0 names.1.0 in names.1.1 o.0 o.1;
-      }, least);
+      first = (
+        record {
+          inside = omega arith;
+          here = (c.in-Some.prop.index, least.0);
+          before = λ y before names. let o = c.loop-x.invariant y before names.0 names.1.0 in names.1.1 o.0 o.1;
+        },
+        least,
+      );
     }

@@ -22,7 +22,7 @@ returns-clause-completed c =
     let long = ap length all in
     let given = good.one_each in
     let there : x < length c.self.inside.whole.items =
-        omega (arith, length-map c.self.inside.whole.items marks, length-map m.labels (completed m)) in
+    omega (arith, length-map c.self.inside.whole.items marks, length-map m.labels (completed m)) in
     let is = label_there c.self.inside.whole.items c.index.result x c.index-2.result.now there c.index.ensures.index c.index-2.ensures
-        ∙ ap (λ ls. label_in ls x) all ∙ completed_at m good x inside in
+    ∙ ap (λ ls. label_in ls x) all ∙ completed_at m good x inside in
     subst (λ v. marks c.index-2.result.now ≡ completed_label (the_labelled v) x) same is
