@@ -1,8 +1,7 @@
 -- What a builder holds on the way to the lowered network.
-use Rattle.std.proofs.Common.{ℕ, zero, suc, ◌≡◌, ◌⊎◌, inl, inr, ◌+◌, ◌-◌, ◌<◌, ◌≤◌, Bool, true, false, Option, Some, None, List, [], ◌∷◌, ◌++◌, length, take, arith, refl, sym, subst, ap, ◌∙◌}
-use Rattle.std.specs.Prelude.{map, slice_index_or, if◌then◌else◌, option_map, ℤ, pos, ◌-ℤ◌, ◌==◌}
+use Rattle.std.proofs.Common.{ℕ, zero, suc, ◌≡◌, inl, inr, ◌+◌, ◌-◌, ◌<◌, ◌≤◌, Bool, true, false, Option, Some, None, List, [], ◌∷◌, ◌++◌, length, take, arith, refl, sym, subst, ap, ◌∙◌}
+use Rattle.std.specs.Prelude.{map, slice_index_or, if◌then◌else◌, option_map, ℤ, pos, ◌-ℤ◌}
 use Rattle.std.specs.List.{All, filter_map, flat_map, cons_option, range_with_len}
-use Rattle.std.proofs.Math.Path.{fun_ext}
 use Rattle.std.proofs.lemmas.Bool.{cases_Bool}
 use Rattle.std.proofs.lemmas.List.{append-nil, append_assoc, length-map, map-append, take_more, length-take-le}
 use Rattle.std.proofs.lemmas.List.Elements.{All-append, All-cons, All-nil, All-head, All-tail, filter_map-append}
@@ -16,12 +15,12 @@ use Rattle.cstn_label.proofs.ReadLemmas.{unmarked_above}
 use Rattle.cstn_net.specs.declared.constraints.Constraint.{Constraint}
 use Rattle.cstn_net.specs.declared.drafts.Draft.{Draft}
 use Rattle.cstn_net.specs.declared.points.TimePoint.{TimePoint}
-use Rattle.cstn_net.specs.Networks.{Network, Constraint as TheConstraint, Observes, count}
+use Rattle.cstn_net.specs.Networks.{Network, Constraint as TheConstraint, count}
 use Rattle.cstn_net.specs.Read.{observed, reaction_of, is_prop, the_constraint}
 use Rattle.cstn_net.specs.Drafts.{constraint_of, constraints_from, with_reaction}
 use Rattle.cstn_net.proofs.DraftLemmas.{constraints_more, constraints_length}
 use Rattle.cstn_lift.specs.Labelled.{Labelled}
-use Rattle.cstn_lift.specs.Completion.{is_marked, full_label}
+use Rattle.cstn_lift.specs.Completion.{full_label}
 use Rattle.cstn_lift.specs.Lowered.{is_plain, observer_of, with_full_label, guard, waits, numbered}
 use Rattle.cstn_lift.specs.Handed.{HasPoints, HasConstraints}
 use Rattle.cstn_lift.proofs.CompletionLemmas.{marked_true}

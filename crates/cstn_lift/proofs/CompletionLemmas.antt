@@ -1,7 +1,7 @@
 -- Completion ends, and gives the least complete label that contains its argument.
 use Rattle.std.proofs.Common.{ℕ, zero, suc, ◌≡◌, ◌⊎◌, inl, inr, ◌+◌, ◌<◌, ◌≤◌, Bool, true, false, Option, Some, None, arith, refl, sym, subst, ap, ◌∙◌}
 use Rattle.std.specs.Prelude.{slice_index_or, if◌then◌else◌}
-use Rattle.std.proofs.lemmas.Bool.{cases_lt, cases_Bool}
+use Rattle.std.proofs.lemmas.Bool.{cases_lt}
 use Rattle.cstn_label.specs.declared.marks.Mark.{Mark}
 use Rattle.cstn_label.specs.declared.marks.Mark.TheVariants.{Absent, Yes, No, Unknown}
 use Rattle.cstn_label.specs.Labels.{Label, IsMarked, IsMarkWithin, IsWithin, joined, joined_mark, empty}

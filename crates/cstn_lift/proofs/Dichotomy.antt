@@ -1,12 +1,12 @@
 -- In a dynamic table in which whoever is executed has seen what its label marks: whoever's label isn't ruled out when its
 -- moment comes is executed.
-use Rattle.std.proofs.Common.{ℕ, zero, suc, ◌≡◌, ◌⊎◌, inl, inr, ◌+◌, ◌<◌, ◌≤◌, arith, refl, sym, subst, ◌∙◌}
-use Rattle.cstn_label.specs.Labels.{Label, Scenario, Holds, MarkFits, IsMarked, IsPossible}
+use Rattle.std.proofs.Common.{ℕ, inl, inr, ◌+◌, ◌<◌, ◌≤◌, arith, subst}
+use Rattle.cstn_label.specs.Labels.{Scenario, MarkFits, IsMarked, IsPossible}
 use Rattle.cstn_label.proofs.MarkLemmas.{absent_or_not, fits_absent}
-use Rattle.cstn_net.specs.Networks.{Network, Observes, count}
-use Rattle.cstn_net.specs.Strategies.{Table, IsKnown, Agrees, IsDynamic}
-use Rattle.cstn_net.proofs.Knowledge.{observer_within, flipped, agrees_earlier}
-use Rattle.cstn_net.proofs.Dynamic.{agrees_back, same_past}
+use Rattle.cstn_net.specs.Networks.{Observes, count}
+use Rattle.cstn_net.specs.Strategies.{Table, IsKnown, IsDynamic}
+use Rattle.cstn_net.proofs.Knowledge.{observer_within, flipped}
+use Rattle.cstn_net.proofs.Dynamic.{same_past}
 use Rattle.cstn_lift.specs.Labelled.{Labelled}
 use Rattle.cstn_lift.specs.Completion.{completed_label}
 use Rattle.cstn_lift.specs.WellFormed.{IsLabelled}

@@ -1,27 +1,26 @@
 -- A labelled network and its lowered one have the same moments.
-use Rattle.std.proofs.Common.{ℕ, zero, suc, ◌≡◌, ◌⊎◌, inl, inr, ◌+◌, ◌<◌, ◌≤◌, Option, Some, None, arith, refl, sym, subst, ap, ◌∙◌}
-use Rattle.std.specs.Prelude.{Bool, false, ℤ, pos, ◌-ℤ◌, ◌≤ℤ◌, ◌↔◌}
+use Rattle.std.proofs.Common.{ℕ, zero, suc, ◌≡◌, ◌⊎◌, inl, inr, ◌<◌, ◌≤◌, Option, Some, None, arith, refl, sym, subst, ap, ◌∙◌}
+use Rattle.std.specs.Prelude.{Bool, false}
 use Rattle.std.specs.List.{Contains}
 use Rattle.std.proofs.lemmas.Int.{ints}
-use Rattle.cstn_label.specs.Labels.{Label, Scenario, Holds, MarkFits, IsMarked, IsWithin, joined}
+use Rattle.cstn_label.specs.Labels.{Scenario, Holds, MarkFits, IsWithin, joined}
 use Rattle.cstn_label.proofs.MarkLemmas.{absent_or_not, fits_absent}
 use Rattle.cstn_label.proofs.LabelLemmas.{holds_within, plain_from_holds, within_through}
 use Rattle.std.proofs.lemmas.List.Elements.{All-contains}
-use Rattle.cstn_net.specs.Networks.{Network, Constraint, IsConstraint, IsOnObserved, Observes, count, limit}
-use Rattle.cstn_net.specs.Strategies.{Table, IsKnown, IsDynamic, IsStrategy, IsConsistent, IsLeast, Meets}
-use Rattle.cstn_net.proofs.Knowledge.{observer_within}
+use Rattle.cstn_net.specs.Networks.{Constraint, IsConstraint, IsOnObserved, count, limit}
+use Rattle.cstn_net.specs.Strategies.{Table, IsDynamic, IsStrategy, IsLeast, Meets}
 use Rattle.cstn_lift.specs.Labelled.{Labelled, label_of}
-use Rattle.cstn_lift.specs.Completion.{completed, completed_label, full_label, IsComplete}
+use Rattle.cstn_lift.specs.Completion.{completed_label, full_label, IsComplete}
 use Rattle.cstn_lift.specs.WellFormed.{IsLabelled}
 use Rattle.cstn_lift.specs.Lowered.{lowered, observer_of}
-use Rattle.cstn_lift.specs.Strategies.{IsExecuted, IsInForce, IsLabelledStrategy, IsLabelledConsistent, IsLabelledLeast, IsDefaulted, IsEquivalent}
+use Rattle.cstn_lift.specs.Strategies.{IsExecuted, IsLabelledStrategy, IsLabelledLeast, IsDefaulted, IsEquivalent}
 use Rattle.cstn_lift.proofs.CompletionLemmas.{completed_contains, completed_complete, completed_least, within_left, within_right}
 use Rattle.cstn_lift.proofs.FullLemmas.{full_within, completed_on, label_on, joined_on}
 use Rattle.cstn_lift.proofs.Executed.{executed_or_not, observers_executed}
 use Rattle.cstn_lift.proofs.Dichotomy.{IsGuarded}
 use Rattle.cstn_lift.proofs.ToLabelled.{lowered_dynamic}
 use Rattle.cstn_lift.proofs.ToPlain.{filled, filled_at, filled_upto, filled_dynamic, seen_marks}
-use Rattle.cstn_lift.proofs.LoweredLemmas.{IsBetween, IsGuard, IsOfLowered, forced, guarded, only, observer_found}
+use Rattle.cstn_lift.proofs.LoweredLemmas.{IsOfLowered, forced, guarded, only, observer_found}
 
 pub limit_same : (m : Labelled) (x : ℕ) → limit (lowered m) x ≡ limit m.base x
 limit_same m zero = refl

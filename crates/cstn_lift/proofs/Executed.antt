@@ -1,13 +1,13 @@
 -- Who is executed in scenarios that agree on what is observed in one of them.
-use Rattle.std.proofs.Common.{ℕ, zero, suc, ◌≡◌, ◌⊎◌, inl, inr, ◌+◌, ◌<◌, ◌≤◌, arith, refl, sym, subst, ◌∙◌}
+use Rattle.std.proofs.Common.{ℕ, zero, suc, ◌≡◌, ◌⊎◌, inl, inr, ◌<◌, arith, sym, subst}
 use Rattle.cstn_label.specs.declared.marks.Mark.{Mark}
 use Rattle.cstn_label.specs.declared.marks.Mark.TheVariants.{Absent, Yes, No, Unknown}
 use Rattle.std.specs.Prelude.{Bool, true, false}
-use Rattle.cstn_label.specs.Labels.{Label, Scenario, Holds, MarkFits, IsMarked}
+use Rattle.cstn_label.specs.Labels.{Label, Scenario, MarkFits, IsMarked}
 use Rattle.cstn_label.proofs.MarkLemmas.{absent_or_not, fits_absent, mark_fits_within, mark_within_absent}
 use Rattle.cstn_label.proofs.LabelLemmas.{holds_within}
 use Rattle.std.proofs.lemmas.Bool.{cases_lt}
-use Rattle.cstn_net.specs.Networks.{Network, Observes}
+use Rattle.cstn_net.specs.Networks.{Observes}
 use Rattle.cstn_lift.specs.Labelled.{Labelled}
 use Rattle.cstn_lift.specs.Completion.{completed_label}
 use Rattle.cstn_lift.specs.WellFormed.{IsLabelled}

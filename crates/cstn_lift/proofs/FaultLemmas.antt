@@ -1,12 +1,10 @@
 -- Which fault of labels is the lowest.
-use Rattle.std.proofs.Common.{ℕ, ◌≡◌, ◌⊎◌, inl, inr, ◌+◌, ◌<◌, ◌≤◌, List, length, arith, refl, sym, subst, ap, ◌∙◌}
+use Rattle.std.proofs.Common.{ℕ, ◌≡◌, ◌⊎◌, inl, inr, ◌<◌, ◌≤◌, List, length, arith, sym, subst, ap, ◌∙◌}
 use Rattle.std.specs.Prelude.{map}
 use Rattle.std.proofs.lemmas.List.{get_or-map}
-use Rattle.std.proofs.lemmas.Bool.{cases_eq}
-use Rattle.cstn_label.specs.declared.marks.Mark.TheVariants.{Absent}
-use Rattle.cstn_label.specs.Labels.{Label, IsPlain, IsMarked, empty}
+use Rattle.cstn_label.specs.Labels.{Label, IsPlain, empty}
 use Rattle.cstn_label.proofs.MarkLemmas.{absent_or_not}
-use Rattle.cstn_net.specs.Networks.{Network, IsWellFormed, Observes, count}
+use Rattle.cstn_net.specs.Networks.{IsWellFormed, count}
 use Rattle.cstn_net.proofs.Knowledge.{observer_within}
 use Rattle.cstn_lift.specs.declared.errors.LiftError.{LiftError}
 use Rattle.cstn_lift.specs.declared.errors.LiftError.TheVariants.{OriginLabel, NotPlain, NotObserved, Circle, Never, TooManyConstraints, Memory}

@@ -1,18 +1,17 @@
 -- The completed labels of a labelled network.
-use Rattle.std.proofs.Common.{ℕ, zero, suc, ◌≡◌, ◌⊎◌, inl, inr, ◌+◌, ◌<◌, ◌≤◌, Bool, true, false, Option, Some, None, arith, refl, sym, subst, ap, ◌∙◌}
-use Rattle.std.specs.Prelude.{slice_index_or, if◌then◌else◌}
+use Rattle.std.proofs.Common.{ℕ, zero, suc, ◌≡◌, inl, inr, ◌<◌, ◌≤◌, Bool, true, false, arith, refl, sym, subst, ap, ◌∙◌}
+use Rattle.std.specs.Prelude.{if◌then◌else◌}
 use Rattle.std.proofs.lemmas.Bool.{cases_lt}
 use Rattle.std.proofs.lemmas.List.{get_or_past}
-use Rattle.cstn_label.specs.declared.marks.Mark.TheVariants.{Absent}
 use Rattle.cstn_label.specs.Labels.{Label, IsMarked, IsPlain, IsWithin, joined, empty}
 use Rattle.cstn_label.proofs.MarkLemmas.{absent_or_not}
-use Rattle.cstn_label.proofs.LabelLemmas.{within_itself, within_through, within_same, absent_joined}
-use Rattle.cstn_net.specs.Networks.{Network, IsNetwork, IsOnObserved, Observes, count}
+use Rattle.cstn_label.proofs.LabelLemmas.{within_itself, within_same, absent_joined}
+use Rattle.cstn_net.specs.Networks.{Network, IsOnObserved, Observes, count}
 use Rattle.cstn_net.proofs.Knowledge.{observer_within}
 use Rattle.cstn_lift.specs.Labelled.{Labelled, label_of}
 use Rattle.cstn_lift.specs.Completion.{is_observed_by, brought_by, joined_upto, rounds, completed, completed_label, IsComplete}
 use Rattle.cstn_lift.specs.WellFormed.{IsLabelled}
-use Rattle.cstn_lift.proofs.CompletionLemmas.{completed_complete, completed_contains, completed_least, seen, what, seen_marked, same_or_more, empty_within}
+use Rattle.cstn_lift.proofs.CompletionLemmas.{completed_complete, completed_least, seen, what, seen_marked, same_or_more, empty_within}
 
 -- joins of labels that name observed propositions alone
 pub joined_on : (net : Network) (a b : Label) → IsOnObserved net a → IsOnObserved net b → IsOnObserved net (joined a b)

@@ -1,10 +1,10 @@
 -- Labels in words, and lists of them.
-use Rattle.std.proofs.Common.{ℕ, ◌≡◌, ◌<◌, ◌+◌, Bool, true, false, ◌&&◌, eqb, List, inl, inr, arith, refl, sym, subst, ap, ◌∙◌, length}
+use Rattle.std.proofs.Common.{ℕ, ◌≡◌, ◌<◌, ◌+◌, Bool, true, ◌&&◌, eqb, List, inl, inr, arith, refl, sym, subst, ap, ◌∙◌, length}
 use Rattle.std.specs.Prelude.{map, slice_index_or}
 use Rattle.std.proofs.lemmas.Bool.{eqb-true, cases_lt}
 use Rattle.std.proofs.lemmas.List.{get_or-map}
 use Rattle.cstn_label.specs.declared.labels.Label.{Label as Words}
-use Rattle.cstn_label.specs.Labels.{Label, empty}
+use Rattle.cstn_label.specs.Labels.{empty}
 use Rattle.cstn_label.specs.Words.{has_bit}
 use Rattle.cstn_label.specs.Read.{mark_of, marks}
 use Rattle.cstn_label.proofs.ReadLemmas.{same_label}

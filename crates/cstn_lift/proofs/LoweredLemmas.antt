@@ -1,22 +1,22 @@
 -- The constraints of the lowered network.
-use Rattle.std.proofs.Common.{ℕ, zero, suc, ◌≡◌, ◌⊎◌, inl, inr, ◌+◌, ◌<◌, ◌≤◌, Bool, true, false, Option, Some, None, List, length, arith, refl, sym, subst, ap, ◌∙◌, ◌++◌}
+use Rattle.std.proofs.Common.{ℕ, ◌≡◌, ◌⊎◌, inl, inr, ◌<◌, ◌≤◌, Bool, true, false, Option, Some, None, arith, refl, sym, subst, ap, ◌∙◌, ◌++◌}
 use Rattle.std.specs.Prelude.{map, slice_index_or, if◌then◌else◌, option_map, ℤ, pos, ◌-ℤ◌, ◌==◌}
-use Rattle.std.specs.List.{All, Contains, filter_map, flat_map, range_with_len}
+use Rattle.std.specs.List.{All, Contains, range_with_len}
 use Rattle.std.proofs.lemmas.Bool.{cases_lt, cases_Bool}
 use Rattle.std.proofs.lemmas.List.{get_or-map}
 use Rattle.std.proofs.lemmas.List.Elements.{All-append, All-contains, All-contains_itself, All-weaker, Contains-append_left, Contains-append_right}
 use Rattle.std.proofs.lemmas.List.Quantifiers.{position-Some}
 use Rattle.std.proofs.lemmas.List.Sums.{list_all-from_AllPass, AllPass-from_list_all}
 use Rattle.cstn_label.specs.declared.marks.Mark.{Mark}
-use Rattle.cstn_label.specs.declared.marks.Mark.TheVariants.{Absent, Yes, No, Unknown}
+use Rattle.cstn_label.specs.declared.marks.Mark.TheVariants.{Absent}
 use Rattle.cstn_label.specs.Labels.{Label, IsMarked, IsMarkPlain, IsPlain, empty}
-use Rattle.cstn_net.specs.Networks.{Network, IsNetwork, Constraint, IsOnObserved, Observes, count}
+use Rattle.cstn_net.specs.Networks.{Network, IsNetwork, Constraint, Observes, count}
 use Rattle.cstn_net.specs.Read.{is_prop}
 use Rattle.cstn_net.proofs.Knowledge.{observer_within}
-use Rattle.cstn_lift.specs.Labelled.{Labelled, label_in, label_of}
+use Rattle.cstn_lift.specs.Labelled.{Labelled, label_in}
 use Rattle.cstn_lift.specs.Completion.{is_marked, completed, completed_label, full_label}
 use Rattle.cstn_lift.specs.WellFormed.{IsLabelled}
-use Rattle.cstn_lift.specs.Lowered.{is_mark_plain, is_plain, observer_of, with_full_label, full_constraints, guard, waits, guards_with, guards, numbered, lowered}
+use Rattle.cstn_lift.specs.Lowered.{is_mark_plain, is_plain, observer_of, with_full_label, full_constraints, guard, waits, guards_with, guards, lowered}
 use Rattle.cstn_lift.proofs.CompletionLemmas.{marked_true, marked_back}
 use Rattle.cstn_lift.proofs.ListLemmas.{filter_map_contains, flat_map_contains, range_contains, numbered_contains, numbered_all, filter_map_all, flat_map_all, range_all, position_found}
 

@@ -1,10 +1,10 @@
 -- The worked rows.
-use Rattle.std.proofs.Common.{ℕ, zero, suc, ◌≡◌, List, [], ◌∷◌, Some, None, refl}
+use Rattle.std.proofs.Common.{ℕ, zero, suc, ◌≡◌, [], ◌∷◌, Some, None, refl}
 use Rattle.std.specs.Prelude.{map, pos, negsuc, ℤ}
 use Rattle.cstn_label.specs.declared.marks.Mark.{Mark}
 use Rattle.cstn_label.specs.declared.marks.Mark.TheVariants.{Absent, Yes, No, Unknown}
 use Rattle.cstn_label.specs.Labels.{Label, empty}
-use Rattle.cstn_net.specs.Networks.{Network, Constraint}
+use Rattle.cstn_net.specs.Networks.{Constraint}
 use Rattle.cstn_net.specs.Examples.{only, both}
 use Rattle.cstn_lift.specs.Labelled.{Labelled}
 use Rattle.cstn_lift.specs.Completion.{completed_label}

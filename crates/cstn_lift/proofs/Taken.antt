@@ -1,5 +1,5 @@
 -- A builder that was handed what becomes of a labelled network.
-use Rattle.std.proofs.Common.{ℕ, ◌≡◌, ◌⊎◌, inl, inr, ◌+◌, ◌<◌, ◌≤◌, None, Some, List, length, take, arith, refl, sym, subst, ap, ◌∙◌}
+use Rattle.std.proofs.Common.{ℕ, ◌≡◌, inl, inr, ◌<◌, ◌≤◌, None, List, length, arith, sym, ap, ◌∙◌}
 use Rattle.std.specs.Prelude.{map, slice_index_or}
 use Rattle.std.proofs.Math.Path.{fun_ext}
 use Rattle.std.proofs.lemmas.Bool.{cases_lt}
@@ -7,10 +7,9 @@ use Rattle.std.proofs.lemmas.List.{length-map, take_all}
 use Rattle.cstn_net.specs.declared.points.TimePoint.{TimePoint}
 use Rattle.cstn_net.specs.declared.errors.NetError.{NetError}
 use Rattle.cstn_net.specs.declared.errors.NetError.TheVariants.{TooManyConstraints}
-use Rattle.cstn_net.specs.Networks.{Network, Constraint, IsWellFormed, count}
+use Rattle.cstn_net.specs.Networks.{count}
 use Rattle.cstn_net.specs.Read.{NetworkParts, the_network, observed, reaction_of, the_constraint}
 use Rattle.cstn_net.specs.Drafts.{BuilderParts, HasFault, IsRefusal, number, constraints_from}
-use Rattle.cstn_net.specs.Handed.{IsHanded}
 use Rattle.cstn_net.proofs.DraftLemmas.{constraints_length}
 use Rattle.cstn_net.proofs.HandedLemmas.{refused_for_memory}
 use Rattle.cstn_lift.specs.Labelled.{Labelled}

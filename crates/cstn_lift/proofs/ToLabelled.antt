@@ -1,9 +1,9 @@
 -- A dynamic table in which everybody waits for what its label marks, read at scenarios with default values for what
 -- nobody observes, is a dynamic labelled table.
-use Rattle.std.proofs.Common.{ℕ, zero, suc, ◌≡◌, ◌⊎◌, inl, inr, ◌+◌, ◌<◌, ◌≤◌, arith, refl, sym, subst, ◌∙◌}
-use Rattle.cstn_label.specs.Labels.{Label, Scenario, Holds, MarkFits, IsPossible}
+use Rattle.std.proofs.Common.{ℕ, zero, suc, ◌≡◌, inl, inr, ◌<◌, ◌≤◌, arith, sym, subst, ◌∙◌}
+use Rattle.cstn_label.specs.Labels.{Label, Scenario, MarkFits, IsPossible}
 use Rattle.cstn_label.proofs.MarkLemmas.{absent_or_not, fits_absent}
-use Rattle.cstn_net.specs.Networks.{Network, Observes, count}
+use Rattle.cstn_net.specs.Networks.{Observes, count}
 use Rattle.cstn_net.specs.Strategies.{Table, IsKnown, Agrees, IsDynamic}
 use Rattle.cstn_net.proofs.Knowledge.{observer_within}
 use Rattle.cstn_lift.specs.Labelled.{Labelled}

@@ -1,18 +1,17 @@
 -- A labelled strategy, read as a plain table: whoever isn't executed stands at its limit.
-use Rattle.std.proofs.Common.{ℕ, zero, suc, ◌≡◌, ◌⊎◌, inl, inr, ◌+◌, ◌<◌, ◌≤◌, arith, refl, sym, subst, ap, ◌∙◌}
-use Rattle.std.specs.Prelude.{Bool, true, false, cond, eqb, not}
+use Rattle.std.proofs.Common.{ℕ, ◌≡◌, ◌⊎◌, inl, inr, ◌+◌, ◌<◌, ◌≤◌, arith, refl, subst, ap}
+use Rattle.std.specs.Prelude.{Bool, cond, eqb, not}
 use Rattle.std.proofs.lemmas.Bool.{cases_lt, cases_eq, eq-eqb, ne_eqb}
 use Rattle.cstn_label.specs.declared.marks.Mark.{Mark}
 use Rattle.cstn_label.specs.declared.marks.Mark.TheVariants.{Absent}
-use Rattle.cstn_label.specs.Labels.{Label, Scenario, Holds, MarkFits, IsMarked}
-use Rattle.cstn_net.specs.Networks.{Network, Observes, count, limit}
-use Rattle.cstn_net.specs.Strategies.{Table, IsKnown, Agrees, IsDynamic, IsNeverLater}
-use Rattle.cstn_net.proofs.Knowledge.{observer_within}
+use Rattle.cstn_label.specs.Labels.{Scenario, MarkFits, IsMarked}
+use Rattle.cstn_net.specs.Networks.{Observes, count, limit}
+use Rattle.cstn_net.specs.Strategies.{Table, IsDynamic, IsNeverLater}
 use Rattle.cstn_net.proofs.Dynamic.{dynamic_from_one_side}
 use Rattle.cstn_lift.specs.Labelled.{Labelled}
 use Rattle.cstn_lift.specs.Completion.{completed_label}
 use Rattle.cstn_lift.specs.WellFormed.{IsLabelled}
-use Rattle.cstn_lift.specs.Strategies.{IsExecuted, IsKnownExecuted, IsLabelledStrategy}
+use Rattle.cstn_lift.specs.Strategies.{IsExecuted, IsLabelledStrategy}
 use Rattle.cstn_lift.proofs.Executed.{executed_or_not}
 
 -- a scenario with the value of p turned round

@@ -1,21 +1,20 @@
 -- What scenarios have in common that agree on what is observed in one of them, and the labelled strategies of plain ones.
-use Rattle.std.proofs.Common.{ℕ, ◌≡◌, ◌⊎◌, inl, inr, ◌+◌, ◌<◌, ◌≤◌, arith, refl, sym, subst, ◌∙◌}
+use Rattle.std.proofs.Common.{ℕ, ◌≡◌, inl, inr, ◌<◌, arith, sym, subst, ◌∙◌}
 use Rattle.std.specs.Prelude.{◌↔◌}
-use Rattle.std.specs.List.{Contains}
-use Rattle.cstn_label.specs.Labels.{Label, Scenario, IsMarked, IsPlain, IsPossible}
-use Rattle.cstn_net.specs.Networks.{Constraint, IsOnObserved, Observes, count}
+use Rattle.cstn_label.specs.Labels.{Scenario, IsMarked, IsPossible}
+use Rattle.cstn_net.specs.Networks.{Constraint, count}
 use Rattle.cstn_net.specs.Strategies.{Table, IsKnown, IsStrategy, IsLeast}
 use Rattle.cstn_lift.specs.Labelled.{Labelled}
-use Rattle.cstn_lift.specs.Completion.{completed_label, full_label, IsComplete}
+use Rattle.cstn_lift.specs.Completion.{completed_label, IsComplete}
 use Rattle.cstn_lift.specs.WellFormed.{IsLabelled}
 use Rattle.cstn_lift.specs.Lowered.{lowered}
 use Rattle.cstn_lift.specs.Strategies.{IsExecuted, IsLabelledStrategy, IsLabelledLeast, IsDefaulted, AreTwins}
 use Rattle.cstn_lift.proofs.CompletionLemmas.{completed_complete}
 use Rattle.cstn_lift.proofs.FullLemmas.{full_on}
-use Rattle.cstn_lift.proofs.Executed.{twin_right, twin_left}
+use Rattle.cstn_lift.proofs.Executed.{twin_right}
 use Rattle.cstn_lift.proofs.Dichotomy.{marks_seen, possible_executed}
-use Rattle.cstn_lift.proofs.LoweredLemmas.{IsOfLowered, only}
-use Rattle.cstn_lift.proofs.Equivalent.{full_closed, dynamic_base, guards_met, to_labelled, labelled_least}
+use Rattle.cstn_lift.proofs.LoweredLemmas.{IsOfLowered}
+use Rattle.cstn_lift.proofs.Equivalent.{full_closed, dynamic_base, guards_met, labelled_least}
 
 pub twin_moment : (m : Labelled) (table : Table) (s r : Scenario) (x : ℕ) → IsLabelledStrategy m table → AreTwins m s r → x < count m.base →
     IsExecuted m s x → table r x ≡ table s x

@@ -1,5 +1,5 @@
 -- A network without labels is its own lowered network, but for ids.
-use Rattle.std.proofs.Common.{ℕ, zero, suc, ◌≡◌, ◌⊎◌, inl, inr, ◌+◌, ◌<◌, ◌≤◌, Option, Some, None, List, [], ◌∷◌, ◌++◌, length, arith, refl, sym, subst, ap, ◌∙◌}
+use Rattle.std.proofs.Common.{ℕ, suc, ◌≡◌, inl, inr, ◌+◌, ◌<◌, Option, Some, None, List, [], ◌∷◌, ◌++◌, length, arith, refl, sym, subst, ap, ◌∙◌}
 use Rattle.std.specs.Prelude.{map, slice_index_or, if◌then◌else◌}
 use Rattle.std.specs.List.{All, cons_option, filter_map, flat_map, range_with_len}
 use Rattle.std.proofs.lemmas.Bool.{cases_lt}
@@ -9,7 +9,7 @@ use Rattle.cstn_label.specs.Labels.{Label, IsPlain, IsWithin, empty, joined}
 use Rattle.cstn_label.proofs.LabelLemmas.{within_itself, within_same, joined_empty}
 use Rattle.cstn_net.specs.Networks.{Constraint, IsConstraint, count}
 use Rattle.cstn_lift.specs.Labelled.{Labelled, label_in, label_of}
-use Rattle.cstn_lift.specs.Completion.{completed, completed_label, full_label}
+use Rattle.cstn_lift.specs.Completion.{completed, full_label}
 use Rattle.cstn_lift.specs.WellFormed.{IsLabelled}
 use Rattle.cstn_lift.specs.Lowered.{with_full_label, full_constraints, guard, waits, guards_with, guards, numbered, lowered}
 use Rattle.cstn_lift.proofs.CompletionLemmas.{completed_contains, completed_least, empty_within}

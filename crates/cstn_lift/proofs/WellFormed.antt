@@ -1,14 +1,13 @@
 -- The lowered network is well-formed where it has no more than 16,384 constraints.
-use Rattle.std.proofs.Common.{ℕ, ◌≡◌, ◌⊎◌, inl, inr, ◌+◌, ◌<◌, ◌≤◌, true, List, length, arith, refl, sym, subst, ap, ◌∙◌, ◌++◌}
-use Rattle.std.specs.Prelude.{pos, negsuc, ◌-ℤ◌, ◌≤ℤ◌}
-use Rattle.std.specs.List.{All, Contains}
+use Rattle.std.proofs.Common.{ℕ, ◌≡◌, inl, inr, ◌≤◌, length, arith, sym, subst, ◌++◌}
+use Rattle.std.specs.Prelude.{pos, ◌-ℤ◌}
+use Rattle.std.specs.List.{Contains}
 use Rattle.std.proofs.lemmas.Int.{ints}
 use Rattle.std.proofs.lemmas.List.Elements.{All-contains, All-contains_itself, All-weaker}
-use Rattle.std.proofs.lemmas.Bool.{cases_lt}
 use Rattle.cstn_label.specs.declared.marks.Mark.TheVariants.{Absent}
 use Rattle.cstn_label.specs.Labels.{Label, IsPlain}
 use Rattle.cstn_label.proofs.MarkLemmas.{absent_or_not}
-use Rattle.cstn_net.specs.Networks.{Network, Constraint, IsNetwork, IsConstraint, IsOnObserved, IsValue, IsWellFormed, Observes, count}
+use Rattle.cstn_net.specs.Networks.{Constraint, IsConstraint, IsOnObserved, IsValue, IsWellFormed}
 use Rattle.cstn_net.proofs.Knowledge.{observer_within}
 use Rattle.cstn_lift.specs.Labelled.{Labelled}
 use Rattle.cstn_lift.specs.Completion.{completed_label, full_label}

@@ -1,5 +1,5 @@
 -- What a builder was handed on the way to the lowered network.
-use Rattle.std.specs.Prelude.{ℕ, ◌≡◌, ◌≤◌, List, Some, length, map, take}
+use Rattle.std.specs.Prelude.{ℕ, ◌≡◌, List, Some, map, take}
 use Rattle.std.specs.List.{All}
 use Rattle.cstn_net.specs.declared.points.TimePoint.{TimePoint}
 use Rattle.cstn_net.specs.declared.drafts.Draft.{Draft}

@@ -1,4 +1,4 @@
-use Rattle.std.proofs.Common.{ℕ, suc, ◌≡◌, ◌+◌, arith, sym, ap, subst, ◌∙◌, refl}
+use Rattle.std.proofs.Common.{suc, ◌≡◌, ◌+◌, arith, sym, ap, ◌∙◌, refl}
 use Rattle.cstn_label.specs.Read.{marks}
 use Rattle.cstn_net.specs.Networks.{count}
 use Rattle.cstn_net.specs.Read.{the_network}

@@ -1,7 +1,3 @@
-use Rattle.std.proofs.Common.{subst}
-use Rattle.std.proofs.lemmas.List.Elements.{All-contains}
-use Rattle.cstn_net.specs.Networks.{IsConstraint}
-use Rattle.cstn_lift.specs.Lowered.{lowered}
 use Rattle.cstn_lift.proofs.WellFormed.{lowered_well_formed, plain_and_observed}
 use Rattle.cstn_lift.proofs.LoweredLemmas.{only}
 use Rattle.cstn_lift.proofs.Twins.{lowered_complete}

@@ -1,4 +1,4 @@
-use Rattle.std.proofs.Common.{◌≡◌, ◌++◌, [], ◌∷◌, refl, sym, subst, ap, arith, to_z, of_z, w32}
+use Rattle.std.proofs.Common.{◌≡◌, ◌++◌, [], ◌∷◌, sym, subst, ap, arith, to_z, of_z, w32}
 use Rattle.std.specs.Prelude.{pos, ◌-ℤ◌}
 use Rattle.std.specs.List.{filter_map}
 use Rattle.std.proofs.lemmas.Int.{ints}

@@ -1,4 +1,4 @@
-use Rattle.std.proofs.Common.{◌++◌, arith, subst, ap, ◌∙◌}
+use Rattle.std.proofs.Common.{◌++◌, arith, subst, ◌∙◌}
 use Rattle.std.specs.Prelude.{map}
 use Rattle.std.specs.List.{flat_map, range_with_len}
 use Rattle.cstn_label.specs.Read.{marks}

@@ -1,6 +1,6 @@
 use Rattle.std.proofs.Common.{◌≡◌, arith, refl, sym, subst, true, false}
 use Rattle.std.specs.Prelude.{map}
-use Rattle.cstn_label.specs.Labels.{Label, IsPlain}
+use Rattle.cstn_label.specs.Labels.{IsPlain}
 use Rattle.cstn_label.specs.Read.{marks}
 use Rattle.cstn_lift.specs.Labelled.{label_in}
 use Rattle.cstn_lift.proofs.LabelLemmas.{label_there, upto_next}

@@ -1,4 +1,4 @@
-use Rattle.std.proofs.Common.{arith, sym, subst}
+use Rattle.std.proofs.Common.{arith, subst}
 use Rattle.std.specs.Prelude.{map}
 use Rattle.cstn_label.specs.Read.{marks}
 use Rattle.cstn_net.specs.Networks.{IsOnObserved, IsLeastUnobserved}

@@ -1,5 +1,4 @@
 use Rattle.std.proofs.Common.{◌≡◌, ◌<◌, subst, sym, ap, arith, length, ◌∙◌}
-use Rattle.std.specs.Prelude.{map}
 use Rattle.cstn_label.specs.Read.{marks}
 use Rattle.cstn_lift.specs.Labelled.{label_in}
 use Rattle.std.proofs.lemmas.List.{length-map}
