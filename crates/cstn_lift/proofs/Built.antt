@@ -25,7 +25,7 @@ use Rattle.cstn_lift.specs.Lowered.{is_plain, observer_of, with_full_label, guar
 use Rattle.cstn_lift.specs.Handed.{HasPoints, HasConstraints}
 use Rattle.cstn_lift.proofs.CompletionLemmas.{marked_true}
 use Rattle.cstn_lift.proofs.ListLemmas.{numbered_length, numbered_append}
-use Rattle.cstn_lift.proofs.LoweredLemmas.{plain_true, plain_back}
+use Rattle.cstn_lift.proofs.LoweredLemmas.{plain_true, plain_back, prop_back}
 
 -- one more constraint
 pub constraint_added : (cs : List TheConstraint) (ds : List Draft) (c : TheConstraint) (d : Draft) → HasConstraints cs ds →
@@ -175,10 +175,6 @@ reaction_if : (ts : List TimePoint) (t : TimePoint) (p : ℕ) (b : Bool) → is_
     reaction_of (t ∷ ts) p ≡ (if b then t.reaction else reaction_of ts p)
 reaction_if ts t p b e = ap (λ b. if b then t.reaction else reaction_of ts p) e
 
-prop_is : (p : ℕ) (o : Option ℕ) → is_prop p o ≡ true → o ≡ Some p
-prop_is p None e = absurd (cc)
-prop_is p (Some q) e = let same : q ≡ p = grind arith in ap Some same
-
 prop_not : (p : ℕ) (o : Option ℕ) → is_prop p o ≡ false → o ≡ Some p → ⊥
 prop_not p None e f = cc
 prop_not p (Some q) e f = let same : q ≡ p = cc in grind arith
@@ -192,7 +188,7 @@ reaction_told f [] p all tick = sym (tick (λ x e. absurd (cc)))
 reaction_told f (t ∷ ts) p all tick =
     let P : TimePoint → Type 0 = λ t. (q : ℕ) → observed t ≡ Some q → t.reaction ≡ f q in
     elim (cases_Bool (is_prop p (observed t))) [
-      | inl here ↦ reaction_if ts t p true here ∙ All-head P t ts all p (prop_is p (observed t) here)
+      | inl here ↦ reaction_if ts t p true here ∙ All-head P t ts all p (prop_back p (observed t) here)
       | inr later ↦ reaction_if ts t p false later ∙ reaction_told f ts p (All-tail P t ts all) (λ none. tick (λ x. nowhere (prop_not p (observed t) later) none x))
     ]
   where
@@ -203,7 +199,7 @@ reaction_told f (t ∷ ts) p all tick =
 pub reaction_untold : (ts : List TimePoint) (p : ℕ) → NoneObserves ts p → reaction_of ts p ≡ 1
 reaction_untold [] p none = refl
 reaction_untold (t ∷ ts) p none = elim (cases_Bool (is_prop p (observed t))) [
-  | inl here ↦ absurd (none 0 (prop_is p (observed t) here))
+  | inl here ↦ absurd (none 0 (prop_back p (observed t) here))
   | inr later ↦ reaction_if ts t p false later ∙ reaction_untold ts p (λ x. none (suc x))
 ]
 

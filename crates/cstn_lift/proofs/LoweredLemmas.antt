@@ -42,7 +42,7 @@ plain_back a above h p = elim (cases_lt p 52) [
 prop_true : (p q : ℕ) → p ≡ q → (p == q) ≡ true
 prop_true p q e = grind arith
 
-prop_back : (p : ℕ) (o : Option ℕ) → is_prop p o ≡ true → o ≡ Some p
+pub prop_back : (p : ℕ) (o : Option ℕ) → is_prop p o ≡ true → o ≡ Some p
 prop_back p None e = absurd (cc)
 prop_back p (Some q) e = let same : q ≡ p = grind arith in ap Some same
 
