@@ -1,0 +1,100 @@
+-- Which fault of labels is the lowest.
+use Rattle.std.proofs.Common.{ℕ, ◌≡◌, ◌⊎◌, inl, inr, ◌<◌, ◌≤◌, List, length, arith, sym, subst, ap, ◌∙◌}
+use Rattle.std.specs.Prelude.{map}
+use Rattle.std.proofs.lemmas.List.{get_or-map}
+use Rattle.cstn_label.specs.Labels.{Label, IsPlain, empty}
+use Rattle.cstn_label.proofs.MarkLemmas.{absent_or_not}
+use Rattle.cstn_net.specs.Networks.{IsWellFormed, count}
+use Rattle.cstn_net.proofs.Knowledge.{observer_within}
+use Rattle.cstn_lift.specs.declared.errors.LiftError.{LiftError}
+use Rattle.cstn_lift.specs.declared.errors.LiftError.TheVariants.{OriginLabel, NotPlain, NotObserved, Circle, Never, TooManyConstraints, Memory}
+use Rattle.cstn_lift.specs.Labelled.{Labelled, label_in}
+use Rattle.cstn_lift.specs.Completion.{completed, completed_label}
+use Rattle.cstn_lift.specs.WellFormed.{IsLabelled}
+use Rattle.cstn_lift.specs.Lowered.{lowered}
+use Rattle.cstn_lift.specs.Faults.{IsFirstBelow, IsSeenBy, HasFault, number, IsLowestFault, IsRefusal, HasGoodLabels}
+
+-- the label of a time-point among the completed ones
+pub whole_at : (m : Labelled) → length m.labels ≡ count m.base → (whole : List Label) → whole ≡ map (completed m) m.labels →
+    (x : ℕ) → x < count m.base → label_in whole x ≡ completed_label m x
+whole_at m one_each whole is x inside =
+    ap (λ ls. label_in ls x) is ∙ get_or-map (completed m) m.labels x empty empty (omega arith)
+
+-- the first of the numbers of which one fact holds is the first of which another does
+pub first_same : (n : ℕ) (P Q : ℕ → Type 0) (x : ℕ) → ((y : ℕ) → y < n → P y → Q y) → ((y : ℕ) → y < n → Q y → P y) →
+    IsFirstBelow n P x → IsFirstBelow n Q x
+first_same n P Q x to back first =
+    let inside = first.inside in
+    record { inside = inside; here = to x inside first.here; before = λ y before q. first.before y before (back y (omega arith) q) }
+
+module _ (m : Labelled) (good : HasGoodLabels m) where
+  pub circle_lowest : (f : LiftError) → HasFault m f → 4 ≤ number f
+  circle_lowest OriginLabel h = absurd (h good.origin)
+  circle_lowest (NotPlain node) h = absurd (h.here (good.plain node.0 h.inside))
+  circle_lowest (NotObserved node prop) h =
+      let names = h.0.here in
+      let o = good.observed node.0 h.0.inside names.0 names.1.0 in
+      absurd (names.1.1 o.0 o.1)
+  circle_lowest (Circle node) h = omega arith
+  circle_lowest (Never node) h = omega arith
+  circle_lowest TooManyConstraints h = omega arith
+  circle_lowest (Memory e) h = absurd h
+
+  pub never_lowest : ((x : ℕ) → x < count m.base → IsSeenBy m.base (completed_label m x) x → ⊥) → (f : LiftError) → HasFault m f → 5 ≤ number f
+  never_lowest none (Circle node) h = absurd (none node.0 h.inside h.here)
+  never_lowest none (Never node) h = omega arith
+  never_lowest none TooManyConstraints h = omega arith
+  never_lowest none (Memory e) h = absurd h
+  never_lowest none OriginLabel h = absurd (h good.origin)
+  never_lowest none (NotPlain node) h = absurd (h.here (good.plain node.0 h.inside))
+  never_lowest none (NotObserved node prop) h =
+      let names = h.0.here in
+      let o = good.observed node.0 h.0.inside names.0 names.1.0 in
+      absurd (names.1.1 o.0 o.1)
+
+  -- labels without the faults of L1 to L5
+  pub labelled_from : IsWellFormed m.base → length m.labels ≡ count m.base →
+      ((x : ℕ) → x < count m.base → IsSeenBy m.base (completed_label m x) x → ⊥) → ((x : ℕ) → x < count m.base → IsPlain (completed_label m x)) →
+      IsLabelled m
+  labelled_from base one_each none plain = record {
+    base = base;
+    one_each = one_each;
+    origin = good.origin;
+    plain = good.plain;
+    observed = good.observed;
+    no_circle = λ x p o. elim (absent_or_not (completed_label m x p)) [
+      | inl gone ↦ gone
+      | inr marked ↦ absurd (none x (observer_within m.base x p o) (p, o, marked))
+    ];
+    possible = plain;
+  }
+
+pub good_labels : (m : Labelled) → IsLabelled m → HasGoodLabels m
+good_labels m good = record { origin = good.origin; plain = good.plain; observed = good.observed }
+
+pub long_lowest : (m : Labelled) → IsLabelled m → (f : LiftError) → HasFault m f → 6 ≤ number f
+long_lowest m good (Never node) h = absurd (h.here (good.possible node.0 h.inside))
+long_lowest m good TooManyConstraints h = omega arith
+long_lowest m good (Memory e) h = absurd h
+long_lowest m good OriginLabel h = absurd (h good.origin)
+long_lowest m good (NotPlain node) h = absurd (h.here (good.plain node.0 h.inside))
+long_lowest m good (NotObserved node prop) h = let low = circle_lowest m (good_labels m good) (NotObserved node prop) h in absurd (omega (arith, low))
+long_lowest m good (Circle node) h =
+    let seen = h.here in
+    absurd (seen.2 (good.no_circle node.0 seen.0 seen.1))
+
+pub no_fault : (m : Labelled) → IsLabelled m → length (lowered m).constraints ≤ 16384 → (f : LiftError) → HasFault m f → ⊥
+no_fault m good few TooManyConstraints h = omega arith
+no_fault m good few (Memory e) h = h
+no_fault m good few OriginLabel h = let low = long_lowest m good OriginLabel h in omega (arith, low)
+no_fault m good few (NotPlain node) h = let low = long_lowest m good (NotPlain node) h in omega (arith, low)
+no_fault m good few (NotObserved node prop) h = let low = long_lowest m good (NotObserved node prop) h in omega (arith, low)
+no_fault m good few (Circle node) h = let low = long_lowest m good (Circle node) h in omega (arith, low)
+no_fault m good few (Never node) h = let low = long_lowest m good (Never node) h in omega (arith, low)
+
+-- a labelled network that is refused has too many constraints
+pub refused_is : (m : Labelled) → IsLabelled m → (e : LiftError) →
+    (number e ≡ 0) ⊎ ((e ≡ TooManyConstraints) × (16384 < length (lowered m).constraints)) → IsRefusal m e
+refused_is m good e (inl memory) = inl memory
+refused_is m good e (inr long) =
+    inr (subst (IsLowestFault m) (sym long.0) (record { has = long.1; lowest = long_lowest m good }))

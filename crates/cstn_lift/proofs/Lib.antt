@@ -1,0 +1,17 @@
+pub mod Rows
+pub mod CompletionLemmas
+pub mod LabelLemmas
+pub mod ListLemmas
+pub mod FullLemmas
+pub mod Executed
+pub mod Dichotomy
+pub mod ToLabelled
+pub mod ToPlain
+pub mod LoweredLemmas
+pub mod Equivalent
+pub mod Built
+pub mod WellFormed
+pub mod Taken
+pub mod FaultLemmas
+pub mod Twins
+pub mod Unlabelled

@@ -1,0 +1,9 @@
+use Rattle.std.proofs.Common.{ℕ, ◌<◌}
+use Rattle.std.specs.Prelude.{map}
+use Rattle.cstn_label.specs.Labels.{IsPlain}
+use Rattle.cstn_label.specs.Read.{marks}
+use Rattle.cstn_lift.specs.Labelled.{label_in}
+use Rattle.cstn_lift.proofs.scans.first_not_plain.Given as goal
+
+abbrev pub invariant-loop-x : goal.invariant-loop-x
+invariant-loop-x l = (y : ℕ) → y < l.x → IsPlain (label_in (map marks l.labels) y)

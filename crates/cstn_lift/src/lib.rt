@@ -1,0 +1,22 @@
+//! Networks whose time-points have labels, and the plain networks that they are turned into.
+#![tactic(auto)]
+
+mod completion;
+mod errors;
+mod laws;
+mod lifting;
+mod lowering;
+mod networks;
+mod scans;
+
+pub use errors::LiftError;
+pub use laws::{
+    completed_labels_are_ordered, completion_is_a_closure, defaults_give_a_labelled_strategy,
+    labels_are_decided_in_time, lowered_is_equivalent, lowered_is_well_formed,
+    twins_are_executed_alike, unlabelled_is_plain,
+};
+pub use lifting::lift;
+pub use networks::{Labelled, Labels};
+
+#[cfg(test)]
+mod tests;
