@@ -49,7 +49,6 @@ branch_calls =
     (on 64 (Open 9 false) ∷ (on 0 (Open 9 false) ∷ (on 2 (Open 0 true) ∷ (on 2 AskFile ∷ (on 7 Close ∷ (on 7 (Pass AskDue) ∷
     (on 0 AskFile ∷ (on 7 (Open 0 false) ∷ (on 7 (Pass AskDue) ∷ (on 63 (Open 0 false) ∷ []))))))))))))))))))))))))
 
-
 abbrev pub branch_answers : List HostAnswer
 branch_answers =
     Agreed ∷ (Agreed ∷ (Told (Names (0 ∷ (1 ∷ []))) ∷ (Told (Names (0 ∷ (1 ∷ []))) ∷ (Told Kept ∷

@@ -4,7 +4,7 @@ use thiserror::Error;
 
 /// Why a call of a host is refused: the first that applies, in the order `IdRange`, `IdInUse` or `NoSuchPlan`, `NoFile`, and
 /// then `Exec` or `Memory`.
-#[derive(Debug, Drop, Error)]
+#[derive(Clone, Copy, Debug, PartialEq, Eq, Error)]
 pub enum HostError {
     /// H1: the id is open already.
     #[error("the id {id} is open: close it first, or take another")]

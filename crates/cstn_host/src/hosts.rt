@@ -1,14 +1,13 @@
-ghost use Rattle.std.specs.Prelude.{◌≡◌, ◌<◌, ◌≤◌, true, length, slice_index_or, replicate, map, None, IfOk, IfErr, OnErr, []};
-ghost use Rattle.std.specs.Option.{option_map};
+ghost use Rattle.std.specs.Prelude.{◌≡◌, ◌<◌, ◌≤◌, [], length, replicate, None, IfOk, IfErr, OnErr};
 ghost use Rattle.cstn_net.specs.Networks.{count};
 ghost use Rattle.cstn_net.specs.Read.{the_network};
 ghost use Rattle.cstn_exec.specs.Runs.{start};
 ghost use Rattle.cstn_exec.specs.Examples.{Moment, See, AskDue, Names, Kept, DueAt};
-ghost use Rattle.cstn_host.specs.Hosts.{HostParts, nothing_open, case_at, named_at};
+ghost use Rattle.cstn_host.specs.Hosts.{nothing_open, named_at};
 ghost use Rattle.cstn_host.specs.Calls.{Open, AskFile, AskNamed, Pass, Close, Agreed, FileIs, Told, answer_on, host_after};
 ghost use Rattle.cstn_host.specs.Read.{the_nodes, answer_of, in_want};
 
-use crate::cases::Case;
+use crate::cases::{Case, pass_moment, pass_outcome};
 use crate::errors::HostError;
 use cstn_exec::Executive;
 use cstn_label::{NodeId, Prop};
@@ -125,13 +124,7 @@ impl Host {
         ensures plans { self.new.plans ≡ self.old.plans }
     {
         let place = place_of(id)?;
-        let Some(case) = &mut self.cases[place] else {
-            return Err(HostError::NoSuchPlan { id });
-        };
-        match case.executive.moment(t) {
-            Ok(()) => Ok(()),
-            Err(error) => Err(HostError::Exec(error)),
-        }
+        pass_moment(&mut self.cases[place], id, t)
     }
 
     /// Keeps the outcome of a proposition of the id's plan. Refused with the first that applies of `IdRange`, `NoSuchPlan`
@@ -143,13 +136,7 @@ impl Host {
         ensures plans { self.new.plans ≡ self.old.plans }
     {
         let place = place_of(id)?;
-        let Some(case) = &mut self.cases[place] else {
-            return Err(HostError::NoSuchPlan { id });
-        };
-        match case.executive.see(p, value) {
-            Ok(()) => Ok(()),
-            Err(error) => Err(HostError::Exec(error)),
-        }
+        pass_outcome(&mut self.cases[place], id, p, value)
     }
 
     /// Closes an id, and drops what it was open over. Refused with the first that applies of `IdRange` and `NoSuchPlan`.

@@ -24,7 +24,6 @@ pub fn calls_leave_other_ids()
 
 /// Two lists that have the same calls on an id, with the same want of memory, give it the same answers, whatever calls on
 /// other ids come between.
-#[tactic(auto, using(crate::proofs::OwnLemmas::apart))]
 pub fn hosts_keep_ids_apart()
     ensures apart { (plans : List PlanParts) (calls others : List CallOn) (id : ℕ) (call : Call) → calls_on id calls ≡ calls_on id others → answer_on (host_after_all (nothing_open plans) calls) id call ≡ answer_on (host_after_all (nothing_open plans) others) id call }
 {}
