@@ -1,7 +1,6 @@
 -- What is seen of a host's cases.
 use Rattle.std.proofs.Common.{◌≡◌, ◌<◌, ◌≤◌, ℕ, List, [], length, replicate, refl, ap, sym, subst, ◌∙◌, arith, true, false}
-use Rattle.std.specs.Prelude.{Option, Some, None, is_some, nat_lt, slice_index_or, slice_set, IfSome, if◌then◌else◌}
-use Rattle.std.specs.List.{All}
+use Rattle.std.specs.Prelude.{Option, Some, None, is_some, nat_lt, slice_index_or, slice_set, IfSome}
 use Rattle.std.specs.Option.{option_map}
 use Rattle.std.proofs.Math.ListN.{get_or-map}
 use Rattle.std.proofs.lemmas.List.{map-set, get_or_default, get_or-set_same, length-set, length-replicate}

@@ -1,7 +1,6 @@
 -- The answers of a host are those to each id's own calls.
 use Rattle.std.proofs.Common.{◌≡◌, ◌≢◌, ℕ, ◌<◌, List, [], ◌∷◌, ◌++◌, length, refl, ap, sym, subst, ◌∙◌, arith, Bool, true, false, not}
-use Rattle.std.specs.Prelude.{Option, Some, None, nat_lt, ◌==◌, ◌&&◌, if◌then◌else◌, slice_index_or, slice_set, replicate}
-use Rattle.std.specs.List.{filter}
+use Rattle.std.specs.Prelude.{Option, Some, None, nat_lt, ◌==◌, ◌&&◌, if◌then◌else◌, slice_index_or, slice_set}
 use Rattle.std.specs.Option.{option_map}
 use Rattle.std.proofs.lemmas.List.{get_or-set_same, get_or-set_other, get_or-replicate, length-set, length-replicate}
 use Rattle.cstn_label.specs.Bounds.{Bound}
@@ -11,7 +10,7 @@ use Rattle.cstn_exec.specs.Runs.{Run, start, named}
 use Rattle.cstn_exec.specs.Moves.{Refusal, moment_refusal, outcome_refusal}
 use Rattle.cstn_exec.specs.Examples.{Event, Moment, See, AskDue, Answer, Names, Kept, Refused, DueAt, answer_to, moment_answer, see_answer, run_after, answers_from}
 use Rattle.cstn_host.specs.Hosts.{HostParts, Opened, nothing_open, plan_at, net_at, bounds_at, case_at, opened_anew}
-use Rattle.cstn_host.specs.Calls.{Call, CallOn, Open, AskFile, AskNamed, Pass, Close, HostAnswer, Told, Denied, OutOfRange, answer_at, unless_refused, named_after, passed, case_after, answer_on, host_after, host_after_all}
+use Rattle.cstn_host.specs.Calls.{Call, CallOn, Open, AskFile, AskNamed, Pass, Close, Told, Denied, OutOfRange, answer_at, unless_refused, named_after, passed, case_after, answer_on, host_after, host_after_all, put_if, answers_to}
 use Rattle.cstn_host.specs.Own.{Own, own_with, is_on, own_calls_from, own_calls, calls_on, alone, last_from, named_from, answer_by_own, answer_by}
 use Rattle.cstn_host.specs.Examples.{on}
 
@@ -234,3 +233,73 @@ apart plans calls others id call same = answered plans calls id call ∙ ap (λ 
     own : own_calls (length plans) calls id ≡ own_calls (length plans) others id
     own = ap (λ o. if nat_lt id 64 then o else None)
         (sym (own_filtered (length plans) None calls id) ∙ ap (λ cs. own_calls_from (length plans) None cs id) same ∙ own_filtered (length plans) None others id)
+
+-- ---- all answers to an id
+
+-- two hosts that are the same to an id
+record Agree (h g : HostParts) (id : ℕ) : Type 0 where
+  same_plans : h.plans ≡ g.plans
+  same_case : case_at h id ≡ case_at g id
+  size : length h.cases ≡ 64
+  also : length g.cases ≡ 64
+
+same_answer : (h g : HostParts) (id : ℕ) (call : Call) → Agree h g id → answer_on h id call ≡ answer_on g id call
+same_answer h g id call agree =
+    ap (λ (ps : List PlanParts). if nat_lt id 64 then answer_at ps id (case_at h id) call else Denied (OutOfRange id)) agree.same_plans
+    ∙ ap (λ o. if nat_lt id 64 then answer_at g.plans id o call else Denied (OutOfRange id)) agree.same_case
+
+same_after : (h g : HostParts) (id : ℕ) (call : Call) → Agree h g id → Agree (host_after h id call) (host_after g id call) id
+same_after h g id call agree = record {
+  same_plans = agree.same_plans;
+  same_case = at (nat_lt id 64) refl;
+  size = as_many h id call ∙ agree.size;
+  also = as_many g id call ∙ agree.also;
+}
+  where
+    at : (b : Bool) → nat_lt id 64 ≡ b → slice_index_or (if b then slice_set h.cases id (case_after h.plans (case_at h id) call) else h.cases) id None ≡ slice_index_or (if b then slice_set g.cases id (case_after g.plans (case_at g id) call) else g.cases) id None
+    at true is =
+        let small = below_is id 64 is in
+        let size = agree.size in
+        let also = agree.also in
+        get_or-set_same h.cases id (case_after h.plans (case_at h id) call) None (omega arith)
+        ∙ ap (λ (ps : List PlanParts). case_after ps (case_at h id) call) agree.same_plans
+        ∙ ap (λ o. case_after g.plans o call) agree.same_case
+        ∙ sym (get_or-set_same g.cases id (case_after g.plans (case_at g id) call) None (omega arith))
+    at false is = agree.same_case
+
+-- a call on another id makes no difference
+same_still : (h g : HostParts) (id other : ℕ) (call : Call) → id ≢ other → Agree h g id → Agree (host_after h other call) g id
+same_still h g id other call apart agree = record {
+  same_plans = agree.same_plans;
+  same_case = leaves_case h other id call apart ∙ agree.same_case;
+  size = as_many h other call ∙ agree.size;
+  also = agree.also;
+}
+
+-- the answers to an id are those to its calls alone
+to_its_calls : (h g : HostParts) (calls : List CallOn) (id : ℕ) → Agree h g id → answers_to id h calls ≡ answers_to id g (calls_on id calls)
+to_its_calls h g [] id agree = refl
+to_its_calls h g (c ∷ cs) id agree = at (c.id == id) refl (λ k l same. to_its_calls k l cs id same)
+  where
+    at : (b : Bool) → (c.id == id) ≡ b → ((k l : HostParts) → Agree k l id → answers_to id k cs ≡ answers_to id l (calls_on id cs)) → answers_to id h (c ∷ cs) ≡ answers_to id g (calls_on id (c ∷ cs))
+    at true is rest =
+        let same = same_is c.id id is in
+        let agreed = subst (λ (k : ℕ). Agree h g k) (sym same) agree in
+        let after = subst (λ (k : ℕ). Agree (host_after h c.id c.call) (host_after g c.id c.call) k) same (same_after h g c.id c.call agreed) in
+        ap (λ b. put_if b (answer_on h c.id c.call) (answers_to id (host_after h c.id c.call) cs)) is
+        ∙ ap (λ a. a ∷ answers_to id (host_after h c.id c.call) cs) (same_answer h g c.id c.call agreed)
+        ∙ ap (λ more. answer_on g c.id c.call ∷ more) (rest (host_after h c.id c.call) (host_after g c.id c.call) after)
+        ∙ ap (λ b. put_if b (answer_on g c.id c.call) (answers_to id (host_after g c.id c.call) (calls_on id cs))) (sym is)
+        ∙ ap (λ b. answers_to id g (if b then c ∷ calls_on id cs else calls_on id cs)) (sym is)
+    at false is rest =
+        ap (λ b. put_if b (answer_on h c.id c.call) (answers_to id (host_after h c.id c.call) cs)) is
+        ∙ rest (host_after h c.id c.call) g (same_still h g id c.id c.call (other_is c.id id is) agree)
+        ∙ ap (λ b. answers_to id g (if b then c ∷ calls_on id cs else calls_on id cs)) (sym is)
+
+pub each_apart : (plans : List PlanParts) (calls others : List CallOn) (id : ℕ) → calls_on id calls ≡ calls_on id others → answers_to id (nothing_open plans) calls ≡ answers_to id (nothing_open plans) others
+each_apart plans calls others id same =
+    let first = nothing_open plans in
+    to_its_calls first first calls id agree ∙ ap (answers_to id first) same ∙ sym (to_its_calls first first others id agree)
+  where
+    agree : Agree (nothing_open plans) (nothing_open plans) id
+    agree = record { same_plans = refl; same_case = refl; size = length-replicate {A = Option Opened} 64 None; also = length-replicate {A = Option Opened} 64 None }

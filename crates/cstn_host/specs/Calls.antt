@@ -1,5 +1,5 @@
 -- The calls of a host, what is answered to each, and the host that follows.
-use Rattle.std.specs.Prelude.{ℕ, Bool, nat_lt, if◌then◌else◌, List, [], ◌∷◌, Option, Some, None, length, slice_set}
+use Rattle.std.specs.Prelude.{ℕ, Bool, true, false, ◌==◌, nat_lt, if◌then◌else◌, List, [], ◌∷◌, Option, Some, None, length, slice_set}
 use Rattle.cstn_label.specs.Bounds.{Bound}
 use Rattle.cstn_net.specs.Networks.{Network}
 use Rattle.cstn_log.specs.Plans.{PlanParts}
@@ -109,3 +109,12 @@ host_after_all host (c ∷ cs) = host_after_all (host_after host c.id c.call) cs
 abbrev pub answers_on : HostParts → List CallOn → List HostAnswer
 answers_on host [] = []
 answers_on host (c ∷ cs) = answer_on host c.id c.call ∷ answers_on (host_after host c.id c.call) cs
+
+abbrev pub put_if : Bool → HostAnswer → List HostAnswer → List HostAnswer
+put_if true a more = a ∷ more
+put_if false a more = more
+
+-- what is answered to the calls on one id, of a list of calls on any
+abbrev pub answers_to : ℕ → HostParts → List CallOn → List HostAnswer
+answers_to id host [] = []
+answers_to id host (c ∷ cs) = put_if (c.id == id) (answer_on host c.id c.call) (answers_to id (host_after host c.id c.call) cs)

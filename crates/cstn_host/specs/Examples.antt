@@ -4,7 +4,6 @@ use Rattle.std.proofs.Common.{lit<}
 use Rattle.cstn_label.specs.declared.props.Prop.{Prop}
 use Rattle.cstn_label.specs.declared.labels.Label.{Label}
 use Rattle.cstn_label.specs.declared.bounds.Bound.{Bound}
-use Rattle.cstn_net.specs.declared.points.TimePoint.{TimePoint}
 use Rattle.cstn_log.specs.Plans.{PlanParts}
 use Rattle.cstn_exec.specs.Moves.{Done}
 use Rattle.cstn_exec.specs.Examples.{Moment, See, AskDue, Names, Kept, Refused, DueAt}

@@ -1,9 +1,8 @@
 -- An id's own calls, and what an executive that has only these would answer.
-use Rattle.std.specs.Prelude.{ℕ, Bool, nat_lt, ◌==◌, ◌&&◌, not, if◌then◌else◌, List, [], ◌∷◌, ◌++◌, Option, Some, None, length}
+use Rattle.std.specs.Prelude.{ℕ, Bool, nat_lt, ◌==◌, ◌&&◌, not, if◌then◌else◌, List, [], ◌∷◌, ◌++◌, Option, Some, None}
 use Rattle.std.specs.List.{filter}
 use Rattle.cstn_net.specs.Read.{the_network}
 use Rattle.cstn_log.specs.Plans.{PlanParts, the_bounds}
-use Rattle.cstn_exec.specs.Moves.{Refusal}
 use Rattle.cstn_exec.specs.Examples.{Event, Answer, Names, Kept, Refused, DueAt, answers}
 use Rattle.cstn_host.specs.Hosts.{plan_at}
 use Rattle.cstn_host.specs.Calls.{Call, Open, AskFile, AskNamed, Pass, Close, CallOn, HostAnswer, FileIs, Told, Agreed, Denied, NotOpen, InUse, OutOfRange, opening_answer}

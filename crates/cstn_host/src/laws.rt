@@ -3,7 +3,7 @@
 ghost use Rattle.std.specs.Prelude.{ℕ, ◌≡◌, ◌≢◌, ◌<◌, ◌++◌, [], ◌∷◌, List, Bool, Some, false, length};
 ghost use Rattle.cstn_log.specs.Plans.{PlanParts};
 ghost use Rattle.cstn_host.specs.Hosts.{HostParts, nothing_open, case_at};
-ghost use Rattle.cstn_host.specs.Calls.{Call, CallOn, Open, Close, answer_on, host_after, host_after_all, answers_on};
+ghost use Rattle.cstn_host.specs.Calls.{Call, CallOn, Open, Close, answer_on, host_after, host_after_all, answers_on, answers_to};
 ghost use Rattle.cstn_host.specs.Own.{own_calls, calls_on, answer_by};
 ghost use Rattle.cstn_host.specs.Examples.{branch, branch_calls, branch_answers, on};
 
@@ -23,8 +23,9 @@ pub fn calls_leave_other_ids()
 {}
 
 /// Two lists that have the same calls on an id, with the same want of memory, give it the same answers, whatever calls on
-/// other ids come between.
+/// other ids come between: each call in them, and any call after them.
 pub fn hosts_keep_ids_apart()
+    ensures each { (plans : List PlanParts) (calls others : List CallOn) (id : ℕ) → calls_on id calls ≡ calls_on id others → answers_to id (nothing_open plans) calls ≡ answers_to id (nothing_open plans) others }
     ensures apart { (plans : List PlanParts) (calls others : List CallOn) (id : ℕ) (call : Call) → calls_on id calls ≡ calls_on id others → answer_on (host_after_all (nothing_open plans) calls) id call ≡ answer_on (host_after_all (nothing_open plans) others) id call }
 {}
 

@@ -4,7 +4,6 @@ use Rattle.cstn_net.specs.Networks.{count}
 use Rattle.cstn_net.specs.Read.{the_network}
 use Rattle.cstn_log.specs.Plans.{PlanParts}
 use Rattle.cstn_exec.specs.Runs.{start}
-use Rattle.cstn_exec.specs.Read.{ExecParts}
 use Rattle.cstn_host.specs.Hosts.{HostParts, no_plan}
 use Rattle.cstn_host.specs.Calls.{Open, host_after}
 use Rattle.cstn_host.proofs.CaseLemmas.{after_put, opened_on, is_closed}
