@@ -22,7 +22,7 @@ use Rattle.cstn_lines.specs.EditLines.{Edit, added, removed, changed, asked, id_
 use Rattle.cstn_lines.proofs.LiveLemmas.{joined_cut}
 
 -- no byte of a part is a space
-part_free : (text : List ℕ) → All (λ b. 32 < b) text → list_all (λ b. not (b == 32)) text ≡ true
+pub part_free : (text : List ℕ) → All (λ b. 32 < b) text → list_all (λ b. not (b == 32)) text ≡ true
 part_free [] high = refl
 part_free (b ∷ bytes) high =
     let first : not (b == 32) ≡ true = other b (high 0 0 (omega arith)) in
@@ -37,7 +37,7 @@ word_back word rest other part = ap (λ check. if check then Some asked else opt
 chosen : (n : ℕ) → n < 2 ^ 32 → (if nat_lt n (2 ^ 32) then Some n else None) ≡ Some n
 chosen n small = grind arith
 
-id_back : (id : ℕ) → id < 2 ^ 32 → id_read (printed_number id) ≡ Some id
+pub id_back : (id : ℕ) → id < 2 ^ 32 → id_read (printed_number id) ≡ Some id
 id_back id small = ap (option_and_then (λ n. if nat_lt n (2 ^ 32) then Some n else None)) (number_back id (omega arith)) ∙ chosen id small
 
 abbrev with_value : List ℕ × List ℕ → Option Edit
@@ -90,11 +90,11 @@ same_line : (a b : Edit) (text : List ℕ) → a ≡ b → IsWritten a text → 
 same_line a b text e is = subst (λ (line : Edit). IsWritten line text) e is
 
 -- what a reading that goes on, or one that makes something of what was read, came from
-binds : {A B : Type 0} (f : A → Option B) (o : Option A) (b : B) → option_and_then f o ≡ Some b → (a : A) × (o ≡ Some a) × (f a ≡ Some b)
+pub binds : {A B : Type 0} (f : A → Option B) (o : Option A) (b : B) → option_and_then f o ≡ Some b → (a : A) × (o ≡ Some a) × (f a ≡ Some b)
 binds f None b is = absurd (cc)
 binds f (Some a) b is = (a, refl, is)
 
-maps : {A B : Type 0} (f : A → B) (o : Option A) (b : B) → option_map f o ≡ Some b → (a : A) × (o ≡ Some a) × (f a ≡ b)
+pub maps : {A B : Type 0} (f : A → B) (o : Option A) (b : B) → option_map f o ≡ Some b → (a : A) × (o ≡ Some a) × (f a ≡ b)
 maps f None b is = absurd (cc)
 maps f (Some a) b is = (a, refl, just (f a) b is)
   where
@@ -102,10 +102,10 @@ maps f (Some a) b is = (a, refl, just (f a) b is)
     just x y e = cc
 
 -- a text in two parts, of which the first is printed and the second is known
-spaced : (text left right printed more : List ℕ) → text ≡ left ++ 32 ∷ right → printed ≡ left → right ≡ more → text ≡ printed ++ 32 ∷ more
+pub spaced : (text left right printed more : List ℕ) → text ≡ left ++ 32 ∷ right → printed ≡ left → right ≡ more → text ≡ printed ++ 32 ∷ more
 spaced text left right printed more parts first second = parts ∙ ap (λ bs. bs ++ 32 ∷ right) (sym first) ∙ ap (λ bs. printed ++ 32 ∷ bs) second
 
-id_only : (text : List ℕ) (id : ℕ) → id_read text ≡ Some id → (printed_number id ≡ text) × (id < 2 ^ 32)
+pub id_only : (text : List ℕ) (id : ℕ) → id_read text ≡ Some id → (printed_number id ≡ text) × (id < 2 ^ 32)
 id_only text id is =
     let number = binds (λ n. if nat_lt n (2 ^ 32) then Some n else None) (number_read text) id is in
     let same = below number.0 id number.2 in

@@ -88,7 +88,8 @@ fn read_id_line(word: &[u8], operands: &[u8]) -> Option<EditLine>
     None
 }
 
-fn read_id(bytes: &[u8]) -> Option<u32>
+// A number of at most 4,294,967,295.
+pub fn read_id(bytes: &[u8]) -> Option<u32>
     ensures { result ≡ id_read bytes.now }
 {
     let n = read_number(bytes)?;

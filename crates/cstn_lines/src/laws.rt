@@ -2,6 +2,7 @@
 ghost use Rattle.std.specs.Prelude.{◌≡◌, ◌⊎◌, ◌++◌, [], ◌∷◌, ℕ, List, Some};
 ghost use Rattle.cstn_lines.specs.Pieces.{lines_of, joined};
 ghost use Rattle.cstn_lines.specs.EditLines.{Edit, IsEdit, IsTextOf, edit_read, printed_edit};
+ghost use Rattle.cstn_lines.specs.HostLines.{Hosted, IsHosted, host_read, printed_hosted};
 ghost use Rattle.cstn_lines.specs.LiveLines.{Live, IsLive, live_read, printed_live};
 
 /// Each live line has one text.
@@ -19,6 +20,14 @@ pub fn edit_lines_are_read_back()
     ensures back { (line : Edit) → IsEdit line → edit_read (printed_edit line) ≡ Some line }
     ensures only { (text : List ℕ) (line : Edit) → edit_read text ≡ Some line → IsTextOf line text }
     ensures edit { (text : List ℕ) (line : Edit) → edit_read text ≡ Some line → IsEdit line }
+{}
+
+/// Each host line has one text.
+#[tactic(auto, using(crate::proofs::HostLemmas::host_back, crate::proofs::HostLemmas::host_only, crate::proofs::HostLemmas::host_is))]
+pub fn host_lines_have_one_text()
+    ensures back { (line : Hosted) → IsHosted line → host_read (printed_hosted line) ≡ Some line }
+    ensures only { (text : List ℕ) (line : Hosted) → host_read text ≡ Some line → printed_hosted line ≡ text }
+    ensures hosted { (text : List ℕ) (line : Hosted) → host_read text ≡ Some line → IsHosted line }
 {}
 
 /// The lines of some bytes, each with its LF, are these bytes, but for the last LF, which they may lack.

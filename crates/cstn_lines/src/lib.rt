@@ -2,13 +2,18 @@
 #![tactic(auto)]
 
 mod edits;
+mod hosts;
 mod laws;
 mod lines;
 mod live;
 mod places;
 
 pub use edits::{EditLine, NameText, read_edit};
-pub use laws::{edit_lines_are_read_back, joined_lines_are_the_bytes, live_lines_have_one_text};
+pub use hosts::{HostLine, read_host};
+pub use laws::{
+    edit_lines_are_read_back, host_lines_have_one_text, joined_lines_are_the_bytes,
+    live_lines_have_one_text,
+};
 pub use lines::{Lines, Next};
 pub use live::{LiveLine, read_live};
 

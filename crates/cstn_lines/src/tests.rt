@@ -1,6 +1,6 @@
 ghost use Rattle.std.specs.Prelude.{◌<◌};
 
-use crate::{EditLine, Lines, LiveLine, Next, read_edit, read_live};
+use crate::{EditLine, HostLine, Lines, LiveLine, Next, read_edit, read_host, read_live};
 use cstn_io::MemorySource;
 use cstn_label::{Label, Mark, Prop};
 use std::alloc::{AllocError, Global};
@@ -196,5 +196,45 @@ fn edit_lines(rt: HostRuntime) -> Result<(), Fail> {
     assert!(rt; is_no_edit(alloc, b"add P Z +5 -")?);
     assert!(rt; is_no_edit(alloc, b"remove 4294967296")?);
     assert!(rt; is_no_edit(alloc, b"check ")?);
+    Ok(())
+}
+
+// These bytes are no host line.
+fn expect_no_host(rt: &impl Abort, bytes: &[u8]) {
+    assert_eq!(rt; read_host(bytes), None);
+}
+
+#[test]
+fn host_lines(rt: HostRuntime) -> Result<(), Fail> {
+    assert_eq!(rt;
+        read_host(b"open 0 0"),
+        Some(HostLine::Open { id: 0, file: 0 })
+    );
+    assert_eq!(rt;
+        read_host(b"on 7 moment 0"),
+        Some(HostLine::On {
+            id: 7,
+            line: LiveLine::Moment { t: 0 }
+        })
+    );
+    let seen = Prop::from_letter(b'p').map(|prop| LiveLine::See { prop, value: false });
+    let seen = seen.map(|line| HostLine::On { id: 0, line });
+    assert_eq!(rt; read_host(b"on 0 see p false"), seen);
+    assert_eq!(rt;
+        read_host(b"on 7 due"),
+        Some(HostLine::On {
+            id: 7,
+            line: LiveLine::Due
+        })
+    );
+    assert_eq!(rt; read_host(b"close 7"), Some(HostLine::Close { id: 7 }));
+    expect_no_host(&rt, b"on 0 check");
+    expect_no_host(&rt, b"on 3 open 1 1");
+    expect_no_host(&rt, b"on 0 on 0 due");
+    expect_no_host(&rt, b"open 0");
+    expect_no_host(&rt, b"open 0 4294967296");
+    expect_no_host(&rt, b"open 00 0");
+    expect_no_host(&rt, b"close 7 ");
+    expect_no_host(&rt, b"due");
     Ok(())
 }

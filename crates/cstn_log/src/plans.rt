@@ -1,4 +1,4 @@
-ghost use Rattle.std.specs.Prelude.{◌≡◌, ◌<◌, ◌^◌, Some, length, slice_get};
+ghost use Rattle.std.specs.Prelude.{◌≡◌, ◌<◌, ◌^◌, Some, length, slice_get, IfOk};
 ghost use Rattle.cstn_label.specs.Read.{marks, the_bound};
 ghost use Rattle.cstn_net.specs.Networks.{IsOnObserved, IsWellFormed, count};
 ghost use Rattle.cstn_net.specs.Strategies.{Table, IsStrategy, IsConsistent};
@@ -10,6 +10,7 @@ ghost use Rattle.cstn_log.specs.Plans.{PlanParts, the_bounds, IsEarliest};
 
 use cstn_label::Bound;
 use cstn_net::Network;
+use std::alloc::{AllocError, Global};
 use std::marker::Model;
 
 /// A network and a list of bounds that is closed for it: whatever a rule gives from them is
@@ -50,6 +51,14 @@ impl Plan {
         ensures closed { IsClosed (the_network result.now) (the_bounds self.now.bounds) }
     {
         &self.net
+    }
+
+    // The bounds once more.
+    fn copy_bounds(&self, alloc: Global) -> Result<Vec<Bound>, AllocError>
+        ensures equal { IfOk result (λ bounds. bounds.items ≡ self.now.bounds) }
+        ensures few { length self.now.bounds < 2 ^ 32 }
+    {
+        Vec::from_slice(alloc, &self.bounds)
     }
 
     /// How many bounds there are.
@@ -101,6 +110,15 @@ impl SoundPlan {
         SoundPlan {
             plan: Plan::adopt(net, bounds),
         }
+    }
+
+    /// An equal plan: its network has no room for more constraints. Fails for want of memory alone.
+    pub fn copy(&self, alloc: Global) -> Result<SoundPlan, AllocError>
+        ensures equal { IfOk result (λ p. p ≡ record { net = record self.now.net { spare = 0 }; bounds = self.now.bounds }) }
+    {
+        let net = self.network().copy(alloc)?;
+        let bounds = self.plan.copy_bounds(alloc)?;
+        Ok(SoundPlan::new(net, bounds))
     }
 
     /// The network. It is consistent: one strategy has each time-point at its least moment in every

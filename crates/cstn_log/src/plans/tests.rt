@@ -44,5 +44,8 @@ fn the_plan_of_the_origin(rt: HostRuntime) -> Result<(), AllocError> {
     let plan = origin_plan(rt.alloc(), net)?.expect(&rt, "a plan");
     assert_eq!(rt; plan.network().deadline(), 5);
     assert_eq!(rt; first(&plan), Some(base_of_origin()));
+    let copy = plan.copy(rt.alloc())?;
+    assert_eq!(rt; copy.network().deadline(), 5);
+    assert_eq!(rt; first(&copy), Some(base_of_origin()));
     Ok(())
 }
