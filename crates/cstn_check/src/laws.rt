@@ -10,7 +10,9 @@ ghost use Rattle.cstn_rules.specs.Derivations.{Entry, IsDerivation};
 ghost use Rattle.cstn_rules.specs.Rules.{Refutes};
 ghost use Rattle.cstn_log.specs.Entries.{bases};
 ghost use Rattle.cstn_check.specs.Examples.{HasLog, Shows, of_two_marks, after, before, prompt, branch_and, crossed_and, unknown_mark, process, drawn, crossed_lines, unknown_mark_lines, process_lines};
-ghost use Rattle.cstn_check.specs.Growth.{grown, grow, log_of, load_of, most_entries, is_refuted, live_bounds};
+ghost use Rattle.cstn_check.specs.Growth.{Instance, grown, grow, log_of, load_of, most_entries, is_refuted, live_bounds};
+ghost use Rattle.cstn_check.specs.Kept.{IsKept};
+ghost use Rattle.cstn_check.specs.Spent.{HasPremises, IsSpent, AreSpent};
 
 /// The load is at most n * 4^k * (H + 2): n time-points, k observed propositions, H the deadline.
 pub fn growth_is_bounded()
@@ -33,6 +35,16 @@ pub fn growth_decides()
     ensures closed { (net : Network) → IsWellFormed net → is_refuted net (log_of net) ≡ false → IsClosed net (live_bounds (log_of net)) }
     ensures decides { (net : Network) → IsWellFormed net → (IsConsistent net ↔ (is_refuted net (log_of net) ≡ false)) }
     ensures least { (net : Network) → IsWellFormed net → IsConsistent net → (table : Table) × IsStrategy net table × ((s : Scenario) (x : ℕ) → x < count net → IsLeast net s x (table s x)) }
+{}
+
+/// An instance that is spent stays spent while the list grows.
+pub fn spent_instances_stay_spent()
+    ensures { (net : Network) (list more : List Entry) (i : Instance) → HasPremises list i → IsSpent net list i → IsSpent net (list ++ more) i }
+{}
+
+/// Once a list is grown and no entry refutes, each instance on its entries is spent.
+pub fn grown_lists_are_spent()
+    ensures { (net : Network) (list : List Entry) (fresh : List ℕ) → IsWellFormed net → IsKept net list → is_refuted net (grow net list) ≡ false → AreSpent net (grow net list) fresh (length (grow net list)) }
 {}
 
 /// The loads of small networks, and whether their logs refute.
