@@ -22,13 +22,13 @@ use Rattle.cstn_check.proofs.Lists.{covered_kept, itself_true, live_over, live_l
 use Rattle.cstn_check.proofs.Grows.{Has, has_left, has_right, grown_extends, all_spent}
 use Rattle.cstn_check.proofs.GoodLemmas.{good_at, good_small, grown_good}
 
-has_chain : (cs : List Constraint) (c : Constraint) (k j : ℕ) → k < length cs → get_or cs k c ≡ c →
+pub has_chain : (cs : List Constraint) (c : Constraint) (k j : ℕ) → k < length cs → get_or cs k c ≡ c →
     Has (map (λ d. chain_at d j) cs) (chain_at c j)
 has_chain [] c k j h e = absurd (omega arith)
 has_chain (x ∷ xs) c zero j h e = inl (ap (λ d. chain_at d j) e)
 has_chain (x ∷ xs) c (suc k) j h e = inr (has_chain xs c k j (omega arith) e)
 
-has_waits : (n i j : ℕ) → i < n → Has (waits_below n j) (wait_at i j) × Has (waits_below n j) (wait_at j i)
+pub has_waits : (n i j : ℕ) → i < n → Has (waits_below n j) (wait_at i j) × Has (waits_below n j) (wait_at j i)
 has_waits zero i j h = absurd (omega arith)
 has_waits (suc n) i j h = elim (cases_lt i n) [
   | inl below ↦

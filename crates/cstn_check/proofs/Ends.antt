@@ -14,7 +14,7 @@ use Rattle.cstn_check.proofs.Bounded.{bases_kept, grown_short}
 use Rattle.cstn_check.proofs.Last.{refuted_stays}
 
 module _ (net : Network) (wf : IsNetwork net) (letters : HasLetters net) (list : List Entry) (kept : IsKept net list) where
-  all_turns : length (grow net list) ≤ length list + most_entries net
+  pub all_turns : length (grow net list) ≤ length list + most_entries net
   all_turns = let s = grown_short net wf letters list (length list + most_entries net) kept in omega arith
 
   -- after further turns than growth takes, the list is the same

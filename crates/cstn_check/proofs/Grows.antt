@@ -11,16 +11,8 @@ use Rattle.cstn_rules.specs.Derivations.{Entry}
 use Rattle.cstn_check.specs.Tests.{dominates, refutes, chain_of, wait_of}
 use Rattle.cstn_check.specs.Growth.{Instance, why_of, is_covered, is_live, is_refuted, premises_live, of_one, of_two, conclusion, with_conclusion, step, tried, waits_below, turn, grown}
 use Rattle.cstn_check.specs.Growth.Instance.{chain_at, wait_at}
+use Rattle.cstn_check.specs.Spent.{HasPremises, IsSpent}
 use Rattle.cstn_check.proofs.Lists.{Extends, extends_itself, extends_through, get_kept, length_upto, none_before, covered_kept, live_before, itself_true}
-
--- the premises of an instance are entries of the list
-abbrev pub HasPremises : List Entry → Instance → Type 0
-HasPremises list (chain_at c j) = j < length list
-HasPremises list (wait_at i j) = (i < length list) × (j < length list)
-
--- nothing is left to do for an instance: what it gives from live premises is covered
-abbrev pub Spent : Network → List Entry → Instance → Type 0
-Spent net list i = (r : Bound) → conclusion net list i ≡ Some r → premises_live list i ≡ true → is_covered list r ≡ true
 
 within_more : (L G : List Entry) (i : Instance) → Extends L G → HasPremises L i → HasPremises G i
 within_more L G (chain_at c j) e w = let l = length_upto L G e in omega arith
@@ -40,7 +32,7 @@ premises_before L G (wait_at i j) e w h =
     let both = and_parts (is_live G i) (is_live G j) h in
     and_from (is_live L i) (is_live L j) (live_before L G i e w.0 both.0) (live_before L G j e w.1 both.1)
 
-pub spent_kept : (net : Network) (L G : List Entry) (i : Instance) → Extends L G → HasPremises L i → Spent net L i → Spent net G i
+pub spent_kept : (net : Network) (L G : List Entry) (i : Instance) → Extends L G → HasPremises L i → IsSpent net L i → IsSpent net G i
 spent_kept net L G i e w spent = λ r gives live.
     covered_kept L G r e (spent r (sym (conclusion_kept net L G i e w) ∙ gives) (premises_before L G i e w live))
 
@@ -59,18 +51,18 @@ step_extends net L i = elim (cases_Bool (is_refuted net L)) [
 ]
 
 with_spent : (net : Network) (L : List Entry) (i : Instance) (o : Option Bound) → conclusion net L i ≡ o → HasPremises L i →
-    Spent net (with_conclusion L i o) i
+    IsSpent net (with_conclusion L i o) i
 with_spent net L i None e w = λ r gives live. let f : ⊥ = cc in absurd f
 with_spent net L i (Some r) e w = elim (cases_Bool (premises_live L i && not (is_covered L r))) [
   | inl new ↦
       let G = L ++ record { bound = r; why = why_of i } ∷ [] in
       let ext : Extends L G = record { more = record { bound = r; why = why_of i } ∷ []; is = refl } in
-      subst (λ l. Spent net l i) (sym (cond-true _ _ _ new)) (λ q gives live.
+      subst (λ l. IsSpent net l i) (sym (cond-true _ _ _ new)) (λ q gives live.
       let same : r ≡ q = let k = conclusion_kept net L G i ext w in cc in
       subst (λ q. is_covered G q ≡ true) same
       (list_any-append (λ x. dominates x.bound r) L (record { bound = r; why = why_of i } ∷ [])
       ∙ or_right (is_covered L r) (dominates r r || false) (ap (λ b. b || false) (itself_true r))))
-  | inr old ↦ subst (λ l. Spent net l i) (sym (cond-false _ _ _ old)) (λ q gives live.
+  | inr old ↦ subst (λ l. IsSpent net l i) (sym (cond-false _ _ _ old)) (λ q gives live.
       let same : r ≡ q = cc in
       subst (λ q. is_covered L q ≡ true) same (covered_from (premises_live L i) (is_covered L r) old live))
 ]
@@ -79,11 +71,11 @@ with_spent net L i (Some r) e w = elim (cases_Bool (premises_live L i && not (is
     covered_from p c h k = grind arith
 
 step_spent : (net : Network) (L : List Entry) (i : Instance) → is_refuted net (step net L i) ≡ false → HasPremises L i →
-    Spent net (step net L i) i
+    IsSpent net (step net L i) i
 unfolding step
 step_spent net L i h w =
     let on = none_before (λ x. refutes net x.bound) L (step net L i) (step_extends net L i) h in
-    subst (λ G. Spent net G i) (sym (cond-false _ _ _ on)) (with_spent net L i (conclusion net L i) refl w)
+    subst (λ G. IsSpent net G i) (sym (cond-false _ _ _ on)) (with_spent net L i (conclusion net L i) refl w)
 
 pub tried_extends : (net : Network) (is : List Instance) (L : List Entry) → Extends L (tried net L is)
 tried_extends net [] L = extends_itself L
@@ -103,7 +95,7 @@ has_right [] ys i h = h
 has_right (x ∷ xs) ys i h = inr (has_right xs ys i h)
 
 tried_spent : (net : Network) (is : List Instance) (L : List Entry) (i : Instance) →
-    is_refuted net (tried net L is) ≡ false → Has is i → HasPremises L i → Spent net (tried net L is) i
+    is_refuted net (tried net L is) ≡ false → Has is i → HasPremises L i → IsSpent net (tried net L is) i
 tried_spent net [] L i h has w = absurd has
 tried_spent net (x ∷ xs) L i h has w =
     let ext = tried_extends net xs (step net L x) in
@@ -111,7 +103,7 @@ tried_spent net (x ∷ xs) L i h has w =
     elim has [
       | inl e ↦
           let wx = subst (λ y. HasPremises L y) (sym e) w in
-          subst (λ y. Spent net (tried net (step net L x) xs) y) e
+          subst (λ y. IsSpent net (tried net (step net L x) xs) y) e
           (spent_kept net (step net L x) (tried net (step net L x) xs) x ext
           (within_more L (step net L x) x (step_extends net L x) wx) (step_spent net L x on wx))
       | inr t ↦ tried_spent net xs (step net L x) i h t (within_more L (step net L x) i (step_extends net L x) w)
@@ -195,7 +187,7 @@ grown_idle net L n (suc m) done h = elim (cases_lt m n) [
 -- where all turns are done and no entry refutes, each instance of a turn whose premises are there is spent
 pub all_spent : (net : Network) (L : List Entry) (n j : ℕ) (i : Instance) → length (grown net L n) ≤ n →
     is_refuted net (grown net L n) ≡ false → j < length (grown net L n) → Has (turn net j) i →
-    ((M : List Entry) → j < length M → HasPremises M i) → Spent net (grown net L n) i
+    ((M : List Entry) → j < length M → HasPremises M i) → IsSpent net (grown net L n) i
 all_spent net L n j i done on here has within =
     elim (cases_lt j (length (grown net L j))) [
       | inr short ↦

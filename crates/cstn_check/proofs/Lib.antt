@@ -23,3 +23,5 @@ pub mod VerdictLemmas
 pub mod Keeping
 pub mod PlanLemmas
 pub mod PartLemmas
+pub mod SpentLemmas
+pub mod CostLemmas

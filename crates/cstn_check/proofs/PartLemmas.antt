@@ -13,7 +13,8 @@ use Rattle.cstn_rules.specs.Derivations.{Entry, IsRefutation}
 use Rattle.cstn_rules.specs.Read.{the_entry}
 use Rattle.cstn_log.specs.Entries.{the_entries}
 use Rattle.cstn_log.specs.Cuts.{rank, last_marked, with_ancestors, part}
-use Rattle.cstn_log.proofs.CutLemmas.{rank_marked, rank_unmarked, length_cut, comes}
+use Rattle.cstn_log.proofs.ChoiceLemmas.{rank_marked, rank_unmarked}
+use Rattle.cstn_log.proofs.CutLemmas.{length_cut, comes}
 use Rattle.cstn_log.proofs.MarkLemmas.{part_refutation}
 use Rattle.cstn_refute.specs.Refutations.{RefutationParts, IsStep, AreSteps, FitsText, the_steps}
 use Rattle.cstn_check.specs.Growth.{log_of}

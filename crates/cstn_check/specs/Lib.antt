@@ -1,5 +1,6 @@
 pub mod Tests
 pub mod Growth
+pub mod Spent
 pub mod Examples
 pub mod Kept
 pub mod Turns

@@ -1,4 +1,5 @@
 ghost use Rattle.std.specs.Prelude.{◌≡◌, ◌+◌, ◌<◌, ◌≤◌, ◌^◌, ◌++◌, ◌↔◌, true, false, length, take, List};
+ghost use Rattle.cstn_check.specs.Spent.{AreSpent, fresh_count, most_tries};
 ghost use Rattle.cstn_net.specs.Networks.{count};
 ghost use Rattle.cstn_net.specs.Read.{the_network};
 ghost use Rattle.cstn_rules.specs.Derivations.{Entry as TheEntry, IsDerivation};
@@ -43,21 +44,52 @@ pub fn grow(net: &Network, log: &mut Log, tries: &mut Tries) -> Grown
 {
     is_well_formed(net);
     let _all_new = log.len();
-    grow_kept(net, log, tries)
+    grow_kept(net, log, &[], 0, tries)
 }
 
-// Grows a list in which no entry refutes.
-fn grow_open(net: &Network, log: &mut Log, tries: &mut Tries) -> Grown
+/// Grows the list of the log as [`grow`] does, where each instance on its entries is spent, but for chains of constraints with
+/// fresh ids: what it gives from live premises is dominated by some entry. So of all these only chains of fresh constraints
+/// are tried.
+pub fn grow_on(net: &Network, log: &mut Log, fresh: &[u32], tries: &mut Tries) -> Grown
+    requires nodes { log.old.nodes ≡ count (the_network net.now) }
+    requires derivation { IsDerivation (the_network net.now) (the_entries log.old.entries) }
+    requires bases { (more : List TheEntry) × (bases (count (the_network net.now)) ++ more ≡ the_entries log.old.entries) }
+    requires last { IsRefutedLast (the_network net.now) (the_entries log.old.entries) }
+    requires births { log.old.births < 2 ^ 61 }
+    requires spent { AreSpent (the_network net.now) (the_entries log.old.entries) fresh.now (length log.old.entries) }
+
+    ensures full { result ≡ Grown.Full ↔ (log.old.cap < length (grow (the_network net.now) (the_entries log.old.entries))) }
+    ensures cut { result ≡ Grown.Full → the_entries log.new.entries ≡ take log.old.cap (grow (the_network net.now) (the_entries log.old.entries)) }
+    ensures grown { (result ≡ Grown.Full → ⊥) → the_entries log.new.entries ≡ grow (the_network net.now) (the_entries log.old.entries) }
+    ensures refuted { result ≡ Grown.Refuted ↔ ((result ≡ Grown.Full → ⊥) × LastRefutes (the_network net.now) (the_entries log.new.entries)) }
+
+    ensures births { log.new.births ≤ log.old.births + log.old.cap }
+    ensures size { (log.new.cap ≡ log.old.cap) × (log.new.nodes ≡ log.old.nodes) }
+    ensures derivation { IsDerivation (the_network net.now) (the_entries log.new.entries) }
+    ensures tries { tries.old.count ≤ tries.new.count }
+    ensures most_tries { (result ≡ Grown.Full → ⊥) → tries.new.count ≤ tries.old.count + most_tries (length net.now.constraints) (fresh_count fresh.now (the_network net.now).constraints) (length log.old.entries) (length log.new.entries) }
+{
+    is_well_formed(net);
+    let old = log.len();
+    grow_kept(net, log, fresh, old, tries)
+}
+
+// Grows a list in which no entry refutes, and nothing is left to do for the first `old` places, but for chains of fresh
+// constraints.
+fn grow_open(net: &Network, log: &mut Log, fresh: &[u32], old: u32, tries: &mut Tries) -> Grown
     requires ready { IsOpen (the_network net.now) log.old }
+    requires front { old ≤ length log.old.entries }
+    requires spent { AreSpent (the_network net.now) (the_entries log.old.entries) fresh.now old }
     ensures closed { result ≡ Grown.Closed → IsTaken (the_network net.now) log.old log.new (grow (the_network net.now) (the_entries log.old.entries)) false }
     ensures refuted { result ≡ Grown.Refuted → IsTaken (the_network net.now) log.old log.new (grow (the_network net.now) (the_entries log.old.entries)) true }
     ensures full { result ≡ Grown.Full → IsCut log.old log.new (grow (the_network net.now) (the_entries log.old.entries)) }
     ensures tries { tries.old.count ≤ tries.new.count }
+    ensures most_tries { (result ≡ Grown.Full → ⊥) → tries.new.count ≤ tries.old.count + most_tries (length net.now.constraints) (fresh_count fresh.now (the_network net.now).constraints) old (length log.new.entries) }
 {
     is_well_formed(net);
     let mut j = 0;
     while j < log.len() {
-        match take_turn(net, log, j, tries) {
+        match take_turn(net, log, fresh, old, j, tries) {
             Ok(true) => return Grown::Refuted,
             Ok(false) => j += 1,
             Err(_) => return Grown::Full,
@@ -66,8 +98,11 @@ fn grow_open(net: &Network, log: &mut Log, tries: &mut Tries) -> Grown
     Grown::Closed
 }
 
-// Grows a list that no entry but perhaps the last refutes.
-fn grow_kept(net: &Network, log: &mut Log, tries: &mut Tries) -> Grown
+// Grows a list that no entry but perhaps the last refutes, where nothing is left to do for the first `old` places, but for
+// chains of fresh constraints.
+fn grow_kept(net: &Network, log: &mut Log, fresh: &[u32], old: u32, tries: &mut Tries) -> Grown
+    requires front { old ≤ length log.old.entries }
+    requires spent { AreSpent (the_network net.now) (the_entries log.old.entries) fresh.now old }
     requires nodes { log.old.nodes ≡ count (the_network net.now) }
     requires derivation { IsDerivation (the_network net.now) (the_entries log.old.entries) }
     requires kept { IsKept (the_network net.now) (the_entries log.old.entries) }
@@ -77,15 +112,16 @@ fn grow_kept(net: &Network, log: &mut Log, tries: &mut Tries) -> Grown
     ensures refuted { result ≡ Grown.Refuted → IsTaken (the_network net.now) log.old log.new (grow (the_network net.now) (the_entries log.old.entries)) true }
     ensures full { result ≡ Grown.Full → IsCut log.old log.new (grow (the_network net.now) (the_entries log.old.entries)) }
     ensures tries { tries.old.count ≤ tries.new.count }
+    ensures most_tries { (result ≡ Grown.Full → ⊥) → tries.new.count ≤ tries.old.count + most_tries (length net.now.constraints) (fresh_count fresh.now (the_network net.now).constraints) old (length log.new.entries) }
 {
     is_well_formed(net);
     let count = log.len();
     if count == 0 {
-        return grow_open(net, log, tries);
+        return grow_open(net, log, fresh, old, tries);
     }
     let last = log.entry(count - 1);
     if refutes(net, &last.bound) {
         return Grown::Refuted;
     }
-    grow_open(net, log, tries)
+    grow_open(net, log, fresh, old, tries)
 }

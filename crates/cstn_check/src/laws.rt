@@ -11,7 +11,9 @@ ghost use Rattle.cstn_rules.specs.Derivations.{Entry, IsDerivation};
 ghost use Rattle.cstn_rules.specs.Rules.{Refutes, IsBoundOf};
 ghost use Rattle.cstn_log.specs.Entries.{bases};
 ghost use Rattle.cstn_check.specs.Examples.{HasLog, Shows, of_two_marks, after, before, prompt, branch_and, crossed_and, unknown_mark, process, drawn, crossed_lines, unknown_mark_lines, process_lines};
-ghost use Rattle.cstn_check.specs.Growth.{grown, grow, log_of, load_of, most_entries, is_refuted, live_bounds};
+ghost use Rattle.cstn_check.specs.Growth.{Instance, grown, grow, log_of, load_of, most_entries, is_refuted, live_bounds};
+ghost use Rattle.cstn_check.specs.Kept.{IsKept};
+ghost use Rattle.cstn_check.specs.Spent.{HasPremises, IsSpent, AreSpent};
 
 /// The load is at most n * 4^k * (H + 2): n time-points, k observed propositions, H the deadline.
 pub fn growth_is_bounded()
@@ -39,6 +41,16 @@ pub fn growth_decides()
 /// The bounds of the live entries are at time-points of the network, with least values from 0 to the limit + 1.
 pub fn live_bounds_are_in_range()
     ensures ranged { (net : Network) → IsWellFormed net → (b : Bound) → Contains (live_bounds (log_of net)) b → IsBoundOf net b }
+{}
+
+/// An instance that is spent stays spent while the list grows.
+pub fn spent_instances_stay_spent()
+    ensures { (net : Network) (list more : List Entry) (i : Instance) → HasPremises list i → IsSpent net list i → IsSpent net (list ++ more) i }
+{}
+
+/// Once a list is grown and no entry refutes, each instance on its entries is spent.
+pub fn grown_lists_are_spent()
+    ensures { (net : Network) (list : List Entry) (fresh : List ℕ) → IsWellFormed net → IsKept net list → is_refuted net (grow net list) ≡ false → AreSpent net (grow net list) fresh (length (grow net list)) }
 {}
 
 /// The loads of small networks, and whether their logs refute.

@@ -10,8 +10,11 @@ mod verdicts;
 mod walks;
 
 pub use checks::Check;
-pub use growth::{Grown, grow};
-pub use laws::{growth_decides, growth_ends, growth_is_bounded, live_bounds_are_in_range, loads_are_known, logs_are_known};
+pub use growth::{Grown, grow, grow_on};
+pub use laws::{
+    grown_lists_are_spent, growth_decides, growth_ends, growth_is_bounded,
+    live_bounds_are_in_range, loads_are_known, logs_are_known, spent_instances_stay_spent,
+};
 pub use verdicts::Verdict;
 
 #[cfg(test)]

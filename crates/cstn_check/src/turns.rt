@@ -1,4 +1,4 @@
-ghost use Rattle.std.specs.Prelude.{ℕ, ◌≡◌, ◌+◌, ◌^◌, ◌<◌, ◌≤◌, false, [], ◌∷◌, ◌++◌, length, map, slice_index_or, cond, IfOk, IsErr, IsTrue, ◌↔◌};
+ghost use Rattle.std.specs.Prelude.{ℕ, ◌≡◌, ◌+◌, ◌*◌, ◌^◌, ◌<◌, ◌≤◌, false, [], ◌∷◌, ◌++◌, length, map, slice_index_or, cond, IfOk, IsErr, IsTrue, ◌↔◌};
 ghost use Rattle.std.specs.List.{Contains};
 ghost use Rattle.cstn_label.specs.Labels.{IsMarked};
 ghost use Rattle.cstn_label.specs.Read.{the_bound};
@@ -11,6 +11,7 @@ ghost use Rattle.cstn_log.specs.Entries.{the_entries};
 ghost use Rattle.cstn_check.specs.Growth.{Instance, is_covered, step, tried, waits_below, turn, chains_at};
 ghost use Rattle.cstn_check.specs.Growth.Instance.{chain_at, wait_at};
 ghost use Rattle.cstn_check.specs.Turns.{IsOpen, IsTaken, IsCut};
+ghost use Rattle.cstn_check.specs.Spent.{AreSpent, IsSpent, is_fresh, fresh_count};
 ghost use Rattle.cstn_check.specs.Waits.{Waits};
 
 use crate::walks::{WALKS, Walk, next_waiting};
@@ -50,6 +51,7 @@ fn try_chain(
     ensures cut { IsErr result → IsCut log.old log.new (step (the_network net.now) (the_entries log.old.entries) (chain_at (the_constraint c.now) j)) }
     ensures ready { IfOk result (λ r. r ≡ false → IsOpen (the_network net.now) log.new) }
     ensures tries { tries.old.count ≤ tries.new.count }
+    ensures most { tries.new.count ≤ tries.old.count + 1 }
 {
     is_of_network(net, c);
     is_in_range(tries);
@@ -76,6 +78,7 @@ fn try_wait(net: &Network, log: &mut Log, i: u32, j: u32, tries: &mut Tries) -> 
     ensures cut { IsErr result → IsCut log.old log.new (step (the_network net.now) (the_entries log.old.entries) (wait_at i j)) }
     ensures ready { IfOk result (λ r. r ≡ false → IsOpen (the_network net.now) log.new) }
     ensures tries { tries.old.count ≤ tries.new.count }
+    ensures most { tries.new.count ≤ tries.old.count + 1 }
 {
     is_well_formed(net);
     is_in_range(tries);
@@ -127,21 +130,71 @@ fn is_of_network(net: &Network, c: &Constraint)
     let _ = net.constraints();
 }
 
-// Tries chain of each constraint that ends at its time-point with the entry at a place, and says whether the list is refuted
-// then.
-fn try_chains(net: &Network, log: &mut Log, j: u32, tries: &mut Tries) -> Result<bool, Full>
+// Whether the id is one of the fresh ones.
+fn is_fresh(fresh: &[u32], id: u32) -> bool
+    ensures { result ≡ is_fresh fresh.now id }
+{
+    fresh.iter().any(|known| *known == id)
+}
+
+// Tries chain of a constraint with the entry at a place, unless nothing is left to do there: that is so for the first `old`
+// places and each constraint that isn't fresh. Says whether the list is refuted then.
+fn try_fresh(
+    net: &Network,
+    log: &mut Log,
+    fresh: &[u32],
+    old: u32,
+    c: &Constraint,
+    j: u32,
+    tries: &mut Tries,
+) -> Result<bool, Full>
     requires ready { IsOpen (the_network net.now) log.old }
+    requires spent { AreSpent (the_network net.now) (the_entries log.old.entries) fresh.now old }
+    requires constraint { Contains net.now.constraints c.now }
+    requires place { j < length log.old.entries }
+    ensures taken { IfOk result (λ r. IsTaken (the_network net.now) log.old log.new (step (the_network net.now) (the_entries log.old.entries) (chain_at (the_constraint c.now) j)) r) }
+    ensures cut { IsErr result → IsCut log.old log.new (step (the_network net.now) (the_entries log.old.entries) (chain_at (the_constraint c.now) j)) }
+    ensures ready { IfOk result (λ r. r ≡ false → IsOpen (the_network net.now) log.new) }
+    ensures tries { tries.old.count ≤ tries.new.count }
+    ensures most { tries.new.count ≤ tries.old.count + 1 }
+    ensures most_fresh { j < old → tries.new.count ≤ tries.old.count + cond (is_fresh fresh.now c.now.id) 1 0 }
+{
+    if old <= j {
+        return try_chain(net, log, c, j, tries);
+    }
+    if is_fresh(fresh, c.id) {
+        return try_chain(net, log, c, j, tries);
+    }
+    is_of_network(net, c);
+    Ok(false)
+}
+
+// Tries chain of each constraint that ends at its time-point with the entry at a place, unless nothing is left to do there, and
+// says whether the list is refuted then.
+fn try_chains(
+    net: &Network,
+    log: &mut Log,
+    fresh: &[u32],
+    old: u32,
+    j: u32,
+    tries: &mut Tries,
+) -> Result<bool, Full>
+    requires ready { IsOpen (the_network net.now) log.old }
+    requires front { old ≤ length log.old.entries }
+    requires spent { AreSpent (the_network net.now) (the_entries log.old.entries) fresh.now old }
     requires place { j < length log.old.entries }
     ensures taken { IfOk result (λ r. IsTaken (the_network net.now) log.old log.new (tried (the_network net.now) (the_entries log.old.entries) (chains_at (map the_constraint net.now.constraints) j)) r) }
     ensures cut { IsErr result → IsCut log.old log.new (tried (the_network net.now) (the_entries log.old.entries) (chains_at (map the_constraint net.now.constraints) j)) }
     ensures ready { IfOk result (λ r. r ≡ false → IsOpen (the_network net.now) log.new) }
     ensures tries { tries.old.count ≤ tries.new.count }
+    ensures most { tries.new.count ≤ tries.old.count + length net.now.constraints }
+    ensures most_fresh { j < old → tries.new.count ≤ tries.old.count + fresh_count fresh.now (the_network net.now).constraints }
 {
     is_well_formed(net);
     let x = log.entry(j).bound.node;
     let mut place = first_ending(net, x);
     while place < constraint_count(net) {
-        match try_chain(net, log, constraint_at(net, place), j, tries) {
+        match try_fresh(net, log, fresh, old, constraint_at(net, place), j, tries) {
             Ok(true) => return Ok(true),
             Ok(false) => place = next_ending(net, place),
             Err(full) => return Err(full),
@@ -199,6 +252,7 @@ fn try_both(net: &Network, log: &mut Log, i: u32, j: u32, tries: &mut Tries) -> 
     ensures cut { IsErr result → IsCut log.old log.new (tried (the_network net.now) (the_entries log.old.entries) (wait_at i j ∷ (wait_at j i ∷ []))) }
     ensures ready { IfOk result (λ r. r ≡ false → IsOpen (the_network net.now) log.new) }
     ensures tries { tries.old.count ≤ tries.new.count }
+    ensures most { tries.new.count ≤ tries.old.count + 2 }
 {
     is_well_formed(net);
     match try_wait(net, log, i, j, tries) {
@@ -217,6 +271,7 @@ fn try_waits(net: &Network, log: &mut Log, j: u32, tries: &mut Tries) -> Result<
     ensures cut { IsErr result → IsCut log.old log.new (tried (the_network net.now) (the_entries log.old.entries) (waits_below (j + 1) j)) }
     ensures ready { IfOk result (λ r. r ≡ false → IsOpen (the_network net.now) log.new) }
     ensures tries { tries.old.count ≤ tries.new.count }
+    ensures most { tries.new.count ≤ tries.old.count + 2 * (j + 1) }
 {
     is_well_formed(net);
     let _room = log.len();
@@ -232,24 +287,56 @@ fn try_waits(net: &Network, log: &mut Log, j: u32, tries: &mut Tries) -> Result<
     Ok(false)
 }
 
-// Takes the turn of the entry at a place, and says whether the list is refuted then.
-pub(crate) fn take_turn(
+// The same, unless nothing is left to do for the place.
+fn try_new_waits(
     net: &Network,
     log: &mut Log,
+    fresh: &[u32],
+    old: u32,
     j: u32,
     tries: &mut Tries,
 ) -> Result<bool, Full>
     requires ready { IsOpen (the_network net.now) log.old }
+    requires spent { AreSpent (the_network net.now) (the_entries log.old.entries) fresh.now old }
+    requires place { j < length log.old.entries }
+    ensures taken { IfOk result (λ r. IsTaken (the_network net.now) log.old log.new (tried (the_network net.now) (the_entries log.old.entries) (waits_below (j + 1) j)) r) }
+    ensures cut { IsErr result → IsCut log.old log.new (tried (the_network net.now) (the_entries log.old.entries) (waits_below (j + 1) j)) }
+    ensures ready { IfOk result (λ r. r ≡ false → IsOpen (the_network net.now) log.new) }
+    ensures tries { tries.old.count ≤ tries.new.count }
+    ensures most { tries.new.count ≤ tries.old.count + 2 * (j + 1) }
+    ensures most_fresh { j < old → tries.new.count ≡ tries.old.count }
+{
+    if j < old {
+        return Ok(false);
+    }
+    try_waits(net, log, j, tries)
+}
+
+// Takes the turn of the entry at a place, and says whether the list is refuted then. Nothing is left to do for the first
+// `old` places, but for chains of fresh constraints.
+pub(crate) fn take_turn(
+    net: &Network,
+    log: &mut Log,
+    fresh: &[u32],
+    old: u32,
+    j: u32,
+    tries: &mut Tries,
+) -> Result<bool, Full>
+    requires ready { IsOpen (the_network net.now) log.old }
+    requires front { old ≤ length log.old.entries }
+    requires spent { AreSpent (the_network net.now) (the_entries log.old.entries) fresh.now old }
     requires place { j < length log.old.entries }
     ensures taken { IfOk result (λ r. IsTaken (the_network net.now) log.old log.new (tried (the_network net.now) (the_entries log.old.entries) (turn (the_network net.now) j)) r) }
     ensures cut { IsErr result → IsCut log.old log.new (tried (the_network net.now) (the_entries log.old.entries) (turn (the_network net.now) j)) }
     ensures ready { IfOk result (λ r. r ≡ false → IsOpen (the_network net.now) log.new) }
     ensures tries { tries.old.count ≤ tries.new.count }
+    ensures most { tries.new.count ≤ tries.old.count + (length net.now.constraints + 2 * (j + 1)) }
+    ensures most_fresh { j < old → tries.new.count ≤ tries.old.count + fresh_count fresh.now (the_network net.now).constraints }
 {
     is_well_formed(net);
-    match try_chains(net, log, j, tries) {
+    match try_chains(net, log, fresh, old, j, tries) {
         Ok(true) => Ok(true),
-        Ok(false) => try_waits(net, log, j, tries),
+        Ok(false) => try_new_waits(net, log, fresh, old, j, tries),
         Err(full) => Err(full),
     }
 }

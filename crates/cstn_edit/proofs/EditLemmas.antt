@@ -261,13 +261,13 @@ room_seen s v cs same is few =
 
 -- the session with other constraints, and without what one of them gave
 pub others_seen : (v : SessionParts) (old new : NetworkParts) (log left : State) (cs : List Constraint)
-    (f : List TheConstraint → List TheConstraint) (room edits id spare tries : ℕ) (highest : Option ℕ) (last : Option Outcome) →
-    record { net = old; entries = log.entries; cap = log.cap; room = room; edits = edits; highest = highest; last = last; tries = tries } ≡ v →
+    (f : List TheConstraint → List TheConstraint) (room edits id spare tries : ℕ) (highest : Option ℕ) (last : Option Outcome) (fresh : List ℕ) (settled : Bool) →
+    record { net = old; entries = log.entries; cap = log.cap; room = room; edits = edits; highest = highest; last = last; tries = tries; fresh = fresh; settled = settled } ≡ v →
     new ≡ record old { constraints = cs; spare = spare } → map the_constraint cs ≡ f (map the_constraint old.constraints) →
     left.cap ≡ log.cap → the_entries left.entries ≡ dropped (the_entries log.entries) id →
-    the_session (record { net = new; entries = left.entries; cap = left.cap; room = room; edits = edits + 1; highest = highest; last = None; tries = tries })
+    the_session (record { net = new; entries = left.entries; cap = left.cap; room = room; edits = edits + 1; highest = highest; last = None; tries = tries; fresh = fresh; settled = settled })
     ≡ with_others (the_session v) id (f (the_network v.net).constraints)
-others_seen v old new log left cs f room edits id spare tries highest last same is changed cap list =
+others_seen v old new log left cs f room edits id spare tries highest last fresh settled same is changed cap list =
     let left_as : Network → List Entry → Session = λ n k. record { net = n; kept = k; edits = edits + 1; highest = highest; last = None } in
     let kept = kept_list (the_network new) left.cap (the_entries left.entries) in
     let points : count (the_network new) ≡ count (the_network old) = ap (λ (n : NetworkParts). count (the_network n)) is in

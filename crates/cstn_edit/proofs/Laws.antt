@@ -20,7 +20,8 @@ use Rattle.cstn_rules.proofs.Derived.{with_constraints, derivation_elsewhere}
 use Rattle.cstn_log.specs.Entries.{bases}
 use Rattle.cstn_log.specs.Cuts.{marked_staying, dropped}
 use Rattle.cstn_log.proofs.ListLemmas.{contains_map}
-use Rattle.cstn_log.proofs.CutLemmas.{comes, rank_grows}
+use Rattle.cstn_log.proofs.ChoiceLemmas.{rank_grows}
+use Rattle.cstn_log.proofs.CutLemmas.{comes}
 use Rattle.cstn_log.proofs.MarkLemmas.{dropped_derivation}
 use Rattle.cstn_check.specs.declared.verdicts.Verdict.TheVariants.{Yes, No, Full}
 use Rattle.cstn_check.specs.Tests.{is_plain}

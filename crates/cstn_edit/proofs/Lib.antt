@@ -5,3 +5,4 @@ pub mod AddLemmas
 pub mod RefutationLemmas
 pub mod EditLemmas
 pub mod Laws
+pub mod FreshLemmas

@@ -1,5 +1,5 @@
 -- What a session starts with.
-use Rattle.std.proofs.Common.{ℕ, map, zero, suc, ◌≡◌, ◌-◌, ◌+◌, ◌<◌, ◌≤◌, ◌^◌, inl, inr, List, [], ◌∷◌, length, get_or, Option, Some, None, arith, refl, sym, subst, ap, ◌∙◌}
+use Rattle.std.proofs.Common.{ℕ, map, zero, suc, ◌≡◌, ◌-◌, ◌+◌, ◌<◌, ◌≤◌, ◌^◌, inl, inr, List, [], ◌∷◌, length, get_or, false, Option, Some, None, arith, refl, sym, subst, ap, ◌∙◌}
 use Rattle.std.specs.Prelude.{nat_lt}
 use Rattle.std.specs.List.{All, AllPairs}
 use Rattle.std.proofs.lemmas.Bool.{cases_Bool, lt-ltb, le-ltb, cond-true, cond-false}
@@ -137,7 +137,7 @@ begun_same given net kept highest same list is =
 
 pub started_seen : (given net : NetworkParts) (log : State) (room tries : ℕ) (highest : Option ℕ) → net ≡ record given { spare = net.spare } →
     the_entries log.entries ≡ first_entries (the_network net) log.cap → highest ≡ highest_of None (the_network net).constraints →
-    the_session (record { net = net; entries = log.entries; cap = log.cap; room = room; edits = 0; highest = highest; last = None; tries = tries })
+    the_session (record { net = net; entries = log.entries; cap = log.cap; room = room; edits = 0; highest = highest; last = None; tries = tries; fresh = []; settled = false })
     ≡ begun (the_network given)
 started_seen given net log room tries highest same start is =
     begun_same given net (kept_list (the_network net) log.cap (the_entries log.entries)) highest same

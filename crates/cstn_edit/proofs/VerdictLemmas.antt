@@ -16,6 +16,9 @@ use Rattle.cstn_check.specs.declared.growth.Grown.{Grown}
 use Rattle.cstn_check.specs.declared.growth.Grown.TheVariants.{Closed, Refuted, Full}
 use Rattle.cstn_check.specs.declared.verdicts.Verdict.{Verdict}
 use Rattle.cstn_check.specs.declared.verdicts.Verdict.TheVariants.{Yes, No, Full as FullVerdict}
+use Rattle.cstn_rules.specs.declared.entries.Entry.{Entry as DeclaredEntry}
+use Rattle.cstn_check.specs.Spent.{AreSpent}
+use Rattle.cstn_check.proofs.SpentLemmas.{grown_spent}
 use Rattle.cstn_check.proofs.Lists.{Extends, extends_through, length_upto}
 use Rattle.cstn_check.proofs.Last.{last_refuted}
 use Rattle.cstn_check.proofs.Starts.{GoesOn, bases_go_on, kept_from, apart_from}
@@ -75,6 +78,28 @@ module _ (net : Network) (good : IsWellFormed net) (list : List Entry) (on : Goe
         let clash : ⊥ = cc in absurd clash
     | inr stands ↦ (grown_decides net list good.network good.letters on).1 stands
   ]
+
+  -- after a yes nothing is left to do on the grown list
+  pub yes_spent : (fresh : List ℕ) (load : ℕ) → verdict_by net (grow net list) ≡ Yes load → AreSpent net (grow net list) fresh (length (grow net list))
+  yes_spent fresh load is = elim (cases_Bool (is_refuted net (grow net list))) [
+    | inl over ↦
+        let same : No (length (grow net list)) ≡ Yes load = sym (cond-true _ _ _ over) ∙ is in
+        let clash : ⊥ = cc in absurd clash
+    | inr stands ↦ grown_spent net list fresh good on.kept stands
+  ]
+
+-- and on the entries of a log that has this list
+pub spent_entries : (net : Network) (entries : List DeclaredEntry) (list : List Entry) (fresh : List ℕ) → the_entries entries ≡ list → AreSpent net list fresh (length list) → AreSpent net (the_entries entries) fresh (length entries)
+spent_entries net entries list fresh is spent =
+    subst (λ n. AreSpent net (the_entries entries) fresh n) (length-map entries the_entry) (subst (λ l. AreSpent net l fresh (length l)) (sym is) spent)
+
+pub afresh_spent : (net : Network) (cap load : ℕ) (v : Verdict) → IsWellFormed net → v ≡ (if nat_lt cap (load_of net) then FullVerdict else verdict_by net (log_of net)) → v ≡ Yes load → AreSpent net (log_of net) [] (length (log_of net))
+afresh_spent net cap load v good is yes' = elim (cases_Bool (nat_lt cap (load_of net))) [
+  | inl above ↦
+      let same : FullVerdict ≡ Yes load = sym (is ∙ cond-true _ _ _ above) ∙ yes' in
+      let clash : ⊥ = cc in absurd clash
+  | inr fits ↦ yes_spent net good (bases (count net)) (bases_go_on net good.network good.letters) [] load (sym (is ∙ cond-false _ _ _ fits) ∙ yes')
+]
 
 -- the outcome by its two tests
 pub outcome_when : (net : Network) (cap : ℕ) (kept : List Entry) (b d : Bool) → nat_lt cap (length (grow net kept)) ≡ b →

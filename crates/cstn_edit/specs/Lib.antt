@@ -1,3 +1,4 @@
 pub mod Sessions
 pub mod Edits
 pub mod Sound
+pub mod Fresh

@@ -1,5 +1,5 @@
 -- Edit sessions: a network that is edited, with the list that is kept between its verdicts.
-use Rattle.std.specs.Prelude.{ℕ, suc, ◌≡◌, ◌+◌, ◌*◌, ◌^◌, ◌<◌, ◌≤◌, max, nat_lt, nat_le, ◌&&◌, if◌then◌else◌, List, [], ◌∷◌, ◌++◌, length, Option, Some, None}
+use Rattle.std.specs.Prelude.{ℕ, suc, ◌≡◌, ◌+◌, ◌*◌, ◌^◌, ◌<◌, ◌≤◌, max, nat_lt, nat_le, Bool, ◌&&◌, if◌then◌else◌, List, [], ◌∷◌, ◌++◌, length, Option, Some, None}
 use Rattle.std.specs.List.{All}
 use Rattle.cstn_label.specs.declared.marks.Mark.TheVariants.{Absent}
 use Rattle.cstn_label.specs.Labels.{Label}
@@ -17,7 +17,8 @@ use Rattle.cstn_edit.specs.declared.outcomes.Outcome.{Outcome}
 
 -- what contracts see of a session: the network as edited, the entries of its log, how many there may be, how many constraints
 -- there may be, how many edits were accepted, the highest id that was ever used, the last outcome, if no edit was accepted
--- since, and how many rules were tried
+-- since, how many rules were tried, the ids of the constraints that were added or changed since the last verdict, and whether
+-- that was yes and no entry went since
 pub record SessionParts : Type 0 where
   pub net : NetworkParts
   pub entries : List DeclaredEntry
@@ -27,6 +28,8 @@ pub record SessionParts : Type 0 where
   pub highest : Option ℕ
   pub last : Option Outcome
   pub tries : ℕ
+  pub fresh : List ℕ
+  pub settled : Bool
 
 -- the kept list, for which the base bounds stand where a log has no room for them
 abbrev pub kept_list : Network → ℕ → List Entry → List Entry

@@ -1,24 +1,35 @@
 // The outcome of a session that has none.
-ghost use Rattle.std.specs.Prelude.{ℕ, ◌≡◌, ◌≤◌, ◌<◌, ◌+◌, ◌*◌, ◌^◌, nat_lt, nat_le, if◌then◌else◌, length, Some};
+ghost use Rattle.std.specs.Prelude.{ℕ, true, false, [], List, take, ◌↔◌, ◌++◌, ◌≡◌, ◌≤◌, ◌<◌, ◌+◌, ◌*◌, ◌^◌, nat_lt, nat_le, if◌then◌else◌, length, Some};
 ghost use Rattle.cstn_net.specs.Networks.{IsWellFormed, count};
 ghost use Rattle.cstn_net.specs.Read.{the_network};
 ghost use Rattle.cstn_net.specs.Strategies.{IsConsistent};
 ghost use Rattle.cstn_log.specs.Entries.{the_entries, bases};
 ghost use Rattle.cstn_check.specs.declared.verdicts.Verdict.{Verdict};
 ghost use Rattle.cstn_check.specs.Growth.{grow, log_of, load_of};
-ghost use Rattle.cstn_check.specs.Turns.{LastRefutes};
+ghost use Rattle.cstn_check.specs.declared.growth.Grown.{Grown};
+ghost use Rattle.cstn_check.specs.Spent.{AreSpent, fresh_count, most_tries};
+ghost use Rattle.cstn_check.specs.Turns.{IsRefutedLast, LastRefutes};
+ghost use Rattle.cstn_rules.specs.Derivations.{Entry, IsDerivation};
 ghost use Rattle.cstn_edit.specs.Sessions.{IsKeptLog, Refuted, Consistent, kept_list, kept_after, outcome_of, verdict_by};
 
 use crate::outcomes::Outcome;
-use cstn_check::{Grown, Verdict, grow};
+use cstn_check::{Grown, Verdict, grow, grow_on};
 use cstn_log::Log;
 use cstn_net::Network;
 use cstn_rules::Tries;
 
-// Grows the kept list, or, where that gets too long, the log of the network.
-pub fn answer(net: &Network, log: &mut Log, tries: &mut Tries) -> Outcome
+// Grows the kept list, or, where that gets too long, the log of the network. Where the list is settled, nothing is left to do
+// on its entries but with fresh constraints.
+pub fn answer(
+    net: &Network,
+    log: &mut Log,
+    fresh: &[u32],
+    settled: bool,
+    tries: &mut Tries,
+) -> Outcome
     requires kept { IsKeptLog (the_network net.now) log.old }
     requires births { log.old.births < 2 ^ 60 }
+    requires spent { settled ≡ true → AreSpent (the_network net.now) (the_entries log.old.entries) fresh.now (length log.old.entries) }
     ensures outcome { result ≡ outcome_of (the_network net.now) log.old.cap (kept_list (the_network net.now) log.old.cap (the_entries log.old.entries)) }
     ensures list { kept_list (the_network net.now) log.old.cap (the_entries log.new.entries) ≡ kept_after (the_network net.now) log.old.cap (kept_list (the_network net.now) log.old.cap (the_entries log.old.entries)) }
     ensures kept { IsKeptLog (the_network net.now) log.new }
@@ -26,7 +37,9 @@ pub fn answer(net: &Network, log: &mut Log, tries: &mut Tries) -> Outcome
     ensures consistent { Consistent (the_network net.now) (Some result) }
     ensures births { log.new.births ≤ log.old.births + 2 ^ 24 }
     ensures size { log.new.cap ≡ log.old.cap }
+    ensures spent { (load : ℕ) → result.verdict ≡ Verdict.Yes load → AreSpent (the_network net.now) (the_entries log.new.entries) [] (length log.new.entries) }
     ensures tries { tries.old.count ≤ tries.new.count }
+    ensures most_tries { settled ≡ true → result.afresh ≡ false → tries.new.count ≤ tries.old.count + most_tries (length net.now.constraints) (fresh_count fresh.now (the_network net.now).constraints) (length log.old.entries) (length log.new.entries) }
 {
     is_well_formed(net);
     if log.len() == 0 {
@@ -35,7 +48,7 @@ pub fn answer(net: &Network, log: &mut Log, tries: &mut Tries) -> Outcome
             verdict: Verdict::Full,
         };
     }
-    let grown = grow(net, log, tries);
+    let grown = grow_further(net, log, fresh, settled, tries);
     if grown == Grown::Full {
         return Outcome {
             afresh: true,
@@ -46,6 +59,36 @@ pub fn answer(net: &Network, log: &mut Log, tries: &mut Tries) -> Outcome
         afresh: false,
         verdict: verdict_of(grown, log.len()),
     }
+}
+
+// Grows the list, and passes over what is spent where it is settled.
+fn grow_further(
+    net: &Network,
+    log: &mut Log,
+    fresh: &[u32],
+    settled: bool,
+    tries: &mut Tries,
+) -> Grown
+    requires nodes { log.old.nodes ≡ count (the_network net.now) }
+    requires derivation { IsDerivation (the_network net.now) (the_entries log.old.entries) }
+    requires bases { (more : List Entry) × (bases (count (the_network net.now)) ++ more ≡ the_entries log.old.entries) }
+    requires last { IsRefutedLast (the_network net.now) (the_entries log.old.entries) }
+    requires births { log.old.births < 2 ^ 61 }
+    requires spent { settled ≡ true → AreSpent (the_network net.now) (the_entries log.old.entries) fresh.now (length log.old.entries) }
+    ensures full { result ≡ Grown.Full ↔ (log.old.cap < length (grow (the_network net.now) (the_entries log.old.entries))) }
+    ensures cut { result ≡ Grown.Full → the_entries log.new.entries ≡ take log.old.cap (grow (the_network net.now) (the_entries log.old.entries)) }
+    ensures grown { (result ≡ Grown.Full → ⊥) → the_entries log.new.entries ≡ grow (the_network net.now) (the_entries log.old.entries) }
+    ensures refuted { result ≡ Grown.Refuted ↔ ((result ≡ Grown.Full → ⊥) × LastRefutes (the_network net.now) (the_entries log.new.entries)) }
+    ensures births { log.new.births ≤ log.old.births + log.old.cap }
+    ensures size { (log.new.cap ≡ log.old.cap) × (log.new.nodes ≡ log.old.nodes) }
+    ensures derivation { IsDerivation (the_network net.now) (the_entries log.new.entries) }
+    ensures tries { tries.old.count ≤ tries.new.count }
+    ensures most_tries { settled ≡ true → (result ≡ Grown.Full → ⊥) → tries.new.count ≤ tries.old.count + most_tries (length net.now.constraints) (fresh_count fresh.now (the_network net.now).constraints) (length log.old.entries) (length log.new.entries) }
+{
+    if settled {
+        return grow_on(net, log, fresh, tries);
+    }
+    grow(net, log, tries)
 }
 
 // Grows the log of the network, and leaves its base bounds where that is too long.
@@ -59,6 +102,7 @@ fn answer_afresh(net: &Network, log: &mut Log, tries: &mut Tries) -> Verdict
     ensures kept { IsKeptLog (the_network net.now) log.new }
     ensures no { (load : ℕ) → result ≡ Verdict.No load → (load ≡ length log.new.entries) × LastRefutes (the_network net.now) (the_entries log.new.entries) }
     ensures yes { (load : ℕ) → result ≡ Verdict.Yes load → IsConsistent (the_network net.now) }
+    ensures spent { (load : ℕ) → result ≡ Verdict.Yes load → AreSpent (the_network net.now) (the_entries log.new.entries) [] (length log.new.entries) }
     ensures births { log.new.births ≤ log.old.births + log.old.cap + 2048 }
     ensures size { log.new.cap ≡ log.old.cap }
     ensures tries { tries.old.count ≤ tries.new.count }

@@ -3,6 +3,7 @@
 
 mod answers;
 mod errors;
+mod fresh;
 mod labels;
 mod outcomes;
 mod sessions;

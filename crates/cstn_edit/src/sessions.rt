@@ -1,22 +1,25 @@
-ghost use Rattle.std.specs.Prelude.{ℕ, ℤ, false, ◌≡◌, ◌≢◌, ◌<◌, ◌≤◌, ◌+◌, ◌-◌, ◌^◌, ◌++◌, ◌∷◌, [], ◌↔◌, List, length, map, Some, None, IfOk, OnErr, IsOk, IsErrOf, IsTrue};
+ghost use Rattle.std.specs.Prelude.{ℕ, ℤ, true, false, ◌≡◌, ◌≢◌, ◌<◌, ◌≤◌, ◌+◌, ◌-◌, ◌^◌, ◌++◌, ◌∷◌, [], ◌↔◌, List, length, map, Some, None, IfOk, OnErr, IsOk, IsErrOf, IsTrue};
 ghost use Rattle.std.specs.List.{All, Contains};
 ghost use Rattle.cstn_label.specs.declared.props.Prop.{Prop as DeclaredProp};
 ghost use Rattle.cstn_label.specs.Labels.{IsPlain};
 ghost use Rattle.cstn_label.specs.Read.{marks};
-ghost use Rattle.cstn_net.specs.Networks.{IsValue, count};
+ghost use Rattle.cstn_net.specs.Networks.{IsValue, IsWellFormed, count};
 ghost use Rattle.cstn_net.specs.Strategies.{IsConsistent};
 ghost use Rattle.cstn_net.specs.Read.{the_network, without_id, with_most};
-ghost use Rattle.cstn_rules.specs.Derivations.{Entry, IsRefutation};
+ghost use Rattle.cstn_rules.specs.Derivations.{Entry, IsDerivation, IsRefutation};
 ghost use Rattle.cstn_log.specs.Entries.{bases, the_entries};
 ghost use Rattle.cstn_log.specs.Cuts.{dropped, part};
 ghost use Rattle.cstn_check.specs.declared.verdicts.Verdict.{Verdict};
 ghost use Rattle.cstn_check.specs.Growth.{grow, load_of};
 ghost use Rattle.cstn_refute.specs.Refutations.{the_steps};
+ghost use Rattle.cstn_check.specs.Spent.{most_tries};
+ghost use Rattle.cstn_edit.specs.Fresh.{fresh_with, ids_of};
 ghost use Rattle.cstn_edit.specs.Sessions.{kept_of, IsUnobserved, IsLeastUnobserved, next_id, highest_of, kept_after, outcome_of};
 ghost use Rattle.cstn_edit.specs.Edits.{the_session, refusal_of, begun, add_refusal, remove_refusal, change_refusal, with_added, with_removed, with_changed, outcome_at, with_verdict};
 
 use crate::answers::{answer, is_well_formed};
 use crate::errors::EditError;
+use crate::fresh::{freshen, is_yes, stays_settled};
 use crate::labels::{is_value, unobserved};
 use crate::outcomes::Outcome;
 use cstn_label::{Label, NodeId};
@@ -31,7 +34,9 @@ const MOST_EDITS: u32 = 1_000_000;
 
 /// A network that is edited, with the list that is kept between its verdicts.
 ///
-/// All memory is taken by [`Session::start`], but for what [`Session::refutation`] hands out.
+/// After a yes, as long as no entry of the list went, a verdict tries only what is new: the constraints that were added or
+/// changed since, and what concerns entries that are new. All memory is taken by [`Session::start`], but for what
+/// [`Session::refutation`] hands out.
 #[derive(Drop)]
 pub struct Session {
     net: Network,
@@ -41,16 +46,23 @@ pub struct Session {
     edits: u32,
     highest: Option<u32>,
     last: Option<Outcome>,
+    // The ids of the constraints that were added or changed since the last verdict, and room for others.
+    fresh: Vec<u32>,
+    list: Vec<u32>,
+    // Whether the last verdict was yes, and no entry went since.
+    settled: bool,
 }
 
 impl Model for Session {
+    ghost use Rattle.std.specs.Prelude.{vec_capacity};
+    ghost use Rattle.cstn_edit.specs.Fresh.{IsFreshened};
     ghost use Rattle.cstn_edit.specs.Sessions.{SessionParts, IsSession};
 
     ghost Value = { SessionParts };
 
-    ghost view = { λ s. record { net = s.net; entries = s.log.entries; cap = s.log.cap; room = s.room; edits = s.edits; highest = s.highest; last = s.last; tries = s.tries.count } };
+    ghost view = { λ s. record { net = s.net; entries = s.log.entries; cap = s.log.cap; room = s.room; edits = s.edits; highest = s.highest; last = s.last; tries = s.tries.count; fresh = s.fresh.items; settled = s.settled } };
 
-    ghost invariant = { λ s. IsSession s.net s.log s.room s.edits s.highest s.last };
+    ghost invariant = { λ s. IsSession s.net s.log s.room s.edits s.highest s.last × IsFreshened s.net s.log s.room s.fresh.items s.settled (vec_capacity s.fresh) (vec_capacity s.list) };
 }
 
 impl Session {
@@ -69,12 +81,15 @@ impl Session {
         ensures tries { IfOk result (λ s. s.tries ≡ 0) }
         ensures highest { IfOk result (λ s. s.highest ≡ highest_of None (the_network net).constraints) }
         ensures last { IfOk result (λ s. s.last ≡ None) }
+        ensures fresh { IfOk result (λ s. (s.fresh ≡ []) × (s.settled ≡ false)) }
         ensures session { IfOk result (λ s. the_session s ≡ begun (the_network net)) }
     {
         let mut net = net;
         net.reserve(room)?;
         let log = Log::start(alloc, &net, cap)?;
         let highest = highest_id(&net);
+        let fresh = Vec::with_capacity(alloc, room as usize)?;
+        let list = Vec::with_capacity(alloc, room as usize)?;
         Ok(Session {
             net,
             log,
@@ -83,6 +98,9 @@ impl Session {
             edits: 0,
             highest,
             last: None,
+            fresh,
+            list,
+            settled: false,
         })
     }
 
@@ -104,7 +122,7 @@ impl Session {
         ensures observed { (p : DeclaredProp) → (IsErrOf result (EditError.NotObserved p) ↔ ((self.old.edits < 1000000) × (length self.old.net.constraints < self.old.room) × IsValue most × IsPlain (marks label) × IsLeastUnobserved (the_network self.old.net) (marks label) p.index)) }
         ensures refusal { refusal_of result ≡ add_refusal self.old.room (the_session self.old) most (marks label) }
         ensures id { IfOk result (λ id. id ≡ next_id self.old.highest) }
-        ensures added { IfOk result (λ id. self.new ≡ record self.old { net = record self.old.net { constraints = self.old.net.constraints ++ record { id = id; from = from; to = to; most = most; label = label } ∷ []; spare = self.old.net.spare - 1 }; edits = self.old.edits + 1; highest = Some id; last = None }) }
+        ensures added { IfOk result (λ id. self.new ≡ record self.old { net = record self.old.net { constraints = self.old.net.constraints ++ record { id = id; from = from; to = to; most = most; label = label } ∷ []; spare = self.old.net.spare - 1 }; edits = self.old.edits + 1; highest = Some id; last = None; fresh = self.old.fresh ++ id ∷ [] }) }
         ensures session { IsOk result → the_session self.new ≡ with_added (the_session self.old) from.0 to.0 most (marks label) }
         ensures refused { OnErr result (self.new ≡ self.old) }
     {
@@ -132,6 +150,7 @@ impl Session {
             most,
             label,
         });
+        self.fresh.push(id).unwrap();
         self.highest = Some(id);
         self.edits += 1;
         self.last = None;
@@ -143,8 +162,9 @@ impl Session {
         ensures limit { IsErrOf result EditError.EditLimit ↔ (self.old.edits ≡ 1000000) }
         ensures none { (other : ℕ) → (IsErrOf result (EditError.NoSuch other) ↔ ((self.old.edits < 1000000) × All (λ c. c.id ≢ id) self.old.net.constraints × (other ≡ id))) }
         ensures refusal { refusal_of result ≡ remove_refusal (the_session self.old) id }
-        ensures removed { IsOk result → self.new ≡ record self.old { net = record self.old.net { constraints = without_id id self.old.net.constraints; spare = self.old.net.spare + 1 }; entries = self.new.entries; edits = self.old.edits + 1; last = None } }
+        ensures removed { IsOk result → self.new ≡ record self.old { net = record self.old.net { constraints = without_id id self.old.net.constraints; spare = self.old.net.spare + 1 }; entries = self.new.entries; edits = self.old.edits + 1; last = None; fresh = fresh_with id self.old.fresh (ids_of self.new.net.constraints); settled = self.new.settled } }
         ensures kept { IsOk result → kept_of self.new ≡ dropped (kept_of self.old) id }
+        ensures settled { IsOk result → ((self.new.settled ≡ true) ↔ ((self.old.settled ≡ true) × (self.new.entries ≡ self.old.entries))) }
         ensures session { IsOk result → the_session self.new ≡ with_removed (the_session self.old) id }
         ensures refused { OnErr result (self.new ≡ self.old) }
     {
@@ -154,7 +174,9 @@ impl Session {
             return Err(EditError::NoSuch { id });
         }
         let _at_most = self.log.len();
-        self.log.retract(id);
+        let gone = self.log.retract(id);
+        freshen(&self.net, &mut self.fresh, &mut self.list, id);
+        self.settled = stays_settled(self.settled, gone);
         self.edits += 1;
         self.last = None;
         Ok(())
@@ -166,8 +188,9 @@ impl Session {
         ensures none { (other : ℕ) → (IsErrOf result (EditError.NoSuch other) ↔ ((self.old.edits < 1000000) × All (λ c. c.id ≢ id) self.old.net.constraints × (other ≡ id))) }
         ensures value { (v : ℤ) → (IsErrOf result (EditError.ValueRange v) ↔ ((self.old.edits < 1000000) × (All (λ c. c.id ≢ id) self.old.net.constraints → ⊥) × (IsValue most → ⊥) × (v ≡ most))) }
         ensures refusal { refusal_of result ≡ change_refusal (the_session self.old) id most }
-        ensures changed { IsOk result → self.new ≡ record self.old { net = record self.old.net { constraints = map (with_most id most) self.old.net.constraints }; entries = self.new.entries; edits = self.old.edits + 1; last = None } }
+        ensures changed { IsOk result → self.new ≡ record self.old { net = record self.old.net { constraints = map (with_most id most) self.old.net.constraints }; entries = self.new.entries; edits = self.old.edits + 1; last = None; fresh = fresh_with id self.old.fresh (ids_of self.new.net.constraints); settled = self.new.settled } }
         ensures kept { IsOk result → kept_of self.new ≡ dropped (kept_of self.old) id }
+        ensures settled { IsOk result → ((self.new.settled ≡ true) ↔ ((self.old.settled ≡ true) × (self.new.entries ≡ self.old.entries))) }
         ensures session { IsOk result → the_session self.new ≡ with_changed (the_session self.old) id most }
         ensures refused { OnErr result (self.new ≡ self.old) }
     {
@@ -180,7 +203,9 @@ impl Session {
         }
         self.net.set_most(id, most);
         let _at_most = self.log.len();
-        self.log.retract(id);
+        let gone = self.log.retract(id);
+        freshen(&self.net, &mut self.fresh, &mut self.list, id);
+        self.settled = stays_settled(self.settled, gone);
         self.edits += 1;
         self.last = None;
         Ok(())
@@ -191,7 +216,9 @@ impl Session {
     pub fn verdict(&mut self) -> Outcome
         ensures outcome { self.old.last ≡ None → result ≡ outcome_of (the_network self.old.net) self.old.cap (kept_of self.old) }
         ensures kept { self.old.last ≡ None → kept_of self.new ≡ kept_after (the_network self.old.net) self.old.cap (kept_of self.old) }
-        ensures same { self.new ≡ record self.old { entries = self.new.entries; last = Some result; tries = self.new.tries } }
+        ensures same { self.new ≡ record self.old { entries = self.new.entries; last = Some result; tries = self.new.tries; fresh = self.new.fresh; settled = self.new.settled } }
+        ensures fresh { self.old.last ≡ None → self.new.fresh ≡ [] }
+        ensures settled { self.old.last ≡ None → ((self.new.settled ≡ true) ↔ ((load : ℕ) × (result.verdict ≡ Verdict.Yes load))) }
         ensures by_definition { result ≡ outcome_at self.old.cap (the_session self.old) }
         ensures session { the_session self.new ≡ with_verdict self.old.cap (the_session self.old) }
         ensures again { (o : Outcome) → self.old.last ≡ Some o → (result ≡ o) × (self.new ≡ self.old) }
@@ -202,13 +229,22 @@ impl Session {
         ensures load { (load : ℕ) → result.verdict ≡ Verdict.No load → load ≡ length (kept_of self.new) }
         ensures prefix { result.afresh ≡ false → (more : List Entry) × (kept_of self.old ++ more ≡ kept_of self.new) }
         ensures tries { self.old.tries ≤ self.new.tries }
+        ensures most_tries { self.old.last ≡ None → self.old.settled ≡ true → result.afresh ≡ false → self.new.tries ≤ self.old.tries + most_tries (length self.old.net.constraints) (length self.old.fresh) (length self.old.entries) (length self.new.entries) }
     {
         is_well_formed(&self.net);
         if let Some(outcome) = self.last {
             return outcome;
         }
-        let outcome = answer(&self.net, &mut self.log, &mut self.tries);
+        let outcome = answer(
+            &self.net,
+            &mut self.log,
+            &self.fresh,
+            self.settled,
+            &mut self.tries,
+        );
         self.last = Some(outcome);
+        self.fresh.clear();
+        self.settled = is_yes(outcome);
         outcome
     }
 
@@ -239,7 +275,9 @@ impl Session {
     /// The network as edited.
     pub fn network(&self) -> &Network
         ensures network { result.now ≡ self.now.net }
+        ensures well_formed { IsWellFormed (the_network result.now) }
     {
+        is_well_formed(&self.net);
         &self.net
     }
 
@@ -247,6 +285,8 @@ impl Session {
     pub fn kept(&self) -> &Log
         ensures kept { count (the_network self.now.net) ≤ self.now.cap → the_entries result.now.entries ≡ kept_of self.now }
         ensures empty { self.now.cap < count (the_network self.now.net) → the_entries result.now.entries ≡ [] }
+        ensures derivation { IsDerivation (the_network self.now.net) (the_entries result.now.entries) }
+        ensures size { (result.now.cap ≡ self.now.cap) × (result.now.entries ≡ self.now.entries) }
     {
         &self.log
     }

@@ -142,6 +142,25 @@ fn caps_and_rooms(rt: HostRuntime) -> Result<(), AllocError> {
 }
 
 #[test]
+fn what_was_tried_is_passed_over(rt: HostRuntime) -> Result<(), AllocError> {
+    let mut session = started(&rt, rt.alloc(), false, 100, 10)?;
+    assert!(rt; session.verdict() == yes(5));
+    let before = session.tries();
+    assert!(rt; add(&rt, &mut session, (1, 0), -2, Label::empty()) == Ok(2));
+    assert!(rt; session.verdict() == yes(7));
+    assert!(rt; session.tries().saturating_sub(before) <= 39);
+
+    let mut session = started(&rt, rt.alloc(), true, 100, 10)?;
+    assert!(rt; session.verdict() == yes(6));
+    let before = session.tries();
+    assert!(rt; add(&rt, &mut session, (0, 2), 50, Label::empty()) == Ok(3));
+    assert!(rt; session.remove(3) == Ok(()));
+    assert!(rt; session.verdict() == yes(6));
+    assert!(rt; session.tries() == before);
+    Ok(())
+}
+
+#[test]
 fn no_more_than_a_million_edits(rt: HostRuntime) -> Result<(), AllocError> {
     let mut session = started(&rt, rt.alloc(), false, 100, 2)?;
     for _ in 0..1_000_000 {

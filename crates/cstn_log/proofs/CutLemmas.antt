@@ -1,38 +1,17 @@
 -- A derivation, cut down to entries whose premises are kept, is a derivation.
-use Rattle.std.proofs.Common.{ℕ, zero, suc, ◌≡◌, inl, inr, ◌+◌, ◌<◌, ◌≤◌, Bool, true, false, Some, List, [], ◌∷◌, length, arith, refl, sym, subst, ap}
+use Rattle.std.proofs.Common.{ℕ, zero, suc, ◌≡◌, inl, inr, ◌+◌, ◌≤◌, Bool, true, false, Some, List, [], ◌∷◌, length, map, arith, refl, sym, subst, ap, ◌∙◌}
 use Rattle.std.specs.Prelude.{slice_get}
-use Rattle.std.proofs.lemmas.Bool.{cases_Bool, cases_lt}
-use Rattle.std.proofs.lemmas.Option.{none-some, same_Some}
+use Rattle.std.proofs.lemmas.Bool.{cases_Bool}
+use Rattle.std.proofs.lemmas.List.{length-map}
+use Rattle.std.proofs.lemmas.Option.{slice_get-map, slice_get_within}
 use Rattle.cstn_label.specs.Bounds.{Bound}
 use Rattle.cstn_net.specs.Networks.{Network}
 use Rattle.cstn_rules.specs.declared.entries.Why.{Why}
 use Rattle.cstn_rules.specs.declared.entries.Why.TheVariants.{Base, Chain, Wait}
 use Rattle.cstn_rules.specs.Derivations.{Entry, IsEarlier, Follows, IsDerivation}
-use Rattle.cstn_log.specs.Cuts.{is_marked, rank, renumbered, moved, cut_from, cut, PremisesMarked, IsClosedUnder}
-
-pub rank_marked : (marks : List Bool) (k : ℕ) → is_marked marks k ≡ true → rank marks (suc k) ≡ rank marks k + 1
-rank_marked marks k h = rw h refl
-
-pub rank_unmarked : (marks : List Bool) (k : ℕ) → is_marked marks k ≡ false → rank marks (suc k) ≡ rank marks k
-rank_unmarked marks k h = let e : rank marks (suc k) ≡ rank marks k + 0 = rw h refl in omega (arith, e)
-
-pub rank_grows : (marks : List Bool) (i k : ℕ) → i ≤ k → rank marks i ≤ rank marks k
-rank_grows marks i zero h = let e : i ≡ 0 = omega arith in subst (λ m. rank marks m ≤ rank marks 0) (sym e) (omega arith)
-rank_grows marks i (suc k) h = elim (cases_lt k i) [
-  | inl last ↦ let e : i ≡ suc k = omega arith in subst (λ m. rank marks m ≤ rank marks (suc k)) (sym e) (omega arith)
-  | inr upto ↦
-      let below = rank_grows marks i k upto in
-      elim (cases_Bool (is_marked marks k)) [
-        | inl t ↦ let e = rank_marked marks k t in omega arith
-        | inr f ↦ let e = rank_unmarked marks k f in omega arith
-      ]
-]
-
-pub rank_less : (marks : List Bool) (i k : ℕ) → is_marked marks i ≡ true → i < k → rank marks i < rank marks k
-rank_less marks i k h less =
-    let e = rank_marked marks i h in
-    let grows = rank_grows marks (suc i) k (omega arith) in
-    omega arith
+use Rattle.cstn_log.specs.Cuts.{is_marked, rank, renumbered, moved, chosen_from, chosen, cut_from, cut, PremisesBelow, PremisesMarked, AllEarlier, IsClosedUnder}
+use Rattle.cstn_log.proofs.ListLemmas.{get_map}
+use Rattle.cstn_log.proofs.ChoiceLemmas.{rank_less, rank_same, chosen_marked, chosen_unmarked, length_chosen, chosen_comes, chosen_goes, chosen_all}
 
 pub cut_marked : (marks : List Bool) (k : ℕ) (x : Entry) (xs : List Entry) → is_marked marks k ≡ true →
     cut_from marks k (x ∷ xs) ≡ moved marks x ∷ cut_from marks (suc k) xs
@@ -42,112 +21,51 @@ pub cut_unmarked : (marks : List Bool) (k : ℕ) (x : Entry) (xs : List Entry) �
     cut_from marks k (x ∷ xs) ≡ cut_from marks (suc k) xs
 cut_unmarked marks k x xs h = rw h refl
 
-length_cut_from : (marks : List Bool) (k : ℕ) (es : List Entry) → length (cut_from marks k es) + rank marks k ≡ rank marks (k + length es)
-length_cut_from marks k [] = let e : k + 0 ≡ k = omega arith in rw e (omega arith)
-length_cut_from marks k (x ∷ xs) =
-    let rest = length_cut_from marks (suc k) xs in
-    let e : k + suc (length xs) ≡ suc k + length xs = omega arith in
-    elim (cases_Bool (is_marked marks k)) [
-      | inl t ↦
-          let up = rank_marked marks k t in
-          rw (cut_marked marks k x xs t, e) (omega (arith, rest, up))
-      | inr f ↦
-          let up = rank_unmarked marks k f in
-          rw (cut_unmarked marks k x xs f, e) (omega (arith, rest, up))
-    ]
+-- a cut list has the chosen entries, moved
+pub cut_chosen : (marks : List Bool) (k : ℕ) (es : List Entry) → cut_from marks k es ≡ map (moved marks) (chosen_from marks k es)
+cut_chosen marks k [] = refl
+cut_chosen marks k (x ∷ xs) = elim (cases_Bool (is_marked marks k)) [
+  | inl t ↦ rw (cut_marked marks k x xs t, chosen_marked marks k x xs t, cut_chosen marks (suc k) xs) refl
+  | inr f ↦ rw (cut_unmarked marks k x xs f, chosen_unmarked marks k x xs f, cut_chosen marks (suc k) xs) refl
+]
 
 -- as many entries as marks
 pub length_cut : (marks : List Bool) (steps : List Entry) → length (cut marks steps) ≡ rank marks (length steps)
-length_cut marks steps =
-    let none : 0 + length steps ≡ length steps = omega arith in
-    let whole = length_cut_from marks 0 steps in
-    omega (arith, rw none at whole)
-
--- a marked entry stands at its rank
-forward : (marks : List Bool) (es : List Entry) (i k n d : ℕ) (e : Entry) → n ≡ i + k → slice_get es i ≡ Some e →
-    is_marked marks n ≡ true → rank marks n ≡ d + rank marks k → slice_get (cut_from marks k es) d ≡ Some (moved marks e)
-forward marks [] i k n d e at there h r = absurd (none-some e there)
-forward marks (x ∷ xs) zero k n d e at there h r =
-    let here : n ≡ k = omega arith in
-    let h_k : is_marked marks k ≡ true = subst (λ m. is_marked marks m ≡ true) here h in
-    let r_k : rank marks k ≡ d + rank marks k = subst (λ m. rank marks m ≡ d + rank marks k) here r in
-    let first : d ≡ 0 = omega arith in
-    let same = same_Some x e there in
-    rw (cut_marked marks k x xs h_k, first) (ap (λ y. Some (moved marks y)) same)
-forward marks (x ∷ xs) (suc i) k n zero e at there h r = elim (cases_Bool (is_marked marks k)) [
-  | inl t ↦
-      let up = rank_marked marks k t in
-      let upto = rank_grows marks (suc k) n (omega arith) in
-      absurd (omega arith)
-  | inr f ↦
-      let up = rank_unmarked marks k f in
-      rw (cut_unmarked marks k x xs f) (forward marks xs i (suc k) n zero e (omega arith) there h (omega arith))
-]
-forward marks (x ∷ xs) (suc i) k n (suc d) e at there h r = elim (cases_Bool (is_marked marks k)) [
-  | inl t ↦
-      let up = rank_marked marks k t in
-      rw (cut_marked marks k x xs t) (forward marks xs i (suc k) n d e (omega arith) there h (omega arith))
-  | inr f ↦
-      let up = rank_unmarked marks k f in
-      rw (cut_unmarked marks k x xs f) (forward marks xs i (suc k) n (suc d) e (omega arith) there h (omega arith))
-]
-
--- what stands at a place of the cut list comes from a marked place
-pub record Comes (marks : List Bool) (es : List Entry) (k d : ℕ) (f : Entry) : Type 0 where
-  pub i : ℕ
-  pub n : ℕ
-  pub e : Entry
-  pub sum : n ≡ i + k
-  pub there : slice_get es i ≡ Some e
-  pub still : is_marked marks n ≡ true
-  pub place : rank marks n ≡ d + rank marks k
-  pub same : f ≡ moved marks e
-
--- from the rest of the list
-comes_on : (marks : List Bool) (x : Entry) (xs : List Entry) (k d c : ℕ) (f : Entry) →
-    rank marks (suc k) + c ≡ d + rank marks k → (b : Comes marks xs (suc k) c f) → Comes marks (x ∷ xs) k d f
-comes_on marks x xs k d c f up b =
-    let place = b.place in
-    let sum = b.sum in
-    record { i = suc b.i; n = b.n; e = b.e; sum = omega arith; there = b.there; still = b.still; place = omega arith; same = b.same }
-
-backward : (marks : List Bool) (es : List Entry) (k d : ℕ) (f : Entry) → slice_get (cut_from marks k es) d ≡ Some f →
-    Comes marks es k d f
-backward marks [] k d f h = absurd (none-some f h)
-backward marks (x ∷ xs) k zero f h = elim (cases_Bool (is_marked marks k)) [
-  | inl t ↦
-      let g : slice_get (moved marks x ∷ cut_from marks (suc k) xs) 0 ≡ Some f = rw (cut_marked marks k x xs t) at h in
-      record { i = 0; n = k; e = x; sum = omega arith; there = refl; still = t; place = omega arith; same = sym (same_Some (moved marks x) f g) }
-  | inr n ↦
-      let up = rank_unmarked marks k n in
-      comes_on marks x xs k zero zero f (omega arith)
-      (backward marks xs (suc k) zero f (rw (cut_unmarked marks k x xs n) at h))
-]
-backward marks (x ∷ xs) k (suc d) f h = elim (cases_Bool (is_marked marks k)) [
-  | inl t ↦
-      let g : slice_get (moved marks x ∷ cut_from marks (suc k) xs) (suc d) ≡ Some f = rw (cut_marked marks k x xs t) at h in
-      let up = rank_marked marks k t in
-      comes_on marks x xs k (suc d) d f (omega arith) (backward marks xs (suc k) d f g)
-  | inr n ↦
-      let up = rank_unmarked marks k n in
-      comes_on marks x xs k (suc d) (suc d) f (omega arith)
-      (backward marks xs (suc k) (suc d) f (rw (cut_unmarked marks k x xs n) at h))
-]
+length_cut marks steps = ap length (cut_chosen marks 0 steps) ∙ length-map (chosen marks steps) (moved marks) ∙ length_chosen marks steps
 
 -- what stands at a place of the cut list
 pub comes : (marks : List Bool) (steps : List Entry) (d : ℕ) (f : Entry) → slice_get (cut marks steps) d ≡ Some f →
     (i : ℕ) × (e : Entry) × (slice_get steps i ≡ Some e) × (is_marked marks i ≡ true) × (rank marks i ≡ d) × (f ≡ moved marks e)
 comes marks steps d f at =
-    let c = backward marks steps 0 d f at in
-    let same : c.n ≡ c.i = omega (arith, c.sum) in
-    let still = subst (λ m. is_marked marks m ≡ true) same c.still in
-    let place = subst (λ m. rank marks m ≡ d + 0) same c.place in
-    (c.i, c.e, c.there, still, omega (arith, place), c.same)
+    let got = get_map (moved marks) (chosen marks steps) d f (rw (cut_chosen marks 0 steps) at at) in
+    let c = chosen_comes marks steps d got.0 got.1 in
+    (c.0, got.0, c.1, c.2, c.3, sym got.2)
 
 -- where a marked entry goes
 pub goes : (marks : List Bool) (steps : List Entry) (i : ℕ) (e : Entry) → slice_get steps i ≡ Some e →
     is_marked marks i ≡ true → slice_get (cut marks steps) (rank marks i) ≡ Some (moved marks e)
-goes marks steps i e there h = forward marks steps i 0 i (rank marks i) e (omega arith) there h (omega arith)
+goes marks steps i e there h =
+    rw (cut_chosen marks 0 steps) (slice_get-map (moved marks) (chosen marks steps) (rank marks i) ∙ rw (chosen_goes marks steps i e there h) refl)
+
+-- a list is what is left of it where all are marked
+pub cut_all : (marks : List Bool) (steps : List Entry) → AllEarlier steps → rank marks (length steps) ≡ length steps → cut marks steps ≡ steps
+cut_all marks steps all whole =
+    cut_chosen marks 0 steps ∙ ap (map (moved marks)) (chosen_all marks steps whole) ∙ unmoved steps (λ k e there. moved_same e k (all.below k e there) (omega (arith, slice_get_within steps k e there)))
+  where
+    of_rule : Bound → Why → Entry
+    of_rule b w = record { bound = b; why = w }
+
+    renumbered_same : (why : Why) (k : ℕ) → PremisesBelow k why → k ≤ length steps → renumbered marks why ≡ why
+    renumbered_same Base k low upto = refl
+    renumbered_same (Chain id i) k low upto = ap (Chain id) (rank_same marks (length steps) i whole (omega (arith, low, upto)))
+    renumbered_same (Wait i j) k low upto = rw (rank_same marks (length steps) i whole (omega (arith, low.0, upto)), rank_same marks (length steps) j whole (omega (arith, low.1, upto))) refl
+
+    moved_same : (e : Entry) (k : ℕ) → PremisesBelow k e.why → k ≤ length steps → moved marks e ≡ e
+    moved_same e k low upto = ap (of_rule e.bound) (renumbered_same e.why k low upto)
+
+    unmoved : (es : List Entry) → ((k : ℕ) (e : Entry) → slice_get es k ≡ Some e → moved marks e ≡ e) → map (moved marks) es ≡ es
+    unmoved [] same = refl
+    unmoved (e ∷ es) same = rw (same 0 e refl, unmoved es (λ k f there. same (suc k) f there)) refl
 
 module _ (net : Network) (marks : List Bool) (steps : List Entry) (derivation : IsDerivation net steps)
     (closed : IsClosedUnder marks steps) where

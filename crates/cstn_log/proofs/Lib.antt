@@ -5,7 +5,9 @@ pub mod ListLemmas
 pub mod LiveLemmas
 pub mod KeptLemmas
 pub mod PushLemmas
+pub mod LeftLemmas
 pub mod DerivedLemmas
+pub mod ChoiceLemmas
 pub mod CutLemmas
 pub mod MarkLemmas
 pub mod StepLemmas

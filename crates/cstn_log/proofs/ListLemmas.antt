@@ -1,5 +1,5 @@
 -- Lists with one more at the end.
-use Rattle.std.proofs.Common.{◌≡◌, ◌⊎◌, inl, inr, ℕ, zero, suc, List, [], ◌∷◌, ◌++◌, length, map, refl, ap, sym, ◌∙◌, arith}
+use Rattle.std.proofs.Common.{◌≡◌, ◌⊎◌, inl, inr, ℕ, zero, suc, ◌+◌, ◌<◌, List, [], ◌∷◌, ◌++◌, length, map, set, take, drop, refl, ap, sym, ◌∙◌, arith}
 use Rattle.std.proofs.Math.ListN.{get_or-map}
 use Rattle.std.proofs.lemmas.List.{length-map}
 use Rattle.std.specs.List.{Contains}
@@ -36,3 +36,29 @@ one_there xs k x y is also = same_Some x y (sym is ∙ also)
 
 pub contains_map : {X Y : Type 0} (f : X → Y) (xs : List X) (x : X) → Contains xs x → Contains (map f xs) (f x)
 contains_map f xs x has = (has.0, omega (arith, has.1, length-map xs f), get_or-map f xs has.0 x ∙ ap f has.2)
+
+-- one more of a list is taken, or dropped
+pub take_step : {X : Type 0} (xs : List X) (k : ℕ) (x : X) → slice_get xs k ≡ Some x → take (k + 1) xs ≡ take k xs ++ x ∷ []
+take_step {X = X} xs k x there = let e : k + 1 ≡ suc k = omega arith in rw e (go xs k there)
+  where
+    go : (ys : List X) (n : ℕ) → slice_get ys n ≡ Some x → take (suc n) ys ≡ take n ys ++ x ∷ []
+    go [] n at = absurd (none-some x at)
+    go (y ∷ ys) zero at = ap (λ z. z ∷ []) (same_Some y x at)
+    go (y ∷ ys) (suc n) at = ap (λ zs. y ∷ zs) (go ys n at)
+
+-- what stands among the first k stands in the list
+pub get_taken : {X : Type 0} (xs : List X) (k j : ℕ) (x : X) → slice_get (take k xs) j ≡ Some x → (j < k) × (slice_get xs j ≡ Some x)
+get_taken xs zero j x there = absurd (none-some x there)
+get_taken [] (suc k) j x there = absurd (none-some x there)
+get_taken (y ∷ ys) (suc k) zero x there = (omega arith, there)
+get_taken (y ∷ ys) (suc k) (suc j) x there = let rest = get_taken ys k j x there in (omega (arith, rest.0), rest.1)
+
+pub drop_step : {X : Type 0} (xs : List X) (k : ℕ) (x : X) → slice_get xs k ≡ Some x → drop k xs ≡ x ∷ drop (suc k) xs
+drop_step [] k x there = absurd (none-some x there)
+drop_step (y ∷ ys) zero x there = ap (λ z. z ∷ ys) (same_Some y x there)
+drop_step (y ∷ ys) (suc k) x there = drop_step ys k x there
+
+-- a value in the middle of a list is set
+pub set_seam : {X : Type 0} (xs ys : List X) (x y : X) → set (xs ++ x ∷ ys) (length xs) y ≡ xs ++ y ∷ ys
+set_seam [] ys x y = refl
+set_seam (z ∷ xs) ys x y = ap (λ zs. z ∷ zs) (set_seam xs ys x y)

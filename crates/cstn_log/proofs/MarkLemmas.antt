@@ -18,7 +18,8 @@ use Rattle.cstn_log.specs.Entries.{the_entries}
 use Rattle.cstn_log.proofs.ListLemmas.{get_map, get_more}
 use Rattle.cstn_rules.proofs.Derived.{with_constraints, derivation_elsewhere}
 use Rattle.cstn_log.specs.Cuts.{PremisesBelow, AllEarlier, is_marked, rank, renumbered, moved, PremisesMarked, IsClosedUnder, with_premises, with_premises_of, with_ancestors, last_marked, part, stays, marked_staying, dropped}
-use Rattle.cstn_log.proofs.CutLemmas.{rank_marked, comes, goes, length_cut, cut_derivation}
+use Rattle.cstn_log.proofs.ChoiceLemmas.{rank_marked}
+use Rattle.cstn_log.proofs.CutLemmas.{comes, goes, length_cut, cut_derivation}
 
 pub follows_below : (net : Network) (steps : List Entry) (k : ℕ) (why : Why) (r : Bound) → Follows net steps k why r → PremisesBelow k why
 follows_below net steps k Base r f = tt

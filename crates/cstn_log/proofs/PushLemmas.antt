@@ -1,7 +1,7 @@
 -- What a log keeps after a push.
 use Rattle.std.proofs.Common.{◌≡◌, ◌≢◌, inl, inr, ℕ, ◌+◌, ◌<◌, List, [], ◌∷◌, ◌++◌, length, get_or, set, refl, ap, sym, ◌∙◌, subst, arith, length-append}
 use Rattle.std.specs.Prelude.{Option, None, Some, slice_get}
-use Rattle.std.proofs.lemmas.List.{get_or-set_other, get_or-set_same, length-set, length-map}
+use Rattle.std.proofs.lemmas.List.{get_or-set_other, get_or-set_same, length-set}
 use Rattle.std.proofs.lemmas.Bool.{cases_eq}
 use Rattle.std.proofs.lemmas.Option.{same_Some, slice_get_within, get_or_from_slice_get, none-some}
 use Rattle.cstn_label.specs.declared.bounds.Bound.{Bound}
@@ -13,81 +13,97 @@ use Rattle.cstn_minset.specs.Sets.{Places, Entries, IsPlaced, IsOver, IsCovered,
 use Rattle.cstn_minset.proofs.BoundLemmas.{over_through}
 use Rattle.cstn_minset.proofs.TableLemmas.{placed_more}
 use Rattle.cstn_log.specs.Entries.{IsCoveredBy, IsLive}
-use Rattle.cstn_log.specs.Kept.{IsKept, IsIdAt, entries_of, stored, entry_or, state_of}
+use Rattle.cstn_log.specs.Kept.{IsKept, IsPooled, IsTabled, IsIdAt}
 use Rattle.cstn_log.proofs.ListLemmas.{get_left, get_last, get_more}
 use Rattle.cstn_log.proofs.LiveLemmas.{live_more, live_less, last_not_over, live_last, new_more}
-use Rattle.cstn_log.proofs.KeptLemmas.{other_slot, stored_other, entry_there, entries_more, unplaced}
+use Rattle.cstn_log.proofs.KeptLemmas.{other_slot, unplaced}
 
-abbrev bound_at : ℕ → Bound → Option (ℕ × Bound)
-bound_at birth b = Some (birth, b)
+-- what stands behind a list of the same length
+last_of : {X Y : Type 0} (xs : List X) (ys : List Y) (y : Y) → length ys ≡ length xs → slice_get (ys ++ y ∷ []) (length xs) ≡ Some y
+last_of xs ys y size = subst (λ (n : ℕ). slice_get (ys ++ y ∷ []) n ≡ Some y) size (get_last ys y)
 
-module _ (slots : List (Option (ℕ × Entry))) (births : ℕ) (table cleared : Entries) (ids : List SlotId) (nodes slot : ℕ) (x : Entry) (is : IsKept slots births table ids nodes) (inside : slot < length slots) (free : get_or slots slot None ≡ None) (clear : IsCleared x.bound table cleared) where
-  placed_old : (s : ℕ) (e : ℕ × Bound) → s ≢ slot → IsPlaced cleared s e → (k : ℕ) × IsIdAt (ids ++ record { slot = slot; birth = births } ∷ []) s e.0 k × IsLive (entries_of slots ids ++ x ∷ []) k × ((stored (set slots slot (Some (births, x))) (record { slot = s; birth = e.0 })).bound ≡ e.1)
-  placed_old s e other there =
-      let id : SlotId = record { slot = s; birth = e.0 } in
-      let f = is.placed s e (clear.was s e there) in
-      let entry = entry_there slots ids f.0 id f.1.there in
-      let not_over : ¬ IsOver x.bound (stored slots id).bound = subst (λ (z : Bound). ¬ IsOver x.bound z) (sym f.3) (clear.none_under s e there) in
-      (f.0, record { there = get_left ids (record { slot = slot; birth = births }) f.0 id f.1.there }, live_more (entries_of slots ids) x f.0 (stored slots id) entry f.2 not_over, ap (λ z. z.bound) (stored_other slots slot (births, x) id other) ∙ f.3)
+module _ (table cleared : Entries) (entries : List Entry) (ids : List SlotId) (id : SlotId) (x : Entry) (is : IsTabled table entries ids) (size : length entries ≡ length ids) (other : (k : ℕ) (jd : SlotId) → slice_get ids k ≡ Some jd → jd.slot ≢ id.slot) (inside : id.slot < length table) (clear : IsCleared x.bound table cleared) where
+  placed_old : (s : ℕ) (b : ℕ × Bound) → IsPlaced cleared s b → (k : ℕ) × (e : Entry) × IsIdAt (ids ++ id ∷ []) s b.0 k × (slice_get (entries ++ x ∷ []) k ≡ Some e) × IsLive (entries ++ x ∷ []) k × (e.bound ≡ b.1)
+  placed_old s b there =
+      let jd : SlotId = record { slot = s; birth = b.0 } in
+      let f = is.placed s b (clear.was s b there) in
+      let not_over : ¬ IsOver x.bound f.1.bound = subst (λ (z : Bound). ¬ IsOver x.bound z) (sym f.5) (clear.none_under s b there) in
+      (f.0, f.1, record { there = get_left ids id f.0 jd f.2.there }, get_left entries x f.0 f.1 f.3, live_more entries x f.0 f.1 f.3 f.4 not_over, f.5)
 
-  live_old : (k : ℕ) (id : SlotId) → slice_get ids k ≡ Some id → IsLive (entries_of slots ids ++ x ∷ []) k → IsPlaced (set cleared slot (Some (births, x.bound))) id.slot (id.birth, (stored (set slots slot (Some (births, x))) id).bound)
-  live_old k id there alive =
-      let other = other_slot slots births table ids nodes slot is free k id there in
-      let entry = entry_there slots ids k id there in
-      let was : IsPlaced table id.slot (id.birth, (stored slots id).bound) = is.live k id there (live_less (entries_of slots ids) x k (stored slots id) entry alive) in
-      let stays = clear.kept id.slot (id.birth, (stored slots id).bound) was (last_not_over (entries_of slots ids) x k (stored slots id) entry alive) in
-      get_or-set_other cleared slot id.slot (Some (births, x.bound)) None other ∙ stays ∙ ap (λ (z : Entry). bound_at id.birth z.bound) (sym (stored_other slots slot (births, x) id other))
+  live_old : (k : ℕ) (jd : SlotId) (e : Entry) → slice_get ids k ≡ Some jd → slice_get entries k ≡ Some e → IsLive (entries ++ x ∷ []) k → IsPlaced (set cleared id.slot (Some (id.birth, x.bound))) jd.slot (jd.birth, e.bound)
+  live_old k jd e there at alive =
+      let was : IsPlaced table jd.slot (jd.birth, e.bound) = is.live k jd e there at (live_less entries x k e at alive) in
+      let stays = clear.kept jd.slot (jd.birth, e.bound) was (last_not_over entries x k e at alive) in
+      get_or-set_other cleared id.slot jd.slot (Some (id.birth, x.bound)) None (other k jd there) ∙ stays
 
   -- what the new table doesn't cover, the old one doesn't cover either
-  covered_before : (b : Bound) → ¬ IsCovered (set cleared slot (Some (births, x.bound))) b → ¬ IsCovered table b
+  covered_before : (b : Bound) → ¬ IsCovered (set cleared id.slot (Some (id.birth, x.bound))) b → ¬ IsCovered table b
   covered_before b not c =
-      let other : c.0 ≢ slot = λ same. none-some c.1 (sym (unplaced slots births table ids nodes slot is free) ∙ rw same at c.2) in
-      let stays : ¬ IsOver x.bound c.1.1 → ⊥ = λ n. not (c.0, c.1, get_or-set_other cleared slot c.0 (Some (births, x.bound)) None other ∙ clear.kept c.0 c.1 c.2 n, c.3) in
-      stays (λ over. not (slot, (births, x.bound), get_or-set_same cleared slot (Some (births, x.bound)) None (omega (arith, clear.size, is.room)), over_through x.bound c.1.1 b over c.3))
+      let elsewhere : c.0 ≢ id.slot = λ same. none-some c.1 (sym (unplaced table entries ids id.slot is other) ∙ rw same at c.2) in
+      let stays : ¬ IsOver x.bound c.1.1 → ⊥ = λ n. not (c.0, c.1, get_or-set_other cleared id.slot c.0 (Some (id.birth, x.bound)) None elsewhere ∙ clear.kept c.0 c.1 c.2 n, c.3) in
+      stays (λ over. not (id.slot, (id.birth, x.bound), get_or-set_same cleared id.slot (Some (id.birth, x.bound)) None (omega (arith, clear.size, inside)), over_through x.bound c.1.1 b over c.3))
 
-  pub pushed : ¬ IsCoveredBy (entries_of slots ids) x.bound → x.bound.node.0 < nodes → IsKept (set slots slot (Some (births, x))) (births + 1) (set cleared slot (Some (births, x.bound))) (ids ++ record { slot = slot; birth = births } ∷ []) nodes
-  pushed uncovered node =
-      let id : SlotId = record { slot = slot; birth = births } in
-      let more = entries_more slots births table ids nodes slot x is inside free in
-      let size : length (entries_of slots ids) ≡ length ids = length-map ids (stored slots) in
-      let wide : slot < length cleared = omega (arith, clear.size, is.room) in
-      let here : stored (set slots slot (Some (births, x))) id ≡ x = ap entry_or (get_or-set_same slots slot (Some (births, x)) None inside) in
+  pub tabled_more : IsTabled (set cleared id.slot (Some (id.birth, x.bound))) (entries ++ x ∷ []) (ids ++ id ∷ [])
+  tabled_more =
+      let wide : id.slot < length cleared = omega (arith, clear.size, inside) in
+      let here : IsPlaced (set cleared id.slot (Some (id.birth, x.bound))) id.slot (id.birth, x.bound) = get_or-set_same cleared id.slot (Some (id.birth, x.bound)) None wide in
       record {
-        held = λ k jd there. elim (get_more ids id k jd there) [
-          | inl p ↦ (let h = is.held k jd p in (h.0, get_or-set_other slots slot jd.slot (Some (births, x)) None (other_slot slots births table ids nodes slot is free k jd p) ∙ h.1))
-          | inr p ↦ rw (← p.1) (x, get_or-set_same slots slot (Some (births, x)) None inside)
+        covers = λ b not c. elim (get_more entries x c.0 c.1 c.2) [
+          | inl p ↦ is.covers b (covered_before b not) (c.0, c.1, p, c.3)
+          | inr p ↦ not (id.slot, (id.birth, x.bound), here, subst (λ (z : Entry). IsOver z.bound b) (sym p.1) c.3)
         ];
-        used = omega (arith, count_filled slots slot (births, x) inside free, is.used, length-append ids (id ∷ []));
-        found = λ s e there. elim (cases_eq s slot) [
-          | inl same ↦ (let this : (births, x) ≡ e = same_Some (births, x) e (sym (get_or-set_same slots slot (Some (births, x)) None inside) ∙ rw same at there) in
-              rw (same, ← this) (length ids, record { there = get_last ids id }))
-          | inr other ↦ (let f = is.found s e (sym (get_or-set_other slots slot s (Some (births, x)) None other) ∙ there) in (f.0, record { there = get_left ids id f.0 (record { slot = s; birth = e.0 }) f.1.there }))
+        placed = λ s b there. elim (placed_more cleared id.slot s (id.birth, x.bound) b wide there) [
+          | inl p ↦ rw (p.0, ← p.1) (length ids, x, record { there = get_last ids id }, last_of ids entries x size, subst (λ (n : ℕ). IsLive (entries ++ x ∷ []) n) size (live_last entries x), refl)
+          | inr p ↦ placed_old s b p.1
         ];
-        ascending = λ k j jd kd less a c. elim (get_more ids id k jd a) [
-          | inl p ↦ elim (get_more ids id j kd c) [ inl q ↦ is.ascending k j jd kd less p q | inr q ↦ rw (← q.1) (is.before k jd p) ]
-          | inr p ↦ elim (get_more ids id j kd c) [ inl q ↦ absurd (omega (arith, slice_get_within ids j kd q, p.0)) | inr q ↦ absurd (omega (arith, p.0, q.0)) ]
+        live = λ k jd e there at alive. elim (get_more ids id k jd there) [
+          | inl p ↦ elim (get_more entries x k e at) [
+            | inl q ↦ live_old k jd e p q alive
+            | inr q ↦ absurd (omega (arith, slice_get_within ids k jd p, q.0, size))
+          ]
+          | inr p ↦ elim (get_more entries x k e at) [
+            | inl q ↦ absurd (omega (arith, slice_get_within entries k e q, p.0, size))
+            | inr q ↦ rw (← p.1, ← q.1) here
+          ]
         ];
-        before = λ k jd there. elim (get_more ids id k jd there) [ inl p ↦ omega (arith, is.before k jd p) | inr p ↦ rw (← p.1) (omega arith) ];
-        room = length-set cleared slot (Some (births, x.bound)) ∙ clear.size ∙ is.room ∙ sym (length-set slots slot (Some (births, x)));
-        covers = λ b not c.
-            let there : slice_get (entries_of slots ids ++ x ∷ []) c.0 ≡ Some c.1 = rw more at c.2 in
-            elim (get_more (entries_of slots ids) x c.0 c.1 there) [
-              | inl p ↦ is.covers b (covered_before b not) (c.0, c.1, p, c.3)
-              | inr p ↦ not (slot, (births, x.bound), get_or-set_same cleared slot (Some (births, x.bound)) None wide, subst (λ (z : Entry). IsOver z.bound b) (sym p.1) c.3)
-            ];
-        placed = λ s e there. elim (placed_more cleared slot s (births, x.bound) e wide there) [
-          | inl p ↦ rw (p.0, ← p.1, more) (length ids, record { there = get_last ids id }, subst (λ (n : ℕ). IsLive (entries_of slots ids ++ x ∷ []) n) size (live_last (entries_of slots ids) x), ap (λ z. z.bound) here)
-          | inr p ↦ rw more (placed_old s e p.0 p.1)
-        ];
-        live = λ k jd there alive. elim (get_more ids id k jd there) [
-          | inl p ↦ live_old k jd p (rw more at alive)
-          | inr p ↦ rw (← p.1, here) (get_or-set_same cleared slot (Some (births, x.bound)) None wide)
-        ];
-        fresh = rw more (new_more (entries_of slots ids) x is.fresh uncovered);
-        inside = λ k e there.
-            let there' : slice_get (entries_of slots ids ++ x ∷ []) k ≡ Some e = rw more at there in
-            elim (get_more (entries_of slots ids) x k e there') [ inl p ↦ is.inside k e p | inr p ↦ rw (← p.1) node ];
       }
+
+-- one more in the pool
+pub pooled_more : (slots : List (Option (ℕ × Entry))) (births : ℕ) (entries : List Entry) (ids : List SlotId) (slot : ℕ) (x : Entry) → IsPooled slots births entries ids → length entries ≡ length ids → slot < length slots → get_or slots slot None ≡ None →
+    IsPooled (set slots slot (Some (births, x))) (births + 1) (entries ++ x ∷ []) (ids ++ record { slot = slot; birth = births } ∷ [])
+pooled_more slots births entries ids slot x is size inside free =
+    let id : SlotId = record { slot = slot; birth = births } in
+    record {
+      held = λ k jd there. elim (get_more ids id k jd there) [
+        | inl p ↦ (let h = is.held k jd p in (h.0, h.1, get_left entries x k h.0 h.2, get_or-set_other slots slot jd.slot (Some (births, x)) None (other_slot slots births entries ids slot is free k jd p) ∙ h.3, h.4))
+        | inr p ↦ rw (← p.1, p.0) (x, x, last_of ids entries x size, get_or-set_same slots slot (Some (births, x)) None inside, refl)
+      ];
+      used = omega (arith, count_filled slots slot (births, x) inside free, is.used, length-append ids (id ∷ []));
+      found = λ s e there. elim (cases_eq s slot) [
+        | inl same ↦ (let this : (births, x) ≡ e = same_Some (births, x) e (sym (get_or-set_same slots slot (Some (births, x)) None inside) ∙ rw same at there) in
+            rw (same, ← this) (length ids, record { there = get_last ids id }))
+        | inr other ↦ (let f = is.found s e (sym (get_or-set_other slots slot s (Some (births, x)) None other) ∙ there) in (f.0, record { there = get_left ids id f.0 (record { slot = s; birth = e.0 }) f.1.there }))
+      ];
+      ascending = λ k j jd kd less a c. elim (get_more ids id k jd a) [
+        | inl p ↦ elim (get_more ids id j kd c) [ inl q ↦ is.ascending k j jd kd less p q | inr q ↦ rw (← q.1) (is.before k jd p) ]
+        | inr p ↦ elim (get_more ids id j kd c) [ inl q ↦ absurd (omega (arith, slice_get_within ids j kd q, p.0)) | inr q ↦ absurd (omega (arith, p.0, q.0)) ]
+      ];
+      before = λ k jd there. elim (get_more ids id k jd there) [ inl p ↦ omega (arith, is.before k jd p) | inr p ↦ rw (← p.1) (omega arith) ];
+    }
+
+-- one more in the pool and in the minimal set
+pub kept_more : (slots : List (Option (ℕ × Entry))) (births : ℕ) (table cleared : Entries) (entries : List Entry) (ids : List SlotId) (nodes slot : ℕ) (x : Entry) → IsKept slots births table entries ids nodes → slot < length slots → get_or slots slot None ≡ None → IsCleared x.bound table cleared → ¬ IsCoveredBy entries x.bound → x.bound.node.0 < nodes →
+    IsKept (set slots slot (Some (births, x))) (births + 1) (set cleared slot (Some (births, x.bound))) (entries ++ x ∷ []) (ids ++ record { slot = slot; birth = births } ∷ []) nodes
+kept_more slots births table cleared entries ids nodes slot x is inside free clear uncovered node =
+    let id : SlotId = record { slot = slot; birth = births } in
+    record {
+      pooled = pooled_more slots births entries ids slot x is.pooled is.size inside free;
+      tabled = tabled_more table cleared entries ids id x is.tabled is.size (other_slot slots births entries ids slot is.pooled free) (omega (arith, inside, is.room)) clear;
+      room = length-set cleared slot (Some (births, x.bound)) ∙ clear.size ∙ is.room ∙ sym (length-set slots slot (Some (births, x)));
+      size = omega (arith, length-append entries (x ∷ []), length-append ids (id ∷ []), is.size);
+      fresh = new_more entries x is.fresh uncovered;
+      inside = λ k e there. elim (get_more entries x k e there) [ inl p ↦ is.inside k e p | inr p ↦ rw (← p.1) node ];
+    }
 
 empty_in : (slots : List (Option (ℕ × Entry))) (s : ℕ) → slice_get slots s ≡ Some None → (s < length slots) × (get_or slots s None ≡ None)
 empty_in slots s is = (slice_get_within slots s None is, get_or_from_slice_get slots s None None is)
@@ -97,21 +113,11 @@ abbrev the_id : ℕ → ℕ → SlotId
 the_id s n = record { slot = s; birth = n }
 
 -- the steps of the code
-pub push_step : (slots : List (Option (ℕ × Entry))) (births : ℕ) (minimal : Places) (cleared : Entries) (ids : List SlotId) (id : SlotId) (x : Entry) (pool : Slots Entry) (placed : Places) (new : List SlotId) → IsKept slots births minimal.table ids minimal.nodes → slice_get slots id.slot ≡ Some None → id.birth ≡ births → pool ≡ record { slots = set slots id.slot (Some (id.birth, x)); births = births + 1 } → IsCleared x.bound minimal.table cleared → placed ≡ record minimal { table = set cleared id.slot (Some (id.birth, x.bound)) } → new ≡ ids ++ id ∷ [] → ¬ IsCoveredBy (entries_of slots ids) x.bound → x.bound.node.0 < minimal.nodes → IsKept pool.slots pool.births placed.table new placed.nodes
-push_step slots births minimal cleared ids id x pool placed new is empty same taken clear placed_is longer uncovered node =
+pub push_step : (slots : List (Option (ℕ × Entry))) (births : ℕ) (minimal : Places) (cleared : Entries) (entries longer : List Entry) (ids : List SlotId) (id : SlotId) (x : Entry) (pool : Slots Entry) (placed : Places) (new : List SlotId) → IsKept slots births minimal.table entries ids minimal.nodes → slice_get slots id.slot ≡ Some None → id.birth ≡ births → pool ≡ record { slots = set slots id.slot (Some (id.birth, x)); births = births + 1 } → IsCleared x.bound minimal.table cleared → placed ≡ record minimal { table = set cleared id.slot (Some (id.birth, x.bound)) } → longer ≡ entries ++ x ∷ [] → new ≡ ids ++ id ∷ [] → ¬ IsCoveredBy entries x.bound → x.bound.node.0 < minimal.nodes → IsKept pool.slots pool.births placed.table longer new placed.nodes
+push_step slots births minimal cleared entries longer ids id x pool placed new is empty same taken clear placed_is longer_is new_is uncovered node =
     let e = empty_in slots id.slot empty in
     let id_is : record { slot = id.slot; birth = births } ≡ id = ap (λ (n : ℕ). the_id id.slot n) (sym same) in
-    rw (taken, placed_is, longer) (subst (λ (y : SlotId). IsKept (set slots id.slot (Some (y.birth, x))) (births + 1) (set cleared id.slot (Some (y.birth, x.bound))) (ids ++ y ∷ []) minimal.nodes) id_is (pushed slots births minimal.table cleared ids minimal.nodes id.slot x is e.0 e.1 clear uncovered node))
+    rw (taken, placed_is, longer_is, new_is) (subst (λ (y : SlotId). IsKept (set slots id.slot (Some (y.birth, x))) (births + 1) (set cleared id.slot (Some (y.birth, x.bound))) (entries ++ x ∷ []) (ids ++ y ∷ []) minimal.nodes) id_is (kept_more slots births minimal.table cleared entries ids minimal.nodes id.slot x is e.0 e.1 clear uncovered node))
 
-pub push_entries : (slots : List (Option (ℕ × Entry))) (births : ℕ) (table : Entries) (nodes : ℕ) (ids : List SlotId) (id : SlotId) (x : Entry) (pool : Slots Entry) (new : List SlotId) → IsKept slots births table ids nodes → slice_get slots id.slot ≡ Some None → id.birth ≡ births → pool ≡ record { slots = set slots id.slot (Some (id.birth, x)); births = births + 1 } → new ≡ ids ++ id ∷ [] → entries_of pool.slots new ≡ entries_of slots ids ++ x ∷ []
-push_entries slots births table nodes ids id x pool new is empty same taken longer =
-    let e = empty_in slots id.slot empty in
-    let id_is : record { slot = id.slot; birth = births } ≡ id = ap (λ (n : ℕ). the_id id.slot n) (sym same) in
-    rw (taken, longer) (subst (λ (y : SlotId). entries_of (set slots id.slot (Some (y.birth, x))) (ids ++ y ∷ []) ≡ entries_of slots ids ++ x ∷ []) id_is (entries_more slots births table ids nodes id.slot x is e.0 e.1))
-
-pub push_state : (slots : List (Option (ℕ × Entry))) (births : ℕ) (table : Entries) (nodes : ℕ) (ids : List SlotId) (id : SlotId) (x : Entry) (pool : Slots Entry) (new : List SlotId) (now : ℕ) → IsKept slots births table ids nodes → slice_get slots id.slot ≡ Some None → id.birth ≡ births → pool ≡ record { slots = set slots id.slot (Some (id.birth, x)); births = births + 1 } → now ≡ nodes → new ≡ ids ++ id ∷ [] → state_of pool.slots new pool.births now ≡ record { entries = entries_of slots ids ++ x ∷ []; ids = ids ++ record { slot = id.slot; birth = births } ∷ []; births = births + 1; cap = length slots; nodes = nodes }
-push_state slots births table nodes ids id x pool new now is empty same taken nodes_same longer =
-    let e = empty_in slots id.slot empty in
-    let id_is : record { slot = id.slot; birth = births } ≡ id = ap (λ (n : ℕ). the_id id.slot n) (sym same) in
-    rw (taken, nodes_same, longer) (subst (λ (y : SlotId). state_of (set slots id.slot (Some (y.birth, x))) (ids ++ y ∷ []) (births + 1) nodes ≡ record { entries = entries_of slots ids ++ x ∷ []; ids = ids ++ record { slot = id.slot; birth = births } ∷ []; births = births + 1; cap = length slots; nodes = nodes }) id_is
-    (rw (entries_more slots births table ids nodes id.slot x is e.0 e.1, length-set slots id.slot (Some (births, x))) refl))
+pub slot_empty : (slots : List (Option (ℕ × Entry))) (births : ℕ) (entries : List Entry) (ids : List SlotId) (id : SlotId) → IsPooled slots births entries ids → slice_get slots id.slot ≡ Some None → (k : ℕ) (jd : SlotId) → slice_get ids k ≡ Some jd → jd.slot ≢ id.slot
+slot_empty slots births entries ids id is empty = other_slot slots births entries ids id.slot is (empty_in slots id.slot empty).1

@@ -1,5 +1,5 @@
 -- Lists put in again after they were cut.
-use Rattle.std.proofs.Common.{ℕ, zero, suc, ◌≡◌, inl, inr, ◌+◌, ◌<◌, ◌≤◌, Bool, true, false, Option, Some, None, List, [], ◌∷◌, ◌++◌, length, take, arith, refl, sym, subst, ◌∙◌, ap}
+use Rattle.std.proofs.Common.{ℕ, zero, suc, ◌≡◌, ◌≢◌, inl, inr, ◌+◌, ◌<◌, ◌≤◌, Bool, true, false, Option, Some, None, List, [], ◌∷◌, ◌++◌, length, take, get_or, set, arith, refl, sym, subst, ◌∙◌, ap}
 use Rattle.std.specs.Prelude.{slice_get}
 use Rattle.std.proofs.lemmas.Bool.{cases_lt}
 use Rattle.std.proofs.lemmas.Option.{none-some, same_Some, slice_get_within}
@@ -11,28 +11,18 @@ use Rattle.cstn_rules.specs.declared.entries.Why.{Why}
 use Rattle.cstn_rules.specs.declared.entries.Why.TheVariants.{Base, Chain, Wait}
 use Rattle.cstn_rules.specs.Derivations.{Entry as TheEntry}
 use Rattle.cstn_rules.specs.Read.{the_entry}
-use Rattle.cstn_minset.specs.Sets.{IsOver}
+use Rattle.cstn_pool.specs.declared.slot_id.SlotId.{SlotId}
+use Rattle.cstn_minset.specs.Sets.{Entries, IsOver, IsCovered, IsCleared}
+use Rattle.cstn_log.specs.Kept.{IsPooled, IsTabled}
 use Rattle.cstn_log.specs.Entries.{the_entries, IsCoveredBy, AllNew}
 use Rattle.cstn_log.specs.Cuts.{PremisesBelow, PremisesMarked, AllEarlier, IsClosedUnder, is_marked, rank, renumbered, cut, moved, marked_staying, dropped}
-use Rattle.cstn_log.proofs.ListLemmas.{get_map, one_there}
-use Rattle.cstn_log.proofs.CutLemmas.{comes, rank_grows, rank_less}
+use Rattle.cstn_log.proofs.ListLemmas.{get_map, one_there, get_taken, take_step}
+use Rattle.cstn_log.proofs.KeptLemmas.{same_slot, slot_inside, unplaced, uncovered_there, born_before}
+use Rattle.cstn_log.proofs.PushLemmas.{tabled_more}
+use Rattle.cstn_log.proofs.ChoiceLemmas.{rank_grows, rank_less}
+use Rattle.cstn_log.proofs.CutLemmas.{comes}
 use Rattle.cstn_log.proofs.MarkLemmas.{staying_closed}
 use Rattle.cstn_log.proofs.StepLemmas.{entry_read}
-
-pub take_step : {X : Type 0} (xs : List X) (k : ℕ) (x : X) → slice_get xs k ≡ Some x → take (k + 1) xs ≡ take k xs ++ x ∷ []
-take_step {X = X} xs k x there = let e : k + 1 ≡ suc k = omega arith in rw e (go xs k there)
-  where
-    go : (ys : List X) (n : ℕ) → slice_get ys n ≡ Some x → take (suc n) ys ≡ take n ys ++ x ∷ []
-    go [] n at = absurd (none-some x at)
-    go (y ∷ ys) zero at = ap (λ z. z ∷ []) (same_Some y x at)
-    go (y ∷ ys) (suc n) at = ap (λ zs. y ∷ zs) (go ys n at)
-
--- what stands among the first k stands in the list
-pub get_taken : {X : Type 0} (xs : List X) (k j : ℕ) (x : X) → slice_get (take k xs) j ≡ Some x → (j < k) × (slice_get xs j ≡ Some x)
-get_taken xs zero j x there = absurd (none-some x there)
-get_taken [] (suc k) j x there = absurd (none-some x there)
-get_taken (y ∷ ys) (suc k) zero x there = (omega arith, there)
-get_taken (y ∷ ys) (suc k) (suc j) x there = let rest = get_taken ys k j x there in (omega (arith, rest.0), rest.1)
 
 -- an entry of a list in which none is dominated by an earlier one isn't covered by those before it
 pub first_uncovered : (steps L : List Entry) (k : ℕ) (e : Entry) → AllNew steps → slice_get steps k ≡ Some e → L ≡ take k steps → ¬ IsCoveredBy L e.bound
@@ -90,3 +80,33 @@ cut_earlier marks steps all closed = record {
 
 pub dropped_earlier : (steps : List TheEntry) (id : ℕ) → AllEarlier steps → AllEarlier (dropped steps id)
 dropped_earlier steps id all = cut_earlier (marked_staying id [] steps) steps all (staying_closed steps id all)
+
+length_taken : {X : Type 0} (xs : List X) (k : ℕ) → k ≤ length xs → length (take k xs) ≡ k
+length_taken xs zero low = refl
+length_taken [] (suc k) low = absurd (omega (arith, low))
+length_taken (x ∷ xs) (suc k) low = let rest = length_taken xs k (omega (arith, low)) in omega (arith, rest)
+
+-- the bounds of the first k entries are placed, each under its id
+module _ (slots : List (Option (ℕ × Entry))) (births : ℕ) (entries : List Entry) (ids : List SlotId) (table : Entries) (k : ℕ) (id : SlotId) (is : IsPooled slots births entries ids) (tabled : IsTabled table (take k entries) (take k ids)) (there : slice_get ids k ≡ Some id) where
+  other_taken : (j : ℕ) (jd : SlotId) → slice_get (take k ids) j ≡ Some jd → jd.slot ≢ id.slot
+  other_taken j jd at e =
+      let t = get_taken ids k j jd at in
+      let same = same_slot slots births entries ids j k jd id is t.1 there e in
+      omega (arith, same, t.0)
+
+  pub place_free : get_or table id.slot None ≡ None
+  place_free = unplaced table (take k entries) (take k ids) id.slot tabled other_taken
+
+  pub place_inside : id.slot < length slots
+  place_inside = let h = is.held k id there in slot_inside slots id.slot (id.birth, h.1) h.3
+
+  pub place_birth : (s : ℕ) (b : ℕ × Bound) → get_or table s None ≡ Some b → b.0 < id.birth
+  place_birth = born_before table (take k entries) (take k ids) id.birth tabled (λ j jd at. let t = get_taken ids k j jd at in is.ascending j k jd id t.0 t.1 there)
+
+  pub place_uncovered : (e : Entry) → AllNew entries → slice_get entries k ≡ Some e → ¬ IsCovered table e.bound
+  place_uncovered e all at = uncovered_there table (take k entries) (take k ids) e.bound tabled (first_uncovered entries (take k entries) k e all at refl)
+
+  pub place_step : (e : Entry) (cleared : Entries) → slice_get entries k ≡ Some e → length slots ≡ length table → IsCleared e.bound table cleared → IsTabled (set cleared id.slot (Some (id.birth, e.bound))) (take (k + 1) entries) (take (k + 1) ids)
+  place_step e cleared at room clear =
+      let size : length (take k entries) ≡ length (take k ids) = length_taken entries k (omega (arith, slice_get_within entries k e at)) ∙ sym (length_taken ids k (omega (arith, slice_get_within ids k id there))) in
+      rw (take_step entries k e at, take_step ids k id there) (tabled_more table cleared (take k entries) (take k ids) id e tabled size other_taken (omega (arith, place_inside, room)) clear)

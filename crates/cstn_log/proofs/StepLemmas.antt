@@ -12,16 +12,12 @@ use Rattle.cstn_rules.specs.Derivations.{Entry as TheEntry}
 use Rattle.cstn_rules.specs.Read.{the_entry}
 use Rattle.cstn_log.specs.Entries.{the_entries}
 use Rattle.cstn_log.specs.Cuts.{PremisesBelow, is_marked, rank, renumbered, replaced, moved, cut_from, with_premises, with_premises_of, with_ancestors, stays, marked_staying}
+use Rattle.cstn_log.proofs.ListLemmas.{drop_step}
 use Rattle.cstn_log.proofs.CutLemmas.{cut_marked, cut_unmarked}
 
 -- what an entry of the program's list stands for
 pub entry_read : (L : List Entry) (k : ℕ) (e : Entry) → slice_get L k ≡ Some e → slice_get (the_entries L) k ≡ Some (the_entry e)
 entry_read L k e there = slice_get-map the_entry L k ∙ rw there refl
-
-pub drop_step : {X : Type 0} (xs : List X) (k : ℕ) (x : X) → slice_get xs k ≡ Some x → drop k xs ≡ x ∷ drop (suc k) xs
-drop_step [] k x there = absurd (none-some x there)
-drop_step (y ∷ ys) zero x there = ap (λ z. z ∷ ys) (same_Some y x there)
-drop_step (y ∷ ys) (suc k) x there = drop_step ys k x there
 
 -- the marks below a marked entry
 pub below_marked : (L : List Entry) (k : ℕ) (e : Entry) (marks : List Bool) → slice_get L k ≡ Some e → is_marked marks k ≡ true →
@@ -75,8 +71,12 @@ cut_step_marked marks L steps k e m there marked is =
     rw (more, here) (append_assoc (the_entries steps) (the_entry m ∷ []) rest)
 
 -- and after one that isn't
-pub cut_step_unmarked : (marks : List Bool) (L steps : List Entry) (k : ℕ) (e : Entry) → slice_get L k ≡ Some e → is_marked marks k ≡ false →
+pub cut_step_unmarked : (marks : List Bool) (L steps : List Entry) (k : ℕ) → is_marked marks k ≡ false →
     the_entries steps ++ cut_from marks (suc k) (drop (suc k) (the_entries L)) ≡ the_entries steps ++ cut_from marks k (drop k (the_entries L))
-cut_step_unmarked marks L steps k e there unmarked =
-    let here : cut_from marks k (drop k (the_entries L)) ≡ cut_from marks (suc k) (drop (suc k) (the_entries L)) = rw (drop_step (the_entries L) k (the_entry e) (entry_read L k e there)) (cut_unmarked marks k (the_entry e) (drop (suc k) (the_entries L)) unmarked) in
-    ap (λ xs. the_entries steps ++ xs) (sym here)
+cut_step_unmarked marks L steps k unmarked = ap (λ xs. the_entries steps ++ xs) (sym (here (the_entries L) k))
+  where
+    here : (es : List TheEntry) (n : ℕ) → cut_from marks k (drop n es) ≡ cut_from marks (suc k) (drop (suc n) es)
+    here [] zero = refl
+    here [] (suc n) = refl
+    here (x ∷ xs) zero = cut_unmarked marks k x xs unmarked
+    here (x ∷ xs) (suc n) = here xs n

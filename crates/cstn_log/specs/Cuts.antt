@@ -47,6 +47,15 @@ cut_from marks k (e ∷ es) = (if is_marked marks k then moved marks e ∷ [] el
 abbrev pub cut : List Bool → List Entry → List Entry
 cut marks steps = cut_from marks 0 steps
 
+-- the values at marked places, where the first of the list stands at the place k
+abbrev pub chosen_from : {X : Type 0} → List Bool → ℕ → List X → List X
+chosen_from marks k [] = []
+chosen_from marks k (x ∷ xs) = (if is_marked marks k then x ∷ [] else []) ++ chosen_from marks (suc k) xs
+
+-- the values at marked places
+abbrev pub chosen : {X : Type 0} → List Bool → List X → List X
+chosen marks xs = chosen_from marks 0 xs
+
 -- the premises are marked
 abbrev pub PremisesMarked : List Bool → Why → Type 0
 PremisesMarked marks Base = ⊤

@@ -19,6 +19,10 @@ pub record State : Type 0 where
   pub cap : ℕ
   pub nodes : ℕ
 
+-- one of the ids is this one
+abbrev pub HasId : List SlotId → SlotId → Type 0
+HasId ids id = (k : ℕ) × (slice_get ids k ≡ Some id)
+
 -- the bounds and rules of entries
 abbrev pub the_entries : List Entry → List TheEntry
 the_entries entries = map the_entry entries

@@ -1,70 +1,64 @@
 -- How a log keeps its entries.
-use Rattle.std.specs.Prelude.{◌≡◌, ℕ, ◌<◌, ◌≤◌, ◌+◌, ◌*◌, List, map, length, Option, None, Some, pos, slice_get, slice_index_or}
-use Rattle.std.proofs.Common.{lit<}
+use Rattle.std.specs.Prelude.{◌≡◌, ◌⊎◌, ℕ, ◌<◌, ◌≤◌, ◌+◌, ◌*◌, Bool, true, false, List, length, Option, None, Some, slice_get, slice_index_or}
 use Rattle.cstn_label.specs.declared.bounds.Bound.{Bound}
 use Rattle.cstn_rules.specs.declared.entries.Entry.{Entry}
-use Rattle.cstn_rules.specs.declared.entries.Why.TheVariants.{Base}
 use Rattle.cstn_pool.specs.declared.slot_id.SlotId.{SlotId}
 use Rattle.cstn_pool.specs.Slots.{live_of}
 use Rattle.cstn_minset.specs.Sets.{Entries, IsPlaced, IsCovered}
-use Rattle.cstn_log.specs.Entries.{State, the_entries, IsCoveredBy, IsLive, AllNew}
-use Rattle.cstn_log.specs.Cuts.{AllEarlier}
+use Rattle.cstn_log.specs.Entries.{the_entries, IsCoveredBy, IsLive, AllNew}
+use Rattle.cstn_log.specs.Cuts.{AllEarlier, is_marked, rank, renumbered}
 use Rattle.cstn_log.specs.Chains.{AreMarkChains, AreNodeChains}
 
--- what stands for the entry of an id that the pool doesn't hold, which no log has
-abbrev pub no_entry : Entry
-no_entry = record {
-  bound = record {
-    node = record { 0 = 0 };
-    least = pos 0;
-    label = record { yes = 0; no = 0; yes_in_range = lit< tt; no_in_range = lit< tt };
-  };
-  why = Base;
-}
-
-abbrev pub entry_or : Option (ℕ × Entry) → Entry
-entry_or None = no_entry
-entry_or (Some e) = e.1
-
--- the entry in the slot of an id
-abbrev pub stored : List (Option (ℕ × Entry)) → SlotId → Entry
-stored slots id = entry_or (slice_index_or slots id.slot None)
-
-abbrev pub entries_of : List (Option (ℕ × Entry)) → List SlotId → List Entry
-entries_of slots ids = map (stored slots) ids
-
-abbrev pub state_of : List (Option (ℕ × Entry)) → List SlotId → ℕ → ℕ → State
-state_of slots ids births nodes = record { entries = entries_of slots ids; ids = ids; births = births; cap = length slots; nodes = nodes }
+-- the entry with its premises at the new places, where its list is cut to the marked places
+abbrev pub renewed : List Bool → Entry → Entry
+renewed marks e = record { bound = e.bound; why = renumbered marks e.why }
 
 -- the id of that slot and birth stands at the place
 pub record IsIdAt (ids : List SlotId) (slot birth k : ℕ) : Type 0 where
   pub there : slice_get ids k ≡ Some (record { slot = slot; birth = birth })
 
--- the pool holds an entry under each id
-abbrev pub AreHeld : List (Option (ℕ × Entry)) → List SlotId → Type 0
-AreHeld slots ids = (k : ℕ) (id : SlotId) → slice_get ids k ≡ Some id → (e : Entry) × (slice_index_or slots id.slot None ≡ Some (id.birth, e))
+-- the pool holds the bound of each entry under its id
+abbrev pub AreHeld : List (Option (ℕ × Entry)) → List Entry → List SlotId → Type 0
+AreHeld slots entries ids = (k : ℕ) (id : SlotId) → slice_get ids k ≡ Some id → (e : Entry) × (held : Entry) × (slice_get entries k ≡ Some e) × (slice_index_or slots id.slot None ≡ Some (id.birth, held)) × (held.bound ≡ e.bound)
 
--- the pool holds exactly the entries of the ids, and the minimal set exactly the bounds of the live ones
-pub record IsKept (slots : List (Option (ℕ × Entry))) (births : ℕ) (table : Entries) (ids : List SlotId) (nodes : ℕ) : Type 0 where
-  pub held : AreHeld slots ids
+-- the pool holds what the ids name and nothing else, in ascending births
+pub record IsPooled (slots : List (Option (ℕ × Entry))) (births : ℕ) (entries : List Entry) (ids : List SlotId) : Type 0 where
+  pub held : AreHeld slots entries ids
   pub used : live_of slots ≡ length ids
   pub found : (s : ℕ) (e : ℕ × Entry) → slice_index_or slots s None ≡ Some e → (k : ℕ) × IsIdAt ids s e.0 k
   pub ascending : (k j : ℕ) (id jd : SlotId) → k < j → slice_get ids k ≡ Some id → slice_get ids j ≡ Some jd → id.birth < jd.birth
   pub before : (k : ℕ) (id : SlotId) → slice_get ids k ≡ Some id → id.birth < births
-  pub room : length table ≡ length slots
-  pub covers : (b : Bound) → ¬ IsCovered table b → ¬ IsCoveredBy (entries_of slots ids) b
-  pub placed : (s : ℕ) (e : ℕ × Bound) → IsPlaced table s e → (k : ℕ) × IsIdAt ids s e.0 k × IsLive (entries_of slots ids) k × ((stored slots (record { slot = s; birth = e.0 })).bound ≡ e.1)
-  pub live : (k : ℕ) (id : SlotId) → slice_get ids k ≡ Some id → IsLive (entries_of slots ids) k → IsPlaced table id.slot (id.birth, (stored slots id).bound)
-  pub fresh : AllNew (entries_of slots ids)
-  pub inside : (k : ℕ) (e : Entry) → slice_get (entries_of slots ids) k ≡ Some e → e.bound.node.0 < nodes
 
--- the room for each slot's id, and for its mark, its new place and its entry when some are taken out
-pub record IsRoom (cap told ids marks places steps : ℕ) : Type 0 where
+-- the table holds the bounds of the live entries under their ids and nothing else
+pub record IsTabled (table : Entries) (entries : List Entry) (ids : List SlotId) : Type 0 where
+  pub covers : (b : Bound) → ¬ IsCovered table b → ¬ IsCoveredBy entries b
+  pub placed : (s : ℕ) (b : ℕ × Bound) → IsPlaced table s b → (k : ℕ) × (e : Entry) × IsIdAt ids s b.0 k × (slice_get entries k ≡ Some e) × IsLive entries k × (e.bound ≡ b.1)
+  pub live : (k : ℕ) (id : SlotId) (e : Entry) → slice_get ids k ≡ Some id → slice_get entries k ≡ Some e → IsLive entries k → IsPlaced table id.slot (id.birth, e.bound)
+
+-- none of the entries is dominated by an earlier one, and each has an id under which the pool has it, and the table if it is live
+pub record IsKept (slots : List (Option (ℕ × Entry))) (births : ℕ) (table : Entries) (entries : List Entry) (ids : List SlotId) (nodes : ℕ) : Type 0 where
+  pub pooled : IsPooled slots births entries ids
+  pub tabled : IsTabled table entries ids
+  pub room : length table ≡ length slots
+  pub size : length entries ≡ length ids
+  pub fresh : AllNew entries
+  pub inside : (k : ℕ) (e : Entry) → slice_get entries k ≡ Some e → e.bound.node.0 < nodes
+
+-- what is left of a pool that had the ids, where the first n of them were given back but for the marked ones
+pub record AreLeft (marks : List Bool) (ids : List SlotId) (n : ℕ) (old new : List (Option (ℕ × Entry))) : Type 0 where
+  pub size : length new ≡ length old
+  pub was : (s : ℕ) (e : ℕ × Entry) → slice_index_or new s None ≡ Some e → slice_index_or old s None ≡ Some e
+  pub stays : (k : ℕ) (id : SlotId) → slice_get ids k ≡ Some id → (is_marked marks k ≡ true) ⊎ (n ≤ k) → slice_index_or new id.slot None ≡ slice_index_or old id.slot None
+  pub gone : (k : ℕ) (id : SlotId) → k < n → slice_get ids k ≡ Some id → is_marked marks k ≡ false → slice_index_or new id.slot None ≡ None
+  pub count : live_of new + n ≡ live_of old + rank marks n
+
+-- the room for each entry and its id, and for its mark and its new place when some are taken out
+pub record IsRoom (cap told entries ids marks places : ℕ) : Type 0 where
   pub size : told ≡ cap
+  pub for_entries : cap ≤ entries
   pub for_ids : cap ≤ ids
   pub for_marks : cap ≤ marks
   pub for_places : cap ≤ places
-  pub for_steps : cap ≤ steps
   pub few : cap ≤ 4194304
 
 -- the room for the links of each place in the chains of the propositions and in that of its time-point
@@ -91,8 +85,8 @@ pub record IsIndexed (entries : List Entry) (nodes cap : ℕ) (c : ChainParts) :
   pub room : IsChainRoom cap nodes c.for_marks c.for_ends c.for_nodes
 
 -- and premises are places before the entry, and there is room
-pub record IsLog (slots : List (Option (ℕ × Entry))) (births : ℕ) (table : Entries) (ids : List SlotId) (nodes cap for_ids for_marks for_places for_steps : ℕ) (chains : ChainParts) : Type 0 where
-  pub kept : IsKept slots births table ids nodes
-  pub earlier : AllEarlier (the_entries (entries_of slots ids))
-  pub room : IsRoom (length slots) cap for_ids for_marks for_places for_steps
-  pub indexed : IsIndexed (entries_of slots ids) nodes (length slots) chains
+pub record IsLog (slots : List (Option (ℕ × Entry))) (births : ℕ) (table : Entries) (entries : List Entry) (ids : List SlotId) (nodes cap for_entries for_ids for_marks for_places : ℕ) (chains : ChainParts) : Type 0 where
+  pub kept : IsKept slots births table entries ids nodes
+  pub earlier : AllEarlier (the_entries entries)
+  pub room : IsRoom (length slots) cap for_entries for_ids for_marks for_places
+  pub indexed : IsIndexed entries nodes (length slots) chains

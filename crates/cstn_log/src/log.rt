@@ -1,4 +1,4 @@
-ghost use Rattle.std.specs.Prelude.{List, ◌≡◌, ◌<◌, ◌≤◌, ◌+◌, ◌^◌, ◌++◌, ◌∷◌, [], ◌↔◌, ℕ, Some, None, length, IsTrue, IfOk, IsErr, IsOk, OnErr, slice_get, slice_index_or};
+ghost use Rattle.std.specs.Prelude.{List, ◌≡◌, ◌<◌, ◌≤◌, ◌+◌, ◌^◌, ◌++◌, ◌∷◌, [], ◌↔◌, ℕ, Some, None, false, length, IsTrue, IfOk, IsErr, IsOk, OnErr, slice_get, slice_index_or};
 ghost use Rattle.cstn_label.specs.Read.{the_bound};
 ghost use Rattle.std.specs.List.{Contains};
 ghost use Rattle.cstn_net.specs.Networks.{Network as TheNetwork, Constraint, IsNetwork, count};
@@ -8,14 +8,14 @@ ghost use Rattle.cstn_net.specs.Read.{the_network};
 ghost use Rattle.cstn_rules.specs.Rules.{base};
 ghost use Rattle.cstn_rules.specs.Derivations.{Follows, IsDerivation, IsRefutation};
 ghost use Rattle.cstn_minset.specs.Sets.{IsPlaced};
-ghost use Rattle.cstn_log.specs.Entries.{State, the_entries, IsCoveredBy, IsLive, AllNew, bases, first_entries};
-ghost use Rattle.cstn_log.specs.Cuts.{PremisesBelow, part, dropped};
+ghost use Rattle.cstn_log.specs.Entries.{State, HasId, the_entries, IsCoveredBy, IsLive, AllNew, bases, first_entries};
+ghost use Rattle.cstn_log.specs.Cuts.{PremisesBelow, is_marked as is_marked_at, chosen, marked_staying, part, dropped};
 ghost use Rattle.cstn_log.specs.Kept.{IsIdAt};
 ghost use Rattle.cstn_log.specs.Chains.{IsFirst, IsBehind, IsMarkedAt, IsAtNode};
 
 use crate::chains::{MarkChains, NodeChains, append_all, is_at, is_marked};
-use crate::cutting::{cut, entry_at, mark_ancestors, mark_staying};
-use crate::putting::{clear, put_all};
+use crate::cutting::{choose, count_marked, cut, mark_ancestors, mark_staying, renumber};
+use crate::putting::{clear, give_rest, place_all};
 use cstn_label::{Bound, Label, NodeId, Prop};
 use cstn_minset::MinSet;
 use cstn_net::Network;
@@ -26,36 +26,37 @@ use std::marker::Model;
 
 /// Entries in the order in which they were pushed, none dominated by an earlier one.
 ///
-/// An entry is live while no later one dominates it. The entries lie in a pool, and the bounds of
-/// the live ones in a minimal set, each under the id that [`Log::slot`] answers. All memory is
-/// taken by [`Log::start`]: 381 bytes for each entry that there may be, so 1,598 MB for the largest
-/// cap of 4,194,304, and 16 bytes for each time-point. Of these, 212 bytes an entry are links of
-/// chains, written for entries that are pushed alone, and 45 are used by [`Log::retract`] alone.
+/// An entry is live while no later one dominates it. A pool has the bound of each entry, and a
+/// minimal set those of the live ones, each under the id that [`Log::slot`] answers. An entry keeps
+/// its id while entries before it are taken out, and only its place changes. All memory is taken
+/// by [`Log::start`]: 381 bytes for each entry that there may be, so 1,598 MB for the largest cap
+/// of 4,194,304, and 16 bytes for each time-point. Of these, 212 bytes an entry are links of chains,
+/// written for entries that are pushed alone, and 5 are used by [`Log::retract`] alone.
 #[derive(Drop)]
 pub struct Log {
     pool: Pool<Entry>,
     minimal: MinSet,
+    entries: Vec<Entry>,
     ids: Vec<SlotId>,
     // The places whose labels mark each proposition, and those at each time-point.
     marking: MarkChains,
     standing: NodeChains,
     cap: u32,
-    // Which entries stay when some are taken out, the new place of each, and what is left.
+    // Which entries stay when some are taken out, and the new place of each.
     marks: Vec<bool>,
     places: Vec<u32>,
-    steps: Vec<Entry>,
 }
 
 impl Model for Log {
     ghost use Rattle.std.specs.Prelude.{vec_capacity};
     ghost use Rattle.cstn_log.specs.Entries.{State};
-    ghost use Rattle.cstn_log.specs.Kept.{IsLog, state_of};
+    ghost use Rattle.cstn_log.specs.Kept.{IsLog};
 
     ghost Value = { State };
 
-    ghost view = { λ l. state_of l.pool.slots l.ids.items l.pool.births l.minimal.nodes };
+    ghost view = { λ l. record { entries = l.entries.items; ids = l.ids.items; births = l.pool.births; cap = l.cap; nodes = l.minimal.nodes } };
 
-    ghost invariant = { λ l. IsLog l.pool.slots l.pool.births l.minimal.table l.ids.items l.minimal.nodes l.cap (vec_capacity l.ids) (vec_capacity l.marks) (vec_capacity l.places) (vec_capacity l.steps) (record { mark_links = l.marking.links.items; mark_lasts = l.marking.lasts.items; node_links = l.standing.links.items; node_lasts = l.standing.lasts.items; for_marks = vec_capacity l.marking.links; for_ends = vec_capacity l.marking.lasts; for_nodes = vec_capacity l.standing.links }) };
+    ghost invariant = { λ l. IsLog l.pool.slots l.pool.births l.minimal.table l.entries.items l.ids.items l.minimal.nodes l.cap (vec_capacity l.entries) (vec_capacity l.ids) (vec_capacity l.marks) (vec_capacity l.places) (record { mark_links = l.marking.links.items; mark_lasts = l.marking.lasts.items; node_links = l.standing.links.items; node_lasts = l.standing.lasts.items; for_marks = vec_capacity l.marking.links; for_ends = vec_capacity l.marking.lasts; for_nodes = vec_capacity l.standing.links }) };
 }
 
 impl Log {
@@ -84,22 +85,22 @@ impl Log {
     {
         let pool = Pool::start(alloc, cap)?;
         let minimal = MinSet::start(alloc, nodes, cap)?;
+        let entries = Vec::with_capacity(alloc, cap as usize)?;
         let ids = Vec::with_capacity(alloc, cap as usize)?;
         let marking = MarkChains::empty(alloc, cap)?;
         let standing = NodeChains::empty(alloc, nodes, cap)?;
         let marks = Vec::with_capacity(alloc, cap as usize)?;
         let places = Vec::with_capacity(alloc, cap as usize)?;
-        let steps = Vec::with_capacity(alloc, cap as usize)?;
         Ok(Log {
             pool,
             minimal,
+            entries,
             ids,
             marking,
             standing,
             cap,
             marks,
             places,
-            steps,
         })
     }
 
@@ -138,7 +139,8 @@ impl Log {
         // What follows is at a time-point of the network.
         prove!(e.bound.node.0 < count);
         self.minimal.place(&e.bound, id);
-        let place = self.ids.len() as u32;
+        let place = self.entries.len() as u32;
+        self.entries.push(e).unwrap();
         self.ids.push(id).unwrap();
         self.marking.append(place, e);
         self.standing.append(place, e);
@@ -167,7 +169,7 @@ impl Log {
         ensures largest { self.now.cap ≤ 4194304 }
         ensures all_new { AllNew self.now.entries }
     {
-        self.ids.len() as u32
+        self.entries.len() as u32
     }
 
     /// The entry at a place. It holds in every strategy of each network of which the log is a
@@ -179,7 +181,7 @@ impl Log {
         ensures premises { PremisesBelow k result.why }
         ensures holds { (net : TheNetwork) (table : Table) → IsNetwork net → IsStrategy net table → IsDerivation net (the_entries self.now.entries) → HoldsIn net table (the_bound result.bound) }
     {
-        entry_at(&self.pool, &self.ids, k as usize)
+        self.entries[k as usize]
     }
 
     /// The last entry and its ancestors, in order, with premises as places in the answer. It is a
@@ -198,50 +200,47 @@ impl Log {
         requires { 0 < length self.now.entries }
         ensures { IfOk result (λ steps. the_entries steps.items ≡ part (the_entries self.now.entries)) }
     {
-        let count = self.ids.len();
+        let count = self.entries.len();
         let mut marks = vec![in alloc; false; count]?;
         marks[count - 1] = true;
-        mark_ancestors(&self.pool, &self.ids, &mut marks);
+        mark_ancestors(&self.entries, &mut marks);
         let mut places = Vec::with_capacity(alloc, count)?;
-        let mut steps = Vec::with_capacity(alloc, count)?;
-        cut(&self.pool, &self.ids, &marks, &mut places, &mut steps);
+        let mut steps = Vec::with_capacity(alloc, count_marked(&marks))?;
+        cut(&self.entries, &marks, &mut places, &mut steps);
         Ok(steps)
     }
 
-    /// Takes out the entries that a constraint gave and those with such an ancestor, and answers how
-    /// many they were. What is left is a derivation of each network that differs at most in that
-    /// constraint from one of which the log was one.
+    /// Takes out the entries that a constraint gave and those with such an ancestor, gives their slots
+    /// back, and answers how many they were. The others keep their ids. What is left is a derivation
+    /// of each network that differs at most in that constraint from one of which the log was one.
     pub fn retract(&mut self, constraint: u32) -> u32
-        requires births { self.old.births < 2 ^ 62 }
         ensures dropped { the_entries self.new.entries ≡ dropped (the_entries self.old.entries) constraint }
+        ensures ids { self.new.ids ≡ chosen (marked_staying constraint [] (the_entries self.old.entries)) self.old.ids }
+        ensures gone { (k : ℕ) (id : SlotId) → slice_get self.old.ids k ≡ Some id → is_marked_at (marked_staying constraint [] (the_entries self.old.entries)) k ≡ false → ¬ HasId self.new.ids id }
         ensures answer { result + length self.new.entries ≡ length self.old.entries }
-        ensures births { self.new.births ≤ self.old.births + length self.old.entries }
+        ensures unchanged { result ≡ 0 → self.new ≡ self.old }
+        ensures births { self.new.births ≡ self.old.births }
         ensures size { (self.new.cap ≡ self.old.cap) × (self.new.nodes ≡ self.old.nodes) }
         ensures derivation { (net : TheNetwork) (constraints : List Constraint) → ((c : Constraint) → Contains net.constraints c → (c.id ≡ constraint → ⊥) → Contains constraints c) → IsDerivation net (the_entries self.old.entries) → IsDerivation (record net { constraints = constraints }) (the_entries self.new.entries) }
     {
-        let before = self.ids.len();
         self.marks.clear();
+        mark_staying(&self.entries, constraint, &mut self.marks);
+        let before = self.entries.len();
+        let staying = count_marked(&self.marks);
+        if staying == before {
+            return 0;
+        }
+        give_rest(&mut self.pool, &self.ids, &self.marks);
+        choose(&mut self.ids, &self.marks);
         self.places.clear();
-        self.steps.clear();
-        mark_staying(&self.pool, &self.ids, constraint, &mut self.marks);
-        cut(
-            &self.pool,
-            &self.ids,
-            &self.marks,
-            &mut self.places,
-            &mut self.steps,
-        );
-        clear(&mut self.pool, &mut self.minimal, &mut self.ids);
-        put_all(
-            &mut self.pool,
-            &mut self.minimal,
-            &mut self.ids,
-            &self.steps,
-        );
+        renumber(&mut self.entries, &self.marks, &mut self.places);
+        choose(&mut self.entries, &self.marks);
+        self.minimal.clear();
+        place_all(&mut self.minimal, &self.entries, &self.ids);
         self.marking.clear();
         self.standing.clear();
-        append_all(&mut self.marking, &mut self.standing, &self.steps);
-        (before - self.ids.len()) as u32
+        append_all(&mut self.marking, &mut self.standing, &self.entries);
+        (before - staying) as u32
     }
 
     /// Starts again: the log has the base bounds of the network, or nothing where its cap is below
@@ -250,7 +249,7 @@ impl Log {
         requires net { self.old.nodes ≡ count (the_network net.now) }
         requires births { self.old.births < 2 ^ 62 }
         ensures restart { the_entries self.new.entries ≡ first_entries (the_network net.now) self.old.cap }
-        ensures births { self.new.births ≤ self.old.births + count (the_network net.now) }
+        ensures births { (self.old.births ≤ self.new.births) × (self.new.births ≤ self.old.births + count (the_network net.now)) }
         ensures size { (self.new.cap ≡ self.old.cap) × (self.new.nodes ≡ self.old.nodes) }
         ensures derivation { IsDerivation (the_network net.now) (the_entries self.new.entries) }
     {
@@ -263,7 +262,12 @@ impl Log {
     fn take_all_out(&mut self)
         ensures { self.new ≡ record self.old { entries = []; ids = [] } }
     {
-        clear(&mut self.pool, &mut self.minimal, &mut self.ids);
+        clear(
+            &mut self.pool,
+            &mut self.minimal,
+            &mut self.entries,
+            &mut self.ids,
+        );
         self.marking.clear();
         self.standing.clear();
     }
@@ -328,10 +332,17 @@ impl Log {
         self.ids[k as usize]
     }
 
-    /// The pool, which holds exactly the entries, each under its id.
+    /// Whether some entry has this id. Once an entry went, its id names none ever after.
+    pub fn holds(&self, id: SlotId) -> bool
+        ensures holds { IsTrue result ↔ HasId self.now.ids id }
+    {
+        self.pool.get(id).is_some()
+    }
+
+    /// The pool, which holds the bound of each entry under its id, and nothing else.
     pub fn pool(&self) -> &Pool<Entry>
         ensures births { result.now.births ≡ self.now.births }
-        ensures held { (k : ℕ) (id : SlotId) → slice_get self.now.ids k ≡ Some id → (e : Entry) × (slice_get self.now.entries k ≡ Some e) × (slice_index_or result.now.slots id.slot None ≡ Some (id.birth, e)) }
+        ensures held { (k : ℕ) (id : SlotId) → slice_get self.now.ids k ≡ Some id → (e : Entry) × (held : Entry) × (slice_get self.now.entries k ≡ Some e) × (slice_index_or result.now.slots id.slot None ≡ Some (id.birth, held)) × (held.bound ≡ e.bound) }
         ensures exactly { (s : ℕ) (e : ℕ × Entry) → slice_index_or result.now.slots s None ≡ Some e → (k : ℕ) × IsIdAt self.now.ids s e.0 k }
     {
         &self.pool

@@ -1,62 +1,58 @@
-// The pool, the minimal set and the ids of a log, emptied and filled together.
-ghost use Rattle.std.specs.Prelude.{ℕ, ◌≡◌, ◌<◌, ◌≤◌, ◌+◌, ◌^◌, ◌++◌, ◌∷◌, [], length, Some, slice_get, vec_capacity};
-ghost use Rattle.cstn_log.specs.Entries.{IsCoveredBy, AllNew};
-ghost use Rattle.cstn_log.specs.Kept.{IsKept, entries_of};
+// The pool and the minimal set of a log, emptied, and filled with what is left of it.
+ghost use Rattle.std.specs.Prelude.{ℕ, ◌≡◌, ◌<◌, [], List, Option, Some, length, slice_get, slice_index_or, None, vec_capacity};
+ghost use Rattle.cstn_rules.specs.declared.entries.Entry.{Entry as TheEntry};
+ghost use Rattle.cstn_log.specs.Entries.{AllNew};
+ghost use Rattle.cstn_log.specs.Kept.{AreLeft, IsKept, IsPooled, IsTabled};
 
 use cstn_minset::MinSet;
 use cstn_pool::{Pool, SlotId};
 use cstn_rules::Entry;
 
 // Takes every entry out.
-pub fn clear(pool: &mut Pool<Entry>, minimal: &mut MinSet, ids: &mut Vec<SlotId>)
+pub fn clear(
+    pool: &mut Pool<Entry>,
+    minimal: &mut MinSet,
+    entries: &mut Vec<Entry>,
+    ids: &mut Vec<SlotId>,
+)
     requires { length minimal.old.table ≡ length pool.old.slots }
-    ensures kept { IsKept pool.new.slots pool.new.births minimal.new.table ids.new.items minimal.new.nodes }
-    ensures empty { ids.new.items ≡ [] }
+    ensures kept { IsKept pool.new.slots pool.new.births minimal.new.table entries.new.items ids.new.items minimal.new.nodes }
+    ensures empty { (entries.new.items ≡ []) × (ids.new.items ≡ []) }
     ensures births { pool.new.births ≡ pool.old.births }
     ensures size { (length pool.new.slots ≡ length pool.old.slots) × (minimal.new.nodes ≡ minimal.old.nodes) }
-    ensures room { vec_capacity ids.new ≡ vec_capacity ids.old }
+    ensures room { (vec_capacity entries.new ≡ vec_capacity entries.old) × (vec_capacity ids.new ≡ vec_capacity ids.old) }
 {
     pool.clear();
     minimal.clear();
+    entries.clear();
     ids.clear();
 }
 
-// Puts an entry in after the others.
-fn put(pool: &mut Pool<Entry>, minimal: &mut MinSet, ids: &mut Vec<SlotId>, e: Entry)
-    requires kept { IsKept pool.old.slots pool.old.births minimal.old.table ids.old.items minimal.old.nodes }
-    requires free { length ids.old.items < length pool.old.slots }
-    requires room { length pool.old.slots ≤ vec_capacity ids.old }
-    requires uncovered { IsCoveredBy (entries_of pool.old.slots ids.old.items) e.bound → ⊥ }
-    requires node { e.bound.node.0 < minimal.old.nodes }
-    requires births { pool.old.births < 2 ^ 63 }
-    ensures kept { IsKept pool.new.slots pool.new.births minimal.new.table ids.new.items minimal.new.nodes }
-    ensures entries { entries_of pool.new.slots ids.new.items ≡ entries_of pool.old.slots ids.old.items ++ e ∷ [] }
-    ensures count { length ids.new.items ≡ length ids.old.items + 1 }
-    ensures births { pool.new.births ≡ pool.old.births + 1 }
-    ensures size { (length pool.new.slots ≡ length pool.old.slots) × (minimal.new.nodes ≡ minimal.old.nodes) }
-    ensures room { vec_capacity ids.old ≤ vec_capacity ids.new }
+// Gives the slots of the entries back that aren't marked.
+pub fn give_rest(pool: &mut Pool<Entry>, ids: &[SlotId], marks: &[bool])
+    requires pooled { (entries : List TheEntry) × IsPooled pool.old.slots pool.old.births entries ids.now }
+    requires size { length marks.now ≡ length ids.now }
+    ensures left { AreLeft marks.now ids.now (length ids.now) pool.old.slots pool.new.slots }
+    ensures births { pool.new.births ≡ pool.old.births }
 {
-    let id = pool.take(e).unwrap();
-    minimal.place(&e.bound, id);
-    ids.push(id).unwrap();
+    for k in 0..ids.len() {
+        if !marks[k] {
+            pool.give(ids[k]);
+        }
+    }
 }
 
-// Puts the entries of a list in, in order.
-pub fn put_all(pool: &mut Pool<Entry>, minimal: &mut MinSet, ids: &mut Vec<SlotId>, steps: &[Entry])
-    requires kept { IsKept pool.old.slots pool.old.births minimal.old.table ids.old.items minimal.old.nodes }
-    requires empty { ids.old.items ≡ [] }
-    requires free { length steps.now ≤ length pool.old.slots }
-    requires room { length pool.old.slots ≤ vec_capacity ids.old }
-    requires new { AllNew steps.now }
-    requires nodes { (k : ℕ) (e : Entry) → slice_get steps.now k ≡ Some e → e.bound.node.0 < minimal.old.nodes }
-    requires births { pool.old.births + length steps.now ≤ 2 ^ 63 }
-    ensures kept { IsKept pool.new.slots pool.new.births minimal.new.table ids.new.items minimal.new.nodes }
-    ensures entries { entries_of pool.new.slots ids.new.items ≡ steps.now }
-    ensures births { pool.new.births ≡ pool.old.births + length steps.now }
-    ensures size { (length pool.new.slots ≡ length pool.old.slots) × (minimal.new.nodes ≡ minimal.old.nodes) }
-    ensures room { vec_capacity ids.old ≤ vec_capacity ids.new }
+// Places the bound of each entry in the empty set, under its id.
+pub fn place_all(minimal: &mut MinSet, entries: &[Entry], ids: &[SlotId])
+    requires empty { (s : ℕ) → slice_index_or minimal.old.table s None ≡ None }
+    requires pooled { (slots : List (Option (ℕ × TheEntry))) × (births : ℕ) × IsPooled slots births entries.now ids.now × (length slots ≡ length minimal.old.table) }
+    requires size { length entries.now ≡ length ids.now }
+    requires new { AllNew entries.now }
+    requires nodes { (k : ℕ) (e : TheEntry) → slice_get entries.now k ≡ Some e → e.bound.node.0 < minimal.old.nodes }
+    ensures tabled { IsTabled minimal.new.table entries.now ids.now }
+    ensures size { (length minimal.new.table ≡ length minimal.old.table) × (minimal.new.nodes ≡ minimal.old.nodes) }
 {
-    for k in 0..steps.len() {
-        put(pool, minimal, ids, steps[k]);
+    for k in 0..ids.len() {
+        minimal.place(&entries[k].bound, ids[k]);
     }
 }

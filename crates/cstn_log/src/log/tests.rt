@@ -191,11 +191,8 @@ fn branch(alloc: Global) -> Result<Builder, AllocError> {
 fn taken_out(log: &mut Log, constraint: u32) -> u32
     requires births { log.old.births < 2000 }
     ensures nodes { log.new.nodes ≡ log.old.nodes }
-    ensures births { log.new.births ≤ log.old.births + 16 }
+    ensures births { log.new.births ≡ log.old.births }
 {
-    if log.len() > 16 {
-        return 0;
-    }
     log.retract(constraint)
 }
 
@@ -209,13 +206,32 @@ fn what_is_left_without_a_constraint(rt: HostRuntime) -> Result<(), AllocError> 
     assert!(rt; push_wait(&net, &mut log, 5, 3));
     assert!(rt; push_chain(&net, &mut log, 1, 6));
     assert_eq!(rt; part_len(rt.alloc(), &log)?, 5);
+    let places = [slot_at(&log, 4), slot_at(&log, 5)];
     assert_eq!(rt; taken_out(&mut log, 9), 0);
+    assert!(rt; has(&log, places[1]));
     assert_eq!(rt; taken_out(&mut log, 3), 3);
+    assert_eq!(rt; slot_at(&log, 4), places[0]);
+    assert!(rt; has(&log, places[0]) && !has(&log, places[1]));
     let alive = [true, false, true, true, true, false, false, false];
     assert!(rt; is_at(&log, 1, 2, Label::empty(), alive));
     log.restart(&net);
     assert_eq!(rt; log.len(), 3);
     Ok(())
+}
+
+fn slot_at(log: &Log, k: u32) -> Option<SlotId> {
+    if k < log.len() {
+        Some(log.slot(k))
+    } else {
+        None
+    }
+}
+
+fn has(log: &Log, id: Option<SlotId>) -> bool {
+    match id {
+        Some(id) => log.holds(id),
+        None => false,
+    }
 }
 
 fn part_len(alloc: Global, log: &Log) -> Result<usize, AllocError> {

@@ -1,6 +1,7 @@
 use Rattle.cstn_net.specs.Read.{the_network}
 use Rattle.cstn_log.specs.Entries.{the_entries}
 use Rattle.cstn_check.proofs.Starts.{kept_from, apart_from}
+use Rattle.cstn_check.proofs.SpentLemmas.{none_spent}
 use Rattle.cstn_check.proofs.Outcomes.{full_is, cut_is, grown_is, refuted_is, births_most, longer_of, derived_after}
 use Rattle.cstn_check.proofs.growth.grow.Goals as goal
 
@@ -8,6 +9,9 @@ pub grow_kept-requires-clause-kept : goal.grow_kept-requires-clause-kept
 grow_kept-requires-clause-kept c =
     kept_from (the_network c.args.net.now) c.is_well_formed.ensures (the_entries c.args.log.now.entries) c.requires.derivation
     (record { more = c.requires.bases.0; is = c.requires.bases.1 }) (apart_from c.args.log.now.entries c.len-all_new.ensures.all_new)
+
+pub grow_kept-requires-clause-spent : goal.grow_kept-requires-clause-spent
+grow_kept-requires-clause-spent c = none_spent _ _ _
 
 pub returns-clause-full : goal.returns-clause-full
 returns-clause-full c = full_is (the_network c.args.net.now) c.args.log.now c.grow_kept.new.log c.grow_kept.result (record { closed = c.grow_kept.ensures.closed; refuted = c.grow_kept.ensures.refuted; full = c.grow_kept.ensures.full })

@@ -17,4 +17,6 @@ grow_open-requires-2 c = record {
       c.requires.last c.requires.births (omega (arith, c.len-count.ensures.len, c.len-count.ensures.at_most)) c.len-count.ensures.largest
       (rw (← c.len-count.ensures.len) c.entry-last.ensures.entry)
       (λ r. false≢true (sym c.if-refutes.false ∙ c.refutes.ensures.refutes.1 r));
+  front = c.requires.front;
+  spent = c.requires.spent;
 }

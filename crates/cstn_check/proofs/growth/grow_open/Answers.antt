@@ -1,5 +1,9 @@
-use Rattle.std.proofs.Common.{◌+◌, true, false, arith, refl}
+use Rattle.std.proofs.Common.{◌+◌, length, true, false, arith, refl}
 use Rattle.cstn_net.specs.Read.{the_network}
+use Rattle.cstn_check.specs.Growth.{turn}
+use Rattle.cstn_check.specs.Spent.{fresh_count}
+use Rattle.cstn_check.proofs.CostLemmas.{costs_step, costs_all}
+use Rattle.cstn_check.proofs.SpentLemmas.{spent_after}
 use Rattle.cstn_check.proofs.Growing.{turn_on, end_closed, end_refuted, end_cut}
 use Rattle.cstn_check.proofs.growth.grow_open.Goals as goal
 
@@ -13,7 +17,33 @@ loop-j-preserved c =
       ready = took.ready c.in-Ok-false.field-0-test;
       tries = omega (arith, inv.tries, took.tries);
       turns = omega (arith, took.taken.longer.longer, c.loop-j-test.true, c.len.ensures.len);
+      most = costs_step (length c.args.net.now.constraints) (fresh_count c.args.fresh.now (the_network c.args.net.now).constraints) c.args.old (length c.loop-j.log.entries) (length c.take_turn.new.log.entries) c.loop-j.j c.loop-j.tries.count c.take_turn.new.tries.count
+          took.taken.longer.longer (omega (arith, took.taken.longer.longer, c.loop-j-test.true, c.len.ensures.len)) took.most_fresh took.most c.args.tries.now.count inv.most;
+      spent = spent_after (the_network c.args.net.now) c.loop-j.log c.take_turn.new.log (turn (the_network c.args.net.now) c.loop-j.j) _ c.args.fresh.now c.args.old took.taken (omega (arith, c.requires.front, inv.taken.longer.longer)) inv.spent;
     }
+
+pub take_turn-requires-clause-front : goal.take_turn-requires-clause-front
+take_turn-requires-clause-front c = omega (arith, c.requires.front, c.loop-j.invariant.taken.longer.longer)
+
+pub take_turn-requires-clause-spent : goal.take_turn-requires-clause-spent
+take_turn-requires-clause-spent c = c.loop-j.invariant.spent
+
+pub returns-in-Ok-true-clause-most_tries : goal.returns-in-Ok-true-clause-most_tries
+returns-in-Ok-true-clause-most_tries c = λ not.
+    let inv = c.loop-j.invariant in
+    let took = c.in-Ok-true.ensures in
+    let m = length c.args.net.now.constraints in
+    let f = fresh_count c.args.fresh.now (the_network c.args.net.now).constraints in
+    let step = costs_step m f c.args.old (length c.loop-j.log.entries) (length c.take_turn.new.log.entries) c.loop-j.j c.loop-j.tries.count c.take_turn.new.tries.count
+    took.taken.longer.longer (omega (arith, took.taken.longer.longer, c.loop-j-test.true, c.len.ensures.len)) took.most_fresh took.most c.args.tries.now.count inv.most in
+    omega (arith, step, costs_all m f c.args.old (length c.take_turn.new.log.entries) (c.loop-j.j + 1) (omega (arith, took.taken.longer.longer, c.loop-j-test.true, c.len.ensures.len)) (omega (arith, c.requires.front, inv.taken.longer.longer, took.taken.longer.longer)))
+
+pub returns-clause-most_tries : goal.returns-clause-most_tries
+returns-clause-most_tries c = λ not.
+    let inv = c.loop-j.invariant in
+    let m = length c.args.net.now.constraints in
+    let f = fresh_count c.args.fresh.now (the_network c.args.net.now).constraints in
+    omega (arith, inv.most, costs_all m f c.args.old (length c.loop-j.log.entries) c.loop-j.j inv.turns (omega (arith, c.requires.front, inv.taken.longer.longer)))
 
 pub returns-in-Ok-true-clause-refuted : goal.returns-in-Ok-true-clause-refuted
 returns-in-Ok-true-clause-refuted c = λ same.

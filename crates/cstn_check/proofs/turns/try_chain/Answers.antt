@@ -64,3 +64,9 @@ returns-clause-ready c =
     ready_then (the_network c.args.net.now) c.args.log.now c.put.new.log (chain_at (the_constraint c.args.c.now) c.args.j ∷ [])
     c.put.result c.is_of_network.ensures.network (c.is_of_network.ensures.constraint, tt) c.requires.ready
     (returns-clause-taken c)
+
+pub returns-in_default-clause-most : goal.returns-in_default-clause-most
+returns-in_default-clause-most c = omega (arith, c.chain.ensures.counted)
+
+pub returns-clause-most : goal.returns-clause-most
+returns-clause-most c = omega (arith, c.chain.ensures.counted)

@@ -83,3 +83,9 @@ pub returns-clause-ready : goal.returns-clause-ready
 returns-clause-ready c =
     ready_then (the_network c.args.net.now) c.args.log.now c.put.new.log (wait_at c.args.i c.args.j ∷ [])
     c.put.result c.is_well_formed.ensures (tt, tt) c.requires.ready (returns-clause-taken c)
+
+pub returns-in_default-clause-most : goal.returns-in_default-clause-most
+returns-in_default-clause-most c = omega (arith, c.wait.ensures.counted)
+
+pub returns-clause-most : goal.returns-clause-most
+returns-clause-most c = omega (arith, c.wait.ensures.counted)

@@ -15,6 +15,7 @@ loop-i-init c = record {
   ready = c.requires.ready;
   upto = c.next_waiting-i.ensures.upto.1;
   tries = omega arith;
+  most = omega arith;
 }
 
 pub try_both-requires-clause-first : goal.try_both-requires-clause-first
@@ -56,4 +57,5 @@ loop-i-preserved c =
       ready = ready;
       upto = next.ensures.upto.1;
       tries = omega (arith, c.loop-i.invariant.tries, c.in-Ok-false.ensures.tries);
+      most = omega (arith, c.loop-i.invariant.most, c.in-Ok-false.ensures.most, next.ensures.upto.0);
     }

@@ -1,4 +1,4 @@
-use Rattle.std.proofs.Common.{◌≤◌, ◌+◌, ◌-◌, false}
+use Rattle.std.proofs.Common.{◌≤◌, ◌+◌, ◌*◌, ◌-◌, false}
 use Rattle.cstn_net.specs.Read.{the_network}
 use Rattle.cstn_log.specs.Entries.{the_entries}
 use Rattle.cstn_check.specs.Growth.{tried, waits_below}
@@ -11,6 +11,7 @@ invariant-loop-i l = record {
   ready : IsOpen (the_network l.fn.net) l.log;
   upto : l.i ≤ l.fn.j + 1;
   tries : l.fn.tries.count ≤ l.tries.count;
+  most : l.tries.count ≤ l.fn.tries.count + 2 * l.i;
 }
 
 abbrev pub decreases-loop-i : goal.decreases-loop-i

@@ -1,16 +1,19 @@
-use Rattle.std.proofs.Common.{rules, ◌∙◌, length, arith, sym, subst, ap}
+use Rattle.std.proofs.Common.{rules, [], ◌≡◌, ◌∙◌, length, arith, sym, subst, ap}
 use Rattle.std.proofs.lemmas.List.{length-map}
 use Rattle.cstn_net.specs.Networks.{count}
 use Rattle.cstn_net.specs.Read.{the_network}
 use Rattle.cstn_rules.specs.Read.{the_entry}
 use Rattle.cstn_log.specs.Entries.{State, the_entries, bases}
-use Rattle.cstn_check.specs.Growth.{grow}
+use Rattle.cstn_check.specs.declared.growth.Grown.TheVariants.{Full}
+use Rattle.cstn_check.specs.declared.verdicts.Verdict.TheVariants.{Yes, Full as FullVerdict}
+use Rattle.cstn_check.specs.Spent.{AreSpent}
+use Rattle.cstn_check.specs.Growth.{grow, log_of}
 use Rattle.cstn_check.specs.Turns.{IsRefutedLast}
 use Rattle.cstn_check.proofs.Lists.{extends_itself}
 use Rattle.cstn_check.proofs.Last.{bases_stand}
 use Rattle.cstn_check.proofs.Starts.{bases_go_on}
 use Rattle.cstn_edit.specs.Sessions.{IsKeptLog}
-use Rattle.cstn_edit.proofs.VerdictLemmas.{first_bases, grown_log, bases_log, afresh_verdict, afresh_yes}
+use Rattle.cstn_edit.proofs.VerdictLemmas.{first_bases, grown_log, bases_log, afresh_verdict, afresh_yes, afresh_spent, spent_entries}
 use Rattle.cstn_edit.proofs.answers.answer_afresh.Goals.{then-eq, else-eq}
 use Rattle.cstn_edit.proofs.answers.answer_afresh.Goals as goal
 
@@ -57,3 +60,18 @@ returns-clause-kept c =
 pub returns-clause-yes : goal.returns-clause-yes
 returns-clause-yes c = λ load yes.
     afresh_yes (the_network c.args.net.now) c.args.log.now.cap load c.verdict_of.result c.is_well_formed.ensures (returns-clause-verdict c) yes
+
+pub returns-clause-spent : goal.returns-clause-spent
+returns-clause-spent c = λ load said.
+    let net = the_network c.args.net.now in
+    elim c.if-eq.branch [
+      | then-eq w ↦
+          let full : c.grow-grown.result ≡ Full = search (rules, w.if-eq.ensures) in
+          let same : FullVerdict ≡ Yes load = sym (c.verdict_of.ensures.full full) ∙ said in
+          let clash : ⊥ = cc in absurd clash
+      | else-eq w ↦ subst (λ (s : State). AreSpent net (the_entries s.entries) [] (length s.entries)) (sym w.log-is)
+          (spent_entries net c.grow-grown.new.log.entries (log_of net) []
+          (c.grow-grown.ensures.grown (λ full. search (rules, full, w.if-eq.ensures))
+          ∙ ap (grow net) (c.restart.ensures.restart ∙ first_bases net c.args.log.now.cap c.requires.room))
+          (afresh_spent net c.args.log.now.cap load c.verdict_of.result c.is_well_formed.ensures (returns-clause-verdict c) said))
+    ]

@@ -1,18 +1,17 @@
 use Rattle.std.proofs.Common.{◌≡◌, ◌≤◌, ◌++◌, length, drop}
 use Rattle.std.specs.Prelude.{vec_capacity}
 use Rattle.cstn_log.specs.Entries.{the_entries}
-use Rattle.cstn_log.specs.Kept.{entries_of}
 use Rattle.cstn_log.specs.Cuts.{rank, cut, cut_from}
 use Rattle.cstn_log.proofs.StepLemmas.{AreRanks}
 use Rattle.cstn_log.proofs.cutting.cut.Given as goal
 
 abbrev pub invariant-loop-k : goal.invariant-loop-k
 invariant-loop-k l = record {
-  end : l.k-end ≡ length l.ids;
+  end : l.k-end ≡ length l.entries;
   ranks : AreRanks l.marks l.places.items l.k;
   size : length l.steps.items ≡ rank l.marks l.k;
   at_most : length l.steps.items ≤ l.k;
   place_room : vec_capacity l.fn.places ≤ vec_capacity l.places;
   step_room : vec_capacity l.fn.steps ≤ vec_capacity l.steps;
-  reach : the_entries l.steps.items ++ cut_from l.marks l.k (drop l.k (the_entries (entries_of l.pool.slots l.ids))) ≡ cut l.marks (the_entries (entries_of l.pool.slots l.ids));
+  reach : the_entries l.steps.items ++ cut_from l.marks l.k (drop l.k (the_entries l.entries)) ≡ cut l.marks (the_entries l.entries);
 }

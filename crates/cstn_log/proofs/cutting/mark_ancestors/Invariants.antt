@@ -1,6 +1,5 @@
 use Rattle.std.proofs.Common.{◌≡◌, ◌≤◌, length}
 use Rattle.cstn_log.specs.Entries.{the_entries}
-use Rattle.cstn_log.specs.Kept.{entries_of}
 use Rattle.cstn_log.specs.Cuts.{with_ancestors}
 use Rattle.cstn_log.proofs.cutting.mark_ancestors.Given as goal
 
@@ -9,7 +8,7 @@ decreases-loop-k l = l.k
 
 abbrev pub invariant-loop-k : goal.invariant-loop-k
 invariant-loop-k l = record {
-  inside : l.k ≤ length l.ids;
-  size : length l.marks ≡ length l.ids;
-  reach : with_ancestors (the_entries (entries_of l.pool.slots l.ids)) l.k l.marks ≡ with_ancestors (the_entries (entries_of l.pool.slots l.ids)) (length l.ids) l.fn.marks;
+  inside : l.k ≤ length l.entries;
+  size : length l.marks ≡ length l.entries;
+  reach : with_ancestors (the_entries l.entries) l.k l.marks ≡ with_ancestors (the_entries l.entries) (length l.entries) l.fn.marks;
 }

@@ -11,6 +11,11 @@ use Rattle.cstn_edit.specs.Sessions.{SessionParts, IsLeastUnobserved, next_id}
 use Rattle.cstn_check.proofs.Decided.{plain_true}
 use Rattle.cstn_edit.specs.Edits.{ValueRange, refusal_of, the_session, with_added}
 use Rattle.cstn_edit.proofs.EditLemmas.{add_at_limit, add_out_of_range, add_not_plain, add_by_observed, value_true, value_false, plain_false, least_first, none_first, room_seen, added_seen}
+use Rattle.std.proofs.lemmas.List.{length-map}
+use Rattle.cstn_net.specs.declared.constraints.Constraint.{Constraint}
+use Rattle.std.specs.Prelude.{vec_capacity}
+use Rattle.cstn_edit.specs.Fresh.{ids_of}
+use Rattle.cstn_edit.proofs.FreshLemmas.{some_short, added_freshened}
 use Rattle.cstn_edit.proofs.AddLemmas.{added_session, least_prop}
 use Rattle.cstn_edit.proofs.sessions.Session.add.Goals.{in-None, in-Some-highest}
 use Rattle.cstn_edit.proofs.sessions.Session.add.Goals as goal
@@ -18,7 +23,7 @@ use Rattle.cstn_edit.proofs.sessions.Session.add.Goals as goal
 pub returns-in_err-check_limit-clause-refusal : goal.returns-in_err-check_limit-clause-refusal
 returns-in_err-check_limit-clause-refusal c =
     let v = c.args.self.now in
-    let upto : v.edits ≤ 1000000 = subst (λ (s : SessionParts). s.edits ≤ 1000000) c.self.view_is c.self.invariant.few_edits in
+    let upto : v.edits ≤ 1000000 = subst (λ (s : SessionParts). s.edits ≤ 1000000) c.self.view_is c.self.invariant.0.few_edits in
     let many : v.edits ≡ 1000000 = elim (cases_lt v.edits 1000000) [
       | inl few ↦ absurd (false≢true (c.in_err-check_limit.ensures.below.1 few))
       | inr above ↦ omega arith
@@ -100,5 +105,16 @@ pub invariant_of-self : goal.invariant_of-self
 invariant_of-self c =
     let few = subst (λ (s : SessionParts). s.edits < 1000000) (sym c.self.view_is) (c.in_ok-check_limit.ensures.below.0 refl) in
     let short = subst (λ cs. length cs < c.self.inside.room) c.constraints.ensures.constraints c.if-constraints-self.false in
-    added_session c.self.inside.net c.insert.new.self _ c.self.inside.log c.self.inside.room c.self.inside.edits c.self.inside.highest
-    c.self.inside.last c.self.invariant c.insert.ensures.insert c.insert.ensures.spare few short (new_id c)
+    let pushed = rw c.unwrap.ensures at c.push.ensures.items in
+    let above : next_id c.self.inside.highest ≤ c.match-self.id = omega (arith, new_id c) in (
+      added_session c.self.inside.net c.insert.new.self _ c.self.inside.log c.self.inside.room c.self.inside.edits c.self.inside.highest
+          c.self.inside.last c.self.invariant.0 c.insert.ensures.insert c.insert.ensures.spare few short (new_id c),
+      added_freshened c.self.inside.net c.insert.new.self _ c.self.inside.log c.self.inside.room c.self.inside.fresh.items c.push.new.self.items c.self.inside.settled (vec_capacity c.self.inside.fresh) (vec_capacity c.self.inside.list) (vec_capacity c.push.new.self) (next_id c.self.inside.highest)
+          c.self.invariant.1 c.self.invariant.0.below above c.insert.ensures.insert pushed (omega (arith, c.push.ensures.capacity, c.push.ensures.lower_bound)),
+    )
+
+pub unwrap-requires : goal.unwrap-requires
+unwrap-requires c =
+    let short = subst (λ cs. length cs < c.self.inside.room) c.constraints.ensures.constraints c.if-constraints-self.false in
+    let some = some_short c.self.inside.fresh.items (ids_of c.self.inside.net.constraints) c.self.invariant.1.some in
+    c.push.ensures.succeeds (omega (arith, some, short, length-map c.self.inside.net.constraints (λ (d : Constraint). d.id), c.self.invariant.1.for_fresh, c.self.inside.fresh.ok))

@@ -1,4 +1,4 @@
-use Rattle.std.proofs.Common.{◌≡◌, ◌≢◌, Err, w32, to_z, of_z, ◌<◌, ◌+◌, ◌∙◌, map, None, Some, refl, sym, subst, ap, arith}
+use Rattle.std.proofs.Common.{◌≡◌, ◌≢◌, Err, w32, to_z, of_z, ◌<◌, ◌+◌, ◌∙◌, ◌↔◌, length, true, map, None, Some, refl, sym, subst, ap, arith}
 use Rattle.std.proofs.lemmas.List.{length-map}
 use Rattle.std.specs.List.{All}
 use Rattle.std.proofs.lemmas.Bool.{false≢true}
@@ -6,11 +6,15 @@ use Rattle.std.proofs.lemmas.Int.{to_z-of_z}
 use Rattle.cstn_net.specs.Networks.{IsValue, count}
 use Rattle.cstn_net.specs.Read.{NetworkParts, the_network, with_most}
 use Rattle.cstn_log.specs.Cuts.{dropped}
-use Rattle.cstn_log.specs.Entries.{the_entries}
+use Rattle.cstn_log.specs.Entries.{State, the_entries}
 use Rattle.cstn_edit.specs.declared.errors.EditError.TheVariants.{ValueRange}
 use Rattle.cstn_edit.specs.Sessions.{SessionParts, IsSession, next_id, kept_of, kept_list}
 use Rattle.cstn_edit.specs.Edits.{ValueRange as Refused, with_value, with_changed, the_session}
 use Rattle.cstn_edit.proofs.EditLemmas.{change_none, change_out_of_range, change_some, value_true, value_false, none_seen, some_seen, with_most_seen, others_seen}
+use Rattle.std.specs.Prelude.{vec_capacity}
+use Rattle.cstn_net.specs.Read.{the_constraint}
+use Rattle.cstn_edit.specs.Fresh.{IsFreshened}
+use Rattle.cstn_edit.proofs.FreshLemmas.{cut_freshened, with_there}
 use Rattle.cstn_edit.proofs.CutLemmas.{cut_session, kept_dropped, others_with, with_below}
 use Rattle.cstn_edit.proofs.sessions.Session.change.Goals as goal
 
@@ -29,17 +33,22 @@ returns-then-not-is_value-clause-value c = λ v.
 pub invariant_of-self : goal.invariant_of-self
 invariant_of-self c =
     let inside = c.self.inside in
-    let old = c.self.invariant in
+    let old = c.self.invariant.0 in
     let cs = inside.net.constraints in
     let new : NetworkParts = record inside.net { constraints = map (with_most c.args.id (to_z w32 (of_z w32 c.args.most))) cs } in
     let long = length-map cs (with_most c.args.id (to_z w32 (of_z w32 c.args.most))) in
-    subst (λ (n : NetworkParts). IsSession n c.retract.new.self inside.room (inside.edits + 1) inside.highest None) (sym c.set_most.ensures.set)
-    (cut_session inside.net new inside.log c.retract.new.self inside.room inside.edits c.args.id inside.highest inside.last old
-    (subst (λ (v : SessionParts). v.edits < 1000000) (sym c.self.view_is) (c.in_ok-check_limit.ensures.below.0 refl))
-    (omega (arith, c.len-at_most.ensures.len, c.len-at_most.ensures.at_most)) refl
-    (others_with c.args.id (to_z w32 (of_z w32 c.args.most)) cs) (omega (arith, long)) (omega (arith, long, old.spare))
-    (with_below c.args.id (next_id inside.highest) (to_z w32 (of_z w32 c.args.most)) cs old.below)
-    c.retract.ensures.dropped c.retract.ensures.births c.retract.ensures.size.0 c.retract.ensures.size.1)
+    let made = rw c.set_most.ensures.set at c.freshen.ensures.fresh in
+    subst (λ (n : NetworkParts). IsSession n c.retract-gone.new.self inside.room (inside.edits + 1) inside.highest None × IsFreshened n c.retract-gone.new.self inside.room c.freshen.new.fresh.items c.stays_settled-self-inside.result (vec_capacity c.freshen.new.fresh) (vec_capacity c.freshen.new.list)) (sym c.set_most.ensures.set) (
+      cut_session inside.net new inside.log c.retract-gone.new.self inside.room inside.edits c.args.id inside.highest inside.last old
+          (subst (λ (v : SessionParts). v.edits < 1000000) (sym c.self.view_is) (c.in_ok-check_limit.ensures.below.0 refl))
+          (omega (arith, c.len-at_most.ensures.len, c.len-at_most.ensures.at_most)) refl
+          (others_with c.args.id (to_z w32 (of_z w32 c.args.most)) cs) (omega (arith, long)) (omega (arith, long, old.spare))
+          (with_below c.args.id (next_id inside.highest) (to_z w32 (of_z w32 c.args.most)) cs old.below)
+          c.retract-gone.ensures.dropped (omega (arith, c.retract-gone.ensures.births)) c.retract-gone.ensures.size.0 c.retract-gone.ensures.size.1,
+      cut_freshened inside.net new inside.log c.retract-gone.new.self inside.room c.args.id c.retract-gone.result inside.fresh.items c.freshen.new.fresh.items inside.settled c.stays_settled-self-inside.result _ _ _ _
+          c.self.invariant.1 refl (λ d has other. with_there c.args.id (to_z w32 (of_z w32 c.args.most)) (map the_constraint cs) d (rw (with_most_seen c.args.id (to_z w32 (of_z w32 c.args.most)) cs) at has) other) made c.stays_settled-self-inside.ensures c.retract-gone.ensures.unchanged
+          (omega (arith, c.freshen.ensures.room.0, c.self.invariant.1.for_list)) (omega (arith, c.freshen.ensures.room.1, c.self.invariant.1.for_fresh)),
+    )
 
 pub returns-clause-none : goal.returns-clause-none
 returns-clause-none c = λ other. (
@@ -53,10 +62,10 @@ returns-clause-kept c = λ ok.
     let inside = c.self.inside in
     let points : count (the_network c.set_most.new.self) ≡ count (the_network inside.net) =
     ap (λ (n : NetworkParts). count (the_network n)) c.set_most.ensures.set in
-    subst (λ (v : SessionParts). kept_list (the_network c.set_most.new.self) c.retract.new.self.cap (the_entries c.retract.new.self.entries) ≡ dropped (kept_of v) c.args.id)
+    subst (λ (v : SessionParts). kept_list (the_network c.set_most.new.self) c.retract-gone.new.self.cap (the_entries c.retract-gone.new.self.entries) ≡ dropped (kept_of v) c.args.id)
     c.self.view_is
-    (kept_dropped (the_network inside.net) (the_network c.set_most.new.self) inside.log c.retract.new.self c.args.id points
-    c.retract.ensures.size.0 c.retract.ensures.dropped)
+    (kept_dropped (the_network inside.net) (the_network c.set_most.new.self) inside.log c.retract-gone.new.self c.args.id points
+    c.retract-gone.ensures.size.0 c.retract-gone.ensures.dropped)
 
 pub returns-then-not-has_constraint-clause-refusal : goal.returns-then-not-has_constraint-clause-refusal
 returns-then-not-has_constraint-clause-refusal c =
@@ -85,7 +94,28 @@ returns-clause-session c = λ ok.
     let inside = c.self.inside in
     let cs = inside.net.constraints in
     let most = to_z w32 (of_z w32 c.args.most) in
-    others_seen c.args.self.now inside.net c.set_most.new.self inside.log c.retract.new.self (map (with_most c.args.id most) cs)
-    (map (with_value c.args.id most)) inside.room inside.edits c.args.id inside.net.spare inside.tries.count inside.highest inside.last
-    c.self.view_is c.set_most.ensures.set (with_most_seen c.args.id most cs) c.retract.ensures.size.0 c.retract.ensures.dropped
+    others_seen c.args.self.now inside.net c.set_most.new.self inside.log c.retract-gone.new.self (map (with_most c.args.id most) cs)
+    (map (with_value c.args.id most)) inside.room inside.edits c.args.id inside.net.spare inside.tries.count inside.highest inside.last inside.fresh.items inside.settled
+    c.self.view_is c.set_most.ensures.set (with_most_seen c.args.id most cs) c.retract-gone.ensures.size.0 c.retract-gone.ensures.dropped
     ∙ ap (λ z. with_changed (the_session c.args.self.now) c.args.id z) (to_z-of_z w32 c.args.most c.ranges.most)
+
+pub returns-then-not-is_value-clause-none : goal.returns-then-not-is_value-clause-none
+returns-then-not-is_value-clause-none c = λ other. (
+  λ e. (let clash : ⊥ = cc in absurd clash),
+  λ p. absurd (false≢true (sym (c.has_constraint.ensures.1 (subst (λ (v : SessionParts). All (λ d. d.id ≢ c.args.id) v.net.constraints) (sym c.self.view_is) p.1))
+      ∙ c.if-not-has_constraint.false)),
+)
+
+pub freshen-requires : goal.freshen-requires
+freshen-requires c =
+    let cs = c.self.inside.net.constraints in
+    let long = length-map cs (with_most c.args.id (to_z w32 (of_z w32 c.args.most))) in
+    omega (arith, ap (λ (n : NetworkParts). length n.constraints) c.set_most.ensures.set, long, c.self.invariant.0.fits, c.self.invariant.1.for_list)
+
+pub returns-clause-settled : goal.returns-clause-settled
+returns-clause-settled c = λ ok.
+    let both = c.stays_settled-self-inside.ensures in
+    subst (λ (v : SessionParts). (c.stays_settled-self-inside.result ≡ true) ↔ ((v.settled ≡ true) × (c.retract-gone.new.self.entries ≡ v.entries))) c.self.view_is (
+      λ t. let b = both.0 t in (b.0, ap (λ (s : State). s.entries) (c.retract-gone.ensures.unchanged b.1)),
+      λ p. both.1 (p.0, omega (arith, c.retract-gone.ensures.answer, ap length p.1)),
+    )

@@ -2,6 +2,9 @@ use Rattle.std.proofs.Common.{arith, sym, subst}
 use Rattle.cstn_net.specs.Read.{the_network}
 use Rattle.cstn_log.specs.Entries.{the_entries, first_entries}
 use Rattle.std.proofs.Common.{◌≡◌}
+use Rattle.std.proofs.lemmas.Bool.{false≢true}
+use Rattle.cstn_edit.specs.Fresh.{ids_of}
+use Rattle.cstn_edit.proofs.FreshLemmas.{some_none}
 use Rattle.cstn_edit.proofs.StartLemmas.{started_log, started_session, started_seen}
 use Rattle.cstn_edit.proofs.sessions.Session.start.Goals as goal
 
@@ -12,10 +15,17 @@ invariant_of-result c =
     let size = c.in_ok-log.ensures.size in
     let starts = subst (λ cap. the_entries log.entries ≡ first_entries net cap) (sym size.0) c.in_ok-log.ensures.start in
     let kept = started_log net log starts size.1 c.in_ok-log.ensures.derivation (omega (arith, size.0, c.requires.some))
-    (omega (arith, size.0, c.requires.most)) in
-    started_session c.args.net c.reserve.new.self log c.args.room c.highest_id-highest.result c.reserve.ensures.well_formed
-    c.reserve.ensures.same c.requires.room c.requires.most_room c.requires.ids c.in_ok-reserve.ensures.room kept
-    c.in_ok-log.ensures.births c.highest_id-highest.ensures
+    (omega (arith, size.0, c.requires.most)) in (
+      started_session c.args.net c.reserve.new.self log c.args.room c.highest_id-highest.result c.reserve.ensures.well_formed
+          c.reserve.ensures.same c.requires.room c.requires.most_room c.requires.ids c.in_ok-reserve.ensures.room kept
+          c.in_ok-log.ensures.births c.highest_id-highest.ensures,
+      record {
+        some = rw c.in_ok-fresh.ensures.items (some_none (ids_of c.reserve.new.self.constraints));
+        spent = λ t. absurd (false≢true t);
+        for_fresh = omega (arith, c.in_ok-fresh.ensures.capacity);
+        for_list = omega (arith, c.in_ok-list.ensures.capacity);
+      },
+    )
 
 pub returns-clause-session : goal.returns-clause-session
 returns-clause-session c =

@@ -5,5 +5,5 @@ use Rattle.cstn_log.proofs.log.Log.covered.Goals as goal
 
 pub returns : goal.returns
 returns c = record {
-  covered = subst (λ (v : State). IsTrue c.covers.result ↔ IsCoveredBy v.entries c.args.b.now) c.self.view_is (covered_there _ _ _ _ _ c.args.b.now c.covers.result c.self.invariant.kept c.covers.ensures.covers);
+  covered = subst (λ (v : State). IsTrue c.covers.result ↔ IsCoveredBy v.entries c.args.b.now) c.self.view_is (covered_there _ _ _ c.args.b.now c.covers.result c.self.invariant.kept.tabled c.covers.ensures.covers);
 }

@@ -1,0 +1,27 @@
+-- The fresh ids of a session: those of the constraints that were added or changed since the last verdict.
+use Rattle.std.specs.Prelude.{ℕ, ◌≡◌, ◌<◌, ◌≤◌, ◌==◌, Bool, true, not, ◌||◌, List, length, map}
+use Rattle.std.specs.List.{filter}
+use Rattle.cstn_net.specs.declared.constraints.Constraint.{Constraint}
+use Rattle.cstn_net.specs.Read.{NetworkParts, the_network}
+use Rattle.cstn_log.specs.Entries.{State, the_entries}
+use Rattle.cstn_check.specs.Spent.{AreSpent, is_fresh}
+
+-- the ids of constraints
+abbrev pub ids_of : List Constraint → List ℕ
+ids_of cs = map (λ c. c.id) cs
+
+-- those of the ids that were fresh, and this one
+abbrev pub fresh_with : ℕ → List ℕ → List ℕ → List ℕ
+fresh_with id fresh ids = filter (λ x. (x == id) || is_fresh fresh x) ids
+
+-- these are some of the ids, in their order
+abbrev pub AreSome : List ℕ → List ℕ → Type 0
+AreSome fresh ids = fresh ≡ filter (λ x. is_fresh fresh x) ids
+
+-- the fresh ids are among those of the constraints and there is room for them, and where the log is settled, nothing is left to
+-- do on its entries but with fresh constraints
+pub record IsFreshened (net : NetworkParts) (log : State) (room : ℕ) (fresh : List ℕ) (settled : Bool) (held spare : ℕ) : Type 0 where
+  pub some : AreSome fresh (ids_of net.constraints)
+  pub spent : settled ≡ true → AreSpent (the_network net) (the_entries log.entries) fresh (length log.entries)
+  pub for_fresh : room ≤ held
+  pub for_list : room ≤ spare

@@ -1,0 +1,68 @@
+// The fresh ids of a session, in the order of the constraints.
+ghost use Rattle.std.specs.Prelude.{◌≡◌, ◌≤◌, ◌↔◌, ℕ, true, ◌==◌, ◌||◌, [], length, vec_capacity};
+ghost use Rattle.cstn_check.specs.declared.verdicts.Verdict.{Verdict};
+ghost use Rattle.cstn_check.specs.Spent.{is_fresh};
+ghost use Rattle.cstn_edit.specs.Fresh.{fresh_with, ids_of};
+
+use crate::outcomes::Outcome;
+use cstn_check::Verdict;
+use cstn_net::Network;
+use std::mem::swap;
+
+// Leaves those of the ids that were fresh and still are of constraints, and this one if it is.
+pub fn freshen(net: &Network, fresh: &mut Vec<u32>, list: &mut Vec<u32>, id: u32)
+    requires room { length net.now.constraints ≤ vec_capacity list.old }
+    ensures fresh { fresh.new.items ≡ fresh_with id fresh.old.items (ids_of net.now.constraints) }
+    ensures room { (vec_capacity list.old ≤ vec_capacity fresh.new) × (vec_capacity list.new ≡ vec_capacity fresh.old) }
+{
+    list.clear();
+    pick_fresh(net, fresh, list, id);
+    swap(fresh, list);
+}
+
+// Picks those of the ids that are fresh, and this one.
+fn pick_fresh(net: &Network, fresh: &[u32], list: &mut Vec<u32>, id: u32)
+    requires empty { list.old.items ≡ [] }
+    requires room { length net.now.constraints ≤ vec_capacity list.old }
+    ensures picked { list.new.items ≡ fresh_with id fresh.now (ids_of net.now.constraints) }
+    ensures room { vec_capacity list.old ≤ vec_capacity list.new }
+{
+    let constraints = net.constraints();
+    for k in 0..constraints.len() {
+        let known = constraints[k].id;
+        if is_picked(fresh, known, id) {
+            list.push(known).unwrap();
+        }
+    }
+}
+
+fn is_picked(fresh: &[u32], known: u32, id: u32) -> bool
+    ensures { result ≡ (known == id) || is_fresh fresh.now known }
+{
+    if known == id {
+        return true;
+    }
+    is_known(fresh, known)
+}
+
+fn is_known(fresh: &[u32], id: u32) -> bool
+    ensures { result ≡ is_fresh fresh.now id }
+{
+    fresh.iter().any(|known| *known == id)
+}
+
+// Whether nothing was left to do before, and nothing went.
+pub fn stays_settled(settled: bool, gone: u32) -> bool
+    ensures { (result ≡ true) ↔ ((settled ≡ true) × (gone ≡ 0)) }
+{
+    settled && gone == 0
+}
+
+pub fn is_yes(outcome: Outcome) -> bool
+    ensures { (result ≡ true) ↔ ((load : ℕ) × (outcome.verdict ≡ Verdict.Yes load)) }
+{
+    match outcome.verdict {
+        Verdict::Yes { .. } => true,
+        Verdict::No { .. } | Verdict::Full => false,
+    }
+}
