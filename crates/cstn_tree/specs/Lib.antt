@@ -1,0 +1,5 @@
+pub mod Trees
+pub mod Good
+pub mod Walks
+pub mod Read
+pub mod Branches
