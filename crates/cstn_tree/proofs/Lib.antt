@@ -1,1 +1,6 @@
 pub mod TreeLemmas
+mod Standing
+mod Ways
+mod Strategies
+mod BranchLemmas
+mod Checks

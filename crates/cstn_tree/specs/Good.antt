@@ -43,10 +43,13 @@ is_within most None to = true
 is_within most (Some from) None = true
 is_within most (Some from) (Some to) = le_z (pos to -ℤ pos from) most
 
--- the constraint is met, unless it has no end among xs, or an outcome that was asked contradicts its label
+-- the constraint is met as far as its ends are placed, unless an outcome that was asked contradicts its label
+abbrev pub is_kept : (ℕ → Option ℕ) → (ℕ → Option Bool) → Constraint → Bool
+is_kept placed asked c = not (is_possible asked c.label) || is_within c.most (placed c.from) (placed c.to)
+
+-- the same of a constraint that has an end among xs
 abbrev pub is_met : (ℕ → Option ℕ) → (ℕ → Option Bool) → List ℕ → Constraint → Bool
-is_met placed asked xs c =
-    not (is_named c.from xs || is_named c.to xs) || (not (is_possible asked c.label) || is_within c.most (placed c.from) (placed c.to))
+is_met placed asked xs c = not (is_named c.from xs || is_named c.to xs) || is_kept placed asked c
 
 -- an `at` doesn't break: its moment may follow; its time-points are named for the first time, and not above their limits; and the
 -- constraints that have an end on this line, and the other here or above, are met

@@ -4,6 +4,8 @@ use Rattle.cstn_label.specs.Read.{known_value}
 use Rattle.cstn_label.specs.declared.knowledge.Known.{Known}
 use Rattle.cstn_tree.specs.declared.trees.Line.{Line}
 use Rattle.cstn_tree.specs.declared.trees.Line.TheVariants.{At, Ask, Done}
+use Rattle.cstn_tree.specs.declared.checking.TreeAnswer.{TreeAnswer}
+use Rattle.cstn_tree.specs.declared.checking.TreeAnswer.TheVariants.{Accepted, Rejected}
 use Rattle.cstn_tree.specs.Trees.{Tree, Line as TheLine, lines_of}
 use Rattle.cstn_tree.specs.Trees.Tree.{at, ask, done}
 use Rattle.cstn_tree.specs.Trees.Line.{AtLine, AskLine, DoneLine}
@@ -44,3 +46,8 @@ the_tree ls = first_or_done (trees_of ls)
 -- the lines are those of one tree
 abbrev pub AreWhole : List TheLine → Type 0
 AreWhole ls = (tree : Tree) × (ls ≡ lines_of tree)
+
+-- the line that an answer names, if it names one
+abbrev pub the_answer : TreeAnswer → Option ℕ
+the_answer Accepted = None
+the_answer (Rejected line) = Some line

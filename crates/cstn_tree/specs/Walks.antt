@@ -15,3 +15,15 @@ first_broken_in net (b ∷ bs) (AskLine p ∷ ls) line =
     if fits_ask net b p then first_broken_in net (below_ask net b p true ∷ (below_ask net b p false ∷ bs)) ls (line + 1) else Some line
 first_broken_in net (b ∷ bs) (DoneLine ∷ ls) line =
     if is_complete net b then first_broken_in net bs ls (line + 1) else Some line
+
+-- what a step of the walk comes to: its line breaks, there are more lines, or the last one was found whole
+pub data Step : Type 0 where
+  Broken : Step
+  On : Step
+  End : Step
+
+-- the first line that breaks, after a step on a line of this number
+abbrev pub after_step : Step → Network → List Branch → List Line → ℕ → Option ℕ
+after_step Broken net branches ls line = Some line
+after_step On net branches ls line = first_broken_in net branches ls (line + 1)
+after_step End net branches ls line = None

@@ -4,6 +4,7 @@
 mod branches;
 mod checking;
 mod trees;
+mod walks;
 
-pub use checking::TreeAnswer;
+pub use checking::{TreeAnswer, check};
 pub use trees::{Line, Named, Tree};
