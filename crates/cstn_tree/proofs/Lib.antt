@@ -4,3 +4,4 @@ mod Ways
 mod Strategies
 mod BranchLemmas
 mod Checks
+mod PrintLemmas

@@ -3,3 +3,5 @@ pub mod Good
 pub mod Walks
 pub mod Read
 pub mod Branches
+pub mod Examples
+pub mod Texts

@@ -3,8 +3,15 @@
 
 mod branches;
 mod checking;
+mod errors;
+mod laws;
+mod parts;
+mod printing;
 mod trees;
 mod walks;
 
 pub use checking::{TreeAnswer, check};
+pub use errors::TreeError;
+pub use laws::{broken_lines_are_known, good_trees_are_strategies, trees_are_their_lines};
+pub use printing::print;
 pub use trees::{Line, Named, Tree};

@@ -9,7 +9,7 @@ use std::marker::Model;
 /// The time-points that a line names.
 #[derive(Debug, Drop)]
 pub struct Named {
-    nodes: Vec<NodeId>,
+    pub(crate) nodes: Vec<NodeId>,
 }
 
 impl Model for Named {
