@@ -5,3 +5,5 @@ mod Strategies
 mod BranchLemmas
 mod Checks
 mod PrintLemmas
+mod PartLemmas
+mod ReadLemmas

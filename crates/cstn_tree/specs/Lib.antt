@@ -5,3 +5,5 @@ pub mod Read
 pub mod Branches
 pub mod Examples
 pub mod Texts
+pub mod Whole
+pub mod Reading

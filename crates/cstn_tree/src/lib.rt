@@ -7,6 +7,7 @@ mod errors;
 mod laws;
 mod parts;
 mod printing;
+mod reading;
 mod trees;
 mod walks;
 
@@ -14,4 +15,5 @@ pub use checking::{TreeAnswer, check};
 pub use errors::TreeError;
 pub use laws::{broken_lines_are_known, good_trees_are_strategies, trees_are_their_lines};
 pub use printing::print;
+pub use reading::read;
 pub use trees::{Line, Named, Tree};

@@ -1,5 +1,5 @@
 // The parts of a tree's line.
-ghost use Rattle.std.specs.Prelude.{ℕ, ◌≡◌, ◌<◌, ◌≤◌, IfSome, IfOk, IfNone, None, Some, length, map};
+ghost use Rattle.std.specs.Prelude.{ℕ, ◌≡◌, ◌<◌, ◌≤◌, IfSome, IfOk, IfNone, None, Some, [], length, map};
 ghost use Rattle.std.specs.List.{All};
 ghost use Rattle.std.specs.Option.{option_map};
 ghost use Rattle.cstn_tree.specs.Trees.{names_on};
@@ -21,6 +21,7 @@ pub fn first_part(bytes: &[u8]) -> Option<(&[u8], &[u8])>
 fn read_node(names: &Names, bytes: &[u8]) -> Option<NodeId>
     requires few { length names.now ≤ 65536 }
     ensures node { option_map (λ x. x.0) result ≡ node_read names.now bytes.now }
+    ensures inside { IfSome result (λ x. x.0 < length names.now) }
 {
     let number = names.find_printed(bytes)?;
     Some(NodeId(number as u16))
@@ -29,7 +30,8 @@ fn read_node(names: &Names, bytes: &[u8]) -> Option<NodeId>
 // One name or more, with a space between.
 fn read_names(alloc: Global, names: &Names, bytes: &[u8]) -> Result<Option<Named>, AllocError>
     requires few { length names.now ≤ 65536 }
-    ensures read { IfOk result (λ named. option_map (λ n. map (λ x. x.0) n.nodes.items) named ≡ names_read names.now bytes.now) }
+    ensures read { IfOk result (λ named. option_map (λ n. n) named ≡ names_read names.now bytes.now) }
+    ensures inside { IfOk result (λ named. IfSome named (λ n. All (λ x. x < length names.now) n)) }
 {
     let mut nodes = Vec::new(alloc);
     let mut left = bytes;
@@ -50,6 +52,7 @@ fn read_names(alloc: Global, names: &Names, bytes: &[u8]) -> Result<Option<Named
 fn read_at(alloc: Global, names: &Names, bytes: &[u8]) -> Result<Option<Line>, AllocError>
     requires few { length names.now ≤ 65536 }
     ensures read { IfOk result (λ line. option_map the_line line ≡ at_read names.now bytes.now) }
+    ensures inside { IfOk result (λ line. IfSome line (λ l. All (λ x. x < length names.now) (names_on (the_line l)))) }
 {
     let Some((moment, rest)) = first_part(bytes) else {
         return Ok(None);
@@ -65,6 +68,7 @@ fn read_at(alloc: Global, names: &Names, bytes: &[u8]) -> Result<Option<Line>, A
 
 fn read_ask(bytes: &[u8]) -> Option<Line>
     ensures read { option_map the_line result ≡ ask_read bytes.now }
+    ensures names { IfSome result (λ l. names_on (the_line l) ≡ []) }
 {
     match bytes {
         [letter] => {
@@ -83,6 +87,7 @@ fn read_word(
 ) -> Result<Option<Line>, AllocError>
     requires few { length names.now ≤ 65536 }
     ensures read { IfOk result (λ line. option_map the_line line ≡ word_read names.now word.now rest.now) }
+    ensures inside { IfOk result (λ line. IfSome line (λ l. All (λ x. x < length names.now) (names_on (the_line l)))) }
 {
     if word == b"at".as_slice() {
         return read_at(alloc, names, rest);
@@ -97,6 +102,7 @@ fn read_word(
 pub fn read_line(alloc: Global, names: &Names, bytes: &[u8]) -> Result<Option<Line>, AllocError>
     requires few { length names.now ≤ 65536 }
     ensures read { IfOk result (λ line. option_map the_line line ≡ line_read names.now bytes.now) }
+    ensures inside { IfOk result (λ line. IfSome line (λ l. All (λ x. x < length names.now) (names_on (the_line l)))) }
 {
     if bytes == b"done".as_slice() {
         return Ok(Some(Line::Done));

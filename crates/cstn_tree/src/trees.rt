@@ -43,7 +43,7 @@ pub enum Line {
 /// A tree that says when each time-point is executed, by the outcomes that were seen before: its lines in preorder.
 #[derive(Debug, Drop)]
 pub struct Tree {
-    lines: Vec<Line>,
+    pub(crate) lines: Vec<Line>,
 }
 
 impl Model for Tree {
