@@ -7,3 +7,5 @@ mod Checks
 mod PrintLemmas
 mod PartLemmas
 mod ReadLemmas
+mod MakeLemmas
+mod MakingLemmas

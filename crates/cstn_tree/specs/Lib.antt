@@ -7,3 +7,5 @@ pub mod Examples
 pub mod Texts
 pub mod Whole
 pub mod Reading
+pub mod Made
+pub mod Making
