@@ -65,9 +65,12 @@ module _ (net : Network) (bounds : List Bound) where
       go [] no_tree = absurd no_tree
       go (one ∷ []) no_tree = absurd no_tree.1
       go (one ∷ (other ∷ trees)) are =
-          let whole = g.grown (ask p one other ∷ trees) (asks run t p one other is waits are.0 are.1.0, are.1.1) in
-          (whole.0, more ls (AskLine p) (all_lines (one ∷ (other ∷ trees)))
-          ∙ ap (λ l. ls ++ (AskLine p ∷ l)) (sym (append_assoc (lines_of one) (lines_of other) (all_lines trees))) ∙ whole.1, whole.2)
+          let whole = g.grown (ask p one other ∷ trees) (asks run t p one other is waits are.0 are.1.0, are.1.1) in (
+            whole.0,
+            more ls (AskLine p) (all_lines (one ∷ (other ∷ trees)))
+                ∙ ap (λ l. ls ++ (AskLine p ∷ l)) (sym (append_assoc (lines_of one) (lines_of other) (all_lines trees))) ∙ whole.1,
+            whole.2,
+          )
 
   -- the due moment is refused only where an outcome is awaited
   pub due_waits : (run : Run) (t : ℕ) → due net bounds run ≡ Some t →
@@ -76,10 +79,10 @@ module _ (net : Network) (bounds : List Bound) where
     | inl over ↦ let none = cond-true (is_done run) None (find (has_work net bounds run) (range_with_len (next run) ((net.deadline + 1) - next run))) over in let f : ⊥ = cc in absurd f
     | inr more ↦
         let from = find_first (has_work net bounds run) (next run) ((net.deadline + 1) - next run) t
-            (sym (cond-false (is_done run) None (find (has_work net bounds run) (range_with_len (next run) ((net.deadline + 1) - next run))) more) ∙ is) in
+        (sym (cond-false (is_done run) None (find (has_work net bounds run) (range_with_len (next run) ((net.deadline + 1) - next run))) more) ∙ is) in
         let past = not_past run t (unless_awaiting (awaited net run (t + 1)) (unless_late t (due net bounds run))) from.from in
         let here : moment_refusal net bounds run t ≡ unless_awaiting (awaited net run (t + 1)) (unless_late t (due net bounds run)) =
-            cond-false (is_done run) (Some Done) (unless_past t run.now (unless_awaiting (awaited net run (t + 1)) (unless_late t (due net bounds run)))) more ∙ past in
+        cond-false (is_done run) (Some Done) (unless_past t run.now (unless_awaiting (awaited net run (t + 1)) (unless_late t (due net bounds run)))) more ∙ past in
         let late : unless_late t (due net bounds run) ≡ None = ap (unless_late t) is ∙ not_late t in
         go (awaited net run (t + 1)) (here ∙ ap (unless_awaiting (awaited net run (t + 1))) late)
   ]

@@ -57,8 +57,8 @@ module _ (net : Network) (bounds : List Bound) where
       let hands : (v : Bool) → run_after net bounds run (SeeEvent prop.index v) ≡ handed run prop.index v = λ v. ap (run_unless run (handed run prop.index v)) free in
       let second : run_by net bounds other.steps.items ≡ handed run prop.index false = sym (by_more run m.path.items other.steps.items (See prop false) making.path steps) ∙ hands false in
       let runs : handed run prop.index true ∷ (handed run prop.index false ∷ the_pending net bounds m) ≡ after ∷ the_pending net bounds new =
-          ap (λ r. r ∷ (handed run prop.index false ∷ the_pending net bounds m)) (sym (told ∙ hands true))
-          ∙ ap (λ rs. after ∷ rs) (ap (λ r. r ∷ the_pending net bounds m) (sym second) ∙ sym (pending_more m new other pending)) in
+      ap (λ r. r ∷ (handed run prop.index false ∷ the_pending net bounds m)) (sym (told ∙ hands true))
+      ∙ ap (λ rs. after ∷ rs) (ap (λ r. r ∷ the_pending net bounds m) (sym second) ∙ sym (pending_more m new other pending)) in
       let grown = grown_ask net bounds (map the_line m.lines.items) run (the_pending net bounds m) t prop.index is waits making.grown in
       record {
         grown = subst (IsGrown net bounds (map the_line new.lines.items)) runs
@@ -73,8 +73,8 @@ module _ (net : Network) (bounds : List Bound) where
   making_at run after m new t xs is accepted making names pending path lines told =
       let moves : run_after net bounds run (MomentEvent t) ≡ moved net bounds run t = ap (run_unless run (moved net bounds run t)) accepted in
       let runs : moved net bounds run t ∷ the_pending net bounds m ≡ after ∷ the_pending net bounds new =
-          ap (λ r. r ∷ the_pending net bounds m) (sym (told ∙ moves))
-          ∙ ap (λ (ps : List Path). after ∷ map (λ (p : Path). run_by net bounds p.steps.items) (reverse ps)) (sym pending) in
+      ap (λ r. r ∷ the_pending net bounds m) (sym (told ∙ moves))
+      ∙ ap (λ (ps : List Path). after ∷ map (λ (p : Path). run_by net bounds p.steps.items) (reverse ps)) (sym pending) in
       let grown = grown_at net bounds (map the_line m.lines.items) run (the_pending net bounds m) t is accepted making.grown in
       record {
         grown = subst (IsGrown net bounds (map the_line new.lines.items)) runs
@@ -89,7 +89,7 @@ module _ (net : Network) (bounds : List Bound) where
   making_turn run after m new path over making pending steps lines told =
       let grown = grown_done net bounds (map the_line m.lines.items) run (the_pending net bounds m) over making.grown in
       let runs : the_pending net bounds m ≡ after ∷ the_pending net bounds new =
-          pending_more new m path pending ∙ ap (λ r. r ∷ the_pending net bounds new) (sym told) in
+      pending_more new m path pending ∙ ap (λ r. r ∷ the_pending net bounds new) (sym told) in
       record {
         grown = subst (IsGrown net bounds (map the_line new.lines.items)) runs
             (subst (λ ls. IsGrown net bounds ls (the_pending net bounds m)) (lines_more m new Done lines) grown);

@@ -144,14 +144,18 @@ neither (Some line) other e = let f : ⊥ = cc in absurd f
 
 pub stands_from : (net : Network) (wf : IsNetwork net) (b : Branch) (tree : Tree) (line : ℕ) → first_broken_from net b tree line ≡ None → Stands net b tree
 stands_from net wf b (at t xs next) line e =
-    let rest = first_broken_from net (below_at b t xs) next (line + 1) in
-    (fits_at_from net b t xs (here_fits (fits_at net b t xs) rest line e),
-     stands_from net wf (below_at b t xs) next (line + 1) (rest_fits (fits_at net b t xs) rest line e))
+    let rest = first_broken_from net (below_at b t xs) next (line + 1) in (
+      fits_at_from net b t xs (here_fits (fits_at net b t xs) rest line e),
+      stands_from net wf (below_at b t xs) next (line + 1) (rest_fits (fits_at net b t xs) rest line e),
+    )
 stands_from net wf b (ask p one other) line e =
     let first = first_broken_from net (below_ask net b p true) one (line + 1) in
     let second = first_broken_from net (below_ask net b p false) other (line + 1 + length (lines_of one)) in
-    let both = neither first second (rest_fits (fits_ask net b p) (or_else first second) line e) in
-    (fits_ask_from net wf b p (here_fits (fits_ask net b p) (or_else first second) line e),
-     (stands_from net wf (below_ask net b p true) one (line + 1) both.0,
-      stands_from net wf (below_ask net b p false) other (line + 1 + length (lines_of one)) both.1))
+    let both = neither first second (rest_fits (fits_ask net b p) (or_else first second) line e) in (
+      fits_ask_from net wf b p (here_fits (fits_ask net b p) (or_else first second) line e),
+      (
+        stands_from net wf (below_ask net b p true) one (line + 1) both.0,
+        stands_from net wf (below_ask net b p false) other (line + 1 + length (lines_of one)) both.1,
+      ),
+    )
 stands_from net wf b done line e = complete_from net b (here_fits (is_complete net b) None line e)

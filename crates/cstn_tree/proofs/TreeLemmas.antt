@@ -77,10 +77,10 @@ walk_tree net b branches (ask p one other) ls line =
     let first = first_broken_from net left one (line + 1) in
     let second = first_broken_from net right other ((line + 1) + length (lines_of one)) in
     let way = ap (λ l. first_broken_in net (left ∷ (right ∷ branches)) l (line + 1)) (append_assoc (lines_of one) (lines_of other) ls)
-          ∙ walk_tree net left (right ∷ branches) one (lines_of other ++ ls) (line + 1)
-          ∙ or_is first net (right ∷ branches) (lines_of other ++ ls) ((line + 1) + length (lines_of one))
-          ∙ ap (or_else first) (walk_tree net right branches other ls ((line + 1) + length (lines_of one)) ∙ ap (or_nothing second net branches ls) size)
-          ∙ or_again first second net branches ls next in
+    ∙ walk_tree net left (right ∷ branches) one (lines_of other ++ ls) (line + 1)
+    ∙ or_is first net (right ∷ branches) (lines_of other ++ ls) ((line + 1) + length (lines_of one))
+    ∙ ap (or_else first) (walk_tree net right branches other ls ((line + 1) + length (lines_of one)) ∙ ap (or_nothing second net branches ls) size)
+    ∙ or_again first second net branches ls next in
     ap (λ o. if fits_ask net b p then o else Some line) way
     ∙ if_or (fits_ask net b p) (or_else first second) line net branches ls next
 walk_tree net b branches done ls line = if_or (is_complete net b) None line net branches ls (line + 1)

@@ -87,8 +87,13 @@ walk_alike net b (at u xs next) s r x t good e agrees = elim (cases_Bool (is_nam
   | inr unnamed ↦
       unnamed_walk xs u next r x unnamed
       ∙ walk_alike net (below_at b u xs) next s r x t good.1 (sym (unnamed_walk xs u next s x unnamed) ∙ e) (λ p k.
-      agrees p (record { observer = k.observer; observes = k.observes; moment = k.moment;
-        there = sym (full_at b u xs next s k.observer good.0.once) ∙ k.there; passed = k.passed }))
+      agrees p (record {
+        observer = k.observer;
+        observes = k.observes;
+        moment = k.moment;
+        there = sym (full_at b u xs next s k.observer good.0.once) ∙ k.there;
+        passed = k.passed;
+      }))
 ]
 walk_alike net b (ask p one other) s r x t good e agrees = elim (cases_Bool (s p)) [
   | inl here ↦
@@ -96,22 +101,42 @@ walk_alike net b (ask p one other) s r x t good e agrees = elim (cases_Bool (s p
       let placed = good.0.placed in
       let later = good.0.later true in
       let from = walk_from net (below_ask net b p true) one s x t good.1.0 below in
-      let same = agrees p (record { observer = placed.observer; observes = placed.observes; moment = good.0.moment;
-        there = placed_full b (ask p one other) s placed.observer good.0.moment placed.there; passed = omega arith }) in
+      let same = agrees p (record {
+        observer = placed.observer;
+        observes = placed.observes;
+        moment = good.0.moment;
+        there = placed_full b (ask p one other) s placed.observer good.0.moment placed.there;
+        passed = omega arith;
+      }) in
       true_walk p one other r x (same ∙ here)
       ∙ walk_alike net (below_ask net b p true) one s r x t good.1.0 below (λ q k.
-      agrees q (record { observer = k.observer; observes = k.observes; moment = k.moment;
-        there = sym (full_true net b p one other s k.observer here) ∙ k.there; passed = k.passed }))
+      agrees q (record {
+        observer = k.observer;
+        observes = k.observes;
+        moment = k.moment;
+        there = sym (full_true net b p one other s k.observer here) ∙ k.there;
+        passed = k.passed;
+      }))
   | inr there ↦
       let below : walk other s x ≡ Some t = sym (false_walk p one other s x there) ∙ e in
       let placed = good.0.placed in
       let later = good.0.later false in
       let from = walk_from net (below_ask net b p false) other s x t good.1.1 below in
-      let same = agrees p (record { observer = placed.observer; observes = placed.observes; moment = good.0.moment;
-        there = placed_full b (ask p one other) s placed.observer good.0.moment placed.there; passed = omega arith }) in
+      let same = agrees p (record {
+        observer = placed.observer;
+        observes = placed.observes;
+        moment = good.0.moment;
+        there = placed_full b (ask p one other) s placed.observer good.0.moment placed.there;
+        passed = omega arith;
+      }) in
       false_walk p one other r x (same ∙ there)
       ∙ walk_alike net (below_ask net b p false) other s r x t good.1.1 below (λ q k.
-      agrees q (record { observer = k.observer; observes = k.observes; moment = k.moment;
-        there = sym (full_false net b p one other s k.observer there) ∙ k.there; passed = k.passed }))
+      agrees q (record {
+        observer = k.observer;
+        observes = k.observes;
+        moment = k.moment;
+        there = sym (full_false net b p one other s k.observer there) ∙ k.there;
+        passed = k.passed;
+      }))
 ]
 walk_alike net b done s r x t good e agrees = let f : ⊥ = cc in absurd f

@@ -99,8 +99,8 @@ first_broken_from net b (at t xs next) line =
     if fits_at net b t xs then first_broken_from net (below_at b t xs) next (line + 1) else Some line
 first_broken_from net b (ask p one other) line =
     if fits_ask net b p then
-      or_else (first_broken_from net (below_ask net b p true) one (line + 1))
-      (first_broken_from net (below_ask net b p false) other (line + 1 + length (lines_of one)))
+    or_else (first_broken_from net (below_ask net b p true) one (line + 1))
+    (first_broken_from net (below_ask net b p false) other (line + 1 + length (lines_of one)))
     else Some line
 first_broken_from net b done line = if is_complete net b then None else Some line
 

@@ -11,4 +11,3 @@ all_lines (tree ∷ trees) = lines_of tree ++ all_lines trees
 -- with any trees that are still to come, so many of them, the lines are those of one tree
 pub record IsBegun (ls : List Line) (n : ℕ) : Type 0 where
   pub whole : (trees : List Tree) → length trees ≡ n → AreWhole (ls ++ all_lines trees)
-

@@ -45,7 +45,9 @@ fn grow(alloc: Global, exec: &mut Executive) -> Result<Tree, AllocError>
     for _ in 0..u64::MAX {
         match making.step(alloc, exec) {
             Ok(true) => {}
-            Ok(false) => return Ok(Tree { lines: making.lines }),
+            Ok(false) => return Ok(Tree {
+                lines: making.lines,
+            }),
             Err(e) => return Err(e),
         }
     }

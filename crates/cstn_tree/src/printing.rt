@@ -44,12 +44,7 @@ fn push_load(text: &mut String, load: u32) -> Result<(), AllocError>
 }
 
 // Appends a line of the tree, without its end.
-fn push_line(
-    alloc: Global,
-    text: &mut String,
-    names: &Names,
-    line: &Line,
-) -> Result<(), AllocError>
+fn push_line(alloc: Global, text: &mut String, names: &Names, line: &Line) -> Result<(), AllocError>
     requires named { All (λ x. x < length names.now) (names_on (the_line line.now)) }
     ensures pushed { OnOk result (string_bytes text.new ≡ string_bytes text.old ++ printed_line names.now (the_line line.now)) }
 {

@@ -21,5 +21,8 @@ returns-clause-strategy c = accepted_strategy (the_network c.args.net.now) (the_
     ∙ finds (the_network c.args.net.now) c.in_ok-broken.broken _ c.args.tree.now c.in_ok-broken.ensures.first c.lines.ensures.lines c.lines.ensures.whole)
 
 pub returns-clause-consistent : goal.returns-clause-consistent
-returns-clause-consistent c = λ h. (table_of (the_tree c.args.tree.now), accepted_strategy (the_network c.args.net.now) (the_tree c.args.tree.now) c.answer.result c.count.ensures.well_formed (c.answer.ensures
-    ∙ finds (the_network c.args.net.now) c.in_ok-broken.broken _ c.args.tree.now c.in_ok-broken.ensures.first c.lines.ensures.lines c.lines.ensures.whole) h)
+returns-clause-consistent c = λ h. (
+  table_of (the_tree c.args.tree.now),
+  accepted_strategy (the_network c.args.net.now) (the_tree c.args.tree.now) c.answer.result c.count.ensures.well_formed (c.answer.ensures
+      ∙ finds (the_network c.args.net.now) c.in_ok-broken.broken _ c.args.tree.now c.in_ok-broken.ensures.first c.lines.ensures.lines c.lines.ensures.whole) h,
+)

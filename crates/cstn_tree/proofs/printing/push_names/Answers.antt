@@ -15,7 +15,7 @@ loop-x-preserved c =
     let names = c.args.names.now in
     let x = (get_or c.args.named.now c.loop-x.x-index (record { 0 = 0 })).0 in
     let name : c.deref.result.now ≡ printed_name (slice_index_or names x []) =
-        c.deref.ensures ∙ c.in_ok-name.ensures.printed ∙ ap printed_name (sym (get_or_from_slice_get names x c.name.result.now [] c.name.ensures.name)) in
+    c.deref.ensures ∙ c.in_ok-name.ensures.printed ∙ ap printed_name (sym (get_or_from_slice_get names x c.name.result.now [] c.name.ensures.name)) in
     printed_more (λ (y : NodeId). y.0) (λ y. 32 ∷ printed_name (slice_index_or names y [])) c.args.named.now c.loop-x.x-index (record { 0 = 0 })
     (string_bytes c.args.text.now) (string_bytes c.loop-x.text) (string_bytes c.push_str.new.self) (32 ∷ c.deref.result.now) c.loop-x-test.true c.loop-x.invariant
     (pushed_twice (string_bytes c.loop-x.text) (string_bytes c.push.new.self) (string_bytes c.push_str.new.self) (32 ∷ []) c.deref.result.now c.in_ok-push.ensures.bytes c.in_ok-push_str.ensures.bytes)

@@ -16,8 +16,8 @@ returns-in-Some-clause-goes_on c = λ h.
     let net = the_network c.args.exec.now.net in
     let bounds = the_bounds c.args.exec.now.bounds in
     let told = c.follow.ensures.run
-          ∙ ap (λ (e : ExecParts). run_along (the_network e.net) (the_bounds e.bounds) e.run (the_events c.deref.result.now)) c.restart.ensures.started
-          ∙ ap (λ (s : List Step). run_along net bounds (start (count net)) (the_events s)) c.deref.ensures.value in
+    ∙ ap (λ (e : ExecParts). run_along (the_network e.net) (the_bounds e.bounds) e.run (the_events c.deref.result.now)) c.restart.ensures.started
+    ∙ ap (λ (s : List Step). run_along net bounds (start (count net)) (the_events s)) c.deref.ensures.value in
     making_turn net bounds c.args.exec.now.run c.follow.new.exec.run c.args.self.now _ c.in-Some.path c.requires.over c.requires.making
     c.in-Some.ensures.items refl c.in_ok-push.ensures.items told
 
