@@ -1,22 +1,22 @@
 -- What the program keeps of a branch, as the branch.
-use Rattle.std.proofs.Common.{ℕ, zero, suc, ◌≡◌, inl, inr, ◌+◌, ◌<◌, ◌≤◌, Bool, true, false, cond, ◌&&◌, ◌||◌, not, List, [], ◌∷◌, ◌++◌, Option, Some, None, length, map, take, drop, get_or, arith, drop-cons, add-one, le-leb, refl, sym, subst, ap, ◌∙◌, get_or-set_other, get_or-set_same}
-use Rattle.std.specs.Prelude.{◌==◌, is_none, is_some, nat_le, slice_index_or, slice_set, if◌then◌else◌}
-use Rattle.std.specs.List.{position, list_all, list_any, range_with_len, All}
+use Rattle.std.proofs.Common.{ℕ, suc, ◌≡◌, inl, inr, ◌+◌, ◌<◌, ◌≤◌, Bool, true, false, ◌&&◌, ◌||◌, not, List, [], ◌∷◌, Option, Some, None, length, map, take, drop, get_or, arith, drop-cons, add-one, le-leb, refl, sym, subst, ap, ◌∙◌, get_or-set_other, get_or-set_same}
+use Rattle.std.specs.Prelude.{◌==◌, is_none, is_some, nat_le, slice_set, if◌then◌else◌}
+use Rattle.std.specs.List.{position, list_all, list_any, range_with_len}
 use Rattle.std.specs.Option.{option_and_then}
 use Rattle.std.proofs.Math.Path.{fun_ext}
-use Rattle.std.proofs.lemmas.Bool.{cases_Bool, cases_eq, cases_lt, cond-true, cond-false, eq-eqb, ne_eqb, eqb-true, both_ways}
+use Rattle.std.proofs.lemmas.Bool.{cases_Bool, cases_eq, cases_lt, cond-true, cond-false, eq-eqb, ne_eqb, both_ways}
 use Rattle.std.proofs.lemmas.Bool.Decides.{leb_tells}
 use Rattle.std.proofs.lemmas.List.{length-set, set_past, take_all, drop_all}
 use Rattle.std.proofs.lemmas.List.Folds.{list_all_at, list_all-map}
 use Rattle.cstn_label.specs.declared.nodes.NodeId.{NodeId}
-use Rattle.cstn_net.specs.Networks.{Network, Constraint, IsNetwork, Observes, count, limit}
+use Rattle.cstn_net.specs.Networks.{Network, Constraint, IsNetwork, Observes, limit}
 use Rattle.cstn_net.specs.Read.{is_prop, the_constraint}
 use Rattle.cstn_net.specs.declared.constraints.Constraint.{Constraint as ProgramConstraint}
 use Rattle.cstn_exec.proofs.Knowing.{observer_at, at_observer}
 use Rattle.cstn_exec.proofs.Options.{is_some-false, is_some-true}
 use Rattle.cstn_exec.proofs.Ranges.{each_passes, all_pass}
 use Rattle.cstn_tree.specs.Trees.{is_named}
-use Rattle.cstn_tree.specs.Good.{Branch, placed_with, are_new, are_in_time, observed_on, is_complete, is_kept, is_met}
+use Rattle.cstn_tree.specs.Good.{Branch, placed_with, are_new, are_in_time, observed_on, is_kept, is_met}
 use Rattle.cstn_tree.specs.Branches.{the_placed, numbers, IsBranchOf}
 use Rattle.cstn_tree.specs.declared.branches.Branch.{Branch as ProgramBranch}
 

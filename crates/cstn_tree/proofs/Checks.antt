@@ -1,5 +1,5 @@
 -- What the check of a tree tells.
-use Rattle.std.proofs.Common.{ℕ, suc, ◌≡◌, ◌+◌, ◌<◌, List, [], ◌∷◌, Option, Some, None, map, drop, drop-cons, add-one, get_or, length, refl, sym, ap, subst, ◌∙◌}
+use Rattle.std.proofs.Common.{ℕ, suc, ◌≡◌, ◌+◌, ◌<◌, List, [], ◌∷◌, Option, map, drop, drop-cons, add-one, get_or, length, refl, sym, ap, subst, ◌∙◌}
 use Rattle.std.specs.Prelude.{◌↔◌}
 use Rattle.std.specs.List.{All}
 use Rattle.std.proofs.lemmas.List.{get_or-map, length-map}
@@ -9,7 +9,7 @@ use Rattle.cstn_tree.specs.declared.checking.TreeAnswer.{TreeAnswer}
 use Rattle.cstn_tree.specs.declared.checking.TreeAnswer.TheVariants.{Accepted, Rejected}
 use Rattle.cstn_tree.specs.declared.trees.Line.{Line as ProgramLine}
 use Rattle.cstn_tree.specs.Trees.{Tree, Line, lines_of, names_on, table_of}
-use Rattle.cstn_tree.specs.Good.{Branch, start, first_broken, IsGood}
+use Rattle.cstn_tree.specs.Good.{start, first_broken, IsGood}
 use Rattle.cstn_tree.specs.Walks.{first_broken_in}
 use Rattle.cstn_tree.specs.Read.{the_line, the_tree, the_answer}
 use Rattle.cstn_tree.proofs.TreeLemmas.{walk_finds}

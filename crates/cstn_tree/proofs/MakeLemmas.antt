@@ -1,20 +1,20 @@
 -- The tree of a network, line by line.
-use Rattle.std.proofs.Common.{ℕ, ◌≡◌, ◌⊎◌, inl, inr, ◌+◌, ◌-◌, ◌<◌, ◌≤◌, Bool, true, false, List, [], ◌∷◌, ◌++◌, Option, Some, None, length, map, arith, refl, sym, subst, ap, ◌∙◌, append_assoc}
-use Rattle.std.specs.Prelude.{nat_lt, if◌then◌else◌}
+use Rattle.std.proofs.Common.{ℕ, ◌≡◌, ◌⊎◌, inl, inr, ◌+◌, ◌-◌, ◌≤◌, true, false, List, [], ◌∷◌, ◌++◌, Option, Some, None, arith, refl, sym, subst, ap, ◌∙◌, append_assoc}
+use Rattle.std.specs.Prelude.{nat_lt}
 use Rattle.std.specs.List.{range_with_len, find}
-use Rattle.std.proofs.lemmas.Bool.{cases_Bool, cond-true, cond-false, lt-ltb, ltb-true}
+use Rattle.std.proofs.lemmas.Bool.{cases_Bool, cond-true, cond-false, lt-ltb}
 use Rattle.std.proofs.lemmas.List.{append-nil}
 use Rattle.cstn_label.specs.Bounds.{Bound}
 use Rattle.cstn_net.specs.Networks.{Network, count}
 use Rattle.cstn_exec.specs.Runs.{Run, start, after, next, is_done, due, named, has_work, awaited}
-use Rattle.cstn_exec.specs.Moves.{Refusal, Done, Past, Late, Awaiting, moment_refusal, unless_past, unless_awaiting, unless_late, moved, handed, outcome_refusal}
-use Rattle.cstn_exec.specs.Examples.{Event, Moment, See, run_after}
+use Rattle.cstn_exec.specs.Moves.{Refusal, Done, Past, Awaiting, moment_refusal, unless_past, unless_awaiting, unless_late, moved, handed}
+use Rattle.cstn_exec.specs.Examples.{Event, run_after}
 use Rattle.cstn_exec.proofs.Ranges.{find_first}
 use Rattle.cstn_tree.specs.Trees.{Tree, Line, lines_of}
 use Rattle.cstn_tree.specs.Trees.Tree.{at, ask, done}
 use Rattle.cstn_tree.specs.Trees.Line.{AtLine, AskLine, DoneLine}
 use Rattle.cstn_tree.specs.Whole.{all_lines}
-use Rattle.cstn_tree.specs.Made.{IsTreeFrom, IsTreeOf, AreTreesFrom, IsGrown, run_along}
+use Rattle.cstn_tree.specs.Made.{IsTreeOf, AreTreesFrom, IsGrown, run_along}
 use Rattle.cstn_tree.specs.Made.IsTreeFrom.{ends, asks, names}
 use Rattle.cstn_tree.specs.Read.{AreWhole, the_tree}
 use Rattle.cstn_tree.proofs.TreeLemmas.{tree_back}

@@ -1,5 +1,5 @@
 -- What the program keeps while it makes a tree.
-use Rattle.std.proofs.Common.{ℕ, ◌≡◌, ◌⊎◌, inl, inr, ◌+◌, Bool, true, false, ◌&&◌, List, [], ◌∷◌, ◌++◌, Option, Some, None, length, map, refl, sym, subst, ap, ◌∙◌}
+use Rattle.std.proofs.Common.{ℕ, ◌≡◌, ◌⊎◌, inl, inr, ◌+◌, Bool, true, false, List, [], ◌∷◌, ◌++◌, Option, Some, None, map, refl, sym, subst, ap, ◌∙◌}
 use Rattle.std.specs.Prelude.{reverse, is_none}
 use Rattle.std.specs.Option.{option_map, MatchOption}
 use Rattle.std.proofs.lemmas.Bool.{and_parts, false≢true}
@@ -9,7 +9,7 @@ use Rattle.cstn_label.specs.Bounds.{Bound}
 use Rattle.cstn_net.specs.Networks.{Network, count}
 use Rattle.cstn_exec.specs.Runs.{Run, start, due, named, is_awaited, is_ready, is_before, observed_at, outcome_of}
 use Rattle.cstn_exec.specs.Moves.{Refusal, Awaiting, moment_refusal, moved, handed, outcome_refusal, unless_unseen, unless_known}
-use Rattle.cstn_exec.specs.Examples.{Event, run_after, run_unless, Moment as MomentEvent, See as SeeEvent}
+use Rattle.cstn_exec.specs.Examples.{run_after, run_unless, Moment as MomentEvent, See as SeeEvent}
 use Rattle.cstn_exec.proofs.Options.{is_none-true}
 use Rattle.cstn_tree.specs.declared.making.Step.{Step}
 use Rattle.cstn_tree.specs.declared.making.Step.TheVariants.{Moment, See}
@@ -17,8 +17,7 @@ use Rattle.cstn_tree.specs.declared.making.Path.{Path}
 use Rattle.cstn_tree.specs.declared.making.Making.{Making}
 use Rattle.cstn_tree.specs.declared.trees.Line.{Line as ProgramLine}
 use Rattle.cstn_tree.specs.declared.trees.Line.TheVariants.{At, Ask, Done}
-use Rattle.cstn_tree.specs.Trees.{Line}
-use Rattle.cstn_tree.specs.Trees.Line.{AtLine, AskLine, DoneLine}
+use Rattle.cstn_tree.specs.Trees.Line.{AtLine, DoneLine}
 use Rattle.cstn_tree.specs.Read.{the_line}
 use Rattle.cstn_tree.specs.Made.{IsGrown, run_along}
 use Rattle.cstn_tree.specs.Making.{the_event, the_events, run_by, the_pending, IsMaking}

@@ -3,11 +3,9 @@ use Rattle.std.proofs.Common.{ℕ, ◌≡◌, ◌+◌, ◌<◌, ◌≤◌, List,
 use Rattle.std.specs.Prelude.{flat_map}
 use Rattle.std.proofs.lemmas.Grind.{flat_map-append}
 use Rattle.std.proofs.lemmas.List.{append-nil, map_more, take_all}
-use Rattle.cstn_label.specs.declared.nodes.NodeId.{NodeId}
 use Rattle.cstn_text.specs.Numbers.{printed_number}
 use Rattle.cstn_tree.specs.declared.trees.Line.{Line as ProgramLine}
-use Rattle.cstn_tree.specs.Branches.{numbers}
-use Rattle.cstn_tree.specs.Texts.{printed_line, printed_lines, shown}
+use Rattle.cstn_tree.specs.Texts.{printed_lines, shown}
 use Rattle.cstn_tree.specs.Read.{the_line}
 
 flat_more : {X : Type 0} (f : X → List ℕ) (xs : List X) (x : X) → flat_map f (xs ++ x ∷ []) ≡ flat_map f xs ++ f x

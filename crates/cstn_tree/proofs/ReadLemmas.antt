@@ -1,11 +1,9 @@
 -- Texts of trees, line by line.
-use Rattle.std.proofs.Common.{ℕ, zero, suc, ◌≡◌, ◌+◌, ◌<◌, ◌≤◌, Bool, true, false, List, [], ◌∷◌, ◌++◌, length, map, arith, refl, sym, subst, ap, ◌∙◌}
-use Rattle.std.specs.Prelude.{◌==◌, Option, None, Some, position, reverse, bytes_eq, codes, if◌then◌else◌}
+use Rattle.std.proofs.Common.{ℕ, ◌≡◌, ◌+◌, ◌<◌, List, [], ◌∷◌, ◌++◌, length, map, arith, refl, sym, subst, ap, ◌∙◌}
+use Rattle.std.specs.Prelude.{None, Some, reverse}
 use Rattle.std.specs.List.{All}
-use Rattle.std.specs.Option.{option_map, option_and_then, option_to_list}
-use Rattle.std.proofs.lemmas.List.{map-append, length-map, append-nil, reverse-append}
+use Rattle.std.proofs.lemmas.List.{map-append, length-map, reverse-append}
 use Rattle.std.proofs.lemmas.List.Elements.{All-push}
-use Rattle.std.proofs.lemmas.Grind.{common_steps}
 use Rattle.cstn_text.specs.Cuts.{cut_at}
 use Rattle.cstn_tree.specs.declared.trees.Line.{Line as ProgramLine}
 use Rattle.cstn_tree.specs.declared.reading.Reader.{Reader}
@@ -13,7 +11,7 @@ use Rattle.cstn_tree.specs.Trees.{Line, names_on}
 use Rattle.cstn_tree.specs.Read.{the_line}
 use Rattle.cstn_tree.specs.Whole.{IsBegun}
 use Rattle.cstn_tree.specs.Reading.{the_ahead, the_lines, IsReader}
-use Rattle.cstn_tree.specs.Texts.{Parts, parts_at, Told, tells, wrong, at_end, or_wrong, line_within, ahead_after, told_after, load_read, told_lines, told}
+use Rattle.cstn_tree.specs.Texts.{Parts, parts_at, tells, wrong, at_end, or_wrong, line_within, ahead_after, told_after, load_read, told_lines, told}
 use Rattle.cstn_tree.proofs.TreeLemmas.{begun_first, begun_next}
 use Rattle.cstn_tree.proofs.PartLemmas.{parts_cut, parts_open}
 

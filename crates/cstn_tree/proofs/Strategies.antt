@@ -1,14 +1,14 @@
 -- A good tree stands for a strategy.
-use Rattle.std.proofs.Common.{ℕ, ◌≡◌, ◌⊎◌, inl, inr, ◌+◌, ◌<◌, ◌≤◌, ◌||◌, Bool, true, false, cond, Option, Some, None, List, [], ◌∷◌, arith, refl, sym, subst, ◌∙◌, ap, eqb}
-use Rattle.std.specs.Prelude.{ℤ, pos, ◌-ℤ◌, ◌≤ℤ◌, ◌==◌, if◌then◌else◌}
-use Rattle.std.specs.List.{Contains, All, list_all, range_with_len}
+use Rattle.std.proofs.Common.{ℕ, ◌≡◌, ◌⊎◌, inl, inr, ◌<◌, ◌≤◌, ◌||◌, Bool, true, false, cond, Option, Some, None, List, arith, refl, sym, subst, ◌∙◌, ap}
+use Rattle.std.specs.Prelude.{pos, ◌-ℤ◌, ◌≤ℤ◌, ◌==◌}
+use Rattle.std.specs.List.{Contains}
 use Rattle.std.proofs.lemmas.Int.{ints}
 use Rattle.std.proofs.lemmas.List.Elements.{All-contains}
 use Rattle.std.proofs.lemmas.Bool.{cases_Bool, cond-true, cond-false, eqb-true}
 use Rattle.cstn_label.specs.Labels.{Label, Scenario, Holds, MarkFits}
 use Rattle.cstn_log.proofs.AskedLemmas.{true_fits}
 use Rattle.cstn_net.specs.Networks.{Network, IsNetwork, IsConstraint, Constraint, count, limit}
-use Rattle.cstn_net.specs.Strategies.{Table, IsStrategy}
+use Rattle.cstn_net.specs.Strategies.{IsStrategy}
 use Rattle.cstn_exec.specs.Runs.{fits_known, is_possible}
 use Rattle.cstn_exec.proofs.Options.{cases_option, some_or_none}
 use Rattle.cstn_exec.proofs.Ranges.{all_pass}

@@ -1,13 +1,12 @@
 -- Whoever agrees with what is known when x is named goes to the same line.
-use Rattle.std.proofs.Common.{ℕ, ◌≡◌, inl, inr, ◌+◌, ◌≤◌, Bool, true, false, cond, Option, Some, None, List, ◌∷◌, arith, refl, sym, subst, ap, ◌∙◌}
-use Rattle.std.specs.Prelude.{if◌then◌else◌}
+use Rattle.std.proofs.Common.{ℕ, ◌≡◌, inl, inr, ◌+◌, ◌≤◌, true, false, Option, Some, None, List, arith, refl, sym, ap, ◌∙◌}
 use Rattle.std.proofs.lemmas.Bool.{cases_Bool, cond-true, cond-false}
 use Rattle.cstn_label.specs.Labels.{Scenario}
-use Rattle.cstn_net.specs.Networks.{Network, Observes, count}
+use Rattle.cstn_net.specs.Networks.{Network, Observes}
 use Rattle.cstn_tree.specs.Trees.{Tree, is_named, walk}
 use Rattle.cstn_tree.specs.Trees.Tree.{at, ask, done}
-use Rattle.cstn_tree.specs.Good.{Branch, placed_with, below_at, below_ask, or_else}
-use Rattle.cstn_tree.proofs.Standing.{Stands, IsPlaced}
+use Rattle.cstn_tree.specs.Good.{Branch, below_at, below_ask, or_else}
+use Rattle.cstn_tree.proofs.Standing.{Stands}
 
 -- the moments of the whole branch: above this line and below it
 abbrev pub full : Branch → Tree → Scenario → ℕ → Option ℕ

@@ -1,7 +1,7 @@
 -- Trees of small networks. The proposition 0 is called p here, and 1 is called q.
-use Rattle.std.specs.Prelude.{ℕ, zero, suc, [], ◌∷◌, None, Some, ℤ, pos, negsuc}
+use Rattle.std.specs.Prelude.{ℕ, zero, suc, [], ◌∷◌, None, Some, ℤ, negsuc}
 use Rattle.cstn_label.specs.declared.marks.Mark.TheVariants.{Absent, Yes}
-use Rattle.cstn_label.specs.Labels.{Label, empty}
+use Rattle.cstn_label.specs.Labels.{Label}
 use Rattle.cstn_net.specs.Networks.{Network, Constraint}
 use Rattle.cstn_net.specs.Examples.{branch, only}
 use Rattle.cstn_tree.specs.Trees.{Tree}

@@ -1,10 +1,10 @@
 -- The tree of a network: what its executive does, by the outcomes that may be seen.
-use Rattle.std.specs.Prelude.{ℕ, ◌≡◌, Bool, true, false, List, [], ◌∷◌, ◌++◌, Option, Some, None, map}
+use Rattle.std.specs.Prelude.{ℕ, ◌≡◌, true, false, List, [], ◌∷◌, ◌++◌, Some, None}
 use Rattle.cstn_label.specs.Bounds.{Bound}
 use Rattle.cstn_net.specs.Networks.{Network, count}
 use Rattle.cstn_exec.specs.Runs.{Run, start, due, named}
 use Rattle.cstn_exec.specs.Moves.{Awaiting, moment_refusal, moved, handed}
-use Rattle.cstn_exec.specs.Examples.{Event, Moment, See, run_after}
+use Rattle.cstn_exec.specs.Examples.{Event, run_after}
 use Rattle.cstn_tree.specs.Trees.{Tree, Line, lines_of}
 use Rattle.cstn_tree.specs.Trees.Tree.{at, ask, done}
 use Rattle.cstn_tree.specs.Whole.{all_lines}

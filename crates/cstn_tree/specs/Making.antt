@@ -1,5 +1,5 @@
 -- What the program keeps while it makes a tree.
-use Rattle.std.specs.Prelude.{ℕ, ◌≡◌, List, ◌∷◌, map, reverse}
+use Rattle.std.specs.Prelude.{◌≡◌, List, ◌∷◌, map, reverse}
 use Rattle.cstn_label.specs.Bounds.{Bound}
 use Rattle.cstn_net.specs.Networks.{Network, count}
 use Rattle.cstn_exec.specs.Runs.{Run, start}

@@ -1,7 +1,5 @@
 -- How the values of the program are read.
-use Rattle.std.specs.Prelude.{ℕ, ◌≡◌, List, [], ◌∷◌, map, Option, Some, None, slice_index_or}
-use Rattle.cstn_label.specs.Read.{known_value}
-use Rattle.cstn_label.specs.declared.knowledge.Known.{Known}
+use Rattle.std.specs.Prelude.{ℕ, ◌≡◌, List, [], ◌∷◌, Option, Some, None}
 use Rattle.cstn_tree.specs.declared.trees.Line.{Line}
 use Rattle.cstn_tree.specs.declared.trees.Line.TheVariants.{At, Ask, Done}
 use Rattle.cstn_tree.specs.declared.checking.TreeAnswer.{TreeAnswer}

@@ -1,5 +1,5 @@
 -- What the program keeps of a text that it reads.
-use Rattle.std.specs.Prelude.{ℕ, ◌≡◌, ◌<◌, ◌≤◌, List, length, map, reverse}
+use Rattle.std.specs.Prelude.{ℕ, ◌≡◌, ◌<◌, List, length, map, reverse}
 use Rattle.std.specs.List.{All}
 use Rattle.cstn_tree.specs.declared.reading.Reader.{Reader}
 use Rattle.cstn_tree.specs.declared.errors.TreeError.{TreeError}

@@ -1,5 +1,5 @@
 -- Texts of trees.
-use Rattle.std.specs.Prelude.{ℕ, zero, suc, ◌≡◌, ◌+◌, ◌++◌, ◌==◌, nat_le, if◌then◌else◌, List, [], ◌∷◌, length, flat_map, slice_index_or, Option, None, Some, codes, bytes_eq}
+use Rattle.std.specs.Prelude.{ℕ, ◌+◌, ◌++◌, ◌==◌, nat_le, if◌then◌else◌, List, [], ◌∷◌, length, flat_map, slice_index_or, Option, None, Some, codes, bytes_eq}
 use Rattle.std.specs.Option.{option_and_then, option_map}
 use Rattle.cstn_label.specs.Letters.{letter_of, prop_of}
 use Rattle.cstn_text.specs.Cuts.{cut_at}

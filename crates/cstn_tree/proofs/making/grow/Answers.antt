@@ -1,4 +1,4 @@
-use Rattle.std.proofs.Common.{List, [], map, refl, sym, subst}
+use Rattle.std.proofs.Common.{[], map, refl, subst}
 use Rattle.cstn_net.specs.Read.{the_network}
 use Rattle.cstn_log.specs.Plans.{the_bounds}
 use Rattle.cstn_exec.specs.Read.{ExecParts}

@@ -1,4 +1,4 @@
-use Rattle.std.proofs.Common.{ℕ, List, ◌≡◌, ◌<◌, ◌++◌, ◌∷◌, [], length, codes, map, get_or, take, ap, sym, subst, ◌∙◌}
+use Rattle.std.proofs.Common.{List, ◌<◌, ◌++◌, ◌∷◌, [], length, codes, ap, sym, subst, ◌∙◌}
 use Rattle.std.specs.Char.{encode_utf8}
 use Rattle.std.specs.Prelude.{string_bytes}
 use Rattle.std.specs.List.{All}

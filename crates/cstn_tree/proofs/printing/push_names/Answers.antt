@@ -1,4 +1,4 @@
-use Rattle.std.proofs.Common.{ℕ, List, ◌≡◌, ◌++◌, ◌∷◌, [], get_or, take, ap, sym, ◌∙◌}
+use Rattle.std.proofs.Common.{List, ◌≡◌, ◌++◌, ◌∷◌, [], get_or, ap, sym, ◌∙◌}
 use Rattle.std.specs.Char.{encode_utf8}
 use Rattle.std.specs.Prelude.{flat_map, slice_index_or, string_bytes}
 use Rattle.std.proofs.lemmas.Option.{get_or_from_slice_get}

@@ -1,4 +1,4 @@
-use Rattle.std.proofs.Common.{sym, ap, ◌∙◌}
+use Rattle.std.proofs.Common.{ap, ◌∙◌}
 use Rattle.std.specs.Prelude.{is_some, List, Option, ℕ}
 use Rattle.std.specs.List.{list_all}
 use Rattle.cstn_net.specs.Networks.{count}

@@ -1,6 +1,5 @@
-use Rattle.std.proofs.Common.{ℕ, Bool, Option, sym, ◌∙◌}
+use Rattle.std.proofs.Common.{sym, ◌∙◌}
 use Rattle.cstn_label.specs.Read.{known_value}
-use Rattle.cstn_net.specs.Networks.{Constraint}
 use Rattle.cstn_net.specs.Read.{the_constraint}
 use Rattle.cstn_tree.specs.Branches.{the_placed}
 use Rattle.cstn_tree.proofs.BranchLemmas.{met_from, met_to, met_untouched}

@@ -1,8 +1,7 @@
-use Rattle.std.proofs.Common.{◌≤◌, ◌<◌, length, get_or, sym, ap, arith, refl, ◌∙◌}
-use Rattle.std.proofs.lemmas.Int.{ints}
+use Rattle.std.proofs.Common.{◌≤◌, ◌<◌, length, get_or, sym, arith, refl, ◌∙◌}
 use Rattle.cstn_net.specs.Networks.{count, limit}
 use Rattle.cstn_net.specs.Read.{the_network}
-use Rattle.cstn_tree.proofs.BranchLemmas.{fits_next, placed_more, branch_with, taken_fails, late_fails, placed_done}
+use Rattle.cstn_tree.proofs.BranchLemmas.{fits_next, placed_more, branch_with, placed_done}
 use Rattle.cstn_tree.proofs.branches.Branch.name_all.Goals as goal
 
 pub loop-x-preserved : goal.loop-x-preserved

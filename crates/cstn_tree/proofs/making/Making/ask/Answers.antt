@@ -1,4 +1,4 @@
-use Rattle.std.proofs.Common.{List, false, [], ◌∷◌, ◌++◌, sym, subst, ap, ◌∙◌, ◌+◌}
+use Rattle.std.proofs.Common.{List, false, [], ◌∷◌, ◌++◌, subst, ap, ◌∙◌, ◌+◌}
 use Rattle.cstn_net.specs.Networks.{IsWellFormed}
 use Rattle.cstn_net.specs.Read.{NetworkParts, the_network}
 use Rattle.cstn_log.specs.Plans.{the_bounds}

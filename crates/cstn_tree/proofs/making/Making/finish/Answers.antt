@@ -1,4 +1,4 @@
-use Rattle.std.proofs.Common.{ℕ, List, refl, sym, ap, ◌∙◌}
+use Rattle.std.proofs.Common.{List, refl, sym, ap, ◌∙◌}
 use Rattle.cstn_net.specs.Networks.{count}
 use Rattle.cstn_net.specs.Read.{the_network}
 use Rattle.cstn_log.specs.Plans.{the_bounds}

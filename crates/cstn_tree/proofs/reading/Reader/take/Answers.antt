@@ -1,8 +1,8 @@
-use Rattle.std.proofs.Common.{ℕ, List, Option, [], ◌∷◌, ◌≡◌, ◌<◌, ◌+◌, length, reverse, sym, subst, ap, ◌∙◌}
+use Rattle.std.proofs.Common.{ℕ, Option, [], ◌≡◌, ◌<◌, ◌+◌, length, reverse, sym, subst, ap, ◌∙◌}
 use Rattle.std.specs.List.{All}
 use Rattle.std.specs.Option.{option_map, IfSome}
 use Rattle.cstn_tree.specs.declared.trees.Line.{Line as ProgramLine}
-use Rattle.cstn_tree.specs.Trees.{Line, names_on}
+use Rattle.cstn_tree.specs.Trees.{names_on}
 use Rattle.cstn_tree.specs.Read.{the_line}
 use Rattle.cstn_tree.specs.Texts.{wrong}
 use Rattle.cstn_tree.proofs.TreeLemmas.{no_items}

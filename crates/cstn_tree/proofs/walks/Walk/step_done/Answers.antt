@@ -1,7 +1,6 @@
-use Rattle.std.proofs.Common.{ℕ, Option, Bool, List, Some, None, ◌+◌, sym, ap, ◌∙◌}
+use Rattle.std.proofs.Common.{Bool, List, Some, ◌+◌, sym, ap, ◌∙◌}
 use Rattle.std.specs.Prelude.{if◌then◌else◌, map, reverse}
 use Rattle.cstn_net.specs.Read.{the_network}
-use Rattle.cstn_tree.specs.Good.{Branch}
 use Rattle.cstn_tree.specs.Branches.{the_branch}
 use Rattle.cstn_tree.specs.Walks.{first_broken_in}
 use Rattle.cstn_tree.specs.declared.branches.Branch.{Branch as ProgramBranch}
