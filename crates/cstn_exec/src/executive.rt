@@ -70,6 +70,17 @@ impl Executive {
         })
     }
 
+    /// Begins again: nothing is executed, and no outcome is kept. The network and the plan stay.
+    pub fn restart(&mut self)
+        ensures started { self.new ≡ record self.old { run = start (count (the_network self.old.net)); named = [] } }
+    {
+        self.is_right();
+        self.last = None;
+        self.moments.fill(None);
+        self.outcomes = [None; 52];
+        self.named.clear();
+    }
+
     /// The network.
     pub fn network(&self) -> &Network
         ensures network { result.now ≡ self.now.net }

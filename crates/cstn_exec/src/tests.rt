@@ -45,6 +45,9 @@ fn the_origin_is_executed_at_once(rt: HostRuntime) -> Result<(), AllocError> {
     assert_eq!(rt; run.named().first(), Some(&NodeId(0)));
     assert_eq!(rt; run.due(), None);
     assert_eq!(rt; run.moment(1), Err(ExecError::Done));
+    run.restart();
+    assert_eq!(rt; run.due(), Some(0));
+    assert!(rt; run.named().is_empty());
     assert_eq!(rt; run.network().deadline(), 5);
     Ok(())
 }

@@ -1,0 +1,43 @@
+-- What the check of a tree tells.
+use Rattle.std.proofs.Common.{ℕ, suc, ◌≡◌, ◌+◌, ◌<◌, List, [], ◌∷◌, Option, map, drop, drop-cons, add-one, get_or, length, refl, sym, ap, subst, ◌∙◌}
+use Rattle.std.specs.Prelude.{◌↔◌}
+use Rattle.std.specs.List.{All}
+use Rattle.std.proofs.lemmas.List.{get_or-map, length-map}
+use Rattle.cstn_net.specs.Networks.{Network, IsWellFormed}
+use Rattle.cstn_net.specs.Strategies.{IsStrategy}
+use Rattle.cstn_tree.specs.declared.checking.TreeAnswer.{TreeAnswer}
+use Rattle.cstn_tree.specs.declared.checking.TreeAnswer.TheVariants.{Accepted, Rejected}
+use Rattle.cstn_tree.specs.declared.trees.Line.{Line as ProgramLine}
+use Rattle.cstn_tree.specs.Trees.{Tree, Line, lines_of, names_on, table_of}
+use Rattle.cstn_tree.specs.Good.{start, first_broken, IsGood}
+use Rattle.cstn_tree.specs.Walks.{first_broken_in}
+use Rattle.cstn_tree.specs.Read.{the_line, the_tree, the_answer}
+use Rattle.cstn_tree.proofs.TreeLemmas.{walk_finds}
+use Rattle.cstn_tree.proofs.Strategies.{good_is_strategy}
+
+pub finds : (net : Network) (o : Option ℕ) (ls tree : List Line) → o ≡ first_broken_in net (start ∷ []) ls 2 → ls ≡ tree →
+    tree ≡ lines_of (the_tree tree) → o ≡ first_broken net (the_tree tree)
+finds net o ls tree e same whole =
+    e ∙ ap (λ l. first_broken_in net (start ∷ []) l 2) (same ∙ whole) ∙ walk_finds net (the_tree tree)
+
+-- an answer that names the first line that breaks
+pub accepts : (net : Network) (tree : Tree) (a : TreeAnswer) → the_answer a ≡ first_broken net tree → (a ≡ Accepted) ↔ IsGood net tree
+accepts net tree Accepted e = ((λ h. sym e), (λ h. refl))
+accepts net tree (Rejected line) e = ((λ h. let f : ⊥ = cc in absurd f), (λ h. let f : ⊥ = cc in absurd f))
+
+pub accepted_strategy : (net : Network) (tree : Tree) (a : TreeAnswer) → IsWellFormed net → the_answer a ≡ first_broken net tree → a ≡ Accepted →
+    IsStrategy net (table_of tree)
+accepted_strategy net tree a wf e h = good_is_strategy net tree wf.network ((accepts net tree a e).0 h)
+
+-- one more line is walked
+pub lines_next : (lines : List ProgramLine) (k : ℕ) (l : ProgramLine) → k < length lines → l ≡ get_or lines k l →
+    map the_line (drop k lines) ≡ the_line l ∷ map the_line (drop (k + 1) lines)
+lines_next lines k l inside at =
+    ap (map the_line) (drop-cons lines k l inside) ∙ ap (λ x. the_line x ∷ map the_line (drop (suc k) lines)) (sym at)
+    ∙ ap (λ n. the_line l ∷ map the_line (drop n lines)) (sym (add-one k))
+
+pub names_inside : (n : ℕ) (lines : List ProgramLine) (k : ℕ) (l : ProgramLine) → k < length lines → l ≡ get_or lines k l →
+    All (λ l. All (λ x. x < n) (names_on l)) (map the_line lines) → All (λ x. x < n) (names_on (the_line l))
+names_inside n lines k l inside at all =
+    let here = get_or-map the_line lines k l (the_line l) inside ∙ ap the_line (sym at) in
+    subst (λ l. All (λ x. x < n) (names_on l)) here (all k (the_line l) (subst (λ m. k < m) (sym (length-map lines the_line)) inside))

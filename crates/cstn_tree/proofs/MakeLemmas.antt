@@ -1,0 +1,107 @@
+-- The tree of a network, line by line.
+use Rattle.std.proofs.Common.{ℕ, ◌≡◌, ◌⊎◌, inl, inr, ◌+◌, ◌-◌, ◌≤◌, true, false, List, [], ◌∷◌, ◌++◌, Option, Some, None, arith, refl, sym, subst, ap, ◌∙◌, append_assoc}
+use Rattle.std.specs.Prelude.{nat_lt}
+use Rattle.std.specs.List.{range_with_len, find}
+use Rattle.std.proofs.lemmas.Bool.{cases_Bool, cond-true, cond-false, lt-ltb}
+use Rattle.std.proofs.lemmas.List.{append-nil}
+use Rattle.cstn_label.specs.Bounds.{Bound}
+use Rattle.cstn_net.specs.Networks.{Network, count}
+use Rattle.cstn_exec.specs.Runs.{Run, start, after, next, is_done, due, named, has_work, awaited}
+use Rattle.cstn_exec.specs.Moves.{Refusal, Done, Past, Awaiting, moment_refusal, unless_past, unless_awaiting, unless_late, moved, handed}
+use Rattle.cstn_exec.specs.Examples.{Event, run_after}
+use Rattle.cstn_exec.proofs.Ranges.{find_first}
+use Rattle.cstn_tree.specs.Trees.{Tree, Line, lines_of}
+use Rattle.cstn_tree.specs.Trees.Tree.{at, ask, done}
+use Rattle.cstn_tree.specs.Trees.Line.{AtLine, AskLine, DoneLine}
+use Rattle.cstn_tree.specs.Whole.{all_lines}
+use Rattle.cstn_tree.specs.Made.{IsTreeOf, AreTreesFrom, IsGrown, run_along}
+use Rattle.cstn_tree.specs.Made.IsTreeFrom.{ends, asks, names}
+use Rattle.cstn_tree.specs.Read.{AreWhole, the_tree}
+use Rattle.cstn_tree.proofs.TreeLemmas.{tree_back}
+
+more : (ls : List Line) (l : Line) (others : List Line) → (ls ++ l ∷ []) ++ others ≡ ls ++ (l ∷ others)
+more ls l others = append_assoc ls (l ∷ []) others
+
+module _ (net : Network) (bounds : List Bound) where
+  pub grown_first : IsGrown net bounds [] (start (count net) ∷ [])
+  grown_first = record { grown = go }
+    where
+      go : (trees : List Tree) → AreTreesFrom net bounds (start (count net) ∷ []) trees → (tree : Tree) × (all_lines trees ≡ lines_of tree) × IsTreeOf net bounds tree
+      go [] no_tree = absurd no_tree
+      go (tree ∷ []) are = (tree, append-nil (lines_of tree), are.0)
+      go (tree ∷ (other ∷ trees)) are = absurd are.1
+
+  pub grown_end : (ls : List Line) → IsGrown net bounds ls [] → AreWhole ls × IsTreeOf net bounds (the_tree ls)
+  grown_end ls g =
+      let whole = g.grown [] tt in
+      let same : ls ≡ lines_of whole.0 = sym (append-nil ls) ∙ whole.1 in
+      ((whole.0, same), subst (IsTreeOf net bounds) (sym (ap the_tree same ∙ tree_back whole.0)) whole.2)
+
+  pub grown_done : (ls : List Line) (run : Run) (runs : List Run) → due net bounds run ≡ None → IsGrown net bounds ls (run ∷ runs) → IsGrown net bounds (ls ++ DoneLine ∷ []) runs
+  grown_done ls run runs none g = record { grown = go }
+    where
+      go : (trees : List Tree) → AreTreesFrom net bounds runs trees → (tree : Tree) × ((ls ++ DoneLine ∷ []) ++ all_lines trees ≡ lines_of tree) × IsTreeOf net bounds tree
+      go trees are =
+          let whole = g.grown (done ∷ trees) (ends run none, are) in
+          (whole.0, more ls DoneLine (all_lines trees) ∙ whole.1, whole.2)
+
+  pub grown_at : (ls : List Line) (run : Run) (runs : List Run) (t : ℕ) → due net bounds run ≡ Some t → moment_refusal net bounds run t ≡ None →
+      IsGrown net bounds ls (run ∷ runs) → IsGrown net bounds (ls ++ AtLine t (named net bounds run t) ∷ []) (moved net bounds run t ∷ runs)
+  grown_at ls run runs t is accepted g = record { grown = go }
+    where
+      go : (trees : List Tree) → AreTreesFrom net bounds (moved net bounds run t ∷ runs) trees →
+          (tree : Tree) × ((ls ++ AtLine t (named net bounds run t) ∷ []) ++ all_lines trees ≡ lines_of tree) × IsTreeOf net bounds tree
+      go [] no_tree = absurd no_tree
+      go (below ∷ trees) are =
+          let whole = g.grown (at t (named net bounds run t) below ∷ trees) (names run t below is accepted are.0, are.1) in
+          (whole.0, more ls (AtLine t (named net bounds run t)) (all_lines (below ∷ trees)) ∙ whole.1, whole.2)
+
+  pub grown_ask : (ls : List Line) (run : Run) (runs : List Run) (t p : ℕ) → due net bounds run ≡ Some t → moment_refusal net bounds run t ≡ Some (Awaiting p) →
+      IsGrown net bounds ls (run ∷ runs) → IsGrown net bounds (ls ++ AskLine p ∷ []) (handed run p true ∷ (handed run p false ∷ runs))
+  grown_ask ls run runs t p is waits g = record { grown = go }
+    where
+      go : (trees : List Tree) → AreTreesFrom net bounds (handed run p true ∷ (handed run p false ∷ runs)) trees →
+          (tree : Tree) × ((ls ++ AskLine p ∷ []) ++ all_lines trees ≡ lines_of tree) × IsTreeOf net bounds tree
+      go [] no_tree = absurd no_tree
+      go (one ∷ []) no_tree = absurd no_tree.1
+      go (one ∷ (other ∷ trees)) are =
+          let whole = g.grown (ask p one other ∷ trees) (asks run t p one other is waits are.0 are.1.0, are.1.1) in (
+            whole.0,
+            more ls (AskLine p) (all_lines (one ∷ (other ∷ trees)))
+                ∙ ap (λ l. ls ++ (AskLine p ∷ l)) (sym (append_assoc (lines_of one) (lines_of other) (all_lines trees))) ∙ whole.1,
+            whole.2,
+          )
+
+  -- the due moment is refused only where an outcome is awaited
+  pub due_waits : (run : Run) (t : ℕ) → due net bounds run ≡ Some t →
+      (moment_refusal net bounds run t ≡ None) ⊎ ((p : ℕ) × (moment_refusal net bounds run t ≡ Some (Awaiting p)))
+  due_waits run t is = elim (cases_Bool (is_done run)) [
+    | inl over ↦ let none = cond-true (is_done run) None (find (has_work net bounds run) (range_with_len (next run) ((net.deadline + 1) - next run))) over in let f : ⊥ = cc in absurd f
+    | inr more ↦
+        let from = find_first (has_work net bounds run) (next run) ((net.deadline + 1) - next run) t
+        (sym (cond-false (is_done run) None (find (has_work net bounds run) (range_with_len (next run) ((net.deadline + 1) - next run))) more) ∙ is) in
+        let past = not_past run t (unless_awaiting (awaited net run (t + 1)) (unless_late t (due net bounds run))) from.from in
+        let here : moment_refusal net bounds run t ≡ unless_awaiting (awaited net run (t + 1)) (unless_late t (due net bounds run)) =
+        cond-false (is_done run) (Some Done) (unless_past t run.now (unless_awaiting (awaited net run (t + 1)) (unless_late t (due net bounds run)))) more ∙ past in
+        let late : unless_late t (due net bounds run) ≡ None = ap (unless_late t) is ∙ not_late t in
+        go (awaited net run (t + 1)) (here ∙ ap (unless_awaiting (awaited net run (t + 1))) late)
+  ]
+    where
+      not_late : (t : ℕ) → unless_late t (Some t) ≡ None
+      not_late t = grind arith
+
+      not_past : (run : Run) (t : ℕ) (other : Option Refusal) → next run ≤ t → unless_past t run.now other ≡ other
+      not_past run t other from = past run.now from
+        where
+          past : (now : Option ℕ) → after now ≤ t → unless_past t now other ≡ other
+          past None h = refl
+          past (Some m) h = cond-true (nat_lt m t) other (Some (Past m)) (lt-ltb m t (omega arith))
+
+      go : (o : Option ℕ) → moment_refusal net bounds run t ≡ unless_awaiting o None →
+          (moment_refusal net bounds run t ≡ None) ⊎ ((p : ℕ) × (moment_refusal net bounds run t ≡ Some (Awaiting p)))
+      go None e = inl e
+      go (Some p) e = inr (p, e)
+
+  pub along_more : (run : Run) (es : List Event) (e : Event) → run_along net bounds run (es ++ e ∷ []) ≡ run_after net bounds (run_along net bounds run es) e
+  along_more run [] e = refl
+  along_more run (x ∷ xs) e = along_more (run_after net bounds run x) xs e

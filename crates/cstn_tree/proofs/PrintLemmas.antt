@@ -1,0 +1,30 @@
+-- Texts that are printed line by line.
+use Rattle.std.proofs.Common.{ℕ, ◌≡◌, ◌+◌, ◌<◌, ◌≤◌, List, [], ◌∷◌, ◌++◌, length, get_or, take, map, sym, ap, ◌∙◌, append_assoc, codes}
+use Rattle.std.specs.Prelude.{flat_map}
+use Rattle.std.proofs.lemmas.Grind.{flat_map-append}
+use Rattle.std.proofs.lemmas.List.{append-nil, map_more, take_all}
+use Rattle.cstn_text.specs.Numbers.{printed_number}
+use Rattle.cstn_tree.specs.declared.trees.Line.{Line as ProgramLine}
+use Rattle.cstn_tree.specs.Texts.{printed_lines, shown}
+use Rattle.cstn_tree.specs.Read.{the_line}
+
+flat_more : {X : Type 0} (f : X → List ℕ) (xs : List X) (x : X) → flat_map f (xs ++ x ∷ []) ≡ flat_map f xs ++ f x
+flat_more f xs x = flat_map-append f xs (x ∷ []) ∙ ap (λ l. flat_map f xs ++ l) (append-nil (f x))
+
+-- one more is printed
+pub printed_more : {X Y : Type 0} (g : Y → X) (f : X → List ℕ) (ys : List Y) (k : ℕ) (d : Y) (first old new more : List ℕ) → k < length ys →
+    old ≡ first ++ flat_map f (map g (take k ys)) → new ≡ old ++ more → more ≡ f (g (get_or ys k d)) → new ≡ first ++ flat_map f (map g (take (k + 1) ys))
+printed_more g f ys k d first old new more inside before pushed is =
+    pushed ∙ ap (λ l. old ++ l) is ∙ ap (λ l. l ++ f (g (get_or ys k d))) before
+    ∙ append_assoc first (flat_map f (map g (take k ys))) (f (g (get_or ys k d)))
+    ∙ ap (λ l. first ++ l) (sym (ap (flat_map f) (map_more g ys k d inside) ∙ flat_more f (map g (take k ys)) (g (get_or ys k d))))
+
+pub pushed_twice : (old middle new one other : List ℕ) → middle ≡ old ++ one → new ≡ middle ++ other → new ≡ old ++ (one ++ other)
+pushed_twice old middle new one other first second = second ∙ ap (λ l. l ++ other) first ∙ append_assoc old one other
+
+-- all is printed
+pub shown_whole : (names : List (List ℕ)) (load : ℕ) (lines : List ProgramLine) (k : ℕ) (text : List ℕ) → length lines ≤ k →
+    text ≡ (codes "yes " ++ printed_number load ++ 10 ∷ []) ++ printed_lines names (map the_line (take k lines)) → text ≡ shown names load (map the_line lines)
+shown_whole names load lines k text past is =
+    is ∙ ap (λ l. (codes "yes " ++ printed_number load ++ 10 ∷ []) ++ printed_lines names (map the_line l)) (take_all k lines past)
+    ∙ append_assoc (codes "yes " ++ printed_number load) (10 ∷ []) (printed_lines names (map the_line lines))

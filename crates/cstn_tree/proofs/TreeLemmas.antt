@@ -1,0 +1,143 @@
+-- The lines of trees, and the trees of lines.
+use Rattle.std.proofs.Common.{ℕ, suc, ◌+◌, ◌<◌, Bool, true, false, Option, Some, None, length, length-append, arith, subst, ◌≡◌, List, [], ◌∷◌, ◌++◌, refl, sym, ap, ◌∙◌, append_assoc}
+use Rattle.std.specs.Prelude.{if◌then◌else◌}
+use Rattle.std.specs.List.{All}
+use Rattle.std.proofs.lemmas.List.{append-nil, get_or-map, length-map}
+use Rattle.cstn_label.specs.declared.nodes.NodeId.{NodeId}
+use Rattle.cstn_net.specs.Networks.{Network}
+use Rattle.cstn_tree.specs.Good.{Branch, start, fits_at, fits_ask, is_complete, below_at, below_ask, or_else, first_broken_from, first_broken}
+use Rattle.cstn_tree.specs.Walks.{first_broken_in}
+use Rattle.cstn_tree.specs.Branches.{numbers}
+use Rattle.cstn_tree.specs.Texts.{ahead_after}
+use Rattle.cstn_tree.specs.Whole.{all_lines, IsBegun}
+use Rattle.cstn_tree.specs.Trees.{Tree, Line, IsAmong, lines_of, names_on}
+use Rattle.cstn_tree.specs.Trees.Tree.{at, ask, done}
+use Rattle.cstn_tree.specs.Trees.Line.{AtLine, AskLine, DoneLine}
+use Rattle.cstn_tree.specs.Read.{trees_of, with_line, the_tree, first_or_done, AreWhole}
+
+-- the trees of the lines of one, and of others
+pub trees_back : (tree : Tree) (ls : List Line) → trees_of (lines_of tree ++ ls) ≡ tree ∷ trees_of ls
+unfolding trees_of
+trees_back (at t xs next) ls = ap (with_line (AtLine t xs)) (trees_back next ls)
+trees_back (ask p one other) ls =
+    ap (λ l. with_line (AskLine p) (trees_of l)) (append_assoc (lines_of one) (lines_of other) ls)
+    ∙ ap (with_line (AskLine p)) (trees_back one (lines_of other ++ ls) ∙ ap (λ trees. one ∷ trees) (trees_back other ls))
+trees_back done ls = refl
+
+pub tree_back : (tree : Tree) → the_tree (lines_of tree) ≡ tree
+tree_back tree =
+    ap (λ l. the_tree l) (sym (append-nil (lines_of tree))) ∙ ap first_or_done (trees_back tree [])
+
+pub whole_back : (ls : List Line) → AreWhole ls → ls ≡ lines_of (the_tree ls)
+whole_back ls whole = whole.1 ∙ ap lines_of (sym (ap the_tree whole.1 ∙ tree_back whole.0))
+
+-- where all trees are walked, no line is left
+pub none_left : (net : Network) (ls : List Line) (k : ℕ) → first_broken_in net [] ls k ≡ None
+none_left net [] k = refl
+none_left net (l ∷ ls) k = refl
+
+pub all_numbers : (n : ℕ) (xs : List NodeId) → All (λ x. x < n) (numbers xs) → All (λ x. x.0 < n) xs
+all_numbers n xs all = λ k d inside.
+    subst (λ x. x < n) (get_or-map (λ (x : NodeId). x.0) xs k d 0 inside) (all k 0 (subst (λ m. k < m) (sym (length-map xs (λ (x : NodeId). x.0))) inside))
+
+abbrev or_nothing : (o : Option ℕ) (net : Network) (branches : List Branch) (ls : List Line) (k : ℕ) → Option ℕ
+or_nothing None net branches ls k = first_broken_in net branches ls k
+or_nothing (Some line) net branches ls k = Some line
+
+if_or : (test : Bool) (one : Option ℕ) (line : ℕ) (net : Network) (branches : List Branch) (ls : List Line) (k : ℕ) →
+    (if test then or_nothing one net branches ls k else Some line) ≡ or_nothing (if test then one else Some line) net branches ls k
+if_or true one line net branches ls k = refl
+if_or false one line net branches ls k = refl
+
+or_again : (one other : Option ℕ) (net : Network) (branches : List Branch) (ls : List Line) (k : ℕ) →
+    (or_else one (or_nothing other net branches ls k)) ≡ or_nothing (or_else one other) net branches ls k
+or_again None other net branches ls k = refl
+or_again (Some line) other net branches ls k = refl
+
+or_is : (one : Option ℕ) (net : Network) (branches : List Branch) (ls : List Line) (k : ℕ) →
+    or_nothing one net branches ls k ≡ or_else one (first_broken_in net branches ls k)
+or_is None net branches ls k = refl
+or_is (Some line) net branches ls k = refl
+
+-- a walk along the lines of a tree, and on
+walk_tree : (net : Network) (b : Branch) (branches : List Branch) (tree : Tree) (ls : List Line) (line : ℕ) →
+    first_broken_in net (b ∷ branches) (lines_of tree ++ ls) line
+    ≡ or_nothing (first_broken_from net b tree line) net branches ls (line + length (lines_of tree))
+walk_tree net b branches (at t xs next) ls line =
+    let size : (line + 1) + length (lines_of next) ≡ line + suc (length (lines_of next)) = omega arith in
+    ap (λ o. if fits_at net b t xs then o else Some line)
+    (walk_tree net (below_at b t xs) branches next ls (line + 1)
+    ∙ ap (or_nothing (first_broken_from net (below_at b t xs) next (line + 1)) net branches ls) size)
+    ∙ if_or (fits_at net b t xs) (first_broken_from net (below_at b t xs) next (line + 1)) line net branches ls (line + suc (length (lines_of next)))
+walk_tree net b branches (ask p one other) ls line =
+    let left = below_ask net b p true in
+    let right = below_ask net b p false in
+    let size : ((line + 1) + length (lines_of one)) + length (lines_of other) ≡ line + suc (length (lines_of one ++ lines_of other)) = let both = length-append (lines_of one) (lines_of other) in omega arith in
+    let next = line + suc (length (lines_of one ++ lines_of other)) in
+    let first = first_broken_from net left one (line + 1) in
+    let second = first_broken_from net right other ((line + 1) + length (lines_of one)) in
+    let way = ap (λ l. first_broken_in net (left ∷ (right ∷ branches)) l (line + 1)) (append_assoc (lines_of one) (lines_of other) ls)
+    ∙ walk_tree net left (right ∷ branches) one (lines_of other ++ ls) (line + 1)
+    ∙ or_is first net (right ∷ branches) (lines_of other ++ ls) ((line + 1) + length (lines_of one))
+    ∙ ap (or_else first) (walk_tree net right branches other ls ((line + 1) + length (lines_of one)) ∙ ap (or_nothing second net branches ls) size)
+    ∙ or_again first second net branches ls next in
+    ap (λ o. if fits_ask net b p then o else Some line) way
+    ∙ if_or (fits_ask net b p) (or_else first second) line net branches ls next
+walk_tree net b branches done ls line = if_or (is_complete net b) None line net branches ls (line + 1)
+
+-- the walk along the lines of one tree finds the first line that breaks
+pub walk_finds : (net : Network) (tree : Tree) → first_broken_in net (start ∷ []) (lines_of tree) 2 ≡ first_broken net tree
+walk_finds net tree =
+    ap (λ l. first_broken_in net (start ∷ []) l 2) (sym (append-nil (lines_of tree)))
+    ∙ walk_tree net start [] tree [] 2 ∙ nothing (first_broken net tree)
+  where
+    nothing : (o : Option ℕ) → or_nothing o net [] [] (2 + length (lines_of tree)) ≡ o
+    nothing None = refl
+    nothing (Some line) = refl
+
+pub no_items : {X : Type 0} (xs : List X) → length xs ≡ 0 → xs ≡ []
+no_items [] h = refl
+no_items (x ∷ xs) h = absurd (omega arith)
+
+pub numbers_all : (n : ℕ) (xs : List NodeId) → All (λ x. x.0 < n) xs → All (λ x. x < n) (numbers xs)
+numbers_all n xs all = λ k d inside.
+    let within = subst (λ m. k < m) (length-map xs (λ (x : NodeId). x.0)) inside in
+    subst (λ x. x < n) (sym (get_or-map (λ (x : NodeId). x.0) xs k (record { 0 = 0 }) d within)) (all k (record { 0 = 0 }) within)
+
+-- ---- trees that are still to come
+
+pub begun_first : IsBegun [] 1
+begun_first = record { whole = one }
+  where
+    one : (trees : List Tree) → length trees ≡ 1 → AreWhole (all_lines trees)
+    one [] e = absurd (omega arith)
+    one (tree ∷ []) e = (tree, append-nil (lines_of tree))
+    one (tree ∷ (other ∷ trees)) e = absurd (omega arith)
+
+pub begun_end : (ls : List Line) → IsBegun ls 0 → AreWhole ls
+begun_end ls b = let w = b.whole [] refl in (w.0, sym (append-nil ls) ∙ w.1)
+
+more_lines : (ls : List Line) (l : Line) (others : List Line) → (ls ++ l ∷ []) ++ others ≡ ls ++ (l ∷ others)
+more_lines ls l others = append_assoc ls (l ∷ []) others
+
+pub begun_next : (ls : List Line) (depth : ℕ) (ahead : List ℕ) (l : Line) → IsBegun ls (length (depth ∷ ahead)) → IsBegun (ls ++ l ∷ []) (length (ahead_after depth ahead l))
+begun_next ls depth ahead (AtLine t xs) b = record { whole = go }
+  where
+    go : (trees : List Tree) → length trees ≡ length (depth ∷ ahead) → AreWhole ((ls ++ AtLine t xs ∷ []) ++ all_lines trees)
+    go [] e = absurd (omega arith)
+    go (next ∷ trees) e = subst AreWhole (sym (more_lines ls (AtLine t xs) (all_lines (next ∷ trees)))) (b.whole (at t xs next ∷ trees) e)
+begun_next ls depth ahead (AskLine p) b = record { whole = go }
+  where
+    go : (trees : List Tree) → length trees ≡ suc (length (depth ∷ ahead)) → AreWhole ((ls ++ AskLine p ∷ []) ++ all_lines trees)
+    go [] e = absurd (omega arith)
+    go (one ∷ []) e = absurd (omega arith)
+    go (one ∷ (other ∷ trees)) e =
+        subst AreWhole (ap (λ l. ls ++ (AskLine p ∷ l)) (append_assoc (lines_of one) (lines_of other) (all_lines trees)) ∙ sym (more_lines ls (AskLine p) (all_lines (one ∷ (other ∷ trees)))))
+        (b.whole (ask p one other ∷ trees) (omega arith))
+begun_next ls depth ahead DoneLine b = record { whole = go }
+  where
+    go : (trees : List Tree) → length trees ≡ length ahead → AreWhole ((ls ++ DoneLine ∷ []) ++ all_lines trees)
+    go trees e = subst AreWhole (sym (more_lines ls DoneLine (all_lines trees))) (b.whole (done ∷ trees) (omega arith))
+
+pub among_whole : (n : ℕ) (ls : List Line) → AreWhole ls → All (λ l. All (λ x. x < n) (names_on l)) ls → IsAmong n (the_tree ls)
+among_whole n ls whole all = subst (λ k. All (λ l. All (λ x. x < n) (names_on l)) k) (whole_back ls whole) all

@@ -1,0 +1,26 @@
+use Rattle.std.proofs.Common.{[], map, refl, subst}
+use Rattle.cstn_net.specs.Read.{the_network}
+use Rattle.cstn_log.specs.Plans.{the_bounds}
+use Rattle.cstn_exec.specs.Read.{ExecParts}
+use Rattle.cstn_tree.specs.Made.{IsGrown}
+use Rattle.cstn_tree.specs.Read.{the_line}
+use Rattle.cstn_tree.proofs.MakeLemmas.{grown_end}
+use Rattle.cstn_tree.proofs.MakingLemmas.{making_first}
+use Rattle.cstn_tree.proofs.making.grow.Goals as goal
+
+pub loop-init : goal.loop-init
+loop-init c = record {
+  making = making_first (the_network c.args.exec.now.net) (the_bounds c.args.exec.now.bounds) c.args.exec.now.run _ c.requires.started c.new.ensures.items c.new-2.ensures.items c.new-3.ensures.items;
+  same = refl;
+}
+
+pub invariant_of-result : goal.invariant_of-result
+invariant_of-result c =
+    (grown_end (the_network c.loop.exec.net) (the_bounds c.loop.exec.bounds) (map the_line c.step.new.self.lines.items)
+    (c.in-Ok-false.ensures.ends c.in-Ok-false.field-0-test)).0
+
+pub returns-in-Ok-false-clause-tree : goal.returns-in-Ok-false-clause-tree
+returns-in-Ok-false-clause-tree c =
+    (grown_end (the_network c.args.exec.now.net) (the_bounds c.args.exec.now.bounds) (map the_line c.step.new.self.lines.items)
+    (subst (λ (e : ExecParts). IsGrown (the_network e.net) (the_bounds e.bounds) (map the_line c.step.new.self.lines.items) []) c.loop.invariant.same
+    (c.in-Ok-false.ensures.ends c.in-Ok-false.field-0-test))).1

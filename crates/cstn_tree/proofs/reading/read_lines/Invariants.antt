@@ -1,0 +1,14 @@
+use Rattle.std.proofs.Common.{◌≡◌, ◌≤◌, ◌+◌, [], ◌∷◌, length}
+use Rattle.cstn_tree.specs.Texts.{told_after, parts_at}
+use Rattle.cstn_tree.specs.Reading.{the_ahead, the_lines, IsReader}
+use Rattle.cstn_tree.proofs.reading.read_lines.Given as goal
+
+abbrev pub invariant-loop-line : goal.invariant-loop-line
+invariant-loop-line l = record {
+  told : told_after l.names (the_ahead l.reader) (the_lines l.reader) (parts_at 10 l.left).0 (parts_at 10 l.left).1 ≡ told_after l.names (1 ∷ []) [] (parts_at 10 l.bytes).0 (parts_at 10 l.bytes).1;
+  reader : IsReader (length l.names) l.reader;
+  count : length l.reader.lines.items + length l.left ≤ length l.bytes;
+}
+
+abbrev pub decreases-loop-line : goal.decreases-loop-line
+decreases-loop-line l = length l.left

@@ -1,0 +1,52 @@
+-- Trees of small networks. The proposition 0 is called p here, and 1 is called q.
+use Rattle.std.specs.Prelude.{ℕ, zero, suc, [], ◌∷◌, None, Some, ℤ, negsuc}
+use Rattle.cstn_label.specs.declared.marks.Mark.TheVariants.{Absent, Yes}
+use Rattle.cstn_label.specs.Labels.{Label}
+use Rattle.cstn_net.specs.Networks.{Network, Constraint}
+use Rattle.cstn_net.specs.Examples.{branch, only}
+use Rattle.cstn_tree.specs.Trees.{Tree}
+use Rattle.cstn_tree.specs.Trees.Tree.{at, ask, done}
+
+-- P at once, and X by what it observes, at these moments
+abbrev pub branch_tree : ℕ → ℕ → Tree
+branch_tree late early = at 0 (0 ∷ 1 ∷ []) (ask 0 (at late (2 ∷ []) done) (at early (2 ∷ []) done))
+
+-- p is asked before P is named
+abbrev pub asked_first : Tree
+asked_first = ask 0 (at 0 (0 ∷ 1 ∷ []) (at 10 (2 ∷ []) done)) (at 0 (0 ∷ 1 ∷ []) (at 1 (2 ∷ []) done))
+
+-- Z is named twice on a line
+abbrev pub named_twice : Tree
+named_twice = at 0 (0 ∷ 0 ∷ 1 ∷ []) (ask 0 (at 10 (2 ∷ []) done) (at 1 (2 ∷ []) done))
+
+-- X is left out where p is false
+abbrev pub left_out : Tree
+left_out = at 0 (0 ∷ 1 ∷ []) (ask 0 (at 10 (2 ∷ []) done) done)
+
+-- the branch network, in which p is known 2 ticks after P
+abbrev pub slow_branch : Network
+slow_branch = record branch { reaction = λ p. 2 }
+
+abbrev pub before : ℕ → ℕ → ℕ → ℤ → Label → Constraint
+before id from to most label = record { id = id; from = from; to = to; most = most; label = label }
+
+-- q is true
+abbrev pub second : Label
+second zero = Absent
+second (suc p) = only Yes p
+
+-- P and Q, each of which waits for the other where that one is true
+abbrev pub crossed : Network
+crossed = record {
+  deadline = 5;
+  observes = None ∷ Some 0 ∷ Some 1 ∷ [];
+  reaction = λ p. 1;
+  constraints = before 0 1 0 (negsuc 4) second ∷ before 1 2 0 (negsuc 4) (only Yes) ∷ [];
+}
+
+abbrev pub crossed_tree : Tree
+crossed_tree = at 0 (0 ∷ []) (at 5 (1 ∷ 2 ∷ []) done)
+
+-- a network of the origin alone
+abbrev pub alone : Network
+alone = record { deadline = 5; observes = None ∷ []; reaction = λ p. 1; constraints = [] }

@@ -1,0 +1,113 @@
+-- When a line of a tree breaks, and good trees.
+use Rattle.std.specs.Prelude.{ℕ, ◌≡◌, ◌+◌, max, Bool, true, false, ◌&&◌, ◌||◌, ◌==◌, not, nat_le, cond, is_none, is_some, if◌then◌else◌, List, [], ◌∷◌, length, Option, Some, None, ℤ, pos, ◌-ℤ◌}
+use Rattle.std.specs.Int.Signed.{le_z}
+use Rattle.std.specs.List.{position, list_all, range_with_len}
+use Rattle.std.specs.Option.{option_and_then}
+use Rattle.cstn_net.specs.Networks.{Network, Constraint, count, limit}
+use Rattle.cstn_net.specs.Read.{is_prop}
+use Rattle.cstn_exec.specs.Runs.{is_possible}
+use Rattle.cstn_tree.specs.Trees.{Tree, is_named, lines_of}
+use Rattle.cstn_tree.specs.Trees.Tree.{at, ask, done}
+
+-- what the branch of a line says: the moment of each time-point that it names, the outcome of each proposition that it asks, and
+-- the first moment that may follow. That one is above the last `at`, and each outcome that was asked since is known at it.
+pub record Branch : Type 0 where
+  pub placed : ℕ → Option ℕ
+  pub asked : ℕ → Option Bool
+  pub from : ℕ
+
+-- the branch of the first line
+abbrev pub start : Branch
+start = record { placed = λ x. None; asked = λ p. None; from = 0 }
+
+-- ---- `at`
+
+abbrev pub placed_with : (ℕ → Option ℕ) → ℕ → List ℕ → ℕ → Option ℕ
+placed_with placed t xs = λ x. if is_named x xs then Some t else placed x
+
+-- the branch of the line below an `at`
+abbrev pub below_at : Branch → ℕ → List ℕ → Branch
+below_at b t xs = record { placed = placed_with b.placed t xs; asked = b.asked; from = t + 1 }
+
+-- each is named once on the line, and not on its branch
+abbrev pub are_new : (ℕ → Option ℕ) → List ℕ → Bool
+are_new placed [] = true
+are_new placed (x ∷ xs) = is_none (placed x) && (not (is_named x xs) && are_new placed xs)
+
+abbrev pub are_in_time : Network → ℕ → List ℕ → Bool
+are_in_time net t xs = list_all (λ x. nat_le t (limit net x)) xs
+
+-- the difference of two moments is at most this, where both are there
+abbrev pub is_within : ℤ → Option ℕ → Option ℕ → Bool
+is_within most None to = true
+is_within most (Some from) None = true
+is_within most (Some from) (Some to) = le_z (pos to -ℤ pos from) most
+
+-- the constraint is met as far as its ends are placed, unless an outcome that was asked contradicts its label
+abbrev pub is_kept : (ℕ → Option ℕ) → (ℕ → Option Bool) → Constraint → Bool
+is_kept placed asked c = not (is_possible asked c.label) || is_within c.most (placed c.from) (placed c.to)
+
+-- the same of a constraint that has an end among xs
+abbrev pub is_met : (ℕ → Option ℕ) → (ℕ → Option Bool) → List ℕ → Constraint → Bool
+is_met placed asked xs c = not (is_named c.from xs || is_named c.to xs) || is_kept placed asked c
+
+-- an `at` doesn't break: its moment may follow; its time-points are named for the first time, and not above their limits; and the
+-- constraints that have an end on this line, and the other here or above, are met
+abbrev pub fits_at : Network → Branch → ℕ → List ℕ → Bool
+fits_at net b t xs =
+    nat_le b.from t && (are_new b.placed xs && (are_in_time net t xs &&
+    list_all (is_met (placed_with b.placed t xs) b.asked xs) net.constraints))
+
+-- ---- `ask`
+
+-- the moment at which the branch has the observer of p
+abbrev pub observed_on : Network → Branch → ℕ → Option ℕ
+observed_on net b p = option_and_then b.placed (position (is_prop p) net.observes)
+
+-- the moment from which an outcome is known, by that of its observer
+abbrev pub known_from : ℕ → Option ℕ → ℕ
+known_from reaction None = 0
+known_from reaction (Some m) = m + reaction
+
+-- the branch of the line below an `ask` where the outcome is v
+abbrev pub below_ask : Network → Branch → ℕ → Bool → Branch
+below_ask net b p v = record {
+  placed = b.placed;
+  asked = λ q. cond (q == p) (Some v) (b.asked q);
+  from = max b.from (known_from (net.reaction p) (observed_on net b p));
+}
+
+-- an `ask` doesn't break: the observer is named above, and the proposition isn't asked there
+abbrev pub fits_ask : Network → Branch → ℕ → Bool
+fits_ask net b p = is_some (observed_on net b p) && is_none (b.asked p)
+
+-- ---- `done`
+
+-- a `done` doesn't break: each time-point is named above
+abbrev pub is_complete : Network → Branch → Bool
+is_complete net b = list_all (λ x. is_some (b.placed x)) (range_with_len 0 (count net))
+
+-- ---- the first line that breaks
+
+abbrev pub or_else : Option ℕ → Option ℕ → Option ℕ
+or_else None other = other
+or_else (Some line) other = Some line
+
+-- the first line of the tree that breaks, where its first line has this branch and this number
+abbrev pub first_broken_from : Network → Branch → Tree → ℕ → Option ℕ
+first_broken_from net b (at t xs next) line =
+    if fits_at net b t xs then first_broken_from net (below_at b t xs) next (line + 1) else Some line
+first_broken_from net b (ask p one other) line =
+    if fits_ask net b p then
+    or_else (first_broken_from net (below_ask net b p true) one (line + 1))
+    (first_broken_from net (below_ask net b p false) other (line + 1 + length (lines_of one)))
+    else Some line
+first_broken_from net b done line = if is_complete net b then None else Some line
+
+-- the first line of the tree's text that breaks; the line of the load is 1
+abbrev pub first_broken : Network → Tree → Option ℕ
+first_broken net tree = first_broken_from net start tree 2
+
+-- a tree is good where no line breaks
+abbrev pub IsGood : Network → Tree → Type 0
+IsGood net tree = first_broken net tree ≡ None

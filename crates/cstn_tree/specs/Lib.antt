@@ -1,0 +1,11 @@
+pub mod Trees
+pub mod Good
+pub mod Walks
+pub mod Read
+pub mod Branches
+pub mod Examples
+pub mod Texts
+pub mod Whole
+pub mod Reading
+pub mod Made
+pub mod Making

@@ -1,0 +1,40 @@
+-- The tree of a network: what its executive does, by the outcomes that may be seen.
+use Rattle.std.specs.Prelude.{ℕ, ◌≡◌, true, false, List, [], ◌∷◌, ◌++◌, Some, None}
+use Rattle.cstn_label.specs.Bounds.{Bound}
+use Rattle.cstn_net.specs.Networks.{Network, count}
+use Rattle.cstn_exec.specs.Runs.{Run, start, due, named}
+use Rattle.cstn_exec.specs.Moves.{Awaiting, moment_refusal, moved, handed}
+use Rattle.cstn_exec.specs.Examples.{Event, run_after}
+use Rattle.cstn_tree.specs.Trees.{Tree, Line, lines_of}
+use Rattle.cstn_tree.specs.Trees.Tree.{at, ask, done}
+use Rattle.cstn_tree.specs.Whole.{all_lines}
+
+-- the tree from a run on. Where no moment is due, it is done. Where the due moment has to wait for an outcome, the least proposition
+-- that is awaited is asked. Else the time-points that are executed at the due moment are named.
+pub data IsTreeFrom (net : Network) (bounds : List Bound) : Run → Tree → Type 0 where
+  ends : (run : Run) → due net bounds run ≡ None → IsTreeFrom net bounds run done
+  asks : (run : Run) (t p : ℕ) (one other : Tree) → due net bounds run ≡ Some t → moment_refusal net bounds run t ≡ Some (Awaiting p) →
+      IsTreeFrom net bounds (handed run p true) one → IsTreeFrom net bounds (handed run p false) other →
+      IsTreeFrom net bounds run (ask p one other)
+  names : (run : Run) (t : ℕ) (next : Tree) → due net bounds run ≡ Some t → moment_refusal net bounds run t ≡ None →
+      IsTreeFrom net bounds (moved net bounds run t) next → IsTreeFrom net bounds run (at t (named net bounds run t) next)
+
+-- the tree from the run of which nothing is executed
+abbrev pub IsTreeOf : Network → List Bound → Tree → Type 0
+IsTreeOf net bounds tree = IsTreeFrom net bounds (start (count net)) tree
+
+-- a tree from each of the runs
+abbrev pub AreTreesFrom : Network → List Bound → List Run → List Tree → Type 0
+AreTreesFrom net bounds [] [] = Unit {0}
+AreTreesFrom net bounds [] (tree ∷ trees) = ⊥
+AreTreesFrom net bounds (run ∷ runs) [] = ⊥
+AreTreesFrom net bounds (run ∷ runs) (tree ∷ trees) = IsTreeFrom net bounds run tree × AreTreesFrom net bounds runs trees
+
+-- with the trees from these runs, the lines are those of the tree of the network
+pub record IsGrown (net : Network) (bounds : List Bound) (ls : List Line) (runs : List Run) : Type 0 where
+  pub grown : (trees : List Tree) → AreTreesFrom net bounds runs trees → (tree : Tree) × (ls ++ all_lines trees ≡ lines_of tree) × IsTreeOf net bounds tree
+
+-- the run after events in their order
+abbrev pub run_along : Network → List Bound → Run → List Event → Run
+run_along net bounds run [] = run
+run_along net bounds run (e ∷ es) = run_along net bounds (run_after net bounds run e) es

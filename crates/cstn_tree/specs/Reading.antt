@@ -1,0 +1,28 @@
+-- What the program keeps of a text that it reads.
+use Rattle.std.specs.Prelude.{ℕ, ◌≡◌, ◌<◌, List, length, map, reverse}
+use Rattle.std.specs.List.{All}
+use Rattle.cstn_tree.specs.declared.reading.Reader.{Reader}
+use Rattle.cstn_tree.specs.declared.errors.TreeError.{TreeError}
+use Rattle.cstn_tree.specs.declared.errors.TreeError.TheVariants.{Line as WrongLine, Memory}
+use Rattle.cstn_tree.specs.Trees.{Line, names_on}
+use Rattle.cstn_tree.specs.Texts.{Told, wrong}
+use Rattle.cstn_tree.specs.Read.{the_line}
+use Rattle.cstn_tree.specs.Whole.{IsBegun}
+
+-- the trees that are still to come, the next one first
+abbrev pub the_ahead : Reader → List ℕ
+the_ahead r = reverse r.ahead.items
+
+abbrev pub the_lines : Reader → List Line
+the_lines r = map the_line r.lines.items
+
+-- a line is the first wrong one; want of memory says nothing
+abbrev pub IsWrong : Told → TreeError → Type 0
+IsWrong t (WrongLine line) = t ≡ wrong line
+IsWrong t (Memory e) = Unit {0}
+
+-- what a reader keeps: with the trees that are still to come its lines are those of one tree, and they name time-points
+-- below n
+pub record IsReader (n : ℕ) (r : Reader) : Type 0 where
+  pub begun : IsBegun (the_lines r) (length (the_ahead r))
+  pub named : All (λ l. All (λ x. x < n) (names_on l)) (the_lines r)

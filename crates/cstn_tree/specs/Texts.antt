@@ -1,0 +1,134 @@
+-- Texts of trees.
+use Rattle.std.specs.Prelude.{ℕ, ◌+◌, ◌++◌, ◌==◌, nat_le, if◌then◌else◌, List, [], ◌∷◌, length, flat_map, slice_index_or, Option, None, Some, codes, bytes_eq}
+use Rattle.std.specs.Option.{option_and_then, option_map}
+use Rattle.cstn_label.specs.Letters.{letter_of, prop_of}
+use Rattle.cstn_text.specs.Cuts.{cut_at}
+use Rattle.cstn_text.specs.Names.{number_of}
+use Rattle.cstn_text.specs.Numbers.{number_within, printed_number}
+use Rattle.cstn_text.specs.PrintedNames.{name_read, printed_name}
+use Rattle.cstn_tree.specs.Trees.{Line}
+use Rattle.cstn_tree.specs.Trees.Line.{AtLine, AskLine, DoneLine}
+
+-- ---- printed
+
+-- a line as it is printed, without its LF
+abbrev pub printed_line : List (List ℕ) → Line → List ℕ
+printed_line names (AtLine t xs) =
+    codes "at " ++ printed_number t ++ flat_map (λ x. 32 ∷ printed_name (slice_index_or names x [])) xs
+printed_line names (AskLine p) = codes "ask " ++ letter_of p ∷ []
+printed_line names DoneLine = codes "done"
+
+abbrev pub printed_lines : List (List ℕ) → List Line → List ℕ
+printed_lines names lines = flat_map (λ l. printed_line names l ++ 10 ∷ []) lines
+
+-- the text of a load and a tree
+abbrev pub shown : List (List ℕ) → ℕ → List Line → List ℕ
+shown names load lines = codes "yes " ++ printed_number load ++ 10 ∷ printed_lines names lines
+
+-- ---- parts
+
+-- the parts of a text that end with this byte, without it, and what stands after the last one
+abbrev pub Parts : Type 0
+Parts = List (List ℕ) × List ℕ
+
+-- another byte begins the first part
+abbrev pub begun : ℕ → List (List ℕ) → List ℕ → Parts
+begun b [] tail = ([], b ∷ tail)
+begun b (part ∷ parts) tail = ((b ∷ part) ∷ parts, tail)
+
+abbrev pub with_byte : ℕ → ℕ → Parts → Parts
+with_byte end b text = if b == end then ([] ∷ text.0, text.1) else begun b text.0 text.1
+
+unfoldable pub parts_at : ℕ → List ℕ → Parts
+parts_at end [] = ([], [])
+parts_at end (b ∷ bytes) = with_byte end b (parts_at end bytes)
+
+-- ---- read
+
+-- the part before the first space, and what stands after it
+abbrev pub first_part : List ℕ → Option (List ℕ × List ℕ)
+first_part bytes = cut_at 32 bytes
+
+-- the printed form of a name of the list
+abbrev pub node_read : List (List ℕ) → List ℕ → Option ℕ
+node_read names text = option_and_then (number_of names) (name_read text)
+
+abbrev pub put_first : ℕ → Option (List ℕ) → Option (List ℕ)
+put_first x others = option_map (λ xs. x ∷ xs) others
+
+-- a name for each part, and one after the last space
+abbrev pub nodes_read : List (List ℕ) → List (List ℕ) → List ℕ → Option (List ℕ)
+nodes_read names [] tail = option_map (λ x. x ∷ []) (node_read names tail)
+nodes_read names (part ∷ parts) tail = option_and_then (λ x. put_first x (nodes_read names parts tail)) (node_read names part)
+
+-- one name or more, with a space between
+abbrev pub names_read : List (List ℕ) → List ℕ → Option (List ℕ)
+names_read names bytes = nodes_read names (parts_at 32 bytes).0 (parts_at 32 bytes).1
+
+-- a moment below 2^32, a space, and names
+abbrev pub at_read : List (List ℕ) → List ℕ → Option Line
+at_read names bytes =
+    option_and_then (λ found. option_and_then (λ t. option_map (AtLine t) (names_read names found.1)) (number_within 0 4294967295 found.0)) (first_part bytes)
+
+-- a letter
+abbrev pub ask_read : List ℕ → Option Line
+ask_read [] = None
+ask_read (b ∷ []) = option_map AskLine (prop_of b)
+ask_read (b ∷ (other ∷ bytes)) = None
+
+abbrev pub word_read : List (List ℕ) → List ℕ → List ℕ → Option Line
+word_read names word rest =
+    if bytes_eq word (codes "at") then at_read names rest else if bytes_eq word (codes "ask") then ask_read rest else None
+
+-- the line of a tree that a text is
+abbrev pub line_read : List (List ℕ) → List ℕ → Option Line
+line_read names bytes =
+    if bytes_eq bytes (codes "done") then Some DoneLine
+    else option_and_then (λ found. word_read names found.0 found.1) (first_part bytes)
+
+-- the same, where the line and those of its branch are at most 2,100
+abbrev pub line_within : List (List ℕ) → ℕ → List ℕ → Option Line
+line_within names depth bytes = if nat_le depth 2100 then line_read names bytes else None
+
+-- the trees still to come, each by how many lines its first line and its branch are, once this line was read
+abbrev pub ahead_after : ℕ → List ℕ → Line → List ℕ
+ahead_after depth ahead (AtLine t xs) = (depth + 1) ∷ ahead
+ahead_after depth ahead (AskLine p) = (depth + 1) ∷ ((depth + 1) ∷ ahead)
+ahead_after depth ahead DoneLine = ahead
+
+-- what a text says: the lines of a tree, or that a line, counted from 1, is the first that isn't of the grammar
+pub data Told : Type 0 where
+  tells : (lines : List Line) → Told
+  wrong : (line : ℕ) → Told
+
+-- the text ends after these lines, with LF, where no tree is still to come
+abbrev pub at_end : List ℕ → List Line → List ℕ → Told
+at_end [] lines [] = tells lines
+at_end [] lines (b ∷ tail) = wrong (length lines + 2)
+at_end (depth ∷ ahead) lines tail = wrong (length lines + 2)
+
+-- the line is wrong where nothing is read of it
+abbrev pub or_wrong : {A : Type 0} → Option A → ℕ → (A → Told) → Told
+or_wrong None line next = wrong line
+or_wrong (Some x) line next = next x
+
+-- what the lines say after some lines of the tree, where these trees are still to come
+unfoldable pub told_after : List (List ℕ) → List ℕ → List Line → List (List ℕ) → List ℕ → Told
+told_after names ahead lines [] tail = at_end ahead lines tail
+told_after names [] lines (text ∷ texts) tail = wrong (length lines + 2)
+told_after names (depth ∷ ahead) lines (text ∷ texts) tail =
+    or_wrong (line_within names depth text) (length lines + 2)
+    (λ l. told_after names (ahead_after depth ahead l) (lines ++ l ∷ []) texts tail)
+
+-- the first line: `yes`, a space, and the load
+abbrev pub load_read : List ℕ → Option ℕ
+load_read line =
+    option_and_then (λ found. if bytes_eq found.0 (codes "yes") then number_within 1 4194304 found.1 else None) (first_part line)
+
+-- what a text says: a load, and then the lines of one tree
+abbrev pub told_lines : List (List ℕ) → List (List ℕ) → List ℕ → Told
+told_lines names [] tail = wrong 1
+told_lines names (line ∷ lines) tail = or_wrong (load_read line) 1 (λ load. told_after names (1 ∷ []) [] lines tail)
+
+abbrev pub told : List (List ℕ) → List ℕ → Told
+told names bytes = told_lines names (parts_at 10 bytes).0 (parts_at 10 bytes).1

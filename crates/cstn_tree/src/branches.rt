@@ -1,0 +1,225 @@
+// What the branch of a line says.
+ghost use Rattle.std.specs.Prelude.{ℕ, ◌≡◌, ◌<◌, ◌≤◌, ◌&&◌, ◌||◌, not, true, Bool, ◌==◌, Some, length, map, IfOk, IfSome, is_some, is_none};
+ghost use Rattle.std.specs.List.{All, list_all, list_any};
+ghost use Rattle.std.specs.Option.{option_map};
+ghost use Rattle.cstn_label.specs.Read.{known_value, marks};
+ghost use Rattle.cstn_net.specs.Networks.{count, limit};
+ghost use Rattle.cstn_net.specs.Read.{the_network, the_constraint, IsInRange};
+ghost use Rattle.cstn_exec.specs.Runs.{is_possible};
+ghost use Rattle.cstn_tree.specs.Trees.{is_named};
+ghost use Rattle.cstn_tree.specs.Good.{start, placed_with, are_new, are_in_time, is_within, is_kept, is_met, fits_at, below_at, observed_on, known_from, fits_ask, below_ask, is_complete};
+ghost use Rattle.cstn_tree.specs.Branches.{the_branch, the_placed, IsBranchOf, numbers};
+
+use cstn_label::{Known, Label, NodeId, Prop};
+use cstn_net::{Constraint, Network};
+use std::alloc::{AllocError, Global};
+
+/// The moments of the time-points that the branch names, the outcomes that it asks, and the first moment that may follow.
+#[derive(Drop)]
+pub struct Branch {
+    pub moments: Vec<Option<u32>>,
+    pub asked: Known,
+    pub from: u64,
+}
+
+impl Branch {
+    /// The branch of the first line.
+    pub fn start(alloc: Global, net: &Network) -> Result<Branch, AllocError>
+        ensures start { IfOk result (λ b. the_branch b ≡ start) }
+        ensures branch { IfOk result (IsBranchOf (count (the_network net.now))) }
+    {
+        let mut moments = Vec::new(alloc);
+        moments.resize(net.count() as usize, None)?;
+        Ok(Branch {
+            moments,
+            asked: Known::nothing(),
+            from: 0,
+        })
+    }
+
+    /// The branch again.
+    pub fn copy(&self, alloc: Global) -> Result<Branch, AllocError>
+        ensures same { IfOk result (λ b. the_branch b ≡ the_branch self.now) }
+        ensures branch { IfOk result (λ b. (n : ℕ) → IsBranchOf n self.now → IsBranchOf n b) }
+    {
+        Ok(Branch {
+            moments: Vec::from_slice(alloc, &self.moments)?,
+            asked: self.asked,
+            from: self.from,
+        })
+    }
+
+    /// Whether each time-point is named.
+    pub fn is_complete(&self, net: &Network) -> bool
+        requires branch { IsBranchOf (count (the_network net.now)) self.now }
+        ensures { result ≡ is_complete (the_network net.now) (the_branch self.now) }
+    {
+        are_named(&self.moments)
+    }
+
+    // The moment at which a time-point is named, if it is.
+    fn moment(&self, x: NodeId) -> Option<u32>
+        requires { x.0 < length self.now.moments.items }
+        ensures { result ≡ (the_branch self.now).placed x.0 }
+    {
+        self.moments[x.index()]
+    }
+
+    fn is_named(&self, x: NodeId) -> bool
+        requires { x.0 < length self.now.moments.items }
+        ensures { result ≡ is_some ((the_branch self.now).placed x.0) }
+    {
+        self.moment(x).is_some()
+    }
+
+    // The moment of p's observer.
+    fn observed(&self, net: &Network, p: Prop) -> Option<u32>
+        requires branch { IsBranchOf (count (the_network net.now)) self.now }
+        ensures observed { result ≡ observed_on (the_network net.now) (the_branch self.now) p.index }
+        ensures in_time { IfSome result (λ m. m ≤ 1000000) }
+    {
+        net.count();
+        match net.observer(p) {
+            Some(x) => self.moment(x),
+            None => None,
+        }
+    }
+
+    /// Whether the outcome of p may be asked: its observer is named, and p wasn't asked before.
+    pub fn can_ask(&self, net: &Network, p: Prop) -> bool
+        requires branch { IsBranchOf (count (the_network net.now)) self.now }
+        ensures { result ≡ fits_ask (the_network net.now) (the_branch self.now) p.index }
+    {
+        self.observed(net, p).is_some() && self.asked.value(p).is_none()
+    }
+
+    /// Goes on below an `ask` of p, where the outcome is this one.
+    pub fn ask(&mut self, net: &Network, p: Prop, value: bool)
+        requires branch { IsBranchOf (count (the_network net.now)) self.old }
+        ensures below { the_branch self.new ≡ below_ask (the_network net.now) (the_branch self.old) p.index value }
+        ensures branch { IsBranchOf (count (the_network net.now)) self.new }
+    {
+        let known = self.known_from(net, p);
+        self.asked = self.asked.with(p, value);
+        self.from = self.from.max(known);
+    }
+
+    // The moment from which the outcome of p is known.
+    fn known_from(&self, net: &Network, p: Prop) -> u64
+        requires branch { IsBranchOf (count (the_network net.now)) self.now }
+        ensures known { result ≡ known_from ((the_network net.now).reaction p.index) (observed_on (the_network net.now) (the_branch self.now) p.index) }
+        ensures in_time { result ≤ 1001000 }
+    {
+        match self.observed(net, p) {
+            Some(m) => (m + net.reaction(p)) as u64,
+            None => 0,
+        }
+    }
+
+    /// Goes on below an `at` of a moment, in ticks, and time-points; false where the line breaks.
+    pub fn place(&mut self, net: &Network, t: u32, named: &[NodeId]) -> bool
+        requires branch { IsBranchOf (count (the_network net.now)) self.old }
+        requires inside { All (λ x. x.0 < count (the_network net.now)) named.now }
+        ensures fits { result ≡ fits_at (the_network net.now) (the_branch self.old) t (numbers named.now) }
+        ensures below { result ≡ true → the_branch self.new ≡ below_at (the_branch self.old) t (numbers named.now) }
+        ensures branch { result ≡ true → IsBranchOf (count (the_network net.now)) self.new }
+    {
+        if (t as u64) < self.from || !self.name_all(net, t, named) || !self.meets(net, named) {
+            return false;
+        }
+        self.from = t as u64 + 1;
+        true
+    }
+
+    // Names the time-points at a moment; false where one is named already, or the moment is above its limit.
+    fn name_all(&mut self, net: &Network, t: u32, named: &[NodeId]) -> bool
+        requires branch { IsBranchOf (count (the_network net.now)) self.old }
+        requires inside { All (λ x. x.0 < count (the_network net.now)) named.now }
+        ensures fits { result ≡ (are_new (the_branch self.old).placed (numbers named.now) && are_in_time (the_network net.now) t (numbers named.now)) }
+        ensures placed { result ≡ true → (the_branch self.new).placed ≡ placed_with (the_branch self.old).placed t (numbers named.now) }
+        ensures asked { self.new.asked ≡ self.old.asked }
+        ensures from { self.new.from ≡ self.old.from }
+        ensures branch { IsBranchOf (count (the_network net.now)) self.new }
+    {
+        for x in named {
+            if self.is_named(*x) || t > limit(net, *x) {
+                return false;
+            }
+            self.moments[x.index()] = Some(t);
+        }
+        true
+    }
+
+    // Whether the constraints are met that have an end among the time-points, and the other named.
+    fn meets(&self, net: &Network, named: &[NodeId]) -> bool
+        requires branch { IsBranchOf (count (the_network net.now)) self.now }
+        ensures { result ≡ list_all (is_met (the_branch self.now).placed (the_branch self.now).asked (numbers named.now)) (the_network net.now).constraints }
+    {
+        for c in net.constraints() {
+            if !self.is_met(net, named, c) {
+                return false;
+            }
+        }
+        true
+    }
+
+    fn is_met(&self, net: &Network, named: &[NodeId], c: &Constraint) -> bool
+        requires branch { IsBranchOf (count (the_network net.now)) self.now }
+        requires inside { IsInRange (count (the_network net.now)) c.now }
+        ensures { result ≡ is_met (the_branch self.now).placed (the_branch self.now).asked (numbers named.now) (the_constraint c.now) }
+    {
+        if stands_in(c.from, named) {
+            return self.is_kept(net, c);
+        }
+        if stands_in(c.to, named) {
+            return self.is_kept(net, c);
+        }
+        true
+    }
+
+    fn is_kept(&self, net: &Network, c: &Constraint) -> bool
+        requires branch { IsBranchOf (count (the_network net.now)) self.now }
+        requires inside { IsInRange (count (the_network net.now)) c.now }
+        ensures { result ≡ is_kept (the_branch self.now).placed (the_branch self.now).asked (the_constraint c.now) }
+    {
+        if !is_possible(c.label, self.asked) {
+            return true;
+        }
+        is_within(c.most, self.moment(c.from), self.moment(c.to))
+    }
+}
+
+fn limit(net: &Network, x: NodeId) -> u32
+    requires { x.0 < count (the_network net.now) }
+    ensures limit { result ≡ limit (the_network net.now) x.0 }
+    ensures in_time { result ≤ 1000000 }
+{
+    net.limit(x) as u32
+}
+
+fn are_named(moments: &[Option<u32>]) -> bool
+    ensures { result ≡ list_all is_some moments.now }
+{
+    moments.iter().all(|m| m.is_some())
+}
+
+fn stands_in(x: NodeId, named: &[NodeId]) -> bool
+    ensures { result ≡ list_any (λ y. x.0 == y.0) named.now }
+{
+    named.iter().any(|y| x.0 == y.0)
+}
+
+fn is_possible(label: Label, asked: Known) -> bool
+    ensures { result ≡ is_possible (known_value asked) (marks label) }
+{
+    label.possible(asked)
+}
+
+fn is_within(most: i32, from: Option<u32>, to: Option<u32>) -> bool
+    ensures { result ≡ is_within most from to }
+{
+    match (from, to) {
+        (Some(from), Some(to)) => to as i64 - from as i64 <= most as i64,
+        _ => true,
+    }
+}

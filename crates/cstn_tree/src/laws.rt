@@ -1,0 +1,37 @@
+// Laws of trees.
+ghost use Rattle.std.specs.Prelude.{ℕ, ◌≡◌, [], ◌∷◌, None, Some};
+ghost use Rattle.cstn_net.specs.Networks.{Network, IsNetwork};
+ghost use Rattle.cstn_net.specs.Strategies.{IsStrategy, IsConsistent};
+ghost use Rattle.cstn_net.specs.Examples.{branch};
+ghost use Rattle.cstn_tree.specs.Trees.{Tree, at, done, lines_of, table_of};
+ghost use Rattle.cstn_tree.specs.Good.{first_broken, IsGood};
+ghost use Rattle.cstn_tree.specs.Read.{the_tree};
+ghost use Rattle.cstn_tree.specs.Examples.{branch_tree, asked_first, named_twice, left_out, slow_branch, crossed, crossed_tree, alone};
+
+/// The table that a good tree stands for is a strategy, so a network that has a good tree is consistent.
+#[tactic(auto, using(crate::proofs::Strategies::good_is_strategy))]
+pub fn good_trees_are_strategies()
+    ensures strategy { (net : Network) (tree : Tree) → IsNetwork net → IsGood net tree → IsStrategy net (table_of tree) }
+    ensures consistent { (net : Network) (tree : Tree) → IsNetwork net → IsGood net tree → IsConsistent net }
+{}
+
+/// A tree is known by its lines.
+#[tactic(auto, using(crate::proofs::TreeLemmas::tree_back))]
+pub fn trees_are_their_lines()
+    ensures back { (tree : Tree) → the_tree (lines_of tree) ≡ tree }
+{}
+
+/// The first lines that break of small trees.
+pub fn broken_lines_are_known()
+    ensures branch { first_broken branch (branch_tree 10 1) ≡ None }
+    ensures early { first_broken branch (branch_tree 9 1) ≡ Some 4 }
+    ensures at_once { first_broken branch (branch_tree 10 0) ≡ Some 6 }
+    ensures asked_first { first_broken branch asked_first ≡ Some 2 }
+    ensures named_twice { first_broken branch named_twice ≡ Some 2 }
+    ensures left_out { first_broken branch left_out ≡ Some 6 }
+    ensures unknown { first_broken slow_branch (branch_tree 10 1) ≡ Some 6 }
+    ensures known { first_broken slow_branch (branch_tree 10 2) ≡ None }
+    ensures crossed { first_broken crossed crossed_tree ≡ None }
+    ensures alone { first_broken alone (at 0 (0 ∷ []) done) ≡ None }
+    ensures above_the_limit { first_broken alone (at 1 (0 ∷ []) done) ≡ Some 2 }
+{}

@@ -1,0 +1,24 @@
+//! Strategies as trees that a person can read, their text, and a check of them that knows no rule.
+#![tactic(auto)]
+
+mod branches;
+mod checking;
+mod errors;
+mod laws;
+mod making;
+mod parts;
+mod printing;
+mod reading;
+mod trees;
+mod walks;
+
+pub use checking::{TreeAnswer, check};
+pub use errors::TreeError;
+pub use laws::{broken_lines_are_known, good_trees_are_strategies, trees_are_their_lines};
+pub use making::make;
+pub use printing::print;
+pub use reading::read;
+pub use trees::{Line, Named, Tree};
+
+#[cfg(test)]
+mod tests;

@@ -1,0 +1,199 @@
+// The tree of a network, made by what its executive does.
+ghost use Rattle.std.specs.Prelude.{ℕ, ◌≡◌, ◌<◌, ◌+◌, ◌++◌, ◌∷◌, [], true, false, None, Some, List, length, map, IfOk, OnOk, MatchOption};
+ghost use Rattle.std.specs.Option.{option_map};
+ghost use Rattle.cstn_exec.specs.Read.{the_refusal};
+ghost use Rattle.cstn_net.specs.Networks.{count};
+ghost use Rattle.cstn_net.specs.Read.{the_network};
+ghost use Rattle.cstn_log.specs.Plans.{the_bounds};
+ghost use Rattle.cstn_exec.specs.Runs.{start, due, named};
+ghost use Rattle.cstn_exec.specs.Moves.{Awaiting, moment_refusal};
+ghost use Rattle.cstn_exec.specs.Examples.{Moment, run_after};
+ghost use Rattle.cstn_tree.specs.Made.{IsTreeOf, IsGrown, run_along};
+ghost use Rattle.cstn_tree.specs.Read.{the_line, the_tree};
+ghost use Rattle.cstn_tree.specs.Making.{the_event, the_events, the_pending, IsMaking};
+
+use crate::trees::{Line, Named, Tree};
+use cstn_exec::{ExecError, Executive};
+use cstn_label::Prop;
+use std::alloc::{AllocError, Global};
+
+/// The tree of the executive's network. The executive is left restarted, also when refused.
+///
+/// Takes as many steps as the tree has lines, and for each second tree of an `ask` those of its branch. Where k propositions are
+/// observed a tree can have 2^k branches.
+pub fn make(alloc: Global, exec: &mut Executive) -> Result<Tree, AllocError>
+    ensures tree { IfOk result (λ t. IsTreeOf (the_network exec.old.net) (the_bounds exec.old.bounds) (the_tree t)) }
+    ensures restarted { exec.new ≡ record exec.old { run = start (count (the_network exec.old.net)); named = [] } }
+{
+    exec.restart();
+    let made = grow(alloc, exec);
+    exec.restart();
+    made
+}
+
+fn grow(alloc: Global, exec: &mut Executive) -> Result<Tree, AllocError>
+    requires started { exec.old.run ≡ start (count (the_network exec.old.net)) }
+    ensures tree { IfOk result (λ t. IsTreeOf (the_network exec.old.net) (the_bounds exec.old.bounds) (the_tree t)) }
+    ensures same { exec.new ≡ record exec.old { run = exec.new.run; named = exec.new.named } }
+{
+    let mut making = Making {
+        lines: Vec::new(alloc),
+        path: Vec::new(alloc),
+        pending: Vec::new(alloc),
+    };
+    // Each step takes memory for a line, so memory ends before the steps do.
+    for _ in 0..u64::MAX {
+        match making.step(alloc, exec) {
+            Ok(true) => {}
+            Ok(false) => return Ok(Tree {
+                lines: making.lines,
+            }),
+            Err(e) => return Err(e),
+        }
+    }
+    Err(AllocError)
+}
+
+// What an executive is told.
+#[derive(Clone, Copy)]
+enum Step {
+    Moment { t: u32 },
+    See { prop: Prop, value: bool },
+}
+
+// What an executive is told up to a line.
+#[derive(Drop)]
+struct Path {
+    steps: Vec<Step>,
+}
+
+// The lines so far, what the executive was told, and what it is to be told for each tree that is still to come, the next one's last.
+#[derive(Drop)]
+struct Making {
+    lines: Vec<Line>,
+    path: Vec<Step>,
+    pending: Vec<Path>,
+}
+
+impl Making {
+    // Puts the next line behind the others; false where it was the last one.
+    fn step(&mut self, alloc: Global, exec: &mut Executive) -> Result<bool, AllocError>
+        requires making { IsMaking (the_network exec.old.net) (the_bounds exec.old.bounds) exec.old.run self.old }
+        ensures goes_on { IfOk result (λ more. more ≡ true → IsMaking (the_network exec.old.net) (the_bounds exec.old.bounds) exec.new.run self.new) }
+        ensures ends { IfOk result (λ more. more ≡ false → IsGrown (the_network exec.old.net) (the_bounds exec.old.bounds) (map the_line self.new.lines.items) []) }
+        ensures same { exec.new ≡ record exec.old { run = exec.new.run; named = exec.new.named } }
+    {
+        let Some(t) = exec.due() else {
+            return self.finish(exec);
+        };
+        match awaited(exec, t) {
+            Some(prop) => self.ask(alloc, exec, prop),
+            None => self.name(alloc, exec, t),
+        }
+    }
+
+    // Puts a `done`, and goes to the next tree that is still to come.
+    fn finish(&mut self, exec: &mut Executive) -> Result<bool, AllocError>
+        requires making { IsMaking (the_network exec.old.net) (the_bounds exec.old.bounds) exec.old.run self.old }
+        requires over { due (the_network exec.old.net) (the_bounds exec.old.bounds) exec.old.run ≡ None }
+        ensures goes_on { IfOk result (λ more. more ≡ true → IsMaking (the_network exec.old.net) (the_bounds exec.old.bounds) exec.new.run self.new) }
+        ensures ends { IfOk result (λ more. more ≡ false → IsGrown (the_network exec.old.net) (the_bounds exec.old.bounds) (map the_line self.new.lines.items) []) }
+        ensures same { exec.new ≡ record exec.old { run = exec.new.run; named = exec.new.named } }
+    {
+        self.lines.push(Line::Done)?;
+        match self.pending.pop() {
+            Some(path) => {
+                exec.restart();
+                follow(exec, &path.steps);
+                self.path = path.steps;
+                Ok(true)
+            }
+            None => Ok(false),
+        }
+    }
+
+    // Puts an `ask`, and goes on with the tree for true.
+    fn ask(&mut self, alloc: Global, exec: &mut Executive, prop: Prop) -> Result<bool, AllocError>
+        requires making { IsMaking (the_network exec.old.net) (the_bounds exec.old.bounds) exec.old.run self.old }
+        requires waits { (t : ℕ) × (due (the_network exec.old.net) (the_bounds exec.old.bounds) exec.old.run ≡ Some t) × (moment_refusal (the_network exec.old.net) (the_bounds exec.old.bounds) exec.old.run t ≡ Some (Awaiting prop.index)) }
+        ensures more { IfOk result (λ more. more ≡ true) }
+        ensures making { OnOk result (IsMaking (the_network exec.old.net) (the_bounds exec.old.bounds) exec.new.run self.new) }
+        ensures same { exec.new ≡ record exec.old { run = exec.new.run; named = exec.new.named } }
+    {
+        exec.network().count();
+        let mut steps = Vec::from_slice(alloc, &self.path)?;
+        steps.push(Step::See { prop, value: false })?;
+        self.pending.push(Path { steps })?;
+        self.path.push(Step::See { prop, value: true })?;
+        self.lines.push(Line::Ask { prop })?;
+        tell(exec, Step::See { prop, value: true });
+        Ok(true)
+    }
+
+    // Puts an `at` of the due moment.
+    fn name(&mut self, alloc: Global, exec: &mut Executive, t: u32) -> Result<bool, AllocError>
+        requires making { IsMaking (the_network exec.old.net) (the_bounds exec.old.bounds) exec.old.run self.old }
+        requires due { due (the_network exec.old.net) (the_bounds exec.old.bounds) exec.old.run ≡ Some t }
+        requires accepted { moment_refusal (the_network exec.old.net) (the_bounds exec.old.bounds) exec.old.run t ≡ None }
+        ensures more { IfOk result (λ more. more ≡ true) }
+        ensures making { OnOk result (IsMaking (the_network exec.old.net) (the_bounds exec.old.bounds) exec.new.run self.new) }
+        ensures same { exec.new ≡ record exec.old { run = exec.new.run; named = exec.new.named } }
+    {
+        tell(exec, Step::Moment { t });
+        let nodes = Vec::from_slice(alloc, exec.named())?;
+        let named = Named { nodes };
+        self.lines.push(Line::At { moment: t, named })?;
+        self.path.push(Step::Moment { t })?;
+        Ok(true)
+    }
+}
+
+// The proposition for which the due moment has to wait; none where that moment is accepted.
+fn awaited(exec: &Executive, t: u32) -> Option<Prop>
+    requires due { due (the_network exec.now.net) (the_bounds exec.now.bounds) exec.now.run ≡ Some t }
+    ensures { MatchOption result (moment_refusal (the_network exec.now.net) (the_bounds exec.now.bounds) exec.now.run t ≡ None) (λ p. moment_refusal (the_network exec.now.net) (the_bounds exec.now.bounds) exec.now.run t ≡ Some (Awaiting p.index)) }
+{
+    match exec.can(t) {
+        Some(refusal) => awaited_by(refusal),
+        None => None,
+    }
+}
+
+fn awaited_by(refusal: ExecError) -> Option<Prop>
+    ensures { (p : ℕ) → the_refusal refusal ≡ Awaiting p → option_map (λ q. q.index) result ≡ Some p }
+{
+    match refusal {
+        ExecError::Awaiting { prop } => Some(prop),
+        ExecError::Past { .. } => None,
+        ExecError::Late { .. } => None,
+        ExecError::NotExecuted { .. } => None,
+        ExecError::Known { .. } => None,
+        ExecError::Done => None,
+    }
+}
+
+// Tells the executive one thing after the other.
+fn follow(exec: &mut Executive, steps: &[Step])
+    ensures run { exec.new.run ≡ run_along (the_network exec.old.net) (the_bounds exec.old.bounds) exec.old.run (the_events steps.now) }
+    ensures same { exec.new ≡ record exec.old { run = exec.new.run; named = exec.new.named } }
+{
+    for step in steps {
+        tell(exec, *step);
+    }
+}
+
+// Tells the executive a moment or an outcome. What it refuses changes nothing.
+fn tell(exec: &mut Executive, step: Step)
+    ensures run { exec.new.run ≡ run_after (the_network exec.old.net) (the_bounds exec.old.bounds) exec.old.run (the_event step) }
+    ensures named { (t : ℕ) → the_event step ≡ Moment t → moment_refusal (the_network exec.old.net) (the_bounds exec.old.bounds) exec.old.run t ≡ None → exec.new.named ≡ named (the_network exec.old.net) (the_bounds exec.old.bounds) exec.old.run t }
+    ensures same { exec.new ≡ record exec.old { run = exec.new.run; named = exec.new.named } }
+{
+    match step {
+        Step::Moment { t } => {
+            let _ = exec.moment(t);
+        }
+        Step::See { prop, value } => {
+            let _ = exec.see(prop, value);
+        }
+    }
+}

@@ -1,0 +1,81 @@
+// Trees as texts.
+ghost use Rattle.std.specs.Prelude.{ℕ, ◌≡◌, ◌<◌, ◌≤◌, ◌++◌, ◌∷◌, [], length, map, flat_map, slice_index_or, string_bytes, IfOk, OnOk, codes};
+ghost use Rattle.std.specs.List.{All};
+ghost use Rattle.cstn_text.specs.Numbers.{printed_number};
+ghost use Rattle.cstn_text.specs.PrintedNames.{printed_name};
+ghost use Rattle.cstn_tree.specs.Trees.{IsAmong, names_on};
+ghost use Rattle.cstn_tree.specs.Texts.{shown, printed_line};
+ghost use Rattle.cstn_tree.specs.Read.{the_line, the_tree};
+ghost use Rattle.cstn_tree.specs.Branches.{numbers};
+
+use crate::trees::{Line, Tree};
+use cstn_label::NodeId;
+use cstn_text::{Names, print_name, push_number};
+use std::alloc::{AllocError, Global};
+
+// Most lines have fewer bytes. Room for longer ones is taken as they come.
+const USUAL_LINE: usize = 16;
+
+/// The text of a tree: a line for the load, and one for each line of the tree.
+///
+/// Beside the text it takes memory for a name at a time.
+pub fn print(alloc: Global, tree: &Tree, load: u32, names: &Names) -> Result<String, AllocError>
+    requires named { IsAmong (length names.now) (the_tree tree.now) }
+    requires load { (1 ≤ load) × (load ≤ 4194304) }
+    ensures shown { IfOk result (λ text. string_bytes text ≡ shown names.now load tree.now) }
+{
+    let lines = tree.lines();
+    let mut text = String::new(alloc);
+    push_load(&mut text, load)?;
+    for k in 0..lines.len() {
+        push_line(alloc, &mut text, names, &lines[k])?;
+        text.push('\n')?;
+    }
+    Ok(text)
+}
+
+// Appends the first line.
+fn push_load(text: &mut String, load: u32) -> Result<(), AllocError>
+    ensures pushed { OnOk result (string_bytes text.new ≡ string_bytes text.old ++ (codes "yes " ++ printed_number load ++ 10 ∷ [])) }
+{
+    text.push_str("yes ")?;
+    push_number(text, load as u64)?;
+    text.push('\n')
+}
+
+// Appends a line of the tree, without its end.
+fn push_line(alloc: Global, text: &mut String, names: &Names, line: &Line) -> Result<(), AllocError>
+    requires named { All (λ x. x < length names.now) (names_on (the_line line.now)) }
+    ensures pushed { OnOk result (string_bytes text.new ≡ string_bytes text.old ++ printed_line names.now (the_line line.now)) }
+{
+    match line {
+        Line::At { moment, named } => {
+            text.push_str("at ")?;
+            push_number(text, *moment as u64)?;
+            push_names(alloc, text, names, named.as_slice())
+        }
+        Line::Ask { prop } => {
+            text.push_str("ask ")?;
+            text.push(char::from(prop.letter()))
+        }
+        Line::Done => text.push_str("done"),
+    }
+}
+
+// Appends the names of time-points, each after a space.
+fn push_names(
+    alloc: Global,
+    text: &mut String,
+    names: &Names,
+    named: &[NodeId],
+) -> Result<(), AllocError>
+    requires named { All (λ x. x.0 < length names.now) named.now }
+    ensures pushed { OnOk result (string_bytes text.new ≡ string_bytes text.old ++ flat_map (λ x. 32 ∷ printed_name (slice_index_or names.now x [])) (numbers named.now)) }
+{
+    for x in named {
+        text.push(' ')?;
+        let name = print_name(alloc, names.name(*x))?;
+        text.push_str(&name)?;
+    }
+    Ok(())
+}

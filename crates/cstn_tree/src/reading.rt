@@ -1,0 +1,189 @@
+// Trees read from their texts.
+ghost use Rattle.std.specs.Prelude.{ℕ, ◌≡◌, ◌<◌, ◌≤◌, ◌+◌, ◌^◌, ◌∷◌, [], List, Some, length, map, reverse, IfOk, IfErr, IfSome, OnOk, OnErr, ◌++◌};
+ghost use Rattle.std.specs.List.{All};
+ghost use Rattle.std.specs.Option.{option_map};
+ghost use Rattle.cstn_tree.specs.Trees.{IsAmong, names_on};
+ghost use Rattle.cstn_tree.specs.Texts.{Told, tells, at_end, told_after, told, load_read, line_within, ahead_after, parts_at};
+ghost use Rattle.cstn_tree.specs.Read.{the_line, the_tree};
+ghost use Rattle.cstn_tree.specs.Reading.{the_ahead, the_lines, IsReader, IsWrong};
+
+use crate::errors::TreeError;
+use crate::parts::{first_part, read_line};
+use crate::trees::{Line, Tree};
+use cstn_text::{Names, cut_at, read_number_within};
+use std::alloc::{AllocError, Global};
+
+/// The greatest load.
+const MOST_LOAD: u32 = 4_194_304;
+
+/// How many lines there may be on a branch, with its last one.
+const MOST_DEPTH: u16 = 2100;
+
+/// The tree that a text is. `Line` with the first line that isn't of the form, counted from 1: also the line that is missing
+/// or cut where the text ends within the tree, the one after the tree, and one that stands below 2,100 others of the tree.
+pub fn read(alloc: Global, names: &Names, bytes: &[u8]) -> Result<Tree, TreeError>
+    requires few { length names.now ≤ 65536 }
+    requires short { length bytes.now < 2 ^ 32 }
+    ensures accepted { IfOk result (λ t. told names.now bytes.now ≡ tells t) }
+    ensures line { IfErr result (IsWrong (told names.now bytes.now)) }
+
+    ensures named { IfOk result (λ t. IsAmong (length names.now) (the_tree t)) }
+    ensures few { IfOk result (λ t. length t + 1 < 2 ^ 32) }
+{
+    let Some((line, rest)) = cut_at(bytes, b'\n') else {
+        return Err(TreeError::Line { line: 1 });
+    };
+    let Some(_load) = read_load(line) else {
+        return Err(TreeError::Line { line: 1 });
+    };
+    read_lines(alloc, names, rest)
+}
+
+fn read_load(line: &[u8]) -> Option<u32>
+    ensures load { result ≡ load_read line.now }
+{
+    let (word, rest) = first_part(line)?;
+    if word != b"yes".as_slice() {
+        return None;
+    }
+    read_number_within(1, MOST_LOAD, rest)
+}
+
+// The tree of its lines.
+fn read_lines(alloc: Global, names: &Names, bytes: &[u8]) -> Result<Tree, TreeError>
+    requires few { length names.now ≤ 65536 }
+    requires short { length bytes.now + 2 < 2 ^ 32 }
+    ensures accepted { IfOk result (λ t. told_after names.now (1 ∷ []) [] (parts_at 10 bytes.now).0 (parts_at 10 bytes.now).1 ≡ tells t) }
+    ensures line { IfErr result (IsWrong (told_after names.now (1 ∷ []) [] (parts_at 10 bytes.now).0 (parts_at 10 bytes.now).1)) }
+    ensures named { IfOk result (λ t. IsAmong (length names.now) (the_tree t)) }
+    ensures few { IfOk result (λ t. length t + 1 < 2 ^ 32) }
+{
+    let mut reader = match Reader::start(alloc) {
+        Ok(reader) => reader,
+        Err(e) => return Err(TreeError::Memory(e)),
+    };
+    let mut left = bytes;
+    while let Some((line, rest)) = cut_at(left, b'\n') {
+        match reader.take(alloc, names, line) {
+            Ok(()) => left = rest,
+            Err(e) => return Err(e),
+        }
+    }
+    reader.finish(left)
+}
+
+// The lines that were read, and for each tree that is still to come how many lines its first line and its branch are, the next
+// tree's last.
+#[derive(Drop)]
+struct Reader {
+    lines: Vec<Line>,
+    ahead: Vec<u16>,
+}
+
+impl Reader {
+    fn start(alloc: Global) -> Result<Reader, AllocError>
+        ensures ahead { IfOk result (λ r. the_ahead r ≡ 1 ∷ []) }
+        ensures lines { IfOk result (λ r. the_lines r ≡ []) }
+        ensures count { IfOk result (λ r. length r.lines.items ≡ 0) }
+        ensures reader { IfOk result (λ r. (n : ℕ) → IsReader n r) }
+    {
+        let mut ahead = Vec::new(alloc);
+        ahead.push(1)?;
+        Ok(Reader {
+            lines: Vec::new(alloc),
+            ahead,
+        })
+    }
+
+    // Takes a line.
+    fn take(&mut self, alloc: Global, names: &Names, text: &[u8]) -> Result<(), TreeError>
+        requires few { length names.now ≤ 65536 }
+        requires reader { IsReader (length names.now) self.old }
+        requires short { length self.old.lines.items + 2 < 2 ^ 32 }
+        ensures next { OnOk result ((texts : List (List ℕ)) (tail : List ℕ) → told_after names.now (the_ahead self.old) (the_lines self.old) (text.now ∷ texts) tail ≡ told_after names.now (the_ahead self.new) (the_lines self.new) texts tail) }
+        ensures wrong { IfErr result (λ e. (texts : List (List ℕ)) (tail : List ℕ) → IsWrong (told_after names.now (the_ahead self.old) (the_lines self.old) (text.now ∷ texts) tail) e) }
+        ensures reader { OnOk result (IsReader (length names.now) self.new) }
+        ensures count { OnOk result (length self.new.lines.items ≡ length self.old.lines.items + 1) }
+    {
+        let number = self.lines.len() as u32 + 2;
+        let Some(depth) = self.ahead.pop() else {
+            return Err(TreeError::Line { line: number });
+        };
+        let read = match read_within(alloc, names, depth, text) {
+            Ok(read) => read,
+            Err(e) => return Err(TreeError::Memory(e)),
+        };
+        let Some(line) = read else {
+            return Err(TreeError::Line { line: number });
+        };
+        match self.put(depth, line) {
+            Ok(()) => Ok(()),
+            Err(e) => Err(TreeError::Memory(e)),
+        }
+    }
+
+    // Puts a line behind the others, of which the first tree to come began with it.
+    fn put(&mut self, depth: u16, line: Line) -> Result<(), AllocError>
+        requires { depth ≤ 2100 }
+        ensures ahead { OnOk result (the_ahead self.new ≡ ahead_after depth (the_ahead self.old) (the_line line)) }
+        ensures lines { OnOk result (self.new.lines.items ≡ self.old.lines.items ++ line ∷ []) }
+    {
+        self.open(depth, &line)?;
+        self.lines.push(line)?;
+        Ok(())
+    }
+
+    // Notes the trees that come after a line.
+    fn open(&mut self, depth: u16, line: &Line) -> Result<(), AllocError>
+        requires { depth ≤ 2100 }
+        ensures ahead { OnOk result (the_ahead self.new ≡ ahead_after depth (the_ahead self.old) (the_line line.now)) }
+        ensures lines { self.new.lines ≡ self.old.lines }
+    {
+        match line {
+            Line::At { .. } => {
+                self.ahead.push(depth + 1)?;
+                Ok(())
+            }
+            Line::Ask { .. } => {
+                self.ahead.push(depth + 1)?;
+                self.ahead.push(depth + 1)?;
+                Ok(())
+            }
+            Line::Done => Ok(()),
+        }
+    }
+
+    // The tree of the lines, where none is to come and the text ends after them with LF.
+    fn finish(self, left: &[u8]) -> Result<Tree, TreeError>
+        requires reader { (n : ℕ) × IsReader n self }
+        requires short { length self.lines.items + 2 < 2 ^ 32 }
+        ensures accepted { IfOk result (λ t. at_end (the_ahead self) (the_lines self) left.now ≡ tells t) }
+        ensures line { IfErr result (IsWrong (at_end (the_ahead self) (the_lines self) left.now)) }
+        ensures lines { IfOk result (λ t. t ≡ the_lines self) }
+        ensures named { (n : ℕ) → IsReader n self → IfOk result (λ t. IsAmong n (the_tree t)) }
+    {
+        if !self.ahead.is_empty() || !left.is_empty() {
+            let line = self.lines.len() as u32 + 2;
+            return Err(TreeError::Line { line });
+        }
+        Ok(Tree { lines: self.lines })
+    }
+}
+
+// The line of a tree that a text is, if it is one that may stand so deep.
+fn read_within(
+    alloc: Global,
+    names: &Names,
+    depth: u16,
+    text: &[u8],
+) -> Result<Option<Line>, AllocError>
+    requires few { length names.now ≤ 65536 }
+    ensures read { IfOk result (λ line. option_map the_line line ≡ line_within names.now depth text.now) }
+    ensures inside { IfOk result (λ line. IfSome line (λ l. All (λ x. x < length names.now) (names_on (the_line l)))) }
+    ensures depth { IfOk result (λ line. IfSome line (λ l. depth ≤ 2100)) }
+{
+    if depth > MOST_DEPTH {
+        return Ok(None);
+    }
+    read_line(alloc, names, text)
+}
