@@ -19,12 +19,7 @@ use itoa::Buffer;
 use std::alloc::{AllocError, Global};
 
 /// Says the conflict set of a network that isn't consistent, with what refutes it; each log may have `cap` entries.
-pub fn blame(
-    alloc: Global,
-    network: Network,
-    names: &Names,
-    cap: u32,
-) -> Result<Said, Refused>
+pub fn blame(alloc: Global, network: Network, names: &Names, cap: u32) -> Result<Said, Refused>
     requires some { 1 ≤ cap }
     requires most { cap ≤ 4194304 }
     requires well_formed { IsWellFormed (the_network network) }

@@ -25,12 +25,7 @@ use std::alloc::{AllocError, Global};
 
 /// Says the least deadline, up to its own, at which a network is consistent, with the bounds that make it so and with what
 /// refutes it one tick below; where it isn't, what refutes it. Each log may have `cap` entries.
-pub fn tighten(
-    alloc: Global,
-    network: Network,
-    names: &Names,
-    cap: u32,
-) -> Result<Said, Refused>
+pub fn tighten(alloc: Global, network: Network, names: &Names, cap: u32) -> Result<Said, Refused>
     requires some { 1 ≤ cap }
     requires most { cap ≤ 4194304 }
     requires well_formed { IsWellFormed (the_network network) }

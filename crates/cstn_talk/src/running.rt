@@ -45,11 +45,7 @@ impl Model for Running {
 
 impl Running {
     /// A run of which nothing is executed.
-    pub fn start(
-        alloc: Global,
-        executive: Executive,
-        names: &Names,
-    ) -> Result<Running, AllocError>
+    pub fn start(alloc: Global, executive: Executive, names: &Names) -> Result<Running, AllocError>
         requires named { length names.now ≡ count (the_network executive.net) }
         requires few { length names.now ≤ 1024 }
         ensures start { IfOk result (λ r. r ≡ record { net = executive.net; bounds = executive.bounds; run = executive.run; names = map printed_name names.now }) }

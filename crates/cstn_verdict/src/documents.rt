@@ -25,11 +25,7 @@ pub enum Opened {
 }
 
 /// Reads the document of a file.
-pub fn open<F: Shelf>(
-    alloc: Global,
-    asked: Asked<'_>,
-    shelf: &mut F,
-) -> Result<Opened, Refused>
+pub fn open<F: Shelf>(alloc: Global, asked: Asked<'_>, shelf: &mut F) -> Result<Opened, Refused>
     requires may_ask { IsTrue (F.may_ask shelf.old asked.file.now) }
     ensures opened { IfOk result (IsOpened (F.files shelf.old) (the_asked asked.entry)) }
     ensures named { IfOk result IsNamed }

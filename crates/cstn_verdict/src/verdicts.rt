@@ -27,12 +27,7 @@ pub enum Decided {
 }
 
 /// Checks a network, whose log may have `cap` entries.
-pub fn decide(
-    alloc: Global,
-    network: Network,
-    names: &Names,
-    cap: u32,
-) -> Result<Decided, Refused>
+pub fn decide(alloc: Global, network: Network, names: &Names, cap: u32) -> Result<Decided, Refused>
     requires some { 1 ≤ cap }
     requires most { cap ≤ 4194304 }
     requires well_formed { IsWellFormed (the_network network) }

@@ -12,8 +12,8 @@ ghost use Rattle.cstn_reply.specs.Read.{the_said};
 
 use cstn_io::Shelf;
 use cstn_net::Network;
-use cstn_text::Names;
 use cstn_reply::{Outcome, Refused, Said};
+use cstn_text::Names;
 use cstn_verdict::{Decided, Opened, decide, open, yes_line};
 use cstn_words::Asked;
 use std::alloc::Global;

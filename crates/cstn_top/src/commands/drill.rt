@@ -12,8 +12,8 @@ ghost use Rattle.cstn_reply.specs.Read.{the_said};
 use cstn_check::{Check, Verdict};
 use cstn_gen::network;
 use cstn_net::Network;
-use cstn_table::{TableError, decide};
 use cstn_reply::{Outcome, Refused, Said};
+use cstn_table::{TableError, decide};
 use std::alloc::Global;
 
 const SMALL_NETWORKS: u32 = 64;

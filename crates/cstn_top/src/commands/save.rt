@@ -12,9 +12,9 @@ ghost use Rattle.cstn_top.specs.Outputs.{saved};
 
 use cstn_io::Shelf;
 use cstn_net::Network;
+use cstn_reply::{Outcome, Refused, Said};
 use cstn_save::write;
 use cstn_text::Names;
-use cstn_reply::{Outcome, Refused, Said};
 use cstn_verdict::{Opened, open};
 use cstn_words::Asked;
 use std::alloc::Global;
