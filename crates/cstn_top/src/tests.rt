@@ -1,6 +1,7 @@
 mod documents;
 mod drills;
 mod edits;
+mod evidence;
 
 use crate::{Status, run};
 use cstn_io::{MemoryFile, MemoryShelf, MemorySink, MemorySource};
