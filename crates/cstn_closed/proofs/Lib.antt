@@ -1,7 +1,7 @@
 mod ListLemmas
 mod WalkLemmas
 mod PlaceLemmas
-mod FaultLemmas
+pub mod FaultLemmas
 mod InstanceLemmas
 mod LineLemmas
 mod BackLemmas

@@ -4,5 +4,5 @@ pub mod StartLemmas
 pub mod AddLemmas
 pub mod RefutationLemmas
 pub mod EditLemmas
-pub mod Laws
+pub mod SessionLaws
 pub mod FreshLemmas

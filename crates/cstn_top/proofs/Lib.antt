@@ -1,5 +1,6 @@
 pub mod Drills
 pub mod Edited
+pub mod Evidence
 pub mod Meanings
 pub mod Opening
 pub mod ByText

@@ -33,7 +33,8 @@ use Rattle.cstn_talk.specs.Editing.{edited}
 use Rattle.cstn_top.specs.Outputs.{saved, plan_at}
 use Rattle.cstn_verdict.specs.Documents.{parts_of, HasNetwork, IsRefused}
 use Rattle.cstn_verdict.specs.Verdicts.{IsYes, IsNo}
-use Rattle.cstn_top.specs.Meanings.{AreFaulty, IsNoRefutation, IsGood, IsBad, IsFull, IsDecided, IsComplete, ReadsLive, MayStop}
+use Rattle.cstn_top.proofs.Evidence.{listed_well, refuted_well, tight_well, conflict_well}
+use Rattle.cstn_top.specs.Meanings.{AreFaulty, IsListed, IsRefutedByLog, IsTight, IsConflict, IsNoRefutation, IsGood, IsBad, IsFull, IsDecided, IsComplete, ReadsLive, MayStop}
 use Rattle.cstn_reply.specs.Statuses.{status_of}
 use Rattle.cstn_reply.specs.declared.output.Outcome.{Outcome}
 use Rattle.cstn_reply.specs.declared.output.Outcome.TheVariants.{Good, Bad, Words, Document, Full, Unfinished, Script}
@@ -98,7 +99,7 @@ verdict_says cap names net text live said good output = by_verdict (verdict cap 
 
 -- what the outcome of a search over several logs tells of a network, of which one may be too long
 abbrev Finds : Bool → Network → Outcome → Type 0
-Finds full net Good = IsConsistent net
+Finds full net Good = IsConsistent net × (full ≡ false)
 Finds full net Bad = IsConsistent net → ⊥
 Finds full net Full = full ≡ true
 Finds full net Words = ⊥
@@ -108,7 +109,7 @@ Finds full net Script = ⊥
 
 search_says : (full ok : Bool) (net : Network) (one two three live : List ℕ) (said : Said) → IsWellFormed net → is_consistent net ≡ ok → IsOutput (if full then says (record { outcome = Full; text = one }) else if ok then says (record { outcome = Good; text = two }) else says (record { outcome = Bad; text = three })) live said → Finds full net said.outcome
 search_says true ok net one two three live said good is output = subst (Finds true net) (sym (ap (λ (s : Said). s.outcome) output)) refl
-search_says false true net one two three live said good is output = subst (Finds false net) (sym (ap (λ (s : Said). s.outcome) output)) ((decided net good).0 is)
+search_says false true net one two three live said good is output = subst (Finds false net) (sym (ap (λ (s : Said). s.outcome) output)) ((decided net good).0 is, refl)
 search_says false false net one two three live said good is output =
     subst (Finds false net) (sym (ap (λ (s : Said). s.outcome) output)) (λ consistent. differ ((decided net good).1 consistent) is)
   where
@@ -319,7 +320,64 @@ replay_right live asked proof contents Document has = tt
 replay_right live asked proof contents Unfinished has = tt
 replay_right live asked proof contents Script has = tt
 
-closed_right : (live : Option (List ℕ)) (asked : Asked) (cap : ℕ) (contents : List (List ℕ)) (o : Outcome) → HasNetwork (get_or contents 0 []) asked.deadline (λ names net. Verdicts cap net o) → IsRight live o (closed asked cap) contents
+-- what the outcome of `closed` tells
+abbrev Lists : ℕ → Network → Outcome → Type 0
+Lists cap net Good = IsYes cap net × IsListed net
+Lists cap net Bad = IsNo cap net
+Lists cap net Full = cap < load_of net
+Lists cap net Words = ⊥
+Lists cap net Document = ⊥
+Lists cap net Unfinished = ⊥
+Lists cap net Script = ⊥
+
+lists : (cap : ℕ) (net : Network) (o : Outcome) → IsWellFormed net → Verdicts cap net o → Lists cap net o
+lists cap net Good good is = (is, listed_well net good is.0)
+lists cap net Bad good is = is
+lists cap net Full good is = is
+lists cap net Words good is = is
+lists cap net Document good is = is
+lists cap net Unfinished good is = is
+lists cap net Script good is = is
+
+-- of `tight`
+abbrev Tightens : ℕ → Network → Outcome → Type 0
+Tightens cap net Good = IsConsistent net × IsTight net (least_deadline net)
+Tightens cap net Bad = (IsConsistent net → ⊥) × IsRefutedByLog net
+Tightens cap net Full = is_tight_full cap net ≡ true
+Tightens cap net Words = ⊥
+Tightens cap net Document = ⊥
+Tightens cap net Unfinished = ⊥
+Tightens cap net Script = ⊥
+
+tightens : (cap : ℕ) (net : Network) (o : Outcome) → IsWellFormed net → Finds (is_tight_full cap net) net o → Tightens cap net o
+tightens cap net Good good is = (is.0, tight_well cap net good is.1 is.0)
+tightens cap net Bad good is = (is, refuted_well net good is)
+tightens cap net Full good is = is
+tightens cap net Words good is = is
+tightens cap net Document good is = is
+tightens cap net Unfinished good is = is
+tightens cap net Script good is = is
+
+-- and of `conflict`
+abbrev Blames : ℕ → Network → Outcome → Type 0
+Blames cap net Good = IsConsistent net
+Blames cap net Bad = (IsConsistent net → ⊥) × IsConflict net (conflict_set net)
+Blames cap net Full = is_blame_full cap net ≡ true
+Blames cap net Words = ⊥
+Blames cap net Document = ⊥
+Blames cap net Unfinished = ⊥
+Blames cap net Script = ⊥
+
+blames : (cap : ℕ) (net : Network) (o : Outcome) → IsWellFormed net → Finds (is_blame_full cap net) net o → Blames cap net o
+blames cap net Good good is = is.0
+blames cap net Bad good is = (is, conflict_well net good is)
+blames cap net Full good is = is
+blames cap net Words good is = is
+blames cap net Document good is = is
+blames cap net Unfinished good is = is
+blames cap net Script good is = is
+
+closed_right : (live : Option (List ℕ)) (asked : Asked) (cap : ℕ) (contents : List (List ℕ)) (o : Outcome) → HasNetwork (get_or contents 0 []) asked.deadline (λ names net. Lists cap net o) → IsRight live o (closed asked cap) contents
 closed_right live asked cap contents Good has = has
 closed_right live asked cap contents Bad has = has
 closed_right live asked cap contents Full has = has
@@ -328,7 +386,7 @@ closed_right live asked cap contents Document has = tt
 closed_right live asked cap contents Unfinished has = tt
 closed_right live asked cap contents Script has = tt
 
-tight_right : (live : Option (List ℕ)) (asked : Asked) (cap : ℕ) (contents : List (List ℕ)) (o : Outcome) → HasNetwork (get_or contents 0 []) asked.deadline (λ names net. Finds (is_tight_full cap net) net o) → IsRight live o (tight asked cap) contents
+tight_right : (live : Option (List ℕ)) (asked : Asked) (cap : ℕ) (contents : List (List ℕ)) (o : Outcome) → HasNetwork (get_or contents 0 []) asked.deadline (λ names net. Tightens cap net o) → IsRight live o (tight asked cap) contents
 tight_right live asked cap contents Good has = has
 tight_right live asked cap contents Bad has = has
 tight_right live asked cap contents Full has = has
@@ -337,7 +395,7 @@ tight_right live asked cap contents Document has = tt
 tight_right live asked cap contents Unfinished has = tt
 tight_right live asked cap contents Script has = tt
 
-conflict_right : (live : Option (List ℕ)) (asked : Asked) (cap : ℕ) (contents : List (List ℕ)) (o : Outcome) → HasNetwork (get_or contents 0 []) asked.deadline (λ names net. Finds (is_blame_full cap net) net o) → IsRight live o (conflict asked cap) contents
+conflict_right : (live : Option (List ℕ)) (asked : Asked) (cap : ℕ) (contents : List (List ℕ)) (o : Outcome) → HasNetwork (get_or contents 0 []) asked.deadline (λ names net. Blames cap net o) → IsRight live o (conflict asked cap) contents
 conflict_right live asked cap contents Good has = has
 conflict_right live asked cap contents Bad has = has
 conflict_right live asked cap contents Full has = has
@@ -376,14 +434,14 @@ output_right told (edit asked cap) contents live said all output =
     on_network (edited cap) (get_or contents 0 []) asked.deadline live said (EditTells told cap) (λ o. IsRight told o (edit asked cap) contents) (λ refused. tt)
     (λ names net good named is. edit_tells told cap names net live said good named all is) (edit_right told asked cap contents) output
 output_right told (closed asked cap) contents live said all output =
-    on_network (listed cap) (get_or contents 0 []) asked.deadline live said (λ o names net. Verdicts cap net o) (λ o. IsRight told o (closed asked cap) contents) (λ refused. tt)
-    (λ names net good named is. verdict_says cap names net (shown_bounds names (load_of net) (live_bounds (log_of net))) live said good is) (closed_right told asked cap contents) output
+    on_network (listed cap) (get_or contents 0 []) asked.deadline live said (λ o names net. Lists cap net o) (λ o. IsRight told o (closed asked cap) contents) (λ refused. tt)
+    (λ names net good named is. lists cap net said.outcome good (verdict_says cap names net (shown_bounds names (load_of net) (live_bounds (log_of net))) live said good is)) (closed_right told asked cap contents) output
 output_right told (tight asked cap) contents live said all output =
-    on_network (tightened cap) (get_or contents 0 []) asked.deadline live said (λ o names net. Finds (is_tight_full cap net) net o) (λ o. IsRight told o (tight asked cap) contents) (λ refused. tt)
-    (λ names net good named is. search_says (is_tight_full cap net) (is_consistent net) net (full_line cap) (tight_text names net (least_deadline net)) (refuted_text names net) live said good refl is) (tight_right told asked cap contents) output
+    on_network (tightened cap) (get_or contents 0 []) asked.deadline live said (λ o names net. Tightens cap net o) (λ o. IsRight told o (tight asked cap) contents) (λ refused. tt)
+    (λ names net good named is. tightens cap net said.outcome good (search_says (is_tight_full cap net) (is_consistent net) net (full_line cap) (tight_text names net (least_deadline net)) (refuted_text names net) live said good refl is)) (tight_right told asked cap contents) output
 output_right told (conflict asked cap) contents live said all output =
-    on_network (blamed cap) (get_or contents 0 []) asked.deadline live said (λ o names net. Finds (is_blame_full cap net) net o) (λ o. IsRight told o (conflict asked cap) contents) (λ refused. tt)
-    (λ names net good named is. search_says (is_blame_full cap net) (is_consistent net) net (full_line cap) (yes_line (load_of net)) (blame_text names net (conflict_set net)) live said good refl is) (conflict_right told asked cap contents) output
+    on_network (blamed cap) (get_or contents 0 []) asked.deadline live said (λ o names net. Blames cap net o) (λ o. IsRight told o (conflict asked cap) contents) (λ refused. tt)
+    (λ names net good named is. blames cap net said.outcome good (search_says (is_blame_full cap net) (is_consistent net) net (full_line cap) (yes_line (load_of net)) (blame_text names net (conflict_set net)) live said good refl is)) (conflict_right told asked cap contents) output
 output_right told (save asked) contents live said all output =
     on_network saved (get_or contents 0 []) asked.deadline live said (λ o names net. Saves o) (λ o. IsRight told o (save asked) contents) (λ refused. tt)
     (λ names net good named is. subst Saves (sym (ap (λ (s : Said). s.outcome) is)) tt) (save_right told asked contents) output

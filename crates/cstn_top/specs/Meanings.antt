@@ -1,20 +1,24 @@
 -- What the status of a request tells.
-use Rattle.std.specs.Prelude.{◌≡◌, ◌≤◌, ◌<◌, ◌⊎◌, ℕ, true, List, [], take, get_or, Option, None, Some, IfSome, IsSomeAnd}
+use Rattle.std.specs.Prelude.{◌≡◌, ◌≤◌, ◌<◌, ◌⊎◌, ◌-◌, ℕ, true, List, [], take, get_or, Option, None, Some, IfSome, IsSomeAnd}
 use Rattle.cstn_io.specs.Contents.{IsAllOf}
 use Rattle.cstn_net.specs.Networks.{Network}
 use Rattle.cstn_net.specs.Strategies.{IsConsistent}
 use Rattle.cstn_rules.specs.Derivations.{IsRefutation}
-use Rattle.cstn_check.specs.Growth.{load_of}
+use Rattle.cstn_check.specs.Growth.{log_of, load_of, live_bounds}
 use Rattle.cstn_lines.specs.Pieces.{lines_of}
 use Rattle.cstn_refute.specs.Texts.{Told, tells, wrong, told as told_by}
 use Rattle.cstn_words.specs.Requests.{Request, check, run, edit, closed, tight, conflict, save, replay, closedcheck, drill, files_of}
 use Rattle.cstn_reply.specs.Files.{AreContents}
 use Rattle.cstn_reply.specs.declared.status.Status.{Status}
 use Rattle.cstn_reply.specs.declared.status.Status.TheVariants.{Good, Bad, Words, Document, Full, ReadFault, WriteFault, Memory, Unfinished, Script}
-use Rattle.cstn_closed.specs.Faults.{Fault, IsFirstFault}
+use Rattle.std.specs.List.{Contains}
+use Rattle.cstn_log.specs.Cuts.{part}
+use Rattle.cstn_closed.specs.Faults.{Fault, IsFirstFault, IsFaultless}
 use Rattle.cstn_closed.specs.Texts.{Told as ToldBounds, tells as tells_bounds, wrong as wrong_bound, told as told_bounds}
-use Rattle.cstn_conflict.specs.Conflicts.{is_full as is_blame_full}
-use Rattle.cstn_tight.specs.Bisection.{is_full as is_tight_full}
+use Rattle.cstn_conflict.specs.Sets.{less, with_ids}
+use Rattle.cstn_conflict.specs.Conflicts.{conflict_set, is_full as is_blame_full}
+use Rattle.cstn_tight.specs.Deadlines.{at_deadline, IsLeastDeadline}
+use Rattle.cstn_tight.specs.Bisection.{least_deadline, is_full as is_tight_full}
 use Rattle.cstn_verdict.specs.Documents.{HasNetwork, IsRefused}
 use Rattle.cstn_verdict.specs.Verdicts.{IsYes, IsNo}
 use Rattle.cstn_talk.specs.Editing.{begun_editing, last_checked}
@@ -35,36 +39,58 @@ abbrev pub AreFaulty : ToldBounds → Network → Type 0
 AreFaulty (tells_bounds load bounds) net = (f : Fault) × IsFirstFault net bounds f
 AreFaulty (wrong_bound at) net = ⊥
 
+-- the bounds that a yes rests on have no fault
+abbrev pub IsListed : Network → Type 0
+IsListed net = IsFaultless net (live_bounds (log_of net))
+
+-- what refutes the network by its log is a refutation
+abbrev pub IsRefutedByLog : Network → Type 0
+IsRefutedByLog net = IsRefutation net (part (log_of net))
+
+-- h is the least deadline of the network: the bounds at it have no fault, and what refutes it one tick below is a refutation
+pub record IsTight (net : Network) (h : ℕ) : Type 0 where
+  pub least : IsLeastDeadline net h
+  pub bounds : IsListed (at_deadline net h)
+  pub refuted : (h ≡ 0) ⊎ IsRefutedByLog (at_deadline net (h - 1))
+
+-- the constraints of these ids can't be met together, and are refuted; with any one of them less they can
+pub record IsConflict (net : Network) (ids : List ℕ) : Type 0 where
+  pub inconsistent : IsConsistent (with_ids net ids) → ⊥
+  pub refuted : IsRefutedByLog (with_ids net ids)
+  pub needed : (id : ℕ) → Contains ids id → IsConsistent (with_ids net (less id ids))
+
 -- this holds of the network as edited at the last check of the edit lines, if there is one, where the live source has these bytes
 abbrev pub AtLastCheck : Option (List ℕ) → ℕ → List (List ℕ) → Network → (Option Network → Type 0) → Type 0
 AtLastCheck told cap names net holds =
     (live : List ℕ) × IsAllOf told live × holds (last_checked (begun_editing cap names net) None (lines_of live))
 
 -- what the status Good tells of a request, by what is told of the live source: its document has a network, one that was checked
--- is consistent, and one of which a refutation was replayed isn't; of a drill, that as many small networks are consistent as are
--- counted
+-- is consistent, and one of which a refutation was replayed isn't; the bounds that were written have no fault, and the deadline
+-- is the least; of a drill, that as many small networks are consistent as are counted
 abbrev pub IsGood : Option (List ℕ) → Request → List (List ℕ) → Type 0
 IsGood told (check asked cap) contents = HasNetwork (get_or contents 0 []) asked.deadline (λ names net. IsYes cap net)
 IsGood told (run asked cap) contents = HasNetwork (get_or contents 0 []) asked.deadline (λ names net. IsYes cap net)
 IsGood told (edit asked cap) contents =
     HasNetwork (get_or contents 0 []) asked.deadline (λ names net. AtLastCheck told cap names net (λ last. IfSome last IsConsistent))
-IsGood told (closed asked cap) contents = HasNetwork (get_or contents 0 []) asked.deadline (λ names net. IsYes cap net)
-IsGood told (tight asked cap) contents = HasNetwork (get_or contents 0 []) asked.deadline (λ names net. IsConsistent net)
+IsGood told (closed asked cap) contents = HasNetwork (get_or contents 0 []) asked.deadline (λ names net. IsYes cap net × IsListed net)
+IsGood told (tight asked cap) contents = HasNetwork (get_or contents 0 []) asked.deadline (λ names net. IsConsistent net × IsTight net (least_deadline net))
 IsGood told (conflict asked cap) contents = HasNetwork (get_or contents 0 []) asked.deadline (λ names net. IsConsistent net)
 IsGood told (save asked) contents = HasNetwork (get_or contents 0 []) asked.deadline (λ names net. Unit {0})
 IsGood told (replay asked proof) contents = HasNetwork (get_or contents 0 []) asked.deadline (λ names net. IsConsistent net → ⊥)
 IsGood told (closedcheck asked proof) contents = HasNetwork (get_or contents 0 []) asked.deadline (λ names net. IsConsistent net)
 IsGood told (drill number) contents = AreConsistent number 64 (unrefuted number 64)
 
--- what the status Bad tells of it: its document has a network that isn't consistent, or of which the text is no refutation
+-- what the status Bad tells of it: its document has a network that isn't consistent, or of which the text is no refutation, or its
+-- list has a fault; what was written refutes the network, or that of a conflict set
 abbrev pub IsBad : Option (List ℕ) → Request → List (List ℕ) → Type 0
 IsBad told (check asked cap) contents = HasNetwork (get_or contents 0 []) asked.deadline (λ names net. IsNo cap net)
 IsBad told (run asked cap) contents = HasNetwork (get_or contents 0 []) asked.deadline (λ names net. IsNo cap net)
 IsBad told (edit asked cap) contents =
     HasNetwork (get_or contents 0 []) asked.deadline (λ names net. AtLastCheck told cap names net (λ last. IsSomeAnd last (λ edited. IsConsistent edited → ⊥)))
 IsBad told (closed asked cap) contents = HasNetwork (get_or contents 0 []) asked.deadline (λ names net. IsNo cap net)
-IsBad told (tight asked cap) contents = HasNetwork (get_or contents 0 []) asked.deadline (λ names net. IsConsistent net → ⊥)
-IsBad told (conflict asked cap) contents = HasNetwork (get_or contents 0 []) asked.deadline (λ names net. IsConsistent net → ⊥)
+IsBad told (tight asked cap) contents = HasNetwork (get_or contents 0 []) asked.deadline (λ names net. (IsConsistent net → ⊥) × IsRefutedByLog net)
+IsBad told (conflict asked cap) contents =
+    HasNetwork (get_or contents 0 []) asked.deadline (λ names net. (IsConsistent net → ⊥) × IsConflict net (conflict_set net))
 IsBad told (save asked) contents = ⊥
 IsBad told (replay asked proof) contents =
     HasNetwork (get_or contents 0 []) asked.deadline (λ names net. IsNoRefutation (told_by names (get_or contents 1 [])) net)

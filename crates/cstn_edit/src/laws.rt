@@ -1,0 +1,26 @@
+// Laws of edit sessions. The calls do nothing: their contracts are the laws.
+ghost use Rattle.std.specs.Prelude.{ℕ, ℤ, ◌≡◌, ◌<◌, ◌≤◌, ◌↔◌, length, None};
+ghost use Rattle.cstn_label.specs.declared.marks.Mark.TheVariants.{Absent};
+ghost use Rattle.cstn_label.specs.Labels.{Label};
+ghost use Rattle.cstn_net.specs.Networks.{Network, IsWellFormed, count};
+ghost use Rattle.cstn_check.specs.Growth.{grow, load_of};
+ghost use Rattle.cstn_check.specs.declared.verdicts.Verdict.TheVariants.{Full};
+ghost use Rattle.cstn_edit.specs.Edits.{Session, begun, add_refusal, change_refusal, with_added, with_removed, with_changed, outcome_at, with_verdict};
+ghost use Rattle.cstn_edit.specs.Sound.{IsSound, IsTrueOf};
+
+/// A session stays sound after every accepted edit and every verdict: its network is well-formed, and its kept list a
+/// derivation of it that growth can go on from.
+pub fn sessions_stay_sound()
+    ensures begun { (net : Network) → IsWellFormed net → IsSound (begun net) }
+    ensures added { (room : ℕ) (s : Session) (x y : ℕ) (most : ℤ) (a : Label) → room ≤ 16384 → ((p : ℕ) → 52 ≤ p → a p ≡ Absent) → x < count s.net → y < count s.net → add_refusal room s most a ≡ None → IsSound s → IsSound (with_added s x y most a) }
+    ensures removed { (s : Session) (id : ℕ) → IsSound s → IsSound (with_removed s id) }
+    ensures changed { (s : Session) (id : ℕ) (most : ℤ) → change_refusal s id most ≡ None → IsSound s → IsSound (with_changed s id most) }
+    ensures verdict { (cap : ℕ) (s : Session) → IsSound s → IsSound (with_verdict cap s) }
+{}
+
+/// Each verdict of a sound session is true of the network as edited: yes is said where it is consistent, no where it is not,
+/// and full exactly where both the kept list and the log of the network grow past the cap.
+pub fn verdicts_are_true()
+    ensures truth { (cap : ℕ) (s : Session) → IsSound s → IsTrueOf s.net (outcome_at cap s).verdict }
+    ensures full { (cap : ℕ) (s : Session) → s.last ≡ None → ((outcome_at cap s).verdict ≡ Full ↔ ((cap < length (grow s.net s.kept)) × (cap < load_of s.net))) }
+{}

@@ -1,0 +1,75 @@
+-- What is written as evidence stands for the answer.
+use Rattle.std.proofs.Common.{◌≡◌, ℕ, ◌-◌, ◌≤◌, ◌<◌, ◌||◌, Bool, true, false, List, [], ◌∷◌, refl, sym, ap, subst, ◌∙◌, inl, inr, arith}
+use Rattle.std.specs.Prelude.{◌⊎◌, ◌↔◌, nat_lt, if◌then◌else◌}
+use Rattle.std.specs.List.{Contains, list_any}
+use Rattle.cstn_net.specs.Networks.{Network, IsWellFormed}
+use Rattle.cstn_net.specs.Strategies.{IsConsistent}
+use Rattle.cstn_rules.specs.Derivations.{IsRefutation}
+use Rattle.cstn_log.specs.Cuts.{part}
+use Rattle.cstn_check.specs.Growth.{is_refuted, log_of, load_of, live_bounds}
+use Rattle.cstn_check.proofs.Answering.{log_refutes_last}
+use Rattle.cstn_check.proofs.Decides.{log_decides, log_closed}
+use Rattle.cstn_check.proofs.InRange.{live_in_range}
+use Rattle.cstn_check.proofs.PartLemmas.{part_refutes, log_refutation}
+use Rattle.cstn_closed.proofs.FaultLemmas.{closed_faultless}
+use Rattle.cstn_conflict.specs.Sets.{with_ids, is_consistent}
+use Rattle.cstn_conflict.specs.Conflicts.{conflict_set}
+use Rattle.cstn_conflict.proofs.SetLemmas.{set_well_formed, decided}
+use Rattle.cstn_conflict.proofs.ConflictLemmas.{inconsistent, needed}
+use Rattle.cstn_tight.specs.Deadlines.{at_deadline}
+use Rattle.cstn_tight.specs.Bisection.{least_deadline, is_above, is_any_above, is_full, tried_from, whole}
+use Rattle.cstn_tight.proofs.BracketLemmas.{IsRefuted, IsFound, found, found_least}
+use Rattle.cstn_top.specs.Meanings.{IsListed, IsRefutedByLog, IsTight, IsConflict}
+
+-- the bounds of a yes
+pub listed_well : (net : Network) → IsWellFormed net → IsConsistent net → IsListed net
+listed_well net good consistent =
+    closed_faultless net (live_bounds (log_of net)) (log_closed net good.network good.letters ((log_decides net good.network good.letters).0 consistent)) (live_in_range net good)
+
+-- what refutes a network
+pub refuted_well : (net : Network) → IsWellFormed net → (IsConsistent net → ⊥) → IsRefutedByLog net
+refuted_well net good never =
+    part_refutes net (log_of net) (part (log_of net)) (log_refutation net good (log_refutes_last net good (is_true (is_refuted net (log_of net)) refl))) refl
+  where
+    is_true : (b : Bool) → is_refuted net (log_of net) ≡ b → is_refuted net (log_of net) ≡ true
+    is_true true is = is
+    is_true false is = absurd (never ((log_decides net good.network good.letters).1 is))
+
+-- a network with another deadline, up to its own
+at_well : (net : Network) (h : ℕ) → IsWellFormed net → h ≤ net.deadline → IsWellFormed (at_deadline net h)
+at_well net h good below =
+    let soon = good.in_time in
+    record good { in_time = omega (arith, soon, below) }
+
+-- the least deadline
+pub tight_well : (cap : ℕ) (net : Network) → IsWellFormed net → is_full cap net ≡ false → IsConsistent net → IsTight net (least_deadline net)
+tight_well cap net good fits consistent =
+    let parts = both_false (is_above cap net net.deadline) _ fits in
+    let later : is_any_above cap net ≡ false = sym (ap (λ (b : Bool). list_any (is_above cap net) (if b then tried_from net 20 (whole net) else [])) ((decided net good).1 consistent)) ∙ parts.1 in
+    let is : IsFound cap net good (least_deadline net) = found cap net good consistent (not_above cap (load_of net) parts.0) later in
+    record {
+      least = found_least cap net good (least_deadline net) is;
+      bounds = listed_well (at_deadline net (least_deadline net)) (at_well net (least_deadline net) good is.upto) is.consistent;
+      refuted = before (least_deadline net) is.upto is.below;
+    }
+  where
+    both_false : (a b : Bool) → (a || b) ≡ false → (a ≡ false) × (b ≡ false)
+    both_false true b is = let f : ⊥ = cc in absurd f
+    both_false false b is = (refl, is)
+
+    not_above : (n m : ℕ) → nat_lt n m ≡ false → m ≤ n
+    not_above n m is = grind arith
+
+    before : (h : ℕ) → h ≤ net.deadline → (h ≡ 0) ⊎ IsRefuted cap net (h - 1) → (h ≡ 0) ⊎ IsRefutedByLog (at_deadline net (h - 1))
+    before h upto (inl zero) = inl zero
+    before h upto (inr refuted) = inr (refuted_well (at_deadline net (h - 1)) (at_well net (h - 1) good (omega (arith, upto))) refuted.never)
+
+-- the conflict set
+pub conflict_well : (net : Network) → IsWellFormed net → (IsConsistent net → ⊥) → IsConflict net (conflict_set net)
+conflict_well net good never =
+    let gone = inconsistent net good never in
+    record {
+      inconsistent = gone;
+      refuted = refuted_well (with_ids net (conflict_set net)) (set_well_formed net (conflict_set net) good) gone;
+      needed = needed net good never;
+    }
