@@ -18,6 +18,7 @@ use Rattle.cstn_conflict.proofs.SetLemmas.{set_well_formed, decided}
 use Rattle.cstn_conflict.proofs.ConflictLemmas.{inconsistent, needed}
 use Rattle.cstn_tight.specs.Deadlines.{at_deadline}
 use Rattle.cstn_tight.specs.Bisection.{least_deadline, is_above, is_any_above, is_full, tried_from, whole}
+use Rattle.cstn_tight.proofs.LeastLemmas.{good_at_deadline}
 use Rattle.cstn_tight.proofs.BracketLemmas.{IsRefuted, IsFound, found, found_least}
 use Rattle.cstn_top.specs.Meanings.{IsListed, IsRefutedByLog, IsTight, IsConflict}
 
@@ -39,7 +40,7 @@ refuted_well net good never =
 at_well : (net : Network) (h : ℕ) → IsWellFormed net → h ≤ net.deadline → IsWellFormed (at_deadline net h)
 at_well net h good below =
     let soon = good.in_time in
-    record good { in_time = omega (arith, soon, below) }
+    good_at_deadline net good h (omega (arith, soon, below))
 
 -- the least deadline
 pub tight_well : (cap : ℕ) (net : Network) → IsWellFormed net → is_full cap net ≡ false → IsConsistent net → IsTight net (least_deadline net)
