@@ -13,45 +13,23 @@ use Rattle.cstn_check.specs.Growth.{is_refuted, log_of, load_of}
 use Rattle.cstn_check.specs.declared.verdicts.Verdict.{Verdict}
 use Rattle.cstn_check.specs.declared.verdicts.Verdict.TheVariants.{Yes, No, Full}
 use Rattle.cstn_check.proofs.Answering.{log_refutes_last}
-use Rattle.cstn_check.proofs.Decided.{refutes_true}
 use Rattle.cstn_check.proofs.Decides.{log_decides}
-use Rattle.cstn_check.proofs.Last.{refuted_from_last}
+use Rattle.cstn_check.proofs.Last.{last_refuted}
 use Rattle.cstn_reply.specs.Plans.{Said, Plan, says}
 use Rattle.cstn_reply.specs.Texts.{yes_line}
-use Rattle.cstn_verdict.specs.Verdicts.{refutes_at, last_refutes, verdict, on_verdict}
+use Rattle.cstn_verdict.specs.Verdicts.{verdict, on_verdict}
 use Rattle.cstn_reply.specs.declared.output.Outcome.TheVariants.{Bad}
 use Rattle.cstn_verdict.specs.Verdicts.{IsYes, IsNo}
 
--- the last entry of a log refutes the network
-last_true : (net : Network) (log : List Entry) → LastRefutes net log → last_refutes net log ≡ true
-last_true net log last = ap (refutes_at net) last.is_last ∙ refutes_true net last.last.bound last.refutes
-
-true_refuted : (net : Network) (log : List Entry) (o : Option Entry) → slice_get log (length log - 1) ≡ o → refutes_at net o ≡ true → is_refuted net log ≡ true
-true_refuted net log None is refuting = absurd (cc)
-true_refuted net log (Some e) is refuting = refuted_from_last net log (length log - 1) e is refuting
-
--- the last entry of the log refutes exactly where some entry does
-pub true_last : (net : Network) → IsWellFormed net → last_refutes net (log_of net) ≡ true → LastRefutes net (log_of net)
-true_last net good refuting = log_refutes_last net good (true_refuted net (log_of net) (slice_get (log_of net) (length (log_of net) - 1)) refl refuting)
-
 -- a network whose log is refuted isn't consistent
-pub refuted_inconsistent : (net : Network) → IsWellFormed net → last_refutes net (log_of net) ≡ true → IsConsistent net → ⊥
+refuted_inconsistent : (net : Network) → IsWellFormed net → is_refuted net (log_of net) ≡ true → IsConsistent net → ⊥
 refuted_inconsistent net good refuting consistent =
-    let refuted : is_refuted net (log_of net) ≡ true = true_refuted net (log_of net) (slice_get (log_of net) (length (log_of net) - 1)) refl refuting in
     let not : is_refuted net (log_of net) ≡ false = (log_decides net good.network good.letters).0 consistent in
     absurd (cc)
 
--- a network whose log isn't refuted is consistent
-pub unrefuted_consistent : (net : Network) → IsWellFormed net → last_refutes net (log_of net) ≡ false → IsConsistent net
-unrefuted_consistent net good unrefuted = (log_decides net good.network good.letters).1 (never (is_refuted net (log_of net)) refl)
-  where
-    never : (b : Bool) → is_refuted net (log_of net) ≡ b → is_refuted net (log_of net) ≡ false
-    never true is = absurd (let refuting : last_refutes net (log_of net) ≡ true = last_true net (log_of net) (log_refutes_last net good is) in cc)
-    never false is = is
-
 -- the verdict where the log has more entries than it may
 pub verdict_full : (cap : ℕ) (net : Network) → cap < load_of net → verdict cap net ≡ Full
-verdict_full cap net above = over cap (load_of net) (if last_refutes net (log_of net) then No (load_of net) else Yes (load_of net)) above
+verdict_full cap net above = over cap (load_of net) (if is_refuted net (log_of net) then No (load_of net) else Yes (load_of net)) above
   where
     over : (cap load : ℕ) (other : Verdict) → cap < load → (if nat_lt cap load then Full else other) ≡ Full
     over cap load other above = grind arith
@@ -62,16 +40,16 @@ within cap load other below = grind arith
 -- the verdict where the log has no more entries than it may
 pub verdict_no : (cap : ℕ) (net : Network) → load_of net ≤ cap → LastRefutes net (log_of net) → verdict cap net ≡ No (load_of net)
 verdict_no cap net below last =
-    within cap (load_of net) (if last_refutes net (log_of net) then No (load_of net) else Yes (load_of net)) below
-    ∙ ap (λ (b : Bool). if b then No (load_of net) else Yes (load_of net)) (last_true net (log_of net) last)
+    within cap (load_of net) (if is_refuted net (log_of net) then No (load_of net) else Yes (load_of net)) below
+    ∙ ap (λ (b : Bool). if b then No (load_of net) else Yes (load_of net)) (last_refuted net (log_of net) last)
 
 pub verdict_yes : (cap : ℕ) (net : Network) → IsWellFormed net → load_of net ≤ cap → (LastRefutes net (log_of net) → ⊥) → verdict cap net ≡ Yes (load_of net)
 verdict_yes cap net good below unrefuted =
-    within cap (load_of net) (if last_refutes net (log_of net) then No (load_of net) else Yes (load_of net)) below
-    ∙ ap (λ (b : Bool). if b then No (load_of net) else Yes (load_of net)) (not_last (last_refutes net (log_of net)) refl)
+    within cap (load_of net) (if is_refuted net (log_of net) then No (load_of net) else Yes (load_of net)) below
+    ∙ ap (λ (b : Bool). if b then No (load_of net) else Yes (load_of net)) (not_last (is_refuted net (log_of net)) refl)
   where
-    not_last : (b : Bool) → last_refutes net (log_of net) ≡ b → last_refutes net (log_of net) ≡ false
-    not_last true is = absurd (unrefuted (true_last net good is))
+    not_last : (b : Bool) → is_refuted net (log_of net) ≡ b → is_refuted net (log_of net) ≡ false
+    not_last true is = absurd (unrefuted (log_refutes_last net good is))
     not_last false is = is
 
 -- what a verdict tells of a network
@@ -82,7 +60,7 @@ Tells cap net Full = cap < load_of net
 
 -- the verdict on a network is right
 pub verdict_tells : (cap : ℕ) (net : Network) → IsWellFormed net → Tells cap net (verdict cap net)
-verdict_tells cap net good = by_load (nat_lt cap (load_of net)) (last_refutes net (log_of net)) refl refl
+verdict_tells cap net good = by_load (nat_lt cap (load_of net)) (is_refuted net (log_of net)) refl refl
   where
     above : (cap load : ℕ) → nat_lt cap load ≡ true → cap < load
     above cap load is = grind arith
@@ -90,10 +68,10 @@ verdict_tells cap net good = by_load (nat_lt cap (load_of net)) (last_refutes ne
     below : (cap load : ℕ) → nat_lt cap load ≡ false → load ≤ cap
     below cap load is = grind arith
 
-    by_load : (full refuted : Bool) → nat_lt cap (load_of net) ≡ full → last_refutes net (log_of net) ≡ refuted → Tells cap net (if full then Full else if refuted then No (load_of net) else Yes (load_of net))
+    by_load : (full refuted : Bool) → nat_lt cap (load_of net) ≡ full → is_refuted net (log_of net) ≡ refuted → Tells cap net (if full then Full else if refuted then No (load_of net) else Yes (load_of net))
     by_load true refuted is last = above cap (load_of net) is
     by_load false true is last = (refuted_inconsistent net good last, below cap (load_of net) is)
-    by_load false false is last = (unrefuted_consistent net good last, below cap (load_of net) is)
+    by_load false false is last = ((log_decides net good.network good.letters).1 last, below cap (load_of net) is)
 
 -- what is known after a check has answered yes
 pub yes_decided : (cap load : ℕ) (net : NetworkParts) (check : CheckParts) → IsWellFormed (the_network net) → check ≡ record { net = net; cap = cap; verdict = None } → ((l : ℕ) → (Yes load ≡ Yes l ↔ ((l ≡ load_of (the_network check.net)) × (load_of (the_network check.net) ≤ check.cap) × (LastRefutes (the_network check.net) (log_of (the_network check.net)) → ⊥)))) → (verdict cap (the_network net) ≡ Yes (load_of (the_network net))) × (load ≡ load_of (the_network net))

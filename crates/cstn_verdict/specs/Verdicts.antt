@@ -1,12 +1,10 @@
 -- Verdicts on networks, and what is said of them.
-use Rattle.std.specs.Prelude.{◌≡◌, ◌≤◌, ℕ, ◌-◌, Bool, false, nat_lt, if◌then◌else◌, List, length, slice_get, Option, None, Some}
+use Rattle.std.specs.Prelude.{◌≡◌, ◌≤◌, ℕ, nat_lt, if◌then◌else◌, List, Some}
 use Rattle.cstn_net.specs.Networks.{Network}
 use Rattle.cstn_net.specs.Strategies.{IsConsistent}
 use Rattle.cstn_net.specs.Read.{NetworkParts, the_network}
-use Rattle.cstn_rules.specs.Derivations.{Entry}
 use Rattle.cstn_log.specs.Cuts.{part}
-use Rattle.cstn_check.specs.Tests.{refutes}
-use Rattle.cstn_check.specs.Growth.{log_of, load_of}
+use Rattle.cstn_check.specs.Growth.{is_refuted, log_of, load_of}
 use Rattle.cstn_check.specs.declared.verdicts.Verdict.{Verdict}
 use Rattle.cstn_check.specs.declared.verdicts.Verdict.TheVariants.{Yes, No, Full as IsFull}
 use Rattle.cstn_refute.specs.Texts.{shown}
@@ -18,19 +16,10 @@ use Rattle.cstn_verdict.specs.Documents.{Answer}
 use Rattle.cstn_verdict.specs.declared.verdicts.Decided.{Decided}
 use Rattle.cstn_verdict.specs.declared.verdicts.Decided.TheVariants.{Yes as SaysYes, Told}
 
--- an entry refutes the network, if it is there
-abbrev pub refutes_at : Network → Option Entry → Bool
-refutes_at net None = false
-refutes_at net (Some e) = refutes net e.bound
-
--- the last entry of a log refutes the network
-abbrev pub last_refutes : Network → List Entry → Bool
-last_refutes net log = refutes_at net (slice_get log (length log - 1))
-
 -- the verdict on a network by a log that may have so many entries
 abbrev pub verdict : ℕ → Network → Verdict
 verdict cap net =
-    if nat_lt cap (load_of net) then IsFull else if last_refutes net (log_of net) then No (load_of net) else Yes (load_of net)
+    if nat_lt cap (load_of net) then IsFull else if is_refuted net (log_of net) then No (load_of net) else Yes (load_of net)
 
 -- what is said of a verdict on a network, given what follows after yes: the cap where it is exceeded, after no the refutation
 abbrev pub on_verdict : ℕ → List (List ℕ) → Network → Plan → Verdict → Plan
