@@ -18,7 +18,7 @@ within_more : (L G : List Entry) (i : Instance) → Extends L G → HasPremises 
 within_more L G (chain_at c j) e w = let l = length_upto L G e in omega arith
 within_more L G (wait_at i j) e w = let l = length_upto L G e in (omega arith, omega arith)
 
-conclusion_kept : (net : Network) (L G : List Entry) (i : Instance) → Extends L G → HasPremises L i →
+pub conclusion_kept : (net : Network) (L G : List Entry) (i : Instance) → Extends L G → HasPremises L i →
     conclusion net G i ≡ conclusion net L i
 conclusion_kept net L G (chain_at c j) e w = ap (of_one (chain_of net c)) (get_kept L G j e w)
 conclusion_kept net L G (wait_at i j) e w =

@@ -15,6 +15,7 @@ pub mod TurnLemmas
 pub mod Sequences
 pub mod Skips
 pub mod ChainSkips
+pub mod WalkLemmas
 pub mod Growing
 pub mod Starts
 pub mod Outcomes
@@ -25,3 +26,4 @@ pub mod PlanLemmas
 pub mod PartLemmas
 pub mod SpentLemmas
 pub mod CostLemmas
+pub mod TryLemmas

@@ -3,10 +3,8 @@ use Rattle.std.proofs.Common.{ℕ, zero, suc, ◌≡◌, inl, inr, ◌+◌, ◌<
 use Rattle.std.specs.Prelude.{slice_get}
 use Rattle.std.specs.List.{filter}
 use Rattle.std.proofs.lemmas.Bool.{cases_Bool, cases_lt, and_parts, cond-true, cond-false}
-use Rattle.cstn_label.specs.Read.{the_bound, marks}
-use Rattle.cstn_label.specs.Labels.{IsMarked}
-use Rattle.cstn_net.specs.Networks.{Network, IsWellFormed, Observes}
-use Rattle.cstn_log.specs.Chains.{IsMarkedAt, IsAtNode}
+use Rattle.cstn_label.specs.Read.{the_bound}
+use Rattle.cstn_net.specs.Networks.{Network, IsWellFormed}
 use Rattle.cstn_rules.specs.Derivations.{Entry as TheEntry}
 use Rattle.cstn_rules.specs.declared.entries.Entry.{Entry}
 use Rattle.cstn_log.specs.Entries.{State, the_entries, IsLive}
@@ -98,22 +96,3 @@ waits_to net old new j i r good ready inside short upto none t =
     let is = waits_passed net L M j i r upto t.entries (λ k low high.
     not_waiting net new good ready k j (omega arith) inside (none k low high)) in
     record { entries = is; refuted_is = t.refuted_is ∙ ap (is_refuted net) (sym t.entries ∙ is); longer = t.longer }
-
--- no wait has a conclusion where no place is at the observer of a proposition that the entry at j marks, and none marks
--- what its time-point observes
-pub none_waiting : (net : Network) (entries : List Entry) (from next j : ℕ) (e : Entry) → slice_get entries j ≡ Some e → next ≤ length entries →
-    ((k p : ℕ) → from ≤ k → k < length entries → k < next → Observes net e.bound.node.0 p → IsMarkedAt entries p k → ⊥) →
-    ((k p x : ℕ) → from ≤ k → k < length entries → k < next → IsMarked (marks e.bound.label) p → Observes net x p → IsAtNode entries x k → ⊥) →
-    (k : ℕ) → from ≤ k → k < next → IsWaiting net entries k j → ⊥
-none_waiting net entries from next j e there upto marking seen k low high w =
-    let same : w.other ≡ e = let h = w.other_at in cc in
-    elim w.either [
-      | inl a ↦
-          seen k a.prop w.one.bound.node.0 low (omega arith) high
-          (subst (λ (y : Entry). IsMarked (marks y.bound.label) a.prop) same a.marked) a.observes
-          (record { entry = w.one; there = w.one_at; node = refl })
-      | inr a ↦
-          marking k a.prop low (omega arith) high
-          (subst (λ (y : Entry). Observes net y.bound.node.0 a.prop) same a.observes)
-          (record { entry = w.one; there = w.one_at; marked = a.marked })
-    ]

@@ -6,15 +6,18 @@ use Rattle.cstn_net.specs.Read.{NetworkParts}
 use Rattle.cstn_rules.specs.Derivations.{Entry}
 use Rattle.cstn_log.specs.Entries.{State, the_entries, first_entries}
 use Rattle.cstn_check.specs.Growth.{is_refuted, log_of, load_of}
+use Rattle.cstn_check.specs.Tries.{HasTried}
 use Rattle.cstn_check.specs.Turns.{LastRefutes}
 use Rattle.cstn_check.specs.declared.verdicts.Verdict.{Verdict}
 use Rattle.cstn_check.specs.declared.verdicts.Verdict.TheVariants.{Yes, No, Full}
 
--- what contracts see of a check: its network, how many entries its log may have, and its verdict, if it has answered
+-- what contracts see of a check: its network, how many entries its log may have, its verdict, if it has answered, and how
+-- many rules it has tried
 pub record CheckParts : Type 0 where
   pub net : NetworkParts
   pub cap : ℕ
   pub verdict : Option Verdict
+  pub tries : ℕ
 
 -- the log has the base bounds of the network, or nothing where its cap is below their number
 pub record IsStarted (net : Network) (log : State) : Type 0 where
@@ -38,8 +41,9 @@ abbrev pub HasAnswered : Network → State → Option Verdict → Type 0
 HasAnswered net log None = IsStarted net log
 HasAnswered net log (Some v) = IsVerdict net log.cap (the_entries log.entries) v
 
--- a check has what it has answered, and room for a bound of each entry
-pub record IsCheck (net : Network) (log : State) (verdict : Option Verdict) (bounds : List Bound) (room : ℕ) : Type 0 where
+-- a check has what it has answered, for no more tries than that takes, and room for a bound of each entry
+pub record IsCheck (net : Network) (log : State) (verdict : Option Verdict) (tries : ℕ) (bounds : List Bound) (room : ℕ) : Type 0 where
   pub answered : HasAnswered net log verdict
+  pub counted : HasTried net verdict tries
   pub empty : bounds ≡ []
   pub enough : log.cap ≤ room

@@ -1,6 +1,7 @@
 pub mod Tests
 pub mod Growth
 pub mod Spent
+pub mod Tries
 pub mod Examples
 pub mod Kept
 pub mod Turns

@@ -1,10 +1,11 @@
 -- Which waits have a conclusion.
-use Rattle.std.specs.Prelude.{ℕ, ◌≡◌, ◌⊎◌, List, Some, slice_get}
-use Rattle.cstn_label.specs.Labels.{IsMarked}
+use Rattle.std.specs.Prelude.{ℕ, ◌≡◌, ◌<◌, ◌≤◌, ◌⊎◌, List, Some, slice_get, slice_index_or}
+use Rattle.cstn_label.specs.Labels.{Label, IsMarked}
 use Rattle.cstn_label.specs.Bounds.{Bound}
 use Rattle.cstn_label.specs.Read.{the_bound}
 use Rattle.cstn_net.specs.Networks.{Network, Observes}
 use Rattle.cstn_rules.specs.declared.entries.Entry.{Entry}
+use Rattle.cstn_rules.specs.Derivations.{Entry as TheEntry}
 use Rattle.cstn_log.specs.Entries.{IsLive}
 
 -- the first bound is at the observer of a proposition that the second marks
@@ -22,3 +23,20 @@ pub record IsWaiting (net : Network) (entries : List Entry) (i j : ℕ) : Type 0
   pub one_live : IsLive entries i
   pub other_live : IsLive entries j
   pub either : Waits net (the_bound one.bound) (the_bound other.bound) ⊎ Waits net (the_bound other.bound) (the_bound one.bound)
+
+-- no place from `from` up to j, before `next`, is at the observer of p
+pub record NoneSees (net : Network) (entries : List TheEntry) (p j from next : ℕ) : Type 0 where
+  pub none : (k : ℕ) (e : TheEntry) → from ≤ k → k ≤ j → k < next → slice_get entries k ≡ Some e → Observes net e.bound.node p → ⊥
+
+-- no such place marks what x observes
+pub record NoneMarks (net : Network) (entries : List TheEntry) (x j from next : ℕ) : Type 0 where
+  pub none : (k p : ℕ) (e : TheEntry) → from ≤ k → k ≤ j → k < next → slice_get entries k ≡ Some e → Observes net x p → IsMarked e.bound.label p → ⊥
+
+-- for each p that the label marks there is none at its observer, before the place that stands for p
+pub record NoneSeesEach (net : Network) (entries : List TheEntry) (a : Label) (j from : ℕ) (places : List ℕ) : Type 0 where
+  pub each : (p : ℕ) → p < 52 → IsMarked a p → NoneSees net entries p j from (slice_index_or places p 0)
+
+-- before these places there is none of which wait with the entry at j has a conclusion
+pub record ArePassed (net : Network) (entries : List TheEntry) (j from : ℕ) (places : List ℕ) (place : ℕ) : Type 0 where
+  pub sees : (b : TheEntry) → slice_get entries j ≡ Some b → NoneSeesEach net entries b.bound.label j from places
+  pub marks : (b : TheEntry) → slice_get entries j ≡ Some b → NoneMarks net entries b.bound.node j from place

@@ -9,6 +9,7 @@ ghost use Rattle.cstn_log.specs.Entries.{the_entries};
 ghost use Rattle.cstn_log.specs.Plans.{the_bounds};
 ghost use Rattle.cstn_refute.specs.Refutations.{FitsText, the_steps};
 ghost use Rattle.cstn_check.specs.Growth.{log_of, load_of, live_bounds, most_entries};
+ghost use Rattle.cstn_check.specs.Tries.{HasTried, most_tried};
 ghost use Rattle.cstn_check.specs.Turns.{LastRefutes};
 ghost use Rattle.cstn_check.specs.declared.verdicts.Verdict.{Verdict};
 ghost use Rattle.cstn_check.specs.Checks.{IsStarted, IsVerdict, IsPrefix};
@@ -42,9 +43,9 @@ impl Model for Check {
 
     ghost Value = { CheckParts };
 
-    ghost view = { λ c. record { net = c.net; cap = c.log.cap; verdict = c.verdict } };
+    ghost view = { λ c. record { net = c.net; cap = c.log.cap; verdict = c.verdict; tries = c.tries.count } };
 
-    ghost invariant = { λ c. IsCheck (the_network c.net) c.log c.verdict c.bounds.items (vec_capacity c.bounds) };
+    ghost invariant = { λ c. IsCheck (the_network c.net) c.log c.verdict c.tries.count c.bounds.items (vec_capacity c.bounds) };
 }
 
 impl Check {
@@ -53,7 +54,7 @@ impl Check {
     pub fn start(alloc: Global, net: Network, cap: u32) -> Result<Check, AllocError>
         requires some { 1 ≤ cap }
         requires most { cap ≤ 4194304 }
-        ensures start { IfOk result (λ check. check ≡ record { net = net; cap = cap; verdict = None }) }
+        ensures start { IfOk result (λ check. check ≡ record { net = net; cap = cap; verdict = None; tries = 0 }) }
     {
         let log = Log::start(alloc, &net, cap)?;
         let bounds = Vec::with_capacity(alloc, cap as usize)?;
@@ -76,8 +77,11 @@ impl Check {
 
         ensures exactly_yes { (load : ℕ) → (result ≡ Verdict.Yes load ↔ ((load ≡ load_of (the_network self.old.net)) × (load_of (the_network self.old.net) ≤ self.old.cap) × IsConsistent (the_network self.old.net))) }
         ensures exactly_no { (load : ℕ) → (result ≡ Verdict.No load ↔ ((load ≡ load_of (the_network self.old.net)) × (load_of (the_network self.old.net) ≤ self.old.cap) × ¬ IsConsistent (the_network self.old.net))) }
-        ensures answered { self.new ≡ record self.old { verdict = Some result } }
-        ensures again { (v : Verdict) → self.old.verdict ≡ Some v → result ≡ v }
+        ensures answered { self.new ≡ record self.old { verdict = Some result; tries = self.new.tries } }
+        ensures again { (v : Verdict) → self.old.verdict ≡ Some v → (result ≡ v) × (self.new ≡ self.old) }
+
+        ensures tries { self.old.tries ≤ self.new.tries }
+        ensures most_tried { (result ≡ Verdict.Full → ⊥) → self.new.tries ≤ most_tried (the_network self.old.net) (log_of (the_network self.old.net)) }
     {
         is_well_formed(&self.net);
         if let Some(verdict) = self.verdict {
@@ -86,6 +90,16 @@ impl Check {
         let verdict = answer(&self.net, &mut self.log, &mut self.tries);
         self.verdict = Some(verdict);
         verdict
+    }
+
+    /// How many rules were tried for the verdict: after a yes or no at most the number of constraints times the load, and one
+    /// for each ordered pair of entries of the log of which wait has a conclusion.
+    pub fn tries(&self) -> u64
+        ensures tries { result ≡ self.now.tries }
+        ensures before { self.now.verdict ≡ None → result ≡ 0 }
+        ensures most_tried { (v : Verdict) → self.now.verdict ≡ Some v → (v ≡ Verdict.Full → ⊥) → result ≤ most_tried (the_network self.now.net) (log_of (the_network self.now.net)) }
+    {
+        self.tries.count
     }
 
     /// The log: all of it, once the check has answered yes or no, and else a front of it, which is empty where `cap` is
@@ -140,8 +154,10 @@ impl Check {
 // Grows the log of a network from its first entries, and says what that tells.
 fn answer(net: &Network, log: &mut Log, tries: &mut Tries) -> Verdict
     requires started { IsStarted (the_network net.now) log.old }
+    requires none { tries.old.count ≡ 0 }
     ensures verdict { IsVerdict (the_network net.now) log.old.cap (the_entries log.new.entries) result }
     ensures size { log.new.cap ≡ log.old.cap }
+    ensures tries { HasTried (the_network net.now) (Some result) tries.new.count }
 {
     is_well_formed(net);
     if log.len() == 0 {

@@ -6,6 +6,7 @@ ghost use Rattle.cstn_rules.specs.Derivations.{Entry as TheEntry, IsDerivation};
 ghost use Rattle.cstn_log.specs.Entries.{the_entries, bases};
 ghost use Rattle.cstn_check.specs.Growth.{grow};
 ghost use Rattle.cstn_check.specs.Kept.{IsKept};
+ghost use Rattle.cstn_check.specs.Tries.{most_tried};
 ghost use Rattle.cstn_check.specs.Turns.{IsOpen, IsTaken, IsCut, IsRefutedLast, LastRefutes};
 
 use crate::turns::{is_well_formed, take_turn};
@@ -41,6 +42,7 @@ pub fn grow(net: &Network, log: &mut Log, tries: &mut Tries) -> Grown
     ensures size { (log.new.cap ≡ log.old.cap) × (log.new.nodes ≡ log.old.nodes) }
     ensures derivation { IsDerivation (the_network net.now) (the_entries log.new.entries) }
     ensures tries { tries.old.count ≤ tries.new.count }
+    ensures most_tried { (result ≡ Grown.Full → ⊥) → tries.new.count ≤ tries.old.count + most_tried (the_network net.now) (the_entries log.new.entries) }
 {
     is_well_formed(net);
     let _all_new = log.len();
@@ -67,6 +69,7 @@ pub fn grow_on(net: &Network, log: &mut Log, fresh: &[u32], tries: &mut Tries) -
     ensures size { (log.new.cap ≡ log.old.cap) × (log.new.nodes ≡ log.old.nodes) }
     ensures derivation { IsDerivation (the_network net.now) (the_entries log.new.entries) }
     ensures tries { tries.old.count ≤ tries.new.count }
+    ensures most_tried { (result ≡ Grown.Full → ⊥) → tries.new.count ≤ tries.old.count + most_tried (the_network net.now) (the_entries log.new.entries) }
     ensures most_tries { (result ≡ Grown.Full → ⊥) → tries.new.count ≤ tries.old.count + most_tries (length net.now.constraints) (fresh_count fresh.now (the_network net.now).constraints) (length log.old.entries) (length log.new.entries) }
 {
     is_well_formed(net);
@@ -84,6 +87,7 @@ fn grow_open(net: &Network, log: &mut Log, fresh: &[u32], old: u32, tries: &mut 
     ensures refuted { result ≡ Grown.Refuted → IsTaken (the_network net.now) log.old log.new (grow (the_network net.now) (the_entries log.old.entries)) true }
     ensures full { result ≡ Grown.Full → IsCut log.old log.new (grow (the_network net.now) (the_entries log.old.entries)) }
     ensures tries { tries.old.count ≤ tries.new.count }
+    ensures most_tried { (result ≡ Grown.Full → ⊥) → tries.new.count ≤ tries.old.count + most_tried (the_network net.now) (the_entries log.new.entries) }
     ensures most_tries { (result ≡ Grown.Full → ⊥) → tries.new.count ≤ tries.old.count + most_tries (length net.now.constraints) (fresh_count fresh.now (the_network net.now).constraints) old (length log.new.entries) }
 {
     is_well_formed(net);
@@ -112,6 +116,7 @@ fn grow_kept(net: &Network, log: &mut Log, fresh: &[u32], old: u32, tries: &mut 
     ensures refuted { result ≡ Grown.Refuted → IsTaken (the_network net.now) log.old log.new (grow (the_network net.now) (the_entries log.old.entries)) true }
     ensures full { result ≡ Grown.Full → IsCut log.old log.new (grow (the_network net.now) (the_entries log.old.entries)) }
     ensures tries { tries.old.count ≤ tries.new.count }
+    ensures most_tried { (result ≡ Grown.Full → ⊥) → tries.new.count ≤ tries.old.count + most_tried (the_network net.now) (the_entries log.new.entries) }
     ensures most_tries { (result ≡ Grown.Full → ⊥) → tries.new.count ≤ tries.old.count + most_tries (length net.now.constraints) (fresh_count fresh.now (the_network net.now).constraints) old (length log.new.entries) }
 {
     is_well_formed(net);

@@ -57,6 +57,20 @@ fn keeps_nothing_below_the_number_of_time_points(rt: HostRuntime) -> Result<(), 
     Ok(())
 }
 
+#[test]
+fn tries_few_rules(rt: HostRuntime) -> Result<(), Fail> {
+    let alloc = rt.alloc();
+    let mut check = check(&rt, alloc, unknown_mark(alloc)?, 14)?;
+    assert_eq!(rt; check.tries(), 0);
+    assert_eq!(rt; check.run(), Verdict::No { load: 14 });
+    assert_eq!(rt; check.tries(), 15);
+    // There are four constraints, and 19 ordered pairs of which wait has a conclusion.
+    assert!(rt; check.tries() <= 4 * 14 + 19);
+    assert_eq!(rt; check.run(), Verdict::No { load: 14 });
+    assert_eq!(rt; check.tries(), 15);
+    Ok(())
+}
+
 // The log has this entry at the place k.
 fn has(rt: &impl Abort, log: &Log, k: u32, entry: Entry) -> Result<(), Fail> {
     assert!(rt; k < log.len());

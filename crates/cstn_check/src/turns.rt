@@ -10,11 +10,12 @@ ghost use Rattle.cstn_rules.specs.Read.{the_entry};
 ghost use Rattle.cstn_log.specs.Entries.{the_entries};
 ghost use Rattle.cstn_check.specs.Growth.{Instance, is_covered, step, tried, waits_below, turn, chains_at};
 ghost use Rattle.cstn_check.specs.Growth.Instance.{chain_at, wait_at};
+ghost use Rattle.cstn_check.specs.Tries.{concludes, concludes_with, concludes_upto};
 ghost use Rattle.cstn_check.specs.Turns.{IsOpen, IsTaken, IsCut};
 ghost use Rattle.cstn_check.specs.Spent.{AreSpent, IsSpent, is_fresh, fresh_count};
 ghost use Rattle.cstn_check.specs.Waits.{Waits};
 
-use crate::walks::{WALKS, Walk, next_waiting};
+use crate::walks::{PROPS, next_waiting};
 use cstn_label::{Bound, Mark, NodeId};
 use cstn_log::Log;
 use cstn_net::{Constraint, Network};
@@ -79,6 +80,7 @@ fn try_wait(net: &Network, log: &mut Log, i: u32, j: u32, tries: &mut Tries) -> 
     ensures ready { IfOk result (λ r. r ≡ false → IsOpen (the_network net.now) log.new) }
     ensures tries { tries.old.count ≤ tries.new.count }
     ensures most { tries.new.count ≤ tries.old.count + 1 }
+    ensures concluding { tries.new.count ≤ tries.old.count + concludes (the_network net.now) (the_entries log.old.entries) i j }
 {
     is_well_formed(net);
     is_in_range(tries);
@@ -253,6 +255,7 @@ fn try_both(net: &Network, log: &mut Log, i: u32, j: u32, tries: &mut Tries) -> 
     ensures ready { IfOk result (λ r. r ≡ false → IsOpen (the_network net.now) log.new) }
     ensures tries { tries.old.count ≤ tries.new.count }
     ensures most { tries.new.count ≤ tries.old.count + 2 }
+    ensures concluding { tries.new.count ≤ tries.old.count + concludes_with (the_network net.now) (the_entries log.old.entries) j i }
 {
     is_well_formed(net);
     match try_wait(net, log, i, j, tries) {
@@ -272,15 +275,17 @@ fn try_waits(net: &Network, log: &mut Log, j: u32, tries: &mut Tries) -> Result<
     ensures ready { IfOk result (λ r. r ≡ false → IsOpen (the_network net.now) log.new) }
     ensures tries { tries.old.count ≤ tries.new.count }
     ensures most { tries.new.count ≤ tries.old.count + 2 * (j + 1) }
+    ensures concluding { tries.new.count ≤ tries.old.count + concludes_upto (the_network net.now) (the_entries log.old.entries) j }
 {
     is_well_formed(net);
     let _room = log.len();
-    let mut walks = [Walk::new(); WALKS];
-    let mut i = next_waiting(net, log, 0, j, &mut walks);
+    let mut sees = [0; PROPS];
+    let mut marking = 0;
+    let mut i = next_waiting(net, log, 0, j, &mut sees, &mut marking);
     while i <= j {
         match try_both(net, log, i, j, tries) {
             Ok(true) => return Ok(true),
-            Ok(false) => i = next_waiting(net, log, i + 1, j, &mut walks),
+            Ok(false) => i = next_waiting(net, log, i + 1, j, &mut sees, &mut marking),
             Err(full) => return Err(full),
         }
     }
@@ -304,6 +309,7 @@ fn try_new_waits(
     ensures ready { IfOk result (λ r. r ≡ false → IsOpen (the_network net.now) log.new) }
     ensures tries { tries.old.count ≤ tries.new.count }
     ensures most { tries.new.count ≤ tries.old.count + 2 * (j + 1) }
+    ensures concluding { tries.new.count ≤ tries.old.count + concludes_upto (the_network net.now) (the_entries log.old.entries) j }
     ensures most_fresh { j < old → tries.new.count ≡ tries.old.count }
 {
     if j < old {
@@ -331,6 +337,7 @@ pub(crate) fn take_turn(
     ensures ready { IfOk result (λ r. r ≡ false → IsOpen (the_network net.now) log.new) }
     ensures tries { tries.old.count ≤ tries.new.count }
     ensures most { tries.new.count ≤ tries.old.count + (length net.now.constraints + 2 * (j + 1)) }
+    ensures concluding { tries.new.count ≤ tries.old.count + (length net.now.constraints + concludes_upto (the_network net.now) (the_entries log.old.entries) j) }
     ensures most_fresh { j < old → tries.new.count ≤ tries.old.count + fresh_count fresh.now (the_network net.now).constraints }
 {
     is_well_formed(net);

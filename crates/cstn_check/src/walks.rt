@@ -1,63 +1,51 @@
 // The places of which wait with an entry has a conclusion, looked for along the chains of the log.
-ghost use Rattle.std.specs.Prelude.{ℕ, ◌≡◌, ◌+◌, ◌<◌, ◌≤◌, length};
+ghost use Rattle.std.specs.Prelude.{ℕ, ◌≡◌, ◌+◌, ◌<◌, ◌≤◌, length, replicate, set, slice_index_or, IfSome};
 ghost use Rattle.cstn_label.specs.Labels.{IsMarked};
 ghost use Rattle.cstn_label.specs.Read.{marks};
 ghost use Rattle.cstn_net.specs.Networks.{Observes, count};
 ghost use Rattle.cstn_net.specs.Read.{the_network};
 ghost use Rattle.cstn_log.specs.Chains.{IsMarkedAt, IsAtNode};
-ghost use Rattle.cstn_check.specs.Waits.{IsWaiting};
+ghost use Rattle.cstn_log.specs.Entries.{the_entries};
+ghost use Rattle.cstn_check.specs.Waits.{IsWaiting, NoneSees, NoneMarks, NoneSeesEach, ArePassed};
 
 use crate::turns::is_well_formed;
 use cstn_label::{Bound, NodeId, Prop};
 use cstn_log::Log;
 use cstn_net::Network;
 
-// How far a walk along a chain has come: the place found last, and one before it.
-#[derive(Clone, Copy)]
-pub struct Walk {
-    near: u32,
-    found: u32,
-}
-
-impl Walk {
-    // A walk that hasn't begun.
-    pub fn new() -> Walk {
-        Walk {
-            near: u32::MAX,
-            found: u32::MAX,
-        }
-    }
-
-    // A place of the chain before `from`, if one is known.
-    fn near(&mut self, from: u32) -> u32 {
-        if self.found < from {
-            self.near = self.found;
-        }
-        self.near
-    }
-}
-
-// The walks of a turn: one for the observer of each proposition, and one along the places that mark what is observed.
-pub const WALKS: usize = 53;
+// How many propositions there may be.
+pub const PROPS: usize = 52;
 
 // The first place from `from` up to `j` with an entry of which wait with the entry at `j`, either way round, has a
-// conclusion; `j + 1` where none has.
-pub fn next_waiting(net: &Network, log: &Log, from: u32, j: u32, walks: &mut [Walk]) -> u32
+// conclusion; `j + 1` where none has, or the entry at `j` is dead. A chain is gone along only from the place where it stands:
+// `sees` has the next place at the observer of each proposition, and `marking` the next that marks what is observed.
+pub fn next_waiting(
+    net: &Network,
+    log: &Log,
+    from: u32,
+    j: u32,
+    sees: &mut [u32],
+    marking: &mut u32,
+) -> u32
     requires nodes { log.now.nodes ≡ count (the_network net.now) }
     requires place { j < length log.now.entries }
     requires upto { from ≤ j + 1 }
-    requires walks { length walks.old ≡ 53 }
+    requires size { length sees.old ≡ 52 }
+    requires passed { ArePassed (the_network net.now) (the_entries log.now.entries) j from sees.old marking.old }
     ensures upto { (from ≤ result) × (result ≤ j + 1) }
     ensures none { (k : ℕ) → from ≤ k → k < result → IsWaiting (the_network net.now) log.now.entries k j → ⊥ }
-    ensures walks { length walks.new ≡ 53 }
+    ensures size { length sees.new ≡ 52 }
+    ensures passed { ArePassed (the_network net.now) (the_entries log.now.entries) j from sees.new marking.new }
 {
     let _room = log.len();
+    if !log.live(j) {
+        return j + 1;
+    }
     let b = log.entry(j).bound;
-    let near = walks[52].near(from);
-    let marking = first_marking(net, log, b.node, from, near);
-    walks[52].found = marking;
-    let seen = first_seen(net, log, &b, from, walks);
-    least(least(marking, seen), j + 1)
+    let marks = next_marking(net, log, b.node, from, *marking);
+    *marking = marks;
+    let seen = next_seen(net, log, &b, from, sees);
+    least(least(marks, seen), j + 1)
 }
 
 fn least(a: u32, b: u32) -> u32
@@ -65,6 +53,19 @@ fn least(a: u32, b: u32) -> u32
     ensures one { (from : ℕ) → from ≤ a → from ≤ b → from ≤ result }
 {
     if a < b { a } else { b }
+}
+
+// The first place from `from` on whose entry marks what the time-point observes, unless the chain stands there already.
+fn next_marking(net: &Network, log: &Log, x: NodeId, from: u32, next: u32) -> u32
+    requires node { x.0 < count (the_network net.now) }
+    requires upto { from ≤ length log.now.entries }
+    ensures upto { from ≤ result }
+    ensures none { (j : ℕ) → j < length log.now.entries → NoneMarks (the_network net.now) (the_entries log.now.entries) x.0 j from next → NoneMarks (the_network net.now) (the_entries log.now.entries) x.0 j from result }
+{
+    if from <= next {
+        return next;
+    }
+    first_marking(net, log, x, from, next)
 }
 
 // The first place from `from` on whose entry marks what the time-point observes.
@@ -81,24 +82,51 @@ fn first_marking(net: &Network, log: &Log, x: NodeId, from: u32, near: u32) -> u
 }
 
 // The first place from `from` on at the observer of a proposition that the label of the bound marks.
-fn first_seen(net: &Network, log: &Log, b: &Bound, from: u32, walks: &mut [Walk]) -> u32
+fn next_seen(net: &Network, log: &Log, b: &Bound, from: u32, places: &mut [u32]) -> u32
     requires nodes { log.now.nodes ≡ count (the_network net.now) }
     requires upto { from ≤ length log.now.entries }
-    requires walks { length walks.old ≡ 53 }
+    requires size { length places.old ≡ 52 }
     ensures upto { from ≤ result }
-    ensures none { (k p x : ℕ) → from ≤ k → k < length log.now.entries → k < result → IsMarked (marks b.now.label) p → Observes (the_network net.now) x p → IsAtNode log.now.entries x k → ⊥ }
-    ensures walks { length walks.new ≡ 53 }
+    ensures size { length places.new ≡ 52 }
+    ensures passed { (j : ℕ) → j < length log.now.entries → NoneSeesEach (the_network net.now) (the_entries log.now.entries) (marks b.now.label) j from places.old → NoneSeesEach (the_network net.now) (the_entries log.now.entries) (marks b.now.label) j from places.new }
+    ensures none { (j p : ℕ) → j < length log.now.entries → NoneSeesEach (the_network net.now) (the_entries log.now.entries) (marks b.now.label) j from places.old → IsMarked (marks b.now.label) p → NoneSees (the_network net.now) (the_entries log.now.entries) p j from result }
 {
     let mut next = u32::MAX;
     let mut index = 0;
     while let Some(p) = b.label.first_marked_from(index) {
-        let near = walks[p.index as usize].near(from);
-        let place = first_at_observer(net, log, p, from, near);
-        walks[p.index as usize].found = place;
+        let place = next_at_observer(net, log, p, from, place_of(places, p));
+        set_place(places, p, place);
         next = least(next, place);
         index = p.index + 1;
     }
     next
+}
+
+fn place_of(places: &[u32], p: Prop) -> u32
+    requires { length places.now ≡ 52 }
+    ensures { result ≡ slice_index_or places.now p.index 0 }
+{
+    places[p.index as usize]
+}
+
+fn set_place(places: &mut [u32], p: Prop, place: u32)
+    requires { length places.old ≡ 52 }
+    ensures { places.new ≡ set places.old p.index place }
+{
+    places[p.index as usize] = place;
+}
+
+// The first place from `from` on at the observer of p, unless the chain stands there already.
+fn next_at_observer(net: &Network, log: &Log, p: Prop, from: u32, next: u32) -> u32
+    requires nodes { log.now.nodes ≡ count (the_network net.now) }
+    requires upto { from ≤ length log.now.entries }
+    ensures upto { from ≤ result }
+    ensures none { (j : ℕ) → j < length log.now.entries → NoneSees (the_network net.now) (the_entries log.now.entries) p.index j from next → NoneSees (the_network net.now) (the_entries log.now.entries) p.index j from result }
+{
+    if from <= next {
+        return next;
+    }
+    first_at_observer(net, log, p, from, next)
 }
 
 // The first place from `from` on at the observer of p.

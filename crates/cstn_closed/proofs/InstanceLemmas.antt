@@ -1,11 +1,14 @@
 -- Chains of the constraints that end at a time-point, and waits.
-use Rattle.std.proofs.Common.{ℕ, ◌≡◌, ◌≤◌, ◌<◌, List, Some, length, get_or, map, arith, inl, inr, refl, sym, subst, ap, ◌∙◌}
+use Rattle.std.proofs.Common.{ℕ, ◌≡◌, ◌+◌, ◌≤◌, ◌<◌, List, Some, length, get_or, map, arith, inl, inr, refl, sym, subst, ap, ◌∙◌}
 use Rattle.std.specs.Prelude.{slice_get}
 use Rattle.std.specs.List.{AllPairs}
 use Rattle.std.proofs.lemmas.Bool.{cases_lt, cases_eq}
-use Rattle.std.proofs.lemmas.List.{get_or-map, length-map}
-use Rattle.std.proofs.lemmas.Option.{slice_get_within, get_or_from_slice_get}
+use Rattle.std.proofs.lemmas.List.{get_or-map, get_or_default, length-map}
+use Rattle.std.proofs.lemmas.Option.{slice_get_within, get_or_from_slice_get, same_Some}
+use Rattle.cstn_label.specs.declared.bounds.Bound.{Bound as DeclaredBound}
 use Rattle.cstn_label.specs.Bounds.{Bound}
+use Rattle.cstn_label.specs.Labels.{IsMarked}
+use Rattle.cstn_label.specs.Read.{the_bound}
 use Rattle.cstn_net.proofs.ListLemmas.{pairs_unmap}
 use Rattle.cstn_net.specs.declared.constraints.Constraint.{Constraint as Declared}
 use Rattle.cstn_net.specs.Networks.{Network, Constraint, IsWellFormed, Observes}
@@ -16,7 +19,9 @@ use Rattle.cstn_rules.specs.Closed.{IsCovered}
 use Rattle.cstn_log.proofs.ListLemmas.{get_map, contains_map, one_there}
 use Rattle.cstn_closed.specs.Faults.{Fault, bad, no_base, no_chain, no_wait, IsFault, kind, place, other}
 use Rattle.cstn_closed.specs.Instances.{IsChainCovered, AreChainsCovered, IsWaitCovered, AreWaitsCovered, IsSoBefore, IsFirstThere}
+use Rattle.cstn_closed.specs.Marking.{marking}
 use Rattle.cstn_closed.proofs.ListLemmas.{there_is, is_there}
+use Rattle.cstn_closed.proofs.MarkingLemmas.{place_inside, marked_at, marked_before}
 use Rattle.cstn_closed.proofs.WalkLemmas.{IsWalked}
 
 -- what chain gives of the constraint at the place k and the bound is covered
@@ -90,7 +95,7 @@ first_chained net bounds b i p c wf walked at here gives = record {
         ]
 
 -- the first bound of which wait isn't covered
-pub first_awaited : (net : Network) (bounds : List Bound) (i j : ℕ) (seen b : Bound) → slice_get bounds i ≡ Some seen → slice_get bounds j ≡ Some b →
+first_awaited : (net : Network) (bounds : List Bound) (i j : ℕ) (seen b : Bound) → slice_get bounds i ≡ Some seen → slice_get bounds j ≡ Some b →
     IsSoBefore (IsWaitCovered net bounds seen) bounds j → (p : ℕ) × (r : Bound) × IsWait net p seen b r × (IsCovered bounds r → ⊥) →
     IsFirstThere net bounds (no_wait i j)
 first_awaited net bounds i j seen b at here before gives = record {
@@ -105,6 +110,66 @@ first_awaited net bounds i j seen b at here before gives = record {
     earlier (no_wait k l) same there less fault =
         let its : fault.1 ≡ seen = one_there bounds i fault.1 seen (subst (λ n. slice_get bounds n ≡ Some fault.1) there fault.4) at in
         fault.7 (before l fault.2 less fault.5 fault.0 fault.3 (subst (λ x. IsWait net fault.0 x fault.2 fault.3) its fault.6))
+
+-- what wait gives of the bound at the place k is covered
+abbrev pub IsAwaitedAt : Network → List Bound → Bound → ℕ → Type 0
+IsAwaitedAt net bounds seen k = (b : Bound) → slice_get bounds k ≡ Some b → IsWaitCovered net bounds seen b
+
+-- wait gives something of bounds that mark the observed proposition alone
+awaited_marks : (net : Network) (seen b r : Bound) (p q : ℕ) → Observes net seen.node p → IsWait net q seen b r → IsMarked b.label p
+awaited_marks net seen b r p q observes is = subst (IsMarked b.label) (same_Some q p (sym is.observes.what ∙ observes.what)) is.marked
+
+-- so the bounds before one that marks it are covered where those among them that mark it are
+waits_before : (net : Network) (bounds : List Bound) (seen : Bound) (p i : ℕ) → Observes net seen.node p → i < length (marking p bounds) →
+    ((n : ℕ) → n < i → IsAwaitedAt net bounds seen (get_or (marking p bounds) n 0)) →
+    IsSoBefore (IsWaitCovered net bounds seen) bounds (get_or (marking p bounds) i 0)
+waits_before net bounds seen p i observes inside done j b before there q r is =
+    let at = marked_before p bounds i j b inside before there (awaited_marks net seen b r p q observes is) in
+    done at.0 at.1 b (subst (λ k. slice_get bounds k ≡ Some b) (sym at.2) there) q r is
+
+-- and all are
+waits_all : (net : Network) (bounds : List Bound) (seen : Bound) (p i : ℕ) → Observes net seen.node p → length (marking p bounds) ≤ i →
+    ((n : ℕ) → n < i → IsAwaitedAt net bounds seen (get_or (marking p bounds) n 0)) → AreWaitsCovered net bounds seen
+waits_all net bounds seen p i observes all done b has q r is =
+    let there = there_is bounds b has in
+    let at = marked_at p bounds there.0 b there.1 (awaited_marks net seen b r p q observes is) in
+    done at.0 (omega (arith, at.1)) b (subst (λ k. slice_get bounds k ≡ Some b) (sym at.2) there.1) q r is
+
+-- the next of them stands in the list
+pub place_read : (bounds : List DeclaredBound) (places : List ℕ) (p i d : ℕ) → places ≡ marking p (map the_bound bounds) → i < length places → get_or places i d < length bounds
+place_read bounds places p i d are inside =
+    let within : i < length (marking p (map the_bound bounds)) = subst (λ (ps : List ℕ). i < length ps) are inside in
+    let below = place_inside p (map the_bound bounds) i within in
+    let at : get_or places i d ≡ get_or (marking p (map the_bound bounds)) i 0 =
+    ap (λ (ps : List ℕ). get_or ps i d) are ∙ get_or_default (marking p (map the_bound bounds)) i d 0 within in
+    omega (arith, at, below, length-map bounds the_bound)
+
+-- one more of them is covered
+pub waits_more : (net : Network) (bounds : List Bound) (seen : Bound) (places : List ℕ) (i d : ℕ) → i < length places →
+    ((n : ℕ) → n < i → IsAwaitedAt net bounds seen (get_or places n 0)) → IsAwaitedAt net bounds seen (get_or places i d) →
+    (n : ℕ) → n < i + 1 → IsAwaitedAt net bounds seen (get_or places n 0)
+waits_more net bounds seen places i d inside done here n before = elim (cases_lt n i) [
+  | inl earlier ↦ done n earlier
+  | inr past ↦ subst (IsAwaitedAt net bounds seen) (get_or_default places i d 0 inside ∙ ap (λ m. get_or places m 0) (let e : i ≡ n = omega arith in e)) here
+]
+
+-- the first of them that isn't
+pub first_marked : (net : Network) (bounds : List Bound) (at p i d : ℕ) (places : List ℕ) (seen b : Bound) → places ≡ marking p bounds → i < length places →
+    Observes net seen.node p → slice_get bounds at ≡ Some seen → slice_get bounds (get_or places i d) ≡ Some b →
+    ((n : ℕ) → n < i → IsAwaitedAt net bounds seen (get_or places n 0)) → (q : ℕ) × (r : Bound) × IsWait net q seen b r × (IsCovered bounds r → ⊥) →
+    IsFirstThere net bounds (no_wait at (get_or places i d))
+first_marked net bounds at p i d places seen b are inside observes there here done gives =
+    let within : i < length (marking p bounds) = subst (λ (ps : List ℕ). i < length ps) are inside in
+    let same : get_or places i d ≡ get_or (marking p bounds) i 0 = ap (λ (ps : List ℕ). get_or ps i d) are ∙ get_or_default (marking p bounds) i d 0 within in
+    let before = waits_before net bounds seen p i observes within (subst (λ (ps : List ℕ). (n : ℕ) → n < i → IsAwaitedAt net bounds seen (get_or ps n 0)) are done) in
+    first_awaited net bounds at (get_or places i d) seen b there here (subst (IsSoBefore (IsWaitCovered net bounds seen) bounds) (sym same) before) gives
+
+-- none of them isn't
+pub all_marked : (net : Network) (bounds : List Bound) (p i : ℕ) (places : List ℕ) (seen : Bound) → places ≡ marking p bounds → length places ≤ i →
+    Observes net seen.node p → ((n : ℕ) → n < i → IsAwaitedAt net bounds seen (get_or places n 0)) → AreWaitsCovered net bounds seen
+all_marked net bounds p i places seen are all observes done =
+    waits_all net bounds seen p i observes (subst (λ (ps : List ℕ). length ps ≤ i) are all)
+    (subst (λ (ps : List ℕ). (n : ℕ) → n < i → IsAwaitedAt net bounds seen (get_or ps n 0)) are done)
 
 -- at a time-point that observes nothing, no bound gives a wait
 pub none_observed : (net : Network) (bounds : List Bound) (seen : Bound) → ((p : ℕ) → Observes net seen.node p → ⊥) → AreWaitsCovered net bounds seen

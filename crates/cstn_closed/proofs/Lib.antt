@@ -1,6 +1,7 @@
 mod ListLemmas
 mod WalkLemmas
 mod PlaceLemmas
+mod MarkingLemmas
 pub mod FaultLemmas
 mod InstanceLemmas
 mod LineLemmas

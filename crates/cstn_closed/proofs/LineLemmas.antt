@@ -12,7 +12,7 @@ use Rattle.cstn_label.specs.Bounds.{Bound}
 use Rattle.cstn_label.specs.Read.{the_bound}
 use Rattle.cstn_text.specs.Cuts.{cut_at}
 use Rattle.cstn_refute.specs.Texts.{Lines, begun, lines_of}
-use Rattle.cstn_closed.specs.Texts.{line_read, Told, wrong, at_end, or_wrong, told_after, load_read, told_lines, told}
+use Rattle.cstn_closed.specs.Texts.{line_read, Told, tells, wrong, at_end, or_wrong, told_after, load_read, told_lines, told}
 
 cut_lines : (bs : List ℕ) (i : ℕ) → i < length bs → (get_or bs i 0 == 10) ≡ true →
     ((k : ℕ) → k < i → (get_or bs k 0 == 10) ≡ false) →
@@ -118,3 +118,12 @@ pub told_last : (names : List (List ℕ)) (load : ℕ) (bounds : List Bound) (le
     told_after names load bounds (lines_of left).0 (lines_of left).1 ≡ at_end load bounds left
 unfolding told_after
 told_last names load bounds left is = ap {A = Lines} (λ p. told_after names load bounds p.0 p.1) (lines_open left is)
+
+-- the text ends with LF: it has a bound, or its second line is missing
+pub ended_none : (load : ℕ) (bounds : List Declared) → length bounds ≡ 0 → at_end load (map the_bound bounds) [] ≡ wrong 2
+ended_none load [] none = refl
+ended_none load (b ∷ bounds) none = absurd (omega arith)
+
+pub ended_some : (load : ℕ) (bounds : List Declared) → (length bounds ≡ 0 → ⊥) → at_end load (map the_bound bounds) [] ≡ tells load (map the_bound bounds)
+ended_some load [] some = absurd (some refl)
+ended_some load (b ∷ bounds) some = refl

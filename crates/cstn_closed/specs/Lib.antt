@@ -1,5 +1,6 @@
 pub mod Closed
 pub mod Places
+pub mod Marking
 pub mod Faults
 pub mod Instances
 pub mod Answers

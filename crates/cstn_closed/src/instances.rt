@@ -2,8 +2,7 @@
 ghost use Rattle.std.specs.Prelude.{ℕ, ◌≡◌, ◌<◌, ◌↔◌, ◌+◌, Some, false, length, slice_get, slice_index_or, IfSome, IfNone, IsTrue};
 ghost use Rattle.std.specs.List.{Contains};
 ghost use Rattle.cstn_label.specs.Bounds.{Bound as TheBound};
-ghost use Rattle.cstn_label.specs.Labels.{IsMarked};
-ghost use Rattle.cstn_label.specs.Read.{the_bound, marks};
+ghost use Rattle.cstn_label.specs.Read.{the_bound};
 ghost use Rattle.cstn_net.specs.Networks.{IsWellFormed, Observes, count};
 ghost use Rattle.cstn_net.specs.Links.{ends};
 ghost use Rattle.cstn_net.specs.Read.{the_network, the_constraint};
@@ -15,7 +14,7 @@ ghost use Rattle.cstn_closed.specs.Instances.{AreFit, AreChainsCovered, AreWaits
 ghost use Rattle.cstn_closed.specs.Places.{IsNext};
 
 use crate::lists::Closed;
-use cstn_label::{Bound, Label, Mark, NodeId, Prop};
+use cstn_label::{Bound, Label, NodeId, Prop};
 use cstn_net::{Constraint, Network};
 use cstn_rules::{Tries, chain, refutes, wait};
 
@@ -91,7 +90,8 @@ fn is_chain_covered(net: &Network, closed: &Closed, c: &Constraint, b: &Bound) -
     }
 }
 
-/// The first place of a bound of which wait, with the bound at the place of an observer, gives what isn't covered.
+/// The first place of a bound of which wait, with the bound at the place of an observer, gives what isn't covered. Only the
+/// bounds that mark what is observed are looked at: of the others wait gives nothing.
 pub(crate) fn uncovered_wait(net: &Network, closed: &Closed, seen: u32) -> Option<u32>
     requires fit { AreFit (the_network net.now) (the_bounds closed.now) }
     requires place { seen < length closed.now.bounds }
@@ -102,9 +102,9 @@ pub(crate) fn uncovered_wait(net: &Network, closed: &Closed, seen: u32) -> Optio
     let Some(p) = observed(net, &first) else {
         return None;
     };
-    for at in 0..closed.count() {
-        if !is_wait_covered(net, closed, p, &first, &closed.bound(at)) {
-            return Some(at);
+    for at in closed.marking(p) {
+        if !is_wait_covered(net, closed, &first, &closed.bound(*at)) {
+            return Some(*at);
         }
     }
     None
@@ -119,30 +119,18 @@ fn observed(net: &Network, b: &Bound) -> Option<Prop>
     net.observes(b.node)
 }
 
-// Whether what wait gives of a bound at the observer of p, and another, is covered. It gives nothing where the other doesn't
-// mark p.
-fn is_wait_covered(net: &Network, closed: &Closed, p: Prop, seen: &Bound, b: &Bound) -> bool
-    requires observer { Observes (the_network net.now) seen.now.node.0 p.index }
+// Whether what wait gives of a bound at an observer, and another, is covered.
+fn is_wait_covered(net: &Network, closed: &Closed, seen: &Bound, b: &Bound) -> bool
     requires seen { IsBoundOf (the_network net.now) (the_bound seen.now) }
     requires bound { IsBoundOf (the_network net.now) (the_bound b.now) }
     ensures covered { IsTrue result → IsWaitCovered (the_network net.now) (the_bounds closed.now) (the_bound seen.now) (the_bound b.now) }
     ensures uncovered { result ≡ false → (p : ℕ) × (r : TheBound) × IsWait (the_network net.now) p (the_bound seen.now) (the_bound b.now) r × (IsCovered (the_bounds closed.now) r → ⊥) }
 {
-    if !is_marked(b, p) {
-        return true;
-    }
     let mut tries = Tries { count: 0 };
     match wait(net, seen, b, &mut tries) {
         None => true,
         Some(r) => closed.covers(&r),
     }
-}
-
-// Whether the bound marks p.
-fn is_marked(b: &Bound, p: Prop) -> bool
-    ensures marked { IsTrue result ↔ IsMarked (marks b.now.label) p.index }
-{
-    b.label.mark(p) != Mark::Absent
 }
 
 fn constraint_count(net: &Network) -> usize

@@ -9,6 +9,7 @@ mod instances;
 mod laws;
 mod limits;
 mod lists;
+mod marks;
 mod places;
 mod printing;
 mod reading;

@@ -2,21 +2,25 @@ ghost use Rattle.std.specs.Prelude.{◌≡◌, ◌<◌, ◌^◌, ◌↔◌, leng
 ghost use Rattle.cstn_label.specs.Read.{the_bound};
 ghost use Rattle.cstn_rules.specs.Closed.{IsCovered};
 ghost use Rattle.cstn_closed.specs.Closed.{the_bounds};
+ghost use Rattle.cstn_closed.specs.Marking.{marking};
 
+use crate::marks::Marking;
 use crate::places::Places;
-use cstn_label::Bound;
+use cstn_label::{Bound, Prop};
 use std::alloc::{AllocError, Global};
 use std::marker::Model;
 
 /// What stands for a yes: the load that a check had, and bounds that are to be closed for the network. Nothing says that they
 /// are.
 ///
-/// The bounds can be looked up by their time-points, for which the list holds some memory beside them.
+/// The bounds can be looked up by their time-points and by the propositions that they mark, for which the list holds some
+/// memory beside them.
 #[derive(Debug, Drop)]
 pub struct Closed {
     load: u32,
     bounds: Vec<Bound>,
     places: Places,
+    marking: Marking,
 }
 
 impl Model for Closed {
@@ -26,7 +30,7 @@ impl Model for Closed {
 
     ghost view = { λ c. record { load = c.load; bounds = c.bounds.items } };
 
-    ghost invariant = { λ c. IsKept c.bounds.items c.places.firsts.items c.places.nexts.items };
+    ghost invariant = { λ c. IsKept c.bounds.items c.places.firsts.items c.places.nexts.items c.marking.lists.items };
 }
 
 impl Closed {
@@ -36,10 +40,12 @@ impl Closed {
         ensures new { IfOk result (λ c. c ≡ record { load = load; bounds = bounds.items }) }
     {
         let places = Places::of(alloc, &bounds)?;
+        let marking = Marking::of(alloc, &bounds)?;
         Ok(Closed {
             load,
             bounds,
             places,
+            marking,
         })
     }
 
@@ -71,6 +77,13 @@ impl Closed {
         ensures bound { slice_get self.now.bounds k ≡ Some result }
     {
         self.bounds[k as usize]
+    }
+
+    // The places of the bounds that mark p, in ascending order.
+    pub(crate) fn marking(&self, p: Prop) -> &[u32]
+        ensures marking { result.now ≡ marking p.index (the_bounds self.now) }
+    {
+        self.marking.lists[p.index as usize].as_slice()
     }
 
     /// Whether some bound of the list dominates r. Only the bounds at the time-point of r are looked at.

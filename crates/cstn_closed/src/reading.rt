@@ -35,7 +35,15 @@ impl Closed {
         let Some(load) = read_load(line) else {
             return Err(ClosedError::Line { line: 1 });
         };
-        read_bounds(alloc, names, load, rest)
+        match read_bounds(alloc, names, load, rest) {
+            Ok(closed) => {
+                if closed.bounds().is_empty() {
+                    return Err(ClosedError::Line { line: 2 });
+                }
+                Ok(closed)
+            }
+            Err(error) => Err(error),
+        }
     }
 }
 
@@ -56,10 +64,10 @@ fn read_load(line: &[u8]) -> Option<u32>
     read_number_within(1, MOST_LOAD, rest)
 }
 
-// The list of a load and of the lines of its bounds.
+// The list of a load and of the lines of its bounds, which may be none.
 fn read_bounds(alloc: Global, names: &Names, load: u32, bytes: &[u8]) -> Result<Closed, ClosedError>
     requires few { length names.now ≤ 65536 }
-    ensures accepted { IfOk result (λ c. told_after names.now load [] (lines_of bytes.now).0 (lines_of bytes.now).1 ≡ tells c.load (the_bounds c)) }
+    ensures accepted { IfOk result (λ c. told_after names.now load [] (lines_of bytes.now).0 (lines_of bytes.now).1 ≡ at_end c.load (the_bounds c) []) }
     ensures line { IfErr result (IsWrong (told_after names.now load [] (lines_of bytes.now).0 (lines_of bytes.now).1)) }
 {
     let mut bounds = Vec::new(alloc);
@@ -137,15 +145,15 @@ fn read_bound(node: NodeId, bytes: &[u8]) -> Option<Bound>
     })
 }
 
-// The list of the bounds, where the text ends after one, with LF.
+// The list of the bounds, where the text ends with LF.
 fn finish(alloc: Global, load: u32, bounds: Vec<Bound>, left: &[u8]) -> Result<Closed, ClosedError>
     requires few { length bounds.items ≤ 4194304 }
-    ensures accepted { IfOk result (λ c. at_end load (map the_bound bounds.items) left.now ≡ tells c.load (the_bounds c)) }
+    ensures accepted { IfOk result (λ c. at_end load (map the_bound bounds.items) left.now ≡ at_end c.load (the_bounds c) []) }
     ensures line { IfErr result (IsWrong (at_end load (map the_bound bounds.items) left.now)) }
 {
-    let count = bounds.len() as u32;
-    if count == 0 || !left.is_empty() {
-        return Err(ClosedError::Line { line: count + 2 });
+    if !left.is_empty() {
+        let line = bounds.len() as u32 + 2;
+        return Err(ClosedError::Line { line });
     }
     match Closed::new(alloc, load, bounds) {
         Ok(closed) => Ok(closed),

@@ -135,6 +135,59 @@ fn the_empty_list(rt: HostRuntime) -> Result<(), Fail> {
     Ok(())
 }
 
+// Bounds at Z and at P, X from this moment on, and X from each moment of 5,000 on, where p is true: those are at places from 3.
+fn five_thousand(alloc: Global, from: i32, last: Label) -> Result<Vec<Bound>, AllocError> {
+    let mut bounds = Vec::with_capacity(alloc, 5_004)?;
+    bounds.push(bound(0, 0, Label::empty()))?;
+    bounds.push(bound(1, 0, Label::empty()))?;
+    bounds.push(bound(2, from, Label::empty()))?;
+    for least in 1..=5_000 {
+        bounds.push(bound(2, least, p(Mark::Yes)))?;
+    }
+    bounds.push(bound(2, 1, last))?;
+    Ok(bounds)
+}
+
+fn bound(node: u16, least: i32, label: Label) -> Bound {
+    Bound {
+        node: NodeId(node),
+        least,
+        label,
+    }
+}
+
+// Z, P, which observes p, and X.
+fn unconstrained(alloc: Global) -> Result<Builder, AllocError> {
+    let mut net = Builder::new(alloc, 5_000);
+    net.node(None)?;
+    net.node(Some(Prop { index: 41 }))?;
+    net.node(None)?;
+    Ok(net)
+}
+
+#[test]
+fn lists_of_five_thousand(rt: HostRuntime) -> Result<(), Fail> {
+    let alloc = rt.alloc();
+    let net = unconstrained(alloc)?.close().expect(&rt, "a network");
+    let bounds = five_thousand(alloc, 1, p(Mark::Unknown))?;
+    assert!(rt; bounds.len() < 10_000);
+    let closed = Closed::new(alloc, 5, bounds)?;
+    assert_eq!(rt; check(&net, &closed), ClosedAnswer::Accepted);
+    let bounds = five_thousand(alloc, 0, p(Mark::Unknown))?;
+    assert!(rt; bounds.len() < 10_000);
+    let closed = Closed::new(alloc, 5, bounds)?;
+    assert_eq!(rt;
+        check(&net, &closed),
+        ClosedAnswer::NoWait { seen: 1, at: 3 }
+    );
+    let q = Label::empty().with(Prop { index: 42 }, Mark::No);
+    let bounds = five_thousand(alloc, 1, q)?;
+    assert!(rt; bounds.len() < 10_000);
+    let closed = Closed::new(alloc, 5, bounds)?;
+    assert_eq!(rt; check(&net, &closed), ClosedAnswer::Bad { at: 5_003 });
+    Ok(())
+}
+
 #[test]
 fn first_wrong_lines(rt: HostRuntime) {
     let alloc = rt.alloc();

@@ -43,7 +43,7 @@ module _ (cap : ℕ) (net : Network) (good : IsWellFormed net) where
 
 -- the verdict of a check that was just started
 pub started_verdict : (cap : ℕ) (net : NetworkParts) (check : CheckParts) (v : Verdict) → IsWellFormed (the_network net) →
-    check ≡ record { net = net; cap = cap; verdict = None } → IsAnswer check.cap (the_network check.net) v → v ≡ verdict_on cap (the_network net)
+    check ≡ record { net = net; cap = cap; verdict = None; tries = 0 } → IsAnswer check.cap (the_network check.net) v → v ≡ verdict_on cap (the_network net)
 started_verdict cap net check v good is answer =
     verdict_is cap (the_network net) good v (subst (λ (c : CheckParts). IsAnswer c.cap (the_network c.net) v) is answer)
 
@@ -109,8 +109,8 @@ pub copied : (old new : NetworkParts) → new ≡ record old { spare = 0 } → t
 copied old new is = ap the_network is
 
 -- the verdict of a check of a network that isn't consistent
-pub refuted_verdict : (cap : ℕ) (net : NetworkParts) (check new : CheckParts) (v : Verdict) → check ≡ record { net = net; cap = cap; verdict = None } →
-    new ≡ record check { verdict = Some v } →
+pub refuted_verdict : (cap : ℕ) (net : NetworkParts) (check new : CheckParts) (v : Verdict) → check ≡ record { net = net; cap = cap; verdict = None; tries = 0 } →
+    new ≡ record check { verdict = Some v; tries = new.tries } →
     ((load : ℕ) → (v ≡ No load ↔ ((load ≡ load_of (the_network check.net)) × (load_of (the_network check.net) ≤ check.cap) × ¬ IsConsistent (the_network check.net)))) →
     load_of (the_network net) ≤ cap → ¬ IsConsistent (the_network net) → (load : ℕ) × (new.verdict ≡ Some (No load))
 refuted_verdict cap net check new v is answered exactly below never =
@@ -122,8 +122,8 @@ refuted_verdict cap net check new v is answered exactly below never =
     (load_of (the_network check.net), ap (λ (c : CheckParts). c.verdict) answered ∙ ap Some said)
 
 -- the network of the check is the one that was handed in
-pub same_net : (cap : ℕ) (net : NetworkParts) (check new : CheckParts) (v : Verdict) → check ≡ record { net = net; cap = cap; verdict = None } →
-    new ≡ record check { verdict = Some v } → new.net ≡ net
+pub same_net : (cap : ℕ) (net : NetworkParts) (check new : CheckParts) (v : Verdict) → check ≡ record { net = net; cap = cap; verdict = None; tries = 0 } →
+    new ≡ record check { verdict = Some v; tries = new.tries } → new.net ≡ net
 same_net cap net check new v is answered = ap (λ (c : CheckParts). c.net) answered ∙ ap (λ (c : CheckParts). c.net) is
 
 -- the clauses of a refutation, as one

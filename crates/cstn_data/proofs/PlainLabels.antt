@@ -44,7 +44,8 @@ after_plain letter a b (x ∷ bytes) p e = byte_plain (after_byte letter x) a b 
 empty_plain : IsPlain empty
 empty_plain = λ p. tt
 
-label_plain : (bytes : List ℕ) (a : Label) → label_of bytes ≡ Some a → IsPlain a
+-- the label of a label text
+pub label_plain : (bytes : List ℕ) (a : Label) → label_of bytes ≡ Some a → IsPlain a
 label_plain bytes a e =
     elim (which (is_of_empty bytes) _ _ _ e) [
       | inl h ↦ subst IsPlain (some_is h.1) empty_plain

@@ -105,7 +105,7 @@ fn literals(bytes: &[u8]) -> Option<Label>
 }
 
 /// Whether the bytes are a text of the empty label: empty, or U+22A1.
-pub fn is_of_empty(bytes: &[u8]) -> bool
+fn is_of_empty(bytes: &[u8]) -> bool
     ensures { result ≡ is_of_empty bytes.now }
 {
     bytes == b"".as_slice() || bytes == [226, 138, 161].as_slice()

@@ -12,7 +12,7 @@ mod white_space;
 
 pub use deadlines::deadline_of;
 pub use edge_types::{EdgeType, edge_type_of};
-pub use label_texts::{is_of_empty, label_of};
+pub use label_texts::label_of;
 pub use observed_letters::observed_in;
 pub use reactions::reaction_in;
 pub use value_texts::{Pair, Pairs, values_of};

@@ -4,3 +4,7 @@ pub mod Tightening
 pub mod Listing
 pub mod Replaying
 pub mod Certifying
+pub mod Lengths
+pub mod ReadBack
+pub mod DocumentNames
+pub mod Standing

@@ -22,7 +22,7 @@ some_entries net good (more, is) =
     let whole = ap length is in
     omega (arith, good.network.origin, length_bases (count net), long, whole)
 
-limit_in_time : (net : Network) → IsWellFormed net → (x : ℕ) → limit net x ≤ 1000000
+pub limit_in_time : (net : Network) → IsWellFormed net → (x : ℕ) → limit net x ≤ 1000000
 limit_in_time net good zero = omega arith
 limit_in_time net good (suc x) = good.in_time
 

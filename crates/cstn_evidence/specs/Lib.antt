@@ -3,3 +3,4 @@ pub mod Blame
 pub mod Tight
 pub mod Told
 pub mod Texts
+pub mod Accepted

@@ -6,7 +6,8 @@ ghost use Rattle.cstn_reply.specs.Read.{the_said};
 use cstn_reply::{Outcome, Refused, Said};
 use std::alloc::Global;
 
-pub(crate) fn accepted(alloc: Global) -> Result<Said, Refused>
+/// What is said of a text that is accepted.
+pub fn accepted(alloc: Global) -> Result<Said, Refused>
     ensures said { IfOk result (λ said. the_said said ≡ say Outcome.Good (codes "accepted")) }
     ensures fault { IsErrOf result Refused.ReadFault → ⊥ }
 {
@@ -20,7 +21,7 @@ pub(crate) fn accepted(alloc: Global) -> Result<Said, Refused>
 }
 
 /// What is said of a text with a line that is of no grammar.
-pub(crate) fn wrong_line(alloc: Global, line: u32) -> Result<Said, Refused>
+pub fn wrong_line(alloc: Global, line: u32) -> Result<Said, Refused>
     ensures said { IfOk result (λ said. the_said said ≡ say Outcome.Script (codes "script " ++ decimal line)) }
     ensures fault { IsErrOf result Refused.ReadFault → ⊥ }
 {

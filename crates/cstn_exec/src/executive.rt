@@ -2,9 +2,10 @@ ghost use Rattle.std.specs.Prelude.{ℕ, ◌≡◌, ◌<◌, ◌≤◌, ◌↔�
 ghost use Rattle.std.specs.List.{Contains};
 ghost use Rattle.std.specs.List.Sorted.{IsStrictlyIncreasing};
 ghost use Rattle.std.specs.Option.{option_map};
-ghost use Rattle.cstn_net.specs.Networks.{count};
+ghost use Rattle.cstn_net.specs.Networks.{IsWellFormed, count};
+ghost use Rattle.cstn_net.specs.Strategies.{Table};
 ghost use Rattle.cstn_net.specs.Read.{the_network};
-ghost use Rattle.cstn_log.specs.Plans.{the_bounds};
+ghost use Rattle.cstn_log.specs.Plans.{IsEarliest, the_bounds};
 ghost use Rattle.cstn_exec.specs.Runs.{start, due, named};
 ghost use Rattle.cstn_exec.specs.Moves.{moment_refusal, moved, outcome_refusal, handed};
 ghost use Rattle.cstn_exec.specs.Right.{IsRight, IsCalled, IsDue, IsDone, IsCarriedOut};
@@ -81,10 +82,12 @@ impl Executive {
         self.named.clear();
     }
 
-    /// The network.
+    /// The network. By the bounds of the plan one strategy has each time-point at its least moment in every scenario.
     pub fn network(&self) -> &Network
         ensures network { result.now ≡ self.now.net }
         ensures right { IsRight (the_network self.now.net) self.now.run }
+        ensures well_formed { IsWellFormed (the_network self.now.net) }
+        ensures earliest { (table : Table) × IsEarliest (the_network self.now.net) (the_bounds self.now.bounds) table }
     {
         self.plan.network()
     }

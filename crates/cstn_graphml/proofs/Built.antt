@@ -17,6 +17,7 @@ use Rattle.cstn_graphml.specs.DrawnGraphSeen.{observed_seen, drawn_seen}
 use Rattle.cstn_graphml.specs.DrawnGraphLaws.{IsDrawnAmong}
 use Rattle.cstn_graphml.specs.DrawnGraph.{observation}
 use Rattle.cstn_graphml.specs.Document.{Parts, or_nothing}
+use Rattle.cstn_graphml.specs.Labels.{labels_seen}
 use Rattle.cstn_graphml.specs.Networks.{with_points, with_drafts, point_of, draft_of, drawn_of, numbered, observed_prop, reaction_by, reaction_among, observation_of, builder_of, at_origin, HasParts, network_of, IsBuilt}
 
 -- one element more in the middle
@@ -86,6 +87,7 @@ parts_with deadline d = record {
   deadline = deadline;
   names = d.names;
   observes = or_nothing (option_map observed_seen d.origin) ∷ map observed_seen d.observes.items;
+  labels = labels_seen d;
   constraints = map drawn_seen d.constraints.items;
 }
 

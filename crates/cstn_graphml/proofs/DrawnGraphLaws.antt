@@ -15,13 +15,14 @@ use Rattle.cstn_graphml.specs.Contents.{Tag, Content}
 use Rattle.cstn_graphml.specs.Contents.Content.{done, cut, run, element}
 use Rattle.cstn_graphml.specs.Elements.{Reading, read_by, Datum, blank, passed, datum, data_of, datum_of, attribute}
 use Rattle.cstn_graphml.specs.DrawnGraph.{Observation, observation, DrawnGraph, DrawnConstraint, empty_graph, origin_name, node_of, with_node, with_constraint, with_deadline}
-use Rattle.cstn_graphml.specs.Judged.{judged_node, judged_edge, judged_deadline, with_pair, with_pairs, with_values, with_edge, is_kept, observed, reacting, unlabelled}
+use Rattle.cstn_graphml.specs.Judged.{judged_node, judged_edge, judged_deadline, with_pair, with_pairs, with_values, with_edge, is_kept, observed, reacting, labelled}
 use Rattle.cstn_graphml.specs.Document.{Part, graph_child, graph_reading, in_graph, root_child, root_reading, in_root, document_child, document_reading, in_document, part_of}
 use Rattle.cstn_graphml.specs.Document.Part.{a_datum, a_node, an_edge, another}
 use Rattle.cstn_graphml.specs.DrawnGraphLaws.{IsDrawnGraph, IsDrawnAmong, IsTimely}
-use Rattle.cstn_label.specs.Labels.{IsPlain}
+use Rattle.cstn_label.specs.Labels.{Label, IsPlain, empty}
+use Rattle.cstn_data.specs.LabelTexts.{label_of}
 use Rattle.cstn_data.proofs.ReactionLemmas.{reaction_in_reach}
-use Rattle.cstn_data.proofs.PlainLabels.{HasPlainLabel, values_plain}
+use Rattle.cstn_data.proofs.PlainLabels.{HasPlainLabel, label_plain, values_plain}
 
 pub bind_ok : {A B : Type 0} (o : Result A Refusal) (f : A → Result B Refusal) (y : B) → (o >>= f) ≡ Ok y → (x : A) × (o ≡ Ok x) × (f x ≡ Ok y)
 bind_ok (Ok x) f y e = (x, refl, e)
@@ -55,7 +56,7 @@ blank_keeps : {S : Type 0} (P : S → Type 0) (s t : S) (at : ℕ) (raw : List �
 blank_keeps P s t at raw p h = let b = bind_ok (blank at raw) (λ same. Ok s) t h in subst P (ok_is s t b.2) p
 
 pub empty_is : IsDrawnGraph empty_graph
-empty_is = record { later = []; first = refl; each = refl; among = λ k d inside. absurd (omega (arith, inside)); origin_timely = tt; timely = λ k d inside. absurd (omega (arith, inside)); plain = λ k d inside. absurd (omega (arith, inside)) }
+empty_is = record { later = []; first = refl; each = refl; labelled = refl; among = λ k d inside. absurd (omega (arith, inside)); origin_timely = tt; timely = λ k d inside. absurd (omega (arith, inside)); plain = λ k d inside. absurd (omega (arith, inside)); origin_plain = λ p. tt; plain_labels = λ k d inside. absurd (omega (arith, inside)) }
 
 picked : (b c : Bool) (later : Option ℕ) (k n : ℕ) → (if b then when c 0 else later) ≡ Some k → 0 < n → ((j : ℕ) → later ≡ Some j → j < n) → k < n
 picked true true later k n e z h = let i : 0 ≡ k = cc in subst (λ j. j < n) i z
@@ -71,38 +72,50 @@ constraint_kept c d h i p = record {
   later = h.later;
   first = h.first;
   each = h.each;
+  labelled = h.labelled;
   among = All-push (IsDrawnAmong (length d.names)) d.constraints c h.among i;
   origin_timely = h.origin_timely;
   timely = h.timely;
   plain = All-push (λ (c : DrawnConstraint). IsPlain c.label) d.constraints c h.plain p;
+  origin_plain = h.origin_plain;
+  plain_labels = h.plain_labels;
 }
 
 deadline_kept : (found : Datum) (n : ℕ) (d : DrawnGraph) → IsDrawnGraph d → IsDrawnGraph (with_deadline found n d)
-deadline_kept found n d h = record { later = h.later; first = h.first; each = h.each; among = h.among; origin_timely = h.origin_timely; timely = h.timely; plain = h.plain }
+deadline_kept found n d h = record { later = h.later; first = h.first; each = h.each; labelled = h.labelled; among = h.among; origin_timely = h.origin_timely; timely = h.timely; plain = h.plain; origin_plain = h.origin_plain; plain_labels = h.plain_labels }
 
-node_by : (b : Bool) (name : List ℕ) (observed : Option Observation) (d : DrawnGraph) → IsDrawnGraph d → IsTimely observed
-    → IsDrawnGraph (if b then record d { origin = Some observed } else record d { names = d.names ++ (name ∷ []); observes = d.observes ++ (observed ∷ []) })
-node_by true name observed d h t = record { later = h.later; first = h.first; each = h.each; among = h.among; origin_timely = t; timely = h.timely; plain = h.plain }
-node_by false name observed d h t =
+node_by : (b : Bool) (name : List ℕ) (observed : Option Observation) (label : Label) (d : DrawnGraph) → IsDrawnGraph d → IsTimely observed → IsPlain label
+    → IsDrawnGraph (if b then record d { origin = Some observed; origin_label = label } else record d { names = d.names ++ (name ∷ []); observes = d.observes ++ (observed ∷ []); labels = d.labels ++ (label ∷ []) })
+node_by true name observed label d h t p = record { later = h.later; first = h.first; each = h.each; labelled = h.labelled; among = h.among; origin_timely = t; timely = h.timely; plain = h.plain; origin_plain = p; plain_labels = h.plain_labels }
+node_by false name observed label d h t p =
     let longer = length-append d.names (name ∷ []) in
     let each = length-append d.observes (observed ∷ []) in
+    let labelled = length-append d.labels (label ∷ []) in
     record {
       later = h.later ++ (name ∷ []);
       first = ap (λ names. names ++ (name ∷ [])) h.first;
       each = omega (arith, longer, each, h.each);
+      labelled = omega (arith, longer, labelled, h.labelled);
       among = All-weaker (IsDrawnAmong (length d.names)) (IsDrawnAmong (length (d.names ++ (name ∷ [])))) (λ c i. (omega (arith, longer, i.0), omega (arith, longer, i.1))) d.constraints h.among;
       origin_timely = h.origin_timely;
       timely = All-push IsTimely d.observes observed h.timely t;
       plain = h.plain;
+      origin_plain = h.origin_plain;
+      plain_labels = All-push IsPlain d.labels label h.plain_labels p;
     }
 
-node_kept : (name : List ℕ) (observed : Option Observation) (d : DrawnGraph) → IsDrawnGraph d → IsTimely observed → IsDrawnGraph (with_node name observed d)
-node_kept name observed d h t = node_by (is_same name origin_name) name observed d h t
+node_kept : (name : List ℕ) (observed : Option Observation) (label : Label) (d : DrawnGraph) → IsDrawnGraph d → IsTimely observed → IsPlain label → IsDrawnGraph (with_node name observed label d)
+node_kept name observed label d h t p = node_by (is_same name origin_name) name observed label d h t p
 
 -- the reaction of a node
 reacting_in_reach : (found : Option Datum) (ticks : ℕ) → reacting found ≡ Ok ticks → IsReaction ticks
 reacting_in_reach None ticks e = subst IsReaction (ok_is 1 ticks e) (omega arith, omega arith)
 reacting_in_reach (Some x) ticks e = reaction_in_reach x.value ticks (given (reaction_in x.value) (bad_value x.at) ticks e)
+
+-- the label of a node
+labelled_plain : (found : Option Datum) (label : Label) → labelled found ≡ Ok label → IsPlain label
+labelled_plain None label e = subst IsPlain (ok_is empty label e) (λ p. tt)
+labelled_plain (Some x) label e = label_plain x.value label (given (label_of x.value) (label_text x.at) label e)
 
 observation_timely : (prop : Option ℕ) (ticks : ℕ) → IsReaction ticks → IsTimely (observation prop ticks)
 observation_timely (Some p) ticks h = h
@@ -138,14 +151,14 @@ edge_kept tag d e found h k =
 
 node_judged : (tag : Tag) (d e : DrawnGraph) (found : List Datum) → IsDrawnGraph d → judged_node tag d found ≡ Ok e → IsDrawnGraph e
 node_judged tag d e found h k =
-    let a = bind_ok (or_refused (attribute (codes "id") tag) (shape tag.at)) (λ id. demand (nat_lt 0 (length id) && nat_le (length id) 64) (bad_value tag.at) >>= λ sized. demand (not (is_some (node_of id d))) (name_twice tag.at) >>= λ fresh. observed (datum_of (codes "Obs") found) >>= λ prop. reacting (datum_of (codes "Reaction") found) >>= λ ticks. unlabelled (datum_of (codes "Label") found) >>= λ same. Ok (with_node id (observation prop ticks) d)) e k in
-    let b = bind_ok (demand (nat_lt 0 (length a.0) && nat_le (length a.0) 64) (bad_value tag.at)) (λ sized. demand (not (is_some (node_of a.0 d))) (name_twice tag.at) >>= λ fresh. observed (datum_of (codes "Obs") found) >>= λ prop. reacting (datum_of (codes "Reaction") found) >>= λ ticks. unlabelled (datum_of (codes "Label") found) >>= λ same. Ok (with_node a.0 (observation prop ticks) d)) e a.2 in
-    let c = bind_ok (demand (not (is_some (node_of a.0 d))) (name_twice tag.at)) (λ fresh. observed (datum_of (codes "Obs") found) >>= λ prop. reacting (datum_of (codes "Reaction") found) >>= λ ticks. unlabelled (datum_of (codes "Label") found) >>= λ same. Ok (with_node a.0 (observation prop ticks) d)) e b.2 in
-    let p = bind_ok (observed (datum_of (codes "Obs") found)) (λ prop. reacting (datum_of (codes "Reaction") found) >>= λ ticks. unlabelled (datum_of (codes "Label") found) >>= λ same. Ok (with_node a.0 (observation prop ticks) d)) e c.2 in
-    let r = bind_ok (reacting (datum_of (codes "Reaction") found)) (λ ticks. unlabelled (datum_of (codes "Label") found) >>= λ same. Ok (with_node a.0 (observation p.0 ticks) d)) e p.2 in
-    let u = bind_ok (unlabelled (datum_of (codes "Label") found)) (λ same. Ok (with_node a.0 (observation p.0 r.0) d)) e r.2 in
-    subst IsDrawnGraph (ok_is (with_node a.0 (observation p.0 r.0) d) e u.2)
-    (node_kept a.0 (observation p.0 r.0) d h (observation_timely p.0 r.0 (reacting_in_reach (datum_of (codes "Reaction") found) r.0 r.1)))
+    let a = bind_ok (or_refused (attribute (codes "id") tag) (shape tag.at)) (λ id. demand (nat_lt 0 (length id) && nat_le (length id) 64) (bad_value tag.at) >>= λ sized. demand (not (is_some (node_of id d))) (name_twice tag.at) >>= λ fresh. observed (datum_of (codes "Obs") found) >>= λ prop. reacting (datum_of (codes "Reaction") found) >>= λ ticks. labelled (datum_of (codes "Label") found) >>= λ label. Ok (with_node id (observation prop ticks) label d)) e k in
+    let b = bind_ok (demand (nat_lt 0 (length a.0) && nat_le (length a.0) 64) (bad_value tag.at)) (λ sized. demand (not (is_some (node_of a.0 d))) (name_twice tag.at) >>= λ fresh. observed (datum_of (codes "Obs") found) >>= λ prop. reacting (datum_of (codes "Reaction") found) >>= λ ticks. labelled (datum_of (codes "Label") found) >>= λ label. Ok (with_node a.0 (observation prop ticks) label d)) e a.2 in
+    let c = bind_ok (demand (not (is_some (node_of a.0 d))) (name_twice tag.at)) (λ fresh. observed (datum_of (codes "Obs") found) >>= λ prop. reacting (datum_of (codes "Reaction") found) >>= λ ticks. labelled (datum_of (codes "Label") found) >>= λ label. Ok (with_node a.0 (observation prop ticks) label d)) e b.2 in
+    let p = bind_ok (observed (datum_of (codes "Obs") found)) (λ prop. reacting (datum_of (codes "Reaction") found) >>= λ ticks. labelled (datum_of (codes "Label") found) >>= λ label. Ok (with_node a.0 (observation prop ticks) label d)) e c.2 in
+    let r = bind_ok (reacting (datum_of (codes "Reaction") found)) (λ ticks. labelled (datum_of (codes "Label") found) >>= λ label. Ok (with_node a.0 (observation p.0 ticks) label d)) e p.2 in
+    let u = bind_ok (labelled (datum_of (codes "Label") found)) (λ label. Ok (with_node a.0 (observation p.0 r.0) label d)) e r.2 in
+    subst IsDrawnGraph (ok_is (with_node a.0 (observation p.0 r.0) u.0 d) e u.2)
+    (node_kept a.0 (observation p.0 r.0) u.0 d h (observation_timely p.0 r.0 (reacting_in_reach (datum_of (codes "Reaction") found) r.0 r.1)) (labelled_plain (datum_of (codes "Label") found) u.0 u.1))
 
 deadline_judged : (d e : DrawnGraph) (found : Option Datum) → IsDrawnGraph d → judged_deadline d found ≡ Ok e → IsDrawnGraph e
 deadline_judged d e None h k = subst IsDrawnGraph (ok_is d e k) h

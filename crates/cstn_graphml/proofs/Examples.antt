@@ -12,15 +12,15 @@ use Rattle.cstn_label.specs.declared.marks.Mark.TheVariants.{Yes, No}
 use Rattle.cstn_graphml.specs.Elements.{passed, read_by}
 use Rattle.cstn_graphml.specs.Contents.{contents}
 use Rattle.cstn_graphml.specs.Document.{document}
-use Rattle.cstn_graphml.specs.Results.Refusal.{not_utf8, shape, name_twice, unknown_node, bad_value, label_text, contingent, edge_type, no_deadline, node_label}
+use Rattle.cstn_graphml.specs.Results.Refusal.{not_utf8, shape, name_twice, unknown_node, bad_value, label_text, contingent, edge_type, no_deadline}
 use Rattle.std.specs.Str.{chars, is_utf8}
 use Rattle.std.specs.Char.{encode_utf8}
 
-fits : document (codes "<graphml><graph><node id=\"Z\"/><node id=\"X\"/><edge source=\"X\" target=\"Z\"><data key=\"LabeledValues\">{(-5, " ++ (226 ∷ (138 ∷ (161 ∷ []))) ++ codes ")}</data></edge></graph></graphml>") (Some 5) ≡ Ok (record { deadline = 5; names = (codes "Z" ∷ (codes "X" ∷ [])); observes = (None ∷ (None ∷ [])); constraints = (record { from = 1; to = 0; most = negsuc 4; label = empty } ∷ []) })
+fits : document (codes "<graphml><graph><node id=\"Z\"/><node id=\"X\"/><edge source=\"X\" target=\"Z\"><data key=\"LabeledValues\">{(-5, " ++ (226 ∷ (138 ∷ (161 ∷ []))) ++ codes ")}</data></edge></graph></graphml>") (Some 5) ≡ Ok (record { deadline = 5; names = (codes "Z" ∷ (codes "X" ∷ [])); observes = (None ∷ (None ∷ [])); labels = (empty ∷ (empty ∷ [])); constraints = (record { from = 1; to = 0; most = negsuc 4; label = empty } ∷ []) })
 unfolding tokens_after tail_at resolved_after piece_at number_after past_first contents passed read_by label_after pairs_after with_pairs chars is_utf8 utf8_valid_len encode_utf8
 fits = refl
 
-origin_alone : document (codes "<graphml><graph></graph></graphml>") (Some 0) ≡ Ok (record { deadline = 0; names = (codes "Z" ∷ []); observes = (None ∷ []); constraints = ([]) })
+origin_alone : document (codes "<graphml><graph></graph></graphml>") (Some 0) ≡ Ok (record { deadline = 0; names = (codes "Z" ∷ []); observes = (None ∷ []); labels = (empty ∷ []); constraints = ([]) })
 unfolding tokens_after tail_at resolved_after piece_at number_after past_first contents passed read_by label_after pairs_after with_pairs chars is_utf8 utf8_valid_len encode_utf8
 origin_alone = refl
 
@@ -96,15 +96,15 @@ zero_reference : document (codes "<graphml><graph>&#0;") (Some 5) ≡ Err (shape
 unfolding tokens_after tail_at resolved_after piece_at number_after past_first contents passed read_by label_after pairs_after with_pairs chars is_utf8 utf8_valid_len encode_utf8
 zero_reference = refl
 
-process : document (codes "<?xml version=\"1.0\" encoding=\"UTF-8\"?>" ++ (10 ∷ []) ++ codes "<graphml xmlns=\"http://graphml.graphdrawing.org/xmlns\">" ++ (10 ∷ []) ++ codes "<key id=\"NetworkType\" for=\"graph\"><desc>Network type</desc><default>CSTN</default></key>" ++ (10 ∷ []) ++ codes "<key id=\"x\" for=\"node\"><default>0</default></key>" ++ (10 ∷ []) ++ codes "<key id=\"Obs\" for=\"node\"/>" ++ (10 ∷ []) ++ codes "<graph edgedefault=\"directed\">" ++ (10 ∷ []) ++ codes "<data key=\"NetworkType\">CSTN</data>" ++ (10 ∷ []) ++ codes "<node id=\"Z\"><data key=\"x\">10.0</data><data key=\"y\">50.5</data><data key=\"Label\">" ++ (226 ∷ (138 ∷ (161 ∷ []))) ++ codes "</data></node>" ++ (10 ∷ []) ++ codes "<node id=\"S\"><data key=\"x\">90.0</data><data key=\"Label\">" ++ (226 ∷ (138 ∷ (161 ∷ []))) ++ codes "</data></node>" ++ (10 ∷ []) ++ codes "<node id=\"P\"><data key=\"Obs\">p</data><data key=\"Label\">" ++ (226 ∷ (138 ∷ (161 ∷ []))) ++ codes "</data></node>" ++ (10 ∷ []) ++ codes "<node id=\"T\"><data key=\"Label\">" ++ (226 ∷ (138 ∷ (161 ∷ []))) ++ codes "</data></node>" ++ (10 ∷ []) ++ codes "<node id=\"E\"><data key=\"Label\">" ++ (226 ∷ (138 ∷ (161 ∷ []))) ++ codes "</data></node>" ++ (10 ∷ []) ++ codes "<edge id=\"e1\" source=\"P\" target=\"S\"><data key=\"Type\">requirement</data><data key=\"LabeledValues\">{(-5, " ++ (226 ∷ (138 ∷ (161 ∷ []))) ++ codes ") }</data></edge>" ++ (10 ∷ []) ++ codes "<edge id=\"e2\" source=\"S\" target=\"P\"><data key=\"Type\">requirement</data><data key=\"LabeledValues\">{(" ++ (226 ∷ (138 ∷ (161 ∷ []))) ++ codes ", 10) }</data></edge>" ++ (10 ∷ []) ++ codes "<edge id=\"e3\" source=\"T\" target=\"P\"><data key=\"LabeledValues\">{(-2, p) (-8, " ++ (194 ∷ (172 ∷ [])) ++ codes "p) }</data><data key=\"Type\">normal</data></edge>" ++ (10 ∷ []) ++ codes "<edge id=\"e4\" source=\"E\" target=\"T\"><data key=\"Type\">constraint</data><data key=\"LabeledValues\">{(" ++ (226 ∷ (136 ∷ (146 ∷ []))) ++ codes "3, " ++ (226 ∷ (138 ∷ (161 ∷ []))) ++ codes ")}</data></edge>" ++ (10 ∷ []) ++ codes "<edge id=\"e5\" source=\"E\" target=\"Z\"><data key=\"Type\">derived</data><data key=\"LabeledValues\">{(-9, " ++ (194 ∷ (191 ∷ [])) ++ codes "p) }</data></edge>" ++ (10 ∷ []) ++ codes "<edge id=\"e6\" source=\"Z\" target=\"E\"><data key=\"LabeledValues\">{(30, " ++ (226 ∷ (138 ∷ (161 ∷ []))) ++ codes ")}</data></edge>" ++ (10 ∷ []) ++ codes "</graph>" ++ (10 ∷ []) ++ codes "</graphml>" ++ (10 ∷ [])) (Some 40) ≡ Ok (record { deadline = 40; names = (codes "Z" ∷ (codes "S" ∷ (codes "P" ∷ (codes "T" ∷ (codes "E" ∷ []))))); observes = (None ∷ (None ∷ (Some (record { prop = 41; reaction = 1 }) ∷ (None ∷ (None ∷ []))))); constraints = (record { from = 2; to = 1; most = negsuc 4; label = empty } ∷ (record { from = 1; to = 2; most = pos 10; label = empty } ∷ (record { from = 3; to = 2; most = negsuc 1; label = with_mark empty 41 Yes } ∷ (record { from = 3; to = 2; most = negsuc 7; label = with_mark empty 41 No } ∷ (record { from = 4; to = 3; most = negsuc 2; label = empty } ∷ (record { from = 0; to = 4; most = pos 30; label = empty } ∷ [])))))) })
+process : document (codes "<?xml version=\"1.0\" encoding=\"UTF-8\"?>" ++ (10 ∷ []) ++ codes "<graphml xmlns=\"http://graphml.graphdrawing.org/xmlns\">" ++ (10 ∷ []) ++ codes "<key id=\"NetworkType\" for=\"graph\"><desc>Network type</desc><default>CSTN</default></key>" ++ (10 ∷ []) ++ codes "<key id=\"x\" for=\"node\"><default>0</default></key>" ++ (10 ∷ []) ++ codes "<key id=\"Obs\" for=\"node\"/>" ++ (10 ∷ []) ++ codes "<graph edgedefault=\"directed\">" ++ (10 ∷ []) ++ codes "<data key=\"NetworkType\">CSTN</data>" ++ (10 ∷ []) ++ codes "<node id=\"Z\"><data key=\"x\">10.0</data><data key=\"y\">50.5</data><data key=\"Label\">" ++ (226 ∷ (138 ∷ (161 ∷ []))) ++ codes "</data></node>" ++ (10 ∷ []) ++ codes "<node id=\"S\"><data key=\"x\">90.0</data><data key=\"Label\">" ++ (226 ∷ (138 ∷ (161 ∷ []))) ++ codes "</data></node>" ++ (10 ∷ []) ++ codes "<node id=\"P\"><data key=\"Obs\">p</data><data key=\"Label\">" ++ (226 ∷ (138 ∷ (161 ∷ []))) ++ codes "</data></node>" ++ (10 ∷ []) ++ codes "<node id=\"T\"><data key=\"Label\">" ++ (226 ∷ (138 ∷ (161 ∷ []))) ++ codes "</data></node>" ++ (10 ∷ []) ++ codes "<node id=\"E\"><data key=\"Label\">" ++ (226 ∷ (138 ∷ (161 ∷ []))) ++ codes "</data></node>" ++ (10 ∷ []) ++ codes "<edge id=\"e1\" source=\"P\" target=\"S\"><data key=\"Type\">requirement</data><data key=\"LabeledValues\">{(-5, " ++ (226 ∷ (138 ∷ (161 ∷ []))) ++ codes ") }</data></edge>" ++ (10 ∷ []) ++ codes "<edge id=\"e2\" source=\"S\" target=\"P\"><data key=\"Type\">requirement</data><data key=\"LabeledValues\">{(" ++ (226 ∷ (138 ∷ (161 ∷ []))) ++ codes ", 10) }</data></edge>" ++ (10 ∷ []) ++ codes "<edge id=\"e3\" source=\"T\" target=\"P\"><data key=\"LabeledValues\">{(-2, p) (-8, " ++ (194 ∷ (172 ∷ [])) ++ codes "p) }</data><data key=\"Type\">normal</data></edge>" ++ (10 ∷ []) ++ codes "<edge id=\"e4\" source=\"E\" target=\"T\"><data key=\"Type\">constraint</data><data key=\"LabeledValues\">{(" ++ (226 ∷ (136 ∷ (146 ∷ []))) ++ codes "3, " ++ (226 ∷ (138 ∷ (161 ∷ []))) ++ codes ")}</data></edge>" ++ (10 ∷ []) ++ codes "<edge id=\"e5\" source=\"E\" target=\"Z\"><data key=\"Type\">derived</data><data key=\"LabeledValues\">{(-9, " ++ (194 ∷ (191 ∷ [])) ++ codes "p) }</data></edge>" ++ (10 ∷ []) ++ codes "<edge id=\"e6\" source=\"Z\" target=\"E\"><data key=\"LabeledValues\">{(30, " ++ (226 ∷ (138 ∷ (161 ∷ []))) ++ codes ")}</data></edge>" ++ (10 ∷ []) ++ codes "</graph>" ++ (10 ∷ []) ++ codes "</graphml>" ++ (10 ∷ [])) (Some 40) ≡ Ok (record { deadline = 40; names = (codes "Z" ∷ (codes "S" ∷ (codes "P" ∷ (codes "T" ∷ (codes "E" ∷ []))))); observes = (None ∷ (None ∷ (Some (record { prop = 41; reaction = 1 }) ∷ (None ∷ (None ∷ []))))); labels = (empty ∷ (empty ∷ (empty ∷ (empty ∷ (empty ∷ []))))); constraints = (record { from = 2; to = 1; most = negsuc 4; label = empty } ∷ (record { from = 1; to = 2; most = pos 10; label = empty } ∷ (record { from = 3; to = 2; most = negsuc 1; label = with_mark empty 41 Yes } ∷ (record { from = 3; to = 2; most = negsuc 7; label = with_mark empty 41 No } ∷ (record { from = 4; to = 3; most = negsuc 2; label = empty } ∷ (record { from = 0; to = 4; most = pos 30; label = empty } ∷ [])))))) })
 unfolding tokens_after tail_at resolved_after piece_at number_after past_first contents passed read_by label_after pairs_after with_pairs chars is_utf8 utf8_valid_len encode_utf8
 process = refl
 
-no_pairs : document (codes "<graphml><graph><node id=\"Z\"/><node id=\"X\"/><edge source=\"X\" target=\"Z\"><data key=\"LabeledValues\">{}</data></edge></graph></graphml>") (Some 5) ≡ Ok (record { deadline = 5; names = (codes "Z" ∷ (codes "X" ∷ [])); observes = (None ∷ (None ∷ [])); constraints = ([]) })
+no_pairs : document (codes "<graphml><graph><node id=\"Z\"/><node id=\"X\"/><edge source=\"X\" target=\"Z\"><data key=\"LabeledValues\">{}</data></edge></graph></graphml>") (Some 5) ≡ Ok (record { deadline = 5; names = (codes "Z" ∷ (codes "X" ∷ [])); observes = (None ∷ (None ∷ [])); labels = (empty ∷ (empty ∷ [])); constraints = ([]) })
 unfolding tokens_after tail_at resolved_after piece_at number_after past_first contents passed read_by label_after pairs_after with_pairs chars is_utf8 utf8_valid_len encode_utf8
 no_pairs = refl
 
-commas : document (codes "<graphml><graph><node id=\"Z\"/><node id=\"X\"/><edge source=\"X\" target=\"Z\"><data key=\"LabeledValues\">{,( ,5 ),}</data></edge></graph></graphml>") (Some 5) ≡ Ok (record { deadline = 5; names = (codes "Z" ∷ (codes "X" ∷ [])); observes = (None ∷ (None ∷ [])); constraints = (record { from = 1; to = 0; most = pos 5; label = empty } ∷ []) })
+commas : document (codes "<graphml><graph><node id=\"Z\"/><node id=\"X\"/><edge source=\"X\" target=\"Z\"><data key=\"LabeledValues\">{,( ,5 ),}</data></edge></graph></graphml>") (Some 5) ≡ Ok (record { deadline = 5; names = (codes "Z" ∷ (codes "X" ∷ [])); observes = (None ∷ (None ∷ [])); labels = (empty ∷ (empty ∷ [])); constraints = (record { from = 1; to = 0; most = pos 5; label = empty } ∷ []) })
 unfolding tokens_after tail_at resolved_after piece_at number_after past_first contents passed read_by label_after pairs_after with_pairs chars is_utf8 utf8_valid_len encode_utf8
 commas = refl
 
@@ -132,7 +132,7 @@ value_before_label : document (codes "<graphml><graph><node id=\"Z\"/><node id=\
 unfolding tokens_after tail_at resolved_after piece_at number_after past_first contents passed read_by label_after pairs_after with_pairs chars is_utf8 utf8_valid_len encode_utf8
 value_before_label = refl
 
-late_origin : document (codes "<graphml><graph><node id=\"X\"/><node id=\"&#90;\"/></graph></graphml>") (Some 3) ≡ Ok (record { deadline = 3; names = (codes "Z" ∷ (codes "X" ∷ [])); observes = (None ∷ (None ∷ [])); constraints = ([]) })
+late_origin : document (codes "<graphml><graph><node id=\"X\"/><node id=\"&#90;\"/></graph></graphml>") (Some 3) ≡ Ok (record { deadline = 3; names = (codes "Z" ∷ (codes "X" ∷ [])); observes = (None ∷ (None ∷ [])); labels = (empty ∷ (empty ∷ [])); constraints = ([]) })
 unfolding tokens_after tail_at resolved_after piece_at number_after past_first contents passed read_by label_after pairs_after with_pairs chars is_utf8 utf8_valid_len encode_utf8
 late_origin = refl
 
@@ -140,15 +140,15 @@ early_edge : document (codes "<graphml><graph><node id=\"X\"/><edge source=\"X\"
 unfolding tokens_after tail_at resolved_after piece_at number_after past_first contents passed read_by label_after pairs_after with_pairs chars is_utf8 utf8_valid_len encode_utf8
 early_edge = refl
 
-derived_unknown : document (codes "<graphml><graph><edge source=\"Q\" target=\"R\"><data key=\"Type\">derived</data></edge></graph></graphml>") (Some 3) ≡ Ok (record { deadline = 3; names = (codes "Z" ∷ []); observes = (None ∷ []); constraints = ([]) })
+derived_unknown : document (codes "<graphml><graph><edge source=\"Q\" target=\"R\"><data key=\"Type\">derived</data></edge></graph></graphml>") (Some 3) ≡ Ok (record { deadline = 3; names = (codes "Z" ∷ []); observes = (None ∷ []); labels = (empty ∷ []); constraints = ([]) })
 unfolding tokens_after tail_at resolved_after piece_at number_after past_first contents passed read_by label_after pairs_after with_pairs chars is_utf8 utf8_valid_len encode_utf8
 derived_unknown = refl
 
-own_deadline : document (codes "<graphml><graph><data key=\"Deadline\"> 10 </data></graph></graphml>") None ≡ Ok (record { deadline = 10; names = (codes "Z" ∷ []); observes = (None ∷ []); constraints = ([]) })
+own_deadline : document (codes "<graphml><graph><data key=\"Deadline\"> 10 </data></graph></graphml>") None ≡ Ok (record { deadline = 10; names = (codes "Z" ∷ []); observes = (None ∷ []); labels = (empty ∷ []); constraints = ([]) })
 unfolding tokens_after tail_at resolved_after piece_at number_after past_first contents passed read_by label_after pairs_after with_pairs chars is_utf8 utf8_valid_len encode_utf8
 own_deadline = refl
 
-word_wins : document (codes "<graphml><graph><data key=\"Deadline\">10</data></graph></graphml>") (Some 3) ≡ Ok (record { deadline = 3; names = (codes "Z" ∷ []); observes = (None ∷ []); constraints = ([]) })
+word_wins : document (codes "<graphml><graph><data key=\"Deadline\">10</data></graph></graphml>") (Some 3) ≡ Ok (record { deadline = 3; names = (codes "Z" ∷ []); observes = (None ∷ []); labels = (empty ∷ []); constraints = ([]) })
 unfolding tokens_after tail_at resolved_after piece_at number_after past_first contents passed read_by label_after pairs_after with_pairs chars is_utf8 utf8_valid_len encode_utf8
 word_wins = refl
 
@@ -164,9 +164,13 @@ deadline_twice : document (codes "<graphml><graph><data key=\"Deadline\">1</data
 unfolding tokens_after tail_at resolved_after piece_at number_after past_first contents passed read_by label_after pairs_after with_pairs chars is_utf8 utf8_valid_len encode_utf8
 deadline_twice = refl
 
-labelled_node : document (codes "<graphml><graph><node id=\"X\"><data key=\"Label\">p</data></node></graph></graphml>") (Some 3) ≡ Err (node_label 29)
+labelled_nodes : document (codes "<graphml><graph><node id=\"X\"><data key=\"Label\">p !q</data></node><node id=\"Z\"><data key=\"Label\">r</data></node></graph></graphml>") (Some 3) ≡ Ok (record { deadline = 3; names = (codes "Z" ∷ (codes "X" ∷ [])); observes = (None ∷ (None ∷ [])); labels = (with_mark empty 43 Yes ∷ (with_mark (with_mark empty 41 Yes) 42 No ∷ [])); constraints = [] })
 unfolding tokens_after tail_at resolved_after piece_at number_after past_first contents passed read_by label_after pairs_after with_pairs chars is_utf8 utf8_valid_len encode_utf8
-labelled_node = refl
+labelled_nodes = refl
+
+label_form : document (codes "<graphml><graph><node id=\"X\"><data key=\"Label\">p p</data></node></graph></graphml>") (Some 3) ≡ Err (label_text 29)
+unfolding tokens_after tail_at resolved_after piece_at number_after past_first contents passed read_by label_after pairs_after with_pairs chars is_utf8 utf8_valid_len encode_utf8
+label_form = refl
 
 obs_before_label : document (codes "<graphml><graph><node id=\"X\"><data key=\"Label\">pp</data><data key=\"Obs\">12</data></node></graph></graphml>") (Some 3) ≡ Err (label_text 56)
 unfolding tokens_after tail_at resolved_after piece_at number_after past_first contents passed read_by label_after pairs_after with_pairs chars is_utf8 utf8_valid_len encode_utf8
@@ -212,7 +216,7 @@ long_id : document (codes "<graphml><graph><node id=\"aaaaaaaaaaaaaaaaaaaaaaaaaa
 unfolding tokens_after tail_at resolved_after piece_at number_after past_first contents passed read_by label_after pairs_after with_pairs chars is_utf8 utf8_valid_len encode_utf8
 long_id = refl
 
-long_id_fits : document (codes "<graphml><graph><node id=\"aaaaaaaaaaaaaaaaaaaaaaaaaaaaaaaaaaaaaaaaaaaaaaaaaaaaaaaaaaaaaaaa\"/></graph></graphml>") (Some 3) ≡ Ok (record { deadline = 3; names = (codes "Z" ∷ (codes "aaaaaaaaaaaaaaaaaaaaaaaaaaaaaaaaaaaaaaaaaaaaaaaaaaaaaaaaaaaaaaaa" ∷ [])); observes = (None ∷ (None ∷ [])); constraints = ([]) })
+long_id_fits : document (codes "<graphml><graph><node id=\"aaaaaaaaaaaaaaaaaaaaaaaaaaaaaaaaaaaaaaaaaaaaaaaaaaaaaaaaaaaaaaaa\"/></graph></graphml>") (Some 3) ≡ Ok (record { deadline = 3; names = (codes "Z" ∷ (codes "aaaaaaaaaaaaaaaaaaaaaaaaaaaaaaaaaaaaaaaaaaaaaaaaaaaaaaaaaaaaaaaa" ∷ [])); observes = (None ∷ (None ∷ [])); labels = (empty ∷ (empty ∷ [])); constraints = ([]) })
 unfolding tokens_after tail_at resolved_after piece_at number_after past_first contents passed read_by label_after pairs_after with_pairs chars is_utf8 utf8_valid_len encode_utf8
 long_id_fits = refl
 
@@ -220,7 +224,7 @@ empty_id : document (codes "<graphml><graph><node id=\"\"/></graph></graphml>") 
 unfolding tokens_after tail_at resolved_after piece_at number_after past_first contents passed read_by label_after pairs_after with_pairs chars is_utf8 utf8_valid_len encode_utf8
 empty_id = refl
 
-after_mark : document ((239 ∷ (187 ∷ (191 ∷ []))) ++ codes "<?xml ?><graphml><graph/></graphml>" ++ (10 ∷ []) ++ codes "<!-- x -->") (Some 3) ≡ Ok (record { deadline = 3; names = (codes "Z" ∷ []); observes = (None ∷ []); constraints = ([]) })
+after_mark : document ((239 ∷ (187 ∷ (191 ∷ []))) ++ codes "<?xml ?><graphml><graph/></graphml>" ++ (10 ∷ []) ++ codes "<!-- x -->") (Some 3) ≡ Ok (record { deadline = 3; names = (codes "Z" ∷ []); observes = (None ∷ []); labels = (empty ∷ []); constraints = ([]) })
 unfolding tokens_after tail_at resolved_after piece_at number_after past_first contents passed read_by label_after pairs_after with_pairs chars is_utf8 utf8_valid_len encode_utf8
 after_mark = refl
 
@@ -268,12 +272,12 @@ reference_10 : document (codes "<graphml><graph><node id=\"&&amp;\"/></graph></g
 unfolding tokens_after tail_at resolved_after piece_at number_after past_first contents passed read_by label_after pairs_after with_pairs chars is_utf8 utf8_valid_len encode_utf8
 reference_10 = refl
 
-references : document (codes "<graphml><graph><node id=\"&lt;&gt;&amp;&quot;&apos;&#65;&#x4a;&#00000066;&amp;lt;\"/></graph></graphml>") (Some 3) ≡ Ok (record { deadline = 3; names = (codes "Z" ∷ (codes "<>&\"'AJB&lt;" ∷ [])); observes = (None ∷ (None ∷ [])); constraints = ([]) })
+references : document (codes "<graphml><graph><node id=\"&lt;&gt;&amp;&quot;&apos;&#65;&#x4a;&#00000066;&amp;lt;\"/></graph></graphml>") (Some 3) ≡ Ok (record { deadline = 3; names = (codes "Z" ∷ (codes "<>&\"'AJB&lt;" ∷ [])); observes = (None ∷ (None ∷ [])); labels = (empty ∷ (empty ∷ [])); constraints = ([]) })
 unfolding tokens_after tail_at resolved_after piece_at number_after past_first contents passed read_by label_after pairs_after with_pairs chars is_utf8 utf8_valid_len encode_utf8
 references = refl
 
 -- reactions
-five : document (codes "<graphml><graph><node id=\"Z\"/><node id=\"P\"><data key=\"Obs\">p</data><data key=\"Reaction\"> 5 </data></node></graph></graphml>") (Some 5) ≡ Ok (record { deadline = 5; names = (codes "Z" ∷ (codes "P" ∷ [])); observes = (None ∷ (Some (record { prop = 41; reaction = 5 }) ∷ [])); constraints = [] })
+five : document (codes "<graphml><graph><node id=\"Z\"/><node id=\"P\"><data key=\"Obs\">p</data><data key=\"Reaction\"> 5 </data></node></graph></graphml>") (Some 5) ≡ Ok (record { deadline = 5; names = (codes "Z" ∷ (codes "P" ∷ [])); observes = (None ∷ (Some (record { prop = 41; reaction = 5 }) ∷ [])); labels = (empty ∷ (empty ∷ [])); constraints = [] })
 unfolding tokens_after tail_at resolved_after piece_at number_after past_first contents passed read_by label_after pairs_after with_pairs chars is_utf8 utf8_valid_len encode_utf8
 five = refl
 
@@ -281,7 +285,7 @@ zero_ticks : document (codes "<graphml><graph><node id=\"Z\"/><node id=\"P\"><da
 unfolding tokens_after tail_at resolved_after piece_at number_after past_first contents passed read_by label_after pairs_after with_pairs chars is_utf8 utf8_valid_len encode_utf8
 zero_ticks = refl
 
-thousand : document (codes "<graphml><graph><node id=\"Z\"><data key=\"Reaction\">1000</data><data key=\"Obs\">p</data></node></graph></graphml>") (Some 5) ≡ Ok (record { deadline = 5; names = (codes "Z" ∷ []); observes = (Some (record { prop = 41; reaction = 1000 }) ∷ []); constraints = [] })
+thousand : document (codes "<graphml><graph><node id=\"Z\"><data key=\"Reaction\">1000</data><data key=\"Obs\">p</data></node></graph></graphml>") (Some 5) ≡ Ok (record { deadline = 5; names = (codes "Z" ∷ []); observes = (Some (record { prop = 41; reaction = 1000 }) ∷ []); labels = (empty ∷ []); constraints = [] })
 unfolding tokens_after tail_at resolved_after piece_at number_after past_first contents passed read_by label_after pairs_after with_pairs chars is_utf8 utf8_valid_len encode_utf8
 thousand = refl
 
@@ -293,11 +297,11 @@ five_digits : document (codes "<graphml><graph><node id=\"Z\"><data key=\"Reacti
 unfolding tokens_after tail_at resolved_after piece_at number_after past_first contents passed read_by label_after pairs_after with_pairs chars is_utf8 utf8_valid_len encode_utf8
 five_digits = refl
 
-empty_reaction : document (codes "<graphml><graph><node id=\"Z\"><data key=\"Obs\">p</data><data key=\"Reaction\"/></node></graph></graphml>") (Some 5) ≡ Ok (record { deadline = 5; names = (codes "Z" ∷ []); observes = (Some (record { prop = 41; reaction = 1 }) ∷ []); constraints = [] })
+empty_reaction : document (codes "<graphml><graph><node id=\"Z\"><data key=\"Obs\">p</data><data key=\"Reaction\"/></node></graph></graphml>") (Some 5) ≡ Ok (record { deadline = 5; names = (codes "Z" ∷ []); observes = (Some (record { prop = 41; reaction = 1 }) ∷ []); labels = (empty ∷ []); constraints = [] })
 unfolding tokens_after tail_at resolved_after piece_at number_after past_first contents passed read_by label_after pairs_after with_pairs chars is_utf8 utf8_valid_len encode_utf8
 empty_reaction = refl
 
-unobserved_reaction : document (codes "<graphml><graph><node id=\"Z\"><data key=\"Reaction\">0007</data></node></graph></graphml>") (Some 5) ≡ Ok (record { deadline = 5; names = (codes "Z" ∷ []); observes = (None ∷ []); constraints = [] })
+unobserved_reaction : document (codes "<graphml><graph><node id=\"Z\"><data key=\"Reaction\">0007</data></node></graph></graphml>") (Some 5) ≡ Ok (record { deadline = 5; names = (codes "Z" ∷ []); observes = (None ∷ []); labels = (empty ∷ []); constraints = [] })
 unfolding tokens_after tail_at resolved_after piece_at number_after past_first contents passed read_by label_after pairs_after with_pairs chars is_utf8 utf8_valid_len encode_utf8
 unobserved_reaction = refl
 

@@ -1,9 +1,9 @@
--- A network of a document has an origin, its labels are plain, and its reactions are in range.
+-- A network of a document has an origin, its labels and those of its time-points are plain, and its reactions are in range.
 use Rattle.std.proofs.Common.{◌≡◌, ◌≢◌, ℕ, List, [], ◌∷◌, length, map, ap, subst, arith, inl, inr, Result, Option, Some, None}
 use Rattle.std.specs.Prelude.{option_map}
 use Rattle.std.specs.List.{All}
 use Rattle.std.proofs.lemmas.List.Elements.{All-nil, All-cons, All-head, All-tail}
-use Rattle.cstn_label.specs.Labels.{IsPlain}
+use Rattle.cstn_label.specs.Labels.{Label, IsPlain, empty}
 use Rattle.cstn_label.specs.Read.{marks}
 use Rattle.cstn_net.specs.declared.drafts.Draft.{Draft as LentDraft}
 use Rattle.cstn_net.specs.declared.points.TimePoint.{TimePoint}
@@ -15,19 +15,51 @@ use Rattle.cstn_graphml.specs.declared.drawn_graph.Observation.{Observation as L
 use Rattle.cstn_graphml.specs.declared.drawn_graph.DrawnConstraint.{DrawnConstraint as Lent}
 use Rattle.cstn_graphml.specs.declared.drawn_graph.DrawnGraph.{DrawnGraph as LentGraph}
 use Rattle.cstn_graphml.specs.declared.errors.DocError.{DocError}
-use Rattle.cstn_graphml.specs.declared.errors.DocError.TheVariants.{Net}
+use Rattle.cstn_graphml.specs.declared.errors.DocError.TheVariants.{Net, Lift}
+use Rattle.cstn_lift.specs.declared.errors.LiftError.{LiftError}
+use Rattle.cstn_lift.specs.declared.errors.LiftError.TheVariants.{NotPlain as NotPlainLabel}
+use Rattle.cstn_lift.specs.Labelled.{Labelled}
+use Rattle.cstn_net.specs.Networks.{count}
+use Rattle.cstn_net.specs.Read.{NetworkParts, the_network}
+use Rattle.cstn_graphml.specs.Labels.{labels_seen, with_labels_of}
 use Rattle.cstn_graphml.specs.DrawnGraph.{DrawnConstraint}
 use Rattle.cstn_graphml.specs.DrawnGraphSeen.{observed_seen, drawn_seen, graph_seen}
 use Rattle.cstn_graphml.specs.DrawnGraphLaws.{IsDrawnGraph, IsTimely, IsTimelyOrigin}
 use Rattle.cstn_graphml.specs.Results.{Refusal}
 use Rattle.cstn_graphml.specs.Networks.{builder_of, draft_of, point_of, at_origin}
-use Rattle.cstn_graphml.specs.Answers.{IsTold}
+use Rattle.cstn_graphml.specs.Answers.{IsTold, IsLabelRefusal}
 use Rattle.cstn_graphml.specs.Reads.{Fails}
 use Rattle.cstn_graphml.proofs.Built.{all_points, built_points, built_drafts}
 
 -- what is refused before a network is made is no fault of one
 pub no_net : {B : Type 0} (e : DocError) (told : Result B Refusal) → Fails e told → (error : NetError) (names : List (List ℕ)) → e ≢ Net error names
 no_net e told h error names is = subst (λ x. Fails x told) is h
+
+-- nor of labels
+pub no_lift : {B : Type 0} (e : DocError) (told : Result B Refusal) → Fails e told → (error : LiftError) (names : List (List ℕ)) → e ≢ Lift error names
+no_lift e told h error names is = subst (λ x. Fails x told) is h
+
+pub told_no_lift : (error : NetError) (names others : List (List ℕ)) (e : DocError) (fault : LiftError) → IsTold error names e → e ≢ Lift fault others
+told_no_lift (NoMemory x) names others e fault t is = absurd (cc)
+told_no_lift TooManyNodes names others e fault t is = absurd (cc)
+told_no_lift NoOrigin names others e fault t is = absurd (cc)
+told_no_lift TooManyConstraints names others e fault t is = absurd (cc)
+told_no_lift (DeadlineRange deadline) names others e fault t is = absurd (cc)
+told_no_lift (ValueRange constraint) names others e fault t is = absurd (cc)
+told_no_lift (NotObserved prop) names others e fault t is = absurd (cc)
+told_no_lift (TwoObservers prop first second) names others e fault t is = absurd (cc)
+told_no_lift (NotPlain constraint) names others e fault t is = absurd (cc)
+told_no_lift (ReactionRange node) names others e fault t is = absurd (cc)
+
+-- what is refused for its labels has a network
+pub label_no_net : (m : Labelled) (names : List (List ℕ)) (e : DocError) → IsLabelRefusal m names e → (error : NetError) (others : List (List ℕ)) → e ≢ Net error others
+label_no_net m names e h error others is = subst (IsLabelRefusal m names) is h
+
+-- and plain labels
+pub plain_nodes : (network : NetworkParts) (d : LentGraph) (e : DocError) (node : NodeId) (others : List (List ℕ)) → IsDrawnGraph (graph_seen d) → length (labels_seen d) ≡ count (the_network network) → IsLabelRefusal (with_labels_of network d) d.names e → e ≢ Lift (NotPlainLabel node) others
+plain_nodes network d e node others graph each h is =
+    let first = (subst (IsLabelRefusal (with_labels_of network d) d.names) is h).0.has in
+    first.here (All-cons IsPlain (marks d.origin_label) (map marks d.labels.items) graph.origin_plain graph.plain_labels node.0 empty (omega (arith, first.inside, each)))
 
 plain_drafts : (cs : List Lent) → All (λ (c : DrawnConstraint). IsPlain c.label) (map drawn_seen cs) → All (λ (d : LentDraft). IsPlain (marks d.label)) (map draft_of cs)
 plain_drafts [] h = All-nil (λ (d : LentDraft). IsPlain (marks d.label))

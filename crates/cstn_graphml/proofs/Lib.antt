@@ -13,5 +13,6 @@ pub mod DrawnGraphLaws
 pub mod Built
 pub mod HandedPoints
 pub mod Excluded
+pub mod LabelsRead
 pub mod Refusing
 pub mod TextsRead

@@ -11,7 +11,7 @@ use Rattle.cstn_graphml.specs.Elements.{passed}
 use Rattle.cstn_graphml.specs.Passing.{all_passed, around_all, Passes}
 use Rattle.cstn_graphml.specs.Reads.{Reads, Fails}
 use Rattle.cstn_graphml.specs.declared.errors.DocError.{DocError}
-use Rattle.cstn_graphml.specs.declared.errors.DocError.TheVariants.{NotUtf8, Shape, NameTwice, UnknownNode, Value, LabelText, Contingent, EdgeType, NoDeadline, Net, NodeLabel, Memory}
+use Rattle.cstn_graphml.specs.declared.errors.DocError.TheVariants.{NotUtf8, Shape, NameTwice, UnknownNode, Value, LabelText, Contingent, EdgeType, NoDeadline, Net, Lift, Memory}
 use Rattle.cstn_graphml.proofs.Places.{run_is, closed_is, open_is, ended_is, misnamed_is, unfinished_is}
 
 then_nothing : (r : Result (Unit {0}) Refusal) → r ≡ (r >>= λ done_inside. Ok tt)
@@ -104,5 +104,5 @@ fails_through (Contingent at) told f h = rw h refl
 fails_through (EdgeType at) told f h = rw h refl
 fails_through NoDeadline told f h = rw h refl
 fails_through (Net error names) told f h = absurd h
-fails_through (NodeLabel at) told f h = rw h refl
+fails_through (Lift error names) told f h = absurd h
 fails_through (Memory e) told f h = tt

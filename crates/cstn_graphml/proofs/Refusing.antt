@@ -1,6 +1,7 @@
 -- What a document is told to be.
-use Rattle.std.proofs.Common.{◌≡◌, ℕ, List, refl, ap, sym, ◌∙◌, subst, arith, Option, Some, None, Result, Ok, Err, inl, inr}
+use Rattle.std.proofs.Common.{◌≡◌, ℕ, List, ◌∷◌, length, refl, ap, sym, ◌∙◌, subst, arith, Option, Some, None, Result, Ok, Err, inl, inr}
 use Rattle.std.proofs.lemmas.Bool.{false_from_ne_true}
+use Rattle.std.specs.Prelude.{IfOk, IfErr}
 use Rattle.std.specs.Str.{IsUtf8, is_utf8}
 use Rattle.std.specs.Str.Lossy.{utf8_valid_len}
 use Rattle.std.proofs.lemmas.Str.{IsUtf8-from_is_utf8, is_utf8-from_IsUtf8}
@@ -8,19 +9,26 @@ use Rattle.cstn_markup.specs.Tokens.{tokens}
 use Rattle.cstn_net.specs.declared.errors.NetError.{NetError}
 use Rattle.cstn_net.specs.declared.errors.NetError.TheVariants.{TooManyNodes, NoOrigin, TooManyConstraints, DeadlineRange, ValueRange, NotObserved, TwoObservers, NotPlain, ReactionRange, Memory as NoMemory}
 use Rattle.cstn_net.specs.Drafts.{BuilderParts, IsRefusal, IsLowestFault, number}
-use Rattle.cstn_net.specs.Read.{NetworkParts}
+use Rattle.cstn_net.specs.Networks.{Network, IsWellFormed, count}
+use Rattle.cstn_net.specs.Read.{NetworkParts, the_network}
+use Rattle.cstn_lift.specs.declared.errors.LiftError.{LiftError}
+use Rattle.cstn_lift.specs.Labelled.{Labelled}
+use Rattle.cstn_lift.specs.Faults.{HasFault, IsLowestFault as IsLowestLabelFault}
+use Rattle.cstn_lift.specs.Read.{LabelledParts, the_labelled}
 use Rattle.cstn_graphml.specs.Results.{Refusal, ◌>>=◌, or_refused, demand}
 use Rattle.cstn_graphml.specs.Results.Refusal.{not_utf8, no_deadline}
 use Rattle.cstn_graphml.specs.Contents.{content_of}
+use Rattle.cstn_graphml.specs.DrawnGraph.{origin_name}
 use Rattle.cstn_graphml.specs.DrawnGraphSeen.{graph_seen}
 use Rattle.cstn_graphml.specs.DrawnGraphLaws.{IsDrawnGraph}
 use Rattle.cstn_graphml.specs.Document.{Parts, document, in_document, parts_of, first_of_two}
-use Rattle.cstn_graphml.specs.Networks.{IsBuilt, builder_of}
-use Rattle.cstn_graphml.specs.Answers.{IsDocument, IsUnfitDocument, IsRefused, IsTold}
+use Rattle.cstn_graphml.specs.Networks.{IsBuilt, builder_of, labelled_of}
+use Rattle.cstn_graphml.specs.Labels.{labels_seen, with_labels_of}
+use Rattle.cstn_graphml.specs.Answers.{IsDocument, IsUnfitDocument, IsRefused, IsTold, IsLabelRefusal}
 use Rattle.cstn_graphml.specs.Reads.{Fails}
 use Rattle.cstn_graphml.specs.declared.drawn_graph.DrawnGraph.{DrawnGraph as LentGraph}
 use Rattle.cstn_graphml.specs.declared.errors.DocError.{DocError}
-use Rattle.cstn_graphml.specs.declared.errors.DocError.TheVariants.{NotUtf8, Shape, NameTwice, UnknownNode, Value, LabelText, Contingent, EdgeType, NoDeadline, Net, NodeLabel, Memory}
+use Rattle.cstn_graphml.specs.declared.errors.DocError.TheVariants.{NotUtf8, Shape, NameTwice, UnknownNode, Value, LabelText, Contingent, EdgeType, NoDeadline, Net, Lift, Memory}
 use Rattle.cstn_graphml.proofs.PassedOver.{fails_through}
 use Rattle.cstn_graphml.proofs.Built.{parts_with, has_parts, made_network}
 use Rattle.cstn_graphml.proofs.DrawnGraphLaws.{document_is_drawn}
@@ -49,7 +57,7 @@ refused_by (Contingent at) told h = h
 refused_by (EdgeType at) told h = h
 refused_by NoDeadline told h = h
 refused_by (Net error names) told h = absurd h
-refused_by (NodeLabel at) told h = h
+refused_by (Lift error names) told h = absurd h
 refused_by (Memory e) told h = tt
 
 -- refused by its tokens and elements
@@ -68,8 +76,67 @@ pub read_is_drawn : (bytes : List ℕ) (d : LentGraph) → in_document (content_
 read_is_drawn bytes d h = document_is_drawn (content_of (tokens bytes)) (graph_seen d) h
 
 -- its network was made
-pub made_document : (told : Result Parts Refusal) (n : ℕ) (d : LentGraph) (network : NetworkParts) (names : List (List ℕ)) → told ≡ Ok (parts_with n d) → IsBuilt (builder_of n d) network → names ≡ d.names → IsDocument told network names
-made_document told n d network names e h s = record { parts = parts_with n d; told_are = e; network_is = made_network n d network h; names_are = s }
+module _ (told : Result Parts Refusal) (n : ℕ) (d : LentGraph) (network : NetworkParts) (is : told ≡ Ok (parts_with n d)) (built : IsBuilt (builder_of n d) network) (good : IsWellFormed (the_network network)) where
+  labels_made : with_labels_of network d ≡ labelled_of (parts_with n d)
+  labels_made = ap (λ (net : Network). record { base = net; labels = labels_seen d }) (made_network n d network built)
+
+  well_made : IsWellFormed (the_network network) → IsWellFormed (labelled_of (parts_with n d)).base
+  well_made = subst IsWellFormed (made_network n d network built)
+
+  -- and its labels have no fault
+  pub made_document : (labelled : LabelledParts) (names : List (List ℕ)) → the_labelled labelled ≡ with_labels_of network d → names ≡ d.names → ((error : LiftError) → HasFault (with_labels_of network d) error → ⊥) → IsDocument told labelled names
+  made_document labelled names same named none = record {
+    parts = parts_with n d;
+    told_are = is;
+    fit = record { well_formed = well_made good; faultless = λ error fault. none error (subst (λ (m : Labelled). HasFault m error) (sym labels_made) fault) };
+    labelled_is = same ∙ labels_made;
+    names_are = named;
+  }
+
+  pub all_made : (r : Result (LabelledParts × List (List ℕ)) DocError) → IfOk r (λ x. the_labelled x.0 ≡ with_labels_of network d) → IfOk r (λ x. x.1 ≡ d.names) → IfOk r (λ x. (error : LiftError) → HasFault (with_labels_of network d) error → ⊥) → IfOk r (λ x. IsDocument told x.0 x.1)
+  all_made (Ok x) same named none = made_document x.0 x.1 same named none
+  all_made (Err e) same named none = tt
+
+  -- and its labels were refused
+  pub mislabelled_is_refused : (e : DocError) → IsLabelRefusal (with_labels_of network d) d.names e → IsRefused told e
+  mislabelled_is_refused (Lift error names) h = record {
+    parts = parts_with n d;
+    told_are = is;
+    mislabelled = record { well_formed = well_made good; fault = subst (λ (m : Labelled). IsLowestLabelFault m error) labels_made h.0 };
+    names_are = h.1;
+  }
+  mislabelled_is_refused (Memory e) h = tt
+  mislabelled_is_refused (NotUtf8 at) h = absurd h
+  mislabelled_is_refused (Shape at) h = absurd h
+  mislabelled_is_refused (NameTwice at) h = absurd h
+  mislabelled_is_refused (UnknownNode at) h = absurd h
+  mislabelled_is_refused (Value at) h = absurd h
+  mislabelled_is_refused (LabelText at) h = absurd h
+  mislabelled_is_refused (Contingent at) h = absurd h
+  mislabelled_is_refused (EdgeType at) h = absurd h
+  mislabelled_is_refused NoDeadline h = absurd h
+  mislabelled_is_refused (Net error names) h = absurd h
+
+-- what follows of an error, of any error
+pub each_error : {A E : Type 0} (P Q : E → Type 0) (r : Result A E) → ((e : E) → P e → Q e) → IfErr r P → IfErr r Q
+each_error P Q (Ok x) h p = tt
+each_error P Q (Err e) h p = h e p
+
+-- what was read with labels has the network and the names of the graph
+well_labelled_by : (network : NetworkParts) (d : LentGraph) (l : LabelledParts) → IsWellFormed (the_network network) → the_labelled l ≡ with_labels_of network d → IsWellFormed (the_network l.base)
+well_labelled_by network d l good same = subst IsWellFormed (sym (ap (λ (m : Labelled). m.base) same)) good
+
+pub well_labelled : (network : NetworkParts) (d : LentGraph) → IsWellFormed (the_network network) → (r : Result (LabelledParts × List (List ℕ)) DocError) → IfOk r (λ x. the_labelled x.0 ≡ with_labels_of network d) → IfOk r (λ x. IsWellFormed (the_network x.0.base))
+well_labelled network d good (Ok x) same = well_labelled_by network d x.0 good same
+well_labelled network d good (Err e) same = tt
+
+pub one_name_each : (network : NetworkParts) (d : LentGraph) → length d.names ≡ count (the_network network) → (r : Result (LabelledParts × List (List ℕ)) DocError) → IfOk r (λ x. the_labelled x.0 ≡ with_labels_of network d) → IfOk r (λ x. x.1 ≡ d.names) → IfOk r (λ x. length x.1 ≡ count (the_network x.0.base))
+one_name_each network d each (Ok x) same named = ap length named ∙ each ∙ sym (ap (λ (m : Labelled). count m.base) same)
+one_name_each network d each (Err e) same named = tt
+
+pub origin_first : (d : LentGraph) → IsDrawnGraph (graph_seen d) → (r : Result (LabelledParts × List (List ℕ)) DocError) → IfOk r (λ x. x.1 ≡ d.names) → IfOk r (λ x. (later : List (List ℕ)) × (x.1 ≡ origin_name ∷ later))
+origin_first d h (Ok x) named = (h.later, named ∙ h.first)
+origin_first d h (Err e) named = tt
 
 lowest_of : (b : BuilderParts) (e : NetError) → IsRefusal b e → (number e ≡ 0 → ⊥) → IsLowestFault b e
 lowest_of b e (inl z) h = absurd (h z)

@@ -2,19 +2,24 @@
 use Rattle.std.specs.Prelude.{◌≡◌, ℕ, List, Result, Ok}
 use Rattle.cstn_net.specs.declared.errors.NetError.{NetError}
 use Rattle.cstn_net.specs.declared.errors.NetError.TheVariants.{TooManyNodes, NoOrigin, TooManyConstraints, DeadlineRange, ValueRange, NotObserved, TwoObservers, NotPlain, ReactionRange, Memory as NoMemory}
-use Rattle.cstn_net.specs.Read.{NetworkParts, the_network}
+use Rattle.cstn_lift.specs.declared.errors.LiftError.{LiftError}
+use Rattle.cstn_lift.specs.declared.errors.LiftError.TheVariants.{OriginLabel, NotPlain as NotPlainLabel, NotObserved as NotObservedLabel, Circle, Never, TooManyConstraints as TooManyLowered, Memory as NoLiftMemory}
+use Rattle.cstn_lift.specs.Labelled.{Labelled}
+use Rattle.cstn_lift.specs.Faults.{IsLowestFault}
+use Rattle.cstn_lift.specs.Read.{LabelledParts, the_labelled}
 use Rattle.cstn_graphml.specs.declared.errors.DocError.{DocError}
-use Rattle.cstn_graphml.specs.declared.errors.DocError.TheVariants.{NotUtf8, Shape, NameTwice, UnknownNode, Value, LabelText, Contingent, EdgeType, NoDeadline, Net, NodeLabel, Memory}
+use Rattle.cstn_graphml.specs.declared.errors.DocError.TheVariants.{NotUtf8, Shape, NameTwice, UnknownNode, Value, LabelText, Contingent, EdgeType, NoDeadline, Net, Lift, Memory}
 use Rattle.cstn_graphml.specs.Results.{Refusal}
 use Rattle.cstn_graphml.specs.Document.{Parts}
-use Rattle.cstn_graphml.specs.Networks.{network_of, IsUnfit}
+use Rattle.cstn_graphml.specs.Networks.{labelled_of, IsUnfit, IsMislabelled, IsFit}
 use Rattle.cstn_graphml.specs.Reads.{Fails}
 
--- the document has these parts: this is their network, and these are the names of its time-points
-pub record IsDocument (told : Result Parts Refusal) (network : NetworkParts) (names : List (List ℕ)) : Type 0 where
+-- the document has these parts: this is their labelled network, and these are the names of its time-points
+pub record IsDocument (told : Result Parts Refusal) (labelled : LabelledParts) (names : List (List ℕ)) : Type 0 where
   pub parts : Parts
   pub told_are : told ≡ Ok parts
-  pub network_is : the_network network ≡ network_of parts
+  pub fit : IsFit parts
+  pub labelled_is : the_labelled labelled ≡ labelled_of parts
   pub names_are : names ≡ parts.names
 
 -- the document has these parts, but they make no network
@@ -24,7 +29,14 @@ pub record IsUnfitDocument (told : Result Parts Refusal) (error : NetError) (nam
   pub unfit : IsUnfit parts error
   pub names_are : names ≡ parts.names
 
--- the document is refused by the grammar or by the network, with exactly this refusal; want of memory may come at any point
+-- the document has these parts, and they make a network, but no labelled one
+pub record IsMislabelledDocument (told : Result Parts Refusal) (error : LiftError) (names : List (List ℕ)) : Type 0 where
+  pub parts : Parts
+  pub told_are : told ≡ Ok parts
+  pub mislabelled : IsMislabelled parts error
+  pub names_are : names ≡ parts.names
+
+-- the document is refused by the grammar, by the network or by its labels, with exactly this refusal; want of memory may come at any point
 abbrev pub IsRefused : Result Parts Refusal → DocError → Type 0
 IsRefused told (Net error names) = IsUnfitDocument told error names
 IsRefused told (NotUtf8 at) = Fails (NotUtf8 at) told
@@ -36,7 +48,7 @@ IsRefused told (LabelText at) = Fails (LabelText at) told
 IsRefused told (Contingent at) = Fails (Contingent at) told
 IsRefused told (EdgeType at) = Fails (EdgeType at) told
 IsRefused told NoDeadline = Fails NoDeadline told
-IsRefused told (NodeLabel at) = Fails (NodeLabel at) told
+IsRefused told (Lift error names) = IsMislabelledDocument told error names
 IsRefused told (Memory e) = Unit {0}
 
 -- how a refused builder is told
@@ -51,3 +63,19 @@ IsTold (NotObserved prop) names error = error ≡ Net (NotObserved prop) names
 IsTold (TwoObservers prop first second) names error = error ≡ Net (TwoObservers prop first second) names
 IsTold (NotPlain constraint) names error = error ≡ Net (NotPlain constraint) names
 IsTold (ReactionRange node) names error = error ≡ Net (ReactionRange node) names
+
+-- how refused labels are told: by their lowest fault
+abbrev pub IsLabelRefusal : Labelled → List (List ℕ) → DocError → Type 0
+IsLabelRefusal m names (Lift error others) = IsLowestFault m error × (others ≡ names)
+IsLabelRefusal m names (Memory e) = Unit {0}
+IsLabelRefusal m names error = ⊥
+
+-- how a refusal of labels is told
+abbrev pub IsLiftTold : LiftError → List (List ℕ) → DocError → Type 0
+IsLiftTold (NoLiftMemory e) names error = error ≡ Memory e
+IsLiftTold OriginLabel names error = error ≡ Lift OriginLabel names
+IsLiftTold (NotPlainLabel node) names error = error ≡ Lift (NotPlainLabel node) names
+IsLiftTold (NotObservedLabel node prop) names error = error ≡ Lift (NotObservedLabel node prop) names
+IsLiftTold (Circle node) names error = error ≡ Lift (Circle node) names
+IsLiftTold (Never node) names error = error ≡ Lift (Never node) names
+IsLiftTold TooManyLowered names error = error ≡ Lift TooManyLowered names

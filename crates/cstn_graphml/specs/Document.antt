@@ -1,8 +1,9 @@
--- What a document means: its network with names, or the first refusal.
+-- What a document means: its labelled network with names, or the first refusal.
 use Rattle.std.specs.Prelude.{ℕ, Bool, true, false, List, [], ◌∷◌, Option, Some, None, Result, Ok, Err, if◌then◌else◌, codes}
 use Rattle.std.specs.List.{list_any}
 use Rattle.std.specs.Str.{is_utf8}
 use Rattle.std.specs.Str.Lossy.{utf8_valid_len}
+use Rattle.cstn_label.specs.Labels.{Label}
 use Rattle.cstn_markup.specs.Bytes.{is_same}
 use Rattle.cstn_markup.specs.Tokens.{tokens}
 use Rattle.cstn_graphml.specs.Results.{Refusal, ◌>>=◌, or_refused, demand}
@@ -75,11 +76,12 @@ document_reading = record {
 abbrev pub in_document : Content → Result DrawnGraph Refusal
 in_document whole = read_by document_reading None whole
 
--- the network of a document: names and what is observed by number, and the constraints by id
+-- the labelled network of a document: names, what is observed and labels by number, and the constraints by id
 pub record Parts : Type 0 where
   pub deadline : ℕ
   pub names : List (List ℕ)
   pub observes : List (Option Observation)
+  pub labels : List Label
   pub constraints : List DrawnConstraint
 
 -- the deadline handed in, else the document's
@@ -94,7 +96,7 @@ or_nothing None = None
 
 abbrev pub parts_of : Option ℕ → DrawnGraph → Result Parts Refusal
 parts_of word graph = or_refused (first_of_two word graph.deadline) no_deadline >>= λ deadline.
-    Ok (record { deadline = deadline; names = graph.names; observes = or_nothing graph.origin ∷ graph.observes; constraints = graph.constraints })
+    Ok (record { deadline = deadline; names = graph.names; observes = or_nothing graph.origin ∷ graph.observes; labels = graph.origin_label ∷ graph.labels; constraints = graph.constraints })
 
 -- the bytes are UTF-8, or refused at the first byte of the first wrong sequence
 abbrev pub is_text : List ℕ → Result (Unit {0}) Refusal

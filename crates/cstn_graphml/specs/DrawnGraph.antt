@@ -1,6 +1,6 @@
 -- What was read of a graph so far.
 use Rattle.std.specs.Prelude.{ℕ, List, [], ◌∷◌, ◌++◌, Option, Some, None, is_some, if◌then◌else◌, codes, ℤ}
-use Rattle.cstn_label.specs.Labels.{Label}
+use Rattle.cstn_label.specs.Labels.{Label, empty}
 use Rattle.cstn_markup.specs.Bytes.{is_same, when}
 use Rattle.cstn_text.specs.Names.{number_of}
 use Rattle.cstn_graphml.specs.Elements.{Datum}
@@ -22,31 +22,33 @@ pub record DrawnConstraint : Type 0 where
   pub most : ℤ
   pub label : Label
 
--- What was read so far: the graph's own data, what the origin observes, once its node was read, the names of the
--- time-points, of which the origin's stands first, and what those after the origin observe.
+-- What was read so far: the graph's own data, what the origin observes, once its node was read, and its label, the names of
+-- the time-points, of which the origin's stands first, and what those after the origin observe, and their labels.
 pub record DrawnGraph : Type 0 where
   pub own : List Datum
   pub deadline : Option ℕ
   pub origin : Option (Option Observation)
+  pub origin_label : Label
   pub names : List (List ℕ)
   pub observes : List (Option Observation)
+  pub labels : List Label
   pub constraints : List DrawnConstraint
 
 abbrev pub origin_name : List ℕ
 origin_name = codes "Z"
 
 abbrev pub empty_graph : DrawnGraph
-empty_graph = record { own = []; deadline = None; origin = None; names = origin_name ∷ []; observes = []; constraints = [] }
+empty_graph = record { own = []; deadline = None; origin = None; origin_label = empty; names = origin_name ∷ []; observes = []; labels = []; constraints = [] }
 
 -- the number of the node of a name, where it was read
 abbrev pub node_of : List ℕ → DrawnGraph → Option ℕ
 node_of name graph = if is_same name origin_name then when (is_some graph.origin) 0 else number_of graph.names name
 
--- the graph with a node more, and what it observes
-abbrev pub with_node : List ℕ → Option Observation → DrawnGraph → DrawnGraph
-with_node name observed graph = if is_same name origin_name
-    then record graph { origin = Some observed }
-    else record graph { names = graph.names ++ (name ∷ []); observes = graph.observes ++ (observed ∷ []) }
+-- the graph with a node more, what it observes, and its label
+abbrev pub with_node : List ℕ → Option Observation → Label → DrawnGraph → DrawnGraph
+with_node name observed label graph = if is_same name origin_name
+    then record graph { origin = Some observed; origin_label = label }
+    else record graph { names = graph.names ++ (name ∷ []); observes = graph.observes ++ (observed ∷ []); labels = graph.labels ++ (label ∷ []) }
 
 abbrev pub with_constraint : DrawnConstraint → DrawnGraph → DrawnGraph
 with_constraint c graph = record graph { constraints = graph.constraints ++ (c ∷ []) }

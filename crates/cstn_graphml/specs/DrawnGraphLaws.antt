@@ -19,13 +19,16 @@ abbrev pub IsTimelyOrigin : Option (Option Observation) → Type 0
 IsTimelyOrigin (Some observed) = IsTimely observed
 IsTimelyOrigin None = Unit {0}
 
--- the origin's name stands first, each name after it has its observation, and each constraint is between two time-points
--- and has a plain label; reactions are in range
+-- the origin's name stands first, each name after it has its observation and its label, and each constraint is between two
+-- time-points; labels are plain, and reactions are in range
 pub record IsDrawnGraph (d : DrawnGraph) : Type 0 where
   pub later : List (List ℕ)
   pub first : d.names ≡ origin_name ∷ later
   pub each : length d.names ≡ length d.observes + 1
+  pub labelled : length d.names ≡ length d.labels + 1
   pub among : All (IsDrawnAmong (length d.names)) d.constraints
   pub origin_timely : IsTimelyOrigin d.origin
   pub timely : All IsTimely d.observes
   pub plain : All (λ c. IsPlain c.label) d.constraints
+  pub origin_plain : IsPlain d.origin_label
+  pub plain_labels : All IsPlain d.labels

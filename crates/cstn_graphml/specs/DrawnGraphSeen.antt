@@ -18,7 +18,9 @@ graph_seen d = record {
   own = map datum_seen d.own.items;
   deadline = d.deadline;
   origin = option_map observed_seen d.origin;
+  origin_label = marks d.origin_label;
   names = d.names;
   observes = map observed_seen d.observes.items;
+  labels = map marks d.labels.items;
   constraints = map drawn_seen d.constraints.items;
 }

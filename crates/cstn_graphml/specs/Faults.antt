@@ -1,9 +1,9 @@
 -- What is found to be wrong without taking memory, as a refusal.
 use Rattle.std.specs.Prelude.{ℕ}
 use Rattle.cstn_graphml.specs.declared.errors.DocError.{DocError}
-use Rattle.cstn_graphml.specs.declared.errors.DocError.TheVariants.{Shape, Value, LabelText, Contingent, EdgeType, NodeLabel}
+use Rattle.cstn_graphml.specs.declared.errors.DocError.TheVariants.{Shape, Value, LabelText, Contingent, EdgeType}
 use Rattle.cstn_graphml.specs.declared.errors.Fault.{Fault}
-use Rattle.cstn_graphml.specs.declared.errors.Fault.TheVariants.{Shape as ShapeFault, Value as ValueFault, LabelText as LabelTextFault, Contingent as ContingentFault, EdgeType as EdgeTypeFault, NodeLabel as NodeLabelFault}
+use Rattle.cstn_graphml.specs.declared.errors.Fault.TheVariants.{Shape as ShapeFault, Value as ValueFault, LabelText as LabelTextFault, Contingent as ContingentFault, EdgeType as EdgeTypeFault}
 
 abbrev pub refusal_of : Fault → DocError
 refusal_of (ShapeFault at) = Shape at
@@ -11,4 +11,3 @@ refusal_of (ValueFault at) = Value at
 refusal_of (LabelTextFault at) = LabelText at
 refusal_of (ContingentFault at) = Contingent at
 refusal_of (EdgeTypeFault at) = EdgeType at
-refusal_of (NodeLabelFault at) = NodeLabel at

@@ -1,13 +1,14 @@
 -- Nodes, edges and deadlines, judged when they end.
 use Rattle.std.specs.Prelude.{ℕ, ◌&&◌, not, Bool, true, false, nat_lt, nat_le, List, [], ◌∷◌, length, Option, Some, None, is_some, Result, Ok, Err, codes}
+use Rattle.cstn_label.specs.Labels.{Label, empty}
 use Rattle.cstn_graphml.specs.Results.{Refusal, ◌>>=◌, or_refused, demand}
-use Rattle.cstn_graphml.specs.Results.Refusal.{shape, name_twice, unknown_node, bad_value, label_text, contingent, edge_type, node_label}
+use Rattle.cstn_graphml.specs.Results.Refusal.{shape, name_twice, unknown_node, bad_value, label_text, contingent, edge_type}
 use Rattle.cstn_data.specs.NumberTexts.{deadline_of, reaction_in}
 use Rattle.cstn_data.specs.EdgeTypes.{edge_type_of}
 use Rattle.cstn_data.specs.declared.edge_types.EdgeType.{EdgeType}
 use Rattle.cstn_data.specs.declared.edge_types.EdgeType.TheVariants.{Kept, PassedOver, Contingent}
 use Rattle.cstn_data.specs.ObservedLetters.{observed_in}
-use Rattle.cstn_data.specs.LabelTexts.{is_of_empty, label_of}
+use Rattle.cstn_data.specs.LabelTexts.{label_of}
 use Rattle.cstn_data.specs.ValueTexts.{Pair, values_of}
 use Rattle.cstn_graphml.specs.Contents.{Tag}
 use Rattle.cstn_graphml.specs.Elements.{attribute, Datum, datum_of}
@@ -23,10 +24,10 @@ abbrev pub reacting : Option Datum → Result ℕ Refusal
 reacting None = Ok 1
 reacting (Some d) = or_refused (reaction_in d.value) (bad_value d.at)
 
--- a node has no label but the empty one
-abbrev pub unlabelled : Option Datum → Result (Unit {0}) Refusal
-unlabelled None = Ok tt
-unlabelled (Some d) = or_refused (label_of d.value) (label_text d.at) >>= λ label. demand (is_of_empty d.value) (node_label d.at)
+-- the label of a node, and the empty one where none is written
+abbrev pub labelled : Option Datum → Result Label Refusal
+labelled None = Ok empty
+labelled (Some d) = or_refused (label_of d.value) (label_text d.at)
 
 -- a node is judged when it ends
 abbrev pub judged_node : Tag → DrawnGraph → List Datum → Result DrawnGraph Refusal
@@ -36,8 +37,8 @@ judged_node tag graph found =
     demand (not (is_some (node_of id graph))) (name_twice tag.at) >>= λ fresh.
     observed (datum_of (codes "Obs") found) >>= λ prop.
     reacting (datum_of (codes "Reaction") found) >>= λ ticks.
-    unlabelled (datum_of (codes "Label") found) >>= λ same.
-    Ok (with_node id (observation prop ticks) graph)
+    labelled (datum_of (codes "Label") found) >>= λ label.
+    Ok (with_node id (observation prop ticks) label graph)
 
 -- whether an edge of this type, named at this place, is kept
 abbrev pub is_kept_as : ℕ → EdgeType → Result Bool Refusal

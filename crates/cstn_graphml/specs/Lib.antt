@@ -8,6 +8,7 @@ pub mod DrawnGraphLaws
 pub mod Judged
 pub mod Document
 pub mod Networks
+pub mod Labels
 pub mod Faults
 pub mod Reads
 pub mod Children

@@ -1,12 +1,15 @@
--- The network of a document, and what a builder is handed for it.
+-- The labelled network of a document, and what a builder is handed for its network.
 use Rattle.std.specs.Prelude.{◌≡◌, ℕ, ◌+◌, ◌==◌, List, [], ◌∷◌, ◌++◌, map, Option, Some, None, option_map, if◌then◌else◌}
 use Rattle.cstn_net.specs.declared.points.TimePoint.{TimePoint}
 use Rattle.cstn_net.specs.declared.drafts.Draft.{Draft as LentDraft}
 use Rattle.cstn_net.specs.declared.errors.NetError.{NetError}
-use Rattle.cstn_net.specs.Networks.{Constraint, Network}
+use Rattle.cstn_net.specs.Networks.{Constraint, Network, IsWellFormed}
 use Rattle.cstn_net.specs.Drafts.{BuilderParts, constraints_from, IsLowestFault}
 use Rattle.cstn_net.specs.Read.{NetworkParts, observed}
 use Rattle.cstn_label.specs.Read.{marks}
+use Rattle.cstn_lift.specs.declared.errors.LiftError.{LiftError}
+use Rattle.cstn_lift.specs.Labelled.{Labelled}
+use Rattle.cstn_lift.specs.Faults.{HasFault, IsLowestFault as IsLowestLabelFault}
 use Rattle.cstn_graphml.specs.declared.drawn_graph.DrawnConstraint.{DrawnConstraint as Lent}
 use Rattle.cstn_graphml.specs.declared.drawn_graph.Observation.{Observation as LentObservation}
 use Rattle.cstn_graphml.specs.declared.drawn_graph.DrawnGraph.{DrawnGraph as LentGraph}
@@ -39,6 +42,10 @@ network_of parts = record {
   reaction = reaction_among parts.observes;
   constraints = numbered 0 parts.constraints;
 }
+
+-- and with the labels of its time-points
+abbrev pub labelled_of : Parts → Labelled
+labelled_of parts = record { base = network_of parts; labels = parts.labels }
 
 abbrev pub point_of : Option LentObservation → TimePoint
 point_of (Some o) = record { observes = Some o.prop; reaction = o.reaction }
@@ -84,6 +91,16 @@ pub record IsUnfit (parts : Parts) (error : NetError) : Type 0 where
   pub builder : BuilderParts
   pub parts_are : HasParts builder parts
   pub fault : IsLowestFault builder error
+
+-- the parts make a network, but no labelled one, for this lowest fault of the labels
+pub record IsMislabelled (parts : Parts) (error : LiftError) : Type 0 where
+  pub well_formed : IsWellFormed (network_of parts)
+  pub fault : IsLowestLabelFault (labelled_of parts) error
+
+-- the parts make a labelled network
+pub record IsFit (parts : Parts) : Type 0 where
+  pub well_formed : IsWellFormed (network_of parts)
+  pub faultless : (error : LiftError) → HasFault (labelled_of parts) error → ⊥
 
 -- a network was made of a builder
 pub record IsBuilt (b : BuilderParts) (n : NetworkParts) : Type 0 where

@@ -1,6 +1,7 @@
 //! What was read of a graph so far.
 
 ghost use Rattle.std.specs.Prelude.{◌≡◌, ◌<◌, ◌≤◌, None, length, IfOk, OnOk};
+ghost use Rattle.cstn_label.specs.Read.{marks};
 ghost use Rattle.cstn_graphml.specs.DrawnGraph.{node_of, with_node, with_constraint, with_deadline, empty_graph};
 ghost use Rattle.cstn_graphml.specs.DataElementSeen.{datum_seen};
 ghost use Rattle.cstn_graphml.specs.DrawnGraphSeen.{observed_seen, drawn_seen, graph_seen};
@@ -26,15 +27,17 @@ pub struct DrawnConstraint {
     pub label: Label,
 }
 
-/// What was read of a graph so far: its own data, what the origin observes, once its node was read, the names of the
-/// time-points, of which the origin's stands first, and what those after the origin observe.
+/// What was read of a graph so far: its own data, what the origin observes, once its node was read, and its label, the
+/// names of the time-points, of which the origin's stands first, and what those after the origin observe, and their labels.
 #[derive(Drop)]
 pub struct DrawnGraph {
     pub own: Vec<Datum>,
     pub deadline: Option<u32>,
     pub origin: Option<Option<Observation>>,
+    pub origin_label: Label,
     pub names: Names,
     pub observes: Vec<Option<Observation>>,
+    pub labels: Vec<Label>,
     pub constraints: Vec<DrawnConstraint>,
 }
 
@@ -50,8 +53,10 @@ pub fn empty_graph(alloc: Global) -> Result<DrawnGraph, AllocError>
         own: Vec::new(alloc),
         deadline: None,
         origin: None,
+        origin_label: Label::empty(),
         names,
         observes: Vec::new(alloc),
+        labels: Vec::new(alloc),
         constraints: Vec::new(alloc),
     })
 }
@@ -74,13 +79,15 @@ pub fn put_node(
     graph: &mut DrawnGraph,
     name: &str,
     observed: Option<Observation>,
+    label: Label,
 ) -> Result<(), AllocError>
     requires fresh { node_of name.now (graph_seen graph.old) ≡ None }
     requires sized { (0 < length name.now) × (length name.now ≤ 64) }
-    ensures { OnOk result (graph_seen graph.new ≡ with_node name.now (observed_seen observed) (graph_seen graph.old)) }
+    ensures { OnOk result (graph_seen graph.new ≡ with_node name.now (observed_seen observed) (marks label) (graph_seen graph.old)) }
 {
     if name == "Z" {
         graph.origin = Some(observed);
+        graph.origin_label = label;
         return Ok(());
     }
     if graph.names.count() == u32::MAX {
@@ -89,6 +96,7 @@ pub fn put_node(
     match graph.names.push(name) {
         Ok(_) => {
             graph.observes.push(observed)?;
+            graph.labels.push(label)?;
             Ok(())
         }
         Err(NameError::Memory(e)) => Err(e),

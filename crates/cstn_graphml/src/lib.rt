@@ -11,6 +11,7 @@ mod drawn_graph;
 mod edges;
 mod errors;
 mod graph;
+mod labels;
 mod networks;
 mod node_and_edge_data;
 mod nodes;

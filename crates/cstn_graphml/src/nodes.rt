@@ -1,7 +1,8 @@
 //! Nodes, judged when they end.
 
 ghost use Rattle.std.specs.Prelude.{◌≡◌, map, option_map};
-ghost use Rattle.cstn_graphml.specs.Judged.{observed, reacting, unlabelled, judged_node};
+ghost use Rattle.cstn_label.specs.Read.{marks};
+ghost use Rattle.cstn_graphml.specs.Judged.{observed, reacting, labelled, judged_node};
 ghost use Rattle.cstn_graphml.specs.Children.{tag_seen};
 ghost use Rattle.cstn_graphml.specs.DataElementSeen.{lent_datum, datum_seen};
 ghost use Rattle.cstn_data.specs.TextsSeen.{prop_seen};
@@ -14,8 +15,8 @@ use crate::children::Start;
 use crate::data_element::{Datum, datum_of};
 use crate::drawn_graph::{DrawnGraph, Observation, node_of, put_node};
 use crate::errors::{DocError, Fault};
-use cstn_data::{is_of_empty, label_of, observed_in, reaction_in};
-use cstn_label::Prop;
+use cstn_data::{label_of, observed_in, reaction_in};
+use cstn_label::{Label, Prop};
 use std::alloc::Global;
 
 /// What a node observes.
@@ -54,20 +55,17 @@ fn observation(prop: Option<Prop>, reaction: u32) -> Option<Observation>
     }
 }
 
-/// A node has no label but the empty one.
-fn unlabelled(datum: Option<&Datum>) -> Result<(), Fault>
-    ensures { Gives (λ u. u) (raised result) (unlabelled (lent_datum datum.entry)) }
+/// The label of a node, and the empty one where none is written.
+fn labelled(datum: Option<&Datum>) -> Result<Label, Fault>
+    ensures { Gives marks (raised result) (labelled (lent_datum datum.entry)) }
 {
     let Some(datum) = datum else {
-        return Ok(());
+        return Ok(Label::empty());
     };
-    let Some(_) = label_of(datum.value()) else {
+    let Some(label) = label_of(datum.value()) else {
         return Err(Fault::LabelText { at: datum.at });
     };
-    if !is_of_empty(datum.value()) {
-        return Err(Fault::NodeLabel { at: datum.at });
-    }
-    Ok(())
+    Ok(label)
 }
 
 /// Puts in a node whose data were read.
@@ -91,7 +89,7 @@ pub fn judge_node(
     };
     let prop = observed(datum_of(found, b"Obs"))?;
     let reaction = reacting(datum_of(found, b"Reaction"))?;
-    unlabelled(datum_of(found, b"Label"))?;
-    put_node(graph, id.as_str(), observation(prop, reaction))?;
+    let label = labelled(datum_of(found, b"Label"))?;
+    put_node(graph, id.as_str(), observation(prop, reaction), label)?;
     Ok(())
 }

@@ -4,18 +4,20 @@ ghost use Rattle.std.specs.Prelude.{◌≡◌, ◌≢◌, ℕ, List, ◌∷◌, 
 ghost use Rattle.cstn_label.specs.declared.nodes.NodeId.{NodeId};
 ghost use Rattle.cstn_net.specs.Networks.{IsWellFormed, count};
 ghost use Rattle.cstn_net.specs.Read.{the_network};
+ghost use Rattle.cstn_lift.specs.declared.errors.LiftError.TheVariants.{NotPlain as NotPlainLabel};
 ghost use Rattle.cstn_net.specs.declared.errors.NetError.TheVariants.{NoOrigin, NotPlain, ReactionRange};
-ghost use Rattle.cstn_graphml.specs.declared.errors.DocError.TheVariants.{Net};
+ghost use Rattle.cstn_graphml.specs.declared.errors.DocError.TheVariants.{Net, Lift};
 ghost use Rattle.cstn_graphml.specs.DrawnGraph.{origin_name};
 ghost use Rattle.cstn_graphml.specs.Document.{first_of_two, document};
 ghost use Rattle.cstn_graphml.specs.Answers.{IsDocument, IsRefused, IsTold};
 
 use crate::document::read_document;
-use crate::drawn_graph::DrawnGraph;
 use crate::errors::DocError;
+use crate::labels::{labelled_of, names_of};
 use crate::networks::network_of;
+use cstn_lift::Labelled;
 use cstn_markup::Scanner;
-use cstn_net::{NetError, Network};
+use cstn_net::NetError;
 use cstn_text::Names;
 use std::alloc::Global;
 
@@ -51,29 +53,23 @@ fn refusal(error: NetError, names: Names) -> DocError
     }
 }
 
-/// The names of a graph.
-fn names_of(graph: DrawnGraph) -> Names
-    ensures { result ≡ graph.names }
-{
-    graph.names
-}
-
-/// Reads a document: its network, and the names of the time-points by number, of which the first is `Z`. A deadline in
-/// ticks that is handed in wins over the document's.
+/// Reads a document: its labelled network, and the names of the time-points by number, of which the first is `Z`. A deadline
+/// in ticks that is handed in wins over the document's.
 pub fn read(
     alloc: Global,
     bytes: &[u8],
     deadline: Option<u32>,
-) -> Result<(Network, Names), DocError>
+) -> Result<(Labelled, Names), DocError>
     ensures accepted { IfOk result (λ r. IsDocument (document bytes.now deadline) r.0 r.1) }
-    ensures well_formed { IfOk result (λ r. IsWellFormed (the_network r.0)) }
-    ensures named { IfOk result (λ r. length r.1 ≡ count (the_network r.0)) }
+    ensures well_formed { IfOk result (λ r. IsWellFormed (the_network r.0.base)) }
+    ensures named { IfOk result (λ r. length r.1 ≡ count (the_network r.0.base)) }
     ensures origin { IfOk result (λ r. (later : List (List ℕ)) × (r.1 ≡ origin_name ∷ later)) }
 
     ensures refused { IfErr result (IsRefused (document bytes.now deadline)) }
     ensures has_origin { IfErr result (λ e. (names : List (List ℕ)) → e ≢ Net NoOrigin names) }
     ensures has_plain_labels { IfErr result (λ e. (names : List (List ℕ)) (constraint : ℕ) → e ≢ Net (NotPlain constraint) names) }
     ensures has_timely_reactions { IfErr result (λ e. (names : List (List ℕ)) (node : NodeId) → e ≢ Net (ReactionRange node) names) }
+    ensures has_plain_node_labels { IfErr result (λ e. (names : List (List ℕ)) (node : NodeId) → e ≢ Lift (NotPlainLabel node) names) }
 {
     if let Err(e) = str::from_utf8(bytes) {
         return Err(DocError::NotUtf8 {
@@ -86,7 +82,7 @@ pub fn read(
         return Err(DocError::NoDeadline);
     };
     match network_of(alloc, deadline, &graph) {
-        Ok(network) => Ok((network, names_of(graph))),
+        Ok(network) => labelled_of(alloc, network, graph),
         Err(error) => Err(refusal(error, names_of(graph))),
     }
 }

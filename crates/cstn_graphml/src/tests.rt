@@ -1,4 +1,5 @@
 use crate::read;
+use cstn_label::{Label, Mark, NodeId, Prop};
 use std::alloc::{AllocError, Global};
 use std::process::Abort;
 use std::test::Fail;
@@ -38,10 +39,10 @@ fn expect_accepted(
     points: u16,
     constraints: usize,
 ) -> Result<(), Fail> {
-    let (net, names) = read(alloc, text.as_bytes(), deadline)?;
-    assert_eq!(rt; net.count(), points);
+    let (labelled, names) = read(alloc, text.as_bytes(), deadline)?;
+    assert_eq!(rt; labelled.base().count(), points);
     assert_eq!(rt; names.count(), points as u32);
-    assert_eq!(rt; net.constraints().len(), constraints);
+    assert_eq!(rt; labelled.base().constraints().len(), constraints);
     Ok(())
 }
 
@@ -152,8 +153,8 @@ fn refusals(rt: HostRuntime) -> Result<(), Fail> {
         &rt,
         alloc,
         "Label",
-        "p",
-        "the label of a node at byte 29 isn't empty",
+        "p p",
+        "a label that isn't of its form at byte 29",
     )?;
     expect_refused_edge(
         &rt,
@@ -201,6 +202,59 @@ fn refusals(rt: HostRuntime) -> Result<(), Fail> {
     )?;
     let words = "no network: the deadline 1000001 is above 1000000";
     expect_refused(&rt, alloc, PAIR.as_bytes(), Some(1_000_001), words)
+}
+
+const LABELLED: &str =
+    "<graphml><graph><node id=\"P\"><data key=\"Obs\">p</data></node><node id=\"X\"><data key=\"Label\">¬p</data></node><node id=\"Z\"/><edge source=\"X\" target=\"Z\"><data key=\"LabeledValues\">{(-5, )}</data></edge></graph></graphml>";
+
+#[test]
+fn labels_of_time_points(rt: HostRuntime) -> Result<(), Fail> {
+    let alloc = rt.alloc();
+    let p = Prop::from_letter(b'p').expect(&rt, "a letter");
+    let (labelled, _) = read(alloc, LABELLED.as_bytes(), Some(10))?;
+    assert_eq!(rt; labelled.base().count(), 3);
+    assert!(rt; labelled.is_labelled());
+    assert!(rt; labelled.label(NodeId(0)) == Label::empty());
+    assert!(rt; labelled.label(NodeId(1)) == Label::empty());
+    assert!(rt; labelled.label(NodeId(2)) == Label::empty().with(p, Mark::No));
+    let (labelled, _) = read(alloc, PAIR.as_bytes(), Some(10))?;
+    assert!(rt; !labelled.is_labelled());
+    Ok(())
+}
+
+// One document for each refusal of labels.
+#[test]
+fn refusals_of_labels(rt: HostRuntime) -> Result<(), Fail> {
+    let alloc = rt.alloc();
+    expect_refused_in(
+        &rt,
+        alloc,
+        "<node id=\"Z\"><data key=\"Label\">p</data></node>",
+        "no labelled network: the origin has a label",
+    )?;
+    expect_refused_node(
+        &rt,
+        alloc,
+        "Label",
+        "r!q",
+        "no labelled network: nothing observes the proposition q, which the label of the time-point 1 names",
+    )?;
+    let circle =
+        "<node id=\"Z\"/><node id=\"P\"><data key=\"Obs\">p</data><data key=\"Label\">q</data></node><node id=\"Q\"><data key=\"Obs\">q</data><data key=\"Label\">p</data></node>";
+    expect_refused_in(
+        &rt,
+        alloc,
+        circle,
+        "no labelled network: the time-point 1 would have to know what it observes itself",
+    )?;
+    let never =
+        "<node id=\"P\"><data key=\"Obs\">p</data></node><node id=\"Q\"><data key=\"Obs\">q</data><data key=\"Label\">p</data></node><node id=\"X\"><data key=\"Label\">q!p</data></node>";
+    expect_refused_in(
+        &rt,
+        alloc,
+        never,
+        "no labelled network: the time-point 3 is never executed",
+    )
 }
 
 // A document of so many time-points besides the origin, and of so many constraints on one edge.

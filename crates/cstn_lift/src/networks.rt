@@ -128,6 +128,15 @@ impl Labels {
         }
     }
 
+    /// The network as it was handed in, with its own ids.
+    pub fn base(&self) -> &Network
+        ensures base { result.now ≡ self.now.base }
+        ensures well_formed { IsWellFormed (the_labelled self.now).base }
+        ensures labelled { IsLabelled (the_labelled self.now) }
+    {
+        &self.handed
+    }
+
     /// The completed label of a time-point.
     pub fn get(&self, x: NodeId) -> Label
         requires { x.0 < count (the_network self.now.base) }

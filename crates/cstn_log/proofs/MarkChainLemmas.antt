@@ -70,6 +70,23 @@ upto_passed entries e p links lasts few not c = record {
   lasts_size = c.lasts_size;
 }
 
+-- the label of the new entry marks none of those from a up to b
+pub upto_skipped : (entries : List Entry) (e : Entry) (a b : ℕ) (links lasts : List ℕ) → length entries < no_place → a ≤ b →
+    ((q : ℕ) → a ≤ q → q < b → IsMarked (marks e.bound.label) q → ⊥) → AreMarkChainsUpto entries e a links lasts → AreMarkChainsUpto entries e b links lasts
+upto_skipped entries e a zero links lasts few upto none c =
+    let same : a ≡ 0 = omega (arith, upto) in
+    subst (λ n. AreMarkChainsUpto entries e n links lasts) same c
+upto_skipped entries e a (suc b) links lasts few upto none c = elim (cases_lt b a) [
+  | inl last ↦
+      let same : a ≡ suc b = omega (arith, last, upto) in
+      subst (λ n. AreMarkChainsUpto entries e n links lasts) same c
+  | inr before ↦
+      let next : b + 1 ≡ suc b = omega arith in
+      subst (λ n. AreMarkChainsUpto entries e n links lasts) next
+      (upto_passed entries e b links lasts few (none b before (omega arith))
+      (upto_skipped entries e a b links lasts few before (λ q low high. none q low (omega (arith, high))) c))
+]
+
 -- the label of the new entry marks p, and its place goes to the end of the chain of p
 pub upto_marked : (entries : List Entry) (e : Entry) (p : ℕ) (links lasts next ends : List ℕ) → p < 52 → length entries < no_place →
     IsMarked (marks e.bound.label) p → next ≡ set links (get_or lasts p 0 * 52 + p) (length entries) →

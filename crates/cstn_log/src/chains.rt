@@ -57,21 +57,22 @@ impl MarkChains {
     {
         let end = self.links.len() + 52;
         self.links.resize(end, NO_PLACE).unwrap();
-        for index in 0..52 {
-            self.append_where_marked(Prop { index }, place, e);
+        let mut index = 0;
+        while let Some(p) = e.bound.label.first_marked_from(index) {
+            self.append_marked(p, place, e);
+            index = p.index + 1;
         }
     }
 
-    // Puts the place at the end of the chain of p, where the label of its entry marks p.
-    fn append_where_marked(&mut self, p: Prop, place: u32, e: Entry)
+    // Puts the place at the end of the chain of p, which the label of its entry marks.
+    fn append_marked(&mut self, p: Prop, place: u32, e: Entry)
+        requires marked { IsMarked (marks e.bound.label) p.index }
         requires upto { (entries : List TheEntry) × AreMarkChainsUpto entries e p.index self.old.links.items self.old.lasts.items × (length entries ≡ place) }
         requires few { place < 4194304 }
         ensures upto { (entries : List TheEntry) → AreMarkChainsUpto entries e p.index self.old.links.items self.old.lasts.items → length entries ≡ place → AreMarkChainsUpto entries e (p.index + 1) self.new.links.items self.new.lasts.items }
         ensures room { (vec_capacity self.old.links ≤ vec_capacity self.new.links) × (vec_capacity self.old.lasts ≤ vec_capacity self.new.lasts) }
     {
-        if is_marked(e, p) {
-            self.append_to(p, place);
-        }
+        self.append_to(p, place);
     }
 
     // Puts the place at the end of the chain of p.

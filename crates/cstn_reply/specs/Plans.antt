@@ -1,19 +1,28 @@
 -- What a request says, and what is written for it, also after a fault.
-use Rattle.std.specs.Prelude.{◌≡◌, ◌⊎◌, ℕ, List, [], ◌++◌, take, Option, codes, decimal}
+use Rattle.std.specs.Prelude.{◌≡◌, ◌⊎◌, ◌<◌, ℕ, length, List, [], ◌++◌, take, Option, codes, decimal}
 use Rattle.cstn_io.specs.Causes.{Rose}
 use Rattle.cstn_io.specs.Contents.{after_bytes, with_bytes, IsAllOf}
 use Rattle.cstn_lines.specs.Pieces.{lines_of, whole_lines}
-use Rattle.cstn_net.specs.Networks.{Network, IsWellFormed}
+use Rattle.cstn_label.specs.Labels.{Scenario}
+use Rattle.cstn_net.specs.Networks.{Network, count}
+use Rattle.cstn_net.specs.Strategies.{IsLeast}
 use Rattle.cstn_net.specs.declared.errors.NetError.{NetError}
+use Rattle.cstn_label.specs.Labels.{Label, empty}
+use Rattle.cstn_lift.specs.declared.errors.LiftError.{LiftError}
+use Rattle.cstn_lift.specs.Labelled.{label_in}
 use Rattle.cstn_graphml.specs.Document.{Parts}
-use Rattle.cstn_graphml.specs.Networks.{network_of, IsUnfit}
+use Rattle.cstn_graphml.specs.Networks.{IsUnfit, IsMislabelled, IsFit}
 use Rattle.cstn_rules.specs.Derivations.{Entry, IsRefutation}
 use Rattle.cstn_replay.specs.Wrong.{IsFirstWrong, EndsInVain}
 use Rattle.cstn_reply.specs.Texts.{line}
 use Rattle.cstn_label.specs.Bounds.{Bound}
 use Rattle.cstn_rules.specs.Closed.{IsClosed}
 use Rattle.cstn_closed.specs.Faults.{Fault, IsFirstFault, IsFaultless}
-use Rattle.cstn_reply.specs.Refusals.{fault_text}
+use Rattle.cstn_tree.specs.Trees.{Tree, lines_of as tree_lines, table_of}
+use Rattle.cstn_tree.specs.Good.{IsGood}
+use Rattle.cstn_tree.specs.Made.{IsTreeOf}
+use Rattle.cstn_tree.specs.Texts.{shown, tells, told}
+use Rattle.cstn_reply.specs.Refusals.{fault_text, label_fault_text}
 use Rattle.cstn_reply.specs.Faults.{fault_words}
 use Rattle.cstn_reply.specs.Statuses.{status_of}
 use Rattle.cstn_reply.specs.declared.status.Status.{Status}
@@ -46,43 +55,72 @@ IsCertificate names bounds net said =
     (IsFaultless net bounds × IsClosed net bounds × (said ≡ say Good (codes "accepted")))
     ⊎ ((f : Fault) × IsFirstFault net bounds f × (said ≡ say Bad (codes "rejected " ++ fault_words names f)))
 
+-- each of these labels is empty
+abbrev pub AreEmpty : List Label → Type 0
+AreEmpty labels = (x : ℕ) → x < length labels → label_in labels x ≡ empty
+
+-- the parts of a document make a labelled network, no time-point of which has a label
+abbrev pub AreUnlabelled : Parts → Type 0
+AreUnlabelled parts = IsFit parts × AreEmpty parts.labels
+
+-- What is said of a yes as a tree: the load, and the tree of what the network's executive does by these bounds. No line of it breaks,
+-- it has each time-point at its least moment, and its text says it.
+pub record IsTreeText (names : List (List ℕ)) (load : ℕ) (bounds : List Bound) (net : Network) (said : Said) : Type 0 where
+  pub tree : Tree
+  pub made : IsTreeOf net bounds tree
+  pub good : IsGood net tree
+  pub least : (s : Scenario) (x : ℕ) → x < count net → IsLeast net s x (table_of tree s x)
+  pub back : told names (shown names load (tree_lines tree)) ≡ tells (tree_lines tree)
+  pub said_is : said ≡ record { outcome = Good; text = shown names load (tree_lines tree) }
+
 -- What a request says: a text and no more; or what the replay of steps on a network says; or what the check of a list of bounds
--- says, under the names of the time-points; or an opening and then a session over
+-- says, under the names of the time-points; or the tree of a network, by a load and bounds; or an opening and then a session over
 -- the lines of the live source, of which is told what it says of all lines, and what it answers to some of them alone; or what
--- is said of the network of a document's parts, where they make one.
+-- is said of the labelled network of a document's parts, where they make one; or what is said where the labels of the
+-- time-points are empty.
 pub data Plan : Type 0 where
   says : Said → Plan
   replays : List Entry → Network → Plan
   certifies : List (List ℕ) → List Bound → Network → Plan
+  branches : List (List ℕ) → ℕ → List Bound → Network → Plan
   talks : List ℕ → (List (List ℕ) → Said) → (List (List ℕ) → List ℕ) → Plan
   judges : Parts → Plan → Plan
+  unlabelled : List Label → Plan → Plan
 
--- The whole output, where the live source has these bytes. Where the parts of a document make no network, their lowest fault is
--- told.
+-- The whole output, where the live source has these bytes. Where the parts of a document make no labelled network, the lowest
+-- fault of the network is told, or that of its labels.
 abbrev pub IsOutput : Plan → List ℕ → Said → Type 0
 IsOutput (says text) live said = said ≡ text
 IsOutput (replays steps net) live said = IsReplay steps net said
 IsOutput (certifies names bounds net) live said = IsCertificate names bounds net said
+IsOutput (branches names load bounds net) live said = IsTreeText names load bounds net said
 IsOutput (talks opening whole heard) live said = said ≡ after_text opening (whole (lines_of live))
 IsOutput (judges parts plan) live said =
-    (IsWellFormed (network_of parts) × IsOutput plan live said)
-    ⊎ ((error : NetError) × IsUnfit parts error × (said ≡ say Document (fault_text parts.names error)))
+    (IsFit parts × IsOutput plan live said)
+    ⊎ (((error : NetError) × IsUnfit parts error × (said ≡ say Document (fault_text parts.names error)))
+    ⊎ ((error : LiftError) × IsMislabelled parts error × (said ≡ say Document (label_fault_text parts.names error))))
+IsOutput (unlabelled labels plan) live said =
+    (AreEmpty labels × IsOutput plan live said) ⊎ ((AreEmpty labels → ⊥) × (said ≡ say Document (codes "document labels")))
 
 -- what is said before a fault of the live source that has given these bytes
 abbrev pub before_fault : Plan → List ℕ → List ℕ
 before_fault (says said) taken = []
 before_fault (replays steps net) taken = []
 before_fault (certifies names bounds net) taken = []
+before_fault (branches names load bounds net) taken = []
 before_fault (talks opening whole heard) taken = opening ++ heard (whole_lines taken)
 before_fault (judges parts plan) taken = before_fault plan taken
+before_fault (unlabelled labels plan) taken = before_fault plan taken
 
 -- a session is held
 abbrev pub MayTalk : Plan → Type 0
 MayTalk (says said) = ⊥
 MayTalk (replays steps net) = ⊥
 MayTalk (certifies names bounds net) = ⊥
+MayTalk (branches names load bounds net) = ⊥
 MayTalk (talks opening whole heard) = Unit {0}
-MayTalk (judges parts plan) = IsWellFormed (network_of parts) × MayTalk plan
+MayTalk (judges parts plan) = IsFit parts × MayTalk plan
+MayTalk (unlabelled labels plan) = AreEmpty labels × MayTalk plan
 
 -- the live source stands as it was, but for a session
 abbrev pub Untouched : {S : Type 0} → Plan → S → S → Type 0

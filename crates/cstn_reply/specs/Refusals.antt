@@ -5,7 +5,9 @@ use Rattle.cstn_net.specs.declared.errors.NetError.{NetError}
 use Rattle.cstn_net.specs.declared.errors.NetError.TheVariants.{TooManyNodes, NoOrigin, TooManyConstraints, DeadlineRange, ValueRange, NotObserved, TwoObservers, NotPlain, ReactionRange, Memory}
 use Rattle.cstn_text.specs.PrintedNames.{printed_name}
 use Rattle.cstn_graphml.specs.Results.{Refusal}
-use Rattle.cstn_graphml.specs.Results.Refusal.{not_utf8, shape, name_twice, unknown_node, bad_value, label_text, contingent, edge_type, no_deadline, node_label}
+use Rattle.cstn_graphml.specs.Results.Refusal.{not_utf8, shape, name_twice, unknown_node, bad_value, label_text, contingent, edge_type, no_deadline}
+use Rattle.cstn_lift.specs.declared.errors.LiftError.{LiftError}
+use Rattle.cstn_lift.specs.declared.errors.LiftError.TheVariants.{OriginLabel, NotPlain as NotPlainLabel, NotObserved as NotObservedLabel, Circle, Never, TooManyConstraints as TooManyLowered, Memory as NoMemory}
 
 -- a refusal at a place of the document
 abbrev pub at_place : ℕ → ℕ → List ℕ
@@ -22,7 +24,6 @@ refusal_text (label_text at) = at_place 6 at
 refusal_text (contingent at) = at_place 7 at
 refusal_text (edge_type at) = at_place 8 at
 refusal_text no_deadline = codes "document X9"
-refusal_text (node_label at) = at_place 11 at
 
 -- a refusal of the document's network, with a number
 abbrev pub with_number : ℕ → ℕ → List ℕ
@@ -45,3 +46,13 @@ fault_text names (TwoObservers prop first second) =
 fault_text names (NotPlain constraint) = with_number 8 constraint
 fault_text names (ReactionRange node) = codes "document X10 N9 " ++ printed names node.0
 fault_text names (Memory e) = []
+
+-- a refusal of the labels of the document's time-points, under their names
+abbrev pub label_fault_text : List (List ℕ) → LiftError → List ℕ
+label_fault_text names OriginLabel = codes "document X12 L1"
+label_fault_text names (NotPlainLabel node) = codes "document X12 L2 " ++ printed names node.0
+label_fault_text names (NotObservedLabel node prop) = codes "document X12 L3 " ++ printed names node.0 ++ 32 ∷ letter_of prop.index ∷ []
+label_fault_text names (Circle node) = codes "document X12 L4 " ++ printed names node.0
+label_fault_text names (Never node) = codes "document X12 L5 " ++ printed names node.0
+label_fault_text names TooManyLowered = codes "document X12 L6"
+label_fault_text names (NoMemory e) = []

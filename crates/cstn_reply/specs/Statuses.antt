@@ -1,9 +1,9 @@
 -- How a request ends.
 use Rattle.std.specs.Prelude.{ℕ}
 use Rattle.cstn_reply.specs.declared.status.Status.{Status}
-use Rattle.cstn_reply.specs.declared.status.Status.TheVariants.{Good as IsGood, Bad as IsBad, Words as IsWords, Document as IsDocument, Full as IsFull, ReadFault, WriteFault, Memory, Unfinished as IsUnfinished, Script as IsScript}
+use Rattle.cstn_reply.specs.declared.status.Status.TheVariants.{Good as IsGood, Bad as IsBad, Words as IsWords, Document as IsDocument, Full as IsFull, ReadFault, WriteFault, Memory, Unfinished as IsUnfinished, Script as IsScript, Wide as IsWide}
 use Rattle.cstn_reply.specs.declared.output.Outcome.{Outcome}
-use Rattle.cstn_reply.specs.declared.output.Outcome.TheVariants.{Good, Bad, Words, Document, Full, Unfinished, Script}
+use Rattle.cstn_reply.specs.declared.output.Outcome.TheVariants.{Good, Bad, Words, Document, Full, Unfinished, Script, Wide}
 
 -- the status of an output
 abbrev pub status_of : Outcome → Status
@@ -14,6 +14,7 @@ status_of Document = IsDocument
 status_of Full = IsFull
 status_of Unfinished = IsUnfinished
 status_of Script = IsScript
+status_of Wide = IsWide
 
 -- the program's exit status
 abbrev pub number_of : Status → ℕ
@@ -27,3 +28,4 @@ number_of WriteFault = 6
 number_of Memory = 7
 number_of IsUnfinished = 8
 number_of IsScript = 9
+number_of IsWide = 10

@@ -19,6 +19,7 @@ pub enum Outcome {
     Full,
     Unfinished,
     Script,
+    Wide,
 }
 
 impl Outcome {
@@ -36,6 +37,7 @@ impl Outcome {
             Outcome::Full => Status::Full,
             Outcome::Unfinished => Status::Unfinished,
             Outcome::Script => Status::Script,
+            Outcome::Wide => Status::Wide,
         }
     }
 }

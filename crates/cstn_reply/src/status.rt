@@ -25,6 +25,8 @@ pub enum Status {
     Unfinished,
     /// A line is of no grammar.
     Script,
+    /// More propositions are observed than a tree is made for.
+    Wide,
 }
 
 impl Status {
@@ -43,6 +45,7 @@ impl Status {
             Status::Memory => 7,
             Status::Unfinished => 8,
             Status::Script => 9,
+            Status::Wide => 10,
         }
     }
 }

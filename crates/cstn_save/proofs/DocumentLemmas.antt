@@ -1,6 +1,7 @@
 -- The lines of a document, one after the other.
-use Rattle.std.proofs.Common.{◌≡◌, ◌≢◌, false, ℕ, ◌+◌, ◌<◌, List, [], ◌∷◌, ◌++◌, ◌∙◌, ap, sym, append-nil, add-one, length, length-append, arith, take, map, get_or, Option, Some, None}
-use Rattle.std.specs.Prelude.{◌==◌, codes, slice_get, slice_index_or}
+use Rattle.std.proofs.lemmas.Bool.{true≢false}
+use Rattle.std.proofs.Common.{◌≡◌, ◌≢◌, Bool, true, false, refl, ℕ, suc, ◌+◌, ◌<◌, List, [], ◌∷◌, ◌++◌, ◌∙◌, ap, sym, append-nil, add-one, length, length-append, arith, take, map, get_or, Option, Some, None}
+use Rattle.std.specs.Prelude.{◌==◌, if◌then◌else◌, codes, slice_get, slice_index_or, Result, Ok, Err, is_ok, OnOk}
 use Rattle.std.proofs.lemmas.Grind.{flat_map-append}
 use Rattle.std.proofs.lemmas.List.{take_more, map-append}
 use Rattle.std.proofs.lemmas.Option.{get_or_from_slice_get}
@@ -10,9 +11,10 @@ use Rattle.cstn_text.specs.Numbers.{printed_number}
 use Rattle.cstn_net.specs.Networks.{Constraint}
 use Rattle.cstn_net.specs.declared.constraints.Constraint.{Constraint as NetConstraint}
 use Rattle.cstn_net.specs.Read.{the_constraint}
+use Rattle.cstn_lift.specs.Labelled.{label_in}
 use Rattle.cstn_graphml.specs.DrawnGraph.{Observation}
-use Rattle.cstn_save.specs.Canonical.{literal, literals_below, or_empty, reaction_data, node_line, nodes_below, edge_tag, edge_data, edge_line, edges}
-use Rattle.cstn_save.proofs.JoinLemmas.{two}
+use Rattle.cstn_save.specs.Canonical.{literal, literals_below, or_empty, reaction_data, label_data, node_end, node_line, nodes_below, edge_tag, edge_data, edge_line, edges}
+use Rattle.cstn_save.proofs.JoinLemmas.{two, three}
 
 -- a constraint's line is put
 pub edge_put : (names : List (List ℕ)) (c : Constraint) (source target old t1 t2 : List ℕ) → slice_get names c.from ≡ Some source → slice_get names c.to ≡ Some target
@@ -35,18 +37,42 @@ edges_more names xs i x old text new inside is so_far put =
     ∙ ap (λ (ys : List ℕ). edges names (map the_constraint (take i xs)) ++ ys) (append-nil (edge_line names (the_constraint x))) in
     two old (edges names (map the_constraint (take i xs))) (edge_line names (the_constraint x)) text new so_far put ∙ ap (λ (ys : List ℕ). old ++ ys) (sym lines)
 
-pub nodes_none : (names : List (List ℕ)) (observes : List (Option Observation)) (old : List ℕ) → old ≡ old ++ nodes_below names observes 0
+pub nodes_none : (names : List (List ℕ)) (observes : List (Option Observation)) (labels : List Label) (old : List ℕ) → old ≡ old ++ nodes_below names observes labels 0
 unfolding nodes_below
-nodes_none names observes old = sym (append-nil old)
+nodes_none names observes labels old = sym (append-nil old)
 
 -- the lines of one more time-point
-pub nodes_more : (names : List (List ℕ)) (observes : List (Option Observation)) (n : ℕ) (name : List ℕ) (o : Option Observation) (old text new : List ℕ) → slice_get names n ≡ Some name → o ≡ slice_index_or observes n None
-    → text ≡ old ++ nodes_below names observes n → new ≡ text ++ node_line name o → new ≡ old ++ nodes_below names observes (n + 1)
+pub nodes_more : (names : List (List ℕ)) (observes : List (Option Observation)) (labels : List Label) (n : ℕ) (name : List ℕ) (o : Option Observation) (a : Label) (old text new : List ℕ) → slice_get names n ≡ Some name → o ≡ slice_index_or observes n None → a ≡ label_in labels n
+    → text ≡ old ++ nodes_below names observes labels n → new ≡ text ++ node_line name o a → new ≡ old ++ nodes_below names observes labels (n + 1)
 unfolding nodes_below
-nodes_more names observes n name o old text new named observed so_far put =
-    let same : node_line name o ≡ node_line (get_or names n []) (slice_index_or observes n None) =
-    ap (λ (x : List ℕ). node_line x o) (sym (get_or_from_slice_get names n name [] named)) ∙ ap (λ (y : Option Observation). node_line (get_or names n []) y) observed in
-    rw add-one (two old (nodes_below names observes n) (node_line (get_or names n []) (slice_index_or observes n None)) text new so_far (put ∙ ap (λ (x : List ℕ). text ++ x) same))
+nodes_more names observes labels n name o a old text new named observed labelled so_far put =
+    let same : node_line name o a ≡ node_line (get_or names n []) (slice_index_or observes n None) (label_in labels n) =
+    ap (λ (x : List ℕ). node_line x o a) (sym (get_or_from_slice_get names n name [] named)) ∙ ap (λ (y : Option Observation). node_line (get_or names n []) y a) observed
+    ∙ ap (λ (b : Label). node_line (get_or names n []) (slice_index_or observes n None) b) labelled in
+    rw add-one (two old (nodes_below names observes labels n) (node_line (get_or names n []) (slice_index_or observes n None) (label_in labels n)) text new so_far (put ∙ ap (λ (x : List ℕ). text ++ x) same))
+
+something_there : (k : ℕ) (none : Bool) (n : ℕ) → none ≡ (n == 0) → none ≡ true → n ≡ suc k → ⊥
+something_there k none n e f g = grind arith
+
+-- the end of the line of a time-point that has data
+pub end_put : (inner_bytes old t1 t2 t3 : List ℕ) (b : Bool) → b ≡ (length inner_bytes == 0) → b ≡ false → t1 ≡ old ++ codes "\">" → t2 ≡ t1 ++ inner_bytes → t3 ≡ t2 ++ codes "</node>\n" → t3 ≡ old ++ node_end inner_bytes
+end_put [] old t1 t2 t3 b is some e1 e2 e3 = absurd (true≢false (sym is ∙ some))
+end_put (x ∷ inner_bytes) old t1 t2 t3 b is some e1 e2 e3 = three old (codes "\">") (x ∷ inner_bytes) (codes "</node>\n") t1 t2 t3 e1 e2 e3
+
+-- and of one that has none
+pub end_bare : {U E : Type 0} (inner_bytes old new : List ℕ) (b : Bool) (r : Result U E) → b ≡ (length inner_bytes == 0) → b ≡ true → new ≡ (if is_ok r then old ++ codes "\"/>\n" else old) → OnOk r (new ≡ old ++ node_end inner_bytes)
+end_bare [] old new b (Ok u) is none put = put
+end_bare [] old new b (Err e) is none put = tt
+end_bare (x ∷ inner_bytes) old new b r is none put = absurd (something_there (length inner_bytes) b (length (x ∷ inner_bytes)) is none refl)
+
+-- the data of a label
+pub label_put : (literals old t1 t2 t3 : List ℕ) (b : Bool) → b ≡ (length literals == 0) → b ≡ false → t1 ≡ old ++ codes "<data key=\"Label\">" → t2 ≡ t1 ++ literals → t3 ≡ t2 ++ codes "</data>" → t3 ≡ old ++ label_data literals
+label_put [] old t1 t2 t3 b is some e1 e2 e3 = absurd (true≢false (sym is ∙ some))
+label_put (x ∷ literals) old t1 t2 t3 b is some e1 e2 e3 = three old (codes "<data key=\"Label\">") (x ∷ literals) (codes "</data>") t1 t2 t3 e1 e2 e3
+
+pub label_bare : (literals old : List ℕ) (b : Bool) → b ≡ (length literals == 0) → b ≡ true → old ≡ old ++ label_data literals
+label_bare [] old b is none = sym (append-nil old)
+label_bare (x ∷ literals) old b is none = absurd (something_there (length literals) b (length (x ∷ literals)) is none refl)
 
 pub literals_none : (a : Label) (old : List ℕ) → old ≡ old ++ literals_below a 0
 unfolding literals_below

@@ -12,6 +12,8 @@ use Rattle.cstn_markup.specs.Bytes.{is_same}
 use Rattle.cstn_graphml.specs.DrawnGraph.{Observation, DrawnGraph, node_of, with_node, with_constraint}
 use Rattle.cstn_save.proofs.WholeLemmas.{drafted, IsInReach}
 use Rattle.cstn_save.proofs.EdgeLemmas.{with_all}
+use Rattle.cstn_label.specs.Labels.{Label, empty}
+use Rattle.cstn_lift.specs.Labelled.{label_in}
 use Rattle.cstn_save.specs.ReadBack.{drawn}
 use Rattle.cstn_save.proofs.ReadBackLemmas.{begun}
 
@@ -22,59 +24,66 @@ self : (xs : List ℕ) → bytes_eq xs xs ≡ true
 self xs = (bytes_eq-Decides xs xs).1 refl
 
 -- one name for each time-point, the first `Z`, different, and each of its size
-pub record AreGiven (names : List (List ℕ)) (observes : List (Option Observation)) : Type 0 where
+pub record AreGiven (names : List (List ℕ)) (observes : List (Option Observation)) (labels : List Label) : Type 0 where
   pub sized : (i : ℕ) → i < length names → (nat_lt 0 (length (slice_index_or names i [])) && nat_le (length (slice_index_or names i [])) 64) ≡ true
   pub different : AllPairs (λ a b. a ≢ b) names
   pub origin : slice_index_or names 0 [] ≡ codes "Z"
   pub each : length names ≡ length observes
+  pub labelled : length names ≡ length labels
   pub some : 0 < length names
   pub props : (i : ℕ) → i < length observes → IsInReach (slice_index_or observes i None)
 
-other_name : (names : List (List ℕ)) (observes : List (Option Observation)) (i j : ℕ) → AreGiven names observes → i < j → j < length names → bytes_eq (slice_index_or names j []) (slice_index_or names i []) ≡ false
-other_name names observes i j given h k = differ _ _ (λ e. given.different i j [] h k (sym e))
+other_name : (names : List (List ℕ)) (observes : List (Option Observation)) (labels : List Label) (i j : ℕ) → AreGiven names observes labels → i < j → j < length names → bytes_eq (slice_index_or names j []) (slice_index_or names i []) ≡ false
+other_name names observes labels i j given h k = differ _ _ (λ e. given.different i j [] h k (sym e))
 
-no_origin : (names : List (List ℕ)) (observes : List (Option Observation)) (j : ℕ) → AreGiven names observes → 0 < j → j < length names → is_same (slice_index_or names j []) (codes "Z") ≡ false
-no_origin names observes j given h k = subst (λ (x : List ℕ). is_same (slice_index_or names j []) x ≡ false) given.origin (other_name names observes 0 j given h k)
+no_origin : (names : List (List ℕ)) (observes : List (Option Observation)) (labels : List Label) (j : ℕ) → AreGiven names observes labels → 0 < j → j < length names → is_same (slice_index_or names j []) (codes "Z") ≡ false
+no_origin names observes labels j given h k = subst (λ (x : List ℕ). is_same (slice_index_or names j []) x ≡ false) given.origin (other_name names observes labels 0 j given h k)
 
 more : {X : Type 0} → (xs : List X) (i : ℕ) (d : X) → i < length xs → take (suc i) xs ≡ take i xs ++ slice_index_or xs i d ∷ []
 more xs i d h = let e : suc i ≡ i + 1 = omega arith in ap (λ k. take k xs) e ∙ take_more xs i d h
 
 -- the draft of the first n + 1 time-points
-pub record IsShaped (names : List (List ℕ)) (observes : List (Option Observation)) (deadline n : ℕ) (d : DrawnGraph) : Type 0 where
+pub record IsShaped (names : List (List ℕ)) (observes : List (Option Observation)) (labels : List Label) (deadline n : ℕ) (d : DrawnGraph) : Type 0 where
   pub deadline_is : d.deadline ≡ Some deadline
   pub origin_is : d.origin ≡ Some (slice_index_or observes 0 None)
   pub names_are : d.names ≡ take (suc n) names
   pub observes_are : slice_index_or observes 0 None ∷ d.observes ≡ take (suc n) observes
+  pub labels_are : d.origin_label ∷ d.labels ≡ take (suc n) labels
   pub none : d.constraints ≡ []
 
-later_node : (name : List ℕ) (o : Option Observation) (d : DrawnGraph) → is_same name (codes "Z") ≡ false → with_node name o d ≡ record d { names = d.names ++ (name ∷ []); observes = d.observes ++ (o ∷ []) }
-later_node name o d h = rw h refl
+later_node : (name : List ℕ) (o : Option Observation) (a : Label) (d : DrawnGraph) → is_same name (codes "Z") ≡ false → with_node name o a d ≡ record d { names = d.names ++ (name ∷ []); observes = d.observes ++ (o ∷ []); labels = d.labels ++ (a ∷ []) }
+later_node name o a d h = rw h refl
 
-pub shaped : (names : List (List ℕ)) (observes : List (Option Observation)) (deadline at n : ℕ) → AreGiven names observes → n < length names → IsShaped names observes deadline n (drafted names observes (begun deadline at) (suc n))
+pub shaped : (names : List (List ℕ)) (observes : List (Option Observation)) (labels : List Label) (deadline at n : ℕ) → AreGiven names observes labels → n < length names → IsShaped names observes labels deadline n (drafted names observes labels (begun deadline at) (suc n))
 unfolding drafted
-shaped names observes deadline at zero given h =
+shaped names observes labels deadline at zero given h =
     let o : Option Observation = slice_index_or observes 0 None in
     let ends : 0 < length observes = omega (arith, given.each) in
-    subst (λ (x : List ℕ). IsShaped names observes deadline 0 (with_node x o (begun deadline at))) (sym given.origin)
+    let last : 0 < length labels = omega (arith, given.labelled) in
+    subst (λ (x : List ℕ). IsShaped names observes labels deadline 0 (with_node x o (label_in labels 0) (begun deadline at))) (sym given.origin)
     (record {
       deadline_is = refl;
       origin_is = refl;
       names_are = sym (more names 0 [] h ∙ ap (λ (x : List ℕ). x ∷ []) given.origin);
       observes_are = sym (more observes 0 None ends);
+      labels_are = sym (more labels 0 empty last);
       none = refl;
     })
-shaped names observes deadline at (suc n) given h =
+shaped names observes labels deadline at (suc n) given h =
     let name : List ℕ = slice_index_or names (suc n) [] in
     let o : Option Observation = slice_index_or observes (suc n) None in
-    let d : DrawnGraph = drafted names observes (begun deadline at) (suc n) in
-    let so = shaped names observes deadline at n given (omega arith) in
+    let d : DrawnGraph = drafted names observes labels (begun deadline at) (suc n) in
+    let so = shaped names observes labels deadline at n given (omega arith) in
     let ends : suc n < length observes = omega (arith, given.each) in
-    subst (λ (x : DrawnGraph). IsShaped names observes deadline (suc n) x) (sym (later_node name o d (no_origin names observes (suc n) given (omega arith) h)))
+    let last : suc n < length labels = omega (arith, given.labelled) in
+    let a : Label = label_in labels (suc n) in
+    subst (λ (x : DrawnGraph). IsShaped names observes labels deadline (suc n) x) (sym (later_node name o a d (no_origin names observes labels (suc n) given (omega arith) h)))
     (record {
       deadline_is = so.deadline_is;
       origin_is = so.origin_is;
       names_are = ap (λ (x : List (List ℕ)). x ++ (name ∷ [])) so.names_are ∙ sym (more names (suc n) [] h);
       observes_are = ap (λ (x : List (Option Observation)). x ++ (o ∷ [])) so.observes_are ∙ sym (more observes (suc n) None ends);
+      labels_are = ap (λ (x : List Label). x ++ (a ∷ [])) so.labels_are ∙ sym (more labels (suc n) empty last);
       none = so.none;
     })
 
@@ -88,34 +97,34 @@ found_none : (p : List ℕ → Bool) (xs : List (List ℕ)) → position_or_len 
 found_none p xs e = let t : nat_lt (length xs) (length xs) ≡ false = grind arith in rw (e, t) refl
 
 -- a name is new where those before it stand
-pub fresh : (names : List (List ℕ)) (observes : List (Option Observation)) (deadline at i : ℕ) → AreGiven names observes → i < length names → node_of (slice_index_or names i []) (drafted names observes (begun deadline at) i) ≡ None
+pub fresh : (names : List (List ℕ)) (observes : List (Option Observation)) (labels : List Label) (deadline at i : ℕ) → AreGiven names observes labels → i < length names → node_of (slice_index_or names i []) (drafted names observes labels (begun deadline at) i) ≡ None
 unfolding drafted
-fresh names observes deadline at zero given h = subst (λ (x : List ℕ). node_of x (begun deadline at) ≡ None) (sym given.origin) refl
-fresh names observes deadline at (suc n) given h =
+fresh names observes labels deadline at zero given h = subst (λ (x : List ℕ). node_of x (begun deadline at) ≡ None) (sym given.origin) refl
+fresh names observes labels deadline at (suc n) given h =
     let name : List ℕ = slice_index_or names (suc n) [] in
-    let d : DrawnGraph = drafted names observes (begun deadline at) (suc n) in
-    let so = shaped names observes deadline at n given (omega arith) in
+    let d : DrawnGraph = drafted names observes labels (begun deadline at) (suc n) in
+    let so = shaped names observes labels deadline at n given (omega arith) in
     let size : length (take (suc n) names) ≡ suc n = length-taken (suc n) names (omega arith) in
-    later_of name d (no_origin names observes (suc n) given (omega arith) h)
+    later_of name d (no_origin names observes labels (suc n) given (omega arith) h)
     ∙ ap (position (bytes_eq name)) so.names_are
     ∙ found_none (bytes_eq name) (take (suc n) names)
     (position_or_len_is (bytes_eq name) (take (suc n) names) (length (take (suc n) names)) [] (omega arith)
     (λ k below. let low : k < suc n = omega (arith, size, below) in
-    ap (bytes_eq name) (get_or-take (suc n) names k [] low) ∙ other_name names observes k (suc n) given low h)
+    ap (bytes_eq name) (get_or-take (suc n) names k [] low) ∙ other_name names observes labels k (suc n) given low h)
     (λ below. absurd (omega (arith, below))))
   where
     length-taken : (m : ℕ) (xs : List (List ℕ)) → m ≤ length xs → length (take m xs) ≡ m
     length-taken m xs h = omega (arith, length-take m xs)
 
 -- and is found at its number at the end
-pub found : (names : List (List ℕ)) (observes : List (Option Observation)) (deadline n i : ℕ) (d : DrawnGraph) → AreGiven names observes → suc n ≡ length names → IsShaped names observes deadline n d → i < length names → node_of (slice_index_or names i []) d ≡ Some i
-found names observes deadline n zero d given all so h = subst (λ (x : List ℕ). node_of x d ≡ Some 0) (sym given.origin) (rw so.origin_is refl)
-found names observes deadline n (suc i) d given all so h =
+pub found : (names : List (List ℕ)) (observes : List (Option Observation)) (labels : List Label) (deadline n i : ℕ) (d : DrawnGraph) → AreGiven names observes labels → suc n ≡ length names → IsShaped names observes labels deadline n d → i < length names → node_of (slice_index_or names i []) d ≡ Some i
+found names observes labels deadline n zero d given all so h = subst (λ (x : List ℕ). node_of x d ≡ Some 0) (sym given.origin) (rw so.origin_is refl)
+found names observes labels deadline n (suc i) d given all so h =
     let name : List ℕ = slice_index_or names (suc i) [] in
-    later_of name d (no_origin names observes (suc i) given (omega arith) h)
+    later_of name d (no_origin names observes labels (suc i) given (omega arith) h)
     ∙ ap (position (bytes_eq name)) (so.names_are ∙ take_all (suc n) names (omega (arith, all)))
     ∙ found_at (bytes_eq name) names (suc i) h
-    (position_or_len_is (bytes_eq name) names (suc i) [] (omega arith) (λ k below. other_name names observes k (suc i) given below h) (λ below. self name))
+    (position_or_len_is (bytes_eq name) names (suc i) [] (omega arith) (λ k below. other_name names observes labels k (suc i) given below h) (λ below. self name))
 
 -- constraints are put behind those of the draft
 pub with_all_is : (cs : List Constraint) (d : DrawnGraph) → with_all cs d ≡ record d { constraints = d.constraints ++ map drawn cs }

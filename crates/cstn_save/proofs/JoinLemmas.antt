@@ -16,7 +16,3 @@ five old a b c d e t1 t2 t3 t4 t5 e1 e2 e3 e4 e5 = two old (a ++ b ++ c ++ d) e 
 -- a letter between two texts
 pub around : (old a c t1 t2 t3 : List ℕ) (b : ℕ) → t1 ≡ old ++ a → t2 ≡ t1 ++ b ∷ [] → t3 ≡ t2 ++ c → t3 ≡ old ++ (a ++ b ∷ c)
 around old a c t1 t2 t3 b e1 e2 e3 = three old a (b ∷ []) c t1 t2 t3 e1 e2 e3 ∙ ap (λ (t : List ℕ). old ++ t) (append_assoc a (b ∷ []) c)
-
--- and two more behind them
-pub observed_line : (old a c d e t1 t2 t3 t4 t5 : List ℕ) (b : ℕ) → t1 ≡ old ++ a → t2 ≡ t1 ++ b ∷ [] → t3 ≡ t2 ++ c → t4 ≡ t3 ++ d → t5 ≡ t4 ++ e → t5 ≡ old ++ (a ++ b ∷ c ++ d ++ e)
-observed_line old a c d e t1 t2 t3 t4 t5 b e1 e2 e3 e4 e5 = three old (a ++ b ∷ c) d e t3 t4 t5 (around old a c t1 t2 t3 b e1 e2 e3) e4 e5

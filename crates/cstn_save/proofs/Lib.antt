@@ -14,3 +14,4 @@ pub mod DraftedLemmas
 pub mod LawLemmas
 pub mod SameLemmas
 pub mod TextLemmas
+pub mod UnlabelledLemmas

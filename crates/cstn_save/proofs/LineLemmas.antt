@@ -1,26 +1,25 @@
 -- The lines of a document, read one after the other.
-use Rattle.std.proofs.Common.{◌≡◌, ℕ, ◌-◌, ◌≤◌, List, [], ◌∷◌, ◌++◌, length, refl, ◌∙◌, arith, true, not, Ok, Result}
-use Rattle.std.specs.Prelude.{Some, None, codes, ◌==◌, nat_lt, nat_le, ◌&&◌, ℤ}
-use Rattle.std.specs.List.{list_all}
+use Rattle.std.proofs.Common.{◌≡◌, ℕ, ◌-◌, ◌≤◌, List, [], ◌∷◌, ◌++◌, length, refl, ◌∙◌, arith, true, false, not, Ok, Result}
+use Rattle.std.specs.Prelude.{Option, Some, None, codes, ◌==◌, nat_lt, nat_le, ◌&&◌, ℤ}
+use Rattle.std.specs.List.{list_all, list_any}
 use Rattle.std.proofs.lemmas.List.{length-append}
-use Rattle.cstn_label.specs.Labels.{Label}
-use Rattle.cstn_label.specs.Letters.{prop_of}
-use Rattle.cstn_markup.specs.Bytes.{resolved, resolved_after, past_first, piece_at as bytes_piece_at}
-use Rattle.cstn_markup.specs.Tokens.{tokens, tokens_after, tail_at}
+use Rattle.cstn_label.specs.Labels.{Label, empty}
+use Rattle.cstn_markup.specs.Bytes.{is_same, resolved, resolved_after, past_first, piece_at as bytes_piece_at}
+use Rattle.cstn_markup.specs.Tokens.{Kind, tokens, tokens_after, piece_at, tail_at}
 use Rattle.cstn_markup.proofs.Resolving.{resolved_plain}
 use Rattle.cstn_markup.proofs.Stepping.{tokens_skip}
 use Rattle.cstn_graphml.specs.Results.{Refusal, ◌>>=◌}
 use Rattle.cstn_data.specs.WhiteSpace.{trimmed}
-use Rattle.cstn_data.specs.NumberTexts.{short_number, reaction_in}
+use Rattle.cstn_data.specs.NumberTexts.{short_number}
 use Rattle.cstn_data.specs.ValueTexts.{values_of}
-use Rattle.cstn_graphml.specs.Judged.{with_pairs}
+use Rattle.cstn_graphml.specs.Judged.{with_pairs, observed, reacting, labelled}
 use Rattle.cstn_graphml.specs.Contents.{Content, contents, inner, outer, content_of}
-use Rattle.cstn_graphml.specs.Elements.{read_by}
-use Rattle.cstn_graphml.specs.DrawnGraph.{DrawnGraph, empty_graph, node_of, with_node, with_constraint, with_deadline}
+use Rattle.cstn_graphml.specs.Elements.{Datum, read_by, data_reading, datum_of}
+use Rattle.cstn_graphml.specs.DrawnGraph.{Observation, observation, DrawnGraph, empty_graph, node_of, with_node, with_constraint, with_deadline}
 use Rattle.cstn_graphml.specs.Document.{in_graph, in_document, root_reading, document_reading}
 use Rattle.cstn_save.specs.Canonical.{escaped_name, tail}
 use Rattle.cstn_save.proofs.EscapedNameLemmas.{name_back}
-use Rattle.cstn_save.proofs.TokenLemmas.{next_token, text_piece, graphml_tag, graph_tag, node_closed, node_open, node_end_tag, edge_open, edge_end_tag, deadline_tag, obs_tag, reaction_tag, type_tag, values_tag, data_end, line_end}
+use Rattle.cstn_save.proofs.TokenLemmas.{next_token, text_piece, graphml_tag, graph_tag, node_closed, node_open, node_end_tag, edge_open, edge_end_tag, deadline_tag, type_tag, values_tag, data_end, line_end}
 
 -- the names of the elements around a line
 abbrev pub around : List (List ℕ)
@@ -32,9 +31,9 @@ pub record Makes (before after : DrawnGraph) (at : ℕ) (bytes rest : List ℕ) 
   pub told : in_graph before (inner (contents around (tokens_after 0 at bytes))) ≡ in_graph after (inner (contents around (tokens_after 0 place rest)))
   pub left : outer (contents around (tokens_after 0 at bytes)) ≡ outer (contents around (tokens_after 0 place rest))
 
--- the line of a time-point that observes nothing
+-- the line of a time-point without data
 pub plain_node : (name rest : List ℕ) (at : ℕ) (draft : DrawnGraph) → (nat_lt 0 (length name) && nat_le (length name) 64) ≡ true → node_of name draft ≡ None
-    → Makes draft (with_node name None draft) at (codes "<node id=" ++ 34 ∷ (escaped_name name ++ 34 ∷ 47 ∷ 62 ∷ 10 ∷ 60 ∷ rest)) (60 ∷ rest)
+    → Makes draft (with_node name None empty draft) at (codes "<node id=" ++ 34 ∷ (escaped_name name ++ 34 ∷ 47 ∷ 62 ∷ 10 ∷ 60 ∷ rest)) (60 ∷ rest)
 unfolding contents read_by
 plain_node name rest at draft sized fresh =
     let t1 = next_token 60 (codes "node id=" ++ 34 ∷ (escaped_name name ++ 34 ∷ 47 ∷ 62 ∷ 10 ∷ 60 ∷ rest)) (10 ∷ 60 ∷ rest) at _ (node_closed name (10 ∷ 60 ∷ rest)) in
@@ -45,7 +44,7 @@ plain_node name rest at draft sized fresh =
       left = rw (t1.1, t2.1) refl;
     }
 
-obs_read : resolved (codes "Obs") ≡ Some (codes "Obs")
+pub obs_read : resolved (codes "Obs") ≡ Some (codes "Obs")
 obs_read = resolved_plain (codes "Obs") refl
 
 type_read : resolved (codes "Type") ≡ Some (codes "Type")
@@ -57,54 +56,75 @@ values_read = resolved_plain (codes "LabeledValues") refl
 deadline_read : resolved (codes "Deadline") ≡ Some (codes "Deadline")
 deadline_read = resolved_plain (codes "Deadline") refl
 
--- the line of a time-point that observes a proposition and reacts after a tick
-pub observing_node : (name rest : List ℕ) (l p at : ℕ) (draft : DrawnGraph) → (nat_lt 0 (length name) && nat_le (length name) 64) ≡ true → node_of name draft ≡ None
-    → list_all (λ c. not (c == 60)) (l ∷ []) ≡ true → list_all (λ c. not (c == 38)) (l ∷ []) ≡ true → trimmed (l ∷ []) ≡ l ∷ [] → prop_of l ≡ Some p
-    → Makes draft (with_node name (Some (record { prop = p; reaction = 1 })) draft) at (codes "<node id=" ++ 34 ∷ (escaped_name name ++ 34 ∷ 62 ∷ (codes "<data key=\"Obs\">" ++ l ∷ (codes "</data></node>\n" ++ 60 ∷ rest)))) (60 ∷ rest)
-unfolding contents read_by
-observing_node name rest l p at draft sized fresh h k trims letter =
-    let t1 = next_token 60 (codes "node id=" ++ 34 ∷ (escaped_name name ++ 34 ∷ 62 ∷ (codes "<data key=\"Obs\">" ++ l ∷ (codes "</data></node>\n" ++ 60 ∷ rest)))) (codes "<data key=\"Obs\">" ++ l ∷ (codes "</data></node>\n" ++ 60 ∷ rest)) at _ (node_open name (codes "<data key=\"Obs\">" ++ l ∷ (codes "</data></node>\n" ++ 60 ∷ rest))) in
-    let t2 = next_token 60 (codes "data key=\"Obs\">" ++ (l ∷ (codes "</data></node>\n" ++ 60 ∷ rest))) (l ∷ (codes "</data></node>\n" ++ 60 ∷ rest)) t1.0 _ (obs_tag (l ∷ (codes "</data></node>\n" ++ 60 ∷ rest))) in
-    let t3 = next_token l (codes "</data></node>\n" ++ 60 ∷ rest) (codes "</data></node>\n" ++ 60 ∷ rest) t2.0 _ (text_piece l [] (codes "/data></node>\n" ++ 60 ∷ rest) h k) in
-    let t4 = next_token 60 (codes "/data>" ++ (codes "</node>\n" ++ 60 ∷ rest)) (codes "</node>\n" ++ 60 ∷ rest) t3.0 _ (data_end (codes "</node>\n" ++ 60 ∷ rest)) in
-    let t5 = next_token 60 (codes "/node>" ++ (10 ∷ 60 ∷ rest)) (10 ∷ 60 ∷ rest) t4.0 _ (node_end_tag (10 ∷ 60 ∷ rest)) in
-    let t6 = next_token 10 (60 ∷ rest) (60 ∷ rest) t5.0 _ (line_end rest) in
-    record {
-      place = t6.0;
-      told = rw (t1.1, t2.1, t3.1, t4.1, t5.1, t6.1, obs_read, resolved_plain (l ∷ []) k, trims, name_back name, sized, fresh, letter) refl;
-      left = rw (t1.1, t2.1, t3.1, t4.1, t5.1, t6.1) refl;
-    }
-
-reaction_read : resolved (codes "Reaction") ≡ Some (codes "Reaction")
+pub reaction_read : resolved (codes "Reaction") ≡ Some (codes "Reaction")
 reaction_read = resolved_plain (codes "Reaction") refl
 
--- the line of a time-point that observes a proposition and has another reaction
-pub reacting_node : (name ds rest : List ℕ) (l p d ticks at : ℕ) (draft : DrawnGraph) → (nat_lt 0 (length name) && nat_le (length name) 64) ≡ true → node_of name draft ≡ None
-    → list_all (λ c. not (c == 60)) (l ∷ []) ≡ true → list_all (λ c. not (c == 38)) (l ∷ []) ≡ true → trimmed (l ∷ []) ≡ l ∷ [] → prop_of l ≡ Some p
-    → list_all (λ c. not (c == 60)) (d ∷ ds) ≡ true → list_all (λ c. not (c == 38)) (d ∷ ds) ≡ true → trimmed (d ∷ ds) ≡ d ∷ ds → reaction_in (d ∷ ds) ≡ Some ticks
-    → Makes draft (with_node name (Some (record { prop = p; reaction = ticks })) draft) at
-    (codes "<node id=" ++ 34 ∷ (escaped_name name ++ 34 ∷ 62 ∷ (codes "<data key=\"Obs\">" ++ l ∷ (codes "</data><data key=\"Reaction\">" ++ d ∷ (ds ++ (codes "</data></node>\n" ++ 60 ∷ rest)))))) (60 ∷ rest)
+pub label_read : resolved (codes "Label") ≡ Some (codes "Label")
+label_read = resolved_plain (codes "Label") refl
+
+-- the keys that a time-point uses, and the names of the elements around its data
+abbrev pub node_keys : List (List ℕ)
+node_keys = codes "Obs" ∷ (codes "Reaction" ∷ (codes "Label" ∷ []))
+
+abbrev pub in_node : List (List ℕ)
+in_node = codes "node" ∷ around
+
+-- the bytes in front of the rest are these data more of a time-point
+pub record Finds (before after : List Datum) (at : ℕ) (bytes rest : List ℕ) : Type 0 where
+  pub place : ℕ
+  pub told : read_by (data_reading node_keys) before (inner (contents in_node (tokens_after 0 at bytes))) ≡ read_by (data_reading node_keys) after (inner (contents in_node (tokens_after 0 place rest)))
+  pub left : outer (contents in_node (tokens_after 0 at bytes)) ≡ outer (contents in_node (tokens_after 0 place rest))
+
+-- a data element
+abbrev datum_with : List ℕ → ℕ → List ℕ → Datum
+datum_with key at value = record { key = key; at = at; value = value }
+
+pub datum_found : (key front : List ℕ) (d : ℕ) (ds rest : List ℕ) (at : ℕ) (found : List Datum)
+    → ((r : List ℕ) → piece_at (60 ∷ (front ++ r)) ≡ Some (Some (Kind.start_tag (codes "data") (record { name = codes "key"; raw = key } ∷ []) false), r))
+    → resolved key ≡ Some key → list_any (λ u. is_same u key) node_keys ≡ true → list_any (λ (q : Datum). is_same q.key key) found ≡ false
+    → list_all (λ c. not (c == 60)) (d ∷ ds) ≡ true → list_all (λ c. not (c == 38)) (d ∷ ds) ≡ true → trimmed (d ∷ ds) ≡ d ∷ ds
+    → Finds found (found ++ (datum_with key at (d ∷ ds) ∷ [])) at (60 ∷ (front ++ d ∷ (ds ++ (codes "</data>" ++ rest)))) rest
 unfolding contents read_by
-reacting_node name ds rest l p d ticks at draft sized fresh h k trims letter few plain short number =
-    let r6 : List ℕ = codes "</node>\n" ++ 60 ∷ rest in
-    let r5 : List ℕ = codes "</data></node>\n" ++ 60 ∷ rest in
-    let r4 : List ℕ = d ∷ (ds ++ r5) in
-    let r3 : List ℕ = codes "<data key=\"Reaction\">" ++ r4 in
-    let r2 : List ℕ = codes "</data>" ++ r3 in
-    let r1 : List ℕ = codes "<data key=\"Obs\">" ++ l ∷ r2 in
-    let t1 = next_token 60 (codes "node id=" ++ 34 ∷ (escaped_name name ++ 34 ∷ 62 ∷ r1)) r1 at _ (node_open name r1) in
-    let t2 = next_token 60 (codes "data key=\"Obs\">" ++ (l ∷ r2)) (l ∷ r2) t1.0 _ (obs_tag (l ∷ r2)) in
-    let t3 = next_token l r2 r2 t2.0 _ (text_piece l [] (codes "/data>" ++ r3) h k) in
-    let t4 = next_token 60 (codes "/data>" ++ r3) r3 t3.0 _ (data_end r3) in
-    let t5 = next_token 60 (codes "data key=\"Reaction\">" ++ r4) r4 t4.0 _ (reaction_tag r4) in
-    let t6 = next_token d (ds ++ r5) r5 t5.0 _ (text_piece d ds (codes "/data></node>\n" ++ 60 ∷ rest) few plain) in
-    let t7 = next_token 60 (codes "/data>" ++ r6) r6 t6.0 _ (data_end r6) in
-    let t8 = next_token 60 (codes "/node>" ++ (10 ∷ 60 ∷ rest)) (10 ∷ 60 ∷ rest) t7.0 _ (node_end_tag (10 ∷ 60 ∷ rest)) in
-    let t9 = next_token 10 (60 ∷ rest) (60 ∷ rest) t8.0 _ (line_end rest) in
+datum_found key front d ds rest at found tag key_read used fresh few plain trims =
+    let r2 : List ℕ = codes "</data>" ++ rest in
+    let r1 : List ℕ = d ∷ (ds ++ r2) in
+    let t1 = next_token 60 (front ++ r1) r1 at _ (tag r1) in
+    let t2 = next_token d (ds ++ r2) r2 t1.0 _ (text_piece d ds (codes "/data>" ++ rest) few plain) in
+    let t3 = next_token 60 (codes "/data>" ++ rest) rest t2.0 _ (data_end rest) in
     record {
-      place = t9.0;
-      told = rw (t1.1, t2.1, t3.1, t4.1, t5.1, t6.1, t7.1, t8.1, t9.1, obs_read, reaction_read, resolved_plain (l ∷ []) k, resolved_plain (d ∷ ds) plain, trims, short, name_back name, sized, fresh, letter, number) refl;
-      left = rw (t1.1, t2.1, t3.1, t4.1, t5.1, t6.1, t7.1, t8.1, t9.1) refl;
+      place = t3.0;
+      told = rw (t1.1, t2.1, t3.1, key_read, used, fresh, resolved_plain (d ∷ ds) plain, trims) refl;
+      left = rw (t1.1, t2.1, t3.1) refl;
+    }
+
+pub finds_then : {a b c : List Datum} {at : ℕ} {x y z : List ℕ} → (m : Finds a b at x y) → Finds b c m.place y z → Finds a c at x z
+finds_then m n = record { place = n.place; told = m.told ∙ n.told; left = m.left ∙ n.left }
+
+-- what is observed and the label, by these data
+pub record Says (o : Option Observation) (a : Label) (found : List Datum) : Type 0 where
+  pub prop : Option ℕ
+  pub ticks : ℕ
+  pub observes : observed (datum_of (codes "Obs") found) ≡ Ok prop
+  pub reacts : reacting (datum_of (codes "Reaction") found) ≡ Ok ticks
+  pub labels : labelled (datum_of (codes "Label") found) ≡ Ok a
+  pub is : observation prop ticks ≡ o
+
+-- the line of a time-point with data
+pub open_node : (name bytes rest : List ℕ) (at : ℕ) (o : Option Observation) (a : Label) (draft : DrawnGraph) → (nat_lt 0 (length name) && nat_le (length name) 64) ≡ true → node_of name draft ≡ None
+    → ((place : ℕ) → (found : List Datum) × Says o a found × Finds [] found place bytes (codes "</node>\n" ++ 60 ∷ rest))
+    → Makes draft (with_node name o a draft) at (codes "<node id=" ++ 34 ∷ (escaped_name name ++ 34 ∷ 62 ∷ bytes)) (60 ∷ rest)
+unfolding contents read_by
+open_node name bytes rest at o a draft sized fresh finds =
+    let t1 = next_token 60 (codes "node id=" ++ 34 ∷ (escaped_name name ++ 34 ∷ 62 ∷ bytes)) bytes at _ (node_open name bytes) in
+    let f = finds t1.0 in
+    let says = f.1 in
+    let m = f.2 in
+    let t2 = next_token 60 (codes "/node>" ++ (10 ∷ 60 ∷ rest)) (10 ∷ 60 ∷ rest) m.place _ (node_end_tag (10 ∷ 60 ∷ rest)) in
+    let t3 = next_token 10 (60 ∷ rest) (60 ∷ rest) t2.0 _ (line_end rest) in
+    record {
+      place = t3.0;
+      told = rw (t1.1, m.told, m.left, t2.1, t3.1, name_back name, sized, fresh, says.observes, says.reacts, says.labels, says.is) refl;
+      left = rw (t1.1, m.left, t2.1, t3.1) refl;
     }
 
 requirement_read : resolved (codes "requirement") ≡ Some (codes "requirement")

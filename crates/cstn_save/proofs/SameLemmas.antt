@@ -13,7 +13,9 @@ use Rattle.cstn_net.proofs.HandedLemmas.{no_fault}
 use Rattle.cstn_graphml.specs.DrawnGraph.{observation, DrawnConstraint}
 use Rattle.cstn_graphml.specs.Document.{Parts, document}
 use Rattle.cstn_graphml.specs.Results.{Refusal}
-use Rattle.cstn_graphml.specs.Networks.{numbered, observed_prop, reaction_by, reaction_among, observation_of, network_of, IsUnfit}
+use Rattle.cstn_graphml.specs.Networks.{numbered, observed_prop, reaction_by, reaction_among, observation_of, network_of, labelled_of, IsUnfit}
+use Rattle.cstn_lift.specs.Labelled.{Labelled}
+use Rattle.cstn_lift.specs.WellFormed.{IsLabelled}
 use Rattle.cstn_graphml.proofs.Built.{made_constraints}
 use Rattle.cstn_save.specs.Canonical.{canonical, observed_by, observations}
 use Rattle.cstn_save.specs.ReadBack.{drawn, parts, AreNamesOf, AreNumbered, AreSameButIds}
@@ -59,8 +61,8 @@ drawn_numbered j [] = refl
 drawn_numbered j (d ∷ ds) = ap (λ (es : List DrawnConstraint). d ∷ es) (drawn_numbered (j + 1) ds)
 
 -- the network that is read
-pub same_but_ids : (net : Network) (names : List (List ℕ)) → AreSameButIds (network_of (parts net names)) net
-same_but_ids net names = record {
+pub same_but_ids : (m : Labelled) (names : List (List ℕ)) → AreSameButIds (network_of (parts m names)) m.base
+same_but_ids m names = let net : Network = m.base in record {
   deadline = refl;
   observes = props_back net.reaction net.observes;
   reaction = λ x p o. reaction_found net.reaction net.observes x p o.what;
@@ -79,11 +81,15 @@ same_network : (h k : ℕ) (os ps : List (Option ℕ)) (r s : ℕ → ℕ) (cs d
 same_network h k os ps r s cs ds a b c d = rw (a, b, c, d) refl
 
 -- it is the very same, where ids have no gap and what nothing observes has a reaction of a tick
-pub network_back : (net : Network) (names : List (List ℕ)) → ((p : ℕ) → ((x : ℕ) → Observes net x p → ⊥) → net.reaction p ≡ 1) → AreNumbered net.constraints → network_of (parts net names) ≡ net
-network_back net names ticks ids =
+network_back : (m : Labelled) (names : List (List ℕ)) → ((p : ℕ) → ((x : ℕ) → Observes m.base x p → ⊥) → m.base.reaction p ≡ 1) → AreNumbered m.base.constraints → network_of (parts m names) ≡ m.base
+network_back m names ticks ids =
+    let net : Network = m.base in
     same_network net.deadline net.deadline _ net.observes _ net.reaction _ net.constraints refl (props_back net.reaction net.observes)
     (fun_ext (λ p. reaction_all net.reaction net.observes p (λ none. ticks p (λ x o. none x o.what))))
     (renumbered 0 net.constraints (λ k d i. omega (arith, ids k d i)))
+
+pub labelled_back : (m : Labelled) (names : List (List ℕ)) → ((p : ℕ) → ((x : ℕ) → Observes m.base x p → ⊥) → m.base.reaction p ≡ 1) → AreNumbered m.base.constraints → labelled_of (parts m names) ≡ m
+labelled_back m names ticks ids = ap (λ (n : Network). record m { base = n }) (network_back m names ticks ids)
 
 -- what holds of constraints whatever their ids
 all_numbered : (P : Constraint → Type 0) → ((i : ℕ) (c : Constraint) → P c → P (record { id = i; from = c.from; to = c.to; most = c.most; label = c.label }))
@@ -101,9 +107,10 @@ numbered_id j (d ∷ ds) zero c h = omega arith
 numbered_id j (d ∷ ds) (suc k) c h = omega (arith, numbered_id (j + 1) ds k c (omega arith))
 
 -- the network that is read is well-formed, as the one that was written
-well_formed_back : (net : Network) (names : List (List ℕ)) → IsWellFormed net → IsWellFormed (network_of (parts net names))
-well_formed_back net names wf =
-    let read : Network = network_of (parts net names) in
+pub well_formed_back : (m : Labelled) (names : List (List ℕ)) → IsWellFormed m.base → IsWellFormed (network_of (parts m names))
+well_formed_back m names wf =
+    let net : Network = m.base in
+    let read : Network = network_of (parts m names) in
     let same : read.observes ≡ net.observes = props_back net.reaction net.observes in
     let size : count read ≡ count net = ap length same in
     let back : (x p : ℕ) → Observes read x p → Observes net x p = λ x p o. record { what = sym (ap (λ os. slice_index_or os x None) same) ∙ o.what } in
@@ -158,26 +165,27 @@ fits parts error good unfit =
     error unfit.fault.has
 
 -- and so have the parts of a canonical document
-pub accepted : (net : Network) (names : List (List ℕ)) (error : NetError) → IsWellFormed net → IsUnfit (parts net names) error → ⊥
-accepted net names error wf unfit = fits (parts net names) error (well_formed_back net names wf) unfit
+pub accepted : (m : Labelled) (names : List (List ℕ)) (error : NetError) → IsWellFormed m.base → IsUnfit (parts m names) error → ⊥
+accepted m names error wf unfit = fits (parts m names) error (well_formed_back m names wf) unfit
 
 parts_are : (a b : Parts) → ◌≡◌ {A = Result Parts Refusal} (Ok a) (Ok b) → a ≡ b
 parts_are a b e = cc
 
--- one text is the canonical document of one network under one list of names
-pub told_apart : (net other : Network) (names more : List (List ℕ)) → IsWellFormed net → AreNamesOf net names → IsWellFormed other → AreNamesOf other more
-    → canonical net names ≡ canonical other more → (names ≡ more) × AreSameButIds net other
-told_apart net other names more wf is good are same =
-    let read : parts net names ≡ parts other more = parts_are _ _ (sym (document_back net names wf is) ∙ ap (λ text. document text None) same ∙ document_back other more good are) in
-    let seen : observations net ≡ observations other = ap (λ (p : Parts). p.observes) read in
-    let props : net.observes ≡ other.observes = sym (props_back net.reaction net.observes) ∙ ap (map observed_prop) seen ∙ props_back other.reaction other.observes in (
+-- one text is the canonical document of one labelled network under one list of names
+pub told_apart : (m other : Labelled) (names more : List (List ℕ)) → IsLabelled m → AreNamesOf m.base names → IsLabelled other → AreNamesOf other.base more
+    → canonical m names ≡ canonical other more → (names ≡ more) × (m.labels ≡ other.labels) × AreSameButIds m.base other.base
+told_apart m other names more wf is good are same =
+    let read : parts m names ≡ parts other more = parts_are _ _ (sym (document_back m names wf is) ∙ ap (λ text. document text None) same ∙ document_back other more good are) in
+    let seen : observations m.base ≡ observations other.base = ap (λ (p : Parts). p.observes) read in
+    let props : m.base.observes ≡ other.base.observes = sym (props_back m.base.reaction m.base.observes) ∙ ap (map observed_prop) seen ∙ props_back other.base.reaction other.base.observes in (
       ap (λ (p : Parts). p.names) read,
+      ap (λ (p : Parts). p.labels) read,
       record {
         deadline = ap (λ (p : Parts). p.deadline) read;
         observes = props;
         reaction = λ x p o.
-            sym (reaction_found net.reaction net.observes x p (ap (λ os. slice_index_or os x None) props ∙ o.what))
-            ∙ ap (λ os. reaction_among os p) seen ∙ reaction_found other.reaction other.observes x p o.what;
+            sym (reaction_found m.base.reaction m.base.observes x p (ap (λ os. slice_index_or os x None) props ∙ o.what))
+            ∙ ap (λ os. reaction_among os p) seen ∙ reaction_found other.base.reaction other.base.observes x p o.what;
         constraints = ap (λ (p : Parts). p.constraints) read;
       },
     )

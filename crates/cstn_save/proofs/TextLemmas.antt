@@ -14,8 +14,9 @@ use Rattle.std.proofs.lemmas.Str.{IsUtf8-append, IsUtf8-encode, IsUtf8-nil, IsUt
 use Rattle.cstn_markup.proofs.Utf8.{past_ascii}
 use Rattle.cstn_markup.proofs.Resolving.{cut}
 use Rattle.cstn_text.specs.Numbers.{printed_number, printed_value}
+use Rattle.cstn_lift.specs.Labelled.{label_in}
 use Rattle.cstn_graphml.specs.DrawnGraph.{Observation}
-use Rattle.cstn_save.specs.Canonical.{is_numbered, escaped_byte, escaped_name, literal, literals_below, or_empty, document_label, head, reaction_data, node_end, node_line, nodes_below, edge_tag, edge_data, edge_line, edges, tail}
+use Rattle.cstn_save.specs.Canonical.{is_numbered, escaped_byte, escaped_name, literal, literals_below, or_empty, document_label, head, observation_data, reaction_data, label_data, node_data, node_end, node_line, nodes_below, edge_tag, edge_data, edge_line, edges, tail}
 use Rattle.cstn_net.specs.Networks.{Constraint}
 use Rattle.cstn_save.proofs.WholeLemmas.{IsInReach}
 use Rattle.cstn_save.proofs.NumberTextLemmas.{decimal_digits}
@@ -140,23 +141,33 @@ reaction_utf8 ticks small =
     (ascii_utf8 (decimal ticks) (all_for is_ascii_digit (λ c. nat_lt c 128) (decimal ticks) digit_low (decimal_digits ticks small)))
     (ascii_utf8 (codes "</data>") refl))
 
-node_end_utf8 : (o : Option Observation) → IsInReach o → IsUtf8 (node_end o)
-node_end_utf8 None small = ascii_utf8 (codes "\"/>\n") refl
-node_end_utf8 (Some o) reach =
-    both (codes "\"><data key=\"Obs\">" ++ letter_of o.prop ∷ codes "</data>" ++ reaction_data o.reaction) (codes "</node>\n")
-    (both (codes "\"><data key=\"Obs\">" ++ letter_of o.prop ∷ codes "</data>") (reaction_data o.reaction)
-    (both (codes "\"><data key=\"Obs\">") (letter_of o.prop ∷ codes "</data>") (ascii_utf8 (codes "\"><data key=\"Obs\">") refl)
+observation_utf8 : (o : Option Observation) → IsInReach o → IsUtf8 (observation_data o)
+observation_utf8 None small = IsUtf8-nil
+observation_utf8 (Some o) reach =
+    both (codes "<data key=\"Obs\">" ++ letter_of o.prop ∷ codes "</data>") (reaction_data o.reaction)
+    (both (codes "<data key=\"Obs\">") (letter_of o.prop ∷ codes "</data>") (ascii_utf8 (codes "<data key=\"Obs\">") refl)
     (both (letter_of o.prop ∷ []) (codes "</data>") (single (letter_of o.prop) (letter_low o.prop reach.0)) (ascii_utf8 (codes "</data>") refl)))
-    (reaction_utf8 o.reaction (omega (arith, reach.2))))
-    (ascii_utf8 (codes "</node>\n") refl)
+    (reaction_utf8 o.reaction (omega (arith, reach.2)))
 
-pub nodes_utf8 : (names : List (List ℕ)) (observes : List (Option Observation)) (n : ℕ) → ((i : ℕ) → i < n → IsUtf8 (slice_index_or names i []) × IsInReach (slice_index_or observes i None)) → IsUtf8 (nodes_below names observes n)
+label_data_utf8 : (literals : List ℕ) → IsUtf8 literals → IsUtf8 (label_data literals)
+label_data_utf8 [] u = IsUtf8-nil
+label_data_utf8 (b ∷ literals) u = three (codes "<data key=\"Label\">") (b ∷ literals) (codes "</data>") (ascii_utf8 (codes "<data key=\"Label\">") refl) u (ascii_utf8 (codes "</data>") refl)
+
+node_end_utf8 : (inner_bytes : List ℕ) → IsUtf8 inner_bytes → IsUtf8 (node_end inner_bytes)
+node_end_utf8 [] u = ascii_utf8 (codes "\"/>\n") refl
+node_end_utf8 (b ∷ inner_bytes) u = three (codes "\">") (b ∷ inner_bytes) (codes "</node>\n") (ascii_utf8 (codes "\">") refl) u (ascii_utf8 (codes "</node>\n") refl)
+
+pub nodes_utf8 : (names : List (List ℕ)) (observes : List (Option Observation)) (labels : List Label) (n : ℕ) → ((i : ℕ) → i < n → IsUtf8 (slice_index_or names i []) × IsInReach (slice_index_or observes i None)) → IsUtf8 (nodes_below names observes labels n)
 unfolding nodes_below
-nodes_utf8 names observes zero each = IsUtf8-nil
-nodes_utf8 names observes (suc n) each =
+nodes_utf8 names observes labels zero each = IsUtf8-nil
+nodes_utf8 names observes labels (suc n) each =
     let here = each n (omega arith) in
-    both (nodes_below names observes n) (node_line (slice_index_or names n []) (slice_index_or observes n None)) (nodes_utf8 names observes n (λ i h. each i (omega (arith, h))))
-    (three (codes "<node id=\"") (escaped_name (slice_index_or names n [])) (node_end (slice_index_or observes n None)) (ascii_utf8 (codes "<node id=\"") refl) (name_utf8 (slice_index_or names n []) here.0) (node_end_utf8 (slice_index_or observes n None) here.1))
+    let name : List ℕ = slice_index_or names n [] in
+    let o : Option Observation = slice_index_or observes n None in
+    let a : Label = label_in labels n in
+    both (nodes_below names observes labels n) (node_line name o a) (nodes_utf8 names observes labels n (λ i h. each i (omega (arith, h))))
+    (three (codes "<node id=\"") (escaped_name name) (node_end (node_data o a)) (ascii_utf8 (codes "<node id=\"") refl) (name_utf8 name here.0)
+    (node_end_utf8 (node_data o a) (both (observation_data o) (label_data (literals_below a 52)) (observation_utf8 o here.1) (label_data_utf8 (literals_below a 52) (literals_utf8 a 52 (omega arith))))))
 
 pub edges_utf8 : (names : List (List ℕ)) (cs : List Constraint) → All (λ c. IsUtf8 (edge_line names c)) cs → IsUtf8 (edges names cs)
 edges_utf8 names [] each = IsUtf8-nil

@@ -53,6 +53,10 @@ pub reaction_tag : (rest : List ℕ) → piece_at (codes "<data key=\"Reaction\"
 unfolding tail_at resolved_after bytes_piece_at
 reaction_tag rest = refl
 
+pub label_tag : (rest : List ℕ) → piece_at (codes "<data key=\"Label\">" ++ rest) ≡ Some (Some (Kind.start_tag (codes "data") (record { name = codes "key"; raw = codes "Label" } ∷ []) false), rest)
+unfolding tail_at resolved_after bytes_piece_at
+label_tag rest = refl
+
 pub type_tag : (rest : List ℕ) → piece_at (codes "<data key=\"Type\">" ++ rest) ≡ Some (Some (Kind.start_tag (codes "data") (record { name = codes "key"; raw = codes "Type" } ∷ []) false), rest)
 unfolding tail_at resolved_after bytes_piece_at
 type_tag rest = refl

@@ -1,10 +1,11 @@
--- The canonical document of a network.
+-- The canonical document of a labelled network.
 use Rattle.std.specs.Prelude.{ℕ, zero, suc, Bool, ◌&&◌, ◌||◌, ◌==◌, nat_le, List, [], ◌∷◌, ◌++◌, slice_index_or, map, flat_map, Option, Some, None, if◌then◌else◌, codes, ℤ}
 use Rattle.cstn_label.specs.declared.marks.Mark.{Mark}
 use Rattle.cstn_label.specs.declared.marks.Mark.TheVariants.{Absent, Yes, No, Unknown}
 use Rattle.cstn_label.specs.Labels.{Label}
 use Rattle.cstn_label.specs.Letters.{letter_of}
 use Rattle.cstn_net.specs.Networks.{Network, Constraint, count}
+use Rattle.cstn_lift.specs.Labelled.{Labelled, label_in}
 use Rattle.cstn_graphml.specs.DrawnGraph.{Observation}
 use Rattle.cstn_text.specs.Numbers.{printed_number, printed_value}
 
@@ -66,19 +67,34 @@ observations net = map (observed_by net.reaction) net.observes
 abbrev pub reaction_data : ℕ → List ℕ
 reaction_data ticks = if ticks == 1 then [] else codes "<data key=\"Reaction\">" ++ printed_number ticks ++ codes "</data>"
 
--- what follows the name in the line of a time-point, by what it observes
-abbrev pub node_end : Option Observation → List ℕ
-node_end None = codes "\"/>\n"
-node_end (Some o) = codes "\"><data key=\"Obs\">" ++ letter_of o.prop ∷ codes "</data>" ++ reaction_data o.reaction ++ codes "</node>\n"
+-- the data of what is observed
+abbrev pub observation_data : Option Observation → List ℕ
+observation_data None = []
+observation_data (Some o) = codes "<data key=\"Obs\">" ++ letter_of o.prop ∷ codes "</data>" ++ reaction_data o.reaction
+
+-- the data of a label by its literals, of which the empty one has none
+abbrev pub label_data : List ℕ → List ℕ
+label_data [] = []
+label_data (b ∷ bytes) = codes "<data key=\"Label\">" ++ (b ∷ bytes) ++ codes "</data>"
+
+-- the data of a time-point
+abbrev pub node_data : Option Observation → Label → List ℕ
+node_data observed label = observation_data observed ++ label_data (literals_below label 52)
+
+-- what follows the name in the line of a time-point, by its data
+abbrev pub node_end : List ℕ → List ℕ
+node_end [] = codes "\"/>\n"
+node_end (b ∷ bytes) = codes "\">" ++ (b ∷ bytes) ++ codes "</node>\n"
 
 -- the line of a time-point
-abbrev pub node_line : List ℕ → Option Observation → List ℕ
-node_line name observed = codes "<node id=\"" ++ escaped_name name ++ node_end observed
+abbrev pub node_line : List ℕ → Option Observation → Label → List ℕ
+node_line name observed label = codes "<node id=\"" ++ escaped_name name ++ node_end (node_data observed label)
 
 -- the lines of the first n time-points
-unfoldable pub nodes_below : List (List ℕ) → List (Option Observation) → ℕ → List ℕ
-nodes_below names observes zero = []
-nodes_below names observes (suc n) = nodes_below names observes n ++ node_line (slice_index_or names n []) (slice_index_or observes n None)
+unfoldable pub nodes_below : List (List ℕ) → List (Option Observation) → List Label → ℕ → List ℕ
+nodes_below names observes labels zero = []
+nodes_below names observes labels (suc n) =
+    nodes_below names observes labels n ++ node_line (slice_index_or names n []) (slice_index_or observes n None) (label_in labels n)
 
 -- the start tag of a constraint's edge
 abbrev pub edge_tag : List ℕ → List ℕ → List ℕ
@@ -102,5 +118,6 @@ abbrev pub tail : List ℕ
 tail = codes "</graph>\n</graphml>\n"
 
 -- the canonical document: the deadline, the time-points by number, and the constraints by id
-abbrev pub canonical : Network → List (List ℕ) → List ℕ
-canonical net names = head net.deadline ++ nodes_below names (observations net) (count net) ++ edges names net.constraints ++ tail
+abbrev pub canonical : Labelled → List (List ℕ) → List ℕ
+canonical m names =
+    head m.base.deadline ++ nodes_below names (observations m.base) m.labels (count m.base) ++ edges names m.base.constraints ++ tail

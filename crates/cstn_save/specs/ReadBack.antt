@@ -1,5 +1,6 @@
--- What the canonical document says of a network.
+-- What the canonical document says of a labelled network.
 use Rattle.std.specs.Prelude.{◌≡◌, ℕ, ◌<◌, List, length, map, Some, slice_get, slice_index_or, codes}
+use Rattle.cstn_lift.specs.Labelled.{Labelled}
 use Rattle.cstn_net.specs.Networks.{Network, Constraint, count, Observes}
 use Rattle.cstn_text.specs.Names.{AreNames}
 use Rattle.cstn_graphml.specs.DrawnGraph.{DrawnConstraint}
@@ -10,9 +11,9 @@ use Rattle.cstn_graphml.specs.Document.{Parts}
 abbrev pub drawn : Constraint → DrawnConstraint
 drawn c = record { from = c.from; to = c.to; most = c.most; label = c.label }
 
--- the names and the network, but for the ids of its constraints
-abbrev pub parts : Network → List (List ℕ) → Parts
-parts net names = record { deadline = net.deadline; names = names; observes = observations net; constraints = map drawn net.constraints }
+-- the names and the labelled network, but for the ids of its constraints
+abbrev pub parts : Labelled → List (List ℕ) → Parts
+parts m names = record { deadline = m.base.deadline; names = names; observes = observations m.base; labels = m.labels; constraints = map drawn m.base.constraints }
 
 -- one name for each time-point, all different, and the first is `Z`
 pub record AreNamesOf (net : Network) (names : List (List ℕ)) : Type 0 where

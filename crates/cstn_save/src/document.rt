@@ -3,6 +3,7 @@
 ghost use Rattle.std.specs.Prelude.{◌≡◌, ◌<◌, ◌++◌, OnOk, IfOk, Ok, Some, None, length, slice_get, slice_index_or, codes, map};
 ghost use Rattle.cstn_net.specs.Networks.{count};
 ghost use Rattle.cstn_net.specs.Read.{the_network, the_constraint};
+ghost use Rattle.cstn_lift.specs.Read.{the_labelled};
 ghost use Rattle.cstn_graphml.specs.Document.{document};
 ghost use Rattle.cstn_save.specs.ReadBack.{parts};
 ghost use Rattle.cstn_save.specs.Canonical.{canonical, observations, nodes_below, edges, edge_line};
@@ -10,36 +11,44 @@ ghost use Rattle.cstn_save.specs.Seen.{observed_seen};
 
 use crate::lines::{Observation, push_edge_data, push_edge_tag, push_head, push_node};
 use cstn_label::NodeId;
+use cstn_lift::Labelled;
 use cstn_net::{Constraint, Network};
 use cstn_text::Names;
 use std::alloc::{AllocError, Global};
 
-/// The canonical document of a network under the names of its time-points, of which the first is `Z`.
+/// The canonical document of a labelled network under the names of its time-points, of which the first is `Z`.
 ///
 /// The lines are those of the deadline in ticks, of each time-point by number and of each constraint by id. Reading the
-/// document gives the same names and the same network, with its constraints numbered from 0.
-pub fn write(alloc: Global, net: &Network, names: &Names) -> Result<Vec<u8>, AllocError>
-    requires named { length names.now ≡ count (the_network net.now) }
+/// document gives the same names, the same labels of time-points, and the same network with its constraints numbered from 0.
+pub fn write(alloc: Global, net: &Labelled, names: &Names) -> Result<Vec<u8>, AllocError>
+    requires named { length names.now ≡ count (the_network net.now.base) }
     requires origin { slice_get names.now 0 ≡ Some (codes "Z") }
-    ensures canonical { IfOk result (λ text. text.items ≡ canonical (the_network net.now) names.now) }
-    ensures read_back { IfOk result (λ text. document text.items None ≡ Ok (parts (the_network net.now) names.now)) }
+    ensures canonical { IfOk result (λ text. text.items ≡ canonical (the_labelled net.now) names.now) }
+    ensures read_back { IfOk result (λ text. document text.items None ≡ Ok (parts (the_labelled net.now) names.now)) }
 {
-    prove!(names.count() == net.count() as u32);
+    let base = net.base();
+    prove!(names.count() == base.count() as u32);
     let mut text = Vec::new(alloc);
-    push_head(&mut text, net.deadline())?;
-    push_nodes(&mut text, net, names)?;
-    push_edges(&mut text, net, names)?;
+    push_head(&mut text, base.deadline())?;
+    push_nodes(alloc, &mut text, net, names)?;
+    push_edges(&mut text, base, names)?;
     text.extend_from_slice(b"</graph>\n</graphml>\n")?;
     Ok(text)
 }
 
-fn push_nodes(text: &mut Vec<u8>, net: &Network, names: &Names) -> Result<(), AllocError>
-    requires { length names.now ≡ count (the_network net.now) }
-    ensures { OnOk result (text.new.items ≡ text.old.items ++ nodes_below names.now (observations (the_network net.now)) (count (the_network net.now))) }
+fn push_nodes(
+    alloc: Global,
+    text: &mut Vec<u8>,
+    net: &Labelled,
+    names: &Names,
+) -> Result<(), AllocError>
+    requires { length names.now ≡ count (the_network net.now.base) }
+    ensures { OnOk result (text.new.items ≡ text.old.items ++ nodes_below names.now (observations (the_network net.now.base)) (the_labelled net.now).labels (count (the_network net.now.base))) }
 {
-    for x in 0..net.count() {
+    let base = net.base();
+    for x in 0..base.count() {
         let x = NodeId(x);
-        push_node(text, names.name(x), observation(net, x))?;
+        push_node(alloc, text, names.name(x), observation(base, x), net.label(x))?;
     }
     Ok(())
 }

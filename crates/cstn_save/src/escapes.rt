@@ -80,7 +80,7 @@ pub(crate) fn push_label(text: &mut Vec<u8>, label: Label) -> Result<(), AllocEr
     Ok(())
 }
 
-fn push_literals(text: &mut Vec<u8>, label: Label) -> Result<(), AllocError>
+pub(crate) fn push_literals(text: &mut Vec<u8>, label: Label) -> Result<(), AllocError>
     ensures { OnOk result (text.new.items ≡ text.old.items ++ literals_below (marks label) 52) }
 {
     for index in 0..52 {

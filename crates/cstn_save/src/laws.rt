@@ -1,8 +1,8 @@
 //! What is written is read back. The calls do nothing: their contracts are the laws.
 
-ghost use Rattle.std.specs.Prelude.{◌≡◌, ◌<◌, ◌≤◌, ◌^◌, ◌++◌, ◌∷◌, [], ℕ, ℤ, List, Some, None, Ok, FitsSigned, codes};
+ghost use Rattle.std.specs.Prelude.{◌≡◌, ◌<◌, ◌≤◌, ◌^◌, ◌++◌, ◌∷◌, [], ℕ, ℤ, List, length, Some, None, Ok, FitsSigned, codes};
 ghost use Rattle.std.specs.Int.{w32};
-ghost use Rattle.cstn_label.specs.Labels.{Label, IsPlain};
+ghost use Rattle.cstn_label.specs.Labels.{Label, IsPlain, empty};
 ghost use Rattle.cstn_label.specs.declared.marks.Mark.TheVariants.{Absent};
 ghost use Rattle.cstn_text.specs.Numbers.{printed_number, printed_value};
 ghost use Rattle.cstn_markup.specs.Bytes.{resolved};
@@ -11,10 +11,14 @@ ghost use Rattle.cstn_data.specs.NumberTexts.{short_number, integer_text};
 ghost use Rattle.cstn_data.specs.LabelTexts.{label_of};
 ghost use Rattle.cstn_data.specs.ValueTexts.{values_of};
 ghost use Rattle.cstn_graphml.specs.Document.{document};
-ghost use Rattle.cstn_net.specs.Networks.{Network, IsWellFormed, Observes};
+ghost use Rattle.cstn_net.specs.Networks.{IsWellFormed, Observes, count};
+ghost use Rattle.cstn_lift.specs.Labelled.{Labelled, label_of as label_of_point};
+ghost use Rattle.cstn_lift.specs.WellFormed.{IsLabelled};
+ghost use Rattle.cstn_lift.specs.Faults.{HasFault};
 ghost use Rattle.cstn_net.specs.declared.errors.NetError.{NetError};
 ghost use Rattle.cstn_save.specs.Canonical.{canonical, escaped_name, document_label};
-ghost use Rattle.cstn_graphml.specs.Networks.{network_of, IsUnfit};
+ghost use Rattle.cstn_graphml.specs.Networks.{network_of, labelled_of, IsUnfit, IsMislabelled};
+ghost use Rattle.cstn_lift.specs.declared.errors.LiftError.{LiftError};
 ghost use Rattle.cstn_save.specs.ReadBack.{parts, AreNamesOf, AreNumbered, AreSameButIds};
 
 /// An escaped name between quotes is a value of an attribute, and its references put in give the name back.
@@ -39,18 +43,21 @@ pub fn values_are_read_back()
         → values_of (codes "{(" ++ printed_value v ++ codes ", " ++ document_label a ++ codes ")}") ≡ Some (record { most = v; label = Some a } ∷ []) }
 {}
 
-/// Reading the canonical document gives the same names and the same network, with its constraints numbered from 0, and it isn't
-/// refused. It is the very same network where its ids have no gap and a proposition that nothing observes has a reaction of a tick.
+/// Reading the canonical document gives the same names, the same labels of time-points, and the same network with its constraints
+/// numbered from 0, which isn't refused. It is the very same labelled network where its ids have no gap and a proposition that
+/// nothing observes has a reaction of a tick; then its labels aren't refused either, and empty labels never are.
 #[tactic(auto, using(crate::proofs::LawLemmas::document_back, crate::proofs::SameLemmas::same_but_ids))]
 pub fn documents_are_read_back()
-    ensures back { (net : Network) (names : List (List ℕ)) → IsWellFormed net → AreNamesOf net names → document (canonical net names) None ≡ Ok (parts net names) }
-    ensures accepted { (net : Network) (names : List (List ℕ)) (error : NetError) → IsWellFormed net → IsUnfit (parts net names) error → ⊥ }
-    ensures same_but_ids { (net : Network) (names : List (List ℕ)) → AreSameButIds (network_of (parts net names)) net }
-    ensures same { (net : Network) (names : List (List ℕ)) → ((p : ℕ) → ((x : ℕ) → Observes net x p → ⊥) → net.reaction p ≡ 1) → AreNumbered net.constraints → network_of (parts net names) ≡ net }
+    ensures back { (m : Labelled) (names : List (List ℕ)) → IsLabelled m → AreNamesOf m.base names → document (canonical m names) None ≡ Ok (parts m names) }
+    ensures accepted { (m : Labelled) (names : List (List ℕ)) (error : NetError) → IsWellFormed m.base → IsUnfit (parts m names) error → ⊥ }
+    ensures unlabelled { (m : Labelled) (names : List (List ℕ)) (error : LiftError) → IsWellFormed m.base → length m.labels ≡ count m.base → ((x : ℕ) → label_of_point m x ≡ empty) → IsMislabelled (parts m names) error → ⊥ }
+    ensures labelled { (m : Labelled) (names : List (List ℕ)) (error : LiftError) → ((e : LiftError) → HasFault m e → ⊥) → labelled_of (parts m names) ≡ m → IsMislabelled (parts m names) error → ⊥ }
+    ensures same_but_ids { (m : Labelled) (names : List (List ℕ)) → AreSameButIds (network_of (parts m names)) m.base }
+    ensures same { (m : Labelled) (names : List (List ℕ)) → ((p : ℕ) → ((x : ℕ) → Observes m.base x p → ⊥) → m.base.reaction p ≡ 1) → AreNumbered m.base.constraints → labelled_of (parts m names) ≡ m }
 {}
 
-/// Equal canonical texts are of equal names and of networks that differ in ids alone.
+/// Equal canonical texts are of equal names, equal labels and of networks that differ in ids alone.
 pub fn canonical_texts_tell_networks_apart()
-    ensures { (net other : Network) (names more : List (List ℕ)) → IsWellFormed net → AreNamesOf net names → IsWellFormed other → AreNamesOf other more
-        → canonical net names ≡ canonical other more → (names ≡ more) × AreSameButIds net other }
+    ensures { (m other : Labelled) (names more : List (List ℕ)) → IsLabelled m → AreNamesOf m.base names → IsLabelled other → AreNamesOf other.base more
+        → canonical m names ≡ canonical other more → (names ≡ more) × (m.labels ≡ other.labels) × AreSameButIds m.base other.base }
 {}

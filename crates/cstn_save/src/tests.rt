@@ -1,6 +1,7 @@
 use crate::write;
 use cstn_graphml::read;
 use cstn_label::{Label, Mark, NodeId, Prop};
+use cstn_lift::{Labelled, lift};
 use cstn_net::{Builder, Network};
 use cstn_text::Names;
 use std::alloc::Global;
@@ -17,9 +18,26 @@ fn name(rt: &impl Abort, names: &mut Names, name: &str) -> Result<(), Fail> {
     Ok(())
 }
 
-// The document of a network under its names.
-fn document(rt: &impl Abort, alloc: Global, net: &Network, names: &Names) -> Result<String, Fail> {
-    assert!(rt; names.count() == net.count() as u32);
+// A network with these labels of its time-points.
+fn labelled(
+    rt: &impl Abort,
+    alloc: Global,
+    net: Network,
+    labels: Vec<Label>,
+) -> Result<Labelled, Fail> {
+    assert!(rt; labels.len() == net.count() as usize);
+    Ok(lift(alloc, net, labels)?)
+}
+
+// A network whose time-points have no labels.
+fn unlabelled(rt: &impl Abort, alloc: Global, net: Network) -> Result<Labelled, Fail> {
+    let labels = vec![in alloc; Label::empty(); net.count() as usize]?;
+    labelled(rt, alloc, net, labels)
+}
+
+// The document of a labelled network under its names.
+fn document(rt: &impl Abort, alloc: Global, net: &Labelled, names: &Names) -> Result<String, Fail> {
+    assert!(rt; names.count() == net.base().count() as u32);
     assert!(rt; names.count() > 0);
     assert!(rt; names.name(NodeId(0)) == "Z");
     let bytes = write(alloc, net, names)?;
@@ -53,7 +71,7 @@ fn the_branch_network(rt: HostRuntime) -> Result<(), Fail> {
     builder.node(None)?;
     builder.constrain(2, 0, -10, Label::empty().with(p, Mark::Yes))?;
     builder.constrain(0, 2, 3, Label::empty().with(p, Mark::No))?;
-    let net = builder.close()?;
+    let net = unlabelled(&rt, alloc, builder.close()?)?;
     let text = document(&rt, alloc, &net, &names)?;
     assert_eq!(rt; text.len(), 434);
     assert_eq!(rt; text.as_str(), BRANCH);
@@ -81,7 +99,7 @@ fn names_are_escaped(rt: HostRuntime) -> Result<(), Fail> {
     builder.node(None)?;
     builder.node(None)?;
     builder.constrain(0, 1, -5, Label::empty())?;
-    let net = builder.close()?;
+    let net = unlabelled(&rt, alloc, builder.close()?)?;
     let text = document(&rt, alloc, &net, &names)?;
     assert_eq!(rt; text.as_str(), ESCAPED);
     let (_, again) = read(alloc, text.as_bytes(), None)?;
@@ -101,9 +119,10 @@ fn ids_are_closed_up(rt: HostRuntime) -> Result<(), Fail> {
     builder.constrain(0, 0, 3, Label::empty())?;
     let mut net = builder.close()?;
     net.take_out(1);
+    let net = unlabelled(&rt, alloc, net)?;
     let text = document(&rt, alloc, &net, &names)?;
     let (again, _) = read(alloc, text.as_bytes(), None)?;
-    let [first, second] = again.constraints() else {
+    let [first, second] = again.base().constraints() else {
         panic!(rt; "two constraints");
     };
     assert_eq!(rt; (first.id, first.most), (0, 1));
@@ -139,13 +158,63 @@ fn reactions_are_written_and_read_back(rt: HostRuntime) -> Result<(), Fail> {
     builder.react(2, 1000);
     let label = Label::empty().with(z, Mark::Yes).with(b, Mark::No);
     builder.constrain(0, 2, 0, label.with(a, Mark::Yes))?;
-    let net = builder.close()?;
+    let net = unlabelled(&rt, alloc, builder.close()?)?;
     let text = document(&rt, alloc, &net, &names)?;
     assert_eq!(rt; text.as_str(), REACTING);
     let (again, _) = read(alloc, text.as_bytes(), None)?;
     assert_eq!(rt;
-        (again.reaction(z), again.reaction(b), again.reaction(a)),
+        (
+            again.base().reaction(z),
+            again.base().reaction(b),
+            again.base().reaction(a)
+        ),
         (1, 3, 1000)
     );
+    Ok(())
+}
+
+const LABELLED: &str = "<?xml version=\"1.0\" encoding=\"UTF-8\"?>
+<graphml>
+<graph edgedefault=\"directed\">
+<data key=\"Deadline\">10</data>
+<node id=\"Z\"/>
+<node id=\"P\"><data key=\"Obs\">p</data></node>
+<node id=\"Q\"><data key=\"Obs\">q</data><data key=\"Reaction\">3</data><data key=\"Label\">p</data></node>
+<node id=\"R\"><data key=\"Obs\">r</data><data key=\"Label\">¬p</data></node>
+<node id=\"X\"><data key=\"Label\">pq</data></node>
+<edge source=\"X\" target=\"Z\"><data key=\"Type\">requirement</data><data key=\"LabeledValues\">{(-5, ⊡)}</data></edge>
+</graph>
+</graphml>
+";
+
+#[test]
+fn labels_are_written_and_read_back(rt: HostRuntime) -> Result<(), Fail> {
+    let alloc = rt.alloc();
+    let (p, q, r) = (prop(&rt, b'p'), prop(&rt, b'q'), prop(&rt, b'r'));
+    let mut names = Names::new(alloc);
+    name(&rt, &mut names, "Z")?;
+    name(&rt, &mut names, "P")?;
+    name(&rt, &mut names, "Q")?;
+    name(&rt, &mut names, "R")?;
+    name(&rt, &mut names, "X")?;
+    let mut builder = Builder::new(alloc, 10);
+    builder.node(None)?;
+    builder.node(Some(p))?;
+    builder.node(Some(q))?;
+    builder.node(Some(r))?;
+    builder.node(None)?;
+    builder.react(2, 3);
+    builder.constrain(4, 0, -5, Label::empty())?;
+    let none = Label::empty();
+    let of_q = none.with(p, Mark::Yes);
+    let of_r = none.with(p, Mark::No);
+    let of_x = of_q.with(q, Mark::Yes);
+    let labels = vec![in alloc; none, none, of_q, of_r, of_x]?;
+    let net = labelled(&rt, alloc, builder.close()?, labels)?;
+    let text = document(&rt, alloc, &net, &names)?;
+    assert_eq!(rt; text.as_str(), LABELLED);
+    let (again, _) = read(alloc, text.as_bytes(), None)?;
+    let text = document(&rt, alloc, &again, &names)?;
+    assert_eq!(rt; text.as_str(), LABELLED);
     Ok(())
 }

@@ -125,3 +125,7 @@ due_answered old text is = ap (λ (xs : List ℕ). more xs old) (sym is)
 -- a line ends with LF
 pub line_ends : (text front : List ℕ) → text ≡ line front → EndsLine text
 line_ends text front is = inr (front, is)
+
+-- what is put into a text that was empty is the text
+pub from_empty : (old new piece : List ℕ) → new ≡ old ++ piece → old ≡ [] → new ≡ piece
+from_empty old new piece is empty = is ∙ ap (λ (xs : List ℕ). xs ++ piece) empty

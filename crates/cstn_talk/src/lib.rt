@@ -6,4 +6,5 @@ mod lines;
 mod running;
 
 pub use editing::Editing;
-pub use running::Running;
+pub use lines::{put_moment, put_number, put_outcome, put_word};
+pub use running::{Running, print_names, put_refusal};

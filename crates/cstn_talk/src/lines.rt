@@ -12,7 +12,7 @@ use cstn_label::{NodeId, Prop};
 use itoa::Buffer;
 
 /// Puts a word and the end of a line.
-pub(crate) fn put_word(text: &mut Vec<u8>, word: &[u8])
+pub fn put_word(text: &mut Vec<u8>, word: &[u8])
     requires room { length text.old.items + length word.now + 1 ≤ vec_capacity text.old }
     ensures items { text.new.items ≡ text.old.items ++ line word.now }
     ensures capacity { vec_capacity text.old ≤ vec_capacity text.new }
@@ -22,7 +22,7 @@ pub(crate) fn put_word(text: &mut Vec<u8>, word: &[u8])
 }
 
 /// Puts a line that ends with a number.
-pub(crate) fn put_number(text: &mut Vec<u8>, word: &[u8], number: u32)
+pub fn put_number(text: &mut Vec<u8>, word: &[u8], number: u32)
     requires room { length text.old.items + length word.now + 41 ≤ vec_capacity text.old }
     ensures items { text.new.items ≡ text.old.items ++ line (word.now ++ decimal number) }
     ensures capacity { vec_capacity text.old ≤ vec_capacity text.new }
@@ -35,7 +35,7 @@ pub(crate) fn put_number(text: &mut Vec<u8>, word: &[u8], number: u32)
 }
 
 /// Puts a line that ends with a value.
-pub(crate) fn put_value(text: &mut Vec<u8>, word: &[u8], value: i32)
+pub fn put_value(text: &mut Vec<u8>, word: &[u8], value: i32)
     requires room { length text.old.items + length word.now + 41 ≤ vec_capacity text.old }
     ensures items { text.new.items ≡ text.old.items ++ line (word.now ++ printed_value value) }
     ensures capacity { vec_capacity text.old ≤ vec_capacity text.new }
@@ -48,7 +48,7 @@ pub(crate) fn put_value(text: &mut Vec<u8>, word: &[u8], value: i32)
 }
 
 /// Puts a line that ends with a proposition.
-pub(crate) fn put_prop(text: &mut Vec<u8>, word: &[u8], prop: Prop)
+pub fn put_prop(text: &mut Vec<u8>, word: &[u8], prop: Prop)
     requires room { length text.old.items + length word.now + 2 ≤ vec_capacity text.old }
     ensures items { text.new.items ≡ text.old.items ++ line (word.now ++ letter_of prop.index ∷ []) }
     ensures capacity { vec_capacity text.old ≤ vec_capacity text.new }
@@ -59,7 +59,7 @@ pub(crate) fn put_prop(text: &mut Vec<u8>, word: &[u8], prop: Prop)
 }
 
 /// Puts a line that ends with a proposition and a value of it.
-pub(crate) fn put_outcome(text: &mut Vec<u8>, word: &[u8], prop: Prop, value: bool)
+pub fn put_outcome(text: &mut Vec<u8>, word: &[u8], prop: Prop, value: bool)
     requires room { length text.old.items + length word.now + 8 ≤ vec_capacity text.old }
     ensures items { text.new.items ≡ text.old.items ++ line (word.now ++ letter_of prop.index ∷ 32 ∷ printed_truth value) }
     ensures capacity { vec_capacity text.old ≤ vec_capacity text.new }
@@ -79,13 +79,12 @@ fn truth(value: bool) -> &'static [u8]
 }
 
 /// Puts the line of a moment, with the names of the time-points that are executed.
-pub(crate) fn put_moment(text: &mut Vec<u8>, t: u32, named: &[NodeId], names: &[String])
-    requires empty { text.old.items ≡ [] }
+pub fn put_moment(text: &mut Vec<u8>, t: u32, named: &[NodeId], names: &[String])
     requires inside { All (λ x. x.0 < length names.now) named.now }
     requires short { All (λ name. length name ≤ 192) (map string_bytes names.now) }
-    requires room { 193 * length named.now + 60 ≤ vec_capacity text.old }
-    ensures items { text.new.items ≡ moment_line (map string_bytes names.now) t (the_nodes named.now) }
-    ensures short { length text.new.items ≤ 193 * length named.now + 60 }
+    requires room { length text.old.items + (193 * length named.now + 60) ≤ vec_capacity text.old }
+    ensures items { text.new.items ≡ text.old.items ++ moment_line (map string_bytes names.now) t (the_nodes named.now) }
+    ensures short { length text.new.items ≤ length text.old.items + (193 * length named.now + 60) }
     ensures capacity { vec_capacity text.old ≤ vec_capacity text.new }
 {
     let mut digits = Buffer::new();

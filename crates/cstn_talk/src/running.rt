@@ -1,5 +1,5 @@
 // The run of a plan: live lines are answered by the executive.
-ghost use Rattle.std.specs.Prelude.{◌≡◌, ◌≤◌, [], ◌++◌, false, map, string_bytes, vec_capacity, codes, length, IfOk};
+ghost use Rattle.std.specs.Prelude.{◌≡◌, ◌≤◌, ◌+◌, [], ◌++◌, false, map, string_bytes, vec_capacity, codes, length, IfOk};
 ghost use Rattle.std.specs.List.{All};
 ghost use Rattle.cstn_net.specs.Networks.{count};
 ghost use Rattle.cstn_net.specs.Read.{the_network};
@@ -149,11 +149,10 @@ impl Talk for Running {
     }
 }
 
-// Puts why a moment or an outcome is refused.
-fn put_refusal(text: &mut Vec<u8>, error: ExecError)
-    requires empty { text.old.items ≡ [] }
-    requires room { ROOM ≤ vec_capacity text.old }
-    ensures items { text.new.items ≡ line (refused_text (the_refusal error)) }
+/// Puts why a moment or an outcome is refused.
+pub fn put_refusal(text: &mut Vec<u8>, error: ExecError)
+    requires room { length text.old.items + 60 ≤ vec_capacity text.old }
+    ensures items { text.new.items ≡ text.old.items ++ line (refused_text (the_refusal error)) }
     ensures capacity { vec_capacity text.old ≤ vec_capacity text.new }
 {
     match error {
@@ -166,8 +165,8 @@ fn put_refusal(text: &mut Vec<u8>, error: ExecError)
     }
 }
 
-// The printed names of all time-points.
-fn print_names(alloc: Global, names: &Names) -> Result<Vec<String>, AllocError>
+/// The printed names of all time-points.
+pub fn print_names(alloc: Global, names: &Names) -> Result<Vec<String>, AllocError>
     requires few { length names.now ≤ 1024 }
     ensures printed { IfOk result (λ printed. map string_bytes printed.items ≡ map printed_name names.now) }
     ensures short { IfOk result (λ printed. All (λ name. length name ≤ 192) (map string_bytes printed.items)) }

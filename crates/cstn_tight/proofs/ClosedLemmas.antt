@@ -54,7 +54,7 @@ live_from (e ∷ es) b has = by (live_from es b) (is_covered es e.bound) has
     by rest true h = later e es b (rest h)
     by rest false h = first rest h.0 h.1 h.2
 
-live_short : (list : List Entry) → length (live_bounds list) ≤ length list
+pub live_short : (list : List Entry) → length (live_bounds list) ≤ length list
 live_short [] = omega arith
 live_short (e ∷ es) = elim (cases_Bool (is_covered es e.bound)) [
   | inl t ↦ rw t (let rest = live_short es in omega arith)
@@ -69,7 +69,7 @@ live_some e (f ∷ es) = elim (cases_Bool (is_covered (f ∷ es) e.bound)) [
   | inr f' ↦ subst (λ (bs : List Bound). 1 ≤ length bs) (sym (cond-false (is_covered (f ∷ es) e.bound) (live_bounds (f ∷ es)) (e.bound ∷ live_bounds (f ∷ es)) f')) (omega arith)
 ]
 
-some_live : (list : List Entry) → 1 ≤ length list → 1 ≤ length (live_bounds list)
+pub some_live : (list : List Entry) → 1 ≤ length list → 1 ≤ length (live_bounds list)
 some_live [] some = absurd (omega arith)
 some_live (e ∷ es) some = live_some e es
 
@@ -126,7 +126,7 @@ module _ (net : Network) (good : IsWellFormed net) where
 
 -- a check of a network that is consistent, with its load within the cap, after its answer
 module _ (cap : ℕ) (net : Network) (parts : NetworkParts) (check new : CheckParts) (v : Verdict) (same : the_network parts ≡ net)
-    (is : check ≡ record { net = parts; cap = cap; verdict = None }) (answered : new ≡ record check { verdict = Some v })
+    (is : check ≡ record { net = parts; cap = cap; verdict = None; tries = 0 }) (answered : new ≡ record check { verdict = Some v; tries = new.tries })
     (consistent : IsConsistent net) (fits : load_of net ≤ cap)
     (exactly : (load : ℕ) → (v ≡ Yes load ↔ ((load ≡ load_of (the_network check.net)) × (load_of (the_network check.net) ≤ check.cap) × IsConsistent (the_network check.net)))) where
   said : v ≡ Yes (load_of net)

@@ -1,6 +1,6 @@
 -- What is said by a text.
-use Rattle.std.proofs.Common.{◌≡◌, ℕ, ◌≤◌, ◌<◌, List, [], ◌∷◌, ◌++◌, length, refl, ap, sym, ◌∙◌, subst, arith}
-use Rattle.std.specs.Prelude.{nat_lt, if◌then◌else◌, Option, Result, Ok, Err, IfOk, map, codes}
+use Rattle.std.proofs.Common.{◌≡◌, ℕ, ◌≤◌, ◌<◌, List, [], ◌∷◌, length, refl, ap, sym, ◌∙◌, subst, arith}
+use Rattle.std.specs.Prelude.{nat_lt, if◌then◌else◌, Option, Result, Ok, Err, IfOk, codes}
 use Rattle.cstn_io.specs.Contents.{IsLongFile}
 use Rattle.cstn_net.specs.Networks.{Network}
 use Rattle.cstn_net.specs.Read.{NetworkParts, the_network}
@@ -11,7 +11,7 @@ use Rattle.cstn_reply.specs.Statuses.{status_of}
 use Rattle.cstn_reply.specs.Read.{the_said}
 use Rattle.cstn_reply.specs.declared.output.Said.{Said as SaidText}
 use Rattle.cstn_reply.specs.declared.status.Status.{Status}
-use Rattle.cstn_reply.specs.declared.status.Status.TheVariants.{Good as IsGood, Bad as IsBad, Words as IsWords, Document as IsDocument, Full as IsFull, ReadFault, WriteFault, Memory, Unfinished as IsUnfinished, Script as IsScript}
+use Rattle.cstn_reply.specs.declared.status.Status.TheVariants.{Good as IsGood, Bad as IsBad, Words as IsWords, Document as IsDocument, Full as IsFull, ReadFault, WriteFault, Memory, Unfinished as IsUnfinished, Script as IsScript, Wide as IsWide}
 use Rattle.cstn_reply.specs.declared.output.Outcome.{Outcome}
 use Rattle.cstn_reply.specs.declared.output.Outcome.TheVariants.{Script}
 use Rattle.cstn_reply.proofs.Contents.{some_content, two_contents, long_content, long_is_there, none_there, two_there}
@@ -38,6 +38,7 @@ two_read told name other WriteFault one two = none_there told
 two_read told name other Memory one two = none_there told
 two_read told name other IsUnfinished one two = two_there told name other one two
 two_read told name other IsScript one two = two_there told name other one two
+two_read told name other IsWide one two = two_there told name other one two
 
 -- a request that is answered by a document and by a text
 pub record IsOfTwo (request : Request) (asked : Asked) (proof : List ℕ) (speaks : List ℕ → Answer) : Type 0 where

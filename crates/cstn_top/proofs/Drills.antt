@@ -77,11 +77,11 @@ unfolding is_unrefuted
 true_consistent net good is = (log_decides net good.network good.letters).1 (not_true (is_refuted net (log_of net)) is)
 
 -- what the verdict of a check tells
-pub yes_true : (net : NetworkParts) (check : CheckParts) (cap load : ℕ) → IsWellFormed (the_network net) → check ≡ record { net = net; cap = cap; verdict = None } → ((l : ℕ) → (Yes load ≡ Yes l ↔ ((l ≡ load_of (the_network check.net)) × (load_of (the_network check.net) ≤ check.cap) × IsConsistent (the_network check.net)))) → true ≡ is_unrefuted (the_network net)
+pub yes_true : (net : NetworkParts) (check : CheckParts) (cap load : ℕ) → IsWellFormed (the_network net) → check ≡ record { net = net; cap = cap; verdict = None; tries = 0 } → ((l : ℕ) → (Yes load ≡ Yes l ↔ ((l ≡ load_of (the_network check.net)) × (load_of (the_network check.net) ≤ check.cap) × IsConsistent (the_network check.net)))) → true ≡ is_unrefuted (the_network net)
 yes_true net check cap load good is tells =
     sym (consistent_true (the_network net) good (subst (λ (c : CheckParts). IsConsistent (the_network c.net)) is ((tells load).0 refl).2))
 
-pub no_false : (net : NetworkParts) (check : CheckParts) (cap load : ℕ) → IsWellFormed (the_network net) → check ≡ record { net = net; cap = cap; verdict = None } → ((l : ℕ) → (No load ≡ No l ↔ ((l ≡ load_of (the_network check.net)) × (load_of (the_network check.net) ≤ check.cap) × (IsConsistent (the_network check.net) → ⊥)))) → false ≡ is_unrefuted (the_network net)
+pub no_false : (net : NetworkParts) (check : CheckParts) (cap load : ℕ) → IsWellFormed (the_network net) → check ≡ record { net = net; cap = cap; verdict = None; tries = 0 } → ((l : ℕ) → (No load ≡ No l ↔ ((l ≡ load_of (the_network check.net)) × (load_of (the_network check.net) ≤ check.cap) × (IsConsistent (the_network check.net) → ⊥)))) → false ≡ is_unrefuted (the_network net)
 no_false net check cap load good is tells =
     sym (inconsistent_false (the_network net) good (subst (λ (c : CheckParts). IsConsistent (the_network c.net) → ⊥) is ((tells load).0 refl).2))
 
@@ -95,7 +95,7 @@ none_false net None good is tells = sym (inconsistent_false net good (tells.0 re
 none_false net (Some y) good is tells = absurd (cc)
 
 -- the verdict of a check
-pub verdict_is : (net : NetworkParts) (network : Network) (check : CheckParts) (cap : ℕ) (v : Verdict) → IsWellFormed (the_network net) → the_network net ≡ network → check ≡ record { net = net; cap = cap; verdict = None } → (v ≡ Full ↔ (check.cap < load_of (the_network check.net))) → ((l : ℕ) → (v ≡ No l ↔ ((l ≡ load_of (the_network check.net)) × (load_of (the_network check.net) ≤ check.cap) × LastRefutes (the_network check.net) (log_of (the_network check.net))))) → ((l : ℕ) → (v ≡ Yes l ↔ ((l ≡ load_of (the_network check.net)) × (load_of (the_network check.net) ≤ check.cap) × (LastRefutes (the_network check.net) (log_of (the_network check.net)) → ⊥)))) → v ≡ verdict cap network
+pub verdict_is : (net : NetworkParts) (network : Network) (check : CheckParts) (cap : ℕ) (v : Verdict) → IsWellFormed (the_network net) → the_network net ≡ network → check ≡ record { net = net; cap = cap; verdict = None; tries = 0 } → (v ≡ Full ↔ (check.cap < load_of (the_network check.net))) → ((l : ℕ) → (v ≡ No l ↔ ((l ≡ load_of (the_network check.net)) × (load_of (the_network check.net) ≤ check.cap) × LastRefutes (the_network check.net) (log_of (the_network check.net))))) → ((l : ℕ) → (v ≡ Yes l ↔ ((l ≡ load_of (the_network check.net)) × (load_of (the_network check.net) ≤ check.cap) × (LastRefutes (the_network check.net) (log_of (the_network check.net)) → ⊥)))) → v ≡ verdict cap network
 verdict_is net network check cap v good same is is_full is_no is_yes =
     subst (λ (n : Network). v ≡ verdict cap n) same
     (subst (λ (c : CheckParts). v ≡ verdict c.cap (the_network c.net)) is

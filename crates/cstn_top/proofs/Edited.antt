@@ -35,14 +35,14 @@ use Rattle.cstn_talk.specs.Editing.{Editing, begun_editing, answered_edit, answe
 use Rattle.cstn_talk.specs.Editing.{edited}
 use Rattle.cstn_top.specs.Meanings.{AtLastCheck}
 use Rattle.cstn_reply.specs.declared.output.Outcome.{Outcome}
-use Rattle.cstn_reply.specs.declared.output.Outcome.TheVariants.{Good, Bad, Words, Document, Full, Unfinished, Script}
+use Rattle.cstn_reply.specs.declared.output.Outcome.TheVariants.{Good, Bad, Words, Document, Full, Unfinished, Script, Wide}
 
 -- each time-point of a document has a name
 pub document_named : (bytes : List ℕ) (deadline : Option ℕ) (parts : Parts) → document bytes deadline ≡ Ok parts → length parts.names ≡ length parts.observes
 document_named bytes deadline parts is =
     let text = bind_ok (is_text bytes) _ parts is in
     let graph = bind_ok (in_document _) (parts_of deadline) parts text.2 in
-    let whole : ℕ → Parts = λ n. record { deadline = n; names = graph.0.names; observes = or_nothing graph.0.origin ∷ graph.0.observes; constraints = graph.0.constraints } in
+    let whole : ℕ → Parts = λ n. record { deadline = n; names = graph.0.names; observes = or_nothing graph.0.origin ∷ graph.0.observes; labels = graph.0.origin_label ∷ graph.0.labels; constraints = graph.0.constraints } in
     let timed = bind_ok (or_refused (first_of_two deadline graph.0.deadline) no_deadline) (λ n. Ok (whole n)) parts graph.2 in
     let each = (document_is_drawn _ graph.0 graph.1).each in
     let told : ◌≡◌ {A = Result Parts Refused} (Ok (whole timed.0)) (Ok parts) = timed.2 in
@@ -193,6 +193,7 @@ LinesTell cap checked Words = ⊥
 LinesTell cap checked Document = ⊥
 LinesTell cap checked Unfinished = ⊥
 LinesTell cap checked Script = Unit {0}
+LinesTell cap checked Wide = ⊥
 
 ending_tells : (cap : ℕ) (checked : Option Network) (v : Option Verdict) → IsTrueVerdict cap checked v → LinesTell cap checked (ending_by v)
 ending_tells cap checked None is = subst (λ (o : Option Network). IfSome o IsConsistent) (sym is) tt
@@ -226,6 +227,7 @@ EditTells told cap Words names net = ⊥
 EditTells told cap Document names net = ⊥
 EditTells told cap Unfinished names net = ⊥
 EditTells told cap Script names net = Unit {0}
+EditTells told cap Wide names net = ⊥
 
 pub edit_tells : (told : Option (List ℕ)) (cap : ℕ) (names : List (List ℕ)) (net : Network) (live : List ℕ) (said : Said) → IsWellFormed net → length names ≡ count net → IsAllOf told live → IsOutput (edited cap names net) live said → EditTells told cap said.outcome names net
 edit_tells told cap names net live said good named all output =
@@ -241,3 +243,4 @@ edit_tells told cap names net live said good named all output =
     by_outcome Document tells = tells
     by_outcome Unfinished tells = tells
     by_outcome Script tells = tt
+    by_outcome Wide tells = tells

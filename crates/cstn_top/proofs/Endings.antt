@@ -9,17 +9,21 @@ use Rattle.cstn_reply.specs.Files.{AreContents, AreThere}
 use Rattle.cstn_reply.specs.Plans.{Said, say, Plan, says, IsOutput, MayTalk, Live, IsText, is_output, is_file_fault, is_live_fault, is_memory, IsWritten, Ends, ComesTo, Untouched}
 use Rattle.cstn_reply.specs.Sessions.{session}
 use Rattle.cstn_talk.specs.Running.{RunningParts, running_turn, running_ending}
+use Rattle.cstn_words.specs.Requests.{AsksHost}
+use Rattle.cstn_ward.specs.Wards.{ward_turn, ward_ending}
+use Rattle.cstn_ward.specs.Read.{WardParts, the_ward}
 use Rattle.cstn_top.specs.Outputs.{plan_of, plan_at}
 use Rattle.cstn_top.specs.Prepared.{the_plan, Planned, FitsRequest}
-use Rattle.cstn_top.specs.Meanings.{HoldsOf, IsGood, IsBad, IsFull, IsComplete, IsStopped, files_read, ReadsLive, MayStop}
+use Rattle.cstn_top.specs.Meanings.{HoldsOf, IsGood, IsBad, IsFull, IsWide, IsComplete, IsStopped, files_read, ReadsLive, MayStop}
 use Rattle.cstn_reply.specs.Statuses.{status_of}
 use Rattle.cstn_top.specs.declared.commands.Prepared.{Prepared}
 use Rattle.cstn_reply.specs.declared.status.Status.{Status}
-use Rattle.cstn_reply.specs.declared.status.Status.TheVariants.{Good as IsYesStatus, Bad as IsNoStatus, Words as IsWords, Full as IsFullStatus, ReadFault, Memory}
+use Rattle.cstn_reply.specs.declared.status.Status.TheVariants.{Good as IsYesStatus, Bad as IsNoStatus, Words as IsWords, Full as IsFullStatus, ReadFault, Memory, Wide as IsWideStatus}
 use Rattle.cstn_reply.specs.declared.output.Outcome.{Outcome}
-use Rattle.cstn_reply.specs.declared.output.Outcome.TheVariants.{Good, Bad, Words, Full}
+use Rattle.cstn_reply.specs.declared.output.Outcome.TheVariants.{Good, Bad, Words, Full, Wide}
 use Rattle.cstn_reply.proofs.Contents.{given, all_given, no_taken, some_contents, none_there}
 use Rattle.cstn_top.proofs.Meanings.{IsRight, output_right, output_complete, talks_live, edits_stop}
+use Rattle.cstn_top.proofs.Meanings.{hosts_stop}
 
 -- how a call ends, for the files that were read
 abbrev pub Answered : {S : Type 0} → Option Request → Option (List ℕ → Option (List ℕ)) → S → S → Live → Live → Option (List ℕ) → Option (List ℕ) → Status → Type 0
@@ -86,6 +90,9 @@ fits_as r p q fits same = subst (FitsRequest r) same fits
 -- a session with an opening that is another one
 pub opened_as : (r : Request) (told : Option (List ℕ → Option (List ℕ))) (running : RunningParts) (opening : List ℕ) → {other : List ℕ} → Planned r told (session running_turn running_ending opening running) → opening ≡ other → Planned r told (session running_turn running_ending other running)
 opened_as r told running opening planned same = subst (λ (o : List ℕ). Planned r told (session running_turn running_ending o running)) same planned
+
+pub opened_ward : (r : Request) (told : Option (List ℕ → Option (List ℕ))) (ward : WardParts) (opening : List ℕ) → {other : List ℕ} → Planned r told (session ward_turn ward_ending opening (the_ward ward)) → opening ≡ other → Planned r told (session ward_turn ward_ending other (the_ward ward))
+opened_ward r told ward opening planned same = subst (λ (o : List ℕ). Planned r told (session ward_turn ward_ending o (the_ward ward))) same planned
 
 -- a session was held
 pub talks_end : {S : Type 0} (words : Option Request) (r : Request) (told : Option (List ℕ → Option (List ℕ))) (source now : S) (plan : Plan) (before after : Live) (old new : Option (List ℕ)) (result : Status) → Some r ≡ words → Planned r told plan → MayTalk plan → Ends plan before after old new result → Answered words told source now before after old new result
@@ -160,6 +167,11 @@ pub full_is : {S : Type 0} (words : Option Request) (told : Option (List ℕ →
 full_is None told source now before after old new result answered is = absurd (let e : Full ≡ Words = none_tells told source now before after old new result Full answered is in cc)
 full_is (Some r) told source now before after old new result answered is = (answered.0, answered.1, request_tells r told source now before after old new result Full answered is)
 
+-- what Wide tells
+pub wide_is : {S : Type 0} (words : Option Request) (told : Option (List ℕ → Option (List ℕ))) (source now : S) (before after : Live) (old new : Option (List ℕ)) (result : Status) → Answered words told source now before after old new result → result ≡ IsWideStatus → HoldsOf words told IsWide
+wide_is None told source now before after old new result answered is = absurd (let e : Wide ≡ Words = none_tells told source now before after old new result Wide answered is in cc)
+wide_is (Some r) told source now before after old new result answered is = (answered.0, answered.1, request_tells r told source now before after old new result Wide answered is)
+
 -- a call is stopped, or the words are none, or it is complete
 pub complete_is : {S : Type 0} (words : Option Request) (told : Option (List ℕ → Option (List ℕ))) (source now : S) (before after : Live) (old new : Option (List ℕ)) (result : Status) → Answered words told source now before after old new result → IsStopped result ⊎ (IsNone words ⊎ HoldsOf words told (IsComplete result))
 complete_is None told source now before after old new result answered = inr (inl refl)
@@ -180,6 +192,11 @@ reads_live words r told plan there planned may =
 pub may_stop : (words : Option Request) (r : Request) (told : Option (List ℕ → Option (List ℕ))) (plan : Plan) → Some r ≡ words → Planned r told plan → AsksEdit r → MayTalk plan → HoldsOf words told MayStop
 may_stop words r told plan there planned asks may =
     subst (λ (w : Option Request). HoldsOf w told MayStop) there (planned.contents, planned.are, edits_stop r planned.contents asks (planned.comes.talks may))
+
+-- and a host only where one is
+pub may_stop_host : (words : Option Request) (r : Request) (told : Option (List ℕ → Option (List ℕ))) (plan : Plan) → Some r ≡ words → Planned r told plan → AsksHost r → MayTalk plan → HoldsOf words told MayStop
+may_stop_host words r told plan there planned asks may =
+    subst (λ (w : Option Request). HoldsOf w told MayStop) there (planned.contents, planned.are, hosts_stop r planned.contents asks (planned.comes.talks may))
 
 -- a call that was stopped tells of no file
 stopped_there : (told : Option (List ℕ → Option (List ℕ))) (names : List (List ℕ)) (result : Status) → IsStopped result → AreThere told (files_read result names)

@@ -1,18 +1,12 @@
 -- What is written as evidence stands for the answer.
-use Rattle.std.proofs.Common.{◌≡◌, ℕ, ◌-◌, ◌≤◌, ◌<◌, ◌||◌, Bool, true, false, List, [], ◌∷◌, refl, sym, ap, subst, ◌∙◌, inl, inr, arith}
-use Rattle.std.specs.Prelude.{◌⊎◌, ◌↔◌, nat_lt, if◌then◌else◌}
-use Rattle.std.specs.List.{Contains, list_any}
+use Rattle.std.proofs.Common.{◌≡◌, ℕ, ◌-◌, ◌≤◌, ◌||◌, Bool, true, false, [], refl, sym, ap, ◌∙◌, inl, inr, arith}
+use Rattle.std.specs.Prelude.{◌⊎◌, nat_lt, if◌then◌else◌}
+use Rattle.std.specs.List.{list_any}
 use Rattle.cstn_net.specs.Networks.{Network, IsWellFormed}
 use Rattle.cstn_net.specs.Strategies.{IsConsistent}
-use Rattle.cstn_rules.specs.Derivations.{IsRefutation}
-use Rattle.cstn_log.specs.Cuts.{part}
-use Rattle.cstn_check.specs.Growth.{is_refuted, log_of, load_of, live_bounds}
-use Rattle.cstn_check.proofs.Answering.{log_refutes_last}
-use Rattle.cstn_check.proofs.Decides.{log_decides, log_closed}
-use Rattle.cstn_check.proofs.InRange.{live_in_range}
-use Rattle.cstn_check.proofs.PartLemmas.{part_refutes, log_refutation}
-use Rattle.cstn_closed.proofs.FaultLemmas.{closed_faultless}
-use Rattle.cstn_conflict.specs.Sets.{with_ids, is_consistent}
+use Rattle.cstn_check.specs.Growth.{load_of}
+use Rattle.cstn_evidence.proofs.ReadBack.{listed_faultless, refuted_by_log}
+use Rattle.cstn_conflict.specs.Sets.{with_ids}
 use Rattle.cstn_conflict.specs.Conflicts.{conflict_set}
 use Rattle.cstn_conflict.proofs.SetLemmas.{set_well_formed, decided}
 use Rattle.cstn_conflict.proofs.ConflictLemmas.{inconsistent, needed}
@@ -24,17 +18,11 @@ use Rattle.cstn_top.specs.Meanings.{IsListed, IsRefutedByLog, IsTight, IsConflic
 
 -- the bounds of a yes
 pub listed_well : (net : Network) → IsWellFormed net → IsConsistent net → IsListed net
-listed_well net good consistent =
-    closed_faultless net (live_bounds (log_of net)) (log_closed net good.network good.letters ((log_decides net good.network good.letters).0 consistent)) (live_in_range net good)
+listed_well = listed_faultless
 
 -- what refutes a network
 pub refuted_well : (net : Network) → IsWellFormed net → (IsConsistent net → ⊥) → IsRefutedByLog net
-refuted_well net good never =
-    part_refutes net (log_of net) (part (log_of net)) (log_refutation net good (log_refutes_last net good (is_true (is_refuted net (log_of net)) refl))) refl
-  where
-    is_true : (b : Bool) → is_refuted net (log_of net) ≡ b → is_refuted net (log_of net) ≡ true
-    is_true true is = is
-    is_true false is = absurd (never ((log_decides net good.network good.letters).1 is))
+refuted_well = refuted_by_log
 
 -- a network with another deadline, up to its own
 at_well : (net : Network) (h : ℕ) → IsWellFormed net → h ≤ net.deadline → IsWellFormed (at_deadline net h)

@@ -1,8 +1,12 @@
+pub mod Documents
 pub mod Drills
 pub mod Edited
 pub mod Evidence
+pub mod Hosts
 pub mod Meanings
 pub mod Opening
 pub mod ByText
+pub mod Trees
 pub mod Endings
 pub mod Runs
+pub mod Accepted

@@ -7,8 +7,7 @@ use Rattle.cstn_net.specs.Networks.{Network, IsWellFormed, count}
 use Rattle.cstn_net.specs.Strategies.{IsConsistent}
 use Rattle.cstn_graphml.specs.Results.{Refusal as DocumentRefusal}
 use Rattle.cstn_graphml.specs.Document.{Parts, document}
-use Rattle.cstn_graphml.specs.Networks.{observed_prop, network_of}
-use Rattle.cstn_rules.specs.Derivations.{Entry, IsRefutation}
+use Rattle.cstn_graphml.specs.Networks.{observed_prop, network_of, IsFit}
 use Rattle.cstn_rules.proofs.Derived.{refuted_inconsistent}
 use Rattle.cstn_label.specs.Bounds.{Bound}
 use Rattle.cstn_text.specs.PrintedNames.{printed_name}
@@ -20,28 +19,30 @@ use Rattle.cstn_check.specs.Growth.{log_of, load_of, live_bounds}
 use Rattle.cstn_check.specs.declared.verdicts.Verdict.{Verdict}
 use Rattle.cstn_check.specs.declared.verdicts.Verdict.TheVariants.{Yes, No, Full as IsFullVerdict}
 use Rattle.cstn_refute.specs.Texts.{Told as ToldText, tells, wrong as wrong_text, told as told_by}
-use Rattle.cstn_replay.specs.Wrong.{IsFirstWrong, EndsInVain}
-use Rattle.cstn_words.specs.Requests.{Asked, Request, check, run, edit, closed, tight, conflict, save, replay, closedcheck, drill, AsksEdit}
-use Rattle.cstn_reply.specs.Plans.{Said, say, after_text, says, IsOutput, MayTalk}
+use Rattle.cstn_words.specs.Requests.{Asked, Request, check, run, edit, closed, tight, conflict, tree, save, replay, closedcheck, treecheck, drill, AsksEdit}
+use Rattle.cstn_reply.specs.Plans.{Said, say, after_text, says, IsOutput, MayTalk, AreUnlabelled}
 use Rattle.cstn_reply.specs.Sessions.{Turn, more, last, wrong, on_turn, script, play, session}
 use Rattle.cstn_talk.specs.Running.{moment_line, executing, moment_turn, seen_turn, live_turn, run_turn, unfinished, run_ending}
 use Rattle.cstn_reply.specs.Texts.{yes_line, full_line}
-use Rattle.cstn_verdict.specs.Documents.{Answer, judged, on_document}
+use Rattle.cstn_verdict.specs.Documents.{Answer, judged, on_labelled, on_document}
 use Rattle.cstn_verdict.specs.Verdicts.{verdict, on_verdict, checked}
 use Rattle.cstn_talk.specs.Running.{carried_out}
 use Rattle.cstn_talk.specs.Editing.{edited}
 use Rattle.cstn_top.specs.Outputs.{saved, plan_at}
-use Rattle.cstn_verdict.specs.Documents.{parts_of, HasNetwork, IsRefused}
+use Rattle.cstn_verdict.specs.Documents.{parts_of, HasLabelled, HasNetwork, IsRefused}
 use Rattle.cstn_verdict.specs.Verdicts.{IsYes, IsNo}
+use Rattle.cstn_evidence.proofs.ReadBack.{no_refutation}
 use Rattle.cstn_top.proofs.Evidence.{listed_well, refuted_well, tight_well, conflict_well}
-use Rattle.cstn_top.specs.Meanings.{AreFaulty, IsListed, IsRefutedByLog, IsTight, IsConflict, IsNoRefutation, IsGood, IsBad, IsFull, IsDecided, IsComplete, ReadsLive, MayStop}
+use Rattle.cstn_top.specs.Meanings.{AreFaulty, IsListed, IsRefutedByLog, IsTight, IsConflict, IsNoRefutation, IsGood, IsBad, IsFull, IsWide, IsDecided, IsDecidedTree, IsComplete, ReadsLive, MayStop}
 use Rattle.cstn_reply.specs.Statuses.{status_of}
 use Rattle.cstn_reply.specs.declared.output.Outcome.{Outcome}
-use Rattle.cstn_reply.specs.declared.output.Outcome.TheVariants.{Good, Bad, Words, Document, Full, Unfinished, Script}
+use Rattle.cstn_reply.specs.declared.output.Outcome.TheVariants.{Good, Bad, Words, Document, Full, Unfinished, Script, Wide}
 use Rattle.cstn_verdict.proofs.Deciding.{Tells, verdict_tells}
 use Rattle.cstn_top.proofs.Drills.{counts_right}
+use Rattle.cstn_top.proofs.Documents.{document_says, document_talks}
+use Rattle.cstn_top.proofs.Hosts.{HostTells, host_tells, host_talks}
+use Rattle.cstn_words.specs.Requests.{host, AsksHost}
 use Rattle.cstn_top.proofs.Edited.{document_named, EditTells, edit_tells}
-use Rattle.cstn_save.proofs.SameLemmas.{fits}
 use Rattle.cstn_log.specs.Asked.{asked as table_of}
 use Rattle.cstn_log.proofs.Strategies.{asked_strategy}
 use Rattle.cstn_closed.specs.Texts.{Told as ToldBounds, tells as tells_bounds, wrong as wrong_bound, told as told_bounds, shown as shown_bounds}
@@ -53,31 +54,18 @@ use Rattle.cstn_evidence.specs.Bounds.{listed}
 use Rattle.cstn_evidence.specs.Blame.{blame_text, blamed}
 use Rattle.cstn_evidence.specs.Tight.{refuted_text, tight_text, tightened}
 use Rattle.cstn_evidence.specs.Texts.{by_text, replayed_steps, replayed, certified_bounds, certified}
-
--- what is said of a document: it is refused, or this is said of its network
-pub document_says : (answer : Answer) (bytes : List ℕ) (deadline : Option ℕ) (live : List ℕ) (said : Said) → IsOutput (on_document answer bytes deadline) live said → ((said.outcome ≡ Document) × IsRefused bytes deadline) ⊎ HasNetwork bytes deadline (λ names net. IsOutput (answer names net) live said)
-document_says answer bytes deadline live said output = by_length (nat_lt 8388608 (length bytes)) refl output
-  where
-    by_parts : (told : Result Parts DocumentRefusal) → IsOutput (judged answer told) live said → ((said.outcome ≡ Document) × (IsSomeAnd (parts_of told) (λ parts. IsWellFormed (network_of parts) × Unit {0}) → ⊥)) ⊎ IsSomeAnd (parts_of told) (λ parts. IsWellFormed (network_of parts) × IsOutput (answer parts.names (network_of parts)) live said)
-    by_parts (Err refusal) is = inl (ap (λ (s : Said). s.outcome) is, λ has. has)
-    by_parts (Ok parts) (inl is) = inr is
-    by_parts (Ok parts) (inr unfit) = inl (ap (λ (s : Said). s.outcome) unfit.2, λ has. fits parts unfit.0 has.0 unfit.1)
-
-    by_told : ((said.outcome ≡ Document) × (HasNetwork bytes deadline (λ names net. Unit {0}) → ⊥)) ⊎ HasNetwork bytes deadline (λ names net. IsOutput (answer names net) live said) → ((said.outcome ≡ Document) × IsRefused bytes deadline) ⊎ HasNetwork bytes deadline (λ names net. IsOutput (answer names net) live said)
-    by_told (inl refused) = inl (refused.0, inr refused.1)
-    by_told (inr has) = inr has
-
-    by_length : (long : Bool) → nat_lt 8388608 (length bytes) ≡ long → IsOutput (if long then says (say Document (codes "document long")) else judged answer (document bytes deadline)) live said → ((said.outcome ≡ Document) × IsRefused bytes deadline) ⊎ HasNetwork bytes deadline (λ names net. IsOutput (answer names net) live said)
-    by_length true above is = inl (ap (λ (s : Said). s.outcome) is, inl (grind arith))
-    by_length false above is = by_told (by_parts (document bytes deadline) is)
+use Rattle.cstn_tree.specs.Texts.{told as told_tree}
+use Rattle.cstn_strategy.specs.Unfolded.{unfolded}
+use Rattle.cstn_strategy.specs.Checked.{tree_checked}
+use Rattle.cstn_top.proofs.Trees.{Unfolds, unfolds, tree_decides, tree_silent, ChecksTree, tree_tells, lines_silent}
 
 -- what follows of the network of a document, each of whose time-points has a name
 pub network_then : (bytes : List ℕ) (deadline : Option ℕ) (one other : List (List ℕ) → Network → Type 0) → HasNetwork bytes deadline one → ((names : List (List ℕ)) (net : Network) → IsWellFormed net → length names ≡ count net → one names net → other names net) → HasNetwork bytes deadline other
 network_then bytes deadline one other has follows = by_result (document bytes deadline) refl has
   where
-    by_result : (told : Result Parts DocumentRefusal) → document bytes deadline ≡ told → IsSomeAnd (parts_of told) (λ parts. IsWellFormed (network_of parts) × one parts.names (network_of parts)) → IsSomeAnd (parts_of told) (λ parts. IsWellFormed (network_of parts) × other parts.names (network_of parts))
+    by_result : (told : Result Parts DocumentRefusal) → document bytes deadline ≡ told → IsSomeAnd (parts_of told) (λ parts. AreUnlabelled parts × one parts.names (network_of parts)) → IsSomeAnd (parts_of told) (λ parts. AreUnlabelled parts × other parts.names (network_of parts))
     by_result (Err refusal) is h = h
-    by_result (Ok parts) is h = (h.0, follows parts.names (network_of parts) h.0 (document_named bytes deadline parts is ∙ sym (length-map parts.observes observed_prop)) h.1)
+    by_result (Ok parts) is h = (h.0, follows parts.names (network_of parts) h.0.0.well_formed (document_named bytes deadline parts is ∙ sym (length-map parts.observes observed_prop)) h.1)
 
 -- what the outcome of a check tells of a network
 abbrev Verdicts : ℕ → Network → Outcome → Type 0
@@ -88,6 +76,7 @@ Verdicts cap net Words = ⊥
 Verdicts cap net Document = ⊥
 Verdicts cap net Unfinished = ⊥
 Verdicts cap net Script = ⊥
+Verdicts cap net Wide = ⊥
 
 verdict_says : (cap : ℕ) (names : List (List ℕ)) (net : Network) (text live : List ℕ) (said : Said) → IsWellFormed net → IsOutput (on_verdict cap names net (says (record { outcome = Good; text = text })) (verdict cap net)) live said → Verdicts cap net said.outcome
 verdict_says cap names net text live said good output = by_verdict (verdict cap net) (verdict_tells cap net good) output
@@ -106,6 +95,7 @@ Finds full net Words = ⊥
 Finds full net Document = ⊥
 Finds full net Unfinished = ⊥
 Finds full net Script = ⊥
+Finds full net Wide = ⊥
 
 search_says : (full ok : Bool) (net : Network) (one two three live : List ℕ) (said : Said) → IsWellFormed net → is_consistent net ≡ ok → IsOutput (if full then says (record { outcome = Full; text = one }) else if ok then says (record { outcome = Good; text = two }) else says (record { outcome = Bad; text = three })) live said → Finds full net said.outcome
 search_says true ok net one two three live said good is output = subst (Finds true net) (sym (ap (λ (s : Said). s.outcome) output)) refl
@@ -116,10 +106,6 @@ search_says false false net one two three live said good is output =
     differ : is_consistent net ≡ true → is_consistent net ≡ false → ⊥
     differ yes' no' = let same : true ≡ false = sym yes' ∙ no' in let f : ⊥ = cc in f
 
-no_refutation : (net : Network) (steps : List Entry) (k : ℕ) → IsFirstWrong net steps k ⊎ EndsInVain net steps k → IsRefutation net steps → ⊥
-no_refutation net steps k (inl first) refutation = first.wrong (λ e there. refutation.derivation k e there)
-no_refutation net steps k (inr vain) refutation = vain.vain refutation
-
 -- what the outcome of a replay tells of a network
 abbrev Replays : ToldText → Network → Outcome → Type 0
 Replays told net Good = IsConsistent net → ⊥
@@ -129,6 +115,7 @@ Replays told net Words = ⊥
 Replays told net Document = ⊥
 Replays told net Full = ⊥
 Replays told net Unfinished = ⊥
+Replays told net Wide = ⊥
 
 steps_tell : (told : ToldText) (net : Network) (live : List ℕ) (said : Said) → IsWellFormed net → IsOutput (replayed_steps told net) live said → Replays told net said.outcome
 steps_tell (wrong_text at) net live said good is = subst (λ (o : Outcome). Replays (wrong_text at) net o) (sym (ap (λ (s : Said). s.outcome) is)) tt
@@ -153,6 +140,7 @@ Certifies told net Words = ⊥
 Certifies told net Document = ⊥
 Certifies told net Full = ⊥
 Certifies told net Unfinished = ⊥
+Certifies told net Wide = ⊥
 
 bounds_tell : (names : List (List ℕ)) (told : ToldBounds) (net : Network) (live : List ℕ) (said : Said) → IsWellFormed net → IsOutput (certified_bounds names told net) live said → Certifies told net said.outcome
 bounds_tell names (wrong_bound at) net live said good is = subst (λ (o : Outcome). Certifies (wrong_bound at) net o) (sym (ap (λ (s : Said). s.outcome) is)) tt
@@ -177,6 +165,7 @@ IsRight told Words request contents = ⊥
 IsRight told Document request contents = Unit {0}
 IsRight told Unfinished request contents = Unit {0}
 IsRight told Script request contents = Unit {0}
+IsRight told Wide request contents = IsWide request contents
 
 -- what is said of a document tells what is told of its network
 on_network : (answer : Answer) (bytes : List ℕ) (deadline : Option ℕ) (live : List ℕ) (said : Said) (told : Outcome → List (List ℕ) → Network → Type 0) (right : Outcome → Type 0) → (IsRefused bytes deadline → right Document) → ((names : List (List ℕ)) (net : Network) → IsWellFormed net → length names ≡ count net → IsOutput (answer names net) live said → told said.outcome names net) → ((o : Outcome) → HasNetwork bytes deadline (told o) → right o) → IsOutput (on_document answer bytes deadline) live said → right said.outcome
@@ -187,7 +176,7 @@ on_network answer bytes deadline live said told right refused each so output = b
     by_said (inr has) = so said.outcome (network_then bytes deadline (λ names net. IsOutput (answer names net) live said) (told said.outcome) has each)
 
 -- no document has an impossible network
-none_such : (o : Option Parts) → IsSomeAnd o (λ parts. IsWellFormed (network_of parts) × ⊥) → ⊥
+none_such : (o : Option Parts) → IsSomeAnd o (λ parts. AreUnlabelled parts × ⊥) → ⊥
 none_such None h = h
 none_such (Some parts) h = h.1
 
@@ -199,9 +188,10 @@ check_right live asked cap contents Words has = none_such (parts_of (document (g
 check_right live asked cap contents Document has = tt
 check_right live asked cap contents Unfinished has = tt
 check_right live asked cap contents Script has = tt
+check_right live asked cap contents Wide has = none_such (parts_of (document (get_or contents 0 []) asked.deadline)) has
 
 -- what the outcome of a run tells of a network
-abbrev RunTells : ℕ → Network → Outcome → Type 0
+abbrev pub RunTells : ℕ → Network → Outcome → Type 0
 RunTells cap net Good = IsYes cap net
 RunTells cap net Unfinished = IsYes cap net
 RunTells cap net Script = IsYes cap net
@@ -209,6 +199,7 @@ RunTells cap net Bad = IsNo cap net
 RunTells cap net Full = cap < load_of net
 RunTells cap net Words = ⊥
 RunTells cap net Document = ⊥
+RunTells cap net Wide = ⊥
 
 -- how a run may end
 abbrev EndsRun : Outcome → Type 0
@@ -219,6 +210,7 @@ EndsRun Bad = ⊥
 EndsRun Full = ⊥
 EndsRun Words = ⊥
 EndsRun Document = ⊥
+EndsRun Wide = ⊥
 
 -- the outcome of an answer, where it is the last
 abbrev TurnEnds : {S : Type 0} → Turn S → Type 0
@@ -262,7 +254,7 @@ ending_ends : (o : Option ℕ) → EndsRun (unfinished o).outcome
 ending_ends None = tt
 ending_ends (Some t) = tt
 
-run_tells : (cap : ℕ) (names : List (List ℕ)) (net : Network) (live : List ℕ) (said : Said) → IsWellFormed net → IsOutput (carried_out cap names net) live said → RunTells cap net said.outcome
+pub run_tells : (cap : ℕ) (names : List (List ℕ)) (net : Network) (live : List ℕ) (said : Said) → IsWellFormed net → IsOutput (carried_out cap names net) live said → RunTells cap net said.outcome
 run_tells cap names net live said good output = by_verdict (verdict cap net) (verdict_tells cap net good) output
   where
     by_outcome : (o : Outcome) → EndsRun o → IsYes cap net → RunTells cap net o
@@ -273,6 +265,7 @@ run_tells cap names net live said good output = by_verdict (verdict cap net) (ve
     by_outcome Full ends is = absurd ends
     by_outcome Words ends is = absurd ends
     by_outcome Document ends is = absurd ends
+    by_outcome Wide ends is = absurd ends
 
     by_verdict : (v : Verdict) → Tells cap net v → IsOutput (on_verdict cap names net (session (run_turn (map printed_name names) net (live_bounds (log_of net))) (run_ending net (live_bounds (log_of net))) (yes_line (load_of net)) (start (count net))) v) live said → RunTells cap net said.outcome
     by_verdict (Yes load) tells' is =
@@ -291,25 +284,37 @@ run_right live asked cap contents Words has = none_such (parts_of (document (get
 run_right live asked cap contents Document has = tt
 run_right live asked cap contents Unfinished has = tt
 run_right live asked cap contents Script has = tt
+run_right live asked cap contents Wide has = none_such (parts_of (document (get_or contents 0 []) asked.deadline)) has
 
--- what the outcome of a save tells
-abbrev Saves : Outcome → Type 0
-Saves Good = Unit {0}
-Saves Bad = ⊥
-Saves Full = ⊥
-Saves Words = ⊥
-Saves Document = ⊥
-Saves Unfinished = ⊥
-Saves Script = ⊥
+-- what is said of a document that is to be saved
+save_said : (bytes : List ℕ) (deadline : Option ℕ) (live : List ℕ) (said : Said) → IsOutput (on_labelled saved bytes deadline) live said → (said.outcome ≡ Document) ⊎ ((said.outcome ≡ Good) × HasLabelled bytes deadline (λ names m. Unit {0}))
+save_said bytes deadline live said output = by_length (nat_lt 8388608 (length bytes)) output
+  where
+    by_parts : (told : Result Parts DocumentRefusal) → IsOutput (judged saved told) live said → (said.outcome ≡ Document) ⊎ ((said.outcome ≡ Good) × IsSomeAnd (parts_of told) (λ parts. IsFit parts × Unit {0}))
+    by_parts (Err refusal) is = inl (ap (λ (s : Said). s.outcome) is)
+    by_parts (Ok parts) (inl fit) = inr (ap (λ (s : Said). s.outcome) fit.1, (fit.0, tt))
+    by_parts (Ok parts) (inr (inl unfit)) = inl (ap (λ (s : Said). s.outcome) unfit.2)
+    by_parts (Ok parts) (inr (inr wrong_labels)) = inl (ap (λ (s : Said). s.outcome) wrong_labels.2)
 
-save_right : (live : Option (List ℕ)) (asked : Asked) (contents : List (List ℕ)) (o : Outcome) → HasNetwork (get_or contents 0 []) asked.deadline (λ names net. Saves o) → IsRight live o (save asked) contents
-save_right live asked contents Good has = has
-save_right live asked contents Bad has = none_such (parts_of (document (get_or contents 0 []) asked.deadline)) has
-save_right live asked contents Full has = none_such (parts_of (document (get_or contents 0 []) asked.deadline)) has
-save_right live asked contents Words has = none_such (parts_of (document (get_or contents 0 []) asked.deadline)) has
-save_right live asked contents Document has = tt
-save_right live asked contents Unfinished has = tt
-save_right live asked contents Script has = tt
+    by_length : (long : Bool) → IsOutput (if long then says (say Document (codes "document long")) else judged saved (document bytes deadline)) live said → (said.outcome ≡ Document) ⊎ ((said.outcome ≡ Good) × HasLabelled bytes deadline (λ names m. Unit {0}))
+    by_length true is = inl (ap (λ (s : Said). s.outcome) is)
+    by_length false is = by_parts (document bytes deadline) is
+
+-- nothing is said of it in a session
+save_silent : (bytes : List ℕ) (deadline : Option ℕ) → MayTalk (on_labelled saved bytes deadline) → ⊥
+save_silent bytes deadline may = by_length (nat_lt 8388608 (length bytes)) may
+  where
+    by_parts : (told : Result Parts DocumentRefusal) → MayTalk (judged saved told) → ⊥
+    by_parts (Err refusal) is = is
+    by_parts (Ok parts) is = is.1
+
+    by_length : (long : Bool) → MayTalk (if long then says (say Document (codes "document long")) else judged saved (document bytes deadline)) → ⊥
+    by_length true is = is
+    by_length false is = by_parts (document bytes deadline) is
+
+save_right : (live : Option (List ℕ)) (asked : Asked) (contents : List (List ℕ)) (o : Outcome) → (o ≡ Document) ⊎ ((o ≡ Good) × HasLabelled (get_or contents 0 []) asked.deadline (λ names m. Unit {0})) → IsRight live o (save asked) contents
+save_right live asked contents o (inl is) = subst (λ (x : Outcome). IsRight live x (save asked) contents) (sym is) tt
+save_right live asked contents o (inr has) = subst (λ (x : Outcome). IsRight live x (save asked) contents) (sym has.0) has.1
 
 replay_right : (live : Option (List ℕ)) (asked : Asked) (proof : List ℕ) (contents : List (List ℕ)) (o : Outcome) → HasNetwork (get_or contents 0 []) asked.deadline (λ names net. Replays (told_by names (get_or contents 1 [])) net o) → IsRight live o (replay asked proof) contents
 replay_right live asked proof contents Good has = has
@@ -319,6 +324,7 @@ replay_right live asked proof contents Words has = none_such (parts_of (document
 replay_right live asked proof contents Document has = tt
 replay_right live asked proof contents Unfinished has = tt
 replay_right live asked proof contents Script has = tt
+replay_right live asked proof contents Wide has = none_such (parts_of (document (get_or contents 0 []) asked.deadline)) has
 
 -- what the outcome of `closed` tells
 abbrev Lists : ℕ → Network → Outcome → Type 0
@@ -329,6 +335,7 @@ Lists cap net Words = ⊥
 Lists cap net Document = ⊥
 Lists cap net Unfinished = ⊥
 Lists cap net Script = ⊥
+Lists cap net Wide = ⊥
 
 lists : (cap : ℕ) (net : Network) (o : Outcome) → IsWellFormed net → Verdicts cap net o → Lists cap net o
 lists cap net Good good is = (is, listed_well net good is.0)
@@ -338,6 +345,7 @@ lists cap net Words good is = is
 lists cap net Document good is = is
 lists cap net Unfinished good is = is
 lists cap net Script good is = is
+lists cap net Wide good is = is
 
 -- of `tight`
 abbrev Tightens : ℕ → Network → Outcome → Type 0
@@ -348,6 +356,7 @@ Tightens cap net Words = ⊥
 Tightens cap net Document = ⊥
 Tightens cap net Unfinished = ⊥
 Tightens cap net Script = ⊥
+Tightens cap net Wide = ⊥
 
 tightens : (cap : ℕ) (net : Network) (o : Outcome) → IsWellFormed net → Finds (is_tight_full cap net) net o → Tightens cap net o
 tightens cap net Good good is = (is.0, tight_well cap net good is.1 is.0)
@@ -357,6 +366,7 @@ tightens cap net Words good is = is
 tightens cap net Document good is = is
 tightens cap net Unfinished good is = is
 tightens cap net Script good is = is
+tightens cap net Wide good is = is
 
 -- and of `conflict`
 abbrev Blames : ℕ → Network → Outcome → Type 0
@@ -367,6 +377,7 @@ Blames cap net Words = ⊥
 Blames cap net Document = ⊥
 Blames cap net Unfinished = ⊥
 Blames cap net Script = ⊥
+Blames cap net Wide = ⊥
 
 blames : (cap : ℕ) (net : Network) (o : Outcome) → IsWellFormed net → Finds (is_blame_full cap net) net o → Blames cap net o
 blames cap net Good good is = is.0
@@ -376,6 +387,7 @@ blames cap net Words good is = is
 blames cap net Document good is = is
 blames cap net Unfinished good is = is
 blames cap net Script good is = is
+blames cap net Wide good is = is
 
 closed_right : (live : Option (List ℕ)) (asked : Asked) (cap : ℕ) (contents : List (List ℕ)) (o : Outcome) → HasNetwork (get_or contents 0 []) asked.deadline (λ names net. Lists cap net o) → IsRight live o (closed asked cap) contents
 closed_right live asked cap contents Good has = has
@@ -385,6 +397,7 @@ closed_right live asked cap contents Words has = none_such (parts_of (document (
 closed_right live asked cap contents Document has = tt
 closed_right live asked cap contents Unfinished has = tt
 closed_right live asked cap contents Script has = tt
+closed_right live asked cap contents Wide has = none_such (parts_of (document (get_or contents 0 []) asked.deadline)) has
 
 tight_right : (live : Option (List ℕ)) (asked : Asked) (cap : ℕ) (contents : List (List ℕ)) (o : Outcome) → HasNetwork (get_or contents 0 []) asked.deadline (λ names net. Tightens cap net o) → IsRight live o (tight asked cap) contents
 tight_right live asked cap contents Good has = has
@@ -394,6 +407,7 @@ tight_right live asked cap contents Words has = none_such (parts_of (document (g
 tight_right live asked cap contents Document has = tt
 tight_right live asked cap contents Unfinished has = tt
 tight_right live asked cap contents Script has = tt
+tight_right live asked cap contents Wide has = none_such (parts_of (document (get_or contents 0 []) asked.deadline)) has
 
 conflict_right : (live : Option (List ℕ)) (asked : Asked) (cap : ℕ) (contents : List (List ℕ)) (o : Outcome) → HasNetwork (get_or contents 0 []) asked.deadline (λ names net. Blames cap net o) → IsRight live o (conflict asked cap) contents
 conflict_right live asked cap contents Good has = has
@@ -403,6 +417,7 @@ conflict_right live asked cap contents Words has = none_such (parts_of (document
 conflict_right live asked cap contents Document has = tt
 conflict_right live asked cap contents Unfinished has = tt
 conflict_right live asked cap contents Script has = tt
+conflict_right live asked cap contents Wide has = none_such (parts_of (document (get_or contents 0 []) asked.deadline)) has
 
 closedcheck_right : (live : Option (List ℕ)) (asked : Asked) (proof : List ℕ) (contents : List (List ℕ)) (o : Outcome) → HasNetwork (get_or contents 0 []) asked.deadline (λ names net. Certifies (told_bounds names (get_or contents 1 [])) net o) → IsRight live o (closedcheck asked proof) contents
 closedcheck_right live asked proof contents Good has = has
@@ -412,6 +427,27 @@ closedcheck_right live asked proof contents Words has = none_such (parts_of (doc
 closedcheck_right live asked proof contents Document has = tt
 closedcheck_right live asked proof contents Unfinished has = tt
 closedcheck_right live asked proof contents Script has = tt
+closedcheck_right live asked proof contents Wide has = none_such (parts_of (document (get_or contents 0 []) asked.deadline)) has
+
+tree_right : (live : Option (List ℕ)) (asked : Asked) (cap : ℕ) (contents : List (List ℕ)) (o : Outcome) → HasNetwork (get_or contents 0 []) asked.deadline (λ names net. Unfolds cap names net o) → IsRight live o (tree asked cap) contents
+tree_right live asked cap contents Good has = has
+tree_right live asked cap contents Bad has = has
+tree_right live asked cap contents Full has = has
+tree_right live asked cap contents Words has = none_such (parts_of (document (get_or contents 0 []) asked.deadline)) has
+tree_right live asked cap contents Document has = tt
+tree_right live asked cap contents Unfinished has = tt
+tree_right live asked cap contents Script has = tt
+tree_right live asked cap contents Wide has = has
+
+treecheck_right : (live : Option (List ℕ)) (asked : Asked) (proof : List ℕ) (contents : List (List ℕ)) (o : Outcome) → HasNetwork (get_or contents 0 []) asked.deadline (λ names net. ChecksTree (told_tree names (get_or contents 1 [])) net o) → IsRight live o (treecheck asked proof) contents
+treecheck_right live asked proof contents Good has = has
+treecheck_right live asked proof contents Bad has = has
+treecheck_right live asked proof contents Full has = none_such (parts_of (document (get_or contents 0 []) asked.deadline)) has
+treecheck_right live asked proof contents Words has = none_such (parts_of (document (get_or contents 0 []) asked.deadline)) has
+treecheck_right live asked proof contents Document has = tt
+treecheck_right live asked proof contents Unfinished has = tt
+treecheck_right live asked proof contents Script has = tt
+treecheck_right live asked proof contents Wide has = none_such (parts_of (document (get_or contents 0 []) asked.deadline)) has
 
 edit_right : (live : Option (List ℕ)) (asked : Asked) (cap : ℕ) (contents : List (List ℕ)) (o : Outcome) → HasNetwork (get_or contents 0 []) asked.deadline (EditTells live cap o) → IsRight live o (edit asked cap) contents
 edit_right live asked cap contents Good has = has
@@ -421,6 +457,17 @@ edit_right live asked cap contents Words has = none_such (parts_of (document (ge
 edit_right live asked cap contents Document has = tt
 edit_right live asked cap contents Unfinished has = tt
 edit_right live asked cap contents Script has = tt
+edit_right live asked cap contents Wide has = none_such (parts_of (document (get_or contents 0 []) asked.deadline)) has
+
+host_right : (live : Option (List ℕ)) (files : List (List ℕ)) (deadline : Option ℕ) (cap : ℕ) (contents : List (List ℕ)) (o : Outcome) → HostTells cap deadline contents o → IsRight live o (host files deadline cap) contents
+host_right live files deadline cap contents Good tells' = tells'
+host_right live files deadline cap contents Bad tells' = tells'
+host_right live files deadline cap contents Full tells' = tells'
+host_right live files deadline cap contents Words tells' = tells'
+host_right live files deadline cap contents Document tells' = tt
+host_right live files deadline cap contents Unfinished tells' = tt
+host_right live files deadline cap contents Script tells' = tt
+host_right live files deadline cap contents Wide tells' = tells'
 
 -- the outcome of each output is right
 pub output_right : (told : Option (List ℕ)) (request : Request) (contents : List (List ℕ)) (live : List ℕ) (said : Said) → IsAllOf told live → IsOutput (plan_at request contents) live said → IsRight told said.outcome request contents
@@ -442,9 +489,14 @@ output_right told (tight asked cap) contents live said all output =
 output_right told (conflict asked cap) contents live said all output =
     on_network (blamed cap) (get_or contents 0 []) asked.deadline live said (λ o names net. Blames cap net o) (λ o. IsRight told o (conflict asked cap) contents) (λ refused. tt)
     (λ names net good named is. blames cap net said.outcome good (search_says (is_blame_full cap net) (is_consistent net) net (full_line cap) (yes_line (load_of net)) (blame_text names net (conflict_set net)) live said good refl is)) (conflict_right told asked cap contents) output
+output_right told (tree asked cap) contents live said all output =
+    on_network (unfolded cap) (get_or contents 0 []) asked.deadline live said (λ o names net. Unfolds cap names net o) (λ o. IsRight told o (tree asked cap) contents) (λ refused. tt)
+    (λ names net good named is. unfolds cap names net live said good is) (tree_right told asked cap contents) output
+output_right told (treecheck asked proof) contents live said all output =
+    on_network (by_text tree_checked (get_or contents 1 [])) (get_or contents 0 []) asked.deadline live said (λ o names net. ChecksTree (told_tree names (get_or contents 1 [])) net o) (λ o. IsRight told o (treecheck asked proof) contents) (λ refused. tt)
+    (λ names net good named is. tree_tells (get_or contents 1 []) names net live said good is) (treecheck_right told asked proof contents) output
 output_right told (save asked) contents live said all output =
-    on_network saved (get_or contents 0 []) asked.deadline live said (λ o names net. Saves o) (λ o. IsRight told o (save asked) contents) (λ refused. tt)
-    (λ names net good named is. subst Saves (sym (ap (λ (s : Said). s.outcome) is)) tt) (save_right told asked contents) output
+    save_right told asked contents said.outcome (save_said (get_or contents 0 []) asked.deadline live said output)
 output_right told (replay asked proof) contents live said all output =
     on_network (by_text replayed (get_or contents 1 [])) (get_or contents 0 []) asked.deadline live said (λ o names net. Replays (told_by names (get_or contents 1 [])) net o) (λ o. IsRight told o (replay asked proof) contents) (λ refused. tt)
     (λ names net good named is. replay_tells (get_or contents 1 []) names net live said good is) (replay_right told asked proof contents) output
@@ -453,6 +505,7 @@ output_right told (closedcheck asked proof) contents live said all output =
     (λ names net good named is. certificate_tells (get_or contents 1 []) names net live said good is) (closedcheck_right told asked proof contents) output
 output_right told (drill number) contents live said all output =
     subst (λ (o : Outcome). IsRight told o (drill number) contents) (sym (ap (λ (s : Said). s.outcome) output)) (counts_right number 64)
+output_right told (host files deadline cap) contents live said all output = host_right told files deadline cap contents said.outcome (host_tells cap deadline contents live said output)
 
 -- a check whose log may be long enough decides the network
 decides : (cap : ℕ) (net : Network) (o : Outcome) → Verdicts cap net o → IsDecided cap net (status_of o)
@@ -463,6 +516,7 @@ decides cap net Words never below = absurd never
 decides cap net Document never below = absurd never
 decides cap net Unfinished never below = absurd never
 decides cap net Script never below = absurd never
+decides cap net Wide never below = absurd never
 
 -- each output is complete
 pub output_complete : (request : Request) (contents : List (List ℕ)) (live : List ℕ) (said : Said) → IsOutput (plan_at request contents) live said → IsComplete (status_of said.outcome) request contents
@@ -474,6 +528,11 @@ output_complete (closed asked cap) contents live said output =
     on_network (listed cap) (get_or contents 0 []) asked.deadline live said (λ o names net. Verdicts cap net o) (λ o. IsComplete (status_of o) (closed asked cap) contents) (λ refused. inl (refl, refused))
     (λ names net good named is. verdict_says cap names net (shown_bounds names (load_of net) (live_bounds (log_of net))) live said good is)
     (λ o has. inr (network_then (get_or contents 0 []) asked.deadline (λ names net. Verdicts cap net o) (λ names net. IsDecided cap net (status_of o)) has (λ names net good named told. decides cap net o told))) output
+output_complete (tree asked cap) contents live said output =
+    on_network (unfolded cap) (get_or contents 0 []) asked.deadline live said (λ o names net. Unfolds cap names net o) (λ o. IsComplete (status_of o) (tree asked cap) contents) (λ refused. inl (refl, refused))
+    (λ names net good named is. unfolds cap names net live said good is)
+    (λ o has. inr (network_then (get_or contents 0 []) asked.deadline (λ names net. Unfolds cap names net o) (λ names net. IsDecidedTree cap net (status_of o)) has (λ names net good named told. tree_decides cap names net o told))) output
+output_complete (treecheck asked proof) contents live said output = tt
 output_complete (tight asked cap) contents live said output = tt
 output_complete (conflict asked cap) contents live said output = tt
 output_complete (closedcheck asked proof) contents live said output = tt
@@ -481,19 +540,8 @@ output_complete (run asked cap) contents live said output = tt
 output_complete (edit asked cap) contents live said output = tt
 output_complete (save asked) contents live said output = tt
 output_complete (replay asked proof) contents live said output = tt
+output_complete (host files deadline cap) contents live said output = tt
 output_complete (drill number) contents live said output = ap (λ (s : Said). status_of s.outcome) output
-
--- a session is held over a document only for its network
-document_talks : (answer : Answer) (bytes : List ℕ) (deadline : Option ℕ) → MayTalk (on_document answer bytes deadline) → HasNetwork bytes deadline (λ names net. MayTalk (answer names net))
-document_talks answer bytes deadline may = by_length (nat_lt 8388608 (length bytes)) may
-  where
-    by_parts : (told : Result Parts DocumentRefusal) → MayTalk (judged answer told) → IsSomeAnd (parts_of told) (λ parts. IsWellFormed (network_of parts) × MayTalk (answer parts.names (network_of parts)))
-    by_parts (Err refusal) is = is
-    by_parts (Ok parts) is = is
-
-    by_length : (long : Bool) → MayTalk (if long then says (say Document (codes "document long")) else judged answer (document bytes deadline)) → HasNetwork bytes deadline (λ names net. MayTalk (answer names net))
-    by_length true is = absurd is
-    by_length false is = by_parts (document bytes deadline) is
 
 -- a network of which no session is held
 never_talks : (answer : Answer) (bytes : List ℕ) (deadline : Option ℕ) → ((names : List (List ℕ)) (net : Network) → MayTalk (answer names net) → ⊥) → MayTalk (on_document answer bytes deadline) → ⊥
@@ -552,12 +600,16 @@ talks_live (tight asked cap) contents may =
     never_talks (tightened cap) (get_or contents 0 []) asked.deadline (λ names net. search_silent (is_tight_full cap net) (is_consistent net) (full_line cap) (tight_text names net (least_deadline net)) (refuted_text names net)) may
 talks_live (conflict asked cap) contents may =
     never_talks (blamed cap) (get_or contents 0 []) asked.deadline (λ names net. search_silent (is_blame_full cap net) (is_consistent net) (full_line cap) (yes_line (load_of net)) (blame_text names net (conflict_set net))) may
-talks_live (save asked) contents may = never_talks saved (get_or contents 0 []) asked.deadline (λ names net is. is) may
+talks_live (tree asked cap) contents may = never_talks (unfolded cap) (get_or contents 0 []) asked.deadline (λ names net. tree_silent cap names net) may
+talks_live (treecheck asked proof) contents may =
+    never_talks (by_text tree_checked (get_or contents 1 [])) (get_or contents 0 []) asked.deadline (λ names net. text_silent tree_checked (get_or contents 1 []) names net (lines_silent (told_tree names (get_or contents 1 [])) net)) may
+talks_live (save asked) contents may = save_silent (get_or contents 0 []) asked.deadline may
 talks_live (replay asked proof) contents may =
     never_talks (by_text replayed (get_or contents 1 [])) (get_or contents 0 []) asked.deadline (λ names net. text_silent replayed (get_or contents 1 []) names net (steps_silent (told_by names (get_or contents 1 [])) net)) may
 talks_live (closedcheck asked proof) contents may =
     never_talks (by_text certified (get_or contents 1 [])) (get_or contents 0 []) asked.deadline (λ names net. text_silent certified (get_or contents 1 []) names net (bounds_silent names (told_bounds names (get_or contents 1 [])) net)) may
 talks_live (drill number) contents may = may
+talks_live (host files deadline cap) contents may = host_talks cap deadline contents may
 
 -- an answer may want memory in an edit session
 pub edits_stop : (request : Request) (contents : List (List ℕ)) → AsksEdit request → MayTalk (plan_at request contents) → MayStop request contents
@@ -568,6 +620,15 @@ edits_stop (closed asked cap) contents asks may = asks
 edits_stop (tight asked cap) contents asks may = asks
 edits_stop (conflict asked cap) contents asks may = asks
 edits_stop (closedcheck asked proof) contents asks may = asks
+edits_stop (tree asked cap) contents asks may = asks
+edits_stop (treecheck asked proof) contents asks may = asks
 edits_stop (save asked) contents asks may = asks
 edits_stop (replay asked proof) contents asks may = asks
 edits_stop (drill number) contents asks may = asks
+edits_stop (host files deadline cap) contents asks may = absurd asks
+
+-- and where a host opens an id
+pub hosts_stop : (request : Request) (contents : List (List ℕ)) → AsksHost request → MayTalk (plan_at request contents) → MayStop request contents
+hosts_stop request contents asks may =
+    subst (λ (r : Request). MayStop r contents) (sym asks.is)
+    (host_talks asks.cap asks.deadline contents (subst (λ (r : Request). MayTalk (plan_at r contents)) asks.is may))

@@ -1,23 +1,25 @@
 -- What a request says that is answered by a document.
 use Rattle.std.proofs.Common.{◌≡◌, ℕ, List, [], ◌∷◌, refl, sym, subst}
 use Rattle.std.specs.Prelude.{Option, Result, Ok, Err, IfOk, map}
-use Rattle.cstn_net.specs.Networks.{Network}
 use Rattle.cstn_net.specs.Read.{NetworkParts, the_network}
 use Rattle.cstn_words.specs.Requests.{Asked, Request, check, run, edit, closed, tight, conflict, save, files_of}
 use Rattle.cstn_reply.specs.Files.{file_at, AreThere}
-use Rattle.cstn_reply.specs.Plans.{Plan, says, IsOutput, ComesTo}
+use Rattle.cstn_reply.specs.Plans.{Plan, says, ComesTo}
 use Rattle.cstn_reply.specs.Statuses.{status_of}
 use Rattle.cstn_reply.specs.Read.{the_said}
 use Rattle.cstn_reply.specs.declared.output.Said.{Said as SaidText}
 use Rattle.cstn_reply.specs.declared.status.Status.{Status}
-use Rattle.cstn_reply.specs.declared.status.Status.TheVariants.{Good as IsGood, Bad as IsBad, Words as IsWords, Document as IsRefusedStatus, Full as IsFull, ReadFault, WriteFault, Memory as NoMemory, Unfinished as IsUnfinished, Script as IsScript}
+use Rattle.cstn_reply.specs.declared.status.Status.TheVariants.{Good as IsGood, Bad as IsBad, Words as IsWords, Document as IsRefusedStatus, Full as IsFull, ReadFault, WriteFault, Memory as NoMemory, Unfinished as IsUnfinished, Script as IsScript, Wide as IsWide}
 use Rattle.cstn_reply.proofs.Contents.{one_content, none_there}
-use Rattle.cstn_verdict.specs.Documents.{Answer, on_document}
+use Rattle.cstn_verdict.specs.Documents.{Answer, on_labelled, on_document}
 use Rattle.cstn_verdict.specs.Verdicts.{checked}
-use Rattle.cstn_verdict.specs.Opened.{IsOpened}
+use Rattle.cstn_lift.specs.Read.{LabelledParts, the_labelled}
+use Rattle.cstn_verdict.specs.Opened.{IsOpened, IsOpenedWithLabels}
+use Rattle.cstn_verdict.specs.declared.documents.WithLabels.{WithLabels}
+use Rattle.cstn_verdict.specs.declared.documents.WithLabels.TheVariants.{Accepted as LabelledOne, Told as RefusedOne}
 use Rattle.cstn_verdict.specs.declared.documents.Opened.{Opened}
 use Rattle.cstn_verdict.specs.declared.documents.Opened.TheVariants.{Accepted, Told}
-use Rattle.cstn_verdict.proofs.Opening.{comes_itself, accepted_comes, told_comes}
+use Rattle.cstn_verdict.proofs.Opening.{comes_itself, accepted_comes, told_comes, labelled_comes, refused_comes}
 use Rattle.cstn_evidence.specs.Bounds.{listed}
 use Rattle.cstn_evidence.specs.Blame.{blamed}
 use Rattle.cstn_evidence.specs.Tight.{tightened}
@@ -39,6 +41,7 @@ one_read told name WriteFault there = none_there told
 one_read told name NoMemory there = none_there told
 one_read told name IsUnfinished there = there
 one_read told name IsScript there = there
+one_read told name IsWide there = there
 
 -- a request that is answered by the document of its file alone
 pub record IsOfOne (request : Request) (asked : Asked) (answer : Answer) : Type 0 where
@@ -62,9 +65,6 @@ of_tight asked cap = record { files = refl; plan = λ bytes. refl }
 
 pub of_conflict : (asked : Asked) (cap : ℕ) → IsOfOne (conflict asked cap) asked (blamed cap)
 of_conflict asked cap = record { files = refl; plan = λ bytes. refl }
-
-pub of_save : (asked : Asked) → IsOfOne (save asked) asked saved
-of_save asked = record { files = refl; plan = λ bytes. refl }
 
 one_planned : (request : Request) (asked : Asked) (answer : Answer) (told : Option (List ℕ → Option (List ℕ))) (opened : Opened) (plan : Plan) → IsOfOne request asked answer → (is : IsOpened told asked opened) → ComesTo (on_document answer is.bytes asked.deadline) plan → Planned request told plan
 one_planned request asked answer told opened plan one is comes = record {
@@ -94,3 +94,19 @@ one_comes request asked answer told net names plan (Ok x) one opened comes =
 pub one_told : (request : Request) (asked : Asked) (answer : Answer) (told : Option (List ℕ → Option (List ℕ))) (said : SaidText) → IsOfOne request asked answer → IsOpened told asked (Told said) → Planned request told (says (the_said said))
 one_told request asked answer told said one opened =
     one_planned request asked answer told (Told said) (says (the_said said)) one opened (told_comes answer opened.bytes asked.deadline said opened.opens)
+
+-- the plan of a document that is saved
+save_planned : (asked : Asked) (told : Option (List ℕ → Option (List ℕ))) (opened : WithLabels) (plan : Plan) → (is : IsOpenedWithLabels told asked opened) → ComesTo (on_labelled saved is.bytes asked.deadline) plan → Planned (save asked) told plan
+save_planned asked told opened plan is comes = record {
+  contents = is.bytes ∷ [];
+  are = λ files e. one_content told asked.file is.bytes is.content files e;
+  comes = comes;
+  there = λ live said output. one_read told asked.file (status_of said.outcome) is.there;
+}
+
+pub save_accepted : {E : Type 0} (asked : Asked) (told : Option (List ℕ → Option (List ℕ))) (l : LabelledParts) (names : List (List ℕ)) (r : Result SaidText E) → IsOpenedWithLabels told asked (LabelledOne l names) → IfOk r (λ said. says (the_said said) ≡ saved names (the_labelled l)) → IfOk r (λ said. Planned (save asked) told (says (the_said said)))
+save_accepted asked told l names (Err e) opened is = tt
+save_accepted asked told l names (Ok said) opened is = save_planned asked told (LabelledOne l names) (says (the_said said)) opened (labelled_comes saved opened.bytes asked.deadline l names (says (the_said said)) opened.opens is)
+
+pub save_told : (asked : Asked) (told : Option (List ℕ → Option (List ℕ))) (said : SaidText) → IsOpenedWithLabels told asked (RefusedOne said) → Planned (save asked) told (says (the_said said))
+save_told asked told said opened = save_planned asked told (RefusedOne said) (says (the_said said)) opened (refused_comes saved opened.bytes asked.deadline said opened.opens)

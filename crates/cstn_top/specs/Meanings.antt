@@ -7,10 +7,11 @@ use Rattle.cstn_rules.specs.Derivations.{IsRefutation}
 use Rattle.cstn_check.specs.Growth.{log_of, load_of, live_bounds}
 use Rattle.cstn_lines.specs.Pieces.{lines_of}
 use Rattle.cstn_refute.specs.Texts.{Told, tells, wrong, told as told_by}
-use Rattle.cstn_words.specs.Requests.{Request, check, run, edit, closed, tight, conflict, save, replay, closedcheck, drill, files_of}
+use Rattle.cstn_words.specs.Requests.{Request, check, run, edit, closed, tight, conflict, tree, save, replay, closedcheck, treecheck, drill, files_of}
+use Rattle.cstn_words.specs.Requests.{host}
 use Rattle.cstn_reply.specs.Files.{AreContents}
 use Rattle.cstn_reply.specs.declared.status.Status.{Status}
-use Rattle.cstn_reply.specs.declared.status.Status.TheVariants.{Good, Bad, Words, Document, Full, ReadFault, WriteFault, Memory, Unfinished, Script}
+use Rattle.cstn_reply.specs.declared.status.Status.TheVariants.{Good, Bad, Words, Document, Full, ReadFault, WriteFault, Memory, Unfinished, Script, Wide}
 use Rattle.std.specs.List.{Contains}
 use Rattle.cstn_log.specs.Cuts.{part}
 use Rattle.cstn_closed.specs.Faults.{Fault, IsFirstFault, IsFaultless}
@@ -19,10 +20,14 @@ use Rattle.cstn_conflict.specs.Sets.{less, with_ids}
 use Rattle.cstn_conflict.specs.Conflicts.{conflict_set, is_full as is_blame_full}
 use Rattle.cstn_tight.specs.Deadlines.{at_deadline, IsLeastDeadline}
 use Rattle.cstn_tight.specs.Bisection.{least_deadline, is_full as is_tight_full}
-use Rattle.cstn_verdict.specs.Documents.{HasNetwork, IsRefused}
+use Rattle.cstn_verdict.specs.Documents.{HasLabelled, HasNetwork, IsRefused}
 use Rattle.cstn_verdict.specs.Verdicts.{IsYes, IsNo}
 use Rattle.cstn_talk.specs.Editing.{begun_editing, last_checked}
+use Rattle.cstn_tree.specs.Texts.{told as told_tree}
+use Rattle.cstn_strategy.specs.Unfolded.{observed}
 use Rattle.cstn_top.specs.Drills.{unrefuted, AreConsistent}
+use Rattle.cstn_top.specs.Several.{EachHas, FirstHas}
+use Rattle.cstn_top.specs.Trees.{IsNarrow, IsGoodTree, IsBrokenTree, HasTree}
 
 -- the words are a request, and it holds of the request and the contents of its files
 abbrev pub HoldsOf : Option Request → Option (List ℕ → Option (List ℕ)) → (Request → List (List ℕ) → Type 0) → Type 0
@@ -65,8 +70,8 @@ AtLastCheck told cap names net holds =
     (live : List ℕ) × IsAllOf told live × holds (last_checked (begun_editing cap names net) None (lines_of live))
 
 -- what the status Good tells of a request, by what is told of the live source: its document has a network, one that was checked
--- is consistent, and one of which a refutation was replayed isn't; the bounds that were written have no fault, and the deadline
--- is the least; of a drill, that as many small networks are consistent as are counted
+-- is consistent, and one of which a refutation was replayed isn't; the bounds that were written have no fault, the deadline
+-- is the least, and the tree is good; of a drill, that as many small networks are consistent as are counted
 abbrev pub IsGood : Option (List ℕ) → Request → List (List ℕ) → Type 0
 IsGood told (check asked cap) contents = HasNetwork (get_or contents 0 []) asked.deadline (λ names net. IsYes cap net)
 IsGood told (run asked cap) contents = HasNetwork (get_or contents 0 []) asked.deadline (λ names net. IsYes cap net)
@@ -75,10 +80,14 @@ IsGood told (edit asked cap) contents =
 IsGood told (closed asked cap) contents = HasNetwork (get_or contents 0 []) asked.deadline (λ names net. IsYes cap net × IsListed net)
 IsGood told (tight asked cap) contents = HasNetwork (get_or contents 0 []) asked.deadline (λ names net. IsConsistent net × IsTight net (least_deadline net))
 IsGood told (conflict asked cap) contents = HasNetwork (get_or contents 0 []) asked.deadline (λ names net. IsConsistent net)
-IsGood told (save asked) contents = HasNetwork (get_or contents 0 []) asked.deadline (λ names net. Unit {0})
+IsGood told (tree asked cap) contents = HasNetwork (get_or contents 0 []) asked.deadline (λ names net. IsNarrow net × IsYes cap net × HasTree names net)
+IsGood told (save asked) contents = HasLabelled (get_or contents 0 []) asked.deadline (λ names m. Unit {0})
 IsGood told (replay asked proof) contents = HasNetwork (get_or contents 0 []) asked.deadline (λ names net. IsConsistent net → ⊥)
 IsGood told (closedcheck asked proof) contents = HasNetwork (get_or contents 0 []) asked.deadline (λ names net. IsConsistent net)
+IsGood told (treecheck asked proof) contents =
+    HasNetwork (get_or contents 0 []) asked.deadline (λ names net. IsGoodTree (told_tree names (get_or contents 1 [])) net)
 IsGood told (drill number) contents = AreConsistent number 64 (unrefuted number 64)
+IsGood told (host files deadline cap) contents = EachHas contents deadline (IsYes cap)
 
 -- what the status Bad tells of it: its document has a network that isn't consistent, or of which the text is no refutation, or its
 -- list has a fault; what was written refutes the network, or that of a conflict set
@@ -91,12 +100,16 @@ IsBad told (closed asked cap) contents = HasNetwork (get_or contents 0 []) asked
 IsBad told (tight asked cap) contents = HasNetwork (get_or contents 0 []) asked.deadline (λ names net. (IsConsistent net → ⊥) × IsRefutedByLog net)
 IsBad told (conflict asked cap) contents =
     HasNetwork (get_or contents 0 []) asked.deadline (λ names net. (IsConsistent net → ⊥) × IsConflict net (conflict_set net))
+IsBad told (tree asked cap) contents = HasNetwork (get_or contents 0 []) asked.deadline (λ names net. IsNarrow net × IsNo cap net)
 IsBad told (save asked) contents = ⊥
 IsBad told (replay asked proof) contents =
     HasNetwork (get_or contents 0 []) asked.deadline (λ names net. IsNoRefutation (told_by names (get_or contents 1 [])) net)
 IsBad told (closedcheck asked proof) contents =
     HasNetwork (get_or contents 0 []) asked.deadline (λ names net. AreFaulty (told_bounds names (get_or contents 1 [])) net)
+IsBad told (treecheck asked proof) contents =
+    HasNetwork (get_or contents 0 []) asked.deadline (λ names net. IsBrokenTree (told_tree names (get_or contents 1 [])) net)
 IsBad told (drill number) contents = ⊥
+IsBad told (host files deadline cap) contents = FirstHas contents deadline cap (IsNo cap)
 
 -- what the status Full tells of it: the log of its network has more entries than it may
 abbrev pub IsFull : Option (List ℕ) → Request → List (List ℕ) → Type 0
@@ -107,11 +120,22 @@ IsFull told (edit asked cap) contents =
 IsFull told (closed asked cap) contents = HasNetwork (get_or contents 0 []) asked.deadline (λ names net. cap < load_of net)
 IsFull told (tight asked cap) contents = HasNetwork (get_or contents 0 []) asked.deadline (λ names net. is_tight_full cap net ≡ true)
 IsFull told (conflict asked cap) contents = HasNetwork (get_or contents 0 []) asked.deadline (λ names net. is_blame_full cap net ≡ true)
+IsFull told (tree asked cap) contents = HasNetwork (get_or contents 0 []) asked.deadline (λ names net. IsNarrow net × (cap < load_of net))
+IsFull told (host files deadline cap) contents = FirstHas contents deadline cap (λ net. cap < load_of net)
 IsFull told request contents = ⊥
+
+-- what the status Wide tells of it: more than 10 propositions are observed
+abbrev pub IsWide : Request → List (List ℕ) → Type 0
+IsWide (tree asked cap) contents = HasNetwork (get_or contents 0 []) asked.deadline (λ names net. 10 < observed net)
+IsWide request contents = ⊥
 
 -- a network whose log has no more entries than it may is decided: Good where it is consistent, and Bad where it isn't
 abbrev pub IsDecided : ℕ → Network → Status → Type 0
 IsDecided cap net status = load_of net ≤ cap → ((status ≡ Good) × IsConsistent net) ⊎ ((status ≡ Bad) × (IsConsistent net → ⊥))
+
+-- the tree of a network is told, if no more than 10 propositions are observed and its log has no more entries than it may
+abbrev pub IsDecidedTree : ℕ → Network → Status → Type 0
+IsDecidedTree cap net status = ((status ≡ Wide) × (10 < observed net)) ⊎ (IsNarrow net × IsDecided cap net status)
 
 -- a check is complete: the network of a document is decided, or the document is refused; a drill is Good
 abbrev pub IsComplete : Status → Request → List (List ℕ) → Type 0
@@ -121,6 +145,9 @@ IsComplete status (check asked cap) contents =
 IsComplete status (closed asked cap) contents =
     ((status ≡ Document) × IsRefused (get_or contents 0 []) asked.deadline)
     ⊎ HasNetwork (get_or contents 0 []) asked.deadline (λ names net. IsDecided cap net status)
+IsComplete status (tree asked cap) contents =
+    ((status ≡ Document) × IsRefused (get_or contents 0 []) asked.deadline)
+    ⊎ HasNetwork (get_or contents 0 []) asked.deadline (λ names net. IsDecidedTree cap net status)
 IsComplete status (drill number) contents = status ≡ Good
 IsComplete status request contents = Unit {0}
 
@@ -140,14 +167,18 @@ files_read WriteFault names = []
 files_read Memory names = []
 files_read Unfinished names = names
 files_read Script names = names
+files_read Wide names = names
 
--- the request reads the live source: a run of a network that has a strategy, or an edit session
+-- the request reads the live source: a run of a network that has a strategy, an edit session, or a host of networks of which
+-- each has a strategy
 abbrev pub ReadsLive : Request → List (List ℕ) → Type 0
 ReadsLive (run asked cap) contents = HasNetwork (get_or contents 0 []) asked.deadline (λ names net. IsYes cap net)
 ReadsLive (edit asked cap) contents = HasNetwork (get_or contents 0 []) asked.deadline (λ names net. Unit {0})
+ReadsLive (host files deadline cap) contents = EachHas contents deadline (IsYes cap)
 ReadsLive request contents = ⊥
 
--- an answer to a line may want memory, after something was written: in an edit session
+-- an answer to a line may want memory, after something was written: in an edit session, and where a host opens an id
 abbrev pub MayStop : Request → List (List ℕ) → Type 0
 MayStop (edit asked cap) contents = HasNetwork (get_or contents 0 []) asked.deadline (λ names net. Unit {0})
+MayStop (host files deadline cap) contents = EachHas contents deadline (IsYes cap)
 MayStop request contents = ⊥

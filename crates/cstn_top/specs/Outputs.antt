@@ -1,23 +1,26 @@
 -- What each request says.
 use Rattle.std.specs.Prelude.{ℕ, List, [], ◌++◌, get_or, Option, None, Some, codes}
-use Rattle.cstn_net.specs.Networks.{Network}
 use Rattle.cstn_save.specs.Canonical.{canonical}
-use Rattle.cstn_words.specs.Requests.{Request, check, run, edit, closed, tight, conflict, save, replay, closedcheck, drill}
+use Rattle.cstn_words.specs.Requests.{Request, check, run, edit, closed, tight, conflict, tree, save, replay, closedcheck, treecheck, drill}
+use Rattle.cstn_words.specs.Requests.{host}
 use Rattle.cstn_reply.specs.Plans.{Said, say, Plan, says}
 use Rattle.cstn_reply.specs.declared.output.Outcome.TheVariants.{Good, Words}
-use Rattle.cstn_verdict.specs.Documents.{Answer, on_document}
+use Rattle.cstn_verdict.specs.Documents.{LabelledAnswer, on_labelled, on_document}
 use Rattle.cstn_verdict.specs.Verdicts.{verdict, checked}
 use Rattle.cstn_evidence.specs.Bounds.{listed}
 use Rattle.cstn_evidence.specs.Blame.{blamed}
 use Rattle.cstn_evidence.specs.Tight.{tightened}
 use Rattle.cstn_evidence.specs.Texts.{by_text, replayed, certified}
+use Rattle.cstn_strategy.specs.Unfolded.{unfolded}
+use Rattle.cstn_strategy.specs.Checked.{tree_checked}
 use Rattle.cstn_talk.specs.Running.{carried_out}
 use Rattle.cstn_talk.specs.Editing.{edited}
+use Rattle.cstn_ward.specs.Hosting.{hosted_plan}
 use Rattle.cstn_top.specs.Drills.{large, counts_of, small_line, large_line}
 
--- what `save` says of a network: its canonical document
-abbrev pub saved : Answer
-saved names net = says (record { outcome = Good; text = canonical net names })
+-- what `save` says of a labelled network: its canonical document
+abbrev pub saved : LabelledAnswer
+saved names m = says (record { outcome = Good; text = canonical m names })
 
 -- what the drill of a number says: the counts of 64 small networks, and the verdict on the large one
 abbrev pub drilled : ℕ → Said
@@ -32,10 +35,13 @@ plan_at (edit asked cap) contents = on_document (edited cap) (get_or contents 0 
 plan_at (closed asked cap) contents = on_document (listed cap) (get_or contents 0 []) asked.deadline
 plan_at (tight asked cap) contents = on_document (tightened cap) (get_or contents 0 []) asked.deadline
 plan_at (conflict asked cap) contents = on_document (blamed cap) (get_or contents 0 []) asked.deadline
-plan_at (save asked) contents = on_document saved (get_or contents 0 []) asked.deadline
+plan_at (tree asked cap) contents = on_document (unfolded cap) (get_or contents 0 []) asked.deadline
+plan_at (save asked) contents = on_labelled saved (get_or contents 0 []) asked.deadline
 plan_at (replay asked proof) contents = on_document (by_text replayed (get_or contents 1 [])) (get_or contents 0 []) asked.deadline
 plan_at (closedcheck asked proof) contents = on_document (by_text certified (get_or contents 1 [])) (get_or contents 0 []) asked.deadline
+plan_at (treecheck asked proof) contents = on_document (by_text tree_checked (get_or contents 1 [])) (get_or contents 0 []) asked.deadline
 plan_at (drill number) contents = says (drilled number)
+plan_at (host files deadline cap) contents = hosted_plan cap deadline contents
 
 -- the plan of words
 abbrev pub plan_of : Option Request → List (List ℕ) → Plan

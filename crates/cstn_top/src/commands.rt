@@ -12,11 +12,14 @@ mod closedcheck;
 mod conflict;
 mod drill;
 mod edit;
+mod host;
 mod replay;
 mod run;
 mod save;
 mod texts;
 mod tight;
+mod tree;
+mod treecheck;
 
 use check::check_file;
 use closed::closed_file;
@@ -25,14 +28,18 @@ use conflict::conflict_file;
 use cstn_io::Shelf;
 use cstn_reply::{Refused, Said};
 use cstn_talk::{Editing, Running};
+use cstn_ward::Ward;
 use cstn_words::Request;
 use drill::drill;
 use edit::edit_file;
+use host::host_all;
 use replay::replay_file;
 use run::run_file;
 use save::save_file;
 use std::alloc::Global;
 use tight::tight_file;
+use tree::tree_file;
+use treecheck::treecheck_file;
 
 /// What is to be written for a request.
 #[derive(Drop)]
@@ -43,6 +50,8 @@ pub(crate) enum Prepared {
     Runs { opening: Vec<u8>, running: Running },
     /// The answers to the edit lines.
     Edits(Editing),
+    /// The lines after yes, and then the answers to the host lines.
+    Hosts { opening: Vec<u8>, ward: Ward },
 }
 
 /// Reads the files of a request, and prepares what is said for it.
@@ -77,6 +86,10 @@ pub(crate) fn prepare<F: Shelf>(
             let said = conflict_file(alloc, asked, cap, shelf)?;
             Ok(Prepared::Says(said))
         }
+        Request::Tree { asked, cap } => {
+            let said = tree_file(alloc, asked, cap, shelf)?;
+            Ok(Prepared::Says(said))
+        }
         Request::Save(asked) => {
             let said = save_file(alloc, asked, shelf)?;
             Ok(Prepared::Says(said))
@@ -89,9 +102,18 @@ pub(crate) fn prepare<F: Shelf>(
             let said = closedcheck_file(alloc, asked, proof, shelf)?;
             Ok(Prepared::Says(said))
         }
+        Request::Treecheck { asked, proof } => {
+            let said = treecheck_file(alloc, asked, proof, shelf)?;
+            Ok(Prepared::Says(said))
+        }
         Request::Drill(number) => {
             let said = drill(alloc, number)?;
             Ok(Prepared::Says(said))
         }
+        Request::Host {
+            files,
+            deadline,
+            cap,
+        } => host_all(alloc, files, deadline, cap, shelf),
     }
 }

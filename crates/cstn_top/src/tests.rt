@@ -2,12 +2,16 @@ mod documents;
 mod drills;
 mod edits;
 mod evidence;
+mod faults;
+mod hosts;
+mod trees;
 
 use crate::{Status, run};
 use cstn_io::{MemoryFile, MemoryShelf, MemorySink, MemorySource};
 use documents::{
-    ASTRAY, AT_ONCE, BRANCH, BROKEN, CONTINGENT, CROSSED, EARLY, LARGE, LAST, LATE, LOOP, ORIGIN,
-    PAIR, PROCESS, SAVED, SLOW, SLOW_LAST, TIMED, TOO_SLOW, TWICE, TWINS, UNKNOWN, UNOBSERVED,
+    ASTRAY, AT_ONCE, BRANCH, BROKEN, CIRCLE, CONTINGENT, CROSSED, EARLY, LABELLED, LARGE, LAST,
+    LATE, LATE_ORIGIN, LOOP, NEVER, ORIGIN, PAIR, PROCESS, SAVED, SAVED_LABELLED, SLOW, SLOW_LAST,
+    TIMED, TOO_SLOW, TWICE, TWINS, UNKNOWN, UNOBSERVED, UNSEEN,
 };
 use std::alloc::{AllocError, Global};
 use std::process::Abort;
@@ -395,10 +399,32 @@ fn refuses_documents(rt: HostRuntime) -> Result<(), Fail> {
     expect_refused(&rt, alloc, TWINS.as_bytes(), "document X10 N7 p P Q\n")?;
     expect_refused(&rt, alloc, LARGE.as_bytes(), "document X10 N5 0\n")?;
     expect_refused(&rt, alloc, AT_ONCE.as_bytes(), "document X5 at 67\n")?;
+    expect_refused(&rt, alloc, CIRCLE.as_bytes(), "document X12 L4 P\n")?;
+    expect_refused(&rt, alloc, UNSEEN.as_bytes(), "document X12 L3 X q\n")?;
+    expect_refused(&rt, alloc, NEVER.as_bytes(), "document X12 L5 X\n")?;
+    expect_refused(&rt, alloc, LATE_ORIGIN.as_bytes(), "document X12 L1\n")?;
     let pair = quiet(PAIR.as_bytes());
     let text = "document X9\n";
     expect(&rt, alloc, &["check", "pair"], pair, Status::Document, text)?;
     expect(&rt, alloc, &["save", "pair"], pair, Status::Document, text)
+}
+
+// A command on a document with labels, which it doesn't take.
+#[test]
+fn takes_no_labels(rt: HostRuntime) -> Result<(), Fail> {
+    let alloc = rt.alloc();
+    let document = quiet(LABELLED.as_bytes());
+    let text = "document labels\n";
+    let words = ["check", "pair", "--deadline", "10"];
+    expect(&rt, alloc, &words, document, Status::Document, text)?;
+    let words = ["run", "pair", "--deadline", "10"];
+    expect(&rt, alloc, &words, document, Status::Document, text)?;
+    let words = ["edit", "pair", "--deadline", "10"];
+    expect(&rt, alloc, &words, document, Status::Document, text)?;
+    let words = ["conflict", "pair", "--deadline", "10"];
+    expect(&rt, alloc, &words, document, Status::Document, text)?;
+    let words = ["replay", "pair", "proof", "--deadline", "10"];
+    expect(&rt, alloc, &words, document, Status::Document, text)
 }
 
 #[test]
@@ -414,6 +440,8 @@ fn saves(rt: HostRuntime) -> Result<(), Fail> {
     let words = ["save", "pair", "--deadline", "10"];
     let branch = quiet(BRANCH.as_bytes());
     expect(&rt, alloc, &words, branch, Status::Good, SAVED)?;
+    let labelled = quiet(LABELLED.as_bytes());
+    expect(&rt, alloc, &words, labelled, Status::Good, SAVED_LABELLED)?;
     let saved = quiet(SAVED.as_bytes());
     expect(&rt, alloc, &["save", "pair"], saved, Status::Good, SAVED)
 }

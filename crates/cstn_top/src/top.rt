@@ -8,10 +8,12 @@ ghost use Rattle.cstn_reply.specs.Texts.{line};
 ghost use Rattle.cstn_words.specs.Requests.{request_of, names_of};
 ghost use Rattle.cstn_reply.specs.Files.{AreContents, AreThere};
 ghost use Rattle.cstn_reply.specs.Plans.{Live, Ends, Untouched};
+ghost use Rattle.cstn_top.specs.Evidence.{WroteEvidence};
 ghost use Rattle.cstn_top.specs.Outputs.{plan_of};
-ghost use Rattle.cstn_top.specs.Meanings.{HoldsOf, IsGood, IsBad, IsFull, IsComplete, IsStopped, files_read, ReadsLive, MayStop};
+ghost use Rattle.cstn_top.specs.Meanings.{HoldsOf, IsGood, IsBad, IsFull, IsWide, IsComplete, IsStopped, files_read, ReadsLive, MayStop};
 
 use crate::commands::{Prepared, prepare};
+use cstn_evidence::evidence_is_accepted;
 use cstn_io::{Shelf, Sink, Source};
 use cstn_reply::{Refused, Status, converse, finish};
 use cstn_words::parse;
@@ -35,7 +37,9 @@ pub fn run<F: Shelf, S: Source, K: Sink>(
     ensures good { result ≡ Status.Good → HoldsOf (request_of (map string_bytes words.now)) (F.files shelf.old) (IsGood (S.left live.old)) }
     ensures bad { result ≡ Status.Bad → HoldsOf (request_of (map string_bytes words.now)) (F.files shelf.old) (IsBad (S.left live.old)) }
     ensures full { result ≡ Status.Full → HoldsOf (request_of (map string_bytes words.now)) (F.files shelf.old) (IsFull (S.left live.old)) }
+    ensures wide { result ≡ Status.Wide → HoldsOf (request_of (map string_bytes words.now)) (F.files shelf.old) IsWide }
     ensures complete { IsStopped result ⊎ (IsNone (request_of (map string_bytes words.now)) ⊎ HoldsOf (request_of (map string_bytes words.now)) (F.files shelf.old) (IsComplete result)) }
+    ensures evidence { IsStopped result ⊎ (IsNone (request_of (map string_bytes words.now)) ⊎ HoldsOf (request_of (map string_bytes words.now)) (F.files shelf.old) (WroteEvidence (K.written out.old) (K.written out.new) result)) }
     ensures there { AreThere (F.files shelf.old) (files_read result (names_of (request_of (map string_bytes words.now)))) }
 
     ensures flushed { result ≢ Status.WriteFault → K.flushed out.new ≡ option_map length (K.written out.new) }
@@ -48,6 +52,7 @@ pub fn run<F: Shelf, S: Source, K: Sink>(
     ensures words_stand { IsNone (request_of (map string_bytes words.now)) → shelf.new ≡ shelf.old }
     ensures drill_stands { names_of (request_of (map string_bytes words.now)) ≡ [] → shelf.new ≡ shelf.old }
 {
+    evidence_is_accepted();
     let Some(request) = parse(words) else {
         return finish(out, b"words\n", Status::Words);
     };
@@ -55,6 +60,7 @@ pub fn run<F: Shelf, S: Source, K: Sink>(
         Ok(Prepared::Says(said)) => finish(out, &said.text, said.outcome.status()),
         Ok(Prepared::Runs { opening, running }) => converse(alloc, running, &opening, live, out),
         Ok(Prepared::Edits(editing)) => converse(alloc, editing, b"", live, out),
+        Ok(Prepared::Hosts { opening, ward }) => converse(alloc, ward, &opening, live, out),
         Err(Refused::ReadFault) => finish(out, b"read fault\n", Status::ReadFault),
         Err(Refused::Memory) => finish(out, b"memory\n", Status::Memory),
     }

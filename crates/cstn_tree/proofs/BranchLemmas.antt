@@ -1,22 +1,21 @@
 -- What the program keeps of a branch, as the branch.
-use Rattle.std.proofs.Common.{ℕ, suc, ◌≡◌, inl, inr, ◌+◌, ◌<◌, ◌≤◌, Bool, true, false, ◌&&◌, ◌||◌, not, List, [], ◌∷◌, Option, Some, None, length, map, take, drop, get_or, arith, drop-cons, add-one, le-leb, refl, sym, subst, ap, ◌∙◌, get_or-set_other, get_or-set_same}
+use Rattle.std.proofs.Common.{ℕ, suc, ◌≡◌, inl, inr, ◌+◌, ◌<◌, ◌≤◌, Bool, true, false, ◌&&◌, ◌||◌, not, List, [], ◌∷◌, Option, Some, None, length, drop, get_or, arith, drop-cons, add-one, le-leb, refl, sym, subst, ap, ◌∙◌, get_or-set_other, get_or-set_same}
 use Rattle.std.specs.Prelude.{◌==◌, is_none, is_some, nat_le, slice_set, if◌then◌else◌}
-use Rattle.std.specs.List.{position, list_all, list_any, range_with_len}
+use Rattle.std.specs.List.{position, list_all, range_with_len}
 use Rattle.std.specs.Option.{option_and_then}
 use Rattle.std.proofs.Math.Path.{fun_ext}
 use Rattle.std.proofs.lemmas.Bool.{cases_Bool, cases_eq, cases_lt, cond-true, cond-false, eq-eqb, ne_eqb, both_ways}
 use Rattle.std.proofs.lemmas.Bool.Decides.{leb_tells}
-use Rattle.std.proofs.lemmas.List.{length-set, set_past, take_all, drop_all}
-use Rattle.std.proofs.lemmas.List.Folds.{list_all_at, list_all-map}
+use Rattle.std.proofs.lemmas.List.{length-set, set_past, drop_all}
+use Rattle.std.proofs.lemmas.List.Folds.{list_all_at}
 use Rattle.cstn_label.specs.declared.nodes.NodeId.{NodeId}
-use Rattle.cstn_net.specs.Networks.{Network, Constraint, IsNetwork, Observes, limit}
-use Rattle.cstn_net.specs.Read.{is_prop, the_constraint}
-use Rattle.cstn_net.specs.declared.constraints.Constraint.{Constraint as ProgramConstraint}
+use Rattle.cstn_net.specs.Networks.{Network, IsNetwork, Observes, limit}
+use Rattle.cstn_net.specs.Read.{is_prop}
 use Rattle.cstn_exec.proofs.Knowing.{observer_at, at_observer}
 use Rattle.cstn_exec.proofs.Options.{is_some-false, is_some-true}
 use Rattle.cstn_exec.proofs.Ranges.{each_passes, all_pass}
 use Rattle.cstn_tree.specs.Trees.{is_named}
-use Rattle.cstn_tree.specs.Good.{Branch, placed_with, are_new, are_in_time, observed_on, is_kept, is_met}
+use Rattle.cstn_tree.specs.Good.{Branch, placed_with, are_new, are_in_time, observed_on}
 use Rattle.cstn_tree.specs.Branches.{the_placed, numbers, IsBranchOf}
 use Rattle.cstn_tree.specs.declared.branches.Branch.{Branch as ProgramBranch}
 
@@ -133,12 +132,6 @@ placed_next placed t x xs = fun_ext (λ y. go (y == x) (is_named y xs) y)
     go false true y = refl
     go false false y = refl
 
--- ---- names and constraints
-
-pub any_named : (x : ℕ) (xs : List NodeId) → list_any (λ y. x == y.0) xs ≡ is_named x (numbers xs)
-any_named x [] = refl
-any_named x (y ∷ ys) = ap (λ b. (x == y.0) || b) (any_named x ys)
-
 -- the branch after one more is named
 pub branch_with : (n : ℕ) (b new : ProgramBranch) (x t : ℕ) → IsBranchOf n b → t ≤ 1000000 → new.moments.items ≡ slice_set b.moments.items x (Some t) →
     IsBranchOf n new
@@ -160,32 +153,6 @@ branch_with n b new x t is soon items = record {
           ]
       | inr outside ↦ is.in_time y m (subst (λ l. the_placed l y ≡ Some m) (set_past b.moments.items x (Some t) outside) e)
     ]
-
-module _ (placed : ℕ → Option ℕ) (asked : ℕ → Option Bool) (xs : List NodeId) (c : Constraint) where
-  pub met_untouched : list_any (λ y. c.from == y.0) xs ≡ false → list_any (λ y. c.to == y.0) xs ≡ false → is_met placed asked (numbers xs) c ≡ true
-  met_untouched f t =
-      ap (λ b. not (b || is_named c.to (numbers xs)) || is_kept placed asked c) (sym (any_named c.from xs) ∙ f)
-      ∙ ap (λ b. not b || is_kept placed asked c) (sym (any_named c.to xs) ∙ t)
-
-  pub met_from : list_any (λ y. c.from == y.0) xs ≡ true → is_met placed asked (numbers xs) c ≡ is_kept placed asked c
-  met_from f = ap (λ b. not (b || is_named c.to (numbers xs)) || is_kept placed asked c) (sym (any_named c.from xs) ∙ f)
-
-  pub met_to : list_any (λ y. c.to == y.0) xs ≡ true → is_met placed asked (numbers xs) c ≡ is_kept placed asked c
-  met_to t = ap (λ b. not (is_named c.from (numbers xs) || b) || is_kept placed asked c) (sym (any_named c.to xs) ∙ t) ∙ or_true (is_named c.from (numbers xs))
-    where
-      or_true : (a : Bool) → (not (a || true) || is_kept placed asked c) ≡ is_kept placed asked c
-      or_true true = refl
-      or_true false = refl
-
-module _ (test : Constraint → Bool) (cs : List ProgramConstraint) (k : ℕ) where
-  pub met_fails : (c : ProgramConstraint) → c ≡ get_or cs k c → k < length cs → test (the_constraint c) ≡ false → list_all test (map the_constraint cs) ≡ false
-  met_fails c at inside fails =
-      list_all-map test the_constraint cs
-      ∙ list_all_at (λ d. test (the_constraint d)) cs k c inside (subst (λ d. test (the_constraint d) ≡ false) at fails)
-
-  pub met_all : length cs ≤ k → list_all (λ d. test (the_constraint d)) (take k cs) ≡ true → list_all test (map the_constraint cs) ≡ true
-  met_all past all =
-      list_all-map test the_constraint cs ∙ sym (ap (list_all (λ d. test (the_constraint d))) (take_all k cs past)) ∙ all
 
 -- ---- one more of the time-points of a line
 

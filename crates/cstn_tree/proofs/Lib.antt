@@ -1,7 +1,7 @@
 pub mod TreeLemmas
 mod Standing
 mod Ways
-mod Strategies
+pub mod Strategies
 mod BranchLemmas
 mod Checks
 mod PrintLemmas
@@ -9,3 +9,7 @@ mod PartLemmas
 mod ReadLemmas
 mod MakeLemmas
 mod MakingLemmas
+mod Following
+mod MadeTrees
+mod BackLemmas
+mod StartLemmas

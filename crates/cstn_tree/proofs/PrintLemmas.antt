@@ -1,11 +1,14 @@
 -- Texts that are printed line by line.
-use Rattle.std.proofs.Common.{ℕ, ◌≡◌, ◌+◌, ◌<◌, ◌≤◌, List, [], ◌∷◌, ◌++◌, length, get_or, take, map, sym, ap, ◌∙◌, append_assoc, codes}
+use Rattle.std.proofs.Common.{ℕ, ◌≡◌, ◌+◌, ◌<◌, ◌≤◌, List, [], ◌∷◌, ◌++◌, length, get_or, take, map, sym, subst, ap, ◌∙◌, append_assoc, codes}
 use Rattle.std.specs.Prelude.{flat_map}
+use Rattle.std.specs.List.{All}
 use Rattle.std.proofs.lemmas.Grind.{flat_map-append}
 use Rattle.std.proofs.lemmas.List.{append-nil, map_more, take_all}
+use Rattle.std.proofs.lemmas.List.Elements.{All-push}
 use Rattle.cstn_text.specs.Numbers.{printed_number}
 use Rattle.cstn_tree.specs.declared.trees.Line.{Line as ProgramLine}
 use Rattle.cstn_tree.specs.Texts.{printed_lines, shown}
+use Rattle.cstn_tree.specs.Written.{IsWritten}
 use Rattle.cstn_tree.specs.Read.{the_line}
 
 flat_more : {X : Type 0} (f : X → List ℕ) (xs : List X) (x : X) → flat_map f (xs ++ x ∷ []) ≡ flat_map f xs ++ f x
@@ -28,3 +31,14 @@ pub shown_whole : (names : List (List ℕ)) (load : ℕ) (lines : List ProgramLi
 shown_whole names load lines k text past is =
     is ∙ ap (λ l. (codes "yes " ++ printed_number load ++ 10 ∷ []) ++ printed_lines names (map the_line l)) (take_all k lines past)
     ∙ append_assoc (codes "yes " ++ printed_number load) (10 ∷ []) (printed_lines names (map the_line lines))
+
+-- one more can be said by a text
+pub more_written : (names : List (List ℕ)) (lines : List ProgramLine) (k : ℕ) (l : ProgramLine) → k < length lines → l ≡ get_or lines k l →
+    All (IsWritten names) (map the_line (take k lines)) → IsWritten names (the_line l) → All (IsWritten names) (map the_line (take (k + 1) lines))
+more_written names lines k l inside at before is =
+    subst (All (IsWritten names)) (sym (map_more the_line lines k l inside))
+    (All-push (IsWritten names) (map the_line (take k lines)) (the_line (get_or lines k l)) before (subst (λ x. IsWritten names (the_line x)) at is))
+
+pub all_written : (names : List (List ℕ)) (lines : List ProgramLine) (k : ℕ) → length lines ≤ k → All (IsWritten names) (map the_line (take k lines)) →
+    All (IsWritten names) (map the_line lines)
+all_written names lines k past all = subst (λ ls. All (IsWritten names) (map the_line ls)) (take_all k lines past) all

@@ -31,7 +31,7 @@ holds_possible s asked a of h = all_pass (λ p. fits_known (asked p) (a p)) 0 52
     go p (Some v) e =
         subst (λ o. fits_known o (a p) ≡ true) (sym e) (true_fits v (a p) (subst (λ w. MarkFits w (a p)) (of p v e) (h p)))
 
-asked_of : (s : Scenario) (asked : ℕ → Option Bool) (p : ℕ) (v : Bool) → s p ≡ v → AreOf s asked → AreOf s (λ q. cond (q == p) (Some v) (asked q))
+pub asked_of : (s : Scenario) (asked : ℕ → Option Bool) (p : ℕ) (v : Bool) → s p ≡ v → AreOf s asked → AreOf s (λ q. cond (q == p) (Some v) (asked q))
 asked_of s asked p v here of q w e = elim (cases_Bool (q == p)) [
   | inl same ↦
       let there : Some v ≡ Some w = sym (cond-true (q == p) (Some v) (asked q) same) ∙ e in

@@ -3,8 +3,10 @@ pub mod Good
 pub mod Walks
 pub mod Read
 pub mod Branches
+pub mod Starts
 pub mod Examples
 pub mod Texts
+pub mod Written
 pub mod Whole
 pub mod Reading
 pub mod Made

@@ -1,15 +1,17 @@
 // What the branch of a line says.
-ghost use Rattle.std.specs.Prelude.{ℕ, ◌≡◌, ◌<◌, ◌≤◌, ◌&&◌, ◌||◌, not, true, Bool, ◌==◌, Some, length, map, IfOk, IfSome, is_some, is_none};
-ghost use Rattle.std.specs.List.{All, list_all, list_any};
+ghost use Rattle.std.specs.Prelude.{ℕ, ◌≡◌, ◌<◌, ◌≤◌, ◌&&◌, true, false, Some, length, map, IfOk, IfSome, is_some, is_none};
+ghost use Rattle.std.specs.List.{All, list_all};
 ghost use Rattle.std.specs.Option.{option_map};
 ghost use Rattle.cstn_label.specs.Read.{known_value, marks};
 ghost use Rattle.cstn_net.specs.Networks.{count, limit};
 ghost use Rattle.cstn_net.specs.Read.{the_network, the_constraint, IsInRange};
 ghost use Rattle.cstn_exec.specs.Runs.{is_possible};
-ghost use Rattle.cstn_tree.specs.Trees.{is_named};
 ghost use Rattle.cstn_tree.specs.Good.{start, placed_with, are_new, are_in_time, is_within, is_kept, is_met, fits_at, below_at, observed_on, known_from, fits_ask, below_ask, is_complete};
 ghost use Rattle.cstn_tree.specs.Branches.{the_branch, the_placed, IsBranchOf, numbers};
+ghost use Rattle.cstn_tree.specs.declared.starts.End.{End as TheEnd};
+ghost use Rattle.cstn_tree.specs.Starts.{AreStarts, TellsAt, AllPass, SomeFails};
 
+use crate::starts::{End, Starts};
 use cstn_label::{Known, Label, NodeId, Prop};
 use cstn_net::{Constraint, Network};
 use std::alloc::{AllocError, Global};
@@ -117,14 +119,18 @@ impl Branch {
     }
 
     /// Goes on below an `at` of a moment, in ticks, and time-points; false where the line breaks.
-    pub fn place(&mut self, net: &Network, t: u32, named: &[NodeId]) -> bool
+    pub fn place(&mut self, net: &Network, starts: &Starts, t: u32, named: &[NodeId]) -> bool
         requires branch { IsBranchOf (count (the_network net.now)) self.old }
+        requires starts { AreStarts (count (the_network net.now)) net.now.constraints starts.now }
         requires inside { All (λ x. x.0 < count (the_network net.now)) named.now }
         ensures fits { result ≡ fits_at (the_network net.now) (the_branch self.old) t (numbers named.now) }
         ensures below { result ≡ true → the_branch self.new ≡ below_at (the_branch self.old) t (numbers named.now) }
         ensures branch { result ≡ true → IsBranchOf (count (the_network net.now)) self.new }
     {
-        if (t as u64) < self.from || !self.name_all(net, t, named) || !self.meets(net, named) {
+        if (t as u64) < self.from
+            || !self.name_all(net, t, named)
+            || !self.meets(net, starts, named)
+        {
             return false;
         }
         self.from = t as u64 + 1;
@@ -151,30 +157,59 @@ impl Branch {
     }
 
     // Whether the constraints are met that have an end among the time-points, and the other named.
-    fn meets(&self, net: &Network, named: &[NodeId]) -> bool
+    fn meets(&self, net: &Network, starts: &Starts, named: &[NodeId]) -> bool
         requires branch { IsBranchOf (count (the_network net.now)) self.now }
+        requires starts { AreStarts (count (the_network net.now)) net.now.constraints starts.now }
+        requires inside { All (λ x. x.0 < count (the_network net.now)) named.now }
         ensures { result ≡ list_all (is_met (the_branch self.now).placed (the_branch self.now).asked (numbers named.now)) (the_network net.now).constraints }
     {
-        for c in net.constraints() {
-            if !self.is_met(net, named, c) {
+        for x in named {
+            if !self.meets_both(net, starts, *x) {
                 return false;
             }
         }
         true
     }
 
-    fn is_met(&self, net: &Network, named: &[NodeId], c: &Constraint) -> bool
+    // Whether the constraints are kept that start or end at the time-point.
+    fn meets_both(&self, net: &Network, starts: &Starts, x: NodeId) -> bool
         requires branch { IsBranchOf (count (the_network net.now)) self.now }
-        requires inside { IsInRange (count (the_network net.now)) c.now }
-        ensures { result ≡ is_met (the_branch self.now).placed (the_branch self.now).asked (numbers named.now) (the_constraint c.now) }
+        requires starts { AreStarts (count (the_network net.now)) net.now.constraints starts.now }
+        requires inside { x.0 < count (the_network net.now) }
+        ensures kept { result ≡ true → (end : TheEnd) → AllPass (is_kept (the_branch self.now).placed (the_branch self.now).asked) end net.now.constraints x.0 }
+        ensures broken { result ≡ false → (end : TheEnd) × SomeFails (is_kept (the_branch self.now).placed (the_branch self.now).asked) end net.now.constraints x.0 }
     {
-        if stands_in(c.from, named) {
-            return self.is_kept(net, c);
+        if !self.meets_at(net, starts, End::From, x) {
+            return false;
         }
-        if stands_in(c.to, named) {
-            return self.is_kept(net, c);
+        self.meets_at(net, starts, End::To, x)
+    }
+
+    // Whether the constraints are kept that have this end at the time-point.
+    fn meets_at(&self, net: &Network, starts: &Starts, end: End, x: NodeId) -> bool
+        requires branch { IsBranchOf (count (the_network net.now)) self.now }
+        requires starts { AreStarts (count (the_network net.now)) net.now.constraints starts.now }
+        requires inside { x.0 < count (the_network net.now) }
+        ensures kept { result ≡ true → AllPass (is_kept (the_branch self.now).placed (the_branch self.now).asked) end net.now.constraints x.0 }
+        ensures broken { result ≡ false → SomeFails (is_kept (the_branch self.now).placed (the_branch self.now).asked) end net.now.constraints x.0 }
+    {
+        let mut at = starts.first(net, end, x);
+        while let Some(place) = at {
+            if !self.keeps(net, place) {
+                return false;
+            }
+            at = starts.next(net, end, place);
         }
         true
+    }
+
+    // Whether the constraint at a place is met as far as its ends are named.
+    fn keeps(&self, net: &Network, place: usize) -> bool
+        requires branch { IsBranchOf (count (the_network net.now)) self.now }
+        requires inside { place < length net.now.constraints }
+        ensures kept { TellsAt (is_kept (the_branch self.now).placed (the_branch self.now).asked) net.now.constraints place result }
+    {
+        self.is_kept(net, &net.constraints()[place])
     }
 
     fn is_kept(&self, net: &Network, c: &Constraint) -> bool
@@ -201,12 +236,6 @@ fn are_named(moments: &[Option<u32>]) -> bool
     ensures { result ≡ list_all is_some moments.now }
 {
     moments.iter().all(|m| m.is_some())
-}
-
-fn stands_in(x: NodeId, named: &[NodeId]) -> bool
-    ensures { result ≡ list_any (λ y. x.0 == y.0) named.now }
-{
-    named.iter().any(|y| x.0 == y.0)
 }
 
 fn is_possible(label: Label, asked: Known) -> bool

@@ -10,6 +10,7 @@ ghost use Rattle.cstn_tree.specs.Good.{start, first_broken, IsGood};
 ghost use Rattle.cstn_tree.specs.Walks.{first_broken_in};
 ghost use Rattle.cstn_tree.specs.Read.{the_line, the_tree, the_answer};
 
+use crate::starts::Starts;
 use crate::trees::{Line, Tree};
 use crate::walks::{Step, Walk};
 use cstn_net::Network;
@@ -26,7 +27,8 @@ pub enum TreeAnswer {
 
 /// Whether the tree is good for the network. A tree that is accepted stands for a strategy. Fails for want of memory alone.
 ///
-/// Takes time in proportion to the lines of the tree.
+/// Takes time in proportion to the constraints at the time-points that are named on each `at`, and to the time-points for each
+/// `ask` and `done`. Beside it, each constraint is looked at once.
 pub fn check(alloc: Global, net: &Network, tree: &Tree) -> Result<TreeAnswer, AllocError>
     requires among { IsAmong (count (the_network net.now)) (the_tree tree.now) }
     requires few { length tree.now + 1 < 2 ^ 32 }
@@ -55,9 +57,10 @@ fn first_broken(alloc: Global, net: &Network, lines: &[Line]) -> Result<Option<u
     requires few { length lines.now + 1 < 2 ^ 32 }
     ensures first { IfOk result (λ line. line ≡ first_broken_in (the_network net.now) (start ∷ []) (map the_line lines.now) 2) }
 {
+    let starts = Starts::of(alloc, net)?;
     let mut walk = Walk::start(alloc, net)?;
     for k in 0..lines.len() {
-        match walk.step(alloc, net, &lines[k])? {
+        match walk.step(alloc, net, &starts, &lines[k])? {
             Step::Broken => return Ok(Some(k as u32 + 2)),
             Step::On => {}
             Step::End => return Ok(None),

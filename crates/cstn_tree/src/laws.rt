@@ -1,10 +1,17 @@
 // Laws of trees.
-ghost use Rattle.std.specs.Prelude.{ℕ, ◌≡◌, [], ◌∷◌, None, Some};
-ghost use Rattle.cstn_net.specs.Networks.{Network, IsNetwork};
-ghost use Rattle.cstn_net.specs.Strategies.{IsStrategy, IsConsistent};
+ghost use Rattle.std.specs.Prelude.{ℕ, ◌≡◌, ◌<◌, [], ◌∷◌, List, None, Some};
+ghost use Rattle.cstn_label.specs.Labels.{Scenario};
+ghost use Rattle.cstn_label.specs.Bounds.{Bound};
+ghost use Rattle.cstn_net.specs.Networks.{Network, IsNetwork, IsWellFormed, count};
+ghost use Rattle.cstn_net.specs.Strategies.{Table, IsStrategy, IsConsistent, IsLeast};
 ghost use Rattle.cstn_net.specs.Examples.{branch};
-ghost use Rattle.cstn_tree.specs.Trees.{Tree, at, done, lines_of, table_of};
+ghost use Rattle.cstn_log.specs.Plans.{IsEarliest};
+ghost use Rattle.cstn_text.specs.Names.{AreNames};
+ghost use Rattle.cstn_tree.specs.Trees.{Tree, IsAmong, at, done, lines_of, table_of};
 ghost use Rattle.cstn_tree.specs.Good.{first_broken, IsGood};
+ghost use Rattle.cstn_tree.specs.Made.{IsTreeOf};
+ghost use Rattle.cstn_tree.specs.Texts.{shown, tells, told};
+ghost use Rattle.cstn_tree.specs.Written.{AreWritten, FitsText};
 ghost use Rattle.cstn_tree.specs.Read.{the_tree};
 ghost use Rattle.cstn_tree.specs.Examples.{branch_tree, asked_first, named_twice, left_out, slow_branch, crossed, crossed_tree, alone};
 
@@ -13,6 +20,21 @@ ghost use Rattle.cstn_tree.specs.Examples.{branch_tree, asked_first, named_twice
 pub fn good_trees_are_strategies()
     ensures strategy { (net : Network) (tree : Tree) → IsNetwork net → IsGood net tree → IsStrategy net (table_of tree) }
     ensures consistent { (net : Network) (tree : Tree) → IsNetwork net → IsGood net tree → IsConsistent net }
+{}
+
+/// The tree of a network, by bounds that have an earliest-first strategy: no line of it breaks, its table has each time-point at
+/// its least moment, and it can be said by a text.
+pub fn made_trees_are_good()
+    ensures good { (net : Network) (bounds : List Bound) (table : Table) → IsWellFormed net → IsEarliest net bounds table → (tree : Tree) → IsTreeOf net bounds tree → IsGood net tree }
+    ensures least { (net : Network) (bounds : List Bound) (table : Table) → IsWellFormed net → IsEarliest net bounds table → (tree : Tree) → IsTreeOf net bounds tree → (s : Scenario) (x : ℕ) → x < count net → IsLeast net s x (table_of tree s x) }
+    ensures among { (net : Network) (bounds : List Bound) (tree : Tree) → IsTreeOf net bounds tree → IsAmong (count net) tree }
+    ensures fits { (net : Network) (bounds : List Bound) (table : Table) → IsWellFormed net → IsEarliest net bounds table → (tree : Tree) → IsTreeOf net bounds tree → FitsText tree }
+{}
+
+/// The text of a load and a tree is read back as the tree, where each `at` names a time-point, no branch has more than 2,100
+/// lines, the time-points have names and the numbers are in their ranges.
+pub fn tree_texts_are_read_back()
+    ensures back { (names : List (List ℕ)) (load : ℕ) (tree : Tree) → AreNames names → AreWritten names load tree → told names (shown names load (lines_of tree)) ≡ tells (lines_of tree) }
 {}
 
 /// A tree is known by its lines.

@@ -9,12 +9,16 @@ mod making;
 mod parts;
 mod printing;
 mod reading;
+mod starts;
 mod trees;
 mod walks;
 
 pub use checking::{TreeAnswer, check};
 pub use errors::TreeError;
-pub use laws::{broken_lines_are_known, good_trees_are_strategies, trees_are_their_lines};
+pub use laws::{
+    broken_lines_are_known, good_trees_are_strategies, made_trees_are_good,
+    tree_texts_are_read_back, trees_are_their_lines,
+};
 pub use making::make;
 pub use printing::print;
 pub use reading::read;

@@ -2,13 +2,18 @@
 ghost use Rattle.std.specs.Prelude.{ℕ, ◌≡◌, ◌<◌, ◌+◌, ◌++◌, ◌∷◌, [], true, false, None, Some, List, length, map, IfOk, OnOk, MatchOption};
 ghost use Rattle.std.specs.Option.{option_map};
 ghost use Rattle.cstn_exec.specs.Read.{the_refusal};
+ghost use Rattle.cstn_label.specs.Labels.{Scenario};
 ghost use Rattle.cstn_net.specs.Networks.{count};
+ghost use Rattle.cstn_net.specs.Strategies.{IsLeast};
 ghost use Rattle.cstn_net.specs.Read.{the_network};
 ghost use Rattle.cstn_log.specs.Plans.{the_bounds};
 ghost use Rattle.cstn_exec.specs.Runs.{start, due, named};
 ghost use Rattle.cstn_exec.specs.Moves.{Awaiting, moment_refusal};
 ghost use Rattle.cstn_exec.specs.Examples.{Moment, run_after};
+ghost use Rattle.cstn_tree.specs.Trees.{IsAmong, table_of};
+ghost use Rattle.cstn_tree.specs.Good.{IsGood};
 ghost use Rattle.cstn_tree.specs.Made.{IsTreeOf, IsGrown, run_along};
+ghost use Rattle.cstn_tree.specs.Written.{FitsText};
 ghost use Rattle.cstn_tree.specs.Read.{the_line, the_tree};
 ghost use Rattle.cstn_tree.specs.Making.{the_event, the_events, the_pending, IsMaking};
 
@@ -17,14 +22,22 @@ use cstn_exec::{ExecError, Executive};
 use cstn_label::Prop;
 use std::alloc::{AllocError, Global};
 
-/// The tree of the executive's network. The executive is left restarted, also when refused.
+/// The tree of the executive's network. No line of it breaks, it has each time-point at its least moment, and its text is read
+/// back as the same tree. The executive is left restarted, also when refused.
 ///
 /// Takes as many steps as the tree has lines, and for each second tree of an `ask` those of its branch. Where k propositions are
 /// observed a tree can have 2^k branches.
 pub fn make(alloc: Global, exec: &mut Executive) -> Result<Tree, AllocError>
     ensures tree { IfOk result (λ t. IsTreeOf (the_network exec.old.net) (the_bounds exec.old.bounds) (the_tree t)) }
     ensures restarted { exec.new ≡ record exec.old { run = start (count (the_network exec.old.net)); named = [] } }
+
+    ensures good { IfOk result (λ t. IsGood (the_network exec.old.net) (the_tree t)) }
+    ensures least { IfOk result (λ t. (s : Scenario) (x : ℕ) → x < count (the_network exec.old.net) → IsLeast (the_network exec.old.net) s x (table_of (the_tree t) s x)) }
+    ensures among { IfOk result (λ t. IsAmong (count (the_network exec.old.net)) (the_tree t)) }
+    ensures fits { IfOk result (λ t. FitsText (the_tree t)) }
 {
+    // Its plan has a strategy with each time-point at its least moment.
+    exec.network();
     exec.restart();
     let made = grow(alloc, exec);
     exec.restart();

@@ -1,10 +1,12 @@
 // Trees as texts.
 ghost use Rattle.std.specs.Prelude.{ℕ, ◌≡◌, ◌<◌, ◌≤◌, ◌++◌, ◌∷◌, [], length, map, flat_map, slice_index_or, string_bytes, IfOk, OnOk, codes};
 ghost use Rattle.std.specs.List.{All};
+ghost use Rattle.cstn_text.specs.Names.{AreNames};
 ghost use Rattle.cstn_text.specs.Numbers.{printed_number};
 ghost use Rattle.cstn_text.specs.PrintedNames.{printed_name};
 ghost use Rattle.cstn_tree.specs.Trees.{IsAmong, names_on};
-ghost use Rattle.cstn_tree.specs.Texts.{shown, printed_line};
+ghost use Rattle.cstn_tree.specs.Texts.{shown, printed_line, told, tells};
+ghost use Rattle.cstn_tree.specs.Written.{FitsText, IsWritten};
 ghost use Rattle.cstn_tree.specs.Read.{the_line, the_tree};
 ghost use Rattle.cstn_tree.specs.Branches.{numbers};
 
@@ -18,12 +20,16 @@ const USUAL_LINE: usize = 16;
 
 /// The text of a tree: a line for the load, and one for each line of the tree.
 ///
+/// Where each `at` names a time-point and no branch has more than 2,100 lines, the text is read again as the same tree.
 /// Beside the text it takes memory for a name at a time.
 pub fn print(alloc: Global, tree: &Tree, load: u32, names: &Names) -> Result<String, AllocError>
     requires named { IsAmong (length names.now) (the_tree tree.now) }
     requires load { (1 ≤ load) × (load ≤ 4194304) }
     ensures shown { IfOk result (λ text. string_bytes text ≡ shown names.now load tree.now) }
+    ensures back { FitsText (the_tree tree.now) → IfOk result (λ text. told names.now (string_bytes text) ≡ tells tree.now) }
 {
+    // The names are different, and each is one of 1 to 64 bytes.
+    names.count();
     let lines = tree.lines();
     let mut text = String::new(alloc);
     push_load(&mut text, load)?;
@@ -47,6 +53,7 @@ fn push_load(text: &mut String, load: u32) -> Result<(), AllocError>
 fn push_line(alloc: Global, text: &mut String, names: &Names, line: &Line) -> Result<(), AllocError>
     requires named { All (λ x. x < length names.now) (names_on (the_line line.now)) }
     ensures pushed { OnOk result (string_bytes text.new ≡ string_bytes text.old ++ printed_line names.now (the_line line.now)) }
+    ensures written { OnOk result (IsWritten names.now (the_line line.now)) }
 {
     match line {
         Line::At { moment, named } => {

@@ -42,7 +42,7 @@ fn checked(rt: &impl Abort, alloc: Global, text: &str, answer: TreeAnswer) -> Re
     let net = branch(rt, alloc)?;
     assert!(rt; net.count() == 3);
     assert!(rt; names.count() == 3);
-    assert!(rt; text.len() < 1000);
+    assert!(rt; text.len() < 100_000);
     let tree = read(alloc, &names, text.as_bytes()).expect(rt, text);
     assert_eq!(rt; check(alloc, &net, &tree)?, answer);
     assert_eq!(rt; print(alloc, &tree, 5, &names)?.as_str(), text);
@@ -52,7 +52,7 @@ fn checked(rt: &impl Abort, alloc: Global, text: &str, answer: TreeAnswer) -> Re
 fn wrong(rt: &impl Abort, alloc: Global, text: &str, number: u32) {
     let names = names(rt, alloc);
     assert!(rt; names.count() < 1000);
-    assert!(rt; text.len() < 1000);
+    assert!(rt; text.len() < 100_000);
     match read(alloc, &names, text.as_bytes()) {
         Err(TreeError::Line { line }) => assert_eq!(rt; line, number),
         _ => assert!(rt; false),
@@ -77,6 +77,18 @@ fn trees_are_read_checked_and_printed(rt: HostRuntime) -> Result<(), Fail> {
         "yes 5\nat 0 Z P\nask p\nat 10 X\ndone\nat 0 X\ndone\n",
         TreeAnswer::Rejected { line: 6 },
     )?;
+    checked(
+        &rt,
+        alloc,
+        "yes 5\nask p\nat 0 Z P\nat 10 X\ndone\nat 0 Z P\nat 1 X\ndone\n",
+        TreeAnswer::Rejected { line: 2 },
+    )?;
+    checked(
+        &rt,
+        alloc,
+        "yes 5\nat 0 Z Z P\nask p\nat 10 X\ndone\nat 1 X\ndone\n",
+        TreeAnswer::Rejected { line: 2 },
+    )?;
     wrong(
         &rt,
         alloc,
@@ -93,6 +105,26 @@ fn trees_are_read_checked_and_printed(rt: HostRuntime) -> Result<(), Fail> {
     wrong(&rt, alloc, "yes 5\nat 0\n", 2);
     wrong(&rt, alloc, "yes 5\nat 0 Y\n", 2);
     wrong(&rt, alloc, "yes 0\ndone\n", 1);
+    Ok(())
+}
+
+// The text of a tree with one branch, of so many lines.
+fn deep(alloc: Global, lines: u32) -> Result<String, AllocError> {
+    let mut text = String::from_str(alloc, "yes 5\n")?;
+    for _ in 1..lines {
+        text.push_str("at 0 Z\n")?;
+    }
+    text.push_str("done\n")?;
+    Ok(text)
+}
+
+#[test]
+fn a_branch_has_at_most_2100_lines(rt: HostRuntime) -> Result<(), Fail> {
+    let alloc = rt.alloc();
+    let text = deep(alloc, 2100)?;
+    checked(&rt, alloc, text.as_str(), TreeAnswer::Rejected { line: 3 })?;
+    let text = deep(alloc, 2101)?;
+    wrong(&rt, alloc, text.as_str(), 2102);
     Ok(())
 }
 

@@ -9,8 +9,10 @@ ghost use Rattle.cstn_tree.specs.Good.{start};
 ghost use Rattle.cstn_tree.specs.Walks.{first_broken_in, after_step};
 ghost use Rattle.cstn_tree.specs.Read.{the_line};
 ghost use Rattle.cstn_tree.specs.Branches.{the_branches, the_step, IsWalkOf, IsBranchOf};
+ghost use Rattle.cstn_tree.specs.Starts.{AreStarts};
 
 use crate::branches::Branch;
+use crate::starts::Starts;
 use crate::trees::{Line, Named};
 use cstn_label::Prop;
 use cstn_net::Network;
@@ -47,26 +49,34 @@ impl Walk {
     }
 
     /// Goes along a line.
-    pub fn step(&mut self, alloc: Global, net: &Network, line: &Line) -> Result<Step, AllocError>
+    pub fn step(
+        &mut self,
+        alloc: Global,
+        net: &Network,
+        starts: &Starts,
+        line: &Line,
+    ) -> Result<Step, AllocError>
         requires walk { IsWalkOf (count (the_network net.now)) self.old }
+        requires starts { AreStarts (count (the_network net.now)) net.now.constraints starts.now }
         requires inside { All (λ x. x < count (the_network net.now)) (names_on (the_line line.now)) }
         ensures step { IfOk result (λ s. (ls : List TheLine) (k : ℕ) → first_broken_in (the_network net.now) (the_branches self.old) (the_line line.now ∷ ls) k ≡ after_step (the_step s) (the_network net.now) (the_branches self.new) ls k) }
         ensures walk { IfOk result (λ s. s ≡ On → IsWalkOf (count (the_network net.now)) self.new) }
     {
         match line {
-            Line::At { moment, named } => Ok(self.step_at(net, *moment, named)),
+            Line::At { moment, named } => Ok(self.step_at(net, starts, *moment, named)),
             Line::Ask { prop } => self.step_ask(alloc, net, *prop),
             Line::Done => Ok(self.step_done(net)),
         }
     }
 
-    fn step_at(&mut self, net: &Network, t: u32, named: &Named) -> Step
+    fn step_at(&mut self, net: &Network, starts: &Starts, t: u32, named: &Named) -> Step
         requires walk { IsWalkOf (count (the_network net.now)) self.old }
+        requires starts { AreStarts (count (the_network net.now)) net.now.constraints starts.now }
         requires inside { All (λ x. x < count (the_network net.now)) named.now }
         ensures step { (ls : List TheLine) (k : ℕ) → first_broken_in (the_network net.now) (the_branches self.old) (AtLine t named.now ∷ ls) k ≡ after_step (the_step result) (the_network net.now) (the_branches self.new) ls k }
         ensures walk { result ≡ On → IsWalkOf (count (the_network net.now)) self.new }
     {
-        if self.here.place(net, t, named.as_slice()) {
+        if self.here.place(net, starts, t, named.as_slice()) {
             Step::On
         } else {
             Step::Broken

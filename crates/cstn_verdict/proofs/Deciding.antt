@@ -74,7 +74,7 @@ verdict_tells cap net good = by_load (nat_lt cap (load_of net)) (is_refuted net 
     by_load false false is last = ((log_decides net good.network good.letters).1 last, below cap (load_of net) is)
 
 -- what is known after a check has answered yes
-pub yes_decided : (cap load : ℕ) (net : NetworkParts) (check : CheckParts) → IsWellFormed (the_network net) → check ≡ record { net = net; cap = cap; verdict = None } → ((l : ℕ) → (Yes load ≡ Yes l ↔ ((l ≡ load_of (the_network check.net)) × (load_of (the_network check.net) ≤ check.cap) × (LastRefutes (the_network check.net) (log_of (the_network check.net)) → ⊥)))) → (verdict cap (the_network net) ≡ Yes (load_of (the_network net))) × (load ≡ load_of (the_network net))
+pub yes_decided : (cap load : ℕ) (net : NetworkParts) (check : CheckParts) → IsWellFormed (the_network net) → check ≡ record { net = net; cap = cap; verdict = None; tries = 0 } → ((l : ℕ) → (Yes load ≡ Yes l ↔ ((l ≡ load_of (the_network check.net)) × (load_of (the_network check.net) ≤ check.cap) × (LastRefutes (the_network check.net) (log_of (the_network check.net)) → ⊥)))) → (verdict cap (the_network net) ≡ Yes (load_of (the_network net))) × (load ≡ load_of (the_network net))
 yes_decided cap load net check good is is_yes =
     subst (λ (c : CheckParts). (verdict c.cap (the_network c.net) ≡ Yes (load_of (the_network c.net))) × (load ≡ load_of (the_network c.net))) is
     (decided check.cap (the_network check.net) (subst (λ (c : CheckParts). IsWellFormed (the_network c.net)) (sym is) good) ((is_yes load).0 refl))
@@ -83,7 +83,7 @@ yes_decided cap load net check good is is_yes =
     decided c n good' tells' = (verdict_yes c n good' tells'.1 tells'.2, tells'.0)
 
 -- what is said after a check has answered no
-pub no_decided : (cap load : ℕ) (net : NetworkParts) (names : List (List ℕ)) (said : Said) (check after : CheckParts) → check ≡ record { net = net; cap = cap; verdict = None } → after.net ≡ check.net → ((l : ℕ) → (No load ≡ No l ↔ ((l ≡ load_of (the_network check.net)) × (load_of (the_network check.net) ≤ check.cap) × LastRefutes (the_network check.net) (log_of (the_network check.net))))) → said ≡ record { outcome = Bad; text = shown names (load_of (the_network after.net)) (part (log_of (the_network after.net))) } → (after_yes : Plan) → on_verdict cap names (the_network net) after_yes (verdict cap (the_network net)) ≡ says said
+pub no_decided : (cap load : ℕ) (net : NetworkParts) (names : List (List ℕ)) (said : Said) (check after : CheckParts) → check ≡ record { net = net; cap = cap; verdict = None; tries = 0 } → after.net ≡ check.net → ((l : ℕ) → (No load ≡ No l ↔ ((l ≡ load_of (the_network check.net)) × (load_of (the_network check.net) ≤ check.cap) × LastRefutes (the_network check.net) (log_of (the_network check.net))))) → said ≡ record { outcome = Bad; text = shown names (load_of (the_network after.net)) (part (log_of (the_network after.net))) } → (after_yes : Plan) → on_verdict cap names (the_network net) after_yes (verdict cap (the_network net)) ≡ says said
 no_decided cap load net names said check after is same is_no said_is after_yes =
     subst (λ (c : CheckParts). on_verdict c.cap names (the_network c.net) after_yes (verdict c.cap (the_network c.net)) ≡ says said) is
     (decided check.cap (the_network check.net) ((is_no load).0 refl) (said_is ∙ ap (λ (n : NetworkParts). record { outcome = Bad; text = shown names (load_of (the_network n)) (part (log_of (the_network n))) }) same))

@@ -1,21 +1,28 @@
 -- A document that was opened.
-use Rattle.std.specs.Prelude.{◌≡◌, ℕ, ◌≤◌, [], ◌∷◌, List, length, Option, codes}
+use Rattle.std.specs.Prelude.{◌≡◌, ℕ, ◌≤◌, [], ◌∷◌, List, length, map, Option, Result, Ok, codes}
 use Rattle.cstn_net.specs.Networks.{Network, IsWellFormed, count}
-use Rattle.cstn_net.specs.Read.{the_network}
+use Rattle.cstn_net.specs.Read.{NetworkParts, the_network}
 use Rattle.cstn_graphml.specs.declared.errors.DocError.{DocError}
-use Rattle.cstn_graphml.specs.declared.errors.DocError.TheVariants.{NotUtf8, Shape, NameTwice, UnknownNode, Value, LabelText, Contingent, EdgeType, NoDeadline, Net, NodeLabel, Memory}
-use Rattle.cstn_graphml.specs.Results.Refusal.{not_utf8, shape, name_twice, unknown_node, bad_value, label_text, contingent, edge_type, no_deadline, node_label}
+use Rattle.cstn_graphml.specs.declared.errors.DocError.TheVariants.{NotUtf8, Shape, NameTwice, UnknownNode, Value, LabelText, Contingent, EdgeType, NoDeadline, Net, Lift, Memory}
+use Rattle.cstn_graphml.specs.Results.Refusal.{not_utf8, shape, name_twice, unknown_node, bad_value, label_text, contingent, edge_type, no_deadline}
+use Rattle.cstn_graphml.specs.Results.{Refusal}
 use Rattle.cstn_graphml.specs.Answers.{IsDocument}
-use Rattle.cstn_graphml.specs.Document.{document}
+use Rattle.cstn_graphml.specs.Document.{Parts, document}
+use Rattle.cstn_graphml.specs.Networks.{network_of}
+use Rattle.cstn_lift.specs.WellFormed.{IsLabelled}
+use Rattle.cstn_lift.specs.Lowered.{lowered}
+use Rattle.cstn_lift.specs.Read.{LabelledParts, the_labelled}
 use Rattle.cstn_graphml.specs.DrawnGraph.{origin_name}
 use Rattle.cstn_reply.specs.declared.output.Outcome.TheVariants.{Document}
 use Rattle.cstn_verdict.specs.declared.documents.Opened.{Opened}
 use Rattle.cstn_verdict.specs.declared.documents.Opened.TheVariants.{Accepted, Told}
+use Rattle.cstn_verdict.specs.declared.documents.WithLabels.{WithLabels}
+use Rattle.cstn_verdict.specs.declared.documents.WithLabels.TheVariants.{Accepted as Labelled, Told as Refused}
 use Rattle.cstn_reply.specs.Files.{IsContent, AreThere}
-use Rattle.cstn_reply.specs.Refusals.{refusal_text, fault_text}
+use Rattle.cstn_reply.specs.Refusals.{refusal_text, fault_text, label_fault_text}
 use Rattle.cstn_words.specs.Requests.{Asked}
-use Rattle.cstn_reply.specs.Plans.{Said, say, IsOutput}
-use Rattle.cstn_verdict.specs.Documents.{Answer, on_document}
+use Rattle.cstn_reply.specs.Plans.{Said, say, IsOutput, AreEmpty, AreUnlabelled}
+use Rattle.cstn_verdict.specs.Documents.{Answer, LabelledAnswer, on_labelled, on_document}
 use Rattle.cstn_reply.specs.Read.{the_said}
 
 -- what is said of an error; nothing is said for want of memory
@@ -30,30 +37,67 @@ IsToldBy (Contingent at) said = said ≡ say Document (refusal_text (contingent 
 IsToldBy (EdgeType at) said = said ≡ say Document (refusal_text (edge_type at))
 IsToldBy NoDeadline said = said ≡ say Document (refusal_text no_deadline)
 IsToldBy (Net error names) said = said ≡ say Document (fault_text names error)
-IsToldBy (NodeLabel at) said = said ≡ say Document (refusal_text (node_label at))
+IsToldBy (Lift error names) said = said ≡ say Document (label_fault_text names error)
 IsToldBy (Memory e) said = ⊥
 
--- this is said of the document, whatever is asked of its network
+-- this is said of the document, whatever is asked of its labelled network
 abbrev pub IsSaidOf : List ℕ → Option ℕ → Said → Type 0
-IsSaidOf bytes deadline said = (answer : Answer) (live : List ℕ) → IsOutput (on_document answer bytes deadline) live said
+IsSaidOf bytes deadline said = (answer : LabelledAnswer) (live : List ℕ) → IsOutput (on_labelled answer bytes deadline) live said
+
+-- the document has these parts, without labels: this is their network, and these are the names of its time-points
+pub record IsPlainDocument (told : Result Parts Refusal) (network : NetworkParts) (names : List (List ℕ)) : Type 0 where
+  pub parts : Parts
+  pub told_are : told ≡ Ok parts
+  pub unlabelled : AreUnlabelled parts
+  pub network_is : the_network network ≡ network_of parts
+  pub names_are : names ≡ parts.names
+
+-- of a labelled network, the plain one was taken where no time-point has a label, or its labels are told
+abbrev pub IsTakenOf : LabelledParts → List (List ℕ) → Opened → Type 0
+IsTakenOf l names (Accepted network others) =
+    AreEmpty (the_labelled l).labels × IsLabelled (the_labelled l) × (the_network network ≡ lowered (the_labelled l)) × IsWellFormed (the_network network) × (others ≡ names)
+IsTakenOf l names (Told said) = (AreEmpty (the_labelled l).labels → ⊥) × (the_said said ≡ say Document (codes "document labels"))
+
+-- a document with labels is told
+abbrev pub IsLabelsTold : Opened → Type 0
+IsLabelsTold (Accepted network names) = ⊥
+IsLabelsTold (Told said) = the_said said ≡ say Document (codes "document labels")
 
 -- the document of these bytes was accepted, or this is said of it
+abbrev pub OpensWithLabels : List ℕ → Option ℕ → WithLabels → Type 0
+OpensWithLabels bytes deadline (Labelled labelled names) = (length bytes ≤ 8388608) × IsDocument (document bytes deadline) labelled names
+OpensWithLabels bytes deadline (Refused said) = IsSaidOf bytes deadline (the_said said) × (said.outcome ≡ Document)
+
+-- and where it has labels, they are told
+abbrev pub IsSaidPlainly : List ℕ → Option ℕ → Said → Type 0
+IsSaidPlainly bytes deadline said = (answer : Answer) (live : List ℕ) → IsOutput (on_document answer bytes deadline) live said
+
 abbrev pub OpensAs : List ℕ → Option ℕ → Opened → Type 0
 OpensAs bytes deadline (Accepted network names) =
-    (length bytes ≤ 8388608) × IsDocument (document bytes deadline) network names × IsWellFormed (the_network network)
-OpensAs bytes deadline (Told said) = IsSaidOf bytes deadline (the_said said) × (said.outcome ≡ Document)
+    (length bytes ≤ 8388608) × IsPlainDocument (document bytes deadline) network names × IsWellFormed (the_network network)
+OpensAs bytes deadline (Told said) = IsSaidPlainly bytes deadline (the_said said) × (said.outcome ≡ Document)
 
 -- a document is under these names, of which the first is the origin's
 abbrev pub IsNamed : Opened → Type 0
 IsNamed (Accepted network names) = (length names ≡ count (the_network network)) × ((later : List (List ℕ)) × (names ≡ origin_name ∷ later))
 IsNamed (Told said) = Unit {0}
 
+abbrev pub IsNamedLabelled : WithLabels → Type 0
+IsNamedLabelled (Labelled labelled names) = (length names ≡ count (the_network labelled.base)) × ((later : List (List ℕ)) × (names ≡ origin_name ∷ later))
+IsNamedLabelled (Refused said) = Unit {0}
+
 -- a file that is too long is told
-abbrev pub IsTooLong : Opened → Type 0
-IsTooLong (Accepted network names) = ⊥
-IsTooLong (Told said) = the_said said ≡ say Document (codes "document long")
+abbrev pub IsTooLong : WithLabels → Type 0
+IsTooLong (Labelled labelled names) = ⊥
+IsTooLong (Refused said) = the_said said ≡ say Document (codes "document long")
 
 -- the document of a file was opened
+pub record IsOpenedWithLabels (told : Option (List ℕ → Option (List ℕ))) (asked : Asked) (opened : WithLabels) : Type 0 where
+  pub bytes : List ℕ
+  pub content : IsContent told asked.file bytes
+  pub there : AreThere told (asked.file ∷ [])
+  pub opens : OpensWithLabels bytes asked.deadline opened
+
 pub record IsOpened (told : Option (List ℕ → Option (List ℕ))) (asked : Asked) (opened : Opened) : Type 0 where
   pub bytes : List ℕ
   pub content : IsContent told asked.file bytes

@@ -1,12 +1,16 @@
 // The documents of files.
-ghost use Rattle.std.specs.Prelude.{◌≡◌, ◌≤◌, length, IfOk, IsTrue, IsErrOf};
+ghost use Rattle.std.specs.Prelude.{◌≡◌, ◌≤◌, ℕ, List, ◌∷◌, length, IfOk, IsTrue, IsErrOf};
+ghost use Rattle.cstn_net.specs.Networks.{count};
+ghost use Rattle.cstn_net.specs.Read.{the_network};
+ghost use Rattle.cstn_graphml.specs.DrawnGraph.{origin_name};
 ghost use Rattle.cstn_io.specs.Causes.{Rose};
-ghost use Rattle.cstn_verdict.specs.Opened.{IsOpened, IsNamed, IsTooLong, OpensAs};
+ghost use Rattle.cstn_verdict.specs.Opened.{IsOpened, IsOpenedWithLabels, IsNamed, IsNamedLabelled, IsTooLong, OpensWithLabels, IsTakenOf, IsLabelsTold};
 ghost use Rattle.cstn_words.specs.Read.{the_asked};
 
 use crate::refusals::refuse;
 use cstn_graphml::read;
 use cstn_io::{Shelf, TakeError, take_all};
+use cstn_lift::Labelled;
 use cstn_net::Network;
 use cstn_reply::{Outcome, Refused, Said};
 use cstn_text::Names;
@@ -24,11 +28,41 @@ pub enum Opened {
     Told(Said),
 }
 
-/// Reads the document of a file.
+/// A document that was read, whose time-points may have labels.
+#[derive(Drop)]
+pub enum WithLabels {
+    /// Its labelled network, and the names of the time-points.
+    Accepted { labelled: Labelled, names: Names },
+    /// What is said where it is refused.
+    Told(Said),
+}
+
+/// Reads the document of a file, which is refused where a time-point has a label.
 pub fn open<F: Shelf>(alloc: Global, asked: Asked<'_>, shelf: &mut F) -> Result<Opened, Refused>
     requires may_ask { IsTrue (F.may_ask shelf.old asked.file.now) }
     ensures opened { IfOk result (IsOpened (F.files shelf.old) (the_asked asked.entry)) }
     ensures named { IfOk result IsNamed }
+    ensures names { F.may_ask shelf.new ≡ F.may_ask shelf.old }
+    ensures files { F.files shelf.new ≡ F.files shelf.old }
+    ensures later { F.faults shelf.old ≤ F.faults shelf.new }
+    ensures fault { IsErrOf result Refused.ReadFault → Rose (F.faults shelf.old) (F.faults shelf.new) }
+{
+    match open_labelled(alloc, asked, shelf) {
+        Ok(WithLabels::Accepted { labelled, names }) => take_plain(alloc, labelled, names),
+        Ok(WithLabels::Told(said)) => Ok(Opened::Told(said)),
+        Err(refused) => Err(refused),
+    }
+}
+
+/// Reads the document of a file.
+pub fn open_labelled<F: Shelf>(
+    alloc: Global,
+    asked: Asked<'_>,
+    shelf: &mut F,
+) -> Result<WithLabels, Refused>
+    requires may_ask { IsTrue (F.may_ask shelf.old asked.file.now) }
+    ensures opened { IfOk result (IsOpenedWithLabels (F.files shelf.old) (the_asked asked.entry)) }
+    ensures named { IfOk result IsNamedLabelled }
     ensures names { F.may_ask shelf.new ≡ F.may_ask shelf.old }
     ensures files { F.files shelf.new ≡ F.files shelf.old }
     ensures later { F.faults shelf.old ≤ F.faults shelf.new }
@@ -44,31 +78,62 @@ pub fn open<F: Shelf>(alloc: Global, asked: Asked<'_>, shelf: &mut F) -> Result<
 }
 
 // The document of these bytes.
-fn open_bytes(alloc: Global, bytes: &[u8], deadline: Option<u32>) -> Result<Opened, Refused>
+fn open_bytes(alloc: Global, bytes: &[u8], deadline: Option<u32>) -> Result<WithLabels, Refused>
     requires few { length bytes.now ≤ MAX_DOCUMENT }
-    ensures opens { IfOk result (OpensAs bytes.now deadline) }
-    ensures named { IfOk result IsNamed }
+    ensures opens { IfOk result (OpensWithLabels bytes.now deadline) }
+    ensures named { IfOk result IsNamedLabelled }
     ensures fault { IsErrOf result Refused.ReadFault → ⊥ }
 {
     match read(alloc, bytes, deadline) {
-        Ok((network, names)) => Ok(Opened::Accepted { network, names }),
+        Ok((labelled, names)) => Ok(WithLabels::Accepted { labelled, names }),
         Err(error) => match refuse(alloc, error) {
-            Ok(said) => Ok(Opened::Told(said)),
+            Ok(said) => Ok(WithLabels::Told(said)),
             Err(_) => Err(Refused::Memory),
         },
     }
 }
 
-// What is said of a file that is too long.
-fn too_long(alloc: Global) -> Result<Opened, Refused>
-    ensures told { IfOk result IsTooLong }
+// The plain network of a labelled one, where no time-point has a label.
+fn take_plain(alloc: Global, labelled: Labelled, names: Names) -> Result<Opened, Refused>
+    requires named { length names ≡ count (the_network labelled.base) }
+    requires origin { (later : List (List ℕ)) × (names ≡ origin_name ∷ later) }
+    ensures taken { IfOk result (IsTakenOf labelled names) }
     ensures named { IfOk result IsNamed }
+    ensures fault { IsErrOf result Refused.ReadFault → ⊥ }
+{
+    let is_labelled = labelled.is_labelled();
+    let (network, _) = labelled.split();
+    if is_labelled {
+        return has_labels(alloc);
+    }
+    Ok(Opened::Accepted { network, names })
+}
+
+// What is said of a document with labels.
+fn has_labels(alloc: Global) -> Result<Opened, Refused>
+    ensures told { IfOk result IsLabelsTold }
+    ensures named { IfOk result IsNamed }
+    ensures fault { IsErrOf result Refused.ReadFault → ⊥ }
+{
+    let Ok(text) = b"document labels\n".to_vec(alloc) else {
+        return Err(Refused::Memory);
+    };
+    Ok(Opened::Told(Said {
+        outcome: Outcome::Document,
+        text,
+    }))
+}
+
+// What is said of a file that is too long.
+fn too_long(alloc: Global) -> Result<WithLabels, Refused>
+    ensures told { IfOk result IsTooLong }
+    ensures named { IfOk result IsNamedLabelled }
     ensures fault { IsErrOf result Refused.ReadFault → ⊥ }
 {
     let Ok(text) = b"document long\n".to_vec(alloc) else {
         return Err(Refused::Memory);
     };
-    Ok(Opened::Told(Said {
+    Ok(WithLabels::Told(Said {
         outcome: Outcome::Document,
         text,
     }))

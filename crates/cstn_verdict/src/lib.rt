@@ -5,5 +5,5 @@ mod documents;
 mod refusals;
 mod verdicts;
 
-pub use documents::{Opened, open};
+pub use documents::{Opened, WithLabels, open, open_labelled};
 pub use verdicts::{Decided, decide, full, yes_line};

@@ -4,11 +4,12 @@ ghost use Rattle.cstn_label.specs.Letters.{letter_of};
 ghost use Rattle.cstn_text.specs.PrintedNames.{printed_name};
 ghost use Rattle.cstn_verdict.specs.Opened.{IsToldBy};
 ghost use Rattle.cstn_reply.specs.Read.{the_said};
-ghost use Rattle.cstn_reply.specs.Refusals.{at_place, with_number, fault_text};
+ghost use Rattle.cstn_reply.specs.Refusals.{at_place, with_number, fault_text, label_fault_text};
 ghost use Rattle.cstn_reply.specs.Plans.{say};
 ghost use Rattle.cstn_reply.specs.Texts.{line};
 
 use cstn_graphml::DocError;
+use cstn_lift::LiftError;
 use cstn_label::{NodeId, Prop};
 use cstn_net::NetError;
 use cstn_reply::{Outcome, Said};
@@ -28,13 +29,16 @@ pub(crate) fn refuse(alloc: Global, error: DocError) -> Result<Said, AllocError>
         DocError::LabelText { at } => at_place(alloc, 6, at),
         DocError::Contingent { at } => at_place(alloc, 7, at),
         DocError::EdgeType { at } => at_place(alloc, 8, at),
-        DocError::NodeLabel { at } => at_place(alloc, 11, at),
         DocError::NoDeadline => {
             let text = b"document X9\n".to_vec(alloc)?;
             Ok(refused(text))
         }
         DocError::Net { error, names } => {
             let text = fault_line(alloc, error, &names)?;
+            Ok(refused(text))
+        }
+        DocError::Lift { error, names } => {
+            let text = label_fault_line(alloc, error, &names)?;
             Ok(refused(text))
         }
         DocError::Memory(e) => Err(e),
@@ -74,7 +78,9 @@ fn fault_line(alloc: Global, error: NetError, names: &Names) -> Result<Vec<u8>, 
             second,
         } => twins(alloc, prop, name_of(names, first), name_of(names, second)),
         NetError::NotPlain { constraint } => with_number(alloc, 8, constraint),
-        NetError::ReactionRange { node } => out_of_range(alloc, name_of(names, node)),
+        NetError::ReactionRange { node } => {
+            with_name(alloc, b"document X10 N9 ", name_of(names, node))
+        }
         NetError::Memory(e) => Err(e),
     }
 }
@@ -111,12 +117,42 @@ fn twins(alloc: Global, prop: Prop, first: &str, second: &str) -> Result<Vec<u8>
     Ok(text)
 }
 
-fn out_of_range(alloc: Global, name: &str) -> Result<Vec<u8>, AllocError>
-    ensures line { IfOk result (λ text. text.items ≡ line (codes "document X10 N9 " ++ printed_name name.now)) }
+fn with_name(alloc: Global, front: &[u8], name: &str) -> Result<Vec<u8>, AllocError>
+    ensures line { IfOk result (λ text. text.items ≡ line (front.now ++ printed_name name.now)) }
 {
     let name = print_name(alloc, name)?;
-    let mut text = b"document X10 N9 ".to_vec(alloc)?;
+    let mut text = front.to_vec(alloc)?;
     text.extend_from_slice(name.as_bytes())?;
+    text.push(b'\n')?;
+    Ok(text)
+}
+
+// The line of labels that are refused.
+fn label_fault_line(alloc: Global, error: LiftError, names: &Names) -> Result<Vec<u8>, AllocError>
+    ensures line { IfOk result (λ text. text.items ≡ line (label_fault_text names.now error)) }
+{
+    match error {
+        LiftError::OriginLabel => b"document X12 L1\n".to_vec(alloc),
+        LiftError::NotPlain { node } => {
+            with_name(alloc, b"document X12 L2 ", name_of(names, node))
+        }
+        LiftError::NotObserved { node, prop } => unseen(alloc, name_of(names, node), prop),
+        LiftError::Circle { node } => with_name(alloc, b"document X12 L4 ", name_of(names, node)),
+        LiftError::Never { node } => with_name(alloc, b"document X12 L5 ", name_of(names, node)),
+        LiftError::TooManyConstraints => b"document X12 L6\n".to_vec(alloc),
+        LiftError::Memory(e) => Err(e),
+    }
+}
+
+#[tactic(auto, using(crate::proofs::Texts::between))]
+fn unseen(alloc: Global, name: &str, prop: Prop) -> Result<Vec<u8>, AllocError>
+    ensures line { IfOk result (λ text. text.items ≡ line (codes "document X12 L3 " ++ printed_name name.now ++ 32 ∷ letter_of prop.index ∷ [])) }
+{
+    let name = print_name(alloc, name)?;
+    let mut text = b"document X12 L3 ".to_vec(alloc)?;
+    text.extend_from_slice(name.as_bytes())?;
+    text.push(b' ')?;
+    text.push(prop.letter())?;
     text.push(b'\n')?;
     Ok(text)
 }

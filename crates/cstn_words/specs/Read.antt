@@ -1,10 +1,12 @@
 -- How values of the program are read.
-use Rattle.std.specs.Prelude.{ℕ, ◌≤◌, map, string_bytes}
-use Rattle.cstn_words.specs.Requests.{Asked, Taken, Request, check, run, edit, closed, tight, conflict, save, replay, closedcheck, drill}
+use Rattle.std.specs.Prelude.{ℕ, ◌≤◌, map, length, string_bytes}
+use Rattle.cstn_words.specs.Requests.{Asked, Taken, Request, check, run, edit, closed, tight, conflict, tree, save, replay, closedcheck, treecheck, drill}
+use Rattle.cstn_words.specs.Requests.{host}
 use Rattle.cstn_words.specs.declared.words.Asked.{Asked as AskedWords}
 use Rattle.cstn_words.specs.declared.words.Taken.{Taken as TakenWords}
 use Rattle.cstn_words.specs.declared.words.Request.{Request as RequestWords}
-use Rattle.cstn_words.specs.declared.words.Request.TheVariants.{Check, Run, Edit, Closed, Tight, Conflict, Save, Replay, Closedcheck, Drill}
+use Rattle.cstn_words.specs.declared.words.Request.TheVariants.{Check, Run, Edit, Closed, Tight, Conflict, Tree, Save, Replay, Closedcheck, Treecheck, Drill}
+use Rattle.cstn_words.specs.declared.words.Request.TheVariants.{Host}
 
 -- what is asked
 abbrev pub the_asked : AskedWords → Asked
@@ -25,12 +27,15 @@ the_request (Edit asked cap) = edit (the_asked asked) cap
 the_request (Closed asked cap) = closed (the_asked asked) cap
 the_request (Tight asked cap) = tight (the_asked asked) cap
 the_request (Conflict asked cap) = conflict (the_asked asked) cap
+the_request (Tree asked cap) = tree (the_asked asked) cap
 the_request (Save asked) = save (the_asked asked)
 the_request (Replay asked proof) = replay (the_asked asked) proof.now
 the_request (Closedcheck asked proof) = closedcheck (the_asked asked) proof.now
+the_request (Treecheck asked proof) = treecheck (the_asked asked) proof.now
 the_request (Drill number) = drill number
+the_request (Host files deadline cap) = host (map string_bytes files.now) deadline cap
 
--- the log may have from 1 to 4,194,304 entries
+-- the log may have from 1 to 4,194,304 entries; the log of each of the 1 to 8 files of a host, from 1 to 65,536
 abbrev pub IsCapped : RequestWords → Type 0
 IsCapped (Check asked cap) = (1 ≤ cap) × (cap ≤ 4194304)
 IsCapped (Run asked cap) = (1 ≤ cap) × (cap ≤ 4194304)
@@ -38,7 +43,10 @@ IsCapped (Edit asked cap) = (1 ≤ cap) × (cap ≤ 4194304)
 IsCapped (Closed asked cap) = (1 ≤ cap) × (cap ≤ 4194304)
 IsCapped (Tight asked cap) = (1 ≤ cap) × (cap ≤ 4194304)
 IsCapped (Conflict asked cap) = (1 ≤ cap) × (cap ≤ 4194304)
+IsCapped (Tree asked cap) = (1 ≤ cap) × (cap ≤ 4194304)
 IsCapped (Save asked) = Unit {0}
 IsCapped (Replay asked proof) = Unit {0}
 IsCapped (Closedcheck asked proof) = Unit {0}
+IsCapped (Treecheck asked proof) = Unit {0}
 IsCapped (Drill number) = Unit {0}
+IsCapped (Host files deadline cap) = (1 ≤ cap) × (cap ≤ 65536) × (1 ≤ length files.now) × (length files.now ≤ 8)

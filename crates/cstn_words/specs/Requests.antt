@@ -1,5 +1,5 @@
 -- Which words are a request.
-use Rattle.std.specs.Prelude.{ℕ, Bool, nat_le, nat_eq, ◌&&◌, if◌then◌else◌, List, [], ◌∷◌, length, Option, None, Some, codes}
+use Rattle.std.specs.Prelude.{◌≡◌, ℕ, Bool, nat_le, nat_eq, ◌&&◌, if◌then◌else◌, List, [], ◌∷◌, length, Option, None, Some, codes}
 use Rattle.std.specs.Option.{option_map, option_and_then, unwrap_or}
 use Rattle.std.specs.Cmp.Lexicographic.{pointwise}
 use Rattle.cstn_text.specs.Numbers.{number_read}
@@ -14,7 +14,7 @@ pub record Asked : Type 0 where
   pub deadline : Option ℕ
 
 -- A request: the file of a document with the deadline that is to hold, and what its command asks for beside; or the number of a
--- drill.
+-- drill; or the files of a host, with the deadline that is to hold for each and how many entries the log of each may have.
 pub data Request : Type 0 where
   check : Asked → ℕ → Request
   run : Asked → ℕ → Request
@@ -22,10 +22,13 @@ pub data Request : Type 0 where
   closed : Asked → ℕ → Request
   tight : Asked → ℕ → Request
   conflict : Asked → ℕ → Request
+  tree : Asked → ℕ → Request
   save : Asked → Request
   replay : Asked → List ℕ → Request
   closedcheck : Asked → List ℕ → Request
+  treecheck : Asked → List ℕ → Request
   drill : ℕ → Request
+  host : List (List ℕ) → Option ℕ → ℕ → Request
 
 -- a number from least to most
 abbrev pub number_within : ℕ → ℕ → List ℕ → Option ℕ
@@ -89,6 +92,16 @@ abbrev pub drill_of : List (List ℕ) → Option Request
 drill_of (number ∷ []) = option_map drill (number_read number)
 drill_of words = None
 
+-- the request of a host with the files that stand after its options: 1 to 8, and 65,536 entries where no number is given
+abbrev pub hosted_of : Option ℕ → Taken → Option Request
+hosted_of deadline cap =
+    if nat_le 1 (length cap.rest) && nat_le (length cap.rest) 8 then Some (host cap.rest deadline (unwrap_or cap.value 65536)) else None
+
+-- `[--deadline N] [--cap CAP] FILE ..`, with CAP from 1 to 65,536
+abbrev pub host_of : List (List ℕ) → Option Request
+host_of words =
+    option_and_then (λ (deadline : Taken). option_and_then (hosted_of deadline.value) (option_at (codes "--cap") 1 65536 deadline.rest)) (deadline_at words)
+
 -- the request of a command that asks for a file and says how many entries a log may have
 abbrev pub capped_at : List ℕ → Asked × ℕ → Option Request
 capped_at command found =
@@ -97,7 +110,8 @@ capped_at command found =
     else if is_same command (codes "edit") then Some (edit found.0 found.1)
     else if is_same command (codes "closed") then Some (closed found.0 found.1)
     else if is_same command (codes "tight") then Some (tight found.0 found.1)
-    else if is_same command (codes "conflict") then Some (conflict found.0 found.1) else None
+    else if is_same command (codes "conflict") then Some (conflict found.0 found.1)
+    else if is_same command (codes "tree") then Some (tree found.0 found.1) else None
 
 -- the request of a command with these words after it
 abbrev pub request_at : List ℕ → List (List ℕ) → Option Request
@@ -105,7 +119,9 @@ request_at command rest =
     if is_same command (codes "save") then option_map save (asked_of rest)
     else if is_same command (codes "replay") then option_map (λ found. replay found.0 found.1) (checked_of rest)
     else if is_same command (codes "closedcheck") then option_map (λ found. closedcheck found.0 found.1) (checked_of rest)
+    else if is_same command (codes "treecheck") then option_map (λ found. treecheck found.0 found.1) (checked_of rest)
     else if is_same command (codes "drill") then drill_of rest
+    else if is_same command (codes "host") then host_of rest
     else option_and_then (capped_at command) (capped_of rest)
 
 -- the request that the words are, if they are one
@@ -121,10 +137,13 @@ files_of (edit asked cap) = asked.file ∷ []
 files_of (closed asked cap) = asked.file ∷ []
 files_of (tight asked cap) = asked.file ∷ []
 files_of (conflict asked cap) = asked.file ∷ []
+files_of (tree asked cap) = asked.file ∷ []
 files_of (save asked) = asked.file ∷ []
 files_of (replay asked proof) = asked.file ∷ proof ∷ []
 files_of (closedcheck asked proof) = asked.file ∷ proof ∷ []
+files_of (treecheck asked proof) = asked.file ∷ proof ∷ []
 files_of (drill number) = []
+files_of (host files deadline cap) = files
 
 -- the files that words name
 abbrev pub names_of : Option Request → List (List ℕ)
@@ -135,3 +154,10 @@ names_of (Some request) = files_of request
 abbrev pub AsksEdit : Request → Type 0
 AsksEdit (edit asked cap) = Unit {0}
 AsksEdit request = ⊥
+
+-- a host is asked for
+pub record AsksHost (request : Request) : Type 0 where
+  pub files : List (List ℕ)
+  pub deadline : Option ℕ
+  pub cap : ℕ
+  pub is : request ≡ host files deadline cap

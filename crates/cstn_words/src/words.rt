@@ -2,6 +2,7 @@
 ghost use Rattle.std.specs.Prelude.{◌≡◌, ◌≤◌, IfSome, map, string_bytes};
 ghost use Rattle.std.specs.Option.{option_map, option_and_then};
 ghost use Rattle.cstn_words.specs.Requests.{number_within, value_at, option_at, deadline_at, cap_at, deadline_of, cap_of, asked_of, capped_of, capped_at, checked_of, drill_of, request_at, request_of};
+ghost use Rattle.cstn_words.specs.Requests.{hosted_of, host_of};
 ghost use Rattle.cstn_words.specs.Read.{the_asked, the_capped, the_taken, the_request, IsCapped};
 
 use cstn_text::read_number;
@@ -16,16 +17,53 @@ pub struct Asked<'a> {
 /// What the words ask for.
 #[derive(Clone, Copy)]
 pub enum Request<'a> {
-    Check { asked: Asked<'a>, cap: u32 },
-    Run { asked: Asked<'a>, cap: u32 },
-    Edit { asked: Asked<'a>, cap: u32 },
-    Closed { asked: Asked<'a>, cap: u32 },
-    Tight { asked: Asked<'a>, cap: u32 },
-    Conflict { asked: Asked<'a>, cap: u32 },
+    Check {
+        asked: Asked<'a>,
+        cap: u32,
+    },
+    Run {
+        asked: Asked<'a>,
+        cap: u32,
+    },
+    Edit {
+        asked: Asked<'a>,
+        cap: u32,
+    },
+    Closed {
+        asked: Asked<'a>,
+        cap: u32,
+    },
+    Tight {
+        asked: Asked<'a>,
+        cap: u32,
+    },
+    Conflict {
+        asked: Asked<'a>,
+        cap: u32,
+    },
+    Tree {
+        asked: Asked<'a>,
+        cap: u32,
+    },
     Save(Asked<'a>),
-    Replay { asked: Asked<'a>, proof: &'a str },
-    Closedcheck { asked: Asked<'a>, proof: &'a str },
+    Replay {
+        asked: Asked<'a>,
+        proof: &'a str,
+    },
+    Closedcheck {
+        asked: Asked<'a>,
+        proof: &'a str,
+    },
+    Treecheck {
+        asked: Asked<'a>,
+        proof: &'a str,
+    },
     Drill(u64),
+    Host {
+        files: &'a [String],
+        deadline: Option<u32>,
+        cap: u32,
+    },
 }
 
 // The number of an option, if it is there, and the words after it.
@@ -40,6 +78,10 @@ const MAX_DEADLINE: u64 = 1_000_000;
 const MAX_CAP: u64 = 4_194_304;
 
 const USUAL_CAP: u32 = 65_536;
+
+const MAX_HOST_CAP: u64 = 65_536;
+
+const MAX_FILES: usize = 8;
 
 /// The request that the words are, if they are one.
 pub fn parse(words: &[String]) -> Option<Request<'_>>
@@ -67,7 +109,12 @@ fn request_at<'a>(command: &str, rest: &'a [String]) -> Option<Request<'a>>
             let (asked, proof) = checked_of(rest)?;
             Some(Request::Closedcheck { asked, proof })
         }
+        "treecheck" => {
+            let (asked, proof) = checked_of(rest)?;
+            Some(Request::Treecheck { asked, proof })
+        }
         "drill" => drill_of(rest),
+        "host" => host_of(rest),
         command => capped_request(command, rest),
     }
 }
@@ -95,6 +142,7 @@ fn capped_at<'a>(command: &str, asked: Asked<'a>, cap: u32) -> Option<Request<'a
         "closed" => Some(Request::Closed { asked, cap }),
         "tight" => Some(Request::Tight { asked, cap }),
         "conflict" => Some(Request::Conflict { asked, cap }),
+        "tree" => Some(Request::Tree { asked, cap }),
         _ => None,
     }
 }
@@ -122,6 +170,41 @@ fn drill_of(words: &[String]) -> Option<Request<'_>>
         return None;
     };
     Some(Request::Drill(read_number(number.as_bytes())?))
+}
+
+// The files of a host, after its options.
+fn host_of(words: &[String]) -> Option<Request<'_>>
+    ensures request { option_map the_request result ≡ host_of (map string_bytes words.now) }
+    ensures capped { IfSome result IsCapped }
+{
+    let (deadline, rest) = deadline_at(words)?;
+    let taken = option_at(rest, "--cap", 1, MAX_HOST_CAP)?;
+    hosted_of(deadline, taken)
+}
+
+// The request of a host with the files that stand after its options.
+fn hosted_of<'a>(deadline: Option<u32>, taken: Taken<'a>) -> Option<Request<'a>>
+    requires least { IfSome taken.value (λ n. 1 ≤ n) }
+    requires most { IfSome taken.value (λ n. n ≤ MAX_HOST_CAP) }
+    ensures request { option_map the_request result ≡ hosted_of deadline (the_taken taken.entry) }
+    ensures capped { IfSome result IsCapped }
+{
+    let files = taken.rest;
+    if files.is_empty() || files.len() > MAX_FILES {
+        return None;
+    }
+    match taken.value {
+        None => Some(Request::Host {
+            files,
+            deadline,
+            cap: USUAL_CAP,
+        }),
+        Some(n) => Some(Request::Host {
+            files,
+            deadline,
+            cap: n as u32,
+        }),
+    }
 }
 
 fn asked_of(words: &[String]) -> Option<Asked<'_>>

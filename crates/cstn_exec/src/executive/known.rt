@@ -71,9 +71,10 @@ impl Executive {
         }
     }
 
-    // The values that are known at t.
-    pub(super) fn known(&self, t: u32) -> Known
-        ensures { (p : ℕ) → value_in result p ≡ known (the_network self.now.net) self.now.run (t + 1) p }
+    /// The values that are known at the moment t, in ticks: the outcomes that were seen of the propositions whose observers were
+    /// executed, and whose reactions have passed by then.
+    pub fn known(&self, t: u32) -> Known
+        ensures known { (p : ℕ) → value_in result p ≡ known (the_network self.now.net) self.now.run (t + 1) p }
     {
         self.is_right();
         let mut known = Known::nothing();

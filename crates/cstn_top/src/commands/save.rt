@@ -3,6 +3,7 @@ ghost use Rattle.std.specs.Prelude.{◌≡◌, IfOk, IsTrue, IsErrOf, Some, leng
 ghost use Rattle.cstn_io.specs.Causes.{Rose};
 ghost use Rattle.cstn_net.specs.Networks.{count};
 ghost use Rattle.cstn_net.specs.Read.{the_network};
+ghost use Rattle.cstn_lift.specs.Read.{the_labelled};
 ghost use Rattle.cstn_words.specs.Requests.{save};
 ghost use Rattle.cstn_reply.specs.Plans.{says};
 ghost use Rattle.cstn_top.specs.Prepared.{Planned};
@@ -11,15 +12,15 @@ ghost use Rattle.cstn_reply.specs.Read.{the_said};
 ghost use Rattle.cstn_top.specs.Outputs.{saved};
 
 use cstn_io::Shelf;
-use cstn_net::Network;
+use cstn_lift::Labelled;
 use cstn_reply::{Outcome, Refused, Said};
 use cstn_save::write;
 use cstn_text::Names;
-use cstn_verdict::{Opened, open};
+use cstn_verdict::{WithLabels, open_labelled};
 use cstn_words::Asked;
 use std::alloc::Global;
 
-/// The canonical document of the network of a file.
+/// The canonical document of the labelled network of a file.
 pub(crate) fn save_file<F: Shelf>(
     alloc: Global,
     asked: Asked<'_>,
@@ -29,20 +30,20 @@ pub(crate) fn save_file<F: Shelf>(
     ensures plan { IfOk result (λ said. Planned (save (the_asked asked.entry)) (F.files shelf.old) (says (the_said said))) }
     ensures fault { IsErrOf result Refused.ReadFault → Rose (F.faults shelf.old) (F.faults shelf.new) }
 {
-    match open(alloc, asked, shelf) {
-        Ok(Opened::Accepted { network, names }) => canonical(alloc, &network, &names),
-        Ok(Opened::Told(said)) => Ok(said),
+    match open_labelled(alloc, asked, shelf) {
+        Ok(WithLabels::Accepted { labelled, names }) => canonical(alloc, &labelled, &names),
+        Ok(WithLabels::Told(said)) => Ok(said),
         Err(refused) => Err(refused),
     }
 }
 
-fn canonical(alloc: Global, network: &Network, names: &Names) -> Result<Said, Refused>
-    requires named { length names.now ≡ count (the_network network.now) }
+fn canonical(alloc: Global, labelled: &Labelled, names: &Names) -> Result<Said, Refused>
+    requires named { length names.now ≡ count (the_network labelled.now.base) }
     requires origin { slice_get names.now 0 ≡ Some (codes "Z") }
-    ensures said { IfOk result (λ said. says (the_said said) ≡ saved names.now (the_network network.now)) }
+    ensures said { IfOk result (λ said. says (the_said said) ≡ saved names.now (the_labelled labelled.now)) }
     ensures fault { IsErrOf result Refused.ReadFault → ⊥ }
 {
-    let Ok(text) = write(alloc, network, names) else {
+    let Ok(text) = write(alloc, labelled, names) else {
         return Err(Refused::Memory);
     };
     Ok(Said {

@@ -76,6 +76,25 @@ pub(super) const LARGE: &str =
 pub(super) const EARLY: &str =
     "<graphml><graph><node id=\"Z\"/><node id=\"P\"><data key=\"Obs\">p</data></node><node id=\"X\"/><edge source=\"Z\" target=\"X\"><data key=\"LabeledValues\">{(3, p)}</data></edge></graph></graphml>";
 
+// X is executed where p is true.
+pub(super) const LABELLED: &str =
+    "<graphml><graph><node id=\"Z\"/><node id=\"P\"><data key=\"Obs\">p</data></node><node id=\"X\"><data key=\"Label\">p</data></node><edge source=\"X\" target=\"Z\"><data key=\"LabeledValues\">{(-5, ⊡)}</data></edge></graph></graphml>";
+
+// Each of two observers is executed where the other's proposition is true.
+pub(super) const CIRCLE: &str =
+    "<graphml><graph><node id=\"Z\"/><node id=\"P\"><data key=\"Obs\">p</data><data key=\"Label\">q</data></node><node id=\"Q\"><data key=\"Obs\">q</data><data key=\"Label\">p</data></node></graph></graphml>";
+
+pub(super) const UNSEEN: &str =
+    "<graphml><graph><node id=\"Z\"/><node id=\"X\"><data key=\"Label\">q</data></node></graph></graphml>";
+
+// Where q is known, p is true.
+pub(super) const NEVER: &str =
+    "<graphml><graph><node id=\"Z\"/><node id=\"P\"><data key=\"Obs\">p</data></node><node id=\"Q\"><data key=\"Obs\">q</data><data key=\"Label\">p</data></node><node id=\"X\"><data key=\"Label\">q!p</data></node></graph></graphml>";
+
+// The label of an origin that stands last.
+pub(super) const LATE_ORIGIN: &str =
+    "<graphml><graph><node id=\"P\"><data key=\"Obs\">p</data></node><node id=\"Z\"><data key=\"Label\">p</data></node></graph></graphml>";
+
 // The canonical document of the branch.
 pub(super) const SAVED: &str = "<?xml version=\"1.0\" encoding=\"UTF-8\"?>
 <graphml>
@@ -86,6 +105,19 @@ pub(super) const SAVED: &str = "<?xml version=\"1.0\" encoding=\"UTF-8\"?>
 <node id=\"X\"/>
 <edge source=\"X\" target=\"Z\"><data key=\"Type\">requirement</data><data key=\"LabeledValues\">{(-10, p)}</data></edge>
 <edge source=\"Z\" target=\"X\"><data key=\"Type\">requirement</data><data key=\"LabeledValues\">{(3, ¬p)}</data></edge>
+</graph>
+</graphml>
+";
+
+// The canonical document of the one with a label.
+pub(super) const SAVED_LABELLED: &str = "<?xml version=\"1.0\" encoding=\"UTF-8\"?>
+<graphml>
+<graph edgedefault=\"directed\">
+<data key=\"Deadline\">10</data>
+<node id=\"Z\"/>
+<node id=\"P\"><data key=\"Obs\">p</data></node>
+<node id=\"X\"><data key=\"Label\">p</data></node>
+<edge source=\"X\" target=\"Z\"><data key=\"Type\">requirement</data><data key=\"LabeledValues\">{(-5, ⊡)}</data></edge>
 </graph>
 </graphml>
 ";

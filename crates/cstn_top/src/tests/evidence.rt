@@ -11,10 +11,10 @@ const NARROW: &str =
 
 const NARROW_CONFLICT: &str = "conflict 1\nno 3\n0 base Z 0 -\n1 chain 1 0 X 5 -\n";
 
-const LATE_CONFLICT: &str =
+pub(super) const LATE_CONFLICT: &str =
     "conflict 0 1 2\nno 7\n0 base Z 0 -\n1 chain 0 0 X 10 p\n2 chain 2 0 P 3 -\n3 wait 2 1 X 4 -\n4 chain 1 3 Z 1 !p\n";
 
-const BOUNDS: &str = "yes 5\nbound Z 0 -\nbound P 0 -\nbound X 10 p\nbound X 1 -\n";
+pub(super) const BOUNDS: &str = "yes 5\nbound Z 0 -\nbound P 0 -\nbound X 10 p\nbound X 1 -\n";
 
 const TIGHT: &str =
     "least 10\nyes 5\nbound Z 0 -\nbound P 0 -\nbound X 10 p\nbound X 1 -\nno 4\n0 base Z 0 -\n1 chain 0 0 X 10 p\n";

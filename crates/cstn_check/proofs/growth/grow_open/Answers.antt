@@ -1,10 +1,14 @@
 use Rattle.std.proofs.Common.{◌+◌, length, true, false, arith, refl}
-use Rattle.cstn_net.specs.Read.{the_network}
+use Rattle.cstn_net.specs.Read.{the_network, the_constraint}
 use Rattle.cstn_check.specs.Growth.{turn}
 use Rattle.cstn_check.specs.Spent.{fresh_count}
 use Rattle.cstn_check.proofs.CostLemmas.{costs_step, costs_all}
 use Rattle.cstn_check.proofs.SpentLemmas.{spent_after}
 use Rattle.cstn_check.proofs.Growing.{turn_on, end_closed, end_refuted, end_cut}
+use Rattle.std.proofs.lemmas.List.{length-map}
+use Rattle.cstn_log.specs.Entries.{the_entries}
+use Rattle.cstn_check.proofs.Lists.{extends_itself}
+use Rattle.cstn_check.proofs.TryLemmas.{taken_on, size_is, tries_step, tries_all}
 use Rattle.cstn_check.proofs.growth.grow_open.Goals as goal
 
 pub loop-j-preserved : goal.loop-j-preserved
@@ -19,6 +23,10 @@ loop-j-preserved c =
       turns = omega (arith, took.taken.longer.longer, c.loop-j-test.true, c.len.ensures.len);
       most = costs_step (length c.args.net.now.constraints) (fresh_count c.args.fresh.now (the_network c.args.net.now).constraints) c.args.old (length c.loop-j.log.entries) (length c.take_turn.new.log.entries) c.loop-j.j c.loop-j.tries.count c.take_turn.new.tries.count
           took.taken.longer.longer (omega (arith, took.taken.longer.longer, c.loop-j-test.true, c.len.ensures.len)) took.most_fresh took.most c.args.tries.now.count inv.most;
+      concluding = tries_step (the_network c.args.net.now) (length (the_network c.args.net.now).constraints) (the_entries c.loop-j.log.entries) (the_entries c.take_turn.new.log.entries) c.loop-j.j c.args.tries.now.count c.loop-j.tries.count c.take_turn.new.tries.count
+          (taken_on (the_network c.args.net.now) c.loop-j.log c.take_turn.new.log (turn (the_network c.args.net.now) c.loop-j.j) _ took.taken)
+          (omega (arith, size_is c.loop-j.log, c.loop-j-test.true, c.len.ensures.len)) inv.concluding
+          (omega (arith, took.concluding, length-map c.args.net.now.constraints the_constraint));
       spent = spent_after (the_network c.args.net.now) c.loop-j.log c.take_turn.new.log (turn (the_network c.args.net.now) c.loop-j.j) _ c.args.fresh.now c.args.old took.taken (omega (arith, c.requires.front, inv.taken.longer.longer)) inv.spent;
     }
 
@@ -61,3 +69,29 @@ pub returns-clause-closed : goal.returns-clause-closed
 returns-clause-closed c = λ same.
     end_closed (the_network c.args.net.now) c.args.log.now c.is_well_formed.ensures c.requires.ready c.loop-j.log c.loop-j.j
     c.loop-j.invariant.taken (omega (arith, c.loop-j-test.false, c.len.ensures.len))
+
+pub returns-in-Ok-true-clause-most_tried : goal.returns-in-Ok-true-clause-most_tried
+returns-in-Ok-true-clause-most_tried c = λ not.
+    let inv = c.loop-j.invariant in
+    let took = c.in-Ok-true.ensures in
+    let more = taken_on (the_network c.args.net.now) c.loop-j.log c.take_turn.new.log (turn (the_network c.args.net.now) c.loop-j.j) _ took.taken in
+    let step = tries_step (the_network c.args.net.now) (length (the_network c.args.net.now).constraints) (the_entries c.loop-j.log.entries) (the_entries c.take_turn.new.log.entries) c.loop-j.j c.args.tries.now.count c.loop-j.tries.count c.take_turn.new.tries.count
+    more
+    (omega (arith, size_is c.loop-j.log, c.loop-j-test.true, c.len.ensures.len)) inv.concluding
+    (omega (arith, took.concluding, length-map c.args.net.now.constraints the_constraint)) in
+    omega (
+      arith,
+      step,
+      tries_all (the_network c.args.net.now) (length (the_network c.args.net.now).constraints) (the_entries c.loop-j.log.entries) (the_entries c.take_turn.new.log.entries) (c.loop-j.j + 1)
+          inv.ready.derivation more (omega (arith, size_is c.loop-j.log, c.loop-j-test.true, c.len.ensures.len)),
+    )
+
+pub returns-clause-most_tried : goal.returns-clause-most_tried
+returns-clause-most_tried c = λ not.
+    let inv = c.loop-j.invariant in
+    omega (
+      arith,
+      inv.concluding,
+      tries_all (the_network c.args.net.now) (length (the_network c.args.net.now).constraints) (the_entries c.loop-j.log.entries) (the_entries c.loop-j.log.entries) c.loop-j.j
+          inv.ready.derivation (extends_itself (the_entries c.loop-j.log.entries)) (omega (arith, size_is c.loop-j.log, inv.turns)),
+    )

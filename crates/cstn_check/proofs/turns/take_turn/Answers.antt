@@ -5,6 +5,7 @@ use Rattle.cstn_check.specs.Growth.{tried, chains_at, waits_below, turn}
 use Rattle.cstn_check.specs.Turns.{IsTaken, IsCut}
 use Rattle.cstn_check.proofs.Sequences.{taken_as, refuted_then, cut_first, cut_then, then_on, turn_is}
 use Rattle.cstn_check.proofs.SpentLemmas.{spent_after}
+use Rattle.cstn_check.proofs.TryLemmas.{taken_on, size_is, upto_kept}
 use Rattle.cstn_check.proofs.turns.take_turn.Goals as goal
 
 pub try_new_waits-requires-clause-ready : goal.try_new_waits-requires-clause-ready
@@ -48,3 +49,9 @@ returns-in-Err-clause-cut c = λ is.
     (turn_is c.args.net.now c.args.net.now.constraints c.args.j refl)
     (cut_first (the_network c.args.net.now) c.args.log.now (chains_at (map the_constraint c.args.net.now.constraints) c.args.j)
     (waits_below (c.args.j + 1) c.args.j) c.try_chains.new.log (c.in-Err.ensures.cut is))
+
+pub returns-in-Ok-false-clause-concluding : goal.returns-in-Ok-false-clause-concluding
+returns-in-Ok-false-clause-concluding c =
+    let more = taken_on (the_network c.args.net.now) c.args.log.now c.try_chains.new.log (chains_at (map the_constraint c.args.net.now.constraints) c.args.j) _ c.in-Ok-false.ensures.taken in
+    let kept = upto_kept (the_network c.args.net.now) (the_entries c.args.log.now.entries) (the_entries c.try_chains.new.log.entries) c.args.j more (omega (arith, size_is c.args.log.now, c.requires.place)) in
+    omega (arith, kept, c.in-Ok-false.ensures.most, c.try_new_waits.ensures.concluding)

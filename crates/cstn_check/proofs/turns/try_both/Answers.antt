@@ -2,6 +2,8 @@ use Rattle.std.proofs.Common.{[], ◌∷◌, arith}
 use Rattle.cstn_net.specs.Read.{the_network}
 use Rattle.cstn_check.specs.Growth.Instance.{wait_at}
 use Rattle.cstn_check.proofs.Sequences.{taken_as, refuted_then, cut_first}
+use Rattle.cstn_log.specs.Entries.{the_entries}
+use Rattle.cstn_check.proofs.TryLemmas.{taken_on, size_is, concludes_kept}
 use Rattle.cstn_check.proofs.turns.try_both.Goals as goal
 
 pub try_wait-requires-in-Ok-false-clause-ready : goal.try_wait-requires-in-Ok-false-clause-ready
@@ -23,3 +25,11 @@ pub returns-in-Err-clause-cut : goal.returns-in-Err-clause-cut
 returns-in-Err-clause-cut c = λ is.
     cut_first (the_network c.args.net.now) c.args.log.now (wait_at c.args.i c.args.j ∷ []) (wait_at c.args.j c.args.i ∷ [])
     c.try_wait.new.log (c.in-Err.ensures.cut is)
+
+pub returns-in-Ok-false-clause-concluding : goal.returns-in-Ok-false-clause-concluding
+returns-in-Ok-false-clause-concluding c =
+    let more = taken_on (the_network c.args.net.now) c.args.log.now c.try_wait.new.log (wait_at c.args.i c.args.j ∷ []) _ c.in-Ok-false.ensures.taken in
+    let size = size_is c.args.log.now in
+    let kept = concludes_kept (the_network c.args.net.now) (the_entries c.args.log.now.entries) (the_entries c.try_wait.new.log.entries) c.args.j c.args.i more
+    (omega (arith, size, c.requires.place)) (omega (arith, size, c.requires.first)) in
+    omega (arith, kept, c.in-Ok-false.ensures.concluding, c.try_wait-in-Ok-false.ensures.concluding)

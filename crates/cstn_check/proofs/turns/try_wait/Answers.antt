@@ -1,10 +1,12 @@
-use Rattle.std.proofs.Common.{[], ◌∷◌, subst, arith}
+use Rattle.std.proofs.Common.{◌≡◌, [], ◌∷◌, refl, subst, ap, arith}
 use Rattle.std.specs.Prelude.{IfOk, IsErr}
 use Rattle.std.proofs.lemmas.Bool.{false≢true}
 use Rattle.cstn_label.specs.Read.{the_bound}
 use Rattle.cstn_net.specs.Read.{the_network}
 use Rattle.cstn_log.proofs.DerivedLemmas.{wait_follows}
 use Rattle.cstn_check.specs.Growth.Instance.{wait_at}
+use Rattle.cstn_log.specs.Entries.{the_entries}
+use Rattle.cstn_check.specs.Tries.{how_many, concludes}
 use Rattle.cstn_check.specs.Turns.{IsTaken, IsCut}
 use Rattle.cstn_check.proofs.TurnLemmas.{bound_of, idle_dead, idle_none, put_is_step, live_wait, dead_seen, dead_other, wait_concludes, wait_ends}
 use Rattle.cstn_check.proofs.Sequences.{ready_then}
@@ -89,3 +91,16 @@ returns-in_default-clause-most c = omega (arith, c.wait.ensures.counted)
 
 pub returns-clause-most : goal.returns-clause-most
 returns-clause-most c = omega (arith, c.wait.ensures.counted)
+
+pub returns-in_default-clause-concluding : goal.returns-in_default-clause-concluding
+returns-in_default-clause-concluding c =
+    let is = c.waits.ensures.waits.0 c.if-not-waits.false in
+    absurd (c.in_default.ensures.none is.prop _ (record { observes = is.observes; marked = is.marked; gives = refl }))
+
+pub returns-clause-concluding : goal.returns-clause-concluding
+returns-clause-concluding c =
+    let w = c.in-Some.ensures.wait in
+    let one : concludes (the_network c.args.net.now) (the_entries c.args.log.now.entries) c.args.i c.args.j ≡ 1 =
+    ap how_many (wait_concludes _ _ c.is_well_formed.ensures c.requires.ready c.args.i c.args.j c.entry.result c.entry-2.result w.0
+    (the_bound c.in-Some.bound) c.entry.ensures.entry c.entry-2.ensures.entry w.1) in
+    omega (arith, one, c.wait.ensures.counted)

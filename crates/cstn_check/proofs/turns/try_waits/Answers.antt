@@ -1,10 +1,16 @@
-use Rattle.std.proofs.Common.{◌+◌, [], ◌∷◌, false, arith, refl, sym}
+use Rattle.std.proofs.Common.{suc, ◌+◌, [], ◌∷◌, false, arith, refl, sym}
 use Rattle.cstn_net.specs.Read.{the_network}
 use Rattle.cstn_check.specs.Growth.{waits_below}
 use Rattle.cstn_check.specs.Growth.Instance.{wait_at}
 use Rattle.cstn_check.proofs.TurnLemmas.{idle}
 use Rattle.cstn_check.proofs.Sequences.{taken_as, go_on, go_true, go_cut, waits_next, waits_whole}
 use Rattle.cstn_check.proofs.Skips.{waits_to}
+use Rattle.cstn_log.specs.Entries.{the_entries}
+use Rattle.cstn_check.specs.Tries.{concludes_with}
+use Rattle.cstn_check.proofs.TryLemmas.{total_upto, pairs_step, taken_on, size_is}
+use Rattle.std.proofs.lemmas.List.{get_or-replicate}
+use Rattle.cstn_check.proofs.Lists.{extends_itself}
+use Rattle.cstn_check.proofs.WalkLemmas.{passed_on, none_yet}
 use Rattle.cstn_check.proofs.turns.try_waits.Goals as goal
 
 pub loop-i-init : goal.loop-i-init
@@ -16,6 +22,10 @@ loop-i-init c = record {
   upto = c.next_waiting-i.ensures.upto.1;
   tries = omega arith;
   most = omega arith;
+  concluding = omega arith;
+  size = c.next_waiting-i.ensures.size;
+  passed = passed_on (the_network c.args.net.now) (the_entries c.args.log.now.entries) (the_entries c.args.log.now.entries) c.args.j 0 c.next_waiting-i.result _ _
+      (extends_itself (the_entries c.args.log.now.entries)) (omega (arith, c.requires.place, size_is c.args.log.now)) c.next_waiting-i.ensures.upto.0 c.next_waiting-i.ensures.passed;
 }
 
 pub try_both-requires-clause-first : goal.try_both-requires-clause-first
@@ -58,4 +68,34 @@ loop-i-preserved c =
       upto = next.ensures.upto.1;
       tries = omega (arith, c.loop-i.invariant.tries, c.in-Ok-false.ensures.tries);
       most = omega (arith, c.loop-i.invariant.most, c.in-Ok-false.ensures.most, next.ensures.upto.0);
+      size = next.ensures.size;
+      passed = passed_on (the_network c.args.net.now) (the_entries c.try_both.new.log.entries) (the_entries c.try_both.new.log.entries) c.args.j (c.loop-i.i + 1) next.result _ _
+          (extends_itself (the_entries c.try_both.new.log.entries)) (omega (arith, c.requires.place, c.loop-i.invariant.taken.longer.longer, c.in-Ok-false.ensures.taken.longer.longer, size_is c.try_both.new.log))
+          next.ensures.upto.0 next.ensures.passed;
+      concluding = pairs_step (the_network c.args.net.now) c.args.log.now c.loop-i.log c.args.j c.loop-i.i next.result (waits_below c.loop-i.i c.args.j) c.args.tries.now.count c.loop-i.tries.count c.try_both.new.tries.count c.loop-i.invariant.taken c.requires.place
+          (omega (arith, c.requires.place, c.loop-i-test.true)) c.loop-i.invariant.concluding c.in-Ok-false.ensures.concluding next.ensures.upto.0;
     }
+
+pub returns-in-Ok-true-clause-concluding : goal.returns-in-Ok-true-clause-concluding
+returns-in-Ok-true-clause-concluding c =
+    pairs_step (the_network c.args.net.now) c.args.log.now c.loop-i.log c.args.j c.loop-i.i (suc c.args.j) (waits_below c.loop-i.i c.args.j) c.args.tries.now.count c.loop-i.tries.count c.try_both.new.tries.count c.loop-i.invariant.taken c.requires.place
+    (omega (arith, c.requires.place, c.loop-i-test.true)) c.loop-i.invariant.concluding c.in-Ok-true.ensures.concluding (omega (arith, c.loop-i-test.true))
+
+pub returns-in-Err-clause-concluding : goal.returns-in-Err-clause-concluding
+returns-in-Err-clause-concluding c =
+    pairs_step (the_network c.args.net.now) c.args.log.now c.loop-i.log c.args.j c.loop-i.i (suc c.args.j) (waits_below c.loop-i.i c.args.j) c.args.tries.now.count c.loop-i.tries.count c.try_both.new.tries.count c.loop-i.invariant.taken c.requires.place
+    (omega (arith, c.requires.place, c.loop-i-test.true)) c.loop-i.invariant.concluding c.in-Err.ensures.concluding (omega (arith, c.loop-i-test.true))
+
+pub returns-clause-concluding : goal.returns-clause-concluding
+returns-clause-concluding c =
+    omega (arith, c.loop-i.invariant.concluding, total_upto (concludes_with (the_network c.args.net.now) (the_entries c.args.log.now.entries) c.args.j) c.loop-i.i (suc c.args.j) (omega (arith, c.loop-i.invariant.upto)))
+
+pub next_waiting-i-requires-clause-passed : goal.next_waiting-i-requires-clause-passed
+next_waiting-i-requires-clause-passed c =
+    none_yet (the_network c.args.net.now) (the_entries c.args.log.now.entries) c.args.j _ (λ p small. get_or-replicate 52 p 0 0 small)
+
+pub next_waiting-i-requires-in-Ok-false-clause-passed : goal.next_waiting-i-requires-in-Ok-false-clause-passed
+next_waiting-i-requires-in-Ok-false-clause-passed c =
+    passed_on (the_network c.args.net.now) (the_entries c.loop-i.log.entries) (the_entries c.try_both.new.log.entries) c.args.j c.loop-i.i (c.loop-i.i + 1) c.loop-i.sees c.loop-i.marking
+    (taken_on (the_network c.args.net.now) c.loop-i.log c.try_both.new.log (wait_at c.loop-i.i c.args.j ∷ (wait_at c.args.j c.loop-i.i ∷ [])) _ c.in-Ok-false.ensures.taken)
+    (omega (arith, c.requires.place, c.loop-i.invariant.taken.longer.longer, size_is c.loop-i.log)) (omega arith) c.loop-i.invariant.passed

@@ -6,14 +6,14 @@ use Rattle.cstn_label.specs.Read.{the_bound}
 use Rattle.cstn_refute.specs.Texts.{lines_of}
 use Rattle.cstn_closed.specs.Closed.{the_bounds}
 use Rattle.cstn_closed.specs.Read.{IsWrong}
-use Rattle.cstn_closed.specs.Texts.{line_read, tells, told_after, or_wrong}
+use Rattle.cstn_closed.specs.Texts.{line_read, at_end, told_after, or_wrong}
 use Rattle.cstn_closed.proofs.LineLemmas.{told_next, told_on, told_last}
 use Rattle.cstn_closed.proofs.reading.read_bounds.Goals as goal
 
 pub returns-clause-accepted : goal.returns-clause-accepted
 returns-clause-accepted c =
     let last = told_last c.args.names.now c.args.load (map the_bound c.loop-line.bounds.items) c.loop-line.left.now (sym c.in_default.ensures.cut) in
-    subst (λ t. IfOk c.finish.result (λ r. t ≡ tells r.load (the_bounds r))) (sym last ∙ c.loop-line.invariant.told) c.finish.ensures.accepted
+    subst (λ t. IfOk c.finish.result (λ r. t ≡ at_end r.load (the_bounds r) [])) (sym last ∙ c.loop-line.invariant.told) c.finish.ensures.accepted
 
 pub returns-clause-line : goal.returns-clause-line
 returns-clause-line c =

@@ -4,8 +4,12 @@ use Rattle.cstn_reply.specs.Sessions.{session}
 use Rattle.cstn_talk.specs.Running.{running_turn, running_ending}
 use Rattle.cstn_talk.specs.Editing.{the_editing, edit_turn, edit_ending}
 use Rattle.cstn_words.specs.Read.{the_request}
+use Rattle.cstn_ward.specs.Wards.{ward_turn, ward_ending}
+use Rattle.cstn_ward.specs.Read.{the_ward}
 use Rattle.cstn_reply.specs.Read.{the_said}
-use Rattle.cstn_top.proofs.Endings.{words_end, fault_end, memory_end, says_end, good_is, bad_is, full_is, complete_is, words_is, there_is, text_end, talks_end, reads_live, may_stop, opened_as, prepared_as, fits_as}
+use Rattle.cstn_top.proofs.Endings.{words_end, fault_end, memory_end, says_end, good_is, bad_is, full_is, wide_is, complete_is, words_is, there_is, text_end, talks_end, reads_live, may_stop, opened_as, prepared_as, fits_as}
+use Rattle.cstn_top.proofs.Endings.{opened_ward, may_stop_host}
+use Rattle.cstn_top.proofs.Accepted.{capped_ranged, evidence_is}
 use Rattle.cstn_top.proofs.top.run.Goals as goal
 
 pub returns-in_default-clause-output : goal.returns-in_default-clause-output
@@ -28,8 +32,15 @@ returns-in-Ok-Says-clause-bad g c = bad_is _ (g.F.Shelf.files c.args.shelf.now) 
 pub returns-in-Ok-Says-clause-full : goal.returns-in-Ok-Says-clause-full
 returns-in-Ok-Says-clause-full g c = full_is _ (g.F.Shelf.files c.args.shelf.now) _ _ _ _ _ _ _ (returns-in-Ok-Says-clause-output g c)
 
+pub returns-in-Ok-Says-clause-wide : goal.returns-in-Ok-Says-clause-wide
+returns-in-Ok-Says-clause-wide g c = wide_is _ (g.F.Shelf.files c.args.shelf.now) _ _ _ _ _ _ _ (returns-in-Ok-Says-clause-output g c)
+
 pub returns-in-Ok-Says-clause-complete : goal.returns-in-Ok-Says-clause-complete
 returns-in-Ok-Says-clause-complete g c = complete_is _ (g.F.Shelf.files c.args.shelf.now) _ _ _ _ _ _ _ (returns-in-Ok-Says-clause-output g c)
+
+pub returns-in-Ok-Says-clause-evidence : goal.returns-in-Ok-Says-clause-evidence
+returns-in-Ok-Says-clause-evidence g c =
+    evidence_is c.evidence_is_accepted.ensures.bounds c.evidence_is_accepted.ensures.steps _ (the_request c.in-Some.request) (g.F.Shelf.files c.args.shelf.now) _ _ _ _ _ _ _ c.in-Some.ensures.request (capped_ranged c.in-Some.request c.in-Some.ensures.capped) (returns-in-Ok-Says-clause-output g c)
 
 pub returns-in-Ok-Says-clause-there : goal.returns-in-Ok-Says-clause-there
 returns-in-Ok-Says-clause-there g c =
@@ -66,11 +77,18 @@ returns-in-Ok-Runs-clause-bad g c = bad_is _ (g.F.Shelf.files c.args.shelf.now) 
 pub returns-in-Ok-Runs-clause-full : goal.returns-in-Ok-Runs-clause-full
 returns-in-Ok-Runs-clause-full g c = full_is _ (g.F.Shelf.files c.args.shelf.now) _ _ _ _ _ _ _ (returns-in-Ok-Runs-clause-output g c)
 
+pub returns-in-Ok-Runs-clause-wide : goal.returns-in-Ok-Runs-clause-wide
+returns-in-Ok-Runs-clause-wide g c = wide_is _ (g.F.Shelf.files c.args.shelf.now) _ _ _ _ _ _ _ (returns-in-Ok-Runs-clause-output g c)
+
 pub returns-in-Ok-Runs-clause-complete : goal.returns-in-Ok-Runs-clause-complete
 returns-in-Ok-Runs-clause-complete g c = complete_is _ (g.F.Shelf.files c.args.shelf.now) _ _ _ _ _ _ _ (returns-in-Ok-Runs-clause-output g c)
 
 pub returns-in-Ok-Runs-clause-words_only : goal.returns-in-Ok-Runs-clause-words_only
 returns-in-Ok-Runs-clause-words_only g c = words_is _ (g.F.Shelf.files c.args.shelf.now) _ _ _ _ _ _ _ (returns-in-Ok-Runs-clause-output g c)
+
+pub returns-in-Ok-Runs-clause-evidence : goal.returns-in-Ok-Runs-clause-evidence
+returns-in-Ok-Runs-clause-evidence g c =
+    evidence_is c.evidence_is_accepted.ensures.bounds c.evidence_is_accepted.ensures.steps _ (the_request c.in-Some.request) (g.F.Shelf.files c.args.shelf.now) _ _ _ _ _ _ _ c.in-Some.ensures.request (capped_ranged c.in-Some.request c.in-Some.ensures.capped) (returns-in-Ok-Runs-clause-output g c)
 
 pub returns-in-Ok-Runs-clause-there : goal.returns-in-Ok-Runs-clause-there
 returns-in-Ok-Runs-clause-there g c =
@@ -103,11 +121,18 @@ returns-in-Ok-Edits-clause-bad g c = bad_is _ (g.F.Shelf.files c.args.shelf.now)
 pub returns-in-Ok-Edits-clause-full : goal.returns-in-Ok-Edits-clause-full
 returns-in-Ok-Edits-clause-full g c = full_is _ (g.F.Shelf.files c.args.shelf.now) _ _ _ _ _ _ _ (returns-in-Ok-Edits-clause-output g c)
 
+pub returns-in-Ok-Edits-clause-wide : goal.returns-in-Ok-Edits-clause-wide
+returns-in-Ok-Edits-clause-wide g c = wide_is _ (g.F.Shelf.files c.args.shelf.now) _ _ _ _ _ _ _ (returns-in-Ok-Edits-clause-output g c)
+
 pub returns-in-Ok-Edits-clause-complete : goal.returns-in-Ok-Edits-clause-complete
 returns-in-Ok-Edits-clause-complete g c = complete_is _ (g.F.Shelf.files c.args.shelf.now) _ _ _ _ _ _ _ (returns-in-Ok-Edits-clause-output g c)
 
 pub returns-in-Ok-Edits-clause-words_only : goal.returns-in-Ok-Edits-clause-words_only
 returns-in-Ok-Edits-clause-words_only g c = words_is _ (g.F.Shelf.files c.args.shelf.now) _ _ _ _ _ _ _ (returns-in-Ok-Edits-clause-output g c)
+
+pub returns-in-Ok-Edits-clause-evidence : goal.returns-in-Ok-Edits-clause-evidence
+returns-in-Ok-Edits-clause-evidence g c =
+    evidence_is c.evidence_is_accepted.ensures.bounds c.evidence_is_accepted.ensures.steps _ (the_request c.in-Some.request) (g.F.Shelf.files c.args.shelf.now) _ _ _ _ _ _ _ c.in-Some.ensures.request (capped_ranged c.in-Some.request c.in-Some.ensures.capped) (returns-in-Ok-Edits-clause-output g c)
 
 pub returns-in-Ok-Edits-clause-there : goal.returns-in-Ok-Edits-clause-there
 returns-in-Ok-Edits-clause-there g c =
@@ -128,3 +153,52 @@ pub returns-in-Ok-Edits-clause-memory : goal.returns-in-Ok-Edits-clause-memory
 returns-in-Ok-Edits-clause-memory g c = λ is.
     inl (may_stop _ (the_request c.in-Some.request) (g.F.Shelf.files c.args.shelf.now) (session edit_turn edit_ending [] (the_editing c.in-Ok-Edits.editing)) c.in-Some.ensures.request (prepared_as _ _ _ _ c.in-Ok-Edits.ensures.plan c.in-Ok-Edits.field-0-is)
     (fits_as _ _ _ c.in-Ok-Edits.ensures.fits c.in-Ok-Edits.field-0-is) tt)
+
+pub returns-in-Ok-Hosts-clause-output : goal.returns-in-Ok-Hosts-clause-output
+returns-in-Ok-Hosts-clause-output g c =
+    let before : Live = record { left = g.S.Source.left c.args.live.now; faults = g.S.Source.faults c.args.live.now } in
+    let after : Live = record { left = g.S.Source.left c.converse-in-Ok-Hosts.new.live; faults = g.S.Source.faults c.converse-in-Ok-Hosts.new.live } in
+    talks_end _ (the_request c.in-Some.request) (g.F.Shelf.files c.args.shelf.now) c.args.live.now c.converse-in-Ok-Hosts.new.live (session ward_turn ward_ending c.deref-in-Ok-Hosts.result.now (the_ward c.in-Ok-Hosts.ward)) before after _ _ _
+    c.in-Some.ensures.request (opened_ward _ _ c.in-Ok-Hosts.ward c.in-Ok-Hosts.opening.items (prepared_as _ _ _ _ c.in-Ok-Hosts.ensures.plan c.in-Ok-Hosts.field-0-is) (sym c.deref-in-Ok-Hosts.ensures.value)) tt c.converse-in-Ok-Hosts.ensures.ends
+
+pub returns-in-Ok-Hosts-clause-good : goal.returns-in-Ok-Hosts-clause-good
+returns-in-Ok-Hosts-clause-good g c = good_is _ (g.F.Shelf.files c.args.shelf.now) _ _ _ _ _ _ _ (returns-in-Ok-Hosts-clause-output g c)
+
+pub returns-in-Ok-Hosts-clause-bad : goal.returns-in-Ok-Hosts-clause-bad
+returns-in-Ok-Hosts-clause-bad g c = bad_is _ (g.F.Shelf.files c.args.shelf.now) _ _ _ _ _ _ _ (returns-in-Ok-Hosts-clause-output g c)
+
+pub returns-in-Ok-Hosts-clause-full : goal.returns-in-Ok-Hosts-clause-full
+returns-in-Ok-Hosts-clause-full g c = full_is _ (g.F.Shelf.files c.args.shelf.now) _ _ _ _ _ _ _ (returns-in-Ok-Hosts-clause-output g c)
+
+pub returns-in-Ok-Hosts-clause-wide : goal.returns-in-Ok-Hosts-clause-wide
+returns-in-Ok-Hosts-clause-wide g c = wide_is _ (g.F.Shelf.files c.args.shelf.now) _ _ _ _ _ _ _ (returns-in-Ok-Hosts-clause-output g c)
+
+pub returns-in-Ok-Hosts-clause-evidence : goal.returns-in-Ok-Hosts-clause-evidence
+returns-in-Ok-Hosts-clause-evidence g c =
+    evidence_is c.evidence_is_accepted.ensures.bounds c.evidence_is_accepted.ensures.steps _ (the_request c.in-Some.request) (g.F.Shelf.files c.args.shelf.now) _ _ _ _ _ _ _ c.in-Some.ensures.request (capped_ranged c.in-Some.request c.in-Some.ensures.capped) (returns-in-Ok-Hosts-clause-output g c)
+
+pub returns-in-Ok-Hosts-clause-complete : goal.returns-in-Ok-Hosts-clause-complete
+returns-in-Ok-Hosts-clause-complete g c = complete_is _ (g.F.Shelf.files c.args.shelf.now) _ _ _ _ _ _ _ (returns-in-Ok-Hosts-clause-output g c)
+
+pub returns-in-Ok-Hosts-clause-words_only : goal.returns-in-Ok-Hosts-clause-words_only
+returns-in-Ok-Hosts-clause-words_only g c = words_is _ (g.F.Shelf.files c.args.shelf.now) _ _ _ _ _ _ _ (returns-in-Ok-Hosts-clause-output g c)
+
+pub returns-in-Ok-Hosts-clause-there : goal.returns-in-Ok-Hosts-clause-there
+returns-in-Ok-Hosts-clause-there g c =
+    let before : Live = record { left = g.S.Source.left c.args.live.now; faults = g.S.Source.faults c.args.live.now } in
+    let after : Live = record { left = g.S.Source.left c.converse-in-Ok-Hosts.new.live; faults = g.S.Source.faults c.converse-in-Ok-Hosts.new.live } in
+    there_is _ (the_request c.in-Some.request) (g.F.Shelf.files c.args.shelf.now) (session ward_turn ward_ending c.deref-in-Ok-Hosts.result.now (the_ward c.in-Ok-Hosts.ward)) before after _ _ _
+    c.in-Some.ensures.request (opened_ward _ _ c.in-Ok-Hosts.ward c.in-Ok-Hosts.opening.items (prepared_as _ _ _ _ c.in-Ok-Hosts.ensures.plan c.in-Ok-Hosts.field-0-is) (sym c.deref-in-Ok-Hosts.ensures.value)) c.converse-in-Ok-Hosts.ensures.ends
+
+pub returns-in-Ok-Hosts-clause-live : goal.returns-in-Ok-Hosts-clause-live
+returns-in-Ok-Hosts-clause-live g c =
+    inl (reads_live _ (the_request c.in-Some.request) (g.F.Shelf.files c.args.shelf.now) (session ward_turn ward_ending c.in-Ok-Hosts.opening.items (the_ward c.in-Ok-Hosts.ward)) c.in-Some.ensures.request (prepared_as _ _ _ _ c.in-Ok-Hosts.ensures.plan c.in-Ok-Hosts.field-0-is) tt)
+
+pub returns-in-Ok-Hosts-clause-read_fault : goal.returns-in-Ok-Hosts-clause-read_fault
+returns-in-Ok-Hosts-clause-read_fault g c = λ is.
+    inr (reads_live _ (the_request c.in-Some.request) (g.F.Shelf.files c.args.shelf.now) (session ward_turn ward_ending c.in-Ok-Hosts.opening.items (the_ward c.in-Ok-Hosts.ward)) c.in-Some.ensures.request (prepared_as _ _ _ _ c.in-Ok-Hosts.ensures.plan c.in-Ok-Hosts.field-0-is) tt, c.converse-in-Ok-Hosts.ensures.read is)
+
+pub returns-in-Ok-Hosts-clause-memory : goal.returns-in-Ok-Hosts-clause-memory
+returns-in-Ok-Hosts-clause-memory g c = λ is.
+    inl (may_stop_host _ (the_request c.in-Some.request) (g.F.Shelf.files c.args.shelf.now) (session ward_turn ward_ending c.in-Ok-Hosts.opening.items (the_ward c.in-Ok-Hosts.ward)) c.in-Some.ensures.request (prepared_as _ _ _ _ c.in-Ok-Hosts.ensures.plan c.in-Ok-Hosts.field-0-is)
+    (fits_as _ _ _ c.in-Ok-Hosts.ensures.fits c.in-Ok-Hosts.field-0-is).1 tt)

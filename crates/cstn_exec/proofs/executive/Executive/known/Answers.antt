@@ -25,10 +25,12 @@ loop-index-init c =
     known_first (known (the_network c.args.self.now.net) c.args.self.now.run (c.args.t + 1)) c.nothing-known.result c.nothing-known.ensures.seen
 
 pub returns : goal.returns
-returns c q = elim (cases_lt q 52) [
-  | inl below ↦ c.loop-index.invariant.below q (omega arith)
-  | inr above ↦
-      c.loop-index.invariant.above q (omega arith)
-      ∙ sym (known_above (the_network c.args.self.now.net) c.is_right.ensures.well_formed c.args.self.now.run (c.args.t + 1) q
-      c.is_right.ensures.right.outcomes above)
-]
+returns c = record {
+  known = λ q. elim (cases_lt q 52) [
+    | inl below ↦ c.loop-index.invariant.below q (omega arith)
+    | inr above ↦
+        c.loop-index.invariant.above q (omega arith)
+        ∙ sym (known_above (the_network c.args.self.now.net) c.is_right.ensures.well_formed c.args.self.now.run (c.args.t + 1) q
+        c.is_right.ensures.right.outcomes above)
+  ];
+}

@@ -5,7 +5,7 @@ use Rattle.cstn_exec.specs.Read.{ExecParts}
 use Rattle.std.proofs.lemmas.List.{length-map}
 use Rattle.cstn_talk.specs.Running.{spaced, the_nodes}
 use Rattle.cstn_talk.proofs.Names.{named_inside, named_few}
-use Rattle.cstn_talk.proofs.Runs.{moment_goes_on, moment_ends, moment_text, line_ends}
+use Rattle.cstn_talk.proofs.Runs.{moment_goes_on, moment_ends, moment_text, line_ends, from_empty}
 use Rattle.cstn_talk.proofs.running.Running.moment.Goals as goal
 
 pub put_moment-requires-clause-inside : goal.put_moment-requires-clause-inside
@@ -18,26 +18,26 @@ pub put_moment-requires-clause-room : goal.put_moment-requires-clause-room
 put_moment-requires-clause-room c =
     let e = c.self.inside.executive in
     let few = named_few (the_network e.net) (the_bounds e.bounds) e.run c.args.t c.named.result.now (c.named.ensures.named ∙ ap (λ (x : ExecParts). x.named) c.in_default.ensures.moved) in
-    omega (arith, few, c.self.invariant.few, c.requires.room)
+    omega (arith, few, c.self.invariant.few, c.requires.room, ap length c.requires.empty)
 
 pub returns-clause-turn : goal.returns-clause-turn
 returns-clause-turn c =
     let e = c.self.inside.executive in
     moment_goes_on c.args.self.now e c.moment.new.self (map string_bytes c.self.inside.names.items) c.args.t _ c.put_moment.new.text.items c.self.view_is c.in_default.ensures.refused c.in_default.ensures.moved c.in-Some.ensures.due
-    (moment_text c.self.inside.names.items c.deref.result.now c.args.t c.named.result.now _ _ c.put_moment.ensures.items c.deref.ensures.value (c.named.ensures.named ∙ ap (λ (x : ExecParts). x.named) c.in_default.ensures.moved))
+    (moment_text c.self.inside.names.items c.deref.result.now c.args.t c.named.result.now _ _ (from_empty _ _ _ c.put_moment.ensures.items c.requires.empty) c.deref.ensures.value (c.named.ensures.named ∙ ap (λ (x : ExecParts). x.named) c.in_default.ensures.moved))
 
 pub returns-clause-lines : goal.returns-clause-lines
-returns-clause-lines c = λ is. line_ends c.put_moment.new.text.items (codes "at " ++ decimal c.args.t ++ spaced (map string_bytes c.deref.result.now) (the_nodes c.named.result.now)) c.put_moment.ensures.items
+returns-clause-lines c = λ is. line_ends c.put_moment.new.text.items (codes "at " ++ decimal c.args.t ++ spaced (map string_bytes c.deref.result.now) (the_nodes c.named.result.now)) (from_empty _ _ _ c.put_moment.ensures.items c.requires.empty)
 
 pub put_word-requires : goal.put_word-requires
 put_word-requires c =
     let e = c.self.inside.executive in
     let few = named_few (the_network e.net) (the_bounds e.bounds) e.run c.args.t c.named.result.now (c.named.ensures.named ∙ ap (λ (x : ExecParts). x.named) c.in_default.ensures.moved) in
-    record { room = omega (arith, few, c.self.invariant.few, c.requires.room, c.put_moment.ensures.short, c.put_moment.ensures.capacity) }
+    record { room = omega (arith, few, c.self.invariant.few, c.requires.room, c.put_moment.ensures.short, c.put_moment.ensures.capacity, ap length c.requires.empty) }
 
 pub returns-in_default-due-clause-turn : goal.returns-in_default-due-clause-turn
 returns-in_default-due-clause-turn c =
     let e = c.self.inside.executive in
     moment_ends c.args.self.now e c.moment.new.self (map string_bytes c.self.inside.names.items) c.args.t c.put_moment.new.text.items c.put_word.new.text.items c.self.view_is c.in_default.ensures.refused c.in_default.ensures.moved c.in_default-due.ensures.due
-    (moment_text c.self.inside.names.items c.deref.result.now c.args.t c.named.result.now _ _ c.put_moment.ensures.items c.deref.ensures.value (c.named.ensures.named ∙ ap (λ (x : ExecParts). x.named) c.in_default.ensures.moved))
+    (moment_text c.self.inside.names.items c.deref.result.now c.args.t c.named.result.now _ _ (from_empty _ _ _ c.put_moment.ensures.items c.requires.empty) c.deref.ensures.value (c.named.ensures.named ∙ ap (λ (x : ExecParts). x.named) c.in_default.ensures.moved))
     c.put_word.ensures.items

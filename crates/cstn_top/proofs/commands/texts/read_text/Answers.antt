@@ -1,7 +1,5 @@
-use Rattle.std.proofs.Common.{ap, sym, subst, List, ℕ}
+use Rattle.std.proofs.Common.{ap}
 use Rattle.std.specs.Prelude.{Err}
-use Rattle.cstn_reply.specs.Files.{IsContent}
-use Rattle.cstn_reply.proofs.Contents.{is_content, is_there}
 use Rattle.cstn_top.proofs.ByText.{long_text}
 use Rattle.cstn_top.proofs.commands.texts.read_text.Goals as goal
 

@@ -1,21 +1,35 @@
-use Rattle.std.proofs.Common.{List, Bool, map, sym, ap, ◌∙◌}
-use Rattle.std.specs.List.{list_all}
-use Rattle.cstn_net.specs.declared.constraints.Constraint.{Constraint}
-use Rattle.cstn_net.specs.Networks.{Constraint as TheConstraint}
-use Rattle.cstn_net.specs.Read.{the_constraint}
-use Rattle.cstn_tree.specs.Good.{is_met}
+use Rattle.std.proofs.Common.{List, get_or, sym, ap, ◌∙◌}
+use Rattle.std.proofs.lemmas.Bool.{false≢true}
+use Rattle.std.proofs.lemmas.List.{take_all}
+use Rattle.cstn_label.specs.declared.nodes.NodeId.{NodeId}
+use Rattle.cstn_tree.specs.declared.starts.End.{End}
+use Rattle.cstn_tree.specs.Trees.{is_named}
+use Rattle.cstn_tree.specs.Good.{is_kept}
 use Rattle.cstn_tree.specs.Branches.{the_branch, numbers}
-use Rattle.cstn_tree.proofs.BranchLemmas.{met_fails, met_all}
+use Rattle.cstn_tree.specs.Starts.{AllPass}
+use Rattle.cstn_tree.proofs.StartLemmas.{not_met, all_met, named_more, named_here}
 use Rattle.cstn_tree.proofs.branches.Branch.meets.Goals as goal
 
-pub returns-then-not-is_met : goal.returns-then-not-is_met
-returns-then-not-is_met c =
-    let test : TheConstraint → Bool = is_met (the_branch c.args.self.now).placed (the_branch c.args.self.now).asked (numbers c.args.named.now) in
-    let fails = met_fails test c.constraints-c-items.result.now c.loop-c.c-index c.c-item.result c.c-item.is c.loop-c-test.true (sym c.is_met.ensures ∙ c.if-not-is_met.true) in
-    sym (sym (ap (λ (cs : List Constraint). list_all test (map the_constraint cs)) c.constraints-c-items.ensures.constraints) ∙ fails)
+pub loop-x-init : goal.loop-x-init
+loop-x-init c = λ y there. absurd (false≢true there)
+
+pub returns-then-not-meets_both : goal.returns-then-not-meets_both
+returns-then-not-meets_both c =
+    let b = the_branch c.args.self.now in
+    let named = c.args.named.now in
+    let f = c.meets_both.ensures.broken c.if-not-meets_both.true in
+    sym (not_met b.placed b.asked (numbers named) c.args.net.now.constraints f.0 (get_or named c.loop-x.x-index (record { 0 = 0 })).0
+    (named_here named c.loop-x.x-index (record { 0 = 0 }) c.loop-x-test.true) f.1)
+
+pub loop-x-preserved : goal.loop-x-preserved
+loop-x-preserved c =
+    let b = the_branch c.args.self.now in
+    named_more (λ y. (end : End) → AllPass (is_kept b.placed b.asked) end c.args.net.now.constraints y) c.args.named.now c.loop-x.x-index (record { 0 = 0 }) c.loop-x-test.true
+    c.loop-x.invariant (c.meets_both.ensures.kept c.if-not-meets_both.false)
 
 pub returns : goal.returns
 returns c =
-    let test : TheConstraint → Bool = is_met (the_branch c.args.self.now).placed (the_branch c.args.self.now).asked (numbers c.args.named.now) in
-    let all = met_all test c.constraints-c-items.result.now c.loop-c.c-index c.loop-c-test.false c.loop-c.invariant in
-    sym (sym (ap (λ (cs : List Constraint). list_all test (map the_constraint cs)) c.constraints-c-items.ensures.constraints) ∙ all)
+    let b = the_branch c.args.self.now in
+    let named = c.args.named.now in
+    sym (all_met b.placed b.asked (numbers named) c.args.net.now.constraints (λ end y there.
+    c.loop-x.invariant y (ap (λ (xs : List NodeId). is_named y (numbers xs)) (take_all c.loop-x.x-index named c.loop-x-test.false) ∙ there) end))

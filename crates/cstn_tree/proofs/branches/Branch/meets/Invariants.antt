@@ -1,10 +1,10 @@
-use Rattle.std.proofs.Common.{◌≡◌, true, take}
-use Rattle.std.specs.List.{list_all}
-use Rattle.cstn_net.specs.declared.constraints.Constraint.{Constraint}
-use Rattle.cstn_net.specs.Read.{the_constraint}
-use Rattle.cstn_tree.specs.Good.{is_met}
+use Rattle.std.proofs.Common.{ℕ, ◌≡◌, true, take}
+use Rattle.cstn_tree.specs.declared.starts.End.{End}
+use Rattle.cstn_tree.specs.Trees.{is_named}
+use Rattle.cstn_tree.specs.Good.{is_kept}
 use Rattle.cstn_tree.specs.Branches.{the_branch, numbers}
+use Rattle.cstn_tree.specs.Starts.{AllPass}
 use Rattle.cstn_tree.proofs.branches.Branch.meets.Given as goal
 
-abbrev pub invariant-loop-c : goal.invariant-loop-c
-invariant-loop-c l = list_all (λ (c : Constraint). is_met (the_branch l.self).placed (the_branch l.self).asked (numbers l.named) (the_constraint c)) (take l.c-index l.c-items) ≡ true
+abbrev pub invariant-loop-x : goal.invariant-loop-x
+invariant-loop-x l = (y : ℕ) → is_named y (numbers (take l.x-index l.named)) ≡ true → (end : End) → AllPass (is_kept (the_branch l.self).placed (the_branch l.self).asked) end l.net.constraints y

@@ -1,0 +1,35 @@
+-- The places of a list at which bounds mark a proposition.
+use Rattle.std.specs.Prelude.{ℕ, ◌+◌, Bool, true, false, List, [], ◌∷◌, map, Vec}
+use Rattle.std.specs.List.{range_with_len}
+use Rattle.std.specs.declared.alloc.Global.{Global}
+use Rattle.cstn_label.specs.declared.marks.Mark.{Mark}
+use Rattle.cstn_label.specs.declared.marks.Mark.TheVariants.{Absent, Yes, No, Unknown}
+use Rattle.cstn_label.specs.Bounds.{Bound}
+
+abbrev pub is_marked : Mark → Bool
+is_marked Absent = false
+is_marked Yes = true
+is_marked No = true
+is_marked Unknown = true
+
+-- a place is put before others where there is a mark
+abbrev pub put_if : Bool → ℕ → List ℕ → List ℕ
+put_if true k places = k ∷ places
+put_if false k places = places
+
+-- the bounds stand from the place k on: the places of those that mark p, in ascending order
+abbrev pub marking_from : ℕ → ℕ → List Bound → List ℕ
+marking_from p k [] = []
+marking_from p k (b ∷ bounds) = put_if (is_marked (b.label p)) k (marking_from p (k + 1) bounds)
+
+-- those of a whole list
+abbrev pub marking : ℕ → List Bound → List ℕ
+marking p bounds = marking_from p 0 bounds
+
+-- for each of the 52 propositions the places of the bounds that mark it
+abbrev pub markings : List Bound → List (List ℕ)
+markings bounds = map (λ p. marking p bounds) (range_with_len 0 52)
+
+-- the numbers that are held
+abbrev pub items : Vec ℕ Global → List ℕ
+items v = v.items

@@ -1,0 +1,70 @@
+//! The labelled network of a graph.
+
+ghost use Rattle.std.specs.Prelude.{◌≡◌, ℕ, ◌∷◌, length, map, IfOk, IfErr};
+ghost use Rattle.cstn_label.specs.Read.{marks};
+ghost use Rattle.cstn_net.specs.Networks.{count};
+ghost use Rattle.cstn_net.specs.Read.{the_network};
+ghost use Rattle.cstn_lift.specs.declared.errors.LiftError.{LiftError};
+ghost use Rattle.cstn_lift.specs.Faults.{HasFault};
+ghost use Rattle.cstn_lift.specs.Read.{the_labelled};
+ghost use Rattle.cstn_graphml.specs.Answers.{IsLabelRefusal, IsLiftTold};
+ghost use Rattle.cstn_graphml.specs.Labels.{labels_seen, with_labels_of};
+
+use crate::drawn_graph::DrawnGraph;
+use crate::errors::DocError;
+use cstn_label::Label;
+use cstn_lift::{Labelled, LiftError, lift};
+use cstn_net::Network;
+use cstn_text::Names;
+use std::alloc::{AllocError, Global};
+
+/// The names of a graph.
+pub fn names_of(graph: DrawnGraph) -> Names
+    ensures { result ≡ graph.names }
+{
+    graph.names
+}
+
+/// The labels of the time-points, the origin's first.
+fn labels_of(alloc: Global, graph: &DrawnGraph) -> Result<Vec<Label>, AllocError>
+    ensures { IfOk result (λ labels. labels.items ≡ graph.now.origin_label ∷ graph.now.labels.items) }
+{
+    let mut labels = Vec::new(alloc);
+    labels.push(graph.origin_label)?;
+    labels.extend_from_slice(graph.labels.as_slice())?;
+    Ok(labels)
+}
+
+/// How refused labels are told.
+fn refusal(error: LiftError, names: Names) -> DocError
+    ensures { IsLiftTold error names result }
+{
+    match error {
+        LiftError::Memory(e) => DocError::Memory(e),
+        LiftError::OriginLabel => DocError::Lift { error, names },
+        LiftError::NotPlain { node: _ } => DocError::Lift { error, names },
+        LiftError::NotObserved { node: _, prop: _ } => DocError::Lift { error, names },
+        LiftError::Circle { node: _ } => DocError::Lift { error, names },
+        LiftError::Never { node: _ } => DocError::Lift { error, names },
+        LiftError::TooManyConstraints => DocError::Lift { error, names },
+    }
+}
+
+/// The network of a graph with the labels of its time-points, and their names.
+pub fn labelled_of(
+    alloc: Global,
+    network: Network,
+    graph: DrawnGraph,
+) -> Result<(Labelled, Names), DocError>
+    requires one_each { length (labels_seen graph) ≡ count (the_network network) }
+    ensures labelled { IfOk result (λ r. the_labelled r.0 ≡ with_labels_of network graph) }
+    ensures names { IfOk result (λ r. r.1 ≡ graph.names) }
+    ensures faultless { IfOk result (λ _. (e : LiftError) → HasFault (with_labels_of network graph) e → ⊥) }
+    ensures refused { IfErr result (IsLabelRefusal (with_labels_of network graph) graph.names) }
+{
+    let labels = labels_of(alloc, &graph)?;
+    match lift(alloc, network, labels) {
+        Ok(labelled) => Ok((labelled, names_of(graph))),
+        Err(error) => Err(refusal(error, names_of(graph))),
+    }
+}

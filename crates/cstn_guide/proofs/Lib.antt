@@ -1,0 +1,10 @@
+pub mod Holding
+pub mod Deciding
+pub mod Telling
+pub mod Denying
+pub mod Sorting
+pub mod Advancing
+pub mod Timely
+pub mod Refusing
+pub mod Unlabelled
+pub mod Steps

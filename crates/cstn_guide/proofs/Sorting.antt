@@ -1,0 +1,49 @@
+-- A list that is gone through, some of it named and the rest left out.
+use Rattle.std.proofs.Common.{ℕ, zero, suc, ◌≡◌, ◌+◌, ◌<◌, ◌≤◌, Bool, true, false, cond, List, [], ◌∷◌, ◌++◌, length, map, take, arith, refl, sym, ap, ◌∙◌}
+use Rattle.std.specs.Prelude.{slice_index_or}
+use Rattle.std.specs.List.{AllPairs, filter}
+use Rattle.std.proofs.lemmas.Bool.{cond-true, cond-false}
+use Rattle.std.proofs.lemmas.List.{append-nil, get_or-map, length-map, take_more}
+use Rattle.std.proofs.lemmas.List.Elements.{filter-append}
+use Rattle.cstn_label.specs.declared.nodes.NodeId.{NodeId}
+
+pub any_default : (xs : List ℕ) (k d e : ℕ) → k < length xs → slice_index_or xs k d ≡ slice_index_or xs k e
+any_default [] k d e inside = absurd (omega arith)
+any_default (x ∷ xs) zero d e inside = refl
+any_default (x ∷ xs) (suc k) d e inside = any_default xs k d e (omega arith)
+
+-- a name at a place, and the number there
+pub name_at : (ns : List NodeId) (xs : List ℕ) (k : ℕ) (d : NodeId) → map (λ n. n.0) ns ≡ xs → k < length xs →
+    (k < length ns) × (slice_index_or xs k (slice_index_or ns k d).0 ≡ (slice_index_or ns k d).0)
+name_at ns xs k d same inside =
+    let long = length-map ns (λ n. n.0) in
+    let size = ap length same in
+    let here : k < length ns = omega arith in (
+      here,
+      any_default xs k (slice_index_or ns k d).0 d.0 inside
+          ∙ ap (λ l. slice_index_or l k d.0) (sym same) ∙ get_or-map (λ n. n.0) ns k d d.0 here,
+    )
+
+-- the numbers of a list that rises are no lower than their places
+pub place_below : (xs : List ℕ) → AllPairs (λ x y. x < y) xs → (k d : ℕ) → k < length xs → k ≤ slice_index_or xs k d
+place_below xs rises zero d inside = omega arith
+place_below xs rises (suc k) d inside =
+    let before = place_below xs rises k d (omega arith) in
+    let step = rises k (suc k) d (omega arith) inside in
+    omega arith
+
+filter_more : (test : ℕ → Bool) (xs : List ℕ) (k x : ℕ) → k < length xs → slice_index_or xs k x ≡ x →
+    filter test (take (k + 1) xs) ≡ filter test (take k xs) ++ cond (test x) (x ∷ []) []
+filter_more test xs k x inside at =
+    ap (filter test) (take_more xs k x inside ∙ ap (λ y. take k xs ++ y ∷ []) at) ∙ filter-append test (take k xs) (x ∷ [])
+
+pub filter_with : (test : ℕ → Bool) (xs : List ℕ) (k x : ℕ) → k < length xs → slice_index_or xs k x ≡ x → test x ≡ true →
+    filter test (take (k + 1) xs) ≡ filter test (take k xs) ++ x ∷ []
+filter_with test xs k x inside at h =
+    filter_more test xs k x inside at ∙ ap (λ l. filter test (take k xs) ++ l) (cond-true (test x) (x ∷ []) [] h)
+
+pub filter_without : (test : ℕ → Bool) (xs : List ℕ) (k x : ℕ) → k < length xs → slice_index_or xs k x ≡ x → test x ≡ false →
+    filter test (take (k + 1) xs) ≡ filter test (take k xs)
+filter_without test xs k x inside at h =
+    filter_more test xs k x inside at ∙ ap (λ l. filter test (take k xs) ++ l) (cond-false (test x) (x ∷ []) [] h)
+    ∙ append-nil (filter test (take k xs))

@@ -1,0 +1,5 @@
+use Rattle.cstn_guide.proofs.Refusing.{refused_unnamed}
+use Rattle.cstn_guide.proofs.laws.outcomes_are_of_the_named.Goals as goal
+
+pub returns : goal.returns
+returns c = record { refused = λ m g p wf. refused_unnamed m wf g p }

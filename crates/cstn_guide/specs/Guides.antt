@@ -1,0 +1,96 @@
+-- Guides: runs of a lowered network in which those are left out whose completed labels don't hold when their moments come.
+use Rattle.std.specs.Prelude.{ℕ, ◌+◌, Bool, true, false, not, List, [], ◌∷◌, Option, Some, None, replicate, slice_index_or, slice_set, if◌then◌else◌}
+use Rattle.std.specs.List.{filter, list_all, range_with_len}
+use Rattle.cstn_label.specs.declared.marks.Mark.{Mark}
+use Rattle.cstn_label.specs.Labels.{Label}
+use Rattle.cstn_label.specs.Bounds.{Bound}
+use Rattle.cstn_net.specs.Networks.{Network}
+use Rattle.cstn_log.specs.Asked.{fits}
+use Rattle.cstn_lift.specs.Labelled.{Labelled}
+use Rattle.cstn_lift.specs.Completion.{is_marked, completed_label}
+use Rattle.cstn_lift.specs.Lowered.{lowered, observer_of}
+use Rattle.cstn_exec.specs.Runs.{Run, start, executed_at, known, named}
+use Rattle.cstn_exec.specs.Moves.{Refusal, NotExecuted, moved, handed, outcome_refusal}
+
+-- the state of a guide: the run of the lowered network, and of each time-point whether it was left out
+pub record Guided : Type 0 where
+  pub run : Run
+  pub left : List Bool
+
+-- nothing is executed or seen of n time-points
+abbrev pub begun : ℕ → Guided
+begun n = record { run = start n; left = replicate n false }
+
+-- x was left out
+abbrev pub is_left : Guided → ℕ → Bool
+is_left g x = slice_index_or g.left x false
+
+-- the moment at which x was named, if it was: when it was executed, unless it was left out
+abbrev pub named_at : Guided → ℕ → Option ℕ
+named_at g x = if is_left g x then None else executed_at g.run x
+
+-- ---- what holds by what is known
+
+-- the mark is absent, or the value is known and fits it
+abbrev pub fits_surely : Option Bool → Mark → Bool
+fits_surely None a = not (is_marked a)
+fits_surely (Some v) a = fits v a
+
+-- each of the 52 propositions that the label marks is known, with a value that fits
+unfoldable pub holds_by : (ℕ → Option Bool) → Label → Bool
+holds_by values a = list_all (λ p. fits_surely (values p) (a p)) (range_with_len 0 52)
+
+-- the completed label of x holds by what is known at t
+abbrev pub holds_at : Labelled → Run → ℕ → ℕ → Bool
+holds_at m run t x = holds_by (known (lowered m) run (t + 1)) (completed_label m x)
+
+-- ---- moments
+
+-- who is named at t: of those to be executed then, each whose completed label holds by what is known
+abbrev pub told : Labelled → List Bound → Run → ℕ → List ℕ
+told m bounds run t = filter (holds_at m run t) (named (lowered m) bounds run t)
+
+-- who is left out at t: the rest of them
+abbrev pub left_out : Labelled → List Bound → Run → ℕ → List ℕ
+left_out m bounds run t = filter (λ x. not (holds_at m run t x)) (named (lowered m) bounds run t)
+
+-- the run with the outcome false of what is observed, if anything is
+abbrev pub denied : Option ℕ → Run → Run
+denied None run = run
+denied (Some p) run = handed run p false
+
+-- the run with the outcome false of what each of the time-points observes
+abbrev pub all_denied : Network → List ℕ → Run → Run
+all_denied net [] run = run
+all_denied net (x ∷ xs) run = all_denied net xs (denied (slice_index_or net.observes x None) run)
+
+-- with each of the time-points left out
+abbrev pub with_left : List ℕ → List Bool → List Bool
+with_left [] left = left
+with_left (x ∷ xs) left = with_left xs (slice_set left x true)
+
+-- The state after the accepted moment t: the run has moved, and those who are left out are marked so, with the outcome false
+-- of what they observe.
+abbrev pub advanced : Labelled → List Bound → Guided → ℕ → Guided
+advanced m bounds g t = record {
+  run = all_denied (lowered m) (left_out m bounds g.run t) (moved (lowered m) bounds g.run t);
+  left = with_left (left_out m bounds g.run t) g.left;
+}
+
+-- ---- outcomes
+
+abbrev pub is_among : List Bool → Option ℕ → Bool
+is_among left None = false
+is_among left (Some x) = slice_index_or left x false
+
+-- the observer of p was left out
+abbrev pub is_denied : Network → Guided → ℕ → Bool
+is_denied net g p = is_among g.left (observer_of net p)
+
+-- why an outcome of p is refused, if it is: its observer was left out or isn't executed, or an outcome is kept already
+abbrev pub see_refusal : Labelled → Guided → ℕ → Option Refusal
+see_refusal m g p = if is_denied (lowered m) g p then Some (NotExecuted p) else outcome_refusal (lowered m) g.run p
+
+-- the state after the accepted outcome v of p
+abbrev pub noted : Guided → ℕ → Bool → Guided
+noted g p v = record { run = handed g.run p v; left = g.left }

@@ -1,0 +1,4 @@
+pub mod Guides
+pub mod Sound
+pub mod Read
+pub mod Examples

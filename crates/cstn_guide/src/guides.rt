@@ -1,0 +1,171 @@
+ghost use Rattle.std.specs.Prelude.{ℕ, ◌≡◌, ◌≤◌, ◌↔◌, map, None, Some, [], IsNone, IsTrue, IfOk, IfSome, IfNone, OnOk, OnErr};
+ghost use Rattle.std.specs.List.{Contains};
+ghost use Rattle.std.specs.List.Sorted.{IsStrictlyIncreasing};
+ghost use Rattle.cstn_net.specs.Networks.{IsWellFormed, count};
+ghost use Rattle.cstn_net.specs.Strategies.{Table};
+ghost use Rattle.cstn_net.specs.Read.{the_network};
+ghost use Rattle.cstn_log.specs.Plans.{IsEarliest, the_bounds};
+ghost use Rattle.cstn_lift.specs.WellFormed.{IsLabelled};
+ghost use Rattle.cstn_lift.specs.Lowered.{lowered};
+ghost use Rattle.cstn_lift.specs.Read.{the_labelled};
+ghost use Rattle.cstn_exec.specs.Runs.{due};
+ghost use Rattle.cstn_exec.specs.Moves.{moment_refusal};
+ghost use Rattle.cstn_exec.specs.Right.{IsDue, IsDone};
+ghost use Rattle.cstn_exec.specs.Read.{refusal_of};
+ghost use Rattle.cstn_guide.specs.Guides.{begun, is_left, told, advanced, is_denied, see_refusal, noted};
+ghost use Rattle.cstn_guide.specs.Sound.{IsToldAt, IsLeftAt, IsGuided, IsOnTime, IsLed};
+
+mod sorting;
+
+use cstn_exec::{ExecError, Executive};
+use cstn_label::{NodeId, Prop};
+use cstn_lift::Labels;
+use cstn_log::SoundPlan;
+use smallvec::SmallVec;
+use sorting::{Names, sort_out};
+use std::alloc::{AllocError, Global};
+use std::marker::Model;
+
+/// Carries out the plan of a lowered network: takes moments and outcomes one at a time, and names at each moment the time-points
+/// whose least moment it is and whose completed labels hold. The others whose moment it is are left out, and the outcome of
+/// what they observe is false.
+///
+/// All memory is taken by [`Guide::start`].
+#[derive(Drop)]
+pub struct Guide {
+    executive: Executive,
+    labels: Labels,
+    left: Vec<bool>,
+    named: Names,
+}
+
+impl Model for Guide {
+    ghost use Rattle.std.specs.Prelude.{map};
+    ghost use Rattle.cstn_guide.specs.Read.{GuideParts, IsGuide};
+
+    ghost Value = { GuideParts };
+
+    ghost view = { λ g. record { labelled = g.labels; bounds = g.executive.bounds; state = record { run = g.executive.run; left = g.left.items }; named = map (λ x. x.0) g.named.items } };
+
+    ghost invariant = { λ g. IsGuide g.executive.net g.labels (record { run = g.executive.run; left = g.left.items }) g.named.capacity };
+}
+
+impl Guide {
+    /// A guide by the plan, with nothing executed. All room is taken here, also for the longest answer. Fails for want of memory
+    /// alone, and drops the plan and the labels then.
+    pub fn start(alloc: Global, plan: SoundPlan, labels: Labels) -> Result<Guide, AllocError>
+        requires lowered { the_network plan.net ≡ lowered (the_labelled labels) }
+        ensures start { IfOk result (λ g. g ≡ record { labelled = labels; bounds = plan.bounds; state = begun (count (the_labelled labels).base); named = [] }) }
+    {
+        let count = labels.base().count() as usize;
+        let mut left = Vec::with_capacity(alloc, count)?;
+        left.resize(count, false)?;
+        let named = SmallVec::with_capacity(alloc, count)?;
+        let executive = Executive::start(alloc, plan)?;
+        executive.network();
+        Ok(Guide {
+            executive,
+            labels,
+            left,
+            named,
+        })
+    }
+
+    /// The time-points that were named at the last accepted moment, in ascending number.
+    pub fn named(&self) -> &[NodeId]
+        ensures named { map (λ x. x.0) result.now ≡ self.now.named }
+    {
+        self.named.as_slice()
+    }
+
+    /// The labels of the time-points. What the state promises, and that the plan has a strategy with all least moments, is told
+    /// here for laws.
+    pub fn labels(&self) -> &Labels
+        ensures labels { result.now ≡ self.now.labelled }
+        ensures guided { IsGuided (the_labelled self.now.labelled) self.now.state }
+        ensures labelled { IsLabelled (the_labelled self.now.labelled) }
+        ensures well_formed { IsWellFormed (lowered (the_labelled self.now.labelled)) }
+        ensures earliest { (table : Table) × IsEarliest (lowered (the_labelled self.now.labelled)) (the_bounds self.now.bounds) table }
+    {
+        self.is_guided();
+        &self.labels
+    }
+
+    /// The first moment, in ticks, at which an outcome is awaited or a time-point is to be executed or left out; none where this
+    /// is done with all. Nothing may be named then.
+    pub fn due(&self) -> Option<u32>
+        ensures due { result ≡ due (lowered (the_labelled self.now.labelled)) (the_bounds self.now.bounds) self.now.state.run }
+        ensures none { IsNone result ↔ IsDone (lowered (the_labelled self.now.labelled)) self.now.state.run }
+        ensures first { IfSome result (λ t. IsDue (lowered (the_labelled self.now.labelled)) self.now.state.run t) }
+        ensures in_time { IfSome result (λ t. t ≤ (the_labelled self.now.labelled).base.deadline) }
+
+        ensures on_time { IsOnTime (the_labelled self.now.labelled) self.now.state }
+        ensures led { IfNone result (IsLed (the_labelled self.now.labelled) self.now.state) }
+    {
+        self.is_guided();
+        self.executive.due()
+    }
+
+    /// Accepts a moment, in ticks: of the time-points whose least moment it is, those whose completed labels hold by what is
+    /// known are named, which `named` lends, and the others are left out. Refused as [`Executive::moment`] is, with the
+    /// first that applies of `Done`, `Past`, `Awaiting` and `Late`.
+    pub fn moment(&mut self, t: u32) -> Result<(), ExecError>
+        ensures refused { refusal_of result ≡ moment_refusal (lowered (the_labelled self.old.labelled)) (the_bounds self.old.bounds) self.old.state.run t }
+        ensures advanced { OnOk result (self.new ≡ record self.old { state = advanced (the_labelled self.old.labelled) (the_bounds self.old.bounds) self.old.state t; named = told (the_labelled self.old.labelled) (the_bounds self.old.bounds) self.old.state.run t }) }
+        ensures same { OnErr result (self.new ≡ self.old) }
+
+        ensures named { OnOk result ((x : ℕ) → Contains self.new.named x ↔ IsToldAt (the_labelled self.old.labelled) self.old.state.run t x) }
+        ensures ascending { OnOk result (IsStrictlyIncreasing self.new.named) }
+        ensures left { OnOk result ((x : ℕ) → IsLeftAt (the_labelled self.old.labelled) self.old.state.run t x → IsTrue (is_left self.new.state x)) }
+        ensures on_time { IsOnTime (the_labelled self.old.labelled) self.new.state }
+    {
+        self.is_guided();
+        let known = self.executive.known(t);
+        if let Err(refusal) = self.executive.moment(t) {
+            return Err(refusal);
+        }
+        sort_out(
+            &mut self.executive,
+            &mut self.left,
+            &mut self.named,
+            &self.labels,
+            &known,
+        );
+        Ok(())
+    }
+
+    /// Keeps the outcome of a proposition. Refused with the first that applies of `NotExecuted`, also where the observer was left
+    /// out, and `Known`.
+    pub fn see(&mut self, p: Prop, value: bool) -> Result<(), ExecError>
+        ensures refused { refusal_of result ≡ see_refusal (the_labelled self.old.labelled) self.old.state p.index }
+        ensures noted { OnOk result (self.new ≡ record self.old { state = noted self.old.state p.index value }) }
+        ensures same { OnErr result (self.new ≡ self.old) }
+        ensures on_time { IsOnTime (the_labelled self.old.labelled) self.new.state }
+    {
+        self.is_guided();
+        if self.is_denied(p) {
+            return Err(ExecError::NotExecuted { prop: p });
+        }
+        self.executive.see(p, value)
+    }
+
+    // Whether the observer of p was left out.
+    fn is_denied(&self, p: Prop) -> bool
+        ensures { result ≡ is_denied (lowered (the_labelled self.now.labelled)) self.now.state p.index }
+    {
+        match self.labels.base().observer(p) {
+            Some(x) => self.left[x.index()],
+            None => false,
+        }
+    }
+
+    // The state is right, and the plan has its strategy.
+    fn is_guided(&self)
+        ensures guided { IsGuided (the_labelled self.now.labelled) self.now.state }
+        ensures labelled { IsLabelled (the_labelled self.now.labelled) }
+        ensures well_formed { IsWellFormed (lowered (the_labelled self.now.labelled)) }
+        ensures earliest { (table : Table) × IsEarliest (lowered (the_labelled self.now.labelled)) (the_bounds self.now.bounds) table }
+    {
+        self.executive.network();
+    }
+}

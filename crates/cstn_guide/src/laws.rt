@@ -1,0 +1,68 @@
+// Laws of guides.
+ghost use Rattle.std.specs.Prelude.{ℕ, ◌≡◌, ◌<◌, ◌+◌, ◌↔◌, ◌⊎◌, true, Bool, List, Option, Some, None};
+ghost use Rattle.std.specs.List.{Contains};
+ghost use Rattle.std.specs.List.Sorted.{IsStrictlyIncreasing};
+ghost use Rattle.cstn_label.specs.Bounds.{Bound};
+ghost use Rattle.cstn_label.specs.Labels.{Label, empty};
+ghost use Rattle.cstn_net.specs.Networks.{IsWellFormed, Observes, count};
+ghost use Rattle.cstn_net.specs.Strategies.{Table};
+ghost use Rattle.cstn_log.specs.Plans.{IsEarliest};
+ghost use Rattle.cstn_lift.specs.Labelled.{Labelled, label_of};
+ghost use Rattle.cstn_lift.specs.Completion.{completed_label};
+ghost use Rattle.cstn_lift.specs.WellFormed.{IsLabelled};
+ghost use Rattle.cstn_lift.specs.Lowered.{lowered};
+ghost use Rattle.cstn_exec.specs.Runs.{Run, executed_at, known, named};
+ghost use Rattle.cstn_exec.specs.Moves.{NotExecuted, moment_refusal, moved, outcome_refusal};
+ghost use Rattle.cstn_exec.specs.Right.{IsRight, IsDone};
+ghost use Rattle.cstn_guide.specs.Guides.{Guided, begun, named_at, holds_by, told, left_out, advanced, see_refusal, noted};
+ghost use Rattle.cstn_guide.specs.Sound.{HoldsBy, IsRuledOut, IsToldAt, IsLeftAt, IsGuided, IsOnTime, IsLed};
+ghost use Rattle.cstn_guide.specs.Examples.{guide_answers, treatment, treatment_plan, needed_events, needed_answers, spared_events, spared_answers, second_test, second_test_plan, no_second_test_events, no_second_test_answers, second_test_events, second_test_answers};
+
+/// The state with nothing executed is right, and accepted moments and outcomes keep a state right.
+pub fn guides_stay_right()
+    ensures begun { (m : Labelled) (bounds : List Bound) (table : Table) → IsLabelled m → IsWellFormed (lowered m) → IsEarliest (lowered m) bounds table → IsGuided m (begun (count m.base)) }
+    ensures advanced { (m : Labelled) (bounds : List Bound) (table : Table) (g : Guided) (t : ℕ) → IsLabelled m → IsWellFormed (lowered m) → IsEarliest (lowered m) bounds table → IsGuided m g → moment_refusal (lowered m) bounds g.run t ≡ None → IsGuided m (advanced m bounds g t) }
+    ensures noted { (m : Labelled) (g : Guided) (p : ℕ) (v : Bool) → IsLabelled m → IsWellFormed (lowered m) → IsGuided m g → see_refusal m g p ≡ None → p < 52 → IsGuided m (noted g p v) }
+{}
+
+/// What was known when a time-point was executed in a right run of the lowered network decides its completed label: it holds by
+/// it, or is ruled out.
+pub fn holding_is_decided()
+    ensures decided { (m : Labelled) (bounds : List Bound) (table : Table) (run : Run) (x t : ℕ) → IsLabelled m → IsWellFormed (lowered m) → IsEarliest (lowered m) bounds table → IsRight (lowered m) run → executed_at run x ≡ Some t → HoldsBy (known (lowered m) run (t + 1)) (completed_label m x) ⊎ IsRuledOut (known (lowered m) run (t + 1)) (completed_label m x) }
+    ensures holds { (m : Labelled) (values : ℕ → Option Bool) (x : ℕ) → IsLabelled m → (holds_by values (completed_label m x) ≡ true ↔ HoldsBy values (completed_label m x)) }
+{}
+
+/// An accepted moment names exactly the time-points whose least moment it is by what is known and whose completed labels hold by
+/// it, and leaves out exactly those of them whose completed labels are ruled out; each once, in ascending number.
+pub fn the_told_are_called()
+    ensures told { (m : Labelled) (bounds : List Bound) (table : Table) (g : Guided) (t : ℕ) → IsLabelled m → IsWellFormed (lowered m) → IsEarliest (lowered m) bounds table → IsGuided m g → moment_refusal (lowered m) bounds g.run t ≡ None → (x : ℕ) → Contains (told m bounds g.run t) x ↔ IsToldAt m g.run t x }
+    ensures left { (m : Labelled) (bounds : List Bound) (table : Table) (g : Guided) (t : ℕ) → IsLabelled m → IsWellFormed (lowered m) → IsEarliest (lowered m) bounds table → IsGuided m g → moment_refusal (lowered m) bounds g.run t ≡ None → (x : ℕ) → Contains (left_out m bounds g.run t) x ↔ IsLeftAt m g.run t x }
+    ensures ascending { (m : Labelled) (bounds : List Bound) (run : Run) (t : ℕ) → IsStrictlyIncreasing (told m bounds run t) }
+{}
+
+/// Each named time-point is at its least moment in every scenario that agrees with the outcomes that were handed in and are
+/// known, and whoever was left out isn't executed in any. Once all is done, the named moments are those of one labelled strategy.
+pub fn guides_are_on_time()
+    ensures on_time { (m : Labelled) (bounds : List Bound) (table : Table) (g : Guided) → IsLabelled m → IsWellFormed (lowered m) → IsEarliest (lowered m) bounds table → IsGuided m g → IsOnTime m g }
+    ensures led { (m : Labelled) (bounds : List Bound) (table : Table) (g : Guided) → IsLabelled m → IsWellFormed (lowered m) → IsEarliest (lowered m) bounds table → IsGuided m g → IsDone (lowered m) g.run → IsLed m g }
+{}
+
+/// An outcome is refused as not observed exactly where nobody who was named observes the proposition.
+pub fn outcomes_are_of_the_named()
+    ensures refused { (m : Labelled) (g : Guided) (p : ℕ) → IsWellFormed (lowered m) → (see_refusal m g p ≡ Some (NotExecuted p) ↔ ((x : ℕ) → Observes (lowered m) x p → named_at g x ≡ None)) }
+{}
+
+/// Where no time-point has a label, a guide names everybody, leaves nobody out, and refuses what the executive refuses.
+pub fn unlabelled_guides_are_executives()
+    ensures told { (m : Labelled) (bounds : List Bound) (run : Run) (t : ℕ) → IsLabelled m → ((x : ℕ) → x < count m.base → label_of m x ≡ empty) → told m bounds run t ≡ named (lowered m) bounds run t }
+    ensures advanced { (m : Labelled) (bounds : List Bound) (g : Guided) (t : ℕ) → IsLabelled m → ((x : ℕ) → x < count m.base → label_of m x ≡ empty) → advanced m bounds g t ≡ record { run = moved (lowered m) bounds g.run t; left = g.left } }
+    ensures see { (m : Labelled) (g : Guided) (p : ℕ) → IsLabelled m → ((x : ℕ) → x < count m.base → label_of m x ≡ empty) → IsGuided m g → see_refusal m g p ≡ outcome_refusal (lowered m) g.run p }
+{}
+
+/// What is answered while small plans of labelled networks are carried out.
+pub fn guide_answers_are_known()
+    ensures needed { guide_answers treatment treatment_plan needed_events ≡ needed_answers }
+    ensures spared { guide_answers treatment treatment_plan spared_events ≡ spared_answers }
+    ensures second_test { guide_answers second_test second_test_plan second_test_events ≡ second_test_answers }
+    ensures no_second_test { guide_answers second_test second_test_plan no_second_test_events ≡ no_second_test_answers }
+{}

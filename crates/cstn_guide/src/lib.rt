@@ -1,0 +1,15 @@
+//! The guide: carries out the plan of a lowered network by the labels of the time-points, and names at each moment those whose
+//! least moment it is and whose labels hold.
+#![tactic(auto)]
+
+mod guides;
+mod laws;
+
+pub use guides::Guide;
+pub use laws::{
+    guide_answers_are_known, guides_are_on_time, guides_stay_right, holding_is_decided,
+    outcomes_are_of_the_named, the_told_are_called, unlabelled_guides_are_executives,
+};
+
+#[cfg(test)]
+mod tests;

@@ -1,0 +1,95 @@
+// The tree of a yes.
+ghost use Rattle.std.specs.Prelude.{ℕ, ◌≡◌, ◌≤◌, ◌++◌, List, IfOk, IsErrOf, Some, length, codes, decimal};
+ghost use Rattle.cstn_net.specs.Networks.{IsWellFormed, count};
+ghost use Rattle.cstn_net.specs.Read.{the_network};
+ghost use Rattle.cstn_check.specs.Growth.{log_of, load_of, live_bounds};
+ghost use Rattle.cstn_check.specs.declared.verdicts.Verdict.TheVariants.{Yes};
+ghost use Rattle.cstn_reply.specs.Plans.{say, IsTreeText, IsOutput};
+ghost use Rattle.cstn_reply.specs.Read.{the_said};
+ghost use Rattle.cstn_strategy.specs.Unfolded.{observed, unfolded};
+
+use cstn_check::{Check, growth_ends};
+use cstn_exec::Executive;
+use cstn_label::NodeId;
+use cstn_net::Network;
+use cstn_reply::{Outcome, Refused, Said};
+use cstn_text::Names;
+use cstn_tree::{make, print};
+use cstn_verdict::{Decided, decide};
+use std::alloc::Global;
+
+// A tree is made for no more observed propositions: with each one it may have twice as many branches.
+const MOST_OBSERVED: u16 = 10;
+
+/// Says what the executive of a network does, as a tree, where the network's log, which may have `cap` entries, answers yes; after
+/// no what refutes the network. Where more than 10 propositions are observed it says how many, and decides nothing.
+pub fn unfold(alloc: Global, network: Network, names: &Names, cap: u32) -> Result<Said, Refused>
+    requires some { 1 ≤ cap }
+    requires most { cap ≤ 4194304 }
+    requires well_formed { IsWellFormed (the_network network) }
+    requires named { length names.now ≡ count (the_network network) }
+    ensures said { (live : List ℕ) → IfOk result (λ said. IsOutput (unfolded cap names.now (the_network network)) live (the_said said)) }
+    ensures fault { IsErrOf result Refused.ReadFault → ⊥ }
+{
+    let observed = observed(&network);
+    if observed > MOST_OBSERVED {
+        return wide(alloc, observed);
+    }
+    growth_ends();
+    match decide(alloc, network, names, cap) {
+        Ok(Decided::Yes { load, check }) => tell(alloc, load, check, names),
+        Ok(Decided::Told(said)) => Ok(said),
+        Err(refused) => Err(refused),
+    }
+}
+
+// How many propositions are observed.
+fn observed(network: &Network) -> u16
+    ensures { result ≡ observed (the_network network.now) }
+{
+    let mut observed = 0;
+    for x in 0..network.count() {
+        if network.observes(NodeId(x)).is_some() {
+            observed += 1;
+        }
+    }
+    observed
+}
+
+fn wide(alloc: Global, observed: u16) -> Result<Said, Refused>
+    ensures said { IfOk result (λ said. the_said said ≡ say Outcome.Wide (codes "wide " ++ decimal observed)) }
+    ensures fault { IsErrOf result Refused.ReadFault → ⊥ }
+{
+    let Ok(text) = format!(in alloc; "wide {observed}\n") else {
+        return Err(Refused::Memory);
+    };
+    Ok(Said {
+        outcome: Outcome::Wide,
+        text: text.into_bytes(),
+    })
+}
+
+// The tree of what the executive does by the plan that a yes leaves.
+fn tell(alloc: Global, load: u32, check: Check, names: &Names) -> Result<Said, Refused>
+    requires yes { (l : ℕ) × (check.verdict ≡ Some (Yes l)) }
+    requires low { 1 ≤ load }
+    requires high { load ≤ 4194304 }
+    requires named { length names.now ≡ count (the_network check.net) }
+    ensures said { IfOk result (λ said. IsTreeText names.now load (live_bounds (log_of (the_network check.net))) (the_network check.net) (the_said said)) }
+    ensures fault { IsErrOf result Refused.ReadFault → ⊥ }
+{
+    let Ok(mut exec) = Executive::start(alloc, check.into_plan()) else {
+        return Err(Refused::Memory);
+    };
+    let Ok(tree) = make(alloc, &mut exec) else {
+        return Err(Refused::Memory);
+    };
+    tree.lines();
+    let Ok(text) = print(alloc, &tree, load, names) else {
+        return Err(Refused::Memory);
+    };
+    Ok(Said {
+        outcome: Outcome::Good,
+        text: text.into_bytes(),
+    })
+}

@@ -1,0 +1,246 @@
+-- The text of each output stands for its answer.
+use Rattle.std.proofs.Common.{◌≡◌, ℕ, ◌≤◌, Bool, true, false, List, [], length, map, refl, sym, ap, subst, ◌∙◌, inl, inr, arith}
+use Rattle.std.specs.Prelude.{◌⊎◌, nat_lt, if◌then◌else◌, get_or, Option, Some, Result, Ok, Err, IsSomeAnd, IsNone}
+use Rattle.std.proofs.lemmas.List.{length-map}
+use Rattle.cstn_io.specs.Contents.{IsAllOf, with_bytes}
+use Rattle.cstn_net.specs.Networks.{Network, IsWellFormed, count}
+use Rattle.cstn_net.specs.Strategies.{IsConsistent}
+use Rattle.cstn_graphml.specs.Results.{Refusal as DocumentRefusal}
+use Rattle.cstn_graphml.specs.Document.{Parts, document}
+use Rattle.cstn_graphml.specs.Networks.{observed_prop, network_of}
+use Rattle.cstn_check.specs.Growth.{is_refuted, log_of, load_of, live_bounds}
+use Rattle.cstn_check.specs.declared.verdicts.Verdict.TheVariants.{Yes, No, Full as IsFullVerdict}
+use Rattle.cstn_check.proofs.Decides.{log_decides}
+use Rattle.cstn_closed.specs.Texts.{shown as shown_bounds}
+use Rattle.cstn_words.specs.Requests.{Asked, Request, check, run, edit, closed, tight, conflict, tree, save, replay, closedcheck, treecheck, drill, host}
+use Rattle.cstn_words.specs.Read.{IsCapped, the_request}
+use Rattle.cstn_words.specs.declared.words.Request.{Request as RequestWords}
+use Rattle.cstn_words.specs.declared.words.Request.TheVariants.{Check, Run, Edit, Closed, Tight, Conflict, Tree, Save, Replay, Closedcheck, Treecheck, Drill, Host}
+use Rattle.cstn_reply.specs.Plans.{Said, Plan, AreUnlabelled, IsOutput, Live, IsText, is_output, is_file_fault, is_live_fault, is_memory, IsWritten}
+use Rattle.cstn_reply.specs.Statuses.{status_of}
+use Rattle.cstn_reply.specs.Texts.{yes_line}
+use Rattle.cstn_reply.specs.declared.output.Outcome.{Outcome}
+use Rattle.cstn_reply.specs.declared.output.Outcome.TheVariants.{Good, Bad, Words, Document, Full, Unfinished, Script, Wide}
+use Rattle.cstn_reply.specs.declared.status.Status.{Status}
+use Rattle.cstn_verdict.specs.Documents.{Answer, HasNetwork, IsRefused, on_document, parts_of}
+use Rattle.cstn_verdict.specs.Verdicts.{verdict, on_verdict, checked}
+use Rattle.cstn_exec.specs.Runs.{start}
+use Rattle.cstn_talk.specs.Running.{run_turn, run_ending, carried_out}
+use Rattle.cstn_text.specs.PrintedNames.{printed_name}
+use Rattle.cstn_reply.specs.Sessions.{session}
+use Rattle.cstn_evidence.specs.Accepted.{IsYesText, IsNoText, IsTightText, IsConflictText}
+use Rattle.cstn_evidence.specs.Bounds.{listed}
+use Rattle.cstn_evidence.specs.Blame.{blamed}
+use Rattle.cstn_evidence.specs.Tight.{tightened}
+use Rattle.cstn_top.specs.Outputs.{plan_at}
+use Rattle.cstn_top.specs.Meanings.{HoldsOf, IsStopped}
+use Rattle.cstn_top.specs.Evidence.{IsEvidence, WroteEvidence}
+use Rattle.cstn_evidence.proofs.DocumentNames.{document_names}
+use Rattle.cstn_evidence.proofs.Standing.{YesAccepted, NoAccepted, IsOfDocument, Stands, StandsFor, not_above, never_decided, verdict_stands, tight_stands, conflict_stands}
+use Rattle.cstn_top.proofs.Edited.{document_named}
+use Rattle.cstn_top.proofs.Documents.{document_says}
+use Rattle.cstn_top.proofs.Meanings.{RunTells, run_tells}
+use Rattle.cstn_evidence.proofs.ReadBack.{numbered_ids}
+use Rattle.cstn_top.proofs.Endings.{Answered}
+
+document_then : (bytes : List ℕ) (deadline : Option ℕ) (one other : List (List ℕ) → Network → Type 0) → HasNetwork bytes deadline one → ((names : List (List ℕ)) (net : Network) → IsOfDocument names net → one names net → other names net) → HasNetwork bytes deadline other
+document_then bytes deadline one other has follows = by_result (document bytes deadline) refl has
+  where
+    by_result : (told : Result Parts DocumentRefusal) → document bytes deadline ≡ told → IsSomeAnd (parts_of told) (λ parts. AreUnlabelled parts × one parts.names (network_of parts)) → IsSomeAnd (parts_of told) (λ parts. AreUnlabelled parts × other parts.names (network_of parts))
+    by_result (Err refusal) is h = h
+    by_result (Ok parts) is h =
+        let good : IsWellFormed (network_of parts) = h.0.0.well_formed in
+        let named : length parts.names ≡ count (network_of parts) = document_named bytes deadline parts is ∙ sym (length-map parts.observes observed_prop) in (
+          h.0,
+          follows parts.names (network_of parts)
+              (record {
+                good = good;
+                named = named;
+                are = document_names bytes deadline parts is (omega (arith, good.few_points, named));
+                ids = numbered_ids 0 parts.constraints (omega (arith, good.few_constraints));
+              })
+              h.1,
+        )
+
+-- a run after yes doesn't end with a no
+run_yes : (cap : ℕ) (net : Network) (o : Outcome) (X : Type 0) → IsConsistent net → RunTells cap net o → Stands o (Unit {0}) X
+run_yes cap net Good X consistent told = tt
+run_yes cap net Bad X consistent told = absurd (told.0 consistent)
+run_yes cap net Words X consistent told = tt
+run_yes cap net Document X consistent told = tt
+run_yes cap net Full X consistent told = tt
+run_yes cap net Unfinished X consistent told = tt
+run_yes cap net Script X consistent told = tt
+run_yes cap net Wide X consistent told = tt
+
+run_stands : NoAccepted → (cap : ℕ) (names : List (List ℕ)) (net : Network) (live : List ℕ) (said : Said) → IsOfDocument names net → cap ≤ 4194304 →
+    IsOutput (carried_out cap names net) live said → StandsFor (λ text. Unit {0}) (IsNoText names net) said
+run_stands no_text cap names net live said is capped output = by_tests (nat_lt cap (load_of net)) (is_refuted net (log_of net)) refl refl
+  where
+    good : IsWellFormed net
+    good = is.good
+
+    verdict_is : (above refuted : Bool) → nat_lt cap (load_of net) ≡ above → is_refuted net (log_of net) ≡ refuted → verdict cap net ≡ (if above then IsFullVerdict else if refuted then No (load_of net) else Yes (load_of net))
+    verdict_is above refuted over no' =
+        ap (λ (b : Bool). if b then IsFullVerdict else if is_refuted net (log_of net) then No (load_of net) else Yes (load_of net)) over
+        ∙ ap (λ (b : Bool). if above then IsFullVerdict else if b then No (load_of net) else Yes (load_of net)) no'
+
+    after_yes : Plan
+    after_yes = session (run_turn (map printed_name names) net (live_bounds (log_of net))) (run_ending net (live_bounds (log_of net))) (yes_line (load_of net)) (start (count net))
+
+    plan_is : (after : Plan) (above refuted : Bool) → nat_lt cap (load_of net) ≡ above → is_refuted net (log_of net) ≡ refuted → IsOutput (on_verdict cap names net after (verdict cap net)) live said → IsOutput (on_verdict cap names net after (if above then IsFullVerdict else if refuted then No (load_of net) else Yes (load_of net))) live said
+    plan_is after above refuted over no' out = subst (λ v. IsOutput (on_verdict cap names net after v) live said) (verdict_is above refuted over no') out
+
+    by_tests : (above refuted : Bool) → nat_lt cap (load_of net) ≡ above → is_refuted net (log_of net) ≡ refuted → StandsFor (λ text. Unit {0}) (IsNoText names net) said
+    by_tests true refuted over no' = subst (StandsFor (λ text. Unit {0}) (IsNoText names net)) (sym (plan_is after_yes true refuted over no' output)) tt
+    by_tests false true over no' =
+        subst (StandsFor (λ text. Unit {0}) (IsNoText names net)) (sym (plan_is after_yes false true over no' output))
+        (no_text names net good is.are is.named is.ids (omega (arith, not_above cap (load_of net) over, capped)) (never_decided net good no'))
+    by_tests false false over no' = run_yes cap net said.outcome (IsNoText names net said.text) ((log_decides net good.network good.letters).1 no') (run_tells cap names net live said good output)
+
+-- how many entries the log of a request may have, where its text is told
+abbrev pub IsRanged : Request → Type 0
+IsRanged (check asked cap) = cap ≤ 4194304
+IsRanged (run asked cap) = cap ≤ 4194304
+IsRanged (closed asked cap) = cap ≤ 4194304
+IsRanged (tight asked cap) = cap ≤ 4194304
+IsRanged (conflict asked cap) = cap ≤ 4194304
+IsRanged request = Unit {0}
+
+pub capped_ranged : (r : RequestWords) → IsCapped r → IsRanged (the_request r)
+capped_ranged (Check asked cap) capped = capped.1
+capped_ranged (Run asked cap) capped = capped.1
+capped_ranged (Closed asked cap) capped = capped.1
+capped_ranged (Tight asked cap) capped = capped.1
+capped_ranged (Conflict asked cap) capped = capped.1
+capped_ranged (Edit asked cap) capped = tt
+capped_ranged (Tree asked cap) capped = tt
+capped_ranged (Save asked) capped = tt
+capped_ranged (Replay asked proof) capped = tt
+capped_ranged (Closedcheck asked proof) capped = tt
+capped_ranged (Treecheck asked proof) capped = tt
+capped_ranged (Drill number) capped = tt
+capped_ranged (Host files deadline cap) capped = tt
+
+-- what is said of a document stands for it
+on_network : (answer : Answer) (bytes : List ℕ) (deadline : Option ℕ) (live : List ℕ) (said : Said) (shown : List (List ℕ) → Network → Said → Type 0) (right : Said → Type 0) →
+    (said.outcome ≡ Document → right said) → ((names : List (List ℕ)) (net : Network) → IsOfDocument names net → IsOutput (answer names net) live said → shown names net said) →
+    (HasNetwork bytes deadline (λ names net. shown names net said) → right said) → IsOutput (on_document answer bytes deadline) live said → right said
+on_network answer bytes deadline live said shown right refused each so output = by_said (document_says answer bytes deadline live said output)
+  where
+    by_said : ((said.outcome ≡ Document) × IsRefused bytes deadline) ⊎ HasNetwork bytes deadline (λ names net. IsOutput (answer names net) live said) → right said
+    by_said (inl is) = refused is.0
+    by_said (inr has) = so (document_then bytes deadline (λ names net. IsOutput (answer names net) live said) (λ names net. shown names net said) has each)
+
+check_shown : (asked : Asked) (cap : ℕ) (contents : List (List ℕ)) (o : Outcome) (text : List ℕ) → HasNetwork (get_or contents 0 []) asked.deadline (λ names net. Stands o (Unit {0}) (IsNoText names net text)) → IsEvidence (check asked cap) (status_of o) text contents
+check_shown asked cap contents Good text has = tt
+check_shown asked cap contents Bad text has = has
+check_shown asked cap contents Words text has = tt
+check_shown asked cap contents Document text has = tt
+check_shown asked cap contents Full text has = tt
+check_shown asked cap contents Unfinished text has = tt
+check_shown asked cap contents Script text has = tt
+check_shown asked cap contents Wide text has = tt
+
+run_shown : (asked : Asked) (cap : ℕ) (contents : List (List ℕ)) (o : Outcome) (text : List ℕ) → HasNetwork (get_or contents 0 []) asked.deadline (λ names net. Stands o (Unit {0}) (IsNoText names net text)) → IsEvidence (run asked cap) (status_of o) text contents
+run_shown asked cap contents Good text has = tt
+run_shown asked cap contents Bad text has = has
+run_shown asked cap contents Words text has = tt
+run_shown asked cap contents Document text has = tt
+run_shown asked cap contents Full text has = tt
+run_shown asked cap contents Unfinished text has = tt
+run_shown asked cap contents Script text has = tt
+run_shown asked cap contents Wide text has = tt
+
+closed_shown : (asked : Asked) (cap : ℕ) (contents : List (List ℕ)) (o : Outcome) (text : List ℕ) → HasNetwork (get_or contents 0 []) asked.deadline (λ names net. Stands o (IsYesText names net text) (IsNoText names net text)) → IsEvidence (closed asked cap) (status_of o) text contents
+closed_shown asked cap contents Good text has = has
+closed_shown asked cap contents Bad text has = has
+closed_shown asked cap contents Words text has = tt
+closed_shown asked cap contents Document text has = tt
+closed_shown asked cap contents Full text has = tt
+closed_shown asked cap contents Unfinished text has = tt
+closed_shown asked cap contents Script text has = tt
+closed_shown asked cap contents Wide text has = tt
+
+tight_shown : (asked : Asked) (cap : ℕ) (contents : List (List ℕ)) (o : Outcome) (text : List ℕ) → HasNetwork (get_or contents 0 []) asked.deadline (λ names net. Stands o (IsTightText names net text) (IsNoText names net text)) → IsEvidence (tight asked cap) (status_of o) text contents
+tight_shown asked cap contents Good text has = has
+tight_shown asked cap contents Bad text has = has
+tight_shown asked cap contents Words text has = tt
+tight_shown asked cap contents Document text has = tt
+tight_shown asked cap contents Full text has = tt
+tight_shown asked cap contents Unfinished text has = tt
+tight_shown asked cap contents Script text has = tt
+tight_shown asked cap contents Wide text has = tt
+
+conflict_shown : (asked : Asked) (cap : ℕ) (contents : List (List ℕ)) (o : Outcome) (text : List ℕ) → HasNetwork (get_or contents 0 []) asked.deadline (λ names net. Stands o (Unit {0}) (IsConflictText names net text)) → IsEvidence (conflict asked cap) (status_of o) text contents
+conflict_shown asked cap contents Good text has = tt
+conflict_shown asked cap contents Bad text has = has
+conflict_shown asked cap contents Words text has = tt
+conflict_shown asked cap contents Document text has = tt
+conflict_shown asked cap contents Full text has = tt
+conflict_shown asked cap contents Unfinished text has = tt
+conflict_shown asked cap contents Script text has = tt
+conflict_shown asked cap contents Wide text has = tt
+
+-- each output is evidence
+output_evidence : YesAccepted → NoAccepted → (request : Request) (contents : List (List ℕ)) (live : List ℕ) (said : Said) → IsRanged request → IsOutput (plan_at request contents) live said → IsEvidence request (status_of said.outcome) said.text contents
+output_evidence yes_text no_text (check asked cap) contents live said capped output =
+    on_network (checked cap) (get_or contents 0 []) asked.deadline live said (λ names net s. StandsFor (λ text. Unit {0}) (IsNoText names net) s) (λ s. IsEvidence (check asked cap) (status_of s.outcome) s.text contents)
+    (λ is. subst (λ (o : Outcome). IsEvidence (check asked cap) (status_of o) said.text contents) (sym is) tt)
+    (λ names net is out. verdict_stands yes_text no_text cap names net (yes_line (load_of net)) live said (λ text. Unit {0}) is capped (λ below consistent. tt) out)
+    (check_shown asked cap contents said.outcome said.text) output
+output_evidence yes_text no_text (run asked cap) contents live said capped output =
+    on_network (carried_out cap) (get_or contents 0 []) asked.deadline live said (λ names net s. StandsFor (λ text. Unit {0}) (IsNoText names net) s) (λ s. IsEvidence (run asked cap) (status_of s.outcome) s.text contents)
+    (λ is. subst (λ (o : Outcome). IsEvidence (run asked cap) (status_of o) said.text contents) (sym is) tt)
+    (λ names net is out. run_stands no_text cap names net live said is capped out)
+    (run_shown asked cap contents said.outcome said.text) output
+output_evidence yes_text no_text (closed asked cap) contents live said capped output =
+    on_network (listed cap) (get_or contents 0 []) asked.deadline live said (λ names net s. StandsFor (IsYesText names net) (IsNoText names net) s) (λ s. IsEvidence (closed asked cap) (status_of s.outcome) s.text contents)
+    (λ is. subst (λ (o : Outcome). IsEvidence (closed asked cap) (status_of o) said.text contents) (sym is) tt)
+    (λ names net is out. verdict_stands yes_text no_text cap names net (shown_bounds names (load_of net) (live_bounds (log_of net))) live said (IsYesText names net) is capped
+    (λ below consistent. yes_text names net is.good is.are is.named (omega (arith, below, capped)) consistent) out)
+    (closed_shown asked cap contents said.outcome said.text) output
+output_evidence yes_text no_text (tight asked cap) contents live said capped output =
+    on_network (tightened cap) (get_or contents 0 []) asked.deadline live said (λ names net s. StandsFor (IsTightText names net) (IsNoText names net) s) (λ s. IsEvidence (tight asked cap) (status_of s.outcome) s.text contents)
+    (λ is. subst (λ (o : Outcome). IsEvidence (tight asked cap) (status_of o) said.text contents) (sym is) tt)
+    (λ names net is out. tight_stands yes_text no_text cap names net live said is capped out)
+    (tight_shown asked cap contents said.outcome said.text) output
+output_evidence yes_text no_text (conflict asked cap) contents live said capped output =
+    on_network (blamed cap) (get_or contents 0 []) asked.deadline live said (λ names net s. StandsFor (λ text. Unit {0}) (IsConflictText names net) s) (λ s. IsEvidence (conflict asked cap) (status_of s.outcome) s.text contents)
+    (λ is. subst (λ (o : Outcome). IsEvidence (conflict asked cap) (status_of o) said.text contents) (sym is) tt)
+    (λ names net is out. conflict_stands yes_text no_text cap names net live said is capped out)
+    (conflict_shown asked cap contents said.outcome said.text) output
+output_evidence yes_text no_text (edit asked cap) contents live said capped output = tt
+output_evidence yes_text no_text (tree asked cap) contents live said capped output = tt
+output_evidence yes_text no_text (save asked) contents live said capped output = tt
+output_evidence yes_text no_text (replay asked proof) contents live said capped output = tt
+output_evidence yes_text no_text (closedcheck asked proof) contents live said capped output = tt
+output_evidence yes_text no_text (treecheck asked proof) contents live said capped output = tt
+output_evidence yes_text no_text (drill number) contents live said capped output = tt
+output_evidence yes_text no_text (host files deadline cap) contents live said capped output = tt
+
+-- what was written of an output, unless the call was stopped
+abbrev WroteOutput : Plan → Live → Option (List ℕ) → Option (List ℕ) → Status → Type 0
+WroteOutput plan before old new status = (live : List ℕ) × IsAllOf before.left live × ((said : Said) × IsOutput plan live said × (status ≡ status_of said.outcome) × (new ≡ with_bytes old said.text))
+
+output_wrote : (plan : Plan) (before after : Live) (old new : Option (List ℕ)) (status result : Status) (text : List ℕ) → IsText plan before after status text → IsWritten old new text status result → WroteOutput plan before old new result ⊎ IsStopped result
+output_wrote plan before after old new status result text what (inr cut) = inr (inr (inl cut.0))
+output_wrote plan before after old new status result text (is_output live said all output) (inl wrote) = inl (live, all, (said, output, wrote.0, wrote.1))
+output_wrote plan before after old new status result text (is_file_fault same) (inl wrote) = inr (inl wrote.0)
+output_wrote plan before after old new status result text (is_live_fault taken left rose) (inl wrote) = inr (inl wrote.0)
+output_wrote plan before after old new status result text (is_memory first why) (inl wrote) = inr (inr (inr wrote.0))
+
+-- what was written for a request is evidence, unless the call was stopped
+pub evidence_is : {S : Type 0} → YesAccepted → NoAccepted → (words : Option Request) (r : Request) (told : Option (List ℕ → Option (List ℕ))) (source now : S) (before after : Live) (old new : Option (List ℕ)) (result : Status) → Some r ≡ words → IsRanged r → Answered words told source now before after old new result →
+    IsStopped result ⊎ (IsNone words ⊎ HoldsOf words told (WroteEvidence old new result))
+evidence_is {S} yes_text no_text words r told source now before after old new result there ranged answered =
+    subst (λ (w : Option Request). IsStopped result ⊎ (IsNone w ⊎ HoldsOf w told (WroteEvidence old new result))) there
+    (of_request (subst (λ (w : Option Request). Answered w told source now before after old new result) (sym there) answered))
+  where
+    by_end : (ended : Answered (Some r) told source now before after old new result) → WroteOutput (plan_at r ended.0) before old new result ⊎ IsStopped result → IsStopped result ⊎ (IsNone (Some r) ⊎ HoldsOf (Some r) told (WroteEvidence old new result))
+    by_end ended (inl (live, all, (said, output, at, wrote))) =
+        inr (inr (ended.0, ended.1, (said.text, wrote, subst (λ (s : Status). IsEvidence r s said.text ended.0) (sym at) (output_evidence yes_text no_text r ended.0 live said ranged output))))
+    by_end ended (inr stopped) = inl stopped
+
+    of_request : Answered (Some r) told source now before after old new result → IsStopped result ⊎ (IsNone (Some r) ⊎ HoldsOf (Some r) told (WroteEvidence old new result))
+    of_request ended = by_end ended (output_wrote (plan_at r ended.0) before after old new ended.2.0 result ended.2.1 ended.2.2 ended.2.3)

@@ -1,0 +1,215 @@
+-- What is told of the files of a host.
+use Rattle.std.proofs.Common.{◌≡◌, ℕ, ◌<◌, List, [], ◌∷◌, ◌++◌, take, refl, ap, sym, ◌∙◌, subst, inl, inr, arith, append_assoc}
+use Rattle.std.specs.Prelude.{◌⊎◌, Option, None, Some, IsSomeAnd, map}
+use Rattle.std.proofs.lemmas.Grind.{common_steps}
+use Rattle.cstn_net.specs.Networks.{Network, IsWellFormed}
+use Rattle.cstn_graphml.specs.Document.{Parts, document}
+use Rattle.cstn_graphml.specs.Networks.{network_of}
+use Rattle.cstn_check.specs.Growth.{load_of}
+use Rattle.cstn_check.specs.declared.verdicts.Verdict.{Verdict}
+use Rattle.cstn_check.specs.declared.verdicts.Verdict.TheVariants.{Yes, No, Full as IsFullVerdict}
+use Rattle.cstn_words.specs.Requests.{host}
+use Rattle.cstn_reply.specs.Files.{AreThere}
+use Rattle.cstn_reply.specs.Plans.{Said, Plan, IsOutput, MayTalk, AreUnlabelled}
+use Rattle.cstn_reply.specs.Statuses.{status_of}
+use Rattle.cstn_reply.specs.declared.status.Status.{Status}
+use Rattle.cstn_reply.specs.declared.status.Status.TheVariants.{Good as IsGood, Bad as IsBad, Words as IsWords, Document as IsRefusedStatus, Full as IsFullStatus, ReadFault, WriteFault, Memory as NoMemory, Unfinished as IsUnfinished, Script as IsScript, Wide as IsWideStatus}
+use Rattle.cstn_reply.specs.declared.output.Outcome.{Outcome}
+use Rattle.cstn_reply.specs.declared.output.Outcome.TheVariants.{Good, Bad, Words, Document, Full, Unfinished, Script, Wide}
+use Rattle.cstn_reply.proofs.Contents.{none_there}
+use Rattle.cstn_lines.specs.Pieces.{lines_of}
+use Rattle.cstn_verdict.specs.Documents.{Answer, parts_of, HasNetwork, IsRefused}
+use Rattle.cstn_verdict.specs.Verdicts.{verdict, on_verdict, IsYes, IsNo}
+use Rattle.cstn_verdict.proofs.Deciding.{Tells, verdict_tells}
+use Rattle.cstn_reply.specs.Sessions.{session}
+use Rattle.cstn_ward.specs.Wards.{begun, ward_turn, ward_ending}
+use Rattle.cstn_ward.specs.Hosting.{Named, on_documents, on_verdicts, the_file, yes_lines, attended, hosted_plan}
+use Rattle.cstn_ward.specs.Begun.{the_hosting, IsOfDocument, IsHosting}
+use Rattle.cstn_ward.specs.declared.starting.Hosting.{Hosting}
+use Rattle.cstn_ward.specs.declared.starting.Hosting.TheVariants.{Begins, Told}
+use Rattle.cstn_ward.proofs.Plays.{IsEnd, plays}
+use Rattle.cstn_top.specs.Several.{EachHas, FirstHas}
+use Rattle.cstn_top.specs.Meanings.{files_read}
+use Rattle.cstn_top.specs.Prepared.{Planned}
+use Rattle.cstn_top.proofs.Documents.{document_says, document_talks}
+
+-- what follows where the verdict on each network is yes
+abbrev session_of : ℕ → List Named → Plan
+session_of cap all = session ward_turn ward_ending (yes_lines all) (begun (map the_file all))
+
+-- the documents with these contents have these networks, which are well-formed
+abbrev AreNetworks : List (List ℕ) → Option ℕ → List Named → Type 0
+AreNetworks [] deadline [] = Unit {0}
+AreNetworks [] deadline (n ∷ ns) = ⊥
+AreNetworks (bytes ∷ rest) deadline [] = ⊥
+AreNetworks (bytes ∷ rest) deadline (n ∷ ns) = HasNetwork bytes deadline (λ names net. net ≡ n.net) × IsWellFormed n.net × AreNetworks rest deadline ns
+
+-- they were read, and this holds of their networks
+record Read (contents : List (List ℕ)) (deadline : Option ℕ) (holds : List Named → Type 0) : Type 0 where
+  all : List Named
+  are : AreNetworks contents deadline all
+  held : holds all
+
+-- a document has this network, and this holds of it
+record Taken (found : Option Parts) (holds : List (List ℕ) → Network → Type 0) : Type 0 where
+  this : Named
+  same : IsSomeAnd found (λ parts. AreUnlabelled parts × (network_of parts ≡ this.net))
+  good : IsWellFormed this.net
+  held : holds this.names this.net
+
+taken : (found : Option Parts) (holds : List (List ℕ) → Network → Type 0) → IsSomeAnd found (λ parts. AreUnlabelled parts × holds parts.names (network_of parts)) → Taken found holds
+taken None holds has = absurd has
+taken (Some parts) holds has = record { this = record { names = parts.names; net = network_of parts }; same = (has.0, refl); good = has.0.0.well_formed; held = has.1 }
+
+-- what holds of a network holds of the document that has it
+of_network : (found : Option Parts) (net : Network) (holds : Network → Type 0) → IsSomeAnd found (λ parts. AreUnlabelled parts × (network_of parts ≡ net)) → holds net → IsSomeAnd found (λ parts. AreUnlabelled parts × holds (network_of parts))
+of_network None net holds has is = absurd has
+of_network (Some parts) net holds has is = (has.0, subst holds (sym has.1) is)
+
+no_more : (ns : List Named) → ns ++ [] ≡ ns
+no_more ns = grind (arith, common_steps)
+
+-- what is said of documents: one is refused, or this is said of their networks
+documents_say : (answer : List Named → Plan) (deadline : Option ℕ) (live : List ℕ) (said : Said) (before : List Named) (contents : List (List ℕ)) → IsOutput (on_documents answer deadline before contents) live said → (said.outcome ≡ Document) ⊎ Read contents deadline (λ ns. IsOutput (answer (before ++ ns)) live said)
+documents_say answer deadline live said before [] output =
+    inr (record { all = []; are = tt; held = subst (λ (ns : List Named). IsOutput (answer ns) live said) (sym (no_more before)) output })
+documents_say answer deadline live said before (bytes ∷ rest) output =
+    by_document (λ t. documents_say answer deadline live said (before ++ t.this ∷ []) rest t.held) (document_says next bytes deadline live said output)
+  where
+    next : Answer
+    next = λ names net. on_documents answer deadline (before ++ record { names = names; net = net } ∷ []) rest
+
+    by_rest : (t : Taken (parts_of (document bytes deadline)) (λ names net. IsOutput (next names net) live said)) → (said.outcome ≡ Document) ⊎ Read rest deadline (λ ns. IsOutput (answer ((before ++ t.this ∷ []) ++ ns)) live said) → (said.outcome ≡ Document) ⊎ Read (bytes ∷ rest) deadline (λ ns. IsOutput (answer (before ++ ns)) live said)
+    by_rest t (inl refused) = inl refused
+    by_rest t (inr read) = inr (record {
+      all = t.this ∷ read.all;
+      are = (t.same, t.good, read.are);
+      held = subst (λ (ns : List Named). IsOutput (answer ns) live said) (append_assoc before (t.this ∷ []) read.all) read.held;
+    })
+
+    by_document : ((t : Taken (parts_of (document bytes deadline)) (λ names net. IsOutput (next names net) live said)) → (said.outcome ≡ Document) ⊎ Read rest deadline (λ ns. IsOutput (answer ((before ++ t.this ∷ []) ++ ns)) live said)) → ((said.outcome ≡ Document) × IsRefused bytes deadline) ⊎ HasNetwork bytes deadline (λ names net. IsOutput (next names net) live said) → (said.outcome ≡ Document) ⊎ Read (bytes ∷ rest) deadline (λ ns. IsOutput (answer (before ++ ns)) live said)
+    by_document later (inl refused) = inl refused.0
+    by_document later (inr has) =
+        let t = taken (parts_of (document bytes deadline)) (λ names net. IsOutput (next names net) live said) has in
+        by_rest t (later t)
+
+-- what is said of networks that are checked: each has a strategy, or the first that has none, or is too large, is told
+verdicts_say : (cap : ℕ) (after_yes : Plan) (deadline : Option ℕ) (live : List ℕ) (said : Said) (contents : List (List ℕ)) (ns : List Named) → AreNetworks contents deadline ns → IsOutput (on_verdicts cap after_yes ns) live said → (EachHas contents deadline (IsYes cap) × IsOutput after_yes live said) ⊎ (((said.outcome ≡ Bad) × FirstHas contents deadline cap (IsNo cap)) ⊎ ((said.outcome ≡ Full) × FirstHas contents deadline cap (λ net. cap < load_of net)))
+verdicts_say cap after_yes deadline live said [] [] are output = inl (tt, output)
+verdicts_say cap after_yes deadline live said [] (n ∷ ns) are output = absurd are
+verdicts_say cap after_yes deadline live said (bytes ∷ rest) [] are output = absurd are
+verdicts_say cap after_yes deadline live said (bytes ∷ rest) (n ∷ ns) are output =
+    by_verdict (λ out. verdicts_say cap after_yes deadline live said rest ns are.2 out) (verdict cap n.net) (verdict_tells cap n.net are.1) output
+  where
+    has : (holds : Network → Type 0) → holds n.net → HasNetwork bytes deadline (λ names net. holds net)
+    has holds is = of_network (parts_of (document bytes deadline)) n.net holds are.0 is
+
+    Says : List (List ℕ) → Type 0
+    Says all = (EachHas all deadline (IsYes cap) × IsOutput after_yes live said) ⊎ (((said.outcome ≡ Bad) × FirstHas all deadline cap (IsNo cap)) ⊎ ((said.outcome ≡ Full) × FirstHas all deadline cap (λ net. cap < load_of net)))
+
+    by_later : IsYes cap n.net → Says rest → Says (bytes ∷ rest)
+    by_later yes' (inl (each, out)) = inl ((has (IsYes cap) yes', each), out)
+    by_later yes' (inr (inl (bad, first))) = inr (inl (bad, inr (has (IsYes cap) yes', first)))
+    by_later yes' (inr (inr (full, first))) = inr (inr (full, inr (has (IsYes cap) yes', first)))
+
+    by_verdict : (IsOutput (on_verdicts cap after_yes ns) live said → Says rest) → (v : Verdict) → Tells cap n.net v → IsOutput (on_verdict cap n.names n.net (on_verdicts cap after_yes ns) v) live said → Says (bytes ∷ rest)
+    by_verdict later (Yes load) tells' is = by_later tells' (later is)
+    by_verdict later (No load) tells' is = inr (inl (ap (λ (s : Said). s.outcome) is, inl (has (IsNo cap) tells')))
+    by_verdict later IsFullVerdict tells' is = inr (inr (ap (λ (s : Said). s.outcome) is, inl (has (λ net. cap < load_of net) tells')))
+
+-- what an outcome tells of the files of a host
+abbrev pub HostTells : ℕ → Option ℕ → List (List ℕ) → Outcome → Type 0
+HostTells cap deadline contents Good = EachHas contents deadline (IsYes cap)
+HostTells cap deadline contents Bad = FirstHas contents deadline cap (IsNo cap)
+HostTells cap deadline contents Full = FirstHas contents deadline cap (λ net. cap < load_of net)
+HostTells cap deadline contents Words = ⊥
+HostTells cap deadline contents Document = Unit {0}
+HostTells cap deadline contents Unfinished = Unit {0}
+HostTells cap deadline contents Script = Unit {0}
+HostTells cap deadline contents Wide = ⊥
+
+end_tells : (cap : ℕ) (deadline : Option ℕ) (contents : List (List ℕ)) (o : Outcome) → IsEnd o → EachHas contents deadline (IsYes cap) → HostTells cap deadline contents o
+end_tells cap deadline contents Good end each = each
+end_tells cap deadline contents Bad end each = absurd end
+end_tells cap deadline contents Full end each = absurd end
+end_tells cap deadline contents Words end each = end
+end_tells cap deadline contents Document end each = tt
+end_tells cap deadline contents Unfinished end each = tt
+end_tells cap deadline contents Script end each = tt
+end_tells cap deadline contents Wide end each = end
+
+pub host_tells : (cap : ℕ) (deadline : Option ℕ) (contents : List (List ℕ)) (live : List ℕ) (said : Said) → IsOutput (hosted_plan cap deadline contents) live said → HostTells cap deadline contents said.outcome
+host_tells cap deadline contents live said output = by_documents (documents_say (attended cap) deadline live said [] contents output)
+  where
+    by_verdicts : (all : List Named) → (EachHas contents deadline (IsYes cap) × IsOutput (session_of cap all) live said) ⊎ (((said.outcome ≡ Bad) × FirstHas contents deadline cap (IsNo cap)) ⊎ ((said.outcome ≡ Full) × FirstHas contents deadline cap (λ net. cap < load_of net))) → HostTells cap deadline contents said.outcome
+    by_verdicts all (inl (each, out)) =
+        end_tells cap deadline contents said.outcome
+        (subst IsEnd (sym (ap (λ (s : Said). s.outcome) out)) (plays (begun (map the_file all)) 0 (lines_of live))) each
+    by_verdicts all (inr (inl (bad, first))) = subst (HostTells cap deadline contents) (sym bad) first
+    by_verdicts all (inr (inr (full, first))) = subst (HostTells cap deadline contents) (sym full) first
+
+    by_documents : (said.outcome ≡ Document) ⊎ Read contents deadline (λ ns. IsOutput (attended cap ns) live said) → HostTells cap deadline contents said.outcome
+    by_documents (inl refused) = subst (HostTells cap deadline contents) (sym refused) tt
+    by_documents (inr read) = by_verdicts read.all (verdicts_say cap (session_of cap read.all) deadline live said contents read.all read.are read.held)
+
+-- a session is held over documents only for their networks
+documents_talk : (answer : List Named → Plan) (deadline : Option ℕ) (before : List Named) (contents : List (List ℕ)) → MayTalk (on_documents answer deadline before contents) → Read contents deadline (λ ns. MayTalk (answer (before ++ ns)))
+documents_talk answer deadline before [] may = record { all = []; are = tt; held = subst (λ (ns : List Named). MayTalk (answer ns)) (sym (no_more before)) may }
+documents_talk answer deadline before (bytes ∷ rest) may =
+    let t = taken (parts_of (document bytes deadline)) (λ names net. MayTalk (next names net)) (document_talks next bytes deadline may) in
+    let read = documents_talk answer deadline (before ++ t.this ∷ []) rest t.held in
+    record {
+      all = t.this ∷ read.all;
+      are = (t.same, t.good, read.are);
+      held = subst (λ (ns : List Named). MayTalk (answer ns)) (append_assoc before (t.this ∷ []) read.all) read.held;
+    }
+  where
+    next : Answer
+    next = λ names net. on_documents answer deadline (before ++ record { names = names; net = net } ∷ []) rest
+
+verdicts_talk : (cap : ℕ) (after_yes : Plan) (deadline : Option ℕ) (contents : List (List ℕ)) (ns : List Named) → AreNetworks contents deadline ns → MayTalk (on_verdicts cap after_yes ns) → EachHas contents deadline (IsYes cap)
+verdicts_talk cap after_yes deadline [] [] are may = tt
+verdicts_talk cap after_yes deadline [] (n ∷ ns) are may = absurd are
+verdicts_talk cap after_yes deadline (bytes ∷ rest) [] are may = absurd are
+verdicts_talk cap after_yes deadline (bytes ∷ rest) (n ∷ ns) are may =
+    by_verdict (λ later. verdicts_talk cap after_yes deadline rest ns are.2 later) (verdict cap n.net) (verdict_tells cap n.net are.1) may
+  where
+    by_verdict : (MayTalk (on_verdicts cap after_yes ns) → EachHas rest deadline (IsYes cap)) → (v : Verdict) → Tells cap n.net v → MayTalk (on_verdict cap n.names n.net (on_verdicts cap after_yes ns) v) → EachHas (bytes ∷ rest) deadline (IsYes cap)
+    by_verdict later (Yes load) tells' is = (of_network (parts_of (document bytes deadline)) n.net (IsYes cap) are.0 tells', later is)
+    by_verdict later (No load) tells' is = absurd is
+    by_verdict later IsFullVerdict tells' is = absurd is
+
+pub host_talks : (cap : ℕ) (deadline : Option ℕ) (contents : List (List ℕ)) → MayTalk (hosted_plan cap deadline contents) → EachHas contents deadline (IsYes cap)
+host_talks cap deadline contents may =
+    let read = documents_talk (attended cap) deadline [] contents may in
+    verdicts_talk cap (session_of cap read.all) deadline contents read.all read.are read.held
+
+-- ---- the files that were read
+
+files_all : (told : Option (List ℕ → Option (List ℕ))) (names : List (List ℕ)) (status : Status) → AreThere told names → AreThere told (take 1 names) → AreThere told (files_read status names)
+files_all told names IsGood there first = there
+files_all told names IsBad there first = there
+files_all told names IsWords there first = none_there told
+files_all told names IsRefusedStatus there first = first
+files_all told names IsFullStatus there first = there
+files_all told names ReadFault there first = none_there told
+files_all told names WriteFault there first = none_there told
+files_all told names NoMemory there first = none_there told
+files_all told names IsUnfinished there first = there
+files_all told names IsScript there first = there
+files_all told names IsWideStatus there first = there
+
+-- what was prepared of the files of a host is its plan
+pub planned_host : (told : Option (List ℕ → Option (List ℕ))) (cap : ℕ) (deadline : Option ℕ) (files : List (List ℕ)) (hosting : Hosting) → IsHosting told cap deadline files hosting → Planned (host files deadline cap) told (the_hosting hosting)
+planned_host told cap deadline files hosting is = record {
+  contents = is.contents;
+  are = is.are;
+  comes = is.comes;
+  there = λ live said output. by_there hosting said live output is.there;
+}
+  where
+    by_there : (h : Hosting) (said : Said) (live : List ℕ) → IsOutput (the_hosting h) live said → IsOfDocument h ⊎ AreThere told files → AreThere told (files_read (status_of said.outcome) files)
+    by_there h said live output (inr there) = files_all told files (status_of said.outcome) there is.first
+    by_there (Begins opening ward) said live output (inl never) = absurd never
+    by_there (Told text) said live output (inl refused) =
+        subst (λ (o : Outcome). AreThere told (files_read (status_of o) files)) (sym (ap (λ (s : Said). s.outcome) output ∙ refused)) is.first

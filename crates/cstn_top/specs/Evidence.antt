@@ -1,0 +1,24 @@
+-- What is written as evidence, and what is said of it when it is handed in again.
+use Rattle.std.specs.Prelude.{◌≡◌, ℕ, List, [], get_or, Option}
+use Rattle.cstn_io.specs.Contents.{with_bytes}
+use Rattle.cstn_words.specs.Requests.{Request, check, run, closed, tight, conflict}
+use Rattle.cstn_reply.specs.declared.status.Status.{Status}
+use Rattle.cstn_reply.specs.declared.status.Status.TheVariants.{Good, Bad}
+use Rattle.cstn_verdict.specs.Documents.{HasNetwork}
+use Rattle.cstn_evidence.specs.Accepted.{IsYesText, IsNoText, IsTightText, IsConflictText}
+
+-- the text stands for the answer: after yes what `closed` and `tight` write, and after no what every command writes that checks
+-- the network of a document
+abbrev pub IsEvidence : Request → Status → List ℕ → List (List ℕ) → Type 0
+IsEvidence (check asked cap) Bad text contents = HasNetwork (get_or contents 0 []) asked.deadline (λ names net. IsNoText names net text)
+IsEvidence (run asked cap) Bad text contents = HasNetwork (get_or contents 0 []) asked.deadline (λ names net. IsNoText names net text)
+IsEvidence (closed asked cap) Good text contents = HasNetwork (get_or contents 0 []) asked.deadline (λ names net. IsYesText names net text)
+IsEvidence (closed asked cap) Bad text contents = HasNetwork (get_or contents 0 []) asked.deadline (λ names net. IsNoText names net text)
+IsEvidence (tight asked cap) Good text contents = HasNetwork (get_or contents 0 []) asked.deadline (λ names net. IsTightText names net text)
+IsEvidence (tight asked cap) Bad text contents = HasNetwork (get_or contents 0 []) asked.deadline (λ names net. IsNoText names net text)
+IsEvidence (conflict asked cap) Bad text contents = HasNetwork (get_or contents 0 []) asked.deadline (λ names net. IsConflictText names net text)
+IsEvidence request status text contents = Unit {0}
+
+-- what was written behind what the sink had is evidence
+abbrev pub WroteEvidence : Option (List ℕ) → Option (List ℕ) → Status → Request → List (List ℕ) → Type 0
+WroteEvidence old new status request contents = (text : List ℕ) × (new ≡ with_bytes old text) × IsEvidence request status text contents

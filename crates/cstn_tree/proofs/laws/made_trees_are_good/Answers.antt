@@ -1,0 +1,14 @@
+use Rattle.cstn_tree.proofs.MadeTrees.{made_good, made_least, made_among, made_fits}
+use Rattle.cstn_tree.proofs.laws.made_trees_are_good.Goals as goal
+
+pub returns-clause-good : goal.returns-clause-good
+returns-clause-good c = made_good
+
+pub returns-clause-least : goal.returns-clause-least
+returns-clause-least c = made_least
+
+pub returns-clause-among : goal.returns-clause-among
+returns-clause-among c = made_among
+
+pub returns-clause-fits : goal.returns-clause-fits
+returns-clause-fits c = made_fits

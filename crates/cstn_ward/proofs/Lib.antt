@@ -1,0 +1,13 @@
+pub mod PutLines
+pub mod Same
+pub mod Moments
+pub mod Answered
+pub mod Accepted
+pub mod Endings
+pub mod Whole
+pub mod ReadFiles
+pub mod Apart
+pub mod Plays
+pub mod ReadAll
+pub mod BegunWards
+pub mod Hosted

@@ -1,0 +1,120 @@
+-- Documents that were read one after another.
+use Rattle.std.proofs.Common.{◌≡◌, ℕ, Bool, true, false, List, [], ◌∷◌, ◌++◌, map, take, refl, ap, sym, subst, ◌∙◌, append_assoc}
+use Rattle.std.specs.Prelude.{Option, is_some, ◌&&◌}
+use Rattle.std.specs.List.{list_all}
+use Rattle.std.proofs.lemmas.List.{map-append}
+use Rattle.std.proofs.lemmas.List.Folds.{list_all-append}
+use Rattle.std.proofs.lemmas.List.Elements.{All-append, All-cons, All-nil}
+use Rattle.cstn_net.specs.Read.{NetworkParts, the_network}
+use Rattle.cstn_words.specs.Requests.{Asked}
+use Rattle.cstn_reply.specs.Files.{file_at, AreContents, AreThere}
+use Rattle.cstn_reply.specs.Plans.{Plan, says, ComesTo}
+use Rattle.cstn_reply.specs.Read.{the_said}
+use Rattle.cstn_reply.specs.declared.output.Said.{Said as SaidText}
+use Rattle.cstn_reply.proofs.Contents.{some_contents, one_content, none_there}
+use Rattle.cstn_verdict.specs.Documents.{Answer}
+use Rattle.cstn_verdict.specs.Opened.{IsOpened}
+use Rattle.cstn_verdict.specs.declared.documents.Opened.TheVariants.{Accepted, Told}
+use Rattle.cstn_verdict.proofs.Opening.{comes_itself, accepted_comes, told_comes}
+use Rattle.cstn_ward.specs.declared.reading.Document.{Document}
+use Rattle.cstn_ward.specs.Hosting.{Named, on_documents}
+use Rattle.std.specs.List.{All}
+use Rattle.cstn_ward.specs.Begun.{the_named, HasRead, IsRefusedAt, IsSound}
+
+-- what a plan comes to comes to another one
+pub comes_through : (one two three : Plan) → ComesTo one two → ComesTo two three → ComesTo one three
+comes_through one two three first later = record {
+  output = λ live said is. first.output live said (later.output live said is);
+  talks = λ may. first.talks (later.talks may);
+  fault = λ may taken. later.fault may taken ∙ first.fault (later.talks may) taken;
+}
+
+-- one more sound document
+pub sound_more : (old new : List Document) (document : Document) → new ≡ old ++ document ∷ [] → All IsSound old → IsSound document → All IsSound new
+sound_more old new document is all one = subst (λ (ds : List Document). All IsSound ds) (sym is) (All-append IsSound old (document ∷ []) all (All-cons IsSound document [] one (All-nil IsSound)))
+
+-- the contents of more files
+pub contents_more : (told : Option (List ℕ → Option (List ℕ))) (names more contents later : List (List ℕ)) → AreContents told names contents → AreContents told more later → AreContents told (names ++ more) (contents ++ later)
+contents_more told names more contents later one two = λ files e.
+    ap (λ (xs : List (List ℕ)). xs ++ later) (one files e) ∙ ap (λ (xs : List (List ℕ)). map (file_at files) names ++ xs) (two files e) ∙ sym (map-append (file_at files) names more)
+
+both : (a b : Bool) → a ≡ true → b ≡ true → (a && b) ≡ true
+both true true x y = refl
+both true false x y = absurd (cc)
+both false b x y = absurd (cc)
+
+first_of : (a b : Bool) → (a && b) ≡ true → a ≡ true
+first_of true b is = refl
+first_of false b is = absurd (cc)
+
+-- more files that are there
+pub there_more : (told : Option (List ℕ → Option (List ℕ))) (names more : List (List ℕ)) → AreThere told names → AreThere told more → AreThere told (names ++ more)
+there_more told names more one two = λ files e.
+    list_all-append (λ name. is_some (files name)) names more
+    ∙ both (list_all (λ name. is_some (files name)) names) (list_all (λ name. is_some (files name)) more) (one files e) (two files e)
+
+-- the first of them
+pub first_there : (told : Option (List ℕ → Option (List ℕ))) (names : List (List ℕ)) → AreThere told names → AreThere told (take 1 names)
+first_there told [] there = none_there told
+first_there told (name ∷ names) there = λ files e.
+    both (is_some (files name)) true (first_of (is_some (files name)) (list_all (λ name. is_some (files name)) names) (there files e)) refl
+
+-- a file
+abbrev pub asked_for : List ℕ → Option ℕ → Asked
+asked_for file deadline = record { file = file; deadline = deadline }
+
+-- no document was read yet
+pub read_none : (told : Option (List ℕ → Option (List ℕ))) (deadline : Option ℕ) → HasRead told deadline [] []
+read_none told deadline = record { contents = []; are = λ files e. refl; there = none_there told; comes = λ answer rest. comes_itself (on_documents answer deadline [] rest) }
+
+-- what is said where the next document comes
+abbrev next_answer : (List Named → Plan) → Option ℕ → List Named → List (List ℕ) → Answer
+next_answer answer deadline before rest = λ names net. on_documents answer deadline (before ++ record { names = names; net = net } ∷ []) rest
+
+module _ (told : Option (List ℕ → Option (List ℕ))) (deadline : Option ℕ) (files : List (List ℕ)) (documents : List Document) (so_far : HasRead told deadline files documents) (file : List ℕ) where
+  -- the contents so far, and then this
+  comes_next : (answer : List Named → Plan) (bytes : List ℕ) (rest : List (List ℕ)) → ComesTo (on_documents answer deadline [] ((so_far.contents ++ bytes ∷ []) ++ rest)) (on_documents answer deadline (map the_named documents) (bytes ∷ rest))
+  comes_next answer bytes rest =
+      subst (λ (all : List (List ℕ)). ComesTo (on_documents answer deadline [] all) (on_documents answer deadline (map the_named documents) (bytes ∷ rest))) (sym (append_assoc so_far.contents (bytes ∷ []) rest))
+      (so_far.comes answer (bytes ∷ rest))
+
+  -- the next document is accepted
+  pub read_more : (net : NetworkParts) (names : List (List ℕ)) → IsOpened told (asked_for file deadline) (Accepted net names) → HasRead told deadline (files ++ file ∷ []) (documents ++ record { network = net; names = names } ∷ [])
+  read_more net names opened = record {
+    contents = so_far.contents ++ opened.bytes ∷ [];
+    are = contents_more told files (file ∷ []) so_far.contents (opened.bytes ∷ []) so_far.are (one_content told file opened.bytes opened.content);
+    there = there_more told files (file ∷ []) so_far.there opened.there;
+    comes = λ answer rest.
+        let now : List Named = map the_named documents ++ record { names = names; net = the_network net } ∷ [] in
+        let one : Document = record { network = net; names = names } in
+        subst (λ (all : List Named). ComesTo (on_documents answer deadline [] ((so_far.contents ++ opened.bytes ∷ []) ++ rest)) (on_documents answer deadline all rest)) (sym (map-append the_named documents (one ∷ [])))
+        (comes_through (on_documents answer deadline [] ((so_far.contents ++ opened.bytes ∷ []) ++ rest)) (on_documents answer deadline (map the_named documents) (opened.bytes ∷ rest)) (on_documents answer deadline now rest)
+        (comes_next answer opened.bytes rest)
+        (accepted_comes (next_answer answer deadline (map the_named documents) rest) opened.bytes deadline net names (on_documents answer deadline now rest) opened.opens (comes_itself (on_documents answer deadline now rest))));
+  }
+
+  -- or it is refused
+  pub read_refused : (all rest : List (List ℕ)) (said : SaidText) → files ++ file ∷ rest ≡ all → IsOpened told (asked_for file deadline) (Told said) → IsRefusedAt told deadline all (says (the_said said))
+  read_refused all rest said is opened =
+      subst (λ (names : List (List ℕ)). IsRefusedAt told deadline names (says (the_said said))) is (record {
+        contents = (so_far.contents ++ opened.bytes ∷ []) ++ later.0;
+        are = contents_all;
+        first = first_is files so_far.there;
+        comes = λ answer.
+            comes_through (on_documents answer deadline [] ((so_far.contents ++ opened.bytes ∷ []) ++ later.0)) (on_documents answer deadline (map the_named documents) (opened.bytes ∷ later.0)) (says (the_said said))
+            (comes_next answer opened.bytes later.0)
+            (told_comes (next_answer answer deadline (map the_named documents) later.0) opened.bytes deadline said opened.opens);
+      })
+    where
+      later : (contents : List (List ℕ)) × AreContents told rest contents
+      later = some_contents told rest
+
+      contents_all : AreContents told (files ++ file ∷ rest) ((so_far.contents ++ opened.bytes ∷ []) ++ later.0)
+      contents_all =
+          subst (λ (names : List (List ℕ)). AreContents told names ((so_far.contents ++ opened.bytes ∷ []) ++ later.0)) (append_assoc files (file ∷ []) rest)
+          (contents_more told (files ++ file ∷ []) rest (so_far.contents ++ opened.bytes ∷ []) later.0
+          (contents_more told files (file ∷ []) so_far.contents (opened.bytes ∷ []) so_far.are (one_content told file opened.bytes opened.content)) later.1)
+
+      first_is : (names : List (List ℕ)) → AreThere told names → AreThere told (take 1 (names ++ file ∷ rest))
+      first_is [] there = opened.there
+      first_is (name ∷ names) there = first_there told (name ∷ names) there

@@ -1,0 +1,92 @@
+-- What was read and prepared of the files of a host.
+use Rattle.std.specs.Prelude.{◌≡◌, ◌⊎◌, ℕ, List, [], ◌++◌, length, map, take, Option}
+use Rattle.std.specs.List.{All}
+use Rattle.cstn_net.specs.Networks.{IsWellFormed, count}
+use Rattle.cstn_net.specs.Read.{the_network}
+use Rattle.cstn_reply.specs.Files.{AreContents, AreThere}
+use Rattle.cstn_reply.specs.Plans.{Plan, says, EndsLine, ComesTo}
+use Rattle.cstn_reply.specs.Sessions.{session}
+use Rattle.cstn_reply.specs.Read.{the_said}
+use Rattle.cstn_reply.specs.declared.output.Outcome.TheVariants.{Document}
+use Rattle.cstn_ward.specs.Wards.{begun as begun_ward, ward_turn, ward_ending}
+use Rattle.cstn_ward.specs.Hosting.{Named, on_documents, on_verdicts, the_file, yes_lines, hosted_plan}
+use Rattle.cstn_ward.specs.Read.{the_names, the_files, the_ward, IsWard}
+use Rattle.cstn_ward.specs.declared.reading.Document.{Document as ReadDocument}
+use Rattle.cstn_ward.specs.declared.reading.AllRead.{AllRead}
+use Rattle.cstn_ward.specs.declared.reading.AllRead.TheVariants.{Accepted, Told}
+use Rattle.cstn_ward.specs.declared.starting.Begun.{Begun}
+use Rattle.cstn_ward.specs.declared.starting.Hosting.{Hosting}
+use Rattle.cstn_ward.specs.declared.starting.Hosting.TheVariants.{Begins, Told as ToldAll}
+
+-- the network of a document
+abbrev pub the_named : ReadDocument → Named
+the_named document = record { names = document.names; net = the_network document.network }
+
+-- a document's network is well-formed, and each of its time-points has a name
+pub record IsSound (document : ReadDocument) : Type 0 where
+  pub well_formed : IsWellFormed (the_network document.network)
+  pub named : length document.names ≡ count (the_network document.network)
+
+-- The documents of files were accepted, one after another: whatever is to be said of all networks and of further files, is
+-- what is said after these.
+pub record HasRead (told : Option (List ℕ → Option (List ℕ))) (deadline : Option ℕ) (files : List (List ℕ)) (documents : List ReadDocument) : Type 0 where
+  pub contents : List (List ℕ)
+  pub are : AreContents told files contents
+  pub there : AreThere told files
+  pub comes : (answer : List Named → Plan) (rest : List (List ℕ)) → ComesTo (on_documents answer deadline [] (contents ++ rest)) (on_documents answer deadline (map the_named documents) rest)
+
+-- the first that is refused is told, whatever is to be said of the networks
+pub record IsRefusedAt (told : Option (List ℕ → Option (List ℕ))) (deadline : Option ℕ) (files : List (List ℕ)) (plan : Plan) : Type 0 where
+  pub contents : List (List ℕ)
+  pub are : AreContents told files contents
+  pub first : AreThere told (take 1 files)
+  pub comes : (answer : List Named → Plan) → ComesTo (on_documents answer deadline [] contents) plan
+
+-- the documents of all files were read, or one was refused
+abbrev pub AreRead : Option (List ℕ → Option (List ℕ)) → Option ℕ → List (List ℕ) → AllRead → Type 0
+AreRead told deadline files (Accepted documents) = HasRead told deadline files documents.items × (length documents.items ≡ length files)
+AreRead told deadline files (Told said) = IsRefusedAt told deadline files (says (the_said said)) × (said.outcome ≡ Document)
+
+-- each document that was read is sound
+abbrev pub AreSound : AllRead → Type 0
+AreSound (Accepted documents) = All IsSound documents.items
+AreSound (Told said) = Unit {0}
+
+-- what is carried out for the files of a host
+abbrev pub the_hosting : Hosting → Plan
+the_hosting (Begins opening ward) = session ward_turn ward_ending opening.items (the_ward ward)
+the_hosting (ToldAll said) = says (the_said said)
+
+-- an opening is whole lines
+abbrev pub IsOpening : Hosting → Type 0
+IsOpening (Begins opening ward) = EndsLine opening.items
+IsOpening (ToldAll said) = Unit {0}
+
+-- what is carried out is the ward of the plans, of which no id is open, after the lines
+abbrev pub IsBegin : Begun → Hosting → Type 0
+IsBegin begun (Begins opening ward) = (opening ≡ begun.opening) × (the_ward ward ≡ begun_ward (the_files begun.plans.items (the_names begun.names.items)))
+IsBegin begun (ToldAll said) = ⊥
+
+-- The networks were checked one after another, and each verdict was yes: here are the lines after yes, the plans, and the
+-- printed names.
+pub record HasBegun (cap : ℕ) (all : List Named) (begun : Begun) : Type 0 where
+  pub opening : begun.opening.items ≡ yes_lines all
+  pub files : the_files begun.plans.items (the_names begun.names.items) ≡ map the_file all
+  pub many : length begun.plans.items ≡ length all
+  pub ward : IsWard begun.plans.items (the_names begun.names.items)
+  pub verdicts : (after_yes : Plan) (rest : List Named) → on_verdicts cap after_yes (all ++ rest) ≡ on_verdicts cap after_yes rest
+
+-- a document was refused
+abbrev pub IsOfDocument : Hosting → Type 0
+IsOfDocument (Begins opening ward) = ⊥
+IsOfDocument (ToldAll said) = said.outcome ≡ Document
+
+-- A plan was made for the files of a host, with their contents. The first is there, and each of them where no document was
+-- refused.
+pub record IsHosting (told : Option (List ℕ → Option (List ℕ))) (cap : ℕ) (deadline : Option ℕ) (files : List (List ℕ)) (hosting : Hosting) : Type 0 where
+  pub contents : List (List ℕ)
+  pub are : AreContents told files contents
+  pub comes : ComesTo (hosted_plan cap deadline contents) (the_hosting hosting)
+  pub first : AreThere told (take 1 files)
+  pub there : IsOfDocument hosting ⊎ AreThere told files
+  pub opening : IsOpening hosting

@@ -1,0 +1,43 @@
+-- What `host` says of the documents of its files.
+use Rattle.std.specs.Prelude.{ℕ, List, [], ◌∷◌, ◌++◌, map, flat_map, Option}
+use Rattle.cstn_net.specs.Networks.{Network}
+use Rattle.cstn_check.specs.Growth.{log_of, load_of, live_bounds}
+use Rattle.cstn_text.specs.PrintedNames.{printed_name}
+use Rattle.cstn_reply.specs.Texts.{yes_line}
+use Rattle.cstn_reply.specs.Plans.{Plan}
+use Rattle.cstn_reply.specs.Sessions.{session}
+use Rattle.cstn_verdict.specs.Documents.{on_document}
+use Rattle.cstn_verdict.specs.Verdicts.{verdict, on_verdict}
+use Rattle.cstn_ward.specs.Wards.{File, begun, ward_turn, ward_ending}
+
+-- a network under the names of its time-points
+pub record Named : Type 0 where
+  pub names : List (List ℕ)
+  pub net : Network
+
+-- the documents of files, read one after another, given what is said of all their networks; the first that is refused is told
+abbrev pub on_documents : (List Named → Plan) → Option ℕ → List Named → List (List ℕ) → Plan
+on_documents answer deadline before [] = answer before
+on_documents answer deadline before (bytes ∷ rest) =
+    on_document (λ names net. on_documents answer deadline (before ++ record { names = names; net = net } ∷ []) rest) bytes deadline
+
+-- the networks, checked one after another, given what follows where each verdict is yes; the first that isn't yes is told
+abbrev pub on_verdicts : ℕ → Plan → List Named → Plan
+on_verdicts cap after_yes [] = after_yes
+on_verdicts cap after_yes (named ∷ rest) = on_verdict cap named.names named.net (on_verdicts cap after_yes rest) (verdict cap named.net)
+
+-- the plan of a network: the bounds of the live entries of its log
+abbrev pub the_file : Named → File
+the_file named = record { names = map printed_name named.names; net = named.net; bounds = live_bounds (log_of named.net) }
+
+-- the lines after yes
+abbrev pub yes_lines : List Named → List ℕ
+yes_lines all = flat_map (λ (named : Named). yes_line (load_of named.net)) all
+
+-- what is said of networks: after yes of each the answers to the host lines
+abbrev pub attended : ℕ → List Named → Plan
+attended cap all = on_verdicts cap (session ward_turn ward_ending (yes_lines all) (begun (map the_file all))) all
+
+-- what `host` says of files with these contents
+abbrev pub hosted_plan : ℕ → Option ℕ → List (List ℕ) → Plan
+hosted_plan cap deadline contents = on_documents (attended cap) deadline [] contents

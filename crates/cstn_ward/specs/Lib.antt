@@ -1,0 +1,5 @@
+pub mod Wards
+pub mod Alone
+pub mod Hosting
+pub mod Read
+pub mod Begun
