@@ -14,6 +14,7 @@ use Rattle.cstn_net.specs.Read.{NetworkParts, the_network}
 use Rattle.cstn_lift.specs.declared.errors.LiftError.{LiftError}
 use Rattle.cstn_lift.specs.Labelled.{Labelled}
 use Rattle.cstn_lift.specs.Faults.{HasFault, IsLowestFault as IsLowestLabelFault}
+use Rattle.cstn_lift.specs.WellFormed.{IsLabelled}
 use Rattle.cstn_lift.specs.Read.{LabelledParts, the_labelled}
 use Rattle.cstn_graphml.specs.Results.{Refusal, ◌>>=◌, or_refused, demand}
 use Rattle.cstn_graphml.specs.Results.Refusal.{not_utf8, no_deadline}
@@ -84,18 +85,18 @@ module _ (told : Result Parts Refusal) (n : ℕ) (d : LentGraph) (network : Netw
   well_made = subst IsWellFormed (made_network n d network built)
 
   -- and its labels have no fault
-  pub made_document : (labelled : LabelledParts) (names : List (List ℕ)) → the_labelled labelled ≡ with_labels_of network d → names ≡ d.names → ((error : LiftError) → HasFault (with_labels_of network d) error → ⊥) → IsDocument told labelled names
-  made_document labelled names same named none = record {
+  pub made_document : (labelled : LabelledParts) (names : List (List ℕ)) → the_labelled labelled ≡ with_labels_of network d → names ≡ d.names → IsLabelled (the_labelled labelled) → ((error : LiftError) → HasFault (with_labels_of network d) error → ⊥) → IsDocument told labelled names
+  made_document labelled names same named in_order none = record {
     parts = parts_with n d;
     told_are = is;
-    fit = record { well_formed = well_made good; faultless = λ error fault. none error (subst (λ (m : Labelled). HasFault m error) (sym labels_made) fault) };
+    fit = record { labelled = subst IsLabelled (same ∙ labels_made) in_order; faultless = λ error fault. none error (subst (λ (m : Labelled). HasFault m error) (sym labels_made) fault) };
     labelled_is = same ∙ labels_made;
     names_are = named;
   }
 
-  pub all_made : (r : Result (LabelledParts × List (List ℕ)) DocError) → IfOk r (λ x. the_labelled x.0 ≡ with_labels_of network d) → IfOk r (λ x. x.1 ≡ d.names) → IfOk r (λ x. (error : LiftError) → HasFault (with_labels_of network d) error → ⊥) → IfOk r (λ x. IsDocument told x.0 x.1)
-  all_made (Ok x) same named none = made_document x.0 x.1 same named none
-  all_made (Err e) same named none = tt
+  pub all_made : (r : Result (LabelledParts × List (List ℕ)) DocError) → IfOk r (λ x. the_labelled x.0 ≡ with_labels_of network d) → IfOk r (λ x. x.1 ≡ d.names) → IfOk r (λ x. IsLabelled (the_labelled x.0)) → IfOk r (λ x. (error : LiftError) → HasFault (with_labels_of network d) error → ⊥) → IfOk r (λ x. IsDocument told x.0 x.1)
+  all_made (Ok x) same named in_order none = made_document x.0 x.1 same named in_order none
+  all_made (Err e) same named in_order none = tt
 
   -- and its labels were refused
   pub mislabelled_is_refused : (e : DocError) → IsLabelRefusal (with_labels_of network d) d.names e → IsRefused told e

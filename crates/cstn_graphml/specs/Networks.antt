@@ -9,6 +9,7 @@ use Rattle.cstn_net.specs.Read.{NetworkParts, observed}
 use Rattle.cstn_label.specs.Read.{marks}
 use Rattle.cstn_lift.specs.declared.errors.LiftError.{LiftError}
 use Rattle.cstn_lift.specs.Labelled.{Labelled}
+use Rattle.cstn_lift.specs.WellFormed.{IsLabelled}
 use Rattle.cstn_lift.specs.Faults.{HasFault, IsLowestFault as IsLowestLabelFault}
 use Rattle.cstn_graphml.specs.declared.drawn_graph.DrawnConstraint.{DrawnConstraint as Lent}
 use Rattle.cstn_graphml.specs.declared.drawn_graph.Observation.{Observation as LentObservation}
@@ -97,9 +98,9 @@ pub record IsMislabelled (parts : Parts) (error : LiftError) : Type 0 where
   pub well_formed : IsWellFormed (network_of parts)
   pub fault : IsLowestLabelFault (labelled_of parts) error
 
--- the parts make a labelled network
+-- the parts make a labelled network: its labels are in order, and it has no fault
 pub record IsFit (parts : Parts) : Type 0 where
-  pub well_formed : IsWellFormed (network_of parts)
+  pub labelled : IsLabelled (labelled_of parts)
   pub faultless : (error : LiftError) → HasFault (labelled_of parts) error → ⊥
 
 -- a network was made of a builder

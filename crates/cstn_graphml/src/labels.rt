@@ -6,6 +6,7 @@ ghost use Rattle.cstn_net.specs.Networks.{count};
 ghost use Rattle.cstn_net.specs.Read.{the_network};
 ghost use Rattle.cstn_lift.specs.declared.errors.LiftError.{LiftError};
 ghost use Rattle.cstn_lift.specs.Faults.{HasFault};
+ghost use Rattle.cstn_lift.specs.WellFormed.{IsLabelled};
 ghost use Rattle.cstn_lift.specs.Read.{the_labelled};
 ghost use Rattle.cstn_graphml.specs.Answers.{IsLabelRefusal, IsLiftTold};
 ghost use Rattle.cstn_graphml.specs.Labels.{labels_seen, with_labels_of};
@@ -59,6 +60,7 @@ pub fn labelled_of(
     requires one_each { length (labels_seen graph) ≡ count (the_network network) }
     ensures labelled { IfOk result (λ r. the_labelled r.0 ≡ with_labels_of network graph) }
     ensures names { IfOk result (λ r. r.1 ≡ graph.names) }
+    ensures in_order { IfOk result (λ r. IsLabelled (the_labelled r.0)) }
     ensures faultless { IfOk result (λ _. (e : LiftError) → HasFault (with_labels_of network graph) e → ⊥) }
     ensures refused { IfErr result (IsLabelRefusal (with_labels_of network graph) graph.names) }
 {

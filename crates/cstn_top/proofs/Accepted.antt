@@ -49,7 +49,7 @@ document_then bytes deadline one other has follows = by_result (document bytes d
     by_result : (told : Result Parts DocumentRefusal) → document bytes deadline ≡ told → IsSomeAnd (parts_of told) (λ parts. AreUnlabelled parts × one parts.names (network_of parts)) → IsSomeAnd (parts_of told) (λ parts. AreUnlabelled parts × other parts.names (network_of parts))
     by_result (Err refusal) is h = h
     by_result (Ok parts) is h =
-        let good : IsWellFormed (network_of parts) = h.0.0.well_formed in
+        let good : IsWellFormed (network_of parts) = h.0.0.labelled.base in
         let named : length parts.names ≡ count (network_of parts) = document_named bytes deadline parts is ∙ sym (length-map parts.observes observed_prop) in (
           h.0,
           follows parts.names (network_of parts)

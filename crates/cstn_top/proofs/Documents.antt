@@ -20,7 +20,7 @@ document_says answer bytes deadline live said output = by_length (nat_lt 8388608
     by_parts : (told : Result Parts DocumentRefusal) → IsOutput (judged (of_plain answer) told) live said → ((said.outcome ≡ Document) × (IsSomeAnd (parts_of told) (λ parts. AreUnlabelled parts × Unit {0}) → ⊥)) ⊎ IsSomeAnd (parts_of told) (λ parts. AreUnlabelled parts × IsOutput (answer parts.names (network_of parts)) live said)
     by_parts (Err refusal) is = inl (ap (λ (s : Said). s.outcome) is, λ has. has)
     by_parts (Ok parts) (inl fit) = by_labels parts fit.0 fit.1
-    by_parts (Ok parts) (inr (inl unfit)) = inl (ap (λ (s : Said). s.outcome) unfit.2, λ has. fits parts unfit.0 has.0.0.well_formed unfit.1)
+    by_parts (Ok parts) (inr (inl unfit)) = inl (ap (λ (s : Said). s.outcome) unfit.2, λ has. fits parts unfit.0 has.0.0.labelled.base unfit.1)
     by_parts (Ok parts) (inr (inr wrong_labels)) = inl (ap (λ (s : Said). s.outcome) wrong_labels.2, λ has. has.0.0.faultless wrong_labels.0 wrong_labels.1.fault.has)
 
     by_told : ((said.outcome ≡ Document) × (HasNetwork bytes deadline (λ names net. Unit {0}) → ⊥)) ⊎ HasNetwork bytes deadline (λ names net. IsOutput (answer names net) live said) → ((said.outcome ≡ Document) × IsRefused bytes deadline) ⊎ HasNetwork bytes deadline (λ names net. IsOutput (answer names net) live said)

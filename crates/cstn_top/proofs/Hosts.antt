@@ -59,7 +59,7 @@ record Taken (found : Option Parts) (holds : List (List ℕ) → Network → Typ
 
 taken : (found : Option Parts) (holds : List (List ℕ) → Network → Type 0) → IsSomeAnd found (λ parts. AreUnlabelled parts × holds parts.names (network_of parts)) → Taken found holds
 taken None holds has = absurd has
-taken (Some parts) holds has = record { this = record { names = parts.names; net = network_of parts }; same = (has.0, refl); good = has.0.0.well_formed; held = has.1 }
+taken (Some parts) holds has = record { this = record { names = parts.names; net = network_of parts }; same = (has.0, refl); good = has.0.0.labelled.base; held = has.1 }
 
 -- what holds of a network holds of the document that has it
 of_network : (found : Option Parts) (net : Network) (holds : Network → Type 0) → IsSomeAnd found (λ parts. AreUnlabelled parts × (network_of parts ≡ net)) → holds net → IsSomeAnd found (λ parts. AreUnlabelled parts × holds (network_of parts))

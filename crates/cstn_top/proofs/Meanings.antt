@@ -65,7 +65,7 @@ network_then bytes deadline one other has follows = by_result (document bytes de
   where
     by_result : (told : Result Parts DocumentRefusal) → document bytes deadline ≡ told → IsSomeAnd (parts_of told) (λ parts. AreUnlabelled parts × one parts.names (network_of parts)) → IsSomeAnd (parts_of told) (λ parts. AreUnlabelled parts × other parts.names (network_of parts))
     by_result (Err refusal) is h = h
-    by_result (Ok parts) is h = (h.0, follows parts.names (network_of parts) h.0.0.well_formed (document_named bytes deadline parts is ∙ sym (length-map parts.observes observed_prop)) h.1)
+    by_result (Ok parts) is h = (h.0, follows parts.names (network_of parts) h.0.0.labelled.base (document_named bytes deadline parts is ∙ sym (length-map parts.observes observed_prop)) h.1)
 
 -- what the outcome of a check tells of a network
 abbrev Verdicts : ℕ → Network → Outcome → Type 0

@@ -81,7 +81,7 @@ returns-in-Ok-clause-accepted c =
     let told = ap (λ (ts : List Token). in_document (content_of ts)) (sym c.new-scanner.ensures.new) ∙ c.in_ok-graph.ensures in
     all_made (document c.args.bytes.now c.args.deadline) c.in-Some.deadline c.in_ok-graph.graph c.in-Ok.network
     (has_deadline c.args.bytes.now c.args.deadline c.in-Some.deadline c.in_ok-graph.graph c.in_default.ensures.cases.1 told (sym c.first_of_two.ensures ∙ c.in-Some.is)) c.in-Ok.ensures.accepted c.in-Ok.ensures.well_formed
-    c.labelled_of.result c.labelled_of.ensures.labelled c.labelled_of.ensures.names c.labelled_of.ensures.faultless
+    c.labelled_of.result c.labelled_of.ensures.labelled c.labelled_of.ensures.names c.labelled_of.ensures.in_order c.labelled_of.ensures.faultless
 
 pub returns-in-Ok-clause-well_formed : goal.returns-in-Ok-clause-well_formed
 returns-in-Ok-clause-well_formed c = well_labelled c.in-Ok.network c.in_ok-graph.graph c.in-Ok.ensures.well_formed c.labelled_of.result c.labelled_of.ensures.labelled
