@@ -48,7 +48,13 @@ fn push_nodes(
     let base = net.base();
     for x in 0..base.count() {
         let x = NodeId(x);
-        push_node(alloc, text, names.name(x), observation(base, x), net.label(x))?;
+        push_node(
+            alloc,
+            text,
+            names.name(x),
+            observation(base, x),
+            net.label(x),
+        )?;
     }
     Ok(())
 }

@@ -70,10 +70,7 @@ fn push_node_end(text: &mut Vec<u8>, inside: &[u8]) -> Result<(), AllocError>
     Ok(())
 }
 
-fn push_observation(
-    text: &mut Vec<u8>,
-    observed: Option<Observation>,
-) -> Result<(), AllocError>
+fn push_observation(text: &mut Vec<u8>, observed: Option<Observation>) -> Result<(), AllocError>
     ensures { OnOk result (text.new.items ≡ text.old.items ++ observation_data (observed_seen observed)) }
 {
     match observed {

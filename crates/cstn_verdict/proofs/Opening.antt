@@ -153,9 +153,11 @@ plain_opens bytes deadline l names (Accepted net others) opens taken =
     } in
     (opens.0, parts_are, taken.3)
 plain_opens bytes deadline l names (Told said) opens taken =
-    let is = opens.1 in
-    ((λ answer live. short_output (of_plain answer) bytes deadline live (the_said said) opens.0
-    (labels_output answer (document bytes deadline) is.parts live (the_said said) is.told_are is.fit (λ empties. taken.0 (subst (λ (m : Labelled). AreEmpty m.labels) (sym is.labelled_is) empties)) taken.1)), ap (λ (s : Said). s.outcome) taken.1)
+    let is = opens.1 in (
+      (λ answer live. short_output (of_plain answer) bytes deadline live (the_said said) opens.0
+          (labels_output answer (document bytes deadline) is.parts live (the_said said) is.told_are is.fit (λ empties. taken.0 (subst (λ (m : Labelled). AreEmpty m.labels) (sym is.labelled_is) empties)) taken.1)),
+      ap (λ (s : Said). s.outcome) taken.1,
+    )
 
 pub plainly_opened : {E : Type 0} (told : Option (List ℕ → Option (List ℕ))) (asked : Asked) (l : LabelledParts) (names : List (List ℕ)) (r : Result Opened E) → IsOpenedWithLabels told asked (LabelledOne l names) → IfOk r (IsTakenOf l names) → IfOk r (IsOpened told asked)
 plainly_opened told asked l names (Err e) is taken = tt

@@ -9,8 +9,8 @@ ghost use Rattle.cstn_reply.specs.Plans.{say};
 ghost use Rattle.cstn_reply.specs.Texts.{line};
 
 use cstn_graphml::DocError;
-use cstn_lift::LiftError;
 use cstn_label::{NodeId, Prop};
+use cstn_lift::LiftError;
 use cstn_net::NetError;
 use cstn_reply::{Outcome, Said};
 use cstn_text::{Names, print_name};

@@ -10,9 +10,13 @@ returns-then-is_labelled-clause-taken c =
     labels_told c.args.labelled c.args.names c.has_labels.result c.split-network.ensures.labelled one.0 one.1 one.2 c.has_labels.ensures.told
 
 pub returns-clause-taken : goal.returns-clause-taken
-returns-clause-taken c =
-    (empties_from c.args.labelled c.split-network.ensures.labelled (λ x inside there. false≢true (sym c.if-is_labelled.false ∙ c.is_labelled-is_labelled.ensures.labelled.1 (x, inside, there))),
-    c.split-network.ensures.labelled, c.split-network.ensures.lowered, c.split-network.ensures.well_formed, refl)
+returns-clause-taken c = (
+  empties_from c.args.labelled c.split-network.ensures.labelled (λ x inside there. false≢true (sym c.if-is_labelled.false ∙ c.is_labelled-is_labelled.ensures.labelled.1 (x, inside, there))),
+  c.split-network.ensures.labelled,
+  c.split-network.ensures.lowered,
+  c.split-network.ensures.well_formed,
+  refl,
+)
 
 pub returns-clause-named : goal.returns-clause-named
 returns-clause-named c = (c.requires.named ∙ sym (ap count c.split-network.ensures.lowered), c.requires.origin)
