@@ -1,3 +1,9 @@
 pub mod Names
 pub mod Runs
+pub mod Sessions
+pub mod Moments
+pub mod Carrying
+pub mod Ending
+pub mod Plain
+pub mod Planned
 pub mod Edits

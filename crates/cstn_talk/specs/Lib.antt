@@ -1,2 +1,4 @@
 pub mod Running
+pub mod Guiding
+pub mod Meanings
 pub mod Editing

@@ -4,10 +4,8 @@ use Rattle.std.specs.List.{All}
 use Rattle.cstn_label.specs.declared.nodes.NodeId.{NodeId}
 use Rattle.cstn_label.specs.Bounds.{Bound}
 use Rattle.cstn_label.specs.Letters.{letter_of}
-use Rattle.cstn_label.specs.declared.bounds.Bound.{Bound as PlanBound}
 use Rattle.cstn_net.specs.Networks.{Network, count}
 use Rattle.cstn_net.specs.Read.{NetworkParts, the_network}
-use Rattle.cstn_log.specs.Plans.{the_bounds}
 use Rattle.cstn_lines.specs.LiveLines.{Live, moment_at, seen, due_now, live_read, printed_truth}
 use Rattle.cstn_exec.specs.Runs.{Run, named, due}
 use Rattle.cstn_exec.specs.Moves.{Refusal, Done, Past, Late, Awaiting, NotExecuted, Known, moment_refusal, moved, outcome_refusal, handed}
@@ -15,19 +13,12 @@ use Rattle.cstn_reply.specs.Texts.{line}
 use Rattle.cstn_reply.specs.Plans.{Said, say}
 use Rattle.cstn_reply.specs.Sessions.{Turn, more, last, wrong}
 use Rattle.cstn_reply.specs.declared.output.Outcome.TheVariants.{Good, Unfinished}
-use Rattle.cstn_exec.specs.Runs.{start}
-use Rattle.cstn_check.specs.Growth.{log_of, load_of, live_bounds}
-use Rattle.cstn_text.specs.PrintedNames.{printed_name}
-use Rattle.cstn_verdict.specs.Documents.{Answer}
-use Rattle.cstn_verdict.specs.Verdicts.{verdict, on_verdict}
-use Rattle.cstn_reply.specs.Sessions.{session}
-use Rattle.cstn_reply.specs.Texts.{yes_line}
 
 -- the names of time-points, each after a space
 abbrev pub spaced : List (List ℕ) → List ℕ → List ℕ
 spaced names xs = flat_map (λ x. 32 ∷ get_or names x []) xs
 
--- the time-points that are executed at a moment
+-- the time-points that are named at a moment, which may be none
 abbrev pub moment_line : List (List ℕ) → ℕ → List ℕ → List ℕ
 moment_line names t xs = line (codes "at " ++ decimal t ++ spaced names xs)
 
@@ -54,9 +45,9 @@ due_text None = codes "done"
 due_text (Some t) = codes "due " ++ decimal t
 
 -- the answer to a moment that was accepted, by what is due after it: it is the last where all is executed and nothing is due
-abbrev pub executing : List ℕ → Run → Option ℕ → Turn Run
-executing text run None = last (record { outcome = Good; text = text ++ line (codes "done") })
-executing text run (Some t) = more text run
+abbrev pub executing : {State : Type 0} → List ℕ → State → Option ℕ → Turn State
+executing text state None = last (record { outcome = Good; text = text ++ line (codes "done") })
+executing text state (Some t) = more text state
 
 abbrev pub moment_turn : List (List ℕ) → Network → List Bound → Run → ℕ → Option Refusal → Turn Run
 moment_turn names net bounds run t None = executing (moment_line names t (named net bounds run t)) (moved net bounds run t) (due net bounds (moved net bounds run t))
@@ -85,27 +76,11 @@ unfinished (Some t) = say Unfinished (codes "unfinished " ++ decimal t)
 abbrev pub run_ending : Network → List Bound → Run → Said
 run_ending net bounds run = unfinished (due net bounds run)
 
--- what contracts see of a run: the network and the bounds of its plan, what was executed and seen, and the printed names
-pub record RunningParts : Type 0 where
-  pub net : NetworkParts
-  pub bounds : List PlanBound
-  pub run : Run
-  pub names : List (List ℕ)
-
-abbrev pub with_run : RunningParts → Run → RunningParts
-with_run running run = record { net = running.net; bounds = running.bounds; run = run; names = running.names }
-
 -- an answer with another state
 abbrev pub turn_with : {S R : Type 0} → (S → R) → Turn S → Turn R
 turn_with f (more text state) = more text (f state)
 turn_with f (last said) = last said
 turn_with f wrong = wrong
-
-abbrev pub running_turn : RunningParts → List ℕ → Turn RunningParts
-running_turn running text = turn_with (with_run running) (run_turn running.names (the_network running.net) (the_bounds running.bounds) running.run text)
-
-abbrev pub running_ending : RunningParts → Said
-running_ending running = run_ending (the_network running.net) (the_bounds running.bounds) running.run
 
 -- each time-point has a printed name, which is at most 192 bytes long
 pub record AreShort (net : NetworkParts) (names : List (List ℕ)) : Type 0 where
@@ -116,10 +91,3 @@ pub record AreShort (net : NetworkParts) (names : List (List ℕ)) : Type 0 wher
 -- time-points by their numbers
 abbrev pub the_nodes : List NodeId → List ℕ
 the_nodes xs = map (λ (x : NodeId). x.0) xs
-
--- what `run` says of a network: after yes the answers to the live lines, by the bounds of the live entries of its log
-abbrev pub carried_out : ℕ → Answer
-carried_out cap names net =
-    on_verdict cap names net
-    (session (run_turn (map printed_name names) net (live_bounds (log_of net))) (run_ending net (live_bounds (log_of net))) (yes_line (load_of net)) (start (count net)))
-    (verdict cap net)

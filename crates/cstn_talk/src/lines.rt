@@ -1,15 +1,20 @@
 // Lines that are put into room that was taken before.
-ghost use Rattle.std.specs.Prelude.{◌≡◌, ◌≤◌, ◌<◌, ◌+◌, ◌*◌, ◌++◌, ◌∷◌, [], map, string_bytes, vec_capacity, length, codes, decimal};
+ghost use Rattle.std.specs.Prelude.{◌≡◌, ◌≤◌, ◌<◌, ◌+◌, ◌*◌, ◌++◌, ◌∷◌, [], map, string_bytes, vec_capacity, length, IfOk, codes, decimal};
 ghost use Rattle.std.specs.List.{All};
 ghost use Rattle.cstn_label.specs.Letters.{letter_of};
+ghost use Rattle.cstn_exec.specs.Read.{the_refusal};
 ghost use Rattle.cstn_text.specs.Numbers.{printed_value};
+ghost use Rattle.cstn_text.specs.PrintedNames.{printed_name};
 ghost use Rattle.cstn_lines.specs.LiveLines.{printed_truth};
 ghost use Rattle.cstn_reply.specs.Plans.{EndsLine};
 ghost use Rattle.cstn_reply.specs.Texts.{line};
-ghost use Rattle.cstn_talk.specs.Running.{the_nodes, moment_line, spaced};
+ghost use Rattle.cstn_talk.specs.Running.{the_nodes, moment_line, spaced, refused_text};
 
+use cstn_exec::ExecError;
 use cstn_label::{NodeId, Prop};
+use cstn_text::{Names, print_name};
 use itoa::Buffer;
+use std::alloc::{AllocError, Global};
 
 /// Puts a word and the end of a line.
 pub fn put_word(text: &mut Vec<u8>, word: &[u8])
@@ -78,7 +83,23 @@ fn truth(value: bool) -> &'static [u8]
     if value { b"true" } else { b"false" }
 }
 
-/// Puts the line of a moment, with the names of the time-points that are executed.
+/// Puts why a moment or an outcome is refused.
+pub fn put_refusal(text: &mut Vec<u8>, error: ExecError)
+    requires room { length text.old.items + 60 ≤ vec_capacity text.old }
+    ensures items { text.new.items ≡ text.old.items ++ line (refused_text (the_refusal error)) }
+    ensures capacity { vec_capacity text.old ≤ vec_capacity text.new }
+{
+    match error {
+        ExecError::Past { now } => put_number(text, b"refused E1 ", now),
+        ExecError::Late { due } => put_number(text, b"refused E2 ", due),
+        ExecError::Awaiting { prop } => put_prop(text, b"refused E3 ", prop),
+        ExecError::NotExecuted { prop } => put_prop(text, b"refused E4 ", prop),
+        ExecError::Known { prop, value } => put_outcome(text, b"refused E5 ", prop, value),
+        ExecError::Done => put_word(text, b"refused E6"),
+    }
+}
+
+/// Puts the line of a moment, with the names of time-points.
 pub fn put_moment(text: &mut Vec<u8>, t: u32, named: &[NodeId], names: &[String])
     requires inside { All (λ x. x.0 < length names.now) named.now }
     requires short { All (λ name. length name ≤ 192) (map string_bytes names.now) }
@@ -116,4 +137,17 @@ fn put_name(text: &mut Vec<u8>, name: &str)
 {
     text.push(b' ').unwrap();
     text.extend_from_slice(name.as_bytes()).unwrap();
+}
+
+/// The printed names of all time-points.
+pub fn print_names(alloc: Global, names: &Names) -> Result<Vec<String>, AllocError>
+    requires few { length names.now ≤ 1024 }
+    ensures printed { IfOk result (λ printed. map string_bytes printed.items ≡ map printed_name names.now) }
+    ensures short { IfOk result (λ printed. All (λ name. length name ≤ 192) (map string_bytes printed.items)) }
+{
+    let mut printed = Vec::new(alloc);
+    for x in 0..names.count() as u16 {
+        printed.push(print_name(alloc, names.name(NodeId(x)))?)?;
+    }
+    Ok(printed)
 }

@@ -4,7 +4,6 @@ use Rattle.std.specs.Prelude.{◌⊎◌, nat_lt, if◌then◌else◌, get_or, Op
 use Rattle.std.proofs.lemmas.List.{length-map}
 use Rattle.cstn_io.specs.Contents.{IsAllOf, with_bytes}
 use Rattle.cstn_net.specs.Networks.{Network, IsWellFormed, count}
-use Rattle.cstn_net.specs.Strategies.{IsConsistent}
 use Rattle.cstn_graphml.specs.Results.{Refusal as DocumentRefusal}
 use Rattle.cstn_graphml.specs.Document.{Parts, document}
 use Rattle.cstn_graphml.specs.Networks.{observed_prop, network_of}
@@ -22,10 +21,13 @@ use Rattle.cstn_reply.specs.Texts.{yes_line}
 use Rattle.cstn_reply.specs.declared.output.Outcome.{Outcome}
 use Rattle.cstn_reply.specs.declared.output.Outcome.TheVariants.{Good, Bad, Words, Document, Full, Unfinished, Script, Wide}
 use Rattle.cstn_reply.specs.declared.status.Status.{Status}
-use Rattle.cstn_verdict.specs.Documents.{Answer, HasNetwork, IsRefused, on_document, parts_of}
+use Rattle.cstn_lift.specs.Labelled.{Labelled}
+use Rattle.cstn_lift.specs.Lowered.{lowered}
+use Rattle.cstn_lift.specs.Strategies.{IsLabelledConsistent}
+use Rattle.cstn_verdict.specs.Documents.{Answer, of_lowered, HasLabelled, HasNetwork, IsRefused, on_document, parts_of}
 use Rattle.cstn_verdict.specs.Verdicts.{verdict, on_verdict, checked}
-use Rattle.cstn_exec.specs.Runs.{start}
-use Rattle.cstn_talk.specs.Running.{run_turn, run_ending, carried_out}
+use Rattle.cstn_guide.specs.Guides.{begun}
+use Rattle.cstn_talk.specs.Guiding.{guide_turn, guide_ending, carried_out}
 use Rattle.cstn_text.specs.PrintedNames.{printed_name}
 use Rattle.cstn_reply.specs.Sessions.{session}
 use Rattle.cstn_evidence.specs.Accepted.{IsYesText, IsNoText, IsTightText, IsConflictText}
@@ -39,6 +41,7 @@ use Rattle.cstn_evidence.proofs.DocumentNames.{document_names}
 use Rattle.cstn_evidence.proofs.Standing.{YesAccepted, NoAccepted, IsOfDocument, Stands, StandsFor, not_above, never_decided, verdict_stands, tight_stands, conflict_stands}
 use Rattle.cstn_top.proofs.Edited.{document_named}
 use Rattle.cstn_top.proofs.Documents.{document_says}
+use Rattle.cstn_top.proofs.Labels.{IsOfLabelled, on_labels}
 use Rattle.cstn_top.proofs.Meanings.{RunTells, run_tells}
 use Rattle.cstn_evidence.proofs.ReadBack.{numbered_ids}
 use Rattle.cstn_top.proofs.Endings.{Answered}
@@ -63,22 +66,25 @@ document_then bytes deadline one other has follows = by_result (document bytes d
         )
 
 -- a run after yes doesn't end with a no
-run_yes : (cap : ℕ) (net : Network) (o : Outcome) (X : Type 0) → IsConsistent net → RunTells cap net o → Stands o (Unit {0}) X
-run_yes cap net Good X consistent told = tt
-run_yes cap net Bad X consistent told = absurd (told.0 consistent)
-run_yes cap net Words X consistent told = tt
-run_yes cap net Document X consistent told = tt
-run_yes cap net Full X consistent told = tt
-run_yes cap net Unfinished X consistent told = tt
-run_yes cap net Script X consistent told = tt
-run_yes cap net Wide X consistent told = tt
+run_yes : (cap : ℕ) (m : Labelled) (o : Outcome) (X : Type 0) → IsLabelledConsistent m → RunTells cap m o → Stands o (Unit {0}) X
+run_yes cap m Good X consistent told = tt
+run_yes cap m Bad X consistent told = absurd (told.0 consistent)
+run_yes cap m Words X consistent told = tt
+run_yes cap m Document X consistent told = tt
+run_yes cap m Full X consistent told = tt
+run_yes cap m Unfinished X consistent told = tt
+run_yes cap m Script X consistent told = tt
+run_yes cap m Wide X consistent told = tt
 
-run_stands : NoAccepted → (cap : ℕ) (names : List (List ℕ)) (net : Network) (live : List ℕ) (said : Said) → IsOfDocument names net → cap ≤ 4194304 →
-    IsOutput (carried_out cap names net) live said → StandsFor (λ text. Unit {0}) (IsNoText names net) said
-run_stands no_text cap names net live said is capped output = by_tests (nat_lt cap (load_of net)) (is_refuted net (log_of net)) refl refl
+run_stands : NoAccepted → (cap : ℕ) (names : List (List ℕ)) (m : Labelled) (live : List ℕ) (said : Said) → IsOfLabelled names m → cap ≤ 4194304 →
+    IsOutput (carried_out cap names m) live said → StandsFor (λ text. Unit {0}) (IsNoText names (lowered m)) said
+run_stands no_text cap names m live said of capped output = by_tests (nat_lt cap (load_of net)) (is_refuted net (log_of net)) refl refl
   where
+    net : Network
+    net = lowered m
+
     good : IsWellFormed net
-    good = is.good
+    good = of.plain.good
 
     verdict_is : (above refuted : Bool) → nat_lt cap (load_of net) ≡ above → is_refuted net (log_of net) ≡ refuted → verdict cap net ≡ (if above then IsFullVerdict else if refuted then No (load_of net) else Yes (load_of net))
     verdict_is above refuted over no' =
@@ -86,7 +92,7 @@ run_stands no_text cap names net live said is capped output = by_tests (nat_lt c
         ∙ ap (λ (b : Bool). if above then IsFullVerdict else if b then No (load_of net) else Yes (load_of net)) no'
 
     after_yes : Plan
-    after_yes = session (run_turn (map printed_name names) net (live_bounds (log_of net))) (run_ending net (live_bounds (log_of net))) (yes_line (load_of net)) (start (count net))
+    after_yes = session (guide_turn (map printed_name names) m (live_bounds (log_of net))) (guide_ending m (live_bounds (log_of net))) (yes_line (load_of net)) (begun (count m.base))
 
     plan_is : (after : Plan) (above refuted : Bool) → nat_lt cap (load_of net) ≡ above → is_refuted net (log_of net) ≡ refuted → IsOutput (on_verdict cap names net after (verdict cap net)) live said → IsOutput (on_verdict cap names net after (if above then IsFullVerdict else if refuted then No (load_of net) else Yes (load_of net))) live said
     plan_is after above refuted over no' out = subst (λ v. IsOutput (on_verdict cap names net after v) live said) (verdict_is above refuted over no') out
@@ -95,8 +101,9 @@ run_stands no_text cap names net live said is capped output = by_tests (nat_lt c
     by_tests true refuted over no' = subst (StandsFor (λ text. Unit {0}) (IsNoText names net)) (sym (plan_is after_yes true refuted over no' output)) tt
     by_tests false true over no' =
         subst (StandsFor (λ text. Unit {0}) (IsNoText names net)) (sym (plan_is after_yes false true over no' output))
-        (no_text names net good is.are is.named is.ids (omega (arith, not_above cap (load_of net) over, capped)) (never_decided net good no'))
-    by_tests false false over no' = run_yes cap net said.outcome (IsNoText names net said.text) ((log_decides net good.network good.letters).1 no') (run_tells cap names net live said good output)
+        (no_text names net good of.plain.are of.plain.named of.plain.ids (omega (arith, not_above cap (load_of net) over, capped)) (never_decided net good no'))
+    by_tests false false over no' =
+        run_yes cap m said.outcome (IsNoText names net said.text) (of.same.consistent.1 ((log_decides net good.network good.letters).1 no')) (run_tells cap names m live said of output)
 
 -- how many entries the log of a request may have, where its text is told
 abbrev pub IsRanged : Request → Type 0
@@ -132,7 +139,7 @@ on_network answer bytes deadline live said shown right refused each so output = 
     by_said (inl is) = refused is.0
     by_said (inr has) = so (document_then bytes deadline (λ names net. IsOutput (answer names net) live said) (λ names net. shown names net said) has each)
 
-check_shown : (asked : Asked) (cap : ℕ) (contents : List (List ℕ)) (o : Outcome) (text : List ℕ) → HasNetwork (get_or contents 0 []) asked.deadline (λ names net. Stands o (Unit {0}) (IsNoText names net text)) → IsEvidence (check asked cap) (status_of o) text contents
+check_shown : (asked : Asked) (cap : ℕ) (contents : List (List ℕ)) (o : Outcome) (text : List ℕ) → HasLabelled (get_or contents 0 []) asked.deadline (λ names m. Stands o (Unit {0}) (IsNoText names (lowered m) text)) → IsEvidence (check asked cap) (status_of o) text contents
 check_shown asked cap contents Good text has = tt
 check_shown asked cap contents Bad text has = has
 check_shown asked cap contents Words text has = tt
@@ -142,7 +149,7 @@ check_shown asked cap contents Unfinished text has = tt
 check_shown asked cap contents Script text has = tt
 check_shown asked cap contents Wide text has = tt
 
-run_shown : (asked : Asked) (cap : ℕ) (contents : List (List ℕ)) (o : Outcome) (text : List ℕ) → HasNetwork (get_or contents 0 []) asked.deadline (λ names net. Stands o (Unit {0}) (IsNoText names net text)) → IsEvidence (run asked cap) (status_of o) text contents
+run_shown : (asked : Asked) (cap : ℕ) (contents : List (List ℕ)) (o : Outcome) (text : List ℕ) → HasLabelled (get_or contents 0 []) asked.deadline (λ names m. Stands o (Unit {0}) (IsNoText names (lowered m) text)) → IsEvidence (run asked cap) (status_of o) text contents
 run_shown asked cap contents Good text has = tt
 run_shown asked cap contents Bad text has = has
 run_shown asked cap contents Words text has = tt
@@ -185,14 +192,14 @@ conflict_shown asked cap contents Wide text has = tt
 -- each output is evidence
 output_evidence : YesAccepted → NoAccepted → (request : Request) (contents : List (List ℕ)) (live : List ℕ) (said : Said) → IsRanged request → IsOutput (plan_at request contents) live said → IsEvidence request (status_of said.outcome) said.text contents
 output_evidence yes_text no_text (check asked cap) contents live said capped output =
-    on_network (checked cap) (get_or contents 0 []) asked.deadline live said (λ names net s. StandsFor (λ text. Unit {0}) (IsNoText names net) s) (λ s. IsEvidence (check asked cap) (status_of s.outcome) s.text contents)
-    (λ is. subst (λ (o : Outcome). IsEvidence (check asked cap) (status_of o) said.text contents) (sym is) tt)
-    (λ names net is out. verdict_stands yes_text no_text cap names net (yes_line (load_of net)) live said (λ text. Unit {0}) is capped (λ below consistent. tt) out)
+    on_labels (of_lowered (checked cap)) (get_or contents 0 []) asked.deadline live said (λ names m. StandsFor (λ text. Unit {0}) (IsNoText names (lowered m)) said) (IsEvidence (check asked cap) (status_of said.outcome) said.text contents)
+    (λ is refused. subst (λ (o : Outcome). IsEvidence (check asked cap) (status_of o) said.text contents) (sym is) tt)
+    (λ names m of out. verdict_stands yes_text no_text cap names (lowered m) (yes_line (load_of (lowered m))) live said (λ text. Unit {0}) of.plain capped (λ below consistent. tt) out)
     (check_shown asked cap contents said.outcome said.text) output
 output_evidence yes_text no_text (run asked cap) contents live said capped output =
-    on_network (carried_out cap) (get_or contents 0 []) asked.deadline live said (λ names net s. StandsFor (λ text. Unit {0}) (IsNoText names net) s) (λ s. IsEvidence (run asked cap) (status_of s.outcome) s.text contents)
-    (λ is. subst (λ (o : Outcome). IsEvidence (run asked cap) (status_of o) said.text contents) (sym is) tt)
-    (λ names net is out. run_stands no_text cap names net live said is capped out)
+    on_labels (carried_out cap) (get_or contents 0 []) asked.deadline live said (λ names m. StandsFor (λ text. Unit {0}) (IsNoText names (lowered m)) said) (IsEvidence (run asked cap) (status_of said.outcome) said.text contents)
+    (λ is refused. subst (λ (o : Outcome). IsEvidence (run asked cap) (status_of o) said.text contents) (sym is) tt)
+    (λ names m of out. run_stands no_text cap names m live said of capped out)
     (run_shown asked cap contents said.outcome said.text) output
 output_evidence yes_text no_text (closed asked cap) contents live said capped output =
     on_network (listed cap) (get_or contents 0 []) asked.deadline live said (λ names net s. StandsFor (IsYesText names net) (IsNoText names net) s) (λ s. IsEvidence (closed asked cap) (status_of s.outcome) s.text contents)
@@ -220,10 +227,10 @@ output_evidence yes_text no_text (drill number) contents live said capped output
 output_evidence yes_text no_text (host files deadline cap) contents live said capped output = tt
 
 -- what was written of an output, unless the call was stopped
-abbrev WroteOutput : Plan → Live → Option (List ℕ) → Option (List ℕ) → Status → Type 0
+abbrev pub WroteOutput : Plan → Live → Option (List ℕ) → Option (List ℕ) → Status → Type 0
 WroteOutput plan before old new status = (live : List ℕ) × IsAllOf before.left live × ((said : Said) × IsOutput plan live said × (status ≡ status_of said.outcome) × (new ≡ with_bytes old said.text))
 
-output_wrote : (plan : Plan) (before after : Live) (old new : Option (List ℕ)) (status result : Status) (text : List ℕ) → IsText plan before after status text → IsWritten old new text status result → WroteOutput plan before old new result ⊎ IsStopped result
+pub output_wrote : (plan : Plan) (before after : Live) (old new : Option (List ℕ)) (status result : Status) (text : List ℕ) → IsText plan before after status text → IsWritten old new text status result → WroteOutput plan before old new result ⊎ IsStopped result
 output_wrote plan before after old new status result text what (inr cut) = inr (inr (inl cut.0))
 output_wrote plan before after old new status result text (is_output live said all output) (inl wrote) = inl (live, all, (said, output, wrote.0, wrote.1))
 output_wrote plan before after old new status result text (is_file_fault same) (inl wrote) = inr (inl wrote.0)

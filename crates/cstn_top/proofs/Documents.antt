@@ -1,44 +1,73 @@
 -- What is said of the document of a file.
 use Rattle.std.proofs.Common.{◌≡◌, ℕ, Bool, true, false, List, length, refl, ap, inl, inr, arith}
-use Rattle.std.specs.Prelude.{◌⊎◌, nat_lt, if◌then◌else◌, Option, Result, Ok, Err, IsSomeAnd, codes}
+use Rattle.std.specs.Prelude.{◌⊎◌, nat_lt, if◌then◌else◌, Option, None, Some, Result, Ok, Err, IsSomeAnd, codes}
 use Rattle.cstn_graphml.specs.Results.{Refusal as DocumentRefusal}
 use Rattle.cstn_graphml.specs.Document.{Parts, document}
-use Rattle.cstn_graphml.specs.Networks.{network_of, IsFit}
+use Rattle.cstn_graphml.specs.Networks.{network_of, labelled_of, IsFit}
 use Rattle.cstn_reply.specs.Plans.{Said, say, says, unlabelled, IsOutput, MayTalk, AreUnlabelled}
 use Rattle.cstn_reply.specs.declared.output.Outcome.TheVariants.{Document}
-use Rattle.cstn_verdict.specs.Documents.{Answer, of_plain, judged, on_document, parts_of, HasNetwork, IsRefused}
+use Rattle.cstn_verdict.specs.Documents.{Answer, LabelledAnswer, of_plain, judged, on_labelled, on_document, parts_of, HasLabelled, HasNetwork, IsNoDocument, IsRefused}
 use Rattle.cstn_save.proofs.SameLemmas.{fits}
 
--- what is said of a document: it is refused, or this is said of its network
-pub document_says : (answer : Answer) (bytes : List ℕ) (deadline : Option ℕ) (live : List ℕ) (said : Said) → IsOutput (on_document answer bytes deadline) live said → ((said.outcome ≡ Document) × IsRefused bytes deadline) ⊎ HasNetwork bytes deadline (λ names net. IsOutput (answer names net) live said)
-document_says answer bytes deadline live said output = by_length (nat_lt 8388608 (length bytes)) refl output
+-- what is said of a document: it is refused, or this is said of its labelled network
+pub labelled_says : (answer : LabelledAnswer) (bytes : List ℕ) (deadline : Option ℕ) (live : List ℕ) (said : Said) → IsOutput (on_labelled answer bytes deadline) live said → ((said.outcome ≡ Document) × IsNoDocument bytes deadline) ⊎ HasLabelled bytes deadline (λ names m. IsOutput (answer names m) live said)
+labelled_says answer bytes deadline live said output = by_length (nat_lt 8388608 (length bytes)) refl output
   where
-    by_labels : (parts : Parts) → IsFit parts → IsOutput (unlabelled parts.labels (answer parts.names (network_of parts))) live said → ((said.outcome ≡ Document) × (IsSomeAnd (parts_of (Ok parts)) (λ parts. AreUnlabelled parts × Unit {0}) → ⊥)) ⊎ IsSomeAnd (parts_of (Ok parts)) (λ parts. AreUnlabelled parts × IsOutput (answer parts.names (network_of parts)) live said)
+    by_parts : (told : Result Parts DocumentRefusal) → IsOutput (judged answer told) live said → ((said.outcome ≡ Document) × (IsSomeAnd (parts_of told) (λ parts. IsFit parts × Unit {0}) → ⊥)) ⊎ IsSomeAnd (parts_of told) (λ parts. IsFit parts × IsOutput (answer parts.names (labelled_of parts)) live said)
+    by_parts (Err refusal) is = inl (ap (λ (s : Said). s.outcome) is, λ has. has)
+    by_parts (Ok parts) (inl fit) = inr fit
+    by_parts (Ok parts) (inr (inl unfit)) = inl (ap (λ (s : Said). s.outcome) unfit.2, λ has. fits parts unfit.0 has.0.labelled.base unfit.1)
+    by_parts (Ok parts) (inr (inr wrong_labels)) = inl (ap (λ (s : Said). s.outcome) wrong_labels.2, λ has. has.0.faultless wrong_labels.0 wrong_labels.1.fault.has)
+
+    by_told : ((said.outcome ≡ Document) × (HasLabelled bytes deadline (λ names m. Unit {0}) → ⊥)) ⊎ HasLabelled bytes deadline (λ names m. IsOutput (answer names m) live said) → ((said.outcome ≡ Document) × IsNoDocument bytes deadline) ⊎ HasLabelled bytes deadline (λ names m. IsOutput (answer names m) live said)
+    by_told (inl refused) = inl (refused.0, inr refused.1)
+    by_told (inr has) = inr has
+
+    by_length : (long : Bool) → nat_lt 8388608 (length bytes) ≡ long → IsOutput (if long then says (say Document (codes "document long")) else judged answer (document bytes deadline)) live said → ((said.outcome ≡ Document) × IsNoDocument bytes deadline) ⊎ HasLabelled bytes deadline (λ names m. IsOutput (answer names m) live said)
+    by_length true above is = inl (ap (λ (s : Said). s.outcome) is, inl (grind arith))
+    by_length false above is = by_told (by_parts (document bytes deadline) is)
+
+-- where no labels are taken, this is said of its network
+pub document_says : (answer : Answer) (bytes : List ℕ) (deadline : Option ℕ) (live : List ℕ) (said : Said) → IsOutput (on_document answer bytes deadline) live said → ((said.outcome ≡ Document) × IsRefused bytes deadline) ⊎ HasNetwork bytes deadline (λ names net. IsOutput (answer names net) live said)
+document_says answer bytes deadline live said output = by_said (labelled_says (of_plain answer) bytes deadline live said output)
+  where
+    with_labels : (found : Option Parts) → IsSomeAnd found (λ parts. AreUnlabelled parts × Unit {0}) → IsSomeAnd found (λ parts. IsFit parts × Unit {0})
+    with_labels None has = has
+    with_labels (Some parts) has = (has.0.0, tt)
+
+    by_labels : (parts : Parts) → IsFit parts → IsOutput (unlabelled parts.labels (answer parts.names (network_of parts))) live said → ((said.outcome ≡ Document) × (IsSomeAnd (Some parts) (λ parts. AreUnlabelled parts × Unit {0}) → ⊥)) ⊎ IsSomeAnd (Some parts) (λ parts. AreUnlabelled parts × IsOutput (answer parts.names (network_of parts)) live said)
     by_labels parts fit (inl plain) = inr ((fit, plain.0), plain.1)
     by_labels parts fit (inr told) = inl (ap (λ (s : Said). s.outcome) told.1, λ has. told.0 has.0.1)
 
-    by_parts : (told : Result Parts DocumentRefusal) → IsOutput (judged (of_plain answer) told) live said → ((said.outcome ≡ Document) × (IsSomeAnd (parts_of told) (λ parts. AreUnlabelled parts × Unit {0}) → ⊥)) ⊎ IsSomeAnd (parts_of told) (λ parts. AreUnlabelled parts × IsOutput (answer parts.names (network_of parts)) live said)
-    by_parts (Err refusal) is = inl (ap (λ (s : Said). s.outcome) is, λ has. has)
-    by_parts (Ok parts) (inl fit) = by_labels parts fit.0 fit.1
-    by_parts (Ok parts) (inr (inl unfit)) = inl (ap (λ (s : Said). s.outcome) unfit.2, λ has. fits parts unfit.0 has.0.0.labelled.base unfit.1)
-    by_parts (Ok parts) (inr (inr wrong_labels)) = inl (ap (λ (s : Said). s.outcome) wrong_labels.2, λ has. has.0.0.faultless wrong_labels.0 wrong_labels.1.fault.has)
+    by_found : (found : Option Parts) → IsSomeAnd found (λ parts. IsFit parts × IsOutput (unlabelled parts.labels (answer parts.names (network_of parts))) live said) → ((said.outcome ≡ Document) × (IsSomeAnd found (λ parts. AreUnlabelled parts × Unit {0}) → ⊥)) ⊎ IsSomeAnd found (λ parts. AreUnlabelled parts × IsOutput (answer parts.names (network_of parts)) live said)
+    by_found None has = absurd has
+    by_found (Some parts) has = by_labels parts has.0 has.1
 
     by_told : ((said.outcome ≡ Document) × (HasNetwork bytes deadline (λ names net. Unit {0}) → ⊥)) ⊎ HasNetwork bytes deadline (λ names net. IsOutput (answer names net) live said) → ((said.outcome ≡ Document) × IsRefused bytes deadline) ⊎ HasNetwork bytes deadline (λ names net. IsOutput (answer names net) live said)
     by_told (inl refused) = inl (refused.0, inr refused.1)
     by_told (inr has) = inr has
 
-    by_length : (long : Bool) → nat_lt 8388608 (length bytes) ≡ long → IsOutput (if long then says (say Document (codes "document long")) else judged (of_plain answer) (document bytes deadline)) live said → ((said.outcome ≡ Document) × IsRefused bytes deadline) ⊎ HasNetwork bytes deadline (λ names net. IsOutput (answer names net) live said)
-    by_length true above is = inl (ap (λ (s : Said). s.outcome) is, inl (grind arith))
-    by_length false above is = by_told (by_parts (document bytes deadline) is)
+    by_said : ((said.outcome ≡ Document) × IsNoDocument bytes deadline) ⊎ HasLabelled bytes deadline (λ names m. IsOutput (unlabelled m.labels (answer names m.base)) live said) → ((said.outcome ≡ Document) × IsRefused bytes deadline) ⊎ HasNetwork bytes deadline (λ names net. IsOutput (answer names net) live said)
+    by_said (inl (is, inl long)) = inl (is, inl long)
+    by_said (inl (is, inr none)) = inl (is, inr (λ has. none (with_labels (parts_of (document bytes deadline)) has)))
+    by_said (inr has) = by_told (by_found (parts_of (document bytes deadline)) has)
 
--- a session is held over a document only for its network
-pub document_talks : (answer : Answer) (bytes : List ℕ) (deadline : Option ℕ) → MayTalk (on_document answer bytes deadline) → HasNetwork bytes deadline (λ names net. MayTalk (answer names net))
-document_talks answer bytes deadline may = by_length (nat_lt 8388608 (length bytes)) may
+-- a session is held over a document only for its labelled network
+pub labelled_talks : (answer : LabelledAnswer) (bytes : List ℕ) (deadline : Option ℕ) → MayTalk (on_labelled answer bytes deadline) → HasLabelled bytes deadline (λ names m. MayTalk (answer names m))
+labelled_talks answer bytes deadline may = by_length (nat_lt 8388608 (length bytes)) may
   where
-    by_parts : (told : Result Parts DocumentRefusal) → MayTalk (judged (of_plain answer) told) → IsSomeAnd (parts_of told) (λ parts. AreUnlabelled parts × MayTalk (answer parts.names (network_of parts)))
+    by_parts : (told : Result Parts DocumentRefusal) → MayTalk (judged answer told) → IsSomeAnd (parts_of told) (λ parts. IsFit parts × MayTalk (answer parts.names (labelled_of parts)))
     by_parts (Err refusal) is = is
-    by_parts (Ok parts) is = ((is.0, is.1.0), is.1.1)
+    by_parts (Ok parts) is = is
 
-    by_length : (long : Bool) → MayTalk (if long then says (say Document (codes "document long")) else judged (of_plain answer) (document bytes deadline)) → HasNetwork bytes deadline (λ names net. MayTalk (answer names net))
+    by_length : (long : Bool) → MayTalk (if long then says (say Document (codes "document long")) else judged answer (document bytes deadline)) → HasLabelled bytes deadline (λ names m. MayTalk (answer names m))
     by_length true is = absurd is
     by_length false is = by_parts (document bytes deadline) is
+
+-- and where no labels are taken, for its network
+pub document_talks : (answer : Answer) (bytes : List ℕ) (deadline : Option ℕ) → MayTalk (on_document answer bytes deadline) → HasNetwork bytes deadline (λ names net. MayTalk (answer names net))
+document_talks answer bytes deadline may = by_found (parts_of (document bytes deadline)) (labelled_talks (of_plain answer) bytes deadline may)
+  where
+    by_found : (found : Option Parts) → IsSomeAnd found (λ parts. IsFit parts × MayTalk (unlabelled parts.labels (answer parts.names (network_of parts)))) → IsSomeAnd found (λ parts. AreUnlabelled parts × MayTalk (answer parts.names (network_of parts)))
+    by_found None has = has
+    by_found (Some parts) has = ((has.0, has.1.0), has.1.1)

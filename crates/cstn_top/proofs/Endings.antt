@@ -8,7 +8,7 @@ use Rattle.cstn_words.specs.Requests.{Request, files_of, names_of, AsksEdit}
 use Rattle.cstn_reply.specs.Files.{AreContents, AreThere}
 use Rattle.cstn_reply.specs.Plans.{Said, say, Plan, says, IsOutput, MayTalk, Live, IsText, is_output, is_file_fault, is_live_fault, is_memory, IsWritten, Ends, ComesTo, Untouched}
 use Rattle.cstn_reply.specs.Sessions.{session}
-use Rattle.cstn_talk.specs.Running.{RunningParts, running_turn, running_ending}
+use Rattle.cstn_talk.specs.Guiding.{GuidingParts, guided_turn, guided_ending}
 use Rattle.cstn_words.specs.Requests.{AsksHost}
 use Rattle.cstn_ward.specs.Wards.{ward_turn, ward_ending}
 use Rattle.cstn_ward.specs.Read.{WardParts, the_ward}
@@ -88,8 +88,8 @@ pub fits_as : (r : Request) (p q : Prepared) → FitsRequest r p → p ≡ q →
 fits_as r p q fits same = subst (FitsRequest r) same fits
 
 -- a session with an opening that is another one
-pub opened_as : (r : Request) (told : Option (List ℕ → Option (List ℕ))) (running : RunningParts) (opening : List ℕ) → {other : List ℕ} → Planned r told (session running_turn running_ending opening running) → opening ≡ other → Planned r told (session running_turn running_ending other running)
-opened_as r told running opening planned same = subst (λ (o : List ℕ). Planned r told (session running_turn running_ending o running)) same planned
+pub opened_as : (r : Request) (told : Option (List ℕ → Option (List ℕ))) (guiding : GuidingParts) (opening : List ℕ) → {other : List ℕ} → Planned r told (session guided_turn guided_ending opening guiding) → opening ≡ other → Planned r told (session guided_turn guided_ending other guiding)
+opened_as r told guiding opening planned same = subst (λ (o : List ℕ). Planned r told (session guided_turn guided_ending o guiding)) same planned
 
 pub opened_ward : (r : Request) (told : Option (List ℕ → Option (List ℕ))) (ward : WardParts) (opening : List ℕ) → {other : List ℕ} → Planned r told (session ward_turn ward_ending opening (the_ward ward)) → opening ≡ other → Planned r told (session ward_turn ward_ending other (the_ward ward))
 opened_ward r told ward opening planned same = subst (λ (o : List ℕ). Planned r told (session ward_turn ward_ending o (the_ward ward))) same planned
@@ -140,7 +140,7 @@ request_tells r told source now before after old new result outcome answered is 
     by_status (inr stopped) = absurd (not_stopped outcome (subst IsStopped is stopped))
 
 -- no request has only the status Words
-none_tells : {S : Type 0} (told : Option (List ℕ → Option (List ℕ))) (source now : S) (before after : Live) (old new : Option (List ℕ)) (result : Status) (outcome : Outcome) → Answered None told source now before after old new result → result ≡ status_of outcome → outcome ≡ Words
+pub none_tells : {S : Type 0} (told : Option (List ℕ → Option (List ℕ))) (source now : S) (before after : Live) (old new : Option (List ℕ)) (result : Status) (outcome : Outcome) → Answered None told source now before after old new result → result ≡ status_of outcome → outcome ≡ Words
 none_tells told source now before after old new result outcome answered is = by_status (end_status (plan_of None answered.0) before after old new result answered.2)
   where
     by_status : EndsAs (plan_of None answered.0) before result ⊎ IsStopped result → outcome ≡ Words

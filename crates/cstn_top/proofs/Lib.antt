@@ -1,4 +1,5 @@
 pub mod Documents
+pub mod Labels
 pub mod Drills
 pub mod Edited
 pub mod Evidence
@@ -10,3 +11,7 @@ pub mod Trees
 pub mod Endings
 pub mod Runs
 pub mod Accepted
+pub mod Played
+pub mod Lines
+pub mod EditTexts
+pub mod EditSessions

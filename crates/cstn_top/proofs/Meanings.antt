@@ -1,5 +1,5 @@
 -- What the outcomes of outputs tell.
-use Rattle.std.proofs.Common.{◌≡◌, ℕ, ◌<◌, Bool, true, false, List, [], ◌∷◌, ◌+◌, length, map, refl, ap, sym, ◌∙◌, subst, inl, inr, arith}
+use Rattle.std.proofs.Common.{◌≡◌, ℕ, ◌≤◌, ◌<◌, Bool, true, false, List, [], ◌∷◌, ◌+◌, length, map, refl, ap, sym, ◌∙◌, subst, inl, inr, arith}
 use Rattle.std.specs.Prelude.{◌⊎◌, nat_lt, if◌then◌else◌, get_or, Option, None, Some, Result, Ok, Err, IsSomeAnd, codes}
 use Rattle.std.proofs.lemmas.List.{length-map}
 use Rattle.cstn_io.specs.Contents.{IsAllOf}
@@ -13,8 +13,9 @@ use Rattle.cstn_label.specs.Bounds.{Bound}
 use Rattle.cstn_text.specs.PrintedNames.{printed_name}
 use Rattle.cstn_lines.specs.Pieces.{is_past, lines_of}
 use Rattle.cstn_lines.specs.LiveLines.{Live, moment_at, seen, due_now, live_read}
-use Rattle.cstn_exec.specs.Runs.{Run, start, named, due}
-use Rattle.cstn_exec.specs.Moves.{Refusal, moment_refusal, moved, outcome_refusal}
+use Rattle.cstn_exec.specs.Runs.{due}
+use Rattle.cstn_exec.specs.Moves.{Refusal, moment_refusal}
+use Rattle.cstn_guide.specs.Guides.{Guided, begun, told, advanced, see_refusal}
 use Rattle.cstn_check.specs.Growth.{log_of, load_of, live_bounds}
 use Rattle.cstn_check.specs.declared.verdicts.Verdict.{Verdict}
 use Rattle.cstn_check.specs.declared.verdicts.Verdict.TheVariants.{Yes, No, Full as IsFullVerdict}
@@ -22,24 +23,28 @@ use Rattle.cstn_refute.specs.Texts.{Told as ToldText, tells, wrong as wrong_text
 use Rattle.cstn_words.specs.Requests.{Asked, Request, check, run, edit, closed, tight, conflict, tree, save, replay, closedcheck, treecheck, drill, AsksEdit}
 use Rattle.cstn_reply.specs.Plans.{Said, say, after_text, says, IsOutput, MayTalk, AreUnlabelled}
 use Rattle.cstn_reply.specs.Sessions.{Turn, more, last, wrong, on_turn, script, play, session}
-use Rattle.cstn_talk.specs.Running.{moment_line, executing, moment_turn, seen_turn, live_turn, run_turn, unfinished, run_ending}
+use Rattle.cstn_talk.specs.Running.{moment_line, executing, unfinished}
+use Rattle.cstn_talk.specs.Guiding.{told_turn, noted_turn, answer_turn, guide_turn, guide_ending, carried_out}
 use Rattle.cstn_reply.specs.Texts.{yes_line, full_line}
-use Rattle.cstn_verdict.specs.Documents.{Answer, judged, on_labelled, on_document}
+use Rattle.cstn_lift.specs.Labelled.{Labelled}
+use Rattle.cstn_lift.specs.Lowered.{lowered}
+use Rattle.cstn_lift.specs.Strategies.{IsEquivalent, IsLabelledConsistent}
+use Rattle.cstn_verdict.specs.Documents.{Answer, of_lowered, on_document}
 use Rattle.cstn_verdict.specs.Verdicts.{verdict, on_verdict, checked}
-use Rattle.cstn_talk.specs.Running.{carried_out}
 use Rattle.cstn_talk.specs.Editing.{edited}
 use Rattle.cstn_top.specs.Outputs.{saved, plan_at}
 use Rattle.cstn_verdict.specs.Documents.{parts_of, HasLabelled, HasNetwork, IsRefused}
-use Rattle.cstn_verdict.specs.Verdicts.{IsYes, IsNo}
+use Rattle.cstn_verdict.specs.Verdicts.{IsYes, IsNo, IsLabelledYes, IsLabelledNo}
 use Rattle.cstn_evidence.proofs.ReadBack.{no_refutation}
 use Rattle.cstn_top.proofs.Evidence.{listed_well, refuted_well, tight_well, conflict_well}
-use Rattle.cstn_top.specs.Meanings.{AreFaulty, IsListed, IsRefutedByLog, IsTight, IsConflict, IsNoRefutation, IsGood, IsBad, IsFull, IsWide, IsDecided, IsDecidedTree, IsComplete, ReadsLive, MayStop}
+use Rattle.cstn_top.specs.Meanings.{AreFaulty, IsListed, IsRefutedByLog, IsTight, IsConflict, IsRefutedBy, IsNoRefutation, IsGood, IsBad, IsFull, IsWide, IsDecided, IsDecidedTree, IsLabelledDecided, IsOffGrammar, IsReplayed, IsComplete, ReadsLive, MayStop}
 use Rattle.cstn_reply.specs.Statuses.{status_of}
 use Rattle.cstn_reply.specs.declared.output.Outcome.{Outcome}
 use Rattle.cstn_reply.specs.declared.output.Outcome.TheVariants.{Good, Bad, Words, Document, Full, Unfinished, Script, Wide}
 use Rattle.cstn_verdict.proofs.Deciding.{Tells, verdict_tells}
 use Rattle.cstn_top.proofs.Drills.{counts_right}
 use Rattle.cstn_top.proofs.Documents.{document_says, document_talks}
+use Rattle.cstn_top.proofs.Labels.{IsOfLabelled, labelled_then, none_labelled, on_labels, talks_labelled, labels_silent}
 use Rattle.cstn_top.proofs.Hosts.{HostTells, host_tells, host_talks}
 use Rattle.cstn_words.specs.Requests.{host, AsksHost}
 use Rattle.cstn_top.proofs.Edited.{document_named, EditTells, edit_tells}
@@ -86,6 +91,27 @@ verdict_says cap names net text live said good output = by_verdict (verdict cap 
     by_verdict (No load) tells' is = subst (λ (o : Outcome). Verdicts cap net o) (sym (ap (λ (s : Said). s.outcome) is)) tells'
     by_verdict IsFullVerdict tells' is = subst (λ (o : Outcome). Verdicts cap net o) (sym (ap (λ (s : Said). s.outcome) is)) tells'
 
+-- and of a labelled network, where the one that it is lowered to is checked
+abbrev VerdictsLabelled : ℕ → Labelled → Outcome → Type 0
+VerdictsLabelled cap m Good = IsLabelledYes cap m
+VerdictsLabelled cap m Bad = IsLabelledNo cap m
+VerdictsLabelled cap m Full = cap < load_of (lowered m)
+VerdictsLabelled cap m Words = ⊥
+VerdictsLabelled cap m Document = ⊥
+VerdictsLabelled cap m Unfinished = ⊥
+VerdictsLabelled cap m Script = ⊥
+VerdictsLabelled cap m Wide = ⊥
+
+verdicts_labelled : (cap : ℕ) (m : Labelled) (o : Outcome) → IsEquivalent m (lowered m) → Verdicts cap (lowered m) o → VerdictsLabelled cap m o
+verdicts_labelled cap m Good same is = (same.consistent.1 is.0, is.1)
+verdicts_labelled cap m Bad same is = (λ has. is.0 (same.consistent.0 has), is.1)
+verdicts_labelled cap m Full same is = is
+verdicts_labelled cap m Words same is = is
+verdicts_labelled cap m Document same is = is
+verdicts_labelled cap m Unfinished same is = is
+verdicts_labelled cap m Script same is = is
+verdicts_labelled cap m Wide same is = is
+
 -- what the outcome of a search over several logs tells of a network, of which one may be too long
 abbrev Finds : Bool → Network → Outcome → Type 0
 Finds full net Good = IsConsistent net × (full ≡ false)
@@ -106,30 +132,61 @@ search_says false false net one two three live said good is output =
     differ : is_consistent net ≡ true → is_consistent net ≡ false → ⊥
     differ yes' no' = let same : true ≡ false = sym yes' ∙ no' in let f : ⊥ = cc in f
 
--- what the outcome of a replay tells of a network
-abbrev Replays : ToldText → Network → Outcome → Type 0
-Replays told net Good = IsConsistent net → ⊥
-Replays told net Bad = IsNoRefutation told net
-Replays told net Script = Unit {0}
-Replays told net Words = ⊥
-Replays told net Document = ⊥
-Replays told net Full = ⊥
-Replays told net Unfinished = ⊥
-Replays told net Wide = ⊥
+-- what the outcome of a replay tells of a text and a network
+abbrev Replays : List ℕ → ToldText → Network → Outcome → Type 0
+Replays text told net Good = (length text ≤ 1476395008) × IsRefutedBy told net × (IsConsistent net → ⊥)
+Replays text told net Bad = (length text ≤ 1476395008) × IsNoRefutation told net
+Replays text told net Script = IsOffGrammar text told
+Replays text told net Words = ⊥
+Replays text told net Document = ⊥
+Replays text told net Full = ⊥
+Replays text told net Unfinished = ⊥
+Replays text told net Wide = ⊥
 
-steps_tell : (told : ToldText) (net : Network) (live : List ℕ) (said : Said) → IsWellFormed net → IsOutput (replayed_steps told net) live said → Replays told net said.outcome
-steps_tell (wrong_text at) net live said good is = subst (λ (o : Outcome). Replays (wrong_text at) net o) (sym (ap (λ (s : Said). s.outcome) is)) tt
-steps_tell (tells load steps) net live said good (inl found) =
-    subst (λ (o : Outcome). Replays (tells load steps) net o) (sym (ap (λ (s : Said). s.outcome) found.1)) (refuted_inconsistent net steps good.network found.0)
-steps_tell (tells load steps) net live said good (inr found) =
-    subst (λ (o : Outcome). Replays (tells load steps) net o) (sym (ap (λ (s : Said). s.outcome) found.2)) (no_refutation net steps found.0 found.1)
+steps_tell : (text : List ℕ) (told : ToldText) (net : Network) (live : List ℕ) (said : Said) → length text ≤ 1476395008 → IsWellFormed net → IsOutput (replayed_steps told net) live said → Replays text told net said.outcome
+steps_tell text (wrong_text at) net live said short good is = subst (λ (o : Outcome). Replays text (wrong_text at) net o) (sym (ap (λ (s : Said). s.outcome) is)) tt
+steps_tell text (tells load steps) net live said short good (inl found) =
+    subst (λ (o : Outcome). Replays text (tells load steps) net o) (sym (ap (λ (s : Said). s.outcome) found.1)) (short, found.0, refuted_inconsistent net steps good.network found.0)
+steps_tell text (tells load steps) net live said short good (inr found) =
+    subst (λ (o : Outcome). Replays text (tells load steps) net o) (sym (ap (λ (s : Said). s.outcome) found.2)) (short, no_refutation net steps found.0 found.1)
 
-replay_tells : (text : List ℕ) (names : List (List ℕ)) (net : Network) (live : List ℕ) (said : Said) → IsWellFormed net → IsOutput (by_text replayed text names net) live said → Replays (told_by names text) net said.outcome
-replay_tells text names net live said good is = by_length (nat_lt 1476395008 (length text)) is
+long_off : (text : List ℕ) (told : ToldText) → 1476395008 < length text → IsOffGrammar text told
+long_off text (tells load steps) long = long
+long_off text (wrong_text at) long = tt
+
+replay_tells : (text : List ℕ) (names : List (List ℕ)) (net : Network) (live : List ℕ) (said : Said) → IsWellFormed net → IsOutput (by_text replayed text names net) live said → Replays text (told_by names text) net said.outcome
+replay_tells text names net live said good is = by_length (nat_lt 1476395008 (length text)) refl is
   where
-    by_length : (long : Bool) → IsOutput (if long then says (say Script (codes "script long")) else replayed text names net) live said → Replays (told_by names text) net said.outcome
-    by_length true is = subst (λ (o : Outcome). Replays (told_by names text) net o) (sym (ap (λ (s : Said). s.outcome) is)) tt
-    by_length false is = steps_tell (told_by names text) net live said good is
+    above : (n m : ℕ) → nat_lt n m ≡ true → n < m
+    above n m is' = grind arith
+
+    below : (n m : ℕ) → nat_lt n m ≡ false → m ≤ n
+    below n m is' = grind arith
+
+    by_length : (long : Bool) → nat_lt 1476395008 (length text) ≡ long → IsOutput (if long then says (say Script (codes "script long")) else replayed text names net) live said → Replays text (told_by names text) net said.outcome
+    by_length true over is' = subst (λ (o : Outcome). Replays text (told_by names text) net o) (sym (ap (λ (s : Said). s.outcome) is')) (long_off text (told_by names text) (above 1476395008 (length text) over))
+    by_length false over is' = steps_tell text (told_by names text) net live said (below 1476395008 (length text) over) good is'
+
+-- and of the labelled network that is lowered to it
+abbrev ReplaysLabelled : List ℕ → ToldText → Labelled → Outcome → Type 0
+ReplaysLabelled text told m Good = (length text ≤ 1476395008) × IsRefutedBy told (lowered m) × (IsLabelledConsistent m → ⊥)
+ReplaysLabelled text told m Bad = (length text ≤ 1476395008) × IsNoRefutation told (lowered m)
+ReplaysLabelled text told m Script = IsOffGrammar text told
+ReplaysLabelled text told m Words = ⊥
+ReplaysLabelled text told m Document = ⊥
+ReplaysLabelled text told m Full = ⊥
+ReplaysLabelled text told m Unfinished = ⊥
+ReplaysLabelled text told m Wide = ⊥
+
+replays_labelled : (text : List ℕ) (told : ToldText) (m : Labelled) (o : Outcome) → IsEquivalent m (lowered m) → Replays text told (lowered m) o → ReplaysLabelled text told m o
+replays_labelled text told m Good same is = (is.0, is.1, λ has. is.2 (same.consistent.0 has))
+replays_labelled text told m Bad same is = is
+replays_labelled text told m Script same is = is
+replays_labelled text told m Words same is = is
+replays_labelled text told m Document same is = is
+replays_labelled text told m Full same is = is
+replays_labelled text told m Unfinished same is = is
+replays_labelled text told m Wide same is = is
 
 -- what the outcome of a check of bounds tells of a network
 abbrev Certifies : ToldBounds → Network → Outcome → Type 0
@@ -180,26 +237,26 @@ none_such : (o : Option Parts) → IsSomeAnd o (λ parts. AreUnlabelled parts ×
 none_such None h = h
 none_such (Some parts) h = h.1
 
-check_right : (live : Option (List ℕ)) (asked : Asked) (cap : ℕ) (contents : List (List ℕ)) (o : Outcome) → HasNetwork (get_or contents 0 []) asked.deadline (λ names net. Verdicts cap net o) → IsRight live o (check asked cap) contents
+check_right : (live : Option (List ℕ)) (asked : Asked) (cap : ℕ) (contents : List (List ℕ)) (o : Outcome) → HasLabelled (get_or contents 0 []) asked.deadline (λ names m. VerdictsLabelled cap m o) → IsRight live o (check asked cap) contents
 check_right live asked cap contents Good has = has
 check_right live asked cap contents Bad has = has
 check_right live asked cap contents Full has = has
-check_right live asked cap contents Words has = none_such (parts_of (document (get_or contents 0 []) asked.deadline)) has
+check_right live asked cap contents Words has = none_labelled (get_or contents 0 []) asked.deadline has
 check_right live asked cap contents Document has = tt
 check_right live asked cap contents Unfinished has = tt
 check_right live asked cap contents Script has = tt
-check_right live asked cap contents Wide has = none_such (parts_of (document (get_or contents 0 []) asked.deadline)) has
+check_right live asked cap contents Wide has = none_labelled (get_or contents 0 []) asked.deadline has
 
--- what the outcome of a run tells of a network
-abbrev pub RunTells : ℕ → Network → Outcome → Type 0
-RunTells cap net Good = IsYes cap net
-RunTells cap net Unfinished = IsYes cap net
-RunTells cap net Script = IsYes cap net
-RunTells cap net Bad = IsNo cap net
-RunTells cap net Full = cap < load_of net
-RunTells cap net Words = ⊥
-RunTells cap net Document = ⊥
-RunTells cap net Wide = ⊥
+-- what the outcome of a run tells of a labelled network
+abbrev pub RunTells : ℕ → Labelled → Outcome → Type 0
+RunTells cap m Good = IsLabelledYes cap m
+RunTells cap m Unfinished = IsLabelledYes cap m
+RunTells cap m Script = IsLabelledYes cap m
+RunTells cap m Bad = IsLabelledNo cap m
+RunTells cap m Full = cap < load_of (lowered m)
+RunTells cap m Words = ⊥
+RunTells cap m Document = ⊥
+RunTells cap m Wide = ⊥
 
 -- how a run may end
 abbrev EndsRun : Outcome → Type 0
@@ -232,32 +289,35 @@ play_ends {S} turn ending each end s count (first ∷ lines) = by_past (λ next.
     by_past rest true = tt
     by_past rest false = by_turn rest (turn s first) (each s first)
 
-executing_ends : (text : List ℕ) (run' : Run) (o : Option ℕ) → TurnEnds (executing text run' o)
-executing_ends text run' None = tt
-executing_ends text run' (Some t) = tt
+executing_ends : (text : List ℕ) (g : Guided) (o : Option ℕ) → TurnEnds (executing text g o)
+executing_ends text g None = tt
+executing_ends text g (Some t) = tt
 
-live_ends : (names : List (List ℕ)) (net : Network) (bounds : List Bound) (run' : Run) (o : Option Live) → TurnEnds (live_turn names net bounds run' o)
-live_ends names net bounds run' None = tt
-live_ends names net bounds run' (Some (moment_at t)) = by_refusal (moment_refusal net bounds run' t)
+live_ends : (names : List (List ℕ)) (m : Labelled) (bounds : List Bound) (g : Guided) (o : Option Live) → TurnEnds (answer_turn names m bounds g o)
+live_ends names m bounds g None = tt
+live_ends names m bounds g (Some (moment_at t)) = by_refusal (moment_refusal (lowered m) bounds g.run t)
   where
-    by_refusal : (o : Option Refusal) → TurnEnds (moment_turn names net bounds run' t o)
-    by_refusal None = executing_ends (moment_line names t (named net bounds run' t)) (moved net bounds run' t) (due net bounds (moved net bounds run' t))
+    by_refusal : (o : Option Refusal) → TurnEnds (told_turn names m bounds g t o)
+    by_refusal None = executing_ends (moment_line names t (told m bounds g.run t)) (advanced m bounds g t) (due (lowered m) bounds (advanced m bounds g t).run)
     by_refusal (Some refusal) = tt
-live_ends names net bounds run' (Some (seen p value)) = by_refusal (outcome_refusal net run' p)
+live_ends names m bounds g (Some (seen p value)) = by_refusal (see_refusal m g p)
   where
-    by_refusal : (o : Option Refusal) → TurnEnds (seen_turn run' p value o)
+    by_refusal : (o : Option Refusal) → TurnEnds (noted_turn g p value o)
     by_refusal None = tt
     by_refusal (Some refusal) = tt
-live_ends names net bounds run' (Some due_now) = tt
+live_ends names m bounds g (Some due_now) = tt
 
 ending_ends : (o : Option ℕ) → EndsRun (unfinished o).outcome
 ending_ends None = tt
 ending_ends (Some t) = tt
 
-pub run_tells : (cap : ℕ) (names : List (List ℕ)) (net : Network) (live : List ℕ) (said : Said) → IsWellFormed net → IsOutput (carried_out cap names net) live said → RunTells cap net said.outcome
-run_tells cap names net live said good output = by_verdict (verdict cap net) (verdict_tells cap net good) output
+pub run_tells : (cap : ℕ) (names : List (List ℕ)) (m : Labelled) (live : List ℕ) (said : Said) → IsOfLabelled names m → IsOutput (carried_out cap names m) live said → RunTells cap m said.outcome
+run_tells cap names m live said of output = by_verdict (verdict cap (lowered m)) (verdict_tells cap (lowered m) of.plain.good) output
   where
-    by_outcome : (o : Outcome) → EndsRun o → IsYes cap net → RunTells cap net o
+    bounds : List Bound
+    bounds = live_bounds (log_of (lowered m))
+
+    by_outcome : (o : Outcome) → EndsRun o → IsLabelledYes cap m → RunTells cap m o
     by_outcome Good ends is = is
     by_outcome Unfinished ends is = is
     by_outcome Script ends is = is
@@ -267,64 +327,47 @@ run_tells cap names net live said good output = by_verdict (verdict cap net) (ve
     by_outcome Document ends is = absurd ends
     by_outcome Wide ends is = absurd ends
 
-    by_verdict : (v : Verdict) → Tells cap net v → IsOutput (on_verdict cap names net (session (run_turn (map printed_name names) net (live_bounds (log_of net))) (run_ending net (live_bounds (log_of net))) (yes_line (load_of net)) (start (count net))) v) live said → RunTells cap net said.outcome
+    by_verdict : (v : Verdict) → Tells cap (lowered m) v → IsOutput (on_verdict cap names (lowered m) (session (guide_turn (map printed_name names) m bounds) (guide_ending m bounds) (yes_line (load_of (lowered m))) (begun (count m.base))) v) live said → RunTells cap m said.outcome
     by_verdict (Yes load) tells' is =
         by_outcome said.outcome
-        (subst (λ (s : Said). EndsRun s.outcome) (sym is) (play_ends (run_turn (map printed_name names) net (live_bounds (log_of net))) (run_ending net (live_bounds (log_of net)))
-        (λ run' text. live_ends (map printed_name names) net (live_bounds (log_of net)) run' (live_read text)) (λ run'. ending_ends (due net (live_bounds (log_of net)) run')) (start (count net)) 0 (lines_of live)))
-        tells'
-    by_verdict (No load) tells' is = subst (λ (o : Outcome). RunTells cap net o) (sym (ap (λ (s : Said). s.outcome) is)) tells'
-    by_verdict IsFullVerdict tells' is = subst (λ (o : Outcome). RunTells cap net o) (sym (ap (λ (s : Said). s.outcome) is)) tells'
+        (subst (λ (s : Said). EndsRun s.outcome) (sym is) (play_ends (guide_turn (map printed_name names) m bounds) (guide_ending m bounds)
+        (λ g text. live_ends (map printed_name names) m bounds g (live_read text)) (λ g. ending_ends (due (lowered m) bounds g.run)) (begun (count m.base)) 0 (lines_of live)))
+        (of.same.consistent.1 tells'.0, tells'.1)
+    by_verdict (No load) tells' is = subst (λ (o : Outcome). RunTells cap m o) (sym (ap (λ (s : Said). s.outcome) is)) (λ has. tells'.0 (of.same.consistent.0 has), tells'.1)
+    by_verdict IsFullVerdict tells' is = subst (λ (o : Outcome). RunTells cap m o) (sym (ap (λ (s : Said). s.outcome) is)) tells'
 
-run_right : (live : Option (List ℕ)) (asked : Asked) (cap : ℕ) (contents : List (List ℕ)) (o : Outcome) → HasNetwork (get_or contents 0 []) asked.deadline (λ names net. RunTells cap net o) → IsRight live o (run asked cap) contents
+run_right : (live : Option (List ℕ)) (asked : Asked) (cap : ℕ) (contents : List (List ℕ)) (o : Outcome) → HasLabelled (get_or contents 0 []) asked.deadline (λ names m. RunTells cap m o) → IsRight live o (run asked cap) contents
 run_right live asked cap contents Good has = has
 run_right live asked cap contents Bad has = has
 run_right live asked cap contents Full has = has
-run_right live asked cap contents Words has = none_such (parts_of (document (get_or contents 0 []) asked.deadline)) has
+run_right live asked cap contents Words has = none_labelled (get_or contents 0 []) asked.deadline has
 run_right live asked cap contents Document has = tt
 run_right live asked cap contents Unfinished has = tt
 run_right live asked cap contents Script has = tt
-run_right live asked cap contents Wide has = none_such (parts_of (document (get_or contents 0 []) asked.deadline)) has
+run_right live asked cap contents Wide has = none_labelled (get_or contents 0 []) asked.deadline has
 
--- what is said of a document that is to be saved
-save_said : (bytes : List ℕ) (deadline : Option ℕ) (live : List ℕ) (said : Said) → IsOutput (on_labelled saved bytes deadline) live said → (said.outcome ≡ Document) ⊎ ((said.outcome ≡ Good) × HasLabelled bytes deadline (λ names m. Unit {0}))
-save_said bytes deadline live said output = by_length (nat_lt 8388608 (length bytes)) output
+save_right : (live : Option (List ℕ)) (asked : Asked) (contents : List (List ℕ)) (o : Outcome) → HasLabelled (get_or contents 0 []) asked.deadline (λ names m. o ≡ Good) → IsRight live o (save asked) contents
+save_right live asked contents o has = by_found (parts_of (document (get_or contents 0 []) asked.deadline)) has refl
   where
-    by_parts : (told : Result Parts DocumentRefusal) → IsOutput (judged saved told) live said → (said.outcome ≡ Document) ⊎ ((said.outcome ≡ Good) × IsSomeAnd (parts_of told) (λ parts. IsFit parts × Unit {0}))
-    by_parts (Err refusal) is = inl (ap (λ (s : Said). s.outcome) is)
-    by_parts (Ok parts) (inl fit) = inr (ap (λ (s : Said). s.outcome) fit.1, (fit.0, tt))
-    by_parts (Ok parts) (inr (inl unfit)) = inl (ap (λ (s : Said). s.outcome) unfit.2)
-    by_parts (Ok parts) (inr (inr wrong_labels)) = inl (ap (λ (s : Said). s.outcome) wrong_labels.2)
+    by_found : (found : Option Parts) → IsSomeAnd found (λ parts. IsFit parts × (o ≡ Good)) → parts_of (document (get_or contents 0 []) asked.deadline) ≡ found → IsRight live o (save asked) contents
+    by_found None h is = absurd h
+    by_found (Some parts) h is =
+        subst (λ (x : Outcome). IsRight live x (save asked) contents) (sym h.1)
+        (subst (λ (f : Option Parts). IsSomeAnd f (λ parts. IsFit parts × Unit {0})) (sym is) (h.0, tt))
 
-    by_length : (long : Bool) → IsOutput (if long then says (say Document (codes "document long")) else judged saved (document bytes deadline)) live said → (said.outcome ≡ Document) ⊎ ((said.outcome ≡ Good) × HasLabelled bytes deadline (λ names m. Unit {0}))
-    by_length true is = inl (ap (λ (s : Said). s.outcome) is)
-    by_length false is = by_parts (document bytes deadline) is
-
--- nothing is said of it in a session
-save_silent : (bytes : List ℕ) (deadline : Option ℕ) → MayTalk (on_labelled saved bytes deadline) → ⊥
-save_silent bytes deadline may = by_length (nat_lt 8388608 (length bytes)) may
-  where
-    by_parts : (told : Result Parts DocumentRefusal) → MayTalk (judged saved told) → ⊥
-    by_parts (Err refusal) is = is
-    by_parts (Ok parts) is = is.1
-
-    by_length : (long : Bool) → MayTalk (if long then says (say Document (codes "document long")) else judged saved (document bytes deadline)) → ⊥
-    by_length true is = is
-    by_length false is = by_parts (document bytes deadline) is
-
-save_right : (live : Option (List ℕ)) (asked : Asked) (contents : List (List ℕ)) (o : Outcome) → (o ≡ Document) ⊎ ((o ≡ Good) × HasLabelled (get_or contents 0 []) asked.deadline (λ names m. Unit {0})) → IsRight live o (save asked) contents
-save_right live asked contents o (inl is) = subst (λ (x : Outcome). IsRight live x (save asked) contents) (sym is) tt
-save_right live asked contents o (inr has) = subst (λ (x : Outcome). IsRight live x (save asked) contents) (sym has.0) has.1
-
-replay_right : (live : Option (List ℕ)) (asked : Asked) (proof : List ℕ) (contents : List (List ℕ)) (o : Outcome) → HasNetwork (get_or contents 0 []) asked.deadline (λ names net. Replays (told_by names (get_or contents 1 [])) net o) → IsRight live o (replay asked proof) contents
-replay_right live asked proof contents Good has = has
-replay_right live asked proof contents Bad has = has
-replay_right live asked proof contents Full has = none_such (parts_of (document (get_or contents 0 []) asked.deadline)) has
-replay_right live asked proof contents Words has = none_such (parts_of (document (get_or contents 0 []) asked.deadline)) has
+replay_right : (live : Option (List ℕ)) (asked : Asked) (proof : List ℕ) (contents : List (List ℕ)) (o : Outcome) → HasLabelled (get_or contents 0 []) asked.deadline (λ names m. ReplaysLabelled (get_or contents 1 []) (told_by names (get_or contents 1 [])) m o) → IsRight live o (replay asked proof) contents
+replay_right live asked proof contents Good has =
+    labelled_then (get_or contents 0 []) asked.deadline (λ names m. ReplaysLabelled (get_or contents 1 []) (told_by names (get_or contents 1 [])) m Good)
+    (λ names m. IsRefutedBy (told_by names (get_or contents 1 [])) (lowered m) × (IsLabelledConsistent m → ⊥)) has (λ names m of told. (told.1, told.2))
+replay_right live asked proof contents Bad has =
+    labelled_then (get_or contents 0 []) asked.deadline (λ names m. ReplaysLabelled (get_or contents 1 []) (told_by names (get_or contents 1 [])) m Bad)
+    (λ names m. IsNoRefutation (told_by names (get_or contents 1 [])) (lowered m)) has (λ names m of told. told.1)
+replay_right live asked proof contents Full has = none_labelled (get_or contents 0 []) asked.deadline has
+replay_right live asked proof contents Words has = none_labelled (get_or contents 0 []) asked.deadline has
 replay_right live asked proof contents Document has = tt
 replay_right live asked proof contents Unfinished has = tt
 replay_right live asked proof contents Script has = tt
-replay_right live asked proof contents Wide has = none_such (parts_of (document (get_or contents 0 []) asked.deadline)) has
+replay_right live asked proof contents Wide has = none_labelled (get_or contents 0 []) asked.deadline has
 
 -- what the outcome of `closed` tells
 abbrev Lists : ℕ → Network → Outcome → Type 0
@@ -469,14 +512,21 @@ host_right live files deadline cap contents Unfinished tells' = tt
 host_right live files deadline cap contents Script tells' = tt
 host_right live files deadline cap contents Wide tells' = tells'
 
+-- a check and a replay on the network that a labelled one is lowered to
+check_tells : (cap : ℕ) (live : List ℕ) (said : Said) (names : List (List ℕ)) (m : Labelled) → IsOfLabelled names m → IsOutput (checked cap names (lowered m)) live said → VerdictsLabelled cap m said.outcome
+check_tells cap live said names m of is = verdicts_labelled cap m said.outcome of.same (verdict_says cap names (lowered m) (yes_line (load_of (lowered m))) live said of.plain.good is)
+
+text_tells : (text live : List ℕ) (said : Said) (names : List (List ℕ)) (m : Labelled) → IsOfLabelled names m → IsOutput (by_text replayed text names (lowered m)) live said → ReplaysLabelled text (told_by names text) m said.outcome
+text_tells text live said names m of is = replays_labelled text (told_by names text) m said.outcome of.same (replay_tells text names (lowered m) live said of.plain.good is)
+
 -- the outcome of each output is right
 pub output_right : (told : Option (List ℕ)) (request : Request) (contents : List (List ℕ)) (live : List ℕ) (said : Said) → IsAllOf told live → IsOutput (plan_at request contents) live said → IsRight told said.outcome request contents
 output_right told (check asked cap) contents live said all output =
-    on_network (checked cap) (get_or contents 0 []) asked.deadline live said (λ o names net. Verdicts cap net o) (λ o. IsRight told o (check asked cap) contents) (λ refused. tt)
-    (λ names net good named is. verdict_says cap names net (yes_line (load_of net)) live said good is) (check_right told asked cap contents) output
+    on_labels (of_lowered (checked cap)) (get_or contents 0 []) asked.deadline live said (λ names m. VerdictsLabelled cap m said.outcome) (IsRight told said.outcome (check asked cap) contents)
+    (λ is refused. subst (λ (o : Outcome). IsRight told o (check asked cap) contents) (sym is) tt) (check_tells cap live said) (check_right told asked cap contents said.outcome) output
 output_right told (run asked cap) contents live said all output =
-    on_network (carried_out cap) (get_or contents 0 []) asked.deadline live said (λ o names net. RunTells cap net o) (λ o. IsRight told o (run asked cap) contents) (λ refused. tt)
-    (λ names net good named is. run_tells cap names net live said good is) (run_right told asked cap contents) output
+    on_labels (carried_out cap) (get_or contents 0 []) asked.deadline live said (λ names m. RunTells cap m said.outcome) (IsRight told said.outcome (run asked cap) contents)
+    (λ is refused. subst (λ (o : Outcome). IsRight told o (run asked cap) contents) (sym is) tt) (λ names m of is. run_tells cap names m live said of is) (run_right told asked cap contents said.outcome) output
 output_right told (edit asked cap) contents live said all output =
     on_network (edited cap) (get_or contents 0 []) asked.deadline live said (EditTells told cap) (λ o. IsRight told o (edit asked cap) contents) (λ refused. tt)
     (λ names net good named is. edit_tells told cap names net live said good named all is) (edit_right told asked cap contents) output
@@ -496,10 +546,11 @@ output_right told (treecheck asked proof) contents live said all output =
     on_network (by_text tree_checked (get_or contents 1 [])) (get_or contents 0 []) asked.deadline live said (λ o names net. ChecksTree (told_tree names (get_or contents 1 [])) net o) (λ o. IsRight told o (treecheck asked proof) contents) (λ refused. tt)
     (λ names net good named is. tree_tells (get_or contents 1 []) names net live said good is) (treecheck_right told asked proof contents) output
 output_right told (save asked) contents live said all output =
-    save_right told asked contents said.outcome (save_said (get_or contents 0 []) asked.deadline live said output)
+    on_labels saved (get_or contents 0 []) asked.deadline live said (λ names m. said.outcome ≡ Good) (IsRight told said.outcome (save asked) contents)
+    (λ is refused. subst (λ (o : Outcome). IsRight told o (save asked) contents) (sym is) tt) (λ names m of is. ap (λ (s : Said). s.outcome) is) (save_right told asked contents said.outcome) output
 output_right told (replay asked proof) contents live said all output =
-    on_network (by_text replayed (get_or contents 1 [])) (get_or contents 0 []) asked.deadline live said (λ o names net. Replays (told_by names (get_or contents 1 [])) net o) (λ o. IsRight told o (replay asked proof) contents) (λ refused. tt)
-    (λ names net good named is. replay_tells (get_or contents 1 []) names net live said good is) (replay_right told asked proof contents) output
+    on_labels (of_lowered (by_text replayed (get_or contents 1 []))) (get_or contents 0 []) asked.deadline live said (λ names m. ReplaysLabelled (get_or contents 1 []) (told_by names (get_or contents 1 [])) m said.outcome) (IsRight told said.outcome (replay asked proof) contents)
+    (λ is refused. subst (λ (o : Outcome). IsRight told o (replay asked proof) contents) (sym is) tt) (text_tells (get_or contents 1 []) live said) (replay_right told asked proof contents said.outcome) output
 output_right told (closedcheck asked proof) contents live said all output =
     on_network (by_text certified (get_or contents 1 [])) (get_or contents 0 []) asked.deadline live said (λ o names net. Certifies (told_bounds names (get_or contents 1 [])) net o) (λ o. IsRight told o (closedcheck asked proof) contents) (λ refused. tt)
     (λ names net good named is. certificate_tells (get_or contents 1 []) names net live said good is) (closedcheck_right told asked proof contents) output
@@ -518,12 +569,37 @@ decides cap net Unfinished never below = absurd never
 decides cap net Script never below = absurd never
 decides cap net Wide never below = absurd never
 
+decides_labelled : (cap : ℕ) (m : Labelled) (o : Outcome) → VerdictsLabelled cap m o → IsLabelledDecided cap m (status_of o)
+decides_labelled cap m Good yes' below = inl (refl, yes'.0)
+decides_labelled cap m Bad no' below = inr (refl, no'.0)
+decides_labelled cap m Full above below = absurd (omega (arith, above, below))
+decides_labelled cap m Words never below = absurd never
+decides_labelled cap m Document never below = absurd never
+decides_labelled cap m Unfinished never below = absurd never
+decides_labelled cap m Script never below = absurd never
+decides_labelled cap m Wide never below = absurd never
+
+-- a replay decides whether the text is of steps that refute
+decides_text : (text : List ℕ) (told : ToldText) (m : Labelled) (o : Outcome) → ReplaysLabelled text told m o → IsReplayed text told (lowered m) (status_of o)
+decides_text text told m Good is = inr (is.0, inl (refl, is.1))
+decides_text text told m Bad is = inr (is.0, inr (refl, is.1))
+decides_text text told m Script is = inl (refl, is)
+decides_text text told m Words never = absurd never
+decides_text text told m Document never = absurd never
+decides_text text told m Full never = absurd never
+decides_text text told m Unfinished never = absurd never
+decides_text text told m Wide never = absurd never
+
 -- each output is complete
 pub output_complete : (request : Request) (contents : List (List ℕ)) (live : List ℕ) (said : Said) → IsOutput (plan_at request contents) live said → IsComplete (status_of said.outcome) request contents
 output_complete (check asked cap) contents live said output =
-    on_network (checked cap) (get_or contents 0 []) asked.deadline live said (λ o names net. Verdicts cap net o) (λ o. IsComplete (status_of o) (check asked cap) contents) (λ refused. inl (refl, refused))
-    (λ names net good named is. verdict_says cap names net (yes_line (load_of net)) live said good is)
-    (λ o has. inr (network_then (get_or contents 0 []) asked.deadline (λ names net. Verdicts cap net o) (λ names net. IsDecided cap net (status_of o)) has (λ names net good named told. decides cap net o told))) output
+    on_labels (of_lowered (checked cap)) (get_or contents 0 []) asked.deadline live said (λ names m. IsLabelledDecided cap m (status_of said.outcome)) (IsComplete (status_of said.outcome) (check asked cap) contents)
+    (λ is refused. inl (ap status_of is, refused)) (λ names m of is. decides_labelled cap m said.outcome (check_tells cap live said names m of is)) (λ has. inr has) output
+output_complete (replay asked proof) contents live said output =
+    on_labels (of_lowered (by_text replayed (get_or contents 1 []))) (get_or contents 0 []) asked.deadline live said (λ names m. IsReplayed (get_or contents 1 []) (told_by names (get_or contents 1 [])) (lowered m) (status_of said.outcome))
+    (IsComplete (status_of said.outcome) (replay asked proof) contents)
+    (λ is refused. inl (ap status_of is, refused))
+    (λ names m of is. decides_text (get_or contents 1 []) (told_by names (get_or contents 1 [])) m said.outcome (text_tells (get_or contents 1 []) live said names m of is)) (λ has. inr has) output
 output_complete (closed asked cap) contents live said output =
     on_network (listed cap) (get_or contents 0 []) asked.deadline live said (λ o names net. Verdicts cap net o) (λ o. IsComplete (status_of o) (closed asked cap) contents) (λ refused. inl (refl, refused))
     (λ names net good named is. verdict_says cap names net (shown_bounds names (load_of net) (live_bounds (log_of net))) live said good is)
@@ -539,7 +615,6 @@ output_complete (closedcheck asked proof) contents live said output = tt
 output_complete (run asked cap) contents live said output = tt
 output_complete (edit asked cap) contents live said output = tt
 output_complete (save asked) contents live said output = tt
-output_complete (replay asked proof) contents live said output = tt
 output_complete (host files deadline cap) contents live said output = tt
 output_complete (drill number) contents live said output = ap (λ (s : Said). status_of s.outcome) output
 
@@ -577,20 +652,19 @@ bounds_silent : (names : List (List ℕ)) (told : ToldBounds) (net : Network) �
 bounds_silent names (tells_bounds load bounds) net is = is
 bounds_silent names (wrong_bound at) net is = is
 
-run_talks : (cap : ℕ) (names : List (List ℕ)) (net : Network) → IsWellFormed net → MayTalk (carried_out cap names net) → IsYes cap net
-run_talks cap names net good may = by_verdict (verdict cap net) (verdict_tells cap net good) may
+run_talks : (cap : ℕ) (names : List (List ℕ)) (m : Labelled) → IsOfLabelled names m → MayTalk (carried_out cap names m) → IsLabelledYes cap m
+run_talks cap names m of may = by_verdict (verdict cap (lowered m)) (verdict_tells cap (lowered m) of.plain.good) may
   where
-    by_verdict : (v : Verdict) → Tells cap net v → MayTalk (on_verdict cap names net (session (run_turn (map printed_name names) net (live_bounds (log_of net))) (run_ending net (live_bounds (log_of net))) (yes_line (load_of net)) (start (count net))) v) → IsYes cap net
-    by_verdict (Yes load) tells' is = tells'
+    by_verdict : (v : Verdict) → Tells cap (lowered m) v → MayTalk (on_verdict cap names (lowered m) (session (guide_turn (map printed_name names) m (live_bounds (log_of (lowered m)))) (guide_ending m (live_bounds (log_of (lowered m)))) (yes_line (load_of (lowered m))) (begun (count m.base))) v) → IsLabelledYes cap m
+    by_verdict (Yes load) tells' is = (of.same.consistent.1 tells'.0, tells'.1)
     by_verdict (No load) tells' is = absurd is
     by_verdict IsFullVerdict tells' is = absurd is
 
 -- a session is held only by a request that reads the live source
 pub talks_live : (request : Request) (contents : List (List ℕ)) → MayTalk (plan_at request contents) → ReadsLive request contents
-talks_live (check asked cap) contents may = never_talks (checked cap) (get_or contents 0 []) asked.deadline (λ names net. verdict_silent cap names net (yes_line (load_of net))) may
-talks_live (run asked cap) contents may =
-    network_then (get_or contents 0 []) asked.deadline (λ names net. MayTalk (carried_out cap names net)) (λ names net. IsYes cap net)
-    (document_talks (carried_out cap) (get_or contents 0 []) asked.deadline may) (λ names net good named is. run_talks cap names net good is)
+talks_live (check asked cap) contents may =
+    labels_silent (of_lowered (checked cap)) (get_or contents 0 []) asked.deadline (λ names m. verdict_silent cap names (lowered m) (yes_line (load_of (lowered m)))) may
+talks_live (run asked cap) contents may = talks_labelled (carried_out cap) (get_or contents 0 []) asked.deadline (λ names m. IsLabelledYes cap m) (λ names m of is. run_talks cap names m of is) may
 talks_live (edit asked cap) contents may =
     network_then (get_or contents 0 []) asked.deadline (λ names net. MayTalk (edited cap names net)) (λ names net. Unit {0})
     (document_talks (edited cap) (get_or contents 0 []) asked.deadline may) (λ names net good named is. tt)
@@ -603,9 +677,10 @@ talks_live (conflict asked cap) contents may =
 talks_live (tree asked cap) contents may = never_talks (unfolded cap) (get_or contents 0 []) asked.deadline (λ names net. tree_silent cap names net) may
 talks_live (treecheck asked proof) contents may =
     never_talks (by_text tree_checked (get_or contents 1 [])) (get_or contents 0 []) asked.deadline (λ names net. text_silent tree_checked (get_or contents 1 []) names net (lines_silent (told_tree names (get_or contents 1 [])) net)) may
-talks_live (save asked) contents may = save_silent (get_or contents 0 []) asked.deadline may
+talks_live (save asked) contents may = labels_silent saved (get_or contents 0 []) asked.deadline (λ names m is. is) may
 talks_live (replay asked proof) contents may =
-    never_talks (by_text replayed (get_or contents 1 [])) (get_or contents 0 []) asked.deadline (λ names net. text_silent replayed (get_or contents 1 []) names net (steps_silent (told_by names (get_or contents 1 [])) net)) may
+    labels_silent (of_lowered (by_text replayed (get_or contents 1 []))) (get_or contents 0 []) asked.deadline
+    (λ names m. text_silent replayed (get_or contents 1 []) names (lowered m) (steps_silent (told_by names (get_or contents 1 [])) (lowered m))) may
 talks_live (closedcheck asked proof) contents may =
     never_talks (by_text certified (get_or contents 1 [])) (get_or contents 0 []) asked.deadline (λ names net. text_silent certified (get_or contents 1 []) names net (bounds_silent names (told_bounds names (get_or contents 1 [])) net)) may
 talks_live (drill number) contents may = may

@@ -1,12 +1,29 @@
 -- A run that was prepared.
-use Rattle.std.proofs.Common.{◌≡◌, ℕ, List, subst}
-use Rattle.std.specs.Prelude.{Result, IfOk}
-use Rattle.cstn_net.specs.Read.{NetworkParts, the_network}
-use Rattle.cstn_reply.specs.Plans.{ComesTo}
-use Rattle.cstn_talk.specs.Running.{carried_out}
-use Rattle.cstn_top.specs.Prepared.{the_plan}
-use Rattle.cstn_top.specs.declared.commands.Prepared.{Prepared}
+use Rattle.std.proofs.Common.{◌≡◌, ℕ, List, map, sym, subst}
+use Rattle.cstn_net.specs.Networks.{Network, count}
+use Rattle.cstn_text.specs.PrintedNames.{printed_name}
+use Rattle.cstn_lift.specs.Labelled.{Labelled}
+use Rattle.cstn_lift.specs.Lowered.{lowered}
+use Rattle.cstn_check.specs.Growth.{log_of, load_of, live_bounds}
+use Rattle.cstn_check.specs.declared.verdicts.Verdict.TheVariants.{Yes}
+use Rattle.cstn_guide.specs.Guides.{begun}
+use Rattle.cstn_reply.specs.Texts.{yes_line}
+use Rattle.cstn_reply.specs.Plans.{Said, Plan, says, ComesTo}
+use Rattle.cstn_reply.specs.Sessions.{session}
+use Rattle.cstn_verdict.specs.Verdicts.{verdict, on_verdict}
+use Rattle.cstn_verdict.proofs.Opening.{comes_same}
+use Rattle.cstn_talk.specs.Guiding.{guide_turn, guide_ending, carried_out}
 
--- the same for a network that the check was handed
-pub begun_for : {E : Type 0} (cap : ℕ) (names : List (List ℕ)) (net other : NetworkParts) (r : Result Prepared E) → other ≡ net → IfOk r (λ prepared. ComesTo (carried_out cap names (the_network other)) (the_plan prepared)) → IfOk r (λ prepared. ComesTo (carried_out cap names (the_network net)) (the_plan prepared))
-begun_for cap names net other r same comes = subst (λ (n : NetworkParts). IfOk r (λ prepared. ComesTo (carried_out cap names (the_network n)) (the_plan prepared))) same comes
+-- the verdict on the network that a labelled one is lowered to
+pub verdict_for : (cap : ℕ) (net other : Network) → net ≡ other → verdict cap net ≡ Yes (load_of net) → verdict cap other ≡ Yes (load_of other)
+verdict_for cap net other same is = subst (λ (n : Network). verdict cap n ≡ Yes (load_of n)) same is
+
+-- what is said after no, or where the log has more entries than it may
+pub told_for : (cap : ℕ) (names : List (List ℕ)) (net : Network) (m : Labelled) (said : Said) → net ≡ lowered m → ((after_yes : Plan) → on_verdict cap names net after_yes (verdict cap net) ≡ says said) → ComesTo (carried_out cap names m) (says said)
+told_for cap names net m said same told =
+    comes_same (carried_out cap names m) (says said) (sym (subst (λ (n : Network). on_verdict cap names n after_yes (verdict cap n) ≡ says said) same (told after_yes)))
+  where
+    after_yes : Plan
+    after_yes =
+        session (guide_turn (map printed_name names) m (live_bounds (log_of (lowered m)))) (guide_ending m (live_bounds (log_of (lowered m))))
+        (yes_line (load_of (lowered m))) (begun (count m.base))

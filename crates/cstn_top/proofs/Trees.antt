@@ -19,7 +19,7 @@ use Rattle.cstn_reply.specs.Statuses.{status_of}
 use Rattle.cstn_reply.specs.declared.output.Said.{Said as SaidText}
 use Rattle.cstn_reply.specs.declared.output.Outcome.{Outcome}
 use Rattle.cstn_reply.specs.declared.output.Outcome.TheVariants.{Good, Bad, Words, Document, Full, Unfinished, Script, Wide}
-use Rattle.cstn_verdict.specs.Documents.{Answer}
+use Rattle.cstn_verdict.specs.Documents.{Answer, of_plain}
 use Rattle.cstn_verdict.specs.Verdicts.{verdict, on_verdict, IsYes, IsNo}
 use Rattle.cstn_verdict.specs.Opened.{IsOpened}
 use Rattle.cstn_verdict.specs.declared.documents.Opened.TheVariants.{Accepted}
@@ -34,14 +34,14 @@ use Rattle.cstn_top.specs.Prepared.{Planned}
 use Rattle.cstn_top.proofs.Opening.{IsOfOne, one_comes}
 use Rattle.cstn_top.proofs.ByText.{IsOfTwo}
 
-pub of_tree : (asked : Asked) (cap : ℕ) → IsOfOne (tree asked cap) asked (unfolded cap)
+pub of_tree : (asked : Asked) (cap : ℕ) → IsOfOne (tree asked cap) asked (of_plain (unfolded cap))
 of_tree asked cap = record { files = refl; plan = λ bytes. refl }
 
-pub of_treecheck : (asked : Asked) (proof : List ℕ) → IsOfTwo (treecheck asked proof) asked proof tree_checked
+pub of_treecheck : (asked : Asked) (proof : List ℕ) → IsOfTwo (treecheck asked proof) asked proof (λ text. of_plain (by_text tree_checked text))
 of_treecheck asked proof = record { files = refl; plan = λ bytes text. refl }
 
 -- the plan of a document that was accepted, where what is said is one of its outputs
-pub one_answers : {E : Type 0} (request : Request) (asked : Asked) (answer : Answer) (told : Option (List ℕ → Option (List ℕ))) (net : NetworkParts) (names : List (List ℕ)) (r : Result SaidText E) → IsOfOne request asked answer → IsOpened told asked (Accepted net names) → ((live : List ℕ) → IfOk r (λ said. IsOutput (answer names (the_network net)) live (the_said said))) → IfOk r (λ said. Planned request told (says (the_said said)))
+pub one_answers : {E : Type 0} (request : Request) (asked : Asked) (answer : Answer) (told : Option (List ℕ → Option (List ℕ))) (net : NetworkParts) (names : List (List ℕ)) (r : Result SaidText E) → IsOfOne request asked (of_plain answer) → IsOpened told asked (Accepted net names) → ((live : List ℕ) → IfOk r (λ said. IsOutput (answer names (the_network net)) live (the_said said))) → IfOk r (λ said. Planned request told (says (the_said said)))
 one_answers request asked answer told net names (Err e) one opened is = tt
 one_answers {E} request asked answer told net names (Ok said) one opened is =
     one_comes {X = SaidText} {E = E} request asked answer told net names (λ x. says (the_said x)) (Ok said) one opened (comes_to_text (answer names (the_network net)) (the_said said) is)

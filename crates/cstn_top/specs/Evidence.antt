@@ -4,14 +4,15 @@ use Rattle.cstn_io.specs.Contents.{with_bytes}
 use Rattle.cstn_words.specs.Requests.{Request, check, run, closed, tight, conflict}
 use Rattle.cstn_reply.specs.declared.status.Status.{Status}
 use Rattle.cstn_reply.specs.declared.status.Status.TheVariants.{Good, Bad}
-use Rattle.cstn_verdict.specs.Documents.{HasNetwork}
+use Rattle.cstn_lift.specs.Lowered.{lowered}
+use Rattle.cstn_verdict.specs.Documents.{HasLabelled, HasNetwork}
 use Rattle.cstn_evidence.specs.Accepted.{IsYesText, IsNoText, IsTightText, IsConflictText}
 
 -- the text stands for the answer: after yes what `closed` and `tight` write, and after no what every command writes that checks
 -- the network of a document
 abbrev pub IsEvidence : Request → Status → List ℕ → List (List ℕ) → Type 0
-IsEvidence (check asked cap) Bad text contents = HasNetwork (get_or contents 0 []) asked.deadline (λ names net. IsNoText names net text)
-IsEvidence (run asked cap) Bad text contents = HasNetwork (get_or contents 0 []) asked.deadline (λ names net. IsNoText names net text)
+IsEvidence (check asked cap) Bad text contents = HasLabelled (get_or contents 0 []) asked.deadline (λ names m. IsNoText names (lowered m) text)
+IsEvidence (run asked cap) Bad text contents = HasLabelled (get_or contents 0 []) asked.deadline (λ names m. IsNoText names (lowered m) text)
 IsEvidence (closed asked cap) Good text contents = HasNetwork (get_or contents 0 []) asked.deadline (λ names net. IsYesText names net text)
 IsEvidence (closed asked cap) Bad text contents = HasNetwork (get_or contents 0 []) asked.deadline (λ names net. IsNoText names net text)
 IsEvidence (tight asked cap) Good text contents = HasNetwork (get_or contents 0 []) asked.deadline (λ names net. IsTightText names net text)

@@ -4,5 +4,7 @@ pub mod Outputs
 pub mod Several
 pub mod Meanings
 pub mod Evidence
+pub mod Lines
 pub mod Opened
 pub mod Prepared
+pub mod EditSessions

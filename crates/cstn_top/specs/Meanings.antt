@@ -1,8 +1,11 @@
 -- What the status of a request tells.
-use Rattle.std.specs.Prelude.{◌≡◌, ◌≤◌, ◌<◌, ◌⊎◌, ◌-◌, ℕ, true, List, [], take, get_or, Option, None, Some, IfSome, IsSomeAnd}
+use Rattle.std.specs.Prelude.{◌≡◌, ◌≤◌, ◌<◌, ◌⊎◌, ◌-◌, ℕ, true, List, [], length, take, get_or, Option, None, Some, IfSome, IsSomeAnd}
 use Rattle.cstn_io.specs.Contents.{IsAllOf}
 use Rattle.cstn_net.specs.Networks.{Network}
 use Rattle.cstn_net.specs.Strategies.{IsConsistent}
+use Rattle.cstn_lift.specs.Labelled.{Labelled}
+use Rattle.cstn_lift.specs.Lowered.{lowered}
+use Rattle.cstn_lift.specs.Strategies.{IsLabelledConsistent}
 use Rattle.cstn_rules.specs.Derivations.{IsRefutation}
 use Rattle.cstn_check.specs.Growth.{log_of, load_of, live_bounds}
 use Rattle.cstn_lines.specs.Pieces.{lines_of}
@@ -20,8 +23,8 @@ use Rattle.cstn_conflict.specs.Sets.{less, with_ids}
 use Rattle.cstn_conflict.specs.Conflicts.{conflict_set, is_full as is_blame_full}
 use Rattle.cstn_tight.specs.Deadlines.{at_deadline, IsLeastDeadline}
 use Rattle.cstn_tight.specs.Bisection.{least_deadline, is_full as is_tight_full}
-use Rattle.cstn_verdict.specs.Documents.{HasLabelled, HasNetwork, IsRefused}
-use Rattle.cstn_verdict.specs.Verdicts.{IsYes, IsNo}
+use Rattle.cstn_verdict.specs.Documents.{HasLabelled, HasNetwork, IsNoDocument, IsRefused}
+use Rattle.cstn_verdict.specs.Verdicts.{IsYes, IsNo, IsLabelledYes, IsLabelledNo}
 use Rattle.cstn_talk.specs.Editing.{begun_editing, last_checked}
 use Rattle.cstn_tree.specs.Texts.{told as told_tree}
 use Rattle.cstn_strategy.specs.Unfolded.{observed}
@@ -34,7 +37,12 @@ abbrev pub HoldsOf : Option Request → Option (List ℕ → Option (List ℕ)) 
 HoldsOf None told holds = ⊥
 HoldsOf (Some request) told holds = (contents : List (List ℕ)) × AreContents told (files_of request) contents × holds request contents
 
--- the text is a refutation's, and its steps are none of the network
+-- the text is a refutation's, and its steps are one of the network
+abbrev pub IsRefutedBy : Told → Network → Type 0
+IsRefutedBy (tells load steps) net = IsRefutation net steps
+IsRefutedBy (wrong at) net = ⊥
+
+-- or they are none of it
 abbrev pub IsNoRefutation : Told → Network → Type 0
 IsNoRefutation (tells load steps) net = IsRefutation net steps → ⊥
 IsNoRefutation (wrong at) net = ⊥
@@ -73,8 +81,8 @@ AtLastCheck told cap names net holds =
 -- is consistent, and one of which a refutation was replayed isn't; the bounds that were written have no fault, the deadline
 -- is the least, and the tree is good; of a drill, that as many small networks are consistent as are counted
 abbrev pub IsGood : Option (List ℕ) → Request → List (List ℕ) → Type 0
-IsGood told (check asked cap) contents = HasNetwork (get_or contents 0 []) asked.deadline (λ names net. IsYes cap net)
-IsGood told (run asked cap) contents = HasNetwork (get_or contents 0 []) asked.deadline (λ names net. IsYes cap net)
+IsGood told (check asked cap) contents = HasLabelled (get_or contents 0 []) asked.deadline (λ names m. IsLabelledYes cap m)
+IsGood told (run asked cap) contents = HasLabelled (get_or contents 0 []) asked.deadline (λ names m. IsLabelledYes cap m)
 IsGood told (edit asked cap) contents =
     HasNetwork (get_or contents 0 []) asked.deadline (λ names net. AtLastCheck told cap names net (λ last. IfSome last IsConsistent))
 IsGood told (closed asked cap) contents = HasNetwork (get_or contents 0 []) asked.deadline (λ names net. IsYes cap net × IsListed net)
@@ -82,7 +90,8 @@ IsGood told (tight asked cap) contents = HasNetwork (get_or contents 0 []) asked
 IsGood told (conflict asked cap) contents = HasNetwork (get_or contents 0 []) asked.deadline (λ names net. IsConsistent net)
 IsGood told (tree asked cap) contents = HasNetwork (get_or contents 0 []) asked.deadline (λ names net. IsNarrow net × IsYes cap net × HasTree names net)
 IsGood told (save asked) contents = HasLabelled (get_or contents 0 []) asked.deadline (λ names m. Unit {0})
-IsGood told (replay asked proof) contents = HasNetwork (get_or contents 0 []) asked.deadline (λ names net. IsConsistent net → ⊥)
+IsGood told (replay asked proof) contents =
+    HasLabelled (get_or contents 0 []) asked.deadline (λ names m. IsRefutedBy (told_by names (get_or contents 1 [])) (lowered m) × (IsLabelledConsistent m → ⊥))
 IsGood told (closedcheck asked proof) contents = HasNetwork (get_or contents 0 []) asked.deadline (λ names net. IsConsistent net)
 IsGood told (treecheck asked proof) contents =
     HasNetwork (get_or contents 0 []) asked.deadline (λ names net. IsGoodTree (told_tree names (get_or contents 1 [])) net)
@@ -92,8 +101,8 @@ IsGood told (host files deadline cap) contents = EachHas contents deadline (IsYe
 -- what the status Bad tells of it: its document has a network that isn't consistent, or of which the text is no refutation, or its
 -- list has a fault; what was written refutes the network, or that of a conflict set
 abbrev pub IsBad : Option (List ℕ) → Request → List (List ℕ) → Type 0
-IsBad told (check asked cap) contents = HasNetwork (get_or contents 0 []) asked.deadline (λ names net. IsNo cap net)
-IsBad told (run asked cap) contents = HasNetwork (get_or contents 0 []) asked.deadline (λ names net. IsNo cap net)
+IsBad told (check asked cap) contents = HasLabelled (get_or contents 0 []) asked.deadline (λ names m. IsLabelledNo cap m)
+IsBad told (run asked cap) contents = HasLabelled (get_or contents 0 []) asked.deadline (λ names m. IsLabelledNo cap m)
 IsBad told (edit asked cap) contents =
     HasNetwork (get_or contents 0 []) asked.deadline (λ names net. AtLastCheck told cap names net (λ last. IsSomeAnd last (λ edited. IsConsistent edited → ⊥)))
 IsBad told (closed asked cap) contents = HasNetwork (get_or contents 0 []) asked.deadline (λ names net. IsNo cap net)
@@ -103,7 +112,7 @@ IsBad told (conflict asked cap) contents =
 IsBad told (tree asked cap) contents = HasNetwork (get_or contents 0 []) asked.deadline (λ names net. IsNarrow net × IsNo cap net)
 IsBad told (save asked) contents = ⊥
 IsBad told (replay asked proof) contents =
-    HasNetwork (get_or contents 0 []) asked.deadline (λ names net. IsNoRefutation (told_by names (get_or contents 1 [])) net)
+    HasLabelled (get_or contents 0 []) asked.deadline (λ names m. IsNoRefutation (told_by names (get_or contents 1 [])) (lowered m))
 IsBad told (closedcheck asked proof) contents =
     HasNetwork (get_or contents 0 []) asked.deadline (λ names net. AreFaulty (told_bounds names (get_or contents 1 [])) net)
 IsBad told (treecheck asked proof) contents =
@@ -113,8 +122,8 @@ IsBad told (host files deadline cap) contents = FirstHas contents deadline cap (
 
 -- what the status Full tells of it: the log of its network has more entries than it may
 abbrev pub IsFull : Option (List ℕ) → Request → List (List ℕ) → Type 0
-IsFull told (check asked cap) contents = HasNetwork (get_or contents 0 []) asked.deadline (λ names net. cap < load_of net)
-IsFull told (run asked cap) contents = HasNetwork (get_or contents 0 []) asked.deadline (λ names net. cap < load_of net)
+IsFull told (check asked cap) contents = HasLabelled (get_or contents 0 []) asked.deadline (λ names m. cap < load_of (lowered m))
+IsFull told (run asked cap) contents = HasLabelled (get_or contents 0 []) asked.deadline (λ names m. cap < load_of (lowered m))
 IsFull told (edit asked cap) contents =
     HasNetwork (get_or contents 0 []) asked.deadline (λ names net. AtLastCheck told cap names net (λ last. IsSomeAnd last (λ edited. cap < load_of edited)))
 IsFull told (closed asked cap) contents = HasNetwork (get_or contents 0 []) asked.deadline (λ names net. cap < load_of net)
@@ -133,15 +142,36 @@ IsWide request contents = ⊥
 abbrev pub IsDecided : ℕ → Network → Status → Type 0
 IsDecided cap net status = load_of net ≤ cap → ((status ≡ Good) × IsConsistent net) ⊎ ((status ≡ Bad) × (IsConsistent net → ⊥))
 
+-- and so is a labelled network, by the log of the network that it is lowered to
+abbrev pub IsLabelledDecided : ℕ → Labelled → Status → Type 0
+IsLabelledDecided cap m status =
+    load_of (lowered m) ≤ cap → ((status ≡ Good) × IsLabelledConsistent m) ⊎ ((status ≡ Bad) × (IsLabelledConsistent m → ⊥))
+
+-- the text has more bytes than one may have, or a line that is of no grammar
+abbrev pub IsOffGrammar : List ℕ → Told → Type 0
+IsOffGrammar text (tells load steps) = 1476395008 < length text
+IsOffGrammar text (wrong at) = Unit {0}
+
+-- a text is replayed on a network: Good where its steps are a refutation, and Bad where they are none
+abbrev pub IsReplayed : List ℕ → Told → Network → Status → Type 0
+IsReplayed text told net status =
+    ((status ≡ Script) × IsOffGrammar text told)
+    ⊎ ((length text ≤ 1476395008) × (((status ≡ Good) × IsRefutedBy told net) ⊎ ((status ≡ Bad) × IsNoRefutation told net)))
+
 -- the tree of a network is told, if no more than 10 propositions are observed and its log has no more entries than it may
 abbrev pub IsDecidedTree : ℕ → Network → Status → Type 0
 IsDecidedTree cap net status = ((status ≡ Wide) × (10 < observed net)) ⊎ (IsNarrow net × IsDecided cap net status)
 
--- a check is complete: the network of a document is decided, or the document is refused; a drill is Good
+-- a check or a replay is complete: the network of a document is decided, or a text is replayed on it, or the document is refused;
+-- a drill is Good
 abbrev pub IsComplete : Status → Request → List (List ℕ) → Type 0
 IsComplete status (check asked cap) contents =
-    ((status ≡ Document) × IsRefused (get_or contents 0 []) asked.deadline)
-    ⊎ HasNetwork (get_or contents 0 []) asked.deadline (λ names net. IsDecided cap net status)
+    ((status ≡ Document) × IsNoDocument (get_or contents 0 []) asked.deadline)
+    ⊎ HasLabelled (get_or contents 0 []) asked.deadline (λ names m. IsLabelledDecided cap m status)
+IsComplete status (replay asked proof) contents =
+    ((status ≡ Document) × IsNoDocument (get_or contents 0 []) asked.deadline)
+    ⊎ HasLabelled (get_or contents 0 []) asked.deadline
+    (λ names m. IsReplayed (get_or contents 1 []) (told_by names (get_or contents 1 [])) (lowered m) status)
 IsComplete status (closed asked cap) contents =
     ((status ≡ Document) × IsRefused (get_or contents 0 []) asked.deadline)
     ⊎ HasNetwork (get_or contents 0 []) asked.deadline (λ names net. IsDecided cap net status)
@@ -172,7 +202,7 @@ files_read Wide names = names
 -- the request reads the live source: a run of a network that has a strategy, an edit session, or a host of networks of which
 -- each has a strategy
 abbrev pub ReadsLive : Request → List (List ℕ) → Type 0
-ReadsLive (run asked cap) contents = HasNetwork (get_or contents 0 []) asked.deadline (λ names net. IsYes cap net)
+ReadsLive (run asked cap) contents = HasLabelled (get_or contents 0 []) asked.deadline (λ names m. IsLabelledYes cap m)
 ReadsLive (edit asked cap) contents = HasNetwork (get_or contents 0 []) asked.deadline (λ names net. Unit {0})
 ReadsLive (host files deadline cap) contents = EachHas contents deadline (IsYes cap)
 ReadsLive request contents = ⊥

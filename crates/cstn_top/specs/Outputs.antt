@@ -5,7 +5,7 @@ use Rattle.cstn_words.specs.Requests.{Request, check, run, edit, closed, tight, 
 use Rattle.cstn_words.specs.Requests.{host}
 use Rattle.cstn_reply.specs.Plans.{Said, say, Plan, says}
 use Rattle.cstn_reply.specs.declared.output.Outcome.TheVariants.{Good, Words}
-use Rattle.cstn_verdict.specs.Documents.{LabelledAnswer, on_labelled, on_document}
+use Rattle.cstn_verdict.specs.Documents.{LabelledAnswer, of_lowered, on_labelled, on_document}
 use Rattle.cstn_verdict.specs.Verdicts.{verdict, checked}
 use Rattle.cstn_evidence.specs.Bounds.{listed}
 use Rattle.cstn_evidence.specs.Blame.{blamed}
@@ -13,7 +13,7 @@ use Rattle.cstn_evidence.specs.Tight.{tightened}
 use Rattle.cstn_evidence.specs.Texts.{by_text, replayed, certified}
 use Rattle.cstn_strategy.specs.Unfolded.{unfolded}
 use Rattle.cstn_strategy.specs.Checked.{tree_checked}
-use Rattle.cstn_talk.specs.Running.{carried_out}
+use Rattle.cstn_talk.specs.Guiding.{carried_out}
 use Rattle.cstn_talk.specs.Editing.{edited}
 use Rattle.cstn_ward.specs.Hosting.{hosted_plan}
 use Rattle.cstn_top.specs.Drills.{large, counts_of, small_line, large_line}
@@ -29,15 +29,15 @@ drilled number =
 
 -- the plan of a request whose files have these contents
 abbrev pub plan_at : Request → List (List ℕ) → Plan
-plan_at (check asked cap) contents = on_document (checked cap) (get_or contents 0 []) asked.deadline
-plan_at (run asked cap) contents = on_document (carried_out cap) (get_or contents 0 []) asked.deadline
+plan_at (check asked cap) contents = on_labelled (of_lowered (checked cap)) (get_or contents 0 []) asked.deadline
+plan_at (run asked cap) contents = on_labelled (carried_out cap) (get_or contents 0 []) asked.deadline
 plan_at (edit asked cap) contents = on_document (edited cap) (get_or contents 0 []) asked.deadline
 plan_at (closed asked cap) contents = on_document (listed cap) (get_or contents 0 []) asked.deadline
 plan_at (tight asked cap) contents = on_document (tightened cap) (get_or contents 0 []) asked.deadline
 plan_at (conflict asked cap) contents = on_document (blamed cap) (get_or contents 0 []) asked.deadline
 plan_at (tree asked cap) contents = on_document (unfolded cap) (get_or contents 0 []) asked.deadline
 plan_at (save asked) contents = on_labelled saved (get_or contents 0 []) asked.deadline
-plan_at (replay asked proof) contents = on_document (by_text replayed (get_or contents 1 [])) (get_or contents 0 []) asked.deadline
+plan_at (replay asked proof) contents = on_labelled (of_lowered (by_text replayed (get_or contents 1 []))) (get_or contents 0 []) asked.deadline
 plan_at (closedcheck asked proof) contents = on_document (by_text certified (get_or contents 1 [])) (get_or contents 0 []) asked.deadline
 plan_at (treecheck asked proof) contents = on_document (by_text tree_checked (get_or contents 1 [])) (get_or contents 0 []) asked.deadline
 plan_at (drill number) contents = says (drilled number)

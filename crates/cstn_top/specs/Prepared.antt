@@ -5,7 +5,7 @@ use Rattle.cstn_words.specs.Requests.{AsksHost}
 use Rattle.cstn_reply.specs.Files.{AreContents, AreThere}
 use Rattle.cstn_reply.specs.Plans.{Said, Plan, says, EndsLine, ComesTo, IsOutput}
 use Rattle.cstn_reply.specs.Sessions.{session}
-use Rattle.cstn_talk.specs.Running.{running_turn, running_ending}
+use Rattle.cstn_talk.specs.Guiding.{guided_turn, guided_ending}
 use Rattle.cstn_talk.specs.Editing.{the_editing, edit_turn, edit_ending}
 use Rattle.cstn_ward.specs.Wards.{ward_turn, ward_ending}
 use Rattle.cstn_ward.specs.Read.{the_ward}
@@ -20,14 +20,14 @@ use Rattle.cstn_top.specs.declared.commands.Prepared.TheVariants.{Hosts}
 -- the plan that is carried out
 abbrev pub the_plan : Prepared → Plan
 the_plan (Says said) = says (the_said said)
-the_plan (Runs opening running) = session running_turn running_ending opening.items running
+the_plan (Runs opening guiding) = session guided_turn guided_ending opening.items guiding
 the_plan (Edits editing) = session edit_turn edit_ending [] (the_editing editing)
 the_plan (Hosts opening ward) = session ward_turn ward_ending opening.items (the_ward ward)
 
 -- an opening is whole lines, and an edit session or a host is prepared only where one is asked for
 abbrev pub FitsRequest : Request → Prepared → Type 0
 FitsRequest request (Says said) = Unit {0}
-FitsRequest request (Runs opening running) = EndsLine opening.items
+FitsRequest request (Runs opening guiding) = EndsLine opening.items
 FitsRequest request (Edits editing) = AsksEdit request
 FitsRequest request (Hosts opening ward) = EndsLine opening.items × AsksHost request
 

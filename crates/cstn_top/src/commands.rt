@@ -1,5 +1,5 @@
 // What is prepared for each request, before anything is written.
-ghost use Rattle.std.specs.Prelude.{◌≡◌, [], IfOk, IfSome, IsTrue, IsErrOf};
+ghost use Rattle.std.specs.Prelude.{◌≡◌, ◌≤◌, [], IfOk, IfSome, IsTrue, IsErrOf};
 ghost use Rattle.std.specs.List.{list_all};
 ghost use Rattle.cstn_io.specs.Causes.{Rose};
 ghost use Rattle.cstn_words.specs.Requests.{files_of};
@@ -27,7 +27,7 @@ use closedcheck::closedcheck_file;
 use conflict::conflict_file;
 use cstn_io::Shelf;
 use cstn_reply::{Refused, Said};
-use cstn_talk::{Editing, Running};
+use cstn_talk::{Editing, Guiding};
 use cstn_ward::Ward;
 use cstn_words::Request;
 use drill::drill;
@@ -47,7 +47,7 @@ pub(crate) enum Prepared {
     /// A text and no more.
     Says(Said),
     /// The first line, and then the answers to the live lines.
-    Runs { opening: Vec<u8>, running: Running },
+    Runs { opening: Vec<u8>, guiding: Guiding },
     /// The answers to the edit lines.
     Edits(Editing),
     /// The lines after yes, and then the answers to the host lines.
@@ -66,6 +66,9 @@ pub(crate) fn prepare<F: Shelf>(
     ensures fits { IfOk result (FitsRequest (the_request request.entry)) }
     ensures unnamed_stand { files_of (the_request request.entry) ≡ [] → shelf.new ≡ shelf.old }
     ensures fault { IsErrOf result Refused.ReadFault → Rose (F.faults shelf.old) (F.faults shelf.new) }
+    ensures names { F.may_ask shelf.new ≡ F.may_ask shelf.old }
+    ensures files { F.files shelf.new ≡ F.files shelf.old }
+    ensures later { F.faults shelf.old ≤ F.faults shelf.new }
 {
     match request {
         Request::Check { asked, cap } => {

@@ -2,9 +2,11 @@
 #![tactic(auto)]
 
 mod commands;
+mod laws;
 mod top;
 
 pub use cstn_reply::Status;
+pub use laws::edit_sessions_are_true;
 pub use top::run;
 
 #[cfg(test)]

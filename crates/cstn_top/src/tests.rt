@@ -4,6 +4,7 @@ mod edits;
 mod evidence;
 mod faults;
 mod hosts;
+mod labels;
 mod trees;
 
 use crate::{Status, run};
@@ -407,24 +408,6 @@ fn refuses_documents(rt: HostRuntime) -> Result<(), Fail> {
     let text = "document X9\n";
     expect(&rt, alloc, &["check", "pair"], pair, Status::Document, text)?;
     expect(&rt, alloc, &["save", "pair"], pair, Status::Document, text)
-}
-
-// A command on a document with labels, which it doesn't take.
-#[test]
-fn takes_no_labels(rt: HostRuntime) -> Result<(), Fail> {
-    let alloc = rt.alloc();
-    let document = quiet(LABELLED.as_bytes());
-    let text = "document labels\n";
-    let words = ["check", "pair", "--deadline", "10"];
-    expect(&rt, alloc, &words, document, Status::Document, text)?;
-    let words = ["run", "pair", "--deadline", "10"];
-    expect(&rt, alloc, &words, document, Status::Document, text)?;
-    let words = ["edit", "pair", "--deadline", "10"];
-    expect(&rt, alloc, &words, document, Status::Document, text)?;
-    let words = ["conflict", "pair", "--deadline", "10"];
-    expect(&rt, alloc, &words, document, Status::Document, text)?;
-    let words = ["replay", "pair", "proof", "--deadline", "10"];
-    expect(&rt, alloc, &words, document, Status::Document, text)
 }
 
 #[test]

@@ -1,5 +1,5 @@
 // The top call.
-ghost use Rattle.std.specs.Prelude.{◌≡◌, ◌≢◌, ◌⊎◌, ℕ, List, [], map, string_bytes, IsTrue, IsNone, length, codes};
+ghost use Rattle.std.specs.Prelude.{◌≡◌, ◌≢◌, ◌⊎◌, ◌≤◌, ℕ, List, [], map, string_bytes, IsTrue, IsNone, IfSome, length, codes};
 ghost use Rattle.std.specs.Option.{option_map};
 ghost use Rattle.std.specs.List.{list_all};
 ghost use Rattle.cstn_io.specs.Causes.{Rose};
@@ -9,6 +9,7 @@ ghost use Rattle.cstn_words.specs.Requests.{request_of, names_of};
 ghost use Rattle.cstn_reply.specs.Files.{AreContents, AreThere};
 ghost use Rattle.cstn_reply.specs.Plans.{Live, Ends, Untouched};
 ghost use Rattle.cstn_top.specs.Evidence.{WroteEvidence};
+ghost use Rattle.cstn_top.specs.Lines.{IsLeastRun, IsCarriedOut, IsLeftUnfinished, IsEnded};
 ghost use Rattle.cstn_top.specs.Outputs.{plan_of};
 ghost use Rattle.cstn_top.specs.Meanings.{HoldsOf, IsGood, IsBad, IsFull, IsWide, IsComplete, IsStopped, files_read, ReadsLive, MayStop};
 
@@ -40,6 +41,10 @@ pub fn run<F: Shelf, S: Source, K: Sink>(
     ensures wide { result ≡ Status.Wide → HoldsOf (request_of (map string_bytes words.now)) (F.files shelf.old) IsWide }
     ensures complete { IsStopped result ⊎ (IsNone (request_of (map string_bytes words.now)) ⊎ HoldsOf (request_of (map string_bytes words.now)) (F.files shelf.old) (IsComplete result)) }
     ensures evidence { IsStopped result ⊎ (IsNone (request_of (map string_bytes words.now)) ⊎ HoldsOf (request_of (map string_bytes words.now)) (F.files shelf.old) (WroteEvidence (K.written out.old) (K.written out.new) result)) }
+    ensures least { IsNone (request_of (map string_bytes words.now)) ⊎ HoldsOf (request_of (map string_bytes words.now)) (F.files shelf.old) IsLeastRun }
+    ensures carried_out { result ≡ Status.Good → HoldsOf (request_of (map string_bytes words.now)) (F.files shelf.old) (IsCarriedOut (S.left live.old) (K.written out.old) (K.written out.new)) }
+    ensures unfinished { result ≡ Status.Unfinished → HoldsOf (request_of (map string_bytes words.now)) (F.files shelf.old) (IsLeftUnfinished (S.left live.old) (K.written out.old) (K.written out.new)) }
+    ensures ended { IsStopped result ⊎ (IsNone (request_of (map string_bytes words.now)) ⊎ HoldsOf (request_of (map string_bytes words.now)) (F.files shelf.old) (IsEnded result (S.left live.old) (K.written out.old) (K.written out.new))) }
     ensures there { AreThere (F.files shelf.old) (files_read result (names_of (request_of (map string_bytes words.now)))) }
 
     ensures flushed { result ≢ Status.WriteFault → K.flushed out.new ≡ option_map length (K.written out.new) }
@@ -50,6 +55,9 @@ pub fn run<F: Shelf, S: Source, K: Sink>(
     ensures words { IsNone (request_of (map string_bytes words.now)) → (result ≡ Status.Words) ⊎ (result ≡ Status.WriteFault) }
     ensures words_only { result ≡ Status.Words → IsNone (request_of (map string_bytes words.now)) }
     ensures words_stand { IsNone (request_of (map string_bytes words.now)) → shelf.new ≡ shelf.old }
+    ensures names { F.may_ask shelf.new ≡ F.may_ask shelf.old }
+    ensures files { F.files shelf.new ≡ F.files shelf.old }
+    ensures later { F.faults shelf.old ≤ F.faults shelf.new }
     ensures drill_stands { names_of (request_of (map string_bytes words.now)) ≡ [] → shelf.new ≡ shelf.old }
 {
     evidence_is_accepted();
@@ -58,7 +66,7 @@ pub fn run<F: Shelf, S: Source, K: Sink>(
     };
     match prepare(alloc, request, shelf) {
         Ok(Prepared::Says(said)) => finish(out, &said.text, said.outcome.status()),
-        Ok(Prepared::Runs { opening, running }) => converse(alloc, running, &opening, live, out),
+        Ok(Prepared::Runs { opening, guiding }) => converse(alloc, guiding, &opening, live, out),
         Ok(Prepared::Edits(editing)) => converse(alloc, editing, b"", live, out),
         Ok(Prepared::Hosts { opening, ward }) => converse(alloc, ward, &opening, live, out),
         Err(Refused::ReadFault) => finish(out, b"read fault\n", Status::ReadFault),

@@ -1,10 +1,9 @@
 -- Verdicts on networks, by their logs.
-use Rattle.std.proofs.Common.{◌≡◌, ℕ, ◌≤◌, ◌<◌, ◌-◌, Bool, true, false, List, length, refl, ap, sym, subst, ◌∙◌, arith}
-use Rattle.std.specs.Prelude.{◌↔◌, nat_lt, if◌then◌else◌, Option, None, Some, slice_get}
+use Rattle.std.proofs.Common.{◌≡◌, ℕ, ◌≤◌, ◌<◌, Bool, true, false, List, refl, ap, sym, subst, ◌∙◌, arith}
+use Rattle.std.specs.Prelude.{◌↔◌, nat_lt, if◌then◌else◌, None}
 use Rattle.cstn_net.specs.Networks.{Network, IsWellFormed}
 use Rattle.cstn_net.specs.Strategies.{IsConsistent}
 use Rattle.cstn_net.specs.Read.{NetworkParts, the_network}
-use Rattle.cstn_rules.specs.Derivations.{Entry}
 use Rattle.cstn_log.specs.Cuts.{part}
 use Rattle.cstn_refute.specs.Texts.{shown}
 use Rattle.cstn_check.specs.Checks.{CheckParts}
@@ -16,7 +15,6 @@ use Rattle.cstn_check.proofs.Answering.{log_refutes_last}
 use Rattle.cstn_check.proofs.Decides.{log_decides}
 use Rattle.cstn_check.proofs.Last.{last_refuted}
 use Rattle.cstn_reply.specs.Plans.{Said, Plan, says}
-use Rattle.cstn_reply.specs.Texts.{yes_line}
 use Rattle.cstn_verdict.specs.Verdicts.{verdict, on_verdict}
 use Rattle.cstn_reply.specs.declared.output.Outcome.TheVariants.{Bad}
 use Rattle.cstn_verdict.specs.Verdicts.{IsYes, IsNo}

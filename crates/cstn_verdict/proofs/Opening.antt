@@ -1,6 +1,6 @@
 -- What is said of a document that was opened.
 use Rattle.std.proofs.Common.{◌≡◌, ◌≢◌, ℕ, zero, suc, ◌+◌, ◌^◌, get_or, ◌≤◌, ◌<◌, List, [], ◌∷◌, length, refl, ap, sym, ◌∙◌, subst, inl, inr, arith}
-use Rattle.std.specs.Prelude.{nat_lt, if◌then◌else◌, Option, Result, Ok, Err, IfOk, map, codes}
+use Rattle.std.specs.Prelude.{nat_lt, if◌then◌else◌, Option, Result, Ok, Err, IfOk, codes}
 use Rattle.cstn_io.specs.Contents.{IsLongFile}
 use Rattle.std.specs.List.{All}
 use Rattle.std.proofs.lemmas.List.{length-map, get_or-map}
@@ -11,7 +11,7 @@ use Rattle.cstn_graphml.specs.declared.errors.DocError.{DocError}
 use Rattle.cstn_graphml.specs.declared.errors.DocError.TheVariants.{NotUtf8, Shape, NameTwice, UnknownNode, Value, LabelText, Contingent, EdgeType, NoDeadline, Net, Lift, Memory}
 use Rattle.cstn_graphml.specs.Results.{Refusal}
 use Rattle.cstn_graphml.specs.Results.Refusal.{not_utf8, shape, name_twice, unknown_node, bad_value, label_text, contingent, edge_type, no_deadline}
-use Rattle.cstn_graphml.specs.Answers.{IsDocument, IsUnfitDocument, IsMislabelledDocument, IsRefused}
+use Rattle.cstn_graphml.specs.Answers.{IsUnfitDocument, IsMislabelledDocument, IsRefused}
 use Rattle.cstn_graphml.specs.Document.{Parts, document}
 use Rattle.cstn_graphml.specs.DrawnGraph.{DrawnConstraint}
 use Rattle.cstn_graphml.specs.Networks.{numbered, network_of, labelled_of, IsFit}
@@ -25,7 +25,7 @@ use Rattle.cstn_lift.specs.Read.{LabelledParts, the_labelled}
 use Rattle.cstn_lift.proofs.Unlabelled.{unlabelled_lowered, numbered_same}
 use Rattle.std.proofs.Math.Path.{fun_ext}
 use Rattle.cstn_net.specs.declared.errors.NetError.{NetError}
-use Rattle.cstn_reply.specs.Files.{file_at, IsContent, AreThere}
+use Rattle.cstn_reply.specs.Files.{IsContent, AreThere}
 use Rattle.cstn_reply.specs.Refusals.{refusal_text, fault_text, label_fault_text}
 use Rattle.cstn_words.specs.Requests.{Asked}
 use Rattle.cstn_reply.specs.Plans.{Said, say, Plan, says, judges, unlabelled, IsOutput, ComesTo, AreEmpty, AreUnlabelled}
@@ -38,7 +38,7 @@ use Rattle.cstn_verdict.specs.declared.documents.Opened.{Opened}
 use Rattle.cstn_verdict.specs.declared.documents.Opened.TheVariants.{Accepted, Told}
 use Rattle.cstn_verdict.specs.declared.documents.WithLabels.{WithLabels}
 use Rattle.cstn_verdict.specs.declared.documents.WithLabels.TheVariants.{Accepted as LabelledOne, Told as RefusedOne}
-use Rattle.cstn_reply.proofs.Contents.{one_content, long_content, long_is_there, none_there}
+use Rattle.cstn_reply.proofs.Contents.{long_content, long_is_there}
 
 within : (n m : ℕ) (plan other : Plan) → m ≤ n → (if nat_lt n m then plan else other) ≡ other
 within n m plan other le = grind arith
@@ -199,6 +199,9 @@ document_ids told asked net names opened = λ i d inside.
 pub comes_itself : (plan : Plan) → ComesTo plan plan
 comes_itself plan = record { output = λ live said is. is; talks = λ may. may; fault = λ may taken. refl }
 
+pub comes_same : (plan other : Plan) → other ≡ plan → ComesTo plan other
+comes_same plan other is = subst (ComesTo plan) (sym is) (comes_itself plan)
+
 -- a plan that says a text
 pub comes_to_text : (plan : Plan) (said : Said) → ((live : List ℕ) → IsOutput plan live said) → ComesTo plan (says said)
 comes_to_text plan said output = record {
@@ -231,21 +234,24 @@ accepted_comes answer bytes deadline net names plan opens comes =
 pub told_comes : (answer : Answer) (bytes : List ℕ) (deadline : Option ℕ) (said : SaidText) → OpensAs bytes deadline (Told said) → ComesTo (on_document answer bytes deadline) (says (the_said said))
 told_comes answer bytes deadline said opens = comes_to_text (on_document answer bytes deadline) (the_said said) (λ live. opens.0 answer live)
 
+-- what is said of the parts of a document, where they make a labelled network
+fit_comes : (parts : Parts) (plan other : Plan) → IsFit parts → ComesTo plan other → ComesTo (judges parts plan) other
+fit_comes parts plan other fit comes = record {
+  output = λ live said is. inl (fit, comes.output live said is);
+  talks = λ may. (fit, comes.talks may);
+  fault = λ may taken. comes.fault may taken;
+}
+
 -- what is said of a labelled network
-pub labelled_comes : (answer : LabelledAnswer) (bytes : List ℕ) (deadline : Option ℕ) (l : LabelledParts) (names : List (List ℕ)) (plan : Plan) → OpensWithLabels bytes deadline (LabelledOne l names) → plan ≡ answer names (the_labelled l) → ComesTo (on_labelled answer bytes deadline) plan
-labelled_comes answer bytes deadline l names plan opens said =
+pub labelled_comes : (answer : LabelledAnswer) (bytes : List ℕ) (deadline : Option ℕ) (l : LabelledParts) (names : List (List ℕ)) (plan : Plan) → OpensWithLabels bytes deadline (LabelledOne l names) → ComesTo (answer names (the_labelled l)) plan → ComesTo (on_labelled answer bytes deadline) plan
+labelled_comes answer bytes deadline l names plan opens comes =
     let is = opens.1 in
     let same : on_labelled answer bytes deadline ≡ judges is.parts (answer names (the_labelled l)) =
     short_document answer bytes deadline opens.0
     ∙ ap (judged answer) is.told_are
     ∙ ap (λ (ns : List (List ℕ)). judges is.parts (answer ns (labelled_of is.parts))) (sym is.names_are)
     ∙ ap (λ (m : Labelled). judges is.parts (answer names m)) (sym is.labelled_is) in
-    subst (λ (p : Plan). ComesTo p plan) (sym same)
-    (subst (λ (p : Plan). ComesTo (judges is.parts (answer names (the_labelled l))) p) (sym said) (record {
-      output = λ live other output. inl (is.fit, output);
-      talks = λ may. (is.fit, may);
-      fault = λ may taken. refl;
-    }))
+    subst (λ (p : Plan). ComesTo p plan) (sym same) (fit_comes is.parts (answer names (the_labelled l)) plan is.fit comes)
 
 pub refused_comes : (answer : LabelledAnswer) (bytes : List ℕ) (deadline : Option ℕ) (said : SaidText) → OpensWithLabels bytes deadline (RefusedOne said) → ComesTo (on_labelled answer bytes deadline) (says (the_said said))
 refused_comes answer bytes deadline said opens = comes_to_text (on_labelled answer bytes deadline) (the_said said) (λ live. opens.0 answer live)

@@ -2,6 +2,7 @@
 use Rattle.std.specs.Prelude.{◌<◌, ◌⊎◌, ℕ, nat_lt, if◌then◌else◌, List, length, Option, None, Some, IsSomeAnd, codes, Result, Ok, Err}
 use Rattle.cstn_net.specs.Networks.{Network}
 use Rattle.cstn_lift.specs.Labelled.{Labelled}
+use Rattle.cstn_lift.specs.Lowered.{lowered}
 use Rattle.cstn_graphml.specs.Results.{Refusal}
 use Rattle.cstn_graphml.specs.Document.{Parts, document}
 use Rattle.cstn_graphml.specs.Networks.{network_of, labelled_of, IsFit}
@@ -20,6 +21,10 @@ LabelledAnswer = List (List ℕ) → Labelled → Plan
 -- given what is said of networks, what is said of a labelled network: of its network, where no time-point has a label
 abbrev pub of_plain : Answer → LabelledAnswer
 of_plain answer names m = unlabelled m.labels (answer names m.base)
+
+-- or of the plain network that it is lowered to, which is equivalent to it
+abbrev pub of_lowered : Answer → LabelledAnswer
+of_lowered answer names m = answer names (lowered m)
 
 -- the document of a file, given what is said of its labelled network
 abbrev pub judged : LabelledAnswer → Result Parts Refusal → Plan
@@ -48,6 +53,10 @@ HasLabelled bytes deadline holds = IsSomeAnd (parts_of (document bytes deadline)
 abbrev pub HasNetwork : List ℕ → Option ℕ → (List (List ℕ) → Network → Type 0) → Type 0
 HasNetwork bytes deadline holds = IsSomeAnd (parts_of (document bytes deadline)) (λ parts. AreUnlabelled parts × holds parts.names (network_of parts))
 
--- the document of the bytes is refused: it is too long, or has no network without labels
+-- the bytes are no document: they are too many, or have no labelled network
+abbrev pub IsNoDocument : List ℕ → Option ℕ → Type 0
+IsNoDocument bytes deadline = (8388608 < length bytes) ⊎ (HasLabelled bytes deadline (λ names m. Unit {0}) → ⊥)
+
+-- the document of the bytes is refused where no labels are taken: it is too long, or has no network without labels
 abbrev pub IsRefused : List ℕ → Option ℕ → Type 0
 IsRefused bytes deadline = (8388608 < length bytes) ⊎ (HasNetwork bytes deadline (λ names net. Unit {0}) → ⊥)

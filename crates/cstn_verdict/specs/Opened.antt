@@ -1,6 +1,6 @@
 -- A document that was opened.
-use Rattle.std.specs.Prelude.{◌≡◌, ℕ, ◌≤◌, [], ◌∷◌, List, length, map, Option, Result, Ok, codes}
-use Rattle.cstn_net.specs.Networks.{Network, IsWellFormed, count}
+use Rattle.std.specs.Prelude.{◌≡◌, ℕ, ◌≤◌, [], ◌∷◌, List, length, Option, Result, Ok, codes}
+use Rattle.cstn_net.specs.Networks.{IsWellFormed, count}
 use Rattle.cstn_net.specs.Read.{NetworkParts, the_network}
 use Rattle.cstn_graphml.specs.declared.errors.DocError.{DocError}
 use Rattle.cstn_graphml.specs.declared.errors.DocError.TheVariants.{NotUtf8, Shape, NameTwice, UnknownNode, Value, LabelText, Contingent, EdgeType, NoDeadline, Net, Lift, Memory}

@@ -3,6 +3,9 @@ use Rattle.std.specs.Prelude.{◌≡◌, ◌≤◌, ℕ, nat_lt, if◌then◌els
 use Rattle.cstn_net.specs.Networks.{Network}
 use Rattle.cstn_net.specs.Strategies.{IsConsistent}
 use Rattle.cstn_net.specs.Read.{NetworkParts, the_network}
+use Rattle.cstn_lift.specs.Labelled.{Labelled}
+use Rattle.cstn_lift.specs.Lowered.{lowered}
+use Rattle.cstn_lift.specs.Strategies.{IsLabelledConsistent}
 use Rattle.cstn_log.specs.Cuts.{part}
 use Rattle.cstn_check.specs.Growth.{is_refuted, log_of, load_of}
 use Rattle.cstn_check.specs.declared.verdicts.Verdict.{Verdict}
@@ -38,6 +41,14 @@ IsYes cap net = IsConsistent net × (load_of net ≤ cap)
 -- it has none
 abbrev pub IsNo : ℕ → Network → Type 0
 IsNo cap net = (IsConsistent net → ⊥) × (load_of net ≤ cap)
+
+-- the labelled network has a labelled strategy, and no more than so many entries are in the log of the network that it is lowered to
+abbrev pub IsLabelledYes : ℕ → Labelled → Type 0
+IsLabelledYes cap m = IsLabelledConsistent m × (load_of (lowered m) ≤ cap)
+
+-- it has none
+abbrev pub IsLabelledNo : ℕ → Labelled → Type 0
+IsLabelledNo cap m = (IsLabelledConsistent m → ⊥) × (load_of (lowered m) ≤ cap)
 
 -- the verdict on a network is yes, with its load, or this is said of it
 abbrev pub IsDecided : ℕ → List (List ℕ) → NetworkParts → Decided → Type 0

@@ -38,6 +38,9 @@ pub(crate) fn read_all<F: Shelf>(
     requires may_ask { IsTrue (list_all (F.may_ask shelf.old) (map string_bytes files.now)) }
     ensures read { IfOk result (AreRead (F.files shelf.old) deadline (map string_bytes files.now)) }
     ensures sound { IfOk result AreSound }
+    ensures names { F.may_ask shelf.new ≡ F.may_ask shelf.old }
+    ensures files { F.files shelf.new ≡ F.files shelf.old }
+    ensures later { F.faults shelf.old ≤ F.faults shelf.new }
     ensures fault { IsErrOf result Refused.ReadFault → Rose (F.faults shelf.old) (F.faults shelf.new) }
 {
     let mut documents = Vec::new(alloc);

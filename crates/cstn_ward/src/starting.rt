@@ -88,6 +88,9 @@ pub fn host_files<F: Shelf>(
     requires some { 1 ≤ cap }
     requires most { cap ≤ 65536 }
     ensures hosting { IfOk result (IsHosting (F.files shelf.old) cap deadline (map string_bytes files.now)) }
+    ensures names { F.may_ask shelf.new ≡ F.may_ask shelf.old }
+    ensures files { F.files shelf.new ≡ F.files shelf.old }
+    ensures later { F.faults shelf.old ≤ F.faults shelf.new }
     ensures fault { IsErrOf result Refused.ReadFault → Rose (F.faults shelf.old) (F.faults shelf.new) }
 {
     match read_all(alloc, files, deadline, shelf) {

@@ -14,11 +14,11 @@ use cstn_io::Shelf;
 use cstn_net::Network;
 use cstn_reply::{Outcome, Refused, Said};
 use cstn_text::Names;
-use cstn_verdict::{Decided, Opened, decide, open, yes_line};
+use cstn_verdict::{Decided, WithLabels, decide, open_labelled, yes_line};
 use cstn_words::Asked;
 use std::alloc::Global;
 
-/// The verdict on the network of a file, whose log may have `cap` entries.
+/// The verdict on the labelled network of a file: that on the network it is lowered to, whose log may have `cap` entries.
 pub(crate) fn check_file<F: Shelf>(
     alloc: Global,
     asked: Asked<'_>,
@@ -30,10 +30,16 @@ pub(crate) fn check_file<F: Shelf>(
     requires most { cap ≤ 4194304 }
     ensures plan { IfOk result (λ said. Planned (check (the_asked asked.entry) cap) (F.files shelf.old) (says (the_said said))) }
     ensures fault { IsErrOf result Refused.ReadFault → Rose (F.faults shelf.old) (F.faults shelf.new) }
+    ensures names { F.may_ask shelf.new ≡ F.may_ask shelf.old }
+    ensures files { F.files shelf.new ≡ F.files shelf.old }
+    ensures later { F.faults shelf.old ≤ F.faults shelf.new }
 {
-    match open(alloc, asked, shelf) {
-        Ok(Opened::Accepted { network, names }) => judge(alloc, network, &names, cap),
-        Ok(Opened::Told(said)) => Ok(said),
+    match open_labelled(alloc, asked, shelf) {
+        Ok(WithLabels::Accepted { labelled, names }) => {
+            let (network, _) = labelled.split();
+            judge(alloc, network, &names, cap)
+        }
+        Ok(WithLabels::Told(said)) => Ok(said),
         Err(refused) => Err(refused),
     }
 }

@@ -1,5 +1,5 @@
 // `closed FILE [--deadline N] [--cap CAP]`
-ghost use Rattle.std.specs.Prelude.{◌≤◌, IfOk, IsTrue, IsErrOf};
+ghost use Rattle.std.specs.Prelude.{◌≡◌, ◌≤◌, IfOk, IsTrue, IsErrOf};
 ghost use Rattle.cstn_io.specs.Causes.{Rose};
 ghost use Rattle.cstn_words.specs.Requests.{closed};
 ghost use Rattle.cstn_words.specs.Read.{the_asked};
@@ -26,6 +26,9 @@ pub(crate) fn closed_file<F: Shelf>(
     requires most { cap ≤ 4194304 }
     ensures plan { IfOk result (λ said. Planned (closed (the_asked asked.entry) cap) (F.files shelf.old) (says (the_said said))) }
     ensures fault { IsErrOf result Refused.ReadFault → Rose (F.faults shelf.old) (F.faults shelf.new) }
+    ensures names { F.may_ask shelf.new ≡ F.may_ask shelf.old }
+    ensures files { F.files shelf.new ≡ F.files shelf.old }
+    ensures later { F.faults shelf.old ≤ F.faults shelf.new }
 {
     match open(alloc, asked, shelf) {
         Ok(Opened::Accepted { network, names }) => list_bounds(alloc, network, &names, cap),

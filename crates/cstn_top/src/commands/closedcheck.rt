@@ -32,6 +32,9 @@ pub(crate) fn closedcheck_file<F: Shelf>(
     requires may_ask_too { IsTrue (F.may_ask shelf.old proof.now) }
     ensures plan { IfOk result (λ said. Planned (closedcheck (the_asked asked.entry) proof.now) (F.files shelf.old) (says (the_said said))) }
     ensures fault { IsErrOf result Refused.ReadFault → Rose (F.faults shelf.old) (F.faults shelf.new) }
+    ensures names { F.may_ask shelf.new ≡ F.may_ask shelf.old }
+    ensures files { F.files shelf.new ≡ F.files shelf.old }
+    ensures later { F.faults shelf.old ≤ F.faults shelf.new }
 {
     match open(alloc, asked, shelf) {
         Ok(Opened::Accepted { network, names }) => {
@@ -55,6 +58,9 @@ fn check_on<F: Shelf>(
     requires few { length names.now ≤ 65536 }
     ensures said { IfOk result (λ said. IsSaidBy (F.files shelf.old) proof.now certified names.now (the_network network.now) (the_said said)) }
     ensures fault { IsErrOf result Refused.ReadFault → Rose (F.faults shelf.old) (F.faults shelf.new) }
+    ensures names { F.may_ask shelf.new ≡ F.may_ask shelf.old }
+    ensures files { F.files shelf.new ≡ F.files shelf.old }
+    ensures later { F.faults shelf.old ≤ F.faults shelf.new }
 {
     match read_text(alloc, proof, shelf) {
         Ok(TextRead::Whole(text)) => check_text(alloc, network, names, &text),

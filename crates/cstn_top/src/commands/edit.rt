@@ -1,5 +1,5 @@
 // `edit FILE [--deadline N] [--cap CAP]`
-ghost use Rattle.std.specs.Prelude.{◌≤◌, IfOk, IsTrue, IsErrOf};
+ghost use Rattle.std.specs.Prelude.{◌≡◌, ◌≤◌, IfOk, IsTrue, IsErrOf};
 ghost use Rattle.cstn_io.specs.Causes.{Rose};
 ghost use Rattle.cstn_words.specs.Requests.{edit};
 ghost use Rattle.cstn_top.specs.Prepared.{the_plan, Planned, FitsRequest};
@@ -26,6 +26,9 @@ pub(crate) fn edit_file<F: Shelf>(
     ensures plan { IfOk result (λ prepared. Planned (edit (the_asked asked.entry) cap) (F.files shelf.old) (the_plan prepared)) }
     ensures fits { IfOk result (FitsRequest (edit (the_asked asked.entry) cap)) }
     ensures fault { IsErrOf result Refused.ReadFault → Rose (F.faults shelf.old) (F.faults shelf.new) }
+    ensures names { F.may_ask shelf.new ≡ F.may_ask shelf.old }
+    ensures files { F.files shelf.new ≡ F.files shelf.old }
+    ensures later { F.faults shelf.old ≤ F.faults shelf.new }
 {
     match open(alloc, asked, shelf) {
         Ok(Opened::Accepted { network, names }) => {

@@ -1,5 +1,5 @@
 // `host [--deadline N] [--cap CAP] FILE ..`
-ghost use Rattle.std.specs.Prelude.{◌≤◌, length, map, string_bytes, IfOk, IsTrue, IsErrOf};
+ghost use Rattle.std.specs.Prelude.{◌≡◌, ◌≤◌, length, map, string_bytes, IfOk, IsTrue, IsErrOf};
 ghost use Rattle.std.specs.List.{list_all};
 ghost use Rattle.cstn_io.specs.Causes.{Rose};
 ghost use Rattle.cstn_words.specs.Requests.{host};
@@ -26,6 +26,9 @@ pub(crate) fn host_all<F: Shelf>(
     requires most { cap ≤ 65536 }
     ensures plan { IfOk result (λ prepared. Planned (host (map string_bytes files.now) deadline cap) (F.files shelf.old) (the_plan prepared)) }
     ensures fits { IfOk result (FitsRequest (host (map string_bytes files.now) deadline cap)) }
+    ensures names { F.may_ask shelf.new ≡ F.may_ask shelf.old }
+    ensures files { F.files shelf.new ≡ F.files shelf.old }
+    ensures later { F.faults shelf.old ≤ F.faults shelf.new }
     ensures fault { IsErrOf result Refused.ReadFault → Rose (F.faults shelf.old) (F.faults shelf.new) }
 {
     match host_files(alloc, files, deadline, cap, shelf) {

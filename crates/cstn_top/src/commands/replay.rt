@@ -17,11 +17,12 @@ use cstn_io::Shelf;
 use cstn_net::Network;
 use cstn_reply::{Refused, Said};
 use cstn_text::Names;
-use cstn_verdict::{Opened, open};
+use cstn_verdict::{WithLabels, open_labelled};
 use cstn_words::Asked;
 use std::alloc::Global;
 
-/// The replay of a refutation's text on the network of a file. The text isn't read where the document is refused.
+/// The replay of a refutation's text on the network that the labelled one of a file is lowered to. The text isn't read where the
+/// document is refused.
 pub(crate) fn replay_file<F: Shelf>(
     alloc: Global,
     asked: Asked<'_>,
@@ -32,12 +33,16 @@ pub(crate) fn replay_file<F: Shelf>(
     requires may_ask_too { IsTrue (F.may_ask shelf.old proof.now) }
     ensures plan { IfOk result (λ said. Planned (replay (the_asked asked.entry) proof.now) (F.files shelf.old) (says (the_said said))) }
     ensures fault { IsErrOf result Refused.ReadFault → Rose (F.faults shelf.old) (F.faults shelf.new) }
+    ensures names { F.may_ask shelf.new ≡ F.may_ask shelf.old }
+    ensures files { F.files shelf.new ≡ F.files shelf.old }
+    ensures later { F.faults shelf.old ≤ F.faults shelf.new }
 {
-    match open(alloc, asked, shelf) {
-        Ok(Opened::Accepted { network, names }) => {
+    match open_labelled(alloc, asked, shelf) {
+        Ok(WithLabels::Accepted { labelled, names }) => {
+            let (network, _) = labelled.split();
             replay_on(alloc, &network, &names, proof, shelf)
         }
-        Ok(Opened::Told(said)) => Ok(said),
+        Ok(WithLabels::Told(said)) => Ok(said),
         Err(refused) => Err(refused),
     }
 }
@@ -55,6 +60,9 @@ fn replay_on<F: Shelf>(
     requires few { length names.now ≤ 65536 }
     ensures said { IfOk result (λ said. IsSaidBy (F.files shelf.old) proof.now replayed names.now (the_network network.now) (the_said said)) }
     ensures fault { IsErrOf result Refused.ReadFault → Rose (F.faults shelf.old) (F.faults shelf.new) }
+    ensures names { F.may_ask shelf.new ≡ F.may_ask shelf.old }
+    ensures files { F.files shelf.new ≡ F.files shelf.old }
+    ensures later { F.faults shelf.old ≤ F.faults shelf.new }
 {
     match read_text(alloc, proof, shelf) {
         Ok(TextRead::Whole(text)) => replay_text(alloc, network, names, &text),

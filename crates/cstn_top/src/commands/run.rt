@@ -1,30 +1,32 @@
 // `run FILE [--deadline N] [--cap CAP]`
 ghost use Rattle.std.specs.Prelude.{ℕ, ◌≡◌, ◌≤◌, length, IfOk, IsTrue, IsErrOf, Some};
 ghost use Rattle.cstn_io.specs.Causes.{Rose};
-ghost use Rattle.cstn_net.specs.Networks.{IsWellFormed, count};
+ghost use Rattle.cstn_net.specs.Networks.{count};
 ghost use Rattle.cstn_net.specs.Read.{the_network};
+ghost use Rattle.cstn_lift.specs.Lowered.{lowered};
+ghost use Rattle.cstn_lift.specs.Read.{the_labelled};
 ghost use Rattle.cstn_check.specs.Growth.{load_of};
 ghost use Rattle.cstn_check.specs.declared.verdicts.Verdict.TheVariants.{Yes};
 ghost use Rattle.cstn_words.specs.Requests.{Request, run};
 ghost use Rattle.cstn_reply.specs.Plans.{ComesTo};
 ghost use Rattle.cstn_top.specs.Prepared.{the_plan, Planned, FitsRequest};
 ghost use Rattle.cstn_words.specs.Read.{the_asked};
-ghost use Rattle.cstn_talk.specs.Running.{carried_out};
+ghost use Rattle.cstn_talk.specs.Guiding.{carried_out};
 ghost use Rattle.cstn_verdict.specs.Verdicts.{verdict};
 
 use super::Prepared;
 use cstn_check::Check;
-use cstn_exec::Executive;
+use cstn_guide::Guide;
 use cstn_io::Shelf;
-use cstn_net::Network;
+use cstn_lift::{Labelled, Labels};
 use cstn_reply::Refused;
-use cstn_talk::Running;
+use cstn_talk::Guiding;
 use cstn_text::Names;
-use cstn_verdict::{Decided, Opened, decide, open, yes_line};
+use cstn_verdict::{Decided, WithLabels, decide, open_labelled, yes_line};
 use cstn_words::Asked;
 use std::alloc::Global;
 
-/// The verdict on the network of a file, and after yes the run of its plan.
+/// The verdict on the labelled network of a file: that on the network it is lowered to. After yes its plan is carried out.
 pub(crate) fn run_file<F: Shelf>(
     alloc: Global,
     asked: Asked<'_>,
@@ -37,54 +39,59 @@ pub(crate) fn run_file<F: Shelf>(
     ensures plan { IfOk result (λ prepared. Planned (run (the_asked asked.entry) cap) (F.files shelf.old) (the_plan prepared)) }
     ensures fits { IfOk result (FitsRequest (run (the_asked asked.entry) cap)) }
     ensures fault { IsErrOf result Refused.ReadFault → Rose (F.faults shelf.old) (F.faults shelf.new) }
+    ensures names { F.may_ask shelf.new ≡ F.may_ask shelf.old }
+    ensures files { F.files shelf.new ≡ F.files shelf.old }
+    ensures later { F.faults shelf.old ≤ F.faults shelf.new }
 {
-    match open(alloc, asked, shelf) {
-        Ok(Opened::Accepted { network, names }) => prepare(alloc, network, &names, cap),
-        Ok(Opened::Told(said)) => Ok(Prepared::Says(said)),
+    match open_labelled(alloc, asked, shelf) {
+        Ok(WithLabels::Accepted { labelled, names }) => prepare(alloc, labelled, &names, cap),
+        Ok(WithLabels::Told(said)) => Ok(Prepared::Says(said)),
         Err(refused) => Err(refused),
     }
 }
 
-// What is said of a network.
-fn prepare(alloc: Global, network: Network, names: &Names, cap: u32) -> Result<Prepared, Refused>
+// What is said of a labelled network.
+fn prepare(alloc: Global, labelled: Labelled, names: &Names, cap: u32) -> Result<Prepared, Refused>
     requires some { 1 ≤ cap }
     requires most { cap ≤ 4194304 }
-    requires well_formed { IsWellFormed (the_network network) }
-    requires named { length names.now ≡ count (the_network network) }
-    ensures comes { IfOk result (λ prepared. ComesTo (carried_out cap names.now (the_network network)) (the_plan prepared)) }
+    requires named { length names.now ≡ count (the_network labelled.base) }
+    ensures comes { IfOk result (λ prepared. ComesTo (carried_out cap names.now (the_labelled labelled)) (the_plan prepared)) }
     ensures fits { IfOk result (λ prepared. (request : Request) → FitsRequest request prepared) }
     ensures fault { IsErrOf result Refused.ReadFault → ⊥ }
 {
+    let (network, labels) = labelled.split();
     match decide(alloc, network, names, cap) {
-        Ok(Decided::Yes { load, check }) => begin(alloc, load, check, names, cap),
+        Ok(Decided::Yes { load, check }) => begin(alloc, load, check, labels, names, cap),
         Ok(Decided::Told(said)) => Ok(Prepared::Says(said)),
         Err(refused) => Err(refused),
     }
 }
 
-// The run of the plan that a yes leaves. All memory for the answers is taken here.
+// The session of the plan that a yes leaves. All memory for the answers is taken here.
 fn begin(
     alloc: Global,
     load: u32,
     check: Check,
+    labels: Labels,
     names: &Names,
     cap: u32,
 ) -> Result<Prepared, Refused>
     requires yes { (load : ℕ) × (check.verdict ≡ Some (Yes load)) }
+    requires lowered { the_network check.net ≡ lowered (the_labelled labels) }
     requires verdict { verdict cap (the_network check.net) ≡ Yes (load_of (the_network check.net)) }
     requires load { load ≡ load_of (the_network check.net) }
-    requires named { length names.now ≡ count (the_network check.net) }
+    requires named { length names.now ≡ count (the_network labels.base) }
     requires few { length names.now ≤ 1024 }
-    ensures comes { IfOk result (λ prepared. ComesTo (carried_out cap names.now (the_network check.net)) (the_plan prepared)) }
+    ensures comes { IfOk result (λ prepared. ComesTo (carried_out cap names.now (the_labelled labels)) (the_plan prepared)) }
     ensures fits { IfOk result (λ prepared. (request : Request) → FitsRequest request prepared) }
     ensures fault { IsErrOf result Refused.ReadFault → ⊥ }
 {
     let opening = yes_line(alloc, load)?;
-    let Ok(executive) = Executive::start(alloc, check.into_plan()) else {
+    let Ok(guide) = Guide::start(alloc, check.into_plan(), labels) else {
         return Err(Refused::Memory);
     };
-    let Ok(running) = Running::start(alloc, executive, names) else {
+    let Ok(guiding) = Guiding::start(alloc, guide, names) else {
         return Err(Refused::Memory);
     };
-    Ok(Prepared::Runs { opening, running })
+    Ok(Prepared::Runs { opening, guiding })
 }

@@ -1,5 +1,5 @@
 // `save FILE [--deadline N]`
-ghost use Rattle.std.specs.Prelude.{◌≡◌, IfOk, IsTrue, IsErrOf, Some, length, slice_get, codes};
+ghost use Rattle.std.specs.Prelude.{◌≤◌, ◌≡◌, IfOk, IsTrue, IsErrOf, Some, length, slice_get, codes};
 ghost use Rattle.cstn_io.specs.Causes.{Rose};
 ghost use Rattle.cstn_net.specs.Networks.{count};
 ghost use Rattle.cstn_net.specs.Read.{the_network};
@@ -29,6 +29,9 @@ pub(crate) fn save_file<F: Shelf>(
     requires may_ask { IsTrue (F.may_ask shelf.old asked.file.now) }
     ensures plan { IfOk result (λ said. Planned (save (the_asked asked.entry)) (F.files shelf.old) (says (the_said said))) }
     ensures fault { IsErrOf result Refused.ReadFault → Rose (F.faults shelf.old) (F.faults shelf.new) }
+    ensures names { F.may_ask shelf.new ≡ F.may_ask shelf.old }
+    ensures files { F.files shelf.new ≡ F.files shelf.old }
+    ensures later { F.faults shelf.old ≤ F.faults shelf.new }
 {
     match open_labelled(alloc, asked, shelf) {
         Ok(WithLabels::Accepted { labelled, names }) => canonical(alloc, &labelled, &names),

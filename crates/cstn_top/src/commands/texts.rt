@@ -29,6 +29,9 @@ pub(crate) fn read_text<F: Shelf>(
     requires may_ask { IsTrue (F.may_ask shelf.old file.now) }
     ensures text { IfOk result (IsTextOf (F.files shelf.old) file.now) }
     ensures fault { IsErrOf result Refused.ReadFault → Rose (F.faults shelf.old) (F.faults shelf.new) }
+    ensures names { F.may_ask shelf.new ≡ F.may_ask shelf.old }
+    ensures files { F.files shelf.new ≡ F.files shelf.old }
+    ensures later { F.faults shelf.old ≤ F.faults shelf.new }
 {
     let text = match take_all(alloc, shelf, file, MAX_TEXT) {
         Ok(text) => text,

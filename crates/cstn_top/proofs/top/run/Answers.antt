@@ -1,7 +1,9 @@
-use Rattle.std.proofs.Common.{[], sym, inl, inr}
-use Rattle.cstn_reply.specs.Plans.{Live, says}
+use Rattle.std.proofs.Common.{[], sym, subst, inl, inr}
+use Rattle.std.specs.Prelude.{Option, IfSome}
+use Rattle.cstn_words.specs.Requests.{Request}
+use Rattle.cstn_reply.specs.Plans.{Live, says, EndsLine}
 use Rattle.cstn_reply.specs.Sessions.{session}
-use Rattle.cstn_talk.specs.Running.{running_turn, running_ending}
+use Rattle.cstn_talk.specs.Guiding.{guided_turn, guided_ending}
 use Rattle.cstn_talk.specs.Editing.{the_editing, edit_turn, edit_ending}
 use Rattle.cstn_words.specs.Read.{the_request}
 use Rattle.cstn_ward.specs.Wards.{ward_turn, ward_ending}
@@ -10,6 +12,7 @@ use Rattle.cstn_reply.specs.Read.{the_said}
 use Rattle.cstn_top.proofs.Endings.{words_end, fault_end, memory_end, says_end, good_is, bad_is, full_is, wide_is, complete_is, words_is, there_is, text_end, talks_end, reads_live, may_stop, opened_as, prepared_as, fits_as}
 use Rattle.cstn_top.proofs.Endings.{opened_ward, may_stop_host}
 use Rattle.cstn_top.proofs.Accepted.{capped_ranged, evidence_is}
+use Rattle.cstn_top.proofs.Lines.{least_is, carried_is, left_is, ended_is}
 use Rattle.cstn_top.proofs.top.run.Goals as goal
 
 pub returns-in_default-clause-output : goal.returns-in_default-clause-output
@@ -61,12 +64,15 @@ returns-in-Err-Memory-clause-output g c =
     let seen : Live = record { left = g.S.Source.left c.args.live.now; faults = g.S.Source.faults c.args.live.now } in
     memory_end _ (g.F.Shelf.files c.args.shelf.now) c.args.live.now seen _ _ _ c.finish-in-Err-Memory.ensures.written
 
+pub converse-requires : goal.converse-requires
+converse-requires g c = subst EndsLine (sym c.deref-in-Ok-Runs.ensures.value) (fits_as _ _ _ c.in-Ok-Runs.ensures.fits c.in-Ok-Runs.field-0-is)
+
 pub returns-in-Ok-Runs-clause-output : goal.returns-in-Ok-Runs-clause-output
 returns-in-Ok-Runs-clause-output g c =
     let before : Live = record { left = g.S.Source.left c.args.live.now; faults = g.S.Source.faults c.args.live.now } in
     let after : Live = record { left = g.S.Source.left c.converse.new.live; faults = g.S.Source.faults c.converse.new.live } in
-    talks_end _ (the_request c.in-Some.request) (g.F.Shelf.files c.args.shelf.now) c.args.live.now c.converse.new.live (session running_turn running_ending c.deref-in-Ok-Runs.result.now c.in-Ok-Runs.running) before after _ _ _
-    c.in-Some.ensures.request (opened_as _ _ c.in-Ok-Runs.running c.in-Ok-Runs.opening.items (prepared_as _ _ _ _ c.in-Ok-Runs.ensures.plan c.in-Ok-Runs.field-0-is) (sym c.deref-in-Ok-Runs.ensures.value)) tt c.converse.ensures.ends
+    talks_end _ (the_request c.in-Some.request) (g.F.Shelf.files c.args.shelf.now) c.args.live.now c.converse.new.live (session guided_turn guided_ending c.deref-in-Ok-Runs.result.now c.in-Ok-Runs.guiding) before after _ _ _
+    c.in-Some.ensures.request (opened_as _ _ c.in-Ok-Runs.guiding c.in-Ok-Runs.opening.items (prepared_as _ _ _ _ c.in-Ok-Runs.ensures.plan c.in-Ok-Runs.field-0-is) (sym c.deref-in-Ok-Runs.ensures.value)) tt c.converse.ensures.ends
 
 pub returns-in-Ok-Runs-clause-good : goal.returns-in-Ok-Runs-clause-good
 returns-in-Ok-Runs-clause-good g c = good_is _ (g.F.Shelf.files c.args.shelf.now) _ _ _ _ _ _ _ (returns-in-Ok-Runs-clause-output g c)
@@ -94,16 +100,16 @@ pub returns-in-Ok-Runs-clause-there : goal.returns-in-Ok-Runs-clause-there
 returns-in-Ok-Runs-clause-there g c =
     let before : Live = record { left = g.S.Source.left c.args.live.now; faults = g.S.Source.faults c.args.live.now } in
     let after : Live = record { left = g.S.Source.left c.converse.new.live; faults = g.S.Source.faults c.converse.new.live } in
-    there_is _ (the_request c.in-Some.request) (g.F.Shelf.files c.args.shelf.now) (session running_turn running_ending c.deref-in-Ok-Runs.result.now c.in-Ok-Runs.running) before after _ _ _
-    c.in-Some.ensures.request (opened_as _ _ c.in-Ok-Runs.running c.in-Ok-Runs.opening.items (prepared_as _ _ _ _ c.in-Ok-Runs.ensures.plan c.in-Ok-Runs.field-0-is) (sym c.deref-in-Ok-Runs.ensures.value)) c.converse.ensures.ends
+    there_is _ (the_request c.in-Some.request) (g.F.Shelf.files c.args.shelf.now) (session guided_turn guided_ending c.deref-in-Ok-Runs.result.now c.in-Ok-Runs.guiding) before after _ _ _
+    c.in-Some.ensures.request (opened_as _ _ c.in-Ok-Runs.guiding c.in-Ok-Runs.opening.items (prepared_as _ _ _ _ c.in-Ok-Runs.ensures.plan c.in-Ok-Runs.field-0-is) (sym c.deref-in-Ok-Runs.ensures.value)) c.converse.ensures.ends
 
 pub returns-in-Ok-Runs-clause-live : goal.returns-in-Ok-Runs-clause-live
 returns-in-Ok-Runs-clause-live g c =
-    inl (reads_live _ (the_request c.in-Some.request) (g.F.Shelf.files c.args.shelf.now) (session running_turn running_ending c.in-Ok-Runs.opening.items c.in-Ok-Runs.running) c.in-Some.ensures.request (prepared_as _ _ _ _ c.in-Ok-Runs.ensures.plan c.in-Ok-Runs.field-0-is) tt)
+    inl (reads_live _ (the_request c.in-Some.request) (g.F.Shelf.files c.args.shelf.now) (session guided_turn guided_ending c.in-Ok-Runs.opening.items c.in-Ok-Runs.guiding) c.in-Some.ensures.request (prepared_as _ _ _ _ c.in-Ok-Runs.ensures.plan c.in-Ok-Runs.field-0-is) tt)
 
 pub returns-in-Ok-Runs-clause-read_fault : goal.returns-in-Ok-Runs-clause-read_fault
 returns-in-Ok-Runs-clause-read_fault g c = λ is.
-    inr (reads_live _ (the_request c.in-Some.request) (g.F.Shelf.files c.args.shelf.now) (session running_turn running_ending c.in-Ok-Runs.opening.items c.in-Ok-Runs.running) c.in-Some.ensures.request (prepared_as _ _ _ _ c.in-Ok-Runs.ensures.plan c.in-Ok-Runs.field-0-is) tt, c.converse.ensures.read is)
+    inr (reads_live _ (the_request c.in-Some.request) (g.F.Shelf.files c.args.shelf.now) (session guided_turn guided_ending c.in-Ok-Runs.opening.items c.in-Ok-Runs.guiding) c.in-Some.ensures.request (prepared_as _ _ _ _ c.in-Ok-Runs.ensures.plan c.in-Ok-Runs.field-0-is) tt, c.converse.ensures.read is)
 
 pub returns-in-Ok-Edits-clause-output : goal.returns-in-Ok-Edits-clause-output
 returns-in-Ok-Edits-clause-output g c =
@@ -202,3 +208,57 @@ pub returns-in-Ok-Hosts-clause-memory : goal.returns-in-Ok-Hosts-clause-memory
 returns-in-Ok-Hosts-clause-memory g c = λ is.
     inl (may_stop_host _ (the_request c.in-Some.request) (g.F.Shelf.files c.args.shelf.now) (session ward_turn ward_ending c.in-Ok-Hosts.opening.items (the_ward c.in-Ok-Hosts.ward)) c.in-Some.ensures.request (prepared_as _ _ _ _ c.in-Ok-Hosts.ensures.plan c.in-Ok-Hosts.field-0-is)
     (fits_as _ _ _ c.in-Ok-Hosts.ensures.fits c.in-Ok-Hosts.field-0-is).1 tt)
+
+pub returns-in-Err-ReadFault-clause-least : goal.returns-in-Err-ReadFault-clause-least
+returns-in-Err-ReadFault-clause-least g c = least_is _ (g.F.Shelf.files c.args.shelf.now) _ _ _ _ _ _ _ (returns-in-Err-ReadFault-clause-output g c)
+
+pub returns-in-Err-Memory-clause-least : goal.returns-in-Err-Memory-clause-least
+returns-in-Err-Memory-clause-least g c = least_is _ (g.F.Shelf.files c.args.shelf.now) _ _ _ _ _ _ _ (returns-in-Err-Memory-clause-output g c)
+
+pub returns-in-Ok-Says-clause-least : goal.returns-in-Ok-Says-clause-least
+returns-in-Ok-Says-clause-least g c = least_is _ (g.F.Shelf.files c.args.shelf.now) _ _ _ _ _ _ _ (returns-in-Ok-Says-clause-output g c)
+
+pub returns-in-Ok-Says-clause-carried_out : goal.returns-in-Ok-Says-clause-carried_out
+returns-in-Ok-Says-clause-carried_out g c = carried_is _ (g.F.Shelf.files c.args.shelf.now) _ _ _ _ _ _ _ (returns-in-Ok-Says-clause-output g c)
+
+pub returns-in-Ok-Says-clause-unfinished : goal.returns-in-Ok-Says-clause-unfinished
+returns-in-Ok-Says-clause-unfinished g c = left_is _ (g.F.Shelf.files c.args.shelf.now) _ _ _ _ _ _ _ (returns-in-Ok-Says-clause-output g c)
+
+pub returns-in-Ok-Says-clause-ended : goal.returns-in-Ok-Says-clause-ended
+returns-in-Ok-Says-clause-ended g c = ended_is _ (g.F.Shelf.files c.args.shelf.now) _ _ _ _ _ _ _ (returns-in-Ok-Says-clause-output g c)
+
+pub returns-in-Ok-Runs-clause-least : goal.returns-in-Ok-Runs-clause-least
+returns-in-Ok-Runs-clause-least g c = least_is _ (g.F.Shelf.files c.args.shelf.now) _ _ _ _ _ _ _ (returns-in-Ok-Runs-clause-output g c)
+
+pub returns-in-Ok-Runs-clause-carried_out : goal.returns-in-Ok-Runs-clause-carried_out
+returns-in-Ok-Runs-clause-carried_out g c = carried_is _ (g.F.Shelf.files c.args.shelf.now) _ _ _ _ _ _ _ (returns-in-Ok-Runs-clause-output g c)
+
+pub returns-in-Ok-Runs-clause-unfinished : goal.returns-in-Ok-Runs-clause-unfinished
+returns-in-Ok-Runs-clause-unfinished g c = left_is _ (g.F.Shelf.files c.args.shelf.now) _ _ _ _ _ _ _ (returns-in-Ok-Runs-clause-output g c)
+
+pub returns-in-Ok-Runs-clause-ended : goal.returns-in-Ok-Runs-clause-ended
+returns-in-Ok-Runs-clause-ended g c = ended_is _ (g.F.Shelf.files c.args.shelf.now) _ _ _ _ _ _ _ (returns-in-Ok-Runs-clause-output g c)
+
+pub returns-in-Ok-Edits-clause-least : goal.returns-in-Ok-Edits-clause-least
+returns-in-Ok-Edits-clause-least g c = least_is _ (g.F.Shelf.files c.args.shelf.now) _ _ _ _ _ _ _ (returns-in-Ok-Edits-clause-output g c)
+
+pub returns-in-Ok-Edits-clause-carried_out : goal.returns-in-Ok-Edits-clause-carried_out
+returns-in-Ok-Edits-clause-carried_out g c = carried_is _ (g.F.Shelf.files c.args.shelf.now) _ _ _ _ _ _ _ (returns-in-Ok-Edits-clause-output g c)
+
+pub returns-in-Ok-Edits-clause-unfinished : goal.returns-in-Ok-Edits-clause-unfinished
+returns-in-Ok-Edits-clause-unfinished g c = left_is _ (g.F.Shelf.files c.args.shelf.now) _ _ _ _ _ _ _ (returns-in-Ok-Edits-clause-output g c)
+
+pub returns-in-Ok-Edits-clause-ended : goal.returns-in-Ok-Edits-clause-ended
+returns-in-Ok-Edits-clause-ended g c = ended_is _ (g.F.Shelf.files c.args.shelf.now) _ _ _ _ _ _ _ (returns-in-Ok-Edits-clause-output g c)
+
+pub returns-in-Ok-Hosts-clause-least : goal.returns-in-Ok-Hosts-clause-least
+returns-in-Ok-Hosts-clause-least g c = least_is _ (g.F.Shelf.files c.args.shelf.now) _ _ _ _ _ _ _ (returns-in-Ok-Hosts-clause-output g c)
+
+pub returns-in-Ok-Hosts-clause-carried_out : goal.returns-in-Ok-Hosts-clause-carried_out
+returns-in-Ok-Hosts-clause-carried_out g c = carried_is _ (g.F.Shelf.files c.args.shelf.now) _ _ _ _ _ _ _ (returns-in-Ok-Hosts-clause-output g c)
+
+pub returns-in-Ok-Hosts-clause-unfinished : goal.returns-in-Ok-Hosts-clause-unfinished
+returns-in-Ok-Hosts-clause-unfinished g c = left_is _ (g.F.Shelf.files c.args.shelf.now) _ _ _ _ _ _ _ (returns-in-Ok-Hosts-clause-output g c)
+
+pub returns-in-Ok-Hosts-clause-ended : goal.returns-in-Ok-Hosts-clause-ended
+returns-in-Ok-Hosts-clause-ended g c = ended_is _ (g.F.Shelf.files c.args.shelf.now) _ _ _ _ _ _ _ (returns-in-Ok-Hosts-clause-output g c)

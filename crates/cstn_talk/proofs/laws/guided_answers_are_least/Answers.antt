@@ -1,0 +1,12 @@
+use Rattle.cstn_talk.proofs.Carrying.{names_least, tells_due}
+use Rattle.cstn_talk.proofs.Ending.{timely}
+use Rattle.cstn_talk.proofs.laws.guided_answers_are_least.Goals as goal
+
+pub returns-clause-least : goal.returns-clause-least
+returns-clause-least c names m bounds before next g t plan = names_least names m bounds plan before next g t
+
+pub returns-clause-due : goal.returns-clause-due
+returns-clause-due c names m bounds before next g plan = tells_due names m bounds plan before next g
+
+pub returns-clause-timely : goal.returns-clause-timely
+returns-clause-timely c names m bounds lines plan = timely names m bounds plan lines

@@ -1,0 +1,142 @@
+-- What the answers of a guided session tell.
+use Rattle.std.specs.Prelude.{◌≡◌, ◌↔◌, ◌<◌, ◌≤◌, ℕ, ◌+◌, false, if◌then◌else◌, List, [], ◌∷◌, ◌++◌, length, Option, None, Some, codes, decimal}
+use Rattle.std.specs.List.{Contains}
+use Rattle.std.specs.List.Sorted.{IsStrictlyIncreasing}
+use Rattle.cstn_label.specs.Bounds.{Bound}
+use Rattle.cstn_label.specs.Labels.{Scenario, empty}
+use Rattle.cstn_net.specs.Networks.{IsWellFormed, count}
+use Rattle.cstn_net.specs.Strategies.{Table}
+use Rattle.cstn_log.specs.Plans.{IsEarliest}
+use Rattle.cstn_lift.specs.Labelled.{Labelled, label_of}
+use Rattle.cstn_lift.specs.WellFormed.{IsLabelled}
+use Rattle.cstn_lift.specs.Lowered.{lowered}
+use Rattle.cstn_lift.specs.Strategies.{IsExecuted, IsLabelledLeast}
+use Rattle.cstn_lines.specs.LiveLines.{Live, moment_at, seen, due_now, live_read}
+use Rattle.cstn_lines.specs.Pieces.{is_past}
+use Rattle.cstn_exec.specs.Moves.{moment_refusal}
+use Rattle.cstn_exec.specs.Right.{IsDue, IsDone}
+use Rattle.cstn_guide.specs.Guides.{Guided, begun, named_at, advanced}
+use Rattle.cstn_guide.specs.Sound.{IsToldAt, AgreesHanded, IsOnTime, IsLed}
+use Rattle.cstn_reply.specs.Texts.{line}
+use Rattle.cstn_reply.specs.Plans.{Said, after_text}
+use Rattle.cstn_reply.specs.Sessions.{Turn, on_turn, play, answers}
+use Rattle.cstn_talk.specs.Running.{moment_line, due_text}
+use Rattle.cstn_talk.specs.Guiding.{guide_turn, guide_ending}
+
+-- ---- sessions
+
+-- the state after lines, from a state on and after so many lines; none where one of them is the last or is of no grammar
+abbrev pub state_after : {S : Type 0} → (S → List ℕ → Turn S) → S → ℕ → List (List ℕ) → Option S
+state_after turn state count [] = Some state
+state_after turn state count (first ∷ lines) =
+    if is_past (count + 1) first then None else
+    on_turn (turn state first) (λ text next. state_after turn next (count + 1) lines) (λ said. None) None
+
+-- the state in which a session ends over these lines, given the state that a last line leads to
+abbrev pub ended : {S : Type 0} → (S → List ℕ → Turn S) → (S → List ℕ → S) → S → ℕ → List (List ℕ) → S
+ended turn led state count [] = state
+ended turn led state count (first ∷ lines) =
+    if is_past (count + 1) first then state else
+    on_turn (turn state first) (λ text next. ended turn led next (count + 1) lines) (λ said. led state first) state
+
+-- the lines lead to a state, in which the next one is answered
+pub record LeadsTo {S : Type 0} (turn : S → List ℕ → Turn S) (start : S) (lines : List (List ℕ)) (next : List ℕ) (reached : S) : Type 0 where
+  pub state : state_after turn start 0 lines ≡ Some reached
+  pub within : is_past (length lines + 1) next ≡ false
+
+-- after the answers to the lines before, a session says this text to a line, whatever lines come later
+pub record Says {S : Type 0} (turn : S → List ℕ → Turn S) (ending : S → Said) (start : S) (before : List (List ℕ)) (next : List ℕ) (text : List ℕ) : Type 0 where
+  pub whole : (later : List (List ℕ)) → (rest : Said) × (play turn ending start 0 (before ++ next ∷ later) ≡ after_text (answers turn start 0 before ++ text) rest)
+  pub heard : (later : List (List ℕ)) → (rest : List ℕ) × (answers turn start 0 (before ++ next ∷ later) ≡ (answers turn start 0 before ++ text) ++ rest)
+
+-- ---- guided sessions
+
+-- a labelled network that has a strategy, and the bounds of a plan of the lowered one
+pub record IsPlanned (m : Labelled) (bounds : List Bound) : Type 0 where
+  pub labelled : IsLabelled m
+  pub well_formed : IsWellFormed (lowered m)
+  pub table : Table
+  pub earliest : IsEarliest (lowered m) bounds table
+
+-- the lines of a guided session lead from the beginning to a state, in which the next one is answered
+abbrev pub GuidesTo : List (List ℕ) → Labelled → List Bound → List (List ℕ) → List ℕ → Guided → Type 0
+GuidesTo names m bounds before next g = LeadsTo (guide_turn names m bounds) (begun (count m.base)) before next g
+
+-- a guided session says this text to a line
+abbrev pub GuideSays : List (List ℕ) → Labelled → List Bound → List (List ℕ) → List ℕ → List ℕ → Type 0
+GuideSays names m bounds before next text = Says (guide_turn names m bounds) (guide_ending m bounds) (begun (count m.base)) before next text
+
+-- The answer to a moment that is accepted: exactly those are named who aren't executed yet, whose least moment it is by what is
+-- known, and whose completed labels hold by that, in ascending number. In each scenario that agrees with what was handed in and
+-- is known, each of them is executed, and at its least moment.
+pub record NamesLeast (names : List (List ℕ)) (m : Labelled) (bounds : List Bound) (before : List (List ℕ)) (next : List ℕ) (g : Guided) (t : ℕ) : Type 0 where
+  pub named : List ℕ
+  pub says : GuideSays names m bounds before next (moment_line names t named)
+  pub ascending : IsStrictlyIncreasing named
+  pub exactly : (x : ℕ) → Contains named x ↔ IsToldAt m g.run t x
+  pub least : (s : Scenario) (x : ℕ) → AgreesHanded m (advanced m bounds g t) s → Contains named x → IsExecuted m s x × IsLabelledLeast m s x t
+
+-- nothing is due where each time-point is executed or left out, and else the due moment
+abbrev pub IsDueMoment : Labelled → Guided → Option ℕ → Type 0
+IsDueMoment m g None = IsDone (lowered m) g.run
+IsDueMoment m g (Some t) = IsDue (lowered m) g.run t × (t ≤ m.base.deadline)
+
+-- what is due is answered
+pub record TellsDue (names : List (List ℕ)) (m : Labelled) (bounds : List Bound) (before : List (List ℕ)) (next : List ℕ) (g : Guided) : Type 0 where
+  pub due : Option ℕ
+  pub says : GuideSays names m bounds before next (line (due_text due))
+  pub right : IsDueMoment m g due
+
+-- the state that a live line leads to where its answer is the last, which only that to a moment can be
+abbrev pub led_by : Labelled → List Bound → Guided → Option Live → Guided
+led_by m bounds g None = g
+led_by m bounds g (Some (moment_at t)) = advanced m bounds g t
+led_by m bounds g (Some (seen p value)) = g
+led_by m bounds g (Some due_now) = g
+
+abbrev pub led_to : Labelled → List Bound → Guided → List ℕ → Guided
+led_to m bounds g text = led_by m bounds g (live_read text)
+
+-- the state in which a guided session ends over these lines
+abbrev pub end_of : List (List ℕ) → Labelled → List Bound → List (List ℕ) → Guided
+end_of names m bounds lines = ended (guide_turn names m bounds) (led_to m bounds) (begun (count m.base)) 0 lines
+
+-- what a guided session says to these lines
+abbrev pub said_to : List (List ℕ) → Labelled → List Bound → List (List ℕ) → Said
+said_to names m bounds lines = play (guide_turn names m bounds) (guide_ending m bounds) (begun (count m.base)) 0 lines
+
+-- x was named at t: some line accepts that moment, and x is among those who are named there
+pub record WasNamed (names : List (List ℕ)) (m : Labelled) (bounds : List Bound) (lines : List (List ℕ)) (x t : ℕ) : Type 0 where
+  pub before : List (List ℕ)
+  pub next : List ℕ
+  pub later : List (List ℕ)
+  pub lines_are : lines ≡ before ++ next ∷ later
+  pub state : Guided
+  pub leads : GuidesTo names m bounds before next state
+  pub moment : live_read next ≡ Some (moment_at t)
+  pub accepted : moment_refusal (lowered m) bounds state.run t ≡ None
+  pub told : IsToldAt m state.run t x
+
+-- Who was named when by the answers is who is named in the state in which the session ends. In each scenario that agrees with what
+-- was handed in, each of them is executed, at its least moment, and whoever was left out isn't executed.
+pub record IsTimely (names : List (List ℕ)) (m : Labelled) (bounds : List Bound) (lines : List (List ℕ)) : Type 0 where
+  pub named : (x t : ℕ) → named_at (end_of names m bounds lines) x ≡ Some t ↔ WasNamed names m bounds lines x t
+  pub on_time : IsOnTime m (end_of names m bounds lines)
+
+-- and each time-point is executed or left out, and those moments are of one labelled strategy, in each such scenario, and meet each
+-- constraint that is in force there
+pub record IsCarriedThrough (names : List (List ℕ)) (m : Labelled) (bounds : List Bound) (lines : List (List ℕ)) : Type 0 where
+  pub done : IsDone (lowered m) (end_of names m bounds lines).run
+  pub timely : IsTimely names m bounds lines
+  pub led : IsLed m (end_of names m bounds lines)
+
+-- the lines end before, and the due moment is told
+pub record EndsUnfinished (names : List (List ℕ)) (m : Labelled) (bounds : List Bound) (lines : List (List ℕ)) : Type 0 where
+  pub due : ℕ
+  pub right : IsDue (lowered m) (end_of names m bounds lines).run due
+  pub in_time : due ≤ m.base.deadline
+  pub text : (said_to names m bounds lines).text ≡ answers (guide_turn names m bounds) (begun (count m.base)) 0 lines ++ line (codes "unfinished " ++ decimal due)
+
+-- no time-point has a label
+abbrev pub HasNoLabels : Labelled → Type 0
+HasNoLabels m = (x : ℕ) → x < count m.base → label_of m x ≡ empty

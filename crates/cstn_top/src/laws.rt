@@ -1,0 +1,26 @@
+// Laws of edit sessions. The call does nothing: its contract is the laws.
+ghost use Rattle.std.specs.Prelude.{ℕ, ◌≡◌, ◌<◌, ◌+◌, ◌^◌, List, length, None, Some, codes, false};
+ghost use Rattle.std.specs.List.{All};
+ghost use Rattle.cstn_net.specs.Networks.{Network, Constraint, IsWellFormed, count};
+ghost use Rattle.cstn_lines.specs.Pieces.{is_past};
+ghost use Rattle.cstn_talk.specs.Editing.{Editing, begun_editing, edit_turn, last_checked};
+ghost use Rattle.cstn_talk.specs.Meanings.{state_after};
+ghost use Rattle.cstn_evidence.specs.Accepted.{HasIds};
+ghost use Rattle.cstn_top.specs.Lines.{AreAnswered};
+ghost use Rattle.cstn_top.specs.EditSessions.{network_after, AnswersCheck, IsAtLastCheck};
+
+use cstn_refute::texts_are_read_back;
+
+/// After any edit lines that are answered, the session's network is the network as edited by them, which is well-formed. The
+/// answer to `check` after them is true of that network: yes is said where it is consistent, no where it isn't, with steps that
+/// refute it, and that the log is full only where its log has more entries than it may. What the last check was of is the network
+/// as edited by the lines before it.
+pub fn edit_sessions_are_true()
+    ensures edited { (cap : ℕ) (names : List (List ℕ)) (net : Network) (lines : List (List ℕ)) (e : Editing) → state_after edit_turn (begun_editing cap names net) 0 lines ≡ Some e → e.session.net ≡ network_after names net lines }
+    ensures well_formed { (cap : ℕ) (names : List (List ℕ)) (net : Network) (lines : List (List ℕ)) → IsWellFormed net → length names ≡ count net → AreAnswered edit_turn (begun_editing cap names net) lines → IsWellFormed (network_after names net lines) }
+    ensures ids { (cap : ℕ) (names : List (List ℕ)) (net : Network) (lines : List (List ℕ)) → IsWellFormed net → length names ≡ count net → All (λ (c : Constraint). c.id < 2 ^ 31) net.constraints → AreAnswered edit_turn (begun_editing cap names net) lines → HasIds (network_after names net lines) }
+    ensures checked { (cap : ℕ) (names : List (List ℕ)) (net : Network) (before : List (List ℕ)) → IsWellFormed net → length names ≡ count net → AreAnswered edit_turn (begun_editing cap names net) before → is_past (length before + 1) (codes "check") ≡ false → AnswersCheck cap names net before }
+    ensures last { (cap : ℕ) (names : List (List ℕ)) (net : Network) (lines : List (List ℕ)) → AreAnswered edit_turn (begun_editing cap names net) lines → IsAtLastCheck names net lines (last_checked (begun_editing cap names net) None lines) }
+{
+    texts_are_read_back();
+}
