@@ -190,31 +190,8 @@ const LABELLED: &str = "<?xml version=\"1.0\" encoding=\"UTF-8\"?>
 #[test]
 fn labels_are_written_and_read_back(rt: HostRuntime) -> Result<(), Fail> {
     let alloc = rt.alloc();
-    let (p, q, r) = (prop(&rt, b'p'), prop(&rt, b'q'), prop(&rt, b'r'));
-    let mut names = Names::new(alloc);
-    name(&rt, &mut names, "Z")?;
-    name(&rt, &mut names, "P")?;
-    name(&rt, &mut names, "Q")?;
-    name(&rt, &mut names, "R")?;
-    name(&rt, &mut names, "X")?;
-    let mut builder = Builder::new(alloc, 10);
-    builder.node(None)?;
-    builder.node(Some(p))?;
-    builder.node(Some(q))?;
-    builder.node(Some(r))?;
-    builder.node(None)?;
-    builder.react(2, 3);
-    builder.constrain(4, 0, -5, Label::empty())?;
-    let none = Label::empty();
-    let of_q = none.with(p, Mark::Yes);
-    let of_r = none.with(p, Mark::No);
-    let of_x = of_q.with(q, Mark::Yes);
-    let labels = vec![in alloc; none, none, of_q, of_r, of_x]?;
-    let net = labelled(&rt, alloc, builder.close()?, labels)?;
+    let (net, names) = read(alloc, LABELLED.as_bytes(), None)?;
     let text = document(&rt, alloc, &net, &names)?;
-    assert_eq!(rt; text.as_str(), LABELLED);
-    let (again, _) = read(alloc, text.as_bytes(), None)?;
-    let text = document(&rt, alloc, &again, &names)?;
     assert_eq!(rt; text.as_str(), LABELLED);
     Ok(())
 }
