@@ -1,8 +1,7 @@
 use crate::write;
 use cstn_graphml::read;
-use cstn_label::{Label, Mark, NodeId, Prop};
+use cstn_label::{Label, NodeId, Prop};
 use cstn_lift::{Labelled, lift};
-use cstn_net::{Builder, Network};
 use cstn_text::Names;
 use std::alloc::Global;
 use std::process::Abort;
@@ -10,29 +9,6 @@ use std::test::Fail;
 
 fn prop(rt: &impl Abort, letter: u8) -> Prop {
     Prop::from_letter(letter).expect(rt, "a letter")
-}
-
-fn name(rt: &impl Abort, names: &mut Names, name: &str) -> Result<(), Fail> {
-    assert!(rt; names.count() < 1000);
-    names.push(name)?;
-    Ok(())
-}
-
-// A network with these labels of its time-points.
-fn labelled(
-    rt: &impl Abort,
-    alloc: Global,
-    net: Network,
-    labels: Vec<Label>,
-) -> Result<Labelled, Fail> {
-    assert!(rt; labels.len() == net.count() as usize);
-    Ok(lift(alloc, net, labels)?)
-}
-
-// A network whose time-points have no labels.
-fn unlabelled(rt: &impl Abort, alloc: Global, net: Network) -> Result<Labelled, Fail> {
-    let labels = vec![in alloc; Label::empty(); net.count() as usize]?;
-    labelled(rt, alloc, net, labels)
 }
 
 // The document of a labelled network under its names.
@@ -57,21 +33,14 @@ const BRANCH: &str = "<?xml version=\"1.0\" encoding=\"UTF-8\"?>
 </graphml>
 ";
 
+// The same network otherwise.
+const COMPACT: &str =
+    "<graphml><graph><node id=\"Z\"/><node id=\"P\"><data key=\"Obs\"> p</data></node><node id=\"X\"/><edge source=\"X\" target=\"Z\"><data key=\"LabeledValues\">{(p, -10)}</data></edge><edge source=\"Z\" target=\"X\"><data key=\"LabeledValues\">{( 3 , ! p )}</data></edge></graph></graphml>";
+
 #[test]
 fn the_branch_network(rt: HostRuntime) -> Result<(), Fail> {
     let alloc = rt.alloc();
-    let p = prop(&rt, b'p');
-    let mut names = Names::new(alloc);
-    name(&rt, &mut names, "Z")?;
-    name(&rt, &mut names, "P")?;
-    name(&rt, &mut names, "X")?;
-    let mut builder = Builder::new(alloc, 10);
-    builder.node(None)?;
-    builder.node(Some(p))?;
-    builder.node(None)?;
-    builder.constrain(2, 0, -10, Label::empty().with(p, Mark::Yes))?;
-    builder.constrain(0, 2, 3, Label::empty().with(p, Mark::No))?;
-    let net = unlabelled(&rt, alloc, builder.close()?)?;
+    let (net, names) = read(alloc, COMPACT.as_bytes(), Some(10))?;
     let text = document(&rt, alloc, &net, &names)?;
     assert_eq!(rt; text.len(), 434);
     assert_eq!(rt; text.as_str(), BRANCH);
@@ -92,34 +61,24 @@ const ESCAPED: &str = "<?xml version=\"1.0\" encoding=\"UTF-8\"?>
 #[test]
 fn names_are_escaped(rt: HostRuntime) -> Result<(), Fail> {
     let alloc = rt.alloc();
-    let mut names = Names::new(alloc);
-    name(&rt, &mut names, "Z")?;
-    name(&rt, &mut names, "a&<>\"'\n\t\u{7F}\0é")?;
-    let mut builder = Builder::new(alloc, 0);
-    builder.node(None)?;
-    builder.node(None)?;
-    builder.constrain(0, 1, -5, Label::empty())?;
-    let net = unlabelled(&rt, alloc, builder.close()?)?;
+    let (net, names) = read(alloc, ESCAPED.as_bytes(), None)?;
+    assert_eq!(rt; names.find("a&<>\"'\n\t\u{7F}\0é"), Some(1));
     let text = document(&rt, alloc, &net, &names)?;
     assert_eq!(rt; text.as_str(), ESCAPED);
-    let (_, again) = read(alloc, text.as_bytes(), None)?;
-    assert_eq!(rt; again.find("a&<>\"'\n\t\u{7F}\0é"), Some(1));
     Ok(())
 }
+
+const THREE: &str =
+    "<graphml><graph><node id=\"Z\"/><edge source=\"Z\" target=\"Z\"><data key=\"LabeledValues\">{(1, ⊡) (2, ⊡) (3, ⊡)}</data></edge></graph></graphml>";
 
 #[test]
 fn ids_are_closed_up(rt: HostRuntime) -> Result<(), Fail> {
     let alloc = rt.alloc();
-    let mut names = Names::new(alloc);
-    name(&rt, &mut names, "Z")?;
-    let mut builder = Builder::new(alloc, 10);
-    builder.node(None)?;
-    builder.constrain(0, 0, 1, Label::empty())?;
-    builder.constrain(0, 0, 2, Label::empty())?;
-    builder.constrain(0, 0, 3, Label::empty())?;
-    let mut net = builder.close()?;
+    let (labelled, names) = read(alloc, THREE.as_bytes(), Some(10))?;
+    let (mut net, _) = labelled.split();
     net.take_out(1);
-    let net = unlabelled(&rt, alloc, net)?;
+    let labels = vec![in alloc; Label::empty(); net.count() as usize]?;
+    let net = lift(alloc, net, labels)?;
     let text = document(&rt, alloc, &net, &names)?;
     let (again, _) = read(alloc, text.as_bytes(), None)?;
     let [first, second] = again.base().constraints() else {
@@ -145,31 +104,13 @@ const REACTING: &str = "<?xml version=\"1.0\" encoding=\"UTF-8\"?>
 #[test]
 fn reactions_are_written_and_read_back(rt: HostRuntime) -> Result<(), Fail> {
     let alloc = rt.alloc();
-    let (a, b, z) = (prop(&rt, b'A'), prop(&rt, b'b'), prop(&rt, b'z'));
-    let mut names = Names::new(alloc);
-    name(&rt, &mut names, "Z")?;
-    name(&rt, &mut names, "P")?;
-    name(&rt, &mut names, "X")?;
-    let mut builder = Builder::new(alloc, 1_000_000);
-    builder.node(Some(z))?;
-    builder.node(Some(b))?;
-    builder.node(Some(a))?;
-    builder.react(1, 3);
-    builder.react(2, 1000);
-    let label = Label::empty().with(z, Mark::Yes).with(b, Mark::No);
-    builder.constrain(0, 2, 0, label.with(a, Mark::Yes))?;
-    let net = unlabelled(&rt, alloc, builder.close()?)?;
+    let (net, names) = read(alloc, REACTING.as_bytes(), None)?;
+    let base = net.base();
+    assert_eq!(rt; base.reaction(prop(&rt, b'z')), 1);
+    assert_eq!(rt; base.reaction(prop(&rt, b'b')), 3);
+    assert_eq!(rt; base.reaction(prop(&rt, b'A')), 1000);
     let text = document(&rt, alloc, &net, &names)?;
     assert_eq!(rt; text.as_str(), REACTING);
-    let (again, _) = read(alloc, text.as_bytes(), None)?;
-    assert_eq!(rt;
-        (
-            again.base().reaction(z),
-            again.base().reaction(b),
-            again.base().reaction(a)
-        ),
-        (1, 3, 1000)
-    );
     Ok(())
 }
 
