@@ -23,8 +23,8 @@ use Rattle.cstn_refute.specs.Steps.{◌>>=◌, part, bound_read, node_read, name
 use Rattle.cstn_refute.specs.Orders.{bound_with}
 use Rattle.cstn_refute.specs.Texts.{Lines, lines_of}
 use Rattle.cstn_closed.specs.Texts.{line_read, Told, tells, at_end, or_wrong, told_after, load_read, told, printed_bounds, shown}
-use Rattle.cstn_closed.specs.Orders.{AreLines, IsText}
-use Rattle.cstn_closed.specs.Written.{IsWritten, AreWritten}
+use Rattle.cstn_closed.specs.Orders.{AreLines, IsTextOfBounds}
+use Rattle.cstn_closed.specs.Written.{IsPrintableBound, AreWritten}
 use Rattle.cstn_closed.proofs.LineLemmas.{lines_cut, told_first, told_last}
 
 above : (b : ℕ) → nat_lt 32 b ≡ true → 32 < b
@@ -69,7 +69,7 @@ name_one_part names x are inside =
     let name = All-get_or IsName names x [] inside are.each in
     name_part (get_or names x []) name.some
 
-named_back : (names : List (List ℕ)) (b : Bound) (label : List ℕ) → AreNames names → IsWritten names b → label_read label ≡ Some b.label →
+named_back : (names : List (List ℕ)) (b : Bound) (label : List ℕ) → AreNames names → IsPrintableBound names b → label_read label ≡ Some b.label →
     named_bound_read names (bound_with names b label) ≡ Some b
 named_back names b label are is read =
     let rest = printed_value b.least ++ 32 ∷ label in
@@ -98,7 +98,7 @@ least_free (pos n) low high =
     let small : n ≤ 1000001 = grind (arith, ints) in
     number_free n (omega arith)
 
-bound_free : (names : List (List ℕ)) (b : Bound) (label : List ℕ) → AreNames names → IsWritten names b → label_read label ≡ Some b.label →
+bound_free : (names : List (List ℕ)) (b : Bound) (label : List ℕ) → AreNames names → IsPrintableBound names b → label_read label ≡ Some b.label →
     IsFree (bound_with names b label)
 bound_free names b label are is read =
     spaced (printed_name (get_or names b.node []) ++ 32 ∷ printed_value b.least) label
@@ -109,7 +109,7 @@ few_lines : (k : ℕ) → k < 4194304 → nat_lt k 4194304 ≡ true
 few_lines k small = grind arith
 
 -- the line of a bound is read again
-line_back : (names : List (List ℕ)) (k : ℕ) (b : Bound) (label : List ℕ) → AreNames names → k < 4194304 → IsWritten names b → label_read label ≡ Some b.label →
+line_back : (names : List (List ℕ)) (k : ℕ) (b : Bound) (label : List ℕ) → AreNames names → k < 4194304 → IsPrintableBound names b → label_read label ≡ Some b.label →
     line_read names k (codes "bound " ++ bound_with names b label) ≡ Some b
 line_back names k b label are small is read =
     ap (λ (o : Option (List ℕ × List ℕ)). o >>= (λ word. if bytes_eq word.0 (codes "bound") && nat_lt k 4194304 then named_bound_read names word.1 else None))
@@ -117,14 +117,14 @@ line_back names k b label are small is read =
     ∙ ap (λ t. if t then named_bound_read names (bound_with names b label) else None) (few_lines k small)
     ∙ named_back names b label are is read
 
-line_free : (names : List (List ℕ)) (b : Bound) (label : List ℕ) → AreNames names → IsWritten names b → label_read label ≡ Some b.label →
+line_free : (names : List (List ℕ)) (b : Bound) (label : List ℕ) → AreNames names → IsPrintableBound names b → label_read label ≡ Some b.label →
     IsFree (codes "bound " ++ bound_with names b label)
 line_free names b label are is read =
     spaced (codes "bound") (bound_with names b label) (free (codes "bound") (word_part (codes "bound") (omega arith) refl)) (bound_free names b label are is read)
 
 -- the lines of the bounds are read again, after some bounds
 bounds_back : (names : List (List ℕ)) (load : ℕ) (done : List Bound) (k : ℕ) (bounds : List Bound) (text : List ℕ) → AreNames names → length done ≡ k →
-    k + length bounds ≤ 4194304 → All (IsWritten names) bounds → AreLines names bounds text →
+    k + length bounds ≤ 4194304 → All (IsPrintableBound names) bounds → AreLines names bounds text →
     told_after names load done (lines_of text).0 (lines_of text).1 ≡ at_end load (done ++ bounds) []
 unfolding told_after
 bounds_back names load done k [] text are long few each lines =
@@ -134,13 +134,13 @@ bounds_back names load done k (b ∷ bounds) text are long few each lines =
     let line = codes "bound " ++ bound_with names b lines.0 in
     let rest = lines.1 in
     let small : k < 4194304 = omega arith in
-    let here = All-get_or (IsWritten names) (b ∷ bounds) 0 b (omega arith) each in
+    let here = All-get_or (IsPrintableBound names) (b ∷ bounds) 0 b (omega arith) each in
     let next : Bound → Told = λ x. told_after names load (done ++ x ∷ []) (lines_of rest).0 (lines_of rest).1 in
     let longer : length (done ++ b ∷ []) ≡ k + 1 = length-append done (b ∷ []) ∙ omega arith in
     ap (λ (t : List ℕ). told_after names load done (lines_of t).0 (lines_of t).1) lines.3
     ∙ ap {A = Lines} (λ p. told_after names load done p.0 p.1) (lines_cut (line ++ 10 ∷ rest) line rest (cut_back 10 line rest (line_free names b lines.0 are here lines.2)))
     ∙ ap (λ o. or_wrong o (length done + 2) next) (ap (λ n. line_read names n line) long ∙ line_back names k b lines.0 are small here lines.2)
-    ∙ bounds_back names load (done ++ b ∷ []) (k + 1) bounds rest are longer (omega arith) (All-tail (IsWritten names) b bounds each) lines.4
+    ∙ bounds_back names load (done ++ b ∷ []) (k + 1) bounds rest are longer (omega arith) (All-tail (IsPrintableBound names) b bounds each) lines.4
     ∙ ap (λ s. at_end load s []) (append_assoc done (b ∷ []) bounds)
 
 load_back : (load : ℕ) → 1 ≤ load → load ≤ 4194304 → load_read (codes "yes " ++ printed_number load) ≡ Some load
@@ -154,7 +154,7 @@ ended load [] some = absurd (omega (arith, some))
 ended load (b ∷ bounds) some = refl
 
 -- a text of a load and bounds, in any order of marks, says them
-pub text_back : (names : List (List ℕ)) (load : ℕ) (bounds : List Bound) (text : List ℕ) → AreNames names → AreWritten names load bounds → IsText names load bounds text →
+pub text_back : (names : List (List ℕ)) (load : ℕ) (bounds : List Bound) (text : List ℕ) → AreNames names → AreWritten names load bounds → IsTextOfBounds names load bounds text →
     told names text ≡ tells load bounds
 text_back names load bounds text are is lines =
     let line = codes "yes " ++ printed_number load in
@@ -165,15 +165,15 @@ text_back names load bounds text are is lines =
     ∙ bounds_back names load [] 0 bounds rest are refl (omega (arith, is.few)) is.each lines.2
     ∙ ended load bounds is.some
 
-printed_lines : (names : List (List ℕ)) (bounds : List Bound) → All (IsWritten names) bounds → AreLines names bounds (printed_bounds names bounds)
+printed_lines : (names : List (List ℕ)) (bounds : List Bound) → All (IsPrintableBound names) bounds → AreLines names bounds (printed_bounds names bounds)
 printed_lines names [] each = refl
 printed_lines names (b ∷ bounds) each =
-    let here = All-get_or (IsWritten names) (b ∷ bounds) 0 b (omega arith) each in (
+    let here = All-get_or (IsPrintableBound names) (b ∷ bounds) 0 b (omega arith) each in (
       printed_label b.label,
       printed_bounds names bounds,
       label_back b.label here.marks,
       refl,
-      printed_lines names bounds (All-tail (IsWritten names) b bounds each),
+      printed_lines names bounds (All-tail (IsPrintableBound names) b bounds each),
     )
 
 -- what is shown of a load and bounds says them

@@ -16,7 +16,7 @@ use Rattle.cstn_text.specs.PrintedLabels.{printed_label}
 use Rattle.cstn_refute.specs.Steps.{printed_bound}
 use Rattle.cstn_closed.specs.Closed.{ClosedParts, the_bounds}
 use Rattle.cstn_closed.specs.Texts.{printed_bounds, shown, told, tells}
-use Rattle.cstn_closed.specs.Written.{FitsText, IsNamed, IsWritten, AreWritten}
+use Rattle.cstn_closed.specs.Written.{FitsText, IsNamed, IsPrintableBound, AreWritten}
 use Rattle.cstn_closed.proofs.BackLemmas.{shown_back}
 
 -- the lines of some bounds and of a further one
@@ -58,11 +58,11 @@ first : (P : Declared → Type 0) (x : Declared) (xs : List Declared) → All P 
 first P x xs all = All-get_or P (x ∷ xs) 0 x (omega arith) all
 
 -- bounds that have names can be written
-are_written : (names : List (List ℕ)) (xs : List Declared) → All (IsNamed names) xs → All (IsWritten names) (map the_bound xs)
-are_written names [] named = All-nil (IsWritten names)
+are_written : (names : List (List ℕ)) (xs : List Declared) → All (IsNamed names) xs → All (IsPrintableBound names) (map the_bound xs)
+are_written names [] named = All-nil (IsPrintableBound names)
 are_written names (x ∷ xs) named =
     let here = first (IsNamed names) x xs named in
-    All-cons (IsWritten names) (the_bound x) (map the_bound xs)
+    All-cons (IsPrintableBound names) (the_bound x) (map the_bound xs)
     (record { node = here.node; low = here.low; high = here.high; marks = unmarked_above x.label })
     (are_written names xs (All-tail (IsNamed names) x xs named))
 
@@ -80,12 +80,12 @@ closed_back names c text are named fits is =
     subst (λ t. told names t ≡ tells c.load (the_bounds c)) (sym is) (shown_back names c.load (the_bounds c) are written)
 
 -- bounds that can be written have names
-pub are_named : (names : List (List ℕ)) (xs : List Declared) → All (IsWritten names) (map the_bound xs) → All (IsNamed names) xs
+pub are_named : (names : List (List ℕ)) (xs : List Declared) → All (IsPrintableBound names) (map the_bound xs) → All (IsNamed names) xs
 are_named names [] all = All-nil (IsNamed names)
 are_named names (x ∷ xs) all =
-    let here = All-get_or (IsWritten names) (the_bound x ∷ map the_bound xs) 0 (the_bound x) (omega arith) all in
+    let here = All-get_or (IsPrintableBound names) (the_bound x ∷ map the_bound xs) 0 (the_bound x) (omega arith) all in
     All-cons (IsNamed names) x xs (record { node = here.node; low = here.low; high = here.high })
-    (are_named names xs (All-tail (IsWritten names) (the_bound x) (map the_bound xs) all))
+    (are_named names xs (All-tail (IsPrintableBound names) (the_bound x) (map the_bound xs) all))
 
 -- and a load and bounds that can be written fit a text
 pub fits_text : (names : List (List ℕ)) (c : ClosedParts) → AreWritten names c.load (the_bounds c) → FitsText c

@@ -21,8 +21,8 @@ use Rattle.cstn_refute.specs.Steps.{◌>>=◌, part, node_read, named_bound_read
 use Rattle.cstn_refute.specs.Orders.{bound_with}
 use Rattle.cstn_refute.specs.Texts.{Lines, begun, lines_of}
 use Rattle.cstn_closed.specs.Texts.{line_read, Told, tells, wrong, at_end, or_wrong, told_after, load_read, told_lines, told}
-use Rattle.cstn_closed.specs.Orders.{AreLines, IsText}
-use Rattle.cstn_closed.specs.Written.{IsWritten, AreWritten}
+use Rattle.cstn_closed.specs.Orders.{AreLines, IsTextOfBounds}
+use Rattle.cstn_closed.specs.Written.{IsPrintableBound, AreWritten}
 
 -- what is read of the first, where the whole is read
 pub first_some : {A B : Type 0} (o : Option A) (f : A → Option B) (y : B) → (o >>= f) ≡ Some y → (x : A) × (o ≡ Some x) × (f x ≡ Some y)
@@ -58,7 +58,7 @@ node_text names text x e =
 
 -- the bound can be written, and the text is its own, with some text of its label
 record IsSaid (names : List (List ℕ)) (bytes : List ℕ) (b : Bound) : Type 0 where
-  written : IsWritten names b
+  written : IsPrintableBound names b
   label : List ℕ
   read : label_read label ≡ Some b.label
   text : bytes ≡ bound_with names b label
@@ -91,7 +91,7 @@ few_said k e = grind arith
 -- the line of a bound says one that can be written
 record IsLine (names : List (List ℕ)) (k : ℕ) (line : List ℕ) (b : Bound) : Type 0 where
   few : k < 4194304
-  written : IsWritten names b
+  written : IsPrintableBound names b
   label : List ℕ
   read : label_read label ≡ Some b.label
   text : line ≡ codes "bound " ++ bound_with names b label
@@ -131,7 +131,7 @@ record AreRead (names : List (List ℕ)) (load : ℕ) (bounds : List Bound) : Ty
   load_low : 1 ≤ load
   load_high : load ≤ 4194304
   few : length bounds ≤ 4194304
-  each : All (IsWritten names) bounds
+  each : All (IsPrintableBound names) bounds
 
 at_end_said : (names : List (List ℕ)) (load : ℕ) (done : List Bound) (tail : List ℕ) (other : ℕ) (bounds : List Bound) → AreRead names load done →
     at_end load done tail ≡ tells other bounds → AreWritten names other bounds
@@ -151,7 +151,7 @@ after_said names load done (line ∷ lines) tail other bounds are e =
     let said = line_said names (length done) line next.0 next.1 in
     let few : length (done ++ next.0 ∷ []) ≤ 4194304 = rw (length-append done (next.0 ∷ [])) (omega (arith, said.few)) in
     after_said names load (done ++ next.0 ∷ []) lines tail other bounds
-    (record { load_low = are.load_low; load_high = are.load_high; few = few; each = All-push (IsWritten names) done next.0 are.each said.written }) next.2
+    (record { load_low = are.load_low; load_high = are.load_high; few = few; each = All-push (IsPrintableBound names) done next.0 are.each said.written }) next.2
 
 load_said : (line : List ℕ) (load : ℕ) → load_read line ≡ Some load → (1 ≤ load) × (load ≤ 4194304) × (line ≡ codes "yes " ++ printed_number load)
 load_said line load e =
@@ -173,7 +173,7 @@ lines_said names (line ∷ lines) tail load bounds e =
     let first = told_or_wrong (load_read line) 1 (λ n. told_after names n [] lines tail) load bounds e in
     let range = load_said line first.0 first.1 in
     after_said names first.0 [] lines tail load bounds
-    (record { load_low = range.0; load_high = range.1; few = omega arith; each = All-nil (IsWritten names) }) first.2
+    (record { load_low = range.0; load_high = range.1; few = omega arith; each = All-nil (IsPrintableBound names) }) first.2
 
 -- what a text says can be written
 pub text_said : (names : List (List ℕ)) (bytes : List ℕ) (load : ℕ) (bounds : List Bound) → told names bytes ≡ tells load bounds → AreWritten names load bounds
@@ -228,7 +228,7 @@ after_text names load done (line ∷ lines) tail other bounds e =
     )
 
 lines_text : (names : List (List ℕ)) (lines : List (List ℕ)) (tail : List ℕ) (load : ℕ) (bounds : List Bound) →
-    told_lines names lines tail ≡ tells load bounds → IsText names load bounds (joined lines tail)
+    told_lines names lines tail ≡ tells load bounds → IsTextOfBounds names load bounds (joined lines tail)
 unfolding joined
 lines_text names [] tail load bounds e = absurd (not_wrong 1 load bounds e)
 lines_text names (line ∷ lines) tail load bounds e =
@@ -240,6 +240,6 @@ lines_text names (line ∷ lines) tail load bounds e =
     )
 
 -- a text that says a load and bounds is the one that is printed, but for the order of the marks in the labels
-pub text_is : (names : List (List ℕ)) (bytes : List ℕ) (load : ℕ) (bounds : List Bound) → told names bytes ≡ tells load bounds → IsText names load bounds bytes
+pub text_is : (names : List (List ℕ)) (bytes : List ℕ) (load : ℕ) (bounds : List Bound) → told names bytes ≡ tells load bounds → IsTextOfBounds names load bounds bytes
 text_is names bytes load bounds e =
-    subst (IsText names load bounds) (lines_joined bytes) (lines_text names (lines_of bytes).0 (lines_of bytes).1 load bounds e)
+    subst (IsTextOfBounds names load bounds) (lines_joined bytes) (lines_text names (lines_of bytes).0 (lines_of bytes).1 load bounds e)

@@ -12,5 +12,5 @@ AreLines names (b ∷ bounds) text =
     (label : List ℕ) × (rest : List ℕ) × (label_read label ≡ Some b.label) × (text ≡ codes "bound " ++ bound_with names b label ++ 10 ∷ rest) × AreLines names bounds rest
 
 -- the text of a load and bounds as it is printed, but for the order of the marks in the labels
-abbrev pub IsText : List (List ℕ) → ℕ → List Bound → List ℕ → Type 0
-IsText names load bounds text = (lines : List ℕ) × (text ≡ codes "yes " ++ printed_number load ++ 10 ∷ lines) × AreLines names bounds lines
+abbrev pub IsTextOfBounds : List (List ℕ) → ℕ → List Bound → List ℕ → Type 0
+IsTextOfBounds names load bounds text = (lines : List ℕ) × (text ≡ codes "yes " ++ printed_number load ++ 10 ∷ lines) × AreLines names bounds lines

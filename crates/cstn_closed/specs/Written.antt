@@ -20,7 +20,7 @@ pub record FitsText (c : ClosedParts) : Type 0 where
   pub few : length c.bounds ≤ 4194304
 
 -- the bound is at a time-point that has a name, with a least value from 0 to 1,000,001 and marks on the 52 propositions alone
-pub record IsWritten (names : List (List ℕ)) (b : Bound) : Type 0 where
+pub record IsPrintableBound (names : List (List ℕ)) (b : Bound) : Type 0 where
   pub node : b.node < length names
   pub low : pos 0 ≤ℤ b.least
   pub high : b.least ≤ℤ pos 1000001
@@ -32,4 +32,4 @@ pub record AreWritten (names : List (List ℕ)) (load : ℕ) (bounds : List Boun
   pub load_high : load ≤ 4194304
   pub some : 1 ≤ length bounds
   pub few : length bounds ≤ 4194304
-  pub each : All (IsWritten names) bounds
+  pub each : All (IsPrintableBound names) bounds

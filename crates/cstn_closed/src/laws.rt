@@ -8,7 +8,7 @@ ghost use Rattle.cstn_rules.specs.Rules.{IsBoundOf};
 ghost use Rattle.cstn_text.specs.Names.{AreNames};
 ghost use Rattle.cstn_closed.specs.Faults.{Fault, IsFirstFault, IsFaultless};
 ghost use Rattle.cstn_closed.specs.Texts.{tells, told, shown};
-ghost use Rattle.cstn_closed.specs.Orders.{IsText};
+ghost use Rattle.cstn_closed.specs.Orders.{IsTextOfBounds};
 ghost use Rattle.cstn_closed.specs.Written.{AreWritten};
 
 /// A closed list whose least values are from 0 to the limit + 1 has no fault. A list has at most one first fault.
@@ -26,6 +26,6 @@ pub fn closed_texts_are_read_back()
 
 /// The texts that say a load and bounds in their ranges are the printed one, but for the order of the marks in its labels.
 pub fn closed_texts_are_the_shown_ones()
-    ensures said { (names : List (List ℕ)) (bytes : List ℕ) (load : ℕ) (bounds : List Bound) → told names bytes ≡ tells load bounds → IsText names load bounds bytes }
-    ensures says { (names : List (List ℕ)) (load : ℕ) (bounds : List Bound) (bytes : List ℕ) → AreNames names → AreWritten names load bounds → IsText names load bounds bytes → told names bytes ≡ tells load bounds }
+    ensures said { (names : List (List ℕ)) (bytes : List ℕ) (load : ℕ) (bounds : List Bound) → told names bytes ≡ tells load bounds → IsTextOfBounds names load bounds bytes }
+    ensures says { (names : List (List ℕ)) (load : ℕ) (bounds : List Bound) (bytes : List ℕ) → AreNames names → AreWritten names load bounds → IsTextOfBounds names load bounds bytes → told names bytes ≡ tells load bounds }
 {}

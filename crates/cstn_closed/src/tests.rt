@@ -6,7 +6,7 @@ use crate::{Closed, ClosedAnswer, ClosedError, adopt, check};
 use cstn_label::{Bound, Label, Mark, NodeId, Prop};
 use cstn_log::SoundPlan;
 use cstn_net::{Builder, Network};
-use cstn_text::Names;
+use cstn_text::{NameKey, Names};
 use std::alloc::{AllocError, Global};
 use std::process::Abort;
 use std::test::Fail;
@@ -39,7 +39,7 @@ fn last_tick(alloc: Global) -> Result<Builder, AllocError> {
 }
 
 fn names(rt: &impl Abort, alloc: Global) -> Names {
-    let mut names = Names::new(alloc);
+    let mut names = Names::new(alloc, NameKey::new(b""));
     for name in ["Z", "P", "X"] {
         assert!(rt; names.count() < 1000);
         assert!(rt; names.push(name).is_ok());

@@ -10,7 +10,7 @@ use crate::constraints::{Span, draw_label, draw_span, letter};
 use crate::draws::Draws;
 use cstn_label::{Label, Prop};
 use cstn_net::{Builder, NetError, Network};
-use cstn_text::{NameError, Names};
+use cstn_text::{NameError, NameKey, Names};
 use std::alloc::{AllocError, Global};
 
 const MOST_PROPS: u32 = 6;
@@ -114,7 +114,7 @@ fn names_of(alloc: Global, size: u32) -> Result<Names, AllocError>
     requires few { size ≤ 200 }
     ensures names { IfOk result (λ names. names ≡ generated_names size) }
 {
-    let mut names = Names::new(alloc);
+    let mut names = Names::new(alloc, NameKey::new(b""));
     push_name(&mut names, "Z")?;
     for i in 0..size {
         let number = i + 1;

@@ -18,7 +18,7 @@ use Rattle.cstn_graphml.specs.DrawnGraph.{Observation, observation, DrawnGraph, 
 use Rattle.cstn_graphml.specs.Judged.{judged_node, judged_edge, judged_deadline, with_pair, with_pairs, with_values, with_edge, is_kept, observed, reacting, labelled}
 use Rattle.cstn_graphml.specs.Document.{Part, graph_child, graph_reading, in_graph, root_child, root_reading, in_root, document_child, document_reading, in_document, part_of}
 use Rattle.cstn_graphml.specs.Document.Part.{a_datum, a_node, an_edge, another}
-use Rattle.cstn_graphml.specs.DrawnGraphLaws.{IsDrawnGraph, IsDrawnAmong, IsTimely}
+use Rattle.cstn_graphml.specs.DrawnGraphLaws.{IsDrawnGraph, IsDrawnAmong, IsWithReaction}
 use Rattle.cstn_label.specs.Labels.{Label, IsPlain, empty}
 use Rattle.cstn_data.specs.LabelTexts.{label_of}
 use Rattle.cstn_data.proofs.ReactionLemmas.{reaction_in_reach}
@@ -84,7 +84,7 @@ constraint_kept c d h i p = record {
 deadline_kept : (found : Datum) (n : ℕ) (d : DrawnGraph) → IsDrawnGraph d → IsDrawnGraph (with_deadline found n d)
 deadline_kept found n d h = record { later = h.later; first = h.first; each = h.each; labelled = h.labelled; among = h.among; origin_timely = h.origin_timely; timely = h.timely; plain = h.plain; origin_plain = h.origin_plain; plain_labels = h.plain_labels }
 
-node_by : (b : Bool) (name : List ℕ) (observed : Option Observation) (label : Label) (d : DrawnGraph) → IsDrawnGraph d → IsTimely observed → IsPlain label
+node_by : (b : Bool) (name : List ℕ) (observed : Option Observation) (label : Label) (d : DrawnGraph) → IsDrawnGraph d → IsWithReaction observed → IsPlain label
     → IsDrawnGraph (if b then record d { origin = Some observed; origin_label = label } else record d { names = d.names ++ (name ∷ []); observes = d.observes ++ (observed ∷ []); labels = d.labels ++ (label ∷ []) })
 node_by true name observed label d h t p = record { later = h.later; first = h.first; each = h.each; labelled = h.labelled; among = h.among; origin_timely = t; timely = h.timely; plain = h.plain; origin_plain = p; plain_labels = h.plain_labels }
 node_by false name observed label d h t p =
@@ -98,13 +98,13 @@ node_by false name observed label d h t p =
       labelled = omega (arith, longer, labelled, h.labelled);
       among = All-weaker (IsDrawnAmong (length d.names)) (IsDrawnAmong (length (d.names ++ (name ∷ [])))) (λ c i. (omega (arith, longer, i.0), omega (arith, longer, i.1))) d.constraints h.among;
       origin_timely = h.origin_timely;
-      timely = All-push IsTimely d.observes observed h.timely t;
+      timely = All-push IsWithReaction d.observes observed h.timely t;
       plain = h.plain;
       origin_plain = h.origin_plain;
       plain_labels = All-push IsPlain d.labels label h.plain_labels p;
     }
 
-node_kept : (name : List ℕ) (observed : Option Observation) (label : Label) (d : DrawnGraph) → IsDrawnGraph d → IsTimely observed → IsPlain label → IsDrawnGraph (with_node name observed label d)
+node_kept : (name : List ℕ) (observed : Option Observation) (label : Label) (d : DrawnGraph) → IsDrawnGraph d → IsWithReaction observed → IsPlain label → IsDrawnGraph (with_node name observed label d)
 node_kept name observed label d h t p = node_by (is_same name origin_name) name observed label d h t p
 
 -- the reaction of a node
@@ -117,7 +117,7 @@ labelled_plain : (found : Option Datum) (label : Label) → labelled found ≡ O
 labelled_plain None label e = subst IsPlain (ok_is empty label e) (λ p. tt)
 labelled_plain (Some x) label e = label_plain x.value label (given (label_of x.value) (label_text x.at) label e)
 
-observation_timely : (prop : Option ℕ) (ticks : ℕ) → IsReaction ticks → IsTimely (observation prop ticks)
+observation_timely : (prop : Option ℕ) (ticks : ℕ) → IsReaction ticks → IsWithReaction (observation prop ticks)
 observation_timely (Some p) ticks h = h
 observation_timely None ticks h = tt
 

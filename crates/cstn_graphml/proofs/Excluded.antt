@@ -10,7 +10,7 @@ use Rattle.cstn_net.specs.declared.points.TimePoint.{TimePoint}
 use Rattle.cstn_net.specs.declared.errors.NetError.{NetError}
 use Rattle.cstn_net.specs.declared.errors.NetError.TheVariants.{TooManyNodes, NoOrigin, TooManyConstraints, DeadlineRange, ValueRange, NotObserved, TwoObservers, NotPlain, ReactionRange, Memory as NoMemory}
 use Rattle.cstn_label.specs.declared.nodes.NodeId.{NodeId}
-use Rattle.cstn_net.specs.Drafts.{IsRefusal, IsFirst, IsTimely as IsInTime}
+use Rattle.cstn_net.specs.Drafts.{IsRefusal, IsFirst, HasReaction as IsInTime}
 use Rattle.cstn_graphml.specs.declared.drawn_graph.Observation.{Observation as LentObservation}
 use Rattle.cstn_graphml.specs.declared.drawn_graph.DrawnConstraint.{DrawnConstraint as Lent}
 use Rattle.cstn_graphml.specs.declared.drawn_graph.DrawnGraph.{DrawnGraph as LentGraph}
@@ -24,7 +24,7 @@ use Rattle.cstn_net.specs.Read.{NetworkParts, the_network}
 use Rattle.cstn_graphml.specs.Labels.{labels_seen, with_labels_of}
 use Rattle.cstn_graphml.specs.DrawnGraph.{DrawnConstraint}
 use Rattle.cstn_graphml.specs.DrawnGraphSeen.{observed_seen, drawn_seen, graph_seen}
-use Rattle.cstn_graphml.specs.DrawnGraphLaws.{IsDrawnGraph, IsTimely, IsTimelyOrigin}
+use Rattle.cstn_graphml.specs.DrawnGraphLaws.{IsDrawnGraph, IsWithReaction, IsTimelyOrigin}
 use Rattle.cstn_graphml.specs.Results.{Refusal}
 use Rattle.cstn_graphml.specs.Networks.{builder_of, draft_of, point_of, at_origin}
 use Rattle.cstn_graphml.specs.Answers.{IsTold, IsLabelRefusal}
@@ -72,15 +72,15 @@ all_plain : (cs : List Lent) (k : ℕ) → All (λ (c : DrawnConstraint). IsPlai
 all_plain [] k h first = absurd (omega (arith, first.inside))
 all_plain (c ∷ cs) k h first = first.here (draft_of c) (plain_drafts (c ∷ cs) h k (draft_of c) first.inside)
 
-point_timely : (observed : Option LentObservation) → IsTimely (observed_seen observed) → IsInTime (point_of observed)
+point_timely : (observed : Option LentObservation) → IsWithReaction (observed_seen observed) → IsInTime (point_of observed)
 point_timely (Some o) h = λ some. h
 point_timely None h = λ some. absurd (cc)
 
-points_timely : (observes : List (Option LentObservation)) → All IsTimely (map observed_seen observes) → All IsInTime (map point_of observes)
+points_timely : (observes : List (Option LentObservation)) → All IsWithReaction (map observed_seen observes) → All IsInTime (map point_of observes)
 points_timely [] h = All-nil IsInTime
-points_timely (o ∷ observes) h = All-cons IsInTime (point_of o) (map point_of observes) (point_timely o (All-head IsTimely (observed_seen o) (map observed_seen observes) h)) (points_timely observes (All-tail IsTimely (observed_seen o) (map observed_seen observes) h))
+points_timely (o ∷ observes) h = All-cons IsInTime (point_of o) (map point_of observes) (point_timely o (All-head IsWithReaction (observed_seen o) (map observed_seen observes) h)) (points_timely observes (All-tail IsWithReaction (observed_seen o) (map observed_seen observes) h))
 
-origin_is_timely : (o : Option (Option LentObservation)) → IsTimelyOrigin (option_map observed_seen o) → IsTimely (observed_seen (at_origin o))
+origin_is_timely : (o : Option (Option LentObservation)) → IsTimelyOrigin (option_map observed_seen o) → IsWithReaction (observed_seen (at_origin o))
 origin_is_timely (Some observed) h = h
 origin_is_timely None h = tt
 
@@ -111,7 +111,7 @@ module _ (n : ℕ) (d : LentGraph) where
   timely_there graph node (inr l) =
       let first = subst (λ (ts : List TimePoint). IsFirst (λ (x : TimePoint). IsInTime x → ⊥) ts node.0) (built_points n d) l.has in
       let other : TimePoint = record { observes = None; reaction = 1 } in
-      first.here other (points_timely (all_points d) (All-cons IsTimely (observed_seen (at_origin d.origin)) (map observed_seen d.observes.items) (origin_is_timely d.origin graph.origin_timely) graph.timely) node.0 other first.inside)
+      first.here other (points_timely (all_points d) (All-cons IsWithReaction (observed_seen (at_origin d.origin)) (map observed_seen d.observes.items) (origin_is_timely d.origin graph.origin_timely) graph.timely) node.0 other first.inside)
 
   pub has_origin : (error : NetError) (names others : List (List ℕ)) (e : DocError) → IsRefusal (builder_of n d) error → IsTold error names e → e ≢ Net NoOrigin others
   has_origin error names others e h t is = origin_there (subst (IsRefusal (builder_of n d)) (told_net error NoOrigin names others e t is) h)

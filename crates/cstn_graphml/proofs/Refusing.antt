@@ -22,10 +22,10 @@ use Rattle.cstn_graphml.specs.Contents.{content_of}
 use Rattle.cstn_graphml.specs.DrawnGraph.{origin_name}
 use Rattle.cstn_graphml.specs.DrawnGraphSeen.{graph_seen}
 use Rattle.cstn_graphml.specs.DrawnGraphLaws.{IsDrawnGraph}
-use Rattle.cstn_graphml.specs.Document.{Parts, document, in_document, parts_of, first_of_two}
+use Rattle.cstn_graphml.specs.Document.{Parts, document, in_document, drawn_parts, first_of_two}
 use Rattle.cstn_graphml.specs.Networks.{IsBuilt, builder_of, labelled_of}
 use Rattle.cstn_graphml.specs.Labels.{labels_seen, with_labels_of}
-use Rattle.cstn_graphml.specs.Answers.{IsDocument, IsUnfitDocument, IsRefused, IsTold, IsLabelRefusal}
+use Rattle.cstn_graphml.specs.Answers.{IsDocument, IsUnfitDocument, RefusesDocument, IsTold, IsLabelRefusal}
 use Rattle.cstn_graphml.specs.Reads.{Fails}
 use Rattle.cstn_graphml.specs.declared.drawn_graph.DrawnGraph.{DrawnGraph as LentGraph}
 use Rattle.cstn_graphml.specs.declared.errors.DocError.{DocError}
@@ -40,14 +40,14 @@ told_at m n e = rw e refl
 -- bytes that aren't UTF-8
 pub not_text : (bytes : List ℕ) (word : Option ℕ) (at : ℕ) → (IsUtf8 bytes → ⊥) → at ≡ utf8_valid_len bytes → document bytes word ≡ Err (not_utf8 at)
 not_text bytes word at h e =
-    ap (λ b. demand b (not_utf8 (utf8_valid_len bytes)) >>= λ same. in_document (content_of (tokens bytes)) >>= parts_of word) (false_from_ne_true (is_utf8 bytes) (λ t. h (IsUtf8-from_is_utf8 bytes t)))
+    ap (λ b. demand b (not_utf8 (utf8_valid_len bytes)) >>= λ same. in_document (content_of (tokens bytes)) >>= drawn_parts word) (false_from_ne_true (is_utf8 bytes) (λ t. h (IsUtf8-from_is_utf8 bytes t)))
     ∙ told_at (utf8_valid_len bytes) at (sym e)
 
 -- the document of a text
-pub of_text : (bytes : List ℕ) (word : Option ℕ) → IsUtf8 bytes → document bytes word ≡ (in_document (content_of (tokens bytes)) >>= parts_of word)
-of_text bytes word h = ap (λ b. demand b (not_utf8 (utf8_valid_len bytes)) >>= λ same. in_document (content_of (tokens bytes)) >>= parts_of word) (is_utf8-from_IsUtf8 bytes h)
+pub of_text : (bytes : List ℕ) (word : Option ℕ) → IsUtf8 bytes → document bytes word ≡ (in_document (content_of (tokens bytes)) >>= drawn_parts word)
+of_text bytes word h = ap (λ b. demand b (not_utf8 (utf8_valid_len bytes)) >>= λ same. in_document (content_of (tokens bytes)) >>= drawn_parts word) (is_utf8-from_IsUtf8 bytes h)
 
-refused_by : (e : DocError) (told : Result Parts Refusal) → Fails e told → IsRefused told e
+refused_by : (e : DocError) (told : Result Parts Refusal) → Fails e told → RefusesDocument told e
 refused_by (NotUtf8 at) told h = h
 refused_by (Shape at) told h = h
 refused_by (NameTwice at) told h = h
@@ -62,16 +62,16 @@ refused_by (Lift error names) told h = absurd h
 refused_by (Memory e) told h = tt
 
 -- refused by its tokens and elements
-pub refused_before : (bytes : List ℕ) (word : Option ℕ) (e : DocError) → IsUtf8 bytes → Fails e (in_document (content_of (tokens bytes))) → IsRefused (document bytes word) e
-refused_before bytes word e u h = refused_by e (document bytes word) (subst (Fails e) (sym (of_text bytes word u)) (fails_through e (in_document (content_of (tokens bytes))) (parts_of word) h))
+pub refused_before : (bytes : List ℕ) (word : Option ℕ) (e : DocError) → IsUtf8 bytes → Fails e (in_document (content_of (tokens bytes))) → RefusesDocument (document bytes word) e
+refused_before bytes word e u h = refused_by e (document bytes word) (subst (Fails e) (sym (of_text bytes word u)) (fails_through e (in_document (content_of (tokens bytes))) (drawn_parts word) h))
 
 -- read, without a deadline
 pub lacks_deadline : (bytes : List ℕ) (word : Option ℕ) (d : LentGraph) → IsUtf8 bytes → in_document (content_of (tokens bytes)) ≡ Ok (graph_seen d) → first_of_two word d.deadline ≡ None → document bytes word ≡ Err no_deadline
-lacks_deadline bytes word d u h e = of_text bytes word u ∙ ap (λ o. o >>= parts_of word) h ∙ ap (λ o. or_refused o no_deadline >>= λ deadline. Ok (parts_with deadline d)) e
+lacks_deadline bytes word d u h e = of_text bytes word u ∙ ap (λ o. o >>= drawn_parts word) h ∙ ap (λ o. or_refused o no_deadline >>= λ deadline. Ok (parts_with deadline d)) e
 
 -- read, with one
 pub has_deadline : (bytes : List ℕ) (word : Option ℕ) (n : ℕ) (d : LentGraph) → IsUtf8 bytes → in_document (content_of (tokens bytes)) ≡ Ok (graph_seen d) → first_of_two word d.deadline ≡ Some n → document bytes word ≡ Ok (parts_with n d)
-has_deadline bytes word n d u h e = of_text bytes word u ∙ ap (λ o. o >>= parts_of word) h ∙ ap (λ o. or_refused o no_deadline >>= λ deadline. Ok (parts_with deadline d)) e
+has_deadline bytes word n d u h e = of_text bytes word u ∙ ap (λ o. o >>= drawn_parts word) h ∙ ap (λ o. or_refused o no_deadline >>= λ deadline. Ok (parts_with deadline d)) e
 
 pub read_is_drawn : (bytes : List ℕ) (d : LentGraph) → in_document (content_of (tokens bytes)) ≡ Ok (graph_seen d) → IsDrawnGraph (graph_seen d)
 read_is_drawn bytes d h = document_is_drawn (content_of (tokens bytes)) (graph_seen d) h
@@ -99,7 +99,7 @@ module _ (told : Result Parts Refusal) (n : ℕ) (d : LentGraph) (network : Netw
   all_made (Err e) same named in_order none = tt
 
   -- and its labels were refused
-  pub mislabelled_is_refused : (e : DocError) → IsLabelRefusal (with_labels_of network d) d.names e → IsRefused told e
+  pub mislabelled_is_refused : (e : DocError) → IsLabelRefusal (with_labels_of network d) d.names e → RefusesDocument told e
   mislabelled_is_refused (Lift error names) h = record {
     parts = parts_with n d;
     told_are = is;
@@ -148,14 +148,14 @@ module _ (told : Result Parts Refusal) (n : ℕ) (d : LentGraph) (names : List (
   unfit : (error : NetError) → IsRefusal (builder_of n d) error → (number error ≡ 0 → ⊥) → IsUnfitDocument told error names
   unfit error h z = record { parts = parts_with n d; told_are = is; unfit = record { builder = builder_of n d; parts_are = has_parts n d; fault = lowest_of _ error h z }; names_are = named }
 
-  pub unfit_is_refused : (error : NetError) → IsRefusal (builder_of n d) error → IsTold error names e → IsRefused told e
-  unfit_is_refused (NoMemory x) h t = subst (IsRefused told) (sym t) tt
-  unfit_is_refused TooManyNodes h t = subst (IsRefused told) (sym t) (unfit _ h (λ z. omega (arith, z)))
-  unfit_is_refused NoOrigin h t = subst (IsRefused told) (sym t) (unfit _ h (λ z. omega (arith, z)))
-  unfit_is_refused TooManyConstraints h t = subst (IsRefused told) (sym t) (unfit _ h (λ z. omega (arith, z)))
-  unfit_is_refused (DeadlineRange deadline) h t = subst (IsRefused told) (sym t) (unfit _ h (λ z. omega (arith, z)))
-  unfit_is_refused (ValueRange constraint) h t = subst (IsRefused told) (sym t) (unfit _ h (λ z. omega (arith, z)))
-  unfit_is_refused (NotObserved prop) h t = subst (IsRefused told) (sym t) (unfit _ h (λ z. omega (arith, z)))
-  unfit_is_refused (TwoObservers prop first second) h t = subst (IsRefused told) (sym t) (unfit _ h (λ z. omega (arith, z)))
-  unfit_is_refused (NotPlain constraint) h t = subst (IsRefused told) (sym t) (unfit _ h (λ z. omega (arith, z)))
-  unfit_is_refused (ReactionRange node) h t = subst (IsRefused told) (sym t) (unfit _ h (λ z. omega (arith, z)))
+  pub unfit_is_refused : (error : NetError) → IsRefusal (builder_of n d) error → IsTold error names e → RefusesDocument told e
+  unfit_is_refused (NoMemory x) h t = subst (RefusesDocument told) (sym t) tt
+  unfit_is_refused TooManyNodes h t = subst (RefusesDocument told) (sym t) (unfit _ h (λ z. omega (arith, z)))
+  unfit_is_refused NoOrigin h t = subst (RefusesDocument told) (sym t) (unfit _ h (λ z. omega (arith, z)))
+  unfit_is_refused TooManyConstraints h t = subst (RefusesDocument told) (sym t) (unfit _ h (λ z. omega (arith, z)))
+  unfit_is_refused (DeadlineRange deadline) h t = subst (RefusesDocument told) (sym t) (unfit _ h (λ z. omega (arith, z)))
+  unfit_is_refused (ValueRange constraint) h t = subst (RefusesDocument told) (sym t) (unfit _ h (λ z. omega (arith, z)))
+  unfit_is_refused (NotObserved prop) h t = subst (RefusesDocument told) (sym t) (unfit _ h (λ z. omega (arith, z)))
+  unfit_is_refused (TwoObservers prop first second) h t = subst (RefusesDocument told) (sym t) (unfit _ h (λ z. omega (arith, z)))
+  unfit_is_refused (NotPlain constraint) h t = subst (RefusesDocument told) (sym t) (unfit _ h (λ z. omega (arith, z)))
+  unfit_is_refused (ReactionRange node) h t = subst (RefusesDocument told) (sym t) (unfit _ h (λ z. omega (arith, z)))

@@ -37,19 +37,19 @@ pub record IsMislabelledDocument (told : Result Parts Refusal) (error : LiftErro
   pub names_are : names ≡ parts.names
 
 -- the document is refused by the grammar, by the network or by its labels, with exactly this refusal; want of memory may come at any point
-abbrev pub IsRefused : Result Parts Refusal → DocError → Type 0
-IsRefused told (Net error names) = IsUnfitDocument told error names
-IsRefused told (NotUtf8 at) = Fails (NotUtf8 at) told
-IsRefused told (Shape at) = Fails (Shape at) told
-IsRefused told (NameTwice at) = Fails (NameTwice at) told
-IsRefused told (UnknownNode at) = Fails (UnknownNode at) told
-IsRefused told (Value at) = Fails (Value at) told
-IsRefused told (LabelText at) = Fails (LabelText at) told
-IsRefused told (Contingent at) = Fails (Contingent at) told
-IsRefused told (EdgeType at) = Fails (EdgeType at) told
-IsRefused told NoDeadline = Fails NoDeadline told
-IsRefused told (Lift error names) = IsMislabelledDocument told error names
-IsRefused told (Memory e) = Unit {0}
+abbrev pub RefusesDocument : Result Parts Refusal → DocError → Type 0
+RefusesDocument told (Net error names) = IsUnfitDocument told error names
+RefusesDocument told (NotUtf8 at) = Fails (NotUtf8 at) told
+RefusesDocument told (Shape at) = Fails (Shape at) told
+RefusesDocument told (NameTwice at) = Fails (NameTwice at) told
+RefusesDocument told (UnknownNode at) = Fails (UnknownNode at) told
+RefusesDocument told (Value at) = Fails (Value at) told
+RefusesDocument told (LabelText at) = Fails (LabelText at) told
+RefusesDocument told (Contingent at) = Fails (Contingent at) told
+RefusesDocument told (EdgeType at) = Fails (EdgeType at) told
+RefusesDocument told NoDeadline = Fails NoDeadline told
+RefusesDocument told (Lift error names) = IsMislabelledDocument told error names
+RefusesDocument told (Memory e) = Unit {0}
 
 -- how a refused builder is told
 abbrev pub IsTold : NetError → List (List ℕ) → DocError → Type 0

@@ -94,8 +94,8 @@ abbrev pub or_nothing : Option (Option Observation) → Option Observation
 or_nothing (Some observed) = observed
 or_nothing None = None
 
-abbrev pub parts_of : Option ℕ → DrawnGraph → Result Parts Refusal
-parts_of word graph = or_refused (first_of_two word graph.deadline) no_deadline >>= λ deadline.
+abbrev pub drawn_parts : Option ℕ → DrawnGraph → Result Parts Refusal
+drawn_parts word graph = or_refused (first_of_two word graph.deadline) no_deadline >>= λ deadline.
     Ok (record { deadline = deadline; names = graph.names; observes = or_nothing graph.origin ∷ graph.observes; labels = graph.origin_label ∷ graph.labels; constraints = graph.constraints })
 
 -- the bytes are UTF-8, or refused at the first byte of the first wrong sequence
@@ -104,4 +104,4 @@ is_text bytes = demand (is_utf8 bytes) (not_utf8 (utf8_valid_len bytes))
 
 -- The document of the bytes with the deadline handed in or none: its parts, or its refusal.
 abbrev pub document : List ℕ → Option ℕ → Result Parts Refusal
-document bytes word = is_text bytes >>= λ same. in_document (content_of (tokens bytes)) >>= parts_of word
+document bytes word = is_text bytes >>= λ same. in_document (content_of (tokens bytes)) >>= drawn_parts word

@@ -10,13 +10,13 @@ abbrev pub IsDrawnAmong : ℕ → DrawnConstraint → Type 0
 IsDrawnAmong n c = (c.from < n) × (c.to < n)
 
 -- the reaction of what is observed is from 1 to 1,000 ticks
-abbrev pub IsTimely : Option Observation → Type 0
-IsTimely (Some o) = IsReaction o.reaction
-IsTimely None = Unit {0}
+abbrev pub IsWithReaction : Option Observation → Type 0
+IsWithReaction (Some o) = IsReaction o.reaction
+IsWithReaction None = Unit {0}
 
 -- and so is the origin's, once its node was read
 abbrev pub IsTimelyOrigin : Option (Option Observation) → Type 0
-IsTimelyOrigin (Some observed) = IsTimely observed
+IsTimelyOrigin (Some observed) = IsWithReaction observed
 IsTimelyOrigin None = Unit {0}
 
 -- the origin's name stands first, each name after it has its observation and its label, and each constraint is between two
@@ -28,7 +28,7 @@ pub record IsDrawnGraph (d : DrawnGraph) : Type 0 where
   pub labelled : length d.names ≡ length d.labels + 1
   pub among : All (IsDrawnAmong (length d.names)) d.constraints
   pub origin_timely : IsTimelyOrigin d.origin
-  pub timely : All IsTimely d.observes
+  pub timely : All IsWithReaction d.observes
   pub plain : All (λ c. IsPlain c.label) d.constraints
   pub origin_plain : IsPlain d.origin_label
   pub plain_labels : All IsPlain d.labels

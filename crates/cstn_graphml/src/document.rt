@@ -13,11 +13,13 @@ use crate::errors::DocError;
 use crate::root::read_whole_root;
 use cstn_data::is_blank;
 use cstn_markup::{Kind, Scanner, Token};
+use cstn_text::NameKey;
 use std::alloc::Global;
 
 /// An element of the document, of which the start tag was read: its root, behind which none stands.
 fn read_document_child(
     alloc: Global,
+    key: NameKey,
     scanner: &mut Scanner,
     start: &Start,
     seen: &mut Option<DrawnGraph>,
@@ -32,13 +34,17 @@ fn read_document_child(
     if start.name != b"graphml".as_slice() {
         return Err(DocError::Shape { at });
     }
-    let graph = read_whole_root(alloc, scanner, start)?;
+    let graph = read_whole_root(alloc, key, scanner, start)?;
     *seen = Some(graph);
     Ok(())
 }
 
 /// The document of which no token was read.
-pub fn read_document(alloc: Global, scanner: &mut Scanner) -> Result<DrawnGraph, DocError>
+pub fn read_document(
+    alloc: Global,
+    key: NameKey,
+    scanner: &mut Scanner,
+) -> Result<DrawnGraph, DocError>
     ensures { Gives graph_seen result (in_document (content_of scanner.old)) }
 {
     let mut seen = None;
@@ -56,7 +62,7 @@ pub fn read_document(alloc: Global, scanner: &mut Scanner) -> Result<DrawnGraph,
                     attributes,
                     closed,
                 };
-                read_document_child(alloc, scanner, &start, &mut seen)?;
+                read_document_child(alloc, key, scanner, &start, &mut seen)?;
             }
             Kind::End { name: _ } => return Err(DocError::Shape { at }),
             Kind::Text { raw } => {

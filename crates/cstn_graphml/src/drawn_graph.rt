@@ -8,7 +8,7 @@ ghost use Rattle.cstn_graphml.specs.DrawnGraphSeen.{observed_seen, drawn_seen, g
 
 use crate::data_element::Datum;
 use cstn_label::{Label, Prop};
-use cstn_text::{NameError, Names};
+use cstn_text::{NameError, NameKey, Names};
 use std::alloc::{AllocError, Global};
 
 /// What a time-point observes, and after how many ticks it is known.
@@ -41,11 +41,11 @@ pub struct DrawnGraph {
     pub constraints: Vec<DrawnConstraint>,
 }
 
-/// The graph of a graph of which nothing was read.
-pub fn empty_graph(alloc: Global) -> Result<DrawnGraph, AllocError>
+/// The graph of a graph of which nothing was read. Its names are hashed with the key.
+pub fn empty_graph(alloc: Global, key: NameKey) -> Result<DrawnGraph, AllocError>
     ensures { IfOk result (λ d. graph_seen d ≡ empty_graph) }
 {
-    let mut names = Names::new(alloc);
+    let mut names = Names::new(alloc, key);
     let Ok(_) = names.push("Z") else {
         return Err(AllocError);
     };

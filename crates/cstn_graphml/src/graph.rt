@@ -19,6 +19,7 @@ use crate::node_and_edge_data::read_element_data;
 use crate::nodes::judge_node;
 use crate::passing::pass_element;
 use cstn_markup::Scanner;
+use cstn_text::NameKey;
 use std::alloc::Global;
 
 /// What an element in a graph is.
@@ -113,11 +114,16 @@ fn read_graph_child<'a>(
 }
 
 /// The rest of the graph, which is the element of this name.
-fn read_graph(alloc: Global, scanner: &mut Scanner, name: &[u8]) -> Result<DrawnGraph, DocError>
+fn read_graph(
+    alloc: Global,
+    key: NameKey,
+    scanner: &mut Scanner,
+    name: &[u8],
+) -> Result<DrawnGraph, DocError>
     ensures reads { (others : List (List ℕ)) → length others ≡ 1 → Reads graph_seen (in_graph empty_graph) name.now others scanner.old scanner.new result }
     ensures less { length scanner.new ≤ length scanner.old }
 {
-    let mut graph = empty_graph(alloc)?;
+    let mut graph = empty_graph(alloc, key)?;
     loop {
         match next_child(scanner, name) {
             Next::Child(start) => read_graph_child(alloc, scanner, &start, &mut graph)?,
@@ -130,6 +136,7 @@ fn read_graph(alloc: Global, scanner: &mut Scanner, name: &[u8]) -> Result<Drawn
 /// A graph of which the start tag was read.
 pub fn read_whole_graph(
     alloc: Global,
+    key: NameKey,
     scanner: &mut Scanner,
     start: &Start,
 ) -> Result<DrawnGraph, DocError>
@@ -137,7 +144,7 @@ pub fn read_whole_graph(
     ensures less { length scanner.new ≤ length scanner.old }
 {
     if start.closed {
-        return Ok(empty_graph(alloc)?);
+        return Ok(empty_graph(alloc, key)?);
     }
-    read_graph(alloc, scanner, start.name)
+    read_graph(alloc, key, scanner, start.name)
 }

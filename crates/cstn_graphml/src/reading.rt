@@ -9,7 +9,7 @@ ghost use Rattle.cstn_net.specs.declared.errors.NetError.TheVariants.{NoOrigin, 
 ghost use Rattle.cstn_graphml.specs.declared.errors.DocError.TheVariants.{Net, Lift};
 ghost use Rattle.cstn_graphml.specs.DrawnGraph.{origin_name};
 ghost use Rattle.cstn_graphml.specs.Document.{first_of_two, document};
-ghost use Rattle.cstn_graphml.specs.Answers.{IsDocument, IsRefused, IsTold};
+ghost use Rattle.cstn_graphml.specs.Answers.{IsDocument, RefusesDocument, IsTold};
 
 use crate::document::read_document;
 use crate::errors::DocError;
@@ -18,7 +18,7 @@ use crate::networks::network_of;
 use cstn_lift::Labelled;
 use cstn_markup::Scanner;
 use cstn_net::NetError;
-use cstn_text::Names;
+use cstn_text::{NameKey, Names};
 use std::alloc::Global;
 
 /// The deadline handed in, else the document's.
@@ -65,7 +65,7 @@ pub fn read(
     ensures named { IfOk result (λ r. length r.1 ≡ count (the_network r.0.base)) }
     ensures origin { IfOk result (λ r. (later : List (List ℕ)) × (r.1 ≡ origin_name ∷ later)) }
 
-    ensures refused { IfErr result (IsRefused (document bytes.now deadline)) }
+    ensures refused { IfErr result (RefusesDocument (document bytes.now deadline)) }
     ensures has_origin { IfErr result (λ e. (names : List (List ℕ)) → e ≢ Net NoOrigin names) }
     ensures has_plain_labels { IfErr result (λ e. (names : List (List ℕ)) (constraint : ℕ) → e ≢ Net (NotPlain constraint) names) }
     ensures has_timely_reactions { IfErr result (λ e. (names : List (List ℕ)) (node : NodeId) → e ≢ Net (ReactionRange node) names) }
@@ -77,7 +77,7 @@ pub fn read(
         });
     }
     let mut scanner = Scanner::new(bytes);
-    let graph = read_document(alloc, &mut scanner)?;
+    let graph = read_document(alloc, NameKey::new(bytes), &mut scanner)?;
     let Some(deadline) = first_of_two(deadline, graph.deadline) else {
         return Err(DocError::NoDeadline);
     };

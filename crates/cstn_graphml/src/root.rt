@@ -13,11 +13,13 @@ use crate::errors::DocError;
 use crate::graph::read_whole_graph;
 use crate::passing::pass_element;
 use cstn_markup::Scanner;
+use cstn_text::NameKey;
 use std::alloc::Global;
 
 /// An element in the root, of which the start tag was read.
 fn read_root_child<'a>(
     alloc: Global,
+    key: NameKey,
     scanner: &mut Scanner<'a>,
     start: &Start<'a>,
     seen: &mut Option<DrawnGraph>,
@@ -32,20 +34,25 @@ fn read_root_child<'a>(
     let None = seen else {
         return Err(DocError::Shape { at: start.at });
     };
-    let graph = read_whole_graph(alloc, scanner, start)?;
+    let graph = read_whole_graph(alloc, key, scanner, start)?;
     *seen = Some(graph);
     Ok(())
 }
 
 /// The rest of the root, which is the element of this name.
-fn read_root(alloc: Global, scanner: &mut Scanner, name: &[u8]) -> Result<DrawnGraph, DocError>
+fn read_root(
+    alloc: Global,
+    key: NameKey,
+    scanner: &mut Scanner,
+    name: &[u8],
+) -> Result<DrawnGraph, DocError>
     ensures reads { (others : List (List ℕ)) → length others ≡ 0 → Reads graph_seen in_root name.now others scanner.old scanner.new result }
     ensures less { length scanner.new ≤ length scanner.old }
 {
     let mut seen = None;
     loop {
         match next_child(scanner, name) {
-            Next::Child(start) => read_root_child(alloc, scanner, &start, &mut seen)?,
+            Next::Child(start) => read_root_child(alloc, key, scanner, &start, &mut seen)?,
             Next::End { at } => {
                 return match seen {
                     Some(graph) => Ok(graph),
@@ -60,6 +67,7 @@ fn read_root(alloc: Global, scanner: &mut Scanner, name: &[u8]) -> Result<DrawnG
 /// A root of which the start tag was read.
 pub fn read_whole_root(
     alloc: Global,
+    key: NameKey,
     scanner: &mut Scanner,
     start: &Start,
 ) -> Result<DrawnGraph, DocError>
@@ -69,5 +77,5 @@ pub fn read_whole_root(
     if start.closed {
         return Err(DocError::Shape { at: start.at });
     }
-    read_root(alloc, scanner, start.name)
+    read_root(alloc, key, scanner, start.name)
 }

@@ -21,8 +21,8 @@ use Rattle.cstn_text.proofs.AnyOrderLemmas.{label_text_part}
 use Rattle.std.proofs.lemmas.Bool.{and_parts}
 use Rattle.cstn_refute.specs.Steps.{◌>>=◌, part, place_read, places_read, why_read, is_place, rule_read, bound_read, node_read, named_bound_read, step_read, printed_why}
 use Rattle.cstn_refute.specs.Texts.{Lines, lines_of, Told, tells, at_end, or_wrong, told_after, load_read, told, printed_steps, shown}
-use Rattle.cstn_refute.specs.Orders.{bound_with, step_with, AreLines, IsText}
-use Rattle.cstn_refute.specs.Written.{ArePlaces, IsWritten, AreWritten}
+use Rattle.cstn_refute.specs.Orders.{bound_with, step_with, AreLines, IsTextOfSteps}
+use Rattle.cstn_refute.specs.Written.{ArePlaces, IsPrintableStep, AreWritten}
 use Rattle.cstn_text.proofs.CutLemmas.{cut_back}
 use Rattle.cstn_text.proofs.NameLemmas.{found_back}
 use Rattle.cstn_refute.proofs.ReadLemmas.{lines_cut, told_first, told_last}
@@ -120,7 +120,7 @@ name_one_part names x are inside =
     let name = All-get_or IsName names x [] inside are.each in
     name_part (get_or names x []) name.some
 
-named_back : (names : List (List ℕ)) (e : Entry) (label : List ℕ) → AreNames names → IsWritten names e → label_read label ≡ Some e.bound.label →
+named_back : (names : List (List ℕ)) (e : Entry) (label : List ℕ) → AreNames names → IsPrintableStep names e → label_read label ≡ Some e.bound.label →
     named_bound_read names (bound_with names e.bound label) ≡ Some e.bound
 named_back names e label are is read =
     let rest = printed_value e.bound.least ++ 32 ∷ label in
@@ -131,7 +131,7 @@ named_back names e label are is read =
     ∙ bound_at e.bound.node e.bound.least e.bound.label label is.low is.high read
 
 -- a step's line is read again
-step_back : (names : List (List ℕ)) (k : ℕ) (e : Entry) (label : List ℕ) → AreNames names → k < 4194304 → IsWritten names e → label_read label ≡ Some e.bound.label →
+step_back : (names : List (List ℕ)) (k : ℕ) (e : Entry) (label : List ℕ) → AreNames names → k < 4194304 → IsPrintableStep names e → label_read label ≡ Some e.bound.label →
     step_read names k (step_with names k e label) ≡ Some e
 step_back names k e label are small is read =
     ap (step_read names k) (append_assoc (printed_number k) (32 ∷ printed_why e.why) (32 ∷ bound_with names e.bound label))
@@ -167,14 +167,14 @@ least_free (pos n) low high =
     let small : n ≤ 1000001 = grind (arith, ints) in
     number_free n (omega arith)
 
-bound_free : (names : List (List ℕ)) (e : Entry) (label : List ℕ) → AreNames names → IsWritten names e → label_read label ≡ Some e.bound.label →
+bound_free : (names : List (List ℕ)) (e : Entry) (label : List ℕ) → AreNames names → IsPrintableStep names e → label_read label ≡ Some e.bound.label →
     IsFree (bound_with names e.bound label)
 bound_free names e label are is read =
     spaced (printed_name (get_or names e.bound.node []) ++ 32 ∷ printed_value e.bound.least) label
     (spaced (printed_name (get_or names e.bound.node [])) (printed_value e.bound.least) (free _ (name_one_part names e.bound.node are is.node)) (least_free e.bound.least is.low is.high))
     (free label (label_text_part label e.bound.label read))
 
-step_free : (names : List (List ℕ)) (k : ℕ) (e : Entry) (label : List ℕ) → AreNames names → k < 4194304 → IsWritten names e → label_read label ≡ Some e.bound.label →
+step_free : (names : List (List ℕ)) (k : ℕ) (e : Entry) (label : List ℕ) → AreNames names → k < 4194304 → IsPrintableStep names e → label_read label ≡ Some e.bound.label →
     IsFree (step_with names k e label)
 step_free names k e label are small is read =
     spaced (printed_number k ++ 32 ∷ printed_why e.why) (bound_with names e.bound label)
@@ -183,7 +183,7 @@ step_free names k e label are small is read =
 
 -- the steps' lines are read again, after some steps
 steps_back : (names : List (List ℕ)) (load : ℕ) (done : List Entry) (k : ℕ) (steps : List Entry) (text : List ℕ) → AreNames names → length done ≡ k →
-    k + length steps ≤ 4194304 → All (IsWritten names) steps → AreLines names k steps text →
+    k + length steps ≤ 4194304 → All (IsPrintableStep names) steps → AreLines names k steps text →
     told_after names load done (lines_of text).0 (lines_of text).1 ≡ at_end load (done ++ steps) []
 unfolding told_after
 steps_back names load done k [] text are long few each lines =
@@ -193,13 +193,13 @@ steps_back names load done k (e ∷ steps) text are long few each lines =
     let line = step_with names k e lines.0 in
     let rest = lines.1 in
     let small : k < 4194304 = omega arith in
-    let here = All-get_or (IsWritten names) (e ∷ steps) 0 e (omega arith) each in
+    let here = All-get_or (IsPrintableStep names) (e ∷ steps) 0 e (omega arith) each in
     let next : Entry → Told = λ x. told_after names load (done ++ x ∷ []) (lines_of rest).0 (lines_of rest).1 in
     let longer : length (done ++ e ∷ []) ≡ k + 1 = length-append done (e ∷ []) ∙ omega arith in
     ap (λ (t : List ℕ). told_after names load done (lines_of t).0 (lines_of t).1) lines.3
     ∙ ap {A = Lines} (λ p. told_after names load done p.0 p.1) (lines_cut (line ++ 10 ∷ rest) line rest (cut_back 10 line rest (step_free names k e lines.0 are small here lines.2)))
     ∙ ap (λ o. or_wrong o (length done + 2) next) (ap (λ n. step_read names n line) long ∙ step_back names k e lines.0 are small here lines.2)
-    ∙ steps_back names load (done ++ e ∷ []) (k + 1) steps rest are longer (omega arith) (All-tail (IsWritten names) e steps each) lines.4
+    ∙ steps_back names load (done ++ e ∷ []) (k + 1) steps rest are longer (omega arith) (All-tail (IsPrintableStep names) e steps each) lines.4
     ∙ ap (λ s. at_end load s []) (append_assoc done (e ∷ []) steps)
 
 load_back : (load : ℕ) → 1 ≤ load → load ≤ 4194304 → load_read (codes "no " ++ printed_number load) ≡ Some load
@@ -213,7 +213,7 @@ ended load [] some = absurd (omega (arith, some))
 ended load (e ∷ steps) some = refl
 
 -- a text of a load and steps, in any order of marks, says them
-pub text_back : (names : List (List ℕ)) (load : ℕ) (steps : List Entry) (text : List ℕ) → AreNames names → AreWritten names load steps → IsText names load steps text →
+pub text_back : (names : List (List ℕ)) (load : ℕ) (steps : List Entry) (text : List ℕ) → AreNames names → AreWritten names load steps → IsTextOfSteps names load steps text →
     told names text ≡ tells load steps
 text_back names load steps text are is lines =
     let line = codes "no " ++ printed_number load in
@@ -224,15 +224,15 @@ text_back names load steps text are is lines =
     ∙ steps_back names load [] 0 steps rest are refl (omega (arith, is.few)) is.each lines.2
     ∙ ended load steps is.some
 
-printed_lines : (names : List (List ℕ)) (k : ℕ) (steps : List Entry) → All (IsWritten names) steps → AreLines names k steps (printed_steps names k steps)
+printed_lines : (names : List (List ℕ)) (k : ℕ) (steps : List Entry) → All (IsPrintableStep names) steps → AreLines names k steps (printed_steps names k steps)
 printed_lines names k [] each = refl
 printed_lines names k (e ∷ steps) each =
-    let here = All-get_or (IsWritten names) (e ∷ steps) 0 e (omega arith) each in (
+    let here = All-get_or (IsPrintableStep names) (e ∷ steps) 0 e (omega arith) each in (
       printed_label e.bound.label,
       printed_steps names (k + 1) steps,
       label_back e.bound.label here.marks,
       refl,
-      printed_lines names (k + 1) steps (All-tail (IsWritten names) e steps each),
+      printed_lines names (k + 1) steps (All-tail (IsPrintableStep names) e steps each),
     )
 
 -- what is shown of a load and steps says them

@@ -17,7 +17,7 @@ use Rattle.cstn_text.proofs.NumberLemmas.{number_printed}
 use Rattle.cstn_text.proofs.PrintedNameLemmas.{name_printed}
 use Rattle.cstn_refute.specs.Steps.{◌>>=◌, part, place_read, places_read, chain_read, wait_read, why_read, is_place, rule_read, node_read, named_bound_read, step_read, printed_why}
 use Rattle.cstn_refute.specs.Texts.{Lines, begun, lines_of, tells, at_end, told_after, load_read, told_lines, told}
-use Rattle.cstn_refute.specs.Orders.{bound_with, step_with, AreLines, IsText}
+use Rattle.cstn_refute.specs.Orders.{bound_with, step_with, AreLines, IsTextOfSteps}
 use Rattle.cstn_refute.proofs.SaidLemmas.{first_some, if_some, not_wrong, tells_both, told_or_wrong}
 
 one_within : (low high n m : ℕ) → (if nat_le low n && nat_le n high then Some n else None) ≡ Some m → (n ≡ m) × (low ≤ m) × (m ≤ high)
@@ -218,7 +218,7 @@ load_text line load e =
     ∙ ap (λ (t : List ℕ). codes "no" ++ 32 ∷ t) (within_text 1 4194304 word.0.1 load number.1)
 
 lines_text : (names : List (List ℕ)) (lines : List (List ℕ)) (tail : List ℕ) (load : ℕ) (steps : List Entry) →
-    told_lines names lines tail ≡ tells load steps → IsText names load steps (joined lines tail)
+    told_lines names lines tail ≡ tells load steps → IsTextOfSteps names load steps (joined lines tail)
 unfolding joined
 lines_text names [] tail load steps e = absurd (not_wrong 1 load steps e)
 lines_text names (line ∷ lines) tail load steps e =
@@ -230,6 +230,6 @@ lines_text names (line ∷ lines) tail load steps e =
     )
 
 -- a text that says a load and steps is the one that is printed, but for the order of the marks in the labels
-pub text_is : (names : List (List ℕ)) (bytes : List ℕ) (load : ℕ) (steps : List Entry) → told names bytes ≡ tells load steps → IsText names load steps bytes
+pub text_is : (names : List (List ℕ)) (bytes : List ℕ) (load : ℕ) (steps : List Entry) → told names bytes ≡ tells load steps → IsTextOfSteps names load steps bytes
 text_is names bytes load steps e =
-    subst (IsText names load steps) (lines_joined bytes) (lines_text names (lines_of bytes).0 (lines_of bytes).1 load steps e)
+    subst (IsTextOfSteps names load steps) (lines_joined bytes) (lines_text names (lines_of bytes).0 (lines_of bytes).1 load steps e)

@@ -17,7 +17,7 @@ use Rattle.cstn_text.specs.PrintedLabels.{label_read}
 use Rattle.cstn_text.proofs.LabelReadLemmas.{label_small}
 use Rattle.cstn_refute.specs.Steps.{◌>>=◌, part, place_read, places_read, chain_read, wait_read, why_read, is_place, rule_read, node_read, named_bound_read, step_read}
 use Rattle.cstn_refute.specs.Texts.{Told, tells, wrong, at_end, or_wrong, told_after, load_read, lines_of, told_lines, told}
-use Rattle.cstn_refute.specs.Written.{ArePlaces, IsWritten, AreWritten}
+use Rattle.cstn_refute.specs.Written.{ArePlaces, IsPrintableStep, AreWritten}
 
 -- what is read of the first, where the whole is read
 pub first_some : {A B : Type 0} (o : Option A) (f : A → Option B) (y : B) → (o >>= f) ≡ Some y → (x : A) × (o ≡ Some x) × (f x ≡ Some y)
@@ -95,7 +95,7 @@ node_said names text x e =
     (position-Some (bytes_eq name.0) names x [] name.2).0
 
 -- a step's line says a step that can be written
-pub step_said : (names : List (List ℕ)) (k : ℕ) (line : List ℕ) (e : Entry) → step_read names k line ≡ Some e → (k < 4194304) × IsWritten names e
+pub step_said : (names : List (List ℕ)) (k : ℕ) (line : List ℕ) (e : Entry) → step_read names k line ≡ Some e → (k < 4194304) × IsPrintableStep names e
 step_said names k line e is =
     let rule = first_some (rule_read k line) _ e is in
     let b = first_some (named_bound_read names rule.0.1) _ e rule.2 in
@@ -111,7 +111,7 @@ step_said names k line e is =
     let small = label_small least.0.1 a.0 a.1 in
     let node = node_said names name.0.0 x.0 x.1 in (
       rules.0,
-      subst (IsWritten names) same (subst (λ (c : Bound). IsWritten names (record { bound = c; why = rule.0.0 })) bounded
+      subst (IsPrintableStep names) same (subst (λ (c : Bound). IsPrintableStep names (record { bound = c; why = rule.0.0 })) bounded
           (record { node = node; low = omega (arith, ints); high = omega (arith, ints, high); marks = small; places = rules.1 })),
     )
 
@@ -134,7 +134,7 @@ record AreRead (names : List (List ℕ)) (load : ℕ) (steps : List Entry) : Typ
   load_low : 1 ≤ load
   load_high : load ≤ 4194304
   few : length steps ≤ 4194304
-  each : All (IsWritten names) steps
+  each : All (IsPrintableStep names) steps
 
 at_end_said : (names : List (List ℕ)) (load : ℕ) (done : List Entry) (tail : List ℕ) (other : ℕ) (steps : List Entry) → AreRead names load done →
     at_end load done tail ≡ tells other steps → AreWritten names other steps
@@ -154,7 +154,7 @@ after_said names load done (line ∷ lines) tail other steps are e =
     let step = step_said names (length done) line next.0 next.1 in
     let few : length (done ++ next.0 ∷ []) ≤ 4194304 = rw (length-append done (next.0 ∷ [])) (omega (arith, step.0)) in
     after_said names load (done ++ next.0 ∷ []) lines tail other steps
-    (record { load_low = are.load_low; load_high = are.load_high; few = few; each = All-push (IsWritten names) done next.0 are.each step.1 }) next.2
+    (record { load_low = are.load_low; load_high = are.load_high; few = few; each = All-push (IsPrintableStep names) done next.0 are.each step.1 }) next.2
 
 load_said : (line : List ℕ) (load : ℕ) → load_read line ≡ Some load → (1 ≤ load) × (load ≤ 4194304)
 load_said line load e =
@@ -168,7 +168,7 @@ lines_said names (line ∷ lines) tail load steps e =
     let first = told_or_wrong (load_read line) 1 (λ n. told_after names n [] lines tail) load steps e in
     let range = load_said line first.0 first.1 in
     after_said names first.0 [] lines tail load steps
-    (record { load_low = range.0; load_high = range.1; few = omega arith; each = All-nil (IsWritten names) }) first.2
+    (record { load_low = range.0; load_high = range.1; few = omega arith; each = All-nil (IsPrintableStep names) }) first.2
 
 -- what a text says can be written
 pub text_said : (names : List (List ℕ)) (bytes : List ℕ) (load : ℕ) (steps : List Entry) → told names bytes ≡ tells load steps → AreWritten names load steps

@@ -9,7 +9,7 @@ use Rattle.cstn_rules.specs.Read.{the_entry}
 use Rattle.cstn_text.specs.Names.{AreNames}
 use Rattle.cstn_refute.specs.Refutations.{RefutationParts, IsStep, AreSteps, FitsText, the_steps}
 use Rattle.cstn_refute.specs.Texts.{told, tells, shown}
-use Rattle.cstn_refute.specs.Written.{ArePlaces, IsWritten, AreWritten}
+use Rattle.cstn_refute.specs.Written.{ArePlaces, IsPrintableStep, AreWritten}
 use Rattle.cstn_refute.proofs.BackLemmas.{shown_back}
 
 first : (P : DeclaredEntry → Type 0) (x : DeclaredEntry) (xs : List DeclaredEntry) → All P (x ∷ xs) → P x
@@ -22,11 +22,11 @@ abbrev HasPlaces : DeclaredEntry → Type 0
 HasPlaces e = ArePlaces e.why
 
 are_written : (names : List (List ℕ)) (xs : List DeclaredEntry) → All (IsNamed names) xs → All IsStep xs → All HasPlaces xs →
-    All (IsWritten names) (map the_entry xs)
-are_written names [] named steps places = All-nil (IsWritten names)
+    All (IsPrintableStep names) (map the_entry xs)
+are_written names [] named steps places = All-nil (IsPrintableStep names)
 are_written names (x ∷ xs) named steps places =
     let step = first IsStep x xs steps in
-    All-cons (IsWritten names) (the_entry x) (map the_entry xs)
+    All-cons (IsPrintableStep names) (the_entry x) (map the_entry xs)
     (record { node = first (IsNamed names) x xs named; low = step.low; high = step.high; marks = unmarked_above x.bound.label; places = first HasPlaces x xs places })
     (are_written names xs (All-tail (IsNamed names) x xs named) (All-tail IsStep x xs steps) (All-tail HasPlaces x xs places))
 
@@ -44,8 +44,8 @@ refutation_back names r text are steps named places fits is =
     subst (λ t. told names t ≡ tells r.load (the_steps r)) (sym is) (shown_back names r.load (the_steps r) are written)
 
 -- steps that can be written are at time-points that have names
-pub are_named : (names : List (List ℕ)) (xs : List DeclaredEntry) → All (IsWritten names) (map the_entry xs) → All (IsNamed names) xs
+pub are_named : (names : List (List ℕ)) (xs : List DeclaredEntry) → All (IsPrintableStep names) (map the_entry xs) → All (IsNamed names) xs
 are_named names [] all = All-nil (IsNamed names)
 are_named names (x ∷ xs) all =
-    let here = All-get_or (IsWritten names) (the_entry x ∷ map the_entry xs) 0 (the_entry x) (omega arith) all in
-    All-cons (IsNamed names) x xs here.node (are_named names xs (All-tail (IsWritten names) (the_entry x) (map the_entry xs) all))
+    let here = All-get_or (IsPrintableStep names) (the_entry x ∷ map the_entry xs) 0 (the_entry x) (omega arith) all in
+    All-cons (IsNamed names) x xs here.node (are_named names xs (All-tail (IsPrintableStep names) (the_entry x) (map the_entry xs) all))

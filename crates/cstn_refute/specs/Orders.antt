@@ -22,5 +22,5 @@ AreLines names k (e ∷ steps) text =
     (label : List ℕ) × (rest : List ℕ) × (label_read label ≡ Some e.bound.label) × (text ≡ step_with names k e label ++ 10 ∷ rest) × AreLines names (k + 1) steps rest
 
 -- the text of a load and steps as it is printed, but for the order of the marks in the labels
-abbrev pub IsText : List (List ℕ) → ℕ → List Entry → List ℕ → Type 0
-IsText names load steps text = (lines : List ℕ) × (text ≡ codes "no " ++ printed_number load ++ 10 ∷ lines) × AreLines names 0 steps lines
+abbrev pub IsTextOfSteps : List (List ℕ) → ℕ → List Entry → List ℕ → Type 0
+IsTextOfSteps names load steps text = (lines : List ℕ) × (text ≡ codes "no " ++ printed_number load ++ 10 ∷ lines) × AreLines names 0 steps lines

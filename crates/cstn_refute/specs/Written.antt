@@ -13,7 +13,7 @@ ArePlaces (Chain id i) = (id < 2 ^ 32) × (i < 2 ^ 32)
 ArePlaces (Wait i j) = (i < 2 ^ 32) × (j < 2 ^ 32)
 
 -- the step is at a time-point that has a name, with a least value from 0 to 1,000,001 and marks on the 52 propositions alone
-pub record IsWritten (names : List (List ℕ)) (e : Entry) : Type 0 where
+pub record IsPrintableStep (names : List (List ℕ)) (e : Entry) : Type 0 where
   pub node : e.bound.node < length names
   pub low : pos 0 ≤ℤ e.bound.least
   pub high : e.bound.least ≤ℤ pos 1000001
@@ -26,4 +26,4 @@ pub record AreWritten (names : List (List ℕ)) (load : ℕ) (steps : List Entry
   pub load_high : load ≤ 4194304
   pub some : 1 ≤ length steps
   pub few : length steps ≤ 4194304
-  pub each : All (IsWritten names) steps
+  pub each : All (IsPrintableStep names) steps

@@ -3,7 +3,7 @@ ghost use Rattle.std.specs.Prelude.{ℕ, ◌≡◌, List};
 ghost use Rattle.cstn_rules.specs.Derivations.{Entry};
 ghost use Rattle.cstn_text.specs.Names.{AreNames};
 ghost use Rattle.cstn_refute.specs.Texts.{tells, told, shown};
-ghost use Rattle.cstn_refute.specs.Orders.{IsText};
+ghost use Rattle.cstn_refute.specs.Orders.{IsTextOfSteps};
 ghost use Rattle.cstn_refute.specs.Written.{AreWritten};
 
 /// The text of a load and steps says them, where each step's time-point has a name and the numbers are in their ranges.
@@ -16,6 +16,6 @@ pub fn texts_are_read_back()
 
 /// The texts that say a load and steps in their ranges are the printed one, but for the order of the marks in its labels.
 pub fn texts_are_the_shown_ones()
-    ensures said { (names : List (List ℕ)) (bytes : List ℕ) (load : ℕ) (steps : List Entry) → told names bytes ≡ tells load steps → IsText names load steps bytes }
-    ensures says { (names : List (List ℕ)) (load : ℕ) (steps : List Entry) (bytes : List ℕ) → AreNames names → AreWritten names load steps → IsText names load steps bytes → told names bytes ≡ tells load steps }
+    ensures said { (names : List (List ℕ)) (bytes : List ℕ) (load : ℕ) (steps : List Entry) → told names bytes ≡ tells load steps → IsTextOfSteps names load steps bytes }
+    ensures says { (names : List (List ℕ)) (load : ℕ) (steps : List Entry) (bytes : List ℕ) → AreNames names → AreWritten names load steps → IsTextOfSteps names load steps bytes → told names bytes ≡ tells load steps }
 {}

@@ -1,5 +1,5 @@
 use crate::{Refutation, RefuteError};
-use cstn_text::Names;
+use cstn_text::{NameKey, Names};
 use std::alloc::Global;
 use std::process::Abort;
 use std::test::Fail;
@@ -10,7 +10,7 @@ fn push(rt: &impl Abort, names: &mut Names, name: &str) {
 }
 
 fn names(rt: &impl Abort, alloc: Global) -> Names {
-    let mut names = Names::new(alloc);
+    let mut names = Names::new(alloc, NameKey::new(b""));
     push(rt, &mut names, "Z");
     push(rt, &mut names, "P");
     push(rt, &mut names, "X Y");

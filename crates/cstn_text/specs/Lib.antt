@@ -6,3 +6,4 @@ pub mod Readings
 pub mod Parts
 pub mod Cuts
 pub mod Pushes
+pub mod NameKeys

@@ -3,6 +3,7 @@
 
 mod cuts;
 mod laws;
+mod name_key;
 mod names;
 mod numbers;
 mod printed_labels;
@@ -13,6 +14,7 @@ pub use laws::{
     label_texts_are_marks, labels_are_read_back, names_have_one_text, numbers_have_one_text,
     printed_names_are_short, printed_texts_are_parts, values_have_one_text,
 };
+pub use name_key::NameKey;
 pub use names::{NameError, Names};
 pub use numbers::{push_number, push_value, read_number, read_number_within, read_value};
 pub use printed_labels::{print_label, push_label, read_label};

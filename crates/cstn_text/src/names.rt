@@ -5,6 +5,7 @@ ghost use Rattle.std.specs.Option.{option_and_then};
 ghost use Rattle.cstn_text.specs.Names.{AreNames, number_of};
 ghost use Rattle.cstn_text.specs.PrintedNames.{name_read};
 
+use crate::name_key::NameKey;
 use crate::printed_names::{as_name, unprinted};
 use cstn_label::NodeId;
 use indexmap::IndexSet;
@@ -30,7 +31,7 @@ pub enum NameError {
 #[derive(Drop)]
 pub struct Names {
     alloc: Global,
-    set: IndexSet<String>,
+    set: IndexSet<String, NameKey>,
 }
 
 impl Model for Names {
@@ -45,13 +46,13 @@ impl Model for Names {
 }
 
 impl Names {
-    /// No name.
-    pub fn new(alloc: Global) -> Names
+    /// No name. Those that come will be hashed with the key.
+    pub fn new(alloc: Global, key: NameKey) -> Names
         ensures new { result ≡ [] }
     {
         Names {
             alloc,
-            set: IndexSet::new(alloc),
+            set: IndexSet::with_hasher(alloc, key),
         }
     }
 

@@ -1,6 +1,6 @@
 use crate::{
-    NameError, Names, cut_at, print_label, print_name, push_label, push_number, push_value,
-    read_label, read_name, read_number, read_number_within, read_value,
+    NameError, NameKey, Names, cut_at, print_label, print_name, push_label, push_number,
+    push_value, read_label, read_name, read_number, read_number_within, read_value,
 };
 use cstn_label::NodeId;
 use std::alloc::Global;
@@ -21,7 +21,7 @@ fn no_shape(rt: &impl Abort, names: &mut Names, name: &str) {
 
 #[test]
 fn names_are_numbered_in_order(rt: HostRuntime) -> Result<(), Fail> {
-    let mut names = Names::new(rt.alloc());
+    let mut names = Names::new(rt.alloc(), NameKey::new(b""));
     assert_eq!(rt; pushed(&rt, &mut names, "Z"), Some(0));
     assert_eq!(rt; pushed(&rt, &mut names, "X"), Some(1));
     assert_eq!(rt; names.find("X"), Some(1));

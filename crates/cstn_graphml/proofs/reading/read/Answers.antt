@@ -8,7 +8,7 @@ use Rattle.cstn_graphml.specs.DrawnGraphSeen.{observed_seen}
 use Rattle.cstn_graphml.specs.Reads.{Fails}
 use Rattle.cstn_net.specs.declared.errors.NetError.TheVariants.{NoOrigin, NotPlain, ReactionRange}
 use Rattle.cstn_lift.specs.declared.errors.LiftError.TheVariants.{NotPlain as NotPlainLabel}
-use Rattle.cstn_graphml.specs.Answers.{IsRefused, IsLabelRefusal}
+use Rattle.cstn_graphml.specs.Answers.{RefusesDocument, IsLabelRefusal}
 use Rattle.cstn_graphml.specs.Labels.{with_labels_of}
 use Rattle.cstn_graphml.proofs.Built.{made_count}
 use Rattle.cstn_graphml.proofs.Excluded.{no_net, no_lift, told_no_lift, label_no_net, plain_nodes, has_origin, has_plain_labels, has_timely_reactions}
@@ -103,7 +103,7 @@ pub returns-in-Ok-clause-refused : goal.returns-in-Ok-clause-refused
 returns-in-Ok-clause-refused c =
     let told = ap (λ (ts : List Token). in_document (content_of ts)) (sym c.new-scanner.ensures.new) ∙ c.in_ok-graph.ensures in
     let is = document c.args.bytes.now c.args.deadline in
-    each_error (IsLabelRefusal (with_labels_of c.in-Ok.network c.in_ok-graph.graph) c.in_ok-graph.graph.names) (IsRefused is) c.labelled_of.result
+    each_error (IsLabelRefusal (with_labels_of c.in-Ok.network c.in_ok-graph.graph) c.in_ok-graph.graph.names) (RefusesDocument is) c.labelled_of.result
     (λ e h. mislabelled_is_refused is c.in-Some.deadline c.in_ok-graph.graph c.in-Ok.network
     (has_deadline c.args.bytes.now c.args.deadline c.in-Some.deadline c.in_ok-graph.graph c.in_default.ensures.cases.1 told (sym c.first_of_two.ensures ∙ c.in-Some.is)) c.in-Ok.ensures.accepted c.in-Ok.ensures.well_formed e h)
     c.labelled_of.ensures.refused
