@@ -432,6 +432,10 @@ first_answers T n heads head len l next prev linked in_heads size read =
     let N : IsNext T n heads head 0 l = next_of T n heads (len + head) head 0 l next prev linked (inr (omega arith, in_heads, refl)) read in
     ((λ h. next_least T n heads head 0 l N (omega arith)), (λ h. next_none T n heads head 0 l linked.size linked.keyed N (omega arith)))
 
+-- there is no key in a chain that there isn't
+pub no_chain : (T : Table) (n heads head : ℕ) (next prev : List ℕ) → IsLinked n heads T next prev → heads ≤ head → (u j : ℕ) → IsIn T head u j → j < 0
+no_chain T n heads head next prev linked beyond u j there = absurd (omega (arith, (linked.keyed.in_range u head j there).0))
+
 pub next_answers : (T : Table) (n heads h slot k len l : ℕ) (next prev : List ℕ) → IsLinked n heads T next prev → IsIn T h slot k → len ≡ n → l ≡ get_or next slot 0 → (l < len → HasLeastKey T h (k + 1) l) × (len ≤ l → (u j : ℕ) → IsIn T h u j → j < k + 1)
 next_answers T n heads h slot k len l next prev linked there size read =
     let N : IsNext T n heads h (k + 1) l = next_of T n heads slot h (k + 1) l next prev linked (inl (k, there, refl)) read in
@@ -448,6 +452,14 @@ narrowed T n heads h high key slot is le new small = record {
     up : IsStart T n heads slot h is.low → is.low ≤ key
     up (inl one) = elim (cases_eq one.0 key) [ inl e ↦ absurd (new slot (rw e at one.1)) | inr e ↦ omega (arith, small one.0 one.1, one.2) ]
     up (inr one) = omega (arith, one.2)
+
+-- a slot before keys below `high` has such a key
+pub prev_below : (T : Table) (n heads h high slot k : ℕ) → length T ≡ n → IsPrev T n heads h high slot → IsIn T h slot k → k < high
+prev_below T n heads h high slot k size is there = go is.start
+  where
+    go : IsStart T n heads slot h is.low → k < high
+    go (inl one) = omega (arith, (same_in T slot h k h one.0 there one.1).1, one.2, is.up)
+    go (inr one) = absurd (omega (arith, one.0, in_inside T h slot k there))
 
 -- no slot is in a chain
 none_in : (n h u j : ℕ) → IsIn (replicate n None) h u j → ⊥

@@ -1,35 +1,19 @@
-use Rattle.std.proofs.Common.{◌≡◌, ◌≢◌, ◌⊎◌, inl, inr, ℕ, zero, suc, ◌+◌, ◌<◌, ◌^◌, List, [], ◌∷◌, length, get_or, set, map, replicate, nat_eq, true, refl, ap, sym, ◌∙◌, subst, arith}
+use Rattle.std.proofs.Common.{◌≡◌, ◌≢◌, ◌⊎◌, inl, inr, ℕ, zero, suc, ◌+◌, ◌<◌, ◌^◌, [], ◌∷◌, length, get_or, set, map, replicate, nat_eq, true, refl, ap, sym, ◌∙◌, subst, arith, SFits, w32}
 use Rattle.std.specs.Prelude.{Option, None, Some, IsSome, IsTrue}
-use Rattle.std.proofs.lemmas.List.{get_or-set_other, get_or-set_same, length-set, length-replicate, map-set}
-use Rattle.std.proofs.Math.Seq.{map-set_same}
+use Rattle.std.proofs.lemmas.List.{get_or-set_other, get_or-set_same}
 use Rattle.std.proofs.lemmas.Bool.{cases_eq}
 use Rattle.std.proofs.lemmas.Option.{some_pair_parts, none-some, same_Some}
 use Rattle.cstn_label.specs.declared.bounds.Bound.{Bound}
 use Rattle.cstn_pool.specs.declared.slot_id.SlotId.{SlotId}
-use Rattle.cstn_minset.specs.Chains.{Table, IsIn, IsFirstKey}
-use Rattle.cstn_minset.specs.Links.{Ring, IsStop, IsPrev, AreLinks, SameSize}
-use Rattle.cstn_minset.specs.Sets.{Entries, IsPlaced, IsOver, IsCovered, AllBornBefore, IsAt, IsLeast, IsFirstSlot, by_birth, IsMinimal, AreOrdered, IsChained}
-use Rattle.cstn_minset.proofs.LinkLemmas.{narrowed}
-
-pub at_map : (f : Option (ℕ × Bound) → Option (ℕ × ℕ)) → f None ≡ None → (T : Entries) (u : ℕ) → get_or (map f T) u None ≡ f (get_or T u None)
-at_map f none [] u = sym none
-at_map f none (x ∷ T) zero = refl
-at_map f none (x ∷ T) (suc u) = at_map f none T u
+use Rattle.cstn_minset.specs.Chains.{IsIn, IsFirstKey}
+use Rattle.cstn_minset.specs.Links.{Ring, IsNext, AreLinks, SameSize}
+use Rattle.cstn_minset.specs.Sets.{Entries, IsPlaced, IsOver, IsCovered, AllBornBefore, IsAt, IsLeast, IsFirstSlot, by_birth, value_key, by_value, IsMinimal, AreOrdered, IsChained}
+use Rattle.cstn_minset.proofs.LinkLemmas.{stop_inside}
+use Rattle.cstn_minset.proofs.OrderLemmas.{placed_at, at_placed, Removes, Inserts, IsBefore, order_less, order_more, order_last, order_none}
+use Rattle.cstn_minset.proofs.ValueLemmas.{key_by_value, key_new, value_within, value_prev}
 
 abbrev some_entry : ℕ → Bound → Option (ℕ × Bound)
 some_entry n b = Some (n, b)
-
--- the entries of the table are those of the chains of each order
-module _ (order : Option (ℕ × Bound) → Option (ℕ × ℕ)) (none : order None ≡ None) (T : Entries) where
-  pub placed_at : (s h k : ℕ) (e : ℕ × Bound) → IsPlaced T s e → order (Some e) ≡ Some (h, k) → IsIn (map order T) h s k
-  placed_at s h k e is key = at_map order none T s ∙ ap order is ∙ key
-
-  pub at_placed : (h s k : ℕ) → IsIn (map order T) h s k → (e : ℕ × Bound) × IsPlaced T s e × (order (Some e) ≡ Some (h, k))
-  at_placed h s k is = go (get_or T s None) refl (sym (at_map order none T s) ∙ is)
-    where
-      go : (o : Option (ℕ × Bound)) → get_or T s None ≡ o → order o ≡ Some (h, k) → (e : ℕ × Bound) × IsPlaced T s e × (order (Some e) ≡ Some (h, k))
-      go None here key = absurd (none-some (h, k) (sym none ∙ key))
-      go (Some e) here key = (e, here, key)
 
 pub placed_in : (T : Entries) (s : ℕ) (e : ℕ × Bound) → IsPlaced T s e → IsIn (map by_birth T) e.1.node.0 s e.0
 placed_in T s e is = placed_at by_birth refl T s e.1.node.0 e.0 e is refl
@@ -110,94 +94,57 @@ pub some_entry_is : (o : Option (ℕ × Bound)) → IsSome o → (e : ℕ × Bou
 some_entry_is None is = absurd (cc)
 some_entry_is (Some e) is = (e, refl)
 
--- what the calls of links promise
-abbrev pub Removes : Ring → Ring → ℕ → Type 0
-Removes old new slot = (t : Table) (head key : ℕ) → AreLinks old t → IsIn t head slot key → AreLinks new (set t slot None)
-
-abbrev pub Inserts : Ring → Ring → ℕ → ℕ → Type 0
-Inserts old new slot before = (t : Table) (head key : ℕ) → AreLinks old t → head < old.heads → key < 2 ^ 128 → get_or t slot None ≡ None → ((u : ℕ) → ¬ IsIn t head u key) → IsPrev t old.slots old.heads head key before → AreLinks new (set t slot (Some (head, key)))
-
-abbrev pub IsBefore : Ring → ℕ → ℕ → Type 0
-IsBefore links place before = (t : Table) (h high : ℕ) → AreLinks links t → IsStop t links.slots links.heads place h high → IsPrev t links.slots links.heads h high before
-
-module _ (order : Option (ℕ × Bound) → Option (ℕ × ℕ)) (none : order None ≡ None) (heads : ℕ) (T : Entries) where
-  -- an entry is taken out of the chain that it is in
-  pub order_less : (old new : Ring) (slot h k : ℕ) (e : ℕ × Bound) → AreOrdered order heads old T → IsPlaced T slot e → order (Some e) ≡ Some (h, k) → SameSize old new → Removes old new slot → AreOrdered order heads new (set T slot None)
-  order_less old new slot h k e is there key sizes step = record {
-    slots = sizes.0 ∙ is.slots ∙ sym (length-set T slot None);
-    heads_are = sizes.1 ∙ is.heads_are;
-    linked = rw (map-set order T slot None, none) (step (map order T) h k is.linked (placed_at order none T slot h k e there key));
-  }
-
-  -- or isn't in a chain
-  pub order_less_other : (links : Ring) (slot : ℕ) (e : ℕ × Bound) → AreOrdered order heads links T → IsPlaced T slot e → order (Some e) ≡ None → AreOrdered order heads links (set T slot None)
-  order_less_other links slot e is there key = record {
-    slots = is.slots ∙ sym (length-set T slot None);
-    heads_are = is.heads_are;
-    linked = rw (map-set_same order T slot None None (none ∙ sym (ap order there ∙ key))) is.linked;
-  }
-
-  -- one is put in
-  pub order_more : (old new : Ring) (slot before h k : ℕ) (e : ℕ × Bound) → AreOrdered order heads old T → slot < length T → get_or T slot None ≡ None → order (Some e) ≡ Some (h, k) → h < heads → k < 2 ^ 128 → ((u : ℕ) → ¬ IsIn (map order T) h u k) → IsPrev (map order T) old.slots old.heads h k before → SameSize old new → Inserts old new slot before → AreOrdered order heads new (set T slot (Some e))
-  order_more old new slot before h k e is inside free key in_heads small new_key prev sizes step = record {
-    slots = sizes.0 ∙ is.slots ∙ sym (length-set T slot (Some e));
-    heads_are = sizes.1 ∙ is.heads_are;
-    linked = rw (map-set order T slot (Some e), key) (step (map order T) h k is.linked (omega (arith, is.heads_are)) small (at_map order none T slot ∙ ap order free ∙ none) new_key prev);
-  }
-
-  -- or is in no chain
-  pub order_more_other : (links : Ring) (slot : ℕ) (e : ℕ × Bound) → AreOrdered order heads links T → get_or T slot None ≡ None → order (Some e) ≡ None → AreOrdered order heads links (set T slot (Some e))
-  order_more_other links slot e is free key = record {
-    slots = is.slots ∙ sym (length-set T slot (Some e));
-    heads_are = is.heads_are;
-    linked = rw (map-set_same order T slot (Some e) None (key ∙ sym (ap order free ∙ none))) is.linked;
-  }
-
-  -- the place before the end is the one behind which the greatest key belongs
-  pub order_last : (links : Ring) (h k end before : ℕ) → AreOrdered order heads links T → h < heads → k < 2 ^ 128 → end ≡ links.slots + h → IsBefore links end before → ((u j : ℕ) → IsIn (map order T) h u j → j < k) → IsPrev (map order T) links.slots links.heads h k before
-  order_last links h k end before is in_heads small end_is step below =
-      let last = step (map order T) h (2 ^ 128) is.linked (inr (end_is, omega (arith, is.heads_are), refl)) in
-      narrowed (map order T) links.slots links.heads h (2 ^ 128) k before last (omega arith) (λ u there. omega (arith, below u k there)) (λ j there. omega (arith, below before j there))
-
 -- each key of a time-point by birth is below a birth above all
 births_below : (T : Entries) (birth h u j : ℕ) → AllBornBefore T birth → IsIn (map by_birth T) h u j → j < birth
 births_below T birth h u j births there = let f = in_placed T h u j there in omega (arith, births u (j, f.0) f.1)
 
+-- what a call of links did
+pub record IsRemoval (old new : Ring) (slot : ℕ) : Type 0 where
+  pub size : SameSize old new
+  pub linked : Removes old new slot
+
+pub record IsInsertion (old new : Ring) (slot place last : ℕ) : Type 0 where
+  pub size : SameSize old new
+  pub linked : Inserts old new slot last
+  pub before : IsBefore old place last
+
 -- the steps of the code: an entry is taken out
-pub take_out_step : (old new : Ring) (nodes slot : ℕ) (T : Entries) → IsChained old nodes T → IsSome (get_or T slot None) → SameSize old new → Removes old new slot → IsChained new nodes (set T slot None)
-take_out_step old new nodes slot T is some sizes step =
+pub take_out_step : (births births' values values' : Ring) (nodes slot : ℕ) (T : Entries) → IsChained births values nodes T → IsSome (get_or T slot None) → IsRemoval births births' slot → IsRemoval values values' slot → IsChained births' values' nodes (set T slot None)
+take_out_step births births' values values' nodes slot T is some birth value =
     let e = some_entry_is (get_or T slot None) some in
     record {
-      by_births = order_less by_birth refl nodes T old new slot e.0.1.node.0 e.0.0 e.0 is.by_births e.1 refl sizes step;
+      by_births = order_less by_birth refl nodes T births births' slot e.0.1.node.0 e.0.0 e.0 is.by_births e.1 refl birth.size birth.linked;
+      by_values = order_less by_value refl nodes T values values' slot e.0.1.node.0 (key_by_value e.0) e.0 is.by_values e.1 refl value.size value.linked;
       minimal = minimal_less nodes slot T is.minimal;
     }
 
+-- a bound that may be put in
+pub record IsNew (nodes slot birth : ℕ) (b : Bound) (T : Entries) : Type 0 where
+  pub inside : slot < length T
+  pub free : get_or T slot None ≡ None
+  pub node : b.node.0 < nodes
+  pub small : birth < 2 ^ 64
+  pub fits : SFits w32 b.least
+  pub uncovered : ¬ IsCovered T b
+  pub none_under : (u : ℕ) (e : ℕ × Bound) → IsPlaced T u e → ¬ IsOver b e.1
+  pub births : AllBornBefore T birth
+
 -- and one is put in
-pub put_step : (old new : Ring) (nodes slot birth end before : ℕ) (b : Bound) (T : Entries) → IsChained old nodes T → SameSize old new → Inserts old new slot before → end ≡ old.slots + b.node.0 → IsBefore old end before → slot < length T → get_or T slot None ≡ None → b.node.0 < nodes → birth < 2 ^ 64 → ¬ IsCovered T b → ((u : ℕ) (e : ℕ × Bound) → IsPlaced T u e → ¬ IsOver b e.1) → AllBornBefore T birth → IsChained new nodes (set T slot (Some (birth, b)))
-put_step old new nodes slot birth end before b T is sizes step end_is back inside free node small uncovered least births =
-    let below : (u j : ℕ) → IsIn (map by_birth T) b.node.0 u j → j < birth = λ u j there. births_below T birth b.node.0 u j births there in
+pub put_step : (births births' values values' : Ring) (nodes slot birth end last above below : ℕ) (b : Bound) (T : Entries) → IsChained births values nodes T → IsNew nodes slot birth b T → IsInsertion births births' slot end last → end ≡ births.slots + b.node.0 → IsInsertion values values' slot above below → IsNext (map by_value T) (length T) nodes b.node.0 (value_key b.least + 2 ^ 64) above → IsChained births' values' nodes (set T slot (Some (birth, b)))
+put_step births births' values values' nodes slot birth end last above below b T is new by_birth' end_is by_value' next =
+    let before : (u j : ℕ) → IsIn (map by_birth T) b.node.0 u j → j < birth = λ u j there. births_below T birth b.node.0 u j new.births there in
     record {
-      by_births = order_more by_birth refl nodes T old new slot before b.node.0 birth (birth, b) is.by_births inside free refl node (omega arith) (λ u there. omega (arith, below u birth there))
-          (order_last by_birth refl nodes T old b.node.0 birth end before is.by_births node (omega arith) end_is back below) sizes step;
-      minimal = minimal_more nodes slot birth b T inside node small uncovered least births is.minimal;
+      by_births = order_more by_birth refl nodes T births births' slot last b.node.0 birth (birth, b) is.by_births new.inside new.free refl new.node (omega (arith, new.small)) (λ u there. omega (arith, before u birth there))
+          (order_last by_birth refl nodes T births b.node.0 birth end last is.by_births new.node (omega (arith, new.small)) end_is by_birth'.before before) by_birth'.size by_birth'.linked;
+      by_values = order_more by_value refl nodes T values values' slot below b.node.0 (key_by_value (birth, b)) (birth, b) is.by_values new.inside new.free refl new.node (omega (arith, new.small, value_within b.least new.fits)) (key_new T birth b new.fits new.small new.births b.node.0)
+          (value_prev T birth b new.fits new.small new.births values nodes above below is.by_values by_value'.before next) by_value'.size by_value'.linked;
+      minimal = minimal_more nodes slot birth b T new.inside new.node new.small new.uncovered new.none_under new.births is.minimal;
     }
 
 none_at : (n u : ℕ) (e : ℕ × Bound) → IsPlaced (replicate n None) u e → ⊥
 none_at zero u e is = cc
 none_at (suc n) zero e is = cc
 none_at (suc n) (suc u) e is = none_at n u e is
-
-none_map : (order : Option (ℕ × Bound) → Option (ℕ × ℕ)) → order None ≡ None → (n : ℕ) → replicate n None ≡ map order (replicate n None)
-none_map order none zero = refl
-none_map order none (suc n) = rw none (ap (λ (t : Table). None ∷ t) (none_map order none n))
-
--- no slot holds an entry
-pub order_none : (order : Option (ℕ × Bound) → Option (ℕ × ℕ)) → order None ≡ None → (links : Ring) (heads n : ℕ) → links.slots ≡ n → links.heads ≡ heads → AreLinks links (replicate links.slots None) → AreOrdered order heads links (replicate n None)
-order_none order none links heads n slots heads_are linked = record {
-  slots = slots ∙ sym (length-replicate n None);
-  heads_are = heads_are;
-  linked = rw (← none_map order none n, ← slots) linked;
-}
 
 minimal_none : (nodes n : ℕ) → IsMinimal nodes (replicate n None)
 minimal_none nodes n = record {
@@ -206,9 +153,10 @@ minimal_none nodes n = record {
   in_range = λ s e p. absurd (none_at n s e p);
 }
 
-pub all_free : (births : Ring) (nodes n : ℕ) → (births.slots ≡ n) × (births.heads ≡ nodes) → AreLinks births (replicate births.slots None) → IsChained births nodes (replicate n None)
-all_free births nodes n sizes linked = record {
-  by_births = order_none by_birth refl births nodes n sizes.0 sizes.1 linked;
+pub all_free : (births values : Ring) (nodes n : ℕ) → (births.slots ≡ n) × (births.heads ≡ nodes) → AreLinks births (replicate births.slots None) → (values.slots ≡ n) × (values.heads ≡ nodes) → AreLinks values (replicate values.slots None) → IsChained births values nodes (replicate n None)
+all_free births values nodes n births_size births_linked values_size values_linked = record {
+  by_births = order_none by_birth refl births nodes n births_size.0 births_size.1 births_linked;
+  by_values = order_none by_value refl values nodes n values_size.0 values_size.1 values_linked;
   minimal = minimal_none nodes n;
 }
 
@@ -234,3 +182,9 @@ pub none_of : (n u : ℕ) → get_or (replicate {A = Option (ℕ × Bound)} n No
 none_of zero u = refl
 none_of (suc n) zero = refl
 none_of (suc n) (suc u) = none_of n u
+
+-- the place that comes next by value is one of the links
+pub next_inside : (links : Ring) (nodes h low place : ℕ) (T : Entries) → AreOrdered by_value nodes links T → IsNext (map by_value T) (length T) nodes h low place → place < links.slots + links.heads
+next_inside links nodes h low place T is N =
+    let inside = stop_inside (map by_value T) (length T) nodes place h N.high (is.linked.size ∙ is.slots) N.stop in
+    omega (arith, inside, is.slots, is.heads_are)

@@ -1,5 +1,5 @@
 -- Minimal sets of bounds, each bound in a slot with its birth.
-use Rattle.std.specs.Prelude.{◌≡◌, ◌≢◌, ◌⊎◌, ℕ, ◌+◌, ◌<◌, ◌≤◌, ◌^◌, List, [], ◌∷◌, map, length, Option, None, Some, slice_index_or, MatchOption}
+use Rattle.std.specs.Prelude.{◌≡◌, ◌≢◌, ◌⊎◌, ℕ, suc, ◌+◌, ◌-◌, ◌*◌, ◌<◌, ◌≤◌, ◌^◌, ℤ, pos, negsuc, List, [], ◌∷◌, map, length, Option, None, Some, slice_index_or, MatchOption}
 use Rattle.cstn_label.specs.declared.bounds.Bound.{Bound}
 use Rattle.cstn_label.specs.Bounds.{Dominates}
 use Rattle.cstn_label.specs.Read.{the_bound}
@@ -80,6 +80,16 @@ abbrev pub by_birth : Option (ℕ × Bound) → Option (ℕ × ℕ)
 by_birth None = None
 by_birth (Some entry) = Some (entry.1.node.0, entry.0)
 
+-- the least key of a least value in a chain by value: births add less than the next value does
+abbrev pub value_key : ℤ → ℕ
+value_key (pos n) = (2 ^ 31 + n) * 2 ^ 64
+value_key (negsuc n) = (2 ^ 31 - suc n) * 2 ^ 64
+
+-- in the same chain its key is its least value, and of one value its birth
+abbrev pub by_value : Option (ℕ × Bound) → Option (ℕ × ℕ)
+by_value None = None
+by_value (Some entry) = Some (entry.1.node.0, value_key entry.1.least + entry.0)
+
 -- no entry dominates another, no two have the same birth, and each is at a time-point of the set
 pub record IsMinimal (nodes : ℕ) (table : Entries) : Type 0 where
   pub minimal : (s t : ℕ) (e f : ℕ × Bound) → IsPlaced table s e → IsPlaced table t f → s ≢ t → ¬ IsOver e.1 f.1
@@ -92,7 +102,8 @@ pub record AreOrdered (order : Option (ℕ × Bound) → Option (ℕ × ℕ)) (h
   pub heads_are : links.heads ≡ heads
   pub linked : AreLinks links (map order table)
 
--- a minimal set whose links run through each time-point's entries by birth
-pub record IsChained (births : Ring) (nodes : ℕ) (table : Entries) : Type 0 where
+-- a minimal set whose links run through each time-point's entries by birth and by least value
+pub record IsChained (births values : Ring) (nodes : ℕ) (table : Entries) : Type 0 where
   pub by_births : AreOrdered by_birth nodes births table
+  pub by_values : AreOrdered by_value nodes values table
   pub minimal : IsMinimal nodes table

@@ -48,11 +48,13 @@ impl Links {
         })
     }
 
-    /// The chain's slot with the least key.
+    /// The chain's slot with the least key, and none where there is no such chain.
     pub fn first(&self, head: u32) -> Option<u32>
-        requires { head < self.now.heads }
         ensures { (table : Table) → AreLinks self.now table → IsFirstKey table head 0 result }
     {
+        if self.heads <= head {
+            return None;
+        }
         let slot = self.next.at(self.slots + head);
         if slot < self.slots { Some(slot) } else { None }
     }

@@ -1,5 +1,7 @@
-ghost use Rattle.std.specs.Prelude.{◌≡◌, ◌<◌, ◌≤◌, ◌+◌, ◌^◌, ◌↔◌, ℕ, Some, None, length, IsTrue, IfOk, IsSome, slice_set, slice_index_or, replicate, if◌then◌else◌};
-ghost use Rattle.cstn_minset.specs.Sets.{Places, Entries, entry_at, IsPlaced, IsThere, IsOver, IsCovered, IsCleared, AllBornBefore, IsAt, IsFirst, IsFirstSlot, IsMinimal};
+ghost use Rattle.std.specs.Prelude.{◌≡◌, ◌<◌, ◌≤◌, ◌+◌, ◌^◌, ◌↔◌, ℕ, Some, None, length, IsTrue, IfOk, IsSome, slice_set, slice_index_or, replicate, map, if◌then◌else◌};
+ghost use Rattle.cstn_minset.specs.Sets.{Places, Entries, entry_at, IsPlaced, IsThere, IsOver, IsCovered, IsCleared, AllBornBefore, IsAt, IsFirst, IsFirstSlot, IsMinimal, value_key, by_value};
+ghost use Rattle.cstn_minset.specs.Chains.{IsIn, IsFirstKey};
+ghost use Rattle.cstn_minset.specs.Links.{IsNext, IsKeyed};
 
 use crate::links::Links;
 use crate::table::Table;
@@ -10,13 +12,15 @@ use std::marker::Model;
 
 /// Bounds of which none dominates another, each under the id of a pool's slot.
 ///
-/// All memory is taken by [`MinSet::start`]: 40 bytes a slot for the bounds and 8 for the links,
-/// and 8 for each time-point. No other call takes any.
+/// All memory is taken by [`MinSet::start`]: 40 bytes a slot for the bounds and 16 for the links,
+/// and 16 for each time-point. No other call takes any.
 #[derive(Drop)]
 pub struct MinSet {
     table: Table,
     // The slots of each time-point by birth.
     births: Links,
+    // The same by rising least value, and of one value by birth.
+    values: Links,
     nodes: u16,
 }
 
@@ -27,7 +31,7 @@ impl Model for MinSet {
 
     ghost view = { λ m. record { nodes = m.nodes; table = m.table } };
 
-    ghost invariant = { λ m. IsChained m.births m.nodes m.table };
+    ghost invariant = { λ m. IsChained m.births m.values m.nodes m.table };
 }
 
 impl MinSet {
@@ -41,9 +45,11 @@ impl MinSet {
         };
         let table = Table::start(alloc, capacity)?;
         let births = Links::start(alloc, nodes as u32, capacity)?;
+        let values = Links::start(alloc, nodes as u32, capacity)?;
         Ok(MinSet {
             table,
             births,
+            values,
             nodes,
         })
     }
@@ -54,12 +60,13 @@ impl MinSet {
         ensures minimal { IsMinimal self.now.nodes self.now.table }
         ensures one_for_each { (s t : ℕ) (e f : ℕ × Bound) → IsPlaced self.now.table s e → IsPlaced self.now.table t f → e.1.node.0 ≡ f.1.node.0 → e.1.label ≡ f.1.label → s ≡ t }
     {
-        let mut place = self.first_slot(b.node);
+        let mut place = self.lowest(b.node);
         while let Some(slot) = place {
-            if self.is_over(slot, b) {
+            let kept = self.bound(slot);
+            if kept.dominates(b) {
                 return true;
             }
-            place = self.next_slot(slot);
+            place = self.higher(slot);
         }
         false
     }
@@ -74,36 +81,48 @@ impl MinSet {
         ensures placed { (cleared : Entries) × IsCleared b.now self.old.table cleared × (self.new ≡ record self.old { table = slice_set cleared id.slot (Some (id.birth, b.now)) }) }
         ensures covering_grows { (c : Bound) → IsCovered self.old.table c → IsCovered self.new.table c }
     {
-        self.clear_for(b);
-        self.put(b, id.slot, id.birth);
+        let above = self.clear_for(b);
+        self.put(*b, id.slot, id.birth, above);
     }
 
-    // Takes out what the bound dominates.
-    fn clear_for(&mut self, b: &Bound)
+    // Takes out what the bound dominates. Answers the next place above its least value.
+    fn clear_for(&mut self, b: &Bound) -> u32
+        requires { b.now.node.0 < self.old.nodes }
         ensures nodes { self.new.nodes ≡ self.old.nodes }
         ensures cleared { IsCleared b.now self.old.table self.new.table }
+        ensures above { IsNext (map by_value self.new.table) (length self.new.table) self.new.nodes b.now.node.0 (value_key b.now.least + 2 ^ 64) result }
     {
-        let mut place = self.first_slot(b.node);
-        while let Some(slot) = place {
-            place = self.next_slot(slot);
-            if self.is_under(slot, b) {
+        let least = b.least;
+        let mut above = self.lowest(b.node);
+        while let Some(slot) = above {
+            let kept = self.bound(slot);
+            if kept.least > least {
+                return slot;
+            }
+            above = self.higher(slot);
+            if b.dominates(&kept) {
                 self.take_out(slot);
             }
         }
+        self.values.end(b.node.0 as u32)
     }
 
-    fn put(&mut self, b: &Bound, slot: u32, birth: u64)
-        requires uncovered { ¬ IsCovered self.old.table b.now }
-        requires none_under { (u : ℕ) (e : ℕ × Bound) → IsPlaced self.old.table u e → ¬ IsOver b.now e.1 }
-        requires node { b.now.node.0 < self.old.nodes }
+    // Puts the bound in before the next place above its least value.
+    fn put(&mut self, b: Bound, slot: u32, birth: u64, above: u32)
+        requires uncovered { ¬ IsCovered self.old.table b }
+        requires none_under { (u : ℕ) (e : ℕ × Bound) → IsPlaced self.old.table u e → ¬ IsOver b e.1 }
+        requires node { b.node.0 < self.old.nodes }
         requires slot { slot < length self.old.table }
         requires free { entry_at self.old.table slot ≡ None }
         requires birth { AllBornBefore self.old.table birth }
-        ensures { self.new ≡ record self.old { table = slice_set self.old.table slot (Some (birth, b.now)) } }
+        requires above { IsNext (map by_value self.old.table) (length self.old.table) self.old.nodes b.node.0 (value_key b.least + 2 ^ 64) above }
+        ensures { self.new ≡ record self.old { table = slice_set self.old.table slot (Some (birth, b)) } }
     {
         let last = self.births.before(self.births.end(b.node.0 as u32));
         self.births.insert(slot, last);
-        self.table.set(slot, Some((birth, *b)));
+        let below = self.values.before(above);
+        self.values.insert(slot, below);
+        self.table.set(slot, Some((birth, b)));
     }
 
     fn take_out(&mut self, slot: u32)
@@ -111,41 +130,32 @@ impl MinSet {
         ensures { self.new ≡ record self.old { table = slice_set self.old.table slot None } }
     {
         self.births.remove(slot);
+        self.values.remove(slot);
         self.table.set(slot, None);
     }
 
-    // Whether the bound in the slot dominates this one.
-    fn is_over(&self, slot: u32, b: &Bound) -> bool
-        requires { slot < length self.now.table }
-        ensures { (e : ℕ × Bound) → IsPlaced self.now.table slot e → (IsTrue result ↔ IsOver e.1 b.now) }
+    // The time-point's slot with the least value.
+    fn lowest(&self, node: NodeId) -> Option<u32>
+        ensures lowest { IsFirstKey (map by_value self.now.table) node.0 0 result }
+        ensures minimal { IsMinimal self.now.nodes self.now.table }
     {
-        match self.table.at(slot) {
-            Some((_, kept)) => kept.dominates(b),
-            None => false,
-        }
+        self.values.first(node.0 as u32)
     }
 
-    // Whether this bound dominates the one in the slot.
-    fn is_under(&self, slot: u32, b: &Bound) -> bool
-        requires { slot < length self.now.table }
-        ensures { (e : ℕ × Bound) → IsPlaced self.now.table slot e → (IsTrue result ↔ IsOver b.now e.1) }
+    // The slot of the same time-point that is next by value.
+    fn higher(&self, slot: u32) -> Option<u32>
+        requires { IsSome (entry_at self.now.table slot) }
+        ensures higher { (h k : ℕ) → IsIn (map by_value self.now.table) h slot k → IsFirstKey (map by_value self.now.table) h (k + 1) result }
+        ensures keyed { IsKeyed self.now.nodes (map by_value self.now.table) }
     {
-        match self.table.at(slot) {
-            Some((_, kept)) => b.dominates(&kept),
-            None => false,
-        }
+        self.values.next(slot)
     }
 
     // The time-point's slot with the least birth.
     fn first_slot(&self, node: NodeId) -> Option<u32>
-        ensures first { IsFirstSlot self.now.table (IsAt node.0) 0 result }
-        ensures minimal { IsMinimal self.now.nodes self.now.table }
+        ensures { IsFirstSlot self.now.table (IsAt node.0) 0 result }
     {
-        if node.0 < self.nodes {
-            self.births.first(node.0 as u32)
-        } else {
-            None
-        }
+        self.births.first(node.0 as u32)
     }
 
     // The slot of the same time-point with the next birth.
@@ -155,6 +165,15 @@ impl MinSet {
         ensures minimal { IsMinimal self.now.nodes self.now.table }
     {
         self.births.next(slot)
+    }
+
+    // The bound in a slot.
+    fn bound(&self, slot: u32) -> Bound
+        requires { IsSome (entry_at self.now.table slot) }
+        ensures bound { (e : ℕ × Bound) → IsPlaced self.now.table slot e → result ≡ e.1 }
+        ensures minimal { IsMinimal self.now.nodes self.now.table }
+    {
+        self.table.at(slot).unwrap().1
     }
 
     // The id of a slot.
@@ -189,6 +208,21 @@ impl MinSet {
             Some(slot) => Some(self.id(slot)),
             None => None,
         }
+    }
+
+    /// The id of the time-point's entry with the least birth that is at least this one.
+    pub fn first_from(&self, node: NodeId, birth: u64) -> Option<SlotId>
+        ensures first { IsFirst self.now.table (IsAt node.0) birth result }
+    {
+        let mut place = self.first_slot(node);
+        while let Some(slot) = place {
+            let id = self.id(slot);
+            if id.birth >= birth {
+                return Some(id);
+            }
+            place = self.next_slot(slot);
+        }
+        None
     }
 
     /// Takes out the bound under this id; false where none is placed under it.
@@ -228,6 +262,7 @@ impl MinSet {
         ensures { self.new ≡ record self.old { table = replicate (length self.old.table) None } }
     {
         self.births.clear();
+        self.values.clear();
         self.table.clear();
     }
 }

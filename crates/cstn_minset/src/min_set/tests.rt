@@ -60,6 +60,9 @@ fn the_bounds_of_the_branch_network(rt: HostRuntime) -> Result<(), AllocError> {
     assert_eq!(rt; set.first(NodeId(2)), Some(under_p));
     assert_eq!(rt; after(&set, under_p), Some(plain));
     assert_eq!(rt; after(&set, plain), None);
+    assert_eq!(rt; set.first_from(NodeId(2), 3), Some(under_p));
+    assert_eq!(rt; set.first_from(NodeId(2), 4), Some(plain));
+    assert_eq!(rt; set.first_from(NodeId(2), 5), None);
     assert!(rt; set.covers(&bound(2, 1, Mark::Yes)));
     assert!(rt; set.covers(&bound(2, 7, Mark::Yes)));
     assert!(rt; !set.covers(&bound(2, 2, Mark::Absent)));

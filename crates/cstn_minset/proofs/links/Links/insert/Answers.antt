@@ -1,4 +1,4 @@
-use Rattle.std.proofs.Common.{◌≡◌, ◌+◌, ◌<◌, ◌∙◌, ap, set, subst, sym}
+use Rattle.std.proofs.Common.{◌≡◌, ◌<◌, ◌∙◌, ap, set, subst, sym}
 use Rattle.cstn_minset.specs.Links.{Ring, AreLinks, IsPrev}
 use Rattle.cstn_minset.proofs.LinkLemmas.{inserted}
 use Rattle.cstn_minset.proofs.links.Links.insert.Goals as goal
