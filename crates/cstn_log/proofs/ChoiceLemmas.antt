@@ -1,11 +1,11 @@
 -- Lists of which the values at marked places are chosen.
-use Rattle.std.proofs.Common.{ℕ, zero, suc, ◌≡◌, inl, inr, ◌+◌, ◌<◌, ◌≤◌, Bool, true, false, Some, List, [], ◌∷◌, ◌++◌, length, map, take, drop, set, arith, refl, sym, subst, ap, ◌∙◌, append_assoc}
+use Rattle.std.proofs.Common.{ℕ, zero, suc, ◌≡◌, inl, inr, ◌+◌, ◌<◌, ◌≤◌, Bool, true, false, Some, List, [], ◌∷◌, ◌++◌, length, take, drop, set, arith, refl, sym, subst, ap, ◌∙◌, append_assoc}
 use Rattle.std.specs.Prelude.{slice_get}
 use Rattle.std.proofs.lemmas.Bool.{cases_Bool, cases_lt}
-use Rattle.std.proofs.lemmas.List.{take_more_set, drop-set-lt, length-set, map-append}
-use Rattle.std.proofs.lemmas.Option.{none-some, same_Some, slice_get_within}
+use Rattle.std.proofs.lemmas.List.{take_more_set, drop-set-lt, length-set}
+use Rattle.std.proofs.lemmas.Option.{none-some, slice_get_within}
 use Rattle.cstn_log.specs.Cuts.{is_marked, rank, chosen_from, chosen}
-use Rattle.cstn_log.proofs.ListLemmas.{drop_step, take_step}
+use Rattle.cstn_log.proofs.ListLemmas.{drop_step}
 
 pub rank_marked : (marks : List Bool) (k : ℕ) → is_marked marks k ≡ true → rank marks (suc k) ≡ rank marks k + 1
 rank_marked marks k h = rw h refl
@@ -252,39 +252,3 @@ choosing_done {X = X} marks old new k count is end =
     append_none : (xs : List X) → xs ++ [] ≡ xs
     append_none [] = refl
     append_none (x ∷ xs) = ap (λ ys. x ∷ ys) (append_none xs)
-
--- the first k of a list were renewed
-pub record IsRenewing {X : Type 0} (f : X → X) (old new : List X) (k : ℕ) : Type 0 where
-  pub size : length new ≡ length old
-  pub done : take k new ≡ map f (take k old)
-  pub ahead : drop k new ≡ drop k old
-
-pub renewing_none : {X : Type 0} (f : X → X) (old : List X) → IsRenewing f old old 0
-renewing_none f old = record { size = refl; done = refl; ahead = refl }
-
-pub renewing_read : {X : Type 0} (f : X → X) (old new : List X) (k : ℕ) (x : X) → IsRenewing f old new k → slice_get new k ≡ Some x → slice_get old k ≡ Some x
-renewing_read f old new k x is there = sym (same_there new old k is.ahead) ∙ there
-
-pub renewing_step : {X : Type 0} (f : X → X) (old new : List X) (k : ℕ) (x y : X) → IsRenewing f old new k → slice_get old k ≡ Some x → y ≡ f x → IsRenewing f old (set new k y) (suc k)
-renewing_step f old new k x y is there made =
-    let inside : k < length new = omega (arith, is.size, slice_get_within old k x there) in
-    let next : k + 1 ≡ suc k = omega arith in
-    let more : take (suc k) (set new k y) ≡ take k new ++ y ∷ [] = subst (λ n. take n (set new k y) ≡ take k new ++ y ∷ []) next (take_more_set new k y inside) in
-    let old_more : take (suc k) old ≡ take k old ++ x ∷ [] = subst (λ n. take n old ≡ take k old ++ x ∷ []) next (take_step old k x there) in
-    record {
-      size = length-set new k y ∙ is.size;
-      done = more ∙ ap (λ zs. zs ++ y ∷ []) is.done ∙ rw (old_more, made) (sym (map-append f (take k old) (x ∷ [])));
-      ahead = drop-set-lt (suc k) new k y (omega arith) ∙ same_on new old k is.ahead;
-    }
-
-pub renewing_done : {X : Type 0} (f : X → X) (old new : List X) (k : ℕ) → IsRenewing f old new k → k ≡ length old → new ≡ map f old
-renewing_done f old new k is end =
-    let all : take (length old) new ≡ map f (take (length old) old) = rw end at is.done in
-    sym (take_all new (length old) is.size) ∙ all ∙ ap (map f) (take_all old (length old) refl)
-  where
-    whole : {Y : Type 0} (ys : List Y) → take (length ys) ys ≡ ys
-    whole [] = refl
-    whole (y ∷ ys) = ap (λ zs. y ∷ zs) (whole ys)
-
-    take_all : {Y : Type 0} (ys : List Y) (n : ℕ) → length ys ≡ n → take n ys ≡ ys
-    take_all ys n same = rw (← same) (whole ys)

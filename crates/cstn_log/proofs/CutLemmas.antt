@@ -1,5 +1,5 @@
 -- A derivation, cut down to entries whose premises are kept, is a derivation.
-use Rattle.std.proofs.Common.{ℕ, zero, suc, ◌≡◌, inl, inr, ◌+◌, ◌≤◌, Bool, true, false, Some, List, [], ◌∷◌, length, map, arith, refl, sym, subst, ap, ◌∙◌}
+use Rattle.std.proofs.Common.{ℕ, suc, ◌≡◌, inl, inr, ◌≤◌, Bool, true, false, Some, List, [], ◌∷◌, length, map, arith, refl, sym, subst, ap, ◌∙◌}
 use Rattle.std.specs.Prelude.{slice_get}
 use Rattle.std.proofs.lemmas.Bool.{cases_Bool}
 use Rattle.std.proofs.lemmas.List.{length-map}

@@ -10,9 +10,8 @@ use Rattle.cstn_rules.specs.declared.entries.Entry.{Entry}
 use Rattle.cstn_pool.specs.declared.slot_id.SlotId.{SlotId}
 use Rattle.cstn_pool.specs.Slots.{value_at}
 use Rattle.cstn_minset.specs.Sets.{Entries, IsThere, IsOver, IsCovered}
-use Rattle.cstn_log.specs.Entries.{HasId, IsCoveredBy, IsLive}
+use Rattle.cstn_log.specs.Entries.{IsCoveredBy, IsLive}
 use Rattle.cstn_log.specs.Kept.{IsKept, IsPooled, IsTabled}
-use Rattle.cstn_log.proofs.ListLemmas.{one_there}
 
 -- no id has an empty slot
 pub other_slot : (slots : List (Option (ℕ × Entry))) (births : ℕ) (entries : List Entry) (ids : List SlotId) (slot : ℕ) → IsPooled slots births entries ids → get_or slots slot None ≡ None → (k : ℕ) (id : SlotId) → slice_get ids k ≡ Some id → id.slot ≢ slot
@@ -61,32 +60,6 @@ value_held (x ∷ slots) zero birth e is = rw is (itself birth e)
     itself : (n : ℕ) (y : Entry) → (if nat_eq n n then Some y else None) ≡ Some y
     itself n y = let t : nat_eq n n ≡ true = grind arith in rw t refl
 value_held (x ∷ slots) (suc s) birth e is = value_held slots s birth e is
-
--- the pool has a value under each of the ids
-pub has_value : (slots : List (Option (ℕ × Entry))) (births : ℕ) (entries : List Entry) (ids : List SlotId) (id : SlotId) → IsPooled slots births entries ids → HasId ids id → (e : Entry) × (value_at slots id.slot id.birth ≡ Some e)
-has_value slots births entries ids id is has =
-    let h = is.held has.0 id has.1 in (h.1, value_held slots id.slot id.birth h.1 h.3)
-
--- and under no others
-pub value_has : (slots : List (Option (ℕ × Entry))) (births : ℕ) (entries : List Entry) (ids : List SlotId) (id : SlotId) (e : Entry) → IsPooled slots births entries ids → value_at slots id.slot id.birth ≡ Some e → HasId ids id
-value_has slots births entries ids id e is value =
-    let f = is.found id.slot (id.birth, e) (value_there slots id.slot id.birth e value) in (f.0, f.1.there)
-  where
-    same_birth : (n : ℕ) (x : ℕ × Entry) (y : Entry) → (if nat_eq x.0 n then Some x.1 else None) ≡ Some y → Some x ≡ Some (n, y)
-    same_birth n x y is = elim (cases_Bool (nat_eq x.0 n)) [
-      | inl t ↦
-          let here : Some x.1 ≡ Some y = rw t at is in
-          let birth : x.0 ≡ n = grind (arith, t) in
-          let value : x.1 ≡ y = same_Some x.1 y here in
-          rw (← birth, ← value) refl
-      | inr f ↦ absurd (none-some y (rw f at is))
-    ]
-
-    value_there : (slots : List (Option (ℕ × Entry))) (s birth : ℕ) (y : Entry) → value_at slots s birth ≡ Some y → get_or slots s None ≡ Some (birth, y)
-    value_there [] s birth y is = absurd (none-some y is)
-    value_there (None ∷ slots) zero birth y is = absurd (none-some y is)
-    value_there (Some x ∷ slots) zero birth y is = same_birth birth x y is
-    value_there (x ∷ slots) (suc s) birth y is = value_there slots s birth y is
 
 -- an entry is live where its bound is placed under its id
 pub live_there : (slots : List (Option (ℕ × Entry))) (births : ℕ) (table : Entries) (entries : List Entry) (ids : List SlotId) (nodes k : ℕ) (id : SlotId) (placed : Bool) → IsKept slots births table entries ids nodes → slice_get ids k ≡ Some id → (IsTrue placed ↔ IsThere table id) → IsTrue placed ↔ IsLive entries k

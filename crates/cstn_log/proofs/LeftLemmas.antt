@@ -1,16 +1,15 @@
 -- What is left of a log of which some entries are taken out.
-use Rattle.std.proofs.Common.{◌≡◌, ◌≢◌, ◌⊎◌, inl, inr, ℕ, suc, ◌+◌, ◌<◌, ◌≤◌, Bool, true, false, List, [], ◌∷◌, ◌++◌, length, map, get_or, set, refl, ap, sym, ◌∙◌, subst, arith}
-use Rattle.std.specs.Prelude.{Option, None, Some, is_some, slice_get, if◌then◌else◌}
+use Rattle.std.proofs.Common.{◌≡◌, ◌≢◌, inl, inr, ℕ, suc, ◌<◌, Bool, true, false, List, [], ◌∷◌, length, map, get_or, set, refl, ap, sym, ◌∙◌, subst, arith}
+use Rattle.std.specs.Prelude.{Option, None, Some, is_some, slice_get}
 use Rattle.std.proofs.lemmas.List.{get_or-set_other, get_or-set_same, length-set, length-map}
 use Rattle.std.proofs.lemmas.Bool.{cases_Bool, cases_eq, cases_lt}
 use Rattle.std.proofs.lemmas.Option.{none-some, slice_get-map, slice_get_within}
 use Rattle.cstn_rules.specs.declared.entries.Entry.{Entry}
-use Rattle.cstn_rules.specs.Read.{the_entry}
 use Rattle.cstn_pool.specs.declared.slot_id.SlotId.{SlotId}
 use Rattle.cstn_pool.proofs.PoolLemmas.{count_emptied}
 use Rattle.cstn_log.specs.Entries.{HasId, the_entries}
 use Rattle.cstn_log.specs.Kept.{AreLeft, IsPooled, renewed}
-use Rattle.cstn_log.specs.Cuts.{is_marked, rank, moved, chosen_from, chosen, cut_from, cut}
+use Rattle.cstn_log.specs.Cuts.{is_marked, rank, chosen_from, chosen, cut_from, cut}
 use Rattle.cstn_log.proofs.ListLemmas.{one_there}
 use Rattle.cstn_log.proofs.KeptLemmas.{same_place, same_slot, slot_inside}
 use Rattle.cstn_log.proofs.ChoiceLemmas.{rank_marked, rank_unmarked, rank_grows, length_chosen, chosen_comes, chosen_goes}

@@ -11,6 +11,7 @@ pub mod ChoiceLemmas
 pub mod CutLemmas
 pub mod MarkLemmas
 pub mod StepLemmas
+pub mod ListedLemmas
 pub mod PutLemmas
 pub mod FinishLemmas
 pub mod AskedLemmas

@@ -1,5 +1,5 @@
 -- Lists with one more at the end.
-use Rattle.std.proofs.Common.{◌≡◌, ◌⊎◌, inl, inr, ℕ, zero, suc, ◌+◌, ◌<◌, List, [], ◌∷◌, ◌++◌, length, map, set, take, drop, refl, ap, sym, ◌∙◌, arith}
+use Rattle.std.proofs.Common.{◌≡◌, ◌⊎◌, inl, inr, ℕ, zero, suc, ◌+◌, ◌<◌, ◌≤◌, List, [], ◌∷◌, ◌++◌, length, map, set, take, drop, refl, ap, sym, ◌∙◌, arith}
 use Rattle.std.proofs.Math.ListN.{get_or-map}
 use Rattle.std.proofs.lemmas.List.{length-map}
 use Rattle.std.specs.List.{Contains}
@@ -52,6 +52,11 @@ get_taken xs zero j x there = absurd (none-some x there)
 get_taken [] (suc k) j x there = absurd (none-some x there)
 get_taken (y ∷ ys) (suc k) zero x there = (omega arith, there)
 get_taken (y ∷ ys) (suc k) (suc j) x there = let rest = get_taken ys k j x there in (omega (arith, rest.0), rest.1)
+
+pub length_taken : {X : Type 0} (xs : List X) (k : ℕ) → k ≤ length xs → length (take k xs) ≡ k
+length_taken xs zero low = refl
+length_taken [] (suc k) low = absurd (omega (arith, low))
+length_taken (x ∷ xs) (suc k) low = let rest = length_taken xs k (omega (arith, low)) in omega (arith, rest)
 
 pub drop_step : {X : Type 0} (xs : List X) (k : ℕ) (x : X) → slice_get xs k ≡ Some x → drop k xs ≡ x ∷ drop (suc k) xs
 drop_step [] k x there = absurd (none-some x there)

@@ -1,8 +1,8 @@
 -- Lists put in again after they were cut.
-use Rattle.std.proofs.Common.{ℕ, zero, suc, ◌≡◌, ◌≢◌, inl, inr, ◌+◌, ◌<◌, ◌≤◌, Bool, true, false, Option, Some, None, List, [], ◌∷◌, ◌++◌, length, take, get_or, set, arith, refl, sym, subst, ◌∙◌, ap}
+use Rattle.std.proofs.Common.{ℕ, ◌≡◌, ◌≢◌, inl, inr, ◌+◌, ◌<◌, Bool, true, Option, Some, None, List, length, take, get_or, set, arith, refl, sym, subst, ◌∙◌, ap}
 use Rattle.std.specs.Prelude.{slice_get}
 use Rattle.std.proofs.lemmas.Bool.{cases_lt}
-use Rattle.std.proofs.lemmas.Option.{none-some, same_Some, slice_get_within}
+use Rattle.std.proofs.lemmas.Option.{slice_get_within}
 use Rattle.cstn_label.specs.declared.bounds.Bound.{Bound}
 use Rattle.cstn_label.specs.Bounds.{Bound as TheBound, Dominates}
 use Rattle.cstn_label.specs.Read.{the_bound}
@@ -12,16 +12,15 @@ use Rattle.cstn_rules.specs.declared.entries.Why.TheVariants.{Base, Chain, Wait}
 use Rattle.cstn_rules.specs.Derivations.{Entry as TheEntry}
 use Rattle.cstn_rules.specs.Read.{the_entry}
 use Rattle.cstn_pool.specs.declared.slot_id.SlotId.{SlotId}
-use Rattle.cstn_minset.specs.Sets.{Entries, IsOver, IsCovered, IsCleared}
+use Rattle.cstn_minset.specs.Sets.{Entries, IsCovered, IsCleared}
 use Rattle.cstn_log.specs.Kept.{IsPooled, IsTabled}
 use Rattle.cstn_log.specs.Entries.{the_entries, IsCoveredBy, AllNew}
-use Rattle.cstn_log.specs.Cuts.{PremisesBelow, PremisesMarked, AllEarlier, IsClosedUnder, is_marked, rank, renumbered, cut, moved, marked_staying, dropped}
-use Rattle.cstn_log.proofs.ListLemmas.{get_map, one_there, get_taken, take_step}
+use Rattle.cstn_log.specs.Cuts.{PremisesBelow, PremisesMarked, AllEarlier, IsClosedUnder, is_marked, rank, renumbered, cut, moved}
+use Rattle.cstn_log.proofs.ListLemmas.{get_map, get_taken, take_step, length_taken}
 use Rattle.cstn_log.proofs.KeptLemmas.{same_slot, slot_inside, unplaced, uncovered_there, born_before}
 use Rattle.cstn_log.proofs.PushLemmas.{tabled_more}
 use Rattle.cstn_log.proofs.ChoiceLemmas.{rank_grows, rank_less}
 use Rattle.cstn_log.proofs.CutLemmas.{comes}
-use Rattle.cstn_log.proofs.MarkLemmas.{staying_closed}
 use Rattle.cstn_log.proofs.StepLemmas.{entry_read}
 
 -- an entry of a list in which none is dominated by an earlier one isn't covered by those before it
@@ -77,14 +76,6 @@ cut_earlier marks steps all closed = record {
     renumbered_below marks k Base kept low = tt
     renumbered_below marks k (Chain id i) kept low = rank_less marks i k kept low
     renumbered_below marks k (Wait i j) kept low = (rank_less marks i k kept.0 low.0, rank_less marks j k kept.1 low.1)
-
-pub dropped_earlier : (steps : List TheEntry) (id : ℕ) → AllEarlier steps → AllEarlier (dropped steps id)
-dropped_earlier steps id all = cut_earlier (marked_staying id [] steps) steps all (staying_closed steps id all)
-
-length_taken : {X : Type 0} (xs : List X) (k : ℕ) → k ≤ length xs → length (take k xs) ≡ k
-length_taken xs zero low = refl
-length_taken [] (suc k) low = absurd (omega (arith, low))
-length_taken (x ∷ xs) (suc k) low = let rest = length_taken xs k (omega (arith, low)) in omega (arith, rest)
 
 -- the bounds of the first k entries are placed, each under its id
 module _ (slots : List (Option (ℕ × Entry))) (births : ℕ) (entries : List Entry) (ids : List SlotId) (table : Entries) (k : ℕ) (id : SlotId) (is : IsPooled slots births entries ids) (tabled : IsTabled table (take k entries) (take k ids)) (there : slice_get ids k ≡ Some id) where

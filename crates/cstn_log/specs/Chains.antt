@@ -1,8 +1,10 @@
--- Chains of places: for each proposition the places whose label marks it, and for each time-point the places at it.
+-- Chains of places: for each proposition the places whose label marks it, and for each time-point the places at it. Places
+-- whose entries aren't live may be left out.
 use Rattle.std.specs.Prelude.{ℕ, zero, suc, ◌≡◌, ◌⊎◌, ◌<◌, ◌≤◌, ◌+◌, ◌*◌, List, [], ◌∷◌, ◌++◌, Some, length, slice_get, slice_index_or}
 use Rattle.cstn_label.specs.Labels.{IsMarked}
 use Rattle.cstn_label.specs.Read.{marks}
 use Rattle.cstn_rules.specs.declared.entries.Entry.{Entry}
+use Rattle.cstn_log.specs.Entries.{IsLive}
 
 -- the label of the entry at the place marks p
 pub record IsMarkedAt (entries : List Entry) (p k : ℕ) : Type 0 where
@@ -20,23 +22,37 @@ pub record IsAtNode (entries : List Entry) (x k : ℕ) : Type 0 where
 abbrev pub no_place : ℕ
 no_place = 4294967295
 
--- the first place from `from` on, below `end`, that passes the test, or none where none does
-pub record IsFirst (test : ℕ → Type 0) (from end place : ℕ) : Type 0 where
+-- the first live place from `from` up to `upto` that passes the test, or any above `upto` where none does
+pub record IsFirstLive (test : ℕ → Type 0) (entries : List Entry) (upto from place : ℕ) : Type 0 where
+  pub low : from ≤ place
+  pub here : place ≤ upto → IsLive entries place × test place
+  pub none : (k : ℕ) → from ≤ k → k ≤ upto → k < place → IsLive entries k → test k → ⊥
+
+-- a place from `from` on, below `end`, that passes the test, with none before it that passes it and is kept; or no place
+-- where none passes it
+pub record IsNext (test keep : ℕ → Type 0) (from end place : ℕ) : Type 0 where
   pub within : (place < end) ⊎ (place ≡ no_place)
   pub here : place < end → (from ≤ place) × test place
-  pub none : (k : ℕ) → from ≤ k → k < end → k < place → test k → ⊥
+  pub none : (k : ℕ) → from ≤ k → k < end → k < place → test k → keep k → ⊥
+  pub ends : end ≤ place → (k : ℕ) → from ≤ k → k < end → test k → ⊥
+
+-- cells of links, and how many there is room for
+pub record Cells : Type 0 where
+  pub cells : List ℕ
+  pub room : ℕ
 
 -- where a chain starts, or goes on behind a place that passes the test
 abbrev pub IsBehind : (ℕ → Type 0) → ℕ → Type 0
 IsBehind test zero = Unit {0}
 IsBehind test (suc k) = test k
 
--- the links lead through all places that pass the test, in order, and `last` is behind the last of them
-pub record IsChain (test : ℕ → Type 0) (end : ℕ) (link : ℕ → ℕ) (last : ℕ) : Type 0 where
+-- the links lead through places that pass the test, in order, and leave out none that is kept; `last` is behind the last that
+-- passes it
+pub record IsChain (test keep : ℕ → Type 0) (end : ℕ) (link : ℕ → ℕ) (last : ℕ) : Type 0 where
   pub upto : last ≤ end
   pub behind : IsBehind test last
   pub none : (k : ℕ) → last ≤ k → k < end → test k → ⊥
-  pub leads : (from : ℕ) → from ≤ end → IsBehind test from → IsFirst test from end (link from)
+  pub leads : (from : ℕ) → from ≤ end → IsBehind test from → IsNext test keep from end (link from)
 
 -- the link of the chain of p from there
 abbrev pub mark_link : List ℕ → ℕ → ℕ → ℕ
@@ -44,7 +60,7 @@ mark_link links p from = slice_index_or links (from * 52 + p) no_place
 
 -- the links are those of the places whose label marks p, for each p
 pub record AreMarkChains (entries : List Entry) (links lasts : List ℕ) : Type 0 where
-  pub chains : (p : ℕ) → p < 52 → IsChain (IsMarkedAt entries p) (length entries) (mark_link links p) (slice_index_or lasts p 0)
+  pub chains : (p : ℕ) → p < 52 → IsChain (IsMarkedAt entries p) (IsLive entries) (length entries) (mark_link links p) (slice_index_or lasts p 0)
   pub links_size : length links ≡ length entries * 52 + 52
   pub lasts_size : length lasts ≡ 52
 
@@ -59,14 +75,14 @@ node_link nodes links x from = slice_index_or links (node_cell nodes x from) no_
 
 -- the links are those of the places at x, for each time-point x
 pub record AreNodeChains (nodes : ℕ) (entries : List Entry) (links lasts : List ℕ) : Type 0 where
-  pub chains : (x : ℕ) → x < nodes → IsChain (IsAtNode entries x) (length entries) (node_link nodes links x) (slice_index_or lasts x 0)
+  pub chains : (x : ℕ) → x < nodes → IsChain (IsAtNode entries x) (IsLive entries) (length entries) (node_link nodes links x) (slice_index_or lasts x 0)
   pub links_size : length links ≡ nodes + length entries
   pub lasts_size : length lasts ≡ nodes
 
 -- the links of mark chains where the entry after `entries` stands in the chains of the first n propositions already
 pub record AreMarkChainsUpto (entries : List Entry) (e : Entry) (n : ℕ) (links lasts : List ℕ) : Type 0 where
-  pub done : (p : ℕ) → p < n → p < 52 → IsChain (IsMarkedAt (entries ++ e ∷ []) p) (length entries + 1) (mark_link links p) (slice_index_or lasts p 0)
-  pub left : (p : ℕ) → n ≤ p → p < 52 → IsChain (IsMarkedAt entries p) (length entries) (mark_link links p) (slice_index_or lasts p 0)
+  pub done : (p : ℕ) → p < n → p < 52 → IsChain (IsMarkedAt (entries ++ e ∷ []) p) (IsLive (entries ++ e ∷ [])) (length entries + 1) (mark_link links p) (slice_index_or lasts p 0)
+  pub left : (p : ℕ) → n ≤ p → p < 52 → IsChain (IsMarkedAt entries p) (IsLive entries) (length entries) (mark_link links p) (slice_index_or lasts p 0)
   pub ends : (p : ℕ) → n ≤ p → p < 52 → mark_link links p (length entries + 1) ≡ no_place
   pub links_size : length links ≡ length entries * 52 + 104
   pub lasts_size : length lasts ≡ 52

@@ -5,8 +5,8 @@ use Rattle.cstn_rules.specs.declared.entries.Entry.{Entry}
 use Rattle.cstn_pool.specs.declared.slot_id.SlotId.{SlotId}
 use Rattle.cstn_pool.specs.Slots.{live_of}
 use Rattle.cstn_minset.specs.Sets.{Entries, IsPlaced, IsCovered}
-use Rattle.cstn_log.specs.Entries.{the_entries, IsCoveredBy, IsLive, AllNew}
-use Rattle.cstn_log.specs.Cuts.{AllEarlier, is_marked, rank, renumbered}
+use Rattle.cstn_log.specs.Entries.{IsCoveredBy, IsLive, AllNew}
+use Rattle.cstn_log.specs.Cuts.{is_marked, rank, renumbered}
 use Rattle.cstn_log.specs.Chains.{AreMarkChains, AreNodeChains}
 
 -- the entry with its premises at the new places, where its list is cut to the marked places
@@ -52,13 +52,10 @@ pub record AreLeft (marks : List Bool) (ids : List SlotId) (n : ℕ) (old new : 
   pub gone : (k : ℕ) (id : SlotId) → k < n → slice_get ids k ≡ Some id → is_marked marks k ≡ false → slice_index_or new id.slot None ≡ None
   pub count : live_of new + n ≡ live_of old + rank marks n
 
--- the room for each entry and its id, and for its mark and its new place when some are taken out
-pub record IsRoom (cap told entries ids marks places : ℕ) : Type 0 where
+-- the room for a mark of each entry when some are taken out
+pub record IsRoom (cap told marks : ℕ) : Type 0 where
   pub size : told ≡ cap
-  pub for_entries : cap ≤ entries
-  pub for_ids : cap ≤ ids
   pub for_marks : cap ≤ marks
-  pub for_places : cap ≤ places
   pub few : cap ≤ 4194304
 
 -- the room for the links of each place in the chains of the propositions and in that of its time-point
@@ -84,9 +81,8 @@ pub record IsIndexed (entries : List Entry) (nodes cap : ℕ) (c : ChainParts) :
   pub stand : AreNodeChains nodes entries c.node_links c.node_lasts
   pub room : IsChainRoom cap nodes c.for_marks c.for_ends c.for_nodes
 
--- and premises are places before the entry, and there is room
-pub record IsLog (slots : List (Option (ℕ × Entry))) (births : ℕ) (table : Entries) (entries : List Entry) (ids : List SlotId) (nodes cap for_entries for_ids for_marks for_places : ℕ) (chains : ChainParts) : Type 0 where
+-- the entries are kept, with the chains through them, and there is room
+pub record IsLog (slots : List (Option (ℕ × Entry))) (births : ℕ) (table : Entries) (entries : List Entry) (ids : List SlotId) (nodes cap for_marks : ℕ) (chains : ChainParts) : Type 0 where
   pub kept : IsKept slots births table entries ids nodes
-  pub earlier : AllEarlier (the_entries entries)
-  pub room : IsRoom (length slots) cap for_entries for_ids for_marks for_places
+  pub room : IsRoom (length slots) cap for_marks
   pub indexed : IsIndexed entries nodes (length slots) chains

@@ -1,22 +1,22 @@
-// Chains of places through a list of entries, which grow with the list.
+// Chains of places through a list of entries, which grow with the list. Places of dead entries may be left out.
 ghost use Rattle.std.specs.Prelude.{ℕ, ◌≡◌, ◌+◌, ◌*◌, ◌<◌, ◌≤◌, ◌++◌, ◌∷◌, [], List, Some, length, slice_get, set, slice_index_or, vec_capacity, IfOk, IsTrue, ◌↔◌};
 ghost use Rattle.cstn_label.specs.Labels.{IsMarked};
 ghost use Rattle.cstn_label.specs.Read.{marks};
 ghost use Rattle.cstn_rules.specs.declared.entries.Entry.{Entry as TheEntry};
-ghost use Rattle.cstn_log.specs.Chains.{AreMarkChains, AreMarkChainsUpto, AreNodeChains, IsMarkedAt, IsAtNode, IsFirst, IsBehind, mark_link, node_cell, node_link};
+ghost use Rattle.cstn_log.specs.Entries.{IsLive};
+ghost use Rattle.cstn_log.specs.Chains.{AreMarkChains, AreMarkChainsUpto, AreNodeChains, IsMarkedAt, IsAtNode, IsNext, IsBehind, mark_link, node_cell, node_link};
 
+use crate::cells::{LinkCells, NO_PLACE};
+use crate::list::EntryList;
 use cstn_label::{Mark, NodeId, Prop};
 use cstn_rules::Entry;
 use std::alloc::{AllocError, Global};
-
-// What stands for no place.
-pub const NO_PLACE: u32 = 4_294_967_295;
 
 // For each proposition the places whose label marks it, in order.
 #[derive(Drop)]
 pub struct MarkChains {
     // For each proposition the first place of its chain, and then, for each place, the one behind it in each chain.
-    links: Vec<u32>,
+    links: LinkCells,
     // For each proposition where its chain ends: behind its last place, or 0.
     lasts: Vec<u32>,
 }
@@ -25,38 +25,37 @@ impl MarkChains {
     // Chains with no place, and room for this many.
     pub fn empty(alloc: Global, cap: u32) -> Result<MarkChains, AllocError>
         requires { cap ≤ 4194304 }
-        ensures chains { IfOk result (λ m. AreMarkChains [] m.links.items m.lasts.items) }
-        ensures room { IfOk result (λ m. (cap * 52 + 52 ≤ vec_capacity m.links) × (52 ≤ vec_capacity m.lasts)) }
+        ensures chains { IfOk result (λ m. AreMarkChains [] m.links.cells m.lasts.items) }
+        ensures room { IfOk result (λ m. (cap * 52 + 52 ≤ m.links.room) × (52 ≤ vec_capacity m.lasts)) }
     {
-        let mut links = Vec::with_capacity(alloc, cap as usize * 52 + 52)?;
+        let mut links = LinkCells::empty(alloc, cap as usize * 52 + 52)?;
         let mut lasts = Vec::with_capacity(alloc, 52)?;
-        links.resize(52, NO_PLACE)?;
+        links.extend(52);
         lasts.resize(52, 0)?;
         Ok(MarkChains { links, lasts })
     }
 
     // Takes all places out.
     pub fn clear(&mut self)
-        requires room { (52 ≤ vec_capacity self.old.links) × (52 ≤ vec_capacity self.old.lasts) }
-        ensures chains { AreMarkChains [] self.new.links.items self.new.lasts.items }
-        ensures room { (vec_capacity self.old.links ≤ vec_capacity self.new.links) × (vec_capacity self.old.lasts ≤ vec_capacity self.new.lasts) }
+        requires room { (52 ≤ self.old.links.room) × (52 ≤ vec_capacity self.old.lasts) }
+        ensures chains { AreMarkChains [] self.new.links.cells self.new.lasts.items }
+        ensures room { (self.old.links.room ≤ self.new.links.room) × (vec_capacity self.old.lasts ≤ vec_capacity self.new.lasts) }
     {
         self.links.clear();
-        self.links.resize(52, NO_PLACE).unwrap();
+        self.links.extend(52);
         self.lasts.clear();
         self.lasts.resize(52, 0).unwrap();
     }
 
     // Puts in the entry that comes next, at this place.
     pub fn append(&mut self, place: u32, e: Entry)
-        requires chains { (entries : List TheEntry) × AreMarkChains entries self.old.links.items self.old.lasts.items × (length entries ≡ place) }
-        requires room { place * 52 + 104 ≤ vec_capacity self.old.links }
+        requires chains { (entries : List TheEntry) × AreMarkChains entries self.old.links.cells self.old.lasts.items × (length entries ≡ place) }
+        requires room { place * 52 + 104 ≤ self.old.links.room }
         requires few { place < 4194304 }
-        ensures chains { (entries : List TheEntry) → AreMarkChains entries self.old.links.items self.old.lasts.items → length entries ≡ place → AreMarkChains (entries ++ e ∷ []) self.new.links.items self.new.lasts.items }
-        ensures room { (vec_capacity self.old.links ≤ vec_capacity self.new.links) × (vec_capacity self.old.lasts ≤ vec_capacity self.new.lasts) }
+        ensures chains { (entries : List TheEntry) → AreMarkChains entries self.old.links.cells self.old.lasts.items → length entries ≡ place → AreMarkChains (entries ++ e ∷ []) self.new.links.cells self.new.lasts.items }
+        ensures room { (self.old.links.room ≤ self.new.links.room) × (vec_capacity self.old.lasts ≤ vec_capacity self.new.lasts) }
     {
-        let end = self.links.len() + 52;
-        self.links.resize(end, NO_PLACE).unwrap();
+        self.links.extend(52);
         let mut index = 0;
         while let Some(p) = e.bound.label.first_marked_from(index) {
             self.append_marked(p, place, e);
@@ -67,10 +66,10 @@ impl MarkChains {
     // Puts the place at the end of the chain of p, which the label of its entry marks.
     fn append_marked(&mut self, p: Prop, place: u32, e: Entry)
         requires marked { IsMarked (marks e.bound.label) p.index }
-        requires upto { (entries : List TheEntry) × AreMarkChainsUpto entries e p.index self.old.links.items self.old.lasts.items × (length entries ≡ place) }
+        requires upto { (entries : List TheEntry) × AreMarkChainsUpto entries e p.index self.old.links.cells self.old.lasts.items × (length entries ≡ place) }
         requires few { place < 4194304 }
-        ensures upto { (entries : List TheEntry) → AreMarkChainsUpto entries e p.index self.old.links.items self.old.lasts.items → length entries ≡ place → AreMarkChainsUpto entries e (p.index + 1) self.new.links.items self.new.lasts.items }
-        ensures room { (vec_capacity self.old.links ≤ vec_capacity self.new.links) × (vec_capacity self.old.lasts ≤ vec_capacity self.new.lasts) }
+        ensures upto { (entries : List TheEntry) → AreMarkChainsUpto entries e p.index self.old.links.cells self.old.lasts.items → length entries ≡ place → AreMarkChainsUpto entries e (p.index + 1) self.new.links.cells self.new.lasts.items }
+        ensures room { (self.old.links.room ≤ self.new.links.room) × (vec_capacity self.old.lasts ≤ vec_capacity self.new.lasts) }
     {
         self.append_to(p, place);
     }
@@ -78,37 +77,32 @@ impl MarkChains {
     // Puts the place at the end of the chain of p.
     fn append_to(&mut self, p: Prop, place: u32)
         requires lasts { length self.old.lasts.items ≡ 52 }
-        requires inside { slice_index_or self.old.lasts.items p.index 0 * 52 + p.index < length self.old.links.items }
+        requires inside { slice_index_or self.old.lasts.items p.index 0 * 52 + p.index < length self.old.links.cells }
         requires few { place < 4194304 }
-        ensures links { self.new.links.items ≡ set self.old.links.items (slice_index_or self.old.lasts.items p.index 0 * 52 + p.index) place }
+        ensures links { self.new.links.cells ≡ set self.old.links.cells (slice_index_or self.old.lasts.items p.index 0 * 52 + p.index) place }
         ensures lasts { self.new.lasts.items ≡ set self.old.lasts.items p.index (place + 1) }
-        ensures room { (vec_capacity self.old.links ≤ vec_capacity self.new.links) × (vec_capacity self.old.lasts ≤ vec_capacity self.new.lasts) }
+        ensures room { (self.old.links.room ≤ self.new.links.room) × (vec_capacity self.old.lasts ≤ vec_capacity self.new.lasts) }
     {
         let last = self.lasts[p.index as usize];
-        self.links[last as usize * 52 + p.index as usize] = place;
+        self.links.set(last as usize * 52 + p.index as usize, place);
         self.lasts[p.index as usize] = place + 1;
-    }
-
-    // The first place of the chain of p from `from` on, looked for behind a place of it before, or from its start.
-    pub fn first(&self, p: Prop, from: u32, start: u32) -> u32
-        requires upto { start ≤ from }
-        requires chains { (entries : List TheEntry) × AreMarkChains entries self.now.links.items self.now.lasts.items × (from ≤ length entries) × IsBehind (IsMarkedAt entries p.index) start }
-        requires few { length self.now.links.items ≤ 4194304 * 52 + 52 }
-        ensures first { (entries : List TheEntry) → AreMarkChains entries self.now.links.items self.now.lasts.items → from ≤ length entries → IsBehind (IsMarkedAt entries p.index) start → IsFirst (IsMarkedAt entries p.index) from (length entries) result }
-    {
-        let mut place = self.next(p, start);
-        while place < from {
-            place = self.next(p, place + 1);
-        }
-        place
     }
 
     // The place of the chain of p that comes next from there on, behind a place of it or at its start.
     pub fn next(&self, p: Prop, from: u32) -> u32
-        requires { from * 52 + 52 ≤ length self.now.links.items }
-        ensures { result ≡ mark_link self.now.links.items p.index from }
+        ensures { result ≡ mark_link self.now.links.cells p.index from }
     {
-        self.links[from as usize * 52 + p.index as usize]
+        self.links.at(from as usize * 52 + p.index as usize)
+    }
+
+    // Has the chain of p go on at the place `after` from `start`, and so passes over what is between.
+    pub fn pass_over(&mut self, p: Prop, start: u32, after: u32)
+        requires { start * 52 + 52 ≤ length self.old.links.cells }
+        ensures chains { (entries : List TheEntry) → AreMarkChains entries self.old.links.cells self.old.lasts.items → IsNext (IsMarkedAt entries p.index) (IsLive entries) start (length entries) after → AreMarkChains entries self.new.links.cells self.new.lasts.items }
+        ensures room { (self.old.links.room ≤ self.new.links.room) × (vec_capacity self.old.lasts ≤ vec_capacity self.new.lasts) }
+    {
+        self.links
+            .set(start as usize * 52 + p.index as usize, after);
     }
 }
 
@@ -199,21 +193,6 @@ impl NodeChains {
         }
     }
 
-    // The first place of the chain of x from `from` on, looked for behind a place of it before, or from its start.
-    pub fn first(&self, x: NodeId, from: u32, start: u32) -> u32
-        requires upto { start ≤ from }
-        requires node { x.0 < length self.now.lasts.items }
-        requires chains { (entries : List TheEntry) × AreNodeChains (length self.now.lasts.items) entries self.now.links.items self.now.lasts.items × (from ≤ length entries) × IsBehind (IsAtNode entries x.0) start }
-        requires few { (length self.now.links.items ≤ 4194304 + 65536) × (length self.now.lasts.items < 65536) }
-        ensures first { (entries : List TheEntry) → AreNodeChains (length self.now.lasts.items) entries self.now.links.items self.now.lasts.items → from ≤ length entries → IsBehind (IsAtNode entries x.0) start → IsFirst (IsAtNode entries x.0) from (length entries) result }
-    {
-        let mut place = self.next(x, start);
-        while place < from {
-            place = self.next(x, place + 1);
-        }
-        place
-    }
-
     // The place of the chain of x that comes next from there on, behind a place of it or at its start.
     pub fn next(&self, x: NodeId, from: u32) -> u32
         requires few { length self.now.lasts.items < 65536 }
@@ -223,21 +202,34 @@ impl NodeChains {
     {
         self.links[self.cell(x, from)]
     }
+
+    // Has the chain of x go on at the place `after` from `start`, and so passes over what is between.
+    pub fn pass_over(&mut self, x: NodeId, start: u32, after: u32)
+        requires few { length self.old.lasts.items < 65536 }
+        requires node { x.0 < length self.old.lasts.items }
+        requires inside { length self.old.lasts.items + start ≤ length self.old.links.items }
+        ensures chains { (entries : List TheEntry) → AreNodeChains (length self.old.lasts.items) entries self.old.links.items self.old.lasts.items → IsBehind (IsAtNode entries x.0) start → IsNext (IsAtNode entries x.0) (IsLive entries) start (length entries) after → AreNodeChains (length self.old.lasts.items) entries self.new.links.items self.new.lasts.items }
+        ensures room { vec_capacity self.old.links ≤ vec_capacity self.new.links }
+    {
+        let cell = self.cell(x, start);
+        self.links[cell] = after;
+    }
 }
 
 // Puts the entries of a list in, in order.
-pub fn append_all(marks: &mut MarkChains, nodes: &mut NodeChains, steps: &[Entry])
-    requires empty { AreMarkChains [] marks.old.links.items marks.old.lasts.items × AreNodeChains (length nodes.old.lasts.items) [] nodes.old.links.items nodes.old.lasts.items }
-    requires room { (length steps.now * 52 + 52 ≤ vec_capacity marks.old.links) × (length nodes.old.lasts.items + length steps.now ≤ vec_capacity nodes.old.links) }
-    requires few { (length steps.now ≤ 4194304) × (length nodes.old.lasts.items < 65536) }
-    requires inside { (k : ℕ) (e : TheEntry) → slice_get steps.now k ≡ Some e → e.bound.node.0 < length nodes.old.lasts.items }
-    ensures marks { AreMarkChains steps.now marks.new.links.items marks.new.lasts.items }
-    ensures nodes { AreNodeChains (length nodes.old.lasts.items) steps.now nodes.new.links.items nodes.new.lasts.items }
+pub fn append_all(marks: &mut MarkChains, nodes: &mut NodeChains, list: &EntryList)
+    requires empty { AreMarkChains [] marks.old.links.cells marks.old.lasts.items × AreNodeChains (length nodes.old.lasts.items) [] nodes.old.links.items nodes.old.lasts.items }
+    requires room { (length list.now.entries * 52 + 52 ≤ marks.old.links.room) × (length nodes.old.lasts.items + length list.now.entries ≤ vec_capacity nodes.old.links) }
+    requires few { (length list.now.entries ≤ 4194304) × (length nodes.old.lasts.items < 65536) }
+    requires inside { (k : ℕ) (e : TheEntry) → slice_get list.now.entries k ≡ Some e → e.bound.node.0 < length nodes.old.lasts.items }
+    ensures marks { AreMarkChains list.now.entries marks.new.links.cells marks.new.lasts.items }
+    ensures nodes { AreNodeChains (length nodes.old.lasts.items) list.now.entries nodes.new.links.items nodes.new.lasts.items }
     ensures size { length nodes.new.lasts.items ≡ length nodes.old.lasts.items }
-    ensures room { (vec_capacity marks.old.links ≤ vec_capacity marks.new.links) × (vec_capacity marks.old.lasts ≤ vec_capacity marks.new.lasts) × (vec_capacity nodes.old.links ≤ vec_capacity nodes.new.links) }
+    ensures room { (marks.old.links.room ≤ marks.new.links.room) × (vec_capacity marks.old.lasts ≤ vec_capacity marks.new.lasts) × (vec_capacity nodes.old.links ≤ vec_capacity nodes.new.links) }
 {
-    for k in 0..steps.len() {
-        marks.append(k as u32, steps[k]);
-        nodes.append(k as u32, steps[k]);
+    for k in 0..list.len() {
+        let e = list.entry(k);
+        marks.append(k as u32, e);
+        nodes.append(k as u32, e);
     }
 }

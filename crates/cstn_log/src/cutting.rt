@@ -1,22 +1,21 @@
 // Entries in their order, with which of them are kept when the list is cut, and the cut list.
-ghost use Rattle.std.specs.Prelude.{◌≡◌, ◌≤◌, [], length, map, vec_capacity};
+ghost use Rattle.std.specs.Prelude.{◌≡◌, ◌≤◌, [], length, vec_capacity};
 ghost use Rattle.cstn_log.specs.Entries.{the_entries};
-ghost use Rattle.cstn_log.specs.Kept.{renewed};
-ghost use Rattle.cstn_log.specs.Cuts.{PremisesBelow, AllEarlier, rank, replaced, with_premises, with_ancestors, stays, marked_staying, chosen, cut};
+ghost use Rattle.cstn_log.specs.Cuts.{PremisesBelow, rank, with_premises, with_ancestors, stays, marked_staying, cut};
 
+use crate::list::{EntryList, placed};
 use cstn_rules::{Entry, Why};
 
 // Marks the ancestors of the marked entries.
-pub fn mark_ancestors(entries: &[Entry], marks: &mut [bool])
-    requires earlier { AllEarlier (the_entries entries.now) }
-    requires size { length marks.old ≡ length entries.now }
-    ensures marked { marks.new ≡ with_ancestors (the_entries entries.now) (length entries.now) marks.old }
+pub fn mark_ancestors(list: &EntryList, marks: &mut [bool])
+    requires size { length marks.old ≡ length list.now.entries }
+    ensures marked { marks.new ≡ with_ancestors (the_entries list.now.entries) (length list.now.entries) marks.old }
 {
-    let mut k = entries.len();
+    let mut k = list.len();
     while 0 < k {
         k -= 1;
         if marks[k] {
-            mark_premises(entries[k].why, marks);
+            mark_premises(list.entry(k).why, marks);
         }
     }
 }
@@ -37,16 +36,15 @@ fn mark_premises(why: Why, marks: &mut [bool])
 }
 
 // Marks the entries that a constraint didn't give, and that have no ancestor that it gave.
-pub fn mark_staying(entries: &[Entry], constraint: u32, marks: &mut Vec<bool>)
-    requires earlier { AllEarlier (the_entries entries.now) }
+pub fn mark_staying(list: &EntryList, constraint: u32, marks: &mut Vec<bool>)
     requires empty { marks.old.items ≡ [] }
-    requires room { length entries.now ≤ vec_capacity marks.old }
-    ensures marked { marks.new.items ≡ marked_staying constraint [] (the_entries entries.now) }
-    ensures size { length marks.new.items ≡ length entries.now }
+    requires room { length list.now.entries ≤ vec_capacity marks.old }
+    ensures marked { marks.new.items ≡ marked_staying constraint [] (the_entries list.now.entries) }
+    ensures size { length marks.new.items ≡ length list.now.entries }
     ensures room { vec_capacity marks.old ≤ vec_capacity marks.new }
 {
-    for k in 0..entries.len() {
-        let stays = is_staying(entries[k].why, constraint, marks);
+    for k in 0..list.len() {
+        let stays = is_staying(list.entry(k).why, constraint, marks);
         marks.push(stays).unwrap();
     }
 }
@@ -67,18 +65,16 @@ fn is_staying(why: Why, constraint: u32, marks: &[bool]) -> bool
 }
 
 // Appends the marked entries to `steps`, with their premises at the new places.
-pub fn cut(entries: &[Entry], marks: &[bool], places: &mut Vec<u32>, steps: &mut Vec<Entry>)
-    requires earlier { AllEarlier (the_entries entries.now) }
-    requires size { length marks.now ≡ length entries.now }
-    requires few { length entries.now ≤ 4194304 }
+pub fn cut(list: &EntryList, marks: &[bool], places: &mut Vec<u32>, steps: &mut Vec<Entry>)
+    requires size { length marks.now ≡ length list.now.entries }
     requires empty { (places.old.items ≡ []) × (steps.old.items ≡ []) }
-    requires room { (length entries.now ≤ vec_capacity places.old) × (rank marks.now (length entries.now) ≤ vec_capacity steps.old) }
-    ensures cut { the_entries steps.new.items ≡ cut marks.now (the_entries entries.now) }
+    requires room { (length list.now.entries ≤ vec_capacity places.old) × (rank marks.now (length list.now.entries) ≤ vec_capacity steps.old) }
+    ensures cut { the_entries steps.new.items ≡ cut marks.now (the_entries list.now.entries) }
 {
-    for k in 0..entries.len() {
+    for k in 0..list.len() {
         places.push(steps.len() as u32).unwrap();
         if marks[k] {
-            steps.push(moved(entries[k], places)).unwrap();
+            steps.push(placed(list.entry(k), places)).unwrap();
         }
     }
 }
@@ -94,66 +90,4 @@ pub fn count_marked(marks: &[bool]) -> usize
         }
     }
     count
-}
-
-// Gives each premise its new place, where the list is to be cut to the marked places.
-pub fn renumber(entries: &mut Vec<Entry>, marks: &[bool], places: &mut Vec<u32>)
-    requires earlier { AllEarlier (the_entries entries.old.items) }
-    requires size { length marks.now ≡ length entries.old.items }
-    requires few { length entries.old.items ≤ 4194304 }
-    requires empty { places.old.items ≡ [] }
-    requires room { length entries.old.items ≤ vec_capacity places.old }
-    ensures renewed { entries.new.items ≡ map (renewed marks.now) entries.old.items }
-    ensures room { (vec_capacity entries.old ≤ vec_capacity entries.new) × (vec_capacity places.old ≤ vec_capacity places.new) }
-{
-    let mut count = 0;
-    for k in 0..entries.len() {
-        places.push(count).unwrap();
-        entries[k] = moved(entries[k], places);
-        if marks[k] {
-            count += 1;
-        }
-    }
-}
-
-// Keeps the values at marked places alone.
-pub fn choose<T: Copy>(values: &mut Vec<T>, marks: &[bool])
-    requires { length marks.now ≡ length values.old.items }
-    ensures chosen { values.new.items ≡ chosen marks.now values.old.items }
-    ensures room { vec_capacity values.old ≤ vec_capacity values.new }
-{
-    let mut count = 0;
-    for k in 0..values.len() {
-        if marks[k] {
-            values[count] = values[k];
-            count += 1;
-        }
-    }
-    values.truncate(count);
-}
-
-// The entry with its premises at their new places.
-fn moved(e: Entry, places: &[u32]) -> Entry
-    requires { PremisesBelow (length places.now) e.why }
-    ensures bound { result.bound ≡ e.bound }
-    ensures why { result.why ≡ replaced places.now e.why }
-{
-    let why = match e.why {
-        Why::Base => Why::Base,
-        Why::Chain {
-            constraint,
-            premise,
-        } => Why::Chain {
-            constraint,
-            premise: places[premise as usize],
-        },
-        Why::Wait { seen, premise } => Why::Wait {
-            seen: places[seen as usize],
-            premise: places[premise as usize],
-        },
-    };
-    Entry {
-        bound: e.bound,
-        why,
-    }
 }

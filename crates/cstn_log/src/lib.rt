@@ -2,10 +2,12 @@
 //! bounds to which the rules add nothing.
 #![tactic(auto)]
 
+mod cells;
 mod chains;
 mod cuts;
 mod cutting;
 mod laws;
+mod list;
 mod log;
 mod plans;
 mod putting;

@@ -1,4 +1,4 @@
-ghost use Rattle.std.specs.Prelude.{List, ◌≡◌, ◌<◌, ◌≤◌, ◌+◌, ◌^◌, ◌++◌, ◌∷◌, [], ◌↔◌, ℕ, Some, None, false, length, IsTrue, IfOk, IsErr, IsOk, OnErr, slice_get, slice_index_or};
+ghost use Rattle.std.specs.Prelude.{List, ◌≡◌, ◌⊎◌, ◌<◌, ◌≤◌, ◌+◌, ◌^◌, ◌++◌, ◌∷◌, [], ◌↔◌, ℕ, Some, None, false, length, IsTrue, IfNone, IfOk, IfSome, IsErr, IsOk, OnErr, slice_get, slice_index_or};
 ghost use Rattle.cstn_label.specs.Read.{the_bound};
 ghost use Rattle.std.specs.List.{Contains};
 ghost use Rattle.cstn_net.specs.Networks.{Network as TheNetwork, Constraint, IsNetwork, count};
@@ -11,10 +11,12 @@ ghost use Rattle.cstn_minset.specs.Sets.{IsPlaced};
 ghost use Rattle.cstn_log.specs.Entries.{State, HasId, the_entries, IsCoveredBy, IsLive, AllNew, bases, first_entries};
 ghost use Rattle.cstn_log.specs.Cuts.{PremisesBelow, is_marked as is_marked_at, chosen, marked_staying, part, dropped};
 ghost use Rattle.cstn_log.specs.Kept.{IsIdAt};
-ghost use Rattle.cstn_log.specs.Chains.{IsFirst, IsBehind, IsMarkedAt, IsAtNode};
+ghost use Rattle.cstn_log.specs.Chains.{IsFirstLive, IsNext, IsBehind, IsMarkedAt, IsAtNode};
 
+use crate::cells::NO_PLACE;
 use crate::chains::{MarkChains, NodeChains, append_all, is_at, is_marked};
-use crate::cutting::{choose, count_marked, cut, mark_ancestors, mark_staying, renumber};
+use crate::cutting::{count_marked, cut, mark_ancestors, mark_staying};
+use crate::list::EntryList;
 use crate::putting::{clear, give_rest, place_all};
 use cstn_label::{Bound, Label, NodeId, Prop};
 use cstn_minset::MinSet;
@@ -28,23 +30,22 @@ use std::marker::Model;
 ///
 /// An entry is live while no later one dominates it. A pool has the bound of each entry, and a
 /// minimal set those of the live ones, each under the id that [`Log::slot`] answers. An entry keeps
-/// its id while entries before it are taken out, and only its place changes. All memory is taken
-/// by [`Log::start`]: 381 bytes for each entry that there may be, so 1,598 MB for the largest cap
-/// of 4,194,304, and 16 bytes for each time-point. Of these, 212 bytes an entry are links of chains,
-/// written for entries that are pushed alone, and 5 are used by [`Log::retract`] alone.
+/// its id while entries before it are taken out, and only its place changes: premises are kept by
+/// slot, and a table tells the place of each. All memory is taken by [`Log::start`]: 389 bytes for
+/// each entry that there may be, so 1,632 MB for the largest cap of 4,194,304, and 24 bytes for each
+/// time-point. Of these, 212 bytes an entry are links of chains: 4 by time-point, written for entries
+/// that are pushed, and 208 by proposition, written only up to the last entry whose label marks
+/// something. One is used by [`Log::retract`] alone.
 #[derive(Drop)]
 pub struct Log {
     pool: Pool<Entry>,
     minimal: MinSet,
-    entries: Vec<Entry>,
-    ids: Vec<SlotId>,
+    list: EntryList,
     // The places whose labels mark each proposition, and those at each time-point.
     marking: MarkChains,
     standing: NodeChains,
-    cap: u32,
-    // Which entries stay when some are taken out, and the new place of each.
+    // Which entries stay when some are taken out.
     marks: Vec<bool>,
-    places: Vec<u32>,
 }
 
 impl Model for Log {
@@ -54,9 +55,9 @@ impl Model for Log {
 
     ghost Value = { State };
 
-    ghost view = { λ l. record { entries = l.entries.items; ids = l.ids.items; births = l.pool.births; cap = l.cap; nodes = l.minimal.nodes } };
+    ghost view = { λ l. record { entries = l.list.entries; ids = l.list.ids; births = l.pool.births; cap = l.list.cap; nodes = l.minimal.nodes } };
 
-    ghost invariant = { λ l. IsLog l.pool.slots l.pool.births l.minimal.table l.entries.items l.ids.items l.minimal.nodes l.cap (vec_capacity l.entries) (vec_capacity l.ids) (vec_capacity l.marks) (vec_capacity l.places) (record { mark_links = l.marking.links.items; mark_lasts = l.marking.lasts.items; node_links = l.standing.links.items; node_lasts = l.standing.lasts.items; for_marks = vec_capacity l.marking.links; for_ends = vec_capacity l.marking.lasts; for_nodes = vec_capacity l.standing.links }) };
+    ghost invariant = { λ l. IsLog l.pool.slots l.pool.births l.minimal.table l.list.entries l.list.ids l.minimal.nodes l.list.cap (vec_capacity l.marks) (record { mark_links = l.marking.links.cells; mark_lasts = l.marking.lasts.items; node_links = l.standing.links.items; node_lasts = l.standing.lasts.items; for_marks = l.marking.links.room; for_ends = vec_capacity l.marking.lasts; for_nodes = vec_capacity l.standing.links }) };
 }
 
 impl Log {
@@ -85,22 +86,17 @@ impl Log {
     {
         let pool = Pool::start(alloc, cap)?;
         let minimal = MinSet::start(alloc, nodes, cap)?;
-        let entries = Vec::with_capacity(alloc, cap as usize)?;
-        let ids = Vec::with_capacity(alloc, cap as usize)?;
+        let list = EntryList::empty(alloc, cap)?;
         let marking = MarkChains::empty(alloc, cap)?;
         let standing = NodeChains::empty(alloc, nodes, cap)?;
         let marks = Vec::with_capacity(alloc, cap as usize)?;
-        let places = Vec::with_capacity(alloc, cap as usize)?;
         Ok(Log {
             pool,
             minimal,
-            entries,
-            ids,
+            list,
             marking,
             standing,
-            cap,
             marks,
-            places,
         })
     }
 
@@ -139,9 +135,8 @@ impl Log {
         // What follows is at a time-point of the network.
         prove!(e.bound.node.0 < count);
         self.minimal.place(&e.bound, id);
-        let place = self.entries.len() as u32;
-        self.entries.push(e).unwrap();
-        self.ids.push(id).unwrap();
+        let place = self.list.len() as u32;
+        self.list.push(e, id);
         self.marking.append(place, e);
         self.standing.append(place, e);
         Ok(place)
@@ -159,7 +154,7 @@ impl Log {
         requires { k < length self.now.entries }
         ensures live { IsTrue result ↔ IsLive self.now.entries k }
     {
-        self.minimal.holds(self.ids[k as usize])
+        self.minimal.holds(self.list.id(k as usize))
     }
 
     /// How many entries there are.
@@ -169,7 +164,7 @@ impl Log {
         ensures largest { self.now.cap ≤ 4194304 }
         ensures all_new { AllNew self.now.entries }
     {
-        self.entries.len() as u32
+        self.list.len() as u32
     }
 
     /// The entry at a place. It holds in every strategy of each network of which the log is a
@@ -181,7 +176,7 @@ impl Log {
         ensures premises { PremisesBelow k result.why }
         ensures holds { (net : TheNetwork) (table : Table) → IsNetwork net → IsStrategy net table → IsDerivation net (the_entries self.now.entries) → HoldsIn net table (the_bound result.bound) }
     {
-        self.entries[k as usize]
+        self.list.entry(k as usize)
     }
 
     /// The last entry and its ancestors, in order, with premises as places in the answer. It is a
@@ -200,13 +195,13 @@ impl Log {
         requires { 0 < length self.now.entries }
         ensures { IfOk result (λ steps. the_entries steps.items ≡ part (the_entries self.now.entries)) }
     {
-        let count = self.entries.len();
+        let count = self.list.len();
         let mut marks = vec![in alloc; false; count]?;
         marks[count - 1] = true;
-        mark_ancestors(&self.entries, &mut marks);
+        mark_ancestors(&self.list, &mut marks);
         let mut places = Vec::with_capacity(alloc, count)?;
         let mut steps = Vec::with_capacity(alloc, count_marked(&marks))?;
-        cut(&self.entries, &marks, &mut places, &mut steps);
+        cut(&self.list, &marks, &mut places, &mut steps);
         Ok(steps)
     }
 
@@ -224,22 +219,19 @@ impl Log {
         ensures derivation { (net : TheNetwork) (constraints : List Constraint) → ((c : Constraint) → Contains net.constraints c → (c.id ≡ constraint → ⊥) → Contains constraints c) → IsDerivation net (the_entries self.old.entries) → IsDerivation (record net { constraints = constraints }) (the_entries self.new.entries) }
     {
         self.marks.clear();
-        mark_staying(&self.entries, constraint, &mut self.marks);
-        let before = self.entries.len();
+        mark_staying(&self.list, constraint, &mut self.marks);
+        let before = self.list.len();
         let staying = count_marked(&self.marks);
         if staying == before {
             return 0;
         }
-        give_rest(&mut self.pool, &self.ids, &self.marks);
-        choose(&mut self.ids, &self.marks);
-        self.places.clear();
-        renumber(&mut self.entries, &self.marks, &mut self.places);
-        choose(&mut self.entries, &self.marks);
+        give_rest(&mut self.pool, &self.list, &self.marks);
+        self.list.keep(&self.marks);
         self.minimal.clear();
-        place_all(&mut self.minimal, &self.entries, &self.ids);
+        place_all(&mut self.minimal, &self.list);
         self.marking.clear();
         self.standing.clear();
-        append_all(&mut self.marking, &mut self.standing, &self.entries);
+        append_all(&mut self.marking, &mut self.standing, &self.list);
         (before - staying) as u32
     }
 
@@ -254,7 +246,7 @@ impl Log {
         ensures derivation { IsDerivation (the_network net.now) (the_entries self.new.entries) }
     {
         self.take_all_out();
-        if net.count() as u32 <= self.cap {
+        if net.count() as u32 <= self.list.cap() {
             self.push_bases(net);
         }
     }
@@ -262,24 +254,29 @@ impl Log {
     fn take_all_out(&mut self)
         ensures { self.new ≡ record self.old { entries = []; ids = [] } }
     {
-        clear(
-            &mut self.pool,
-            &mut self.minimal,
-            &mut self.entries,
-            &mut self.ids,
-        );
+        clear(&mut self.pool, &mut self.minimal, &mut self.list);
         self.marking.clear();
         self.standing.clear();
     }
 
-    /// The first place from `from` on whose entry's label marks p, or `u32::MAX` where there is none. `near`, a place of
-    /// that kind before `from`, makes it quick, and nothing else.
-    pub fn first_marked(&self, p: Prop, from: u32, near: u32) -> u32
-        requires { from ≤ length self.now.entries }
-        ensures first { IsFirst (IsMarkedAt self.now.entries p.index) from (length self.now.entries) result }
+    /// The first live place from `from` up to `upto` whose entry's label marks p, or one above `upto` where there is none.
+    /// `near`, a place before `from` whose entry's label marks p, makes it quick, and nothing else. Links are led past the dead
+    /// places that are met, so that most are met once.
+    pub fn first_marked(&mut self, p: Prop, from: u32, near: u32, upto: u32) -> u32
+        requires from { from ≤ length self.old.entries }
+        requires upto { upto < length self.old.entries }
+        ensures first { IsFirstLive (IsMarkedAt self.old.entries p.index) self.old.entries upto from result }
+        ensures stays { self.new ≡ self.old }
     {
-        self.marking
-            .first(p, from, self.start_marked(p, from, near))
+        let _room = self.len();
+        let mut start = self.start_marked(p, from, near);
+        let mut place = self.next_marked(p, start);
+        while self.is_passed(place, from, upto) {
+            let after = self.next_marked(p, place + 1);
+            start = self.step_marked(p, start, place, after);
+            place = after;
+        }
+        place
     }
 
     // Where to begin to look for the first place from `from` on that marks p.
@@ -297,14 +294,70 @@ impl Log {
         near + 1
     }
 
-    /// The first place from `from` on whose entry is at a time-point, or `u32::MAX` where there is none. `near`, a place of
-    /// that kind before `from`, makes it quick, and nothing else.
-    pub fn first_at(&self, x: NodeId, from: u32, near: u32) -> u32
-        requires from { from ≤ length self.now.entries }
-        requires node { x.0 < self.now.nodes }
-        ensures first { IsFirst (IsAtNode self.now.entries x.0) from (length self.now.entries) result }
+    // The place that comes next from there on in the chain of p, behind a place of it or at its start.
+    fn next_marked(&self, p: Prop, start: u32) -> u32
+        requires inside { start ≤ length self.now.entries }
+        requires behind { IsBehind (IsMarkedAt self.now.entries p.index) start }
+        ensures { IsNext (IsMarkedAt self.now.entries p.index) (IsLive self.now.entries) start (length self.now.entries) result }
     {
-        self.standing.first(x, from, self.start_at(x, from, near))
+        self.marking.next(p, start)
+    }
+
+    // Where the chain of p goes on to `after`, the place that comes behind `place`: at `start` still, if `place` is dead and so
+    // can be passed over, and else behind `place`.
+    fn step_marked(&mut self, p: Prop, start: u32, place: u32, after: u32) -> u32
+        requires inside { place < length self.old.entries }
+        requires behind { IsBehind (IsMarkedAt self.old.entries p.index) start }
+        requires here { IsNext (IsMarkedAt self.old.entries p.index) (IsLive self.old.entries) start (length self.old.entries) place }
+        requires next { IsNext (IsMarkedAt self.old.entries p.index) (IsLive self.old.entries) (place + 1) (length self.old.entries) after }
+        ensures stays { self.new ≡ self.old }
+        ensures behind { IsBehind (IsMarkedAt self.old.entries p.index) result }
+        ensures next { IsNext (IsMarkedAt self.old.entries p.index) (IsLive self.old.entries) result (length self.old.entries) after }
+    {
+        if after == NO_PLACE {
+            return place + 1;
+        }
+        if self.live(place) {
+            return place + 1;
+        }
+        self.marking.pass_over(p, start, after);
+        start
+    }
+
+    // Whether a walk from `from` up to `upto` goes on behind this place.
+    fn is_passed(&self, place: u32, from: u32, upto: u32) -> bool
+        requires { upto < length self.now.entries }
+        ensures yes { IsTrue result → (place < from) ⊎ ((place ≤ upto) × ¬ IsLive self.now.entries place) }
+        ensures no { result ≡ false → (from ≤ place) × (place ≤ upto → IsLive self.now.entries place) }
+    {
+        if place < from {
+            return true;
+        }
+        if place > upto {
+            return false;
+        }
+        !self.live(place)
+    }
+
+    /// The first live place from `from` up to `upto` whose entry is at a time-point, or one above `upto` where there is none.
+    /// `near`, a place before `from` whose entry is there, makes it quick, and nothing else. Links are led past the dead places
+    /// that are met, so that most are met once.
+    pub fn first_at(&mut self, x: NodeId, from: u32, near: u32, upto: u32) -> u32
+        requires from { from ≤ length self.old.entries }
+        requires upto { upto < length self.old.entries }
+        requires node { x.0 < self.old.nodes }
+        ensures first { IsFirstLive (IsAtNode self.old.entries x.0) self.old.entries upto from result }
+        ensures stays { self.new ≡ self.old }
+    {
+        let _room = self.len();
+        let mut start = self.start_at(x, from, near);
+        let mut place = self.next_at(x, start);
+        while self.is_passed(place, from, upto) {
+            let after = self.next_at(x, place + 1);
+            start = self.step_at(x, start, place, after);
+            place = after;
+        }
+        place
     }
 
     // Where to begin to look for the first place from `from` on at the time-point.
@@ -322,6 +375,38 @@ impl Log {
         near + 1
     }
 
+    // The place that comes next from there on in the chain of x, behind a place of it or at its start.
+    fn next_at(&self, x: NodeId, start: u32) -> u32
+        requires node { x.0 < self.now.nodes }
+        requires inside { start ≤ length self.now.entries }
+        requires behind { IsBehind (IsAtNode self.now.entries x.0) start }
+        ensures { IsNext (IsAtNode self.now.entries x.0) (IsLive self.now.entries) start (length self.now.entries) result }
+    {
+        self.standing.next(x, start)
+    }
+
+    // Where the chain of x goes on to `after`, the place that comes behind `place`: at `start` still, if `place` is dead and so
+    // can be passed over, and else behind `place`.
+    fn step_at(&mut self, x: NodeId, start: u32, place: u32, after: u32) -> u32
+        requires node { x.0 < self.old.nodes }
+        requires inside { place < length self.old.entries }
+        requires behind { IsBehind (IsAtNode self.old.entries x.0) start }
+        requires here { IsNext (IsAtNode self.old.entries x.0) (IsLive self.old.entries) start (length self.old.entries) place }
+        requires next { IsNext (IsAtNode self.old.entries x.0) (IsLive self.old.entries) (place + 1) (length self.old.entries) after }
+        ensures stays { self.new ≡ self.old }
+        ensures behind { IsBehind (IsAtNode self.old.entries x.0) result }
+        ensures next { IsNext (IsAtNode self.old.entries x.0) (IsLive self.old.entries) result (length self.old.entries) after }
+    {
+        if after == NO_PLACE {
+            return place + 1;
+        }
+        if self.live(place) {
+            return place + 1;
+        }
+        self.standing.pass_over(x, start, after);
+        start
+    }
+
     /// The id under which the pool keeps an entry.
     pub fn slot(&self, k: u32) -> SlotId
         requires { k < length self.now.entries }
@@ -329,14 +414,22 @@ impl Log {
         ensures ascending { (j : ℕ) (jd : SlotId) → k < j → slice_get self.now.ids j ≡ Some jd → result.birth < jd.birth }
         ensures born { result.birth < self.now.births }
     {
-        self.ids[k as usize]
+        self.list.id(k as usize)
+    }
+
+    /// The place of the entry that has this id, if one has.
+    pub fn place(&self, id: SlotId) -> Option<u32>
+        ensures place { IfSome result (λ k. slice_get self.now.ids k ≡ Some id) }
+        ensures none { IfNone result (¬ HasId self.now.ids id) }
+    {
+        self.list.place(id)
     }
 
     /// Whether some entry has this id. Once an entry went, its id names none ever after.
     pub fn holds(&self, id: SlotId) -> bool
         ensures holds { IsTrue result ↔ HasId self.now.ids id }
     {
-        self.pool.get(id).is_some()
+        self.place(id).is_some()
     }
 
     /// The pool, which holds the bound of each entry under its id, and nothing else.

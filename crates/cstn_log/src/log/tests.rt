@@ -219,6 +219,64 @@ fn what_is_left_without_a_constraint(rt: HostRuntime) -> Result<(), AllocError> 
     Ok(())
 }
 
+#[test]
+fn premises_keep_to_their_entries(rt: HostRuntime) -> Result<(), AllocError> {
+    let net = branch(rt.alloc())?.close().expect(&rt, "a network");
+    let mut log = started(rt.alloc(), &net, 8)?;
+    assert!(rt; push_chain(&net, &mut log, 0, 0));
+    assert!(rt; push_chain(&net, &mut log, 2, 0));
+    assert!(rt; push_chain(&net, &mut log, 3, 0));
+    assert!(rt; push_wait(&net, &mut log, 5, 3));
+    assert!(rt; push_chain(&net, &mut log, 1, 6));
+    let ids = [slot_at(&log, 4), slot_at(&log, 6)];
+    assert_eq!(rt; taken_out(&mut log, 2), 1);
+    assert_eq!(rt; place_of(&log, ids[0]), None);
+    assert_eq!(rt; place_of(&log, ids[1]), Some(5));
+    assert_eq!(rt;
+        why_at(&log, 5),
+        Some(Why::Wait {
+            seen: 4,
+            premise: 3
+        })
+    );
+    assert_eq!(rt;
+        why_at(&log, 6),
+        Some(Why::Chain {
+            constraint: 1,
+            premise: 5
+        })
+    );
+    assert_eq!(rt; taken_out(&mut log, 1), 1);
+    assert!(rt; push_chain(&net, &mut log, 1, 5));
+    assert_eq!(rt;
+        why_at(&log, 6),
+        Some(Why::Chain {
+            constraint: 1,
+            premise: 5
+        })
+    );
+    assert_eq!(rt;
+        why_at(&log, 5),
+        Some(Why::Wait {
+            seen: 4,
+            premise: 3
+        })
+    );
+    Ok(())
+}
+
+fn why_at(log: &Log, k: u32) -> Option<Why> {
+    if k < log.len() {
+        Some(log.entry(k).why)
+    } else {
+        None
+    }
+}
+
+fn place_of(log: &Log, id: Option<SlotId>) -> Option<u32> {
+    log.place(id?)
+}
+
 fn slot_at(log: &Log, k: u32) -> Option<SlotId> {
     if k < log.len() {
         Some(log.slot(k))

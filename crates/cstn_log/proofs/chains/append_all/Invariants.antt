@@ -4,11 +4,11 @@ use Rattle.cstn_log.proofs.chains.append_all.Given as goal
 
 abbrev pub invariant-loop-k : goal.invariant-loop-k
 invariant-loop-k l = record {
-  end : l.k-end ≡ length l.steps;
-  marks : AreMarkChains (take l.k l.steps) l.marks.links.items l.marks.lasts.items;
-  nodes : AreNodeChains (length l.fn.nodes.lasts.items) (take l.k l.steps) l.nodes.links.items l.nodes.lasts.items;
+  end : l.k-end ≡ length l.list.entries;
+  marks : AreMarkChains (take l.k l.list.entries) l.marks.links.cells l.marks.lasts.items;
+  nodes : AreNodeChains (length l.fn.nodes.lasts.items) (take l.k l.list.entries) l.nodes.links.items l.nodes.lasts.items;
   size : length l.nodes.lasts.items ≡ length l.fn.nodes.lasts.items;
-  for_marks : vec_capacity l.fn.marks.links ≤ vec_capacity l.marks.links;
+  for_marks : l.fn.marks.links.room ≤ l.marks.links.room;
   for_ends : vec_capacity l.fn.marks.lasts ≤ vec_capacity l.marks.lasts;
   for_nodes : vec_capacity l.fn.nodes.links ≤ vec_capacity l.nodes.links;
 }

@@ -1,6 +1,4 @@
-use Rattle.std.proofs.Common.{ℕ, suc, ◌≡◌, ◌-◌, Some, get_or, arith, subst, ◌∙◌}
-use Rattle.std.specs.Prelude.{slice_get}
-use Rattle.std.proofs.lemmas.Option.{slice_get-get_or}
+use Rattle.std.proofs.Common.{ℕ, suc, ◌≡◌, ◌-◌, arith, subst, ◌∙◌}
 use Rattle.cstn_log.specs.Entries.{the_entries}
 use Rattle.cstn_log.specs.Cuts.{with_ancestors, with_premises}
 use Rattle.cstn_log.proofs.MarkLemmas.{length_premises}
@@ -9,13 +7,12 @@ use Rattle.cstn_log.proofs.cutting.mark_ancestors.Goals as goal
 
 pub loop-k-preserved-then-marks-k : goal.loop-k-preserved-then-marks-k
 loop-k-preserved-then-marks-k c =
-    let L = c.args.entries.now in
+    let L = c.args.list.now.entries in
     let k = c.loop-k.k - 1 in
     let next : suc k ≡ c.loop-k.k = omega (arith, c.loop-k-test.true) in
     let marks = c.loop-k.marks in
-    let e = get_or L k c.index-entries-k.result in
-    let there : slice_get L k ≡ Some e = slice_get-get_or L k c.index-entries-k.result (omega (arith, c.loop-k-test.true, c.loop-k.invariant.inside)) in
-    let step = below_marked L k e marks there c.if-marks-k.true in
+    let e = c.entry.result in
+    let step = below_marked L k e marks c.entry.ensures.entry c.if-marks-k.true in
     let reached = subst (λ (n : ℕ). with_ancestors (the_entries L) k (with_premises e.why marks) ≡ with_ancestors (the_entries L) n marks) next step in
     rw c.mark_premises.ensures (record {
       inside = omega (arith, c.loop-k.invariant.inside);

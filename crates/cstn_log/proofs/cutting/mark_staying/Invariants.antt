@@ -6,8 +6,8 @@ use Rattle.cstn_log.proofs.cutting.mark_staying.Given as goal
 
 abbrev pub invariant-loop-k : goal.invariant-loop-k
 invariant-loop-k l = record {
-  end : l.k-end ≡ length l.entries;
+  end : l.k-end ≡ length l.list.entries;
   size : length l.marks.items ≡ l.k;
   room : vec_capacity l.fn.marks ≤ vec_capacity l.marks;
-  reach : marked_staying l.constraint l.marks.items (drop l.k (the_entries l.entries)) ≡ marked_staying l.constraint [] (the_entries l.entries);
+  reach : marked_staying l.constraint l.marks.items (drop l.k (the_entries l.list.entries)) ≡ marked_staying l.constraint [] (the_entries l.list.entries);
 }

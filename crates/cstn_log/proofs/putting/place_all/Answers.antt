@@ -1,6 +1,4 @@
-use Rattle.std.proofs.Common.{◌≡◌, ◌+◌, Some, get_or, length, arith, refl, sym, ◌∙◌, ap, length-set}
-use Rattle.std.specs.Prelude.{slice_get}
-use Rattle.std.proofs.lemmas.Option.{slice_get-get_or}
+use Rattle.std.proofs.Common.{length, arith, refl, ◌∙◌, ap, length-set}
 use Rattle.cstn_pool.specs.declared.slot_id.SlotId.{SlotId}
 use Rattle.cstn_log.proofs.KeptLemmas.{tabled_empty}
 use Rattle.cstn_log.proofs.PutLemmas.{place_free, place_inside, place_birth, place_uncovered, place_step}
@@ -10,53 +8,53 @@ abbrev none : SlotId
 none = record { slot = 0; birth = 0 }
 
 pub loop-k-init : goal.loop-k-init
-loop-k-init c = record { end = refl; tabled = tabled_empty c.args.minimal.now.table c.requires.empty; room = refl; nodes = refl }
+loop-k-init c = record { end = omega (arith, c.len-k-end.ensures.len, c.len-k-end.ensures.ids); tabled = tabled_empty c.args.minimal.now.table c.requires.empty; room = refl; nodes = refl }
 
 pub place-requires-clause-uncovered : goal.place-requires-clause-uncovered
 place-requires-clause-uncovered c =
     let k = c.loop-k.k in
     let p = c.requires.pooled in
-    let e = get_or c.args.entries.now k c.index-entries-k.result in
-    let at' : slice_get c.args.entries.now k ≡ Some e = slice_get-get_or c.args.entries.now k c.index-entries-k.result (omega (arith, c.loop-k-test.true, c.requires.size)) in
-    place_uncovered p.0 p.1 c.args.entries.now c.args.ids.now c.loop-k.minimal.table k (get_or c.args.ids.now k none) p.2 c.loop-k.invariant.tabled (slice_get-get_or c.args.ids.now k none c.loop-k-test.true) e c.requires.new at'
+    let e = c.entry.result in
+    let at' = c.entry.ensures.entry in
+    place_uncovered p.0 p.1 c.args.list.now.entries c.args.list.now.ids c.loop-k.minimal.table k c.id.result p.2 c.loop-k.invariant.tabled c.id.ensures e c.requires.new at'
 
 pub place-requires-clause-node : goal.place-requires-clause-node
 place-requires-clause-node c =
     let k = c.loop-k.k in
-    let e = get_or c.args.entries.now k c.index-entries-k.result in
-    let at' : slice_get c.args.entries.now k ≡ Some e = slice_get-get_or c.args.entries.now k c.index-entries-k.result (omega (arith, c.loop-k-test.true, c.requires.size)) in
+    let e = c.entry.result in
+    let at' = c.entry.ensures.entry in
     rw c.loop-k.invariant.nodes (c.requires.nodes k e at')
 
 pub place-requires-clause-slot : goal.place-requires-clause-slot
 place-requires-clause-slot c =
     let k = c.loop-k.k in
     let p = c.requires.pooled in
-    let inside = place_inside p.0 p.1 c.args.entries.now c.args.ids.now c.loop-k.minimal.table k (get_or c.args.ids.now k none) p.2 c.loop-k.invariant.tabled (slice_get-get_or c.args.ids.now k none c.loop-k-test.true) in
+    let inside = place_inside p.0 p.1 c.args.list.now.entries c.args.list.now.ids c.loop-k.minimal.table k c.id.result p.2 c.loop-k.invariant.tabled c.id.ensures in
     omega (arith, inside, p.3, c.loop-k.invariant.room)
 
 pub place-requires-clause-free : goal.place-requires-clause-free
 place-requires-clause-free c =
     let k = c.loop-k.k in
     let p = c.requires.pooled in
-    place_free p.0 p.1 c.args.entries.now c.args.ids.now c.loop-k.minimal.table k (get_or c.args.ids.now k none) p.2 c.loop-k.invariant.tabled (slice_get-get_or c.args.ids.now k none c.loop-k-test.true)
+    place_free p.0 p.1 c.args.list.now.entries c.args.list.now.ids c.loop-k.minimal.table k c.id.result p.2 c.loop-k.invariant.tabled c.id.ensures
 
 pub place-requires-clause-birth : goal.place-requires-clause-birth
 place-requires-clause-birth c =
     let k = c.loop-k.k in
     let p = c.requires.pooled in
-    place_birth p.0 p.1 c.args.entries.now c.args.ids.now c.loop-k.minimal.table k (get_or c.args.ids.now k none) p.2 c.loop-k.invariant.tabled (slice_get-get_or c.args.ids.now k none c.loop-k-test.true)
+    place_birth p.0 p.1 c.args.list.now.entries c.args.list.now.ids c.loop-k.minimal.table k c.id.result p.2 c.loop-k.invariant.tabled c.id.ensures
 
 pub loop-k-preserved : goal.loop-k-preserved
 loop-k-preserved c =
     let k = c.loop-k.k in
     let p = c.requires.pooled in
     let was = c.loop-k.invariant in
-    let e = get_or c.args.entries.now k c.index-entries-k.result in
-    let at' : slice_get c.args.entries.now k ≡ Some e = slice_get-get_or c.args.entries.now k c.index-entries-k.result (omega (arith, c.loop-k-test.true, c.requires.size)) in
+    let e = c.entry.result in
+    let at' = c.entry.ensures.entry in
     let placed = c.place.ensures.placed in
-    let step = place_step p.0 p.1 c.args.entries.now c.args.ids.now c.loop-k.minimal.table k (get_or c.args.ids.now k none) p.2 was.tabled (slice_get-get_or c.args.ids.now k none c.loop-k-test.true) e placed.0 at' (omega (arith, p.3, was.room)) placed.1 in
+    let step = place_step p.0 p.1 c.args.list.now.entries c.args.list.now.ids c.loop-k.minimal.table k c.id.result p.2 was.tabled c.id.ensures e placed.0 at' (omega (arith, p.3, was.room)) placed.1 in
     record {
-      end = refl;
+      end = was.end;
       tabled = rw placed.2 step;
       room = ap (λ v. length v.table) placed.2 ∙ length-set placed.0 _ _ ∙ placed.1.size ∙ was.room;
       nodes = ap (λ v. v.nodes) placed.2 ∙ was.nodes;

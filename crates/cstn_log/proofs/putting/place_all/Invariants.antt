@@ -4,8 +4,8 @@ use Rattle.cstn_log.proofs.putting.place_all.Given as goal
 
 abbrev pub invariant-loop-k : goal.invariant-loop-k
 invariant-loop-k l = record {
-  end : l.k-end ≡ length l.ids;
-  tabled : IsTabled l.minimal.table (take l.k l.entries) (take l.k l.ids);
+  end : l.k-end ≡ length l.list.ids;
+  tabled : IsTabled l.minimal.table (take l.k l.list.entries) (take l.k l.list.ids);
   room : length l.minimal.table ≡ length l.fn.minimal.table;
   nodes : l.minimal.nodes ≡ l.fn.minimal.nodes;
 }

@@ -6,8 +6,8 @@ use Rattle.cstn_log.proofs.chains.MarkChains.append.Given as goal
 abbrev pub invariant-loop-p : goal.invariant-loop-p
 invariant-loop-p l = record {
   within : l.index ≤ 52;
-  chains : (entries : List Entry) → AreMarkChains entries l.fn.self.links.items l.fn.self.lasts.items → length entries ≡ l.place → AreMarkChainsUpto entries l.e l.index l.self.links.items l.self.lasts.items;
-  room : vec_capacity l.fn.self.links ≤ vec_capacity l.self.links;
+  chains : (entries : List Entry) → AreMarkChains entries l.fn.self.links.cells l.fn.self.lasts.items → length entries ≡ l.place → AreMarkChainsUpto entries l.e l.index l.self.links.cells l.self.lasts.items;
+  room : l.fn.self.links.room ≤ l.self.links.room;
   lasts : vec_capacity l.fn.self.lasts ≤ vec_capacity l.self.lasts;
 }
 

@@ -1,5 +1,5 @@
-use Rattle.std.proofs.Common.{arith, ap, sym, ◌∙◌, length, ◌<◌, ◌≡◌, ◌++◌, ◌∷◌, [], set, get_or}
-use Rattle.cstn_log.specs.Chains.{no_place, node_cell}
+use Rattle.std.proofs.Common.{arith, length, ◌<◌}
+use Rattle.cstn_log.specs.Chains.{no_place}
 use Rattle.cstn_log.proofs.NodeChainLemmas.{nodes_more}
 use Rattle.cstn_log.proofs.chains.NodeChains.append.Goals as goal
 

@@ -1,20 +1,15 @@
 use Rattle.std.proofs.Common.{arith}
 use Rattle.std.proofs.lemmas.List.{length-replicate}
-use Rattle.std.proofs.lemmas.Option.{none-some}
 use Rattle.cstn_log.proofs.KeptLemmas.{kept_empty, no_slot}
 use Rattle.cstn_log.proofs.log.Log.empty.Goals as goal
 
 pub invariant_of-result : goal.invariant_of-result
 invariant_of-result c =
-    rw (c.in_ok-pool.ensures.empty, c.in_ok-minimal.ensures.empty, c.in_ok-entries.ensures.items, c.in_ok-ids.ensures.items) (record {
+    rw (c.in_ok-pool.ensures.empty, c.in_ok-minimal.ensures.empty, c.in_ok-list.ensures) (record {
       kept = kept_empty c.args.cap 0 c.args.nodes;
-      earlier = record { below = λ k e there. absurd (none-some e there) };
       room = record {
         size = omega (arith, length-replicate c.args.cap no_slot);
-        for_entries = omega (arith, c.in_ok-entries.ensures.capacity, length-replicate c.args.cap no_slot);
-        for_ids = omega (arith, c.in_ok-ids.ensures.capacity, length-replicate c.args.cap no_slot);
         for_marks = omega (arith, c.in_ok-marks.ensures.capacity, length-replicate c.args.cap no_slot);
-        for_places = omega (arith, c.in_ok-places.ensures.capacity, length-replicate c.args.cap no_slot);
         few = omega (arith, c.requires, length-replicate c.args.cap no_slot);
       };
       indexed = record {

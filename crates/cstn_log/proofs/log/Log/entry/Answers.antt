@@ -1,30 +1,22 @@
-use Rattle.std.proofs.Common.{◌≡◌, ◌<◌, ℕ, length, Some, subst, sym}
+use Rattle.std.proofs.Common.{◌≡◌, ◌<◌, ℕ, Some, subst}
 use Rattle.std.specs.Prelude.{slice_get}
 use Rattle.cstn_rules.specs.declared.entries.Entry.{Entry}
 use Rattle.cstn_rules.specs.Read.{the_entry}
 use Rattle.cstn_rules.proofs.Derived.{each_holds}
 use Rattle.cstn_log.specs.Entries.{State, the_entries}
-use Rattle.cstn_log.specs.Cuts.{AllEarlier}
-use Rattle.cstn_log.proofs.KeptLemmas.{one_read}
 use Rattle.cstn_log.proofs.StepLemmas.{entry_read}
 use Rattle.cstn_log.proofs.log.Log.entry.Goals as goal
 
 pub returns-clause-entry : goal.returns-clause-entry
 returns-clause-entry c =
-    let inside = subst (λ (v : State). c.args.k < length v.entries) (sym c.self.view_is) c.requires in
-    subst (λ (v : State). slice_get v.entries c.args.k ≡ Some c.index.result.now) c.self.view_is (one_read c.self.inside.entries.items c.args.k c.index.result.now inside c.index.ensures)
+    subst (λ (v : State). slice_get v.entries c.args.k ≡ Some c.entry.result) c.self.view_is c.entry.ensures.entry
 
 pub returns-clause-node : goal.returns-clause-node
 returns-clause-node c =
     let all = subst (λ (v : State). (k : ℕ) (e : Entry) → slice_get v.entries k ≡ Some e → e.bound.node.0 < v.nodes) c.self.view_is c.self.invariant.kept.inside in
-    all c.args.k c.index.result.now (returns-clause-entry c)
-
-pub returns-clause-premises : goal.returns-clause-premises
-returns-clause-premises c =
-    let all = subst (λ (v : State). AllEarlier (the_entries v.entries)) c.self.view_is c.self.invariant.earlier in
-    all.below c.args.k (the_entry c.index.result.now) (entry_read c.args.self.now.entries c.args.k c.index.result.now (returns-clause-entry c))
+    all c.args.k c.entry.result (returns-clause-entry c)
 
 pub returns-clause-holds : goal.returns-clause-holds
 returns-clause-holds c = λ net table good strategy derivation.
-    each_holds net table (the_entries c.args.self.now.entries) good strategy derivation c.args.k (the_entry c.index.result.now)
-    (entry_read c.args.self.now.entries c.args.k c.index.result.now (returns-clause-entry c))
+    each_holds net table (the_entries c.args.self.now.entries) good strategy derivation c.args.k (the_entry c.entry.result)
+    (entry_read c.args.self.now.entries c.args.k c.entry.result (returns-clause-entry c))

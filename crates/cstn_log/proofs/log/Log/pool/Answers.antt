@@ -1,6 +1,4 @@
 use Rattle.std.proofs.Common.{◌≡◌, ℕ, Some, None, get_or, subst}
-use Rattle.std.specs.Prelude.{slice_get}
-use Rattle.cstn_pool.specs.declared.slot_id.SlotId.{SlotId}
 use Rattle.cstn_rules.specs.declared.entries.Entry.{Entry}
 use Rattle.cstn_log.specs.Entries.{State}
 use Rattle.cstn_log.specs.Kept.{AreHeld, IsIdAt}

@@ -1,4 +1,4 @@
-use Rattle.std.proofs.Common.{◌≡◌, ◌++◌, ◌∷◌, [], ◌+◌, ◌<◌, ℕ, length, Some, None, arith, ap, subst, sym, ◌∙◌, length-set, refl}
+use Rattle.std.proofs.Common.{◌≡◌, ◌++◌, ◌∷◌, [], ◌+◌, ◌<◌, ℕ, length, Some, None, arith, ap, subst, sym, ◌∙◌, length-set}
 use Rattle.std.specs.Prelude.{slice_get}
 use Rattle.std.proofs.lemmas.Option.{slice_get_within}
 use Rattle.cstn_label.specs.Read.{the_bound}
@@ -10,7 +10,6 @@ use Rattle.cstn_log.specs.Entries.{State, the_entries, IsCoveredBy}
 use Rattle.cstn_log.proofs.KeptLemmas.{few, unplaced, uncovered_there, born_before}
 use Rattle.cstn_log.proofs.PushLemmas.{push_step, slot_empty}
 use Rattle.cstn_log.proofs.DerivedLemmas.{follows_inside, pushed_derivation}
-use Rattle.cstn_log.proofs.MarkLemmas.{follows_below, more_earlier}
 use Rattle.cstn_log.proofs.log.Log.push.Goals as goal
 
 pub prove-unreachable-requires : goal.prove-unreachable-requires
@@ -22,7 +21,7 @@ prove-unreachable-requires c =
 
 pub returns-in_err-id-clause-derivation : goal.returns-in_err-id-clause-derivation
 returns-in_err-id-clause-derivation c =
-    subst (λ (v : State). IsDerivation (the_network c.args.net.now) (the_entries v.entries) → IsDerivation (the_network c.args.net.now) (the_entries c.self.inside.entries.items)) c.self.view_is (λ derivation. derivation)
+    subst (λ (v : State). IsDerivation (the_network c.args.net.now) (the_entries v.entries) → IsDerivation (the_network c.args.net.now) (the_entries c.self.inside.list.entries)) c.self.view_is (λ derivation. derivation)
 
 pub place-requires-clause-uncovered : goal.place-requires-clause-uncovered
 place-requires-clause-uncovered c =
@@ -40,6 +39,9 @@ pub place-requires-clause-birth : goal.place-requires-clause-birth
 place-requires-clause-birth c =
     rw c.in_ok-id.ensures.birth (born_before _ _ _ c.self.inside.pool.births c.self.invariant.kept.tabled c.self.invariant.kept.pooled.before)
 
+pub push-requires-clause-free : goal.push-requires-clause-free
+push-requires-clause-free c = slot_empty _ _ _ _ c.in_ok-id.id c.self.invariant.kept.pooled c.in_ok-id.ensures.empty
+
 pub overflow_cast-place : goal.overflow_cast-place
 overflow_cast-place c =
     let room = few _ _ _ _ c.self.invariant.kept.pooled in
@@ -50,27 +52,23 @@ invariant_of-self-2 c =
     let id = c.in_ok-id.id in
     let taken = c.in_ok-id.ensures in
     let placed = c.place.ensures.placed in
-    let longer = rw c.unwrap.ensures at c.push.ensures.items in
-    let pushed = rw c.unwrap-2.ensures at c.push-2.ensures.items in
+    let longer = ap (λ v. v.entries) c.push.ensures in
+    let pushed = ap (λ v. v.ids) c.push.ensures in
     let size : length c.take.new.self.slots ≡ length c.self.inside.pool.slots = ap (λ v. length v.slots) taken.taken ∙ length-set c.self.inside.pool.slots id.slot _ in
     let uncovered = subst (λ (v : State). ¬ IsCoveredBy v.entries c.args.e.bound) (sym c.self.view_is) c.requires.uncovered in
     let nodes = ap (λ v. v.nodes) c.self.view_is in
     let room = c.self.invariant.room in
-    let L = c.self.inside.entries.items in
+    let L = c.self.inside.list.entries in
     let follows = subst (λ (v : State). Follows (the_network c.args.net.now) (the_entries v.entries) (length v.entries) c.args.e.why (the_bound c.args.e.bound)) (sym c.self.view_is) c.requires.follows in
     let index = c.self.invariant.indexed in
     let ends : length c.self.inside.standing.lasts.items ≡ c.self.inside.minimal.nodes = index.stand.lasts_size in
     let same : c.place.new.self.nodes ≡ c.self.inside.minimal.nodes = ap (λ v. v.nodes) placed.2 in
-    let long : length L ≡ c.len-place.result = omega (arith, c.len-place.ensures, c.self.inside.entries.ok) in
+    let long : length L ≡ c.len-place.result = omega (arith, c.len-place.ensures.len) in
     record {
-      kept = push_step c.self.inside.pool.slots c.self.inside.pool.births c.self.inside.minimal placed.0 L c.push.new.self.items c.self.inside.ids.items id c.args.e c.take.new.self c.place.new.self c.push-2.new.self.items c.self.invariant.kept taken.empty taken.birth taken.taken placed.1 placed.2 longer pushed uncovered (omega (arith, nodes, c.requires.net, c.if-prove.false, c.count-count.ensures.count));
-      earlier = rw longer (more_earlier L c.args.e c.self.invariant.earlier (follows_below (the_network c.args.net.now) _ _ c.args.e.why (the_bound c.args.e.bound) follows));
+      kept = push_step c.self.inside.pool.slots c.self.inside.pool.births c.self.inside.minimal placed.0 L c.push.new.self.entries c.self.inside.list.ids id c.args.e c.take.new.self c.place.new.self c.push.new.self.ids c.self.invariant.kept taken.empty taken.birth taken.taken placed.1 placed.2 longer pushed uncovered (omega (arith, nodes, c.requires.net, c.if-prove.false, c.count-count.ensures.count));
       room = record {
-        size = room.size ∙ sym size;
-        for_entries = omega (arith, size, c.push.ensures.lower_bound, room.for_entries);
-        for_ids = omega (arith, size, c.push-2.ensures.lower_bound, room.for_ids);
+        size = ap (λ v. v.cap) c.push.ensures ∙ room.size ∙ sym size;
         for_marks = omega (arith, size, room.for_marks);
-        for_places = omega (arith, size, room.for_places);
         few = omega (arith, size, room.few);
       };
       indexed = record {
@@ -87,7 +85,7 @@ invariant_of-self-2 c =
 
 pub append-requires-clause-chains : goal.append-requires-clause-chains
 append-requires-clause-chains c =
-    (c.self.inside.entries.items, c.self.invariant.indexed.marked, omega (arith, c.len-place.ensures, c.self.inside.entries.ok))
+    (c.self.inside.list.entries, c.self.invariant.indexed.marked, omega (arith, c.len-place.ensures.len))
 
 -- the id of a slot and a birth
 abbrev the_id : ℕ → ℕ → SlotId
@@ -100,15 +98,16 @@ pub returns-clause-pushed : goal.returns-clause-pushed
 returns-clause-pushed c = λ _.
     let id = c.in_ok-id.id in
     let taken = c.in_ok-id.ensures in
-    let longer = rw c.unwrap.ensures at c.push.ensures.items in
-    let pushed = rw c.unwrap-2.ensures at c.push-2.ensures.items in
+    let longer = ap (λ v. v.entries) c.push.ensures in
+    let pushed = ap (λ v. v.ids) c.push.ensures in
     let nodes = ap (λ v. v.nodes) c.place.ensures.placed.2 in
+    let cap = ap (λ v. v.cap) c.push.ensures in
     let births = ap (λ v. v.births) taken.taken in
     let id_is : id ≡ record { slot = id.slot; birth = c.self.inside.pool.births } = ap (λ (n : ℕ). the_id id.slot n) taken.birth in
-    (id.slot, rw (← c.self.view_is, longer, pushed, nodes, births) (ap (λ (y : SlotId). the_state (record { entries = c.self.inside.entries.items; ids = c.self.inside.ids.items; births = c.self.inside.pool.births; cap = c.self.inside.cap; nodes = c.self.inside.minimal.nodes }) (c.self.inside.pool.births + 1) c.args.e y) id_is))
+    (id.slot, rw (← c.self.view_is, longer, pushed, cap, nodes, births) (ap (λ (y : SlotId). the_state (record { entries = c.self.inside.list.entries; ids = c.self.inside.list.ids; births = c.self.inside.pool.births; cap = c.self.inside.list.cap; nodes = c.self.inside.minimal.nodes }) (c.self.inside.pool.births + 1) c.args.e y) id_is))
 
 pub returns-clause-derivation : goal.returns-clause-derivation
 returns-clause-derivation c =
-    let longer = rw c.unwrap.ensures at c.push.ensures.items in
-    let back = subst (λ (v : State). c.push.new.self.items ≡ v.entries ++ c.args.e ∷ []) c.self.view_is longer in
+    let longer = ap (λ v. v.entries) c.push.ensures in
+    let back = subst (λ (v : State). c.push.new.self.entries ≡ v.entries ++ c.args.e ∷ []) c.self.view_is longer in
     pushed_derivation (the_network c.args.net.now) c.args.self.now.entries _ c.args.e back c.requires.follows

@@ -1,9 +1,9 @@
-use Rattle.std.proofs.Common.{◌≡◌, ◌+◌, suc, refl, Some, length, set, arith, sym, ◌∙◌}
+use Rattle.std.proofs.Common.{◌≡◌, ◌+◌, suc, Some, arith, ◌∙◌}
 use Rattle.std.specs.Prelude.{slice_get}
 use Rattle.cstn_log.proofs.KeptLemmas.{one_read}
 use Rattle.cstn_log.proofs.ChoiceLemmas.{choosing_marked, choosing_unmarked, choosing_none, choosing_done}
-use Rattle.cstn_log.proofs.cutting.choose.Goals.{then-marks-k, else-marks-k}
-use Rattle.cstn_log.proofs.cutting.choose.Goals as goal
+use Rattle.cstn_log.proofs.list.choose.Goals.{then-marks-k, else-marks-k}
+use Rattle.cstn_log.proofs.list.choose.Goals as goal
 
 pub loop-k-preserved : goal.loop-k-preserved
 loop-k-preserved g c =

@@ -1,7 +1,7 @@
 use Rattle.std.proofs.Common.{◌≡◌, ◌≤◌, length}
 use Rattle.std.specs.Prelude.{vec_capacity}
 use Rattle.cstn_log.proofs.ChoiceLemmas.{IsChoosing}
-use Rattle.cstn_log.proofs.cutting.choose.Given as goal
+use Rattle.cstn_log.proofs.list.choose.Given as goal
 
 abbrev pub invariant-loop-k : goal.invariant-loop-k
 invariant-loop-k g l = record {
