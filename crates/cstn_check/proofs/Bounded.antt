@@ -19,7 +19,7 @@ use Rattle.cstn_net.specs.Networks.{Network, IsNetwork, IsConstraint, Constraint
 use Rattle.cstn_label.specs.Bounds.{Bound, Dominates}
 use Rattle.cstn_rules.specs.Rules.{finished}
 use Rattle.cstn_rules.specs.Derivations.{Entry}
-use Rattle.cstn_check.specs.Kept.{AllGood, IsGood, IsKept, IsRanged}
+use Rattle.cstn_check.specs.Kept.{AllGood, IsBoundOf, IsKept, IsRanged}
 use Rattle.cstn_log.proofs.FinishLemmas.{limit_deadline}
 use Rattle.cstn_check.specs.Tests.{dominates, is_plain, is_absent, chain_of, wait_for as wait_by, wait_of}
 use Rattle.cstn_check.specs.Growth.{Instance, why_of, is_covered, is_refuted, of_one, of_two, conclusion, grown, log_of, observed, most_entries}
@@ -112,7 +112,7 @@ moment_lt net b r =
     let m : pos (moment b.least) ≤ℤ pos (limit net b.node + 1) = subst (λ z. z ≤ℤ pos (limit net b.node + 1)) (sym e) h in
     omega (arith, ints)
 
-code_lt : (net : Network) (b : Bound) → IsGood net b → IsRanged net b → code net b < most_entries net
+code_lt : (net : Network) (b : Bound) → IsBoundOf net b → IsRanged net b → code net b < most_entries net
 unfolding code
 code_lt net b good r = digits_lt (digits_lt good.node (moment_lt net b r)) (label_code_lt b.label net.observes)
 
@@ -120,7 +120,7 @@ same_within : (m n : Mark) → m ≡ n → IsMarkWithin m n
 same_within m n e = grind arith
 
 -- two bounds of one number dominate each other
-code_dominates : (net : Network) (a b : Bound) → IsGood net a → IsRanged net a → IsRanged net b → code net a ≡ code net b → Dominates a b
+code_dominates : (net : Network) (a b : Bound) → IsBoundOf net a → IsRanged net a → IsRanged net b → code net a ≡ code net b → Dominates a b
 unfolding code
 code_dominates net a b good r t e =
     let one = parts_same (a.node * (net.deadline + 2) + moment a.least) (label_code a.label net.observes)
@@ -189,7 +189,7 @@ covered_at (x ∷ xs) zero e r there d =
 covered_at (x ∷ xs) (suc k) e r there d = or_right (dominates x.bound r) (is_covered xs r) (covered_at xs k e r there d)
 
 module _ (net : Network) (wf : IsNetwork net) (letters : HasLetters net) where
-  good_conclusion : (L : List Entry) (i : Instance) (r : Bound) → OfNetwork net i → AllGood net L → conclusion net L i ≡ Some r → IsGood net r
+  good_conclusion : (L : List Entry) (i : Instance) (r : Bound) → OfNetwork net i → AllGood net L → conclusion net L i ≡ Some r → IsBoundOf net r
   good_conclusion L (chain_at c j) r of good e =
       conclusion_good net L (chain_at c j) r good (All-contains (IsConstraint net) net.constraints c wf.constraints of) e
   good_conclusion L (wait_at i j) r of good e = conclusion_good net L (wait_at i j) r good tt e

@@ -14,7 +14,7 @@ use Rattle.cstn_rules.specs.Rules.{finished, IsChain, IsWait}
 use Rattle.cstn_rules.specs.Derivations.{Entry, IsEarlier, Follows, IsDerivation}
 use Rattle.cstn_rules.specs.declared.entries.Why.{Why}
 use Rattle.cstn_rules.specs.declared.entries.Why.TheVariants.{Base, Chain, Wait}
-use Rattle.cstn_check.specs.Kept.{AllGood, IsGood}
+use Rattle.cstn_check.specs.Kept.{AllGood, IsBoundOf}
 use Rattle.cstn_check.specs.Tests.{is_plain, is_absent, chain_of, wait_for as wait_by, wait_of}
 use Rattle.cstn_check.specs.Growth.{Instance, why_of, is_covered, is_refuted, premises_live, of_one, of_two, conclusion, with_conclusion, step, tried, turn, grown}
 use Rattle.cstn_log.specs.Entries.{bases}
@@ -104,7 +104,7 @@ small_of net a letters h = λ p past. elim (absent_or_not (a p)) [
   | inr marked ↦ let o = h p marked in let l = letters o.0 p o.1 in absurd (omega arith)
 ]
 
-pub chain_is : (net : Network) (c : Constraint) (b r : Bound) → HasLetters net → IsConstraint net c → IsGood net b →
+pub chain_is : (net : Network) (c : Constraint) (b r : Bound) → HasLetters net → IsConstraint net c → IsBoundOf net b →
     chain_of net c b ≡ Some r → IsChain net c b r
 chain_is net c b r letters good_c good e =
     let made = finished net (record { node = c.from; least = b.least -ℤ c.most; label = joined b.label c.label }) in

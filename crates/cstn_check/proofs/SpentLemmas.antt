@@ -1,6 +1,5 @@
 -- Spent instances add nothing, and stay spent.
-use Rattle.std.proofs.Common.{ℕ, zero, suc, ◌≡◌, inl, inr, ◌+◌, ◌<◌, ◌≤◌, Bool, true, false, not, cond, ◌&&◌, List, [], ◌∷◌, ◌++◌, length, map, take, get_or, Option, Some, None, arith, refl, sym, subst, ap, ◌∙◌}
-use Rattle.std.specs.Prelude.{slice_get}
+use Rattle.std.proofs.Common.{ℕ, zero, suc, ◌≡◌, inl, inr, ◌+◌, ◌<◌, ◌≤◌, Bool, true, false, not, cond, ◌&&◌, List, [], ◌∷◌, length, map, take, get_or, Option, Some, None, arith, refl, sym, subst, ap, ◌∙◌}
 use Rattle.std.specs.List.{Contains}
 use Rattle.std.proofs.lemmas.Bool.{cases_Bool, cases_lt, cond-true, cond-false}
 use Rattle.std.proofs.lemmas.List.{length-map}
@@ -11,13 +10,13 @@ use Rattle.cstn_label.specs.Bounds.{Bound}
 use Rattle.cstn_rules.specs.Derivations.{Entry}
 use Rattle.cstn_rules.specs.Read.{the_entry}
 use Rattle.cstn_log.specs.Entries.{State, the_entries}
-use Rattle.cstn_check.specs.Growth.{Instance, is_covered, is_refuted, premises_live, conclusion, with_conclusion, step, tried, waits_below, turn, grown, grow, most_entries}
+use Rattle.cstn_check.specs.Growth.{Instance, is_covered, is_refuted, premises_live, conclusion, with_conclusion, step, tried, waits_below, grow, most_entries}
 use Rattle.cstn_check.specs.Growth.Instance.{chain_at, wait_at}
 use Rattle.cstn_check.specs.Kept.{IsKept}
 use Rattle.cstn_check.specs.Spent.{IsSpent, AreSpent, is_fresh, fresh_count}
 use Rattle.cstn_check.specs.Turns.{IsOpen, IsTaken}
-use Rattle.cstn_check.proofs.Lists.{Extends, length_upto}
-use Rattle.cstn_check.proofs.Grows.{Has, has_left, has_right, spent_kept, tried_extends, all_spent}
+use Rattle.cstn_check.proofs.Lists.{Extends}
+use Rattle.cstn_check.proofs.Grows.{has_left, has_right, spent_kept, tried_extends, all_spent}
 use Rattle.cstn_check.proofs.Closes.{has_chain, has_waits}
 use Rattle.cstn_check.proofs.Ends.{all_turns}
 use Rattle.cstn_check.proofs.Skips.{IsIdle, waits_passed}

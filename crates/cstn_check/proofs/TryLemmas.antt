@@ -1,26 +1,25 @@
 -- Growth tries no wait that has no conclusion.
-use Rattle.std.proofs.Common.{ℕ, zero, suc, ◌≡◌, inl, inr, ◌+◌, ◌*◌, ◌<◌, ◌≤◌, Bool, true, false, cond, List, length, Option, Some, None, arith, refl, sym, subst, ap, ◌∙◌}
+use Rattle.std.proofs.Common.{ℕ, zero, suc, ◌≡◌, inl, inr, ◌+◌, ◌*◌, ◌<◌, ◌≤◌, Bool, false, List, length, Option, Some, None, arith, refl, sym, subst, ap, ◌∙◌}
 use Rattle.std.specs.Prelude.{slice_get, slice_index_or}
 use Rattle.std.proofs.lemmas.Bool.{cases_lt, cond-true}
 use Rattle.std.proofs.lemmas.List.{length-map}
 use Rattle.std.proofs.Math.Nat.{mul-suc, mul-le-mul_left}
-use Rattle.cstn_label.specs.declared.marks.Mark.{Mark}
 use Rattle.cstn_label.specs.declared.marks.Mark.TheVariants.{Absent}
-use Rattle.cstn_label.specs.Labels.{Label, with_mark, without, empty}
+use Rattle.cstn_label.specs.Labels.{Label}
 use Rattle.cstn_label.specs.Bounds.{Bound}
 use Rattle.cstn_net.specs.Networks.{Network}
-use Rattle.cstn_rules.specs.Rules.{without_own, finished, base, carried, awaited}
+use Rattle.cstn_rules.specs.Rules.{without_own, finished, carried, awaited}
 use Rattle.cstn_rules.specs.Derivations.{Entry, Follows, IsDerivation}
 use Rattle.cstn_rules.specs.declared.entries.Why.{Why}
 use Rattle.cstn_rules.specs.declared.entries.Why.TheVariants.{Base, Chain, Wait}
 use Rattle.cstn_rules.specs.Read.{the_entry}
 use Rattle.cstn_log.specs.Entries.{State, the_entries}
 use Rattle.cstn_check.specs.Tests.{is_absent, wait_for, wait_of}
-use Rattle.cstn_check.specs.Growth.{Instance, of_two, conclusion, tried}
+use Rattle.cstn_check.specs.Growth.{Instance, of_two, tried}
 use Rattle.cstn_check.specs.Growth.Instance.{wait_at}
 use Rattle.cstn_check.specs.Tries.{total, how_many, concludes, concluding_pairs, concludes_with, concludes_upto}
 use Rattle.cstn_check.specs.Turns.{IsTaken}
-use Rattle.cstn_check.proofs.Lists.{Extends, extends_itself, length_upto}
+use Rattle.cstn_check.proofs.Lists.{Extends, length_upto}
 use Rattle.cstn_check.proofs.Grows.{conclusion_kept, tried_extends}
 
 -- ---- sums

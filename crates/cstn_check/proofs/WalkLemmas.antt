@@ -1,5 +1,5 @@
 -- Places that the walks of a turn have passed.
-use Rattle.std.proofs.Common.{ℕ, ◌≡◌, inl, inr, ◌+◌, ◌<◌, ◌≤◌, List, length, Some, get_or, set, arith, refl, sym, subst, ap, ◌∙◌}
+use Rattle.std.proofs.Common.{ℕ, ◌≡◌, inl, inr, ◌+◌, ◌<◌, ◌≤◌, List, length, Some, get_or, set, arith, sym, subst, ap, ◌∙◌}
 use Rattle.std.specs.Prelude.{slice_get}
 use Rattle.std.proofs.lemmas.Bool.{cases_lt}
 use Rattle.std.proofs.lemmas.List.{get_or-set_same, get_or-set_other}
@@ -9,31 +9,29 @@ use Rattle.cstn_net.specs.Networks.{Network, Observes}
 use Rattle.cstn_rules.specs.declared.entries.Entry.{Entry}
 use Rattle.cstn_rules.specs.Derivations.{Entry as TheEntry}
 use Rattle.cstn_rules.specs.Read.{the_entry}
-use Rattle.cstn_log.specs.Chains.{IsMarkedAt, IsAtNode}
+use Rattle.cstn_log.specs.Chains.{IsMarkedAt, IsAtNode, IsFirstLive}
 use Rattle.cstn_log.specs.Entries.{the_entries}
 use Rattle.cstn_log.proofs.ListLemmas.{get_map}
 use Rattle.cstn_check.specs.Waits.{IsWaiting, NoneSees, NoneMarks, NoneSeesEach, ArePassed}
-use Rattle.cstn_check.proofs.Lists.{Extends, get_kept}
-use Rattle.cstn_check.proofs.Reading.{entry_at}
+use Rattle.cstn_check.proofs.Lists.{Extends, get_kept, live_before}
+use Rattle.cstn_check.proofs.Reading.{entry_at, live_true, true_live}
 
 module _ (net : Network) (entries : List Entry) where
-  pub sees_found : (p j from next : ℕ) → j < length entries →
-      ((k x : ℕ) → from ≤ k → k < length entries → k < next → Observes net x p → IsAtNode entries x k → ⊥) →
+  pub sees_found : (p j from next : ℕ) → ((x : ℕ) → Observes net x p → IsFirstLive (IsAtNode entries x) entries j from next) →
       NoneSees net (the_entries entries) p j from next
-  sees_found p j from next inside none = record {
-    none = λ k e low upto high there observes.
+  sees_found p j from next none = record {
+    none = λ k e low upto high there live observes.
         let got = get_map the_entry entries k e there in
-        none k e.bound.node low (omega (arith, upto, inside)) high observes
+        (none e.bound.node observes).none k low upto high (true_live entries k live)
         (record { entry = got.0; there = got.1; node = ap (λ (y : TheEntry). y.bound.node) got.2 });
   }
 
-  pub marks_found : (x j from next : ℕ) → j < length entries →
-      ((k p : ℕ) → from ≤ k → k < length entries → k < next → Observes net x p → IsMarkedAt entries p k → ⊥) →
+  pub marks_found : (x j from next : ℕ) → ((p : ℕ) → Observes net x p → IsFirstLive (IsMarkedAt entries p) entries j from next) →
       NoneMarks net (the_entries entries) x j from next
-  marks_found x j from next inside none = record {
-    none = λ k p e low upto high there observes marked.
+  marks_found x j from next none = record {
+    none = λ k p e low upto high there live observes marked.
         let got = get_map the_entry entries k e there in
-        none k p low (omega (arith, upto, inside)) high observes
+        (none p observes).none k low upto high (true_live entries k live)
         (record { entry = got.0; there = got.1; marked = subst (λ (y : TheEntry). IsMarked y.bound.label p) (sym got.2) marked });
   }
 
@@ -42,18 +40,19 @@ module _ (net : Network) (entries : List Entry) where
   entry_is j b e there at = let h = entry_at entries j e at in cc
 
   -- no place before that which is found has a wait with a conclusion
-  pub none_passed : (from next j : ℕ) (e : Entry) → slice_get entries j ≡ Some e → next ≤ j + 1 →
+  pub none_passed : (from next j : ℕ) (e : Entry) → slice_get entries j ≡ Some e → j < length entries → next ≤ j + 1 →
       NoneMarks net (the_entries entries) e.bound.node.0 j from next →
       ((p : ℕ) → IsMarked (marks e.bound.label) p → NoneSees net (the_entries entries) p j from next) →
       (k : ℕ) → from ≤ k → k < next → IsWaiting net entries k j → ⊥
-  none_passed from next j e there upto marking seen k low high w =
+  none_passed from next j e there inside upto marking seen k low high w =
       let same : w.other ≡ e = let h = w.other_at in cc in
       let at = entry_at entries k w.one w.one_at in
+      let live = live_true entries k (omega (arith, high, upto, inside)) w.one_live in
       elim w.either [
         | inl a ↦
-            (seen a.prop (subst (λ (y : Entry). IsMarked (marks y.bound.label) a.prop) same a.marked)).none k (the_entry w.one) low (omega (arith, high, upto)) high at a.observes
+            (seen a.prop (subst (λ (y : Entry). IsMarked (marks y.bound.label) a.prop) same a.marked)).none k (the_entry w.one) low (omega (arith, high, upto)) high at live a.observes
         | inr a ↦
-            marking.none k a.prop (the_entry w.one) low (omega (arith, high, upto)) high at
+            marking.none k a.prop (the_entry w.one) low (omega (arith, high, upto)) high at live
             (subst (λ (y : Entry). Observes net y.bound.node.0 a.prop) same a.observes) a.marked
       ]
 
@@ -90,13 +89,17 @@ pub passed_on : (net : Network) (L G : List TheEntry) (j from next : ℕ) (place
 passed_on net L G j from next places place more inside upto was = record {
   sees = λ b there. record {
     each = λ p small marked. record {
-      none = λ k e low under high at.
-          ((was.sees b (back j b inside there)).each p small marked).none k e (omega (arith, low, upto)) under high (back k e (omega (arith, under, inside)) at);
+      none = λ k e low under high at live.
+          let before : k < length L = omega (arith, under, inside) in
+          ((was.sees b (back j b inside there)).each p small marked).none k e (omega (arith, low, upto)) under high (back k e before at)
+          (live_before L G k more before live);
     };
   };
   marks = λ b there. record {
-    none = λ k p e low under high at.
-        (was.marks b (back j b inside there)).none k p e (omega (arith, low, upto)) under high (back k e (omega (arith, under, inside)) at);
+    none = λ k p e low under high at live.
+        let before : k < length L = omega (arith, under, inside) in
+        (was.marks b (back j b inside there)).none k p e (omega (arith, low, upto)) under high (back k e before at)
+        (live_before L G k more before live);
   };
 }
   where

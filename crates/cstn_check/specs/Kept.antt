@@ -7,14 +7,14 @@ use Rattle.cstn_rules.specs.Derivations.{Entry}
 use Rattle.cstn_check.specs.Growth.{is_covered}
 
 -- the bound is at a time-point of the network, and marks observed propositions alone
-pub record IsGood (net : Network) (b : Bound) : Type 0 where
+pub record IsBoundOf (net : Network) (b : Bound) : Type 0 where
   pub node : b.node < count net
   pub observed : IsOnObserved net b.label
 
 -- each entry's bound is
 abbrev pub AllGood : Network → List Entry → Type 0
 AllGood net [] = Unit {0}
-AllGood net (e ∷ es) = IsGood net e.bound × AllGood net es
+AllGood net (e ∷ es) = IsBoundOf net e.bound × AllGood net es
 
 -- a bound's least value is from 0 to the limit + 1
 pub record IsRanged (net : Network) (b : Bound) : Type 0 where

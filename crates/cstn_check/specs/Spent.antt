@@ -1,5 +1,5 @@
 -- Instances of which nothing is left to do, and how many rules are tried where they are passed over.
-use Rattle.std.specs.Prelude.{ℕ, zero, suc, ◌≡◌, ◌<◌, ◌+◌, ◌-◌, ◌*◌, ◌==◌, Bool, true, false, cond, List, [], ◌∷◌, length, Some}
+use Rattle.std.specs.Prelude.{ℕ, ◌≡◌, ◌<◌, ◌+◌, ◌-◌, ◌*◌, ◌==◌, Bool, true, false, cond, List, [], ◌∷◌, length, Some}
 use Rattle.std.specs.List.{Contains, list_any}
 use Rattle.cstn_net.specs.Networks.{Network, Constraint}
 use Rattle.cstn_label.specs.Bounds.{Bound}

@@ -1,5 +1,5 @@
 -- Which waits have a conclusion.
-use Rattle.std.specs.Prelude.{ℕ, ◌≡◌, ◌<◌, ◌≤◌, ◌⊎◌, List, Some, slice_get, slice_index_or}
+use Rattle.std.specs.Prelude.{ℕ, ◌≡◌, ◌<◌, ◌≤◌, ◌⊎◌, true, List, Some, slice_get, slice_index_or}
 use Rattle.cstn_label.specs.Labels.{Label, IsMarked}
 use Rattle.cstn_label.specs.Bounds.{Bound}
 use Rattle.cstn_label.specs.Read.{the_bound}
@@ -7,6 +7,7 @@ use Rattle.cstn_net.specs.Networks.{Network, Observes}
 use Rattle.cstn_rules.specs.declared.entries.Entry.{Entry}
 use Rattle.cstn_rules.specs.Derivations.{Entry as TheEntry}
 use Rattle.cstn_log.specs.Entries.{IsLive}
+use Rattle.cstn_check.specs.Growth.{is_live}
 
 -- the first bound is at the observer of a proposition that the second marks
 pub record Waits (net : Network) (seen b : Bound) : Type 0 where
@@ -24,13 +25,13 @@ pub record IsWaiting (net : Network) (entries : List Entry) (i j : ℕ) : Type 0
   pub other_live : IsLive entries j
   pub either : Waits net (the_bound one.bound) (the_bound other.bound) ⊎ Waits net (the_bound other.bound) (the_bound one.bound)
 
--- no place from `from` up to j, before `next`, is at the observer of p
+-- no live place from `from` up to j, before `next`, is at the observer of p
 pub record NoneSees (net : Network) (entries : List TheEntry) (p j from next : ℕ) : Type 0 where
-  pub none : (k : ℕ) (e : TheEntry) → from ≤ k → k ≤ j → k < next → slice_get entries k ≡ Some e → Observes net e.bound.node p → ⊥
+  pub none : (k : ℕ) (e : TheEntry) → from ≤ k → k ≤ j → k < next → slice_get entries k ≡ Some e → is_live entries k ≡ true → Observes net e.bound.node p → ⊥
 
 -- no such place marks what x observes
 pub record NoneMarks (net : Network) (entries : List TheEntry) (x j from next : ℕ) : Type 0 where
-  pub none : (k p : ℕ) (e : TheEntry) → from ≤ k → k ≤ j → k < next → slice_get entries k ≡ Some e → Observes net x p → IsMarked e.bound.label p → ⊥
+  pub none : (k p : ℕ) (e : TheEntry) → from ≤ k → k ≤ j → k < next → slice_get entries k ≡ Some e → is_live entries k ≡ true → Observes net x p → IsMarked e.bound.label p → ⊥
 
 -- for each p that the label marks there is none at its observer, before the place that stands for p
 pub record NoneSeesEach (net : Network) (entries : List TheEntry) (a : Label) (j from : ℕ) (places : List ℕ) : Type 0 where

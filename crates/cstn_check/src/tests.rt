@@ -8,6 +8,7 @@ use std::process::Abort;
 use std::test::Fail;
 
 mod networks;
+mod plain;
 
 use networks::{alone, branched, branched_late, crossed, generated, p, pair, q, unknown_mark};
 
@@ -114,6 +115,29 @@ fn keeps_the_log_of_crossed_observers(rt: HostRuntime) -> Result<(), Fail> {
     has(&rt, log, 5, awaited(2, 3, 1, 1, Label::empty()))?;
     has(&rt, log, 6, awaited(3, 4, 2, 5, Label::empty()))?;
     has(&rt, log, 7, awaited(6, 3, 1, 5, Label::empty()))
+}
+
+// The log of the network is the list that growth by its definition gives.
+fn grows_plainly(rt: &impl Abort, alloc: Global, net: Builder, load: u32) -> Result<(), Fail> {
+    let mut check = check(rt, alloc, net, load)?;
+    assert!(rt; check.run() != Verdict::Full);
+    let log = check.kept();
+    assert_eq!(rt; log.len(), load);
+    let list = plain::grown(alloc, check.network(), load)?;
+    assert_eq!(rt; list.len(), load as usize);
+    for k in 0..load {
+        assert_eq!(rt; log.entry(k), list[k as usize]);
+    }
+    Ok(())
+}
+
+#[test]
+fn grows_as_the_definition_does(rt: HostRuntime) -> Result<(), Fail> {
+    let alloc = rt.alloc();
+    grows_plainly(&rt, alloc, crossed(alloc)?, 8)?;
+    grows_plainly(&rt, alloc, branched_late(alloc)?, 7)?;
+    grows_plainly(&rt, alloc, unknown_mark(alloc)?, 14)?;
+    grows_plainly(&rt, alloc, generated(alloc)?, 31)
 }
 
 // What refutes the network, after this load.

@@ -84,15 +84,15 @@ fn try_wait(net: &Network, log: &mut Log, i: u32, j: u32, tries: &mut Tries) -> 
 {
     is_well_formed(net);
     is_in_range(tries);
+    let seen = log.entry(i).bound;
+    let premise = log.entry(j).bound;
+    if !waits(net, &seen, &premise) {
+        return Ok(false);
+    }
     if !log.live(i) {
         return Ok(false);
     }
     if !log.live(j) {
-        return Ok(false);
-    }
-    let seen = log.entry(i).bound;
-    let premise = log.entry(j).bound;
-    if !waits(net, &seen, &premise) {
         return Ok(false);
     }
     let Some(bound) = wait(net, &seen, &premise, tries) else {

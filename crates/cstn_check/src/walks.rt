@@ -1,10 +1,10 @@
 // The places of which wait with an entry has a conclusion, looked for along the chains of the log.
-ghost use Rattle.std.specs.Prelude.{ℕ, ◌≡◌, ◌+◌, ◌<◌, ◌≤◌, length, replicate, set, slice_index_or, IfSome};
+ghost use Rattle.std.specs.Prelude.{ℕ, ◌≡◌, ◌+◌, ◌<◌, ◌≤◌, length, set, slice_index_or};
 ghost use Rattle.cstn_label.specs.Labels.{IsMarked};
 ghost use Rattle.cstn_label.specs.Read.{marks};
 ghost use Rattle.cstn_net.specs.Networks.{Observes, count};
 ghost use Rattle.cstn_net.specs.Read.{the_network};
-ghost use Rattle.cstn_log.specs.Chains.{IsMarkedAt, IsAtNode};
+ghost use Rattle.cstn_log.specs.Chains.{IsMarkedAt, IsAtNode, IsFirstLive};
 ghost use Rattle.cstn_log.specs.Entries.{the_entries};
 ghost use Rattle.cstn_check.specs.Waits.{IsWaiting, NoneSees, NoneMarks, NoneSeesEach, ArePassed};
 
@@ -17,34 +17,36 @@ use cstn_net::Network;
 pub const PROPS: usize = 52;
 
 // The first place from `from` up to `j` with an entry of which wait with the entry at `j`, either way round, has a
-// conclusion; `j + 1` where none has, or the entry at `j` is dead. A chain is gone along only from the place where it stands:
-// `sees` has the next place at the observer of each proposition, and `marking` the next that marks what is observed.
+// conclusion; `j + 1` where none has, or the entry at `j` is dead. A chain is gone along only from the place where it stands,
+// past the dead entries: `sees` has the next place at the observer of each proposition, and `marking` the next that marks what
+// is observed.
 pub fn next_waiting(
     net: &Network,
-    log: &Log,
+    log: &mut Log,
     from: u32,
     j: u32,
     sees: &mut [u32],
     marking: &mut u32,
 ) -> u32
-    requires nodes { log.now.nodes ≡ count (the_network net.now) }
-    requires place { j < length log.now.entries }
+    requires nodes { log.old.nodes ≡ count (the_network net.now) }
+    requires place { j < length log.old.entries }
     requires upto { from ≤ j + 1 }
     requires size { length sees.old ≡ 52 }
-    requires passed { ArePassed (the_network net.now) (the_entries log.now.entries) j from sees.old marking.old }
+    requires passed { ArePassed (the_network net.now) (the_entries log.old.entries) j from sees.old marking.old }
     ensures upto { (from ≤ result) × (result ≤ j + 1) }
-    ensures none { (k : ℕ) → from ≤ k → k < result → IsWaiting (the_network net.now) log.now.entries k j → ⊥ }
+    ensures none { (k : ℕ) → from ≤ k → k < result → IsWaiting (the_network net.now) log.old.entries k j → ⊥ }
     ensures size { length sees.new ≡ 52 }
-    ensures passed { ArePassed (the_network net.now) (the_entries log.now.entries) j from sees.new marking.new }
+    ensures passed { ArePassed (the_network net.now) (the_entries log.old.entries) j from sees.new marking.new }
+    ensures stays { log.new ≡ log.old }
 {
     let _room = log.len();
     if !log.live(j) {
         return j + 1;
     }
     let b = log.entry(j).bound;
-    let marks = next_marking(net, log, b.node, from, *marking);
+    let marks = next_marking(net, log, b.node, from, j, *marking);
     *marking = marks;
-    let seen = next_seen(net, log, &b, from, sees);
+    let seen = next_seen(net, log, &b, from, j, sees);
     least(least(marks, seen), j + 1)
 }
 
@@ -55,46 +57,52 @@ fn least(a: u32, b: u32) -> u32
     if a < b { a } else { b }
 }
 
-// The first place from `from` on whose entry marks what the time-point observes, unless the chain stands there already.
-fn next_marking(net: &Network, log: &Log, x: NodeId, from: u32, next: u32) -> u32
+// The first live place from `from` on whose entry marks what the time-point observes, unless the chain stands there already.
+fn next_marking(net: &Network, log: &mut Log, x: NodeId, from: u32, j: u32, next: u32) -> u32
     requires node { x.0 < count (the_network net.now) }
-    requires upto { from ≤ length log.now.entries }
+    requires upto { from ≤ length log.old.entries }
+    requires place { j < length log.old.entries }
     ensures upto { from ≤ result }
-    ensures none { (j : ℕ) → j < length log.now.entries → NoneMarks (the_network net.now) (the_entries log.now.entries) x.0 j from next → NoneMarks (the_network net.now) (the_entries log.now.entries) x.0 j from result }
+    ensures none { NoneMarks (the_network net.now) (the_entries log.old.entries) x.0 j from next → NoneMarks (the_network net.now) (the_entries log.old.entries) x.0 j from result }
+    ensures stays { log.new ≡ log.old }
 {
     if from <= next {
         return next;
     }
-    first_marking(net, log, x, from, next)
+    first_marking(net, log, x, from, j, next)
 }
 
-// The first place from `from` on whose entry marks what the time-point observes.
-fn first_marking(net: &Network, log: &Log, x: NodeId, from: u32, near: u32) -> u32
+// The first live place from `from` on whose entry marks what the time-point observes.
+fn first_marking(net: &Network, log: &mut Log, x: NodeId, from: u32, j: u32, near: u32) -> u32
     requires node { x.0 < count (the_network net.now) }
-    requires upto { from ≤ length log.now.entries }
+    requires upto { from ≤ length log.old.entries }
+    requires place { j < length log.old.entries }
     ensures upto { from ≤ result }
-    ensures none { (k p : ℕ) → from ≤ k → k < length log.now.entries → k < result → Observes (the_network net.now) x.0 p → IsMarkedAt log.now.entries p k → ⊥ }
+    ensures first { (p : ℕ) → Observes (the_network net.now) x.0 p → IsFirstLive (IsMarkedAt log.old.entries p) log.old.entries j from result }
+    ensures stays { log.new ≡ log.old }
 {
     match net.observes(x) {
         None => u32::MAX,
-        Some(p) => log.first_marked(p, from, near),
+        Some(p) => log.first_marked(p, from, near, j),
     }
 }
 
-// The first place from `from` on at the observer of a proposition that the label of the bound marks.
-fn next_seen(net: &Network, log: &Log, b: &Bound, from: u32, places: &mut [u32]) -> u32
-    requires nodes { log.now.nodes ≡ count (the_network net.now) }
-    requires upto { from ≤ length log.now.entries }
+// The first live place from `from` on at the observer of a proposition that the label of the bound marks.
+fn next_seen(net: &Network, log: &mut Log, b: &Bound, from: u32, j: u32, places: &mut [u32]) -> u32
+    requires nodes { log.old.nodes ≡ count (the_network net.now) }
+    requires upto { from ≤ length log.old.entries }
+    requires place { j < length log.old.entries }
     requires size { length places.old ≡ 52 }
     ensures upto { from ≤ result }
     ensures size { length places.new ≡ 52 }
-    ensures passed { (j : ℕ) → j < length log.now.entries → NoneSeesEach (the_network net.now) (the_entries log.now.entries) (marks b.now.label) j from places.old → NoneSeesEach (the_network net.now) (the_entries log.now.entries) (marks b.now.label) j from places.new }
-    ensures none { (j p : ℕ) → j < length log.now.entries → NoneSeesEach (the_network net.now) (the_entries log.now.entries) (marks b.now.label) j from places.old → IsMarked (marks b.now.label) p → NoneSees (the_network net.now) (the_entries log.now.entries) p j from result }
+    ensures passed { NoneSeesEach (the_network net.now) (the_entries log.old.entries) (marks b.now.label) j from places.old → NoneSeesEach (the_network net.now) (the_entries log.old.entries) (marks b.now.label) j from places.new }
+    ensures none { (p : ℕ) → NoneSeesEach (the_network net.now) (the_entries log.old.entries) (marks b.now.label) j from places.old → IsMarked (marks b.now.label) p → NoneSees (the_network net.now) (the_entries log.old.entries) p j from result }
+    ensures stays { log.new ≡ log.old }
 {
     let mut next = u32::MAX;
     let mut index = 0;
     while let Some(p) = b.label.first_marked_from(index) {
-        let place = next_at_observer(net, log, p, from, place_of(places, p));
+        let place = next_at_observer(net, log, p, from, j, place_of(places, p));
         set_place(places, p, place);
         next = least(next, place);
         index = p.index + 1;
@@ -116,29 +124,33 @@ fn set_place(places: &mut [u32], p: Prop, place: u32)
     places[p.index as usize] = place;
 }
 
-// The first place from `from` on at the observer of p, unless the chain stands there already.
-fn next_at_observer(net: &Network, log: &Log, p: Prop, from: u32, next: u32) -> u32
-    requires nodes { log.now.nodes ≡ count (the_network net.now) }
-    requires upto { from ≤ length log.now.entries }
+// The first live place from `from` on at the observer of p, unless the chain stands there already.
+fn next_at_observer(net: &Network, log: &mut Log, p: Prop, from: u32, j: u32, next: u32) -> u32
+    requires nodes { log.old.nodes ≡ count (the_network net.now) }
+    requires upto { from ≤ length log.old.entries }
+    requires place { j < length log.old.entries }
     ensures upto { from ≤ result }
-    ensures none { (j : ℕ) → j < length log.now.entries → NoneSees (the_network net.now) (the_entries log.now.entries) p.index j from next → NoneSees (the_network net.now) (the_entries log.now.entries) p.index j from result }
+    ensures none { NoneSees (the_network net.now) (the_entries log.old.entries) p.index j from next → NoneSees (the_network net.now) (the_entries log.old.entries) p.index j from result }
+    ensures stays { log.new ≡ log.old }
 {
     if from <= next {
         return next;
     }
-    first_at_observer(net, log, p, from, next)
+    first_at_observer(net, log, p, from, j, next)
 }
 
-// The first place from `from` on at the observer of p.
-fn first_at_observer(net: &Network, log: &Log, p: Prop, from: u32, near: u32) -> u32
-    requires nodes { log.now.nodes ≡ count (the_network net.now) }
-    requires upto { from ≤ length log.now.entries }
+// The first live place from `from` on at the observer of p.
+fn first_at_observer(net: &Network, log: &mut Log, p: Prop, from: u32, j: u32, near: u32) -> u32
+    requires nodes { log.old.nodes ≡ count (the_network net.now) }
+    requires upto { from ≤ length log.old.entries }
+    requires place { j < length log.old.entries }
     ensures upto { from ≤ result }
-    ensures none { (k x : ℕ) → from ≤ k → k < length log.now.entries → k < result → Observes (the_network net.now) x p.index → IsAtNode log.now.entries x k → ⊥ }
+    ensures first { (x : ℕ) → Observes (the_network net.now) x p.index → IsFirstLive (IsAtNode log.old.entries x) log.old.entries j from result }
+    ensures stays { log.new ≡ log.old }
 {
     is_well_formed(net);
     match net.observer(p) {
         None => u32::MAX,
-        Some(x) => log.first_at(x, from, near),
+        Some(x) => log.first_at(x, from, near, j),
     }
 }

@@ -1,4 +1,4 @@
-use Rattle.std.proofs.Common.{ℕ, ◌+◌, ◌≤◌, true, false, cond, arith, sym, ◌∙◌}
+use Rattle.std.proofs.Common.{ℕ, arith, sym, ◌∙◌}
 use Rattle.std.proofs.lemmas.Bool.{cond-true}
 use Rattle.cstn_net.specs.Read.{the_network, the_constraint}
 use Rattle.cstn_check.proofs.SpentLemmas.{chain_spent}

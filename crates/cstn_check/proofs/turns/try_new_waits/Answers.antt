@@ -1,4 +1,3 @@
-use Rattle.std.proofs.Common.{◌<◌, arith}
 use Rattle.cstn_net.specs.Read.{the_network}
 use Rattle.cstn_check.proofs.SpentLemmas.{waits_spent}
 use Rattle.cstn_check.proofs.turns.try_new_waits.Goals as goal

@@ -15,17 +15,17 @@ use Rattle.cstn_check.proofs.turns.try_waits.Goals as goal
 
 pub loop-i-init : goal.loop-i-init
 loop-i-init c = record {
-  taken = waits_to (the_network c.args.net.now) c.args.log.now c.args.log.now c.args.j 0 c.next_waiting-i.result c.is_well_formed.ensures
+  taken = rw c.next_waiting-i.ensures.stays (waits_to (the_network c.args.net.now) c.args.log.now c.args.log.now c.args.j 0 c.next_waiting-i.result c.is_well_formed.ensures
       c.requires.ready c.requires.place c.next_waiting-i.ensures.upto.1 c.next_waiting-i.ensures.upto.0
-      c.next_waiting-i.ensures.none (idle (the_network c.args.net.now) c.args.log.now _ c.requires.ready refl);
-  ready = c.requires.ready;
+      c.next_waiting-i.ensures.none (idle (the_network c.args.net.now) c.args.log.now _ c.requires.ready refl));
+  ready = rw c.next_waiting-i.ensures.stays c.requires.ready;
   upto = c.next_waiting-i.ensures.upto.1;
   tries = omega arith;
   most = omega arith;
   concluding = omega arith;
   size = c.next_waiting-i.ensures.size;
-  passed = passed_on (the_network c.args.net.now) (the_entries c.args.log.now.entries) (the_entries c.args.log.now.entries) c.args.j 0 c.next_waiting-i.result _ _
-      (extends_itself (the_entries c.args.log.now.entries)) (omega (arith, c.requires.place, size_is c.args.log.now)) c.next_waiting-i.ensures.upto.0 c.next_waiting-i.ensures.passed;
+  passed = rw c.next_waiting-i.ensures.stays (passed_on (the_network c.args.net.now) (the_entries c.args.log.now.entries) (the_entries c.args.log.now.entries) c.args.j 0 c.next_waiting-i.result _ _
+      (extends_itself (the_entries c.args.log.now.entries)) (omega (arith, c.requires.place, size_is c.args.log.now)) c.next_waiting-i.ensures.upto.0 c.next_waiting-i.ensures.passed);
 }
 
 pub try_both-requires-clause-first : goal.try_both-requires-clause-first
@@ -56,22 +56,22 @@ loop-i-preserved c =
     let ready = c.in-Ok-false.ensures.ready c.in-Ok-false.field-0-test in
     let next = c.next_waiting-i-in-Ok-false in
     record {
-      taken = waits_to (the_network c.args.net.now) c.args.log.now c.try_both.new.log c.args.j (c.loop-i.i + 1) next.result
+      taken = rw next.ensures.stays (waits_to (the_network c.args.net.now) c.args.log.now c.try_both.new.log c.args.j (c.loop-i.i + 1) next.result
           c.is_well_formed.ensures ready
           (omega (arith, c.requires.place, c.loop-i.invariant.taken.longer.longer, c.in-Ok-false.ensures.taken.longer.longer))
           next.ensures.upto.1 next.ensures.upto.0 next.ensures.none
           (go_on (the_network c.args.net.now) c.args.log.now c.loop-i.log c.try_both.new.log (waits_below c.loop-i.i c.args.j)
           (wait_at c.loop-i.i c.args.j ∷ (wait_at c.args.j c.loop-i.i ∷ [])) c.loop-i.invariant.taken
           (waits_below (c.loop-i.i + 1) c.args.j) false (sym (waits_next c.loop-i.i c.args.j))
-          (taken_as c.in-Ok-false.field-0-test c.in-Ok-false.ensures.taken));
-      ready = ready;
+          (taken_as c.in-Ok-false.field-0-test c.in-Ok-false.ensures.taken)));
+      ready = rw next.ensures.stays ready;
       upto = next.ensures.upto.1;
       tries = omega (arith, c.loop-i.invariant.tries, c.in-Ok-false.ensures.tries);
       most = omega (arith, c.loop-i.invariant.most, c.in-Ok-false.ensures.most, next.ensures.upto.0);
       size = next.ensures.size;
-      passed = passed_on (the_network c.args.net.now) (the_entries c.try_both.new.log.entries) (the_entries c.try_both.new.log.entries) c.args.j (c.loop-i.i + 1) next.result _ _
+      passed = rw next.ensures.stays (passed_on (the_network c.args.net.now) (the_entries c.try_both.new.log.entries) (the_entries c.try_both.new.log.entries) c.args.j (c.loop-i.i + 1) next.result _ _
           (extends_itself (the_entries c.try_both.new.log.entries)) (omega (arith, c.requires.place, c.loop-i.invariant.taken.longer.longer, c.in-Ok-false.ensures.taken.longer.longer, size_is c.try_both.new.log))
-          next.ensures.upto.0 next.ensures.passed;
+          next.ensures.upto.0 next.ensures.passed);
       concluding = pairs_step (the_network c.args.net.now) c.args.log.now c.loop-i.log c.args.j c.loop-i.i next.result (waits_below c.loop-i.i c.args.j) c.args.tries.now.count c.loop-i.tries.count c.try_both.new.tries.count c.loop-i.invariant.taken c.requires.place
           (omega (arith, c.requires.place, c.loop-i-test.true)) c.loop-i.invariant.concluding c.in-Ok-false.ensures.concluding next.ensures.upto.0;
     }

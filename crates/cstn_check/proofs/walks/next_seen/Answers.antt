@@ -1,4 +1,4 @@
-use Rattle.std.proofs.Common.{ℕ, ◌≡◌, ◌<◌, ◌≤◌, inl, inr, arith, sym, subst, length, length-set, ap, ◌∙◌}
+use Rattle.std.proofs.Common.{◌≡◌, inl, inr, arith, sym, subst, length, length-set, ap, ◌∙◌}
 use Rattle.std.proofs.lemmas.Bool.{cases_lt}
 use Rattle.cstn_label.specs.Read.{marks}
 use Rattle.cstn_net.specs.Read.{the_network}
@@ -12,32 +12,33 @@ loop-p-preserved c =
     let inv = c.loop-p.invariant in
     let net = the_network c.args.net.now in
     let entries = the_entries c.args.log.now.entries in
-    let here : (j : ℕ) → j < length c.args.log.now.entries → NoneSeesEach net entries (marks c.args.b.now.label) j c.args.from c.args.places.now →
-    NoneSees net entries c.in-Some.p.index j c.args.from c.next_at_observer-place.result =
-    λ j inside was. c.next_at_observer-place.ensures.none j inside
-    (subst (λ n. NoneSees net entries c.in-Some.p.index j c.args.from n) (sym c.place_of.ensures)
-    ((inv.passed j inside was).each c.in-Some.p.index c.in-Some.p.in_range c.in-Some.ensures.marked)) in
+    let here : NoneSeesEach net entries (marks c.args.b.now.label) c.args.j c.args.from c.args.places.now →
+    NoneSees net entries c.in-Some.p.index c.args.j c.args.from c.next_at_observer-place.result =
+    λ was. (rw inv.log at c.next_at_observer-place.ensures.none)
+    (subst (λ n. NoneSees net entries c.in-Some.p.index c.args.j c.args.from n) (sym c.place_of.ensures)
+    ((inv.passed was).each c.in-Some.p.index c.in-Some.p.in_range c.in-Some.ensures.marked)) in
     record {
+      log = c.next_at_observer-place.ensures.stays ∙ inv.log;
       within = omega (arith, c.in-Some.p.in_range);
       upto = c.least-next.ensures.one c.args.from inv.upto c.next_at_observer-place.ensures.upto;
       size = ap length c.set_place.ensures ∙ length-set c.loop-p.places c.in-Some.p.index c.next_at_observer-place.result ∙ inv.size;
-      passed = λ j inside was.
-          sees_put net entries (marks c.args.b.now.label) c.in-Some.p.index j c.args.from c.next_at_observer-place.result c.loop-p.places c.set_place.new.places
-          c.in-Some.p.in_range inv.size c.set_place.ensures (here j inside was) (inv.passed j inside was);
-      none = λ j p inside was below m. elim (cases_lt p c.loop-p.index) [
-        | inl before ↦ sees_less net entries p j c.args.from c.loop-p.next c.least-next.result c.least-next.ensures.upto.0 (inv.none j p inside was before m)
+      passed = λ was.
+          sees_put net entries (marks c.args.b.now.label) c.in-Some.p.index c.args.j c.args.from c.next_at_observer-place.result c.loop-p.places c.set_place.new.places
+          c.in-Some.p.in_range inv.size c.set_place.ensures (here was) (inv.passed was);
+      none = λ p was below m. elim (cases_lt p c.loop-p.index) [
+        | inl before ↦ sees_less net entries p c.args.j c.args.from c.loop-p.next c.least-next.result c.least-next.ensures.upto.0 (inv.none p was before m)
         | inr past ↦ elim (cases_lt p c.in-Some.p.index) [
           | inl between ↦ absurd (m (c.in-Some.ensures.least p past between))
           | inr last ↦
               let same : c.in-Some.p.index ≡ p = omega arith in
-              sees_less net entries p j c.args.from c.next_at_observer-place.result c.least-next.result c.least-next.ensures.upto.1
-              (subst (λ n. NoneSees net entries n j c.args.from c.next_at_observer-place.result) same (here j inside was))
+              sees_less net entries p c.args.j c.args.from c.next_at_observer-place.result c.least-next.result c.least-next.ensures.upto.1
+              (subst (λ n. NoneSees net entries n c.args.j c.args.from c.next_at_observer-place.result) same (here was))
         ]
       ];
     }
 
 pub returns-clause-none : goal.returns-clause-none
-returns-clause-none c = λ j p inside was m. elim (cases_lt p c.loop-p.index) [
-  | inl before ↦ c.loop-p.invariant.none j p inside was before m
+returns-clause-none c = λ p was m. elim (cases_lt p c.loop-p.index) [
+  | inl before ↦ c.loop-p.invariant.none p was before m
   | inr past ↦ absurd (m (c.in_default.ensures.none p past))
 ]

@@ -8,11 +8,12 @@ use Rattle.cstn_check.proofs.walks.next_seen.Given as goal
 
 abbrev pub invariant-loop-p : goal.invariant-loop-p
 invariant-loop-p l = record {
+  log : l.log ≡ l.fn.log;
   within : l.index ≤ 52;
   upto : l.from ≤ l.next;
   size : length l.places ≡ 52;
-  passed : (j : ℕ) → j < length l.log.entries → NoneSeesEach (the_network l.net) (the_entries l.log.entries) (marks l.b.label) j l.from l.fn.places → NoneSeesEach (the_network l.net) (the_entries l.log.entries) (marks l.b.label) j l.from l.places;
-  none : (j p : ℕ) → j < length l.log.entries → NoneSeesEach (the_network l.net) (the_entries l.log.entries) (marks l.b.label) j l.from l.fn.places → p < l.index → IsMarked (marks l.b.label) p → NoneSees (the_network l.net) (the_entries l.log.entries) p j l.from l.next;
+  passed : NoneSeesEach (the_network l.net) (the_entries l.fn.log.entries) (marks l.b.label) l.j l.from l.fn.places → NoneSeesEach (the_network l.net) (the_entries l.fn.log.entries) (marks l.b.label) l.j l.from l.places;
+  none : (p : ℕ) → NoneSeesEach (the_network l.net) (the_entries l.fn.log.entries) (marks l.b.label) l.j l.from l.fn.places → p < l.index → IsMarked (marks l.b.label) p → NoneSees (the_network l.net) (the_entries l.fn.log.entries) p l.j l.from l.next;
 }
 
 abbrev pub decreases-loop-p : goal.decreases-loop-p

@@ -1,6 +1,5 @@
 use Rattle.std.proofs.Common.{arith, sym, subst}
 use Rattle.std.proofs.lemmas.Bool.{false≢true}
-use Rattle.cstn_label.specs.Read.{marks}
 use Rattle.cstn_net.specs.Read.{the_network}
 use Rattle.cstn_rules.specs.Derivations.{Entry as TheEntry}
 use Rattle.cstn_rules.specs.Read.{the_entry}
@@ -13,15 +12,21 @@ use Rattle.cstn_check.proofs.walks.next_waiting.Goals as goal
 pub returns-then-not-live-clause-none : goal.returns-then-not-live-clause-none
 returns-then-not-live-clause-none c = λ k low high w. false≢true (c.if-not-live.ensures.live.1 w.other_live)
 
+pub returns-clause-upto : goal.returns-clause-upto
+returns-clause-upto c = (
+  c.least-2.ensures.one c.args.from (c.least.ensures.one c.args.from c.next_marking-marks.ensures.upto c.next_seen-seen.ensures.upto) c.requires.upto,
+  c.least-2.ensures.upto.1,
+)
+
 pub returns-clause-none : goal.returns-clause-none
 returns-clause-none c =
     let there = entry_at c.args.log.now.entries c.args.j c.entry.result c.entry.ensures.entry in
     none_passed (the_network c.args.net.now) c.args.log.now.entries c.args.from c.least-2.result c.args.j c.entry.result c.entry.ensures.entry
-    c.least-2.ensures.upto.1
+    c.requires.place c.least-2.ensures.upto.1
     (marks_less _ _ _ _ _ c.next_marking-marks.result c.least-2.result (omega (arith, c.least-2.ensures.upto.0, c.least.ensures.upto.0))
-    (c.next_marking-marks.ensures.none c.args.j c.requires.place (c.requires.passed.marks (the_entry c.entry.result) there)))
+    (c.next_marking-marks.ensures.none (c.requires.passed.marks (the_entry c.entry.result) there)))
     (λ p m. sees_less _ _ p _ _ c.next_seen-seen.result c.least-2.result (omega (arith, c.least-2.ensures.upto.0, c.least.ensures.upto.1))
-    (c.next_seen-seen.ensures.none c.args.j p c.requires.place (c.requires.passed.sees (the_entry c.entry.result) there) m))
+    ((rw c.next_marking-marks.ensures.stays at c.next_seen-seen.ensures.none) p (c.requires.passed.sees (the_entry c.entry.result) there) m))
 
 pub returns-clause-passed : goal.returns-clause-passed
 returns-clause-passed c =
@@ -32,9 +37,9 @@ returns-clause-passed c =
       sees = λ b at.
           subst (λ (y : TheEntry). NoneSeesEach net entries y.bound.label c.args.j c.args.from c.next_seen-seen.new.places)
           (sym (entry_is net c.args.log.now.entries c.args.j b c.entry.result at c.entry.ensures.entry))
-          (c.next_seen-seen.ensures.passed c.args.j c.requires.place (c.requires.passed.sees (the_entry c.entry.result) there));
+          ((rw c.next_marking-marks.ensures.stays at c.next_seen-seen.ensures.passed) (c.requires.passed.sees (the_entry c.entry.result) there));
       marks = λ b at.
           subst (λ (y : TheEntry). NoneMarks net entries y.bound.node c.args.j c.args.from c.next_marking-marks.result)
           (sym (entry_is net c.args.log.now.entries c.args.j b c.entry.result at c.entry.ensures.entry))
-          (c.next_marking-marks.ensures.none c.args.j c.requires.place (c.requires.passed.marks (the_entry c.entry.result) there));
+          (c.next_marking-marks.ensures.none (c.requires.passed.marks (the_entry c.entry.result) there));
     }
