@@ -1,8 +1,9 @@
-use Rattle.std.proofs.Common.{arith, sym, subst}
+use Rattle.std.proofs.Common.{arith, ap, sym, subst}
 use Rattle.cstn_net.specs.Read.{the_network}
 use Rattle.cstn_log.specs.Entries.{the_entries, first_entries}
 use Rattle.std.proofs.Common.{◌≡◌}
 use Rattle.std.proofs.lemmas.Bool.{false≢true}
+use Rattle.cstn_edit.specs.Edits.{Session}
 use Rattle.cstn_edit.specs.Fresh.{ids_of}
 use Rattle.cstn_edit.proofs.FreshLemmas.{some_none}
 use Rattle.cstn_edit.proofs.StartLemmas.{started_log, started_session, started_seen}
@@ -34,3 +35,6 @@ returns-clause-session c =
     let size = c.in_ok-log.ensures.size in
     let starts = subst (λ cap. the_entries log.entries ≡ first_entries (the_network net) cap) (sym size.0) c.in_ok-log.ensures.start in
     started_seen c.args.net net log c.args.room 0 c.highest_id-highest.result c.reserve.ensures.same starts c.highest_id-highest.ensures
+
+pub returns-clause-kept : goal.returns-clause-kept
+returns-clause-kept c = ap (λ (s : Session). s.kept) (returns-clause-session c)
