@@ -5,10 +5,10 @@ use Rattle.std.proofs.lemmas.Grind.{common_steps}
 use Rattle.cstn_io.specs.Causes.{Rose}
 use Rattle.cstn_io.specs.Contents.{after_bytes, IsAllOf, IsAtEnd}
 use Rattle.cstn_lines.specs.Pieces.{lines_of, whole_lines, is_past}
-use Rattle.cstn_lines.specs.Steps.{LinesState, HandsOut, IsOver, IsRefused, IsBroken}
+use Rattle.cstn_lines.specs.Steps.{LinesState, HandsOut, IsOver, HasWrongLine, IsBroken}
 use Rattle.cstn_reply.specs.Texts.{line}
 use Rattle.cstn_reply.specs.Statuses.{status_of}
-use Rattle.cstn_reply.specs.Plans.{Said, after_text, EndsLine, Live, IsText, is_output, is_live_fault, is_memory}
+use Rattle.cstn_reply.specs.Plans.{Said, after_text, EndsLine, LiveState, IsText, is_output, is_live_fault, is_memory}
 use Rattle.cstn_reply.specs.Sessions.{Turn, more, last, wrong, script, play, answers, session, the_turn, Progress}
 use Rattle.cstn_reply.specs.declared.status.Status.{Status}
 use Rattle.cstn_reply.specs.declared.status.Status.TheVariants.{ReadFault, Memory}
@@ -101,14 +101,14 @@ one_more {S} turn ending start told mid now lines after state next taken said by
     }
 
 -- the whole output ends here
-ends_here : {S : Type 0} (turn : Turning S) (ending : S → Said) (opening : List ℕ) (start : S) (before after : Live) (live said text : List ℕ) (outcome : Outcome) (status : Status) → IsAllOf before.left live → play turn ending start 0 (lines_of live) ≡ after_text said (record { outcome = outcome; text = text }) → status ≡ status_of outcome → IsText (session turn ending opening start) before after status ((opening ++ said) ++ text)
+ends_here : {S : Type 0} (turn : Turning S) (ending : S → Said) (opening : List ℕ) (start : S) (before after : LiveState) (live said text : List ℕ) (outcome : Outcome) (status : Status) → IsAllOf before.left live → play turn ending start 0 (lines_of live) ≡ after_text said (record { outcome = outcome; text = text }) → status ≡ status_of outcome → IsText (session turn ending opening start) before after status ((opening ++ said) ++ text)
 ends_here turn ending opening start before after live said text outcome status all is at =
     let whole : Said = record { outcome = outcome; text = (opening ++ said) ++ text } in
     let output : whole ≡ after_text opening (play turn ending start 0 (lines_of live)) = sym (ap (after_text opening) is ∙ after_both opening said (record { outcome = outcome; text = text })) in
     subst (λ (s : Status). IsText (session turn ending opening start) before after s ((opening ++ said) ++ text)) (sym at) (is_output live whole all output)
 
 -- what is said of the rest of the lines, where it ends the session
-rest_ends : {S : Type 0} (turn : Turning S) (ending : S → Said) (opening : List ℕ) (start : S) (before : Live) (mid now : Option (List ℕ)) (faults : ℕ) (lines after : LinesState) (state : S) (taken said bytes text : List ℕ) (outcome : Outcome) (status : Status) → Stepped turn ending start before.left mid now lines after state taken said bytes → ((after.ended ≡ true → given now ≡ []) → play turn ending state lines.count (lines_of ((lines.kept ++ bytes) ++ given now)) ≡ record { outcome = outcome; text = text }) → status ≡ status_of outcome → IsText (session turn ending opening start) before (record { left = now; faults = faults }) status ((opening ++ said) ++ text)
+rest_ends : {S : Type 0} (turn : Turning S) (ending : S → Said) (opening : List ℕ) (start : S) (before : LiveState) (mid now : Option (List ℕ)) (faults : ℕ) (lines after : LinesState) (state : S) (taken said bytes text : List ℕ) (outcome : Outcome) (status : Status) → Stepped turn ending start before.left mid now lines after state taken said bytes → ((after.ended ≡ true → given now ≡ []) → play turn ending state lines.count (lines_of ((lines.kept ++ bytes) ++ given now)) ≡ record { outcome = outcome; text = text }) → status ≡ status_of outcome → IsText (session turn ending opening start) before (record { left = now; faults = faults }) status ((opening ++ said) ++ text)
 rest_ends turn ending opening start before mid now faults lines after state taken said bytes text outcome status stepped ends at =
     let end : after.ended ≡ true → given now ≡ [] = λ h. given_end now (stepped.at_end h) in
     ends_here turn ending opening start before (record { left = now; faults = faults }) ((taken ++ bytes) ++ given now) said text outcome status
@@ -117,7 +117,7 @@ rest_ends turn ending opening start before mid now faults lines after state take
     at
 
 -- a last answer
-pub last_line : {S : Type 0} (turn : Turning S) (ending : S → Said) (opening : List ℕ) (start : S) (before : Live) (mid now : Option (List ℕ)) (faults : ℕ) (lines after : LinesState) (state : S) (taken said bytes text : List ℕ) (number : ℕ) (outcome : Outcome) (status : Status) → Stepped turn ending start before.left mid now lines after state taken said bytes → HandsOut (lines.kept ++ bytes) lines.count after number → turn state after.line ≡ last (record { outcome = outcome; text = text }) → status ≡ status_of outcome → IsText (session turn ending opening start) before (record { left = now; faults = faults }) status ((opening ++ said) ++ text)
+pub last_line : {S : Type 0} (turn : Turning S) (ending : S → Said) (opening : List ℕ) (start : S) (before : LiveState) (mid now : Option (List ℕ)) (faults : ℕ) (lines after : LinesState) (state : S) (taken said bytes text : List ℕ) (number : ℕ) (outcome : Outcome) (status : Status) → Stepped turn ending start before.left mid now lines after state taken said bytes → HandsOut (lines.kept ++ bytes) lines.count after number → turn state after.line ≡ last (record { outcome = outcome; text = text }) → status ≡ status_of outcome → IsText (session turn ending opening start) before (record { left = now; faults = faults }) status ((opening ++ said) ++ text)
 last_line turn ending opening start before mid now faults lines after state taken said bytes text number outcome status stepped out is at =
     let short : is_past (lines.count + 1) after.line ≡ false = subst (λ (n : ℕ). is_past n after.line ≡ false) out.is_number out.short in
     rest_ends turn ending opening start before mid now faults lines after state taken said bytes text outcome status stepped
@@ -129,7 +129,7 @@ scripts : (n m : ℕ) (text : List ℕ) → n ≡ m → text ≡ (script m).text
 scripts n m text same is = rw (same, is) refl
 
 -- a line of no grammar
-pub wrong_line : {S : Type 0} (turn : Turning S) (ending : S → Said) (opening : List ℕ) (start : S) (before : Live) (mid now : Option (List ℕ)) (faults : ℕ) (lines after : LinesState) (state : S) (taken said bytes text : List ℕ) (number : ℕ) (status : Status) → Stepped turn ending start before.left mid now lines after state taken said bytes → HandsOut (lines.kept ++ bytes) lines.count after number → turn state after.line ≡ wrong → text ≡ (script number).text → status ≡ status_of Script → IsText (session turn ending opening start) before (record { left = now; faults = faults }) status ((opening ++ said) ++ text)
+pub wrong_line : {S : Type 0} (turn : Turning S) (ending : S → Said) (opening : List ℕ) (start : S) (before : LiveState) (mid now : Option (List ℕ)) (faults : ℕ) (lines after : LinesState) (state : S) (taken said bytes text : List ℕ) (number : ℕ) (status : Status) → Stepped turn ending start before.left mid now lines after state taken said bytes → HandsOut (lines.kept ++ bytes) lines.count after number → turn state after.line ≡ wrong → text ≡ (script number).text → status ≡ status_of Script → IsText (session turn ending opening start) before (record { left = now; faults = faults }) status ((opening ++ said) ++ text)
 wrong_line turn ending opening start before mid now faults lines after state taken said bytes text number status stepped out is text_is at =
     let short : is_past (lines.count + 1) after.line ≡ false = subst (λ (n : ℕ). is_past n after.line ≡ false) out.is_number out.short in
     rest_ends turn ending opening start before mid now faults lines after state taken said bytes text Script status stepped
@@ -139,7 +139,7 @@ wrong_line turn ending opening start before mid now faults lines after state tak
     at
 
 -- a line that is too long or too late
-pub past_line : {S : Type 0} (turn : Turning S) (ending : S → Said) (opening : List ℕ) (start : S) (before : Live) (mid now : Option (List ℕ)) (faults : ℕ) (lines after : LinesState) (state : S) (taken said bytes text : List ℕ) (number : ℕ) (status : Status) → Stepped turn ending start before.left mid now lines after state taken said bytes → IsRefused (lines.kept ++ bytes) lines.count after number → text ≡ (script number).text → status ≡ status_of Script → IsText (session turn ending opening start) before (record { left = now; faults = faults }) status ((opening ++ said) ++ text)
+pub past_line : {S : Type 0} (turn : Turning S) (ending : S → Said) (opening : List ℕ) (start : S) (before : LiveState) (mid now : Option (List ℕ)) (faults : ℕ) (lines after : LinesState) (state : S) (taken said bytes text : List ℕ) (number : ℕ) (status : Status) → Stepped turn ending start before.left mid now lines after state taken said bytes → HasWrongLine (lines.kept ++ bytes) lines.count after number → text ≡ (script number).text → status ≡ status_of Script → IsText (session turn ending opening start) before (record { left = now; faults = faults }) status ((opening ++ said) ++ text)
 past_line turn ending opening start before mid now faults lines after state taken said bytes text number status stepped out text_is at =
     let found = out.next (given now) in
     let past : is_past (lines.count + 1) found.0 ≡ true = subst (λ (n : ℕ). is_past n found.0 ≡ true) out.is_number found.3 in
@@ -150,14 +150,14 @@ past_line turn ending opening start before mid now faults lines after state take
     at
 
 -- no line
-pub no_line : {S : Type 0} (turn : Turning S) (ending : S → Said) (opening : List ℕ) (start : S) (before : Live) (mid now : Option (List ℕ)) (faults : ℕ) (lines after : LinesState) (state : S) (taken said bytes text : List ℕ) (outcome : Outcome) (status : Status) → Stepped turn ending start before.left mid now lines after state taken said bytes → IsOver (lines.kept ++ bytes) lines.count after → ending state ≡ record { outcome = outcome; text = text } → status ≡ status_of outcome → IsText (session turn ending opening start) before (record { left = now; faults = faults }) status ((opening ++ said) ++ text)
+pub no_line : {S : Type 0} (turn : Turning S) (ending : S → Said) (opening : List ℕ) (start : S) (before : LiveState) (mid now : Option (List ℕ)) (faults : ℕ) (lines after : LinesState) (state : S) (taken said bytes text : List ℕ) (outcome : Outcome) (status : Status) → Stepped turn ending start before.left mid now lines after state taken said bytes → IsOver (lines.kept ++ bytes) lines.count after → ending state ≡ record { outcome = outcome; text = text } → status ≡ status_of outcome → IsText (session turn ending opening start) before (record { left = now; faults = faults }) status ((opening ++ said) ++ text)
 no_line turn ending opening start before mid now faults lines after state taken said bytes text outcome status stepped out is at =
     rest_ends turn ending opening start before mid now faults lines after state taken said bytes text outcome status stepped
     (λ end. ap (λ (bs : List ℕ). play turn ending state lines.count (lines_of bs)) (ap (λ (xs : List ℕ). xs ++ given now) out.none ∙ end out.ended) ∙ is)
     at
 
 -- the live source failed
-pub fault_line : {S : Type 0} (turn : Turning S) (ending : S → Said) (opening : List ℕ) (start : S) (before : Live) (mid now : Option (List ℕ)) (old faults : ℕ) (lines after : LinesState) (state : S) (taken said bytes text : List ℕ) (status : Status) → Stepped turn ending start before.left mid now lines after state taken said bytes → IsBroken (lines.kept ++ bytes) lines.count after → before.faults ≤ old → Rose old faults → text ≡ line (codes "read fault") → status ≡ ReadFault → IsText (session turn ending opening start) before (record { left = now; faults = faults }) status ((opening ++ said) ++ text)
+pub fault_line : {S : Type 0} (turn : Turning S) (ending : S → Said) (opening : List ℕ) (start : S) (before : LiveState) (mid now : Option (List ℕ)) (old faults : ℕ) (lines after : LinesState) (state : S) (taken said bytes text : List ℕ) (status : Status) → Stepped turn ending start before.left mid now lines after state taken said bytes → IsBroken (lines.kept ++ bytes) lines.count after → before.faults ≤ old → Rose old faults → text ≡ line (codes "read fault") → status ≡ ReadFault → IsText (session turn ending opening start) before (record { left = now; faults = faults }) status ((opening ++ said) ++ text)
 fault_line turn ending opening start before mid now old faults lines after state taken said bytes text status stepped out earlier rose text_is at =
     let said_is : answers turn start 0 (whole_lines (taken ++ bytes)) ≡ said =
     stepped.so_far.heard bytes (was_going lines.ended after.ended stepped.stays out.ended)
@@ -165,7 +165,7 @@ fault_line turn ending opening start before mid now old faults lines after state
     ∙ nothing_more said in
     let text_was : (opening ++ answers turn start 0 (whole_lines (taken ++ bytes))) ++ line (codes "read fault") ≡ (opening ++ said) ++ text =
     ap (λ (xs : List ℕ). (opening ++ xs) ++ line (codes "read fault")) said_is ∙ ap (λ (xs : List ℕ). (opening ++ said) ++ xs) (sym text_is) in
-    let now_seen : Live = record { left = now; faults = faults } in
+    let now_seen : LiveState = record { left = now; faults = faults } in
     subst (λ (s : Status). IsText (session turn ending opening start) before now_seen s ((opening ++ said) ++ text)) (sym at)
     (subst (λ (x : List ℕ). IsText (session turn ending opening start) before now_seen ReadFault x) text_was
     (is_live_fault (taken ++ bytes) (more_taken before.left mid now taken bytes stepped.so_far.read stepped.reads) (later before.faults old faults earlier rose)))
@@ -174,7 +174,7 @@ fault_line turn ending opening start before mid now old faults lines after state
     later a b c h r = omega (arith, r)
 
 -- no memory was found for an answer
-pub memory_line : {S : Type 0} (turn : Turning S) (ending : S → Said) (opening : List ℕ) (start : S) (before : Live) (mid now : Option (List ℕ)) (faults : ℕ) (lines after : LinesState) (state : S) (taken said bytes text : List ℕ) (status : Status) → Stepped turn ending start before.left mid now lines after state taken said bytes → EndsLine opening → text ≡ line (codes "memory") → status ≡ Memory → IsText (session turn ending opening start) before (record { left = now; faults = faults }) status ((opening ++ said) ++ text)
+pub memory_line : {S : Type 0} (turn : Turning S) (ending : S → Said) (opening : List ℕ) (start : S) (before : LiveState) (mid now : Option (List ℕ)) (faults : ℕ) (lines after : LinesState) (state : S) (taken said bytes text : List ℕ) (status : Status) → Stepped turn ending start before.left mid now lines after state taken said bytes → EndsLine opening → text ≡ line (codes "memory") → status ≡ Memory → IsText (session turn ending opening start) before (record { left = now; faults = faults }) status ((opening ++ said) ++ text)
 memory_line turn ending opening start before mid now faults lines after state taken said bytes text status stepped opens text_is at =
     let end : after.ended ≡ true → given now ≡ [] = λ h. given_end now (stepped.at_end h) in
     let live : List ℕ = (taken ++ bytes) ++ given now in
@@ -182,7 +182,7 @@ memory_line turn ending opening start before mid now faults lines after state ta
     let whole : after_text opening (play turn ending start 0 (lines_of live)) ≡ after_text (opening ++ said) rest =
     ap (after_text opening) (goes_on turn ending start before.left mid now lines after state taken said bytes stepped (given now) end)
     ∙ after_both opening said rest in
-    let now_seen : Live = record { left = now; faults = faults } in
+    let now_seen : LiveState = record { left = now; faults = faults } in
     subst (λ (s : Status). IsText (session turn ending opening start) before now_seen s ((opening ++ said) ++ text)) (sym at)
     (subst (λ (x : List ℕ). IsText (session turn ending opening start) before now_seen Memory ((opening ++ said) ++ x)) (sym text_is)
     (is_memory (opening ++ said) (inr (record {

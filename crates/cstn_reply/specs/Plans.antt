@@ -19,7 +19,7 @@ use Rattle.cstn_label.specs.Bounds.{Bound}
 use Rattle.cstn_rules.specs.Closed.{IsClosed}
 use Rattle.cstn_closed.specs.Faults.{Fault, IsFirstFault, IsFaultless}
 use Rattle.cstn_tree.specs.Trees.{Tree, lines_of as tree_lines, table_of}
-use Rattle.cstn_tree.specs.Good.{IsGood}
+use Rattle.cstn_tree.specs.Good.{IsUnbroken}
 use Rattle.cstn_tree.specs.Made.{IsTreeOf}
 use Rattle.cstn_tree.specs.Texts.{shown, tells, told}
 use Rattle.cstn_reply.specs.Refusals.{fault_text, label_fault_text}
@@ -68,7 +68,7 @@ AreUnlabelled parts = IsFit parts × AreEmpty parts.labels
 pub record IsTreeText (names : List (List ℕ)) (load : ℕ) (bounds : List Bound) (net : Network) (said : Said) : Type 0 where
   pub tree : Tree
   pub made : IsTreeOf net bounds tree
-  pub good : IsGood net tree
+  pub good : IsUnbroken net tree
   pub least : (s : Scenario) (x : ℕ) → x < count net → IsLeast net s x (table_of tree s x)
   pub back : told names (shown names load (tree_lines tree)) ≡ tells (tree_lines tree)
   pub said_is : said ≡ record { outcome = Good; text = shown names load (tree_lines tree) }
@@ -137,12 +137,12 @@ abbrev pub EndsLine : List ℕ → Type 0
 EndsLine text = (text ≡ []) ⊎ ((front : List ℕ) × (text ≡ line front))
 
 -- what is seen of the live source: the bytes left, where they are told, and how many calls failed
-pub record Live : Type 0 where
+pub record LiveState : Type 0 where
   pub left : Option (List ℕ)
   pub faults : ℕ
 
 -- the text is the first lines of the output, perhaps none
-pub record AreFirstLines (plan : Plan) (before : Live) (text : List ℕ) : Type 0 where
+pub record AreFirstLines (plan : Plan) (before : LiveState) (text : List ℕ) : Type 0 where
   pub live : List ℕ
   pub said : Said
   pub rest : List ℕ
@@ -152,7 +152,7 @@ pub record AreFirstLines (plan : Plan) (before : Live) (text : List ℕ) : Type 
   pub lines : EndsLine text
 
 -- What is written where each write is accepted: the output, or what comes after a fault.
-pub data IsText (plan : Plan) (before after : Live) : Status → List ℕ → Type 0 where
+pub data IsText (plan : Plan) (before after : LiveState) : Status → List ℕ → Type 0 where
   is_output : (live : List ℕ) (said : Said) → IsAllOf before.left live → IsOutput plan live said → IsText plan before after (status_of said.outcome) said.text
   is_file_fault : after ≡ before → IsText plan before after ReadFault (line (codes "read fault"))
   is_live_fault : (taken : List ℕ) → before.left ≡ after_bytes taken after.left → Rose before.faults after.faults → IsText plan before after ReadFault (before_fault plan taken ++ line (codes "read fault"))
@@ -163,6 +163,6 @@ abbrev pub IsWritten : Option (List ℕ) → Option (List ℕ) → List ℕ → 
 IsWritten old new text status result = ((result ≡ status) × (new ≡ with_bytes old text)) ⊎ ((result ≡ WriteFault) × ((n : ℕ) × (new ≡ with_bytes old (take n text))))
 
 -- A call ends with this status: a text of the plan was written, whole or in part.
-abbrev pub Ends : Plan → Live → Live → Option (List ℕ) → Option (List ℕ) → Status → Type 0
+abbrev pub Ends : Plan → LiveState → LiveState → Option (List ℕ) → Option (List ℕ) → Status → Type 0
 Ends plan before after old new result =
     (status : Status) × (text : List ℕ) × IsText plan before after status text × IsWritten old new text status result

@@ -76,6 +76,7 @@ pub fn finish<K: Sink>(out: &mut K, text: &[u8], status: Status) -> Status
     ensures status { (result ≡ status) ⊎ (result ≡ Status.WriteFault) }
     ensures flushed { result ≢ Status.WriteFault → K.flushed out.new ≡ option_map length (K.written out.new) }
     ensures cause { result ≡ Status.WriteFault → (status ≡ Status.WriteFault) ⊎ Rose (K.faults out.old) (K.faults out.new) }
+    ensures later { K.faults out.old ≤ K.faults out.new }
 {
     match send(out, text) {
         Ok(()) => status,

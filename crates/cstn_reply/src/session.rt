@@ -5,7 +5,7 @@ ghost use Rattle.cstn_io.specs.Causes.{Rose};
 ghost use Rattle.cstn_io.specs.Contents.{after_bytes, with_bytes, IsAtEnd};
 ghost use Rattle.cstn_lines.specs.Steps.{LinesState};
 ghost use Rattle.cstn_reply.specs.Texts.{line};
-ghost use Rattle.cstn_reply.specs.Plans.{Said, EndsLine, Live, IsText, Ends};
+ghost use Rattle.cstn_reply.specs.Plans.{Said, EndsLine, LiveState, IsText, Ends};
 ghost use Rattle.cstn_reply.specs.Sessions.{Turn, script, session, the_turn, Progress};
 
 use crate::Status;
@@ -98,7 +98,7 @@ fn next<T: Talk, S: Source>(
     requires room { T.room talk.old ≤ vec_capacity text.old }
     requires script { 40 ≤ vec_capacity text.old }
     ensures goes_on { IfNone result ((start : T.State) (told : Option (List ℕ)) (taken said : List ℕ) → Progress T.turn T.ending start told (S.left live.old) lines.old (T.state talk.old) taken said → (bytes : List ℕ) × Progress T.turn T.ending start told (S.left live.new) lines.new (T.state talk.new) (taken ++ bytes) (said ++ text.new.items)) }
-    ensures ends { IfSome result (λ status. (start : T.State) (before : Live) (taken said opening : List ℕ) → Progress T.turn T.ending start before.left (S.left live.old) lines.old (T.state talk.old) taken said → before.faults ≤ S.faults live.old → EndsLine opening → IsText (session T.turn T.ending opening start) before (record { left = S.left live.new; faults = S.faults live.new }) status ((opening ++ said) ++ text.new.items)) }
+    ensures ends { IfSome result (λ status. (start : T.State) (before : LiveState) (taken said opening : List ℕ) → Progress T.turn T.ending start before.left (S.left live.old) lines.old (T.state talk.old) taken said → before.faults ≤ S.faults live.old → EndsLine opening → IsText (session T.turn T.ending opening start) before (record { left = S.left live.new; faults = S.faults live.new }) status ((opening ++ said) ++ text.new.items)) }
     ensures at_end { lines.new.ended ≡ true → IsAtEnd (S.left live.new) }
     ensures count { IfNone result ((lines.new.count ≡ lines.old.count + 1) × (lines.new.count ≤ 16777216)) }
     ensures room { T.room talk.new ≡ T.room talk.old }
@@ -147,7 +147,8 @@ pub fn converse<T: Talk, S: Source, K: Sink>(
     ensures flushed { result ≢ Status.WriteFault → K.flushed out.new ≡ option_map length (K.written out.new) }
     ensures read { result ≡ Status.ReadFault → Rose (S.faults live.old) (S.faults live.new) }
     ensures write { result ≡ Status.WriteFault → Rose (K.faults out.old) (K.faults out.new) }
-    ensures memory { result ≡ Status.Memory → IsTrue T.may_stop ⊎ (K.written out.new ≡ with_bytes (K.written out.old) (line (codes "memory"))) }
+    ensures memory { result ≡ Status.Memory → IsTrue T.may_stop ⊎ ((K.written out.new ≡ with_bytes (K.written out.old) (line (codes "memory"))) × (live.new ≡ live.old)) }
+    ensures later { (S.faults live.old ≤ S.faults live.new) × (K.faults out.old ≤ K.faults out.new) }
 {
     let Ok(mut lines) = Lines::start(alloc) else {
         return finish(out, b"memory\n", Status::Memory);

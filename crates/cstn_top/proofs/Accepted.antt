@@ -15,7 +15,7 @@ use Rattle.cstn_words.specs.Requests.{Asked, Request, check, run, edit, closed, 
 use Rattle.cstn_words.specs.Read.{IsCapped, the_request}
 use Rattle.cstn_words.specs.declared.words.Request.{Request as RequestWords}
 use Rattle.cstn_words.specs.declared.words.Request.TheVariants.{Check, Run, Edit, Closed, Tight, Conflict, Tree, Save, Replay, Closedcheck, Treecheck, Drill, Host}
-use Rattle.cstn_reply.specs.Plans.{Said, Plan, AreUnlabelled, IsOutput, Live, IsText, is_output, is_file_fault, is_live_fault, is_memory, IsWritten}
+use Rattle.cstn_reply.specs.Plans.{Said, Plan, AreUnlabelled, IsOutput, LiveState, IsText, is_output, is_file_fault, is_live_fault, is_memory, IsWritten}
 use Rattle.cstn_reply.specs.Statuses.{status_of}
 use Rattle.cstn_reply.specs.Texts.{yes_line}
 use Rattle.cstn_reply.specs.declared.output.Outcome.{Outcome}
@@ -44,7 +44,7 @@ use Rattle.cstn_top.proofs.Documents.{document_says}
 use Rattle.cstn_top.proofs.Labels.{IsOfLabelled, on_labels}
 use Rattle.cstn_top.proofs.Meanings.{RunTells, run_tells}
 use Rattle.cstn_evidence.proofs.ReadBack.{numbered_ids}
-use Rattle.cstn_top.proofs.Endings.{Answered}
+use Rattle.cstn_top.proofs.Endings.{Answered, held_at}
 
 document_then : (bytes : List ℕ) (deadline : Option ℕ) (one other : List (List ℕ) → Network → Type 0) → HasNetwork bytes deadline one → ((names : List (List ℕ)) (net : Network) → IsOfDocument names net → one names net → other names net) → HasNetwork bytes deadline other
 document_then bytes deadline one other has follows = by_result (document bytes deadline) refl has
@@ -227,10 +227,10 @@ output_evidence yes_text no_text (drill number) contents live said capped output
 output_evidence yes_text no_text (host files deadline cap) contents live said capped output = tt
 
 -- what was written of an output, unless the call was stopped
-abbrev pub WroteOutput : Plan → Live → Option (List ℕ) → Option (List ℕ) → Status → Type 0
+abbrev pub WroteOutput : Plan → LiveState → Option (List ℕ) → Option (List ℕ) → Status → Type 0
 WroteOutput plan before old new status = (live : List ℕ) × IsAllOf before.left live × ((said : Said) × IsOutput plan live said × (status ≡ status_of said.outcome) × (new ≡ with_bytes old said.text))
 
-pub output_wrote : (plan : Plan) (before after : Live) (old new : Option (List ℕ)) (status result : Status) (text : List ℕ) → IsText plan before after status text → IsWritten old new text status result → WroteOutput plan before old new result ⊎ IsStopped result
+pub output_wrote : (plan : Plan) (before after : LiveState) (old new : Option (List ℕ)) (status result : Status) (text : List ℕ) → IsText plan before after status text → IsWritten old new text status result → WroteOutput plan before old new result ⊎ IsStopped result
 output_wrote plan before after old new status result text what (inr cut) = inr (inr (inl cut.0))
 output_wrote plan before after old new status result text (is_output live said all output) (inl wrote) = inl (live, all, (said, output, wrote.0, wrote.1))
 output_wrote plan before after old new status result text (is_file_fault same) (inl wrote) = inr (inl wrote.0)
@@ -238,16 +238,18 @@ output_wrote plan before after old new status result text (is_live_fault taken l
 output_wrote plan before after old new status result text (is_memory first why) (inl wrote) = inr (inr (inr wrote.0))
 
 -- what was written for a request is evidence, unless the call was stopped
-pub evidence_is : {S : Type 0} → YesAccepted → NoAccepted → (words : Option Request) (r : Request) (told : Option (List ℕ → Option (List ℕ))) (source now : S) (before after : Live) (old new : Option (List ℕ)) (result : Status) → Some r ≡ words → IsRanged r → Answered words told source now before after old new result →
+pub evidence_at : {S : Type 0} → YesAccepted → NoAccepted → (r : Request) (told : Option (List ℕ → Option (List ℕ))) (source now : S) (before after : LiveState) (old new : Option (List ℕ)) (result : Status) → IsRanged r → (answered : Answered (Some r) told source now before after old new result) → IsStopped result ⊎ WroteEvidence old new result r answered.0
+evidence_at yes_text no_text r told source now before after old new result ranged answered =
+    by_end (output_wrote (plan_at r answered.0) before after old new answered.2.0 result answered.2.1 answered.2.2 answered.2.3)
+  where
+    by_end : WroteOutput (plan_at r answered.0) before old new result ⊎ IsStopped result → IsStopped result ⊎ WroteEvidence old new result r answered.0
+    by_end (inl (live, all, (said, output, at, wrote))) =
+        inr (said.text, wrote, subst (λ (s : Status). IsEvidence r s said.text answered.0) (sym at) (output_evidence yes_text no_text r answered.0 live said ranged output))
+    by_end (inr stopped) = inl stopped
+
+pub evidence_is : {S : Type 0} → YesAccepted → NoAccepted → (words : Option Request) (r : Request) (told : Option (List ℕ → Option (List ℕ))) (source now : S) (before after : LiveState) (old new : Option (List ℕ)) (result : Status) → Some r ≡ words → IsRanged r → Answered words told source now before after old new result →
     IsStopped result ⊎ (IsNone words ⊎ HoldsOf words told (WroteEvidence old new result))
 evidence_is {S} yes_text no_text words r told source now before after old new result there ranged answered =
+    let ended = subst (λ (w : Option Request). Answered w told source now before after old new result) (sym there) answered in
     subst (λ (w : Option Request). IsStopped result ⊎ (IsNone w ⊎ HoldsOf w told (WroteEvidence old new result))) there
-    (of_request (subst (λ (w : Option Request). Answered w told source now before after old new result) (sym there) answered))
-  where
-    by_end : (ended : Answered (Some r) told source now before after old new result) → WroteOutput (plan_at r ended.0) before old new result ⊎ IsStopped result → IsStopped result ⊎ (IsNone (Some r) ⊎ HoldsOf (Some r) told (WroteEvidence old new result))
-    by_end ended (inl (live, all, (said, output, at, wrote))) =
-        inr (inr (ended.0, ended.1, (said.text, wrote, subst (λ (s : Status). IsEvidence r s said.text ended.0) (sym at) (output_evidence yes_text no_text r ended.0 live said ranged output))))
-    by_end ended (inr stopped) = inl stopped
-
-    of_request : Answered (Some r) told source now before after old new result → IsStopped result ⊎ (IsNone (Some r) ⊎ HoldsOf (Some r) told (WroteEvidence old new result))
-    of_request ended = by_end ended (output_wrote (plan_at r ended.0) before after old new ended.2.0 result ended.2.1 ended.2.2 ended.2.3)
+    (held_at r told source now before after old new result (WroteEvidence old new result) ended (evidence_at yes_text no_text r told source now before after old new result ranged ended))

@@ -22,7 +22,7 @@ use Rattle.cstn_check.proofs.GoodLemmas.{good_at}
 use Rattle.cstn_check.proofs.PartLemmas.{part_short}
 use Rattle.cstn_text.specs.Names.{AreNames, number_of}
 use Rattle.cstn_refute.specs.Texts.{Told, tells, told, shown}
-use Rattle.cstn_refute.specs.Written.{ArePlaces, IsWritten, AreWritten}
+use Rattle.cstn_refute.specs.Written.{ArePlaces, IsPrintableStep, AreWritten}
 use Rattle.cstn_lines.specs.EditLines.{Edit, added, removed, changed, asked, edit_read}
 use Rattle.cstn_reply.specs.Plans.{say, Plan, replays, IsOutput}
 use Rattle.cstn_reply.specs.declared.output.Outcome.TheVariants.{Good}
@@ -120,7 +120,7 @@ module _ (names : List (List ℕ)) (net : Network) (good : IsWellFormed net) (na
       let other = follows.4.before in
       (omega (arith, one, below), omega (arith, other, below))
 
-  step_written : (k : ℕ) (e : Entry) → slice_get (part list) k ≡ Some e → IsWritten names e
+  step_written : (k : ℕ) (e : Entry) → slice_get (part list) k ≡ Some e → IsPrintableStep names e
   step_written k e there =
       let from = comes (with_ancestors list (length list) (last_marked (length list))) list k e there in
       let same : from.1.bound ≡ e.bound = sym (ap (λ (x : Entry). x.bound) from.5) in

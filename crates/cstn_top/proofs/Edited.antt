@@ -16,7 +16,7 @@ use Rattle.cstn_text.specs.PrintedLabels.{label_read}
 use Rattle.cstn_text.proofs.LabelReadLemmas.{label_small}
 use Rattle.cstn_graphml.specs.Results.{Refusal as Refused, or_refused}
 use Rattle.cstn_graphml.specs.Results.Refusal.{no_deadline}
-use Rattle.cstn_graphml.specs.Document.{Parts, document, in_document, is_text, parts_of, first_of_two, or_nothing}
+use Rattle.cstn_graphml.specs.Document.{Parts, document, in_document, is_text, drawn_parts, first_of_two, or_nothing}
 use Rattle.cstn_graphml.proofs.DrawnGraphLaws.{bind_ok, document_is_drawn}
 use Rattle.cstn_check.specs.Growth.{load_of}
 use Rattle.cstn_check.specs.declared.verdicts.Verdict.{Verdict}
@@ -41,7 +41,7 @@ use Rattle.cstn_reply.specs.declared.output.Outcome.TheVariants.{Good, Bad, Word
 pub document_named : (bytes : List ℕ) (deadline : Option ℕ) (parts : Parts) → document bytes deadline ≡ Ok parts → length parts.names ≡ length parts.observes
 document_named bytes deadline parts is =
     let text = bind_ok (is_text bytes) _ parts is in
-    let graph = bind_ok (in_document _) (parts_of deadline) parts text.2 in
+    let graph = bind_ok (in_document _) (drawn_parts deadline) parts text.2 in
     let whole : ℕ → Parts = λ n. record { deadline = n; names = graph.0.names; observes = or_nothing graph.0.origin ∷ graph.0.observes; labels = graph.0.origin_label ∷ graph.0.labels; constraints = graph.0.constraints } in
     let timed = bind_ok (or_refused (first_of_two deadline graph.0.deadline) no_deadline) (λ n. Ok (whole n)) parts graph.2 in
     let each = (document_is_drawn _ graph.0 graph.1).each in

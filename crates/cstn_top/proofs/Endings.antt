@@ -6,7 +6,7 @@ use Rattle.cstn_io.specs.Contents.{IsAllOf}
 use Rattle.cstn_reply.specs.Texts.{line}
 use Rattle.cstn_words.specs.Requests.{Request, files_of, names_of, AsksEdit}
 use Rattle.cstn_reply.specs.Files.{AreContents, AreThere}
-use Rattle.cstn_reply.specs.Plans.{Said, say, Plan, says, IsOutput, MayTalk, Live, IsText, is_output, is_file_fault, is_live_fault, is_memory, IsWritten, Ends, ComesTo, Untouched}
+use Rattle.cstn_reply.specs.Plans.{Said, say, Plan, says, IsOutput, MayTalk, LiveState, IsText, is_output, is_file_fault, is_live_fault, is_memory, IsWritten, Ends, ComesTo, Untouched}
 use Rattle.cstn_reply.specs.Sessions.{session}
 use Rattle.cstn_talk.specs.Guiding.{GuidingParts, guided_turn, guided_ending}
 use Rattle.cstn_words.specs.Requests.{AsksHost}
@@ -26,30 +26,30 @@ use Rattle.cstn_top.proofs.Meanings.{IsRight, output_right, output_complete, tal
 use Rattle.cstn_top.proofs.Meanings.{hosts_stop}
 
 -- how a call ends, for the files that were read
-abbrev pub Answered : {S : Type 0} → Option Request → Option (List ℕ → Option (List ℕ)) → S → S → Live → Live → Option (List ℕ) → Option (List ℕ) → Status → Type 0
+abbrev pub Answered : {S : Type 0} → Option Request → Option (List ℕ → Option (List ℕ)) → S → S → LiveState → LiveState → Option (List ℕ) → Option (List ℕ) → Status → Type 0
 Answered words told source now before after old new result = (contents : List (List ℕ)) × AreContents told (names_of words) contents × Ends (plan_of words contents) before after old new result × Untouched (plan_of words contents) source now
 
-pub says_text : (plan : Plan) (said : Said) (seen : Live) → ((live : List ℕ) → IsOutput plan live said) → IsText plan seen seen (status_of said.outcome) said.text
+pub says_text : (plan : Plan) (said : Said) (seen : LiveState) → ((live : List ℕ) → IsOutput plan live said) → IsText plan seen seen (status_of said.outcome) said.text
 says_text plan said seen output = is_output (given seen.left) said (all_given seen.left seen.left [] (no_taken seen.left)) (output (given seen.left))
 
-memory_text : (plan : Plan) (seen : Live) → IsText plan seen seen Memory (line (codes "memory"))
+memory_text : (plan : Plan) (seen : LiveState) → IsText plan seen seen Memory (line (codes "memory"))
 memory_text plan seen = is_memory [] (inl refl)
 
 -- the words are no request
-pub words_end : {S : Type 0} (words : Option Request) (told : Option (List ℕ → Option (List ℕ))) (source : S) (seen : Live) (old new : Option (List ℕ)) (result : Status) → None ≡ words → IsWritten old new (line (codes "words")) IsWords result → Answered words told source source seen seen old new result
+pub words_end : {S : Type 0} (words : Option Request) (told : Option (List ℕ → Option (List ℕ))) (source : S) (seen : LiveState) (old new : Option (List ℕ)) (result : Status) → None ≡ words → IsWritten old new (line (codes "words")) IsWords result → Answered words told source source seen seen old new result
 words_end words told source seen old new result none written =
     let fs = some_contents told [] in
     subst (λ (w : Option Request). Answered w told source source seen seen old new result) none
     (fs.0, fs.1, (IsWords, line (codes "words"), says_text (says (say Words (codes "words"))) (say Words (codes "words")) seen (λ live. refl), written), inr refl)
 
 -- a file couldn't be read
-pub fault_end : {S : Type 0} (words : Option Request) (told : Option (List ℕ → Option (List ℕ))) (source : S) (seen : Live) (old new : Option (List ℕ)) (result : Status) → IsWritten old new (line (codes "read fault")) ReadFault result → Answered words told source source seen seen old new result
+pub fault_end : {S : Type 0} (words : Option Request) (told : Option (List ℕ → Option (List ℕ))) (source : S) (seen : LiveState) (old new : Option (List ℕ)) (result : Status) → IsWritten old new (line (codes "read fault")) ReadFault result → Answered words told source source seen seen old new result
 fault_end words told source seen old new result written =
     let fs = some_contents told (names_of words) in
     (fs.0, fs.1, (ReadFault, line (codes "read fault"), is_file_fault refl, written), inr refl)
 
 -- memory was refused
-pub memory_end : {S : Type 0} (words : Option Request) (told : Option (List ℕ → Option (List ℕ))) (source : S) (seen : Live) (old new : Option (List ℕ)) (result : Status) → IsWritten old new (line (codes "memory")) Memory result → Answered words told source source seen seen old new result
+pub memory_end : {S : Type 0} (words : Option Request) (told : Option (List ℕ → Option (List ℕ))) (source : S) (seen : LiveState) (old new : Option (List ℕ)) (result : Status) → IsWritten old new (line (codes "memory")) Memory result → Answered words told source source seen seen old new result
 memory_end words told source seen old new result written =
     let fs = some_contents told (names_of words) in
     (fs.0, fs.1, (Memory, line (codes "memory"), memory_text (plan_of words fs.0) seen, written), inr refl)
@@ -59,19 +59,19 @@ text_written : (said : Said) (text : List ℕ) (old new : Option (List ℕ)) (st
 text_written said text old new status result same at written =
     subst (λ (s : Status). IsWritten old new said.text s result) at (subst (λ (xs : List ℕ). IsWritten old new xs status result) same written)
 
-pub text_end : (said : Said) (text : List ℕ) (seen : Live) (old new : Option (List ℕ)) (status result : Status) → text ≡ said.text → status ≡ status_of said.outcome → IsWritten old new text status result → Ends (says said) seen seen old new result
+pub text_end : (said : Said) (text : List ℕ) (seen : LiveState) (old new : Option (List ℕ)) (status result : Status) → text ≡ said.text → status ≡ status_of said.outcome → IsWritten old new text status result → Ends (says said) seen seen old new result
 text_end said text seen old new status result same at written =
     (status_of said.outcome, said.text, says_text (says said) said seen (λ live. refl), text_written said text old new status result same at written)
 
 -- the text of a plan was written
-pub says_end : {S : Type 0} (words : Option Request) (r : Request) (told : Option (List ℕ → Option (List ℕ))) (source : S) (said : Said) (text : List ℕ) (seen : Live) (old new : Option (List ℕ)) (status result : Status) → Some r ≡ words → Planned r told (says said) → text ≡ said.text → status ≡ status_of said.outcome → IsWritten old new text status result → Answered words told source source seen seen old new result
+pub says_end : {S : Type 0} (words : Option Request) (r : Request) (told : Option (List ℕ → Option (List ℕ))) (source : S) (said : Said) (text : List ℕ) (seen : LiveState) (old new : Option (List ℕ)) (status result : Status) → Some r ≡ words → Planned r told (says said) → text ≡ said.text → status ≡ status_of said.outcome → IsWritten old new text status result → Answered words told source source seen seen old new result
 says_end words r told source said text seen old new status result there planned same at written =
     let plan : Plan = plan_at r planned.contents in
     let ends : Ends plan seen seen old new result = (status_of said.outcome, said.text, says_text plan said seen (λ live. planned.comes.output live said refl), text_written said text old new status result same at written) in
     subst (λ (w : Option Request). Answered w told source source seen seen old new result) there (planned.contents, planned.are, ends, inr refl)
 
 -- a text of what a plan comes to
-carried : (plan other : Plan) (before after : Live) (status : Status) (text : List ℕ) → ComesTo plan other → MayTalk other → IsText other before after status text → IsText plan before after status text
+carried : (plan other : Plan) (before after : LiveState) (status : Status) (text : List ℕ) → ComesTo plan other → MayTalk other → IsText other before after status text → IsText plan before after status text
 carried plan other before after status text comes may (is_output live said all output) = is_output live said all (comes.output live said output)
 carried plan other before after status text comes may (is_file_fault same) = is_file_fault same
 carried plan other before after status text comes may (is_live_fault taken left rose) =
@@ -95,23 +95,23 @@ pub opened_ward : (r : Request) (told : Option (List ℕ → Option (List ℕ)))
 opened_ward r told ward opening planned same = subst (λ (o : List ℕ). Planned r told (session ward_turn ward_ending o (the_ward ward))) same planned
 
 -- a session was held
-pub talks_end : {S : Type 0} (words : Option Request) (r : Request) (told : Option (List ℕ → Option (List ℕ))) (source now : S) (plan : Plan) (before after : Live) (old new : Option (List ℕ)) (result : Status) → Some r ≡ words → Planned r told plan → MayTalk plan → Ends plan before after old new result → Answered words told source now before after old new result
+pub talks_end : {S : Type 0} (words : Option Request) (r : Request) (told : Option (List ℕ → Option (List ℕ))) (source now : S) (plan : Plan) (before after : LiveState) (old new : Option (List ℕ)) (result : Status) → Some r ≡ words → Planned r told plan → MayTalk plan → Ends plan before after old new result → Answered words told source now before after old new result
 talks_end words r told source now plan before after old new result there planned may ends =
     subst (λ (w : Option Request). Answered w told source now before after old new result) there
     (planned.contents, planned.are, (ends.0, ends.1, carried (plan_at r planned.contents) plan before after ends.0 ends.1 planned.comes may ends.2, ends.3), inl (planned.comes.talks may))
 
 -- a call ends with the status of an output
-abbrev EndsAs : Plan → Live → Status → Type 0
+abbrev EndsAs : Plan → LiveState → Status → Type 0
 EndsAs plan before status = (live : List ℕ) × IsAllOf before.left live × ((said : Said) × IsOutput plan live said × (status ≡ status_of said.outcome))
 
 -- an output ends with the status of its outcome, and other ends are faults or want of memory
-text_status : (plan : Plan) (before after : Live) (status : Status) (text : List ℕ) → IsText plan before after status text → EndsAs plan before status ⊎ IsStopped status
+text_status : (plan : Plan) (before after : LiveState) (status : Status) (text : List ℕ) → IsText plan before after status text → EndsAs plan before status ⊎ IsStopped status
 text_status plan before after status text (is_output live said all output) = inl (live, all, (said, output, refl))
 text_status plan before after status text (is_file_fault same) = inr (inl refl)
 text_status plan before after status text (is_live_fault taken left rose) = inr (inl refl)
 text_status plan before after status text (is_memory first why) = inr (inr (inr refl))
 
-end_status : (plan : Plan) (before after : Live) (old new : Option (List ℕ)) (result : Status) → Ends plan before after old new result → EndsAs plan before result ⊎ IsStopped result
+end_status : (plan : Plan) (before after : LiveState) (old new : Option (List ℕ)) (result : Status) → Ends plan before after old new result → EndsAs plan before result ⊎ IsStopped result
 end_status plan before after old new result ends = by_written ends.3
   where
     by_text : (status : Status) → result ≡ status → EndsAs plan before status ⊎ IsStopped status → EndsAs plan before result ⊎ IsStopped result
@@ -131,7 +131,7 @@ not_stopped outcome (inr (inl is)) = grind arith
 not_stopped outcome (inr (inr is)) = grind arith
 
 -- what the status of an output tells of a request
-request_tells : {S : Type 0} (r : Request) (told : Option (List ℕ → Option (List ℕ))) (source now : S) (before after : Live) (old new : Option (List ℕ)) (result : Status) (outcome : Outcome) (answered : Answered (Some r) told source now before after old new result) → result ≡ status_of outcome → IsRight before.left outcome r answered.0
+pub request_tells : {S : Type 0} (r : Request) (told : Option (List ℕ → Option (List ℕ))) (source now : S) (before after : LiveState) (old new : Option (List ℕ)) (result : Status) (outcome : Outcome) (answered : Answered (Some r) told source now before after old new result) → result ≡ status_of outcome → IsRight before.left outcome r answered.0
 request_tells r told source now before after old new result outcome answered is = by_status (end_status (plan_at r answered.0) before after old new result answered.2)
   where
     by_status : EndsAs (plan_at r answered.0) before result ⊎ IsStopped result → IsRight before.left outcome r answered.0
@@ -140,7 +140,7 @@ request_tells r told source now before after old new result outcome answered is 
     by_status (inr stopped) = absurd (not_stopped outcome (subst IsStopped is stopped))
 
 -- no request has only the status Words
-pub none_tells : {S : Type 0} (told : Option (List ℕ → Option (List ℕ))) (source now : S) (before after : Live) (old new : Option (List ℕ)) (result : Status) (outcome : Outcome) → Answered None told source now before after old new result → result ≡ status_of outcome → outcome ≡ Words
+pub none_tells : {S : Type 0} (told : Option (List ℕ → Option (List ℕ))) (source now : S) (before after : LiveState) (old new : Option (List ℕ)) (result : Status) (outcome : Outcome) → Answered None told source now before after old new result → result ≡ status_of outcome → outcome ≡ Words
 none_tells told source now before after old new result outcome answered is = by_status (end_status (plan_of None answered.0) before after old new result answered.2)
   where
     by_status : EndsAs (plan_of None answered.0) before result ⊎ IsStopped result → outcome ≡ Words
@@ -148,40 +148,47 @@ none_tells told source now before after old new result outcome answered is = by_
     by_status (inr stopped) = absurd (not_stopped outcome (subst IsStopped is stopped))
 
 -- the status Words comes only where the words are no request
-pub words_is : {S : Type 0} (words : Option Request) (told : Option (List ℕ → Option (List ℕ))) (source now : S) (before after : Live) (old new : Option (List ℕ)) (result : Status) → Answered words told source now before after old new result → result ≡ IsWords → IsNone words
+pub words_is : {S : Type 0} (words : Option Request) (told : Option (List ℕ → Option (List ℕ))) (source now : S) (before after : LiveState) (old new : Option (List ℕ)) (result : Status) → Answered words told source now before after old new result → result ≡ IsWords → IsNone words
 words_is None told source now before after old new result answered is = refl
 words_is (Some r) told source now before after old new result answered is = absurd (request_tells r told source now before after old new result Words answered is)
 
 -- what Good tells
-pub good_is : {S : Type 0} (words : Option Request) (told : Option (List ℕ → Option (List ℕ))) (source now : S) (before after : Live) (old new : Option (List ℕ)) (result : Status) → Answered words told source now before after old new result → result ≡ IsYesStatus → HoldsOf words told (IsGood before.left)
+pub good_is : {S : Type 0} (words : Option Request) (told : Option (List ℕ → Option (List ℕ))) (source now : S) (before after : LiveState) (old new : Option (List ℕ)) (result : Status) → Answered words told source now before after old new result → result ≡ IsYesStatus → HoldsOf words told (IsGood before.left)
 good_is None told source now before after old new result answered is = absurd (let e : Good ≡ Words = none_tells told source now before after old new result Good answered is in cc)
 good_is (Some r) told source now before after old new result answered is = (answered.0, answered.1, request_tells r told source now before after old new result Good answered is)
 
 -- what Bad tells
-pub bad_is : {S : Type 0} (words : Option Request) (told : Option (List ℕ → Option (List ℕ))) (source now : S) (before after : Live) (old new : Option (List ℕ)) (result : Status) → Answered words told source now before after old new result → result ≡ IsNoStatus → HoldsOf words told (IsBad before.left)
+pub bad_is : {S : Type 0} (words : Option Request) (told : Option (List ℕ → Option (List ℕ))) (source now : S) (before after : LiveState) (old new : Option (List ℕ)) (result : Status) → Answered words told source now before after old new result → result ≡ IsNoStatus → HoldsOf words told (IsBad before.left)
 bad_is None told source now before after old new result answered is = absurd (let e : Bad ≡ Words = none_tells told source now before after old new result Bad answered is in cc)
 bad_is (Some r) told source now before after old new result answered is = (answered.0, answered.1, request_tells r told source now before after old new result Bad answered is)
 
 -- what Full tells
-pub full_is : {S : Type 0} (words : Option Request) (told : Option (List ℕ → Option (List ℕ))) (source now : S) (before after : Live) (old new : Option (List ℕ)) (result : Status) → Answered words told source now before after old new result → result ≡ IsFullStatus → HoldsOf words told (IsFull before.left)
+pub full_is : {S : Type 0} (words : Option Request) (told : Option (List ℕ → Option (List ℕ))) (source now : S) (before after : LiveState) (old new : Option (List ℕ)) (result : Status) → Answered words told source now before after old new result → result ≡ IsFullStatus → HoldsOf words told (IsFull before.left)
 full_is None told source now before after old new result answered is = absurd (let e : Full ≡ Words = none_tells told source now before after old new result Full answered is in cc)
 full_is (Some r) told source now before after old new result answered is = (answered.0, answered.1, request_tells r told source now before after old new result Full answered is)
 
 -- what Wide tells
-pub wide_is : {S : Type 0} (words : Option Request) (told : Option (List ℕ → Option (List ℕ))) (source now : S) (before after : Live) (old new : Option (List ℕ)) (result : Status) → Answered words told source now before after old new result → result ≡ IsWideStatus → HoldsOf words told IsWide
+pub wide_is : {S : Type 0} (words : Option Request) (told : Option (List ℕ → Option (List ℕ))) (source now : S) (before after : LiveState) (old new : Option (List ℕ)) (result : Status) → Answered words told source now before after old new result → result ≡ IsWideStatus → HoldsOf words told IsWide
 wide_is None told source now before after old new result answered is = absurd (let e : Wide ≡ Words = none_tells told source now before after old new result Wide answered is in cc)
 wide_is (Some r) told source now before after old new result answered is = (answered.0, answered.1, request_tells r told source now before after old new result Wide answered is)
 
--- a call is stopped, or the words are none, or it is complete
-pub complete_is : {S : Type 0} (words : Option Request) (told : Option (List ℕ → Option (List ℕ))) (source now : S) (before after : Live) (old new : Option (List ℕ)) (result : Status) → Answered words told source now before after old new result → IsStopped result ⊎ (IsNone words ⊎ HoldsOf words told (IsComplete result))
+-- a call is stopped, or it is complete
+pub complete_at : {S : Type 0} (r : Request) (told : Option (List ℕ → Option (List ℕ))) (source now : S) (before after : LiveState) (old new : Option (List ℕ)) (result : Status) (answered : Answered (Some r) told source now before after old new result) → IsStopped result ⊎ IsComplete result r answered.0
+complete_at r told source now before after old new result answered = by_status (end_status (plan_at r answered.0) before after old new result answered.2)
+  where
+    by_status : EndsAs (plan_at r answered.0) before result ⊎ IsStopped result → IsStopped result ⊎ IsComplete result r answered.0
+    by_status (inl (live, all, (said, output, at))) = inr (subst (λ (s : Status). IsComplete s r answered.0) (sym at) (output_complete r answered.0 live said output))
+    by_status (inr stopped) = inl stopped
+
+-- a call is stopped, or the words are none, or this holds of the contents
+pub held_at : {S : Type 0} (r : Request) (told : Option (List ℕ → Option (List ℕ))) (source now : S) (before after : LiveState) (old new : Option (List ℕ)) (result : Status) (holds : Request → List (List ℕ) → Type 0) (answered : Answered (Some r) told source now before after old new result) → IsStopped result ⊎ holds r answered.0 → IsStopped result ⊎ (IsNone (Some r) ⊎ HoldsOf (Some r) told holds)
+held_at r told source now before after old new result holds answered (inl stopped) = inl stopped
+held_at r told source now before after old new result holds answered (inr has) = inr (inr (answered.0, answered.1, has))
+
+pub complete_is : {S : Type 0} (words : Option Request) (told : Option (List ℕ → Option (List ℕ))) (source now : S) (before after : LiveState) (old new : Option (List ℕ)) (result : Status) → Answered words told source now before after old new result → IsStopped result ⊎ (IsNone words ⊎ HoldsOf words told (IsComplete result))
 complete_is None told source now before after old new result answered = inr (inl refl)
 complete_is (Some r) told source now before after old new result answered =
-    by_status (end_status (plan_at r answered.0) before after old new result answered.2)
-  where
-    by_status : EndsAs (plan_at r answered.0) before result ⊎ IsStopped result → IsStopped result ⊎ (IsNone (Some r) ⊎ HoldsOf (Some r) told (IsComplete result))
-    by_status (inl (live, all, (said, output, at))) =
-        inr (inr (answered.0, answered.1, subst (λ (s : Status). IsComplete s r answered.0) (sym at) (output_complete r answered.0 live said output)))
-    by_status (inr stopped) = inl stopped
+    held_at r told source now before after old new result (IsComplete result) answered (complete_at r told source now before after old new result answered)
 
 -- a session was held only by a request that reads the live source
 pub reads_live : (words : Option Request) (r : Request) (told : Option (List ℕ → Option (List ℕ))) (plan : Plan) → Some r ≡ words → Planned r told plan → MayTalk plan → HoldsOf words told ReadsLive
@@ -205,7 +212,7 @@ stopped_there told names result (inr (inl is)) = subst (λ (s : Status). AreTher
 stopped_there told names result (inr (inr is)) = subst (λ (s : Status). AreThere told (files_read s names)) (sym is) (none_there told)
 
 -- the files that were read are there
-pub there_is : (words : Option Request) (r : Request) (told : Option (List ℕ → Option (List ℕ))) (plan : Plan) (before after : Live) (old new : Option (List ℕ)) (result : Status) → Some r ≡ words → Planned r told plan → Ends plan before after old new result → AreThere told (files_read result (names_of words))
+pub there_is : (words : Option Request) (r : Request) (told : Option (List ℕ → Option (List ℕ))) (plan : Plan) (before after : LiveState) (old new : Option (List ℕ)) (result : Status) → Some r ≡ words → Planned r told plan → Ends plan before after old new result → AreThere told (files_read result (names_of words))
 there_is words r told plan before after old new result there planned ends =
     subst (λ (w : Option Request). AreThere told (files_read result (names_of w))) there (by_status (end_status plan before after old new result ends))
   where

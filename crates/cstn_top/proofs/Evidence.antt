@@ -11,7 +11,7 @@ use Rattle.cstn_conflict.specs.Conflicts.{conflict_set}
 use Rattle.cstn_conflict.proofs.SetLemmas.{set_well_formed, decided}
 use Rattle.cstn_conflict.proofs.ConflictLemmas.{inconsistent, needed}
 use Rattle.cstn_tight.specs.Deadlines.{at_deadline}
-use Rattle.cstn_tight.specs.Bisection.{least_deadline, is_above, is_any_above, is_full, tried_from, whole}
+use Rattle.cstn_tight.specs.Bisection.{least_deadline, is_above, is_any_above, is_tight_full, tried_from, whole}
 use Rattle.cstn_tight.proofs.LeastLemmas.{good_at_deadline}
 use Rattle.cstn_tight.proofs.BracketLemmas.{IsRefuted, IsFound, found, found_least}
 use Rattle.cstn_top.specs.Meanings.{IsListed, IsRefutedByLog, IsTight, IsConflict}
@@ -31,7 +31,7 @@ at_well net h good below =
     good_at_deadline net good h (omega (arith, soon, below))
 
 -- the least deadline
-pub tight_well : (cap : ℕ) (net : Network) → IsWellFormed net → is_full cap net ≡ false → IsConsistent net → IsTight net (least_deadline net)
+pub tight_well : (cap : ℕ) (net : Network) → IsWellFormed net → is_tight_full cap net ≡ false → IsConsistent net → IsTight net (least_deadline net)
 tight_well cap net good fits consistent =
     let parts = both_false (is_above cap net net.deadline) _ fits in
     let later : is_any_above cap net ≡ false = sym (ap (λ (b : Bool). list_any (is_above cap net) (if b then tried_from net 20 (whole net) else [])) ((decided net good).1 consistent)) ∙ parts.1 in

@@ -13,5 +13,6 @@ pub mod Runs
 pub mod Accepted
 pub mod Played
 pub mod Lines
+pub mod Told
 pub mod EditTexts
 pub mod EditSessions

@@ -26,7 +26,7 @@ use Rattle.cstn_lines.specs.EditLines.{Edit, added, removed, changed, asked as c
 use Rattle.cstn_text.specs.Names.{number_of}
 use Rattle.cstn_words.specs.Requests.{Request, check, run, edit, closed, tight, conflict, tree, save, replay, closedcheck, treecheck, drill, host}
 use Rattle.cstn_reply.specs.Texts.{yes_line}
-use Rattle.cstn_reply.specs.Plans.{Said, IsOutput, Live}
+use Rattle.cstn_reply.specs.Plans.{Said, IsOutput, LiveState}
 use Rattle.cstn_reply.specs.Sessions.{play, session}
 use Rattle.cstn_reply.specs.Statuses.{status_of}
 use Rattle.cstn_reply.specs.declared.status.Status.{Status}
@@ -50,7 +50,7 @@ use Rattle.cstn_top.proofs.Documents.{labelled_says, document_says}
 use Rattle.cstn_top.proofs.Labels.{IsOfLabelled, labelled_then}
 use Rattle.cstn_top.proofs.Edited.{EditTells, edit_tells}
 use Rattle.cstn_top.proofs.Meanings.{network_then}
-use Rattle.cstn_top.proofs.Endings.{Answered, good_is, none_tells}
+use Rattle.cstn_top.proofs.Endings.{Answered, held_at, good_is, none_tells}
 use Rattle.cstn_top.proofs.Accepted.{WroteOutput, output_wrote}
 use Rattle.cstn_top.proofs.Played.{TurnIs, stops_at, Played, all_answered, one_last, one_stops, played}
 
@@ -248,7 +248,7 @@ output_ended told old new (treecheck asked proof) contents live said all wrote o
 output_ended told old new (drill number) contents live said all wrote output = tt
 output_ended told old new (host files deadline cap) contents live said all wrote output = tt
 
-run_least : (request : Request) (contents : List (List ℕ)) → IsLeastRun request contents
+pub run_least : (request : Request) (contents : List (List ℕ)) → IsLeastRun request contents
 run_least (run asked cap) contents =
     where_labelled (get_or contents 0 []) asked.deadline (λ names m. IsLabelledYes cap m → AnswersLeast (map printed_name names) m (run_bounds m))
     (λ names m good of yes'. answers_least (map printed_name names) m (run_bounds m) (yes_planned cap names m good of yes'))
@@ -333,29 +333,29 @@ left_ended told old new (host files deadline cap) contents ended = tt
 -- ---- calls
 
 -- after yes the answers of a run are least
-pub least_is : {S : Type 0} (words : Option Request) (told : Option (List ℕ → Option (List ℕ))) (source now : S) (before after : Live) (old new : Option (List ℕ)) (result : Status) → Answered words told source now before after old new result → IsNone words ⊎ HoldsOf words told IsLeastRun
+pub least_is : {S : Type 0} (words : Option Request) (told : Option (List ℕ → Option (List ℕ))) (source now : S) (before after : LiveState) (old new : Option (List ℕ)) (result : Status) → Answered words told source now before after old new result → IsNone words ⊎ HoldsOf words told IsLeastRun
 least_is None told source now before after old new result answered = inl refl
 least_is (Some r) told source now before after old new result answered = inr (answered.0, answered.1, run_least r answered.0)
 
--- a call is stopped, or the words are none, or a run or an edit session ends by the network and the lines
-pub ended_is : {S : Type 0} (words : Option Request) (told : Option (List ℕ → Option (List ℕ))) (source now : S) (before after : Live) (old new : Option (List ℕ)) (result : Status) → Answered words told source now before after old new result → IsStopped result ⊎ (IsNone words ⊎ HoldsOf words told (IsEnded result before.left old new))
-ended_is None told source now before after old new result answered = inr (inl refl)
-ended_is (Some r) told source now before after old new result answered =
+-- a call is stopped, or a run or an edit session ends by the network and the lines
+pub ended_at : {S : Type 0} (r : Request) (told : Option (List ℕ → Option (List ℕ))) (source now : S) (before after : LiveState) (old new : Option (List ℕ)) (result : Status) (answered : Answered (Some r) told source now before after old new result) → IsStopped result ⊎ IsEnded result before.left old new r answered.0
+ended_at r told source now before after old new result answered =
     by_end (output_wrote (plan_at r answered.0) before after old new answered.2.0 result answered.2.1 answered.2.2 answered.2.3)
   where
-    by_end : WroteOutput (plan_at r answered.0) before old new result ⊎ IsStopped result → IsStopped result ⊎ (IsNone (Some r) ⊎ HoldsOf (Some r) told (IsEnded result before.left old new))
+    by_end : WroteOutput (plan_at r answered.0) before old new result ⊎ IsStopped result → IsStopped result ⊎ IsEnded result before.left old new r answered.0
     by_end (inl (live, all, (said, output, at, wrote))) =
-        inr (inr (answered.0, answered.1, subst (λ (s : Status). IsEnded s before.left old new r answered.0) (sym at) (output_ended before.left old new r answered.0 live said all wrote output)))
+        inr (subst (λ (s : Status). IsEnded s before.left old new r answered.0) (sym at) (output_ended before.left old new r answered.0 live said all wrote output))
     by_end (inr stopped) = inl stopped
 
--- the request of a call that ended with this status
-of_ended : (words : Option Request) (told : Option (List ℕ → Option (List ℕ))) (result status : Status) (holds other : Status → Request → List (List ℕ) → Type 0) → result ≡ status → (IsStopped status → ⊥) → (IsNone words → ⊥) → ((r : Request) (contents : List (List ℕ)) → holds status r contents → other status r contents) →
-    IsStopped result ⊎ (IsNone words ⊎ HoldsOf words told (holds result)) → HoldsOf words told (other status)
-of_ended words told result status holds other is never some follows (inl stopped) = absurd (never (subst IsStopped is stopped))
-of_ended words told result status holds other is never some follows (inr (inl none)) = absurd (some none)
-of_ended None told result status holds other is never some follows (inr (inr has)) = has
-of_ended (Some r) told result status holds other is never some follows (inr (inr has)) =
-    (has.0, has.1, follows r has.0 (subst (λ (s : Status). holds s r has.0) is has.2))
+pub ended_is : {S : Type 0} (words : Option Request) (told : Option (List ℕ → Option (List ℕ))) (source now : S) (before after : LiveState) (old new : Option (List ℕ)) (result : Status) → Answered words told source now before after old new result → IsStopped result ⊎ (IsNone words ⊎ HoldsOf words told (IsEnded result before.left old new))
+ended_is None told source now before after old new result answered = inr (inl refl)
+ended_is (Some r) told source now before after old new result answered =
+    held_at r told source now before after old new result (IsEnded result before.left old new) answered (ended_at r told source now before after old new result answered)
+
+-- what follows where a call ended with this status
+of_ended : (result status : Status) (holds : Status → Type 0) (other : Type 0) → result ≡ status → (IsStopped status → ⊥) → (holds status → other) → IsStopped result ⊎ holds result → other
+of_ended result status holds other is never follows (inl stopped) = absurd (never (subst IsStopped is stopped))
+of_ended result status holds other is never follows (inr has) = follows (subst holds is has)
 
 never_good : IsStopped IsGoodStatus → ⊥
 never_good (inl is) = let f : ⊥ = cc in f
@@ -368,15 +368,21 @@ never_unfinished (inr (inl is)) = let f : ⊥ = cc in f
 never_unfinished (inr (inr is)) = let f : ⊥ = cc in f
 
 -- what Good tells of a run
-pub carried_is : {S : Type 0} (words : Option Request) (told : Option (List ℕ → Option (List ℕ))) (source now : S) (before after : Live) (old new : Option (List ℕ)) (result : Status) → Answered words told source now before after old new result → result ≡ IsGoodStatus → HoldsOf words told (IsCarriedOut before.left old new)
+pub carried_at : {S : Type 0} (r : Request) (told : Option (List ℕ → Option (List ℕ))) (source now : S) (before after : LiveState) (old new : Option (List ℕ)) (result : Status) (answered : Answered (Some r) told source now before after old new result) → result ≡ IsGoodStatus → IsCarriedOut before.left old new r answered.0
+carried_at r told source now before after old new result answered is =
+    of_ended result IsGoodStatus (λ s. IsEnded s before.left old new r answered.0) (IsCarriedOut before.left old new r answered.0) is never_good (well_ended before.left old new r answered.0)
+    (ended_at r told source now before after old new result answered)
+
+pub carried_is : {S : Type 0} (words : Option Request) (told : Option (List ℕ → Option (List ℕ))) (source now : S) (before after : LiveState) (old new : Option (List ℕ)) (result : Status) → Answered words told source now before after old new result → result ≡ IsGoodStatus → HoldsOf words told (IsCarriedOut before.left old new)
 carried_is None told source now before after old new result answered is = good_is None told source now before after old new result answered is
-carried_is (Some r) told source now before after old new result answered is =
-    of_ended (Some r) told result IsGoodStatus (λ s. IsEnded s before.left old new) (λ s. IsCarriedOut before.left old new) is never_good (λ none. let f : ⊥ = cc in f) (well_ended before.left old new)
-    (ended_is (Some r) told source now before after old new result answered)
+carried_is (Some r) told source now before after old new result answered is = (answered.0, answered.1, carried_at r told source now before after old new result answered is)
 
 -- what Unfinished tells of it
-pub left_is : {S : Type 0} (words : Option Request) (told : Option (List ℕ → Option (List ℕ))) (source now : S) (before after : Live) (old new : Option (List ℕ)) (result : Status) → Answered words told source now before after old new result → result ≡ IsUnfinishedStatus → HoldsOf words told (IsLeftUnfinished before.left old new)
+pub left_at : {S : Type 0} (r : Request) (told : Option (List ℕ → Option (List ℕ))) (source now : S) (before after : LiveState) (old new : Option (List ℕ)) (result : Status) (answered : Answered (Some r) told source now before after old new result) → result ≡ IsUnfinishedStatus → IsLeftUnfinished before.left old new r answered.0
+left_at r told source now before after old new result answered is =
+    of_ended result IsUnfinishedStatus (λ s. IsEnded s before.left old new r answered.0) (IsLeftUnfinished before.left old new r answered.0) is never_unfinished (left_ended before.left old new r answered.0)
+    (ended_at r told source now before after old new result answered)
+
+pub left_is : {S : Type 0} (words : Option Request) (told : Option (List ℕ → Option (List ℕ))) (source now : S) (before after : LiveState) (old new : Option (List ℕ)) (result : Status) → Answered words told source now before after old new result → result ≡ IsUnfinishedStatus → HoldsOf words told (IsLeftUnfinished before.left old new)
 left_is None told source now before after old new result answered is = absurd (let e : Unfinished ≡ Words = none_tells told source now before after old new result Unfinished answered is in cc)
-left_is (Some r) told source now before after old new result answered is =
-    of_ended (Some r) told result IsUnfinishedStatus (λ s. IsEnded s before.left old new) (λ s. IsLeftUnfinished before.left old new) is never_unfinished (λ none. let f : ⊥ = cc in f) (left_ended before.left old new)
-    (ended_is (Some r) told source now before after old new result answered)
+left_is (Some r) told source now before after old new result answered is = (answered.0, answered.1, left_at r told source now before after old new result answered is)

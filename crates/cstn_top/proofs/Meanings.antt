@@ -52,9 +52,9 @@ use Rattle.cstn_log.specs.Asked.{asked as table_of}
 use Rattle.cstn_log.proofs.Strategies.{asked_strategy}
 use Rattle.cstn_closed.specs.Texts.{Told as ToldBounds, tells as tells_bounds, wrong as wrong_bound, told as told_bounds, shown as shown_bounds}
 use Rattle.cstn_conflict.specs.Sets.{is_consistent}
-use Rattle.cstn_conflict.specs.Conflicts.{conflict_set, is_full as is_blame_full}
+use Rattle.cstn_conflict.specs.Conflicts.{conflict_set, is_conflict_full as is_blame_full}
 use Rattle.cstn_conflict.proofs.SetLemmas.{decided}
-use Rattle.cstn_tight.specs.Bisection.{least_deadline, is_full as is_tight_full}
+use Rattle.cstn_tight.specs.Bisection.{least_deadline, is_tight_full}
 use Rattle.cstn_evidence.specs.Bounds.{listed}
 use Rattle.cstn_evidence.specs.Blame.{blame_text, blamed}
 use Rattle.cstn_evidence.specs.Tight.{refuted_text, tight_text, tightened}

@@ -1,10 +1,14 @@
-pub mod Drills
-pub mod Trees
+-- What the clauses of `run` cite, in reading order.
 pub mod Outputs
+pub mod Trees
+pub mod Drills
 pub mod Several
 pub mod Meanings
 pub mod Evidence
 pub mod Lines
+pub mod Told
+-- What the law of edit sessions cites.
+pub mod EditSessions
+-- What the proofs use beside.
 pub mod Opened
 pub mod Prepared
-pub mod EditSessions

@@ -20,9 +20,9 @@ use Rattle.cstn_log.specs.Cuts.{part}
 use Rattle.cstn_closed.specs.Faults.{Fault, IsFirstFault, IsFaultless}
 use Rattle.cstn_closed.specs.Texts.{Told as ToldBounds, tells as tells_bounds, wrong as wrong_bound, told as told_bounds}
 use Rattle.cstn_conflict.specs.Sets.{less, with_ids}
-use Rattle.cstn_conflict.specs.Conflicts.{conflict_set, is_full as is_blame_full}
+use Rattle.cstn_conflict.specs.Conflicts.{conflict_set, is_conflict_full as is_blame_full}
 use Rattle.cstn_tight.specs.Deadlines.{at_deadline, IsLeastDeadline}
-use Rattle.cstn_tight.specs.Bisection.{least_deadline, is_full as is_tight_full}
+use Rattle.cstn_tight.specs.Bisection.{least_deadline, is_tight_full}
 use Rattle.cstn_verdict.specs.Documents.{HasLabelled, HasNetwork, IsNoDocument, IsRefused}
 use Rattle.cstn_verdict.specs.Verdicts.{IsYes, IsNo, IsLabelledYes, IsLabelledNo}
 use Rattle.cstn_talk.specs.Editing.{begun_editing, last_checked}

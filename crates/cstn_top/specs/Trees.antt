@@ -3,7 +3,7 @@ use Rattle.std.specs.Prelude.{◌≡◌, ◌≤◌, ℕ, List, Some, codes}
 use Rattle.cstn_net.specs.Networks.{Network}
 use Rattle.cstn_net.specs.Strategies.{IsStrategy}
 use Rattle.cstn_tree.specs.Trees.{table_of}
-use Rattle.cstn_tree.specs.Good.{first_broken, IsGood}
+use Rattle.cstn_tree.specs.Good.{first_broken, IsUnbroken}
 use Rattle.cstn_tree.specs.Read.{the_tree}
 use Rattle.cstn_tree.specs.Texts.{Told, tells, wrong}
 use Rattle.cstn_check.specs.Growth.{log_of, load_of, live_bounds}
@@ -18,7 +18,7 @@ IsNarrow net = observed net ≤ 10
 
 -- the text is that of a tree, of which no line breaks, and what it stands for is a strategy
 abbrev pub IsGoodTree : Told → Network → Type 0
-IsGoodTree (tells lines) net = IsGood net (the_tree lines) × IsStrategy net (table_of (the_tree lines))
+IsGoodTree (tells lines) net = IsUnbroken net (the_tree lines) × IsStrategy net (table_of (the_tree lines))
 IsGoodTree (wrong at) net = ⊥
 
 -- the text is that of a tree, of which a line is the first that breaks

@@ -1,6 +1,6 @@
 -- How values of the program are read.
-use Rattle.std.specs.Prelude.{ℕ, ◌≤◌, map, length, string_bytes}
-use Rattle.cstn_words.specs.Requests.{Asked, Taken, Request, check, run, edit, closed, tight, conflict, tree, save, replay, closedcheck, treecheck, drill}
+use Rattle.std.specs.Prelude.{ℕ, ◌≤◌, List, Option, map, length, String, string_bytes}
+use Rattle.cstn_words.specs.Requests.{Asked, Taken, Request, request_of, names_of, check, run, edit, closed, tight, conflict, tree, save, replay, closedcheck, treecheck, drill}
 use Rattle.cstn_words.specs.Requests.{host}
 use Rattle.cstn_words.specs.declared.words.Asked.{Asked as AskedWords}
 use Rattle.cstn_words.specs.declared.words.Taken.{Taken as TakenWords}
@@ -34,6 +34,14 @@ the_request (Closedcheck asked proof) = closedcheck (the_asked asked) proof.now
 the_request (Treecheck asked proof) = treecheck (the_asked asked) proof.now
 the_request (Drill number) = drill number
 the_request (Host files deadline cap) = host (map string_bytes files.now) deadline cap
+
+-- the request that the words are, if they are one
+abbrev pub request_in : {Z : Type 0} → List (String Z) → Option Request
+request_in words = request_of (map string_bytes words)
+
+-- the files that the words name
+abbrev pub named_files : {Z : Type 0} → List (String Z) → List (List ℕ)
+named_files words = names_of (request_in words)
 
 -- the log may have from 1 to 4,194,304 entries; the log of each of the 1 to 8 files of a host, from 1 to 65,536
 abbrev pub IsCapped : RequestWords → Type 0

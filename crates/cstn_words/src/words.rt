@@ -1,9 +1,9 @@
 // The words of a request.
 ghost use Rattle.std.specs.Prelude.{◌≡◌, ◌≤◌, IfSome, map, string_bytes};
 ghost use Rattle.std.specs.Option.{option_map, option_and_then};
-ghost use Rattle.cstn_words.specs.Requests.{number_within, value_at, option_at, deadline_at, cap_at, deadline_of, cap_of, asked_of, capped_of, capped_at, checked_of, drill_of, request_at, request_of};
+ghost use Rattle.cstn_words.specs.Requests.{number_within, value_at, option_at, deadline_at, cap_at, deadline_of, cap_of, asked_of, capped_of, capped_at, checked_of, drill_of, request_at};
 ghost use Rattle.cstn_words.specs.Requests.{hosted_of, host_of};
-ghost use Rattle.cstn_words.specs.Read.{the_asked, the_capped, the_taken, the_request, IsCapped};
+ghost use Rattle.cstn_words.specs.Read.{the_asked, the_capped, the_taken, the_request, request_in, IsCapped};
 
 use cstn_text::read_number;
 
@@ -85,7 +85,7 @@ const MAX_FILES: usize = 8;
 
 /// The request that the words are, if they are one.
 pub fn parse(words: &[String]) -> Option<Request<'_>>
-    ensures request { option_map the_request result ≡ request_of (map string_bytes words.now) }
+    ensures request { option_map the_request result ≡ request_in words.now }
     ensures capped { IfSome result IsCapped }
 {
     let [command, rest @ ..] = words else {

@@ -1,7 +1,7 @@
 use Rattle.std.proofs.Common.{[], sym, subst, inl, inr}
 use Rattle.std.specs.Prelude.{Option, IfSome}
 use Rattle.cstn_words.specs.Requests.{Request}
-use Rattle.cstn_reply.specs.Plans.{Live, says, EndsLine}
+use Rattle.cstn_reply.specs.Plans.{LiveState, says, EndsLine}
 use Rattle.cstn_reply.specs.Sessions.{session}
 use Rattle.cstn_talk.specs.Guiding.{guided_turn, guided_ending}
 use Rattle.cstn_talk.specs.Editing.{the_editing, edit_turn, edit_ending}
@@ -13,16 +13,17 @@ use Rattle.cstn_top.proofs.Endings.{words_end, fault_end, memory_end, says_end, 
 use Rattle.cstn_top.proofs.Endings.{opened_ward, may_stop_host}
 use Rattle.cstn_top.proofs.Accepted.{capped_ranged, evidence_is}
 use Rattle.cstn_top.proofs.Lines.{least_is, carried_is, left_is, ended_is}
+use Rattle.cstn_top.proofs.Told.{told_is}
 use Rattle.cstn_top.proofs.top.run.Goals as goal
 
 pub returns-in_default-clause-output : goal.returns-in_default-clause-output
 returns-in_default-clause-output g c =
-    let seen : Live = record { left = g.S.Source.left c.args.live.now; faults = g.S.Source.faults c.args.live.now } in
+    let seen : LiveState = record { left = g.S.Source.left c.args.live.now; faults = g.S.Source.faults c.args.live.now } in
     words_end _ (g.F.Shelf.files c.args.shelf.now) c.args.live.now seen _ _ _ c.in_default.ensures.request c.finish.ensures.written
 
 pub returns-in-Ok-Says-clause-output : goal.returns-in-Ok-Says-clause-output
 returns-in-Ok-Says-clause-output g c =
-    let seen : Live = record { left = g.S.Source.left c.args.live.now; faults = g.S.Source.faults c.args.live.now } in
+    let seen : LiveState = record { left = g.S.Source.left c.args.live.now; faults = g.S.Source.faults c.args.live.now } in
     says_end _ (the_request c.in-Some.request) (g.F.Shelf.files c.args.shelf.now) c.args.live.now (the_said c.in-Ok-Says.said) c.deref.result.now seen _ _ c.status.result _
     c.in-Some.ensures.request (prepared_as _ _ _ _ c.in-Ok-Says.ensures.plan c.in-Ok-Says.field-0-is) c.deref.ensures.value c.status.ensures.status c.finish-in-Ok-Says.ensures.written
 
@@ -47,7 +48,7 @@ returns-in-Ok-Says-clause-evidence g c =
 
 pub returns-in-Ok-Says-clause-there : goal.returns-in-Ok-Says-clause-there
 returns-in-Ok-Says-clause-there g c =
-    let seen : Live = record { left = g.S.Source.left c.args.live.now; faults = g.S.Source.faults c.args.live.now } in
+    let seen : LiveState = record { left = g.S.Source.left c.args.live.now; faults = g.S.Source.faults c.args.live.now } in
     there_is _ (the_request c.in-Some.request) (g.F.Shelf.files c.args.shelf.now) (says (the_said c.in-Ok-Says.said)) seen seen _ _ _ c.in-Some.ensures.request (prepared_as _ _ _ _ c.in-Ok-Says.ensures.plan c.in-Ok-Says.field-0-is)
     (text_end (the_said c.in-Ok-Says.said) c.deref.result.now seen _ _ c.status.result _ c.deref.ensures.value c.status.ensures.status c.finish-in-Ok-Says.ensures.written)
 
@@ -56,12 +57,12 @@ returns-in-Ok-Says-clause-words_only g c = words_is _ (g.F.Shelf.files c.args.sh
 
 pub returns-in-Err-ReadFault-clause-output : goal.returns-in-Err-ReadFault-clause-output
 returns-in-Err-ReadFault-clause-output g c =
-    let seen : Live = record { left = g.S.Source.left c.args.live.now; faults = g.S.Source.faults c.args.live.now } in
+    let seen : LiveState = record { left = g.S.Source.left c.args.live.now; faults = g.S.Source.faults c.args.live.now } in
     fault_end _ (g.F.Shelf.files c.args.shelf.now) c.args.live.now seen _ _ _ c.finish-in-Err-ReadFault.ensures.written
 
 pub returns-in-Err-Memory-clause-output : goal.returns-in-Err-Memory-clause-output
 returns-in-Err-Memory-clause-output g c =
-    let seen : Live = record { left = g.S.Source.left c.args.live.now; faults = g.S.Source.faults c.args.live.now } in
+    let seen : LiveState = record { left = g.S.Source.left c.args.live.now; faults = g.S.Source.faults c.args.live.now } in
     memory_end _ (g.F.Shelf.files c.args.shelf.now) c.args.live.now seen _ _ _ c.finish-in-Err-Memory.ensures.written
 
 pub converse-requires : goal.converse-requires
@@ -69,8 +70,8 @@ converse-requires g c = subst EndsLine (sym c.deref-in-Ok-Runs.ensures.value) (f
 
 pub returns-in-Ok-Runs-clause-output : goal.returns-in-Ok-Runs-clause-output
 returns-in-Ok-Runs-clause-output g c =
-    let before : Live = record { left = g.S.Source.left c.args.live.now; faults = g.S.Source.faults c.args.live.now } in
-    let after : Live = record { left = g.S.Source.left c.converse.new.live; faults = g.S.Source.faults c.converse.new.live } in
+    let before : LiveState = record { left = g.S.Source.left c.args.live.now; faults = g.S.Source.faults c.args.live.now } in
+    let after : LiveState = record { left = g.S.Source.left c.converse.new.live; faults = g.S.Source.faults c.converse.new.live } in
     talks_end _ (the_request c.in-Some.request) (g.F.Shelf.files c.args.shelf.now) c.args.live.now c.converse.new.live (session guided_turn guided_ending c.deref-in-Ok-Runs.result.now c.in-Ok-Runs.guiding) before after _ _ _
     c.in-Some.ensures.request (opened_as _ _ c.in-Ok-Runs.guiding c.in-Ok-Runs.opening.items (prepared_as _ _ _ _ c.in-Ok-Runs.ensures.plan c.in-Ok-Runs.field-0-is) (sym c.deref-in-Ok-Runs.ensures.value)) tt c.converse.ensures.ends
 
@@ -98,8 +99,8 @@ returns-in-Ok-Runs-clause-evidence g c =
 
 pub returns-in-Ok-Runs-clause-there : goal.returns-in-Ok-Runs-clause-there
 returns-in-Ok-Runs-clause-there g c =
-    let before : Live = record { left = g.S.Source.left c.args.live.now; faults = g.S.Source.faults c.args.live.now } in
-    let after : Live = record { left = g.S.Source.left c.converse.new.live; faults = g.S.Source.faults c.converse.new.live } in
+    let before : LiveState = record { left = g.S.Source.left c.args.live.now; faults = g.S.Source.faults c.args.live.now } in
+    let after : LiveState = record { left = g.S.Source.left c.converse.new.live; faults = g.S.Source.faults c.converse.new.live } in
     there_is _ (the_request c.in-Some.request) (g.F.Shelf.files c.args.shelf.now) (session guided_turn guided_ending c.deref-in-Ok-Runs.result.now c.in-Ok-Runs.guiding) before after _ _ _
     c.in-Some.ensures.request (opened_as _ _ c.in-Ok-Runs.guiding c.in-Ok-Runs.opening.items (prepared_as _ _ _ _ c.in-Ok-Runs.ensures.plan c.in-Ok-Runs.field-0-is) (sym c.deref-in-Ok-Runs.ensures.value)) c.converse.ensures.ends
 
@@ -113,8 +114,8 @@ returns-in-Ok-Runs-clause-read_fault g c = λ is.
 
 pub returns-in-Ok-Edits-clause-output : goal.returns-in-Ok-Edits-clause-output
 returns-in-Ok-Edits-clause-output g c =
-    let before : Live = record { left = g.S.Source.left c.args.live.now; faults = g.S.Source.faults c.args.live.now } in
-    let after : Live = record { left = g.S.Source.left c.converse-in-Ok-Edits.new.live; faults = g.S.Source.faults c.converse-in-Ok-Edits.new.live } in
+    let before : LiveState = record { left = g.S.Source.left c.args.live.now; faults = g.S.Source.faults c.args.live.now } in
+    let after : LiveState = record { left = g.S.Source.left c.converse-in-Ok-Edits.new.live; faults = g.S.Source.faults c.converse-in-Ok-Edits.new.live } in
     talks_end _ (the_request c.in-Some.request) (g.F.Shelf.files c.args.shelf.now) c.args.live.now c.converse-in-Ok-Edits.new.live (session edit_turn edit_ending [] (the_editing c.in-Ok-Edits.editing)) before after _ _ _
     c.in-Some.ensures.request (prepared_as _ _ _ _ c.in-Ok-Edits.ensures.plan c.in-Ok-Edits.field-0-is) tt c.converse-in-Ok-Edits.ensures.ends
 
@@ -142,8 +143,8 @@ returns-in-Ok-Edits-clause-evidence g c =
 
 pub returns-in-Ok-Edits-clause-there : goal.returns-in-Ok-Edits-clause-there
 returns-in-Ok-Edits-clause-there g c =
-    let before : Live = record { left = g.S.Source.left c.args.live.now; faults = g.S.Source.faults c.args.live.now } in
-    let after : Live = record { left = g.S.Source.left c.converse-in-Ok-Edits.new.live; faults = g.S.Source.faults c.converse-in-Ok-Edits.new.live } in
+    let before : LiveState = record { left = g.S.Source.left c.args.live.now; faults = g.S.Source.faults c.args.live.now } in
+    let after : LiveState = record { left = g.S.Source.left c.converse-in-Ok-Edits.new.live; faults = g.S.Source.faults c.converse-in-Ok-Edits.new.live } in
     there_is _ (the_request c.in-Some.request) (g.F.Shelf.files c.args.shelf.now) (session edit_turn edit_ending [] (the_editing c.in-Ok-Edits.editing)) before after _ _ _
     c.in-Some.ensures.request (prepared_as _ _ _ _ c.in-Ok-Edits.ensures.plan c.in-Ok-Edits.field-0-is) c.converse-in-Ok-Edits.ensures.ends
 
@@ -162,8 +163,8 @@ returns-in-Ok-Edits-clause-memory g c = λ is.
 
 pub returns-in-Ok-Hosts-clause-output : goal.returns-in-Ok-Hosts-clause-output
 returns-in-Ok-Hosts-clause-output g c =
-    let before : Live = record { left = g.S.Source.left c.args.live.now; faults = g.S.Source.faults c.args.live.now } in
-    let after : Live = record { left = g.S.Source.left c.converse-in-Ok-Hosts.new.live; faults = g.S.Source.faults c.converse-in-Ok-Hosts.new.live } in
+    let before : LiveState = record { left = g.S.Source.left c.args.live.now; faults = g.S.Source.faults c.args.live.now } in
+    let after : LiveState = record { left = g.S.Source.left c.converse-in-Ok-Hosts.new.live; faults = g.S.Source.faults c.converse-in-Ok-Hosts.new.live } in
     talks_end _ (the_request c.in-Some.request) (g.F.Shelf.files c.args.shelf.now) c.args.live.now c.converse-in-Ok-Hosts.new.live (session ward_turn ward_ending c.deref-in-Ok-Hosts.result.now (the_ward c.in-Ok-Hosts.ward)) before after _ _ _
     c.in-Some.ensures.request (opened_ward _ _ c.in-Ok-Hosts.ward c.in-Ok-Hosts.opening.items (prepared_as _ _ _ _ c.in-Ok-Hosts.ensures.plan c.in-Ok-Hosts.field-0-is) (sym c.deref-in-Ok-Hosts.ensures.value)) tt c.converse-in-Ok-Hosts.ensures.ends
 
@@ -191,8 +192,8 @@ returns-in-Ok-Hosts-clause-words_only g c = words_is _ (g.F.Shelf.files c.args.s
 
 pub returns-in-Ok-Hosts-clause-there : goal.returns-in-Ok-Hosts-clause-there
 returns-in-Ok-Hosts-clause-there g c =
-    let before : Live = record { left = g.S.Source.left c.args.live.now; faults = g.S.Source.faults c.args.live.now } in
-    let after : Live = record { left = g.S.Source.left c.converse-in-Ok-Hosts.new.live; faults = g.S.Source.faults c.converse-in-Ok-Hosts.new.live } in
+    let before : LiveState = record { left = g.S.Source.left c.args.live.now; faults = g.S.Source.faults c.args.live.now } in
+    let after : LiveState = record { left = g.S.Source.left c.converse-in-Ok-Hosts.new.live; faults = g.S.Source.faults c.converse-in-Ok-Hosts.new.live } in
     there_is _ (the_request c.in-Some.request) (g.F.Shelf.files c.args.shelf.now) (session ward_turn ward_ending c.deref-in-Ok-Hosts.result.now (the_ward c.in-Ok-Hosts.ward)) before after _ _ _
     c.in-Some.ensures.request (opened_ward _ _ c.in-Ok-Hosts.ward c.in-Ok-Hosts.opening.items (prepared_as _ _ _ _ c.in-Ok-Hosts.ensures.plan c.in-Ok-Hosts.field-0-is) (sym c.deref-in-Ok-Hosts.ensures.value)) c.converse-in-Ok-Hosts.ensures.ends
 
@@ -262,3 +263,27 @@ returns-in-Ok-Hosts-clause-unfinished g c = left_is _ (g.F.Shelf.files c.args.sh
 
 pub returns-in-Ok-Hosts-clause-ended : goal.returns-in-Ok-Hosts-clause-ended
 returns-in-Ok-Hosts-clause-ended g c = ended_is _ (g.F.Shelf.files c.args.shelf.now) _ _ _ _ _ _ _ (returns-in-Ok-Hosts-clause-output g c)
+
+pub returns-in-Ok-Says-clause-one_reading : goal.returns-in-Ok-Says-clause-one_reading
+returns-in-Ok-Says-clause-one_reading g c =
+    told_is c.evidence_is_accepted.ensures.bounds c.evidence_is_accepted.ensures.steps _ (the_request c.in-Some.request) (g.F.Shelf.files c.args.shelf.now) _ _ _ _ _ _ _ c.in-Some.ensures.request (capped_ranged c.in-Some.request c.in-Some.ensures.capped) (returns-in-Ok-Says-clause-output g c)
+
+pub returns-in-Ok-Runs-clause-one_reading : goal.returns-in-Ok-Runs-clause-one_reading
+returns-in-Ok-Runs-clause-one_reading g c =
+    told_is c.evidence_is_accepted.ensures.bounds c.evidence_is_accepted.ensures.steps _ (the_request c.in-Some.request) (g.F.Shelf.files c.args.shelf.now) _ _ _ _ _ _ _ c.in-Some.ensures.request (capped_ranged c.in-Some.request c.in-Some.ensures.capped) (returns-in-Ok-Runs-clause-output g c)
+
+pub returns-in-Ok-Edits-clause-one_reading : goal.returns-in-Ok-Edits-clause-one_reading
+returns-in-Ok-Edits-clause-one_reading g c =
+    told_is c.evidence_is_accepted.ensures.bounds c.evidence_is_accepted.ensures.steps _ (the_request c.in-Some.request) (g.F.Shelf.files c.args.shelf.now) _ _ _ _ _ _ _ c.in-Some.ensures.request (capped_ranged c.in-Some.request c.in-Some.ensures.capped) (returns-in-Ok-Edits-clause-output g c)
+
+pub returns-in-Ok-Hosts-clause-one_reading : goal.returns-in-Ok-Hosts-clause-one_reading
+returns-in-Ok-Hosts-clause-one_reading g c =
+    told_is c.evidence_is_accepted.ensures.bounds c.evidence_is_accepted.ensures.steps _ (the_request c.in-Some.request) (g.F.Shelf.files c.args.shelf.now) _ _ _ _ _ _ _ c.in-Some.ensures.request (capped_ranged c.in-Some.request c.in-Some.ensures.capped) (returns-in-Ok-Hosts-clause-output g c)
+
+pub returns-in-Err-ReadFault-clause-one_reading : goal.returns-in-Err-ReadFault-clause-one_reading
+returns-in-Err-ReadFault-clause-one_reading g c =
+    told_is c.evidence_is_accepted.ensures.bounds c.evidence_is_accepted.ensures.steps _ (the_request c.in-Some.request) (g.F.Shelf.files c.args.shelf.now) _ _ _ _ _ _ _ c.in-Some.ensures.request (capped_ranged c.in-Some.request c.in-Some.ensures.capped) (returns-in-Err-ReadFault-clause-output g c)
+
+pub returns-in-Err-Memory-clause-one_reading : goal.returns-in-Err-Memory-clause-one_reading
+returns-in-Err-Memory-clause-one_reading g c =
+    told_is c.evidence_is_accepted.ensures.bounds c.evidence_is_accepted.ensures.steps _ (the_request c.in-Some.request) (g.F.Shelf.files c.args.shelf.now) _ _ _ _ _ _ _ c.in-Some.ensures.request (capped_ranged c.in-Some.request c.in-Some.ensures.capped) (returns-in-Err-Memory-clause-output g c)

@@ -5,7 +5,7 @@ use Rattle.cstn_lift.specs.Lowered.{lowered}
 use Rattle.cstn_lift.specs.Read.{LabelledParts, the_labelled}
 use Rattle.cstn_reply.specs.Read.{the_said}
 use Rattle.cstn_reply.specs.Plans.{ComesTo}
-use Rattle.cstn_verdict.specs.Verdicts.{IsDecided}
+use Rattle.cstn_verdict.specs.Verdicts.{TellsVerdict}
 use Rattle.cstn_verdict.specs.declared.verdicts.Decided.{Decided}
 use Rattle.cstn_verdict.specs.declared.verdicts.Decided.TheVariants.{Yes}
 use Rattle.cstn_talk.specs.Guiding.{carried_out}
@@ -15,7 +15,7 @@ use Rattle.cstn_top.proofs.commands.run.prepare.Goals as goal
 
 pub begin-requires-clause-lowered : goal.begin-requires-clause-lowered
 begin-requires-clause-lowered c =
-    let decided : IsDecided c.args.cap c.args.names.now c.split-network.result.0 (Yes c.in-Ok-Yes.load c.in-Ok-Yes.check) = subst (λ (d : Decided). IsDecided c.args.cap c.args.names.now c.split-network.result.0 d) c.in-Ok-Yes.field-0-is c.in-Ok-Yes.ensures.decided in
+    let decided : TellsVerdict c.args.cap c.args.names.now c.split-network.result.0 (Yes c.in-Ok-Yes.load c.in-Ok-Yes.check) = subst (λ (d : Decided). TellsVerdict c.args.cap c.args.names.now c.split-network.result.0 d) c.in-Ok-Yes.field-0-is c.in-Ok-Yes.ensures.decided in
     ap the_network decided.2 ∙ c.split-network.ensures.lowered ∙ ap (λ (l : LabelledParts). lowered (the_labelled l)) (sym c.split-network.ensures.labels)
 
 pub returns-in-Ok-Yes-clause-comes : goal.returns-in-Ok-Yes-clause-comes
@@ -25,4 +25,4 @@ returns-in-Ok-Yes-clause-comes c =
 pub returns-in-Ok-Told-clause-comes : goal.returns-in-Ok-Told-clause-comes
 returns-in-Ok-Told-clause-comes c =
     told_for c.args.cap c.args.names.now (the_network c.split-network.result.0) (the_labelled c.args.labelled) (the_said c.in-Ok-Told.said) c.split-network.ensures.lowered
-    (subst (λ (d : Decided). IsDecided c.args.cap c.args.names.now c.split-network.result.0 d) c.in-Ok-Told.field-0-is c.in-Ok-Told.ensures.decided)
+    (subst (λ (d : Decided). TellsVerdict c.args.cap c.args.names.now c.split-network.result.0 d) c.in-Ok-Told.field-0-is c.in-Ok-Told.ensures.decided)
