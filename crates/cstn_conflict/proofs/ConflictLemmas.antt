@@ -13,7 +13,7 @@ use Rattle.cstn_check.proofs.Decides.{load_bounded}
 use Rattle.cstn_check.specs.declared.verdicts.Verdict.{Verdict}
 use Rattle.cstn_check.specs.declared.verdicts.Verdict.TheVariants.{Yes, No, Full}
 use Rattle.cstn_conflict.specs.Sets.{ids_of, has, less, with_ids, is_consistent}
-use Rattle.cstn_conflict.specs.Conflicts.{left_out, left_of, tried_from, conflict_set, is_above, is_full}
+use Rattle.cstn_conflict.specs.Conflicts.{left_out, left_of, tried_from, conflict_set, is_above, is_conflict_full}
 use Rattle.cstn_conflict.specs.Trials.{verdict_on, is_any_above}
 use Rattle.cstn_conflict.proofs.TrialLemmas.{Tells, verdict_tells, copied}
 use Rattle.cstn_conflict.proofs.SetLemmas.{whole_is, set_well_formed, decided}
@@ -54,7 +54,7 @@ module _ (net : Network) (good : IsWellFormed net) where
   whole_above : (cap : ℕ) → is_above cap net (ids_of net) ≡ ltb cap (load_of net)
   whole_above cap = ap (λ n. ltb cap (load_of n)) (whole_is net)
 
-  pub whole_full : (cap : ℕ) → cap < load_of net → is_full cap net ≡ true
+  pub whole_full : (cap : ℕ) → cap < load_of net → is_conflict_full cap net ≡ true
   whole_full cap above =
       or_left (is_above cap net (ids_of net)) (list_any (is_above cap net) (cond (is_consistent net) [] (tried_from net (ids_of net) (ids_of net))))
       (whole_above cap ∙ lt-ltb cap (load_of net) above)
@@ -67,7 +67,7 @@ module _ (net : Network) (good : IsWellFormed net) where
     others cap = ap (list_any (is_above cap net)) (cond-false (is_consistent net) [] (tried_from net (ids_of net) (ids_of net))
         (false_from_ne_true (is_consistent net) (λ t. never ((decided net good).0 t))))
 
-    pub not_full : (cap : ℕ) → load_of net ≤ cap → is_any_above cap net ≡ false → is_full cap net ≡ false
+    pub not_full : (cap : ℕ) → load_of net ≤ cap → is_any_above cap net ≡ false → is_conflict_full cap net ≡ false
     not_full cap below none = or_from (is_above cap net (ids_of net)) _ (whole_above cap ∙ le-ltb cap (load_of net) below) (others cap ∙ none)
 
     pub inconsistent : IsConsistent (with_ids net (conflict_set net)) → ⊥

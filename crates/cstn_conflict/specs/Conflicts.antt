@@ -32,5 +32,5 @@ abbrev pub is_above : ℕ → Network → List ℕ → Bool
 is_above cap net set = nat_lt cap (load_of (with_ids net set))
 
 -- some tried set has a load above the cap
-abbrev pub is_full : ℕ → Network → Bool
-is_full cap net = list_any (is_above cap net) (tried_sets net)
+abbrev pub is_conflict_full : ℕ → Network → Bool
+is_conflict_full cap net = list_any (is_above cap net) (tried_sets net)

@@ -9,7 +9,7 @@ ghost use Rattle.cstn_log.specs.Cuts.{part};
 ghost use Rattle.cstn_check.specs.Growth.{log_of, load_of, most_entries};
 ghost use Rattle.cstn_refute.specs.Refutations.{FitsText, the_steps};
 ghost use Rattle.cstn_conflict.specs.Sets.{with_ids, less, ids_of};
-ghost use Rattle.cstn_conflict.specs.Conflicts.{conflict_set, is_full};
+ghost use Rattle.cstn_conflict.specs.Conflicts.{conflict_set, is_conflict_full};
 ghost use Rattle.cstn_conflict.specs.Trials.{is_any_above};
 
 use crate::errors::ConflictError;
@@ -35,9 +35,9 @@ pub fn smallest(alloc: Global, net: Network, cap: u32) -> Result<Conflict, Confl
     requires most { cap ≤ 4194304 }
     // It is refused exactly where the network is consistent or a log is full, but for want of memory.
     ensures consistent { (load : ℕ) → IsErrOf result (ConflictError.Consistent load) → (load ≡ load_of (the_network net)) × (load_of (the_network net) ≤ cap) × IsConsistent (the_network net) }
-    ensures full { IsErrOf result ConflictError.Full → is_full cap (the_network net) ≡ true }
+    ensures full { IsErrOf result ConflictError.Full → is_conflict_full cap (the_network net) ≡ true }
     ensures bounded { IsErrOf result ConflictError.Full → cap < most_entries (the_network net) }
-    ensures refused { IsOk result → (IsConsistent (the_network net) → ⊥) × (is_full cap (the_network net) ≡ false) }
+    ensures refused { IsOk result → (IsConsistent (the_network net) → ⊥) × (is_conflict_full cap (the_network net) ≡ false) }
 
     ensures ids { IfOk result (λ conflict. conflict.ids ≡ conflict_set (the_network net)) }
     ensures ascending { IfOk result (λ conflict. AllPairs (λ a b. a < b) conflict.ids) }

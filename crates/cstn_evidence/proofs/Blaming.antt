@@ -9,7 +9,7 @@ use Rattle.cstn_log.specs.Cuts.{part}
 use Rattle.cstn_check.specs.Growth.{log_of, load_of}
 use Rattle.cstn_refute.specs.Texts.{shown}
 use Rattle.cstn_conflict.specs.Sets.{ids_of, with_ids, is_consistent}
-use Rattle.cstn_conflict.specs.Conflicts.{conflict_set, is_above, is_full, tried_from}
+use Rattle.cstn_conflict.specs.Conflicts.{conflict_set, is_above, is_conflict_full, tried_from}
 use Rattle.cstn_reply.specs.Texts.{yes_line, full_line}
 use Rattle.cstn_reply.specs.Plans.{Said, Plan, says}
 use Rattle.cstn_reply.specs.Read.{the_said}
@@ -32,7 +32,7 @@ not_true true never = absurd (never refl)
 not_true false never = refl
 
 -- no log is too long where the first check says yes
-within_cap : (cap : ℕ) (net : Network) → Whole → load_of net ≤ cap → is_consistent net ≡ true → is_full cap net ≡ false
+within_cap : (cap : ℕ) (net : Network) → Whole → load_of net ≤ cap → is_consistent net ≡ true → is_conflict_full cap net ≡ false
 within_cap cap net whole below is =
     ap (λ (b : Bool). list_any (is_above cap net) (ids_of net ∷ (if b then [] else tried_from net (ids_of net) (ids_of net)))) is
     ∙ or_none (is_above cap net (ids_of net))
@@ -59,7 +59,7 @@ yes_blamed cap load names net (Ok said) good whole decided tells is =
     ∙ ap (λ (b : Bool). if b then yes' else no) consistent)
 
 -- and where it isn't
-pub no_blamed : {E : Type 0} (cap load : ℕ) (names : List (List ℕ)) (net : Network) (ids : List ℕ) (steps : List Entry) (r : Result SaidText E) → IsWellFormed net → Whole → Decided → (IsConsistent net → ⊥) × (is_full cap net ≡ false) → ids ≡ conflict_set net → steps ≡ part (log_of (with_ids net (conflict_set net))) → load ≡ load_of (with_ids net (conflict_set net)) → IfOk r (λ said. the_said said ≡ record { outcome = Bad; text = ids_line ids ++ shown names load steps }) → IfOk r (λ said. says (the_said said) ≡ blamed cap names net)
+pub no_blamed : {E : Type 0} (cap load : ℕ) (names : List (List ℕ)) (net : Network) (ids : List ℕ) (steps : List Entry) (r : Result SaidText E) → IsWellFormed net → Whole → Decided → (IsConsistent net → ⊥) × (is_conflict_full cap net ≡ false) → ids ≡ conflict_set net → steps ≡ part (log_of (with_ids net (conflict_set net))) → load ≡ load_of (with_ids net (conflict_set net)) → IfOk r (λ said. the_said said ≡ record { outcome = Bad; text = ids_line ids ++ shown names load steps }) → IfOk r (λ said. says (the_said said) ≡ blamed cap names net)
 no_blamed cap load names net ids steps (Err e) good whole decided tells ids_are steps_are load_is is = tt
 no_blamed cap load names net ids steps (Ok said) good whole decided tells ids_are steps_are load_is is =
     let inconsistent : is_consistent net ≡ false = not_true (is_consistent net) (λ so. tells.0 ((decided_whole net good whole decided).0 so)) in

@@ -26,7 +26,7 @@ use Rattle.cstn_graphml.specs.Contents.Content.{done, cut, run, element}
 use Rattle.cstn_graphml.specs.Elements.{Reading, read_by, Datum, blank, passed, datum, data_of, datum_of, attribute, read_of, read_option, or_no_bytes}
 use Rattle.cstn_graphml.specs.DrawnGraph.{Observation, observation, DrawnGraph, DrawnConstraint, empty_graph, origin_name, node_of, with_node, with_constraint, with_deadline}
 use Rattle.cstn_graphml.specs.Judged.{judged_node, judged_edge, judged_deadline, with_pair, with_pairs, with_values, with_edge, is_kept, observed, reacting, labelled}
-use Rattle.cstn_graphml.specs.Document.{Parts, Part, graph_child, graph_reading, in_graph, root_child, root_reading, in_root, document_child, document_reading, in_document, part_of, parts_of, or_nothing, first_of_two, is_text, document}
+use Rattle.cstn_graphml.specs.Document.{Parts, Part, graph_child, graph_reading, in_graph, root_child, root_reading, in_root, document_child, document_reading, in_document, part_of, drawn_parts, or_nothing, first_of_two, is_text, document}
 use Rattle.cstn_graphml.specs.Document.Part.{a_datum, a_node, an_edge, another}
 use Rattle.cstn_graphml.proofs.DrawnGraphLaws.{bind_ok}
 use Rattle.cstn_graphml.proofs.FreshNames.{fresh}
@@ -270,7 +270,7 @@ document_graph_named whole d clear k = read_keeps document_reading Seen IsNamedG
 pub document_names : (bytes : List ℕ) (deadline : Option ℕ) (parts : Parts) → document bytes deadline ≡ Ok parts → length parts.names < 2 ^ 32 → AreNames parts.names
 document_names bytes deadline parts is few =
     let text = bind_ok (is_text bytes) _ parts is in
-    let graph = bind_ok (in_document (content_of (tokens bytes))) (parts_of deadline) parts text.2 in
+    let graph = bind_ok (in_document (content_of (tokens bytes))) (drawn_parts deadline) parts text.2 in
     let whole : ℕ → Parts = λ n. record { deadline = n; names = graph.0.names; observes = or_nothing graph.0.origin ∷ graph.0.observes; labels = graph.0.origin_label ∷ graph.0.labels; constraints = graph.0.constraints } in
     let timed = bind_ok (or_refused (first_of_two deadline graph.0.deadline) no_deadline) (λ n. Ok (whole n)) parts graph.2 in
     let clear = text_clear bytes (IsUtf8-from_is_utf8 bytes (demanded (is_utf8 bytes) _ text.0 text.1)) in

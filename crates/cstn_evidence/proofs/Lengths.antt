@@ -21,9 +21,9 @@ use Rattle.cstn_text.specs.PrintedLabels.{printed_mark, marks_below, or_dash, pr
 use Rattle.cstn_text.proofs.PrintedNameLemmas.{name_length}
 use Rattle.cstn_refute.specs.Steps.{printed_why, printed_bound, printed_step}
 use Rattle.cstn_refute.specs.Texts.{printed_steps, shown as shown_steps}
-use Rattle.cstn_refute.specs.Written.{ArePlaces, IsWritten as IsWrittenStep, AreWritten as AreWrittenSteps}
+use Rattle.cstn_refute.specs.Written.{ArePlaces, IsPrintableStep as IsWrittenStep, AreWritten as AreWrittenSteps}
 use Rattle.cstn_closed.specs.Texts.{printed_bounds, shown as shown_bounds}
-use Rattle.cstn_closed.specs.Written.{IsWritten as IsWrittenBound, AreWritten as AreWrittenBounds}
+use Rattle.cstn_closed.specs.Written.{IsPrintableBound as IsWrittenBound, AreWritten as AreWrittenBounds}
 
 mark_short : (letter : ℕ) (m : Mark) → length (printed_mark letter m) ≤ 2
 mark_short letter Absent = omega arith

@@ -27,10 +27,10 @@ use Rattle.cstn_check.proofs.Answering.{log_refutes_last}
 use Rattle.cstn_check.proofs.PartLemmas.{part_short, part_refutes, log_refutation}
 use Rattle.cstn_text.specs.Names.{AreNames}
 use Rattle.cstn_refute.specs.Texts.{Told as ToldSteps, tells as tells_steps, told as told_steps, shown as shown_steps}
-use Rattle.cstn_refute.specs.Written.{ArePlaces, IsWritten as IsWrittenStep, AreWritten as AreWrittenSteps}
+use Rattle.cstn_refute.specs.Written.{ArePlaces, IsPrintableStep as IsWrittenStep, AreWritten as AreWrittenSteps}
 use Rattle.cstn_closed.specs.Faults.{IsFaultless}
 use Rattle.cstn_closed.specs.Texts.{Told as ToldBounds, tells as tells_bounds, told as told_bounds, shown as shown_bounds}
-use Rattle.cstn_closed.specs.Written.{IsWritten as IsWrittenBound, AreWritten as AreWrittenBounds}
+use Rattle.cstn_closed.specs.Written.{IsPrintableBound as IsWrittenBound, AreWritten as AreWrittenBounds}
 use Rattle.cstn_closed.proofs.FaultLemmas.{closed_faultless}
 use Rattle.cstn_replay.specs.Wrong.{IsFirstWrong, EndsInVain}
 use Rattle.cstn_graphml.specs.DrawnGraph.{DrawnConstraint}

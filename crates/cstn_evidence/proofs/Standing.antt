@@ -13,12 +13,12 @@ use Rattle.cstn_log.specs.Cuts.{part}
 use Rattle.cstn_refute.specs.Texts.{shown as shown_steps}
 use Rattle.cstn_closed.specs.Texts.{shown as shown_bounds}
 use Rattle.cstn_conflict.specs.Sets.{ids_of, has, with_ids, is_consistent}
-use Rattle.cstn_conflict.specs.Conflicts.{conflict_set, is_above as is_blame_above, tried_from as sets_from, is_full as is_blame_full}
+use Rattle.cstn_conflict.specs.Conflicts.{conflict_set, is_above as is_blame_above, tried_from as sets_from, is_conflict_full as is_blame_full}
 use Rattle.cstn_conflict.specs.Trials.{is_any_above as is_any_set_above}
 use Rattle.cstn_conflict.proofs.SetLemmas.{whole_is, set_well_formed, decided}
 use Rattle.cstn_conflict.proofs.ConflictLemmas.{inconsistent, needed, within as set_within}
 use Rattle.cstn_tight.specs.Deadlines.{at_deadline}
-use Rattle.cstn_tight.specs.Bisection.{least_deadline, is_above, is_any_above, tried_from, whole, is_full as is_tight_full}
+use Rattle.cstn_tight.specs.Bisection.{least_deadline, is_above, is_any_above, tried_from, whole, is_tight_full}
 use Rattle.cstn_tight.proofs.BracketLemmas.{IsRefuted, IsFound, found, found_least}
 use Rattle.cstn_tight.proofs.LeastLemmas.{good_at_deadline}
 use Rattle.cstn_reply.specs.Plans.{Said, Plan, says, IsOutput}

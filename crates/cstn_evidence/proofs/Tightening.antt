@@ -16,7 +16,7 @@ use Rattle.cstn_closed.specs.Texts.{shown as shown_bounds}
 use Rattle.cstn_conflict.specs.Sets.{is_consistent}
 use Rattle.cstn_conflict.specs.Trials.{IsRefutationOf}
 use Rattle.cstn_tight.specs.Deadlines.{at_deadline}
-use Rattle.cstn_tight.specs.Bisection.{least_deadline, is_above, is_full, tried_from, whole}
+use Rattle.cstn_tight.specs.Bisection.{least_deadline, is_above, is_tight_full, tried_from, whole}
 use Rattle.cstn_reply.specs.Texts.{line, full_line}
 use Rattle.cstn_reply.specs.Plans.{Said, Plan, says}
 use Rattle.cstn_reply.specs.Read.{the_said}
@@ -27,7 +27,7 @@ use Rattle.cstn_evidence.specs.Tight.{refuted_text, tight_text, tightened}
 use Rattle.cstn_evidence.proofs.Blaming.{Whole, Decided, decided_whole, not_true}
 
 -- no log is too long where the first check says no
-within_cap : (cap : ℕ) (net : Network) → load_of net ≤ cap → is_consistent net ≡ false → is_full cap net ≡ false
+within_cap : (cap : ℕ) (net : Network) → load_of net ≤ cap → is_consistent net ≡ false → is_tight_full cap net ≡ false
 within_cap cap net below is =
     ap (λ (b : Bool). list_any (is_above cap net) (net.deadline ∷ (if b then tried_from net 20 (whole net) else []))) is
     ∙ or_none (is_above cap net net.deadline)
@@ -72,7 +72,7 @@ before_is names net deadline h (Some r) same none some =
     zero_of n is = grind arith
 
 -- what is said where it is
-pub yes_tightened : {E : Type 0} (cap : ℕ) (names : List (List ℕ)) (net : Network) (deadline : ℕ) (closed : ClosedParts) (o : Option RefutationParts) (res : Result SaidText E) → IsWellFormed net → Whole → Decided → IsConsistent net × (is_full cap net ≡ false) → deadline ≡ least_deadline net → the_bounds closed ≡ live_bounds (log_of (at_deadline net (least_deadline net))) → closed.load ≡ load_of (at_deadline net (least_deadline net)) → (IsNone o ↔ (deadline ≡ 0)) → IfSome o (IsRefutationOf (at_deadline net (least_deadline net - 1))) → IfOk res (λ said. the_said said ≡ record { outcome = Good; text = line (codes "least " ++ decimal deadline) ++ shown_bounds names closed.load (the_bounds closed) ++ told_before names o }) → IfOk res (λ said. says (the_said said) ≡ tightened cap names net)
+pub yes_tightened : {E : Type 0} (cap : ℕ) (names : List (List ℕ)) (net : Network) (deadline : ℕ) (closed : ClosedParts) (o : Option RefutationParts) (res : Result SaidText E) → IsWellFormed net → Whole → Decided → IsConsistent net × (is_tight_full cap net ≡ false) → deadline ≡ least_deadline net → the_bounds closed ≡ live_bounds (log_of (at_deadline net (least_deadline net))) → closed.load ≡ load_of (at_deadline net (least_deadline net)) → (IsNone o ↔ (deadline ≡ 0)) → IfSome o (IsRefutationOf (at_deadline net (least_deadline net - 1))) → IfOk res (λ said. the_said said ≡ record { outcome = Good; text = line (codes "least " ++ decimal deadline) ++ shown_bounds names closed.load (the_bounds closed) ++ told_before names o }) → IfOk res (λ said. says (the_said said) ≡ tightened cap names net)
 yes_tightened cap names net deadline closed o (Err e) good whole' decided tells deadline_is bounds_are load_is none some is = tt
 yes_tightened cap names net deadline closed o (Ok said) good whole' decided tells deadline_is bounds_are load_is none some is =
     let consistent : is_consistent net ≡ true = (decided_whole net good whole' decided).1 tells.0 in

@@ -5,7 +5,7 @@ use Rattle.cstn_log.specs.Cuts.{part}
 use Rattle.cstn_check.specs.Growth.{log_of, load_of}
 use Rattle.cstn_refute.specs.Texts.{shown}
 use Rattle.cstn_conflict.specs.Sets.{with_ids, is_consistent}
-use Rattle.cstn_conflict.specs.Conflicts.{conflict_set, is_full}
+use Rattle.cstn_conflict.specs.Conflicts.{conflict_set, is_conflict_full}
 use Rattle.cstn_reply.specs.Texts.{line, yes_line, full_line}
 use Rattle.cstn_reply.specs.Plans.{says}
 use Rattle.cstn_reply.specs.declared.output.Outcome.TheVariants.{Good, Bad, Full}
@@ -22,6 +22,6 @@ blame_text names net ids = ids_line ids ++ shown names (load_of (with_ids net id
 -- what `conflict` says of a network: the cap where a log exceeds it, yes where it is consistent, and else its conflict set
 abbrev pub blamed : ℕ → Answer
 blamed cap names net =
-    if is_full cap net then says (record { outcome = Full; text = full_line cap })
+    if is_conflict_full cap net then says (record { outcome = Full; text = full_line cap })
     else if is_consistent net then says (record { outcome = Good; text = yes_line (load_of net) })
     else says (record { outcome = Bad; text = blame_text names net (conflict_set net) })

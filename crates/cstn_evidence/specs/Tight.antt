@@ -7,7 +7,7 @@ use Rattle.cstn_refute.specs.Texts.{shown}
 use Rattle.cstn_closed.specs.Texts.{shown as shown_bounds}
 use Rattle.cstn_conflict.specs.Sets.{is_consistent}
 use Rattle.cstn_tight.specs.Deadlines.{at_deadline}
-use Rattle.cstn_tight.specs.Bisection.{least_deadline, is_full}
+use Rattle.cstn_tight.specs.Bisection.{least_deadline, is_tight_full}
 use Rattle.cstn_reply.specs.Texts.{line, full_line}
 use Rattle.cstn_reply.specs.Plans.{says}
 use Rattle.cstn_reply.specs.declared.output.Outcome.TheVariants.{Good, Bad, Full}
@@ -27,6 +27,6 @@ tight_text names net h =
 -- least deadline up to its own at which it is
 abbrev pub tightened : ℕ → Answer
 tightened cap names net =
-    if is_full cap net then says (record { outcome = Full; text = full_line cap })
+    if is_tight_full cap net then says (record { outcome = Full; text = full_line cap })
     else if is_consistent net then says (record { outcome = Good; text = tight_text names net (least_deadline net) })
     else says (record { outcome = Bad; text = refuted_text names net })

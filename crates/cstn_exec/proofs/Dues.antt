@@ -13,7 +13,7 @@ use Rattle.cstn_net.specs.Strategies.{Table}
 use Rattle.cstn_log.specs.Plans.{IsEarliest}
 use Rattle.cstn_exec.specs.Runs.{Run, next, is_done, executed_at, outcome_of, awaited, is_free, has_work, due}
 use Rattle.cstn_exec.specs.Moves.{moment_refusal, moved}
-use Rattle.cstn_exec.specs.Right.{AgreesKnown, IsRight, HasWork, IsDue, IsDone, IsCarriedOut}
+use Rattle.cstn_exec.specs.Right.{AgreesKnown, IsRight, HasWork, IsDue, IsDone, IsFulfilled}
 use Rattle.cstn_exec.proofs.Options.{cases_option, is_some-true}
 use Rattle.cstn_exec.proofs.Ranges.{IsFirstFrom, find_first, find_none, found, some_passes}
 use Rattle.cstn_exec.proofs.Judging.{IsAccepted, judged}
@@ -171,7 +171,7 @@ module _ (net : Network) (bounds : List Bound) (table : Table) (wf : IsWellForme
   done_none all = cond-true (is_done run) None (first_work net bounds run) all
 
   -- the moments of a run in which all is executed are those of a strategy
-  pub carried_out : IsDone net run → IsCarriedOut net run
+  pub carried_out : IsDone net run → IsFulfilled net run
   carried_out all = record {
     table = table;
     strategy = plan.strategy;

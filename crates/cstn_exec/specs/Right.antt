@@ -44,7 +44,7 @@ IsDone net run = (x : ℕ) → x < count net → (m : ℕ) × (executed_at run x
 
 -- in each scenario that agrees with what is known, the moments of the run are those of one strategy and meet each constraint
 -- whose label holds
-pub record IsCarriedOut (net : Network) (run : Run) : Type 0 where
+pub record IsFulfilled (net : Network) (run : Run) : Type 0 where
   pub table : Table
   pub strategy : IsStrategy net table
   pub moments : (s : Scenario) (x : ℕ) → AgreesKnown net run (next run) s → x < count net → executed_at run x ≡ Some (table s x)

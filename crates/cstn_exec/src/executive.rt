@@ -8,7 +8,7 @@ ghost use Rattle.cstn_net.specs.Read.{the_network};
 ghost use Rattle.cstn_log.specs.Plans.{IsEarliest, the_bounds};
 ghost use Rattle.cstn_exec.specs.Runs.{start, due, named};
 ghost use Rattle.cstn_exec.specs.Moves.{moment_refusal, moved, outcome_refusal, handed};
-ghost use Rattle.cstn_exec.specs.Right.{IsRight, IsCalled, IsDue, IsDone, IsCarriedOut};
+ghost use Rattle.cstn_exec.specs.Right.{IsRight, IsCalled, IsDue, IsDone, IsFulfilled};
 ghost use Rattle.cstn_exec.specs.Read.{refusal_of, the_refusal};
 
 mod accepting;
@@ -107,7 +107,7 @@ impl Executive {
         ensures none { IsNone result ↔ IsDone (the_network self.now.net) self.now.run }
         ensures first { IfSome result (λ t. IsDue (the_network self.now.net) self.now.run t) }
         ensures in_time { IfSome result (λ t. t ≤ self.now.net.deadline) }
-        ensures carried_out { IfNone result (IsCarriedOut (the_network self.now.net) self.now.run) }
+        ensures carried_out { IfNone result (IsFulfilled (the_network self.now.net) self.now.run) }
     {
         self.is_right();
         if self.is_done() {

@@ -8,7 +8,7 @@ ghost use Rattle.cstn_net.specs.Strategies.{Table};
 ghost use Rattle.cstn_log.specs.Plans.{IsEarliest};
 ghost use Rattle.cstn_exec.specs.Runs.{Run, start, named, due};
 ghost use Rattle.cstn_exec.specs.Moves.{Done, Past, Late, Awaiting, moment_refusal, moved, outcome_refusal, handed};
-ghost use Rattle.cstn_exec.specs.Right.{IsRight, IsCalled, IsDue, IsDone, IsCarriedOut, IsBetween, IsFirstAwaited};
+ghost use Rattle.cstn_exec.specs.Right.{IsRight, IsCalled, IsDue, IsDone, IsFulfilled, IsBetween, IsFirstAwaited};
 ghost use Rattle.cstn_exec.specs.Examples.{answers, branch, branch_plan, slow_branch, slow_branch_plan, last_tick_plan, crossed, crossed_plan, process, process_plan, branch_events, branch_answers, true_branch_events, true_branch_answers, last_tick_events, last_tick_answers, slow_events, slow_answers, crossed_events, crossed_answers, process_events, process_answers};
 
 /// The run of which nothing is executed is right, and accepted moments and outcomes keep a run right.
@@ -31,7 +31,7 @@ pub fn due_is_exact()
     ensures due { (net : Network) (bounds : List Bound) (table : Table) (run : Run) (t : ℕ) → IsWellFormed net → IsEarliest net bounds table → IsRight net run → due net bounds run ≡ Some t → IsDue net run t × (t ≤ net.deadline) }
     ensures none { (net : Network) (bounds : List Bound) (table : Table) (run : Run) → IsWellFormed net → IsEarliest net bounds table → IsRight net run → (due net bounds run ≡ None ↔ IsDone net run) }
     ensures before { (net : Network) (bounds : List Bound) (table : Table) (run : Run) (t u : ℕ) → IsWellFormed net → IsEarliest net bounds table → IsRight net run → due net bounds run ≡ Some t → IsBetween run u t → (moment_refusal net bounds run u ≡ None) × (named net bounds run u ≡ []) }
-    ensures end { (net : Network) (bounds : List Bound) (table : Table) (run : Run) → IsWellFormed net → IsEarliest net bounds table → IsRight net run → IsDone net run → IsCarriedOut net run }
+    ensures end { (net : Network) (bounds : List Bound) (table : Table) (run : Run) → IsWellFormed net → IsEarliest net bounds table → IsRight net run → IsDone net run → IsFulfilled net run }
 {}
 
 /// What each refusal of a moment tells.

@@ -11,7 +11,7 @@ use Rattle.cstn_log.specs.Plans.{PlanParts}
 use Rattle.cstn_exec.specs.Runs.{start}
 use Rattle.cstn_exec.specs.Read.{ExecParts}
 use Rattle.cstn_host.specs.declared.cases.Case.{Case}
-use Rattle.cstn_host.specs.Hosts.{HostParts, Opened, plan_at}
+use Rattle.cstn_host.specs.Hosts.{HostParts, Opened, plan_of_file}
 use Rattle.cstn_host.specs.Calls.{Call, Open, Close, answer_at, answer_on, case_after, host_after}
 use Rattle.cstn_host.specs.Read.{the_opened, the_cases, IsOver, IsHost}
 
@@ -83,7 +83,7 @@ closed_after plans (Some c) = refl
 
 -- an executive that was started on a copy of the file's plan
 pub opened_on : (plans : List PlanParts) (file : ℕ) (d : Option Case) (e : ExecParts) → d ≡ None → file < length plans
-    → e ≡ record { net = record (plan_at plans file).net { spare = 0 }; bounds = (plan_at plans file).bounds; run = start (count (the_network (plan_at plans file).net)); named = [] }
+    → e ≡ record { net = record (plan_of_file plans file).net { spare = 0 }; bounds = (plan_of_file plans file).bounds; run = start (count (the_network (plan_of_file plans file).net)); named = [] }
     → Some (the_opened (record { file = file; executive = e })) ≡ case_after plans (option_map the_opened d) (Open file false)
 opened_on plans file d e none inside is =
     rw (none, is_below file (length plans) inside) (ap Some (ap (λ (x : ExecParts). record { file = file; run = x.run; named = x.named }) is))

@@ -9,7 +9,7 @@ use Rattle.cstn_log.specs.Plans.{PlanParts}
 use Rattle.cstn_exec.specs.Runs.{Run, start, named}
 use Rattle.cstn_exec.specs.Moves.{Refusal, moment_refusal, outcome_refusal}
 use Rattle.cstn_exec.specs.Examples.{Event, Moment, See, AskDue, Answer, Names, Kept, Refused, DueAt, answer_to, moment_answer, see_answer, run_after, answers_from}
-use Rattle.cstn_host.specs.Hosts.{HostParts, Opened, nothing_open, plan_at, net_at, bounds_at, case_at, opened_anew}
+use Rattle.cstn_host.specs.Hosts.{HostParts, Opened, nothing_open, plan_of_file, net_at, bounds_at, case_at, opened_anew}
 use Rattle.cstn_host.specs.Calls.{Call, CallOn, Open, AskFile, AskNamed, Pass, Close, Told, Denied, OutOfRange, answer_at, unless_refused, named_after, passed, case_after, answer_on, host_after, host_after_all, put_if, answers_to}
 use Rattle.cstn_host.specs.Own.{Own, own_with, is_on, own_calls_from, own_calls, calls_on, alone, last_from, named_from, answer_by_own, answer_by}
 use Rattle.cstn_host.specs.Examples.{on}
@@ -66,7 +66,7 @@ abbrev case_by : List PlanParts → Own → Opened
 case_by plans own = record {
   file = own.file;
   run = run_from (net_at plans own.file) (bounds_at plans own.file) own.events (start (count (net_at plans own.file)));
-  named = named_from [] (alone (plan_at plans own.file) own.events);
+  named = named_from [] (alone (plan_of_file plans own.file) own.events);
 }
 
 opens : (plans : List PlanParts) (file : ℕ) (inside want : Bool) → (if inside then (if want then None else Some (opened_anew plans file)) else None) ≡ option_map (case_by plans) (if inside && not want then Some (record { file = file; events = [] }) else None)

@@ -27,14 +27,14 @@ abbrev pub no_plan : PlanParts
 no_plan = record { net = record { deadline = 0; points = []; constraints = []; spare = 0 }; bounds = [] }
 
 -- the plan of a file
-abbrev pub plan_at : List PlanParts → ℕ → PlanParts
-plan_at plans file = slice_index_or plans file no_plan
+abbrev pub plan_of_file : List PlanParts → ℕ → PlanParts
+plan_of_file plans file = slice_index_or plans file no_plan
 
 abbrev pub net_at : List PlanParts → ℕ → Network
-net_at plans file = the_network (plan_at plans file).net
+net_at plans file = the_network (plan_of_file plans file).net
 
 abbrev pub bounds_at : List PlanParts → ℕ → List Bound
-bounds_at plans file = the_bounds (plan_at plans file).bounds
+bounds_at plans file = the_bounds (plan_of_file plans file).bounds
 
 -- what the id is open over, if it is
 abbrev pub case_at : HostParts → ℕ → Option Opened

@@ -4,7 +4,7 @@ use Rattle.std.specs.List.{filter}
 use Rattle.cstn_net.specs.Read.{the_network}
 use Rattle.cstn_log.specs.Plans.{PlanParts, the_bounds}
 use Rattle.cstn_exec.specs.Examples.{Event, Answer, Names, Kept, Refused, DueAt, answers}
-use Rattle.cstn_host.specs.Hosts.{plan_at}
+use Rattle.cstn_host.specs.Hosts.{plan_of_file}
 use Rattle.cstn_host.specs.Calls.{Call, Open, AskFile, AskNamed, Pass, Close, CallOn, HostAnswer, FileIs, Told, Agreed, Denied, NotOpen, InUse, OutOfRange, opening_answer}
 
 -- the file of an id's last accepted `open`, and what was passed to its executive since
@@ -70,8 +70,8 @@ answer_by_own plans id None (Pass e) = Denied (NotOpen id)
 answer_by_own plans id None Close = Denied (NotOpen id)
 answer_by_own plans id (Some own) (Open file want) = Denied (InUse id)
 answer_by_own plans id (Some own) AskFile = FileIs own.file
-answer_by_own plans id (Some own) AskNamed = Told (Names (named_from [] (alone (plan_at plans own.file) own.events)))
-answer_by_own plans id (Some own) (Pass e) = Told (last_from Kept (alone (plan_at plans own.file) (own.events ++ e ∷ [])))
+answer_by_own plans id (Some own) AskNamed = Told (Names (named_from [] (alone (plan_of_file plans own.file) own.events)))
+answer_by_own plans id (Some own) (Pass e) = Told (last_from Kept (alone (plan_of_file plans own.file) (own.events ++ e ∷ [])))
 answer_by_own plans id (Some own) Close = Agreed
 
 -- what is answered to a call on an id, by the plans and the id's own calls before

@@ -10,7 +10,7 @@ use Rattle.cstn_exec.specs.Examples.{Refused}
 use Rattle.cstn_host.specs.declared.cases.Case.{Case}
 use Rattle.cstn_host.specs.declared.errors.HostError.{HostError}
 use Rattle.cstn_host.specs.declared.errors.HostError.TheVariants.{IdInUse, NoSuchPlan, IdRange, NoFile, Exec, Memory}
-use Rattle.cstn_host.specs.Hosts.{Opened, plan_at}
+use Rattle.cstn_host.specs.Hosts.{Opened, plan_of_file}
 use Rattle.cstn_host.specs.Calls.{HostAnswer, Told, Denied, InUse, NotOpen, OutOfRange, NotAFile, NoMemory}
 
 -- what is seen of a case
@@ -23,8 +23,8 @@ the_cases cases = map (option_map the_opened) cases
 -- the executive has a copy of the file's plan
 pub record IsOver (plans : List PlanParts) (c : Case) : Type 0 where
   pub inside : c.file < length plans
-  pub net : c.executive.net ≡ record (plan_at plans c.file).net { spare = 0 }
-  pub bounds : c.executive.bounds ≡ (plan_at plans c.file).bounds
+  pub net : c.executive.net ≡ record (plan_of_file plans c.file).net { spare = 0 }
+  pub bounds : c.executive.bounds ≡ (plan_of_file plans c.file).bounds
 
 -- what a host keeps: 1 to 8 plans, and 64 ids, each closed or open over one of them
 pub record IsHost (plans : List PlanParts) (cases : List (Option Case)) : Type 0 where

@@ -10,7 +10,7 @@ use Rattle.cstn_net.specs.Networks.{Network, Observes, count}
 use Rattle.cstn_net.proofs.Knowledge.{observer_within}
 use Rattle.cstn_lift.specs.Labelled.{Labelled, label_of}
 use Rattle.cstn_lift.specs.Faults.{IsSeenBy}
-use Rattle.cstn_lift.specs.Completion.{is_marked, is_observed_by, brought_by, joined_upto, rounds, completed, IsComplete, IsLabelOfObserver}
+use Rattle.cstn_lift.specs.Completion.{is_marked, is_observed_by, brought_by, joined_upto, rounds, completed, IsCompleteLabel, IsLabelOfObserver}
 
 mark_within_left : (m n : Mark) → IsMarkWithin m (joined_mark m n)
 mark_within_left m n = grind arith
@@ -105,7 +105,7 @@ module _ (m : Labelled) where
       IsWithin b (round a) → b ≡ round a
   round_is a b h each below = within_same b (round a) below (upto_least (count m.base) a b h each)
 
-  pub fixed_complete : (a : Label) → round a ≡ a → IsComplete m a
+  pub fixed_complete : (a : Label) → round a ≡ a → IsCompleteLabel m a
   fixed_complete a e x p o marked = subst (λ b. IsWithin (label_of m x) b) e (round_has a x p o marked)
 
   rounds_contain : (n : ℕ) (a : Label) → IsWithin a (rounds m n a)
@@ -116,7 +116,7 @@ module _ (m : Labelled) where
   marked_within : (a c : Label) (p : ℕ) → IsWithin a c → IsMarked a p → IsMarked c p
   marked_within a c p h marked = marked_back (c p) (marked_more (a p) (c p) (h p) (marked_true (a p) marked))
 
-  rounds_least : (n : ℕ) (a c : Label) → IsWithin a c → IsComplete m c → IsWithin (rounds m n a) c
+  rounds_least : (n : ℕ) (a c : Label) → IsWithin a c → IsCompleteLabel m c → IsWithin (rounds m n a) c
   rounds_least zero a c h closed = h
   rounds_least (suc n) a c h closed =
       let before = rounds_least n a c h closed in
@@ -220,7 +220,7 @@ module _ (m : Labelled) where
     ]
   ]
 
-  pub completed_complete : (a : Label) → IsComplete m (completed m a)
+  pub completed_complete : (a : Label) → IsCompleteLabel m (completed m a)
   completed_complete a = elim (fixed_or_seen (count m.base) a) [
     | inl fixed ↦ fixed_complete (completed m a) fixed
     | inr more ↦ let upto = seen_upto (count m.base) (completed m a) in absurd (omega arith)
@@ -229,7 +229,7 @@ module _ (m : Labelled) where
   pub completed_contains : (a : Label) → IsWithin a (completed m a)
   completed_contains a = rounds_contain (count m.base) a
 
-  pub completed_least : (a c : Label) → IsWithin a c → IsComplete m c → IsWithin (completed m a) c
+  pub completed_least : (a c : Label) → IsWithin a c → IsCompleteLabel m c → IsWithin (completed m a) c
   completed_least a c h closed = rounds_least (count m.base) a c h closed
 
   pub completed_idempotent : (a : Label) → completed m (completed m a) ≡ completed m a

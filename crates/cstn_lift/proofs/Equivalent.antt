@@ -10,7 +10,7 @@ use Rattle.std.proofs.lemmas.List.Elements.{All-contains}
 use Rattle.cstn_net.specs.Networks.{Constraint, IsConstraint, IsOnObserved, count, limit}
 use Rattle.cstn_net.specs.Strategies.{Table, IsDynamic, IsStrategy, IsLeast, Meets}
 use Rattle.cstn_lift.specs.Labelled.{Labelled, label_of}
-use Rattle.cstn_lift.specs.Completion.{completed_label, full_label, IsComplete}
+use Rattle.cstn_lift.specs.Completion.{completed_label, full_label, IsCompleteLabel}
 use Rattle.cstn_lift.specs.WellFormed.{IsLabelled}
 use Rattle.cstn_lift.specs.Lowered.{lowered, observer_of}
 use Rattle.cstn_lift.specs.Strategies.{IsExecuted, IsLabelledStrategy, IsLabelledLeast, IsDefaulted, IsEquivalent}
@@ -71,7 +71,7 @@ module _ (m : Labelled) (good : IsLabelled m) where
   own s p = own_at s p (observer_of m.base p)
 
   -- the full label of a constraint: complete, and with the completed labels of the ends within it
-  pub full_closed : (c : Constraint) → IsComplete m (full_label m c)
+  pub full_closed : (c : Constraint) → IsCompleteLabel m (full_label m c)
   full_closed c = completed_complete m (joined c.label (joined (label_of m c.from) (label_of m c.to)))
 
   full_from : (c : Constraint) → IsWithin (completed_label m c.from) (full_label m c)

@@ -9,7 +9,7 @@ use Rattle.cstn_label.proofs.LabelLemmas.{within_itself, within_same, absent_joi
 use Rattle.cstn_net.specs.Networks.{Network, IsOnObserved, Observes, count}
 use Rattle.cstn_net.proofs.Knowledge.{observer_within}
 use Rattle.cstn_lift.specs.Labelled.{Labelled, label_of}
-use Rattle.cstn_lift.specs.Completion.{is_observed_by, brought_by, joined_upto, rounds, completed, completed_label, IsComplete}
+use Rattle.cstn_lift.specs.Completion.{is_observed_by, brought_by, joined_upto, rounds, completed, completed_label, IsCompleteLabel}
 use Rattle.cstn_lift.specs.WellFormed.{IsLabelled}
 use Rattle.cstn_lift.proofs.CompletionLemmas.{completed_complete, completed_least, seen, what, seen_marked, same_or_more, empty_within}
 
@@ -63,7 +63,7 @@ module _ (m : Labelled) (good : IsLabelled m) where
   full_on x = completed_on m label_on (label_of m x) (label_on x)
 
   -- with what a complete label marks come the completed labels of the observers
-  pub full_within : (a : Label) → IsComplete m a → (j p : ℕ) → Observes m.base j p → IsMarked a p → IsWithin (completed_label m j) a
+  pub full_within : (a : Label) → IsCompleteLabel m a → (j p : ℕ) → Observes m.base j p → IsMarked a p → IsWithin (completed_label m j) a
   full_within a closed j p o marked = completed_least m (label_of m j) a (closed j p o marked) closed
 
   pub label_within : (x j p : ℕ) → Observes m.base j p → IsMarked (completed_label m x) p →

@@ -5,7 +5,7 @@ use Rattle.cstn_label.specs.Labels.{Scenario, IsMarked, IsPossible}
 use Rattle.cstn_net.specs.Networks.{Constraint, count}
 use Rattle.cstn_net.specs.Strategies.{Table, IsKnown, IsStrategy, IsLeast}
 use Rattle.cstn_lift.specs.Labelled.{Labelled}
-use Rattle.cstn_lift.specs.Completion.{completed_label, IsComplete}
+use Rattle.cstn_lift.specs.Completion.{completed_label, IsCompleteLabel}
 use Rattle.cstn_lift.specs.WellFormed.{IsLabelled}
 use Rattle.cstn_lift.specs.Lowered.{lowered}
 use Rattle.cstn_lift.specs.Strategies.{IsExecuted, IsLabelledStrategy, IsLabelledLeast, IsDefaulted, AreTwins}
@@ -65,6 +65,6 @@ defaulted_least m table d twin good defaulted least s x here h =
     (labelled_least m good (twin s) x (table (twin s) x) here there (least (twin s) x here))
 
 -- each label of the lowered network is complete
-pub lowered_complete : (m : Labelled) → IsLabelled m → (d : Constraint) → IsOfLowered m d → IsComplete m d.label
-lowered_complete m good d (inl f) = subst (IsComplete m) (sym f.3.marks) (full_closed m good f.0)
-lowered_complete m good d (inr g) = subst (IsComplete m) (sym g.3.between.marks) (completed_complete m _)
+pub lowered_complete : (m : Labelled) → IsLabelled m → (d : Constraint) → IsOfLowered m d → IsCompleteLabel m d.label
+lowered_complete m good d (inl f) = subst (IsCompleteLabel m) (sym f.3.marks) (full_closed m good f.0)
+lowered_complete m good d (inr g) = subst (IsCompleteLabel m) (sym g.3.between.marks) (completed_complete m _)

@@ -43,8 +43,8 @@ IsLabelOfObserver m p a =
     ((x : ℕ) × Observes m.base x p × (a ≡ label_of m x)) ⊎ (((x : ℕ) → Observes m.base x p → ⊥) × (a ≡ empty))
 
 -- with each proposition that a label marks, the label of its observer is within it
-abbrev pub IsComplete : Labelled → Label → Type 0
-IsComplete m a = (x p : ℕ) → Observes m.base x p → IsMarked a p → IsWithin (label_of m x) a
+abbrev pub IsCompleteLabel : Labelled → Label → Type 0
+IsCompleteLabel m a = (x p : ℕ) → Observes m.base x p → IsMarked a p → IsWithin (label_of m x) a
 
 -- the completed label of a time-point
 abbrev pub completed_label : Labelled → ℕ → Label

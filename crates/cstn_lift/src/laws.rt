@@ -5,7 +5,7 @@ ghost use Rattle.cstn_label.specs.Labels.{Label, Scenario, IsMarked, IsPlain, Is
 ghost use Rattle.cstn_net.specs.Networks.{Constraint, Observes, IsOnObserved, IsWellFormed, count};
 ghost use Rattle.cstn_net.specs.Strategies.{Table, IsKnown, IsStrategy, IsLeast};
 ghost use Rattle.cstn_lift.specs.Labelled.{Labelled, label_of};
-ghost use Rattle.cstn_lift.specs.Completion.{IsComplete, completed, completed_label};
+ghost use Rattle.cstn_lift.specs.Completion.{IsCompleteLabel, completed, completed_label};
 ghost use Rattle.cstn_lift.specs.WellFormed.{IsLabelled};
 ghost use Rattle.cstn_lift.specs.Lowered.{lowered, numbered};
 ghost use Rattle.cstn_lift.specs.Strategies.{IsExecuted, IsLabelledStrategy, IsLabelledLeast, IsEquivalent, IsDefaulted, AreTwins};
@@ -14,8 +14,8 @@ ghost use Rattle.cstn_lift.specs.Strategies.{IsExecuted, IsLabelledStrategy, IsL
 /// Completing again changes nothing, and a label that another is within has a completed label that the other's is within.
 pub fn completion_is_a_closure()
     ensures contains { (m : Labelled) (a : Label) → IsWithin a (completed m a) }
-    ensures complete { (m : Labelled) (a : Label) → IsComplete m (completed m a) }
-    ensures least { (m : Labelled) (a c : Label) → IsWithin a c → IsComplete m c → IsWithin (completed m a) c }
+    ensures complete { (m : Labelled) (a : Label) → IsCompleteLabel m (completed m a) }
+    ensures least { (m : Labelled) (a c : Label) → IsWithin a c → IsCompleteLabel m c → IsWithin (completed m a) c }
     ensures idempotent { (m : Labelled) (a : Label) → completed m (completed m a) ≡ completed m a }
     ensures grows { (m : Labelled) (a b : Label) → IsWithin a b → IsWithin (completed m a) (completed m b) }
 {}
@@ -33,7 +33,7 @@ pub fn completed_labels_are_ordered()
 /// is complete.
 pub fn lowered_is_well_formed()
     ensures well_formed { (m : Labelled) → IsLabelled m → length (lowered m).constraints ≤ 16384 → IsWellFormed (lowered m) }
-    ensures labels { (m : Labelled) (c : Constraint) → IsLabelled m → Contains (lowered m).constraints c → IsPlain c.label × IsOnObserved m.base c.label × IsComplete m c.label }
+    ensures labels { (m : Labelled) (c : Constraint) → IsLabelled m → Contains (lowered m).constraints c → IsPlain c.label × IsOnObserved m.base c.label × IsCompleteLabel m c.label }
 {}
 
 /// Where no time-point has a label, the lowered network is the network with its constraints numbered anew, and so the network

@@ -6,7 +6,7 @@ use Rattle.std.proofs.Math.Seq.{take-append-add}
 use Rattle.std.proofs.lemmas.Grind.{common_steps}
 use Rattle.cstn_io.specs.Contents.{after_bytes}
 use Rattle.cstn_lines.specs.Pieces.{lines_of, whole_lines, IsCut, HasNoEnd, is_past, between}
-use Rattle.cstn_lines.specs.Steps.{LinesState, HandsOut, IsRefused, IsBroken, IsPast, Steps, ReadsOn}
+use Rattle.cstn_lines.specs.Steps.{LinesState, HandsOut, HasWrongLine, IsBroken, IsPast, Steps, ReadsOn}
 use Rattle.cstn_lines.specs.declared.lines.Next.{Next}
 use Rattle.cstn_lines.proofs.PieceLemmas.{cut_lines, cut_whole, open_whole, last_line, long_line, some_line, take_between, drop_between, between_none}
 
@@ -33,7 +33,7 @@ hand_cut kept bytes start stop i count n after cut is short below line rest coun
     }
 
 -- a line that is refused is refused by what is kept of it
-refused : (kept : List ℕ) (count n : ℕ) (after : LinesState) → n ≡ count + 1 → ((rest : List ℕ) → (line : List ℕ) × (lines : List (List ℕ)) × (lines_of (kept ++ rest) ≡ line ∷ lines) × (is_past n line ≡ true)) → after.kept ≡ kept → after.count ≡ count → IsRefused kept count after n
+refused : (kept : List ℕ) (count n : ℕ) (after : LinesState) → n ≡ count + 1 → ((rest : List ℕ) → (line : List ℕ) × (lines : List (List ℕ)) × (lines_of (kept ++ rest) ≡ line ∷ lines) × (is_past n line ≡ true)) → after.kept ≡ kept → after.count ≡ count → HasWrongLine kept count after n
 refused kept count n after number next stays same =
     let now = next [] in
     let all : lines_of after.kept ≡ now.0 ∷ now.1 = ap lines_of (stays ∙ sym (append-nil kept)) ∙ now.2 in
@@ -45,11 +45,11 @@ refused kept count n after number next stays same =
       stays = (now.0, now.1, all, subst (λ (k : ℕ). is_past k now.0 ≡ true) (number ∙ ap (λ k. k + 1) (sym same)) now.3);
     }
 
-pub refuse_late : (kept : List ℕ) (count n : ℕ) (after : LinesState) → 0 < length kept → count ≡ 2 ^ 24 → n ≡ count + 1 → after.kept ≡ kept → after.count ≡ count → IsRefused kept count after n
+pub refuse_late : (kept : List ℕ) (count n : ℕ) (after : LinesState) → 0 < length kept → count ≡ 2 ^ 24 → n ≡ count + 1 → after.kept ≡ kept → after.count ≡ count → HasWrongLine kept count after n
 refuse_late kept count n after some at number stays counts =
     refused kept count n after number (λ r. let found = some_line (kept ++ r) (omega (arith, length-append kept r)) in (found.0, found.1, found.2, past_late n found.0 (omega arith))) stays counts
 
-pub refuse_long : (kept : List ℕ) (count n : ℕ) (after : LinesState) → HasNoEnd kept → 4096 < length kept → n ≡ count + 1 → after.kept ≡ kept → after.count ≡ count → IsRefused kept count after n
+pub refuse_long : (kept : List ℕ) (count n : ℕ) (after : LinesState) → HasNoEnd kept → 4096 < length kept → n ≡ count + 1 → after.kept ≡ kept → after.count ≡ count → HasWrongLine kept count after n
 refuse_long kept count n after none long number stays counts =
     refused kept count n after number (λ r. let found = long_line kept r none (omega arith) in (kept ++ found.0, found.1, found.2, past_long n (kept ++ found.0) (omega (arith, length-append kept found.0)))) stays counts
 

@@ -35,7 +35,7 @@ pub record IsOver (bytes : List ℕ) (count : ℕ) (after : LinesState) : Type 0
   pub ended : after.ended ≡ true
 
 -- the first line of these bytes is of no grammar, whatever follows
-pub record IsRefused (bytes : List ℕ) (count : ℕ) (after : LinesState) (number : ℕ) : Type 0 where
+pub record HasWrongLine (bytes : List ℕ) (count : ℕ) (after : LinesState) (number : ℕ) : Type 0 where
   pub is_number : number ≡ count + 1
   pub next : (rest : List ℕ) → (line : List ℕ) × (lines : List (List ℕ)) × (lines_of (bytes ++ rest) ≡ line ∷ lines) × (is_past number line ≡ true)
   pub kept : after.kept ≡ bytes
@@ -53,7 +53,7 @@ pub record IsBroken (bytes : List ℕ) (count : ℕ) (after : LinesState) : Type
 abbrev pub Steps : List ℕ → ℕ → LinesState → Next → Type 0
 Steps bytes count after (Line number) = HandsOut bytes count after number
 Steps bytes count after End = IsOver bytes count after
-Steps bytes count after (Wrong number) = IsRefused bytes count after number
+Steps bytes count after (Wrong number) = HasWrongLine bytes count after number
 Steps bytes count after Fault = IsBroken bytes count after
 
 -- The reads of a step that reads. Each but the last took a byte, and before the last the line that was kept had no end, was

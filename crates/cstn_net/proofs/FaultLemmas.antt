@@ -16,7 +16,7 @@ use Rattle.cstn_net.specs.declared.errors.NetError.TheVariants.{TooManyNodes, No
 use Rattle.cstn_net.specs.Networks.{IsConstraint, IsValue, IsWellFormed}
 use Rattle.cstn_net.specs.Read.{observed, is_prop, reaction_of, the_constraint}
 use Rattle.cstn_net.specs.Observers.{KnowsObservers, IsUnseen}
-use Rattle.cstn_net.specs.Drafts.{BuilderParts, LacksObserver, HasTwins, IsFirst, IsLeastOfFirst, IsDraftAmong, IsSized, IsSound, HasFault, IsTimely, number, observations, constraints_from}
+use Rattle.cstn_net.specs.Drafts.{BuilderParts, LacksObserver, HasTwins, IsFirst, IsLeastOfFirst, IsDraftAmong, IsSized, IsSound, HasFault, HasReaction, number, observations, constraints_from}
 use Rattle.cstn_net.proofs.ListLemmas.{pairs_map}
 use Rattle.cstn_net.proofs.ObserverLemmas.{prop_below, stands_within}
 use Rattle.cstn_net.proofs.ChangeLemmas.{net_of}
@@ -76,7 +76,7 @@ pub no_fault : (b : BuilderParts) → IsSized b → IsSound b → (f : NetError)
 no_fault b sized sound f has = go f has (lowest_from b 9 sized (omega arith) (λ h. sound.values) (λ h. sound.observed) (λ h. sound.no_twins) (λ h. sound.plain) f has)
   where
     go : (f : NetError) → HasFault b f → 9 ≤ number f → ⊥
-    go (ReactionRange node) has at = never_fails IsTimely b.points node.0 has sound.timely
+    go (ReactionRange node) has at = never_fails HasReaction b.points node.0 has sound.timely
     go (NotPlain constraint) has at = omega arith
     go TooManyNodes has at = omega arith
     go NoOrigin has at = omega arith
@@ -133,7 +133,7 @@ observes_some : (o : Option Prop) (q : ℕ) → option_map (λ p. p.index) o ≡
 observes_some None q e = cc
 observes_some (Some p) q e = refl
 
-timely_first : (t : TimePoint) (p n : ℕ) → IsTimely t → (0 < n) × (n ≤ 1000) → (o : Option ℕ) → observed t ≡ o →
+timely_first : (t : TimePoint) (p n : ℕ) → HasReaction t → (0 < n) × (n ≤ 1000) → (o : Option ℕ) → observed t ≡ o →
     (0 < cond (is_prop p o) t.reaction n) × (cond (is_prop p o) t.reaction n ≤ 1000)
 timely_first t p n timely rest None e = rest
 timely_first t p n timely rest (Some q) e =
@@ -143,10 +143,10 @@ timely_first t p n timely rest (Some q) e =
     ]
 
 -- where each time-point that observes reacts in time, so does the first that observes a proposition
-pub timely_reaction : (points : List TimePoint) (p : ℕ) → All IsTimely points → (0 < reaction_of points p) × (reaction_of points p ≤ 1000)
+pub timely_reaction : (points : List TimePoint) (p : ℕ) → All HasReaction points → (0 < reaction_of points p) × (reaction_of points p ≤ 1000)
 timely_reaction [] p all = (omega arith, omega arith)
 timely_reaction (t ∷ ts) p all =
-    timely_first t p (reaction_of ts p) (All-head IsTimely t ts all) (timely_reaction ts p (All-tail IsTimely t ts all)) (observed t) refl
+    timely_first t p (reaction_of ts p) (All-head HasReaction t ts all) (timely_reaction ts p (All-tail HasReaction t ts all)) (observed t) refl
 
 -- the network of a builder that is sized and sound is well-formed
 pub made_well_formed : (b : BuilderParts) (table : List (Option NodeId)) → KnowsObservers (observations b) table →

@@ -13,7 +13,7 @@ use Rattle.cstn_net.specs.Networks.{Network, IsConstraint, IsOnObserved, IsValue
 use Rattle.cstn_net.specs.declared.points.TimePoint.{TimePoint}
 use Rattle.cstn_label.specs.declared.props.Prop.{Prop}
 use Rattle.cstn_net.specs.Read.{observed, the_constraint, reaction_of}
-use Rattle.cstn_net.specs.Drafts.{BuilderParts, HasFault, IsFirst, IsRefusal, IsTimely, LacksObserver, observations, number, constraints_from, constraint_of}
+use Rattle.cstn_net.specs.Drafts.{BuilderParts, HasFault, IsFirst, IsRefusal, HasReaction, LacksObserver, observations, number, constraints_from, constraint_of}
 use Rattle.cstn_net.specs.Handed.{IsHanded}
 use Rattle.cstn_net.proofs.DraftLemmas.{constraints_length}
 use Rattle.cstn_net.proofs.ObserverLemmas.{reaction_at, observed_at}
@@ -38,7 +38,7 @@ observes_one None some = cc
 observes_one (Some p) some = (p.index, refl)
 
 -- at no place fails what holds wherever something is observed
-nowhere_timely : (points : List TimePoint) (k : ℕ) → k < length points → ((t : TimePoint) → IsTimely (slice_index_or points k t) → ⊥) →
+nowhere_timely : (points : List TimePoint) (k : ℕ) → k < length points → ((t : TimePoint) → HasReaction (slice_index_or points k t) → ⊥) →
     ((t : TimePoint) → t ≡ slice_index_or points k t → (p : ℕ) → slice_index_or (map observed points) k None ≡ Some p → (0 < t.reaction) × (t.reaction ≤ 1000)) → ⊥
 nowhere_timely [] k inside fails timely = absurd (omega arith)
 nowhere_timely (u ∷ us) k inside fails timely =
@@ -48,7 +48,7 @@ nowhere_timely (u ∷ us) k inside fails timely =
     timely t is_t one.0 (observed_at (u ∷ us) k t inside is_t ∙ one.1))
 
 -- each time-point that was handed in reacts in time, since it alone observes what it observes
-untimely_nowhere : (b : BuilderParts) (net : Network) → IsWellFormed net → IsHanded b net → (k : ℕ) → IsFirst (λ t. IsTimely t → ⊥) b.points k → ⊥
+untimely_nowhere : (b : BuilderParts) (net : Network) → IsWellFormed net → IsHanded b net → (k : ℕ) → IsFirst (λ t. HasReaction t → ⊥) b.points k → ⊥
 untimely_nowhere b net good handed k f =
     nowhere_timely b.points k f.inside f.here (λ t is_t p is.
     let at : (x : ℕ) → slice_index_or (observations b) x None ≡ Some p → Observes net x p =
@@ -69,8 +69,8 @@ prompt_reaction (t ∷ ts) all p =
     grind arith
 
 -- so no reaction of it is out of range
-pub prompt_is_timely : (points : List TimePoint) → All (λ t. t.reaction ≡ 1) points → All IsTimely points
-prompt_is_timely points all = All-weaker (λ t. t.reaction ≡ 1) IsTimely (λ t one some. (omega arith, omega arith)) points all
+pub prompt_is_timely : (points : List TimePoint) → All (λ t. t.reaction ≡ 1) points → All HasReaction points
+prompt_is_timely points all = All-weaker (λ t. t.reaction ≡ 1) HasReaction (λ t one some. (omega arith, omega arith)) points all
 
 pub no_fault : (b : BuilderParts) (net : Network) → IsWellFormed net → IsHanded b net → (e : NetError) → HasFault b e → ⊥
 no_fault b net good handed TooManyNodes f = let few = good.few_points in let len = ap length handed.observes in omega (arith, f, few, len, length-map b.points observed)

@@ -77,8 +77,8 @@ pub record AreFirstTwins (observes : List (Option ℕ)) (p first second : ℕ) :
   pub none_before : HasTwins observes second → ⊥
 
 -- the time-point has a reaction from 1 to 1,000 ticks where it observes something
-abbrev pub IsTimely : TimePoint → Type 0
-IsTimely t = IsSome t.observes → (0 < t.reaction) × (t.reaction ≤ 1000)
+abbrev pub HasReaction : TimePoint → Type 0
+HasReaction t = IsSome t.observes → (0 < t.reaction) × (t.reaction ≤ 1000)
 
 -- what each refusal says of a builder
 abbrev pub HasFault : BuilderParts → NetError → Type 0
@@ -91,7 +91,7 @@ HasFault b (NotObserved prop) =
     IsLeastOfFirst (λ q d. LacksObserver (observations b) (marks d.label) q) b.drafts prop.index
 HasFault b (TwoObservers prop first second) = AreFirstTwins (observations b) prop.index first.0 second.0
 HasFault b (NotPlain constraint) = IsFirst (λ d. IsPlain (marks d.label) → ⊥) b.drafts constraint
-HasFault b (ReactionRange node) = IsFirst (λ t. IsTimely t → ⊥) b.points node.0
+HasFault b (ReactionRange node) = IsFirst (λ t. HasReaction t → ⊥) b.points node.0
 HasFault b (Memory e) = ⊥
 
 -- a builder without the faults of N1 to N4
@@ -107,7 +107,7 @@ pub record IsSound (b : BuilderParts) : Type 0 where
   pub observed : All (λ d. (q : ℕ) → LacksObserver (observations b) (marks d.label) q → ⊥) b.drafts
   pub no_twins : HasTwins (observations b) (length b.points) → ⊥
   pub plain : All (λ d. IsPlain (marks d.label)) b.drafts
-  pub timely : All IsTimely b.points
+  pub timely : All HasReaction b.points
 
 -- the number of a refusal, and 0 for want of memory
 abbrev pub number : NetError → ℕ

@@ -6,7 +6,7 @@ ghost use Rattle.cstn_net.specs.declared.errors.NetError.{NetError};
 ghost use Rattle.cstn_net.specs.declared.points.TimePoint.{TimePoint};
 ghost use Rattle.cstn_net.specs.Networks.{Network, IsWellFormed};
 ghost use Rattle.cstn_net.specs.Read.{reaction_of};
-ghost use Rattle.cstn_net.specs.Drafts.{BuilderParts, HasFault, IsRefusal, IsTimely, number, constraint_of, constraints_from};
+ghost use Rattle.cstn_net.specs.Drafts.{BuilderParts, HasFault, IsRefusal, HasReaction, number, constraint_of, constraints_from};
 ghost use Rattle.cstn_net.specs.Handed.{IsHanded};
 
 /// A builder that was handed a well-formed network has no fault, so `close` refuses it for want of memory alone.
@@ -17,7 +17,7 @@ pub fn handed_networks_are_closed()
 
 /// Where no time-point was told another reaction, each is in range, and each proposition has one of a tick.
 pub fn reactions_are_a_tick_at_first()
-    ensures timely { (points : List TimePoint) → All (λ t. t.reaction ≡ 1) points → All IsTimely points }
+    ensures timely { (points : List TimePoint) → All (λ t. t.reaction ≡ 1) points → All HasReaction points }
     ensures reaction { (points : List TimePoint) → All (λ t. t.reaction ≡ 1) points → (p : ℕ) → reaction_of points p ≡ 1 }
 {}
 

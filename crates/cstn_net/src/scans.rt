@@ -6,7 +6,7 @@ ghost use Rattle.cstn_label.specs.Labels.{IsPlain};
 ghost use Rattle.cstn_label.specs.Read.{marks};
 ghost use Rattle.cstn_net.specs.Networks.{IsValue};
 ghost use Rattle.cstn_net.specs.Read.{observed};
-ghost use Rattle.cstn_net.specs.Drafts.{IsFirst, IsLeastOfFirst, HasTwins, AreFirstTwins, IsTimely};
+ghost use Rattle.cstn_net.specs.Drafts.{IsFirst, IsLeastOfFirst, HasTwins, AreFirstTwins, HasReaction};
 ghost use Rattle.cstn_net.specs.Observers.{KnowsObservers, IsUnseen, IsTwin};
 
 use crate::drafts::Draft;
@@ -85,7 +85,7 @@ pub fn first_twins(table: &Observers, points: &[TimePoint]) -> Option<(Prop, Nod
 }
 
 fn is_timely(point: TimePoint) -> bool
-    ensures { IsTrue result ↔ IsTimely point }
+    ensures { IsTrue result ↔ HasReaction point }
 {
     point.observes.is_none() || (1 <= point.reaction && point.reaction <= MAX_REACTION)
 }
@@ -93,7 +93,7 @@ fn is_timely(point: TimePoint) -> bool
 // The first time-point that observes and has a reaction out of range.
 pub fn first_untimely(points: &[TimePoint]) -> Option<NodeId>
     requires { length points.now ≤ 1024 }
-    ensures { MatchOption result (All IsTimely points.now) (λ x. IsFirst (λ t. IsTimely t → ⊥) points.now x.0) }
+    ensures { MatchOption result (All HasReaction points.now) (λ x. IsFirst (λ t. HasReaction t → ⊥) points.now x.0) }
 {
     for (i, point) in points.iter().enumerate() {
         if !is_timely(*point) {

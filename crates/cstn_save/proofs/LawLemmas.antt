@@ -21,7 +21,7 @@ use Rattle.cstn_graphml.specs.Results.{◌>>=◌}
 use Rattle.cstn_data.specs.LabelTexts.{is_absent}
 use Rattle.cstn_graphml.specs.Contents.{content_of}
 use Rattle.cstn_graphml.specs.DrawnGraph.{Observation, DrawnGraph, with_constraint}
-use Rattle.cstn_graphml.specs.Document.{in_document, parts_of, document}
+use Rattle.cstn_graphml.specs.Document.{in_document, drawn_parts, document}
 use Rattle.cstn_save.specs.Canonical.{canonical, observed_by, observations, head, nodes_below, edges, tail}
 use Rattle.cstn_save.specs.ReadBack.{drawn, parts, AreNamesOf}
 use Rattle.cstn_save.proofs.WholeLemmas.{drafted, IsNew, IsInReach}
@@ -91,12 +91,12 @@ all_known names (c ∷ cs) d all = (
 )
 
 parts_told : (m : Labelled) (names : List (List ℕ)) (n : ℕ) (d : DrawnGraph) → suc n ≡ length names → suc n ≡ count m.base → suc n ≡ length m.labels → IsShaped names (observations m.base) m.labels m.base.deadline n d
-    → parts_of None (record d { constraints = d.constraints ++ map drawn m.base.constraints }) ≡ Ok (parts m names)
+    → drawn_parts None (record d { constraints = d.constraints ++ map drawn m.base.constraints }) ≡ Ok (parts m names)
 parts_told m names n d all count_is labels_are so =
     rw (so.deadline_is, so.origin_is, so.names_are, take_all (suc n) names (omega (arith, all)), so.none, so.labels_are, take_all (suc n) m.labels (omega (arith, labels_are)), so.observes_are, take_all (suc n) (observations m.base) (omega (arith, count_is, observations_count m.base))) refl
 
 -- the content of the canonical document has the parts of the labelled network
-pub content_back : (m : Labelled) (names : List (List ℕ)) → IsLabelled m → AreNamesOf m.base names → (in_document (content_of (tokens (canonical m names))) >>= parts_of None) ≡ Ok (parts m names)
+pub content_back : (m : Labelled) (names : List (List ℕ)) → IsLabelled m → AreNamesOf m.base names → (in_document (content_of (tokens (canonical m names))) >>= drawn_parts None) ≡ Ok (parts m names)
 content_back m names good is =
     let net : Network = m.base in
     let os : List (Option Observation) = observations net in
@@ -123,8 +123,8 @@ content_back m names good is =
       to = found names os m.labels net.deadline n (slice_index_or net.constraints k x).to _ given all (shape at) (omega (arith, c.to, is.each));
     } in
     let drafted_is = canonical_drafted m names (omega (arith, wf.in_time)) new (λ at. all_known names net.constraints (drafted_of m names at) (known at)) in
-    ap (λ r. r >>= parts_of None) drafted_is.1
-    ∙ ap (parts_of None) (with_all_is net.constraints (drafted_of m names drafted_is.0))
+    ap (λ r. r >>= drawn_parts None) drafted_is.1
+    ∙ ap (drawn_parts None) (with_all_is net.constraints (drafted_of m names drafted_is.0))
     ∙ parts_told m names n (drafted_of m names drafted_is.0) all count_is (omega (arith, count_is, good.one_each)) (shape drafted_is.0)
 
 -- the canonical document is UTF-8

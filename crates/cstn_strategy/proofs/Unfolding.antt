@@ -9,7 +9,7 @@ use Rattle.cstn_check.specs.Growth.{log_of, load_of, live_bounds}
 use Rattle.cstn_check.specs.declared.verdicts.Verdict.{Verdict}
 use Rattle.cstn_check.specs.declared.verdicts.Verdict.TheVariants.{Yes}
 use Rattle.cstn_tree.specs.Trees.{Tree, Line, lines_of, table_of}
-use Rattle.cstn_tree.specs.Good.{IsGood}
+use Rattle.cstn_tree.specs.Good.{IsUnbroken}
 use Rattle.cstn_tree.specs.Made.{IsTreeOf}
 use Rattle.cstn_tree.specs.Texts.{shown, tells, told}
 use Rattle.cstn_tree.specs.Read.{the_tree}
@@ -23,7 +23,7 @@ use Rattle.cstn_strategy.specs.Unfolded.{observed, unfolded}
 -- no line of the tree breaks, and it has each time-point at its least moment
 pub record IsMade (net : Network) (bounds : List Bound) (tree : Tree) : Type 0 where
   pub made : IsTreeOf net bounds tree
-  pub good : IsGood net tree
+  pub good : IsUnbroken net tree
   pub least : (s : Scenario) (x : ℕ) → x < count net → IsLeast net s x (table_of tree s x)
 
 -- the text of such a tree

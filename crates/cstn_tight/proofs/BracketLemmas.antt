@@ -15,7 +15,7 @@ use Rattle.cstn_conflict.specs.Trials.{verdict_on}
 use Rattle.cstn_conflict.proofs.ConflictLemmas.{first_yes}
 use Rattle.cstn_tight.specs.declared.ranges.Range.{Range}
 use Rattle.cstn_tight.specs.Deadlines.{at_deadline, IsLeastDeadline}
-use Rattle.cstn_tight.specs.Bisection.{middle, halved, narrowed, tried_from, whole, least_deadline, is_above, is_any_above, is_full}
+use Rattle.cstn_tight.specs.Bisection.{middle, halved, narrowed, tried_from, whole, least_deadline, is_above, is_any_above, is_tight_full}
 use Rattle.cstn_tight.proofs.LeastLemmas.{decided_at}
 use Rattle.cstn_tight.proofs.HalfLemmas.{middle_low, middle_high, half_cases, narrowed_wide, narrowed_done, tried_wide, narrowed_to_one, any_bounded}
 
@@ -95,16 +95,16 @@ module _ (cap : ℕ) (net : Network) (good : IsWellFormed net) where
   pub full_bounded : is_any_above cap net ≡ true → cap < most_entries net
   full_bounded = any_bounded cap net good 20 (whole net) (omega arith)
 
-  pub whole_full : cap < load_of net → is_full cap net ≡ true
+  pub whole_full : cap < load_of net → is_tight_full cap net ≡ true
   whole_full above = or_left (is_above cap net net.deadline) _ (lt-ltb cap (load_of net) above)
 
   others : IsConsistent net → list_any (is_above cap net) (cond (is_consistent net) (tried_from net 20 (whole net)) []) ≡ is_any_above cap net
   others consistent = ap (list_any (is_above cap net)) (cond-true (is_consistent net) (tried_from net 20 (whole net)) [] ((decided net good).1 consistent))
 
-  pub later_full : IsConsistent net → is_any_above cap net ≡ true → is_full cap net ≡ true
+  pub later_full : IsConsistent net → is_any_above cap net ≡ true → is_tight_full cap net ≡ true
   later_full consistent above = or_right (is_above cap net net.deadline) _ (others consistent ∙ above)
 
-  pub not_full : IsConsistent net → load_of net ≤ cap → is_any_above cap net ≡ false → is_full cap net ≡ false
+  pub not_full : IsConsistent net → load_of net ≤ cap → is_any_above cap net ≡ false → is_tight_full cap net ≡ false
   not_full consistent fits none = or_from (is_above cap net net.deadline) _ (le-ltb cap (load_of net) fits) (others consistent ∙ none)
 
 -- what is found after a first check that said yes

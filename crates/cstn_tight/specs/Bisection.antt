@@ -47,8 +47,8 @@ abbrev pub is_above : ℕ → Network → ℕ → Bool
 is_above cap net h = nat_lt cap (load_of (at_deadline net h))
 
 -- some tried deadline has a load above the cap
-abbrev pub is_full : ℕ → Network → Bool
-is_full cap net = list_any (is_above cap net) (tried_deadlines net)
+abbrev pub is_tight_full : ℕ → Network → Bool
+is_tight_full cap net = list_any (is_above cap net) (tried_deadlines net)
 
 -- some deadline that is tried after the network's own has
 abbrev pub is_any_above : ℕ → Network → Bool

@@ -11,7 +11,7 @@ ghost use Rattle.cstn_closed.specs.Faults.{IsFaultless};
 ghost use Rattle.cstn_closed.specs.Written.{FitsText, IsNamed};
 ghost use Rattle.cstn_conflict.specs.Trials.{IsRefutationOf};
 ghost use Rattle.cstn_tight.specs.Deadlines.{at_deadline, IsLeastDeadline};
-ghost use Rattle.cstn_tight.specs.Bisection.{least_deadline, is_full};
+ghost use Rattle.cstn_tight.specs.Bisection.{least_deadline, is_tight_full};
 ghost use Rattle.cstn_tight.specs.Evidence.{IsClosedOf};
 
 use crate::deadlines::{copy_at, least_deadline};
@@ -42,9 +42,9 @@ pub fn least(alloc: Global, net: Network, cap: u32) -> Result<Tight, TightError>
 
     // It is refused exactly where the network isn't consistent or a log is full, but for want of memory.
     ensures no { (r : RefutationParts) → IsErrOf result (TightError.No r) → (load_of (the_network net) ≤ cap) × (IsConsistent (the_network net) → ⊥) × IsRefutationOf (the_network net) r }
-    ensures full { IsErrOf result TightError.Full → is_full cap (the_network net) ≡ true }
+    ensures full { IsErrOf result TightError.Full → is_tight_full cap (the_network net) ≡ true }
     ensures bounded { IsErrOf result TightError.Full → cap < most_entries (the_network net) }
-    ensures refused { IsOk result → IsConsistent (the_network net) × (is_full cap (the_network net) ≡ false) }
+    ensures refused { IsOk result → IsConsistent (the_network net) × (is_tight_full cap (the_network net) ≡ false) }
 
     ensures deadline { IfOk result (λ tight. tight.deadline ≡ least_deadline (the_network net)) }
     ensures least { IfOk result (λ tight. IsLeastDeadline (the_network net) tight.deadline) }

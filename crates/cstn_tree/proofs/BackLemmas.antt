@@ -20,7 +20,7 @@ use Rattle.cstn_tree.specs.Trees.{Tree, Line, lines_of}
 use Rattle.cstn_tree.specs.Trees.Tree.{at, ask, done}
 use Rattle.cstn_tree.specs.Trees.Line.{AtLine, AskLine, DoneLine}
 use Rattle.cstn_tree.specs.Texts.{printed_line, printed_lines, shown, Parts, parts_at, first_part, node_read, put_first, nodes_read, names_read, at_read, word_read, line_read, ahead_after, tells, or_wrong, told_after, load_read, told}
-use Rattle.cstn_tree.specs.Written.{NamesSome, depth, FitsText, IsWritten, AreWritten}
+use Rattle.cstn_tree.specs.Written.{NamesSome, depth, FitsText, IsPrintableLine, AreWritten}
 use Rattle.cstn_tree.specs.Read.{the_tree}
 use Rattle.cstn_tree.proofs.PartLemmas.{parts_cut}
 use Rattle.cstn_tree.proofs.ReadLemmas.{told_first}
@@ -135,7 +135,7 @@ module _ (names : List (List ℕ)) (are : AreNames names) where
   abbrev by_word : Option (List ℕ × List ℕ) → Option Line
   by_word o = option_and_then (λ found. word_read names found.0 found.1) o
 
-  line_back : (l : Line) → NamesSome l → IsWritten names l → line_read names (printed_line names l) ≡ Some l
+  line_back : (l : Line) → NamesSome l → IsPrintableLine names l → line_read names (printed_line names l) ≡ Some l
   line_back (AtLine t xs) some is =
       ap by_word (part_back (codes "at") (printed_number t ++ more_names xs) (word_part (codes "at") (omega arith) refl)) ∙ at_back t xs is.0 some is.1
   line_back (AskLine p) some is =
@@ -148,7 +148,7 @@ module _ (names : List (List ℕ)) (are : AreNames names) where
       All-append (λ b. b ≢ 10) (32 ∷ shown_name x) (more_names xs) (space_free (shown_name x) (free (shown_name x) (name_one_part x (inside 0 x (omega arith)))))
       (names_free xs (All-tail Inside x xs inside))
 
-  line_free : (l : Line) → IsWritten names l → IsFree (printed_line names l)
+  line_free : (l : Line) → IsPrintableLine names l → IsFree (printed_line names l)
   line_free (AtLine t xs) is =
       let soon = is.0 in
       All-append (λ b. b ≢ 10) (codes "at " ++ printed_number t) (more_names xs)
@@ -159,7 +159,7 @@ module _ (names : List (List ℕ)) (are : AreNames names) where
       (All-cons (λ b. b ≢ 10) (letter_of p) [] (λ e. let high = letter_high p in omega arith) (All-nil (λ b. b ≢ 10)))
   line_free DoneLine is = free (codes "done") (word_part (codes "done") (omega arith) refl)
 
-  lines_parts : (ls : List Line) → All (IsWritten names) ls → parts_at 10 (printed_lines names ls) ≡ (map (printed_line names) ls, [])
+  lines_parts : (ls : List Line) → All (IsPrintableLine names) ls → parts_at 10 (printed_lines names ls) ≡ (map (printed_line names) ls, [])
   unfolding parts_at
   lines_parts [] each = refl
   lines_parts (l ∷ ls) each =
@@ -167,11 +167,11 @@ module _ (names : List (List ℕ)) (are : AreNames names) where
       let rest = printed_lines names ls in
       ap (parts_at 10) (append_assoc line (10 ∷ []) rest)
       ∙ parts_cut 10 (line ++ 10 ∷ rest) line rest (cut_back 10 line rest (line_free l (each 0 l (omega arith))))
-      ∙ ap {A = Parts} {B = Parts} (λ p. (line ∷ p.0, p.1)) (lines_parts ls (All-tail (IsWritten names) l ls each))
+      ∙ ap {A = Parts} {B = Parts} (λ p. (line ∷ p.0, p.1)) (lines_parts ls (All-tail (IsPrintableLine names) l ls each))
 
   -- ---- trees
 
-  line_told : (d : ℕ) (ahead : List ℕ) (before : List Line) (l : Line) (texts : List (List ℕ)) (tail : List ℕ) → d ≤ 2100 → NamesSome l → IsWritten names l →
+  line_told : (d : ℕ) (ahead : List ℕ) (before : List Line) (l : Line) (texts : List (List ℕ)) (tail : List ℕ) → d ≤ 2100 → NamesSome l → IsPrintableLine names l →
       told_after names (d ∷ ahead) before (printed_line names l ∷ texts) tail ≡ told_after names (ahead_after d ahead l) (before ++ l ∷ []) texts tail
   unfolding told_after
   line_told d ahead before l texts tail upto some is =
@@ -181,26 +181,26 @@ module _ (names : List (List ℕ)) (are : AreNames names) where
       within o = grind arith
 
   tree_told : (tree : Tree) (d : ℕ) (ahead : List ℕ) (before : List Line) (texts : List (List ℕ)) (tail : List ℕ) → d + depth tree ≤ 2101 →
-      All NamesSome (lines_of tree) → All (IsWritten names) (lines_of tree) →
+      All NamesSome (lines_of tree) → All (IsPrintableLine names) (lines_of tree) →
       told_after names (d ∷ ahead) before (map (printed_line names) (lines_of tree) ++ texts) tail ≡ told_after names ahead (before ++ lines_of tree) texts tail
   tree_told (at t xs next) d ahead before texts tail upto some each =
       let l = AtLine t xs in
       line_told d ahead before l (map (printed_line names) (lines_of next) ++ texts) tail (omega arith) (some 0 l (omega arith)) (each 0 l (omega arith))
-      ∙ tree_told next (d + 1) ahead (before ++ l ∷ []) texts tail (omega arith) (All-tail NamesSome l (lines_of next) some) (All-tail (IsWritten names) l (lines_of next) each)
+      ∙ tree_told next (d + 1) ahead (before ++ l ∷ []) texts tail (omega arith) (All-tail NamesSome l (lines_of next) some) (All-tail (IsPrintableLine names) l (lines_of next) each)
       ∙ ap (λ ls. told_after names ahead ls texts tail) (append_assoc before (l ∷ []) (lines_of next))
   tree_told (ask p one other) d ahead before texts tail upto some each =
       let l = AskLine p in
       let show = printed_line names in
       let rest = map show (lines_of other) ++ texts in
       let some_below = All-tail NamesSome l (lines_of one ++ lines_of other) some in
-      let each_below = All-tail (IsWritten names) l (lines_of one ++ lines_of other) each in
+      let each_below = All-tail (IsPrintableLine names) l (lines_of one ++ lines_of other) each in
       line_told d ahead before l (map show (lines_of one ++ lines_of other) ++ texts) tail (omega arith) (some 0 l (omega arith)) (each 0 l (omega arith))
       ∙ ap (λ ts. told_after names ((d + 1) ∷ ((d + 1) ∷ ahead)) (before ++ l ∷ []) ts tail)
       (ap (λ ts. ts ++ texts) (map-append show (lines_of one) (lines_of other)) ∙ append_assoc (map show (lines_of one)) (map show (lines_of other)) texts)
       ∙ tree_told one (d + 1) ((d + 1) ∷ ahead) (before ++ l ∷ []) rest tail (omega arith)
-      (all_left NamesSome (lines_of one) (lines_of other) some_below) (all_left (IsWritten names) (lines_of one) (lines_of other) each_below)
+      (all_left NamesSome (lines_of one) (lines_of other) some_below) (all_left (IsPrintableLine names) (lines_of one) (lines_of other) each_below)
       ∙ tree_told other (d + 1) ahead ((before ++ l ∷ []) ++ lines_of one) texts tail (omega arith)
-      (all_right NamesSome (lines_of one) (lines_of other) some_below) (all_right (IsWritten names) (lines_of one) (lines_of other) each_below)
+      (all_right NamesSome (lines_of one) (lines_of other) some_below) (all_right (IsPrintableLine names) (lines_of one) (lines_of other) each_below)
       ∙ ap (λ ls. told_after names ahead ls texts tail)
       (append_assoc (before ++ l ∷ []) (lines_of one) (lines_of other) ∙ append_assoc before (l ∷ []) (lines_of one ++ lines_of other))
   tree_told done d ahead before texts tail upto some each =
@@ -212,7 +212,7 @@ module _ (names : List (List ℕ)) (are : AreNames names) where
       (part_back (codes "yes") (printed_number load) (word_part (codes "yes") (omega arith) refl))
       ∙ within_back 1 4194304 load low high (omega arith)
 
-  lines_told : (tree : Tree) → depth tree ≤ 2100 → All NamesSome (lines_of tree) → All (IsWritten names) (lines_of tree) →
+  lines_told : (tree : Tree) → depth tree ≤ 2100 → All NamesSome (lines_of tree) → All (IsPrintableLine names) (lines_of tree) →
       told_after names (1 ∷ []) [] (map (printed_line names) (lines_of tree)) [] ≡ tells (lines_of tree)
   unfolding told_after
   lines_told tree short some each =
@@ -233,8 +233,8 @@ shown_back names load tree are is =
 
 -- the text of a load and the lines of a tree says them
 pub said_back : (names : List (List ℕ)) (load : ℕ) (lines : List Line) (text : List ℕ) → AreNames names → 1 ≤ load → load ≤ 4194304 →
-    lines ≡ lines_of (the_tree lines) → FitsText (the_tree lines) → All (IsWritten names) lines → text ≡ shown names load lines → told names text ≡ tells lines
+    lines ≡ lines_of (the_tree lines) → FitsText (the_tree lines) → All (IsPrintableLine names) lines → text ≡ shown names load lines → told names text ≡ tells lines
 said_back names load lines text are low high whole fits each e =
     ap (told names) (e ∙ ap (shown names load) whole)
-    ∙ shown_back names load (the_tree lines) are (record { load_low = low; load_high = high; fits = fits; each = subst (All (IsWritten names)) whole each })
+    ∙ shown_back names load (the_tree lines) are (record { load_low = low; load_high = high; fits = fits; each = subst (All (IsPrintableLine names)) whole each })
     ∙ ap tells (sym whole)

@@ -9,7 +9,7 @@ use Rattle.cstn_tree.specs.declared.checking.TreeAnswer.{TreeAnswer}
 use Rattle.cstn_tree.specs.declared.checking.TreeAnswer.TheVariants.{Accepted, Rejected}
 use Rattle.cstn_tree.specs.declared.trees.Line.{Line as ProgramLine}
 use Rattle.cstn_tree.specs.Trees.{Tree, Line, lines_of, names_on, table_of}
-use Rattle.cstn_tree.specs.Good.{start, first_broken, IsGood}
+use Rattle.cstn_tree.specs.Good.{start, first_broken, IsUnbroken}
 use Rattle.cstn_tree.specs.Walks.{first_broken_in}
 use Rattle.cstn_tree.specs.Read.{the_line, the_tree, the_answer}
 use Rattle.cstn_tree.proofs.TreeLemmas.{walk_finds}
@@ -21,7 +21,7 @@ finds net o ls tree e same whole =
     e ∙ ap (λ l. first_broken_in net (start ∷ []) l 2) (same ∙ whole) ∙ walk_finds net (the_tree tree)
 
 -- an answer that names the first line that breaks
-pub accepts : (net : Network) (tree : Tree) (a : TreeAnswer) → the_answer a ≡ first_broken net tree → (a ≡ Accepted) ↔ IsGood net tree
+pub accepts : (net : Network) (tree : Tree) (a : TreeAnswer) → the_answer a ≡ first_broken net tree → (a ≡ Accepted) ↔ IsUnbroken net tree
 accepts net tree Accepted e = ((λ h. sym e), (λ h. refl))
 accepts net tree (Rejected line) e = ((λ h. let f : ⊥ = cc in absurd f), (λ h. let f : ⊥ = cc in absurd f))
 

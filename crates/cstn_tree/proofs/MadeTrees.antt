@@ -18,7 +18,7 @@ use Rattle.cstn_exec.proofs.Dues.{done_from, due_none}
 use Rattle.cstn_tree.specs.Trees.{Tree, Line, IsAmong, lines_of, names_on, moment_or_zero, table_of}
 use Rattle.cstn_tree.specs.Trees.Tree.{done}
 use Rattle.cstn_tree.specs.Trees.Line.{AtLine, AskLine, DoneLine}
-use Rattle.cstn_tree.specs.Good.{Branch, start as first_branch, below_at, below_ask, fits_at, fits_ask, is_complete, or_else, first_broken_from, IsGood}
+use Rattle.cstn_tree.specs.Good.{Branch, start as first_branch, below_at, below_ask, fits_at, fits_ask, is_complete, or_else, first_broken_from, IsUnbroken}
 use Rattle.cstn_tree.specs.Made.{IsTreeFrom, IsTreeOf}
 use Rattle.cstn_tree.specs.Made.IsTreeFrom.{ends, asks, names}
 use Rattle.cstn_tree.specs.Written.{NamesSome, depth, FitsText}
@@ -104,7 +104,7 @@ module _ (net : Network) (bounds : List Bound) (table : Table) (wf : IsWellForme
       (good_from (handed r p true) one first (below_ask net b p true) (follows_ask net bounds table wf plan r b f t is p waits true) (line + 1))
       (good_from (handed r p false) other second (below_ask net b p false) (follows_ask net bounds table wf plan r b f t is p waits false) (line + 1 + length (lines_of one))))
 
-  pub made_good : (tree : Tree) → IsTreeOf net bounds tree → IsGood net tree
+  pub made_good : (tree : Tree) → IsTreeOf net bounds tree → IsUnbroken net tree
   made_good tree made = good_from (start (count net)) tree made first_branch (follows_start net bounds table wf plan) 2
 
   -- ---- least moments

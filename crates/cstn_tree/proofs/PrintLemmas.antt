@@ -8,7 +8,7 @@ use Rattle.std.proofs.lemmas.List.Elements.{All-push}
 use Rattle.cstn_text.specs.Numbers.{printed_number}
 use Rattle.cstn_tree.specs.declared.trees.Line.{Line as ProgramLine}
 use Rattle.cstn_tree.specs.Texts.{printed_lines, shown}
-use Rattle.cstn_tree.specs.Written.{IsWritten}
+use Rattle.cstn_tree.specs.Written.{IsPrintableLine}
 use Rattle.cstn_tree.specs.Read.{the_line}
 
 flat_more : {X : Type 0} (f : X → List ℕ) (xs : List X) (x : X) → flat_map f (xs ++ x ∷ []) ≡ flat_map f xs ++ f x
@@ -34,11 +34,11 @@ shown_whole names load lines k text past is =
 
 -- one more can be said by a text
 pub more_written : (names : List (List ℕ)) (lines : List ProgramLine) (k : ℕ) (l : ProgramLine) → k < length lines → l ≡ get_or lines k l →
-    All (IsWritten names) (map the_line (take k lines)) → IsWritten names (the_line l) → All (IsWritten names) (map the_line (take (k + 1) lines))
+    All (IsPrintableLine names) (map the_line (take k lines)) → IsPrintableLine names (the_line l) → All (IsPrintableLine names) (map the_line (take (k + 1) lines))
 more_written names lines k l inside at before is =
-    subst (All (IsWritten names)) (sym (map_more the_line lines k l inside))
-    (All-push (IsWritten names) (map the_line (take k lines)) (the_line (get_or lines k l)) before (subst (λ x. IsWritten names (the_line x)) at is))
+    subst (All (IsPrintableLine names)) (sym (map_more the_line lines k l inside))
+    (All-push (IsPrintableLine names) (map the_line (take k lines)) (the_line (get_or lines k l)) before (subst (λ x. IsPrintableLine names (the_line x)) at is))
 
-pub all_written : (names : List (List ℕ)) (lines : List ProgramLine) (k : ℕ) → length lines ≤ k → All (IsWritten names) (map the_line (take k lines)) →
-    All (IsWritten names) (map the_line lines)
-all_written names lines k past all = subst (λ ls. All (IsWritten names) (map the_line ls)) (take_all k lines past) all
+pub all_written : (names : List (List ℕ)) (lines : List ProgramLine) (k : ℕ) → length lines ≤ k → All (IsPrintableLine names) (map the_line (take k lines)) →
+    All (IsPrintableLine names) (map the_line lines)
+all_written names lines k past all = subst (λ ls. All (IsPrintableLine names) (map the_line ls)) (take_all k lines past) all

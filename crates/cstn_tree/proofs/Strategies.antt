@@ -14,7 +14,7 @@ use Rattle.cstn_exec.proofs.Options.{cases_option, some_or_none}
 use Rattle.cstn_exec.proofs.Ranges.{all_pass}
 use Rattle.cstn_tree.specs.Trees.{Tree, is_named, walk, moment_or_zero, table_of}
 use Rattle.cstn_tree.specs.Trees.Tree.{at, ask, done}
-use Rattle.cstn_tree.specs.Good.{Branch, start, placed_with, below_at, below_ask, IsGood}
+use Rattle.cstn_tree.specs.Good.{Branch, start, placed_with, below_at, below_ask, IsUnbroken}
 use Rattle.cstn_tree.proofs.Standing.{Stands, stands_from}
 use Rattle.cstn_tree.proofs.Ways.{full, some_same, placed_full, named_walk, unnamed_walk, true_walk, false_walk, full_at, full_true, full_false, walk_alike}
 
@@ -138,5 +138,5 @@ module _ (net : Network) (tree : Tree) (wf : IsNetwork net) (good : Stands net s
         (stands_at s c.from ends.from) (stands_at s c.to ends.to) (inl refl);
   }
 
-pub good_is_strategy : (net : Network) (tree : Tree) → IsNetwork net → IsGood net tree → IsStrategy net (table_of tree)
+pub good_is_strategy : (net : Network) (tree : Tree) → IsNetwork net → IsUnbroken net tree → IsStrategy net (table_of tree)
 good_is_strategy net tree wf good = tree_strategy net tree wf (stands_from net wf start tree 2 good)

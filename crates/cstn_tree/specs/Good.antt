@@ -109,5 +109,5 @@ abbrev pub first_broken : Network → Tree → Option ℕ
 first_broken net tree = first_broken_from net start tree 2
 
 -- a tree is good where no line breaks
-abbrev pub IsGood : Network → Tree → Type 0
-IsGood net tree = first_broken net tree ≡ None
+abbrev pub IsUnbroken : Network → Tree → Type 0
+IsUnbroken net tree = first_broken net tree ≡ None

@@ -23,14 +23,14 @@ pub record FitsText (tree : Tree) : Type 0 where
   pub short : depth tree ≤ 2100
 
 -- the moment is below 2^32, the proposition is one of the 52, and each time-point has a name
-abbrev pub IsWritten : List (List ℕ) → Line → Type 0
-IsWritten names (AtLine t xs) = (t < 2 ^ 32) × All (λ x. x < length names) xs
-IsWritten names (AskLine p) = p < 52
-IsWritten names DoneLine = Unit {0}
+abbrev pub IsPrintableLine : List (List ℕ) → Line → Type 0
+IsPrintableLine names (AtLine t xs) = (t < 2 ^ 32) × All (λ x. x < length names) xs
+IsPrintableLine names (AskLine p) = p < 52
+IsPrintableLine names DoneLine = Unit {0}
 
 -- a load and a tree that a text can say
 pub record AreWritten (names : List (List ℕ)) (load : ℕ) (tree : Tree) : Type 0 where
   pub load_low : 1 ≤ load
   pub load_high : load ≤ 4194304
   pub fits : FitsText tree
-  pub each : All (IsWritten names) (lines_of tree)
+  pub each : All (IsPrintableLine names) (lines_of tree)

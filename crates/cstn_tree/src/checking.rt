@@ -6,7 +6,7 @@ ghost use Rattle.cstn_net.specs.Strategies.{IsStrategy, IsConsistent};
 ghost use Rattle.cstn_net.specs.Read.{the_network};
 ghost use Rattle.cstn_tree.specs.declared.checking.TreeAnswer.TheVariants.{Accepted};
 ghost use Rattle.cstn_tree.specs.Trees.{Tree, IsAmong, lines_of, names_on, table_of};
-ghost use Rattle.cstn_tree.specs.Good.{start, first_broken, IsGood};
+ghost use Rattle.cstn_tree.specs.Good.{start, first_broken, IsUnbroken};
 ghost use Rattle.cstn_tree.specs.Walks.{first_broken_in};
 ghost use Rattle.cstn_tree.specs.Read.{the_line, the_tree, the_answer};
 
@@ -32,7 +32,7 @@ pub enum TreeAnswer {
 pub fn check(alloc: Global, net: &Network, tree: &Tree) -> Result<TreeAnswer, AllocError>
     requires among { IsAmong (count (the_network net.now)) (the_tree tree.now) }
     requires few { length tree.now + 1 < 2 ^ 32 }
-    ensures accepted { IfOk result (λ a. (a ≡ Accepted) ↔ IsGood (the_network net.now) (the_tree tree.now)) }
+    ensures accepted { IfOk result (λ a. (a ≡ Accepted) ↔ IsUnbroken (the_network net.now) (the_tree tree.now)) }
     ensures first { IfOk result (λ a. the_answer a ≡ first_broken (the_network net.now) (the_tree tree.now)) }
     ensures strategy { IfOk result (λ a. a ≡ Accepted → IsStrategy (the_network net.now) (table_of (the_tree tree.now))) }
     ensures consistent { IfOk result (λ a. a ≡ Accepted → IsConsistent (the_network net.now)) }

@@ -8,7 +8,7 @@ ghost use Rattle.cstn_net.specs.Examples.{branch};
 ghost use Rattle.cstn_log.specs.Plans.{IsEarliest};
 ghost use Rattle.cstn_text.specs.Names.{AreNames};
 ghost use Rattle.cstn_tree.specs.Trees.{Tree, IsAmong, at, done, lines_of, table_of};
-ghost use Rattle.cstn_tree.specs.Good.{first_broken, IsGood};
+ghost use Rattle.cstn_tree.specs.Good.{first_broken, IsUnbroken};
 ghost use Rattle.cstn_tree.specs.Made.{IsTreeOf};
 ghost use Rattle.cstn_tree.specs.Texts.{shown, tells, told};
 ghost use Rattle.cstn_tree.specs.Written.{AreWritten, FitsText};
@@ -18,14 +18,14 @@ ghost use Rattle.cstn_tree.specs.Examples.{branch_tree, asked_first, named_twice
 /// The table that a good tree stands for is a strategy, so a network that has a good tree is consistent.
 #[tactic(auto, using(crate::proofs::Strategies::good_is_strategy))]
 pub fn good_trees_are_strategies()
-    ensures strategy { (net : Network) (tree : Tree) → IsNetwork net → IsGood net tree → IsStrategy net (table_of tree) }
-    ensures consistent { (net : Network) (tree : Tree) → IsNetwork net → IsGood net tree → IsConsistent net }
+    ensures strategy { (net : Network) (tree : Tree) → IsNetwork net → IsUnbroken net tree → IsStrategy net (table_of tree) }
+    ensures consistent { (net : Network) (tree : Tree) → IsNetwork net → IsUnbroken net tree → IsConsistent net }
 {}
 
 /// The tree of a network, by bounds that have an earliest-first strategy: no line of it breaks, its table has each time-point at
 /// its least moment, and it can be said by a text.
 pub fn made_trees_are_good()
-    ensures good { (net : Network) (bounds : List Bound) (table : Table) → IsWellFormed net → IsEarliest net bounds table → (tree : Tree) → IsTreeOf net bounds tree → IsGood net tree }
+    ensures good { (net : Network) (bounds : List Bound) (table : Table) → IsWellFormed net → IsEarliest net bounds table → (tree : Tree) → IsTreeOf net bounds tree → IsUnbroken net tree }
     ensures least { (net : Network) (bounds : List Bound) (table : Table) → IsWellFormed net → IsEarliest net bounds table → (tree : Tree) → IsTreeOf net bounds tree → (s : Scenario) (x : ℕ) → x < count net → IsLeast net s x (table_of tree s x) }
     ensures among { (net : Network) (bounds : List Bound) (tree : Tree) → IsTreeOf net bounds tree → IsAmong (count net) tree }
     ensures fits { (net : Network) (bounds : List Bound) (table : Table) → IsWellFormed net → IsEarliest net bounds table → (tree : Tree) → IsTreeOf net bounds tree → FitsText tree }

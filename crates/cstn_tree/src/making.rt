@@ -11,7 +11,7 @@ ghost use Rattle.cstn_exec.specs.Runs.{start, due, named};
 ghost use Rattle.cstn_exec.specs.Moves.{Awaiting, moment_refusal};
 ghost use Rattle.cstn_exec.specs.Examples.{Moment, run_after};
 ghost use Rattle.cstn_tree.specs.Trees.{IsAmong, table_of};
-ghost use Rattle.cstn_tree.specs.Good.{IsGood};
+ghost use Rattle.cstn_tree.specs.Good.{IsUnbroken};
 ghost use Rattle.cstn_tree.specs.Made.{IsTreeOf, IsGrown, run_along};
 ghost use Rattle.cstn_tree.specs.Written.{FitsText};
 ghost use Rattle.cstn_tree.specs.Read.{the_line, the_tree};
@@ -31,7 +31,7 @@ pub fn make(alloc: Global, exec: &mut Executive) -> Result<Tree, AllocError>
     ensures tree { IfOk result (λ t. IsTreeOf (the_network exec.old.net) (the_bounds exec.old.bounds) (the_tree t)) }
     ensures restarted { exec.new ≡ record exec.old { run = start (count (the_network exec.old.net)); named = [] } }
 
-    ensures good { IfOk result (λ t. IsGood (the_network exec.old.net) (the_tree t)) }
+    ensures good { IfOk result (λ t. IsUnbroken (the_network exec.old.net) (the_tree t)) }
     ensures least { IfOk result (λ t. (s : Scenario) (x : ℕ) → x < count (the_network exec.old.net) → IsLeast (the_network exec.old.net) s x (table_of (the_tree t) s x)) }
     ensures among { IfOk result (λ t. IsAmong (count (the_network exec.old.net)) (the_tree t)) }
     ensures fits { IfOk result (λ t. FitsText (the_tree t)) }

@@ -6,7 +6,7 @@ ghost use Rattle.cstn_text.specs.Numbers.{printed_number};
 ghost use Rattle.cstn_text.specs.PrintedNames.{printed_name};
 ghost use Rattle.cstn_tree.specs.Trees.{IsAmong, names_on};
 ghost use Rattle.cstn_tree.specs.Texts.{shown, printed_line, told, tells};
-ghost use Rattle.cstn_tree.specs.Written.{FitsText, IsWritten};
+ghost use Rattle.cstn_tree.specs.Written.{FitsText, IsPrintableLine};
 ghost use Rattle.cstn_tree.specs.Read.{the_line, the_tree};
 ghost use Rattle.cstn_tree.specs.Branches.{numbers};
 
@@ -53,7 +53,7 @@ fn push_load(text: &mut String, load: u32) -> Result<(), AllocError>
 fn push_line(alloc: Global, text: &mut String, names: &Names, line: &Line) -> Result<(), AllocError>
     requires named { All (λ x. x < length names.now) (names_on (the_line line.now)) }
     ensures pushed { OnOk result (string_bytes text.new ≡ string_bytes text.old ++ printed_line names.now (the_line line.now)) }
-    ensures written { OnOk result (IsWritten names.now (the_line line.now)) }
+    ensures written { OnOk result (IsPrintableLine names.now (the_line line.now)) }
 {
     match line {
         Line::At { moment, named } => {

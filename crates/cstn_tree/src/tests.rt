@@ -7,14 +7,14 @@ use cstn_exec::Executive;
 use cstn_label::{Bound, Label, Mark, NodeId, Prop};
 use cstn_log::SoundPlan;
 use cstn_net::{Builder, Network};
-use cstn_text::Names;
+use cstn_text::{NameKey, Names};
 use std::alloc::{AllocError, Global};
 use std::process::Abort;
 use std::test::Fail;
 
 // The names of Z, P and X.
 fn names(rt: &impl Abort, alloc: Global) -> Names {
-    let mut names = Names::new(alloc);
+    let mut names = Names::new(alloc, NameKey::new(b""));
     assert!(rt; names.push("Z").is_ok());
     assert!(rt; names.count() < 1000);
     assert!(rt; names.push("P").is_ok());

@@ -11,7 +11,7 @@ use Rattle.cstn_graphml.specs.declared.errors.DocError.{DocError}
 use Rattle.cstn_graphml.specs.declared.errors.DocError.TheVariants.{NotUtf8, Shape, NameTwice, UnknownNode, Value, LabelText, Contingent, EdgeType, NoDeadline, Net, Lift, Memory}
 use Rattle.cstn_graphml.specs.Results.{Refusal}
 use Rattle.cstn_graphml.specs.Results.Refusal.{not_utf8, shape, name_twice, unknown_node, bad_value, label_text, contingent, edge_type, no_deadline}
-use Rattle.cstn_graphml.specs.Answers.{IsUnfitDocument, IsMislabelledDocument, IsRefused}
+use Rattle.cstn_graphml.specs.Answers.{IsUnfitDocument, IsMislabelledDocument, RefusesDocument}
 use Rattle.cstn_graphml.specs.Document.{Parts, document}
 use Rattle.cstn_graphml.specs.DrawnGraph.{DrawnConstraint}
 use Rattle.cstn_graphml.specs.Networks.{numbered, network_of, labelled_of, IsFit}
@@ -69,7 +69,7 @@ mislabelled_output answer told error names live said is same =
     subst (λ (r : Result Parts Refusal). IsOutput (judged answer r) live said) (sym is.told_are)
     (inr (inr (error, is.mislabelled, same ∙ ap (λ (ns : List (List ℕ)). say Document (label_fault_text ns error)) is.names_are)))
 
-error_output : (answer : LabelledAnswer) (told : Result Parts Refusal) (error : DocError) (live : List ℕ) (said : Said) → IsRefused told error → IsToldBy error said → IsOutput (judged answer told) live said
+error_output : (answer : LabelledAnswer) (told : Result Parts Refusal) (error : DocError) (live : List ℕ) (said : Said) → RefusesDocument told error → IsToldBy error said → IsOutput (judged answer told) live said
 error_output answer told (NotUtf8 at) live said is same = refused_output answer told (not_utf8 at) live said is same
 error_output answer told (Shape at) live said is same = refused_output answer told (shape at) live said is same
 error_output answer told (NameTwice at) live said is same = refused_output answer told (name_twice at) live said is same
@@ -98,7 +98,7 @@ told_by (Lift error names) said same = ap (λ (s : Said). s.outcome) same
 told_by (Memory e) said same = absurd same
 
 -- a document that is refused
-pub refused_opens : (bytes : List ℕ) (deadline : Option ℕ) (error : DocError) (said : SaidText) → length bytes ≤ 8388608 → IsRefused (document bytes deadline) error → IsToldBy error (the_said said) → OpensWithLabels bytes deadline (RefusedOne said)
+pub refused_opens : (bytes : List ℕ) (deadline : Option ℕ) (error : DocError) (said : SaidText) → length bytes ≤ 8388608 → RefusesDocument (document bytes deadline) error → IsToldBy error (the_said said) → OpensWithLabels bytes deadline (RefusedOne said)
 refused_opens bytes deadline error said short is same =
     ((λ answer live. short_output answer bytes deadline live (the_said said) short (error_output answer (document bytes deadline) error live (the_said said) is same)), told_by error (the_said said) same)
 

@@ -78,9 +78,9 @@ OpensAs bytes deadline (Accepted network names) =
 OpensAs bytes deadline (Told said) = IsSaidPlainly bytes deadline (the_said said) × (said.outcome ≡ Document)
 
 -- a document is under these names, of which the first is the origin's
-abbrev pub IsNamed : Opened → Type 0
-IsNamed (Accepted network names) = (length names ≡ count (the_network network)) × ((later : List (List ℕ)) × (names ≡ origin_name ∷ later))
-IsNamed (Told said) = Unit {0}
+abbrev pub HasNames : Opened → Type 0
+HasNames (Accepted network names) = (length names ≡ count (the_network network)) × ((later : List (List ℕ)) × (names ≡ origin_name ∷ later))
+HasNames (Told said) = Unit {0}
 
 abbrev pub IsNamedLabelled : WithLabels → Type 0
 IsNamedLabelled (Labelled labelled names) = (length names ≡ count (the_network labelled.base)) × ((later : List (List ℕ)) × (names ≡ origin_name ∷ later))

@@ -51,7 +51,7 @@ abbrev pub IsLabelledNo : ℕ → Labelled → Type 0
 IsLabelledNo cap m = (IsLabelledConsistent m → ⊥) × (load_of (lowered m) ≤ cap)
 
 -- the verdict on a network is yes, with its load, or this is said of it
-abbrev pub IsDecided : ℕ → List (List ℕ) → NetworkParts → Decided → Type 0
-IsDecided cap names network (SaysYes load check) =
+abbrev pub TellsVerdict : ℕ → List (List ℕ) → NetworkParts → Decided → Type 0
+TellsVerdict cap names network (SaysYes load check) =
     (verdict cap (the_network network) ≡ Yes (load_of (the_network network))) × (load ≡ load_of (the_network network)) × (check.net ≡ network) × (check.verdict ≡ Some (Yes load))
-IsDecided cap names network (Told said) = (after_yes : Plan) → on_verdict cap names (the_network network) after_yes (verdict cap (the_network network)) ≡ says (the_said said)
+TellsVerdict cap names network (Told said) = (after_yes : Plan) → on_verdict cap names (the_network network) after_yes (verdict cap (the_network network)) ≡ says (the_said said)

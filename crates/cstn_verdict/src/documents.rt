@@ -4,7 +4,7 @@ ghost use Rattle.cstn_net.specs.Networks.{count};
 ghost use Rattle.cstn_net.specs.Read.{the_network};
 ghost use Rattle.cstn_graphml.specs.DrawnGraph.{origin_name};
 ghost use Rattle.cstn_io.specs.Causes.{Rose};
-ghost use Rattle.cstn_verdict.specs.Opened.{IsOpened, IsOpenedWithLabels, IsNamed, IsNamedLabelled, IsTooLong, OpensWithLabels, IsTakenOf, IsLabelsTold};
+ghost use Rattle.cstn_verdict.specs.Opened.{IsOpened, IsOpenedWithLabels, HasNames, IsNamedLabelled, IsTooLong, OpensWithLabels, IsTakenOf, IsLabelsTold};
 ghost use Rattle.cstn_words.specs.Read.{the_asked};
 
 use crate::refusals::refuse;
@@ -41,7 +41,7 @@ pub enum WithLabels {
 pub fn open<F: Shelf>(alloc: Global, asked: Asked<'_>, shelf: &mut F) -> Result<Opened, Refused>
     requires may_ask { IsTrue (F.may_ask shelf.old asked.file.now) }
     ensures opened { IfOk result (IsOpened (F.files shelf.old) (the_asked asked.entry)) }
-    ensures named { IfOk result IsNamed }
+    ensures named { IfOk result HasNames }
     ensures names { F.may_ask shelf.new ≡ F.may_ask shelf.old }
     ensures files { F.files shelf.new ≡ F.files shelf.old }
     ensures later { F.faults shelf.old ≤ F.faults shelf.new }
@@ -98,7 +98,7 @@ fn take_plain(alloc: Global, labelled: Labelled, names: Names) -> Result<Opened,
     requires named { length names ≡ count (the_network labelled.base) }
     requires origin { (later : List (List ℕ)) × (names ≡ origin_name ∷ later) }
     ensures taken { IfOk result (IsTakenOf labelled names) }
-    ensures named { IfOk result IsNamed }
+    ensures named { IfOk result HasNames }
     ensures fault { IsErrOf result Refused.ReadFault → ⊥ }
 {
     let is_labelled = labelled.is_labelled();
@@ -112,7 +112,7 @@ fn take_plain(alloc: Global, labelled: Labelled, names: Names) -> Result<Opened,
 // What is said of a document with labels.
 fn has_labels(alloc: Global) -> Result<Opened, Refused>
     ensures told { IfOk result IsLabelsTold }
-    ensures named { IfOk result IsNamed }
+    ensures named { IfOk result HasNames }
     ensures fault { IsErrOf result Refused.ReadFault → ⊥ }
 {
     let Ok(text) = b"document labels\n".to_vec(alloc) else {

@@ -8,7 +8,7 @@ ghost use Rattle.cstn_log.specs.Cuts.{part};
 ghost use Rattle.cstn_refute.specs.Texts.{shown};
 ghost use Rattle.cstn_reply.specs.Plans.{say};
 ghost use Rattle.cstn_reply.specs.Texts.{yes_line, full_line};
-ghost use Rattle.cstn_verdict.specs.Verdicts.{IsDecided};
+ghost use Rattle.cstn_verdict.specs.Verdicts.{TellsVerdict};
 ghost use Rattle.cstn_reply.specs.Read.{the_said};
 
 use cstn_check::{Check, Verdict};
@@ -32,7 +32,7 @@ pub fn decide(alloc: Global, network: Network, names: &Names, cap: u32) -> Resul
     requires most { cap ≤ 4194304 }
     requires well_formed { IsWellFormed (the_network network) }
     requires named { length names.now ≡ count (the_network network) }
-    ensures decided { IfOk result (IsDecided cap names.now network) }
+    ensures decided { IfOk result (TellsVerdict cap names.now network) }
     ensures fault { IsErrOf result Refused.ReadFault → ⊥ }
 {
     let Ok(mut check) = Check::start(alloc, network, cap) else {

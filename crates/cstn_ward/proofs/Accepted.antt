@@ -8,7 +8,7 @@ use Rattle.cstn_net.specs.Networks.{count}
 use Rattle.cstn_exec.specs.Runs.{due}
 use Rattle.cstn_exec.specs.Moves.{Refusal}
 use Rattle.cstn_exec.specs.Examples.{Moment, Names, run_unless}
-use Rattle.cstn_host.specs.Hosts.{HostParts, Opened, plan_at, net_at, bounds_at, case_at, named_at}
+use Rattle.cstn_host.specs.Hosts.{HostParts, Opened, plan_of_file, net_at, bounds_at, case_at, named_at}
 use Rattle.cstn_host.specs.Calls.{AskFile, AskNamed, Pass, FileIs, Told, answer_on, passed}
 use Rattle.cstn_talk.specs.Running.{AreShort, the_nodes, spaced, moment_line}
 use Rattle.cstn_talk.proofs.Names.{named_inside, named_few}
@@ -55,7 +55,7 @@ done_then host new id t m b after each =
 
 -- what is put of an accepted moment: the file's texts, and who was named
 module _ (host : HostParts) (id t : ℕ) (m : Moved host id t) (names : List (Vec (String Global) Global)) (ward : IsWard host.plans (the_names names)) (file : ℕ) (same : file ≡ m.before.file) (inside : file < length names) (texts : List (String Global)) (texts_are : map string_bytes texts ≡ slice_index_or (the_names names) file []) (xs : List NodeId) (nodes_are : the_nodes xs ≡ named_then host id t m) where
-  short : AreShort (plan_at host.plans file).net (slice_index_or (the_names names) file [])
+  short : AreShort (plan_of_file host.plans file).net (slice_index_or (the_names names) file [])
   short = let many = ward.as_many in let size = length-map names (λ (v : Vec (String Global) Global). map string_bytes v.items) in ward.short file (omega (arith, inside, many, size))
 
   few : count (net_at host.plans m.before.file) ≤ 1024

@@ -19,7 +19,7 @@ use Rattle.cstn_reply.specs.Read.{the_said}
 use Rattle.cstn_reply.specs.declared.output.Said.{Said as SaidText}
 use Rattle.cstn_reply.specs.Sessions.{session}
 use Rattle.cstn_talk.specs.Running.{AreShort}
-use Rattle.cstn_verdict.specs.Verdicts.{verdict, on_verdict, IsDecided}
+use Rattle.cstn_verdict.specs.Verdicts.{verdict, on_verdict, TellsVerdict}
 use Rattle.cstn_verdict.specs.declared.verdicts.Decided.TheVariants.{Told}
 use Rattle.cstn_verdict.proofs.Opening.{comes_itself}
 use Rattle.cstn_host.specs.Hosts.{no_plan}
@@ -131,7 +131,7 @@ abbrev pub attending : List Named → Plan
 attending all = session ward_turn ward_ending (yes_lines all) (begun_ward (map the_file all))
 
 -- a verdict that isn't yes
-pub told_at : (cap : ℕ) (all front later : List Document) (document : Document) (begun : Begun) (said : SaidText) → all ≡ front ++ document ∷ later → HasBegun cap (map the_named front) begun → IsDecided cap document.names document.network (Told said) → ComesTo (attended cap (map the_named all)) (says (the_said said))
+pub told_at : (cap : ℕ) (all front later : List Document) (document : Document) (begun : Begun) (said : SaidText) → all ≡ front ++ document ∷ later → HasBegun cap (map the_named front) begun → TellsVerdict cap document.names document.network (Told said) → ComesTo (attended cap (map the_named all)) (says (the_said said))
 told_at cap all front later document begun said all_is so_far decided =
     let same : attended cap (map the_named all) ≡ says (the_said said) =
     ap (λ (ns : List Named). on_verdicts cap (attending (map the_named all)) ns) (ap (map the_named) all_is ∙ map-append the_named front (document ∷ later))

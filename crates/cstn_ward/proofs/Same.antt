@@ -12,7 +12,7 @@ use Rattle.cstn_exec.specs.Examples.{Answer, answer_to, run_after}
 use Rattle.cstn_exec.specs.Read.{the_refusal}
 use Rattle.cstn_host.specs.declared.errors.HostError.{HostError}
 use Rattle.cstn_host.specs.declared.errors.HostError.TheVariants.{IdInUse, NoSuchPlan, IdRange, NoFile, Exec, Memory}
-use Rattle.cstn_host.specs.Hosts.{Opened, plan_at, case_at, opened_anew}
+use Rattle.cstn_host.specs.Hosts.{Opened, plan_of_file, case_at, opened_anew}
 use Rattle.cstn_host.specs.Calls.{Call, Open, Pass, Close, HostAnswer, Agreed, Told, Denied, OutOfRange, NotAFile, answer_at, case_after, answer_on, host_after}
 use Rattle.cstn_host.specs.Read.{the_denial}
 use Rattle.cstn_reply.specs.Texts.{line}
@@ -33,7 +33,7 @@ files_length (p ∷ ps) [] same = absurd (omega (arith, same))
 files_length (p ∷ ps) (n ∷ ns) same = let rest = files_length ps ns (omega (arith, same)) in omega (arith, rest)
 
 -- a file is a plan under its names
-pub file_same : (plans : List PlanParts) (names : List (List (List ℕ))) (k : ℕ) → length names ≡ length plans → file_at (the_files plans names) k ≡ the_planned (plan_at plans k) (slice_index_or names k [])
+pub file_same : (plans : List PlanParts) (names : List (List (List ℕ))) (k : ℕ) → length names ≡ length plans → file_at (the_files plans names) k ≡ the_planned (plan_of_file plans k) (slice_index_or names k [])
 file_same [] [] k same = refl
 file_same [] (n ∷ ns) k same = absurd (omega (arith, same))
 file_same (p ∷ ps) [] k same = absurd (omega (arith, same))
@@ -44,7 +44,7 @@ module _ (w : WardParts) (as_many : length w.names ≡ length w.host.plans) wher
   abbrev files : List File
   files = the_files w.host.plans w.names
 
-  the_file : (k : ℕ) → file_at files k ≡ the_planned (plan_at w.host.plans k) (slice_index_or w.names k [])
+  the_file : (k : ℕ) → file_at files k ≡ the_planned (plan_of_file w.host.plans k) (slice_index_or w.names k [])
   the_file k = file_same w.host.plans w.names k as_many
 
   -- what an id is open over

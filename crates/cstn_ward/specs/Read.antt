@@ -5,7 +5,7 @@ use Rattle.std.specs.Option.{option_map}
 use Rattle.cstn_net.specs.Read.{the_network}
 use Rattle.cstn_log.specs.Plans.{PlanParts, the_bounds}
 use Rattle.cstn_exec.specs.Examples.{Answer, Names, Kept, Refused, DueAt}
-use Rattle.cstn_host.specs.Hosts.{HostParts, Opened, plan_at}
+use Rattle.cstn_host.specs.Hosts.{HostParts, Opened, plan_of_file}
 use Rattle.cstn_host.specs.Calls.{HostAnswer, Agreed, FileIs, Told, Denied}
 use Rattle.cstn_reply.specs.Texts.{line}
 use Rattle.cstn_talk.specs.Running.{refused_text, AreShort}
@@ -36,7 +36,7 @@ the_ward w = record { files = the_files w.host.plans w.names; cases = map (optio
 -- each plan has printed names of its time-points
 pub record IsWard (plans : List PlanParts) (names : List (List (List ℕ))) : Type 0 where
   pub as_many : length names ≡ length plans
-  pub short : (k : ℕ) → k < length plans → AreShort (plan_at plans k).net (slice_index_or names k [])
+  pub short : (k : ℕ) → k < length plans → AreShort (plan_of_file plans k).net (slice_index_or names k [])
 
 -- why an executive refuses a live line on an id
 abbrev pub told_error : ℕ → Answer → List ℕ

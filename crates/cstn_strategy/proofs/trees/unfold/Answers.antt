@@ -4,7 +4,7 @@ use Rattle.cstn_net.specs.Read.{NetworkParts, the_network}
 use Rattle.cstn_check.specs.Growth.{log_of, live_bounds}
 use Rattle.cstn_reply.specs.Plans.{IsTreeText}
 use Rattle.cstn_reply.specs.Read.{the_said}
-use Rattle.cstn_verdict.specs.Verdicts.{IsDecided}
+use Rattle.cstn_verdict.specs.Verdicts.{TellsVerdict}
 use Rattle.cstn_verdict.specs.declared.verdicts.Decided.{Decided}
 use Rattle.cstn_verdict.specs.declared.verdicts.Decided.TheVariants.{Yes}
 use Rattle.cstn_evidence.proofs.Listing.{some_entries}
@@ -14,12 +14,12 @@ use Rattle.cstn_strategy.proofs.trees.unfold.Goals as goal
 
 pub tell-requires-clause-low : goal.tell-requires-clause-low
 tell-requires-clause-low c =
-    let decided : IsDecided c.args.cap c.args.names.now c.args.network (Yes c.in-Ok-Yes.load c.in-Ok-Yes.check) = subst (λ (d : Decided). IsDecided c.args.cap c.args.names.now c.args.network d) c.in-Ok-Yes.field-0-is c.in-Ok-Yes.ensures.decided in
+    let decided : TellsVerdict c.args.cap c.args.names.now c.args.network (Yes c.in-Ok-Yes.load c.in-Ok-Yes.check) = subst (λ (d : Decided). TellsVerdict c.args.cap c.args.names.now c.args.network d) c.in-Ok-Yes.field-0-is c.in-Ok-Yes.ensures.decided in
     subst (λ (n : ℕ). 1 ≤ n) (sym decided.1) (some_entries (the_network c.args.network) c.requires.well_formed (c.growth_ends.ensures.goes_on (the_network c.args.network) 0 c.requires.well_formed))
 
 pub returns-in-Ok-Yes-clause-said : goal.returns-in-Ok-Yes-clause-said
 returns-in-Ok-Yes-clause-said c live =
-    let decided : IsDecided c.args.cap c.args.names.now c.args.network (Yes c.in-Ok-Yes.load c.in-Ok-Yes.check) = subst (λ (d : Decided). IsDecided c.args.cap c.args.names.now c.args.network d) c.in-Ok-Yes.field-0-is c.in-Ok-Yes.ensures.decided in
+    let decided : TellsVerdict c.args.cap c.args.names.now c.args.network (Yes c.in-Ok-Yes.load c.in-Ok-Yes.check) = subst (λ (d : Decided). TellsVerdict c.args.cap c.args.names.now c.args.network d) c.in-Ok-Yes.field-0-is c.in-Ok-Yes.ensures.decided in
     let counted = c.observed-observed.ensures in
     let few = c.if-observed-gt-MOST_OBSERVED.false in
     yes_said c.args.cap c.args.names.now (the_network c.args.network) c.in-Ok-Yes.load live c.tell.result (omega (arith, counted, few)) decided.0 decided.1

@@ -8,7 +8,7 @@ use Rattle.cstn_net.specs.Read.{the_network}
 use Rattle.cstn_log.specs.Plans.{the_bounds}
 use Rattle.cstn_exec.specs.Read.{ExecParts}
 use Rattle.cstn_tree.specs.Trees.{IsAmong, table_of}
-use Rattle.cstn_tree.specs.Good.{IsGood}
+use Rattle.cstn_tree.specs.Good.{IsUnbroken}
 use Rattle.cstn_tree.specs.Made.{IsTreeOf}
 use Rattle.cstn_tree.specs.Written.{FitsText}
 use Rattle.cstn_tree.specs.Read.{the_tree}
@@ -19,7 +19,7 @@ pub returns-clause-good : goal.returns-clause-good
 returns-clause-good c =
     let net = the_network c.args.exec.now.net in
     let bounds = the_bounds c.args.exec.now.bounds in
-    IfOk-weaker c.grow-made.result (λ t. IsTreeOf net bounds (the_tree t)) (λ t. IsGood net (the_tree t))
+    IfOk-weaker c.grow-made.result (λ t. IsTreeOf net bounds (the_tree t)) (λ t. IsUnbroken net (the_tree t))
     (λ t made. made_good net bounds c.network.ensures.earliest.0 c.network.ensures.well_formed c.network.ensures.earliest.1 (the_tree t) made)
     (subst (λ (e : ExecParts). IfOk c.grow-made.result (λ t. IsTreeOf (the_network e.net) (the_bounds e.bounds) (the_tree t))) c.restart.ensures.started c.grow-made.ensures.tree)
 

@@ -8,7 +8,7 @@ use Rattle.cstn_tree.specs.Trees.{Line, names_on}
 use Rattle.cstn_tree.specs.Texts.{printed_line, shown}
 use Rattle.cstn_tree.specs.Read.{the_line}
 use Rattle.cstn_tree.proofs.Checks.{names_inside}
-use Rattle.cstn_tree.specs.Written.{IsWritten}
+use Rattle.cstn_tree.specs.Written.{IsPrintableLine}
 use Rattle.cstn_tree.proofs.BackLemmas.{said_back}
 use Rattle.cstn_tree.proofs.PrintLemmas.{printed_more, pushed_twice, shown_whole, more_written, all_written}
 use Rattle.cstn_tree.proofs.printing.print.Goals as goal
@@ -45,4 +45,4 @@ returns-clause-back c = λ fits.
     let text =
     shown_whole names c.args.load c.lines-lines.result.now c.loop-k.k (string_bytes c.loop-k.text) c.loop-k-test.false c.loop-k.invariant.shown ∙ ap (shown names c.args.load) lines in
     said_back names c.args.load c.args.tree.now (string_bytes c.loop-k.text) c.count.ensures.names c.requires.load.0 c.requires.load.1 c.lines-lines.ensures.whole fits
-    (subst (λ (ls : List Line). All (IsWritten names) ls) lines (all_written names c.lines-lines.result.now c.loop-k.k c.loop-k-test.false c.loop-k.invariant.written)) text
+    (subst (λ (ls : List Line). All (IsPrintableLine names) ls) lines (all_written names c.lines-lines.result.now c.loop-k.k c.loop-k-test.false c.loop-k.invariant.written)) text

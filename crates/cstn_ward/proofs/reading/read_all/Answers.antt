@@ -1,7 +1,7 @@
 use Rattle.std.proofs.Common.{ℕ, List, length, map, take, ap, sym, subst, ◌∙◌, arith, String, Global, string_bytes, suc, [], ◌∷◌, ◌++◌}
 use Rattle.std.specs.Prelude.{Option, drop}
 use Rattle.std.proofs.lemmas.List.{take_all, length-map, length-append}
-use Rattle.cstn_verdict.specs.Opened.{IsOpened, IsNamed}
+use Rattle.cstn_verdict.specs.Opened.{IsOpened, HasNames}
 use Rattle.cstn_verdict.specs.declared.documents.Opened.{Opened}
 use Rattle.cstn_verdict.specs.declared.documents.Opened.TheVariants.{Accepted, Told}
 use Rattle.cstn_ward.specs.Begun.{HasRead}
@@ -35,7 +35,7 @@ loop-file-preserved g c =
     let opened : IsOpened told asked (Accepted now.network now.names) =
     subst (λ (o : Opened). IsOpened told asked o) now.field-0-is
     (subst (λ (t : Option (List ℕ → Option (List ℕ))). IsOpened t asked now.field-0) inv.files now.ensures.opened) in
-    let named : IsNamed (Accepted now.network now.names) = subst IsNamed now.field-0-is now.ensures.named in
+    let named : HasNames (Accepted now.network now.names) = subst HasNames now.field-0-is now.ensures.named in
     let items = c.in-Ok.ensures.items in
     let one : Document = record { network = now.network; names = now.names } in
     let grown = length-append c.loop-file.documents.items (one ∷ []) in

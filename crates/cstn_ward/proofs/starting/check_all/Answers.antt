@@ -1,7 +1,7 @@
 use Rattle.std.proofs.Common.{List, [], ◌∷◌, ◌++◌, length, map, ap, sym, subst, ◌∙◌, arith, append_assoc}
 use Rattle.std.proofs.lemmas.List.{map-append, length-map}
 use Rattle.std.specs.Vec.Iter.{into_iter_items}
-use Rattle.cstn_verdict.specs.Verdicts.{IsDecided}
+use Rattle.cstn_verdict.specs.Verdicts.{TellsVerdict}
 use Rattle.cstn_verdict.specs.declared.verdicts.Decided.{Decided}
 use Rattle.cstn_verdict.specs.declared.verdicts.Decided.TheVariants.{Yes}
 use Rattle.cstn_ward.specs.Hosting.{Named}
@@ -26,7 +26,7 @@ returns-in-Ok-Told-clause-comes c =
     told_at c.args.cap c.args.documents.items c.loop-document.yielded (into_iter_items c.next.new.self) document c.loop-document.begun c.in-Ok-Told.said
     (inv.documents ∙ ap (λ (ds : List Document). c.loop-document.yielded ++ ds) c.in-Some.ensures.steps.0)
     inv.begun
-    (subst (λ (d : Decided). IsDecided c.args.cap document.names document.network d) c.in-Ok-Told.field-0-is c.in-Ok-Told.ensures.decided)
+    (subst (λ (d : Decided). TellsVerdict c.args.cap document.names document.network d) c.in-Ok-Told.field-0-is c.in-Ok-Told.ensures.decided)
 
 pub loop-document-preserved : goal.loop-document-preserved
 loop-document-preserved c =
@@ -35,7 +35,7 @@ loop-document-preserved c =
     let steps = c.in-Some.ensures.steps in
     let front = c.loop-document.yielded in
     let added = c.in_ok-add-in-Ok-Yes.ensures in
-    let decided : IsDecided c.args.cap document.names document.network (Yes c.in-Ok-Yes.load c.in-Ok-Yes.check) = subst (λ (d : Decided). IsDecided c.args.cap document.names document.network d) c.in-Ok-Yes.field-0-is c.in-Ok-Yes.ensures.decided in
+    let decided : TellsVerdict c.args.cap document.names document.network (Yes c.in-Ok-Yes.load c.in-Ok-Yes.check) = subst (λ (d : Decided). TellsVerdict c.args.cap document.names document.network d) c.in-Ok-Yes.field-0-is c.in-Ok-Yes.ensures.decided in
     record {
       documents =
           inv.documents ∙ ap (λ (ds : List Document). front ++ ds) steps.0

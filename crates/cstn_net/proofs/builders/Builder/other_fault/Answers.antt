@@ -7,7 +7,7 @@ use Rattle.cstn_net.specs.Networks.{IsValue}
 use Rattle.cstn_net.specs.Read.{observed}
 use Rattle.cstn_label.specs.declared.nodes.NodeId.{NodeId}
 use Rattle.cstn_net.specs.Observers.{KnowsObservers, IsUnseen}
-use Rattle.cstn_net.specs.Drafts.{BuilderParts, LacksObserver, IsFirst, IsLeastOfFirst, HasTwins, AreFirstTwins, IsTimely, observations}
+use Rattle.cstn_net.specs.Drafts.{BuilderParts, LacksObserver, IsFirst, IsLeastOfFirst, HasTwins, AreFirstTwins, HasReaction, observations}
 use Rattle.cstn_net.proofs.FaultLemmas.{lowest_from, least_alike, unseen_lacks, lacks_unseen}
 use Rattle.cstn_net.proofs.builders.Builder.other_fault.Goals as goal
 
@@ -75,7 +75,7 @@ returns-in-Some-first_untimely c =
     c.in_default-first_twins.ensures in
     let plain = subst (All (λ d. IsPlain (marks d.label))) (c.deref-4.ensures.value ∙ drafts_are) c.in_default-first_not_plain.ensures in
     record {
-      has = subst (λ ps. IsFirst (λ t. IsTimely t → ⊥) ps found.node.0) (c.deref-5.ensures.value ∙ ap (λ v. v.points) c.self.view_is) found.ensures;
+      has = subst (λ ps. IsFirst (λ t. HasReaction t → ⊥) ps found.node.0) (c.deref-5.ensures.value ∙ ap (λ v. v.points) c.self.view_is) found.ensures;
       lowest = lowest_from b 9 c.requires.sized (omega arith) (λ h. values)
           (λ h. all_observed b c.args.observers.now c.requires.observers seen) (λ h. single) (λ h. plain);
     }
@@ -91,5 +91,5 @@ returns c =
       no_twins = subst (λ ps. HasTwins (map observed ps) (length ps) → ⊥) (c.deref-3.ensures.value ∙ ap (λ v. v.points) c.self.view_is)
           c.in_default-first_twins.ensures;
       plain = subst (All (λ d. IsPlain (marks d.label))) (c.deref-4.ensures.value ∙ drafts_are) c.in_default-first_not_plain.ensures;
-      timely = subst (All IsTimely) (c.deref-5.ensures.value ∙ ap (λ v. v.points) c.self.view_is) c.in_default-first_untimely.ensures;
+      timely = subst (All HasReaction) (c.deref-5.ensures.value ∙ ap (λ v. v.points) c.self.view_is) c.in_default-first_untimely.ensures;
     }
