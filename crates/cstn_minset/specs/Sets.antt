@@ -2,7 +2,8 @@
 use Rattle.std.specs.Prelude.{◌≡◌, ◌≢◌, ◌⊎◌, ℕ, suc, ◌+◌, ◌-◌, ◌*◌, ◌<◌, ◌≤◌, ◌^◌, ℤ, pos, negsuc, List, [], ◌∷◌, map, length, Option, None, Some, slice_index_or, MatchOption}
 use Rattle.cstn_label.specs.declared.bounds.Bound.{Bound}
 use Rattle.cstn_label.specs.Bounds.{Dominates}
-use Rattle.cstn_label.specs.Read.{the_bound}
+use Rattle.cstn_label.specs.Labels.{IsMarked}
+use Rattle.cstn_label.specs.Read.{marks, the_bound}
 use Rattle.cstn_pool.specs.declared.slot_id.SlotId.{SlotId}
 use Rattle.cstn_minset.specs.Links.{Ring, AreLinks}
 
@@ -49,6 +50,10 @@ AllBornBefore table birth = (slot : ℕ) (entry : ℕ × Bound) → IsPlaced tab
 -- the bound is at the time-point
 abbrev pub IsAt : ℕ → Bound → Type 0
 IsAt node b = b.node.0 ≡ node
+
+-- the bound's label marks the proposition
+abbrev pub IsMarking : ℕ → Bound → Type 0
+IsMarking p b = IsMarked (marks b.label) p
 
 -- of the bounds of a kind, the one with the least birth from `low` on
 pub record IsLeast (table : Entries) (Kind : Bound → Type 0) (low slot birth : ℕ) : Type 0 where

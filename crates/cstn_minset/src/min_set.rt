@@ -1,11 +1,11 @@
-ghost use Rattle.std.specs.Prelude.{◌≡◌, ◌<◌, ◌≤◌, ◌+◌, ◌^◌, ◌↔◌, ℕ, Some, None, length, IsTrue, IfOk, IsSome, slice_set, slice_index_or, replicate, map, if◌then◌else◌};
-ghost use Rattle.cstn_minset.specs.Sets.{Places, Entries, entry_at, IsPlaced, IsThere, IsOver, IsCovered, IsCleared, AllBornBefore, IsAt, IsFirst, IsFirstSlot, IsMinimal, value_key, by_value};
+ghost use Rattle.std.specs.Prelude.{◌≡◌, ◌<◌, ◌≤◌, ◌+◌, ◌^◌, ◌↔◌, ℕ, Some, None, length, IsTrue, IfOk, IsSome, IfSome, slice_set, slice_index_or, replicate, map, if◌then◌else◌};
+ghost use Rattle.cstn_minset.specs.Sets.{Places, Entries, entry_at, IsPlaced, IsThere, IsOver, IsCovered, IsCleared, AllBornBefore, IsAt, IsMarking, IsFirst, IsFirstSlot, IsMinimal, value_key, by_value};
 ghost use Rattle.cstn_minset.specs.Chains.{IsIn, IsFirstKey};
 ghost use Rattle.cstn_minset.specs.Links.{IsNext, IsKeyed};
 
 use crate::links::Links;
 use crate::table::Table;
-use cstn_label::{Bound, NodeId};
+use cstn_label::{Bound, Mark, NodeId, Prop};
 use cstn_pool::SlotId;
 use std::alloc::{AllocError, Global};
 use std::marker::Model;
@@ -225,6 +225,24 @@ impl MinSet {
         None
     }
 
+    /// The id of the entry with the least birth that is at least this one, among those of every
+    /// time-point whose label marks the proposition. Passes over every slot that was used since the
+    /// set was last empty.
+    pub fn marked_from(&self, p: Prop, birth: u64) -> Option<SlotId>
+        ensures first { IsFirst self.now.table (IsMarking p.index) birth result }
+    {
+        let mut best = None;
+        for slot in 0..self.table.used() {
+            if let Some((born, b)) = self.entry(slot) {
+                let is_marked = b.label.mark(p) != Mark::Absent;
+                if is_marked && born >= birth && is_before(born, best) {
+                    best = Some(SlotId { slot, birth: born });
+                }
+            }
+        }
+        best
+    }
+
     /// Takes out the bound under this id; false where none is placed under it.
     pub fn lift(&mut self, id: SlotId) -> bool
         ensures placed { IsTrue result ↔ IsThere self.old.table id }
@@ -264,6 +282,16 @@ impl MinSet {
         self.births.clear();
         self.values.clear();
         self.table.clear();
+    }
+}
+
+// Whether the birth is below the id's, where there is one.
+fn is_before(birth: u64, id: Option<SlotId>) -> bool
+    ensures { IsTrue result ↔ IfSome id (λ i. birth < i.birth) }
+{
+    match id {
+        Some(id) => birth < id.birth,
+        None => true,
     }
 }
 

@@ -16,7 +16,7 @@ pub struct Table {
 }
 
 impl Model for Table {
-    ghost use Rattle.std.specs.Prelude.{◌≤◌, None, length, vec_capacity};
+    ghost use Rattle.std.specs.Prelude.{◌<◌, ◌≤◌, ◌^◌, None, length, vec_capacity};
     ghost use Rattle.cstn_pool.specs.Slots.{padded};
     ghost use Rattle.cstn_minset.specs.Sets.{Entries};
 
@@ -24,7 +24,7 @@ impl Model for Table {
 
     ghost view = { λ t. padded None t.capacity t.used.items };
 
-    ghost invariant = { λ t. (length t.used.items ≤ t.capacity) × (t.capacity ≤ vec_capacity t.used) };
+    ghost invariant = { λ t. (length t.used.items ≤ t.capacity) × (t.capacity ≤ vec_capacity t.used) × (t.capacity < 2 ^ 32) };
 }
 
 impl Table {
@@ -44,6 +44,13 @@ impl Table {
             Some(entry) => *entry,
             None => None,
         }
+    }
+
+    /// From this slot on, none was used since the table was last empty.
+    pub fn used(&self) -> u32
+        ensures unused { (slot : ℕ) → result ≤ slot → entry_at self.now slot ≡ None }
+    {
+        self.used.len() as u32
     }
 
     /// Writes a slot.
