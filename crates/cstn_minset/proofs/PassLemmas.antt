@@ -23,9 +23,6 @@ pub record IsBest (T : Entries) (Kind : Bound → Type 0) (low n : ℕ) (best : 
   pub one : IfSome best (IsOne T Kind low)
   pub beats : (u : ℕ) (e : ℕ × Bound) → u < n → IsPlaced T u e → Kind e.1 → IsBeaten low best e.0
 
-pub best_start : (T : Entries) (Kind : Bound → Type 0) (low : ℕ) → IsBest T Kind low 0 None
-best_start T Kind low = record { one = tt; beats = λ u e less is kind. absurd (omega (arith, less)) }
-
 -- the next slot has nothing better
 pub best_stays : (T : Entries) (Kind : Bound → Type 0) (low n : ℕ) (best : Option SlotId) → IsBest T Kind low n best → ((e : ℕ × Bound) → IsPlaced T n e → Kind e.1 → IsBeaten low best e.0) → IsBest T Kind low (n + 1) best
 best_stays T Kind low n best is beaten = record {

@@ -285,7 +285,7 @@ impl MinSet {
     }
 }
 
-// Whether the birth is below the id's, where there is one.
+// Whether the birth is below that of the id; true where there is no id.
 fn is_before(birth: u64, id: Option<SlotId>) -> bool
     ensures { IsTrue result ↔ IfSome id (λ i. birth < i.birth) }
 {
