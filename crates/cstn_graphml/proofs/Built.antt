@@ -1,5 +1,5 @@
 -- What a builder holds of a graph, and the network that it makes.
-use Rattle.std.proofs.Common.{◌≡◌, ℕ, ◌+◌, ◌<◌, Bool, true, false, List, [], ◌∷◌, ◌++◌, length, map, refl, ap, sym, ◌∙◌, Option, Some, None, subst, arith, cond}
+use Rattle.std.proofs.Common.{◌≡◌, ℕ, suc, ◌+◌, ◌<◌, Bool, true, false, List, [], ◌∷◌, ◌++◌, length, map, refl, ap, sym, ◌∙◌, Option, Some, None, subst, arith, cond}
 use Rattle.std.specs.Prelude.{option_map, if◌then◌else◌}
 use Rattle.std.specs.List.{All}
 use Rattle.cstn_net.specs.Networks.{Network, Constraint}
@@ -15,7 +15,7 @@ use Rattle.cstn_graphml.specs.declared.drawn_graph.DrawnConstraint.{DrawnConstra
 use Rattle.cstn_graphml.specs.declared.drawn_graph.DrawnGraph.{DrawnGraph as LentGraph}
 use Rattle.cstn_graphml.specs.DrawnGraphSeen.{observed_seen, drawn_seen}
 use Rattle.cstn_graphml.specs.DrawnGraphLaws.{IsDrawnAmong}
-use Rattle.cstn_graphml.specs.DrawnGraph.{observation}
+use Rattle.cstn_graphml.specs.DrawnGraph.{observation, DrawnConstraint}
 use Rattle.cstn_graphml.specs.Document.{Parts, or_nothing}
 use Rattle.cstn_graphml.specs.Labels.{labels_seen}
 use Rattle.cstn_graphml.specs.Networks.{with_points, with_drafts, point_of, draft_of, drawn_of, numbered, observed_prop, reaction_by, reaction_among, observation_of, builder_of, at_origin, HasParts, network_of, IsBuilt}
@@ -113,6 +113,10 @@ has_parts deadline d = record {
 pub made_constraints : (k : ℕ) (ds : List LentDraft) → map the_constraint (constraints_from k ds) ≡ numbered k (map drawn_of ds)
 made_constraints k [] = refl
 made_constraints k (d ∷ ds) = ap (λ cs. the_constraint (constraint_of k d) ∷ cs) (made_constraints (k + 1) ds)
+
+pub numbered_length : (k : ℕ) (cs : List DrawnConstraint) → length (numbered k cs) ≡ length cs
+numbered_length k [] = refl
+numbered_length k (c ∷ cs) = ap suc (numbered_length (k + 1) cs)
 
 same_network : {h k : ℕ} {os ps : List (Option ℕ)} {r s : ℕ → ℕ} {cs ds : List Constraint} → h ≡ k → os ≡ ps → r ≡ s → cs ≡ ds
     → ◌≡◌ {A = Network} (record { deadline = h; observes = os; reaction = r; constraints = cs }) (record { deadline = k; observes = ps; reaction = s; constraints = ds })

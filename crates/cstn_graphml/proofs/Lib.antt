@@ -11,6 +11,7 @@ pub mod Tops
 pub mod GraphRead
 pub mod DrawnGraphLaws
 pub mod Built
+pub mod PastTheLimit
 pub mod HandedPoints
 pub mod Excluded
 pub mod LabelsRead

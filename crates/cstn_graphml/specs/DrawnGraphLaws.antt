@@ -1,5 +1,5 @@
 -- What holds of every graph of a graph.
-use Rattle.std.specs.Prelude.{ℕ, ◌≡◌, ◌<◌, ◌+◌, List, ◌∷◌, length, Option, Some, None}
+use Rattle.std.specs.Prelude.{ℕ, ◌≡◌, ◌<◌, ◌≤◌, ◌+◌, List, ◌∷◌, length, Option, Some, None}
 use Rattle.std.specs.List.{All}
 use Rattle.cstn_label.specs.Labels.{IsPlain}
 use Rattle.cstn_data.specs.NumberTexts.{IsReaction}
@@ -20,13 +20,14 @@ IsTimelyOrigin (Some observed) = IsWithReaction observed
 IsTimelyOrigin None = Unit {0}
 
 -- the origin's name stands first, each name after it has its observation and its label, and each constraint is between two
--- time-points; labels are plain, and reactions are in range
+-- time-points, of which there is one past the limit of a network at most; labels are plain, and reactions are in range
 pub record IsDrawnGraph (d : DrawnGraph) : Type 0 where
   pub later : List (List ℕ)
   pub first : d.names ≡ origin_name ∷ later
   pub each : length d.names ≡ length d.observes + 1
   pub labelled : length d.names ≡ length d.labels + 1
   pub among : All (IsDrawnAmong (length d.names)) d.constraints
+  pub few : length d.constraints ≤ 16385
   pub origin_timely : IsTimelyOrigin d.origin
   pub timely : All IsWithReaction d.observes
   pub plain : All (λ c. IsPlain c.label) d.constraints

@@ -8,6 +8,7 @@ ghost use Rattle.cstn_graphml.specs.DrawnGraphSeen.{observed_seen, drawn_seen, g
 
 use crate::data_element::Datum;
 use cstn_label::{Label, Prop};
+use cstn_net::MAX_CONSTRAINTS;
 use cstn_text::{NameError, NameKey, Names};
 use std::alloc::{AllocError, Global};
 
@@ -105,10 +106,13 @@ pub fn put_node(
     }
 }
 
-/// Puts in a constraint.
+/// Puts in a constraint, where the graph has none past the limit of a network.
 pub fn put_constraint(graph: &mut DrawnGraph, constraint: DrawnConstraint) -> Result<(), AllocError>
     ensures { OnOk result (graph_seen graph.new ≡ with_constraint (drawn_seen constraint) (graph_seen graph.old)) }
 {
+    if graph.constraints.len() > MAX_CONSTRAINTS {
+        return Ok(());
+    }
     graph.constraints.push(constraint)?;
     Ok(())
 }

@@ -12,6 +12,7 @@ mod edges;
 mod errors;
 mod graph;
 mod labels;
+mod laws;
 mod networks;
 mod node_and_edge_data;
 mod nodes;
@@ -21,6 +22,7 @@ mod reading;
 mod root;
 
 pub use errors::DocError;
+pub use laws::documents_past_the_limit_are_refused;
 pub use reading::read;
 
 #[cfg(test)]

@@ -79,7 +79,7 @@ fn builder_of(alloc: Global, deadline: u32, graph: &DrawnGraph) -> Result<Builde
         None => None,
     };
     put_point(&mut builder, origin)?;
-    if graph.names.count() == u32::MAX || graph.constraints.len() >= u32::MAX as usize {
+    if graph.names.count() == u32::MAX {
         return Err(AllocError);
     }
     put_points(&mut builder, graph.observes.as_slice())?;

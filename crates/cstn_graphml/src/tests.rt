@@ -257,8 +257,8 @@ fn refusals_of_labels(rt: HostRuntime) -> Result<(), Fail> {
     )
 }
 
-// A document of so many time-points besides the origin, and of so many constraints on one edge.
-fn large(alloc: Global, nodes: u32, pairs: u32) -> Result<String, AllocError> {
+// A document of so many time-points besides the origin, of so many constraints on one edge, and of what is put behind it.
+fn large(alloc: Global, nodes: u32, pairs: u32, behind: &str) -> Result<String, AllocError> {
     let mut text = String::from_str(alloc, "<graphml><graph><node id=\"Z\"/>")?;
     for n in 0..nodes {
         let node = format!(in alloc; "<node id=\"{n}\"/>")?;
@@ -268,21 +268,42 @@ fn large(alloc: Global, nodes: u32, pairs: u32) -> Result<String, AllocError> {
     for _pair in 0..pairs {
         text.push_str("(1,)")?;
     }
-    text.push_str("}</data></edge></graph></graphml>")?;
+    text.push_str("}</data></edge>")?;
+    text.push_str(behind)?;
+    text.push_str("</graph></graphml>")?;
     Ok(text)
 }
 
 #[test]
 fn limits(rt: HostRuntime) -> Result<(), Fail> {
     let alloc = rt.alloc();
-    let most = large(alloc, 1023, 16384)?;
+    let most = large(alloc, 1023, 16384, "")?;
     expect_accepted(&rt, alloc, most.as_str(), Some(5), 1024, 16384)?;
-    let nodes = large(alloc, 1024, 0)?;
+    let nodes = large(alloc, 1024, 0, "")?;
     let words = "no network: more than 1024 time-points";
     expect_refused(&rt, alloc, nodes.as_bytes(), Some(5), words)?;
-    let pairs = large(alloc, 0, 16385)?;
     let words = "no network: more than 16384 constraints";
-    expect_refused(&rt, alloc, pairs.as_bytes(), Some(5), words)
+    let pairs = large(alloc, 0, 16385, "")?;
+    expect_refused(&rt, alloc, pairs.as_bytes(), Some(5), words)?;
+    let more = large(alloc, 0, 16390, "")?;
+    expect_refused(&rt, alloc, more.as_bytes(), Some(5), words)
+}
+
+// What stands behind more constraints than a network holds is judged all the same.
+#[test]
+fn faults_past_the_limit(rt: HostRuntime) -> Result<(), Fail> {
+    let alloc = rt.alloc();
+    let node = large(alloc, 0, 16390, "<edge source=\"Z\" target=\"X\"/>")?;
+    let words = "the edge at byte 65660 names no node before it";
+    expect_refused(&rt, alloc, node.as_bytes(), Some(5), words)?;
+    let label = large(
+        alloc,
+        0,
+        16390,
+        "<edge source=\"Z\" target=\"Z\"><data key=\"LabeledValues\">{(1, pp)}</data></edge>",
+    )?;
+    let words = "a label that isn't of its form at byte 65688";
+    expect_refused(&rt, alloc, label.as_bytes(), Some(5), words)
 }
 
 // Why so many of the first bytes of `PAIR` are refused: at the tag that they end in, and else at their end.

@@ -4,6 +4,7 @@ use Rattle.std.specs.Prelude.{Option, Some, None, ◌==◌, slice_index_or, if�
 use Rattle.std.specs.List.{All}
 use Rattle.std.proofs.Math.Path.{fun_ext}
 use Rattle.std.proofs.lemmas.Bool.{eqb-true}
+use Rattle.std.proofs.lemmas.List.{length-map}
 use Rattle.std.proofs.lemmas.List.Elements.{All-tail, All-head, All-cons, All-nil, All-weaker}
 use Rattle.cstn_net.specs.Networks.{Network, Constraint, count, Observes, IsConstraint, IsWellFormed, IsValue}
 use Rattle.cstn_net.specs.declared.errors.NetError.{NetError}
@@ -16,7 +17,7 @@ use Rattle.cstn_graphml.specs.Results.{Refusal}
 use Rattle.cstn_graphml.specs.Networks.{numbered, observed_prop, reaction_by, reaction_among, observation_of, network_of, labelled_of, IsUnfit}
 use Rattle.cstn_lift.specs.Labelled.{Labelled}
 use Rattle.cstn_lift.specs.WellFormed.{IsLabelled}
-use Rattle.cstn_graphml.proofs.Built.{made_constraints}
+use Rattle.cstn_graphml.proofs.Built.{made_constraints, numbered_length}
 use Rattle.cstn_save.specs.Canonical.{canonical, observed_by, observations}
 use Rattle.cstn_save.specs.ReadBack.{drawn, parts, AreNamesOf, AreNumbered, AreSameButIds}
 use Rattle.cstn_save.proofs.LawLemmas.{document_back}
@@ -97,10 +98,6 @@ all_numbered : (P : Constraint → Type 0) → ((i : ℕ) (c : Constraint) → P
 all_numbered P keeps j [] all = All-nil P
 all_numbered P keeps j (c ∷ cs) all = All-cons P _ _ (keeps j c (All-head P c cs all)) (all_numbered P keeps (j + 1) cs (All-tail P c cs all))
 
-numbered_length : (j : ℕ) (cs : List Constraint) → length (numbered j (map drawn cs)) ≡ length cs
-numbered_length j [] = refl
-numbered_length j (c ∷ cs) = omega (arith, numbered_length (j + 1) cs)
-
 numbered_id : (j : ℕ) (ds : List DrawnConstraint) (k : ℕ) (c : Constraint) → k < length (numbered j ds) → (slice_index_or (numbered j ds) k c).id ≡ j + k
 numbered_id j [] k c h = absurd (omega arith)
 numbered_id j (d ∷ ds) zero c h = omega arith
@@ -129,7 +126,7 @@ well_formed_back m names wf =
       few_points = omega (arith, size, wf.few_points);
       letters = λ x p o. wf.letters x p (back x p o);
       soon = λ x p o. subst (λ n. n ≤ 1000) (reacts x p o) (wf.soon x p (back x p o));
-      few_constraints = omega (arith, numbered_length 0 net.constraints, wf.few_constraints);
+      few_constraints = omega (arith, numbered_length 0 (map drawn net.constraints), length-map net.constraints drawn, wf.few_constraints);
       ascending = λ i j d below inside. omega (arith, below, numbered_id 0 (map drawn net.constraints) i d (omega (arith, below, inside)), numbered_id 0 (map drawn net.constraints) j d inside);
       values = all_numbered (λ c. IsValue c.most) (λ i c h. h) 0 net.constraints wf.values;
       in_time = wf.in_time;
