@@ -5,3 +5,4 @@ pub mod ValueTexts
 pub mod EdgeTypes
 pub mod ObservedLetters
 pub mod TextsSeen
+pub mod PairsLeft

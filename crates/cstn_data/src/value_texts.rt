@@ -1,16 +1,16 @@
 //! Texts of values.
 
-ghost use Rattle.std.specs.Prelude.{◌≡◌, ◌≤◌, ◌+◌, [], length, map, option_map, IfOk, IfSome};
+ghost use Rattle.std.specs.Prelude.{◌≡◌, ◌≤◌, ◌+◌, [], ◌∷◌, length, option_map, is_some, false, IfSome, MatchOption};
 ghost use Rattle.std.specs.List.{prefix_len};
-ghost use Rattle.cstn_data.specs.ValueTexts.{is_of_part, is_separator, part_len, paired, pair_at, pairs_after, values_of};
+ghost use Rattle.cstn_data.specs.ValueTexts.{is_of_part, is_separator, part_len, paired, pair_at, pairs_by, pairs_after, values_of};
 ghost use Rattle.cstn_data.specs.TextsSeen.{pair_seen};
+ghost use Rattle.cstn_data.specs.PairsLeft.{first_seen, pairs_left, IsShorter};
 
 use crate::label_texts::label_of;
 use crate::number_texts::integer_text;
 use crate::white_space::{is_white, trimmed};
 use cstn_label::Label;
-use smallvec::SmallVec;
-use std::alloc::{AllocError, Global};
+use std::marker::Model;
 
 /// A pair of a text of values: its integer, and its label; None where that isn't a label text.
 #[derive(Clone, Copy, Default)]
@@ -18,9 +18,6 @@ pub struct Pair {
     pub most: i32,
     pub label: Option<Label>,
 }
-
-/// The pairs of one edge, of which few edges have more than four.
-pub type Pairs = SmallVec<Pair, 4>;
 
 fn is_of_part(b: u8) -> bool
     ensures { result ≡ is_of_part b }
@@ -73,45 +70,112 @@ fn pair_at(bytes: &[u8]) -> Option<(Pair, usize)>
     Some((pair, n + m + 2))
 }
 
-/// The pairs up to the closing brace, which ends the text.
-#[tactic(auto, unfolding(crate::specs::ValueTexts::pairs_after))]
-fn pairs(alloc: Global, bytes: &[u8]) -> Result<Option<Pairs>, AllocError>
-    ensures { IfOk result (λ o. option_map (λ v. map pair_seen v.items) o ≡ pairs_after 0 [] bytes.now) }
+/// What the pairs of a text begin with: the first one, and the bytes behind it; their end; or what is not of the form.
+#[derive(Clone, Copy)]
+pub enum First<'a> {
+    Pair { pair: Pair, rest: &'a [u8] },
+    End,
+    Wrong,
+}
+
+/// What a byte that is no separator begins.
+fn begun_by(b: u8, bytes: &[u8]) -> First
+    ensures value { first_seen result ≡ pairs_by false b bytes.now [] (λ skip found. pairs_after skip found bytes.now) }
+    ensures shorter { IsShorter (b ∷ bytes.now) result }
 {
-    let mut found: Pairs = SmallVec::new(alloc);
+    if b == b'}' {
+        if bytes.is_empty() {
+            return First::End;
+        }
+        return First::Wrong;
+    }
+    if b != b'(' {
+        return First::Wrong;
+    }
+    let Some((pair, n)) = pair_at(bytes) else {
+        return First::Wrong;
+    };
+    let rest = &bytes[n..];
+    First::Pair { pair, rest }
+}
+
+/// What the pairs begin with, behind separators.
+#[tactic(auto, unfolding(crate::specs::ValueTexts::pairs_after))]
+fn first_of(bytes: &[u8]) -> First
+    ensures value { first_seen result ≡ pairs_after 0 [] bytes.now }
+    ensures shorter { IsShorter bytes.now result }
+{
     let mut rest = bytes;
     while let Some((b, next)) = rest.split_first() {
-        if is_separator(*b) {
-            rest = next;
-            continue;
+        if !is_separator(*b) {
+            return begun_by(*b, next);
         }
-        if *b == b'}' {
-            if next.is_empty() {
-                return Ok(Some(found));
-            }
-            return Ok(None);
-        }
-        if *b != b'(' {
-            return Ok(None);
-        }
-        let Some((pair, n)) = pair_at(next) else {
-            return Ok(None);
-        };
-        found.push(pair)?;
-        rest = &next[n..];
+        rest = next;
     }
-    Ok(None)
+    First::Wrong
+}
+
+/// Whether these are pairs up to the closing brace, which ends the text.
+fn are_pairs(bytes: &[u8]) -> bool
+    ensures { result ≡ is_some (pairs_after 0 [] bytes.now) }
+{
+    let mut rest = bytes;
+    loop {
+        match first_of(rest) {
+            First::Pair {
+                pair: _,
+                rest: next,
+            } => rest = next,
+            First::End => return true,
+            First::Wrong => return false,
+        }
+    }
+}
+
+/// The pairs of a text of values, which are taken one after the other. It is seen as the bytes that are left.
+#[derive(Drop)]
+pub struct Pairs<'a> {
+    rest: &'a [u8],
+}
+
+impl<'a> Model for Pairs<'a> {
+    ghost use Rattle.std.specs.Prelude.{◌≡◌, ℕ, List, [], is_some, true};
+    ghost use Rattle.cstn_data.specs.ValueTexts.{pairs_after};
+
+    ghost Value = { List ℕ };
+
+    ghost view = { λ p. p.rest.now };
+
+    ghost invariant = { λ p. is_some (pairs_after 0 [] p.rest.now) ≡ true };
+}
+
+impl<'a> Pairs<'a> {
+    /// The next pair, which is taken.
+    pub fn next_pair(&mut self) -> Option<Pair>
+        ensures taken { MatchOption result (pairs_left self.old ≡ []) (λ pair. pairs_left self.old ≡ pair_seen pair ∷ pairs_left self.new) }
+    {
+        match first_of(self.rest) {
+            First::Pair { pair, rest } => {
+                self.rest = rest;
+                Some(pair)
+            }
+            First::End => None,
+            First::Wrong => unreachable!(),
+        }
+    }
 }
 
 /// The pairs of a text of values; an empty one has none.
-pub fn values_of(alloc: Global, bytes: &[u8]) -> Result<Option<Pairs>, AllocError>
-    ensures { IfOk result (λ o. option_map (λ v. map pair_seen v.items) o ≡ values_of bytes.now) }
+#[tactic(auto, unfolding(crate::specs::ValueTexts::pairs_after))]
+pub fn values_of(bytes: &[u8]) -> Option<Pairs>
+    ensures { option_map pairs_left result ≡ values_of bytes.now }
 {
     let Some((b, inside)) = bytes.split_first() else {
-        return Ok(Some(SmallVec::new(alloc)));
+        let rest = b"}".as_slice();
+        return Some(Pairs { rest });
     };
-    if *b != b'{' {
-        return Ok(None);
+    if *b != b'{' || !are_pairs(inside) {
+        return None;
     }
-    pairs(alloc, inside)
+    Some(Pairs { rest: inside })
 }

@@ -5,6 +5,7 @@ ghost use Rattle.cstn_graphml.specs.Judged.{is_kept, with_pair, with_pairs, with
 ghost use Rattle.cstn_graphml.specs.Children.{tag_seen};
 ghost use Rattle.cstn_graphml.specs.DataElementSeen.{lent_datum, datum_seen};
 ghost use Rattle.cstn_data.specs.TextsSeen.{pair_seen};
+ghost use Rattle.cstn_data.specs.PairsLeft.{pairs_left};
 ghost use Rattle.cstn_graphml.specs.DrawnGraphSeen.{graph_seen};
 ghost use Rattle.cstn_graphml.specs.Reads.{Gives, raised};
 
@@ -13,7 +14,7 @@ use crate::children::Start;
 use crate::data_element::{Datum, datum_of};
 use crate::drawn_graph::{DrawnConstraint, DrawnGraph, node_of, put_constraint};
 use crate::errors::{DocError, Fault};
-use cstn_data::{EdgeType, Pair, edge_type_of, values_of};
+use cstn_data::{EdgeType, Pair, Pairs, edge_type_of, values_of};
 use std::alloc::Global;
 
 /// Whether an edge of this type is kept.
@@ -62,22 +63,20 @@ fn put_pairs(
     at: usize,
     from: u32,
     to: u32,
-    pairs: &[Pair],
+    pairs: Pairs,
     graph: &mut DrawnGraph,
 ) -> Result<(), DocError>
-    ensures { Gives (λ u. graph_seen graph.new) result (with_pairs at from to (map pair_seen pairs.now) (graph_seen graph.old)) }
+    ensures { Gives (λ u. graph_seen graph.new) result (with_pairs at from to (pairs_left pairs.entry) (graph_seen graph.old)) }
 {
-    let mut rest = pairs;
-    while let Some((pair, next)) = rest.split_first() {
-        put_pair(at, from, to, *pair, graph)?;
-        rest = next;
+    let mut pairs = pairs;
+    while let Some(pair) = pairs.next_pair() {
+        put_pair(at, from, to, pair, graph)?;
     }
     Ok(())
 }
 
 /// Puts in the constraints of an edge between these two.
 fn put_values(
-    alloc: Global,
     from: u32,
     to: u32,
     datum: Option<&Datum>,
@@ -88,15 +87,14 @@ fn put_values(
     let Some(datum) = datum else {
         return Ok(());
     };
-    let Some(pairs) = values_of(alloc, datum.value())? else {
+    let Some(pairs) = values_of(datum.value()) else {
         return Err(DocError::Value { at: datum.at });
     };
-    put_pairs(datum.at, from, to, pairs.as_slice(), graph)
+    put_pairs(datum.at, from, to, pairs, graph)
 }
 
 /// Puts in the constraints of an edge that is kept.
 fn put_edge(
-    alloc: Global,
     at: usize,
     source: &str,
     target: &str,
@@ -111,7 +109,7 @@ fn put_edge(
     let Some(to) = node_of(graph, target) else {
         return Err(DocError::UnknownNode { at });
     };
-    put_values(alloc, from, to, datum_of(found, b"LabeledValues"), graph)
+    put_values(from, to, datum_of(found, b"LabeledValues"), graph)
 }
 
 /// Puts in an edge whose data were read.
@@ -133,5 +131,5 @@ pub fn judge_edge(
     if !is_kept(datum_of(found, b"Type"))? {
         return Ok(());
     }
-    put_edge(alloc, at, source.as_str(), target.as_str(), found, graph)
+    put_edge(at, source.as_str(), target.as_str(), found, graph)
 }
