@@ -152,7 +152,7 @@ impl<'a> Model for Pairs<'a> {
 impl<'a> Pairs<'a> {
     /// The next pair, which is taken.
     pub fn next_pair(&mut self) -> Option<Pair>
-        ensures taken { MatchOption result (pairs_left self.old ≡ []) (λ pair. pairs_left self.old ≡ pair_seen pair ∷ pairs_left self.new) }
+        ensures taken { MatchOption result ((pairs_left self.old ≡ []) × (self.new ≡ self.old)) (λ pair. pairs_left self.old ≡ pair_seen pair ∷ pairs_left self.new) }
     {
         match first_of(self.rest) {
             First::Pair { pair, rest } => {
