@@ -1,9 +1,8 @@
 // Small networks.
-ghost use Rattle.std.specs.Prelude.{◌≡◌, IfOk, length};
-
 use cstn_label::{Label, Mark, Prop};
-use cstn_net::Builder;
-use std::alloc::{AllocError, Global};
+use cstn_net::{Builder, Network};
+use std::alloc::Global;
+use std::process::Abort;
 
 const P: Prop = Prop { index: 41 };
 
@@ -25,65 +24,89 @@ fn pq(of_p: Mark, of_q: Mark) -> Label {
     only(P, of_p).with(Q, of_q)
 }
 
+// The network of these time-points, by what they observe, and of constraints with these ends, values and labels.
+fn network(
+    rt: &impl Abort,
+    alloc: Global,
+    deadline: u32,
+    points: &[Option<Prop>],
+    constraints: &[(u32, u32, i32, Label)],
+) -> Network {
+    assert!(rt; points.len() <= 60 && constraints.len() <= 60);
+    let mut net = Builder::new(alloc, deadline);
+    for observes in points {
+        net.node(*observes).expect(rt, "memory");
+    }
+    for (from, to, most, label) in constraints {
+        assert!(rt; (*from as usize) < points.len() && (*to as usize) < points.len());
+        net.constrain(*from, *to, *most, *label)
+            .expect(rt, "memory");
+    }
+    net.close().expect(rt, "a network")
+}
+
 /// Z alone.
-pub(super) fn alone(alloc: Global) -> Result<Builder, AllocError> {
-    let mut net = Builder::new(alloc, 0);
-    net.node(None)?;
-    Ok(net)
+pub(super) fn alone(rt: &impl Abort, alloc: Global) -> Network {
+    network(rt, alloc, 0, &[None], &[])
 }
 
 /// Z and X, where X is at 5 or later.
-pub(super) fn pair(alloc: Global, deadline: u32) -> Result<Builder, AllocError> {
-    let mut net = Builder::new(alloc, deadline);
-    net.node(None)?;
-    net.node(None)?;
-    net.constrain(1, 0, -5, Label::empty())?;
-    Ok(net)
+pub(super) fn pair(rt: &impl Abort, alloc: Global, deadline: u32) -> Network {
+    let constraints = [(1, 0, -5, Label::empty())];
+    network(rt, alloc, deadline, &[None, None], &constraints)
 }
 
 /// Z, P and X, where X is at 10 or later where P's proposition is true, and at 3 or earlier where it is false.
-pub(super) fn branched(alloc: Global) -> Result<Builder, AllocError>
-    ensures { IfOk result (λ net. (length net.points ≡ 3) × (length net.drafts ≡ 2)) }
-{
-    let mut net = Builder::new(alloc, 10);
-    net.node(None)?;
-    net.node(Some(P))?;
-    net.node(None)?;
-    net.constrain(2, 0, -10, p(Mark::Yes))?;
-    net.constrain(0, 2, 3, p(Mark::No))?;
-    Ok(net)
+pub(super) fn branched(rt: &impl Abort, alloc: Global) -> Network {
+    network(
+        rt,
+        alloc,
+        10,
+        &[None, Some(P), None],
+        &[(2, 0, -10, p(Mark::Yes)), (0, 2, 3, p(Mark::No))],
+    )
 }
 
 /// And P is at 3 or later.
-pub(super) fn branched_late(alloc: Global) -> Result<Builder, AllocError> {
-    let mut net = branched(alloc)?;
-    net.constrain(1, 0, -3, Label::empty())?;
-    Ok(net)
+pub(super) fn branched_late(rt: &impl Abort, alloc: Global) -> Network {
+    network(
+        rt,
+        alloc,
+        10,
+        &[None, Some(P), None],
+        &[
+            (2, 0, -10, p(Mark::Yes)),
+            (0, 2, 3, p(Mark::No)),
+            (1, 0, -3, Label::empty()),
+        ],
+    )
 }
 
 /// Z, P and Q, where each of P and Q is at 5 or later where the other's proposition is true.
-pub(super) fn crossed(alloc: Global) -> Result<Builder, AllocError> {
-    let mut net = Builder::new(alloc, 5);
-    net.node(None)?;
-    net.node(Some(P))?;
-    net.node(Some(Q))?;
-    net.constrain(1, 0, -5, q(Mark::Yes))?;
-    net.constrain(2, 0, -5, p(Mark::Yes))?;
-    Ok(net)
+pub(super) fn crossed(rt: &impl Abort, alloc: Global) -> Network {
+    network(
+        rt,
+        alloc,
+        5,
+        &[None, Some(P), Some(Q)],
+        &[(1, 0, -5, q(Mark::Yes)), (2, 0, -5, p(Mark::Yes))],
+    )
 }
 
 /// Z, P, Q and X, where X waits for both propositions, and Q for P's, which is known too late.
-pub(super) fn unknown_mark(alloc: Global) -> Result<Builder, AllocError> {
-    let mut net = Builder::new(alloc, 10);
-    net.node(None)?;
-    net.node(Some(P))?;
-    net.node(Some(Q))?;
-    net.node(None)?;
-    net.constrain(3, 0, -9, pq(Mark::Yes, Mark::Yes))?;
-    net.constrain(2, 0, -7, p(Mark::No))?;
-    net.constrain(1, 0, -7, Label::empty())?;
-    net.constrain(0, 3, 7, pq(Mark::No, Mark::No))?;
-    Ok(net)
+pub(super) fn unknown_mark(rt: &impl Abort, alloc: Global) -> Network {
+    network(
+        rt,
+        alloc,
+        10,
+        &[None, Some(P), Some(Q), None],
+        &[
+            (3, 0, -9, pq(Mark::Yes, Mark::Yes)),
+            (2, 0, -7, p(Mark::No)),
+            (1, 0, -7, Label::empty()),
+            (0, 3, 7, pq(Mark::No, Mark::No)),
+        ],
+    )
 }
 
 const A: Prop = Prop { index: 26 };
@@ -93,26 +116,28 @@ const B: Prop = Prop { index: 27 };
 const C: Prop = Prop { index: 28 };
 
 /// Z and six others, of which the first three observe, with the twelve constraints that the number 1 generates.
-pub(super) fn generated(alloc: Global) -> Result<Builder, AllocError> {
-    let mut net = Builder::new(alloc, 22);
-    net.node(None)?;
-    net.node(Some(A))?;
-    net.node(Some(B))?;
-    net.node(Some(C))?;
-    net.node(None)?;
-    net.node(None)?;
-    net.node(None)?;
-    net.constrain(4, 1, 0, Label::empty())?;
-    net.constrain(3, 5, 14, only(A, Mark::Yes))?;
-    net.constrain(1, 0, -2, only(C, Mark::Yes))?;
-    net.constrain(2, 0, -6, Label::empty())?;
-    net.constrain(3, 0, -2, Label::empty())?;
-    net.constrain(6, 0, -8, only(C, Mark::Yes).with(A, Mark::Yes))?;
-    net.constrain(2, 0, -2, only(B, Mark::No))?;
-    net.constrain(6, 0, -2, only(C, Mark::Yes))?;
-    net.constrain(3, 0, -5, only(B, Mark::No))?;
-    net.constrain(6, 1, -1, only(B, Mark::Yes).with(A, Mark::No))?;
-    net.constrain(6, 4, -8, only(C, Mark::No).with(A, Mark::No))?;
-    net.constrain(2, 0, -9, only(B, Mark::No).with(C, Mark::No))?;
-    Ok(net)
+pub(super) fn generated(rt: &impl Abort, alloc: Global) -> Network {
+    let plain = Label::empty();
+    let c = only(C, Mark::Yes);
+    let not_b = only(B, Mark::No);
+    network(
+        rt,
+        alloc,
+        22,
+        &[None, Some(A), Some(B), Some(C), None, None, None],
+        &[
+            (4, 1, 0, plain),
+            (3, 5, 14, only(A, Mark::Yes)),
+            (1, 0, -2, c),
+            (2, 0, -6, plain),
+            (3, 0, -2, plain),
+            (6, 0, -8, c.with(A, Mark::Yes)),
+            (2, 0, -2, not_b),
+            (6, 0, -2, c),
+            (3, 0, -5, not_b),
+            (6, 1, -1, only(B, Mark::Yes).with(A, Mark::No)),
+            (6, 4, -8, only(C, Mark::No).with(A, Mark::No)),
+            (2, 0, -9, not_b.with(C, Mark::No)),
+        ],
+    )
 }
