@@ -1,22 +1,34 @@
 ghost use Rattle.std.specs.Prelude.{◌<◌};
 
+// Sources, lines and names are dropped by a call, since a drop at the end of a function is proved as a part of it.
 use crate::{EditLine, HostLine, Lines, LiveLine, Next, read_edit, read_host, read_live};
 use cstn_io::MemorySource;
 use cstn_label::{Label, Mark, Prop};
-use std::alloc::{AllocError, Global};
+use std::alloc::Global;
 use std::process::Abort;
-use std::test::Fail;
 
 // A source of these bytes, of which these calls fail.
 fn source_of(
+    rt: &impl Abort,
     alloc: Global,
     bytes: &[u8],
     failing: &[u64],
     most: usize,
-) -> Result<MemorySource, AllocError>
+) -> MemorySource
     requires { 0 < most }
 {
-    Ok(MemorySource::new(bytes.to_vec(alloc)?, failing.to_vec(alloc)?, most))
+    let bytes = bytes.to_vec(alloc).expect(rt, "memory");
+    let failing = failing.to_vec(alloc).expect(rt, "memory");
+    MemorySource::new(bytes, failing, most)
+}
+
+fn started(rt: &impl Abort, alloc: Global) -> Lines {
+    Lines::start(alloc).expect(rt, "memory")
+}
+
+// The next step answers so.
+fn expect_step(rt: &impl Abort, lines: &mut Lines, source: &mut MemorySource, next: Next) {
+    assert_eq!(rt; lines.step(source), next);
 }
 
 // The next step hands out this line.
@@ -27,113 +39,136 @@ fn expect_line(
     number: u32,
     line: &[u8],
 ) {
-    assert_eq!(rt; lines.step(source), Next::Line { number });
-    assert_eq!(rt; lines.line(), line);
+    expect_step(rt, lines, source, Next::Line { number });
+    assert!(rt; lines.line() == line);
+}
+
+// The source is at its end, and stays there.
+fn expect_end(rt: &impl Abort, mut lines: Lines, mut source: MemorySource) {
+    expect_step(rt, &mut lines, &mut source, Next::End);
+    expect_step(rt, &mut lines, &mut source, Next::End);
+    drop(lines);
+    drop(source);
+}
+
+// Three lines are read from a source that hands out so many bytes a call at most.
+fn reads_three(rt: &impl Abort, alloc: Global, most: usize)
+    requires { 0 < most }
+{
+    let mut source = source_of(rt, alloc, b"due\n\nmoment 0", &[], most);
+    let mut lines = started(rt, alloc);
+    expect_line(rt, &mut lines, &mut source, 1, b"due");
+    expect_line(rt, &mut lines, &mut source, 2, b"");
+    expect_line(rt, &mut lines, &mut source, 3, b"moment 0");
+    expect_end(rt, lines, source);
 }
 
 #[test]
-fn lines_in_any_pieces(rt: HostRuntime) -> Result<(), Fail> {
+fn lines_in_any_pieces(rt: HostRuntime) {
     let alloc = rt.alloc();
-    for most in [1, 3, 100] {
-        let mut source = source_of(alloc, b"due\n\nmoment 0", &[], most)?;
-        let mut lines = Lines::start(alloc)?;
-        expect_line(&rt, &mut lines, &mut source, 1, b"due");
-        expect_line(&rt, &mut lines, &mut source, 2, b"");
-        expect_line(&rt, &mut lines, &mut source, 3, b"moment 0");
-        assert_eq!(rt; lines.step(&mut source), Next::End);
-        assert_eq!(rt; lines.step(&mut source), Next::End);
-    }
-    Ok(())
+    reads_three(&rt, alloc, 1);
+    reads_three(&rt, alloc, 3);
+    reads_three(&rt, alloc, 100);
 }
 
 #[test]
-fn lines_of_little(rt: HostRuntime) -> Result<(), Fail> {
+fn lines_of_little(rt: HostRuntime) {
     let alloc = rt.alloc();
-    let mut source = source_of(alloc, b"", &[], 9)?;
-    let mut lines = Lines::start(alloc)?;
-    assert_eq!(rt; lines.step(&mut source), Next::End);
-    assert_eq!(rt; lines.step(&mut source), Next::End);
-    let mut source = source_of(alloc, b"\n", &[], 9)?;
-    let mut lines = Lines::start(alloc)?;
+    expect_end(&rt, started(&rt, alloc), source_of(&rt, alloc, b"", &[], 9));
+    let mut source = source_of(&rt, alloc, b"\n", &[], 9);
+    let mut lines = started(&rt, alloc);
     expect_line(&rt, &mut lines, &mut source, 1, b"");
-    assert_eq!(rt; lines.step(&mut source), Next::End);
-    Ok(())
+    expect_end(&rt, lines, source);
+}
+
+// So many bytes `x`, which a line may or may not have.
+fn long(rt: &impl Abort, alloc: Global, len: usize) -> Vec<u8> {
+    vec![in alloc; b'x'; len].expect(rt, "memory")
 }
 
 #[test]
-fn longest_line(rt: HostRuntime) -> Result<(), Fail> {
+fn longest_line(rt: HostRuntime) {
     let alloc = rt.alloc();
-    let longest = vec![in alloc; b'x'; 4096]?;
-    let mut source = source_of(alloc, &longest, &[], 1000)?;
-    let mut lines = Lines::start(alloc)?;
-    expect_line(&rt, &mut lines, &mut source, 1, &longest);
-    assert_eq!(rt; lines.step(&mut source), Next::End);
-
-    let mut ended = longest.clone()?;
-    ended.push(b'\n')?;
-    ended.extend_from_slice(&longest)?;
-    let mut source = source_of(alloc, &ended, &[], 1000)?;
-    let mut lines = Lines::start(alloc)?;
+    let longest = long(&rt, alloc, 4096);
+    let mut twice = long(&rt, alloc, 4096);
+    twice.push(b'\n').expect(&rt, "memory");
+    twice.extend_from_slice(&longest).expect(&rt, "memory");
+    let mut source = source_of(&rt, alloc, &twice, &[], 1000);
+    let mut lines = started(&rt, alloc);
     expect_line(&rt, &mut lines, &mut source, 1, &longest);
     expect_line(&rt, &mut lines, &mut source, 2, &longest);
-    assert_eq!(rt; lines.step(&mut source), Next::End);
-
-    let longer = vec![in alloc; b'x'; 4097]?;
-    let mut source = source_of(alloc, &longer, &[], 1000)?;
-    let mut lines = Lines::start(alloc)?;
-    assert_eq!(rt; lines.step(&mut source), Next::Wrong { number: 1 });
-    assert_eq!(rt; lines.step(&mut source), Next::Wrong { number: 1 });
-    Ok(())
+    expect_end(&rt, lines, source);
+    drop(twice);
+    drop(longest);
 }
 
 #[test]
-fn fault_in_a_line(rt: HostRuntime) -> Result<(), Fail> {
+fn longer_line(rt: HostRuntime) {
     let alloc = rt.alloc();
-    let mut source = source_of(alloc, b"see p true\n", &[1], 5)?;
-    let mut lines = Lines::start(alloc)?;
-    assert_eq!(rt; lines.step(&mut source), Next::Fault);
-    expect_line(&rt, &mut lines, &mut source, 1, b"see p true");
-    Ok(())
-}
-
-// These bytes are no live line.
-fn expect_none(rt: &impl Abort, bytes: &[u8]) {
-    assert_eq!(rt; read_live(bytes), None);
+    let longer = long(&rt, alloc, 4097);
+    let mut source = source_of(&rt, alloc, &longer, &[], 1000);
+    let mut lines = started(&rt, alloc);
+    expect_step(&rt, &mut lines, &mut source, Next::Wrong { number: 1 });
+    expect_step(&rt, &mut lines, &mut source, Next::Wrong { number: 1 });
+    drop(lines);
+    drop(source);
+    drop(longer);
 }
 
 #[test]
-fn live_lines(rt: HostRuntime) -> Result<(), Fail> {
-    assert_eq!(rt; read_live(b"due"), Some(LiveLine::Due));
-    assert_eq!(rt;
-        read_live(b"moment 4294967295"),
-        Some(LiveLine::Moment { t: 4_294_967_295 })
-    );
-    let seen = Prop::from_letter(b'p').map(|prop| LiveLine::See { prop, value: false });
-    assert_eq!(rt; read_live(b"see p false"), seen);
-    let seen = Prop::from_letter(b'Z').map(|prop| LiveLine::See { prop, value: true });
-    assert_eq!(rt; read_live(b"see Z true"), seen);
-    expect_none(&rt, b"moment");
-    expect_none(&rt, b"moment -1");
-    expect_none(&rt, b"moment +5");
-    expect_none(&rt, b"moment 00");
-    expect_none(&rt, b"moment 4294967296");
-    expect_none(&rt, b"moment 1 ");
-    expect_none(&rt, b"see pp true");
-    expect_none(&rt, b"see p yes");
-    expect_none(&rt, b"");
-    expect_none(&rt, b" due");
-    expect_none(&rt, b"due\r");
-    Ok(())
+fn fault_in_a_line(rt: HostRuntime) {
+    let alloc = rt.alloc();
+    let mut source = source_of(&rt, alloc, b"see p true\n", &[1], 5);
+    let mut lines = started(&rt, alloc);
+    expect_step(&rt, &mut lines, &mut source, Next::Fault);
+    expect_line(&rt, &mut lines, &mut source, 1, b"see p true");
+    drop(lines);
+    drop(source);
 }
 
-// Whether the bytes are the line that adds a constraint between these names, with this value and label.
-fn adds(
-    alloc: Global,
-    bytes: &[u8],
-    ends: [&str; 2],
-    most: i32,
-    label: Label,
-) -> Result<bool, AllocError> {
+fn prop(rt: &impl Abort, letter: u8) -> Prop {
+    Prop::from_letter(letter).expect(rt, "a letter")
+}
+
+// These bytes are this live line, or none.
+fn expect_live(rt: &impl Abort, bytes: &[u8], line: Option<LiveLine>) {
+    assert_eq!(rt; read_live(bytes), line);
+}
+
+#[test]
+fn live_lines(rt: HostRuntime) {
+    let last = LiveLine::Moment { t: 4_294_967_295 };
+    let not_p = LiveLine::See {
+        prop: prop(&rt, b'p'),
+        value: false,
+    };
+    let large_z = LiveLine::See {
+        prop: prop(&rt, b'Z'),
+        value: true,
+    };
+    expect_live(&rt, b"due", Some(LiveLine::Due));
+    expect_live(&rt, b"moment 4294967295", Some(last));
+    expect_live(&rt, b"see p false", Some(not_p));
+    expect_live(&rt, b"see Z true", Some(large_z));
+    expect_live(&rt, b"moment", None);
+    expect_live(&rt, b"moment -1", None);
+    expect_live(&rt, b"moment +5", None);
+    expect_live(&rt, b"moment 00", None);
+    expect_live(&rt, b"moment 4294967296", None);
+    expect_live(&rt, b"moment 1 ", None);
+    expect_live(&rt, b"see pp true", None);
+    expect_live(&rt, b"see p yes", None);
+    expect_live(&rt, b"", None);
+    expect_live(&rt, b" due", None);
+    expect_live(&rt, b"due\r", None);
+}
+
+fn edit(rt: &impl Abort, alloc: Global, bytes: &[u8]) -> Option<EditLine> {
+    read_edit(alloc, bytes).expect(rt, "memory")
+}
+
+// The bytes add a constraint between these names, with this value and label.
+fn adds(rt: &impl Abort, alloc: Global, bytes: &[u8], ends: [&str; 2], most: i32, label: Label) {
     let Some(
         EditLine::Add {
             from,
@@ -141,100 +176,99 @@ fn adds(
             most: value,
             label: marks,
         },
-    ) = read_edit(alloc, bytes)?
+    ) = edit(rt, alloc, bytes)
     else {
-        return Ok(false);
+        panic!(rt; "a line that adds");
     };
-    Ok(from.as_str() == ends[0] && to.as_str() == ends[1] && value == most && marks == label)
+    assert!(rt; from.as_str() == ends[0] && to.as_str() == ends[1]);
+    assert!(rt; value == most && marks == label);
+    drop(to);
+    drop(from);
 }
 
-fn is_no_edit(alloc: Global, bytes: &[u8]) -> Result<bool, AllocError> {
-    Ok(read_edit(alloc, bytes)?.is_none())
+fn removes(rt: &impl Abort, alloc: Global, bytes: &[u8], id: u32) {
+    let line = edit(rt, alloc, bytes);
+    assert!(rt; matches!(&line, Some(EditLine::Remove { id: found }) if *found == id));
+    drop(line);
+}
+
+fn changes(rt: &impl Abort, alloc: Global, bytes: &[u8], id: u32, most: i32) {
+    let line = edit(rt, alloc, bytes);
+    let Some(
+        EditLine::Change {
+            id: found,
+            most: value,
+        },
+    ) = &line
+    else {
+        panic!(rt; "a line that changes");
+    };
+    assert!(rt; *found == id && *value == most);
+    drop(line);
+}
+
+fn checks(rt: &impl Abort, alloc: Global, bytes: &[u8]) {
+    let line = edit(rt, alloc, bytes);
+    assert!(rt; matches!(&line, Some(EditLine::Check)));
+    drop(line);
+}
+
+// These bytes are no edit line.
+fn expect_no_edit(rt: &impl Abort, alloc: Global, bytes: &[u8]) {
+    let line = edit(rt, alloc, bytes);
+    assert!(rt; line.is_none());
+    drop(line);
 }
 
 #[test]
-fn edit_lines(rt: HostRuntime) -> Result<(), Fail> {
+fn edit_lines(rt: HostRuntime) {
     let alloc = rt.alloc();
     let plain = Label::empty();
     let p = Prop { index: 41 };
-    assert!(rt; adds(alloc, b"add P Z -3 -", ["P", "Z"], -3, plain)?);
-    assert!(rt;
-        adds(
-            alloc,
-            b"add P Z -3 ?p",
-            ["P", "Z"],
-            -3,
-            plain.with(p, Mark::Unknown)
-        )?
-    );
-    assert!(rt;
-        adds(
-            alloc,
-            b"add a%20b Z 0 !p",
-            ["a b", "Z"],
-            0,
-            plain.with(p, Mark::No)
-        )?
-    );
-    assert!(rt;
-        matches!(
-            read_edit(alloc, b"remove 3")?,
-            Some(EditLine::Remove { id: 3 })
-        )
-    );
-    assert!(rt;
-        matches!(
-            read_edit(alloc, b"change 2 -3")?,
-            Some(EditLine::Change { id: 2, most: -3 })
-        )
-    );
-    assert!(rt; matches!(read_edit(alloc, b"check")?, Some(EditLine::Check)));
-    assert!(rt; is_no_edit(alloc, b"add P Z -0 -")?);
-    assert!(rt; is_no_edit(alloc, b"add P Z -3")?);
-    assert!(rt; is_no_edit(alloc, b"add P Z -2147483649 -")?);
-    assert!(rt; is_no_edit(alloc, b"add %41 Z -3 -")?);
-    assert!(rt; is_no_edit(alloc, b"add P Z +5 -")?);
-    assert!(rt; is_no_edit(alloc, b"remove 4294967296")?);
-    assert!(rt; is_no_edit(alloc, b"check ")?);
-    Ok(())
+    let unknown = plain.with(p, Mark::Unknown);
+    let not_p = plain.with(p, Mark::No);
+    adds(&rt, alloc, b"add P Z -3 -", ["P", "Z"], -3, plain);
+    adds(&rt, alloc, b"add P Z -3 ?p", ["P", "Z"], -3, unknown);
+    adds(&rt, alloc, b"add a%20b Z 0 !p", ["a b", "Z"], 0, not_p);
+    removes(&rt, alloc, b"remove 3", 3);
+    changes(&rt, alloc, b"change 2 -3", 2, -3);
+    checks(&rt, alloc, b"check");
+    expect_no_edit(&rt, alloc, b"add P Z -0 -");
+    expect_no_edit(&rt, alloc, b"add P Z -3");
+    expect_no_edit(&rt, alloc, b"add P Z -2147483649 -");
+    expect_no_edit(&rt, alloc, b"add %41 Z -3 -");
+    expect_no_edit(&rt, alloc, b"add P Z +5 -");
+    expect_no_edit(&rt, alloc, b"remove 4294967296");
+    expect_no_edit(&rt, alloc, b"check ");
 }
 
-// These bytes are no host line.
-fn expect_no_host(rt: &impl Abort, bytes: &[u8]) {
-    assert_eq!(rt; read_host(bytes), None);
+// These bytes are this host line, or none.
+fn expect_host(rt: &impl Abort, bytes: &[u8], line: Option<HostLine>) {
+    assert_eq!(rt; read_host(bytes), line);
+}
+
+fn on(id: u32, line: LiveLine) -> Option<HostLine> {
+    Some(HostLine::On { id, line })
 }
 
 #[test]
-fn host_lines(rt: HostRuntime) -> Result<(), Fail> {
-    assert_eq!(rt;
-        read_host(b"open 0 0"),
-        Some(HostLine::Open { id: 0, file: 0 })
-    );
-    assert_eq!(rt;
-        read_host(b"on 7 moment 0"),
-        Some(HostLine::On {
-            id: 7,
-            line: LiveLine::Moment { t: 0 }
-        })
-    );
-    let seen = Prop::from_letter(b'p').map(|prop| LiveLine::See { prop, value: false });
-    let seen = seen.map(|line| HostLine::On { id: 0, line });
-    assert_eq!(rt; read_host(b"on 0 see p false"), seen);
-    assert_eq!(rt;
-        read_host(b"on 7 due"),
-        Some(HostLine::On {
-            id: 7,
-            line: LiveLine::Due
-        })
-    );
-    assert_eq!(rt; read_host(b"close 7"), Some(HostLine::Close { id: 7 }));
-    expect_no_host(&rt, b"on 0 check");
-    expect_no_host(&rt, b"on 3 open 1 1");
-    expect_no_host(&rt, b"on 0 on 0 due");
-    expect_no_host(&rt, b"open 0");
-    expect_no_host(&rt, b"open 0 4294967296");
-    expect_no_host(&rt, b"open 00 0");
-    expect_no_host(&rt, b"close 7 ");
-    expect_no_host(&rt, b"due");
-    Ok(())
+fn host_lines(rt: HostRuntime) {
+    let not_p = LiveLine::See {
+        prop: prop(&rt, b'p'),
+        value: false,
+    };
+    let open = HostLine::Open { id: 0, file: 0 };
+    expect_host(&rt, b"open 0 0", Some(open));
+    expect_host(&rt, b"on 7 moment 0", on(7, LiveLine::Moment { t: 0 }));
+    expect_host(&rt, b"on 0 see p false", on(0, not_p));
+    expect_host(&rt, b"on 7 due", on(7, LiveLine::Due));
+    expect_host(&rt, b"close 7", Some(HostLine::Close { id: 7 }));
+    expect_host(&rt, b"on 0 check", None);
+    expect_host(&rt, b"on 3 open 1 1", None);
+    expect_host(&rt, b"on 0 on 0 due", None);
+    expect_host(&rt, b"open 0", None);
+    expect_host(&rt, b"open 0 4294967296", None);
+    expect_host(&rt, b"open 00 0", None);
+    expect_host(&rt, b"close 7 ", None);
+    expect_host(&rt, b"due", None);
 }
