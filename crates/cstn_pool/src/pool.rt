@@ -139,62 +139,63 @@ mod tests {
     use super::*;
 
     #[test]
-    fn one_slot_is_taken_again_under_a_new_birth(rt: HostRuntime) -> Result<(), AllocError> {
-        let mut pool = Pool::start(rt.alloc(), 1)?;
+    fn one_slot_is_taken_again_under_a_new_birth(rt: HostRuntime) {
+        let mut pool = Pool::start(rt.alloc(), 1).expect(&rt, "memory");
         let seven = pool.take(7);
         let first = SlotId { slot: 0, birth: 0 };
-        assert_eq!(rt; seven, Ok(first));
-        assert_eq!(rt; pool.take(9), Err(Full));
-        assert_eq!(rt; pool.give(first), Some(7));
+        assert!(rt; seven == Ok(first));
+        assert!(rt; pool.take(9) == Err(Full));
+        assert!(rt; pool.give(first) == Some(7));
         let second = SlotId { slot: 0, birth: 1 };
-        assert_eq!(rt; pool.take(8), Ok(second));
-        assert_eq!(rt; pool.get(first), None);
-        assert_eq!(rt; pool.give(first), None);
-        assert_eq!(rt; pool.get(second), Some(8));
-        assert_eq!(rt; pool.live(), 1);
+        assert!(rt; pool.take(8) == Ok(second));
+        assert!(rt; pool.get(first) == None);
+        assert!(rt; pool.give(first) == None);
+        assert!(rt; pool.get(second) == Some(8));
+        assert!(rt; pool.live() == 1);
         pool.clear();
-        assert_eq!(rt; pool.live(), 0);
-        assert_eq!(rt; pool.take(6), Ok(SlotId { slot: 0, birth: 2 }));
-        Ok(())
+        assert!(rt; pool.live() == 0);
+        assert!(rt; pool.take(6) == Ok(SlotId { slot: 0, birth: 2 }));
+        drop(pool);
     }
 
     #[test]
-    fn slots_that_came_back_are_taken_again(rt: HostRuntime) -> Result<(), AllocError> {
-        let mut pool = Pool::start(rt.alloc(), 3)?;
+    fn slots_that_came_back_are_taken_again(rt: HostRuntime) {
+        let mut pool = Pool::start(rt.alloc(), 3).expect(&rt, "memory");
         let one = pool.take(1).unwrap();
         let two = pool.take(2).unwrap();
         let three = pool.take(3).unwrap();
-        assert_eq!(rt; pool.give(two), Some(2));
-        assert_eq!(rt; pool.give(two), None);
-        assert_eq!(rt; pool.give(one), Some(1));
-        assert_eq!(rt; pool.live(), 1);
+        assert!(rt; pool.give(two) == Some(2));
+        assert!(rt; pool.give(two) == None);
+        assert!(rt; pool.give(one) == Some(1));
+        assert!(rt; pool.live() == 1);
         assert!(rt; pool.take(4).is_ok());
         assert!(rt; pool.take(5).is_ok());
-        assert_eq!(rt; pool.take(6), Err(Full));
-        assert_eq!(rt; pool.live(), 3);
-        assert_eq!(rt; pool.get(three), Some(3));
-        Ok(())
+        assert!(rt; pool.take(6) == Err(Full));
+        assert!(rt; pool.live() == 3);
+        assert!(rt; pool.get(three) == Some(3));
+        drop(pool);
     }
 
     #[test]
-    fn no_slot_and_no_such_slot(rt: HostRuntime) -> Result<(), AllocError> {
-        let mut none = Pool::start(rt.alloc(), 0)?;
-        assert_eq!(rt; none.take(7), Err(Full));
-        assert_eq!(rt; none.get(SlotId { slot: 0, birth: 0 }), None);
-        assert_eq!(rt; none.live(), 0);
-        let mut one = Pool::start(rt.alloc(), 1)?;
+    fn no_slot_and_no_such_slot(rt: HostRuntime) {
+        let mut none = Pool::start(rt.alloc(), 0).expect(&rt, "memory");
+        assert!(rt; none.take(7) == Err(Full));
+        assert!(rt; none.get(SlotId { slot: 0, birth: 0 }) == None);
+        assert!(rt; none.live() == 0);
+        drop(none);
+        let mut one = Pool::start(rt.alloc(), 1).expect(&rt, "memory");
         let id = one.take(5).unwrap();
         let beyond = SlotId {
             slot: u32::MAX,
             birth: 0,
         };
-        assert_eq!(rt; one.give(beyond), None);
+        assert!(rt; one.give(beyond) == None);
         let later = SlotId {
             slot: 0,
             birth: u64::MAX,
         };
-        assert_eq!(rt; one.give(later), None);
-        assert_eq!(rt; one.get(id), Some(5));
-        Ok(())
+        assert!(rt; one.give(later) == None);
+        assert!(rt; one.get(id) == Some(5));
+        drop(one);
     }
 }
