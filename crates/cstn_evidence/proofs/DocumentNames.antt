@@ -19,11 +19,11 @@ use Rattle.cstn_text.specs.Names.{IsName, AreNames}
 use Rattle.cstn_text.proofs.NameLemmas.{shaped}
 use Rattle.cstn_data.specs.ValueTexts.{Pair, values_of}
 use Rattle.cstn_data.specs.NumberTexts.{deadline_of}
-use Rattle.cstn_graphml.specs.Results.{Refusal, ◌>>=◌, or_refused, demand}
-use Rattle.cstn_graphml.specs.Results.Refusal.{shape, bad_value, unknown_node, name_twice, label_text, no_deadline}
-use Rattle.cstn_graphml.specs.Contents.{Tag, Content, inner, outer, all_cut, opened, closed_by, contents_by, contents, content_of}
-use Rattle.cstn_graphml.specs.Contents.Content.{done, cut, run, element}
-use Rattle.cstn_graphml.specs.Elements.{Reading, read_by, Datum, blank, passed, datum, data_of, datum_of, attribute, read_of, read_option, or_no_bytes}
+use Rattle.cstn_element.specs.Results.{Refusal, ◌>>=◌, or_refused, demand}
+use Rattle.cstn_element.specs.Results.Refusal.{shape, bad_value, unknown_node, name_twice, label_text, no_deadline}
+use Rattle.cstn_element.specs.Contents.{Tag, Content, inner, outer, all_cut, opened, closed_by, contents_by, contents, content_of}
+use Rattle.cstn_element.specs.Contents.Content.{done, cut, run, element}
+use Rattle.cstn_element.specs.Elements.{Reading, read_by, Datum, blank, passed, datum, data_of, datum_of, attribute, read_of, read_option, or_no_bytes}
 use Rattle.cstn_graphml.specs.DrawnGraph.{Observation, observation, DrawnGraph, DrawnConstraint, empty_graph, origin_name, node_of, with_node, with_constraint, with_deadline}
 use Rattle.cstn_graphml.specs.Judged.{judged_node, judged_edge, judged_deadline, with_pair, with_pairs, with_values, with_edge, is_kept, observed, reacting, labelled}
 use Rattle.cstn_graphml.specs.Document.{Parts, Part, graph_child, graph_reading, in_graph, root_child, root_reading, in_root, document_child, document_reading, in_document, part_of, drawn_parts, or_nothing, first_of_two, is_text, document}

@@ -7,13 +7,13 @@ use Rattle.std.proofs.lemmas.List.Elements.{All-push, All-weaker, All-head, All-
 use Rattle.std.proofs.lemmas.List.Quantifiers.{position-Some}
 use Rattle.cstn_markup.specs.Bytes.{is_same, when}
 use Rattle.cstn_text.specs.Names.{number_of}
-use Rattle.cstn_graphml.specs.Results.{Refusal, ◌>>=◌, or_refused, demand}
-use Rattle.cstn_graphml.specs.Results.Refusal.{shape, bad_value, unknown_node, name_twice, label_text}
+use Rattle.cstn_element.specs.Results.{Refusal, ◌>>=◌, or_refused, demand}
+use Rattle.cstn_element.specs.Results.Refusal.{shape, bad_value, unknown_node, name_twice, label_text}
 use Rattle.cstn_data.specs.NumberTexts.{deadline_of, reaction_in, IsReaction}
 use Rattle.cstn_data.specs.ValueTexts.{Pair, values_of}
-use Rattle.cstn_graphml.specs.Contents.{Tag, Content}
-use Rattle.cstn_graphml.specs.Contents.Content.{done, cut, run, element}
-use Rattle.cstn_graphml.specs.Elements.{Reading, read_by, Datum, blank, passed, datum, data_of, datum_of, attribute}
+use Rattle.cstn_element.specs.Contents.{Tag, Content}
+use Rattle.cstn_element.specs.Contents.Content.{done, cut, run, element}
+use Rattle.cstn_element.specs.Elements.{Reading, read_by, Datum, blank, passed, datum, data_of, datum_of, attribute}
 use Rattle.cstn_graphml.specs.DrawnGraph.{Observation, observation, DrawnGraph, DrawnConstraint, empty_graph, origin_name, node_of, with_node, with_constraint, with_deadline}
 use Rattle.cstn_graphml.specs.Judged.{judged_node, judged_edge, judged_deadline, with_pair, with_pairs, with_values, with_edge, is_kept, observed, reacting, labelled}
 use Rattle.cstn_graphml.specs.Document.{Part, graph_child, graph_reading, in_graph, root_child, root_reading, in_root, document_child, document_reading, in_document, part_of}

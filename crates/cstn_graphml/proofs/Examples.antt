@@ -9,10 +9,10 @@ use Rattle.cstn_graphml.specs.Judged.{with_pairs}
 use Rattle.std.specs.Str.Lossy.{utf8_valid_len}
 use Rattle.cstn_label.specs.Labels.{empty, with_mark}
 use Rattle.cstn_label.specs.declared.marks.Mark.TheVariants.{Yes, No}
-use Rattle.cstn_graphml.specs.Elements.{passed, read_by}
-use Rattle.cstn_graphml.specs.Contents.{contents}
+use Rattle.cstn_element.specs.Elements.{passed, read_by}
+use Rattle.cstn_element.specs.Contents.{contents}
 use Rattle.cstn_graphml.specs.Document.{document}
-use Rattle.cstn_graphml.specs.Results.Refusal.{not_utf8, shape, name_twice, unknown_node, bad_value, label_text, contingent, edge_type, no_deadline}
+use Rattle.cstn_element.specs.Results.Refusal.{not_utf8, shape, name_twice, unknown_node, bad_value, label_text, contingent, edge_type, no_deadline}
 use Rattle.std.specs.Str.{chars, is_utf8}
 use Rattle.std.specs.Char.{encode_utf8}
 

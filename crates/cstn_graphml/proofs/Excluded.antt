@@ -14,8 +14,8 @@ use Rattle.cstn_net.specs.Drafts.{IsRefusal, IsFirst, HasReaction as IsInTime}
 use Rattle.cstn_graphml.specs.declared.drawn_graph.Observation.{Observation as LentObservation}
 use Rattle.cstn_graphml.specs.declared.drawn_graph.DrawnConstraint.{DrawnConstraint as Lent}
 use Rattle.cstn_graphml.specs.declared.drawn_graph.DrawnGraph.{DrawnGraph as LentGraph}
-use Rattle.cstn_graphml.specs.declared.errors.DocError.{DocError}
-use Rattle.cstn_graphml.specs.declared.errors.DocError.TheVariants.{Net, Lift}
+use Rattle.cstn_element.specs.declared.errors.DocError.{DocError}
+use Rattle.cstn_element.specs.declared.errors.DocError.TheVariants.{Net, Lift}
 use Rattle.cstn_lift.specs.declared.errors.LiftError.{LiftError}
 use Rattle.cstn_lift.specs.declared.errors.LiftError.TheVariants.{NotPlain as NotPlainLabel}
 use Rattle.cstn_lift.specs.Labelled.{Labelled}
@@ -25,10 +25,10 @@ use Rattle.cstn_graphml.specs.Labels.{labels_seen, with_labels_of}
 use Rattle.cstn_graphml.specs.DrawnGraph.{DrawnConstraint}
 use Rattle.cstn_graphml.specs.DrawnGraphSeen.{observed_seen, drawn_seen, graph_seen}
 use Rattle.cstn_graphml.specs.DrawnGraphLaws.{IsDrawnGraph, IsWithReaction, IsTimelyOrigin}
-use Rattle.cstn_graphml.specs.Results.{Refusal}
+use Rattle.cstn_element.specs.Results.{Refusal}
 use Rattle.cstn_graphml.specs.Networks.{builder_of, draft_of, point_of, at_origin}
 use Rattle.cstn_graphml.specs.Answers.{IsTold, IsLabelRefusal}
-use Rattle.cstn_graphml.specs.Reads.{Fails}
+use Rattle.cstn_element.specs.Reads.{Fails}
 use Rattle.cstn_graphml.proofs.Built.{all_points, built_points, built_drafts}
 
 -- what is refused before a network is made is no fault of one

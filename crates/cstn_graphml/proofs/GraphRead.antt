@@ -1,20 +1,20 @@
 -- The ends of the graph, the root and the document.
 use Rattle.std.proofs.Common.{◌≡◌, ℕ, List, ◌∷◌, Bool, true, false, Option, Some, None, Result, Ok, Err, ap, sym, ◌∙◌, subst}
 use Rattle.cstn_markup.specs.Tokens.{Token}
-use Rattle.cstn_graphml.specs.Results.{Refusal, ◌>>=◌}
-use Rattle.cstn_graphml.specs.Results.Refusal.{shape}
-use Rattle.cstn_graphml.specs.Contents.{Tag, Content, contents, inner}
-use Rattle.cstn_graphml.specs.Contents.Content.{done}
-use Rattle.cstn_graphml.specs.Elements.{Reading, read_by, passed}
+use Rattle.cstn_element.specs.Results.{Refusal, ◌>>=◌}
+use Rattle.cstn_element.specs.Results.Refusal.{shape}
+use Rattle.cstn_element.specs.Contents.{Tag, Content, contents, inner}
+use Rattle.cstn_element.specs.Contents.Content.{done}
+use Rattle.cstn_element.specs.Elements.{Reading, read_by, passed}
 use Rattle.cstn_graphml.specs.DrawnGraph.{DrawnGraph, empty_graph}
 use Rattle.cstn_graphml.specs.DrawnGraphSeen.{graph_seen}
 use Rattle.cstn_graphml.specs.Document.{Part, in_graph, graph_child, root_child}
 use Rattle.cstn_graphml.specs.Document.Part.{another}
-use Rattle.cstn_graphml.specs.Reads.{Reads, ReadsWhole, Continues, Fails, inside}
+use Rattle.cstn_element.specs.Reads.{Reads, ReadsWhole, Continues, Fails, inside}
 use Rattle.cstn_graphml.specs.declared.drawn_graph.DrawnGraph.{DrawnGraph as LentGraph}
-use Rattle.cstn_graphml.specs.declared.errors.DocError.{DocError}
-use Rattle.cstn_graphml.specs.declared.errors.DocError.TheVariants.{Shape}
-use Rattle.cstn_graphml.proofs.Judging.{passed_as}
+use Rattle.cstn_element.specs.declared.errors.DocError.{DocError}
+use Rattle.cstn_element.specs.declared.errors.DocError.TheVariants.{Shape}
+use Rattle.cstn_element.proofs.Judging.{passed_as}
 
 -- the first graph was read
 pub root_read : (b : Bool) (s : Option DrawnGraph) (tag : Tag) (closed : Bool) (name : List ℕ) (names : List (List ℕ)) (before after : List Token) (d : LentGraph) → b ≡ true → s ≡ None

@@ -10,8 +10,8 @@ use Rattle.cstn_lift.specs.Labelled.{Labelled}
 use Rattle.cstn_lift.specs.Faults.{IsRefusal, IsLowestFault, number}
 use Rattle.cstn_lift.specs.Read.{LabelledParts, the_labelled, with_labels}
 use Rattle.cstn_graphml.specs.declared.drawn_graph.DrawnGraph.{DrawnGraph as LentGraph}
-use Rattle.cstn_graphml.specs.declared.errors.DocError.{DocError}
-use Rattle.cstn_graphml.specs.declared.errors.DocError.TheVariants.{Lift}
+use Rattle.cstn_element.specs.declared.errors.DocError.{DocError}
+use Rattle.cstn_element.specs.declared.errors.DocError.TheVariants.{Lift}
 use Rattle.cstn_graphml.specs.Labels.{with_labels_of}
 use Rattle.cstn_graphml.specs.Answers.{IsLabelRefusal, IsLiftTold}
 

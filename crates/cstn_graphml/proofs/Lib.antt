@@ -1,13 +1,5 @@
 pub mod Examples
-pub mod Places
-pub mod PassedOver
-pub mod Folds
-pub mod ChildLemmas
 pub mod FreshNames
-pub mod DatumRead
-pub mod Wholes
-pub mod Judging
-pub mod Tops
 pub mod GraphRead
 pub mod DrawnGraphLaws
 pub mod Built
@@ -16,4 +8,3 @@ pub mod HandedPoints
 pub mod Excluded
 pub mod LabelsRead
 pub mod Refusing
-pub mod TextsRead

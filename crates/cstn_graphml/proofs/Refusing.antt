@@ -16,9 +16,9 @@ use Rattle.cstn_lift.specs.Labelled.{Labelled}
 use Rattle.cstn_lift.specs.Faults.{HasFault, IsLowestFault as IsLowestLabelFault}
 use Rattle.cstn_lift.specs.WellFormed.{IsLabelled}
 use Rattle.cstn_lift.specs.Read.{LabelledParts, the_labelled}
-use Rattle.cstn_graphml.specs.Results.{Refusal, ◌>>=◌, or_refused, demand}
-use Rattle.cstn_graphml.specs.Results.Refusal.{not_utf8, no_deadline}
-use Rattle.cstn_graphml.specs.Contents.{content_of}
+use Rattle.cstn_element.specs.Results.{Refusal, ◌>>=◌, or_refused, demand}
+use Rattle.cstn_element.specs.Results.Refusal.{not_utf8, no_deadline}
+use Rattle.cstn_element.specs.Contents.{content_of}
 use Rattle.cstn_graphml.specs.DrawnGraph.{origin_name}
 use Rattle.cstn_graphml.specs.DrawnGraphSeen.{graph_seen}
 use Rattle.cstn_graphml.specs.DrawnGraphLaws.{IsDrawnGraph}
@@ -26,11 +26,11 @@ use Rattle.cstn_graphml.specs.Document.{Parts, document, in_document, drawn_part
 use Rattle.cstn_graphml.specs.Networks.{IsBuilt, builder_of, labelled_of}
 use Rattle.cstn_graphml.specs.Labels.{labels_seen, with_labels_of}
 use Rattle.cstn_graphml.specs.Answers.{IsDocument, IsUnfitDocument, RefusesDocument, IsTold, IsLabelRefusal}
-use Rattle.cstn_graphml.specs.Reads.{Fails}
+use Rattle.cstn_element.specs.Reads.{Fails}
 use Rattle.cstn_graphml.specs.declared.drawn_graph.DrawnGraph.{DrawnGraph as LentGraph}
-use Rattle.cstn_graphml.specs.declared.errors.DocError.{DocError}
-use Rattle.cstn_graphml.specs.declared.errors.DocError.TheVariants.{NotUtf8, Shape, NameTwice, UnknownNode, Value, LabelText, Contingent, EdgeType, NoDeadline, Net, Lift, Memory}
-use Rattle.cstn_graphml.proofs.PassedOver.{fails_through}
+use Rattle.cstn_element.specs.declared.errors.DocError.{DocError}
+use Rattle.cstn_element.specs.declared.errors.DocError.TheVariants.{NotUtf8, Shape, NameTwice, UnknownNode, Value, LabelText, Contingent, EdgeType, NoDeadline, Net, Lift, Memory}
+use Rattle.cstn_element.proofs.PassedOver.{fails_through}
 use Rattle.cstn_graphml.proofs.Built.{parts_with, has_parts, made_network}
 use Rattle.cstn_graphml.proofs.DrawnGraphLaws.{document_is_drawn}
 

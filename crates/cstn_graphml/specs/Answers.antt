@@ -7,12 +7,12 @@ use Rattle.cstn_lift.specs.declared.errors.LiftError.TheVariants.{OriginLabel, N
 use Rattle.cstn_lift.specs.Labelled.{Labelled}
 use Rattle.cstn_lift.specs.Faults.{IsLowestFault}
 use Rattle.cstn_lift.specs.Read.{LabelledParts, the_labelled}
-use Rattle.cstn_graphml.specs.declared.errors.DocError.{DocError}
-use Rattle.cstn_graphml.specs.declared.errors.DocError.TheVariants.{NotUtf8, Shape, NameTwice, UnknownNode, Value, LabelText, Contingent, EdgeType, NoDeadline, Net, Lift, Memory}
-use Rattle.cstn_graphml.specs.Results.{Refusal}
+use Rattle.cstn_element.specs.declared.errors.DocError.{DocError}
+use Rattle.cstn_element.specs.declared.errors.DocError.TheVariants.{NotUtf8, Shape, NameTwice, UnknownNode, Value, LabelText, Contingent, EdgeType, NoDeadline, Net, Lift, Memory}
+use Rattle.cstn_element.specs.Results.{Refusal}
 use Rattle.cstn_graphml.specs.Document.{Parts}
 use Rattle.cstn_graphml.specs.Networks.{labelled_of, IsUnfit, IsMislabelled, IsFit}
-use Rattle.cstn_graphml.specs.Reads.{Fails}
+use Rattle.cstn_element.specs.Reads.{Fails}
 
 -- the document has these parts: this is their labelled network, and these are the names of its time-points
 pub record IsDocument (told : Result Parts Refusal) (labelled : LabelledParts) (names : List (List ℕ)) : Type 0 where

@@ -6,10 +6,10 @@ use Rattle.std.specs.Str.Lossy.{utf8_valid_len}
 use Rattle.cstn_label.specs.Labels.{Label}
 use Rattle.cstn_markup.specs.Bytes.{is_same}
 use Rattle.cstn_markup.specs.Tokens.{tokens}
-use Rattle.cstn_graphml.specs.Results.{Refusal, ◌>>=◌, or_refused, demand}
-use Rattle.cstn_graphml.specs.Results.Refusal.{not_utf8, shape, no_deadline}
-use Rattle.cstn_graphml.specs.Contents.{Tag, Content, content_of}
-use Rattle.cstn_graphml.specs.Elements.{Reading, read_by, blank, passed, datum, data_of}
+use Rattle.cstn_element.specs.Results.{Refusal, ◌>>=◌, or_refused, demand}
+use Rattle.cstn_element.specs.Results.Refusal.{not_utf8, shape, no_deadline}
+use Rattle.cstn_element.specs.Contents.{Tag, Content, content_of}
+use Rattle.cstn_element.specs.Elements.{Reading, read_by, blank, passed, datum, data_of}
 use Rattle.cstn_graphml.specs.DrawnGraph.{Observation, DrawnGraph, DrawnConstraint, empty_graph}
 use Rattle.cstn_graphml.specs.Judged.{judged_node, judged_edge, judged_deadline}
 

@@ -3,7 +3,7 @@ use Rattle.std.specs.Prelude.{ℕ, nat_le, List, [], ◌∷◌, ◌++◌, length
 use Rattle.cstn_label.specs.Labels.{Label, empty}
 use Rattle.cstn_markup.specs.Bytes.{is_same, when}
 use Rattle.cstn_text.specs.Names.{number_of}
-use Rattle.cstn_graphml.specs.Elements.{Datum}
+use Rattle.cstn_element.specs.Elements.{Datum}
 
 -- what a time-point observes: a proposition, and after how many ticks it is known
 pub record Observation : Type 0 where

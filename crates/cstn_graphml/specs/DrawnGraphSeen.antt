@@ -4,7 +4,7 @@ use Rattle.cstn_label.specs.Read.{marks}
 use Rattle.cstn_graphml.specs.declared.drawn_graph.DrawnConstraint.{DrawnConstraint as LentDrawn}
 use Rattle.cstn_graphml.specs.declared.drawn_graph.Observation.{Observation as LentObservation}
 use Rattle.cstn_graphml.specs.declared.drawn_graph.DrawnGraph.{DrawnGraph as Lent}
-use Rattle.cstn_graphml.specs.DataElementSeen.{datum_seen}
+use Rattle.cstn_element.specs.DataElementSeen.{datum_seen}
 use Rattle.cstn_graphml.specs.DrawnGraph.{Observation, DrawnConstraint, DrawnGraph}
 
 abbrev pub observed_seen : Option LentObservation → Option Observation

@@ -1,7 +1,3 @@
-pub mod Results
-pub mod Contents
-pub mod Elements
-pub mod DataElementSeen
 pub mod DrawnGraph
 pub mod DrawnGraphSeen
 pub mod DrawnGraphLaws
@@ -9,9 +5,5 @@ pub mod Judged
 pub mod Document
 pub mod Networks
 pub mod Labels
-pub mod Faults
-pub mod Reads
-pub mod Children
-pub mod Passing
 pub mod PartSeen
 pub mod Answers

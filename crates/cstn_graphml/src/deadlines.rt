@@ -1,15 +1,13 @@
 //! Deadlines, judged when their data element ends.
-
 ghost use Rattle.std.specs.Prelude.{◌≡◌};
 ghost use Rattle.cstn_graphml.specs.Judged.{judged_deadline};
-ghost use Rattle.cstn_graphml.specs.DataElementSeen.{maybe_datum};
+ghost use Rattle.cstn_element.specs.DataElementSeen.{maybe_datum};
 ghost use Rattle.cstn_graphml.specs.DrawnGraphSeen.{graph_seen};
-ghost use Rattle.cstn_graphml.specs.Reads.{Gives};
+ghost use Rattle.cstn_element.specs.Reads.{Gives};
 
-use crate::data_element::Datum;
 use crate::drawn_graph::{DrawnGraph, put_deadline};
-use crate::errors::DocError;
 use cstn_data::deadline_of;
+use cstn_element::{Datum, DocError};
 
 /// Puts in the deadline that a data element of the graph has, if its key is used.
 pub fn judge_deadline(datum: Option<Datum>, graph: &mut DrawnGraph) -> Result<(), DocError>

@@ -1,17 +1,16 @@
 //! The document around its root.
 
 ghost use Rattle.std.specs.Prelude.{◌≡◌, [], ◌≤◌, length, option_map};
-ghost use Rattle.cstn_graphml.specs.Contents.{content_of};
+ghost use Rattle.cstn_element.specs.Contents.{content_of};
 ghost use Rattle.cstn_graphml.specs.Document.{document_child, in_document};
-ghost use Rattle.cstn_graphml.specs.Children.{tag_seen};
+ghost use Rattle.cstn_element.specs.Children.{tag_seen};
 ghost use Rattle.cstn_graphml.specs.DrawnGraphSeen.{graph_seen};
-ghost use Rattle.cstn_graphml.specs.Reads.{Gives, ReadsWhole};
+ghost use Rattle.cstn_element.specs.Reads.{Gives, ReadsWhole};
 
-use crate::children::Start;
 use crate::drawn_graph::DrawnGraph;
-use crate::errors::DocError;
 use crate::root::read_whole_root;
 use cstn_data::is_blank;
+use cstn_element::{DocError, Start};
 use cstn_markup::{Kind, Scanner, Token};
 use cstn_text::NameKey;
 use std::alloc::Global;

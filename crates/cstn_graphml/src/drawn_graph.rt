@@ -3,10 +3,10 @@
 ghost use Rattle.std.specs.Prelude.{◌≡◌, ◌<◌, ◌≤◌, None, length, IfOk, OnOk};
 ghost use Rattle.cstn_label.specs.Read.{marks};
 ghost use Rattle.cstn_graphml.specs.DrawnGraph.{node_of, with_node, with_constraint, with_deadline, empty_graph};
-ghost use Rattle.cstn_graphml.specs.DataElementSeen.{datum_seen};
+ghost use Rattle.cstn_element.specs.DataElementSeen.{datum_seen};
 ghost use Rattle.cstn_graphml.specs.DrawnGraphSeen.{observed_seen, drawn_seen, graph_seen};
 
-use crate::data_element::Datum;
+use cstn_element::Datum;
 use cstn_label::{Label, Prop};
 use cstn_net::MAX_CONSTRAINTS;
 use cstn_text::{NameError, NameKey, Names};

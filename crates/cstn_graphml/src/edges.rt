@@ -2,19 +2,16 @@
 
 ghost use Rattle.std.specs.Prelude.{◌≡◌, map, true};
 ghost use Rattle.cstn_graphml.specs.Judged.{is_kept, with_pair, with_pairs, with_values, with_edge, judged_edge};
-ghost use Rattle.cstn_graphml.specs.Children.{tag_seen};
-ghost use Rattle.cstn_graphml.specs.DataElementSeen.{lent_datum, datum_seen};
+ghost use Rattle.cstn_element.specs.Children.{tag_seen};
+ghost use Rattle.cstn_element.specs.DataElementSeen.{lent_datum, datum_seen};
 ghost use Rattle.cstn_data.specs.TextsSeen.{pair_seen};
 ghost use Rattle.cstn_data.specs.PairsLeft.{pairs_left};
 ghost use Rattle.cstn_graphml.specs.DrawnGraphSeen.{graph_seen};
-ghost use Rattle.cstn_graphml.specs.Reads.{Gives, raised};
+ghost use Rattle.cstn_element.specs.Reads.{Gives, raised};
 
-use crate::attributes::text_attribute;
-use crate::children::Start;
-use crate::data_element::{Datum, datum_of};
 use crate::drawn_graph::{DrawnConstraint, DrawnGraph, node_of, put_constraint};
-use crate::errors::{DocError, Fault};
 use cstn_data::{EdgeType, Pair, Pairs, edge_type_of, values_of};
+use cstn_element::{Datum, DocError, Fault, Start, datum_of, text_attribute};
 use std::alloc::Global;
 
 /// Whether an edge of this type is kept.

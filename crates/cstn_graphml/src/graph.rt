@@ -4,20 +4,18 @@ ghost use Rattle.std.specs.Prelude.{◌≡◌, ℕ, List, ◌≤◌, length};
 ghost use Rattle.cstn_graphml.specs.DrawnGraph.{empty_graph};
 ghost use Rattle.cstn_graphml.specs.Document.{part_of, graph_child, in_graph};
 ghost use Rattle.cstn_graphml.specs.Document.Part.{a_datum, a_node, an_edge};
-ghost use Rattle.cstn_graphml.specs.Children.{tag_seen};
+ghost use Rattle.cstn_element.specs.Children.{tag_seen};
 ghost use Rattle.cstn_graphml.specs.DrawnGraphSeen.{graph_seen};
 ghost use Rattle.cstn_graphml.specs.PartSeen.{part_seen};
-ghost use Rattle.cstn_graphml.specs.Reads.{Reads, ReadsWhole};
+ghost use Rattle.cstn_element.specs.Reads.{Reads, ReadsWhole};
 
-use crate::children::{Next, Start, next_child};
-use crate::data_element::read_datum;
 use crate::deadlines::judge_deadline;
 use crate::drawn_graph::{DrawnGraph, empty_graph};
 use crate::edges::judge_edge;
-use crate::errors::DocError;
-use crate::node_and_edge_data::read_element_data;
 use crate::nodes::judge_node;
-use crate::passing::pass_element;
+use cstn_element::{
+    DocError, Next, Start, next_child, pass_element, read_datum, read_element_data,
+};
 use cstn_markup::Scanner;
 use cstn_text::NameKey;
 use std::alloc::Global;

@@ -12,7 +12,7 @@ ghost use Rattle.cstn_graphml.specs.Answers.{IsLabelRefusal, IsLiftTold};
 ghost use Rattle.cstn_graphml.specs.Labels.{labels_seen, with_labels_of};
 
 use crate::drawn_graph::DrawnGraph;
-use crate::errors::DocError;
+use cstn_element::DocError;
 use cstn_label::Label;
 use cstn_lift::{Labelled, LiftError, lift};
 use cstn_net::Network;

@@ -3,19 +3,16 @@
 ghost use Rattle.std.specs.Prelude.{◌≡◌, map, option_map};
 ghost use Rattle.cstn_label.specs.Read.{marks};
 ghost use Rattle.cstn_graphml.specs.Judged.{observed, reacting, labelled, judged_node};
-ghost use Rattle.cstn_graphml.specs.Children.{tag_seen};
-ghost use Rattle.cstn_graphml.specs.DataElementSeen.{lent_datum, datum_seen};
+ghost use Rattle.cstn_element.specs.Children.{tag_seen};
+ghost use Rattle.cstn_element.specs.DataElementSeen.{lent_datum, datum_seen};
 ghost use Rattle.cstn_data.specs.TextsSeen.{prop_seen};
 ghost use Rattle.cstn_graphml.specs.DrawnGraph.{observation};
 ghost use Rattle.cstn_graphml.specs.DrawnGraphSeen.{observed_seen, graph_seen};
-ghost use Rattle.cstn_graphml.specs.Reads.{Gives, raised};
+ghost use Rattle.cstn_element.specs.Reads.{Gives, raised};
 
-use crate::attributes::text_attribute;
-use crate::children::Start;
-use crate::data_element::{Datum, datum_of};
 use crate::drawn_graph::{DrawnGraph, Observation, node_of, put_node};
-use crate::errors::{DocError, Fault};
 use cstn_data::{label_of, observed_in, reaction_in};
+use cstn_element::{Datum, DocError, Fault, Start, datum_of, text_attribute};
 use cstn_label::{Label, Prop};
 use std::alloc::Global;
 

@@ -6,15 +6,15 @@ ghost use Rattle.cstn_net.specs.Networks.{IsWellFormed, count};
 ghost use Rattle.cstn_net.specs.Read.{the_network};
 ghost use Rattle.cstn_lift.specs.declared.errors.LiftError.TheVariants.{NotPlain as NotPlainLabel};
 ghost use Rattle.cstn_net.specs.declared.errors.NetError.TheVariants.{NoOrigin, NotPlain, ReactionRange};
-ghost use Rattle.cstn_graphml.specs.declared.errors.DocError.TheVariants.{Net, Lift};
+ghost use Rattle.cstn_element.specs.declared.errors.DocError.TheVariants.{Net, Lift};
 ghost use Rattle.cstn_graphml.specs.DrawnGraph.{origin_name};
 ghost use Rattle.cstn_graphml.specs.Document.{first_of_two, document};
 ghost use Rattle.cstn_graphml.specs.Answers.{IsDocument, RefusesDocument, IsTold};
 
 use crate::document::read_document;
-use crate::errors::DocError;
 use crate::labels::{labelled_of, names_of};
 use crate::networks::network_of;
+use cstn_element::DocError;
 use cstn_lift::Labelled;
 use cstn_markup::Scanner;
 use cstn_net::NetError;

@@ -3,15 +3,13 @@
 ghost use Rattle.std.specs.Prelude.{◌≡◌, ℕ, List, ◌≤◌, length, option_map, codes};
 ghost use Rattle.cstn_markup.specs.Bytes.{is_same};
 ghost use Rattle.cstn_graphml.specs.Document.{root_child, in_root};
-ghost use Rattle.cstn_graphml.specs.Children.{tag_seen};
+ghost use Rattle.cstn_element.specs.Children.{tag_seen};
 ghost use Rattle.cstn_graphml.specs.DrawnGraphSeen.{graph_seen};
-ghost use Rattle.cstn_graphml.specs.Reads.{Reads, ReadsWhole};
+ghost use Rattle.cstn_element.specs.Reads.{Reads, ReadsWhole};
 
-use crate::children::{Next, Start, next_child};
 use crate::drawn_graph::DrawnGraph;
-use crate::errors::DocError;
 use crate::graph::read_whole_graph;
-use crate::passing::pass_element;
+use cstn_element::{DocError, Next, Start, next_child, pass_element};
 use cstn_markup::Scanner;
 use cstn_text::NameKey;
 use std::alloc::Global;

@@ -4,8 +4,8 @@ use Rattle.cstn_label.specs.Letters.{letter_of}
 use Rattle.cstn_net.specs.declared.errors.NetError.{NetError}
 use Rattle.cstn_net.specs.declared.errors.NetError.TheVariants.{TooManyNodes, NoOrigin, TooManyConstraints, DeadlineRange, ValueRange, NotObserved, TwoObservers, NotPlain, ReactionRange, Memory}
 use Rattle.cstn_text.specs.PrintedNames.{printed_name}
-use Rattle.cstn_graphml.specs.Results.{Refusal}
-use Rattle.cstn_graphml.specs.Results.Refusal.{not_utf8, shape, name_twice, unknown_node, bad_value, label_text, contingent, edge_type, no_deadline}
+use Rattle.cstn_element.specs.Results.{Refusal}
+use Rattle.cstn_element.specs.Results.Refusal.{not_utf8, shape, name_twice, unknown_node, bad_value, label_text, contingent, edge_type, no_deadline}
 use Rattle.cstn_lift.specs.declared.errors.LiftError.{LiftError}
 use Rattle.cstn_lift.specs.declared.errors.LiftError.TheVariants.{OriginLabel, NotPlain as NotPlainLabel, NotObserved as NotObservedLabel, Circle, Never, TooManyConstraints as TooManyLowered, Memory as NoMemory}
 

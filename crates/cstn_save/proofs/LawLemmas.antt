@@ -17,9 +17,9 @@ use Rattle.cstn_net.specs.Networks.{Network, Constraint, count, IsWellFormed, Is
 use Rattle.cstn_lift.specs.Labelled.{Labelled, label_of}
 use Rattle.cstn_lift.specs.WellFormed.{IsLabelled}
 use Rattle.cstn_markup.specs.Tokens.{tokens}
-use Rattle.cstn_graphml.specs.Results.{◌>>=◌}
+use Rattle.cstn_element.specs.Results.{◌>>=◌}
 use Rattle.cstn_data.specs.LabelTexts.{is_absent}
-use Rattle.cstn_graphml.specs.Contents.{content_of}
+use Rattle.cstn_element.specs.Contents.{content_of}
 use Rattle.cstn_graphml.specs.DrawnGraph.{Observation, DrawnGraph, with_constraint}
 use Rattle.cstn_graphml.specs.Document.{in_document, drawn_parts, document}
 use Rattle.cstn_save.specs.Canonical.{canonical, observed_by, observations, head, nodes_below, edges, tail}

@@ -8,13 +8,13 @@ use Rattle.cstn_markup.specs.Bytes.{is_same, resolved, resolved_after, past_firs
 use Rattle.cstn_markup.specs.Tokens.{Kind, tokens, tokens_after, piece_at, tail_at}
 use Rattle.cstn_markup.proofs.Resolving.{resolved_plain}
 use Rattle.cstn_markup.proofs.Stepping.{tokens_skip}
-use Rattle.cstn_graphml.specs.Results.{Refusal, ◌>>=◌}
+use Rattle.cstn_element.specs.Results.{Refusal, ◌>>=◌}
 use Rattle.cstn_data.specs.WhiteSpace.{trimmed}
 use Rattle.cstn_data.specs.NumberTexts.{short_number}
 use Rattle.cstn_data.specs.ValueTexts.{values_of}
 use Rattle.cstn_graphml.specs.Judged.{with_pairs, observed, reacting, labelled}
-use Rattle.cstn_graphml.specs.Contents.{Content, contents, inner, outer, content_of}
-use Rattle.cstn_graphml.specs.Elements.{Datum, read_by, data_reading, datum_of}
+use Rattle.cstn_element.specs.Contents.{Content, contents, inner, outer, content_of}
+use Rattle.cstn_element.specs.Elements.{Datum, read_by, data_reading, datum_of}
 use Rattle.cstn_graphml.specs.DrawnGraph.{Observation, observation, DrawnGraph, empty_graph, node_of, with_node, with_constraint, with_deadline}
 use Rattle.cstn_graphml.specs.Document.{in_graph, in_document, root_reading, document_reading}
 use Rattle.cstn_save.specs.Canonical.{escaped_name, tail}

@@ -13,7 +13,7 @@ use Rattle.cstn_net.specs.Read.{observed, reaction_of, is_prop}
 use Rattle.cstn_net.proofs.HandedLemmas.{no_fault}
 use Rattle.cstn_graphml.specs.DrawnGraph.{observation, DrawnConstraint}
 use Rattle.cstn_graphml.specs.Document.{Parts, document}
-use Rattle.cstn_graphml.specs.Results.{Refusal}
+use Rattle.cstn_element.specs.Results.{Refusal}
 use Rattle.cstn_graphml.specs.Networks.{numbered, observed_prop, reaction_by, reaction_among, observation_of, network_of, labelled_of, IsUnfit}
 use Rattle.cstn_lift.specs.Labelled.{Labelled}
 use Rattle.cstn_lift.specs.WellFormed.{IsLabelled}

@@ -12,9 +12,9 @@ use Rattle.cstn_markup.specs.Bytes.{is_same}
 use Rattle.cstn_label.specs.Letters.{letter_of, prop_of}
 use Rattle.cstn_text.specs.Numbers.{printed_number}
 use Rattle.cstn_data.specs.LabelTexts.{label_of}
-use Rattle.cstn_graphml.specs.Results.{or_refused}
-use Rattle.cstn_graphml.specs.Results.Refusal.{label_text}
-use Rattle.cstn_graphml.specs.Elements.{Datum, datum_of}
+use Rattle.cstn_element.specs.Results.{or_refused}
+use Rattle.cstn_element.specs.Results.Refusal.{label_text}
+use Rattle.cstn_element.specs.Elements.{Datum, datum_of}
 use Rattle.cstn_graphml.specs.Judged.{observed, reacting, labelled}
 use Rattle.cstn_data.specs.NumberTexts.{reaction_in}
 use Rattle.cstn_graphml.specs.DrawnGraph.{Observation, observation, DrawnGraph, node_of, with_node}

@@ -4,7 +4,7 @@ use Rattle.std.specs.Prelude.{◌⊎◌, nat_lt, if◌then◌else◌, get_or, Op
 use Rattle.std.proofs.lemmas.List.{length-map}
 use Rattle.cstn_io.specs.Contents.{IsAllOf, with_bytes}
 use Rattle.cstn_net.specs.Networks.{Network, IsWellFormed, count}
-use Rattle.cstn_graphml.specs.Results.{Refusal as DocumentRefusal}
+use Rattle.cstn_element.specs.Results.{Refusal as DocumentRefusal}
 use Rattle.cstn_graphml.specs.Document.{Parts, document}
 use Rattle.cstn_graphml.specs.Networks.{observed_prop, network_of}
 use Rattle.cstn_check.specs.Growth.{is_refuted, log_of, load_of, live_bounds}

@@ -1,7 +1,7 @@
 -- What is said of the document of a file.
 use Rattle.std.proofs.Common.{◌≡◌, ℕ, Bool, true, false, List, length, refl, ap, inl, inr, arith}
 use Rattle.std.specs.Prelude.{◌⊎◌, nat_lt, if◌then◌else◌, Option, None, Some, Result, Ok, Err, IsSomeAnd, codes}
-use Rattle.cstn_graphml.specs.Results.{Refusal as DocumentRefusal}
+use Rattle.cstn_element.specs.Results.{Refusal as DocumentRefusal}
 use Rattle.cstn_graphml.specs.Document.{Parts, document}
 use Rattle.cstn_graphml.specs.Networks.{network_of, labelled_of, IsFit}
 use Rattle.cstn_reply.specs.Plans.{Said, say, says, unlabelled, IsOutput, MayTalk, AreUnlabelled}

@@ -14,8 +14,8 @@ use Rattle.cstn_text.specs.Numbers.{value_read}
 use Rattle.cstn_text.specs.PrintedNames.{name_read}
 use Rattle.cstn_text.specs.PrintedLabels.{label_read}
 use Rattle.cstn_text.proofs.LabelReadLemmas.{label_small}
-use Rattle.cstn_graphml.specs.Results.{Refusal as Refused, or_refused}
-use Rattle.cstn_graphml.specs.Results.Refusal.{no_deadline}
+use Rattle.cstn_element.specs.Results.{Refusal as Refused, or_refused}
+use Rattle.cstn_element.specs.Results.Refusal.{no_deadline}
 use Rattle.cstn_graphml.specs.Document.{Parts, document, in_document, is_text, drawn_parts, first_of_two, or_nothing}
 use Rattle.cstn_graphml.proofs.DrawnGraphLaws.{bind_ok, document_is_drawn}
 use Rattle.cstn_check.specs.Growth.{load_of}

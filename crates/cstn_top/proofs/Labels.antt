@@ -5,7 +5,7 @@ use Rattle.std.specs.List.{All}
 use Rattle.std.proofs.lemmas.List.{length-map}
 use Rattle.std.proofs.lemmas.List.Elements.{All-nil, All-cons}
 use Rattle.cstn_net.specs.Networks.{Constraint, IsWellFormed, count}
-use Rattle.cstn_graphml.specs.Results.{Refusal as DocumentRefusal}
+use Rattle.cstn_element.specs.Results.{Refusal as DocumentRefusal}
 use Rattle.cstn_graphml.specs.Document.{Parts, document}
 use Rattle.cstn_graphml.specs.Networks.{observed_prop, labelled_of, IsFit}
 use Rattle.cstn_lift.specs.declared.errors.LiftError.TheVariants.{TooManyConstraints}

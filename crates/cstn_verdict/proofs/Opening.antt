@@ -7,10 +7,10 @@ use Rattle.std.proofs.lemmas.List.{length-map, get_or-map}
 use Rattle.cstn_net.specs.declared.constraints.Constraint.{Constraint as LentConstraint}
 use Rattle.cstn_net.specs.Networks.{Network, Constraint, count}
 use Rattle.cstn_net.specs.Read.{NetworkParts, the_network, the_constraint}
-use Rattle.cstn_graphml.specs.declared.errors.DocError.{DocError}
-use Rattle.cstn_graphml.specs.declared.errors.DocError.TheVariants.{NotUtf8, Shape, NameTwice, UnknownNode, Value, LabelText, Contingent, EdgeType, NoDeadline, Net, Lift, Memory}
-use Rattle.cstn_graphml.specs.Results.{Refusal}
-use Rattle.cstn_graphml.specs.Results.Refusal.{not_utf8, shape, name_twice, unknown_node, bad_value, label_text, contingent, edge_type, no_deadline}
+use Rattle.cstn_element.specs.declared.errors.DocError.{DocError}
+use Rattle.cstn_element.specs.declared.errors.DocError.TheVariants.{NotUtf8, Shape, NameTwice, UnknownNode, Value, LabelText, Contingent, EdgeType, NoDeadline, Net, Lift, Memory}
+use Rattle.cstn_element.specs.Results.{Refusal}
+use Rattle.cstn_element.specs.Results.Refusal.{not_utf8, shape, name_twice, unknown_node, bad_value, label_text, contingent, edge_type, no_deadline}
 use Rattle.cstn_graphml.specs.Answers.{IsUnfitDocument, IsMislabelledDocument, RefusesDocument}
 use Rattle.cstn_graphml.specs.Document.{Parts, document}
 use Rattle.cstn_graphml.specs.DrawnGraph.{DrawnConstraint}

@@ -3,7 +3,7 @@ use Rattle.std.specs.Prelude.{◌<◌, ◌⊎◌, ℕ, nat_lt, if◌then◌else�
 use Rattle.cstn_net.specs.Networks.{Network}
 use Rattle.cstn_lift.specs.Labelled.{Labelled}
 use Rattle.cstn_lift.specs.Lowered.{lowered}
-use Rattle.cstn_graphml.specs.Results.{Refusal}
+use Rattle.cstn_element.specs.Results.{Refusal}
 use Rattle.cstn_graphml.specs.Document.{Parts, document}
 use Rattle.cstn_graphml.specs.Networks.{network_of, labelled_of, IsFit}
 use Rattle.cstn_reply.specs.Refusals.{refusal_text}

@@ -2,14 +2,14 @@ use Rattle.std.proofs.Common.{None, arith, sym, ap, ◌∙◌}
 use Rattle.std.specs.Prelude.{option_map}
 use Rattle.std.proofs.lemmas.Result.{err_from_is_err_and}
 use Rattle.cstn_graphml.specs.Document.{document_reading}
-use Rattle.cstn_graphml.specs.Results.{or_refused}
-use Rattle.cstn_graphml.specs.Results.Refusal.{shape}
+use Rattle.cstn_element.specs.Results.{or_refused}
+use Rattle.cstn_element.specs.Results.Refusal.{shape}
 use Rattle.cstn_graphml.specs.DrawnGraphSeen.{graph_seen}
-use Rattle.cstn_graphml.specs.declared.errors.DocError.TheVariants.{Shape}
-use Rattle.cstn_graphml.proofs.Places.{step_of, wrong_is}
-use Rattle.cstn_graphml.proofs.Folds.{fold_run, fold_whole}
-use Rattle.cstn_graphml.proofs.Judging.{blank_refused, blank_passed}
-use Rattle.cstn_graphml.proofs.Tops.{top_cut, top_end, top_run_fails, top_whole_fails, ends_none, finished_is}
+use Rattle.cstn_element.specs.declared.errors.DocError.TheVariants.{Shape}
+use Rattle.cstn_element.proofs.Places.{step_of, wrong_is}
+use Rattle.cstn_element.proofs.Folds.{fold_run, fold_whole}
+use Rattle.cstn_element.proofs.Judging.{blank_refused, blank_passed}
+use Rattle.cstn_element.proofs.Tops.{top_cut, top_end, top_run_fails, top_whole_fails, ends_none, finished_is}
 use Rattle.cstn_graphml.proofs.document.read_document.Goals as goal
 
 pub loop-name-preserved-in-Continue-1 : goal.loop-name-preserved-in-Continue-1

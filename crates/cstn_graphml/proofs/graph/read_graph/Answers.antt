@@ -1,12 +1,12 @@
 use Rattle.std.proofs.Common.{ℕ, List, [], ◌∷◌, length, arith, refl, map, Vec, Global, Bor, None}
 use Rattle.std.proofs.lemmas.Result.{err_from_is_err_and}
 use Rattle.std.proofs.Common.{sym, ap, ◌∙◌}
-use Rattle.cstn_graphml.specs.Contents.{contents, inner}
-use Rattle.cstn_graphml.specs.Elements.{read_by}
+use Rattle.cstn_element.specs.Contents.{contents, inner}
+use Rattle.cstn_element.specs.Elements.{read_by}
 use Rattle.cstn_graphml.specs.Document.{graph_reading}
 use Rattle.cstn_graphml.specs.DrawnGraph.{empty_graph}
 use Rattle.cstn_graphml.specs.DrawnGraphSeen.{graph_seen}
-use Rattle.cstn_graphml.proofs.ChildLemmas.{takes_one, next_is, fold_child, fold_child_fails, fold_wrong, fold_done}
+use Rattle.cstn_element.proofs.ChildLemmas.{takes_one, next_is, fold_child, fold_child_fails, fold_wrong, fold_done}
 use Rattle.cstn_graphml.proofs.graph.read_graph.Goals as goal
 
 pub loop-start-init : goal.loop-start-init

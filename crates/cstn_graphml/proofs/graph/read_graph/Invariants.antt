@@ -1,9 +1,9 @@
 use Rattle.std.proofs.Common.{◌≡◌, ℕ, List, ◌∷◌, ◌≤◌, length}
-use Rattle.cstn_graphml.specs.Elements.{read_by}
+use Rattle.cstn_element.specs.Elements.{read_by}
 use Rattle.cstn_graphml.specs.Document.{graph_reading}
 use Rattle.cstn_graphml.specs.DrawnGraph.{empty_graph}
 use Rattle.cstn_graphml.specs.DrawnGraphSeen.{graph_seen}
-use Rattle.cstn_graphml.specs.Reads.{Continues}
+use Rattle.cstn_element.specs.Reads.{Continues}
 use Rattle.cstn_graphml.proofs.graph.read_graph.Given as goal
 
 abbrev pub invariant-loop-start : goal.invariant-loop-start

@@ -1,11 +1,11 @@
 use Rattle.std.proofs.Common.{◌≡◌, ap, sym, ◌∙◌, Ok, Err}
 use Rattle.std.proofs.lemmas.Result.{err_from_is_err_and}
-use Rattle.cstn_graphml.specs.Children.{tag_seen}
+use Rattle.cstn_element.specs.Children.{tag_seen}
 use Rattle.cstn_graphml.specs.Document.{part_of}
 use Rattle.cstn_graphml.specs.Document.Part.{another}
 use Rattle.cstn_graphml.specs.DrawnGraphSeen.{graph_seen}
 use Rattle.cstn_graphml.specs.PartSeen.{part_seen}
-use Rattle.cstn_graphml.specs.Faults.{refusal_of}
+use Rattle.cstn_element.specs.Faults.{refusal_of}
 use Rattle.cstn_graphml.proofs.GraphRead.{part_passed}
 use Rattle.cstn_graphml.proofs.graph.read_graph_child.Goals as goal
 

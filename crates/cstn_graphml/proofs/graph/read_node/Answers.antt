@@ -1,14 +1,14 @@
 use Rattle.std.proofs.Common.{List, [], ◌∷◌, map, Vec, Global, subst}
 use Rattle.std.specs.Prelude.{codes}
-use Rattle.cstn_graphml.specs.Contents.{Tag}
-use Rattle.cstn_graphml.specs.Elements.{data_of}
+use Rattle.cstn_element.specs.Contents.{Tag}
+use Rattle.cstn_element.specs.Elements.{data_of}
 use Rattle.cstn_graphml.specs.Judged.{judged_node}
-use Rattle.cstn_graphml.specs.Children.{tag_seen}
-use Rattle.cstn_graphml.specs.DataElementSeen.{datum_seen}
+use Rattle.cstn_element.specs.Children.{tag_seen}
+use Rattle.cstn_element.specs.DataElementSeen.{datum_seen}
 use Rattle.cstn_graphml.specs.DrawnGraphSeen.{graph_seen}
-use Rattle.cstn_graphml.specs.Reads.{Gives}
-use Rattle.cstn_graphml.specs.declared.data_element.Datum.{Datum as Lent}
-use Rattle.cstn_graphml.proofs.Judging.{judged}
+use Rattle.cstn_element.specs.Reads.{Gives}
+use Rattle.cstn_element.specs.declared.data_element.Datum.{Datum as Lent}
+use Rattle.cstn_element.proofs.Judging.{judged}
 use Rattle.cstn_graphml.proofs.graph.read_node.Goals as goal
 
 pub returns-clause-reads : goal.returns-clause-reads

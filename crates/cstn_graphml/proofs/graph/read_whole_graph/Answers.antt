@@ -1,9 +1,9 @@
 use Rattle.std.proofs.Common.{ap, sym, Ok}
-use Rattle.cstn_graphml.specs.Elements.{read_by}
+use Rattle.cstn_element.specs.Elements.{read_by}
 use Rattle.cstn_graphml.specs.DrawnGraph.{empty_graph}
 use Rattle.cstn_graphml.specs.Document.{in_graph}
 use Rattle.cstn_graphml.specs.DrawnGraphSeen.{graph_seen}
-use Rattle.cstn_graphml.proofs.Wholes.{closed_whole}
+use Rattle.cstn_element.proofs.Wholes.{closed_whole}
 use Rattle.cstn_graphml.proofs.graph.read_whole_graph.Goals as goal
 
 pub returns-then-start-clause-reads : goal.returns-then-start-clause-reads

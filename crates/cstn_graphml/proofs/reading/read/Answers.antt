@@ -2,10 +2,10 @@ use Rattle.std.proofs.Common.{List, length, ap, sym, ◌∙◌, subst, arith}
 use Rattle.std.proofs.lemmas.List.{length-map}
 use Rattle.std.proofs.lemmas.Result.{err_from_is_err_and}
 use Rattle.cstn_markup.specs.Tokens.{Token}
-use Rattle.cstn_graphml.specs.Contents.{content_of}
+use Rattle.cstn_element.specs.Contents.{content_of}
 use Rattle.cstn_graphml.specs.Document.{document, in_document}
 use Rattle.cstn_graphml.specs.DrawnGraphSeen.{observed_seen}
-use Rattle.cstn_graphml.specs.Reads.{Fails}
+use Rattle.cstn_element.specs.Reads.{Fails}
 use Rattle.cstn_net.specs.declared.errors.NetError.TheVariants.{NoOrigin, NotPlain, ReactionRange}
 use Rattle.cstn_lift.specs.declared.errors.LiftError.TheVariants.{NotPlain as NotPlainLabel}
 use Rattle.cstn_graphml.specs.Answers.{RefusesDocument, IsLabelRefusal}

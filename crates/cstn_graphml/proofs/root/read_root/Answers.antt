@@ -2,11 +2,11 @@ use Rattle.std.proofs.Common.{ℕ, List, [], ◌∷◌, length, arith, refl, map
 use Rattle.std.proofs.lemmas.Result.{err_from_is_err_and}
 use Rattle.std.proofs.Common.{ap}
 use Rattle.std.specs.Prelude.{option_map}
-use Rattle.cstn_graphml.specs.Results.{or_refused}
-use Rattle.cstn_graphml.specs.Results.Refusal.{shape}
+use Rattle.cstn_element.specs.Results.{or_refused}
+use Rattle.cstn_element.specs.Results.Refusal.{shape}
 use Rattle.cstn_graphml.specs.Document.{root_reading}
 use Rattle.cstn_graphml.specs.DrawnGraphSeen.{graph_seen}
-use Rattle.cstn_graphml.proofs.ChildLemmas.{takes_one, next_is, fold_child, fold_child_fails, fold_wrong, fold_done, fold_done_fails}
+use Rattle.cstn_element.proofs.ChildLemmas.{takes_one, next_is, fold_child, fold_child_fails, fold_wrong, fold_done, fold_done_fails}
 use Rattle.cstn_graphml.proofs.root.read_root.Goals as goal
 
 pub loop-start-preserved : goal.loop-start-preserved

@@ -1,9 +1,9 @@
 use Rattle.std.proofs.Common.{◌≡◌, ℕ, List, ◌∷◌, None, ◌≤◌, length}
 use Rattle.std.specs.Prelude.{option_map}
-use Rattle.cstn_graphml.specs.Elements.{read_by}
+use Rattle.cstn_element.specs.Elements.{read_by}
 use Rattle.cstn_graphml.specs.Document.{root_reading}
 use Rattle.cstn_graphml.specs.DrawnGraphSeen.{graph_seen}
-use Rattle.cstn_graphml.specs.Reads.{Continues}
+use Rattle.cstn_element.specs.Reads.{Continues}
 use Rattle.cstn_graphml.proofs.root.read_root.Given as goal
 
 abbrev pub invariant-loop-start : goal.invariant-loop-start

@@ -3,10 +3,10 @@ use Rattle.std.proofs.Common.{Ok, Err, ◌≡◌, true, false, ap, sym, subst}
 use Rattle.std.specs.Prelude.{option_map, codes}
 use Rattle.std.proofs.lemmas.Bool.{not-false, not-true}
 use Rattle.cstn_markup.specs.Bytes.{is_same}
-use Rattle.cstn_graphml.specs.Contents.{Tag}
-use Rattle.cstn_graphml.specs.Children.{tag_seen}
+use Rattle.cstn_element.specs.Contents.{Tag}
+use Rattle.cstn_element.specs.Children.{tag_seen}
 use Rattle.cstn_graphml.specs.DrawnGraphSeen.{graph_seen}
-use Rattle.cstn_graphml.specs.Faults.{refusal_of}
+use Rattle.cstn_element.specs.Faults.{refusal_of}
 use Rattle.cstn_graphml.proofs.GraphRead.{root_read, root_passed}
 use Rattle.cstn_graphml.proofs.root.read_root_child.Goals as goal
 

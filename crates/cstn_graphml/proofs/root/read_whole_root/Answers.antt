@@ -1,8 +1,8 @@
 use Rattle.std.proofs.Common.{refl}
-use Rattle.cstn_graphml.specs.Elements.{read_by}
+use Rattle.cstn_element.specs.Elements.{read_by}
 use Rattle.cstn_graphml.specs.Document.{in_root}
 use Rattle.cstn_graphml.specs.DrawnGraphSeen.{graph_seen}
-use Rattle.cstn_graphml.specs.declared.errors.DocError.TheVariants.{Shape}
+use Rattle.cstn_element.specs.declared.errors.DocError.TheVariants.{Shape}
 use Rattle.cstn_graphml.proofs.GraphRead.{closed_fails}
 use Rattle.cstn_graphml.proofs.root.read_whole_root.Goals as goal
 

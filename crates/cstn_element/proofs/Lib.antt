@@ -1,0 +1,9 @@
+pub mod Places
+pub mod PassedOver
+pub mod Folds
+pub mod ChildLemmas
+pub mod DatumRead
+pub mod Wholes
+pub mod Judging
+pub mod Tops
+pub mod TextsRead

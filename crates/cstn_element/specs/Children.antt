@@ -1,0 +1,42 @@
+-- What stands next in an element that holds elements and white space alone.
+use Rattle.std.specs.Prelude.{◌≡◌, ◌<◌, ◌≤◌, ℕ, List, [], ◌∷◌, if◌then◌else◌}
+use Rattle.std.specs.List.{list_all}
+use Rattle.cstn_markup.specs.Bytes.{is_white}
+use Rattle.cstn_markup.specs.Tokens.{Token}
+use Rattle.cstn_element.specs.Contents.{Tag, Content, contents, inner, outer}
+use Rattle.cstn_element.specs.Contents.Content.{done, cut, run, element}
+use Rattle.cstn_element.specs.Reads.{inside, behind}
+use Rattle.cstn_element.specs.declared.children.Start.{Start}
+use Rattle.cstn_element.specs.declared.children.Next.{Next}
+use Rattle.cstn_element.specs.declared.children.Next.TheVariants.{Child, End, Wrong}
+
+-- the content behind the white space at its front; any other text cuts it
+unfoldable pub past_blanks : Content → Content
+past_blanks (done at) = done at
+past_blanks (cut at) = cut at
+past_blanks (run at raw after) = if list_all is_white raw then past_blanks after else cut at
+past_blanks (element tag content after) = element tag content after
+
+-- a start tag of the program
+abbrev pub tag_seen : Start → Tag
+tag_seen start = record { at = start.at; name = start.name.now; attributes = start.attributes }
+
+-- From some tokens in the element of this name to later ones: what stands next, and what stands around it.
+pub record Reaches (names : List (List ℕ)) (before : List Token) (found : Content) (around : List Content) : Type 0 where
+  pub told : past_blanks (inner (contents names before)) ≡ found
+  pub left : outer (contents names before) ≡ around
+
+-- an element, of which the start tag was read, the end of the innermost element, which was read, or what isn't allowed
+abbrev pub IsNext : Next → List ℕ → List (List ℕ) → List Token → List Token → Type 0
+IsNext (Child start) name others before after =
+    Reaches (name ∷ others) before
+    (element (tag_seen start) (inside start.closed start.at start.name.now (name ∷ others) after) (inner (behind start.closed start.name.now (name ∷ others) after)))
+    (outer (behind start.closed start.name.now (name ∷ others) after))
+IsNext (End at) name others before after = Reaches (name ∷ others) before (done at) (contents others after)
+IsNext (Wrong at) name others before after = past_blanks (inner (contents (name ∷ others) before)) ≡ cut at
+
+-- an element, of which the start tag was read, takes a token
+abbrev pub Takes : Next → ℕ → ℕ → Type 0
+Takes (Child start) before after = after < before
+Takes (End at) before after = after ≤ before
+Takes (Wrong at) before after = after ≤ before

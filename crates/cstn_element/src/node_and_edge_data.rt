@@ -1,0 +1,75 @@
+//! The data of a node or an edge.
+
+ghost use Rattle.std.specs.Prelude.{◌≡◌, ℕ, List, ◌≤◌, length, map, codes};
+ghost use Rattle.cstn_markup.specs.Bytes.{is_same};
+ghost use Rattle.cstn_element.specs.Elements.{child, data_of};
+ghost use Rattle.cstn_element.specs.Children.{tag_seen};
+ghost use Rattle.cstn_element.specs.DataElementSeen.{datum_seen};
+ghost use Rattle.cstn_element.specs.Reads.{Reads, ReadsWhole};
+
+use crate::children::{Next, Start, next_child};
+use crate::data_element::{Datum, read_datum};
+use crate::errors::DocError;
+use crate::passing::pass_element;
+use cstn_markup::Scanner;
+use std::alloc::Global;
+
+/// An element in a node or an edge, of which the start tag was read.
+fn read_child<'a>(
+    alloc: Global,
+    scanner: &mut Scanner<'a>,
+    start: &Start<'a>,
+    used: &[&[u8]],
+    found: &mut Vec<Datum>,
+) -> Result<(), DocError>
+    ensures reads { (names : List (List ℕ)) → length names ≡ 3 → ReadsWhole (λ u. map datum_seen found.new.items) (child (is_same start.now.name.now (codes "data")) (map (λ u. u.now) used.now) (map datum_seen found.old.items) (tag_seen start.now)) start.now.closed start.now.at start.now.name.now names scanner.old scanner.new result }
+    ensures less { length scanner.new ≤ length scanner.old }
+{
+    if start.name != b"data".as_slice() {
+        pass_element(scanner, start, 3)?;
+        return Ok(());
+    }
+    match read_datum(alloc, scanner, start, used, found.as_slice(), 3)? {
+        None => Ok(()),
+        Some(datum) => {
+            found.push(datum)?;
+            Ok(())
+        }
+    }
+}
+
+/// The data in the rest of a node or an edge of this name.
+fn read_data(
+    alloc: Global,
+    scanner: &mut Scanner,
+    name: &[u8],
+    used: &[&[u8]],
+) -> Result<Vec<Datum>, DocError>
+    ensures reads { (others : List (List ℕ)) → length others ≡ 2 → Reads (λ v. map datum_seen v.items) (data_of (map (λ u. u.now) used.now)) name.now others scanner.old scanner.new result }
+    ensures less { length scanner.new ≤ length scanner.old }
+{
+    let mut found = Vec::new(alloc);
+    loop {
+        match next_child(scanner, name) {
+            Next::Child(start) => read_child(alloc, scanner, &start, used, &mut found)?,
+            Next::End { at: _ } => return Ok(found),
+            Next::Wrong { at } => return Err(DocError::Shape { at }),
+        }
+    }
+}
+
+/// The data of a node or an edge of which the start tag was read.
+pub fn read_element_data(
+    alloc: Global,
+    scanner: &mut Scanner,
+    start: &Start,
+    used: &[&[u8]],
+) -> Result<Vec<Datum>, DocError>
+    ensures reads { (names : List (List ℕ)) → length names ≡ 2 → ReadsWhole (λ v. map datum_seen v.items) (data_of (map (λ u. u.now) used.now)) start.now.closed start.now.at start.now.name.now names scanner.old scanner.new result }
+    ensures less { length scanner.new ≤ length scanner.old }
+{
+    if start.closed {
+        return Ok(Vec::new(alloc));
+    }
+    read_data(alloc, scanner, start.name, used)
+}

@@ -1,8 +1,0 @@
-use Rattle.std.proofs.Common.{refl}
-use Rattle.cstn_graphml.specs.Elements.{passed}
-use Rattle.cstn_graphml.proofs.Wholes.{closed_whole}
-use Rattle.cstn_graphml.proofs.passing.pass_element.Goals as goal
-
-pub returns-then-start-clause-reads : goal.returns-then-start-clause-reads
-unfolding passed
-returns-then-start-clause-reads c = λ names l. closed_whole (λ u. u) passed _ _ _ _ names _ c.if-start.true refl
