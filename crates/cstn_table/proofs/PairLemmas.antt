@@ -5,7 +5,6 @@ use Rattle.std.proofs.lemmas.Bool.{cases_lt}
 use Rattle.cstn_label.specs.Labels.{Scenario}
 use Rattle.cstn_net.specs.Networks.{Network, Observes, count}
 use Rattle.cstn_net.specs.Strategies.{Schedule, Agrees}
-use Rattle.cstn_net.proofs.Knowledge.{observer_within}
 
 -- the time-points below x don't tell r from s by the moment t
 abbrev pub IsAlikeBelow : Network → Schedule → Scenario → Scenario → ℕ → ℕ → Type 0
@@ -27,12 +26,12 @@ alike_more net at s r t x a b before here = (
   ]),
 )
 
--- all time-points
-pub alike_agrees : (net : Network) (at : Schedule) (s r : Scenario) (t x a : ℕ) → count net ≤ x →
+-- all time-points, where each observer is one
+pub alike_agrees : (net : Network) → ((x p : ℕ) → Observes net x p → x < count net) → (at : Schedule) (s r : Scenario) (t x a : ℕ) → count net ≤ x →
     IsAlikeBelow net at s r t x ↔ (t < a) → Agrees net at t s r ↔ (t < a)
-alike_agrees net at s r t x a all alike = (
+alike_agrees net within at s r t x a all alike = (
   (λ agrees. alike.0 (λ y p y_in o soon. agrees p (record { observer = y; observes = o; passed = soon }))),
   (λ early p k.
-      let there = observer_within net k.observer p k.observes in
+      let there = within k.observer p k.observes in
       alike.1 early k.observer p (omega arith) k.observes k.passed),
 )

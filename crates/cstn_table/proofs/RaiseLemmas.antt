@@ -7,13 +7,16 @@ use Rattle.std.proofs.lemmas.Int.{ints}
 use Rattle.std.proofs.lemmas.Nat.{mul-add-lt, div-mul-add, mod-mul-add}
 use Rattle.std.proofs.lemmas.List.{length-set, get_or-set_same, get_or-set_other}
 use Rattle.cstn_label.specs.Labels.{Scenario, Holds}
-use Rattle.cstn_net.specs.Networks.{Network, IsNetwork, IsWellFormed, Constraint, count, limit}
-use Rattle.cstn_net.specs.Strategies.{Agrees, IsConsistent}
-use Rattle.cstn_net.proofs.Knowledge.{observer_within}
-use Rattle.cstn_net.proofs.Dynamic.{same_moments}
+use Rattle.cstn_net.specs.Networks.{Network, IsNetwork, IsWellFormed, Constraint, Observes, count, limit}
+use Rattle.cstn_net.specs.Strategies.{Table, Agrees, IsConsistent, IsDynamic}
 use Rattle.cstn_table.specs.Tables.{observed_props, row_of, scenario_of, row_at}
 use Rattle.cstn_table.specs.Raises.{IsForced, IsLow, rows}
 use Rattle.cstn_table.proofs.RowLemmas.{row_there, values_there}
+
+-- in a dynamic table, scenarios that agree on the observed propositions have the same moments
+abbrev pub IsUnseen : Network → Type 0
+IsUnseen net = (table : Table) (s r : Scenario) (x : ℕ) → IsDynamic net table → x < count net →
+    ((y p : ℕ) → Observes net y p → r p ≡ s p) → table r x ≡ table s x
 
 -- places of different moments differ
 pub place_inside : (net : Network) (moments : List ℕ) (row x : ℕ) → IsLow net moments → row < rows net → x < count net →
@@ -36,11 +39,11 @@ moved P n moments row x i y t x_in y_in inside here there = elim (cases_eq (i * 
 
 module _ (net : Network) (good : IsNetwork net) (moments : List ℕ) (low : IsLow net moments) where
   -- a strategy has the moments of a scenario's row
-  pub forced_alike : (s : Scenario) (x t : ℕ) → x < count net →
+  pub forced_alike : IsUnseen net → (s : Scenario) (x t : ℕ) → x < count net →
       IsForced net (scenario_of (observed_props net.observes) (row_of (observed_props net.observes) s)) x t → IsForced net s x t
-  forced_alike s x t here forced table strategy =
+  forced_alike unseen s x t here forced table strategy =
       let least = forced table strategy in
-      let alike = same_moments net table s (scenario_of (observed_props net.observes) (row_of (observed_props net.observes) s)) x
+      let alike = unseen table s (scenario_of (observed_props net.observes) (row_of (observed_props net.observes) s)) x
       strategy.dynamic here (λ y p o. values_there net good s y p o) in
       omega arith
 
@@ -58,10 +61,10 @@ module _ (net : Network) (good : IsNetwork net) (moments : List ℕ) (low : IsLo
       (low.within (scenario_of (observed_props net.observes) row) x here)
 
   -- a raise to what is forced
-  pub raised_low : (row x t : ℕ) → row < rows net → x < count net →
+  pub raised_low : IsUnseen net → (row x t : ℕ) → row < rows net → x < count net →
       IsForced net (scenario_of (observed_props net.observes) row) x t → t ≤ limit net x →
       IsLow net (set moments (row * count net + x) t)
-  raised_low row x t r here forced upto =
+  raised_low unseen row x t r here forced upto =
       let inside = place_inside net moments row x low r here in
       record {
         few = low.few;
@@ -69,7 +72,7 @@ module _ (net : Network) (good : IsNetwork net) (moments : List ℕ) (low : IsLo
         within = λ s y y_in. moved (λ u. u ≤ limit net y) (count net) moments row x (row_of (observed_props net.observes) s) y t here y_in inside
             (λ i_row y_x. subst (λ z. t ≤ limit net z) (sym y_x) upto) (low.within s y y_in);
         below = λ s y y_in. moved (λ u. IsForced net s y u) (count net) moments row x (row_of (observed_props net.observes) s) y t here y_in inside
-            (λ i_row y_x. subst (λ z. IsForced net s z t) (sym y_x) (forced_alike s x t here
+            (λ i_row y_x. subst (λ z. IsForced net s z t) (sym y_x) (forced_alike unseen s x t here
             (subst (λ i. IsForced net (scenario_of (observed_props net.observes) i) x t) (sym i_row) forced)))
             (low.below s y y_in);
       }
@@ -85,16 +88,16 @@ module _ (net : Network) (good : IsNetwork net) (moments : List ℕ) (low : IsLo
       least (table (scenario_of (observed_props net.observes) row) c.from) (omega (arith, ints))
 
   -- what a scenario forces that isn't told apart yet
-  pub forced_by_pair : (r : Scenario) (row x t : ℕ) → row < rows net → x < count net →
+  pub forced_by_pair : ((x p : ℕ) → Observes net x p → x < count net) → (r : Scenario) (row x t : ℕ) → row < rows net → x < count net →
       ((u : ℕ) → u < t → Agrees net (row_at (count net) moments row) u (scenario_of (observed_props net.observes) row) r) →
       IsForced net r x t → IsForced net (scenario_of (observed_props net.observes) row) x t
-  forced_by_pair r row x t h here agrees forced table strategy =
+  forced_by_pair within r row x t h here agrees forced table strategy =
       let own = scenario_of (observed_props net.observes) row in
       let later = forced table strategy in
       elim (cases_lt (table own x) t) [
         | inl early ↦
             let same = strategy.dynamic own r x here (λ p k.
-            let below = row_forced row k.observer h (observer_within net k.observer p k.observes) table strategy in
+            let below = row_forced row k.observer h (within k.observer p k.observes) table strategy in
             let passed = k.passed in
             agrees (table own x) early p (record { observer = k.observer; observes = k.observes; passed = omega arith })) in
             omega arith

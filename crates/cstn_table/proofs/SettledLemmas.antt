@@ -1,30 +1,37 @@
 -- Where nothing raises a moment any more, the table is the least strategy.
-use Rattle.std.proofs.Common.{ℕ, ◌≡◌, inl, inr, ◌<◌, List, refl, sym, subst, ◌∙◌, ap}
+use Rattle.std.proofs.Common.{ℕ, ◌≡◌, ◌<◌, Bool, List, refl, sym, subst, ◌∙◌, ap}
 use Rattle.std.specs.List.{Contains}
 use Rattle.std.proofs.lemmas.List.Elements.{All-contains}
 use Rattle.cstn_label.specs.declared.props.Prop.{Prop}
+use Rattle.cstn_label.specs.declared.marks.Mark.{Mark}
+use Rattle.cstn_label.specs.declared.marks.Mark.TheVariants.{Absent, Yes, No, Unknown}
 use Rattle.cstn_label.specs.Labels.{Label, Scenario, Holds, MarkFits}
-use Rattle.cstn_label.proofs.MarkLemmas.{absent_or_not, fits_absent}
 use Rattle.cstn_net.specs.Networks.{Network, IsNetwork, IsConstraint, IsOnObserved, Constraint, count}
-use Rattle.cstn_net.specs.Strategies.{IsNeverLater, IsStrategy, IsLeast, Meets}
-use Rattle.cstn_net.proofs.Dynamic.{dynamic_from_one_side}
+use Rattle.cstn_net.specs.Strategies.{Table, IsDynamic, IsNeverLater, IsStrategy, IsLeast, Meets}
 use Rattle.cstn_table.specs.Tables.{observed_props, row_of, scenario_of, table_by, table_of}
 use Rattle.cstn_table.specs.Raises.{IsLow, IsSettled, IsLeastTable}
 use Rattle.cstn_table.specs.Read.{TableParts, numbers, the_table}
 use Rattle.cstn_table.proofs.RowLemmas.{row_below, values_there}
 
+-- a mark fits that fits unless it is absent
+fits_unless_absent : (v : Bool) (m : Mark) → ((m ≡ Absent → ⊥) → MarkFits v m) → MarkFits v m
+fits_unless_absent v Absent h = tt
+fits_unless_absent v Yes h = h (λ e. cc)
+fits_unless_absent v No h = h (λ e. cc)
+fits_unless_absent v Unknown h = h (λ e. cc)
+
 module _ (net : Network) (good : IsNetwork net) where
   -- what holds in a scenario holds in its row's
   holds_there : (s : Scenario) (a : Label) → IsOnObserved net a → Holds s a →
       Holds (scenario_of (observed_props net.observes) (row_of (observed_props net.observes) s)) a
-  holds_there s a observed holds p = elim (absent_or_not (a p)) [
-    | inl gone ↦ fits_absent (scenario_of (observed_props net.observes) (row_of (observed_props net.observes) s) p) (a p) gone
-    | inr marked ↦
-        let o = observed p marked in
-        subst (λ v. MarkFits v (a p)) (sym (values_there net good s o.0 p o.1)) (holds p)
-  ]
+  holds_there s a observed holds p =
+      fits_unless_absent (scenario_of (observed_props net.observes) (row_of (observed_props net.observes) s) p) (a p)
+      (λ marked.
+      let o = observed p marked in
+      subst (λ v. MarkFits v (a p)) (sym (values_there net good s o.0 p o.1)) (holds p))
 
-  module _ (moments : List ℕ) (low : IsLow net moments) (settled : IsSettled net moments) where
+  module _ (one_sided : (table : Table) → IsNeverLater net table → IsDynamic net table)
+      (moments : List ℕ) (low : IsLow net moments) (settled : IsSettled net moments) where
     never_later : IsNeverLater net (table_of net moments)
     never_later s r x here agrees =
         settled.no_later (row_of (observed_props net.observes) s) (row_of (observed_props net.observes) r)
@@ -40,7 +47,7 @@ module _ (net : Network) (good : IsNetwork net) where
     pub settled_strategy : IsStrategy net (table_of net moments)
     settled_strategy = record {
       within = low.within;
-      dynamic = dynamic_from_one_side net (table_of net moments) good never_later;
+      dynamic = one_sided (table_of net moments) never_later;
       meets = meets;
     }
 

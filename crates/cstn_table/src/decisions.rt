@@ -14,7 +14,7 @@ use crate::raises::raise_by_constraints;
 use crate::rows::{count_props, props_of, rows_of};
 use crate::tables::Table;
 use cstn_label::Prop;
-use cstn_net::Network;
+use cstn_net::{Network, dynamic_is_one_sided};
 use std::alloc::{AllocError, Global};
 
 const MOST_PROPS: usize = 8;
@@ -42,6 +42,7 @@ fn least_table(alloc: Global, net: &Network) -> Result<Option<Table>, AllocError
     requires few { length (observed_props (the_network net.now).observes) ≤ 8 }
     ensures { IfOk result (λ o. MatchOption o (IsConsistent (the_network net.now) → ⊥) (IsLeastTable (the_network net.now))) }
 {
+    dynamic_is_one_sided();
     let props = props_of(alloc, net)?;
     let mut moments = zeros(alloc, net, &props)?;
     if settle(net, &props, &mut moments) {

@@ -10,7 +10,7 @@ ghost use Rattle.cstn_table.specs.Raises.{IsLow, IsWalk, AreObserved, IsNoLater,
 use crate::raises::raise;
 use crate::rows::{place, rows_of, scenario_of};
 use cstn_label::{NodeId, Prop, Scenario};
-use cstn_net::Network;
+use cstn_net::{Network, observers_are_time_points};
 
 // The first moment of a row at which what a time-point observes tells two scenarios apart; the last number where it doesn't.
 fn told_apart_by(
@@ -40,6 +40,7 @@ fn told_apart(net: &Network, moments: &[u32], row: usize, s: Scenario, r: Scenar
     requires row { row < rows (the_network net.now) }
     ensures { (t : ℕ) → t < 2 ^ 32 - 1 → (Agrees (the_network net.now) (row_at (count (the_network net.now)) moments.now row) t (the_scenario s) (the_scenario r) ↔ (t < result)) }
 {
+    observers_are_time_points();
     let mut apart = u32::MAX;
     for x in 0..net.count() {
         apart = apart.min(told_apart_by(net, moments, row, NodeId(x), s, r));
@@ -62,6 +63,7 @@ fn raise_row(
     ensures none { IfNone result (IsConsistent (the_network net.now) → ⊥) }
     ensures some { IfSome result (IsWalk (the_network net.now) (IsNoLater (the_network net.now) row other) moments.old moments.new) }
 {
+    observers_are_time_points();
     let apart = told_apart(
         net,
         moments,

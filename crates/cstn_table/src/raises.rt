@@ -9,7 +9,7 @@ ghost use Rattle.cstn_table.specs.Raises.{IsForced, IsLow, IsWalk, AreObserved, 
 
 use crate::rows::{place, rows_of, scenario_of};
 use cstn_label::{NodeId, Prop};
-use cstn_net::{Constraint, Network};
+use cstn_net::{Constraint, Network, unobserved_is_unseen};
 
 // Raises a moment to the least one that is forced, and answers whether it was below; none where that is past its limit.
 pub fn raise(net: &Network, moments: &mut [u32], row: usize, x: NodeId, least: u32) -> Option<bool>
@@ -20,6 +20,7 @@ pub fn raise(net: &Network, moments: &mut [u32], row: usize, x: NodeId, least: u
     ensures none { IfNone result (IsConsistent (the_network net.now) → ⊥) }
     ensures some { IfSome result (IsWalk (the_network net.now) (λ ts. least ≤ row_at (count (the_network net.now)) ts row x.0) moments.old moments.new) }
 {
+    unobserved_is_unseen();
     let at = place(net.count(), row, x);
     if least <= moments[at] {
         return Some(false);

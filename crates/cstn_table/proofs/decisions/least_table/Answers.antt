@@ -14,6 +14,7 @@ returns-then-settle c =
     subst (λ n. take n (c.settle.new.moments ++ drop (length c.settle.new.moments) c.in_ok-moments.moments.items) ≡ c.settle.new.moments)
     (c.settle.auto.moments ∙ c.deref_mut.ensures.len)
     (take-append_seam c.settle.new.moments (drop (length c.settle.new.moments) c.in_ok-moments.moments.items)) in
-    settled_table net c.count.ensures.well_formed.network c.settle.new.moments (c.if-settle.ensures.low refl) (c.if-settle.ensures.settled refl)
+    settled_table net c.count.ensures.well_formed.network
+    (λ table. (c.dynamic_is_one_sided.ensures net table c.count.ensures.well_formed.network).1) c.settle.new.moments (c.if-settle.ensures.low refl) (c.if-settle.ensures.settled refl)
     c.in_ok-props.props.items c.count.result c.new.result c.in_ok-props.ensures c.count.ensures.count
     (c.new.ensures ∙ ap {B = TableParts} (λ ts. record { props = c.in_ok-props.props.items; points = c.count.result; moments = ts }) kept)

@@ -28,7 +28,7 @@ raise-requires-clause-forced c =
     let least = c.min.ensures in
     let narrow = c.told_apart-apart.type_inv in
     let later = ap (λ k. get_or c.loop-x.moments k 0) at in
-    forced_by_pair net good c.args.moments.now c.requires.low (scenario_of (observed_props net.observes) c.args.other) c.args.row c.loop-x.x
+    forced_by_pair net good c.args.moments.now c.requires.low (c.observers_are_time_points.ensures.within net) (scenario_of (observed_props net.observes) c.args.other) c.args.row c.loop-x.x
     c.min.result c.requires.row here
     (λ t early. subst (λ s. Agrees net (row_at (count net) c.args.moments.now c.args.row) t s (scenario_of (observed_props net.observes) c.args.other)) own
     (subst (λ r. Agrees net (row_at (count net) c.args.moments.now c.args.row) t (the_scenario c.scenario_of.result) r) else_is

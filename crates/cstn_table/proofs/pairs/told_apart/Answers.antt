@@ -21,5 +21,5 @@ returns c t small =
     let net = the_network c.args.net.now in
     let counted = c.count-x-end.ensures.count in
     let last = c.loop-x-test.false in
-    alike_agrees net (row_at (count net) c.args.moments.now c.args.row) (the_scenario c.args.s) (the_scenario c.args.r) t c.loop-x.x
+    alike_agrees net (c.observers_are_time_points.ensures.within net) (row_at (count net) c.args.moments.now c.args.row) (the_scenario c.args.s) (the_scenario c.args.r) t c.loop-x.x
     c.loop-x.apart (omega arith) (c.loop-x.invariant t small)

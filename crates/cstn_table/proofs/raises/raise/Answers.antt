@@ -32,7 +32,7 @@ returns-clause-some c =
     let inside = place_inside net c.args.moments.now c.args.row c.args.x.0 c.requires.low c.requires.row c.requires.x in
     record {
       low = subst (λ k. IsLow net (set c.args.moments.now k c.args.least)) (sym at)
-          (raised_low net c.count.ensures.well_formed.network c.args.moments.now c.requires.low c.args.row c.args.x.0 c.args.least
+          (raised_low net c.count.ensures.well_formed.network c.args.moments.now c.requires.low (c.unobserved_is_unseen.ensures net) c.args.row c.args.x.0 c.args.least
           c.requires.row c.requires.x c.requires.forced (omega arith));
       rises = λ e. less_room c.args.moments.now c.place-at.result c.args.least (omega arith) c.if-least-moments.false (omega (arith, ints));
       stays = λ e. cc;
