@@ -2,9 +2,9 @@
 use Rattle.std.proofs.Common.{ℕ, zero, suc, ◌≡◌, ◌+◌, ◌<◌, ◌≤◌, ◌^◌, Option, None, List, [], ◌∷◌, ◌++◌, length, ◌*◌, refl, ap, sym, arith, ◌∙◌}
 use Rattle.std.proofs.Math.Path.{fun_ext}
 use Rattle.std.specs.Prelude.{map, codes, decimal, Contains, option_map, drop, slice_index_or}
-use Rattle.std.specs.List.{All, range_with_len}
+use Rattle.std.specs.List.{range_with_len}
 use Rattle.std.proofs.lemmas.List.{map-append, length-map}
-use Rattle.std.proofs.lemmas.List.Elements.{All-append, All-cons, All-nil, All-head, All-tail}
+use Rattle.std.proofs.lemmas.List.Elements.{All-append, All-cons, All-nil}
 use Rattle.std.proofs.lemmas.List.FromFn.{map-range_with_len_more, get_or-map-range_with_len, length-map-range_with_len}
 use Rattle.std.proofs.lemmas.Fmt.{decimal_injective, length-decimal-le}
 use Rattle.cstn_label.specs.declared.props.Prop.{Prop}
@@ -14,8 +14,6 @@ use Rattle.cstn_label.specs.declared.labels.Label.{Label as TheLabel}
 use Rattle.cstn_label.specs.Read.{marks}
 use Rattle.cstn_net.specs.Read.{observed, the_constraint, the_network, reaction_of, NetworkParts}
 use Rattle.cstn_net.specs.Drafts.{constraint_of, constraints_from}
-use Rattle.cstn_net.proofs.DraftLemmas.{constraints_more}
-use Rattle.cstn_net.proofs.HandedLemmas.{prompt_reaction}
 use Rattle.cstn_gen.specs.Generated.{observed_by, props_of, point_name, constraint_at, constraint_from, state_at, span_at, literals_at, generated}
 use Rattle.cstn_gen.specs.declared.constraints.Span.{Span}
 use Rattle.cstn_gen.specs.Made.{HasPoints, HasConstraints}
@@ -38,12 +36,13 @@ points_count size n points has =
     let observes = ap length has.observes in
     omega (arith, observes, length-map points observed, length-map-range_with_len (observed_by (props_of size)) 0 n)
 
--- one more constraint
-pub one_more_constraint : (number size n : ℕ) (drafts : List Draft) (d : Draft) → length drafts ≡ n →
+-- one more constraint, where one more draft gives one
+pub one_more_constraint : (number size n : ℕ) (drafts : List Draft) (d : Draft) →
+    constraints_from 0 (drafts ++ d ∷ []) ≡ constraints_from 0 drafts ++ constraint_of n d ∷ [] →
     HasConstraints number size n drafts → the_constraint (constraint_of n d) ≡ constraint_at number size n →
     HasConstraints number size (n + 1) (drafts ++ d ∷ [])
-one_more_constraint number size n drafts d len before is =
-    ap (map the_constraint) (constraints_more 0 n drafts d (omega arith))
+one_more_constraint number size n drafts d more before is =
+    ap (map the_constraint) more
     ∙ map-append the_constraint (constraints_from 0 drafts) (constraint_of n d ∷ [])
     ∙ ap (λ cs. cs ++ the_constraint (constraint_of n d) ∷ []) before
     ∙ ap (λ c. map (constraint_at number size) (range_with_len 0 n) ++ c ∷ []) is
@@ -91,13 +90,13 @@ drawn_is_at number size n x s l at ends label =
     ∙ ap (λ e. record { id = n; from = e.from; to = e.to; most = e.most; label = (literals_at size x).label }) ends
     ∙ ap (constraint_from size n) at
 
--- what was handed in is the network
+-- what was handed in, with reactions of a tick, is the network
 pub made_is : (number size : ℕ) (n : NetworkParts) (points : List TimePoint) (drafts : List Draft) → n.deadline ≡ 10 + 2 * size →
-    n.points ≡ points → n.constraints ≡ constraints_from 0 drafts → HasPoints size size points →
+    n.points ≡ points → n.constraints ≡ constraints_from 0 drafts → HasPoints size size points → ((p : ℕ) → reaction_of points p ≡ 1) →
     HasConstraints number size (2 * size) drafts → the_network n ≡ generated number size
-made_is number size n points drafts deadline points_are constraints has_points has_constraints =
+made_is number size n points drafts deadline points_are constraints has_points prompt has_constraints =
     let observes : map observed n.points ≡ (generated number size).observes = ap (map observed) points_are ∙ has_points.observes in
-    let reaction : reaction_of n.points ≡ (λ p. 1) = ap reaction_of points_are ∙ fun_ext (prompt_reaction points has_points.prompt) in
+    let reaction : reaction_of n.points ≡ (λ p. 1) = ap reaction_of points_are ∙ fun_ext prompt in
     let cs : map the_constraint n.constraints ≡ (generated number size).constraints = ap (map the_constraint) constraints ∙ has_constraints in
     ap (λ d. record { deadline = d; observes = map observed n.points; reaction = reaction_of n.points; constraints = map the_constraint n.constraints }) deadline
     ∙ ap (λ o. record { deadline = 10 + 2 * size; observes = o; reaction = reaction_of n.points; constraints = map the_constraint n.constraints }) observes

@@ -9,7 +9,10 @@ ghost use Rattle.cstn_gen.specs.Made.{HasPoints, HasConstraints};
 use crate::constraints::{Span, draw_label, draw_span, letter};
 use crate::draws::Draws;
 use cstn_label::{Label, Prop};
-use cstn_net::{Builder, NetError, Network};
+use cstn_net::{
+    Builder, NetError, Network, drafts_are_numbered, handed_networks_are_closed,
+    reactions_are_a_tick_at_first,
+};
 use cstn_text::{NameError, NameKey, Names};
 use std::alloc::{AllocError, Global};
 
@@ -25,6 +28,8 @@ pub fn network(alloc: Global, number: u64, size: u32) -> Result<(Network, Names)
     ensures names { IfOk result (λ r. r.1 ≡ generated_names size) }
     ensures well_formed { IsWellFormed (generated number size) }
 {
+    handed_networks_are_closed();
+    reactions_are_a_tick_at_first();
     let mut builder = Builder::new(alloc, 10 + 2 * size);
     add_points(&mut builder, size)?;
     add_constraints(&mut builder, number, size)?;
@@ -87,6 +92,7 @@ fn add_constraints(builder: &mut Builder, number: u64, size: u32) -> Result<(), 
     ensures constraints { IfOk result (λ _. HasConstraints number size (2 * size) builder.new.drafts) }
     ensures rest { (builder.new.deadline ≡ builder.old.deadline) × (builder.new.points ≡ builder.old.points) }
 {
+    drafts_are_numbered();
     let props = props_of(size);
     let mut draws = Draws { state: number };
     for _ in 0..2 * size {

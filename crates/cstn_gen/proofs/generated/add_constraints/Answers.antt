@@ -1,4 +1,4 @@
-use Rattle.std.proofs.Common.{◌+◌, ◌≡◌, sym, subst, ap, length, ◌∙◌}
+use Rattle.std.proofs.Common.{◌+◌, ◌≡◌, arith, sym, subst, ap, length, ◌∙◌}
 use Rattle.std.proofs.lemmas.List.{length-append}
 use Rattle.cstn_gen.specs.Generated.{literals_at, label_from, props_of}
 use Rattle.cstn_gen.specs.Made.{HasConstraints}
@@ -16,7 +16,8 @@ loop-preserved c =
     record {
       end = loop.end;
       constraints = subst (HasConstraints c.args.number c.args.size (c.loop.counter + 1)) (sym (ap (λ b. b.drafts) added))
-          (one_more_constraint c.args.number c.args.size c.loop.counter c.loop.builder.drafts _ loop.drafts loop.constraints
+          (one_more_constraint c.args.number c.args.size c.loop.counter c.loop.builder.drafts _
+          (c.drafts_are_numbered.ensures.more 0 c.loop.counter c.loop.builder.drafts _ (omega (arith, loop.drafts))) loop.constraints
           (drawn_is_at c.args.number c.args.size c.loop.counter x c.draw_span-span.result c.draw_label-label.result loop.state
           c.draw_span-span.ensures.span (c.draw_label-label.ensures.label ∙ ap (λ l. l.label) drawn)));
       drafts = ap (λ b. length b.drafts) added ∙ length-append c.loop.builder.drafts _ ∙ ap (λ n. n + 1) loop.drafts;
