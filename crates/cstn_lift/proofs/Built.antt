@@ -11,14 +11,12 @@ use Rattle.cstn_label.specs.declared.props.Prop.{Prop}
 use Rattle.cstn_label.specs.declared.marks.Mark.TheVariants.{Absent}
 use Rattle.cstn_label.specs.Labels.{Label, IsMarked, IsPlain}
 use Rattle.cstn_label.specs.Read.{marks}
-use Rattle.cstn_label.proofs.ReadLemmas.{unmarked_above}
 use Rattle.cstn_net.specs.declared.constraints.Constraint.{Constraint}
 use Rattle.cstn_net.specs.declared.drafts.Draft.{Draft}
 use Rattle.cstn_net.specs.declared.points.TimePoint.{TimePoint}
 use Rattle.cstn_net.specs.Networks.{Network, Constraint as TheConstraint, count}
 use Rattle.cstn_net.specs.Read.{observed, reaction_of, is_prop, the_constraint}
 use Rattle.cstn_net.specs.Drafts.{constraint_of, constraints_from, with_reaction}
-use Rattle.cstn_net.proofs.DraftLemmas.{constraints_more, constraints_length}
 use Rattle.cstn_lift.specs.Labelled.{Labelled}
 use Rattle.cstn_lift.specs.Completion.{full_label}
 use Rattle.cstn_lift.specs.Lowered.{is_plain, observer_of, with_full_label, guard, waits, numbered}
@@ -27,57 +25,59 @@ use Rattle.cstn_lift.proofs.CompletionLemmas.{marked_true}
 use Rattle.cstn_lift.proofs.ListLemmas.{numbered_length, numbered_append}
 use Rattle.cstn_lift.proofs.LoweredLemmas.{plain_true, plain_back, prop_back}
 
--- one more constraint
-pub constraint_added : (cs : List TheConstraint) (ds : List Draft) (c : TheConstraint) (d : Draft) → HasConstraints cs ds →
-    ((i : ℕ) → the_constraint (constraint_of i d) ≡ record c { id = i }) → HasConstraints (cs ++ c ∷ []) (ds ++ d ∷ [])
-constraint_added cs ds c d has is =
-    let old = constraints_from 0 ds in
-    let lens : length ds ≡ length cs = sym (constraints_length 0 ds) ∙ sym (length-map old the_constraint) ∙ ap length has ∙ numbered_length 0 cs in
-    let next : length ds ≡ 0 + length cs = omega (arith, lens) in
-    ap (map the_constraint) (constraints_more 0 (length ds) ds d (omega arith))
-    ∙ map-append the_constraint old (constraint_of (length ds) d ∷ [])
-    ∙ ap (λ es. es ++ the_constraint (constraint_of (length ds) d) ∷ []) has
-    ∙ ap (λ e. numbered 0 cs ++ e ∷ []) (is (length ds))
-    ∙ ap (λ n. numbered 0 cs ++ record c { id = n } ∷ []) next
-    ∙ sym (numbered_append 0 cs (c ∷ []))
+module _ (long : (k : ℕ) (ds : List Draft) → length (constraints_from k ds) ≡ length ds)
+    (more : (k i : ℕ) (ds : List Draft) (d : Draft) → i ≡ k + length ds → constraints_from k (ds ++ d ∷ []) ≡ constraints_from k ds ++ constraint_of i d ∷ []) where
+  -- one more constraint
+  constraint_added : (cs : List TheConstraint) (ds : List Draft) (c : TheConstraint) (d : Draft) → HasConstraints cs ds →
+      ((i : ℕ) → the_constraint (constraint_of i d) ≡ record c { id = i }) → HasConstraints (cs ++ c ∷ []) (ds ++ d ∷ [])
+  constraint_added cs ds c d has is =
+      let old = constraints_from 0 ds in
+      let lens : length ds ≡ length cs = sym (long 0 ds) ∙ sym (length-map old the_constraint) ∙ ap length has ∙ numbered_length 0 cs in
+      let next : length ds ≡ 0 + length cs = omega (arith, lens) in
+      ap (map the_constraint) (more 0 (length ds) ds d (omega arith))
+      ∙ map-append the_constraint old (constraint_of (length ds) d ∷ [])
+      ∙ ap (λ es. es ++ the_constraint (constraint_of (length ds) d) ∷ []) has
+      ∙ ap (λ e. numbered 0 cs ++ e ∷ []) (is (length ds))
+      ∙ ap (λ n. numbered 0 cs ++ record c { id = n } ∷ []) next
+      ∙ sym (numbered_append 0 cs (c ∷ []))
 
--- a constraint with its full label
-pub full_added : (m : Labelled) (c : Constraint) (cs : List TheConstraint) (ds : List Draft) (from to : ℕ) (most : ℤ) (l : Words) →
-    from ≡ c.from.0 → to ≡ c.to.0 → most ≡ c.most → marks l ≡ full_label m (the_constraint c) → IsPlain (marks l) → HasConstraints cs ds →
-    HasConstraints (cs ++ filter_map (with_full_label m) (the_constraint c ∷ [])) (ds ++ record { from = from; to = to; most = most; label = l } ∷ [])
-full_added m c cs ds from to most l from_is to_is most_is label_is plain has =
-    let full = full_label m (the_constraint c) in
-    let with_full = record (the_constraint c) { label = full } in
-    let given : with_full_label m (the_constraint c) ≡ Some with_full =
-    ap (λ b. if b then Some with_full else None) (plain_true full (subst IsPlain label_is plain)) in
-    subst (λ (o : Option TheConstraint). HasConstraints (cs ++ cons_option o []) (ds ++ record { from = from; to = to; most = most; label = l } ∷ [])) (sym given)
-    (constraint_added cs ds with_full (record { from = from; to = to; most = most; label = l }) has
-    (λ i. rw (from_is, to_is, most_is, label_is) refl))
+  -- a constraint with its full label
+  pub full_added : (m : Labelled) (c : Constraint) (cs : List TheConstraint) (ds : List Draft) (from to : ℕ) (most : ℤ) (l : Words) →
+      from ≡ c.from.0 → to ≡ c.to.0 → most ≡ c.most → marks l ≡ full_label m (the_constraint c) → IsPlain (marks l) → HasConstraints cs ds →
+      HasConstraints (cs ++ filter_map (with_full_label m) (the_constraint c ∷ [])) (ds ++ record { from = from; to = to; most = most; label = l } ∷ [])
+  full_added m c cs ds from to most l from_is to_is most_is label_is plain has =
+      let full = full_label m (the_constraint c) in
+      let with_full = record (the_constraint c) { label = full } in
+      let given : with_full_label m (the_constraint c) ≡ Some with_full =
+      ap (λ b. if b then Some with_full else None) (plain_true full (subst IsPlain label_is plain)) in
+      subst (λ (o : Option TheConstraint). HasConstraints (cs ++ cons_option o []) (ds ++ record { from = from; to = to; most = most; label = l } ∷ [])) (sym given)
+      (constraint_added cs ds with_full (record { from = from; to = to; most = most; label = l }) has
+      (λ i. rw (from_is, to_is, most_is, label_is) refl))
+
+  -- a constraint by which x waits
+  pub guard_added : (net : Network) (x j p : ℕ) (l : Words) (cs : List TheConstraint) (ds : List Draft) (from to : ℕ) (most : ℤ) →
+      IsMarked (marks l) p → observer_of net p ≡ Some j → from ≡ x → to ≡ j → most ≡ pos 0 -ℤ pos (net.reaction p) → HasConstraints cs ds →
+      HasConstraints (cs ++ filter_map (guard net x (marks l)) (p ∷ [])) (ds ++ record { from = from; to = to; most = most; label = l } ∷ [])
+  guard_added net x j p l cs ds from to most marked found from_is to_is most_is has =
+      let c : TheConstraint = record { id = 0; from = x; to = j; most = pos 0 -ℤ pos (net.reaction p); label = marks l } in
+      let given : guard net x (marks l) p ≡ Some c = rw (marked_true (marks l p) marked, found) refl in
+      subst (λ (o : Option TheConstraint). HasConstraints (cs ++ cons_option o []) (ds ++ record { from = from; to = to; most = most; label = l } ∷ [])) (sym given)
+      (constraint_added cs ds c (record { from = from; to = to; most = most; label = l }) has (λ i. rw (from_is, to_is, most_is) refl))
 
 -- a constraint whose full label isn't plain is left out
 pub full_skipped : (m : Labelled) (c : Constraint) (cs : List TheConstraint) (ds : List Draft) (l : Words) →
-    marks l ≡ full_label m (the_constraint c) → (IsPlain (marks l) → ⊥) → HasConstraints cs ds →
+    ((p : ℕ) → 52 ≤ p → marks l p ≡ Absent) → marks l ≡ full_label m (the_constraint c) → (IsPlain (marks l) → ⊥) → HasConstraints cs ds →
     HasConstraints (cs ++ filter_map (with_full_label m) (the_constraint c ∷ [])) ds
-full_skipped m c cs ds l label_is unplain has =
+full_skipped m c cs ds l above label_is unplain has =
     let full = full_label m (the_constraint c) in
     let with_full = record (the_constraint c) { label = full } in
     elim (cases_Bool (is_plain full)) [
-      | inl set ↦ absurd (unplain (subst IsPlain (sym label_is) (plain_back full (λ p above. ap (λ a. a p) (sym label_is) ∙ unmarked_above l p above) set)))
+      | inl set ↦ absurd (unplain (subst IsPlain (sym label_is) (plain_back full (λ p past. ap (λ a. a p) (sym label_is) ∙ above p past) set)))
       | inr clear ↦
           let given : with_full_label m (the_constraint c) ≡ None = ap (λ b. if b then Some with_full else None) clear in
           subst (λ (o : Option TheConstraint). HasConstraints (cs ++ cons_option o []) ds) (sym given)
           (subst (λ es. HasConstraints es ds) (sym (append-nil cs)) has)
     ]
-
--- a constraint by which x waits
-pub guard_added : (net : Network) (x j p : ℕ) (l : Words) (cs : List TheConstraint) (ds : List Draft) (from to : ℕ) (most : ℤ) →
-    IsMarked (marks l) p → observer_of net p ≡ Some j → from ≡ x → to ≡ j → most ≡ pos 0 -ℤ pos (net.reaction p) → HasConstraints cs ds →
-    HasConstraints (cs ++ filter_map (guard net x (marks l)) (p ∷ [])) (ds ++ record { from = from; to = to; most = most; label = l } ∷ [])
-guard_added net x j p l cs ds from to most marked found from_is to_is most_is has =
-    let c : TheConstraint = record { id = 0; from = x; to = j; most = pos 0 -ℤ pos (net.reaction p); label = marks l } in
-    let given : guard net x (marks l) p ≡ Some c = rw (marked_true (marks l p) marked, found) refl in
-    subst (λ (o : Option TheConstraint). HasConstraints (cs ++ cons_option o []) (ds ++ record { from = from; to = to; most = most; label = l } ∷ [])) (sym given)
-    (constraint_added cs ds c (record { from = from; to = to; most = most; label = l }) has (λ i. rw (from_is, to_is, most_is) refl))
 
 pub guard_skipped : (net : Network) (x p : ℕ) (l : Words) (cs : List TheConstraint) (ds : List Draft) → IsMarked (marks l) p →
     observer_of net p ≡ None → HasConstraints cs ds → HasConstraints (cs ++ filter_map (guard net x (marks l)) (p ∷ [])) ds

@@ -1,11 +1,11 @@
 -- Which fault of labels is the lowest.
-use Rattle.std.proofs.Common.{ℕ, ◌≡◌, ◌⊎◌, inl, inr, ◌<◌, ◌≤◌, List, length, arith, sym, subst, ap, ◌∙◌}
+use Rattle.std.proofs.Common.{ℕ, ◌≡◌, ◌⊎◌, inl, inr, ◌<◌, ◌≤◌, List, length, arith, refl, sym, subst, ap, ◌∙◌}
 use Rattle.std.specs.Prelude.{map}
 use Rattle.std.proofs.lemmas.List.{get_or-map}
+use Rattle.cstn_label.specs.declared.marks.Mark.{Mark}
+use Rattle.cstn_label.specs.declared.marks.Mark.TheVariants.{Absent, Yes, No, Unknown}
 use Rattle.cstn_label.specs.Labels.{Label, IsPlain, empty}
-use Rattle.cstn_label.proofs.MarkLemmas.{absent_or_not}
-use Rattle.cstn_net.specs.Networks.{IsWellFormed, count}
-use Rattle.cstn_net.proofs.Knowledge.{observer_within}
+use Rattle.cstn_net.specs.Networks.{IsWellFormed, Observes, count}
 use Rattle.cstn_lift.specs.declared.errors.LiftError.{LiftError}
 use Rattle.cstn_lift.specs.declared.errors.LiftError.TheVariants.{OriginLabel, NotPlain, NotObserved, Circle, Never, TooManyConstraints, Memory}
 use Rattle.cstn_lift.specs.Labelled.{Labelled, label_in}
@@ -26,6 +26,13 @@ pub first_same : (n : ℕ) (P Q : ℕ → Type 0) (x : ℕ) → ((y : ℕ) → y
 first_same n P Q x to back first =
     let inside = first.inside in
     record { inside = inside; here = to x inside first.here; before = λ y before q. first.before y before (back y (omega arith) q) }
+
+-- a mark that can't be there is absent
+absent_if : (a : Mark) → ((a ≡ Absent → ⊥) → ⊥) → a ≡ Absent
+absent_if Absent h = refl
+absent_if Yes h = absurd (h (λ e. cc))
+absent_if No h = absurd (h (λ e. cc))
+absent_if Unknown h = absurd (h (λ e. cc))
 
 module _ (m : Labelled) (good : HasGoodLabels m) where
   pub circle_lowest : (f : LiftError) → HasFault m f → 4 ≤ number f
@@ -52,20 +59,17 @@ module _ (m : Labelled) (good : HasGoodLabels m) where
       let o = good.observed node.0 h.0.inside names.0 names.1.0 in
       absurd (names.1.1 o.0 o.1)
 
-  -- labels without the faults of L1 to L5
-  pub labelled_from : IsWellFormed m.base → length m.labels ≡ count m.base →
+  -- labels without the faults of L1 to L5, where each observer is a time-point
+  pub labelled_from : ((x p : ℕ) → Observes m.base x p → x < count m.base) → IsWellFormed m.base → length m.labels ≡ count m.base →
       ((x : ℕ) → x < count m.base → IsSeenBy m.base (completed_label m x) x → ⊥) → ((x : ℕ) → x < count m.base → IsPlain (completed_label m x)) →
       IsLabelled m
-  labelled_from base one_each none plain = record {
+  labelled_from within base one_each none plain = record {
     base = base;
     one_each = one_each;
     origin = good.origin;
     plain = good.plain;
     observed = good.observed;
-    no_circle = λ x p o. elim (absent_or_not (completed_label m x p)) [
-      | inl gone ↦ gone
-      | inr marked ↦ absurd (none x (observer_within m.base x p o) (p, o, marked))
-    ];
+    no_circle = λ x p o. absent_if (completed_label m x p) (λ marked. none x (within x p o) (p, o, marked));
     possible = plain;
   }
 

@@ -7,7 +7,6 @@ use Rattle.cstn_label.specs.declared.labels.Label.{Label as Words}
 use Rattle.cstn_label.specs.Labels.{empty}
 use Rattle.cstn_label.specs.Words.{has_bit}
 use Rattle.cstn_label.specs.Read.{mark_of, marks}
-use Rattle.cstn_label.proofs.ReadLemmas.{same_label}
 use Rattle.cstn_lift.specs.Labelled.{label_in}
 
 both_left : (b c : Bool) → (b && c) ≡ true → b ≡ true
@@ -39,9 +38,9 @@ upto_next P n before here y upto = elim (cases_lt y n) [
 tested : (a b : ℕ) → a ≡ b → eqb a b ≡ true
 tested a b e = grind arith
 
-pub same_tested : (a b : Words) → marks a ≡ marks b → (eqb a.yes b.yes && eqb a.no b.no) ≡ true
-same_tested a b e =
-    let same : a ≡ b = same_label a b (λ p. ap (λ l. l p) e) in
+-- equal labels are the same words
+pub same_tested : (a b : Words) → a ≡ b → (eqb a.yes b.yes && eqb a.no b.no) ≡ true
+same_tested a b same =
     let y = tested a.yes b.yes (ap (λ w. w.yes) same) in
     let n = tested a.no b.no (ap (λ w. w.no) same) in
     rw (y, n) refl

@@ -7,11 +7,10 @@ use Rattle.std.proofs.lemmas.List.{length-map, take_all}
 use Rattle.cstn_net.specs.declared.points.TimePoint.{TimePoint}
 use Rattle.cstn_net.specs.declared.errors.NetError.{NetError}
 use Rattle.cstn_net.specs.declared.errors.NetError.TheVariants.{TooManyConstraints}
-use Rattle.cstn_net.specs.Networks.{count}
+use Rattle.cstn_net.specs.Networks.{Network, IsWellFormed, count}
 use Rattle.cstn_net.specs.Read.{NetworkParts, the_network, observed, reaction_of, the_constraint}
 use Rattle.cstn_net.specs.Drafts.{BuilderParts, HasFault, IsRefusal, number, constraints_from}
-use Rattle.cstn_net.proofs.DraftLemmas.{constraints_length}
-use Rattle.cstn_net.proofs.HandedLemmas.{refused_for_memory}
+use Rattle.cstn_net.specs.Handed.{IsHanded}
 use Rattle.cstn_lift.specs.Labelled.{Labelled}
 use Rattle.cstn_lift.specs.WellFormed.{IsLabelled}
 use Rattle.cstn_lift.specs.Lowered.{lowered}
@@ -43,13 +42,15 @@ closed_is m net n b base has deadline constraints n_deadline n_points n_constrai
     ∙ ap (λ v. record { deadline = low.deadline; observes = low.observes; reaction = v; constraints = map the_constraint n.constraints }) r
     ∙ ap (λ v. record { deadline = low.deadline; observes = low.observes; reaction = low.reaction; constraints = v }) c
 
--- a builder that is refused, and not for want of memory, has too many constraints
-pub refused_long : (m : Labelled) → IsLabelled m → (b : BuilderParts) → b.deadline ≡ m.base.deadline → map observed b.points ≡ m.base.observes →
+-- where a builder that was handed a well-formed network is refused for want of memory alone, one that is refused otherwise
+-- has too many constraints
+pub refused_long : ((b : BuilderParts) (net : Network) → IsWellFormed net → IsHanded b net → (e : NetError) → IsRefusal b e → number e ≡ 0) →
+    (m : Labelled) → IsLabelled m → (b : BuilderParts) → b.deadline ≡ m.base.deadline → map observed b.points ≡ m.base.observes →
     ((p : ℕ) → reaction_of b.points p ≡ m.base.reaction p) → map the_constraint (constraints_from 0 b.drafts) ≡ (lowered m).constraints →
     (e : NetError) → IsRefusal b e → (number e ≡ 0 → ⊥) → 16384 < length (lowered m).constraints
-refused_long m good b deadline observes reaction constraints e refusal other = elim (cases_lt 16384 (length (lowered m).constraints)) [
+refused_long for_memory m good b deadline observes reaction constraints e refusal other = elim (cases_lt 16384 (length (lowered m).constraints)) [
   | inl long ↦ long
-  | inr few ↦ absurd (other (refused_for_memory b (lowered m) (lowered_well_formed m good few) (record {
+  | inr few ↦ absurd (other (for_memory b (lowered m) (lowered_well_formed m good few) (record {
     deadline = deadline;
     observes = observes;
     reaction = reaction;
@@ -57,12 +58,12 @@ refused_long m good b deadline observes reaction constraints e refusal other = e
   }) e refusal))
 ]
 
--- a builder that is closed has few
-pub closed_few : (m : Labelled) (b : BuilderParts) → map the_constraint (constraints_from 0 b.drafts) ≡ (lowered m).constraints →
+-- a builder that is closed, with a constraint for each draft, has few
+pub closed_few : (m : Labelled) (b : BuilderParts) → length (constraints_from 0 b.drafts) ≡ length b.drafts → map the_constraint (constraints_from 0 b.drafts) ≡ (lowered m).constraints →
     ((e : NetError) → HasFault b e → ⊥) → length (lowered m).constraints ≤ 16384
-closed_few m b constraints faultless = elim (cases_lt 16384 (length (lowered m).constraints)) [
+closed_few m b long constraints faultless = elim (cases_lt 16384 (length (lowered m).constraints)) [
   | inr few ↦ few
-  | inl long ↦
+  | inl many ↦
       let same = ap length constraints in
-      absurd (faultless TooManyConstraints (omega (arith, same, length-map (constraints_from 0 b.drafts) the_constraint, constraints_length 0 b.drafts)))
+      absurd (faultless TooManyConstraints (omega (arith, same, length-map (constraints_from 0 b.drafts) the_constraint, long)))
 ]

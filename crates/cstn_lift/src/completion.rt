@@ -6,7 +6,7 @@ ghost use Rattle.cstn_net.specs.Read.{the_network};
 ghost use Rattle.cstn_lift.specs.Completion.{completed, joined_upto, IsLabelOfObserver};
 ghost use Rattle.cstn_lift.specs.Read.{with_labels, AreCompleted};
 
-use cstn_label::{Label, Prop};
+use cstn_label::{Label, Prop, within_is_an_order};
 use cstn_net::Network;
 use std::alloc::{AllocError, Global};
 
@@ -48,6 +48,7 @@ fn with_observers(net: &Network, labels: &[Label], label: Label) -> Label
     requires well_formed { IsWellFormed (the_network net.now) }
     ensures joined { marks result ≡ joined_upto (with_labels net.now labels.now) (count (the_network net.now)) (marks label) }
 {
+    within_is_an_order();
     let mut joined = label;
     let mut from = 0;
     while let Some(p) = label.first_marked_from(from) {

@@ -1,13 +1,13 @@
 // Laws of labelled networks.
-ghost use Rattle.std.specs.Prelude.{ℕ, ◌≡◌, ◌<◌, ◌≤◌, ◌+◌, ◌⊎◌, ◌↔◌, List, length, slice_index_or};
+ghost use Rattle.std.specs.Prelude.{ℕ, ◌≡◌, ◌<◌, ◌≤◌, ◌+◌, ◌⊎◌, ◌↔◌, List, length, slice_index_or, Some, None};
 ghost use Rattle.std.specs.List.{Contains};
 ghost use Rattle.cstn_label.specs.Labels.{Label, Scenario, IsMarked, IsPlain, IsPossible, IsWithin, empty};
-ghost use Rattle.cstn_net.specs.Networks.{Constraint, Observes, IsOnObserved, IsWellFormed, count};
+ghost use Rattle.cstn_net.specs.Networks.{Network, Constraint, Observes, IsNetwork, IsOnObserved, IsWellFormed, count};
 ghost use Rattle.cstn_net.specs.Strategies.{Table, IsKnown, IsStrategy, IsLeast};
 ghost use Rattle.cstn_lift.specs.Labelled.{Labelled, label_of};
 ghost use Rattle.cstn_lift.specs.Completion.{IsCompleteLabel, completed, completed_label};
 ghost use Rattle.cstn_lift.specs.WellFormed.{IsLabelled};
-ghost use Rattle.cstn_lift.specs.Lowered.{lowered, numbered};
+ghost use Rattle.cstn_lift.specs.Lowered.{lowered, numbered, observer_of};
 ghost use Rattle.cstn_lift.specs.Strategies.{IsExecuted, IsLabelledStrategy, IsLabelledLeast, IsEquivalent, IsDefaulted, AreTwins};
 
 /// A label is within its completed one, which is complete, and within each complete label that the label is within.
@@ -27,6 +27,12 @@ pub fn completed_labels_are_ordered()
     ensures observed { (m : Labelled) (x : ℕ) → IsLabelled m → IsOnObserved m.base (completed_label m x) }
     ensures within { (m : Labelled) (x j p : ℕ) → IsLabelled m → Observes m.base j p → IsMarked (completed_label m x) p → IsWithin (completed_label m j) (completed_label m x) }
     ensures order { (m : Labelled) → IsLabelled m → (rank : ℕ → ℕ) × ((j p k q : ℕ) → Observes m.base j p → Observes m.base k q → IsMarked (completed_label m j) q → rank k < rank j) }
+{}
+
+/// The observer of a proposition is the time-point that observes it, and there is none where nothing does.
+pub fn observers_are_found()
+    ensures found { (net : Network) (x p : ℕ) → IsNetwork net → Observes net x p → observer_of net p ≡ Some x }
+    ensures none { (net : Network) (p : ℕ) → ((x : ℕ) → Observes net x p → ⊥) → observer_of net p ≡ None }
 {}
 
 /// The lowered network is well-formed where it isn't too long. Each of its labels is plain, names observed propositions alone and

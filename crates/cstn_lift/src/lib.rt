@@ -12,7 +12,7 @@ mod scans;
 pub use errors::LiftError;
 pub use laws::{
     completed_labels_are_ordered, completion_is_a_closure, defaults_give_a_labelled_strategy,
-    labels_are_decided_in_time, lowered_is_equivalent, lowered_is_well_formed,
+    labels_are_decided_in_time, lowered_is_equivalent, lowered_is_well_formed, observers_are_found,
     twins_are_executed_alike, unlabelled_is_plain,
 };
 pub use lifting::lift;

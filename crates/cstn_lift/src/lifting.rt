@@ -15,7 +15,7 @@ use crate::lowering::lowered;
 use crate::networks::{Labelled, Labels};
 use crate::scans::{first_in_circle, first_not_plain, first_unobserved, is_empty};
 use cstn_label::Label;
-use cstn_net::Network;
+use cstn_net::{Network, observers_are_time_points};
 use std::alloc::Global;
 
 /// Makes a labelled network of a network and the labels of its time-points, in ascending number.
@@ -69,6 +69,7 @@ fn completed_fault(net: &Network, labels: &[Label], whole: &[Label]) -> Option<L
     requires completed { AreCompleted (with_labels net.now labels.now) whole.now }
     ensures { MatchOption result (IsLabelled (with_labels net.now labels.now)) (IsLowestFault (with_labels net.now labels.now)) }
 {
+    observers_are_time_points();
     if let Some(node) = first_in_circle(net, whole) {
         return Some(LiftError::Circle { node });
     }

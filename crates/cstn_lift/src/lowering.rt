@@ -15,8 +15,10 @@ ghost use Rattle.cstn_lift.specs.Handed.{HasPoints, HasConstraints};
 
 use crate::completion::completed;
 use crate::errors::LiftError;
-use cstn_label::{Label, NodeId, Prop};
-use cstn_net::{Builder, Constraint, NetError, Network};
+use cstn_label::{Label, NodeId, Prop, labels_are_their_marks};
+use cstn_net::{
+    Builder, Constraint, NetError, Network, drafts_are_numbered, handed_networks_are_closed,
+};
 use std::alloc::{AllocError, Global};
 
 /// The lowered network of a network with these labels, which are completed in `whole`. Refused only where it has too many
@@ -34,6 +36,8 @@ pub fn lowered(
     ensures well_formed { IfOk result (λ n. IsWellFormed (the_network n)) }
     ensures refused { IfErr result (λ e. (number e ≡ 0) ⊎ ((e ≡ LiftError.TooManyConstraints) × (16384 < length (lowered (with_labels net.now labels.now)).constraints))) }
 {
+    drafts_are_numbered();
+    handed_networks_are_closed();
     let builder = match handed(alloc, net, labels, whole) {
         Ok(builder) => builder,
         Err(e) => return Err(LiftError::Memory(e)),
@@ -132,6 +136,8 @@ fn add_one_full(
     ensures few { length builder.new.drafts ≤ length builder.old.drafts + 1 }
     ensures rest { (builder.new.deadline ≡ builder.old.deadline) × (builder.new.points ≡ builder.old.points) }
 {
+    labels_are_their_marks();
+    drafts_are_numbered();
     let label = full_label(net, labels, c);
     if !label.is_plain() {
         return Ok(());
@@ -206,6 +212,7 @@ fn add_guard(
     ensures few { length builder.new.drafts ≤ length builder.old.drafts + 1 }
     ensures rest { (builder.new.deadline ≡ builder.old.deadline) × (builder.new.points ≡ builder.old.points) }
 {
+    drafts_are_numbered();
     let Some(observer) = net.observer(p) else {
         return Ok(());
     };

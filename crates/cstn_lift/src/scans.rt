@@ -9,7 +9,7 @@ ghost use Rattle.cstn_lift.specs.Labelled.{label_in};
 ghost use Rattle.cstn_lift.specs.Completion.{is_observed_by};
 ghost use Rattle.cstn_lift.specs.Faults.{IsFirstBelow, NamesUnobserved, IsSeenBy};
 
-use cstn_label::{Label, Mark, NodeId, Prop};
+use cstn_label::{Label, Mark, NodeId, Prop, labels_are_their_marks};
 use cstn_net::Network;
 
 /// The first time-point with a label that isn't plain.
@@ -69,5 +69,6 @@ fn is_observed_by(p: Option<Prop>, label: Label) -> bool
 pub fn is_empty(label: Label) -> bool
     ensures { IsTrue result ↔ (marks label ≡ empty) }
 {
+    labels_are_their_marks();
     label == Label::empty()
 }

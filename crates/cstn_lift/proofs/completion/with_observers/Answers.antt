@@ -2,7 +2,6 @@ use Rattle.std.proofs.Common.{ℕ, ◌<◌, ◌+◌, arith, subst, sym, inl, inr
 use Rattle.std.proofs.lemmas.Bool.{cases_lt}
 use Rattle.cstn_label.specs.Labels.{joined, IsMarked, IsWithin, Label}
 use Rattle.cstn_label.specs.Read.{marks}
-use Rattle.cstn_label.proofs.LabelLemmas.{within_itself, within_through}
 use Rattle.cstn_net.specs.Networks.{Observes}
 use Rattle.cstn_lift.specs.Labelled.{label_of}
 use Rattle.cstn_lift.specs.Read.{with_labels}
@@ -12,7 +11,7 @@ use Rattle.cstn_lift.proofs.completion.with_observers.Goals as goal
 pub loop-p-init : goal.loop-p-init
 loop-p-init c = record {
   range = omega arith;
-  contains = within_itself (marks c.args.label);
+  contains = c.within_is_an_order.ensures.reflexive (marks c.args.label);
   joined = λ x p before. absurd (omega arith);
   upto = round_contains (with_labels c.args.net.now c.args.labels.now) (marks c.args.label);
 }
@@ -29,7 +28,7 @@ loop-p-preserved c =
     let range = c.in-Some.p.in_range in
     record {
       range = omega arith;
-      contains = subst (λ l. IsWithin a l) (sym is) (within_through a b (joined b new) loop.contains (within_left b new));
+      contains = subst (λ l. IsWithin a l) (sym is) (c.within_is_an_order.ensures.transitive a b (joined b new) loop.contains (within_left b new));
       joined = subst (λ (l : Label). (x q : ℕ) → q < c.in-Some.p.index + 1 → Observes m.base x q → IsMarked a q → IsWithin (label_of m x) l) (sym is) (turn_joined m one a b new c.loop-p.from c.in-Some.p.index c.observer_label.ensures.label c.in-Some.ensures.least loop.joined);
       upto = subst (λ l. IsWithin l (round m a)) (sym is) (turn_upto m one a b new c.loop-p.from c.in-Some.p.index c.observer_label.ensures.label c.in-Some.ensures.marked loop.upto);
     }

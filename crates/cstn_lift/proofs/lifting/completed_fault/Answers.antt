@@ -59,5 +59,5 @@ returns c =
     let at = whole_at m one_each own c.requires.completed in
     let none : (x : ℕ) → x < count net → IsSeenBy net (completed_label m x) x → ⊥ = λ x inside seen.
     c.in_default.ensures.first x inside (subst (λ a. IsSeenBy net a x) (sym (at x inside)) seen) in
-    labelled_from m c.requires.good c.in_default-first_not_plain.ensures.well_formed one_each none
+    labelled_from m c.requires.good (c.observers_are_time_points.ensures.within net) c.in_default-first_not_plain.ensures.well_formed one_each none
     (λ x inside. subst IsPlain (at x inside) (c.in_default-first_not_plain.ensures.first x inside))

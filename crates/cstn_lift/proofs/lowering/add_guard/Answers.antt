@@ -23,6 +23,6 @@ returns-clause-added c = λ cs has.
     let most : to_z w32 (of_z w32 (pos 0 -ℤ to_z w32 c.reaction.result)) ≡ pos 0 -ℤ pos (net.reaction c.args.p.index) = omega (arith, ints) in
     subst (λ ds. HasConstraints (cs ++ filter_map (guard net c.args.x.0 (marks c.args.label)) (c.args.p.index ∷ [])) ds)
     (sym (ap (λ b. b.drafts) c.in_ok-constrain.ensures.appended))
-    (guard_added net c.args.x.0 c.in-Some.observer.0 c.args.p.index c.args.label cs c.args.builder.now.drafts c.number.result c.number-2.result (to_z w32 (of_z w32 (pos 0 -ℤ to_z w32 c.reaction.result))) c.requires.marked
+    (guard_added c.drafts_are_numbered.ensures.length c.drafts_are_numbered.ensures.more net c.args.x.0 c.in-Some.observer.0 c.args.p.index c.args.label cs c.args.builder.now.drafts c.number.result c.number-2.result (to_z w32 (of_z w32 (pos 0 -ℤ to_z w32 c.reaction.result))) c.requires.marked
     (observer_found net c.requires.well_formed.network c.in-Some.observer.0 c.args.p.index c.in-Some.ensures.observer)
     c.number.ensures.number c.number-2.ensures.number most has)

@@ -12,7 +12,8 @@ returns-in-Ok-close-clause-lowered c =
 
 pub returns-in-Ok-close-clause-few : goal.returns-in-Ok-close-clause-few
 returns-in-Ok-close-clause-few c =
-    closed_few (with_labels c.args.net.now c.args.labels.now) c.in-Ok.builder c.in-Ok.ensures.constraints c.in-Ok-close.ensures.faultless
+    closed_few (with_labels c.args.net.now c.args.labels.now) c.in-Ok.builder (c.drafts_are_numbered.ensures.length 0 c.in-Ok.builder.drafts)
+    c.in-Ok.ensures.constraints c.in-Ok-close.ensures.faultless
 
 pub returns-in-Err-close-clause-refused : goal.returns-in-Err-close-clause-refused
 returns-in-Err-close-clause-refused c =
@@ -24,7 +25,7 @@ returns-in-Err-close-clause-refused c =
       | inl memory ↦ inl (c.error_of.ensures.memory memory)
       | inr other ↦ inr (
         c.error_of.ensures.constraints other,
-        refused_long m c.requires.labelled b given.deadline (same_observes c.args.net.now b.points given.points)
+        refused_long c.handed_networks_are_closed.ensures.memory m c.requires.labelled b given.deadline (same_observes c.args.net.now b.points given.points)
             (same_reaction c.args.net.now b.points given.points) given.constraints error c.in-Err-close.ensures.refused other,
       )
     ]
