@@ -19,8 +19,9 @@ mod sorting;
 
 use cstn_exec::{ExecError, Executive};
 use cstn_label::{NodeId, Prop};
-use cstn_lift::Labels;
+use cstn_lift::{Labels, observers_are_found};
 use cstn_log::SoundPlan;
+use cstn_net::observers_are_time_points;
 use smallvec::SmallVec;
 use sorting::{Names, sort_out};
 use std::alloc::{AllocError, Global};
@@ -153,6 +154,8 @@ impl Guide {
     fn is_denied(&self, p: Prop) -> bool
         ensures { result ≡ is_denied (lowered (the_labelled self.now.labelled)) self.now.state p.index }
     {
+        observers_are_time_points();
+        observers_are_found();
         match self.labels.base().observer(p) {
             Some(x) => self.left[x.index()],
             None => false,
