@@ -32,6 +32,7 @@ pub fn completed_labels_are_ordered()
 /// The observer of a proposition is the time-point that observes it, and there is none where nothing does.
 pub fn observers_are_found()
     ensures found { (net : Network) (x p : ℕ) → IsNetwork net → Observes net x p → observer_of net p ≡ Some x }
+    ensures only { (net : Network) (x p : ℕ) → observer_of net p ≡ Some x → Observes net x p }
     ensures none { (net : Network) (p : ℕ) → ((x : ℕ) → Observes net x p → ⊥) → observer_of net p ≡ None }
 {}
 
