@@ -1,6 +1,6 @@
 -- The pairs of a text of values, one at a time.
 use Rattle.std.proofs.Common.{◌≡◌, ℕ, zero, suc, Bool, true, false, List, [], ◌∷◌, ◌++◌, drop, refl, ap, sym, ◌∙◌, append_assoc, append-nil, Option, Some, None, cond}
-use Rattle.std.specs.Prelude.{◌==◌, option_map, is_some}
+use Rattle.std.specs.Prelude.{◌==◌, option_map}
 use Rattle.cstn_markup.specs.Bytes.{◌>>=◌, when, is_same}
 use Rattle.cstn_data.specs.ValueTexts.{Pair, is_separator, pair_at, pairs_by, pairs_after}
 

@@ -1,24 +1,9 @@
 //! Numbers as texts.
 
-ghost use Rattle.std.specs.Prelude.{◌≡◌, ℕ, ◌≤◌, ◌<◌, ◌+◌, ◌*◌, ◌^◌, length};
-ghost use Rattle.cstn_markup.specs.Bytes.{number_after};
+ghost use Rattle.std.specs.Prelude.{◌≡◌};
 ghost use Rattle.cstn_data.specs.NumberTexts.{short_number, integer_text};
 
-/// The number that up to ten digits write.
-#[tactic(auto, unfolding(cstn_markup::specs::Bytes::number_after))]
-fn number(digits: &[u8]) -> Option<u64>
-    requires { length digits.now ≤ 10 }
-    ensures { result ≡ number_after 10 0 digits.now }
-{
-    let mut n: u64 = 0;
-    let mut rest = digits;
-    while let Some((d, next)) = rest.split_first() {
-        let value = (*d as char).to_digit(10)?;
-        n = n * 10 + value as u64;
-        rest = next;
-    }
-    Some(n)
-}
+use cstn_markup::number;
 
 /// The number that 1 to 10 digits write, below the limit.
 pub(crate) fn short_number(limit: u64, digits: &[u8]) -> Option<u64>
@@ -27,7 +12,7 @@ pub(crate) fn short_number(limit: u64, digits: &[u8]) -> Option<u64>
     if digits.is_empty() || digits.len() > 10 {
         return None;
     }
-    let n = number(digits)?;
+    let n = number(10, digits)?;
     if n >= limit {
         return None;
     }
