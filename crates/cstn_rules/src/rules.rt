@@ -10,7 +10,7 @@ ghost use Rattle.cstn_net.specs.Read.{the_network, the_constraint, IsInRange};
 ghost use Rattle.cstn_rules.specs.Rules.{without_own, finished, IsChain, IsWait, Refutes, IsBoundOf};
 
 use crate::counters::Tries;
-use cstn_label::{Bound, Label, Mark, NodeId, Prop};
+use cstn_label::{Bound, Label, Mark, NodeId, Prop, joined_is_the_least_above};
 use cstn_net::{Constraint, Network};
 
 /// What chain gives from a constraint of the network and a bound of it, or None where it gives nothing. The conclusion may
@@ -28,6 +28,7 @@ pub fn chain(net: &Network, c: &Constraint, b: &Bound, tries: &mut Tries) -> Opt
 {
     tries.add();
     is_in_range(net, c);
+    joined_is_the_least_above();
     let label = b.label.join(c.label);
     if b.node == c.to && label.is_plain() {
         let carried = Bound {

@@ -3,7 +3,6 @@ use Rattle.std.proofs.lemmas.Int.{ints}
 use Rattle.std.proofs.lemmas.Bool.{eqb-true, eq-eqb, both_ways}
 use Rattle.cstn_label.specs.Labels.{IsPlain}
 use Rattle.cstn_label.specs.Read.{marks, the_bound}
-use Rattle.cstn_label.proofs.LabelLemmas.{plain_left}
 use Rattle.std.proofs.lemmas.List.Elements.{All-contains}
 use Rattle.cstn_net.specs.Networks.{IsConstraint}
 use Rattle.cstn_net.specs.Read.{the_network, the_constraint}
@@ -34,7 +33,7 @@ returns-then-is_plain-clause-chain c =
     let least : to_z w32 (of_z w32 (to_z w32 (of_z w32 c.args.b.now.least) -ℤ to_z w32 (of_z w32 c.args.c.now.most))) ≡ (c.args.b.now.least -ℤ c.args.c.now.most) = omega (arith, ints) in
     record {
       at = eqb-true _ _ (sym c.eq.ensures ∙ c.if-eq.true);
-      plain = plain_left (marks c.args.b.now.label) (marks c.args.c.now.label) together;
+      plain = (c.joined_is_the_least_above.ensures.plain (marks c.args.b.now.label) (marks c.args.c.now.label) together).0;
       together = together;
       gives = c.finish.ensures ∙ ap (finished (the_network c.args.net.now)) (same_bound _ _ _ _ _ least same);
     }
