@@ -1,5 +1,5 @@
 -- When a bound dominates another.
-use Rattle.std.proofs.Common.{◌≡◌, ◌⊎◌, inl, inr, ℕ, zero, suc, ◌<◌, true, false, arith, sym, ◌∙◌, subst}
+use Rattle.std.proofs.Common.{◌≡◌, ◌⊎◌, inl, inr, ℕ, zero, suc, ◌<◌, ◌≤◌, true, false, arith, sym, ◌∙◌, subst}
 use Rattle.std.specs.Prelude.{ℤ, ◌≤ℤ◌, int_le}
 use Rattle.std.proofs.lemmas.Bool.{cases_eq, cases_lt, cases_Bool}
 use Rattle.std.proofs.lemmas.Int.{ints}
@@ -9,8 +9,6 @@ use Rattle.cstn_label.specs.declared.marks.Mark.TheVariants.{Absent, Yes, No, Un
 use Rattle.cstn_label.specs.declared.labels.Label.{Label}
 use Rattle.cstn_label.specs.Labels.{IsMarkWithin, IsWithin}
 use Rattle.cstn_label.specs.Read.{marks}
-use Rattle.cstn_label.proofs.LabelLemmas.{within_itself, within_through}
-use Rattle.cstn_label.proofs.ReadLemmas.{unmarked_above}
 use Rattle.cstn_minset.specs.Sets.{IsOver}
 
 mark_within_or_not : (m n : Mark) → IsMarkWithin m n ⊎ ¬ IsMarkWithin m n
@@ -38,13 +36,23 @@ marks_within_or_not a b (suc n) = elim (marks_within_or_not a b n) [
   ]
 ]
 
+mark_through : (m n o : Mark) → IsMarkWithin m n → IsMarkWithin n o → IsMarkWithin m o
+mark_through m n o h k = grind arith
+
+mark_itself : (m : Mark) → IsMarkWithin m m
+mark_itself m = grind arith
+
+-- no proposition above 51 is marked
+abbrev pub MarksEnd : Type 0
+MarksEnd = (a : Label) (p : ℕ) → 52 ≤ p → marks a p ≡ Absent
+
 absent_within : (m n : Mark) → m ≡ Absent → IsMarkWithin m n
 absent_within m n is = subst (λ (o : Mark). IsMarkWithin o n) (sym is) tt
 
-within_or_not : (a b : Label) → IsWithin (marks a) (marks b) ⊎ ¬ IsWithin (marks a) (marks b)
-within_or_not a b = elim (marks_within_or_not (marks a) (marks b) 52) [
+within_or_not : MarksEnd → (a b : Label) → IsWithin (marks a) (marks b) ⊎ ¬ IsWithin (marks a) (marks b)
+within_or_not end a b = elim (marks_within_or_not (marks a) (marks b) 52) [
   | inr not ↦ inr not
-  | inl below ↦ inl (λ p. elim (cases_lt p 52) [ inl less ↦ below p less | inr above ↦ absent_within (marks a p) (marks b p) (unmarked_above a p above) ])
+  | inl below ↦ inl (λ p. elim (cases_lt p 52) [ inl less ↦ below p less | inr above ↦ absent_within (marks a p) (marks b p) (end a p above) ])
 ]
 
 least_or_not : (a b : ℤ) → (a ≤ℤ b) ⊎ ¬ (a ≤ℤ b)
@@ -66,12 +74,12 @@ either_least a b = elim (cases_Bool (int_le a b)) [ inl y ↦ inl (least a b y) 
     most c d is = grind (arith, ints)
 
 -- a bound dominates another or it doesn't
-pub over_or_not : (a b : Bound) → IsOver a b ⊎ ¬ IsOver a b
-over_or_not a b = elim (cases_eq a.node.0 b.node.0) [
+pub over_or_not : MarksEnd → (a b : Bound) → IsOver a b ⊎ ¬ IsOver a b
+over_or_not end a b = elim (cases_eq a.node.0 b.node.0) [
   | inr other ↦ inr (λ over. other over.node)
   | inl node ↦ elim (least_or_not b.least a.least) [
     | inr less ↦ inr (λ over. less over.least)
-    | inl least ↦ elim (within_or_not a.label b.label) [
+    | inl least ↦ elim (within_or_not end a.label b.label) [
       | inr not ↦ inr (λ over. not over.label)
       | inl label ↦ inl (record { node = node; least = least; label = label })
     ]
@@ -82,7 +90,7 @@ pub over_through : (a b c : Bound) → IsOver a b → IsOver b c → IsOver a c
 over_through a b c x y = record {
   node = x.node ∙ y.node;
   least = between c.least b.least a.least y.least x.least;
-  label = within_through (marks a.label) (marks b.label) (marks c.label) x.label y.label;
+  label = λ p. mark_through (marks a.label p) (marks b.label p) (marks c.label p) (x.label p) (y.label p);
 }
   where
     between : (u v w : ℤ) → u ≤ℤ v → v ≤ℤ w → u ≤ℤ w
@@ -91,6 +99,6 @@ over_through a b c x y = record {
 -- of two bounds of one time-point and label, one dominates the other
 pub one_is_over : (a b : Bound) → a.node.0 ≡ b.node.0 → a.label ≡ b.label → IsOver a b ⊎ IsOver b a
 one_is_over a b node label = elim (either_least b.least a.least) [
-  | inl le ↦ inl (record { node = node; least = le; label = subst (λ (l : Label). IsWithin (marks a.label) (marks l)) label (within_itself (marks a.label)) })
-  | inr ge ↦ inr (record { node = sym node; least = ge; label = subst (λ (l : Label). IsWithin (marks l) (marks a.label)) label (within_itself (marks a.label)) })
+  | inl le ↦ inl (record { node = node; least = le; label = subst (λ (l : Label). IsWithin (marks a.label) (marks l)) label (λ p. mark_itself (marks a.label p)) })
+  | inr ge ↦ inr (record { node = sym node; least = ge; label = subst (λ (l : Label). IsWithin (marks l) (marks a.label)) label (λ p. mark_itself (marks a.label p)) })
 ]

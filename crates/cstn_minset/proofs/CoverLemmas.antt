@@ -6,14 +6,14 @@ use Rattle.std.proofs.lemmas.Bool.{cases_eq}
 use Rattle.std.proofs.lemmas.Option.{none-some}
 use Rattle.cstn_label.specs.declared.bounds.Bound.{Bound}
 use Rattle.cstn_minset.specs.Sets.{Entries, entry_at, IsPlaced, IsCovered, IsCleared, IsMinimal}
-use Rattle.cstn_minset.proofs.BoundLemmas.{over_or_not, over_through, one_is_over}
+use Rattle.cstn_minset.proofs.BoundLemmas.{MarksEnd, over_or_not, over_through, one_is_over}
 
 -- what was covered before a bound was placed is covered afterwards
-pub covering_grows : (old cleared : Entries) (b c : Bound) (slot birth : ℕ) → IsCleared b old cleared → slot < length cleared → entry_at cleared slot ≡ None → IsCovered old c → IsCovered (set cleared slot (Some (birth, b))) c
-covering_grows old cleared b c slot birth is inside free covered =
+pub covering_grows : MarksEnd → (old cleared : Entries) (b c : Bound) (slot birth : ℕ) → IsCleared b old cleared → slot < length cleared → entry_at cleared slot ≡ None → IsCovered old c → IsCovered (set cleared slot (Some (birth, b))) c
+covering_grows end old cleared b c slot birth is inside free covered =
     let u : ℕ = covered.0 in
     let e : ℕ × Bound = covered.1 in
-    elim (over_or_not b e.1) [
+    elim (over_or_not end b e.1) [
       | inl over ↦ (slot, (birth, b), get_or-set_same cleared slot (Some (birth, b)) None inside, over_through b e.1 c over covered.3)
       | inr not ↦
           let stays = is.kept u e covered.2 not in

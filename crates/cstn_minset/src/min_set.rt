@@ -5,7 +5,7 @@ ghost use Rattle.cstn_minset.specs.Links.{IsNext, IsKeyed};
 
 use crate::links::Links;
 use crate::table::Table;
-use cstn_label::{Bound, Mark, NodeId, Prop};
+use cstn_label::{Bound, Mark, NodeId, Prop, labels_are_their_marks};
 use cstn_pool::SlotId;
 use std::alloc::{AllocError, Global};
 use std::marker::Model;
@@ -81,6 +81,7 @@ impl MinSet {
         ensures placed { (cleared : Entries) × IsCleared b.now self.old.table cleared × (self.new ≡ record self.old { table = slice_set cleared id.slot (Some (id.birth, b.now)) }) }
         ensures covering_grows { (c : Bound) → IsCovered self.old.table c → IsCovered self.new.table c }
     {
+        labels_are_their_marks();
         let above = self.clear_for(b);
         self.put(*b, id.slot, id.birth, above);
     }

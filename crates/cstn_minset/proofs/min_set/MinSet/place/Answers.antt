@@ -11,5 +11,5 @@ pub returns-clause-covering_grows : goal.returns-clause-covering_grows
 returns-clause-covering_grows c = λ b covered.
     let cleared = c.clear_for-above.ensures.cleared in
     subst (λ (v : Places). IsCovered v.table b) (sym c.put.ensures)
-    (covering_grows c.args.self.now.table c.clear_for-above.new.self.table c.args.b.now b c.args.id.slot c.args.id.birth cleared (omega (arith, cleared.size, c.requires.slot))
+    (covering_grows c.labels_are_their_marks.ensures.above c.args.self.now.table c.clear_for-above.new.self.table c.args.b.now b c.args.id.slot c.args.id.birth cleared (omega (arith, cleared.size, c.requires.slot))
     (emptied_at c.args.b.now c.args.self.now.table c.clear_for-above.new.self.table c.args.id.slot cleared c.requires.free) covered)
