@@ -22,7 +22,7 @@ use cstn_label::{Bound, Label, NodeId, Prop};
 use cstn_minset::MinSet;
 use cstn_net::Network;
 use cstn_pool::{Full, Pool, SlotId};
-use cstn_rules::{Entry, Why};
+use cstn_rules::{Entry, Why, derivations_are_sound};
 use std::alloc::{AllocError, Global};
 use std::marker::Model;
 
@@ -176,6 +176,7 @@ impl Log {
         ensures premises { PremisesBelow k result.why }
         ensures holds { (net : TheNetwork) (table : Table) → IsNetwork net → IsStrategy net table → IsDerivation net (the_entries self.now.entries) → HoldsIn net table (the_bound result.bound) }
     {
+        derivations_are_sound();
         self.list.entry(k as usize)
     }
 

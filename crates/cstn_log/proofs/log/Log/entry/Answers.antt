@@ -2,7 +2,6 @@ use Rattle.std.proofs.Common.{◌≡◌, ◌<◌, ℕ, Some, subst}
 use Rattle.std.specs.Prelude.{slice_get}
 use Rattle.cstn_rules.specs.declared.entries.Entry.{Entry}
 use Rattle.cstn_rules.specs.Read.{the_entry}
-use Rattle.cstn_rules.proofs.Derived.{each_holds}
 use Rattle.cstn_log.specs.Entries.{State, the_entries}
 use Rattle.cstn_log.proofs.StepLemmas.{entry_read}
 use Rattle.cstn_log.proofs.log.Log.entry.Goals as goal
@@ -18,5 +17,5 @@ returns-clause-node c =
 
 pub returns-clause-holds : goal.returns-clause-holds
 returns-clause-holds c = λ net table good strategy derivation.
-    each_holds net table (the_entries c.args.self.now.entries) good strategy derivation c.args.k (the_entry c.entry.result)
+    c.derivations_are_sound.ensures.each net table (the_entries c.args.self.now.entries) c.args.k (the_entry c.entry.result) good strategy derivation
     (entry_read c.args.self.now.entries c.args.k c.entry.result (returns-clause-entry c))

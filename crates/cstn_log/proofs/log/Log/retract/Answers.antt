@@ -5,7 +5,6 @@ use Rattle.std.proofs.lemmas.Option.{slice_get_within}
 use Rattle.cstn_pool.specs.declared.slot_id.SlotId.{SlotId}
 use Rattle.cstn_rules.specs.Derivations.{Entry as TheEntry, IsDerivation}
 use Rattle.cstn_rules.specs.Read.{the_entry}
-use Rattle.cstn_rules.proofs.Derived.{with_constraints}
 use Rattle.cstn_log.specs.Entries.{State, HasId, the_entries}
 use Rattle.cstn_log.specs.Kept.{AreLeft, IsPooled, renewed}
 use Rattle.cstn_log.specs.Cuts.{is_marked, rank, chosen, cut, marked_staying, dropped}
@@ -76,7 +75,7 @@ returns-then-staying-before-clause-derivation c = λ net constraints others deri
     let same : cut M (the_entries E) ≡ the_entries E = cut_all M (the_entries E) c.len-before.ensures.earlier whole in
     let still : dropped (the_entries E) c.args.constraint ≡ the_entries E = ap (λ m. cut m (the_entries E)) (sym marks) ∙ same in
     let was : IsDerivation net (the_entries E) = subst (λ (v : State). IsDerivation net (the_entries v.entries)) (sym c.self.view_is) derivation in
-    subst (λ (es : List TheEntry). IsDerivation (with_constraints net constraints) es) still (dropped_derivation net constraints (the_entries E) c.args.constraint others was)
+    subst (λ (es : List TheEntry). IsDerivation (record net { constraints = constraints }) es) still (dropped_derivation net constraints (the_entries E) c.args.constraint others was)
 
 pub keep-requires-clause-closed : goal.keep-requires-clause-closed
 keep-requires-clause-closed c =
