@@ -1,9 +1,11 @@
 -- Steps of the program that can be written.
-use Rattle.std.proofs.Common.{ℕ, ◌≡◌, ◌<◌, List, [], ◌∷◌, length, map, arith, sym, subst}
+use Rattle.std.proofs.Common.{ℕ, ◌≡◌, ◌<◌, ◌≤◌, List, [], ◌∷◌, length, map, arith, sym, subst}
 use Rattle.std.specs.List.{All}
 use Rattle.std.proofs.lemmas.List.{length-map}
 use Rattle.std.proofs.lemmas.List.Elements.{All-nil, All-cons, All-get_or, All-tail}
-use Rattle.cstn_label.proofs.ReadLemmas.{unmarked_above}
+use Rattle.cstn_label.specs.declared.labels.Label.{Label}
+use Rattle.cstn_label.specs.declared.marks.Mark.TheVariants.{Absent}
+use Rattle.cstn_label.specs.Read.{marks}
 use Rattle.cstn_rules.specs.declared.entries.Entry.{Entry as DeclaredEntry}
 use Rattle.cstn_rules.specs.Read.{the_entry}
 use Rattle.cstn_text.specs.Names.{AreNames}
@@ -21,25 +23,29 @@ IsNamed names e = e.bound.node.0 < length names
 abbrev HasPlaces : DeclaredEntry → Type 0
 HasPlaces e = ArePlaces e.why
 
-are_written : (names : List (List ℕ)) (xs : List DeclaredEntry) → All (IsNamed names) xs → All IsStep xs → All HasPlaces xs →
+-- no proposition above 51 is marked
+abbrev pub MarksEnd : Type 0
+MarksEnd = (a : Label) (p : ℕ) → 52 ≤ p → marks a p ≡ Absent
+
+are_written : MarksEnd → (names : List (List ℕ)) (xs : List DeclaredEntry) → All (IsNamed names) xs → All IsStep xs → All HasPlaces xs →
     All (IsPrintableStep names) (map the_entry xs)
-are_written names [] named steps places = All-nil (IsPrintableStep names)
-are_written names (x ∷ xs) named steps places =
+are_written end names [] named steps places = All-nil (IsPrintableStep names)
+are_written end names (x ∷ xs) named steps places =
     let step = first IsStep x xs steps in
     All-cons (IsPrintableStep names) (the_entry x) (map the_entry xs)
-    (record { node = first (IsNamed names) x xs named; low = step.low; high = step.high; marks = unmarked_above x.bound.label; places = first HasPlaces x xs places })
-    (are_written names xs (All-tail (IsNamed names) x xs named) (All-tail IsStep x xs steps) (All-tail HasPlaces x xs places))
+    (record { node = first (IsNamed names) x xs named; low = step.low; high = step.high; marks = end x.bound.label; places = first HasPlaces x xs places })
+    (are_written end names xs (All-tail (IsNamed names) x xs named) (All-tail IsStep x xs steps) (All-tail HasPlaces x xs places))
 
 -- what is printed of a refutation is read again
-pub refutation_back : (names : List (List ℕ)) (r : RefutationParts) (text : List ℕ) → AreNames names → AreSteps r.steps → All (IsNamed names) r.steps →
+pub refutation_back : MarksEnd → (names : List (List ℕ)) (r : RefutationParts) (text : List ℕ) → AreNames names → AreSteps r.steps → All (IsNamed names) r.steps →
     All HasPlaces r.steps → FitsText r → text ≡ shown names r.load (the_steps r) → told names text ≡ tells r.load (the_steps r)
-refutation_back names r text are steps named places fits is =
+refutation_back end names r text are steps named places fits is =
     let written : AreWritten names r.load (the_steps r) = record {
       load_low = fits.load_low;
       load_high = fits.load_high;
       some = rw (length-map r.steps the_entry) steps.some;
       few = rw (length-map r.steps the_entry) fits.few;
-      each = are_written names r.steps named steps.each places;
+      each = are_written end names r.steps named steps.each places;
     } in
     subst (λ t. told names t ≡ tells r.load (the_steps r)) (sym is) (shown_back names r.load (the_steps r) are written)
 

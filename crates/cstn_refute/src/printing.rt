@@ -12,7 +12,7 @@ ghost use Rattle.cstn_refute.specs.Texts.{shown, told, tells};
 ghost use Rattle.cstn_refute.specs.Written.{ArePlaces};
 
 use crate::refutations::Refutation;
-use cstn_label::Bound;
+use cstn_label::{Bound, labels_are_their_marks};
 use cstn_rules::{Entry, Why};
 use cstn_text::{Names, print_name, push_label, push_number, push_value};
 use std::alloc::{AllocError, Global};
@@ -30,6 +30,7 @@ impl Refutation {
         ensures shown { IfOk result (λ text. string_bytes text ≡ shown names.now self.now.load (the_steps self.now)) }
         ensures back { FitsText self.now → IfOk result (λ text. told names.now (string_bytes text) ≡ tells self.now.load (the_steps self.now)) }
     {
+        labels_are_their_marks();
         let printed = print_names(alloc, names)?;
         let steps = self.steps();
         let mut text = String::with_capacity(alloc, USUAL_LINE * (steps.len() + 1))?;

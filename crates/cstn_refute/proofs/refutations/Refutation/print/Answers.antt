@@ -38,7 +38,7 @@ pub returns-clause-back : goal.returns-clause-back
 returns-clause-back c fits =
     let xs = c.steps-steps.result.now in
     let all : take c.loop-k.k xs ≡ c.args.self.now.steps = take_all c.loop-k.k xs c.loop-k-test.false ∙ c.steps-steps.ensures.steps in
-    refutation_back c.args.names.now c.args.self.now (string_bytes c.loop-k.text) c.print_names.ensures.names
+    refutation_back c.labels_are_their_marks.ensures.above c.args.names.now c.args.self.now (string_bytes c.loop-k.text) c.print_names.ensures.names
     (subst AreSteps c.steps-steps.ensures.steps c.steps-steps.ensures.form) c.requires.named
     (subst (All (λ e. ArePlaces e.why)) all c.loop-k.invariant.places) fits
     (c.loop-k.invariant.text
