@@ -1,5 +1,5 @@
 -- One step, by its rule.
-use Rattle.std.proofs.Common.{ℕ, zero, suc, ◌≡◌, ◌-◌, ◌<◌, ◌↔◌, List, Some, length, map, arith, inl, inr, refl, sym, subst, ap, ◌∙◌}
+use Rattle.std.proofs.Common.{ℕ, zero, suc, ◌≡◌, ◌+◌, ◌-◌, ◌<◌, ◌↔◌, List, Some, length, map, arith, inl, inr, refl, sym, subst, ap, ◌∙◌}
 use Rattle.std.specs.Prelude.{pos, ◌≤ℤ◌, slice_get, option_map}
 use Rattle.std.specs.List.{All, AllPairs, Contains}
 use Rattle.std.proofs.lemmas.Int.{ints}
@@ -8,14 +8,13 @@ use Rattle.std.proofs.lemmas.Option.{slice_get-map, slice_get_cases}
 use Rattle.std.proofs.lemmas.List.{length-map}
 use Rattle.cstn_label.specs.Bounds.{Bound as TheBound}
 use Rattle.cstn_label.specs.Read.{the_bound}
-use Rattle.cstn_net.specs.Networks.{Network, IsNetwork, IsConstraint, Constraint}
+use Rattle.cstn_net.specs.Networks.{Network, IsNetwork, IsConstraint, Constraint, count, limit}
 use Rattle.cstn_rules.specs.declared.entries.Why.{Why}
 use Rattle.cstn_rules.specs.declared.entries.Why.TheVariants.{Base, Chain, Wait}
 use Rattle.cstn_rules.specs.declared.entries.Entry.{Entry as DeclaredEntry}
 use Rattle.cstn_rules.specs.Rules.{IsBase, IsChain, IsWait, IsBoundOf}
 use Rattle.cstn_rules.specs.Derivations.{Entry, IsEarlier, Follows}
 use Rattle.cstn_rules.specs.Read.{the_entry}
-use Rattle.cstn_rules.proofs.Shapes.{chain_within, wait_within}
 use Rattle.cstn_refute.specs.Refutations.{IsStep}
 use Rattle.cstn_replay.proofs.IdLemmas.{one_id}
 use Rattle.cstn_replay.specs.Wrong.{IsRight, AreRightBefore}
@@ -32,25 +31,35 @@ base_within : (net : Network) (r : TheBound) → IsBase net r → IsBoundOf net 
 base_within net r is = subst (λ x. IsBoundOf net x) (sym is.gives)
     (record { node = is.node; low = omega (arith, ints); high = omega (arith, ints) })
 
-follows_within : (net : Network) (steps : List Entry) (k : ℕ) (why : Why) (r : TheBound) → IsNetwork net →
+-- what chain gives is at a time-point of the network, and asks for at most the limit + 1
+abbrev pub ChainsStay : Type 0
+ChainsStay = (net : Network) (c : Constraint) (b r : TheBound) → IsConstraint net c → IsChain net c b r →
+    (r.node < count net) × (r.least ≤ℤ pos (limit net r.node + 1))
+
+-- and so is what wait gives
+abbrev pub WaitsStay : Type 0
+WaitsStay = (net : Network) (p : ℕ) (seen b r : TheBound) → b.node < count net → IsWait net p seen b r →
+    (r.node < count net) × (r.least ≤ℤ pos (limit net r.node + 1))
+
+follows_within : ChainsStay → WaitsStay → (net : Network) (steps : List Entry) (k : ℕ) (why : Why) (r : TheBound) → IsNetwork net →
     AreWithin net steps k → pos 0 ≤ℤ r.least → Follows net steps k why r → IsBoundOf net r
-follows_within net steps k Base r good before low f = base_within net r f
-follows_within net steps k (Chain id i) r good before low f =
-    let within = chain_within net f.0 f.1 r (All-contains (IsConstraint net) net.constraints f.0 good.constraints f.2) f.5 in
+follows_within chains waits net steps k Base r good before low f = base_within net r f
+follows_within chains waits net steps k (Chain id i) r good before low f =
+    let within = chains net f.0 f.1 r (All-contains (IsConstraint net) net.constraints f.0 good.constraints f.2) f.5 in
     record { node = within.0; low = low; high = within.1 }
-follows_within net steps k (Wait i j) r good before low f =
+follows_within chains waits net steps k (Wait i j) r good before low f =
     let e = f.4 in
     let here = subst (λ x. IsBoundOf net x) e.bound (before j e.entry e.before e.there) in
-    let within = wait_within net f.0 f.1 f.2 r here.node f.5 in
+    let within = waits net f.0 f.1 f.2 r here.node f.5 in
     record { node = within.0; low = low; high = within.1 }
 
 -- what follows is at a time-point of the network, with a least value from 0 to the limit + 1
-pub all_within : (net : Network) (steps : List Entry) (k : ℕ) → IsNetwork net → AreLow steps →
+pub all_within : ChainsStay → WaitsStay → (net : Network) (steps : List Entry) (k : ℕ) → IsNetwork net → AreLow steps →
     AreRightBefore net steps k → AreWithin net steps k
-all_within net steps zero good low right i e h there = absurd (omega arith)
-all_within net steps (suc k) good low right i e h there =
-    let before : AreWithin net steps i = λ j d g t. all_within net steps k good low (λ m n. right m (omega arith)) j d (omega arith) t in
-    follows_within net steps i e.why e.bound good before (low i e there) (right i h e there)
+all_within chains waits net steps zero good low right i e h there = absurd (omega arith)
+all_within chains waits net steps (suc k) good low right i e h there =
+    let before : AreWithin net steps i = λ j d g t. all_within chains waits net steps k good low (λ m n. right m (omega arith)) j d (omega arith) t in
+    follows_within chains waits net steps i e.why e.bound good before (low i e there) (right i h e there)
 
 pub there_image : (xs : List DeclaredEntry) (k : ℕ) (x : DeclaredEntry) → slice_get xs k ≡ Some x →
     slice_get (map the_entry xs) k ≡ Some (the_entry x)

@@ -11,7 +11,7 @@ use crate::answers::Answer;
 use crate::steps::{follows, is_well_formed, step_at};
 use cstn_net::Network;
 use cstn_refute::Refutation;
-use cstn_rules::{Entry, refutes};
+use cstn_rules::{Entry, conclusions_stay_within, derivations_are_sound, refutes};
 
 /// Whether the steps are a refutation of the network. Then it has no strategy. The load isn't looked at.
 ///
@@ -21,6 +21,7 @@ pub fn replay(net: &Network, r: &Refutation) -> Answer
     ensures truth { result ≡ Answer.Accepted → IsConsistent (the_network net.now) → ⊥ }
     ensures rejected { (k : ℕ) → (result ≡ Answer.Rejected k) ↔ (IsFirstWrong (the_network net.now) (the_steps r.now) k ⊎ EndsInVain (the_network net.now) (the_steps r.now) k) }
 {
+    derivations_are_sound();
     let steps = r.steps();
     is_well_formed(net);
     match first_wrong(net, steps) {
@@ -66,6 +67,7 @@ fn is_refuting(net: &Network, steps: &[Entry]) -> bool
     ensures refuting { IsTrue result ↔ IsRefutation (the_network net.now) (map the_entry steps.now) }
 {
     is_well_formed(net);
+    conclusions_stay_within();
     let last = step_at(steps, steps.len() - 1);
     refutes(net, &last.bound)
 }

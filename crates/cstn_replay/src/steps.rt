@@ -11,9 +11,11 @@ ghost use Rattle.cstn_rules.specs.Read.{the_entry};
 ghost use Rattle.cstn_refute.specs.Refutations.{AreSteps};
 ghost use Rattle.cstn_replay.specs.Wrong.{IsRight, AreRightBefore};
 
-use cstn_label::{Bound, Label, NodeId};
+use cstn_label::{Bound, Label, NodeId, labels_are_their_marks};
 use cstn_net::{Constraint, Network};
-use cstn_rules::{Entry, Tries, Why, chain, wait};
+use cstn_rules::{
+    Entry, Tries, Why, chain, conclusions_stay_within, rules_have_one_conclusion, wait,
+};
 
 /// Whether the step at a place follows by its rule, where each step before it does.
 pub(crate) fn follows(net: &Network, steps: &[Entry], k: usize) -> bool
@@ -63,6 +65,7 @@ fn is_given(net: &Network, steps: &[Entry], k: usize, why: Why, bound: Bound) ->
 fn is_base(net: &Network, bound: Bound) -> bool
     ensures base { IsTrue result ↔ IsBase (the_network net.now) (the_bound bound) }
 {
+    labels_are_their_marks();
     bound.node.0 < net.count() && are_same(base(bound.node), bound)
 }
 
@@ -84,6 +87,8 @@ fn is_chained(net: &Network, steps: &[Entry], k: usize, id: u32, i: u32, bound: 
     ensures chained { IsTrue result ↔ Follows (the_network net.now) (map the_entry steps.now) k (Chain id i) (the_bound bound) }
 {
     is_well_formed(net);
+    labels_are_their_marks();
+    rules_have_one_conclusion();
     let Some(constraint) = constraint_of(net, id) else {
         return false;
     };
@@ -102,6 +107,8 @@ fn is_awaited(net: &Network, steps: &[Entry], k: usize, i: u32, j: u32, bound: B
     requires before { AreRightBefore (the_network net.now) (map the_entry steps.now) k }
     ensures awaited { IsTrue result ↔ Follows (the_network net.now) (map the_entry steps.now) k (Wait i j) (the_bound bound) }
 {
+    labels_are_their_marks();
+    rules_have_one_conclusion();
     let Some(seen) = premise(net, steps, k, i) else {
         return false;
     };
@@ -126,6 +133,7 @@ fn is_exactly(conclusion: Option<Bound>, bound: Bound) -> bool
 fn are_same(a: Bound, b: Bound) -> bool
     ensures same { IsTrue result ↔ (a ≡ b) }
 {
+    labels_are_their_marks();
     a == b
 }
 
@@ -139,6 +147,7 @@ fn premise(net: &Network, steps: &[Entry], k: usize, i: u32) -> Option<Bound>
     ensures none { IfNone result (i < k → ⊥) }
 {
     is_well_formed(net);
+    conclusions_stay_within();
     if i as usize >= k {
         return None;
     }

@@ -3,13 +3,12 @@ use Rattle.cstn_replay.specs.declared.answers.Answer.TheVariants.{Rejected}
 use Rattle.cstn_replay.specs.Wrong.{IsFirstWrong, EndsInVain}
 use Rattle.cstn_net.specs.Read.{the_network}
 use Rattle.cstn_rules.specs.Read.{the_entry}
-use Rattle.cstn_rules.proofs.Derived.{refuted_inconsistent}
 use Rattle.cstn_replay.proofs.ReplayLemmas.{none_wrong}
 use Rattle.cstn_replay.proofs.replays.replay.Goals as goal
 
 pub returns-in-None-clause-truth : goal.returns-in-None-clause-truth
 returns-in-None-clause-truth c e =
-    refuted_inconsistent (the_network c.args.net.now) (map the_entry c.steps-steps.result.now) c.is_well_formed.ensures.network
+    c.derivations_are_sound.ensures.refuted (the_network c.args.net.now) (map the_entry c.steps-steps.result.now) c.is_well_formed.ensures.network
     (c.end.ensures.accepted.0 e)
 
 pub returns-in-None-clause-rejected : goal.returns-in-None-clause-rejected

@@ -4,5 +4,5 @@ use Rattle.cstn_replay.proofs.steps.are_same.Goals as goal
 
 pub returns : goal.returns
 returns c =
-    let parts = tested c.args.a c.args.b in
+    let parts = tested c.labels_are_their_marks.ensures.equal c.args.a c.args.b in
     record { same = (λ t. parts.0 (sym c.eq.ensures ∙ t), λ e. c.eq.ensures ∙ parts.1 e) }

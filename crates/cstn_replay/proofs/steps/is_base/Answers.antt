@@ -9,6 +9,6 @@ returns-then-bound-count c =
     record {
       base = (
         λ t. record { node = subst (λ n. c.args.bound.node.0 < n) c.count.ensures.count inside; gives = sym (ap the_bound (c.are_same.ensures.same.0 t)) ∙ c.base.ensures.base },
-        λ is. c.are_same.ensures.same.1 (same_bounds c.base.result c.args.bound (c.base.ensures.base ∙ sym is.gives)),
+        λ is. c.are_same.ensures.same.1 (same_bounds c.labels_are_their_marks.ensures.equal c.base.result c.args.bound (c.base.ensures.base ∙ sym is.gives)),
       );
     }

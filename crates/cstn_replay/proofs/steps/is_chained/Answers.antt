@@ -5,7 +5,6 @@ use Rattle.cstn_net.specs.Networks.{Constraint}
 use Rattle.cstn_net.specs.Read.{the_network, the_constraint}
 use Rattle.cstn_rules.specs.Rules.{IsChain}
 use Rattle.cstn_rules.specs.Read.{the_entry}
-use Rattle.cstn_rules.proofs.Shapes.{one_chain}
 use Rattle.cstn_replay.proofs.IdLemmas.{contains_image}
 use Rattle.cstn_replay.proofs.SameLemmas.{concluded}
 use Rattle.cstn_replay.proofs.StepLemmas.{chain_follows}
@@ -26,8 +25,8 @@ returns c =
     let net = the_network c.args.net.now in
     let constraint = c.in-Some.constraint.now in
     let b = the_bound c.in-Some-premise.premise in
-    let given = concluded {P = λ q. IsChain net (the_constraint constraint) b q} c.chain-given.result c.args.bound c.chain-given.ensures.chain
-    c.chain-given.ensures.none (λ q s one other. one_chain net (the_constraint constraint) b q s one other) in
+    let given = concluded {P = λ q. IsChain net (the_constraint constraint) b q} c.labels_are_their_marks.ensures.equal c.chain-given.result c.args.bound c.chain-given.ensures.chain
+    c.chain-given.ensures.none (c.rules_have_one_conclusion.ensures.chain net (the_constraint constraint) b) in
     let follows = chain_follows net (map the_entry c.args.steps.now) c.args.k c.args.id c.args.i (the_constraint constraint) b (the_bound c.args.bound)
     c.is_well_formed.ensures.ascending
     (contains_image the_constraint c.args.net.now.constraints constraint c.in-Some.ensures.there) c.in-Some.ensures.id c.in-Some-premise.ensures.earlier in
