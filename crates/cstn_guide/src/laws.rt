@@ -18,6 +18,8 @@ ghost use Rattle.cstn_guide.specs.Guides.{Guided, begun, named_at, holds_by, tol
 ghost use Rattle.cstn_guide.specs.Sound.{HoldsBy, IsRuledOut, IsToldAt, IsLeftAt, IsGuided, IsOnTime, IsLed};
 ghost use Rattle.cstn_guide.specs.Examples.{guide_answers, treatment, treatment_plan, needed_events, needed_answers, spared_events, spared_answers, second_test, second_test_plan, no_second_test_events, no_second_test_answers, second_test_events, second_test_answers};
 
+use cstn_lift::observers_are_found;
+
 /// The state with nothing executed is right, and accepted moments and outcomes keep a state right.
 pub fn guides_stay_right()
     ensures begun { (m : Labelled) (bounds : List Bound) (table : Table) → IsLabelled m → IsWellFormed (lowered m) → IsEarliest (lowered m) bounds table → IsGuided m (begun (count m.base)) }
@@ -50,7 +52,9 @@ pub fn guides_are_on_time()
 /// An outcome is refused as not observed exactly where nobody who was named observes the proposition.
 pub fn outcomes_are_of_the_named()
     ensures refused { (m : Labelled) (g : Guided) (p : ℕ) → IsWellFormed (lowered m) → (see_refusal m g p ≡ Some (NotExecuted p) ↔ ((x : ℕ) → Observes (lowered m) x p → named_at g x ≡ None)) }
-{}
+{
+    observers_are_found();
+}
 
 /// Where no time-point has a label, a guide names everybody, leaves nobody out, and refuses what the executive refuses.
 pub fn unlabelled_guides_are_executives()
