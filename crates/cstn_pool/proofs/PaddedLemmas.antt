@@ -51,6 +51,12 @@ padded_more blank n m written within more =
     let rest : (m - length written) + (n - m) ≡ n - length written = omega arith in
     rw (all, count) (append_assoc written (replicate (m - length written) blank) (replicate (n - m) blank) ∙ ap (λ xs. written ++ xs) (replicate-append-replicate (m - length written) (n - m) blank ∙ ap (λ k. replicate k blank) rest))
 
+-- a place is written, whether or not it was written before
+pub padded_write : {A : Type 0} (blank : A) (n m i : ℕ) (x : A) (written : List A) → m ≤ n → length written ≤ m → i < m → padded blank n (set (take m written ++ replicate (m - length written) blank) i x) ≡ set (padded blank n written) i x
+padded_write blank n m i x written within more inside =
+    let size : length (take m written ++ replicate (m - length written) blank) ≡ m = rw (take_all m written more) (padded_length blank m written more) in
+    padded_set blank n i x (take m written ++ replicate (m - length written) blank) (omega (arith, size)) ∙ ap (λ ys. set ys i x) (padded_more blank n m written within more)
+
 -- an empty pool holds no value
 pub none_held : {T : Type 0} (k slot birth : ℕ) → value_at {T = T} (replicate k None) slot birth ≡ None
 none_held zero slot birth = refl

@@ -1,6 +1,6 @@
-// Laws of lists of calls on a pool.
-ghost use Rattle.std.specs.Prelude.{◌≡◌, ◌<◌, ◌≤◌, ℕ, List, None};
-ghost use Rattle.cstn_pool.specs.Slots.{Slots, value_at};
+// Laws of lists of calls on a pool, and of lists that blanks fill up.
+ghost use Rattle.std.specs.Prelude.{◌≡◌, ◌<◌, ◌≤◌, ◌-◌, ◌++◌, ℕ, List, None, length, take, replicate, slice_index_or, slice_set};
+ghost use Rattle.cstn_pool.specs.Slots.{Slots, value_at, padded};
 ghost use Rattle.cstn_pool.specs.Calls.{Call, AfterCalls};
 
 /// Whatever is called, births never fall, and an id whose value went names nothing ever after. An
@@ -8,4 +8,13 @@ ghost use Rattle.cstn_pool.specs.Calls.{Call, AfterCalls};
 pub fn births_never_come_back<T: Copy>()
     ensures births { (calls : List (Call T)) (before after : Slots T) → AfterCalls calls before after → before.births ≤ after.births }
     ensures gone { (calls : List (Call T)) (before after : Slots T) (slot birth : ℕ) → AfterCalls calls before after → birth < before.births → value_at before.slots slot birth ≡ None → value_at after.slots slot birth ≡ None }
+{}
+
+/// What was written, with blanks up to a count, has that many places, and past what was written a
+/// blank is read. A place is written in the whole where what was written is first filled up with
+/// blanks so far that it has this place.
+pub fn blanks_fill_up_to_a_count<A: Copy>()
+    ensures length { (blank : A) (count : ℕ) (written : List A) → length written ≤ count → length (padded blank count written) ≡ count }
+    ensures at { (blank : A) (count place : ℕ) (written : List A) → slice_index_or (padded blank count written) place blank ≡ slice_index_or written place blank }
+    ensures set { (blank : A) (count more place : ℕ) (x : A) (written : List A) → more ≤ count → length written ≤ more → place < more → padded blank count (slice_set (take more written ++ replicate (more - length written) blank) place x) ≡ slice_set (padded blank count written) place x }
 {}

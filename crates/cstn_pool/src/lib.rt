@@ -9,6 +9,6 @@ mod laws;
 mod pool;
 mod slot_id;
 
-pub use laws::births_never_come_back;
+pub use laws::{births_never_come_back, blanks_fill_up_to_a_count};
 pub use pool::{Full, Pool};
 pub use slot_id::SlotId;
