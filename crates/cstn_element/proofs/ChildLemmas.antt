@@ -1,12 +1,12 @@
 -- Reading what stands in an element, one element at a time.
-use Rattle.std.proofs.Common.{◌≡◌, ℕ, List, [], ◌∷◌, refl, ap, sym, ◌∙◌, Ok, Err, Result, true, false, ◌<◌, length, Bool, subst, lt-ltb}
-use Rattle.std.specs.Prelude.{nat_lt, if◌then◌else◌}
+use Rattle.std.proofs.Common.{◌≡◌, ℕ, List, ◌∷◌, refl, ap, sym, ◌∙◌, Ok, Err, true, false, ◌<◌, length, Bool, subst, lt-ltb}
+use Rattle.std.specs.Prelude.{if◌then◌else◌}
 use Rattle.std.specs.List.{list_all}
 use Rattle.cstn_markup.specs.Bytes.{is_white}
 use Rattle.cstn_markup.specs.Tokens.{Attribute, Token}
 use Rattle.cstn_markup.specs.Tokens.Kind.{start_tag, text_run}
 use Rattle.cstn_markup.specs.Steps.{StepsBy}
-use Rattle.cstn_element.specs.Results.{Refusal, ◌>>=◌, demand}
+use Rattle.cstn_element.specs.Results.{◌>>=◌, demand}
 use Rattle.cstn_element.specs.Results.Refusal.{shape}
 use Rattle.cstn_element.specs.Contents.{Tag, Content, contents, inner, outer, all_cut, opened}
 use Rattle.cstn_element.specs.Contents.Content.{done, cut, run, element}
@@ -111,6 +111,6 @@ module _ {S A : Type 0} (r : Reading S A) (blanks : (s : S) (at : ℕ) (raw : Li
       unfolding read_by
       fold_done x at after n e = record { told = c.told ∙ read_past s _ ∙ ap (read_by r s) n.told ∙ e; left = c.left ∙ n.left }
 
-      pub fold_done_fails : (at : ℕ) (after : List Token) → Reaches (name ∷ others) before (done at) (contents others after) → r.ends s at ≡ Err (shape at) → Reads view (read_by r start) name others first after (Err (Shape at))
+      pub fold_done_fails : (e : DocError) (at : ℕ) (after : List Token) → Reaches (name ∷ others) before (done at) (contents others after) → Fails e (r.ends s at) → Reads view (read_by r start) name others first after (Err e)
       unfolding read_by
-      fold_done_fails at after n e = record { told = c.told ∙ read_past s _ ∙ ap (read_by r s) n.told ∙ e; left = tt }
+      fold_done_fails e at after n f = record { told = subst (Fails e) (sym (c.told ∙ read_past s _ ∙ ap (read_by r s) n.told)) f; left = tt }

@@ -7,16 +7,11 @@ use Rattle.cstn_element.specs.Results.{Refusal, ◌>>=◌, demand}
 use Rattle.cstn_element.specs.Results.Refusal.{shape}
 use Rattle.cstn_element.specs.Elements.{passed, blank, Datum, child}
 use Rattle.cstn_element.specs.Contents.{Tag, Content}
-use Rattle.cstn_element.specs.Reads.{ReadsWhole, Gives, Fails, inside}
+use Rattle.cstn_element.specs.Reads.{ReadsWhole, Fails, inside}
 use Rattle.cstn_element.specs.declared.errors.DocError.{DocError}
 use Rattle.cstn_element.proofs.PassedOver.{fails_through}
 
 module _ {V D U B : Type 0} (view : V → D) (meaning : Content → Result D Refusal) (seen : U → B) (f : D → Result B Refusal) (closed : Bool) (at : ℕ) (name : List ℕ) (names : List (List ℕ)) (before after : List Token) where
-  -- it was read, and what the judgement returned is what the definition tells of what was read
-  pub judged : (v : V) (r : Result U DocError) → ReadsWhole view meaning closed at name names before after (Ok v) → Gives seen r (f (view v)) → ReadsWhole seen (λ content. meaning content >>= f) closed at name names before after r
-  judged v (Ok u) h g = record { told = ap (λ o. o >>= f) h.told ∙ g; left = h.left }
-  judged v (Err e) h g = record { told = subst (Fails e) (sym (ap (λ o. o >>= f) h.told)) g; left = tt }
-
   -- it was refused before
   pub unread : (e : DocError) → ReadsWhole view meaning closed at name names before after (Err e) → ReadsWhole seen (λ content. meaning content >>= f) closed at name names before after (Err e)
   unread e h = record { told = fails_through e (meaning (inside closed at name names before)) f h.told; left = tt }

@@ -7,3 +7,4 @@ pub mod Wholes
 pub mod Judging
 pub mod Tops
 pub mod TextsRead
+pub mod InTurn

@@ -1,5 +1,5 @@
 -- Texts put together.
-use Rattle.std.proofs.Common.{◌≡◌, ℕ, suc, Bool, true, false, List, [], ◌∷◌, ◌++◌, length, ap, sym, ◌∙◌, refl, Ok, Some, arith}
+use Rattle.std.proofs.Common.{◌≡◌, ℕ, suc, Bool, true, List, [], ◌∷◌, ◌++◌, length, ap, sym, ◌∙◌, refl, Ok, Some, arith}
 use Rattle.std.specs.Prelude.{◌==◌}
 use Rattle.cstn_markup.specs.Bytes.{resolved}
 use Rattle.cstn_element.specs.Elements.{or_no_bytes, texts_reading}

@@ -1,5 +1,5 @@
 -- What stands next in an element that holds elements and white space alone.
-use Rattle.std.specs.Prelude.{◌≡◌, ◌<◌, ◌≤◌, ℕ, List, [], ◌∷◌, if◌then◌else◌}
+use Rattle.std.specs.Prelude.{◌≡◌, ◌<◌, ◌≤◌, ℕ, List, ◌∷◌, if◌then◌else◌}
 use Rattle.std.specs.List.{list_all}
 use Rattle.cstn_markup.specs.Bytes.{is_white}
 use Rattle.cstn_markup.specs.Tokens.{Token}

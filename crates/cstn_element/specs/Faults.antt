@@ -1,5 +1,4 @@
 -- What is found to be wrong without taking memory, as a refusal.
-use Rattle.std.specs.Prelude.{ℕ}
 use Rattle.cstn_element.specs.declared.errors.DocError.{DocError}
 use Rattle.cstn_element.specs.declared.errors.DocError.TheVariants.{Shape, Value, LabelText, Contingent, EdgeType}
 use Rattle.cstn_element.specs.declared.errors.Fault.{Fault}

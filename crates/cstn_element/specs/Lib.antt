@@ -6,3 +6,4 @@ pub mod Faults
 pub mod Reads
 pub mod Children
 pub mod Passing
+pub mod InTurn

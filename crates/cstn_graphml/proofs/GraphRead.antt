@@ -10,11 +10,11 @@ use Rattle.cstn_graphml.specs.DrawnGraph.{DrawnGraph, empty_graph}
 use Rattle.cstn_graphml.specs.DrawnGraphSeen.{graph_seen}
 use Rattle.cstn_graphml.specs.Document.{Part, in_graph, graph_child, root_child}
 use Rattle.cstn_graphml.specs.Document.Part.{another}
-use Rattle.cstn_element.specs.Reads.{Reads, ReadsWhole, Continues, Fails, inside}
+use Rattle.cstn_element.specs.Reads.{Reads, ReadsWhole, Continues, Fails, Gives, inside, behind}
+use Rattle.cstn_element.specs.InTurn.{LeavesState}
 use Rattle.cstn_graphml.specs.declared.drawn_graph.DrawnGraph.{DrawnGraph as LentGraph}
 use Rattle.cstn_element.specs.declared.errors.DocError.{DocError}
 use Rattle.cstn_element.specs.declared.errors.DocError.TheVariants.{Shape}
-use Rattle.cstn_element.proofs.Judging.{passed_as}
 
 -- the first graph was read
 pub root_read : (b : Bool) (s : Option DrawnGraph) (tag : Tag) (closed : Bool) (name : List ℕ) (names : List (List ℕ)) (before after : List Token) (d : LentGraph) → b ≡ true → s ≡ None
@@ -37,12 +37,23 @@ pub closed_fails : {V D : Type 0} (view : V → D) (meaning : Content → Result
     → closed ≡ true → Fails e (meaning (done at)) → ReadsWhole view meaning closed at name names before after (Err e)
 closed_fails view meaning e closed at name names before after is f = record { told = subst (λ q. Fails e (meaning (inside q at name names before))) (sym is) f; left = tt }
 
+-- and read, where nothing in it means this
+pub closed_read : {V D : Type 0} (view : V → D) (meaning : Content → Result D Refusal) (v : V) (closed : Bool) (at : ℕ) (name : List ℕ) (names : List (List ℕ)) (left : List Token)
+    → closed ≡ true → meaning (done at) ≡ Ok (view v) → ReadsWhole view meaning closed at name names left left (Ok v)
+closed_read view meaning v closed at name names left is m = record { told = ap (λ q. meaning (inside q at name names left)) is ∙ m; left = ap (λ q. behind q name names left) is }
+
+-- an element was read, and what the judgement returned is what the definition tells of what was read
+pub judged : {V D U B : Type 0} (view : V → D) (meaning : Content → Result D Refusal) (seen : U → B) (f : D → Result B Refusal) (closed : Bool) (at : ℕ) (name : List ℕ) (names : List (List ℕ)) (before after : List Token)
+    (v : V) (r : Result U DocError) → ReadsWhole view meaning closed at name names before after (Ok v) → Gives seen r (f (view v)) → ReadsWhole seen (λ content. meaning content >>= f) closed at name names before after r
+judged view meaning seen f closed at name names before after v (Ok u) h g = record { told = ap (λ o. o >>= f) h.told ∙ g; left = h.left }
+judged view meaning seen f closed at name names before after v (Err e) h g = record { told = subst (Fails e) (sym (ap (λ o. o >>= f) h.told)) g; left = tt }
+
 -- an element in the root that is no graph is passed over
-pub root_passed : (b : Bool) (s : Option DrawnGraph) (tag : Tag) (closed : Bool) (name : List ℕ) (names : List (List ℕ)) (before after : List Token) (r : Result (Unit {0}) DocError) → b ≡ false
+pub root_passed : LeavesState (Option DrawnGraph) → (b : Bool) (s : Option DrawnGraph) (tag : Tag) (closed : Bool) (name : List ℕ) (names : List (List ℕ)) (before after : List Token) (r : Result (Unit {0}) DocError) → b ≡ false
     → ReadsWhole {A = Unit {0}} (λ u. u) passed closed tag.at name names before after r → ReadsWhole {A = Unit {0}} (λ u. s) (root_child b s tag) closed tag.at name names before after r
-root_passed b s tag closed name names before after r e h = subst (λ q. ReadsWhole {A = Unit {0}} (λ u. s) (root_child q s tag) closed tag.at name names before after r) (sym e) (passed_as s closed tag.at name names before after r h)
+root_passed leaves b s tag closed name names before after r e h = subst (λ q. ReadsWhole {A = Unit {0}} (λ u. s) (root_child q s tag) closed tag.at name names before after r) (sym e) (leaves s closed tag.at name names before after r h)
 
 -- an element in the graph of another name is passed over
-pub part_passed : (part : Part) (d : DrawnGraph) (tag : Tag) (closed : Bool) (name : List ℕ) (names : List (List ℕ)) (before after : List Token) (r : Result (Unit {0}) DocError) → another ≡ part
+pub part_passed : LeavesState DrawnGraph → (part : Part) (d : DrawnGraph) (tag : Tag) (closed : Bool) (name : List ℕ) (names : List (List ℕ)) (before after : List Token) (r : Result (Unit {0}) DocError) → another ≡ part
     → ReadsWhole {A = Unit {0}} (λ u. u) passed closed tag.at name names before after r → ReadsWhole {A = Unit {0}} (λ u. d) (graph_child part d tag) closed tag.at name names before after r
-part_passed part d tag closed name names before after r e h = subst (λ q. ReadsWhole {A = Unit {0}} (λ u. d) (graph_child q d tag) closed tag.at name names before after r) e (passed_as d closed tag.at name names before after r h)
+part_passed leaves part d tag closed name names before after r e h = subst (λ q. ReadsWhole {A = Unit {0}} (λ u. d) (graph_child q d tag) closed tag.at name names before after r) e (leaves d closed tag.at name names before after r h)

@@ -19,7 +19,7 @@ use Rattle.cstn_lift.specs.Read.{LabelledParts, the_labelled}
 use Rattle.cstn_element.specs.Results.{Refusal, ◌>>=◌, or_refused, demand}
 use Rattle.cstn_element.specs.Results.Refusal.{not_utf8, no_deadline}
 use Rattle.cstn_element.specs.Contents.{content_of}
-use Rattle.cstn_graphml.specs.DrawnGraph.{origin_name}
+use Rattle.cstn_graphml.specs.DrawnGraph.{DrawnGraph, origin_name}
 use Rattle.cstn_graphml.specs.DrawnGraphSeen.{graph_seen}
 use Rattle.cstn_graphml.specs.DrawnGraphLaws.{IsDrawnGraph}
 use Rattle.cstn_graphml.specs.Document.{Parts, document, in_document, drawn_parts, first_of_two}
@@ -30,7 +30,6 @@ use Rattle.cstn_element.specs.Reads.{Fails}
 use Rattle.cstn_graphml.specs.declared.drawn_graph.DrawnGraph.{DrawnGraph as LentGraph}
 use Rattle.cstn_element.specs.declared.errors.DocError.{DocError}
 use Rattle.cstn_element.specs.declared.errors.DocError.TheVariants.{NotUtf8, Shape, NameTwice, UnknownNode, Value, LabelText, Contingent, EdgeType, NoDeadline, Net, Lift, Memory}
-use Rattle.cstn_element.proofs.PassedOver.{fails_through}
 use Rattle.cstn_graphml.proofs.Built.{parts_with, has_parts, made_network}
 use Rattle.cstn_graphml.proofs.DrawnGraphLaws.{document_is_drawn}
 
@@ -47,23 +46,23 @@ not_text bytes word at h e =
 pub of_text : (bytes : List ℕ) (word : Option ℕ) → IsUtf8 bytes → document bytes word ≡ (in_document (content_of (tokens bytes)) >>= drawn_parts word)
 of_text bytes word h = ap (λ b. demand b (not_utf8 (utf8_valid_len bytes)) >>= λ same. in_document (content_of (tokens bytes)) >>= drawn_parts word) (is_utf8-from_IsUtf8 bytes h)
 
-refused_by : (e : DocError) (told : Result Parts Refusal) → Fails e told → RefusesDocument told e
-refused_by (NotUtf8 at) told h = h
-refused_by (Shape at) told h = h
-refused_by (NameTwice at) told h = h
-refused_by (UnknownNode at) told h = h
-refused_by (Value at) told h = h
-refused_by (LabelText at) told h = h
-refused_by (Contingent at) told h = h
-refused_by (EdgeType at) told h = h
-refused_by NoDeadline told h = h
-refused_by (Net error names) told h = absurd h
-refused_by (Lift error names) told h = absurd h
-refused_by (Memory e) told h = tt
+refused_by : (e : DocError) (read : Result DrawnGraph Refusal) (word : Option ℕ) → Fails e read → RefusesDocument (read >>= drawn_parts word) e
+refused_by (NotUtf8 at) read word h = ap (λ o. o >>= drawn_parts word) h
+refused_by (Shape at) read word h = ap (λ o. o >>= drawn_parts word) h
+refused_by (NameTwice at) read word h = ap (λ o. o >>= drawn_parts word) h
+refused_by (UnknownNode at) read word h = ap (λ o. o >>= drawn_parts word) h
+refused_by (Value at) read word h = ap (λ o. o >>= drawn_parts word) h
+refused_by (LabelText at) read word h = ap (λ o. o >>= drawn_parts word) h
+refused_by (Contingent at) read word h = ap (λ o. o >>= drawn_parts word) h
+refused_by (EdgeType at) read word h = ap (λ o. o >>= drawn_parts word) h
+refused_by NoDeadline read word h = ap (λ o. o >>= drawn_parts word) h
+refused_by (Net error names) read word h = absurd h
+refused_by (Lift error names) read word h = absurd h
+refused_by (Memory e) read word h = tt
 
 -- refused by its tokens and elements
 pub refused_before : (bytes : List ℕ) (word : Option ℕ) (e : DocError) → IsUtf8 bytes → Fails e (in_document (content_of (tokens bytes))) → RefusesDocument (document bytes word) e
-refused_before bytes word e u h = refused_by e (document bytes word) (subst (Fails e) (sym (of_text bytes word u)) (fails_through e (in_document (content_of (tokens bytes))) (drawn_parts word) h))
+refused_before bytes word e u h = subst (λ told. RefusesDocument told e) (sym (of_text bytes word u)) (refused_by e (in_document (content_of (tokens bytes))) word h)
 
 -- read, without a deadline
 pub lacks_deadline : (bytes : List ℕ) (word : Option ℕ) (d : LentGraph) → IsUtf8 bytes → in_document (content_of (tokens bytes)) ≡ Ok (graph_seen d) → first_of_two word d.deadline ≡ None → document bytes word ≡ Err no_deadline

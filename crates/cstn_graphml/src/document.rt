@@ -8,9 +8,10 @@ ghost use Rattle.cstn_graphml.specs.DrawnGraphSeen.{graph_seen};
 ghost use Rattle.cstn_element.specs.Reads.{Gives, ReadsWhole};
 
 use crate::drawn_graph::DrawnGraph;
+use crate::in_turn::DocumentReading;
 use crate::root::read_whole_root;
 use cstn_data::is_blank;
-use cstn_element::{DocError, Start};
+use cstn_element::{DocError, Start, documents_are_read_in_turn};
 use cstn_markup::{Kind, Scanner, Token};
 use cstn_text::NameKey;
 use std::alloc::Global;
@@ -46,6 +47,7 @@ pub fn read_document(
 ) -> Result<DrawnGraph, DocError>
     ensures { Gives graph_seen result (in_document (content_of scanner.old)) }
 {
+    documents_are_read_in_turn::<DocumentReading>();
     let mut seen = None;
     loop {
         let Token { at, kind } = scanner.step();

@@ -12,9 +12,11 @@ ghost use Rattle.cstn_element.specs.Reads.{Reads, ReadsWhole};
 use crate::deadlines::judge_deadline;
 use crate::drawn_graph::{DrawnGraph, empty_graph};
 use crate::edges::judge_edge;
+use crate::in_turn::GraphReading;
 use crate::nodes::judge_node;
 use cstn_element::{
-    DocError, Next, Start, next_child, pass_element, read_datum, read_element_data,
+    DocError, Next, Start, elements_are_read_in_turn, elements_passed_over_leave_the_state,
+    next_child, pass_element, read_datum, read_element_data,
 };
 use cstn_markup::Scanner;
 use cstn_text::NameKey;
@@ -100,6 +102,7 @@ fn read_graph_child<'a>(
     ensures reads { (names : List (List ℕ)) → length names ≡ 2 → ReadsWhole (λ u. graph_seen graph.new) (graph_child (part_of start.now.name.now) (graph_seen graph.old) (tag_seen start.now)) start.now.closed start.now.at start.now.name.now names scanner.old scanner.new result }
     ensures less { length scanner.new ≤ length scanner.old }
 {
+    elements_passed_over_leave_the_state::<GraphReading>();
     match part_of(start.name) {
         Part::Datum => read_graph_datum(alloc, scanner, start, graph),
         Part::Node => read_node(alloc, scanner, start, graph),
@@ -121,6 +124,7 @@ fn read_graph(
     ensures reads { (others : List (List ℕ)) → length others ≡ 1 → Reads graph_seen (in_graph empty_graph) name.now others scanner.old scanner.new result }
     ensures less { length scanner.new ≤ length scanner.old }
 {
+    elements_are_read_in_turn::<GraphReading>();
     let mut graph = empty_graph(alloc, key)?;
     loop {
         match next_child(scanner, name) {

@@ -6,6 +6,7 @@ mod document;
 mod drawn_graph;
 mod edges;
 mod graph;
+mod in_turn;
 mod labels;
 mod laws;
 mod networks;

@@ -9,7 +9,11 @@ ghost use Rattle.cstn_element.specs.Reads.{Reads, ReadsWhole};
 
 use crate::drawn_graph::DrawnGraph;
 use crate::graph::read_whole_graph;
-use cstn_element::{DocError, Next, Start, next_child, pass_element};
+use crate::in_turn::RootReading;
+use cstn_element::{
+    DocError, Next, Start, elements_are_read_in_turn, elements_passed_over_leave_the_state,
+    next_child, pass_element,
+};
 use cstn_markup::Scanner;
 use cstn_text::NameKey;
 use std::alloc::Global;
@@ -25,6 +29,7 @@ fn read_root_child<'a>(
     ensures reads { (names : List (List ℕ)) → length names ≡ 1 → ReadsWhole (λ u. option_map graph_seen seen.new) (root_child (is_same start.now.name.now (codes "graph")) (option_map graph_seen seen.old) (tag_seen start.now)) start.now.closed start.now.at start.now.name.now names scanner.old scanner.new result }
     ensures less { length scanner.new ≤ length scanner.old }
 {
+    elements_passed_over_leave_the_state::<RootReading>();
     if start.name != b"graph".as_slice() {
         pass_element(scanner, start, 1)?;
         return Ok(());
@@ -47,6 +52,7 @@ fn read_root(
     ensures reads { (others : List (List ℕ)) → length others ≡ 0 → Reads graph_seen in_root name.now others scanner.old scanner.new result }
     ensures less { length scanner.new ≤ length scanner.old }
 {
+    elements_are_read_in_turn::<RootReading>();
     let mut seen = None;
     loop {
         match next_child(scanner, name) {

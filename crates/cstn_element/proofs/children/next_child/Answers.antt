@@ -1,4 +1,4 @@
-use Rattle.std.proofs.Common.{◌∷◌, ◌∙◌, length, arith, refl, sym, ap}
+use Rattle.std.proofs.Common.{◌∙◌, length, arith, refl, sym, ap}
 use Rattle.cstn_element.proofs.Places.{step_of, ended_is, misnamed_is, wrong_is, unfinished_is}
 use Rattle.cstn_element.proofs.ChildLemmas.{same_run, run_cuts, cuts, ends, starts}
 use Rattle.cstn_element.proofs.children.next_child.Goals as goal

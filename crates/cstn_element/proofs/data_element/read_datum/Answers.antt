@@ -1,4 +1,4 @@
-use Rattle.std.proofs.Common.{ℕ, List, refl, ap, sym, ◌∙◌, Some, None, Bool, true, false, map, Vec, Global, Bor}
+use Rattle.std.proofs.Common.{ℕ, List, refl, ap, sym, ◌∙◌, None, Bool, true, false, map, Vec, Global, Bor}
 use Rattle.std.specs.Prelude.{option_map}
 use Rattle.std.specs.List.{list_any}
 use Rattle.std.proofs.lemmas.Result.{err_from_is_err_and}

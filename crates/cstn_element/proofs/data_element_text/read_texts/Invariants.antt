@@ -1,4 +1,4 @@
-use Rattle.std.proofs.Common.{◌≡◌, ℕ, List, ◌∷◌, [], ◌≤◌, length}
+use Rattle.std.proofs.Common.{ℕ, List, ◌∷◌, [], ◌≤◌, length}
 use Rattle.cstn_element.specs.Elements.{read_by, texts_reading}
 use Rattle.cstn_element.specs.Reads.{Continues}
 use Rattle.cstn_element.proofs.data_element_text.read_texts.Given as goal

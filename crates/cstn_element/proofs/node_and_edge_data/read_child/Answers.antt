@@ -1,11 +1,10 @@
-use Rattle.std.proofs.Common.{◌≡◌, ℕ, List, map, Bor, false, subst, sym, Ok, Err, Result}
+use Rattle.std.proofs.Common.{◌≡◌, ℕ, List, map, Bor, false, subst, sym, Ok, Err}
 use Rattle.std.proofs.lemmas.Result.{err_from_is_err_and}
 use Rattle.std.proofs.lemmas.Bool.{not-true}
 use Rattle.cstn_markup.specs.Bytes.{is_same}
 use Rattle.cstn_element.specs.Children.{tag_seen}
 use Rattle.cstn_element.specs.DataElementSeen.{datum_seen}
 use Rattle.cstn_element.specs.Faults.{refusal_of}
-use Rattle.cstn_element.specs.Reads.{raised}
 use Rattle.cstn_element.proofs.Judging.{child_passed}
 use Rattle.cstn_element.proofs.node_and_edge_data.read_child.Goals as goal
 

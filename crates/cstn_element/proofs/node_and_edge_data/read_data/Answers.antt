@@ -1,4 +1,4 @@
-use Rattle.std.proofs.Common.{ℕ, List, [], ◌∷◌, length, arith, refl, map, Vec, Global, Bor, None}
+use Rattle.std.proofs.Common.{ℕ, List, [], ◌∷◌, arith, refl, map, Vec, Global, Bor}
 use Rattle.std.proofs.lemmas.Result.{err_from_is_err_and}
 use Rattle.cstn_element.specs.DataElementSeen.{datum_seen}
 use Rattle.cstn_element.specs.Elements.{data_reading}

@@ -8,7 +8,7 @@ use Rattle.cstn_element.specs.DataElementSeen.{datum_seen}
 use Rattle.cstn_graphml.specs.DrawnGraphSeen.{graph_seen}
 use Rattle.cstn_element.specs.Reads.{Gives}
 use Rattle.cstn_element.specs.declared.data_element.Datum.{Datum as Lent}
-use Rattle.cstn_element.proofs.Judging.{judged}
+use Rattle.cstn_graphml.proofs.GraphRead.{judged}
 use Rattle.cstn_graphml.proofs.graph.read_edge.Goals as goal
 
 pub returns-clause-reads : goal.returns-clause-reads

@@ -14,14 +14,14 @@ pub returns-then-ne-clause-reads : goal.returns-then-ne-clause-reads
 returns-then-ne-clause-reads c = λ names l.
     let seen = option_map graph_seen c.args.seen.now in
     let other : is_same c.args.start.now.name.now (codes "graph") ≡ false = subst (λ k. is_same c.args.start.now.name.now k ≡ false) c.as_slice.ensures (not-true (is_same c.args.start.now.name.now c.as_slice.result.now) (sym c.if-ne.ensures)) in
-    root_passed _ seen (tag_seen c.args.start.now) _ _ names _ _ (Ok tt) other (c.in_ok-pass_element.ensures.reads names l)
+    root_passed c.elements_passed_over_leave_the_state.ensures.passed _ seen (tag_seen c.args.start.now) _ _ names _ _ (Ok tt) other (c.in_ok-pass_element.ensures.reads names l)
 
 pub returns-in_err-pass_element-clause-reads : goal.returns-in_err-pass_element-clause-reads
 returns-in_err-pass_element-clause-reads c = λ names l.
     let p = err_from_is_err_and c.from_residual.result c.from_residual.ensures.1 in
     let seen = option_map graph_seen c.args.seen.now in
     let other : is_same c.args.start.now.name.now (codes "graph") ≡ false = subst (λ k. is_same c.args.start.now.name.now k ≡ false) c.as_slice.ensures (not-true (is_same c.args.start.now.name.now c.as_slice.result.now) (sym c.if-ne.ensures)) in
-    rw (p.1, p.2) (root_passed _ seen (tag_seen c.args.start.now) _ _ names _ _ (Err (refusal_of c.in_err-pass_element.field-0.0)) other (c.in_err-pass_element.ensures.reads names l))
+    rw (p.1, p.2) (root_passed c.elements_passed_over_leave_the_state.ensures.passed _ seen (tag_seen c.args.start.now) _ _ names _ _ (Err (refusal_of c.in_err-pass_element.field-0.0)) other (c.in_err-pass_element.ensures.reads names l))
 
 pub returns-clause-reads : goal.returns-clause-reads
 returns-clause-reads c = λ names l.
