@@ -3,7 +3,7 @@ use Rattle.std.proofs.Common.{◌≡◌, ◌≢◌, ℕ, List, [], ◌∷◌, le
 use Rattle.std.specs.Prelude.{option_map}
 use Rattle.std.specs.List.{All}
 use Rattle.std.proofs.lemmas.List.Elements.{All-nil, All-cons, All-head, All-tail}
-use Rattle.cstn_label.specs.Labels.{Label, IsPlain, empty}
+use Rattle.cstn_label.specs.Labels.{IsPlain, empty}
 use Rattle.cstn_label.specs.Read.{marks}
 use Rattle.cstn_net.specs.declared.drafts.Draft.{Draft as LentDraft}
 use Rattle.cstn_net.specs.declared.points.TimePoint.{TimePoint}

@@ -1,6 +1,6 @@
 -- A name that has no number isn't in the list.
-use Rattle.std.proofs.Common.{◌≡◌, ℕ, ◌<◌, ◌+◌, suc, not, Bool, true, false, List, [], ◌∷◌, length, Option, Some, None, cond, ap, sym, ◌∙◌, subst, arith, lt-ltb}
-use Rattle.std.specs.Prelude.{◌||◌, nat_lt, Contains, if◌then◌else◌, is_some, codes}
+use Rattle.std.proofs.Common.{◌≡◌, ℕ, ◌<◌, ◌+◌, suc, not, Bool, true, false, List, [], ◌∷◌, length, Option, Some, None, cond, ap, arith, lt-ltb}
+use Rattle.std.specs.Prelude.{◌||◌, Contains, if◌then◌else◌, is_some}
 use Rattle.std.specs.List.{list_any, position, position_or_len}
 use Rattle.std.specs.Str.{bytes_eq}
 use Rattle.std.proofs.lemmas.Cmp.{nat_list_eq_equiv}

@@ -1,9 +1,7 @@
 -- The labels of a graph, as they are handed in.
-use Rattle.std.proofs.Common.{◌≡◌, ℕ, List, ◌∷◌, map, ap, sym, ◌∙◌, subst, arith, inl, inr}
+use Rattle.std.proofs.Common.{◌≡◌, ℕ, List, ◌∷◌, ap, sym, ◌∙◌, subst, arith, inl, inr}
 use Rattle.cstn_label.specs.declared.labels.Label.{Label as Lent}
-use Rattle.cstn_label.specs.Labels.{Label}
-use Rattle.cstn_label.specs.Read.{marks}
-use Rattle.cstn_net.specs.Read.{NetworkParts, the_network}
+use Rattle.cstn_net.specs.Read.{NetworkParts}
 use Rattle.cstn_lift.specs.declared.errors.LiftError.{LiftError}
 use Rattle.cstn_lift.specs.declared.errors.LiftError.TheVariants.{OriginLabel, NotPlain, NotObserved, Circle, Never, TooManyConstraints, Memory as NoMemory}
 use Rattle.cstn_lift.specs.Labelled.{Labelled}

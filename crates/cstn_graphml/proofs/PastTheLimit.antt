@@ -6,12 +6,12 @@ use Rattle.cstn_net.specs.declared.errors.NetError.TheVariants.{TooManyConstrain
 use Rattle.cstn_net.specs.Drafts.{number}
 use Rattle.cstn_net.specs.Networks.{IsWellFormed}
 use Rattle.cstn_markup.specs.Tokens.{tokens}
-use Rattle.cstn_element.specs.Results.{◌>>=◌, or_refused}
+use Rattle.cstn_element.specs.Results.{or_refused}
 use Rattle.cstn_element.specs.Results.Refusal.{no_deadline}
 use Rattle.cstn_element.specs.Contents.{content_of}
 use Rattle.cstn_graphml.specs.DrawnGraph.{DrawnGraph}
 use Rattle.cstn_graphml.specs.Document.{Parts, document, in_document, drawn_parts, first_of_two, is_text, or_nothing}
-use Rattle.cstn_graphml.specs.Networks.{network_of, numbered, drawn_of, IsUnfit}
+use Rattle.cstn_graphml.specs.Networks.{network_of, drawn_of, IsUnfit}
 use Rattle.cstn_graphml.proofs.Built.{numbered_length}
 use Rattle.cstn_graphml.proofs.DrawnGraphLaws.{bind_ok, ok_is, document_is_drawn}
 

@@ -1,4 +1,4 @@
-use Rattle.std.proofs.Common.{List, ◌∷◌, length, arith, refl, ap, sym, subst}
+use Rattle.std.proofs.Common.{◌∷◌, length, arith, refl, ap, sym, subst}
 use Rattle.std.proofs.lemmas.Result.{err_from_is_err_and}
 use Rattle.cstn_element.specs.Children.{Takes}
 use Rattle.cstn_element.specs.Contents.{contents, inner}

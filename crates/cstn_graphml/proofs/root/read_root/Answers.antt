@@ -1,4 +1,4 @@
-use Rattle.std.proofs.Common.{List, ◌∷◌, None, length, arith, ap, subst}
+use Rattle.std.proofs.Common.{◌∷◌, None, length, arith, ap, subst}
 use Rattle.std.specs.Prelude.{option_map}
 use Rattle.std.proofs.lemmas.Result.{err_from_is_err_and}
 use Rattle.cstn_element.specs.Children.{Takes}
