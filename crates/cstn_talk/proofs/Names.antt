@@ -1,5 +1,5 @@
 -- The names of time-points in a line.
-use Rattle.std.proofs.Common.{◌≡◌, ℕ, suc, ◌+◌, ◌<◌, ◌≤◌, List, [], ◌∷◌, ◌++◌, length, take, map, ap, sym, ◌∙◌, subst, arith, append_assoc, String, Global, string_bytes}
+use Rattle.std.proofs.Common.{◌≡◌, ℕ, suc, ◌+◌, ◌*◌, ◌<◌, ◌≤◌, List, [], ◌∷◌, ◌++◌, length, take, map, ap, sym, ◌∙◌, subst, arith, append_assoc, String, Global, string_bytes}
 use Rattle.std.specs.Prelude.{get_or, flat_map, slice_get, Some}
 use Rattle.std.specs.List.{All, count_by, range_with_len}
 use Rattle.std.proofs.lemmas.List.Elements.{All-filter}
@@ -19,7 +19,6 @@ use Rattle.cstn_exec.specs.Runs.{Run, is_free, named}
 use Rattle.cstn_guide.specs.Guides.{holds_at, told}
 use Rattle.cstn_text.specs.Names.{AreNames}
 use Rattle.cstn_text.specs.PrintedNames.{printed_name}
-use Rattle.cstn_text.proofs.PrintedNameLemmas.{name_length}
 use Rattle.cstn_talk.specs.Running.{spaced, the_nodes}
 
 -- a time-point's name after a space
@@ -45,14 +44,17 @@ spaced_more names xs i d inside =
     nothing_after : (bs : List ℕ) → bs ++ [] ≡ bs
     nothing_after bs = grind (arith, common_steps)
 
+-- printed names are at most three times as long as the names
+abbrev ArePrintedShort : Type 0
+ArePrintedShort = (name : List ℕ) → length (printed_name name) ≤ 3 * length name
+
 -- printed names are short
-pub printed_short : (names : List (List ℕ)) → AreNames names → All (λ name. length name ≤ 192) (map printed_name names)
-printed_short names are = λ k d inside.
+pub printed_short : ArePrintedShort → (names : List (List ℕ)) → AreNames names → All (λ name. length name ≤ 192) (map printed_name names)
+printed_short most names are = λ k d inside.
     let within : k < length names = subst (λ (n : ℕ). k < n) (length-map names printed_name) inside in
     let name : List ℕ = get_or names k [] in
     let few = (are.each k [] within).few in
-    let most = (name_length name).1 in
-    subst (λ (text : List ℕ). length text ≤ 192) (sym (get_or-map printed_name names k [] d within)) (omega (arith, few, most))
+    subst (λ (text : List ℕ). length text ≤ 192) (sym (get_or-map printed_name names k [] d within)) (omega (arith, few, most name))
 
 range_below : (n : ℕ) → All (λ (x : ℕ). x < n) (range_with_len 0 n)
 range_below n = λ k d inside.
@@ -131,7 +133,7 @@ printed_more names k texts new text name so_far new_is printed there =
     plus_one n = omega arith
 
 -- all printed names are short
-pub all_short : (names : List (List ℕ)) (k : ℕ) (texts : List (String Global)) → AreNames names → map string_bytes texts ≡ map printed_name (take k names) → length names ≤ k → All (λ name. length name ≤ 192) (map string_bytes texts)
-all_short names k texts are printed all =
+pub all_short : ArePrintedShort → (names : List (List ℕ)) (k : ℕ) (texts : List (String Global)) → AreNames names → map string_bytes texts ≡ map printed_name (take k names) → length names ≤ k → All (λ name. length name ≤ 192) (map string_bytes texts)
+all_short most names k texts are printed all =
     let whole : map string_bytes texts ≡ map printed_name names = printed ∙ ap (map printed_name) (take_all k names (omega (arith, all))) in
-    subst (λ (xs : List (List ℕ)). All (λ name. length name ≤ 192) xs) (sym whole) (printed_short names are)
+    subst (λ (xs : List (List ℕ)). All (λ name. length name ≤ 192) xs) (sym whole) (printed_short most names are)

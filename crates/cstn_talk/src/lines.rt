@@ -12,7 +12,7 @@ ghost use Rattle.cstn_talk.specs.Running.{the_nodes, moment_line, spaced, refuse
 
 use cstn_exec::ExecError;
 use cstn_label::{NodeId, Prop};
-use cstn_text::{Names, print_name};
+use cstn_text::{Names, print_name, printed_names_are_short};
 use itoa::Buffer;
 use std::alloc::{AllocError, Global};
 
@@ -145,6 +145,7 @@ pub fn print_names(alloc: Global, names: &Names) -> Result<Vec<String>, AllocErr
     ensures printed { IfOk result (λ printed. map string_bytes printed.items ≡ map printed_name names.now) }
     ensures short { IfOk result (λ printed. All (λ name. length name ≤ 192) (map string_bytes printed.items)) }
 {
+    printed_names_are_short();
     let mut printed = Vec::new(alloc);
     for x in 0..names.count() as u16 {
         printed.push(print_name(alloc, names.name(NodeId(x)))?)?;
