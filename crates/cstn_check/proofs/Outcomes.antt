@@ -10,7 +10,6 @@ use Rattle.cstn_rules.specs.declared.entries.Entry.{Entry as DeclaredEntry}
 use Rattle.cstn_rules.specs.Rules.{Refutes}
 use Rattle.cstn_rules.specs.Derivations.{Entry, IsDerivation}
 use Rattle.cstn_rules.specs.Read.{the_entry}
-use Rattle.cstn_rules.proofs.Derived.{first_derivation}
 use Rattle.cstn_log.specs.Entries.{State, the_entries}
 use Rattle.cstn_check.specs.Growth.{is_refuted, grow, most_entries}
 use Rattle.cstn_check.specs.Kept.{IsKept}
@@ -128,10 +127,14 @@ module _ (net : Network) (old new : State) where
       let short = l.short in
       omega arith
 
+-- the first entries of a derivation are one
+abbrev pub FirstDerive : Type 0
+FirstDerive = (net : Network) (steps more : List Entry) → IsDerivation net (steps ++ more) → IsDerivation net steps
+
 -- the list is again a derivation
-pub derived_after : (net : Network) (old new : State) (r : Grown) → IsWellFormed net → IsDerivation net (the_entries old.entries) →
+pub derived_after : FirstDerive → (net : Network) (old new : State) (r : Grown) → IsWellFormed net → IsDerivation net (the_entries old.entries) →
     IsKept net (the_entries old.entries) → Outcome net old new r → IsDerivation net (the_entries new.entries)
-derived_after net old new r good derivation kept o = by_answer r o
+derived_after first net old new r good derivation kept o = by_answer r o
   where
     whole : IsDerivation net (grow net (the_entries old.entries))
     whole = grown_derived net good.network good.letters (the_entries old.entries)
@@ -142,4 +145,4 @@ derived_after net old new r good derivation kept o = by_answer r o
     by_answer Refuted o = subst (λ l. IsDerivation net l) (sym (o.refuted refl).entries) whole
     by_answer Full o =
         let f = (o.full refl).front in
-        first_derivation net (the_entries new.entries) (f.next ∷ f.rest) (subst (λ l. IsDerivation net l) (sym f.is) whole)
+        first net (the_entries new.entries) (f.next ∷ f.rest) (subst (λ l. IsDerivation net l) (sym f.is) whole)

@@ -12,7 +12,7 @@ ghost use Rattle.cstn_check.specs.Turns.{IsOpen, IsTaken, IsCut, IsRefutedLast, 
 use crate::turns::{is_well_formed, take_turn};
 use cstn_log::Log;
 use cstn_net::Network;
-use cstn_rules::{Tries, refutes};
+use cstn_rules::{Tries, derivations_move, refutes};
 
 /// What growth came to: no turn is left, an entry refutes the network, or the log is full.
 #[derive(Clone, Copy, Debug, PartialEq, Eq)]
@@ -45,6 +45,7 @@ pub fn grow(net: &Network, log: &mut Log, tries: &mut Tries) -> Grown
     ensures most_tried { (result ≡ Grown.Full → ⊥) → tries.new.count ≤ tries.old.count + most_tried (the_network net.now) (the_entries log.new.entries) }
 {
     is_well_formed(net);
+    derivations_move();
     let _all_new = log.len();
     grow_kept(net, log, &[], 0, tries)
 }
@@ -73,6 +74,7 @@ pub fn grow_on(net: &Network, log: &mut Log, fresh: &[u32], tries: &mut Tries) -
     ensures most_tries { (result ≡ Grown.Full → ⊥) → tries.new.count ≤ tries.old.count + most_tries (length net.now.constraints) (fresh_count fresh.now (the_network net.now).constraints) (length log.old.entries) (length log.new.entries) }
 {
     is_well_formed(net);
+    derivations_move();
     let old = log.len();
     grow_kept(net, log, fresh, old, tries)
 }
