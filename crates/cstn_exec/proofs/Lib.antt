@@ -11,3 +11,4 @@ pub mod Moving
 pub mod Dues
 pub mod Searching
 pub mod Refusals
+pub mod Waiting

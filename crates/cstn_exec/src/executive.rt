@@ -19,6 +19,7 @@ mod parts;
 mod search;
 
 use crate::errors::ExecError;
+pub use asked::is_possible;
 use cstn_label::{NodeId, Prop};
 use cstn_log::SoundPlan;
 use cstn_net::Network;

@@ -72,36 +72,6 @@ module _ (net : Network) (bounds : List Bound) where
             whole.2,
           )
 
-  -- the due moment is refused only where an outcome is awaited
-  pub due_waits : (run : Run) (t : ℕ) → due net bounds run ≡ Some t →
-      (moment_refusal net bounds run t ≡ None) ⊎ ((p : ℕ) × (moment_refusal net bounds run t ≡ Some (Awaiting p)))
-  due_waits run t is = elim (cases_Bool (is_done run)) [
-    | inl over ↦ let none = cond-true (is_done run) None (find (has_work net bounds run) (range_with_len (next run) ((net.deadline + 1) - next run))) over in let f : ⊥ = cc in absurd f
-    | inr more ↦
-        let from = find_first (has_work net bounds run) (next run) ((net.deadline + 1) - next run) t
-        (sym (cond-false (is_done run) None (find (has_work net bounds run) (range_with_len (next run) ((net.deadline + 1) - next run))) more) ∙ is) in
-        let past = not_past run t (unless_awaiting (awaited net run (t + 1)) (unless_late t (due net bounds run))) from.from in
-        let here : moment_refusal net bounds run t ≡ unless_awaiting (awaited net run (t + 1)) (unless_late t (due net bounds run)) =
-        cond-false (is_done run) (Some Done) (unless_past t run.now (unless_awaiting (awaited net run (t + 1)) (unless_late t (due net bounds run)))) more ∙ past in
-        let late : unless_late t (due net bounds run) ≡ None = ap (unless_late t) is ∙ not_late t in
-        go (awaited net run (t + 1)) (here ∙ ap (unless_awaiting (awaited net run (t + 1))) late)
-  ]
-    where
-      not_late : (t : ℕ) → unless_late t (Some t) ≡ None
-      not_late t = grind arith
-
-      not_past : (run : Run) (t : ℕ) (other : Option Refusal) → next run ≤ t → unless_past t run.now other ≡ other
-      not_past run t other from = past run.now from
-        where
-          past : (now : Option ℕ) → after now ≤ t → unless_past t now other ≡ other
-          past None h = refl
-          past (Some m) h = cond-true (nat_lt m t) other (Some (Past m)) (lt-ltb m t (omega arith))
-
-      go : (o : Option ℕ) → moment_refusal net bounds run t ≡ unless_awaiting o None →
-          (moment_refusal net bounds run t ≡ None) ⊎ ((p : ℕ) × (moment_refusal net bounds run t ≡ Some (Awaiting p)))
-      go None e = inl e
-      go (Some p) e = inr (p, e)
-
   pub along_more : (run : Run) (es : List Event) (e : Event) → run_along net bounds run (es ++ e ∷ []) ≡ run_after net bounds (run_along net bounds run es) e
   along_more run [] e = refl
   along_more run (x ∷ xs) e = along_more (run_after net bounds run x) xs e

@@ -23,17 +23,6 @@ use Rattle.cstn_tree.specs.Made.{IsGrown, run_along}
 use Rattle.cstn_tree.specs.Making.{the_event, the_events, run_by, the_pending, IsMaking}
 use Rattle.cstn_tree.proofs.MakeLemmas.{grown_first, grown_done, grown_at, grown_ask, along_more}
 
--- an outcome that is awaited is accepted
-pub awaited_free : (net : Network) (run : Run) (u p : ℕ) → is_awaited net run u p ≡ true → outcome_refusal net run p ≡ None
-awaited_free net run u p h =
-    let both = and_parts (is_ready net run u p) (is_none (outcome_of run p)) h in
-    ap (λ o. unless_unseen p (observed_at net run p) (unless_known p o)) (is_none-true (outcome_of run p) both.1)
-    ∙ go (observed_at net run p) both.0
-  where
-    go : (o : Option ℕ) → is_before u (option_map (λ m. m + net.reaction p) o) ≡ true → unless_unseen p o None ≡ None
-    go None h = absurd (false≢true h)
-    go (Some m) h = refl
-
 module _ (net : Network) (bounds : List Bound) where
   lines_more : (m new : Making) (l : ProgramLine) → new.lines.items ≡ m.lines.items ++ l ∷ [] → map the_line m.lines.items ++ the_line l ∷ [] ≡ map the_line new.lines.items
   lines_more m new l items = sym (ap (map the_line) items ∙ map-append the_line m.lines.items (l ∷ []))

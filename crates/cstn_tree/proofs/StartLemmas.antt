@@ -3,14 +3,13 @@ use Rattle.std.proofs.Common.{ℕ, zero, suc, [], ◌∷◌, ◌≡◌, ◌⊎�
 use Rattle.std.specs.List.{Contains, list_all}
 use Rattle.std.specs.Prelude.{◌==◌}
 use Rattle.std.proofs.lemmas.Bool.{cases_Bool, cases_lt, cases_eq, or_cases, or_left, or_right, eqb-true}
-use Rattle.std.proofs.lemmas.List.{get_or-map, get_or-set_same, get_or-set_other, length-map, length-set, map_more}
+use Rattle.std.proofs.lemmas.List.{get_or-replicate, length-replicate, get_or-map, get_or-set_same, get_or-set_other, length-map, length-set, map_more}
 use Rattle.std.proofs.lemmas.List.Folds.{list_all_at, list_all-map}
 use Rattle.cstn_label.specs.declared.nodes.NodeId.{NodeId}
 use Rattle.cstn_net.specs.declared.constraints.Constraint.{Constraint}
 use Rattle.cstn_net.specs.Networks.{Constraint as TheConstraint}
 use Rattle.cstn_net.specs.Links.{IsPlaceOf, IsNextPlace}
 use Rattle.cstn_net.specs.Read.{the_constraint}
-use Rattle.cstn_exec.proofs.Filled.{default_of}
 use Rattle.cstn_tree.specs.declared.starts.End.{End}
 use Rattle.cstn_tree.specs.declared.starts.End.TheVariants.{From, To}
 use Rattle.cstn_tree.specs.Trees.{is_named}
@@ -26,7 +25,8 @@ pub none_linked : (cs : List Constraint) (wide long : ℕ) → AreLinkedFrom (le
 none_linked cs wide long =
     let size = length-map cs (end_of From) in
     record {
-      first = λ x inside. subst (IsNextPlace x (length cs) (starts cs)) (sym (default_of wide x None)) (λ k from within at. omega arith);
+      first = λ x inside. subst (IsNextPlace x (length cs) (starts cs))
+          (sym (get_or-replicate wide x None None (let blank = length-replicate {A = Option ℕ} wide None in omega arith))) (λ k from within at. omega arith);
       next = λ k from inside. absurd (omega arith);
     }
 

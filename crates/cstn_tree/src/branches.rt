@@ -2,17 +2,16 @@
 ghost use Rattle.std.specs.Prelude.{ℕ, ◌≡◌, ◌<◌, ◌≤◌, ◌&&◌, true, false, Some, length, map, IfOk, IfSome, is_some, is_none};
 ghost use Rattle.std.specs.List.{All, list_all};
 ghost use Rattle.std.specs.Option.{option_map};
-ghost use Rattle.cstn_label.specs.Read.{known_value, marks};
 ghost use Rattle.cstn_net.specs.Networks.{count, limit};
 ghost use Rattle.cstn_net.specs.Read.{the_network, the_constraint, IsInRange};
-ghost use Rattle.cstn_exec.specs.Runs.{is_possible};
 ghost use Rattle.cstn_tree.specs.Good.{start, placed_with, are_new, are_in_time, is_within, is_kept, is_met, fits_at, below_at, observed_on, known_from, fits_ask, below_ask, is_complete};
 ghost use Rattle.cstn_tree.specs.Branches.{the_branch, the_placed, IsBranchOf, numbers};
 ghost use Rattle.cstn_tree.specs.declared.starts.End.{End as TheEnd};
 ghost use Rattle.cstn_tree.specs.Starts.{AreStarts, TellsAt, AllPass, SomeFails};
 
 use crate::starts::{End, Starts};
-use cstn_label::{Known, Label, NodeId, Prop};
+use cstn_exec::is_possible;
+use cstn_label::{Known, NodeId, Prop};
 use cstn_net::{Constraint, Network};
 use std::alloc::{AllocError, Global};
 
@@ -217,7 +216,7 @@ impl Branch {
         requires inside { IsInRange (count (the_network net.now)) c.now }
         ensures { result ≡ is_kept (the_branch self.now).placed (the_branch self.now).asked (the_constraint c.now) }
     {
-        if !is_possible(c.label, self.asked) {
+        if !is_possible(c.label, &self.asked) {
             return true;
         }
         is_within(c.most, self.moment(c.from), self.moment(c.to))
@@ -236,12 +235,6 @@ fn are_named(moments: &[Option<u32>]) -> bool
     ensures { result ≡ list_all is_some moments.now }
 {
     moments.iter().all(|m| m.is_some())
-}
-
-fn is_possible(label: Label, asked: Known) -> bool
-    ensures { result ≡ is_possible (known_value asked) (marks label) }
-{
-    label.possible(asked)
 }
 
 fn is_within(most: i32, from: Option<u32>, to: Option<u32>) -> bool

@@ -18,7 +18,7 @@ ghost use Rattle.cstn_tree.specs.Read.{the_line, the_tree};
 ghost use Rattle.cstn_tree.specs.Making.{the_event, the_events, the_pending, IsMaking};
 
 use crate::trees::{Line, Named, Tree};
-use cstn_exec::{ExecError, Executive};
+use cstn_exec::{ExecError, Executive, due_is_exact, refusals_are_right};
 use cstn_label::Prop;
 use std::alloc::{AllocError, Global};
 
@@ -133,6 +133,7 @@ impl Making {
         ensures making { OnOk result (IsMaking (the_network exec.old.net) (the_bounds exec.old.bounds) exec.new.run self.new) }
         ensures same { exec.new ≡ record exec.old { run = exec.new.run; named = exec.new.named } }
     {
+        refusals_are_right();
         exec.network().count();
         let mut steps = Vec::from_slice(alloc, &self.path)?;
         steps.push(Step::See { prop, value: false })?;
@@ -166,6 +167,7 @@ fn awaited(exec: &Executive, t: u32) -> Option<Prop>
     requires due { due (the_network exec.now.net) (the_bounds exec.now.bounds) exec.now.run ≡ Some t }
     ensures { MatchOption result (moment_refusal (the_network exec.now.net) (the_bounds exec.now.bounds) exec.now.run t ≡ None) (λ p. moment_refusal (the_network exec.now.net) (the_bounds exec.now.bounds) exec.now.run t ≡ Some (Awaiting p.index)) }
 {
+    due_is_exact();
     match exec.can(t) {
         Some(refusal) => awaited_by(refusal),
         None => None,

@@ -41,8 +41,9 @@ fn note(after: &mut Moments, bound: Bound, known: &Known)
     }
 }
 
-fn is_possible(label: Label, known: &Known) -> bool
-    ensures { result ≡ is_possible (value_in known.now) (marks label) }
+/// Whether what is known rules out no mark of the label.
+pub fn is_possible(label: Label, known: &Known) -> bool
+    ensures possible { result ≡ is_possible (value_in known.now) (marks label) }
 {
     label.possible(*known)
 }

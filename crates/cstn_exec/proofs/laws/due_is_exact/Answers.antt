@@ -1,5 +1,6 @@
 use Rattle.cstn_exec.proofs.Dues.{due_is_due, due_none, done_none, done_from, done_to, carried_out}
 use Rattle.cstn_exec.proofs.Refusals.{accepted_before}
+use Rattle.cstn_exec.proofs.Waiting.{due_waits}
 use Rattle.cstn_exec.proofs.laws.due_is_exact.Goals as goal
 
 pub returns-clause-due : goal.returns-clause-due
@@ -16,3 +17,6 @@ returns-clause-before c = accepted_before
 
 pub returns-clause-end : goal.returns-clause-end
 returns-clause-end c net bounds table run wf plan right = carried_out net bounds table wf plan run right
+
+pub returns-clause-waits : goal.returns-clause-waits
+returns-clause-waits c = due_waits

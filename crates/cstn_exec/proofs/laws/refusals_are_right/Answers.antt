@@ -1,4 +1,5 @@
 use Rattle.cstn_exec.proofs.Refusals.{refused_done, refused_past, refused_awaiting, refused_late}
+use Rattle.cstn_exec.proofs.Waiting.{awaited_free}
 use Rattle.cstn_exec.proofs.laws.refusals_are_right.Goals as goal
 
 pub returns-clause-done : goal.returns-clause-done
@@ -12,3 +13,6 @@ returns-clause-awaiting c = refused_awaiting
 
 pub returns-clause-late : goal.returns-clause-late
 returns-clause-late c = refused_late
+
+pub returns-clause-outcome : goal.returns-clause-outcome
+returns-clause-outcome c = awaited_free

@@ -3,7 +3,6 @@ use Rattle.cstn_net.specs.Read.{the_network}
 use Rattle.cstn_log.specs.Plans.{the_bounds}
 use Rattle.cstn_exec.specs.Moves.{moment_refusal}
 use Rattle.cstn_exec.specs.Read.{the_refusal}
-use Rattle.cstn_tree.proofs.MakeLemmas.{due_waits}
 use Rattle.cstn_tree.proofs.MakingLemmas.{waits_for}
 use Rattle.cstn_tree.proofs.making.awaited.Goals as goal
 
@@ -12,4 +11,4 @@ returns-in-Some c =
     let net = the_network c.args.exec.now.net in
     let bounds = the_bounds c.args.exec.now.bounds in
     waits_for c.awaited_by.result (moment_refusal net bounds c.args.exec.now.run c.args.t) (the_refusal c.in-Some.refusal) (sym c.in-Some.ensures)
-    (due_waits net bounds c.args.exec.now.run c.args.t c.requires.due) c.awaited_by.ensures
+    (c.due_is_exact.ensures.waits net bounds c.args.exec.now.run c.args.t c.requires.due) c.awaited_by.ensures

@@ -2,4 +2,4 @@ use Rattle.cstn_exec.proofs.Values.{possible_is}
 use Rattle.cstn_exec.proofs.executive.asked.is_possible.Goals as goal
 
 pub returns : goal.returns
-returns c = possible_is c.args.known.now c.args.label c.possible.result c.possible.ensures.possible
+returns c = record { possible = possible_is c.args.known.now c.args.label c.possible.result c.possible.ensures.possible }
