@@ -9,7 +9,6 @@ use Rattle.cstn_net.specs.Networks.{Network, count}
 use Rattle.cstn_exec.specs.Runs.{Run, start, after, next, is_done, due, named, has_work, awaited}
 use Rattle.cstn_exec.specs.Moves.{Refusal, Done, Past, Awaiting, moment_refusal, unless_past, unless_awaiting, unless_late, moved, handed}
 use Rattle.cstn_exec.specs.Examples.{Event, run_after}
-use Rattle.cstn_exec.proofs.Ranges.{find_first}
 use Rattle.cstn_tree.specs.Trees.{Tree, Line, lines_of}
 use Rattle.cstn_tree.specs.Trees.Tree.{at, ask, done}
 use Rattle.cstn_tree.specs.Trees.Line.{AtLine, AskLine, DoneLine}

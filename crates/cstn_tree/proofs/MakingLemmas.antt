@@ -10,7 +10,6 @@ use Rattle.cstn_net.specs.Networks.{Network, count}
 use Rattle.cstn_exec.specs.Runs.{Run, start, due, named, is_awaited, is_ready, is_before, observed_at, outcome_of}
 use Rattle.cstn_exec.specs.Moves.{Refusal, Awaiting, moment_refusal, moved, handed, outcome_refusal, unless_unseen, unless_known}
 use Rattle.cstn_exec.specs.Examples.{run_after, run_unless, Moment as MomentEvent, See as SeeEvent}
-use Rattle.cstn_exec.proofs.Options.{is_none-true}
 use Rattle.cstn_tree.specs.declared.making.Step.{Step}
 use Rattle.cstn_tree.specs.declared.making.Step.TheVariants.{Moment, See}
 use Rattle.cstn_tree.specs.declared.making.Path.{Path}
