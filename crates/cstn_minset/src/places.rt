@@ -1,6 +1,7 @@
 ghost use Rattle.std.specs.Prelude.{◌≡◌, ◌<◌, ◌+◌, ◌^◌, ℕ, length, IfOk, All, slice_set, slice_index_or};
 ghost use Rattle.cstn_minset.specs.Links.{AreEnds};
 
+use cstn_pool::blanks_fill_up_to_a_count;
 use std::alloc::{AllocError, Global};
 use std::marker::Model;
 
@@ -63,6 +64,7 @@ impl Places {
             self.ends[(place - self.slots) as usize] = to;
             return;
         }
+        blanks_fill_up_to_a_count::<u32>();
         let count = self.used.len().max(place as usize + 1);
         self.used.resize(count, 0).unwrap();
         self.used[place as usize] = to;

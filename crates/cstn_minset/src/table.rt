@@ -2,6 +2,7 @@ ghost use Rattle.std.specs.Prelude.{◌≡◌, ◌<◌, ◌≤◌, ℕ, Some, No
 ghost use Rattle.cstn_minset.specs.Sets.{entry_at};
 
 use cstn_label::Bound;
+use cstn_pool::blanks_fill_up_to_a_count;
 use std::alloc::{AllocError, Global};
 use std::marker::Model;
 
@@ -50,6 +51,7 @@ impl Table {
     pub fn used(&self) -> u32
         ensures unused { (slot : ℕ) → result ≤ slot → entry_at self.now slot ≡ None }
     {
+        blanks_fill_up_to_a_count::<Option<(u64, Bound)>>();
         self.used.len() as u32
     }
 
@@ -58,6 +60,7 @@ impl Table {
         requires { slot < length self.old }
         ensures { self.new ≡ slice_set self.old slot entry }
     {
+        blanks_fill_up_to_a_count::<Option<(u64, Bound)>>();
         let count = self.used.len().max(slot as usize + 1);
         self.used.resize(count, None).unwrap();
         self.used[slot as usize] = entry;

@@ -11,7 +11,9 @@ returns-then-self-place c =
 
 pub returns : goal.returns
 returns c =
+    let filled = c.blanks_fill_up_to_a_count.ensures.set 0 c.self.inside.slots c.max-count.result c.args.place c.args.to c.self.inside.used.items
+    (omega (arith, c.if-self-place.false, c.max-count.ensures, c.len.ensures, c.self.inside.used.ok, c.self.invariant.0)) (omega (arith, c.max-count.ensures, c.len.ensures, c.self.inside.used.ok)) (omega (arith, c.max-count.ensures)) in
     let more = resized_at 0 c.self.inside.slots c.max-count.result c.args.place _ c.args.to c.self.inside.used.items c.resize.new.self.items (rw c.unwrap.ensures at c.resize.ensures.items)
-    (omega (arith, c.self.inside.used.ok)) (omega (arith, c.if-self-place.false, c.max-count.ensures, c.len.ensures, c.self.inside.used.ok, c.self.invariant.0)) (omega (arith, c.max-count.ensures, c.len.ensures, c.self.inside.used.ok)) (omega (arith, c.max-count.ensures)) in
+    (omega (arith, c.self.inside.used.ok)) filled in
     subst (λ (v : Leads). record { slots = c.self.inside.slots; places = padded 0 c.self.inside.slots (set c.resize.new.self.items c.args.place c.args.to) ++ c.self.inside.ends.items } ≡ record { slots = v.slots; places = set v.places c.args.place c.args.to }) c.self.view_is
     (ap (λ p. record { slots = c.self.inside.slots; places = p }) (ap (λ p. p ++ c.self.inside.ends.items) more ∙ sym (slot_set c.self.inside.slots c.args.place c.args.to c.self.inside.used.items c.self.inside.ends.items c.self.invariant.0 c.if-self-place.false)))

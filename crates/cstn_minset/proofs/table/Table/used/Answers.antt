@@ -1,6 +1,5 @@
 use Rattle.std.proofs.Common.{None, ap, sym, ◌∙◌, arith}
 use Rattle.std.proofs.lemmas.List.{get_or_past}
-use Rattle.cstn_pool.proofs.PaddedLemmas.{padded_at}
 use Rattle.cstn_minset.specs.Sets.{entry_at}
 use Rattle.cstn_minset.proofs.table.Table.used.Goals as goal
 
@@ -10,5 +9,5 @@ overflow_cast-result c = omega (arith, c.len.ensures, c.self.inside.used.ok, c.s
 pub returns : goal.returns
 returns c = record {
   unused = λ slot past.
-      ap (λ v. entry_at v slot) (sym c.self.view_is) ∙ padded_at None c.self.inside.capacity slot c.self.inside.used.items ∙ get_or_past c.self.inside.used.items slot None (omega (arith, past, c.len.ensures, c.self.inside.used.ok));
+      ap (λ v. entry_at v slot) (sym c.self.view_is) ∙ c.blanks_fill_up_to_a_count.ensures.at None c.self.inside.capacity slot c.self.inside.used.items ∙ get_or_past c.self.inside.used.items slot None (omega (arith, past, c.len.ensures, c.self.inside.used.ok));
 }
