@@ -1,28 +1,35 @@
 -- Chains of the constraints that end at a time-point, and waits.
-use Rattle.std.proofs.Common.{ℕ, ◌≡◌, ◌+◌, ◌≤◌, ◌<◌, List, Some, length, get_or, map, arith, inl, inr, refl, sym, subst, ap, ◌∙◌}
-use Rattle.std.specs.Prelude.{slice_get}
+use Rattle.std.proofs.Common.{ℕ, ◌≡◌, ◌+◌, ◌≤◌, ◌<◌, List, Some, length, get_or, map, arith, inl, inr, refl, sym, subst, ap, ◌∙◌, zero, suc, [], ◌∷◌}
+use Rattle.std.specs.Prelude.{slice_get, option_map}
 use Rattle.std.specs.List.{AllPairs}
 use Rattle.std.proofs.lemmas.Bool.{cases_lt, cases_eq}
 use Rattle.std.proofs.lemmas.List.{get_or-map, get_or_default, length-map}
-use Rattle.std.proofs.lemmas.Option.{slice_get_within, get_or_from_slice_get, same_Some}
+use Rattle.std.proofs.lemmas.Option.{slice_get-map, slice_get_within, get_or_from_slice_get, none-some, same_Some}
 use Rattle.cstn_label.specs.declared.bounds.Bound.{Bound as DeclaredBound}
 use Rattle.cstn_label.specs.Bounds.{Bound}
 use Rattle.cstn_label.specs.Labels.{IsMarked}
 use Rattle.cstn_label.specs.Read.{the_bound}
-use Rattle.cstn_net.proofs.ListLemmas.{pairs_unmap}
 use Rattle.cstn_net.specs.declared.constraints.Constraint.{Constraint as Declared}
 use Rattle.cstn_net.specs.Networks.{Network, Constraint, IsWellFormed, Observes}
 use Rattle.cstn_net.specs.Links.{ends}
 use Rattle.cstn_net.specs.Read.{NetworkParts, the_network, the_constraint}
 use Rattle.cstn_rules.specs.Rules.{IsChain, IsWait}
 use Rattle.cstn_rules.specs.Closed.{IsCovered}
-use Rattle.cstn_log.proofs.ListLemmas.{get_map, contains_map, one_there}
 use Rattle.cstn_closed.specs.Faults.{Fault, bad, no_base, no_chain, no_wait, IsFault, kind, place, other}
 use Rattle.cstn_closed.specs.Instances.{IsChainCovered, AreChainsCovered, IsWaitCovered, AreWaitsCovered, IsSoBefore, IsFirstThere}
 use Rattle.cstn_closed.specs.Marking.{marking}
 use Rattle.cstn_closed.proofs.ListLemmas.{there_is, is_there}
 use Rattle.cstn_closed.proofs.MarkingLemmas.{place_inside, marked_at, marked_before}
 use Rattle.cstn_closed.proofs.WalkLemmas.{IsWalked}
+
+one_there : {X : Type 0} (xs : List X) (k : ℕ) (x y : X) → slice_get xs k ≡ Some x → slice_get xs k ≡ Some y → x ≡ y
+one_there xs k x y is also = same_Some x y (sym is ∙ also)
+
+-- an element of an image is that of an element
+from_image : (cs : List Declared) (k : ℕ) (y : Constraint) → slice_get (map the_constraint cs) k ≡ Some y → (x : Declared) × (slice_get cs k ≡ Some x) × (the_constraint x ≡ y)
+from_image [] k y is = absurd (none-some y is)
+from_image (x ∷ xs) zero y is = (x, refl, same_Some (the_constraint x) y is)
+from_image (x ∷ xs) (suc k) y is = from_image xs k y is
 
 -- what chain gives of the constraint at the place k and the bound is covered
 abbrev pub IsChainedAt : NetworkParts → List Bound → Bound → ℕ → Type 0
@@ -47,7 +54,7 @@ pub all_chained : (net : NetworkParts) (bounds : List Bound) (b : Bound) (p : �
     length net.constraints ≤ p → AreChainsCovered (the_network net) bounds b
 all_chained net bounds b p walked ended c has r is =
     let there = there_is (map the_constraint net.constraints) c has in
-    let from = get_map the_constraint net.constraints there.0 c there.1 in
+    let from = from_image net.constraints there.0 c there.1 in
     let within = slice_get_within net.constraints there.0 from.0 from.1 in
     walked.done there.0 (omega arith) (omega (arith, length-map net.constraints (λ (d : Declared). d.to.0))) from.0 from.1 r
     (subst (λ x. IsChain (the_network net) x b r) (sym from.2) is)
@@ -56,17 +63,23 @@ all_chained net bounds b p walked ended c has r is =
 ascends : (cs : List Declared) (i j : ℕ) (c d : Declared) → AllPairs (λ (x y : Constraint). x.id < y.id) (map the_constraint cs) →
     slice_get cs i ≡ Some c → slice_get cs j ≡ Some d → i < j → c.id < d.id
 ascends cs i j c d up at also less =
-    let pairs = pairs_unmap (λ (x y : Constraint). x.id < y.id) the_constraint cs up i j c less (slice_get_within cs j d also) in
-    let one = get_or_from_slice_get cs i c c at in
-    let other = get_or_from_slice_get cs j d c also in
-    subst (λ (x : Declared). c.id < x.id) other (subst (λ (x : Declared). x.id < (get_or cs j c).id) one pairs)
+    let images = map the_constraint cs in
+    let last = slice_get_within cs j d also in
+    let one = image_at i c at in
+    let other = image_at j d also in
+    subst (λ (y : Constraint). c.id < y.id) other (subst (λ (x : Constraint). x.id < (get_or images j (the_constraint c)).id) one
+    (up i j (the_constraint c) less (omega (arith, last, length-map cs the_constraint))))
+  where
+    image_at : (k : ℕ) (x : Declared) → slice_get cs k ≡ Some x → get_or (map the_constraint cs) k (the_constraint c) ≡ the_constraint x
+    image_at k x there =
+        get_or-map the_constraint cs k c (the_constraint c) (slice_get_within cs k x there) ∙ ap the_constraint (get_or_from_slice_get cs k x c there)
 
 -- the first constraint of the walk of which chain isn't covered is that of the least id
 pub first_chained : (net : NetworkParts) (bounds : List Bound) (b : Bound) (i p : ℕ) (c : Declared) → IsWellFormed (the_network net) →
     IsWalked (IsChainedAt net bounds b) (ends net.constraints) b.node p → slice_get bounds i ≡ Some b → slice_get net.constraints p ≡ Some c →
     (r : Bound) × IsChain (the_network net) (the_constraint c) b r × (IsCovered bounds r → ⊥) → IsFirstThere (the_network net) bounds (no_chain c.id i)
 first_chained net bounds b i p c wf walked at here gives = record {
-  fault = (the_constraint c, b, gives.0, contains_map the_constraint net.constraints c (is_there net.constraints p c here), refl, at, gives.1, gives.2);
+  fault = (the_constraint c, b, gives.0, is_there (map the_constraint net.constraints) p (the_constraint c) (slice_get-map the_constraint net.constraints p ∙ ap (option_map the_constraint) here), refl, at, gives.1, gives.2);
   before = earlier;
 }
   where
@@ -76,7 +89,7 @@ first_chained net bounds b i p c wf walked at here gives = record {
     earlier (no_wait j k) same there less fault = omega arith
     earlier (no_chain id j) same there less fault =
         let found = there_is (map the_constraint net.constraints) fault.0 fault.3 in
-        let from = get_map the_constraint net.constraints found.0 fault.0 found.1 in
+        let from = from_image net.constraints found.0 fault.0 found.1 in
         let within = slice_get_within net.constraints found.0 from.0 from.1 in
         let its : from.0.id ≡ id = ap {A = Constraint} (λ x. x.id) from.2 ∙ fault.4 in
         let its_bound : fault.1 ≡ b = one_there bounds i fault.1 b (subst (λ n. slice_get bounds n ≡ Some fault.1) there fault.5) at in

@@ -1,14 +1,15 @@
 -- Texts, bound by bound.
-use Rattle.std.proofs.Common.{ℕ, ◌≡◌, ◌+◌, ◌<◌, List, [], ◌∷◌, ◌++◌, length, get_or, take, map, arith, refl, sym, subst, ap, ◌∙◌, codes}
+use Rattle.std.proofs.Common.{ℕ, ◌≡◌, ◌+◌, ◌<◌, ◌≤◌, List, [], ◌∷◌, ◌++◌, length, get_or, take, map, arith, refl, sym, subst, ap, ◌∙◌, codes}
 use Rattle.std.specs.Prelude.{String, string_bytes}
 use Rattle.std.specs.List.{All}
 use Rattle.std.specs.declared.alloc.Global.{Global}
 use Rattle.std.proofs.lemmas.List.{append_assoc, map_more, length-map, get_or-map}
 use Rattle.std.proofs.lemmas.List.Elements.{All-nil, All-cons, All-get_or, All-tail}
 use Rattle.cstn_label.specs.declared.bounds.Bound.{Bound as Declared}
+use Rattle.cstn_label.specs.declared.labels.Label.{Label}
+use Rattle.cstn_label.specs.declared.marks.Mark.TheVariants.{Absent}
 use Rattle.cstn_label.specs.Bounds.{Bound}
 use Rattle.cstn_label.specs.Read.{marks, the_bound}
-use Rattle.cstn_label.proofs.ReadLemmas.{unmarked_above}
 use Rattle.cstn_text.specs.Names.{AreNames}
 use Rattle.cstn_text.specs.Numbers.{printed_number, printed_value}
 use Rattle.cstn_text.specs.PrintedNames.{printed_name}
@@ -57,25 +58,29 @@ line_of names b text old new is pushed =
 first : (P : Declared → Type 0) (x : Declared) (xs : List Declared) → All P (x ∷ xs) → P x
 first P x xs all = All-get_or P (x ∷ xs) 0 x (omega arith) all
 
+-- no proposition above 51 is marked
+abbrev pub MarksEnd : Type 0
+MarksEnd = (a : Label) (p : ℕ) → 52 ≤ p → marks a p ≡ Absent
+
 -- bounds that have names can be written
-are_written : (names : List (List ℕ)) (xs : List Declared) → All (IsNamed names) xs → All (IsPrintableBound names) (map the_bound xs)
-are_written names [] named = All-nil (IsPrintableBound names)
-are_written names (x ∷ xs) named =
+are_written : MarksEnd → (names : List (List ℕ)) (xs : List Declared) → All (IsNamed names) xs → All (IsPrintableBound names) (map the_bound xs)
+are_written end names [] named = All-nil (IsPrintableBound names)
+are_written end names (x ∷ xs) named =
     let here = first (IsNamed names) x xs named in
     All-cons (IsPrintableBound names) (the_bound x) (map the_bound xs)
-    (record { node = here.node; low = here.low; high = here.high; marks = unmarked_above x.label })
-    (are_written names xs (All-tail (IsNamed names) x xs named))
+    (record { node = here.node; low = here.low; high = here.high; marks = end x.label })
+    (are_written end names xs (All-tail (IsNamed names) x xs named))
 
 -- what is printed of a list is read again
-pub closed_back : (names : List (List ℕ)) (c : ClosedParts) (text : List ℕ) → AreNames names → All (IsNamed names) c.bounds → FitsText c →
+pub closed_back : MarksEnd → (names : List (List ℕ)) (c : ClosedParts) (text : List ℕ) → AreNames names → All (IsNamed names) c.bounds → FitsText c →
     text ≡ shown names c.load (the_bounds c) → told names text ≡ tells c.load (the_bounds c)
-closed_back names c text are named fits is =
+closed_back end names c text are named fits is =
     let written : AreWritten names c.load (the_bounds c) = record {
       load_low = fits.load_low;
       load_high = fits.load_high;
       some = rw (length-map c.bounds the_bound) fits.some;
       few = rw (length-map c.bounds the_bound) fits.few;
-      each = are_written names c.bounds named;
+      each = are_written end names c.bounds named;
     } in
     subst (λ t. told names t ≡ tells c.load (the_bounds c)) (sym is) (shown_back names c.load (the_bounds c) are written)
 

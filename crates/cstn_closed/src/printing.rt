@@ -11,7 +11,7 @@ ghost use Rattle.cstn_closed.specs.Texts.{shown, told, tells};
 ghost use Rattle.cstn_closed.specs.Written.{FitsText, IsNamed};
 
 use crate::lists::Closed;
-use cstn_label::Bound;
+use cstn_label::{Bound, labels_are_their_marks};
 use cstn_text::{Names, print_name, push_label, push_number, push_value};
 use std::alloc::{AllocError, Global};
 
@@ -28,6 +28,7 @@ impl Closed {
         ensures shown { IfOk result (λ text. string_bytes text ≡ shown names.now self.now.load (the_bounds self.now)) }
         ensures back { FitsText self.now → IfOk result (λ text. told names.now (string_bytes text) ≡ tells self.now.load (the_bounds self.now)) }
     {
+        labels_are_their_marks();
         let printed = print_names(alloc, names)?;
         let bounds = self.bounds();
         let mut text = String::with_capacity(alloc, USUAL_LINE * (bounds.len() + 1))?;

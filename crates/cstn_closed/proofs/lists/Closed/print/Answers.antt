@@ -30,6 +30,6 @@ pub returns-clause-back : goal.returns-clause-back
 returns-clause-back c fits =
     let bounds = c.bounds-bounds.result.now in
     let all : take c.loop-bound.bound-index bounds ≡ c.args.self.now.bounds = take_all c.loop-bound.bound-index bounds c.loop-bound-test.false ∙ c.bounds-bounds.ensures.bounds in
-    closed_back c.args.names.now c.args.self.now (string_bytes c.loop-bound.text) c.print_names.ensures.names c.requires.named fits
+    closed_back c.labels_are_their_marks.ensures.above c.args.names.now c.args.self.now (string_bytes c.loop-bound.text) c.print_names.ensures.names c.requires.named fits
     (c.loop-bound.invariant
     ∙ ap (λ bs. shown c.args.names.now c.args.self.now.load (map the_bound bs)) all)
