@@ -1,12 +1,13 @@
 -- What is left of a log of which some entries are taken out.
-use Rattle.std.proofs.Common.{◌≡◌, ◌≢◌, inl, inr, ℕ, suc, ◌<◌, Bool, true, false, List, [], ◌∷◌, length, map, get_or, set, refl, ap, sym, ◌∙◌, subst, arith}
+use Rattle.std.proofs.Common.{◌≡◌, ◌≢◌, inl, inr, ℕ, suc, ◌+◌, ◌<◌, Bool, true, false, cond, List, [], ◌∷◌, length, map, get_or, set, refl, ap, sym, ◌∙◌, subst, arith}
 use Rattle.std.specs.Prelude.{Option, None, Some, is_some, slice_get}
 use Rattle.std.proofs.lemmas.List.{get_or-set_other, get_or-set_same, length-set, length-map}
+use Rattle.std.proofs.lemmas.List.Sums.{sum_by-set}
 use Rattle.std.proofs.lemmas.Bool.{cases_Bool, cases_eq, cases_lt}
 use Rattle.std.proofs.lemmas.Option.{none-some, slice_get-map, slice_get_within}
 use Rattle.cstn_rules.specs.declared.entries.Entry.{Entry}
 use Rattle.cstn_pool.specs.declared.slot_id.SlotId.{SlotId}
-use Rattle.cstn_pool.proofs.PoolLemmas.{count_emptied}
+use Rattle.cstn_pool.specs.Slots.{live_of}
 use Rattle.cstn_log.specs.Entries.{HasId, the_entries}
 use Rattle.cstn_log.specs.Kept.{AreLeft, IsPooled, renewed}
 use Rattle.cstn_log.specs.Cuts.{is_marked, rank, chosen_from, chosen, cut_from, cut}
@@ -16,6 +17,12 @@ use Rattle.cstn_log.proofs.ChoiceLemmas.{rank_marked, rank_unmarked, rank_grows,
 
 pub clash : {t : Bool} → t ≡ true → t ≡ false → ⊥
 clash y n = let e = rw y at n in cc
+
+-- a slot less is in use
+count_emptied : (slots : List (Option (ℕ × Entry))) (slot : ℕ) → slot < length slots → is_some (get_or slots slot None) ≡ true → live_of (set slots slot None) + 1 ≡ live_of slots
+count_emptied slots slot inside live =
+    let one : live_of (set slots slot None) + cond (is_some (get_or slots slot None)) 1 0 ≡ live_of slots + 0 = sum_by-set (λ x. cond (is_some x) 1 0) slots slot None None inside in
+    let two = rw live at one in omega arith
 
 -- nothing was given back yet
 pub left_all : (marks : List Bool) (ids : List SlotId) (slots : List (Option (ℕ × Entry))) → AreLeft marks ids 0 slots slots

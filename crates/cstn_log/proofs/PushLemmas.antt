@@ -1,17 +1,17 @@
 -- What a log keeps after a push.
-use Rattle.std.proofs.Common.{◌≡◌, ◌≢◌, inl, inr, ℕ, ◌+◌, ◌<◌, List, [], ◌∷◌, ◌++◌, length, get_or, set, refl, ap, sym, ◌∙◌, subst, arith, length-append}
-use Rattle.std.specs.Prelude.{Option, None, Some, slice_get}
+use Rattle.std.proofs.Common.{◌≡◌, ◌≢◌, ◌⊎◌, inl, inr, ℕ, ◌+◌, ◌<◌, cond, List, [], ◌∷◌, ◌++◌, length, get_or, set, refl, ap, sym, ◌∙◌, subst, arith, length-append}
+use Rattle.std.specs.Prelude.{Option, None, Some, is_some, slice_get}
 use Rattle.std.proofs.lemmas.List.{get_or-set_other, get_or-set_same, length-set}
+use Rattle.std.proofs.lemmas.List.Sums.{sum_by-set}
 use Rattle.std.proofs.lemmas.Bool.{cases_eq}
 use Rattle.std.proofs.lemmas.Option.{same_Some, slice_get_within, get_or_from_slice_get, none-some}
 use Rattle.cstn_label.specs.declared.bounds.Bound.{Bound}
+use Rattle.cstn_label.specs.Bounds.{Bound as TheBound, Dominates}
+use Rattle.cstn_label.specs.Read.{the_bound}
 use Rattle.cstn_rules.specs.declared.entries.Entry.{Entry}
 use Rattle.cstn_pool.specs.declared.slot_id.SlotId.{SlotId}
-use Rattle.cstn_pool.specs.Slots.{Slots}
-use Rattle.cstn_pool.proofs.PoolLemmas.{count_filled}
+use Rattle.cstn_pool.specs.Slots.{Slots, live_of}
 use Rattle.cstn_minset.specs.Sets.{Places, Entries, IsPlaced, IsOver, IsCovered, IsCleared}
-use Rattle.cstn_minset.proofs.BoundLemmas.{over_through}
-use Rattle.cstn_minset.proofs.TableLemmas.{placed_more}
 use Rattle.cstn_log.specs.Entries.{IsCoveredBy, IsLive}
 use Rattle.cstn_log.specs.Kept.{IsKept, IsPooled, IsTabled, IsIdAt}
 use Rattle.cstn_log.proofs.ListLemmas.{get_left, get_last, get_more}
@@ -22,7 +22,24 @@ use Rattle.cstn_log.proofs.KeptLemmas.{other_slot, unplaced}
 last_of : {X Y : Type 0} (xs : List X) (ys : List Y) (y : Y) → length ys ≡ length xs → slice_get (ys ++ y ∷ []) (length xs) ≡ Some y
 last_of xs ys y size = subst (λ (n : ℕ). slice_get (ys ++ y ∷ []) n ≡ Some y) size (get_last ys y)
 
-module _ (table cleared : Entries) (entries : List Entry) (ids : List SlotId) (id : SlotId) (x : Entry) (is : IsTabled table entries ids) (size : length entries ≡ length ids) (other : (k : ℕ) (jd : SlotId) → slice_get ids k ≡ Some jd → jd.slot ≢ id.slot) (inside : id.slot < length table) (clear : IsCleared x.bound table cleared) where
+-- what is dominated through another is dominated
+abbrev pub IsThrough : Type 0
+IsThrough = (a b c : TheBound) → Dominates a b → Dominates b c → Dominates a c
+
+-- what stands in the table after a slot was filled
+placed_more : (table : Entries) (slot u : ℕ) (x e : ℕ × Bound) → slot < length table → IsPlaced (set table slot (Some x)) u e → ((u ≡ slot) × (x ≡ e)) ⊎ ((u ≢ slot) × IsPlaced table u e)
+placed_more table slot u x e inside is = elim (cases_eq u slot) [
+  | inl same ↦ inl (same, same_Some x e (sym (get_or-set_same table slot (Some x) None inside) ∙ rw same at is))
+  | inr other ↦ inr (other, sym (get_or-set_other table slot u (Some x) None other) ∙ is)
+]
+
+-- a slot more is in use
+count_filled : (slots : List (Option (ℕ × Entry))) (slot : ℕ) (entry : ℕ × Entry) → slot < length slots → get_or slots slot None ≡ None → live_of (set slots slot (Some entry)) ≡ live_of slots + 1
+count_filled slots slot entry inside none =
+    let one : live_of (set slots slot (Some entry)) + cond (is_some (get_or slots slot None)) 1 0 ≡ live_of slots + 1 = sum_by-set (λ x. cond (is_some x) 1 0) slots slot (Some entry) None inside in
+    let two = rw none at one in omega arith
+
+module _ (through : IsThrough) (table cleared : Entries) (entries : List Entry) (ids : List SlotId) (id : SlotId) (x : Entry) (is : IsTabled table entries ids) (size : length entries ≡ length ids) (other : (k : ℕ) (jd : SlotId) → slice_get ids k ≡ Some jd → jd.slot ≢ id.slot) (inside : id.slot < length table) (clear : IsCleared x.bound table cleared) where
   placed_old : (s : ℕ) (b : ℕ × Bound) → IsPlaced cleared s b → (k : ℕ) × (e : Entry) × IsIdAt (ids ++ id ∷ []) s b.0 k × (slice_get (entries ++ x ∷ []) k ≡ Some e) × IsLive (entries ++ x ∷ []) k × (e.bound ≡ b.1)
   placed_old s b there =
       let jd : SlotId = record { slot = s; birth = b.0 } in
@@ -41,7 +58,7 @@ module _ (table cleared : Entries) (entries : List Entry) (ids : List SlotId) (i
   covered_before b not c =
       let elsewhere : c.0 ≢ id.slot = λ same. none-some c.1 (sym (unplaced table entries ids id.slot is other) ∙ rw same at c.2) in
       let stays : ¬ IsOver x.bound c.1.1 → ⊥ = λ n. not (c.0, c.1, get_or-set_other cleared id.slot c.0 (Some (id.birth, x.bound)) None elsewhere ∙ clear.kept c.0 c.1 c.2 n, c.3) in
-      stays (λ over. not (id.slot, (id.birth, x.bound), get_or-set_same cleared id.slot (Some (id.birth, x.bound)) None (omega (arith, clear.size, inside)), over_through x.bound c.1.1 b over c.3))
+      stays (λ over. not (id.slot, (id.birth, x.bound), get_or-set_same cleared id.slot (Some (id.birth, x.bound)) None (omega (arith, clear.size, inside)), through (the_bound x.bound) (the_bound c.1.1) (the_bound b) over c.3))
 
   pub tabled_more : IsTabled (set cleared id.slot (Some (id.birth, x.bound))) (entries ++ x ∷ []) (ids ++ id ∷ [])
   tabled_more =
@@ -92,13 +109,13 @@ pooled_more slots births entries ids slot x is size inside free =
     }
 
 -- one more in the pool and in the minimal set
-pub kept_more : (slots : List (Option (ℕ × Entry))) (births : ℕ) (table cleared : Entries) (entries : List Entry) (ids : List SlotId) (nodes slot : ℕ) (x : Entry) → IsKept slots births table entries ids nodes → slot < length slots → get_or slots slot None ≡ None → IsCleared x.bound table cleared → ¬ IsCoveredBy entries x.bound → x.bound.node.0 < nodes →
+pub kept_more : IsThrough → (slots : List (Option (ℕ × Entry))) (births : ℕ) (table cleared : Entries) (entries : List Entry) (ids : List SlotId) (nodes slot : ℕ) (x : Entry) → IsKept slots births table entries ids nodes → slot < length slots → get_or slots slot None ≡ None → IsCleared x.bound table cleared → ¬ IsCoveredBy entries x.bound → x.bound.node.0 < nodes →
     IsKept (set slots slot (Some (births, x))) (births + 1) (set cleared slot (Some (births, x.bound))) (entries ++ x ∷ []) (ids ++ record { slot = slot; birth = births } ∷ []) nodes
-kept_more slots births table cleared entries ids nodes slot x is inside free clear uncovered node =
+kept_more through slots births table cleared entries ids nodes slot x is inside free clear uncovered node =
     let id : SlotId = record { slot = slot; birth = births } in
     record {
       pooled = pooled_more slots births entries ids slot x is.pooled is.size inside free;
-      tabled = tabled_more table cleared entries ids id x is.tabled is.size (other_slot slots births entries ids slot is.pooled free) (omega (arith, inside, is.room)) clear;
+      tabled = tabled_more through table cleared entries ids id x is.tabled is.size (other_slot slots births entries ids slot is.pooled free) (omega (arith, inside, is.room)) clear;
       room = length-set cleared slot (Some (births, x.bound)) ∙ clear.size ∙ is.room ∙ sym (length-set slots slot (Some (births, x)));
       size = omega (arith, length-append entries (x ∷ []), length-append ids (id ∷ []), is.size);
       fresh = new_more entries x is.fresh uncovered;
@@ -113,11 +130,11 @@ abbrev the_id : ℕ → ℕ → SlotId
 the_id s n = record { slot = s; birth = n }
 
 -- the steps of the code
-pub push_step : (slots : List (Option (ℕ × Entry))) (births : ℕ) (minimal : Places) (cleared : Entries) (entries longer : List Entry) (ids : List SlotId) (id : SlotId) (x : Entry) (pool : Slots Entry) (placed : Places) (new : List SlotId) → IsKept slots births minimal.table entries ids minimal.nodes → slice_get slots id.slot ≡ Some None → id.birth ≡ births → pool ≡ record { slots = set slots id.slot (Some (id.birth, x)); births = births + 1 } → IsCleared x.bound minimal.table cleared → placed ≡ record minimal { table = set cleared id.slot (Some (id.birth, x.bound)) } → longer ≡ entries ++ x ∷ [] → new ≡ ids ++ id ∷ [] → ¬ IsCoveredBy entries x.bound → x.bound.node.0 < minimal.nodes → IsKept pool.slots pool.births placed.table longer new placed.nodes
-push_step slots births minimal cleared entries longer ids id x pool placed new is empty same taken clear placed_is longer_is new_is uncovered node =
+pub push_step : IsThrough → (slots : List (Option (ℕ × Entry))) (births : ℕ) (minimal : Places) (cleared : Entries) (entries longer : List Entry) (ids : List SlotId) (id : SlotId) (x : Entry) (pool : Slots Entry) (placed : Places) (new : List SlotId) → IsKept slots births minimal.table entries ids minimal.nodes → slice_get slots id.slot ≡ Some None → id.birth ≡ births → pool ≡ record { slots = set slots id.slot (Some (id.birth, x)); births = births + 1 } → IsCleared x.bound minimal.table cleared → placed ≡ record minimal { table = set cleared id.slot (Some (id.birth, x.bound)) } → longer ≡ entries ++ x ∷ [] → new ≡ ids ++ id ∷ [] → ¬ IsCoveredBy entries x.bound → x.bound.node.0 < minimal.nodes → IsKept pool.slots pool.births placed.table longer new placed.nodes
+push_step through slots births minimal cleared entries longer ids id x pool placed new is empty same taken clear placed_is longer_is new_is uncovered node =
     let e = empty_in slots id.slot empty in
     let id_is : record { slot = id.slot; birth = births } ≡ id = ap (λ (n : ℕ). the_id id.slot n) (sym same) in
-    rw (taken, placed_is, longer_is, new_is) (subst (λ (y : SlotId). IsKept (set slots id.slot (Some (y.birth, x))) (births + 1) (set cleared id.slot (Some (y.birth, x.bound))) (entries ++ x ∷ []) (ids ++ y ∷ []) minimal.nodes) id_is (kept_more slots births minimal.table cleared entries ids minimal.nodes id.slot x is e.0 e.1 clear uncovered node))
+    rw (taken, placed_is, longer_is, new_is) (subst (λ (y : SlotId). IsKept (set slots id.slot (Some (y.birth, x))) (births + 1) (set cleared id.slot (Some (y.birth, x.bound))) (entries ++ x ∷ []) (ids ++ y ∷ []) minimal.nodes) id_is (kept_more through slots births minimal.table cleared entries ids minimal.nodes id.slot x is e.0 e.1 clear uncovered node))
 
 pub slot_empty : (slots : List (Option (ℕ × Entry))) (births : ℕ) (entries : List Entry) (ids : List SlotId) (id : SlotId) → IsPooled slots births entries ids → slice_get slots id.slot ≡ Some None → (k : ℕ) (jd : SlotId) → slice_get ids k ≡ Some jd → jd.slot ≢ id.slot
 slot_empty slots births entries ids id is empty = other_slot slots births entries ids id.slot is (empty_in slots id.slot empty).1

@@ -18,7 +18,7 @@ use Rattle.cstn_log.specs.Entries.{the_entries, IsCoveredBy, AllNew}
 use Rattle.cstn_log.specs.Cuts.{PremisesBelow, PremisesMarked, AllEarlier, IsClosedUnder, is_marked, rank, renumbered, cut, moved}
 use Rattle.cstn_log.proofs.ListLemmas.{get_map, get_taken, take_step, length_taken}
 use Rattle.cstn_log.proofs.KeptLemmas.{same_slot, slot_inside, unplaced, uncovered_there, born_before}
-use Rattle.cstn_log.proofs.PushLemmas.{tabled_more}
+use Rattle.cstn_log.proofs.PushLemmas.{IsThrough, tabled_more}
 use Rattle.cstn_log.proofs.ChoiceLemmas.{rank_grows, rank_less}
 use Rattle.cstn_log.proofs.CutLemmas.{comes}
 use Rattle.cstn_log.proofs.StepLemmas.{entry_read}
@@ -97,7 +97,7 @@ module _ (slots : List (Option (ℕ × Entry))) (births : ℕ) (entries : List E
   pub place_uncovered : (e : Entry) → AllNew entries → slice_get entries k ≡ Some e → ¬ IsCovered table e.bound
   place_uncovered e all at = uncovered_there table (take k entries) (take k ids) e.bound tabled (first_uncovered entries (take k entries) k e all at refl)
 
-  pub place_step : (e : Entry) (cleared : Entries) → slice_get entries k ≡ Some e → length slots ≡ length table → IsCleared e.bound table cleared → IsTabled (set cleared id.slot (Some (id.birth, e.bound))) (take (k + 1) entries) (take (k + 1) ids)
-  place_step e cleared at room clear =
+  pub place_step : IsThrough → (e : Entry) (cleared : Entries) → slice_get entries k ≡ Some e → length slots ≡ length table → IsCleared e.bound table cleared → IsTabled (set cleared id.slot (Some (id.birth, e.bound))) (take (k + 1) entries) (take (k + 1) ids)
+  place_step through e cleared at room clear =
       let size : length (take k entries) ≡ length (take k ids) = length_taken entries k (omega (arith, slice_get_within entries k e at)) ∙ sym (length_taken ids k (omega (arith, slice_get_within ids k id there))) in
-      rw (take_step entries k e at, take_step ids k id there) (tabled_more table cleared (take k entries) (take k ids) id e tabled size other_taken (omega (arith, place_inside, room)) clear)
+      rw (take_step entries k e at, take_step ids k id there) (tabled_more through table cleared (take k entries) (take k ids) id e tabled size other_taken (omega (arith, place_inside, room)) clear)

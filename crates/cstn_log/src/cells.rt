@@ -1,6 +1,7 @@
 ghost use Rattle.std.specs.Prelude.{◌≡◌, ◌<◌, ◌≤◌, ◌+◌, ◌++◌, [], length, replicate, IfOk, slice_set, slice_index_or};
 ghost use Rattle.cstn_log.specs.Chains.{no_place};
 
+use cstn_pool::blanks_fill_up_to_a_count;
 use std::alloc::{AllocError, Global};
 use std::marker::Model;
 
@@ -58,6 +59,7 @@ impl LinkCells {
         ensures cells { self.new.cells ≡ slice_set self.old.cells cell place }
         ensures room { self.old.room ≤ self.new.room }
     {
+        blanks_fill_up_to_a_count::<u32>();
         let count = self.front.len().max(cell + 1);
         self.front.resize(count, NO_PLACE).unwrap();
         self.front[cell] = place;

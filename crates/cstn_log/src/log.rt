@@ -18,7 +18,7 @@ use crate::chains::{MarkChains, NodeChains, append_all, is_at, is_marked};
 use crate::cutting::{count_marked, cut, mark_ancestors, mark_staying};
 use crate::list::EntryList;
 use crate::putting::{clear, give_rest, place_all};
-use cstn_label::{Bound, Label, NodeId, Prop};
+use cstn_label::{Bound, Label, NodeId, Prop, domination_is_an_order};
 use cstn_minset::MinSet;
 use cstn_net::Network;
 use cstn_pool::{Full, Pool, SlotId};
@@ -130,6 +130,7 @@ impl Log {
         ensures pushed { IsOk result → (slot : ℕ) × (self.new ≡ record self.old { entries = self.old.entries ++ e ∷ []; ids = self.old.ids ++ record { slot = slot; birth = self.old.births } ∷ []; births = self.old.births + 1 }) }
         ensures derivation { IsDerivation (the_network net.now) (the_entries self.old.entries) → IsDerivation (the_network net.now) (the_entries self.new.entries) }
     {
+        domination_is_an_order();
         let count = net.count();
         let id = self.pool.take(e)?;
         // What follows is at a time-point of the network.

@@ -5,6 +5,7 @@ ghost use Rattle.cstn_log.specs.Entries.{AllNew};
 ghost use Rattle.cstn_log.specs.Kept.{AreLeft, IsKept, IsPooled, IsTabled};
 
 use crate::list::EntryList;
+use cstn_label::domination_is_an_order;
 use cstn_minset::MinSet;
 use cstn_pool::Pool;
 use cstn_rules::Entry;
@@ -45,6 +46,7 @@ pub fn place_all(minimal: &mut MinSet, list: &EntryList)
     ensures tabled { IsTabled minimal.new.table list.now.entries list.now.ids }
     ensures size { (length minimal.new.table ≡ length minimal.old.table) × (minimal.new.nodes ≡ minimal.old.nodes) }
 {
+    domination_is_an_order();
     for k in 0..list.len() {
         minimal.place(&list.entry(k).bound, list.id(k));
     }

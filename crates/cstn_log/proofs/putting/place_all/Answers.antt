@@ -52,7 +52,7 @@ loop-k-preserved c =
     let e = c.entry.result in
     let at' = c.entry.ensures.entry in
     let placed = c.place.ensures.placed in
-    let step = place_step p.0 p.1 c.args.list.now.entries c.args.list.now.ids c.loop-k.minimal.table k c.id.result p.2 was.tabled c.id.ensures e placed.0 at' (omega (arith, p.3, was.room)) placed.1 in
+    let step = place_step p.0 p.1 c.args.list.now.entries c.args.list.now.ids c.loop-k.minimal.table k c.id.result p.2 was.tabled c.id.ensures c.domination_is_an_order.ensures.transitive e placed.0 at' (omega (arith, p.3, was.room)) placed.1 in
     record {
       end = was.end;
       tabled = rw placed.2 step;

@@ -65,7 +65,7 @@ invariant_of-self-2 c =
     let same : c.place.new.self.nodes ≡ c.self.inside.minimal.nodes = ap (λ v. v.nodes) placed.2 in
     let long : length L ≡ c.len-place.result = omega (arith, c.len-place.ensures.len) in
     record {
-      kept = push_step c.self.inside.pool.slots c.self.inside.pool.births c.self.inside.minimal placed.0 L c.push.new.self.entries c.self.inside.list.ids id c.args.e c.take.new.self c.place.new.self c.push.new.self.ids c.self.invariant.kept taken.empty taken.birth taken.taken placed.1 placed.2 longer pushed uncovered (omega (arith, nodes, c.requires.net, c.if-prove.false, c.count-count.ensures.count));
+      kept = push_step c.domination_is_an_order.ensures.transitive c.self.inside.pool.slots c.self.inside.pool.births c.self.inside.minimal placed.0 L c.push.new.self.entries c.self.inside.list.ids id c.args.e c.take.new.self c.place.new.self c.push.new.self.ids c.self.invariant.kept taken.empty taken.birth taken.taken placed.1 placed.2 longer pushed uncovered (omega (arith, nodes, c.requires.net, c.if-prove.false, c.count-count.ensures.count));
       room = record {
         size = ap (λ v. v.cap) c.push.ensures ∙ room.size ∙ sym size;
         for_marks = omega (arith, size, room.for_marks);
