@@ -14,8 +14,8 @@ use Rattle.cstn_check.specs.declared.verdicts.Verdict.{Verdict}
 use Rattle.cstn_check.specs.declared.verdicts.Verdict.TheVariants.{Yes, No, Full}
 use Rattle.cstn_conflict.specs.Sets.{ids_of, has, less, with_ids, is_consistent}
 use Rattle.cstn_conflict.specs.Conflicts.{left_out, left_of, tried_from, conflict_set, is_above, is_conflict_full}
-use Rattle.cstn_conflict.specs.Trials.{verdict_on, is_any_above}
-use Rattle.cstn_conflict.proofs.TrialLemmas.{Tells, verdict_tells, copied}
+use Rattle.cstn_conflict.specs.Trials.{verdict_on, IsVerdictOn, is_any_above}
+use Rattle.cstn_conflict.proofs.TrialLemmas.{verdict_tells, copied}
 use Rattle.cstn_conflict.proofs.SetLemmas.{whole_is, set_well_formed, decided}
 use Rattle.cstn_conflict.proofs.LeftLemmas.{out_cases, left_among, left_inconsistent, left_needed, left_within}
 
@@ -110,14 +110,14 @@ handed_on (Err y) x e is told = sym is ∙ (let same : y ≡ e = cc in same)
 -- what a first check tells
 module _ (cap : ℕ) (net other : NetworkParts) (good : IsWellFormed (the_network net)) (v : Verdict) (copy : other ≡ record net { spare = 0 })
     (is : v ≡ verdict_on cap (the_network other)) where
-  first : Tells cap (the_network net) v
-  first = subst (Tells cap (the_network net)) (sym (is ∙ ap (verdict_on cap) (copied net other copy))) (verdict_tells cap (the_network net) good)
+  first : IsVerdictOn cap (the_network net) v
+  first = subst (IsVerdictOn cap (the_network net)) (sym (is ∙ ap (verdict_on cap) (copied net other copy))) (verdict_tells cap (the_network net) good)
 
   pub first_full : v ≡ Full → cap < load_of (the_network net)
-  first_full e = subst (Tells cap (the_network net)) e first
+  first_full e = subst (IsVerdictOn cap (the_network net)) e first
 
   pub first_yes : (load : ℕ) → v ≡ Yes load → (load ≡ load_of (the_network net)) × (load_of (the_network net) ≤ cap) × IsConsistent (the_network net)
-  first_yes load e = subst (Tells cap (the_network net)) e first
+  first_yes load e = subst (IsVerdictOn cap (the_network net)) e first
 
   pub first_no : (load : ℕ) → v ≡ No load → (load ≡ load_of (the_network net)) × (load_of (the_network net) ≤ cap) × ¬ IsConsistent (the_network net)
-  first_no load e = subst (Tells cap (the_network net)) e first
+  first_no load e = subst (IsVerdictOn cap (the_network net)) e first

@@ -17,7 +17,7 @@ use Rattle.cstn_check.specs.Checks.{CheckParts}
 use Rattle.cstn_check.specs.declared.verdicts.Verdict.{Verdict}
 use Rattle.cstn_check.specs.declared.verdicts.Verdict.TheVariants.{Yes, No, Full}
 use Rattle.cstn_conflict.specs.Sets.{is_consistent}
-use Rattle.cstn_conflict.specs.Trials.{verdict_on, without, smaller, IsRefutationOf}
+use Rattle.cstn_conflict.specs.Trials.{verdict_on, IsVerdictOn, without, smaller, IsRefutationOf}
 use Rattle.cstn_conflict.proofs.SetLemmas.{without_well_formed, decided, not_consistent}
 
 -- what the clauses of a check say of its verdict
@@ -47,17 +47,12 @@ pub started_verdict : (cap : ℕ) (net : NetworkParts) (check : CheckParts) (v :
 started_verdict cap net check v good is answer =
     verdict_is cap (the_network net) good v (subst (λ (c : CheckParts). IsAnswer c.cap (the_network c.net) v) is answer)
 
--- what a verdict tells
-abbrev pub Tells : ℕ → Network → Verdict → Type 0
-Tells cap net (Yes load) = (load ≡ load_of net) × (load_of net ≤ cap) × IsConsistent net
-Tells cap net (No load) = (load ≡ load_of net) × (load_of net ≤ cap) × ¬ IsConsistent net
-Tells cap net Full = cap < load_of net
-
-pub verdict_tells : (cap : ℕ) (net : Network) → IsWellFormed net → Tells cap net (verdict_on cap net)
+-- what the verdict on a network tells
+pub verdict_tells : (cap : ℕ) (net : Network) → IsWellFormed net → IsVerdictOn cap net (verdict_on cap net)
 verdict_tells cap net good = by (nat_lt cap (load_of net)) (is_consistent net) refl refl
   where
     by : (long consistent : Bool) → nat_lt cap (load_of net) ≡ long → is_consistent net ≡ consistent →
-        Tells cap net (cond long Full (cond consistent (Yes (load_of net)) (No (load_of net))))
+        IsVerdictOn cap net (cond long Full (cond consistent (Yes (load_of net)) (No (load_of net))))
     by true consistent is t = ltb-true cap (load_of net) is
     by false true is t = (refl, ltb-false cap (load_of net) is, (decided net good).0 t)
     by false false is f = (refl, ltb-false cap (load_of net) is, not_consistent net good f)
@@ -67,20 +62,20 @@ module _ (cap id : ℕ) (net : Network) (v : Verdict) (well_formed : IsWellForme
   good : IsWellFormed (without id net)
   good = without_well_formed id net well_formed
 
-  told : Tells cap (without id net) v
-  told = subst (Tells cap (without id net)) (sym is) (verdict_tells cap (without id net) good)
+  told : IsVerdictOn cap (without id net) v
+  told = subst (IsVerdictOn cap (without id net)) (sym is) (verdict_tells cap (without id net) good)
 
   pub trial_full : v ≡ Full → cap < load_of (without id net)
-  trial_full e = subst (Tells cap (without id net)) e told
+  trial_full e = subst (IsVerdictOn cap (without id net)) e told
 
   pub trial_yes : (load : ℕ) → v ≡ Yes load → (load_of (without id net) ≤ cap) × (net ≡ smaller id net)
   trial_yes load e =
-      let t = subst (Tells cap (without id net)) e told in
+      let t = subst (IsVerdictOn cap (without id net)) e told in
       (t.1, sym (cond-true (is_consistent (without id net)) net (without id net) ((decided (without id net) good).1 t.2)))
 
   pub trial_no : (load : ℕ) → v ≡ No load → (load_of (without id net) ≤ cap) × (without id net ≡ smaller id net)
   trial_no load e =
-      let t = subst (Tells cap (without id net)) e told in (
+      let t = subst (IsVerdictOn cap (without id net)) e told in (
         t.1,
         sym (cond-false (is_consistent (without id net)) net (without id net)
             (false_from_ne_true (is_consistent (without id net)) (λ e. t.2 ((decided (without id net) good).0 e)))),

@@ -1,7 +1,8 @@
 -- What is asked of a network while its conflict set is looked for.
-use Rattle.std.specs.Prelude.{ℕ, ◌≡◌, ◌<◌, Bool, not, ◌==◌, nat_lt, if◌then◌else◌}
+use Rattle.std.specs.Prelude.{ℕ, ◌≡◌, ◌<◌, ◌≤◌, Bool, not, ◌==◌, nat_lt, if◌then◌else◌}
 use Rattle.std.specs.List.{All, filter, list_any}
 use Rattle.cstn_net.specs.Networks.{Network, count}
+use Rattle.cstn_net.specs.Strategies.{IsConsistent}
 use Rattle.cstn_rules.specs.Derivations.{IsRefutation}
 use Rattle.cstn_log.specs.Cuts.{part}
 use Rattle.cstn_refute.specs.Refutations.{RefutationParts, FitsText, the_steps}
@@ -14,6 +15,12 @@ use Rattle.cstn_conflict.specs.Conflicts.{is_above, tried_from}
 -- the verdict on a network whose log may have so many entries
 abbrev pub verdict_on : ℕ → Network → Verdict
 verdict_on cap net = if nat_lt cap (load_of net) then Full else if is_consistent net then Yes (load_of net) else No (load_of net)
+
+-- what a verdict tells of it: its load, which is at most the cap, and whether it is consistent, or that the load is above the cap
+abbrev pub IsVerdictOn : ℕ → Network → Verdict → Type 0
+IsVerdictOn cap net (Yes load) = (load ≡ load_of net) × (load_of net ≤ cap) × IsConsistent net
+IsVerdictOn cap net (No load) = (load ≡ load_of net) × (load_of net ≤ cap) × ¬ IsConsistent net
+IsVerdictOn cap net Full = cap < load_of net
 
 -- the network without the constraint of the id
 abbrev pub without : ℕ → Network → Network

@@ -4,7 +4,7 @@ ghost use Rattle.cstn_net.specs.Networks.{IsWellFormed};
 ghost use Rattle.cstn_net.specs.Strategies.{IsConsistent};
 ghost use Rattle.cstn_net.specs.Read.{the_network};
 ghost use Rattle.cstn_check.specs.Growth.{load_of};
-ghost use Rattle.cstn_conflict.specs.Trials.{verdict_on, without, smaller, IsRefutationOf};
+ghost use Rattle.cstn_conflict.specs.Trials.{verdict_on, IsVerdictOn, without, smaller, IsRefutationOf};
 
 use crate::errors::ConflictError;
 use cstn_check::{Check, Verdict};
@@ -12,11 +12,13 @@ use cstn_net::Network;
 use cstn_refute::Refutation;
 use std::alloc::{AllocError, Global};
 
-/// The verdict of a check of a network, which is dropped.
+/// The verdict of a check of a network, which is dropped. It tells the load, which is at most the cap, and whether the network
+/// is consistent, or that the load is above the cap.
 pub fn verdict_on(alloc: Global, net: Network, cap: u32) -> Result<Verdict, AllocError>
     requires some { 1 ≤ cap }
     requires most { cap ≤ 4194304 }
     ensures verdict { IfOk result (λ v. v ≡ verdict_on cap (the_network net)) }
+    ensures tells { IfOk result (IsVerdictOn cap (the_network net)) }
 {
     is_well_formed(&net);
     let mut check = Check::start(alloc, net, cap)?;
