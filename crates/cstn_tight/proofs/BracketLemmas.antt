@@ -1,6 +1,6 @@
 -- The least deadline is between the ends of each range.
 use Rattle.std.proofs.Common.{ℕ, zero, suc, ◌≡◌, ◌<◌, ◌≤◌, ◌+◌, ◌-◌, ◌⊎◌, true, false, cond, inl, inr, Result, Ok, Err, [], arith, refl, sym, subst, ap, ◌∙◌}
-use Rattle.std.specs.Prelude.{IsOk, IsErr}
+use Rattle.std.specs.Prelude.{IsOk, IsErr, IsErrAnd, IsErrOf}
 use Rattle.std.specs.List.{list_any}
 use Rattle.std.proofs.lemmas.Bool.{cases_lt, cond-true, lt-ltb, le-ltb, ltb-false, or_left, or_right, or_from, or_parts, both_ways}
 use Rattle.cstn_net.specs.Networks.{Network, IsWellFormed}
@@ -8,11 +8,10 @@ use Rattle.cstn_net.specs.Read.{NetworkParts, the_network}
 use Rattle.cstn_net.specs.Strategies.{IsConsistent}
 use Rattle.cstn_check.specs.Growth.{load_of, most_entries}
 use Rattle.cstn_check.specs.declared.verdicts.Verdict.{Verdict}
-use Rattle.cstn_check.specs.declared.verdicts.Verdict.TheVariants.{Yes}
+use Rattle.cstn_check.specs.declared.verdicts.Verdict.TheVariants.{Yes, No, Full}
 use Rattle.cstn_conflict.specs.Sets.{is_consistent}
 use Rattle.cstn_conflict.proofs.SetLemmas.{decided}
-use Rattle.cstn_conflict.specs.Trials.{verdict_on}
-use Rattle.cstn_conflict.proofs.ConflictLemmas.{first_yes}
+use Rattle.cstn_conflict.specs.Trials.{IsVerdictOn}
 use Rattle.cstn_tight.specs.declared.ranges.Range.{Range}
 use Rattle.cstn_tight.specs.Deadlines.{at_deadline, IsLeastDeadline}
 use Rattle.cstn_tight.specs.Bisection.{middle, halved, narrowed, tried_from, whole, least_deadline, is_above, is_any_above, is_tight_full}
@@ -107,13 +106,31 @@ module _ (cap : ℕ) (net : Network) (good : IsWellFormed net) where
   pub not_full : IsConsistent net → load_of net ≤ cap → is_any_above cap net ≡ false → is_tight_full cap net ≡ false
   not_full consistent fits none = or_from (is_above cap net net.deadline) _ (le-ltb cap (load_of net) fits) (others consistent ∙ none)
 
--- what is found after a first check that said yes
-pub searched : (cap : ℕ) (net copy : NetworkParts) (good : IsWellFormed (the_network net)) (v : Verdict) → copy ≡ record net { spare = 0 } →
-    v ≡ verdict_on cap (the_network copy) → (load : ℕ) → v ≡ Yes load → (h : ℕ) → h ≡ least_deadline (the_network net) →
-    is_any_above cap (the_network net) ≡ false → IsFound cap (the_network net) good h
-searched cap net copy good v copied is load said h least none =
-    let first = first_yes cap net copy good v copied is load said in
-    subst (IsFound cap (the_network net) good) (sym least) (found cap (the_network net) good first.2 first.1 none)
+-- what a first check tells, of a copy
+module _ (cap : ℕ) (net copy : NetworkParts) (v : Verdict) (copied : copy ≡ record net { spare = 0 }) (told : IsVerdictOn cap (the_network copy) v) where
+  first : IsVerdictOn cap (the_network net) v
+  first = subst (λ (n : NetworkParts). IsVerdictOn cap (the_network n) v) copied told
+
+  pub first_full : v ≡ Full → cap < load_of (the_network net)
+  first_full e = subst (IsVerdictOn cap (the_network net)) e first
+
+  pub first_yes : (load : ℕ) → v ≡ Yes load → (load_of (the_network net) ≤ cap) × IsConsistent (the_network net)
+  first_yes load e = let is = subst (IsVerdictOn cap (the_network net)) e first in (is.1, is.2)
+
+  pub first_no : (load : ℕ) → v ≡ No load → (load_of (the_network net) ≤ cap) × ¬ IsConsistent (the_network net)
+  first_no load e = let is = subst (IsVerdictOn cap (the_network net)) e first in (is.1, is.2)
+
+  -- what is found where it said yes
+  pub searched : (good : IsWellFormed (the_network net)) (load : ℕ) → v ≡ Yes load → (h : ℕ) → h ≡ least_deadline (the_network net) →
+      is_any_above cap (the_network net) ≡ false → IsFound cap (the_network net) good h
+  searched good load said h least none =
+      let yes_is = first_yes load said in
+      subst (IsFound cap (the_network net) good) (sym least) (found cap (the_network net) good yes_is.1 yes_is.0 none)
+
+-- an error that is handed on
+pub handed_on : {X E : Type 0} (r : Result X E) (x e : E) → IsErrAnd r (λ y. y ≡ x) → IsErrOf r e → x ≡ e
+handed_on (Ok v) x e is told = absurd is
+handed_on (Err y) x e is told = sym is ∙ (let same : y ≡ e = cc in same)
 
 -- an error isn't an answer
 pub not_ok : {X E : Type 0} (r : Result X E) → IsErr r → IsOk r → ⊥

@@ -16,7 +16,7 @@ ghost use Rattle.cstn_tight.specs.Evidence.{IsClosedOf};
 
 use crate::deadlines::{copy_at, least_deadline};
 use crate::errors::TightError;
-use cstn_check::{Check, Verdict};
+use cstn_check::{Check, Verdict, growth_is_bounded};
 use cstn_closed::{Closed, closed_lists_are_accepted};
 use cstn_conflict::{refuted, verdict_on};
 use cstn_net::Network;
@@ -59,6 +59,7 @@ pub fn least(alloc: Global, net: Network, cap: u32) -> Result<Tight, TightError>
     ensures none { IfOk result (λ tight. IsNone tight.refutation ↔ (tight.deadline ≡ 0)) }
     ensures refutation { IfOk result (λ tight. IfSome tight.refutation (IsRefutationOf (at_deadline (the_network net) (least_deadline (the_network net) - 1)))) }
 {
+    growth_is_bounded();
     is_well_formed(&net);
     match verdict_on(alloc, net.copy(alloc)?, cap)? {
         Verdict::Yes { .. } => {

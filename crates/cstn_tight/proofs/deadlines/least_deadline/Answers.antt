@@ -1,8 +1,8 @@
 use Rattle.std.proofs.Common.{◌≡◌, Err, refl, subst, sym, ap, ◌∙◌}
 use Rattle.std.specs.Prelude.{IsErrAnd}
 use Rattle.cstn_net.specs.Read.{the_network}
-use Rattle.cstn_conflict.proofs.ConflictLemmas.{handed_on}
 use Rattle.cstn_tight.specs.declared.errors.TightError.TheVariants.{Full}
+use Rattle.cstn_tight.proofs.BracketLemmas.{handed_on}
 use Rattle.cstn_tight.proofs.HalfLemmas.{Narrows, narrows_start, narrows_full, narrows_next, narrows_end}
 use Rattle.cstn_tight.proofs.deadlines.least_deadline.Goals as goal
 
