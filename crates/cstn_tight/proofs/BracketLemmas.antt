@@ -10,7 +10,6 @@ use Rattle.cstn_check.specs.Growth.{load_of, most_entries}
 use Rattle.cstn_check.specs.declared.verdicts.Verdict.{Verdict}
 use Rattle.cstn_check.specs.declared.verdicts.Verdict.TheVariants.{Yes, No, Full}
 use Rattle.cstn_conflict.specs.Sets.{is_consistent}
-use Rattle.cstn_conflict.proofs.SetLemmas.{decided}
 use Rattle.cstn_conflict.specs.Trials.{IsVerdictOn}
 use Rattle.cstn_tight.specs.declared.ranges.Range.{Range}
 use Rattle.cstn_tight.specs.Deadlines.{at_deadline, IsLeastDeadline}
@@ -98,7 +97,10 @@ module _ (cap : ℕ) (net : Network) (good : IsWellFormed net) where
   whole_full above = or_left (is_above cap net net.deadline) _ (lt-ltb cap (load_of net) above)
 
   others : IsConsistent net → list_any (is_above cap net) (cond (is_consistent net) (tried_from net 20 (whole net)) []) ≡ is_any_above cap net
-  others consistent = ap (list_any (is_above cap net)) (cond-true (is_consistent net) (tried_from net 20 (whole net)) [] ((decided net good).1 consistent))
+  others consistent =
+      let in_time = good.in_time in
+      let decides = decided_at net good net.deadline (omega arith) in
+      ap (list_any (is_above cap net)) (cond-true (is_consistent net) (tried_from net 20 (whole net)) [] (decides.1 consistent))
 
   pub later_full : IsConsistent net → is_any_above cap net ≡ true → is_tight_full cap net ≡ true
   later_full consistent above = or_right (is_above cap net net.deadline) _ (others consistent ∙ above)
