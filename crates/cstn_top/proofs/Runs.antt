@@ -1,5 +1,5 @@
 -- A run that was prepared.
-use Rattle.std.proofs.Common.{◌≡◌, ℕ, List, map, sym, subst}
+use Rattle.std.proofs.Common.{◌≡◌, ℕ, List, map, refl, subst}
 use Rattle.cstn_net.specs.Networks.{Network, count}
 use Rattle.cstn_text.specs.PrintedNames.{printed_name}
 use Rattle.cstn_lift.specs.Labelled.{Labelled}
@@ -11,7 +11,6 @@ use Rattle.cstn_reply.specs.Texts.{yes_line}
 use Rattle.cstn_reply.specs.Plans.{Said, Plan, says, ComesTo}
 use Rattle.cstn_reply.specs.Sessions.{session}
 use Rattle.cstn_verdict.specs.Verdicts.{verdict, on_verdict}
-use Rattle.cstn_verdict.proofs.Opening.{comes_same}
 use Rattle.cstn_talk.specs.Guiding.{guide_turn, guide_ending, carried_out}
 
 -- the verdict on the network that a labelled one is lowered to
@@ -21,7 +20,8 @@ verdict_for cap net other same is = subst (λ (n : Network). verdict cap n ≡ Y
 -- what is said after no, or where the log has more entries than it may
 pub told_for : (cap : ℕ) (names : List (List ℕ)) (net : Network) (m : Labelled) (said : Said) → net ≡ lowered m → ((after_yes : Plan) → on_verdict cap names net after_yes (verdict cap net) ≡ says said) → ComesTo (carried_out cap names m) (says said)
 told_for cap names net m said same told =
-    comes_same (carried_out cap names m) (says said) (sym (subst (λ (n : Network). on_verdict cap names n after_yes (verdict cap n) ≡ says said) same (told after_yes)))
+    subst (ComesTo (carried_out cap names m)) (subst (λ (n : Network). on_verdict cap names n after_yes (verdict cap n) ≡ says said) same (told after_yes))
+    (record { output = λ live s is. is; talks = λ may. may; fault = λ may taken. refl })
   where
     after_yes : Plan
     after_yes =

@@ -21,7 +21,6 @@ use Rattle.cstn_reply.specs.Sessions.{session}
 use Rattle.cstn_talk.specs.Running.{AreShort}
 use Rattle.cstn_verdict.specs.Verdicts.{verdict, on_verdict, TellsVerdict}
 use Rattle.cstn_verdict.specs.declared.verdicts.Decided.TheVariants.{Told}
-use Rattle.cstn_verdict.proofs.Opening.{comes_itself}
 use Rattle.cstn_host.specs.Hosts.{no_plan}
 use Rattle.cstn_ward.specs.Wards.{File, Ward, begun as begun_ward, ward_turn, ward_ending}
 use Rattle.cstn_ward.specs.Hosting.{Named, on_verdicts, the_file, yes_lines, attended}
@@ -137,7 +136,7 @@ told_at cap all front later document begun said all_is so_far decided =
     ap (λ (ns : List Named). on_verdicts cap (attending (map the_named all)) ns) (ap (map the_named) all_is ∙ map-append the_named front (document ∷ later))
     ∙ so_far.verdicts (attending (map the_named all)) (the_named document ∷ map the_named later)
     ∙ decided (on_verdicts cap (attending (map the_named all)) (map the_named later)) in
-    subst (λ (p : Plan). ComesTo p (says (the_said said))) (sym same) (comes_itself (says (the_said said)))
+    subst (λ (p : Plan). ComesTo p (says (the_said said))) (sym same) (record { output = λ live s is. is; talks = λ may. may; fault = λ may taken. refl })
 
 -- all verdicts were yes
 pub all_begun : {E : Type 0} (cap : ℕ) (all front : List Document) (begun : Begun) (r : Result Hosting E) → all ≡ front → HasBegun cap (map the_named front) begun → IfOk r (IsBegin begun) → IfOk r (λ hosting. ComesTo (attended cap (map the_named all)) (the_hosting hosting))
@@ -151,7 +150,7 @@ all_begun cap all front begun (Ok (Begins opening ward)) all_is so_far is =
     ∙ so_far.verdicts (attending named) []
     ∙ ap (λ (o : List ℕ). session ward_turn ward_ending o (begun_ward (map the_file named))) (sym (ap (λ (v : Vec ℕ Global). v.items) is.0 ∙ so_far.opening))
     ∙ ap (λ (w : Ward). session ward_turn ward_ending opening.items w) (sym (is.1 ∙ ap begun_ward so_far.files)) in
-    subst (λ (p : Plan). ComesTo p (session ward_turn ward_ending opening.items (the_ward ward))) (sym same) (comes_itself (session ward_turn ward_ending opening.items (the_ward ward)))
+    subst (λ (p : Plan). ComesTo p (session ward_turn ward_ending opening.items (the_ward ward))) (sym same) (record { output = λ live s is. is; talks = λ may. may; fault = λ may taken. refl })
 
 -- the lines after yes are whole lines
 yes_ends : (all : List Named) → EndsLine (yes_lines all)
