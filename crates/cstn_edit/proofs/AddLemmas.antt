@@ -1,5 +1,6 @@
 -- What stands of a session when a constraint is added.
 use Rattle.std.proofs.Common.{inl, inr, ℕ, suc, ◌≡◌, ◌+◌, ◌<◌, ◌≤◌, List, [], ◌∷◌, ◌++◌, length, map, Option, Some, None, arith, sym, subst, ap, ◌∙◌}
+use Rattle.std.specs.Prelude.{slice_get}
 use Rattle.std.specs.List.{All, Contains}
 use Rattle.std.specs.Coded.{le_prop}
 use Rattle.std.proofs.lemmas.Bool.{cases_lt}
@@ -10,17 +11,26 @@ use Rattle.cstn_label.specs.Labels.{Label}
 use Rattle.cstn_net.specs.declared.constraints.Constraint.{Constraint}
 use Rattle.cstn_net.specs.Networks.{Network, Constraint as TheConstraint}
 use Rattle.cstn_net.specs.Read.{NetworkParts, the_network, the_constraint}
-use Rattle.cstn_rules.proofs.Derived.{with_constraints, derivation_elsewhere}
+use Rattle.cstn_label.specs.Bounds.{Bound}
+use Rattle.cstn_rules.specs.declared.entries.Why.TheVariants.{Chain}
+use Rattle.cstn_rules.specs.Derivations.{Entry, IsDerivation}
 use Rattle.cstn_log.specs.Entries.{State, the_entries}
 use Rattle.cstn_edit.specs.declared.outcomes.Outcome.{Outcome}
 use Rattle.cstn_edit.specs.Sessions.{next_id, most_births, IsLeastUnobserved, IsKeptLog, IsSession}
 
+-- a derivation is one of each network that has the constraints that it uses, and is the same else
+abbrev pub DeriveElsewhere : Type 0
+DeriveElsewhere = (net : Network) (constraints : List TheConstraint) (steps : List Entry) →
+    ((c : TheConstraint) (b : Bound) (k i : ℕ) → Contains net.constraints c →
+    slice_get steps k ≡ Some (record { bound = b; why = Chain c.id i }) → Contains constraints c) →
+    IsDerivation net steps → IsDerivation (record net { constraints = constraints }) steps
+
 -- a log is kept for a network with further constraints
-longer_log : (net : Network) (cs : List TheConstraint) (log : State) →
-    ((c : TheConstraint) → Contains net.constraints c → Contains cs c) → IsKeptLog net log → IsKeptLog (with_constraints net cs) log
-longer_log net cs log has kept = record {
+longer_log : DeriveElsewhere → (net : Network) (cs : List TheConstraint) (log : State) →
+    ((c : TheConstraint) → Contains net.constraints c → Contains cs c) → IsKeptLog net log → IsKeptLog (record net { constraints = cs }) log
+longer_log elsewhere net cs log has kept = record {
   nodes = kept.nodes;
-  derivation = derivation_elsewhere net cs (the_entries log.entries) (λ c b k i inside there. has c inside) kept.derivation;
+  derivation = elsewhere net cs (the_entries log.entries) (λ c b k i inside there. has c inside) kept.derivation;
   based = kept.based;
   empty = kept.empty;
   refuted = record {
@@ -41,16 +51,16 @@ more_births births edits None few = omega arith
 more_births births edits (Some o) few = omega arith
 
 -- the session with a further constraint
-pub added_session : (old new : NetworkParts) (c : Constraint) (log : State) (room edits : ℕ) (highest : Option ℕ) (last : Option Outcome) →
+pub added_session : DeriveElsewhere → (old new : NetworkParts) (c : Constraint) (log : State) (room edits : ℕ) (highest : Option ℕ) (last : Option Outcome) →
     IsSession old log room edits highest last →
     new ≡ record old { constraints = old.constraints ++ c ∷ []; spare = new.spare } → new.spare + 1 ≡ old.spare →
     edits < 1000000 → length old.constraints < room → c.id ≡ next_id highest → IsSession new log room (edits + 1) (Some c.id) None
-added_session old new c log room edits highest last session is spare few more id =
+added_session elsewhere old new c log room edits highest last session is spare few more id =
     let all : new.constraints ≡ old.constraints ++ c ∷ [] = ap (λ n. n.constraints) is in
     let long : length new.constraints ≡ length old.constraints + 1 = ap length all ∙ length-append old.constraints (c ∷ []) in
     record {
       kept = subst (λ n. IsKeptLog (the_network n) log) (sym is)
-          (longer_log (the_network old) (map the_constraint (old.constraints ++ c ∷ [])) log (has_old old.constraints c) session.kept);
+          (longer_log elsewhere (the_network old) (map the_constraint (old.constraints ++ c ∷ [])) log (has_old old.constraints c) session.kept);
       births = more_births log.births edits last session.births;
       few_edits = omega arith;
       fits = omega arith;

@@ -23,7 +23,7 @@ use Rattle.cstn_rules.specs.Derivations.{Entry}
 use Rattle.cstn_log.specs.Entries.{State, the_entries}
 use Rattle.cstn_log.specs.Cuts.{dropped}
 use Rattle.cstn_check.specs.Tests.{is_absent, is_plain}
-use Rattle.cstn_check.proofs.Decided.{Small, true_plain}
+use Rattle.cstn_check.proofs.Decided.{Small, plain_true, true_plain}
 use Rattle.cstn_edit.specs.declared.outcomes.Outcome.{Outcome}
 use Rattle.cstn_edit.proofs.CutLemmas.{kept_dropped}
 use Rattle.cstn_edit.specs.Sessions.{SessionParts, kept_of, kept_list, IsUnobserved, IsLeastUnobserved, next_id}
@@ -40,6 +40,9 @@ pub value_false : (most : ℤ) → (IsValue most → ⊥) → is_value most ≡ 
 value_false most out = false_from_ne_true (is_value most) (λ t. out (true_value most t))
 
 -- the label is plain or not
+pub plain_seen : (a : Label) → IsPlain a → is_plain a ≡ true
+plain_seen a plain = plain_true a plain
+
 pub plain_false : (a : Label) → Small a → (IsPlain a → ⊥) → is_plain a ≡ false
 plain_false a small odd = false_from_ne_true (is_plain a) (λ t. odd (true_plain a small t))
 

@@ -5,7 +5,7 @@ ghost use Rattle.cstn_net.specs.Networks.{IsOnObserved, IsValue};
 ghost use Rattle.cstn_net.specs.Read.{the_network};
 ghost use Rattle.cstn_edit.specs.Sessions.{IsLeastUnobserved};
 
-use cstn_label::{Label, Mark, Prop};
+use cstn_label::{Label, Mark, Prop, labels_are_their_marks};
 use cstn_net::Network;
 
 // Whether a value is in range.
@@ -19,6 +19,7 @@ pub fn is_value(most: i32) -> bool
 pub fn unobserved(net: &Network, label: Label) -> Option<Prop>
     ensures { MatchOption result (IsOnObserved (the_network net.now) (marks label)) (λ p. IsLeastUnobserved (the_network net.now) (marks label) p.index) }
 {
+    labels_are_their_marks();
     for index in 0..52 {
         let prop = Prop { index };
         if label.mark(prop) != Mark::Absent && net.observer(prop).is_none() {

@@ -22,11 +22,11 @@ use crate::errors::EditError;
 use crate::fresh::{freshen, is_yes, stays_settled};
 use crate::labels::{is_value, unobserved};
 use crate::outcomes::Outcome;
-use cstn_label::{Label, NodeId};
+use cstn_label::{Label, NodeId, labels_are_their_marks};
 use cstn_log::Log;
 use cstn_net::{Constraint, Network};
 use cstn_refute::Refutation;
-use cstn_rules::Tries;
+use cstn_rules::{Tries, derivations_move};
 use std::alloc::{AllocError, Global};
 use std::marker::Model;
 
@@ -126,6 +126,8 @@ impl Session {
         ensures session { IsOk result → the_session self.new ≡ with_added (the_session self.old) from.0 to.0 most (marks label) }
         ensures refused { OnErr result (self.new ≡ self.old) }
     {
+        labels_are_their_marks();
+        derivations_move();
         self.check_limit()?;
         if self.net.constraints().len() as u32 >= self.room {
             return Err(EditError::NoRoom { room: self.room });

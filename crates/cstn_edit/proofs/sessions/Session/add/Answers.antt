@@ -3,14 +3,12 @@ use Rattle.std.proofs.lemmas.Bool.{cases_lt, false≢true}
 use Rattle.std.proofs.lemmas.Int.{to_z-of_z}
 use Rattle.cstn_label.specs.declared.props.Prop.{Prop}
 use Rattle.cstn_label.specs.Read.{marks}
-use Rattle.cstn_label.proofs.ReadLemmas.{unmarked_above}
 use Rattle.cstn_net.specs.Networks.{IsValue, IsOnObserved}
 use Rattle.cstn_net.specs.Read.{the_network}
 use Rattle.cstn_edit.specs.declared.errors.EditError.TheVariants.{EditLimit, NotObserved}
 use Rattle.cstn_edit.specs.Sessions.{SessionParts, IsLeastUnobserved, next_id}
-use Rattle.cstn_check.proofs.Decided.{plain_true}
 use Rattle.cstn_edit.specs.Edits.{ValueRange, refusal_of, the_session, with_added}
-use Rattle.cstn_edit.proofs.EditLemmas.{add_at_limit, add_out_of_range, add_not_plain, add_by_observed, value_true, value_false, plain_false, least_first, none_first, room_seen, added_seen}
+use Rattle.cstn_edit.proofs.EditLemmas.{add_at_limit, add_out_of_range, add_not_plain, add_by_observed, value_true, value_false, plain_seen, plain_false, least_first, none_first, room_seen, added_seen}
 use Rattle.std.proofs.lemmas.List.{length-map}
 use Rattle.cstn_net.specs.declared.constraints.Constraint.{Constraint}
 use Rattle.std.specs.Prelude.{vec_capacity}
@@ -47,7 +45,7 @@ returns-then-not-is_plain-clause-refusal c =
     add_not_plain v c.args.most a (c.in_ok-check_limit.ensures.below.0 refl)
     (room_seen _ v c.constraints.result.now c.self.view_is c.constraints.ensures.constraints c.if-constraints-self.false)
     (value_true c.args.most (subst IsValue (to_z-of_z w32 c.args.most c.ranges.most) (c.if-not-is_value.ensures.0 refl)))
-    (plain_false a (unmarked_above c.args.label) (λ plain. false≢true (sym c.if-not-is_plain.true ∙ c.is_plain.ensures.plain.1 plain)))
+    (plain_false a (c.labels_are_their_marks.ensures.above c.args.label) (λ plain. false≢true (sym c.if-not-is_plain.true ∙ c.is_plain.ensures.plain.1 plain)))
 
 pub returns-in-Some-clause-refusal : goal.returns-in-Some-clause-refusal
 returns-in-Some-clause-refusal c =
@@ -58,7 +56,7 @@ returns-in-Some-clause-refusal c =
     add_by_observed v c.args.most a (Some p.index) (c.in_ok-check_limit.ensures.below.0 refl)
     (room_seen _ v c.constraints.result.now c.self.view_is c.constraints.ensures.constraints c.if-constraints-self.false)
     (value_true c.args.most (subst IsValue (to_z-of_z w32 c.args.most c.ranges.most) (c.if-not-is_value.ensures.0 refl)))
-    (plain_true a (c.if-not-is_plain.ensures.plain.0 refl)) (sym (least_first (the_network v.net) a p.index p.in_range least))
+    (plain_seen a (c.if-not-is_plain.ensures.plain.0 refl)) (sym (least_first (the_network v.net) a p.index p.in_range least))
 
 pub returns-clause-refusal : goal.returns-clause-refusal
 returns-clause-refusal c =
@@ -68,7 +66,7 @@ returns-clause-refusal c =
     add_by_observed v c.args.most a None (c.in_ok-check_limit.ensures.below.0 refl)
     (room_seen _ v c.constraints.result.now c.self.view_is c.constraints.ensures.constraints c.if-constraints-self.false)
     (value_true c.args.most (subst IsValue (to_z-of_z w32 c.args.most c.ranges.most) (c.if-not-is_value.ensures.0 refl)))
-    (plain_true a (c.if-not-is_plain.ensures.plain.0 refl)) (sym (none_first (the_network v.net) a on))
+    (plain_seen a (c.if-not-is_plain.ensures.plain.0 refl)) (sym (none_first (the_network v.net) a on))
 
 new_id : (c : goal.After-self-3-1) → c.match-self.id ≡ next_id c.self.inside.highest
 new_id c = elim c.match-self.branch [
@@ -107,7 +105,7 @@ invariant_of-self c =
     let short = subst (λ cs. length cs < c.self.inside.room) c.constraints.ensures.constraints c.if-constraints-self.false in
     let pushed = rw c.unwrap.ensures at c.push.ensures.items in
     let above : next_id c.self.inside.highest ≤ c.match-self.id = omega (arith, new_id c) in (
-      added_session c.self.inside.net c.insert.new.self _ c.self.inside.log c.self.inside.room c.self.inside.edits c.self.inside.highest
+      added_session c.derivations_move.ensures.elsewhere c.self.inside.net c.insert.new.self _ c.self.inside.log c.self.inside.room c.self.inside.edits c.self.inside.highest
           c.self.inside.last c.self.invariant.0 c.insert.ensures.insert c.insert.ensures.spare few short (new_id c),
       added_freshened c.self.inside.net c.insert.new.self _ c.self.inside.log c.self.inside.room c.self.inside.fresh.items c.push.new.self.items c.self.inside.settled (vec_capacity c.self.inside.fresh) (vec_capacity c.self.inside.list) (vec_capacity c.push.new.self) (next_id c.self.inside.highest)
           c.self.invariant.1 c.self.invariant.0.below above c.insert.ensures.insert pushed (omega (arith, c.push.ensures.capacity, c.push.ensures.lower_bound)),
