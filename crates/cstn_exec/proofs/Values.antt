@@ -5,14 +5,13 @@ use Rattle.std.proofs.lemmas.Bool.{cases_Bool, cases_lt, cases_eq, cond-true, co
 use Rattle.std.proofs.lemmas.Bool.Decides.{same_from_decides}
 use Rattle.cstn_label.specs.declared.labels.Label.{Label}
 use Rattle.cstn_label.specs.declared.knowledge.Known.{Known}
-use Rattle.cstn_label.specs.Labels.{IsPossible}
+use Rattle.cstn_label.specs.declared.marks.Mark.{Mark}
+use Rattle.cstn_label.specs.declared.marks.Mark.TheVariants.{Absent}
+use Rattle.cstn_label.specs.Labels.{MarkFits, IsPossible}
 use Rattle.cstn_label.specs.Read.{marks, is_known, the_values}
 use Rattle.cstn_label.specs.Words.{has_bit}
-use Rattle.cstn_label.proofs.MarkLemmas.{fits_absent}
-use Rattle.cstn_label.proofs.WordLemmas.{has_bit_above}
-use Rattle.cstn_label.proofs.ReadLemmas.{unmarked_above}
 use Rattle.cstn_net.specs.Networks.{Network, IsWellFormed}
-use Rattle.cstn_log.proofs.AskedLemmas.{fits_true, true_fits}
+use Rattle.cstn_log.specs.Asked.{fits}
 use Rattle.cstn_exec.specs.Runs.{Run, known, fits_known, is_possible}
 use Rattle.cstn_exec.specs.Read.{value_in}
 use Rattle.cstn_exec.proofs.Ranges.{each_passes, all_pass}
@@ -33,10 +32,20 @@ with_value k l p v seen values q = elim (cases_Bool (q == p)) [
       (sym (cond-false (q == p) (Some v) (value_in k q) other)))
 ]
 
-values_fit : (k : Known) (a : Label) → is_possible (value_in k) (marks a) ≡ true → IsPossible (is_known k) (the_values k) (marks a)
+fits_true : (v : Bool) (m : Mark) → fits v m ≡ true → MarkFits v m
+fits_true v m h = grind arith
+
+true_fits : (v : Bool) (m : Mark) → MarkFits v m → fits v m ≡ true
+true_fits v m h = grind arith
+
+-- no proposition above 51 is marked
+abbrev pub MarksEnd : Type 0
+MarksEnd = (a : Label) (p : ℕ) → 52 ≤ p → marks a p ≡ Absent
+
+values_fit : MarksEnd → (k : Known) (a : Label) → is_possible (value_in k) (marks a) ≡ true → IsPossible (is_known k) (the_values k) (marks a)
 unfolding is_possible
-values_fit k a h = λ p seen. elim (cases_lt p 52) [
-  | inr above ↦ fits_absent (the_values k p) (marks a p) (unmarked_above a p above)
+values_fit end k a h = λ p seen. elim (cases_lt p 52) [
+  | inr above ↦ subst (MarkFits (the_values k p)) (sym (end a p above)) tt
   | inl below ↦
       let fit = each_passes (λ q. fits_known (value_in k q) (marks a q)) 0 52 h p (omega arith) (omega arith) in
       let at = cond-true (has_bit k.seen p) (Some (the_values k p)) None seen in
@@ -53,21 +62,19 @@ fit_values k a h = all_pass (λ q. fits_known (value_in k q) (marks a q)) 0 52 (
       subst (λ o. fits_known o (marks a p) ≡ true) (sym (cond-false (has_bit k.seen p) (Some (the_values k p)) None unseen)) refl
 ])
 
-pub possible_is : (k : Known) (a : Label) (r : Bool) → (IsTrue r ↔ IsPossible (is_known k) (the_values k) (marks a)) →
+pub possible_is : MarksEnd → (k : Known) (a : Label) (r : Bool) → (IsTrue r ↔ IsPossible (is_known k) (the_values k) (marks a)) →
     r ≡ is_possible (value_in k) (marks a)
-possible_is k a r h = same_from_decides r (is_possible (value_in k) (marks a)) (h.0, h.1) (values_fit k a, fit_values k a)
+possible_is end k a r h = same_from_decides r (is_possible (value_in k) (marks a)) (h.0, h.1) (values_fit end k a, fit_values k a)
 
 -- the values below index are those that are known, and no other is there
 pub record KnownBelow (values : ℕ → Option Bool) (k : Known) (index : ℕ) : Type 0 where
   pub below : (q : ℕ) → q < index → value_in k q ≡ values q
   pub above : (q : ℕ) → index ≤ q → value_in k q ≡ None
 
-pub known_first : (values : ℕ → Option Bool) (k : Known) → k.seen ≡ 0 → KnownBelow values k 0
+pub known_first : (values : ℕ → Option Bool) (k : Known) → ((q : ℕ) → value_in k q ≡ None) → KnownBelow values k 0
 known_first values k none = record {
   below = λ q upto. absurd (omega arith);
-  above = λ q from.
-      let unset = subst (λ w. has_bit w q ≡ false) (sym none) (has_bit_above 0 0 q (omega arith) (omega arith)) in
-      cond-false (has_bit k.seen q) (Some (the_values k q)) None unset;
+  above = λ q from. none q;
 }
 
 pub known_same : (values : ℕ → Option Bool) (k : Known) (index : ℕ) → values index ≡ None → KnownBelow values k index → KnownBelow values k (index + 1)

@@ -6,7 +6,7 @@ ghost use Rattle.cstn_log.specs.Plans.{the_bounds};
 ghost use Rattle.cstn_exec.specs.Runs.{is_possible};
 ghost use Rattle.cstn_exec.specs.Read.{value_in};
 
-use cstn_label::{Bound, Known, Label};
+use cstn_label::{Bound, Known, Label, labels_are_their_marks};
 use cstn_log::SoundPlan;
 
 /// A moment for each of the 1,024 time-points that there may be.
@@ -45,6 +45,7 @@ fn note(after: &mut Moments, bound: Bound, known: &Known)
 pub fn is_possible(label: Label, known: &Known) -> bool
     ensures possible { result ≡ is_possible (value_in known.now) (marks label) }
 {
+    labels_are_their_marks();
     label.possible(*known)
 }
 

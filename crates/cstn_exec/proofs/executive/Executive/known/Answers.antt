@@ -22,7 +22,7 @@ loop-index-preserved c =
 
 pub loop-index-init : goal.loop-index-init
 loop-index-init c =
-    known_first (known (the_network c.args.self.now.net) c.args.self.now.run (c.args.t + 1)) c.nothing-known.result c.nothing-known.ensures.seen
+    known_first (known (the_network c.args.self.now.net) c.args.self.now.run (c.args.t + 1)) c.nothing-known.result c.nothing-known.ensures.known
 
 pub returns : goal.returns
 returns c = record {
