@@ -1,0 +1,127 @@
+"""What bench/hostile and bench/scripts share: documents, calls of the program, and the count of cases.
+
+Both are called as NAME [PROGRAM]; PROGRAM is crates/cstn/out/cstn where none is named.
+"""
+import os
+import subprocess
+import sys
+import tempfile
+import time
+
+TOP = os.path.dirname(os.path.dirname(os.path.abspath(__file__)))
+NAME = os.path.basename(sys.argv[0])
+PROGRAM = os.path.abspath(sys.argv[1] if len(sys.argv) > 1 else os.path.join(TOP, "crates", "cstn", "out", "cstn"))
+
+GOOD, BAD, WORDS, DOCUMENT, FULL, READ_FAULT, WRITE_FAULT, MEMORY, UNFINISHED, SCRIPT, WIDE = range(11)
+REFUSED_WORDS = 11
+SECONDS = 60
+
+TOLD = {"passed": 0, "failed": 0}
+
+
+def check(name, found, wanted):
+    """Counts a case, and tells it where it went otherwise."""
+    if found == wanted:
+        TOLD["passed"] += 1
+        return
+    TOLD["failed"] += 1
+
+    def short(it):
+        text = repr(it)
+        return text if len(text) < 400 else text[:200] + " .. " + text[-150:]
+
+    print(f"{NAME}: {name}: found {short(found)}, wanted {short(wanted)}")
+
+
+# Documents.
+
+
+def compact(nodes, edges, more=""):
+    """The document of nodes, as `P:p` or `P:p:3` with a reaction, and edges, as `X->Z -5 p`, in one line."""
+    text = ["<graphml><graph>"]
+    for node in nodes:
+        name, *data = node.split(":")
+        keys = [f'<data key="{key}">{value}</data>' for key, value in zip(("Obs", "Reaction"), data)]
+        text.append(f'<node id="{name}">{"".join(keys)}</node>' if keys else f'<node id="{name}"/>')
+    for edge in edges:
+        ends, value, *label = edge.split(" ")
+        source, target = ends.split("->")
+        text.append(f'<edge source="{source}" target="{target}"><data key="LabeledValues">{{({value}, {label[0] if label else "⊡"})}}</data></edge>')
+    return "".join(text) + more + "</graph></graphml>"
+
+
+TWO_POINTS = compact(["Z", "X"], ["X->Z -5"])
+BRANCH_NODES = ["Z", "P:p", "X"]
+BRANCH_EDGES = ["X->Z -10 p", "Z->X 3 !p"]
+BRANCH = compact(BRANCH_NODES, BRANCH_EDGES)
+LAST_TICK = compact(BRANCH_NODES, BRANCH_EDGES + ["P->Z -2"])
+LATE = compact(BRANCH_NODES, BRANCH_EDGES + ["P->Z -3"])
+CROSSED = compact(["Z", "P:p", "Q:q"], ["P->Z -5 q", "Q->Z -5 p"])
+UNKNOWN_MARK = compact(["Z", "P:p", "Q:q", "X"], ["X->Z -9 pq", "Q->Z -7 !p", "P->Z -7", "Z->X 7 !p!q"])
+LATE_PROOF = "no 7\n0 base Z 0 -\n1 chain 0 0 X 10 p\n2 chain 2 0 P 3 -\n3 wait 2 1 X 4 -\n4 chain 1 3 Z 1 !p\n"
+LETTERS = [chr(65 + i) for i in range(26)] + [chr(97 + i) for i in range(26)]
+
+
+# Runs.
+
+
+class Folder:
+    """A folder for the files of one case after the other."""
+
+    def __init__(self, path):
+        self.path = path
+
+    def put(self, name, text):
+        path = os.path.join(self.path, name)
+        with open(path, "wb") as file:
+            file.write(text if isinstance(text, bytes) else text.encode())
+        return path
+
+    def at(self, name):
+        return os.path.join(self.path, name)
+
+
+def run(words, live=b"", **how):
+    """The status and the bytes that the program writes."""
+    live = live if isinstance(live, bytes) else live.encode()
+    done = subprocess.run([PROGRAM, *words], input=live, stdout=subprocess.PIPE, stderr=subprocess.DEVNULL, timeout=SECONDS, **how)
+    return done.returncode, done.stdout
+
+
+def case(name, words, status, wrote, live=b"", **how):
+    check(name, run(words, live, **how), (status, wrote if isinstance(wrote, bytes) else wrote.encode()))
+
+
+def first_line(found):
+    status, wrote = found
+    return status, wrote.split(b"\n", 1)[0]
+
+
+def plain_examples():
+    """The name, the path and the further words of each example without a label on a time-point."""
+    for name in sorted(os.listdir(os.path.join(TOP, "examples"))):
+        path = os.path.join(TOP, "examples", name)
+        with open(path, encoding="utf-8") as file:
+            if '<data key="Label">' not in file.read():
+                yield name, path, ["--deadline", "5"] if name == "two-points.graphml" else []
+
+
+def count(tables):
+    """Gives each table a folder of its own, tells its seconds, and says last how many cases passed."""
+    if not os.path.isfile(PROGRAM):
+        print(f"{NAME}: there is no program {PROGRAM}")
+        print(f"{NAME}: 0 passed, 1 failed")
+        return 1
+    spent = {}
+    for table in tables:
+        with tempfile.TemporaryDirectory() as path:
+            os.chmod(path, 0o755)
+            begun = time.monotonic()
+            try:
+                table(Folder(path))
+            except (OSError, subprocess.TimeoutExpired, ValueError) as error:
+                check(f"the table {table.__name__}", str(error), "")
+            spent[table.__name__] = time.monotonic() - begun
+    print(f"{NAME}: seconds: " + ", ".join(f"{name} {seconds:.1f}" for name, seconds in spent.items()))
+    print(f"{NAME}: {TOLD['passed']} passed, {TOLD['failed']} failed")
+    return 1 if TOLD["failed"] else 0
