@@ -1,12 +1,9 @@
 -- The text of each output stands for its answer.
-use Rattle.std.proofs.Common.{◌≡◌, ℕ, ◌≤◌, Bool, true, false, List, [], length, map, refl, sym, ap, subst, ◌∙◌, inl, inr, arith}
-use Rattle.std.specs.Prelude.{◌⊎◌, nat_lt, if◌then◌else◌, get_or, Option, Some, Result, Ok, Err, IsSomeAnd, IsNone}
-use Rattle.std.proofs.lemmas.List.{length-map}
+use Rattle.std.proofs.Common.{◌≡◌, ℕ, ◌≤◌, Bool, true, false, List, [], ◌++◌, map, refl, sym, subst, inl, inr, arith}
+use Rattle.std.specs.Prelude.{◌⊎◌, nat_lt, if◌then◌else◌, get_or, Option, Some, IsNone, codes, decimal}
 use Rattle.cstn_io.specs.Contents.{IsAllOf, with_bytes}
 use Rattle.cstn_net.specs.Networks.{Network, IsWellFormed, count}
-use Rattle.cstn_element.specs.Results.{Refusal as DocumentRefusal}
-use Rattle.cstn_graphml.specs.Document.{Parts, document}
-use Rattle.cstn_graphml.specs.Networks.{observed_prop, network_of}
+use Rattle.cstn_net.specs.Strategies.{IsConsistent}
 use Rattle.cstn_check.specs.Growth.{is_refuted, log_of, load_of, live_bounds}
 use Rattle.cstn_check.specs.declared.verdicts.Verdict.TheVariants.{Yes, No, Full as IsFullVerdict}
 use Rattle.cstn_check.proofs.Decides.{log_decides}
@@ -15,7 +12,7 @@ use Rattle.cstn_words.specs.Requests.{Asked, Request, check, run, edit, closed, 
 use Rattle.cstn_words.specs.Read.{IsCapped, the_request}
 use Rattle.cstn_words.specs.declared.words.Request.{Request as RequestWords}
 use Rattle.cstn_words.specs.declared.words.Request.TheVariants.{Check, Run, Edit, Closed, Tight, Conflict, Tree, Save, Replay, Closedcheck, Treecheck, Drill, Host}
-use Rattle.cstn_reply.specs.Plans.{Said, Plan, AreUnlabelled, IsOutput, LiveState, IsText, is_output, is_file_fault, is_live_fault, is_memory, IsWritten}
+use Rattle.cstn_reply.specs.Plans.{Said, say, Plan, says, branches, IsOutput, LiveState, IsText, is_output, is_file_fault, is_live_fault, is_memory, IsWritten}
 use Rattle.cstn_reply.specs.Statuses.{status_of}
 use Rattle.cstn_reply.specs.Texts.{yes_line}
 use Rattle.cstn_reply.specs.declared.output.Outcome.{Outcome}
@@ -24,7 +21,7 @@ use Rattle.cstn_reply.specs.declared.status.Status.{Status}
 use Rattle.cstn_lift.specs.Labelled.{Labelled}
 use Rattle.cstn_lift.specs.Lowered.{lowered}
 use Rattle.cstn_lift.specs.Strategies.{IsLabelledConsistent}
-use Rattle.cstn_verdict.specs.Documents.{Answer, of_lowered, HasLabelled, HasNetwork, IsRefused, on_document, parts_of}
+use Rattle.cstn_verdict.specs.Documents.{Answer, of_lowered, HasLabelled, HasNetwork, IsRefused, on_document}
 use Rattle.cstn_verdict.specs.Verdicts.{verdict, on_verdict, checked}
 use Rattle.cstn_guide.specs.Guides.{begun}
 use Rattle.cstn_talk.specs.Guiding.{guide_turn, guide_ending, carried_out}
@@ -34,36 +31,33 @@ use Rattle.cstn_evidence.specs.Accepted.{IsYesText, IsNoText, IsTightText, IsCon
 use Rattle.cstn_evidence.specs.Bounds.{listed}
 use Rattle.cstn_evidence.specs.Blame.{blamed}
 use Rattle.cstn_evidence.specs.Tight.{tightened}
+use Rattle.cstn_strategy.specs.Unfolded.{observed, unfolded}
 use Rattle.cstn_top.specs.Outputs.{plan_at}
 use Rattle.cstn_top.specs.Meanings.{HoldsOf, IsStopped}
 use Rattle.cstn_top.specs.Evidence.{IsEvidence, WroteEvidence}
-use Rattle.cstn_evidence.proofs.DocumentNames.{document_names}
+use Rattle.cstn_top.specs.Several.{FirstHas}
 use Rattle.cstn_evidence.proofs.Standing.{YesAccepted, NoAccepted, IsOfDocument, Stands, StandsFor, not_above, never_decided, verdict_stands, tight_stands, conflict_stands}
-use Rattle.cstn_top.proofs.Edited.{document_named}
-use Rattle.cstn_top.proofs.Documents.{document_says}
+use Rattle.cstn_top.proofs.Documents.{document_says, document_then}
+use Rattle.cstn_top.proofs.Hosts.{IsToldNo, HostTells, host_tells, first_then}
 use Rattle.cstn_top.proofs.Labels.{IsOfLabelled, on_labels}
 use Rattle.cstn_top.proofs.Meanings.{RunTells, run_tells}
-use Rattle.cstn_evidence.proofs.ReadBack.{numbered_ids}
 use Rattle.cstn_top.proofs.Endings.{Answered, held_at}
 
-document_then : (bytes : List ℕ) (deadline : Option ℕ) (one other : List (List ℕ) → Network → Type 0) → HasNetwork bytes deadline one → ((names : List (List ℕ)) (net : Network) → IsOfDocument names net → one names net → other names net) → HasNetwork bytes deadline other
-document_then bytes deadline one other has follows = by_result (document bytes deadline) refl has
+-- what is said of a verdict stands for it, where what follows yes does
+plan_stands : NoAccepted → (cap : ℕ) (names : List (List ℕ)) (net : Network) (after_yes : Plan) (live : List ℕ) (said : Said) → IsOfDocument names net → cap ≤ 4194304 →
+    (IsConsistent net → IsOutput after_yes live said → StandsFor (λ text. Unit {0}) (IsNoText names net) said) → IsOutput (on_verdict cap names net after_yes (verdict cap net)) live said → StandsFor (λ text. Unit {0}) (IsNoText names net) said
+plan_stands no_text cap names net after_yes live said of capped yes' output = by_tests (nat_lt cap (load_of net)) (is_refuted net (log_of net)) refl refl output
   where
-    by_result : (told : Result Parts DocumentRefusal) → document bytes deadline ≡ told → IsSomeAnd (parts_of told) (λ parts. AreUnlabelled parts × one parts.names (network_of parts)) → IsSomeAnd (parts_of told) (λ parts. AreUnlabelled parts × other parts.names (network_of parts))
-    by_result (Err refusal) is h = h
-    by_result (Ok parts) is h =
-        let good : IsWellFormed (network_of parts) = h.0.0.labelled.base in
-        let named : length parts.names ≡ count (network_of parts) = document_named bytes deadline parts is ∙ sym (length-map parts.observes observed_prop) in (
-          h.0,
-          follows parts.names (network_of parts)
-              (record {
-                good = good;
-                named = named;
-                are = document_names bytes deadline parts is (omega (arith, good.few_points, named));
-                ids = numbered_ids 0 parts.constraints (omega (arith, good.few_constraints));
-              })
-              h.1,
-        )
+    good : IsWellFormed net
+    good = of.good
+
+    by_tests : (above refuted : Bool) → nat_lt cap (load_of net) ≡ above → is_refuted net (log_of net) ≡ refuted →
+        IsOutput (on_verdict cap names net after_yes (if above then IsFullVerdict else if refuted then No (load_of net) else Yes (load_of net))) live said → StandsFor (λ text. Unit {0}) (IsNoText names net) said
+    by_tests true refuted over no' same = subst (StandsFor (λ text. Unit {0}) (IsNoText names net)) (sym same) tt
+    by_tests false true over no' same =
+        subst (StandsFor (λ text. Unit {0}) (IsNoText names net)) (sym same)
+        (no_text names net good of.are of.named of.ids (omega (arith, not_above cap (load_of net) over, capped)) (never_decided net good no'))
+    by_tests false false over no' same = yes' ((log_decides net good.network good.letters).1 no') same
 
 -- a run after yes doesn't end with a no
 run_yes : (cap : ℕ) (m : Labelled) (o : Outcome) (X : Type 0) → IsLabelledConsistent m → RunTells cap m o → Stands o (Unit {0}) X
@@ -78,32 +72,43 @@ run_yes cap m Wide X consistent told = tt
 
 run_stands : NoAccepted → (cap : ℕ) (names : List (List ℕ)) (m : Labelled) (live : List ℕ) (said : Said) → IsOfLabelled names m → cap ≤ 4194304 →
     IsOutput (carried_out cap names m) live said → StandsFor (λ text. Unit {0}) (IsNoText names (lowered m)) said
-run_stands no_text cap names m live said of capped output = by_tests (nat_lt cap (load_of net)) (is_refuted net (log_of net)) refl refl
+run_stands no_text cap names m live said of capped output =
+    plan_stands no_text cap names (lowered m) after_yes live said of.plain capped
+    (λ consistent out. run_yes cap m said.outcome (IsNoText names (lowered m) said.text) (of.same.consistent.1 consistent) (run_tells cap names m live said of output)) output
   where
-    net : Network
-    net = lowered m
-
-    good : IsWellFormed net
-    good = of.plain.good
-
-    verdict_is : (above refuted : Bool) → nat_lt cap (load_of net) ≡ above → is_refuted net (log_of net) ≡ refuted → verdict cap net ≡ (if above then IsFullVerdict else if refuted then No (load_of net) else Yes (load_of net))
-    verdict_is above refuted over no' =
-        ap (λ (b : Bool). if b then IsFullVerdict else if is_refuted net (log_of net) then No (load_of net) else Yes (load_of net)) over
-        ∙ ap (λ (b : Bool). if above then IsFullVerdict else if b then No (load_of net) else Yes (load_of net)) no'
-
     after_yes : Plan
-    after_yes = session (guide_turn (map printed_name names) m (live_bounds (log_of net))) (guide_ending m (live_bounds (log_of net))) (yes_line (load_of net)) (begun (count m.base))
+    after_yes =
+        session (guide_turn (map printed_name names) m (live_bounds (log_of (lowered m)))) (guide_ending m (live_bounds (log_of (lowered m))))
+        (yes_line (load_of (lowered m))) (begun (count m.base))
 
-    plan_is : (after : Plan) (above refuted : Bool) → nat_lt cap (load_of net) ≡ above → is_refuted net (log_of net) ≡ refuted → IsOutput (on_verdict cap names net after (verdict cap net)) live said → IsOutput (on_verdict cap names net after (if above then IsFullVerdict else if refuted then No (load_of net) else Yes (load_of net))) live said
-    plan_is after above refuted over no' out = subst (λ v. IsOutput (on_verdict cap names net after v) live said) (verdict_is above refuted over no') out
+tree_stands : NoAccepted → (cap : ℕ) (names : List (List ℕ)) (net : Network) (live : List ℕ) (said : Said) → IsOfDocument names net → cap ≤ 4194304 →
+    IsOutput (unfolded cap names net) live said → StandsFor (λ text. Unit {0}) (IsNoText names net) said
+tree_stands no_text cap names net live said of capped output = by_width (nat_lt 10 (observed net)) output
+  where
+    after_yes : Plan
+    after_yes = branches names (load_of net) (live_bounds (log_of net)) net
 
-    by_tests : (above refuted : Bool) → nat_lt cap (load_of net) ≡ above → is_refuted net (log_of net) ≡ refuted → StandsFor (λ text. Unit {0}) (IsNoText names net) said
-    by_tests true refuted over no' = subst (StandsFor (λ text. Unit {0}) (IsNoText names net)) (sym (plan_is after_yes true refuted over no' output)) tt
-    by_tests false true over no' =
-        subst (StandsFor (λ text. Unit {0}) (IsNoText names net)) (sym (plan_is after_yes false true over no' output))
-        (no_text names net good of.plain.are of.plain.named of.plain.ids (omega (arith, not_above cap (load_of net) over, capped)) (never_decided net good no'))
-    by_tests false false over no' =
-        run_yes cap m said.outcome (IsNoText names net said.text) (of.same.consistent.1 ((log_decides net good.network good.letters).1 no')) (run_tells cap names m live said of output)
+    by_width : (wide : Bool) → IsOutput (if wide then says (say Wide (codes "wide " ++ decimal (observed net))) else on_verdict cap names net after_yes (verdict cap net)) live said → StandsFor (λ text. Unit {0}) (IsNoText names net) said
+    by_width true is = subst (StandsFor (λ text. Unit {0}) (IsNoText names net)) (sym is) tt
+    by_width false is =
+        plan_stands no_text cap names net after_yes live said of capped (λ consistent out. subst (StandsFor (λ text. Unit {0}) (IsNoText names net)) (sym out.said_is) tt) is
+
+host_stands : NoAccepted → (cap : ℕ) (deadline : Option ℕ) (contents : List (List ℕ)) (said : Said) (o : Outcome) → cap ≤ 4194304 → HostTells cap deadline contents said o →
+    Stands o (Unit {0}) (FirstHas contents deadline cap (λ names net. IsNoText names net said.text))
+host_stands no_text cap deadline contents said Good capped tells' = tt
+host_stands no_text cap deadline contents said Bad capped tells' =
+    first_then contents deadline cap (IsToldNo cap said) (λ names net. IsNoText names net said.text) by_told tells'
+  where
+    by_told : (names : List (List ℕ)) (net : Network) → IsToldNo cap said names net → IsNoText names net said.text
+    by_told names net (of, never, text) =
+        subst (IsNoText names net) (sym text)
+        (no_text names net of.good of.are of.named of.ids (omega (arith, never.1, capped)) never.0)
+host_stands no_text cap deadline contents said Words capped tells' = tt
+host_stands no_text cap deadline contents said Document capped tells' = tt
+host_stands no_text cap deadline contents said Full capped tells' = tt
+host_stands no_text cap deadline contents said Unfinished capped tells' = tt
+host_stands no_text cap deadline contents said Script capped tells' = tt
+host_stands no_text cap deadline contents said Wide capped tells' = tt
 
 -- how many entries the log of a request may have, where its text is told
 abbrev pub IsRanged : Request → Type 0
@@ -112,6 +117,8 @@ IsRanged (run asked cap) = cap ≤ 4194304
 IsRanged (closed asked cap) = cap ≤ 4194304
 IsRanged (tight asked cap) = cap ≤ 4194304
 IsRanged (conflict asked cap) = cap ≤ 4194304
+IsRanged (tree asked cap) = cap ≤ 4194304
+IsRanged (host files deadline cap) = cap ≤ 4194304
 IsRanged request = Unit {0}
 
 pub capped_ranged : (r : RequestWords) → IsCapped r → IsRanged (the_request r)
@@ -121,13 +128,13 @@ capped_ranged (Closed asked cap) capped = capped.1
 capped_ranged (Tight asked cap) capped = capped.1
 capped_ranged (Conflict asked cap) capped = capped.1
 capped_ranged (Edit asked cap) capped = tt
-capped_ranged (Tree asked cap) capped = tt
+capped_ranged (Tree asked cap) capped = capped.1
 capped_ranged (Save asked) capped = tt
 capped_ranged (Replay asked proof) capped = tt
 capped_ranged (Closedcheck asked proof) capped = tt
 capped_ranged (Treecheck asked proof) capped = tt
 capped_ranged (Drill number) capped = tt
-capped_ranged (Host files deadline cap) capped = tt
+capped_ranged (Host files deadline cap) capped = omega (arith, capped.1)
 
 -- what is said of a document stands for it
 on_network : (answer : Answer) (bytes : List ℕ) (deadline : Option ℕ) (live : List ℕ) (said : Said) (shown : List (List ℕ) → Network → Said → Type 0) (right : Said → Type 0) →
@@ -189,6 +196,26 @@ conflict_shown asked cap contents Unfinished text has = tt
 conflict_shown asked cap contents Script text has = tt
 conflict_shown asked cap contents Wide text has = tt
 
+tree_shown : (asked : Asked) (cap : ℕ) (contents : List (List ℕ)) (o : Outcome) (text : List ℕ) → HasNetwork (get_or contents 0 []) asked.deadline (λ names net. Stands o (Unit {0}) (IsNoText names net text)) → IsEvidence (tree asked cap) (status_of o) text contents
+tree_shown asked cap contents Good text has = tt
+tree_shown asked cap contents Bad text has = has
+tree_shown asked cap contents Words text has = tt
+tree_shown asked cap contents Document text has = tt
+tree_shown asked cap contents Full text has = tt
+tree_shown asked cap contents Unfinished text has = tt
+tree_shown asked cap contents Script text has = tt
+tree_shown asked cap contents Wide text has = tt
+
+host_shown : (files : List (List ℕ)) (deadline : Option ℕ) (cap : ℕ) (contents : List (List ℕ)) (o : Outcome) (text : List ℕ) → Stands o (Unit {0}) (FirstHas contents deadline cap (λ names net. IsNoText names net text)) → IsEvidence (host files deadline cap) (status_of o) text contents
+host_shown files deadline cap contents Good text first = tt
+host_shown files deadline cap contents Bad text first = first
+host_shown files deadline cap contents Words text first = tt
+host_shown files deadline cap contents Document text first = tt
+host_shown files deadline cap contents Full text first = tt
+host_shown files deadline cap contents Unfinished text first = tt
+host_shown files deadline cap contents Script text first = tt
+host_shown files deadline cap contents Wide text first = tt
+
 -- each output is evidence
 output_evidence : YesAccepted → NoAccepted → (request : Request) (contents : List (List ℕ)) (live : List ℕ) (said : Said) → IsRanged request → IsOutput (plan_at request contents) live said → IsEvidence request (status_of said.outcome) said.text contents
 output_evidence yes_text no_text (check asked cap) contents live said capped output =
@@ -218,13 +245,18 @@ output_evidence yes_text no_text (conflict asked cap) contents live said capped 
     (λ names net is out. conflict_stands yes_text no_text cap names net live said is capped out)
     (conflict_shown asked cap contents said.outcome said.text) output
 output_evidence yes_text no_text (edit asked cap) contents live said capped output = tt
-output_evidence yes_text no_text (tree asked cap) contents live said capped output = tt
+output_evidence yes_text no_text (tree asked cap) contents live said capped output =
+    on_network (unfolded cap) (get_or contents 0 []) asked.deadline live said (λ names net s. StandsFor (λ text. Unit {0}) (IsNoText names net) s) (λ s. IsEvidence (tree asked cap) (status_of s.outcome) s.text contents)
+    (λ is. subst (λ (o : Outcome). IsEvidence (tree asked cap) (status_of o) said.text contents) (sym is) tt)
+    (λ names net is out. tree_stands no_text cap names net live said is capped out)
+    (tree_shown asked cap contents said.outcome said.text) output
 output_evidence yes_text no_text (save asked) contents live said capped output = tt
 output_evidence yes_text no_text (replay asked proof) contents live said capped output = tt
 output_evidence yes_text no_text (closedcheck asked proof) contents live said capped output = tt
 output_evidence yes_text no_text (treecheck asked proof) contents live said capped output = tt
 output_evidence yes_text no_text (drill number) contents live said capped output = tt
-output_evidence yes_text no_text (host files deadline cap) contents live said capped output = tt
+output_evidence yes_text no_text (host files deadline cap) contents live said capped output =
+    host_shown files deadline cap contents said.outcome said.text (host_stands no_text cap deadline contents said said.outcome capped (host_tells cap deadline contents live said output))
 
 -- what was written of an output, unless the call was stopped
 abbrev pub WroteOutput : Plan → LiveState → Option (List ℕ) → Option (List ℕ) → Status → Type 0

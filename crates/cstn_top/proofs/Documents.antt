@@ -1,13 +1,19 @@
 -- What is said of the document of a file.
-use Rattle.std.proofs.Common.{◌≡◌, ℕ, Bool, true, false, List, length, refl, ap, inl, inr, arith}
+use Rattle.std.proofs.Common.{◌≡◌, ℕ, Bool, true, false, List, length, refl, sym, ap, ◌∙◌, inl, inr, arith}
 use Rattle.std.specs.Prelude.{◌⊎◌, nat_lt, if◌then◌else◌, Option, None, Some, Result, Ok, Err, IsSomeAnd, codes}
+use Rattle.std.proofs.lemmas.List.{length-map}
+use Rattle.cstn_net.specs.Networks.{Network, IsWellFormed, count}
 use Rattle.cstn_element.specs.Results.{Refusal as DocumentRefusal}
 use Rattle.cstn_graphml.specs.Document.{Parts, document}
-use Rattle.cstn_graphml.specs.Networks.{network_of, labelled_of, IsFit}
+use Rattle.cstn_graphml.specs.Networks.{observed_prop, network_of, labelled_of, IsFit}
 use Rattle.cstn_reply.specs.Plans.{Said, say, says, unlabelled, IsOutput, MayTalk, AreUnlabelled}
 use Rattle.cstn_reply.specs.declared.output.Outcome.TheVariants.{Document}
 use Rattle.cstn_verdict.specs.Documents.{Answer, LabelledAnswer, of_plain, judged, on_labelled, on_document, parts_of, HasLabelled, HasNetwork, IsNoDocument, IsRefused}
 use Rattle.cstn_save.proofs.SameLemmas.{fits}
+use Rattle.cstn_evidence.proofs.DocumentNames.{document_names}
+use Rattle.cstn_evidence.proofs.ReadBack.{numbered_ids}
+use Rattle.cstn_evidence.proofs.Standing.{IsOfDocument}
+use Rattle.cstn_top.proofs.Edited.{document_named}
 
 -- what is said of a document: it is refused, or this is said of its labelled network
 pub labelled_says : (answer : LabelledAnswer) (bytes : List ℕ) (deadline : Option ℕ) (live : List ℕ) (said : Said) → IsOutput (on_labelled answer bytes deadline) live said → ((said.outcome ≡ Document) × IsNoDocument bytes deadline) ⊎ HasLabelled bytes deadline (λ names m. IsOutput (answer names m) live said)
@@ -71,3 +77,23 @@ document_talks answer bytes deadline may = by_found (parts_of (document bytes de
     by_found : (found : Option Parts) → IsSomeAnd found (λ parts. IsFit parts × MayTalk (unlabelled parts.labels (answer parts.names (network_of parts)))) → IsSomeAnd found (λ parts. AreUnlabelled parts × MayTalk (answer parts.names (network_of parts)))
     by_found None has = has
     by_found (Some parts) has = ((has.0, has.1.0), has.1.1)
+
+-- what follows of its network, whose time-points have names
+pub document_then : (bytes : List ℕ) (deadline : Option ℕ) (one other : List (List ℕ) → Network → Type 0) → HasNetwork bytes deadline one → ((names : List (List ℕ)) (net : Network) → IsOfDocument names net → one names net → other names net) → HasNetwork bytes deadline other
+document_then bytes deadline one other has follows = by_result (document bytes deadline) refl has
+  where
+    by_result : (told : Result Parts DocumentRefusal) → document bytes deadline ≡ told → IsSomeAnd (parts_of told) (λ parts. AreUnlabelled parts × one parts.names (network_of parts)) → IsSomeAnd (parts_of told) (λ parts. AreUnlabelled parts × other parts.names (network_of parts))
+    by_result (Err refusal) is h = h
+    by_result (Ok parts) is h =
+        let good : IsWellFormed (network_of parts) = h.0.0.labelled.base in
+        let named : length parts.names ≡ count (network_of parts) = document_named bytes deadline parts is ∙ sym (length-map parts.observes observed_prop) in (
+          h.0,
+          follows parts.names (network_of parts)
+              (record {
+                good = good;
+                named = named;
+                are = document_names bytes deadline parts is (omega (arith, good.few_points, named));
+                ids = numbered_ids 0 parts.constraints (omega (arith, good.few_constraints));
+              })
+              h.1,
+        )

@@ -1,11 +1,13 @@
 -- What is told of the files of a host.
-use Rattle.std.proofs.Common.{◌≡◌, ℕ, ◌<◌, List, [], ◌∷◌, ◌++◌, take, refl, ap, sym, ◌∙◌, subst, inl, inr, arith, append_assoc}
-use Rattle.std.specs.Prelude.{◌⊎◌, Option, None, Some, IsSomeAnd, map}
+use Rattle.std.proofs.Common.{◌≡◌, ℕ, ◌<◌, Bool, true, false, List, [], ◌∷◌, ◌++◌, take, refl, ap, sym, ◌∙◌, subst, inl, inr, arith, append_assoc}
+use Rattle.std.specs.Prelude.{◌⊎◌, nat_lt, if◌then◌else◌, Option, None, Some, IsSomeAnd, map}
 use Rattle.std.proofs.lemmas.Grind.{common_steps}
-use Rattle.cstn_net.specs.Networks.{Network, IsWellFormed}
+use Rattle.cstn_net.specs.Networks.{Network}
 use Rattle.cstn_graphml.specs.Document.{Parts, document}
 use Rattle.cstn_graphml.specs.Networks.{network_of}
-use Rattle.cstn_check.specs.Growth.{load_of}
+use Rattle.cstn_log.specs.Cuts.{part}
+use Rattle.cstn_refute.specs.Texts.{shown}
+use Rattle.cstn_check.specs.Growth.{is_refuted, log_of, load_of}
 use Rattle.cstn_check.specs.declared.verdicts.Verdict.{Verdict}
 use Rattle.cstn_check.specs.declared.verdicts.Verdict.TheVariants.{Yes, No, Full as IsFullVerdict}
 use Rattle.cstn_words.specs.Requests.{host}
@@ -31,18 +33,19 @@ use Rattle.cstn_ward.proofs.Plays.{IsEnd, plays}
 use Rattle.cstn_top.specs.Several.{EachHas, FirstHas}
 use Rattle.cstn_top.specs.Meanings.{files_read}
 use Rattle.cstn_top.specs.Prepared.{Planned}
-use Rattle.cstn_top.proofs.Documents.{document_says, document_talks}
+use Rattle.cstn_evidence.proofs.Standing.{IsOfDocument as IsNamedNetwork}
+use Rattle.cstn_top.proofs.Documents.{document_says, document_talks, document_then}
 
 -- what follows where the verdict on each network is yes
 abbrev session_of : ℕ → List Named → Plan
 session_of cap all = session ward_turn ward_ending (yes_lines all) (begun (map the_file all))
 
--- the documents with these contents have these networks, which are well-formed
+-- the documents with these contents have these networks under these names
 abbrev AreNetworks : List (List ℕ) → Option ℕ → List Named → Type 0
 AreNetworks [] deadline [] = Unit {0}
 AreNetworks [] deadline (n ∷ ns) = ⊥
 AreNetworks (bytes ∷ rest) deadline [] = ⊥
-AreNetworks (bytes ∷ rest) deadline (n ∷ ns) = HasNetwork bytes deadline (λ names net. net ≡ n.net) × IsWellFormed n.net × AreNetworks rest deadline ns
+AreNetworks (bytes ∷ rest) deadline (n ∷ ns) = HasNetwork bytes deadline (λ names net. (names ≡ n.names) × (net ≡ n.net)) × IsNamedNetwork n.names n.net × AreNetworks rest deadline ns
 
 -- they were read, and this holds of their networks
 record Read (contents : List (List ℕ)) (deadline : Option ℕ) (holds : List Named → Type 0) : Type 0 where
@@ -53,18 +56,23 @@ record Read (contents : List (List ℕ)) (deadline : Option ℕ) (holds : List N
 -- a document has this network, and this holds of it
 record Taken (found : Option Parts) (holds : List (List ℕ) → Network → Type 0) : Type 0 where
   this : Named
-  same : IsSomeAnd found (λ parts. AreUnlabelled parts × (network_of parts ≡ this.net))
-  good : IsWellFormed this.net
+  same : IsSomeAnd found (λ parts. AreUnlabelled parts × ((parts.names ≡ this.names) × (network_of parts ≡ this.net)))
+  of : IsNamedNetwork this.names this.net
   held : holds this.names this.net
 
-taken : (found : Option Parts) (holds : List (List ℕ) → Network → Type 0) → IsSomeAnd found (λ parts. AreUnlabelled parts × holds parts.names (network_of parts)) → Taken found holds
+taken : (found : Option Parts) (holds : List (List ℕ) → Network → Type 0) → IsSomeAnd found (λ parts. AreUnlabelled parts × (IsNamedNetwork parts.names (network_of parts) × holds parts.names (network_of parts))) → Taken found holds
 taken None holds has = absurd has
-taken (Some parts) holds has = record { this = record { names = parts.names; net = network_of parts }; same = (has.0, refl); good = has.0.0.labelled.base; held = has.1 }
+taken (Some parts) holds has = record { this = record { names = parts.names; net = network_of parts }; same = (has.0, (refl, refl)); of = has.1.0; held = has.1.1 }
 
 -- what holds of a network holds of the document that has it
-of_network : (found : Option Parts) (net : Network) (holds : Network → Type 0) → IsSomeAnd found (λ parts. AreUnlabelled parts × (network_of parts ≡ net)) → holds net → IsSomeAnd found (λ parts. AreUnlabelled parts × holds (network_of parts))
-of_network None net holds has is = absurd has
-of_network (Some parts) net holds has is = (has.0, subst holds (sym has.1) is)
+of_network : (found : Option Parts) (n : Named) (holds : List (List ℕ) → Network → Type 0) → IsSomeAnd found (λ parts. AreUnlabelled parts × ((parts.names ≡ n.names) × (network_of parts ≡ n.net))) → holds n.names n.net → IsSomeAnd found (λ parts. AreUnlabelled parts × holds parts.names (network_of parts))
+of_network None n holds has is = absurd has
+of_network (Some parts) n holds has is =
+    (has.0, subst (λ (names : List (List ℕ)). holds names (network_of parts)) (sym has.1.0) (subst (holds n.names) (sym has.1.1) is))
+
+-- the network of a document has names
+under_names : (bytes : List ℕ) (deadline : Option ℕ) (holds : List (List ℕ) → Network → Type 0) → HasNetwork bytes deadline holds → HasNetwork bytes deadline (λ names net. IsNamedNetwork names net × holds names net)
+under_names bytes deadline holds has = document_then bytes deadline holds (λ names net. IsNamedNetwork names net × holds names net) has (λ names net of is. (of, is))
 
 no_more : (ns : List Named) → ns ++ [] ≡ ns
 no_more ns = grind (arith, common_steps)
@@ -83,84 +91,110 @@ documents_say answer deadline live said before (bytes ∷ rest) output =
     by_rest t (inl refused) = inl refused
     by_rest t (inr read) = inr (record {
       all = t.this ∷ read.all;
-      are = (t.same, t.good, read.are);
+      are = (t.same, t.of, read.are);
       held = subst (λ (ns : List Named). IsOutput (answer ns) live said) (append_assoc before (t.this ∷ []) read.all) read.held;
     })
 
     by_document : ((t : Taken (parts_of (document bytes deadline)) (λ names net. IsOutput (next names net) live said)) → (said.outcome ≡ Document) ⊎ Read rest deadline (λ ns. IsOutput (answer ((before ++ t.this ∷ []) ++ ns)) live said)) → ((said.outcome ≡ Document) × IsRefused bytes deadline) ⊎ HasNetwork bytes deadline (λ names net. IsOutput (next names net) live said) → (said.outcome ≡ Document) ⊎ Read (bytes ∷ rest) deadline (λ ns. IsOutput (answer (before ++ ns)) live said)
     by_document later (inl refused) = inl refused.0
     by_document later (inr has) =
-        let t = taken (parts_of (document bytes deadline)) (λ names net. IsOutput (next names net) live said) has in
+        let t = taken (parts_of (document bytes deadline)) (λ names net. IsOutput (next names net) live said) (under_names bytes deadline (λ names net. IsOutput (next names net) live said) has) in
         by_rest t (later t)
 
+-- a network of a document has no strategy, and its refutation is told
+abbrev pub IsToldNo : ℕ → Said → List (List ℕ) → Network → Type 0
+IsToldNo cap said names net = IsNamedNetwork names net × IsNo cap net × (said.text ≡ shown names (load_of net) (part (log_of net)))
+
+-- what is told of the first network is what follows of it
+pub first_then : (contents : List (List ℕ)) (deadline : Option ℕ) (cap : ℕ) (one other : List (List ℕ) → Network → Type 0) → ((names : List (List ℕ)) (net : Network) → one names net → other names net) → FirstHas contents deadline cap one → FirstHas contents deadline cap other
+first_then [] deadline cap one other follows first = absurd first
+first_then (bytes ∷ rest) deadline cap one other follows (inl has) = inl (by_found (parts_of (document bytes deadline)) has)
+  where
+    by_found : (found : Option Parts) → IsSomeAnd found (λ parts. AreUnlabelled parts × one parts.names (network_of parts)) → IsSomeAnd found (λ parts. AreUnlabelled parts × other parts.names (network_of parts))
+    by_found None h = h
+    by_found (Some parts) h = (h.0, follows parts.names (network_of parts) h.1)
+first_then (bytes ∷ rest) deadline cap one other follows (inr (yes', first)) = inr (yes', first_then rest deadline cap one other follows first)
+
+-- the load that a no tells
+load_told : (cap load : ℕ) (net : Network) → verdict cap net ≡ No load → load ≡ load_of net
+load_told cap load net is = by_tests (nat_lt cap (load_of net)) (is_refuted net (log_of net)) is
+  where
+    by_tests : (above refuted : Bool) → (if above then IsFullVerdict else if refuted then No (load_of net) else Yes (load_of net)) ≡ No load → load ≡ load_of net
+    by_tests true refuted same = let f : ⊥ = cc in absurd f
+    by_tests false true same = cc
+    by_tests false false same = let f : ⊥ = cc in absurd f
+
 -- what is said of networks that are checked: each has a strategy, or the first that has none, or is too large, is told
-verdicts_say : (cap : ℕ) (after_yes : Plan) (deadline : Option ℕ) (live : List ℕ) (said : Said) (contents : List (List ℕ)) (ns : List Named) → AreNetworks contents deadline ns → IsOutput (on_verdicts cap after_yes ns) live said → (EachHas contents deadline (IsYes cap) × IsOutput after_yes live said) ⊎ (((said.outcome ≡ Bad) × FirstHas contents deadline cap (IsNo cap)) ⊎ ((said.outcome ≡ Full) × FirstHas contents deadline cap (λ net. cap < load_of net)))
+verdicts_say : (cap : ℕ) (after_yes : Plan) (deadline : Option ℕ) (live : List ℕ) (said : Said) (contents : List (List ℕ)) (ns : List Named) → AreNetworks contents deadline ns → IsOutput (on_verdicts cap after_yes ns) live said → (EachHas contents deadline (IsYes cap) × IsOutput after_yes live said) ⊎ (((said.outcome ≡ Bad) × FirstHas contents deadline cap (IsToldNo cap said)) ⊎ ((said.outcome ≡ Full) × FirstHas contents deadline cap (λ names net. cap < load_of net)))
 verdicts_say cap after_yes deadline live said [] [] are output = inl (tt, output)
 verdicts_say cap after_yes deadline live said [] (n ∷ ns) are output = absurd are
 verdicts_say cap after_yes deadline live said (bytes ∷ rest) [] are output = absurd are
 verdicts_say cap after_yes deadline live said (bytes ∷ rest) (n ∷ ns) are output =
-    by_verdict (λ out. verdicts_say cap after_yes deadline live said rest ns are.2 out) (verdict cap n.net) (verdict_tells cap n.net are.1) output
+    by_verdict (λ out. verdicts_say cap after_yes deadline live said rest ns are.2 out) (verdict cap n.net) refl (verdict_tells cap n.net are.1.good) output
   where
-    has : (holds : Network → Type 0) → holds n.net → HasNetwork bytes deadline (λ names net. holds net)
-    has holds is = of_network (parts_of (document bytes deadline)) n.net holds are.0 is
+    has : (holds : List (List ℕ) → Network → Type 0) → holds n.names n.net → HasNetwork bytes deadline holds
+    has holds is = of_network (parts_of (document bytes deadline)) n holds are.0 is
 
     Says : List (List ℕ) → Type 0
-    Says all = (EachHas all deadline (IsYes cap) × IsOutput after_yes live said) ⊎ (((said.outcome ≡ Bad) × FirstHas all deadline cap (IsNo cap)) ⊎ ((said.outcome ≡ Full) × FirstHas all deadline cap (λ net. cap < load_of net)))
+    Says all = (EachHas all deadline (IsYes cap) × IsOutput after_yes live said) ⊎ (((said.outcome ≡ Bad) × FirstHas all deadline cap (IsToldNo cap said)) ⊎ ((said.outcome ≡ Full) × FirstHas all deadline cap (λ names net. cap < load_of net)))
 
     by_later : IsYes cap n.net → Says rest → Says (bytes ∷ rest)
-    by_later yes' (inl (each, out)) = inl ((has (IsYes cap) yes', each), out)
-    by_later yes' (inr (inl (bad, first))) = inr (inl (bad, inr (has (IsYes cap) yes', first)))
-    by_later yes' (inr (inr (full, first))) = inr (inr (full, inr (has (IsYes cap) yes', first)))
+    by_later yes' (inl (each, out)) = inl ((has (λ names net. IsYes cap net) yes', each), out)
+    by_later yes' (inr (inl (bad, first))) = inr (inl (bad, inr (has (λ names net. IsYes cap net) yes', first)))
+    by_later yes' (inr (inr (full, first))) = inr (inr (full, inr (has (λ names net. IsYes cap net) yes', first)))
 
-    by_verdict : (IsOutput (on_verdicts cap after_yes ns) live said → Says rest) → (v : Verdict) → Tells cap n.net v → IsOutput (on_verdict cap n.names n.net (on_verdicts cap after_yes ns) v) live said → Says (bytes ∷ rest)
-    by_verdict later (Yes load) tells' is = by_later tells' (later is)
-    by_verdict later (No load) tells' is = inr (inl (ap (λ (s : Said). s.outcome) is, inl (has (IsNo cap) tells')))
-    by_verdict later IsFullVerdict tells' is = inr (inr (ap (λ (s : Said). s.outcome) is, inl (has (λ net. cap < load_of net) tells')))
+    by_verdict : (IsOutput (on_verdicts cap after_yes ns) live said → Says rest) → (v : Verdict) → verdict cap n.net ≡ v → Tells cap n.net v → IsOutput (on_verdict cap n.names n.net (on_verdicts cap after_yes ns) v) live said → Says (bytes ∷ rest)
+    by_verdict later (Yes load) same tells' is = by_later tells' (later is)
+    by_verdict later (No load) same tells' is =
+        let text : said.text ≡ shown n.names (load_of n.net) (part (log_of n.net)) =
+        ap (λ (s : Said). s.text) is ∙ ap (λ (l : ℕ). shown n.names l (part (log_of n.net))) (load_told cap load n.net same) in
+        inr (inl (ap (λ (s : Said). s.outcome) is, inl (has (IsToldNo cap said) (are.1, tells', text))))
+    by_verdict later IsFullVerdict same tells' is = inr (inr (ap (λ (s : Said). s.outcome) is, inl (has (λ names net. cap < load_of net) tells')))
 
--- what an outcome tells of the files of a host
-abbrev pub HostTells : ℕ → Option ℕ → List (List ℕ) → Outcome → Type 0
-HostTells cap deadline contents Good = EachHas contents deadline (IsYes cap)
-HostTells cap deadline contents Bad = FirstHas contents deadline cap (IsNo cap)
-HostTells cap deadline contents Full = FirstHas contents deadline cap (λ net. cap < load_of net)
-HostTells cap deadline contents Words = ⊥
-HostTells cap deadline contents Document = Unit {0}
-HostTells cap deadline contents Unfinished = Unit {0}
-HostTells cap deadline contents Script = Unit {0}
-HostTells cap deadline contents Wide = ⊥
+-- what is said and its outcome tell of the files of a host
+abbrev pub HostTells : ℕ → Option ℕ → List (List ℕ) → Said → Outcome → Type 0
+HostTells cap deadline contents said Good = EachHas contents deadline (IsYes cap)
+HostTells cap deadline contents said Bad = FirstHas contents deadline cap (IsToldNo cap said)
+HostTells cap deadline contents said Full = FirstHas contents deadline cap (λ names net. cap < load_of net)
+HostTells cap deadline contents said Words = ⊥
+HostTells cap deadline contents said Document = Unit {0}
+HostTells cap deadline contents said Unfinished = Unit {0}
+HostTells cap deadline contents said Script = Unit {0}
+HostTells cap deadline contents said Wide = ⊥
 
-end_tells : (cap : ℕ) (deadline : Option ℕ) (contents : List (List ℕ)) (o : Outcome) → IsEnd o → EachHas contents deadline (IsYes cap) → HostTells cap deadline contents o
-end_tells cap deadline contents Good end each = each
-end_tells cap deadline contents Bad end each = absurd end
-end_tells cap deadline contents Full end each = absurd end
-end_tells cap deadline contents Words end each = end
-end_tells cap deadline contents Document end each = tt
-end_tells cap deadline contents Unfinished end each = tt
-end_tells cap deadline contents Script end each = tt
-end_tells cap deadline contents Wide end each = end
+end_tells : (cap : ℕ) (deadline : Option ℕ) (contents : List (List ℕ)) (said : Said) (o : Outcome) → IsEnd o → EachHas contents deadline (IsYes cap) → HostTells cap deadline contents said o
+end_tells cap deadline contents said Good end each = each
+end_tells cap deadline contents said Bad end each = absurd end
+end_tells cap deadline contents said Full end each = absurd end
+end_tells cap deadline contents said Words end each = end
+end_tells cap deadline contents said Document end each = tt
+end_tells cap deadline contents said Unfinished end each = tt
+end_tells cap deadline contents said Script end each = tt
+end_tells cap deadline contents said Wide end each = end
 
-pub host_tells : (cap : ℕ) (deadline : Option ℕ) (contents : List (List ℕ)) (live : List ℕ) (said : Said) → IsOutput (hosted_plan cap deadline contents) live said → HostTells cap deadline contents said.outcome
+pub host_tells : (cap : ℕ) (deadline : Option ℕ) (contents : List (List ℕ)) (live : List ℕ) (said : Said) → IsOutput (hosted_plan cap deadline contents) live said → HostTells cap deadline contents said said.outcome
 host_tells cap deadline contents live said output = by_documents (documents_say (attended cap) deadline live said [] contents output)
   where
-    by_verdicts : (all : List Named) → (EachHas contents deadline (IsYes cap) × IsOutput (session_of cap all) live said) ⊎ (((said.outcome ≡ Bad) × FirstHas contents deadline cap (IsNo cap)) ⊎ ((said.outcome ≡ Full) × FirstHas contents deadline cap (λ net. cap < load_of net))) → HostTells cap deadline contents said.outcome
+    by_verdicts : (all : List Named) → (EachHas contents deadline (IsYes cap) × IsOutput (session_of cap all) live said) ⊎ (((said.outcome ≡ Bad) × FirstHas contents deadline cap (IsToldNo cap said)) ⊎ ((said.outcome ≡ Full) × FirstHas contents deadline cap (λ names net. cap < load_of net))) → HostTells cap deadline contents said said.outcome
     by_verdicts all (inl (each, out)) =
-        end_tells cap deadline contents said.outcome
+        end_tells cap deadline contents said said.outcome
         (subst IsEnd (sym (ap (λ (s : Said). s.outcome) out)) (plays (begun (map the_file all)) 0 (lines_of live))) each
-    by_verdicts all (inr (inl (bad, first))) = subst (HostTells cap deadline contents) (sym bad) first
-    by_verdicts all (inr (inr (full, first))) = subst (HostTells cap deadline contents) (sym full) first
+    by_verdicts all (inr (inl (bad, first))) = subst (HostTells cap deadline contents said) (sym bad) first
+    by_verdicts all (inr (inr (full, first))) = subst (HostTells cap deadline contents said) (sym full) first
 
-    by_documents : (said.outcome ≡ Document) ⊎ Read contents deadline (λ ns. IsOutput (attended cap ns) live said) → HostTells cap deadline contents said.outcome
-    by_documents (inl refused) = subst (HostTells cap deadline contents) (sym refused) tt
+    by_documents : (said.outcome ≡ Document) ⊎ Read contents deadline (λ ns. IsOutput (attended cap ns) live said) → HostTells cap deadline contents said said.outcome
+    by_documents (inl refused) = subst (HostTells cap deadline contents said) (sym refused) tt
     by_documents (inr read) = by_verdicts read.all (verdicts_say cap (session_of cap read.all) deadline live said contents read.all read.are read.held)
 
 -- a session is held over documents only for their networks
 documents_talk : (answer : List Named → Plan) (deadline : Option ℕ) (before : List Named) (contents : List (List ℕ)) → MayTalk (on_documents answer deadline before contents) → Read contents deadline (λ ns. MayTalk (answer (before ++ ns)))
 documents_talk answer deadline before [] may = record { all = []; are = tt; held = subst (λ (ns : List Named). MayTalk (answer ns)) (sym (no_more before)) may }
 documents_talk answer deadline before (bytes ∷ rest) may =
-    let t = taken (parts_of (document bytes deadline)) (λ names net. MayTalk (next names net)) (document_talks next bytes deadline may) in
+    let t = taken (parts_of (document bytes deadline)) (λ names net. MayTalk (next names net)) (under_names bytes deadline (λ names net. MayTalk (next names net)) (document_talks next bytes deadline may)) in
     let read = documents_talk answer deadline (before ++ t.this ∷ []) rest t.held in
     record {
       all = t.this ∷ read.all;
-      are = (t.same, t.good, read.are);
+      are = (t.same, t.of, read.are);
       held = subst (λ (ns : List Named). MayTalk (answer ns)) (append_assoc before (t.this ∷ []) read.all) read.held;
     }
   where
@@ -172,10 +206,10 @@ verdicts_talk cap after_yes deadline [] [] are may = tt
 verdicts_talk cap after_yes deadline [] (n ∷ ns) are may = absurd are
 verdicts_talk cap after_yes deadline (bytes ∷ rest) [] are may = absurd are
 verdicts_talk cap after_yes deadline (bytes ∷ rest) (n ∷ ns) are may =
-    by_verdict (λ later. verdicts_talk cap after_yes deadline rest ns are.2 later) (verdict cap n.net) (verdict_tells cap n.net are.1) may
+    by_verdict (λ later. verdicts_talk cap after_yes deadline rest ns are.2 later) (verdict cap n.net) (verdict_tells cap n.net are.1.good) may
   where
     by_verdict : (MayTalk (on_verdicts cap after_yes ns) → EachHas rest deadline (IsYes cap)) → (v : Verdict) → Tells cap n.net v → MayTalk (on_verdict cap n.names n.net (on_verdicts cap after_yes ns) v) → EachHas (bytes ∷ rest) deadline (IsYes cap)
-    by_verdict later (Yes load) tells' is = (of_network (parts_of (document bytes deadline)) n.net (IsYes cap) are.0 tells', later is)
+    by_verdict later (Yes load) tells' is = (of_network (parts_of (document bytes deadline)) n (λ names net. IsYes cap net) are.0 tells', later is)
     by_verdict later (No load) tells' is = absurd is
     by_verdict later IsFullVerdict tells' is = absurd is
 

@@ -45,7 +45,7 @@ use Rattle.cstn_verdict.proofs.Deciding.{Tells, verdict_tells}
 use Rattle.cstn_top.proofs.Drills.{counts_right}
 use Rattle.cstn_top.proofs.Documents.{document_says, document_talks}
 use Rattle.cstn_top.proofs.Labels.{IsOfLabelled, labelled_then, none_labelled, on_labels, talks_labelled, labels_silent}
-use Rattle.cstn_top.proofs.Hosts.{HostTells, host_tells, host_talks}
+use Rattle.cstn_top.proofs.Hosts.{IsToldNo, HostTells, host_tells, host_talks, first_then}
 use Rattle.cstn_words.specs.Requests.{host, AsksHost}
 use Rattle.cstn_top.proofs.Edited.{document_named, EditTells, edit_tells}
 use Rattle.cstn_log.specs.Asked.{asked as table_of}
@@ -502,15 +502,15 @@ edit_right live asked cap contents Unfinished has = tt
 edit_right live asked cap contents Script has = tt
 edit_right live asked cap contents Wide has = none_such (parts_of (document (get_or contents 0 []) asked.deadline)) has
 
-host_right : (live : Option (List ℕ)) (files : List (List ℕ)) (deadline : Option ℕ) (cap : ℕ) (contents : List (List ℕ)) (o : Outcome) → HostTells cap deadline contents o → IsRight live o (host files deadline cap) contents
-host_right live files deadline cap contents Good tells' = tells'
-host_right live files deadline cap contents Bad tells' = tells'
-host_right live files deadline cap contents Full tells' = tells'
-host_right live files deadline cap contents Words tells' = tells'
-host_right live files deadline cap contents Document tells' = tt
-host_right live files deadline cap contents Unfinished tells' = tt
-host_right live files deadline cap contents Script tells' = tt
-host_right live files deadline cap contents Wide tells' = tells'
+host_right : (live : Option (List ℕ)) (files : List (List ℕ)) (deadline : Option ℕ) (cap : ℕ) (contents : List (List ℕ)) (said : Said) (o : Outcome) → HostTells cap deadline contents said o → IsRight live o (host files deadline cap) contents
+host_right live files deadline cap contents said Good tells' = tells'
+host_right live files deadline cap contents said Bad tells' = first_then contents deadline cap (IsToldNo cap said) (λ names net. IsNo cap net) (λ names net no'. no'.1) tells'
+host_right live files deadline cap contents said Full tells' = tells'
+host_right live files deadline cap contents said Words tells' = tells'
+host_right live files deadline cap contents said Document tells' = tt
+host_right live files deadline cap contents said Unfinished tells' = tt
+host_right live files deadline cap contents said Script tells' = tt
+host_right live files deadline cap contents said Wide tells' = tells'
 
 -- a check and a replay on the network that a labelled one is lowered to
 check_tells : (cap : ℕ) (live : List ℕ) (said : Said) (names : List (List ℕ)) (m : Labelled) → IsOfLabelled names m → IsOutput (checked cap names (lowered m)) live said → VerdictsLabelled cap m said.outcome
@@ -556,7 +556,7 @@ output_right told (closedcheck asked proof) contents live said all output =
     (λ names net good named is. certificate_tells (get_or contents 1 []) names net live said good is) (closedcheck_right told asked proof contents) output
 output_right told (drill number) contents live said all output =
     subst (λ (o : Outcome). IsRight told o (drill number) contents) (sym (ap (λ (s : Said). s.outcome) output)) (counts_right number 64)
-output_right told (host files deadline cap) contents live said all output = host_right told files deadline cap contents said.outcome (host_tells cap deadline contents live said output)
+output_right told (host files deadline cap) contents live said all output = host_right told files deadline cap contents said said.outcome (host_tells cap deadline contents live said output)
 
 -- a check whose log may be long enough decides the network
 decides : (cap : ℕ) (net : Network) (o : Outcome) → Verdicts cap net o → IsDecided cap net (status_of o)

@@ -1,5 +1,5 @@
 -- All that is told of a request is told of the same contents.
-use Rattle.std.proofs.Common.{◌≡◌, ℕ, List, sym, subst, inl, inr}
+use Rattle.std.proofs.Common.{◌≡◌, ℕ, List, sym, subst, inr}
 use Rattle.std.specs.Prelude.{◌⊎◌, IsNone, Option, Some}
 use Rattle.cstn_words.specs.Requests.{Request}
 use Rattle.cstn_reply.specs.Plans.{LiveState}

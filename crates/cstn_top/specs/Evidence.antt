@@ -1,15 +1,16 @@
 -- What is written as evidence, and what is said of it when it is handed in again.
 use Rattle.std.specs.Prelude.{◌≡◌, ℕ, List, [], get_or, Option}
 use Rattle.cstn_io.specs.Contents.{with_bytes}
-use Rattle.cstn_words.specs.Requests.{Request, check, run, closed, tight, conflict}
+use Rattle.cstn_words.specs.Requests.{Request, check, run, closed, tight, conflict, tree, host}
 use Rattle.cstn_reply.specs.declared.status.Status.{Status}
 use Rattle.cstn_reply.specs.declared.status.Status.TheVariants.{Good, Bad}
 use Rattle.cstn_lift.specs.Lowered.{lowered}
 use Rattle.cstn_verdict.specs.Documents.{HasLabelled, HasNetwork}
 use Rattle.cstn_evidence.specs.Accepted.{IsYesText, IsNoText, IsTightText, IsConflictText}
+use Rattle.cstn_top.specs.Several.{FirstHas}
 
 -- the text stands for the answer: after yes what `closed` and `tight` write, and after no what every command writes that checks
--- the network of a document
+-- the networks of documents as they are handed in
 abbrev pub IsEvidence : Request → Status → List ℕ → List (List ℕ) → Type 0
 IsEvidence (check asked cap) Bad text contents = HasLabelled (get_or contents 0 []) asked.deadline (λ names m. IsNoText names (lowered m) text)
 IsEvidence (run asked cap) Bad text contents = HasLabelled (get_or contents 0 []) asked.deadline (λ names m. IsNoText names (lowered m) text)
@@ -18,6 +19,8 @@ IsEvidence (closed asked cap) Bad text contents = HasNetwork (get_or contents 0 
 IsEvidence (tight asked cap) Good text contents = HasNetwork (get_or contents 0 []) asked.deadline (λ names net. IsTightText names net text)
 IsEvidence (tight asked cap) Bad text contents = HasNetwork (get_or contents 0 []) asked.deadline (λ names net. IsNoText names net text)
 IsEvidence (conflict asked cap) Bad text contents = HasNetwork (get_or contents 0 []) asked.deadline (λ names net. IsConflictText names net text)
+IsEvidence (tree asked cap) Bad text contents = HasNetwork (get_or contents 0 []) asked.deadline (λ names net. IsNoText names net text)
+IsEvidence (host files deadline cap) Bad text contents = FirstHas contents deadline cap (λ names net. IsNoText names net text)
 IsEvidence request status text contents = Unit {0}
 
 -- what was written behind what the sink had is evidence

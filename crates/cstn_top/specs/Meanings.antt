@@ -118,7 +118,7 @@ IsBad told (closedcheck asked proof) contents =
 IsBad told (treecheck asked proof) contents =
     HasNetwork (get_or contents 0 []) asked.deadline (λ names net. IsBrokenTree (told_tree names (get_or contents 1 [])) net)
 IsBad told (drill number) contents = ⊥
-IsBad told (host files deadline cap) contents = FirstHas contents deadline cap (IsNo cap)
+IsBad told (host files deadline cap) contents = FirstHas contents deadline cap (λ names net. IsNo cap net)
 
 -- what the status Full tells of it: the log of its network has more entries than it may
 abbrev pub IsFull : Option (List ℕ) → Request → List (List ℕ) → Type 0
@@ -130,7 +130,7 @@ IsFull told (closed asked cap) contents = HasNetwork (get_or contents 0 []) aske
 IsFull told (tight asked cap) contents = HasNetwork (get_or contents 0 []) asked.deadline (λ names net. is_tight_full cap net ≡ true)
 IsFull told (conflict asked cap) contents = HasNetwork (get_or contents 0 []) asked.deadline (λ names net. is_blame_full cap net ≡ true)
 IsFull told (tree asked cap) contents = HasNetwork (get_or contents 0 []) asked.deadline (λ names net. IsNarrow net × (cap < load_of net))
-IsFull told (host files deadline cap) contents = FirstHas contents deadline cap (λ net. cap < load_of net)
+IsFull told (host files deadline cap) contents = FirstHas contents deadline cap (λ names net. cap < load_of net)
 IsFull told request contents = ⊥
 
 -- what the status Wide tells of it: more than 10 propositions are observed

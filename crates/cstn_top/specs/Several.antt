@@ -9,8 +9,8 @@ abbrev pub EachHas : List (List ℕ) → Option ℕ → (Network → Type 0) →
 EachHas [] deadline holds = Unit {0}
 EachHas (bytes ∷ rest) deadline holds = HasNetwork bytes deadline (λ names net. holds net) × EachHas rest deadline holds
 
--- this holds of the network of one of them, and those before it have a strategy
-abbrev pub FirstHas : List (List ℕ) → Option ℕ → ℕ → (Network → Type 0) → Type 0
+-- this holds of the network of one of them under the names of its time-points, and those before it have a strategy
+abbrev pub FirstHas : List (List ℕ) → Option ℕ → ℕ → (List (List ℕ) → Network → Type 0) → Type 0
 FirstHas [] deadline cap holds = ⊥
 FirstHas (bytes ∷ rest) deadline cap holds =
-    HasNetwork bytes deadline (λ names net. holds net) ⊎ (HasNetwork bytes deadline (λ names net. IsYes cap net) × FirstHas rest deadline cap holds)
+    HasNetwork bytes deadline holds ⊎ (HasNetwork bytes deadline (λ names net. IsYes cap net) × FirstHas rest deadline cap holds)

@@ -1,6 +1,4 @@
 use Rattle.std.proofs.Common.{[], sym, subst, inl, inr}
-use Rattle.std.specs.Prelude.{Option, IfSome}
-use Rattle.cstn_words.specs.Requests.{Request}
 use Rattle.cstn_reply.specs.Plans.{LiveState, says, EndsLine}
 use Rattle.cstn_reply.specs.Sessions.{session}
 use Rattle.cstn_talk.specs.Guiding.{guided_turn, guided_ending}
