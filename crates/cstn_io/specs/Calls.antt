@@ -8,7 +8,7 @@ pub record CallsState : Type 0 where
   pub made : ℕ
   pub faults : ℕ
 
--- a count after one more, which stands at its last value
+-- a count after one more; it stops at 2^64 - 1
 abbrev pub one_more : ℕ → ℕ
 one_more count = min (count + 1) (2 ^ 64 - 1)
 
@@ -16,10 +16,10 @@ one_more count = min (count + 1) (2 ^ 64 - 1)
 abbrev pub is_to_fail : CallsState → Bool
 is_to_fail calls = list_any (λ number. nat_eq number calls.made) calls.failing
 
--- after a call that was accepted
+-- the state after a call that was accepted
 abbrev pub accepted : CallsState → CallsState
 accepted calls = record calls { made = one_more calls.made }
 
--- after a call that failed
+-- the state after a call that failed
 abbrev pub failed : CallsState → CallsState
 failed calls = record calls { made = one_more calls.made; faults = one_more calls.faults }

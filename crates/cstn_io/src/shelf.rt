@@ -9,16 +9,18 @@ use std::io;
 use std::io::ErrorKind;
 use thiserror::Error;
 
-/// Why a file isn't the one that is read.
+/// Why a file wasn't chosen.
 #[derive(Clone, Copy, Debug, PartialEq, Eq, Error)]
 pub enum ChooseError {
+    /// No file has the name, or the system failed.
     #[error("the system failed")]
     Failed,
+    /// Memory was refused.
     #[error("out of memory")]
     Memory(AllocError),
 }
 
-/// What an opening that the system refused is: want of memory, or else a failure.
+/// An error of opening a file is `Memory` where its kind is want of memory, and else `Failed`.
 impl From<io::Error> for ChooseError {
     ghost use Rattle.std.specs.IoError.{error_kind};
     ghost use Rattle.cstn_io.specs.Causes.{IsRefusalOf};
@@ -33,22 +35,22 @@ impl From<io::Error> for ChooseError {
     }
 }
 
-/// Named files, of which one is read at a time. Failures are counted. A shelf tells the bytes of its files always
-/// or never.
+/// Named files, of which one is read at a time. Failures are counted. A shelf tells contracts the bytes of its files either
+/// always, as one in memory does, or never.
 pub trait Shelf {
     /// Whether a name may be asked for.
     ghost may_ask: { Self → List ℕ → Bool };
 
-    /// A file is chosen.
+    /// Whether a file is chosen.
     ghost is_chosen: { Self → Bool };
 
     /// The name of the chosen file, where files are told.
     ghost chosen: { Self → Option (List ℕ) };
 
-    /// How many bytes were taken of the chosen file. The count stands at 2^64 - 1.
+    /// How many bytes were taken of the chosen file. The count stops at 2^64 - 1.
     ghost taken: { Self → ℕ };
 
-    /// How many calls failed. The count stands at 2^64 - 1.
+    /// How many calls failed. The count stops at 2^64 - 1.
     ghost faults: { Self → ℕ };
 
     /// The bytes of each file, where they are told. A file that isn't there has none.
@@ -57,7 +59,8 @@ pub trait Shelf {
     /// The bytes left of the chosen file, where they are told.
     ghost left: { Self → Option (List ℕ) };
 
-    /// Makes the named file the one that is read, from its start. A name that no file has is a failure.
+    /// Chooses the named file, which is then read from its start. It fails where no file has the name or the system fails.
+    /// Where it fails or memory is refused, the file that was chosen before stays chosen.
     fn choose(&mut self, name: &str) -> Result<(), ChooseError>
         requires { IsTrue (may_ask self.old name.now) }
         ensures chosen { OnOk result (IsTrue (is_chosen self.new)) }
@@ -72,7 +75,8 @@ pub trait Shelf {
         ensures files { files self.new ≡ files self.old }
         ensures cause { HasChoiceCause (faults self.old) (faults self.new) result };
 
-    /// Takes bytes from the chosen file into the front of `into`, and says how many. 0 is its end.
+    /// Takes bytes from the chosen file into the front of `into` and answers how many, 0 at its end alone. A read that fails
+    /// takes none.
     fn read(&mut self, into: &mut [u8]) -> Result<usize, Failed>
         requires chosen { IsTrue (is_chosen self.old) }
         requires room { 0 < length into.old }
@@ -84,6 +88,6 @@ pub trait Shelf {
         ensures files { files self.new ≡ files self.old }
         ensures cause { HasCause (faults self.old) (faults self.new) result };
 
-    /// A shelf that tells files tells what is left.
+    /// A shelf that tells the bytes of its files tells the bytes left of the chosen one.
     ghost told: { (shelf : Self) → is_some (left shelf) ≡ is_some (files shelf) };
 }

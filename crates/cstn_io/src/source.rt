@@ -6,18 +6,19 @@ ghost use Rattle.cstn_io.specs.Contents.{Takes};
 
 use crate::Failed;
 
-/// A live source of bytes. Reads and failures are counted. A source tells the bytes left always or never.
+/// A live source of bytes. Reads and failures are counted. A source tells contracts the bytes left either always, as one in
+/// memory does, or never.
 pub trait Source {
-    /// How many calls failed. The count stands at 2^64 - 1.
+    /// How many calls failed. The count stops at 2^64 - 1.
     ghost faults: { Self → ℕ };
 
-    /// How many reads were made. The count stands at 2^64 - 1.
+    /// How many reads were made. The count stops at 2^64 - 1.
     ghost reads: { Self → ℕ };
 
     /// The bytes left, where they are told.
     ghost left: { Self → Option (List ℕ) };
 
-    /// Takes bytes into the front of `into`, and says how many. 0 is the end.
+    /// Takes bytes into the front of `into` and answers how many, 0 at the end alone. A read that fails takes none.
     fn read(&mut self, into: &mut [u8]) -> Result<usize, Failed>
         requires { 0 < length into.old }
         ensures bytes { Takes (left self.old) (left self.new) result into.new }

@@ -6,7 +6,7 @@ use Rattle.cstn_label.specs.Words.{has_bit, meant}
 use Rattle.cstn_label.specs.Read.{known_value}
 use Rattle.cstn_label.proofs.WordLemmas.{has_bit_and, meant_from_bits, bits_from_meant}
 
--- a value by two bits, of which the second is whether it is known
+-- the value v where s says that it is known, and none elsewhere
 abbrev value : Bool → Bool → Option Bool
 value v s = if s then Some v else None
 
@@ -22,7 +22,7 @@ bits_among k p = sym (has_bit_and k.bits k.seen p) ∙ ap (λ w. has_bit w p) k.
 masked : (v s : Bool) → value (v && s) s ≡ value v s
 masked v s = grind arith
 
--- a value that is taken from a scenario is the scenario's
+-- the known values of `bits & seen` are those of `bits`
 pub value_taken : (bits seen q : ℕ) →
     (if has_bit seen q then Some (has_bit (bit_and bits seen) q) else None) ≡
     (if has_bit seen q then Some (has_bit bits q) else None)

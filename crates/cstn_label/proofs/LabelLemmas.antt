@@ -14,7 +14,7 @@ made_true a s = λ p. value_of (a p) (s p)
 pub made_holds : (a : Label) (s : Scenario) → IsPlain a → Holds (made_true a s) a
 made_holds a s h = λ p. mark_made (a p) (s p) (h p)
 
--- a scenario that makes a possible label true agrees with what is known
+-- where a label is possible, the scenario that is changed to make it true keeps the values that are known
 pub made_agrees : (known : ℕ → Type 0) (s : Scenario) (a : Label) → IsPossible known s a →
     (p : ℕ) → known p → made_true a s p ≡ s p
 made_agrees known s a possible p k = value_kept (a p) (s p) (possible p k)
@@ -64,12 +64,12 @@ pub possible_earlier : (known later : ℕ → Type 0) (s : Scenario) (a : Label)
     IsPossible later s a → IsPossible known s a
 possible_earlier known later s a more h = λ p k. h p (more p k)
 
--- only the values of what is known matter
+-- whether a label is possible depends only on the values of what is known
 pub possible_alike : (known : ℕ → Type 0) (s r : Scenario) (a : Label) → ((p : ℕ) → known p → r p ≡ s p) →
     IsPossible known s a → IsPossible known r a
 possible_alike known s r a same h = λ p k. subst (λ v. MarkFits v (a p)) (sym (same p k)) (h p k)
 
--- where all that a label marks is known, it is possible where it holds alone
+-- a label whose marked propositions are all known is possible only where it holds
 pub holds_from_possible : (known : ℕ → Type 0) (s : Scenario) (a : Label) →
     ((p : ℕ) → (a p ≡ Absent → ⊥) → known p) → IsPossible known s a → Holds s a
 holds_from_possible known s a all h p = elim (absent_or_not (a p)) [
@@ -112,7 +112,7 @@ without_same a p = grind (arith, eq-eqb)
 pub without_other : (a : Label) (p q : ℕ) → (q ≡ p → ⊥) → without a p q ≡ a q
 without_other a p q h = grind (arith, ne_eqb)
 
--- what is so of absent, and of a mark of the label, is so of that mark when p is taken off
+-- what holds of an absent mark and of the label's mark on q holds of the mark on q once the mark on p is taken off
 pub kept_without : (P : Mark → Type 0) (a : Label) (p q : ℕ) → P Absent → P (a q) → P (without a p q)
 kept_without P a p q none h = elim (cases_eq q p) [
   | inl e ↦ rw (eq-eqb q p e) none
@@ -125,6 +125,6 @@ without_within a p = λ q. kept_without (λ m. IsMarkWithin m (a q)) a p q tt (w
 pub absent_joined : (a b : Label) (p : ℕ) → a p ≡ Absent → b p ≡ Absent → joined a b p ≡ Absent
 absent_joined a b p h k = rw (h, k) refl
 
--- the mark that was taken off fits
+-- once its mark on p is taken off, a label fits every value of p there
 pub fits_off : (v : Bool) (a : Label) (p : ℕ) → MarkFits v (without a p p)
 fits_off v a p = rw (without_same a p) tt

@@ -11,7 +11,7 @@ use Rattle.cstn_label.proofs.WordLemmas.{has_bit_or, has_bit_and, has_bit_above,
 joined_bits : (y n z m : Bool) → mark_of (y || z) (n || m) ≡ joined_mark (mark_of y n) (mark_of z m)
 joined_bits y n z m = grind arith
 
--- words that are joined bit by bit are labels joined mark by mark
+-- labels whose words are joined bit by bit are joined mark by mark
 pub joined_at : (y n z m p : ℕ) → mark_of (has_bit (bit_or y z) p) (has_bit (bit_or n m) p)
     ≡ joined_mark (mark_of (has_bit y p) (has_bit n p)) (mark_of (has_bit z p) (has_bit m p))
 joined_at y n z m p = rw (has_bit_or y z p, has_bit_or n m p)
@@ -27,7 +27,7 @@ bits_possible_yes seen v y n h e = grind arith
 bits_possible_no : (seen v y n : Bool) → (seen ≡ true → MarkFits v (mark_of y n)) → (n && seen) ≡ true → v ≡ false
 bits_possible_no seen v y n h e = grind arith
 
--- no literal on what is seen is false
+-- marks on seen propositions fit their values where those of `y` are true and those of `n` false
 pub possible_from_bits : (y n seen bits : ℕ) → IsInside (bit_and y seen) bits → IsApart (bit_and n seen) bits →
     (p : ℕ) → IsTrue (has_bit seen p) → MarkFits (has_bit bits p) (mark_of (has_bit y p) (has_bit n p))
 possible_from_bits y n seen bits h k p e =
@@ -86,7 +86,7 @@ bits_marked y n set gone = grind arith
 bits_absent : (y n : Bool) → (y || n) ≡ false → mark_of y n ≡ Absent
 bits_absent y n clear = grind arith
 
--- the propositions that a label marks are the bits of its words together
+-- a label marks a proposition whose bit is set in either of its words, and no other
 pub marked_at : (a : Label) (p : ℕ) → has_bit (bit_or a.yes a.no) p ≡ true → marks a p ≡ Absent → ⊥
 marked_at a p set = bits_marked (has_bit a.yes p) (has_bit a.no p) (sym (has_bit_or a.yes a.no p) ∙ set)
 

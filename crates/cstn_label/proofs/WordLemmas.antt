@@ -122,7 +122,7 @@ set_in_range word i within small =
     let same : 1 * 2 ^ i % 2 ^ 64 ≡ 2 ^ i = omega arith in
     or_lt 52 word _ small (omega arith)
 
--- what is taken from a word is there
+-- `a & b` has no bit outside b
 pub and_again : (a b : ℕ) → bit_and (bit_and a b) b ≡ bit_and a b
 and_again a b = same_from_bits (bit_and (bit_and a b) b) (bit_and a b) (λ i.
     let outer = bit_at_and (bit_and a b) b i in
@@ -132,7 +132,7 @@ and_again a b = same_from_bits (bit_and (bit_and a b) b) (bit_and a b) (λ i.
 inside_bits : (on b s v : Bool) → (b && s) ≡ b → (cond on v b && cond on true s) ≡ cond on v b
 inside_bits on b s v e = grind arith
 
--- a word among another stays so where a bit is set there
+-- a word within `seen` stays within it where bit i takes any value in the word and is set in `seen`
 pub still_among : (bits seen wide more i : ℕ) (v : Bool) → bit_and bits seen ≡ bits →
     ((k : ℕ) → has_bit wide k ≡ cond (eqb k i) v (has_bit bits k)) →
     ((k : ℕ) → has_bit more k ≡ cond (eqb k i) true (has_bit seen k)) → bit_and wide more ≡ wide
@@ -151,7 +151,7 @@ has_bit_shifted word i k =
     let same : i + k - i ≡ k = omega arith in
     ap (λ n. eqb n 1) (sym (whole ∙ ap (λ j. bit_at (word / 2 ^ i) j) same))
 
--- the bits of a word from i on, by those of `word >> i`
+-- a word has no bit from i up to i + low where `word >> i` has none below `low`
 pub clear_from : (word i low : ℕ) → ((k : ℕ) → k < low → has_bit (word / 2 ^ i) k ≡ false) →
     (j : ℕ) → i ≤ j → j < i + low → has_bit word j ≡ false
 clear_from word i low clear j from below =
@@ -159,7 +159,7 @@ clear_from word i low clear j from below =
     subst (λ k. has_bit word k ≡ false) place
     (sym (has_bit_shifted word i (j - i)) ∙ clear (j - i) (omega arith))
 
--- the least bit of a word that isn't 0
+-- the least bit of a word that isn't 0 is at `trailing_zeros`
 pub lowest_bit : (rest : ℕ) → 0 < rest → rest < 2 ^ 64 → has_bit rest (trailing_zeros w64 rest) ≡ true
 lowest_bit rest some fits =
     eq-eqb (bit_at rest (trailing_zeros w64 rest)) 1 (bit_at-trailing_zeros w64 rest some fits).1
@@ -179,7 +179,7 @@ set_below word k i fits set = elim (cases_lt i k) [
   | inr above ↦ let clear = has_bit_above word k i fits above in cc
 ]
 
--- the least bit of `word >> i`, in the word
+-- the least bit of a word from i on is i plus that of `word >> i`
 pub lowest_from : (word i : ℕ) → (word / 2 ^ i ≡ 0 → ⊥) → word < 2 ^ 64 →
     has_bit word (i + trailing_zeros w64 (word / 2 ^ i)) ≡ true
 lowest_from word i some fits =
@@ -198,7 +198,7 @@ and_all b o e = grind arith
 and_none : (b o : Bool) → o ≡ false → (b && o) ≡ false
 and_none b o e = grind arith
 
--- the bits of propositions are kept, and no others
+-- `meant` keeps the bits below 52 and no others
 pub meant_below : (word p : ℕ) → p < 52 → has_bit (meant word) p ≡ has_bit word p
 meant_below word p below = has_bit_and word (2 ^ 52 - 1) p ∙
     and_all (has_bit word p) (has_bit (2 ^ 52 - 1) p) (ap (λ n. eqb n 1) (bit_at_ones 52 p below))

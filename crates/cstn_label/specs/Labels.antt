@@ -89,7 +89,7 @@ MarkFits false Unknown = ⊥
 abbrev pub Holds : Scenario → Label → Type 0
 Holds s a = (p : ℕ) → MarkFits (s p) (a p)
 
--- a label is possible where some propositions are known, with their values in s: what is known rules out unknown marks
--- and false literals
+-- a label is possible where the propositions of `known` are known with their values in s: on none of these does it have a
+-- false literal or an unknown mark
 abbrev pub IsPossible : (ℕ → Type 0) → Scenario → Label → Type 0
 IsPossible known s a = (p : ℕ) → known p → MarkFits (s p) (a p)

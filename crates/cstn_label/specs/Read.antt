@@ -1,4 +1,4 @@
--- How the values of the program are read.
+-- How the program's labels, scenarios, knowledge and bounds are read as those of the definitions.
 use Rattle.std.specs.Prelude.{ℕ, Bool, true, false, IsTrue, ◌==◌, ◌&&◌, Option, Some, None, if◌then◌else◌}
 use Rattle.cstn_label.specs.declared.marks.Mark.{Mark}
 use Rattle.cstn_label.specs.declared.marks.Mark.TheVariants.{Absent, Yes, No, Unknown}
@@ -10,7 +10,7 @@ use Rattle.cstn_label.specs.Labels.{Label as TheLabel, Scenario as TheScenario}
 use Rattle.cstn_label.specs.Bounds.{Bound as TheBound}
 use Rattle.cstn_label.specs.Words.{has_bit, meant}
 
--- the mark of a proposition by its bits in the two words
+-- the mark of a proposition by its bits in a label's words `yes` and `no`
 abbrev pub mark_of : Bool → Bool → Mark
 mark_of false false = Absent
 mark_of true false = Yes
@@ -37,11 +37,11 @@ the_values k = λ p. has_bit k.bits p
 abbrev pub known_value : Known → ℕ → Option Bool
 known_value k p = if has_bit k.seen p then Some (the_values k p) else None
 
--- the scenarios have the same bits of propositions
+-- the scenarios give each of the 52 propositions the same value
 abbrev pub same_scenario : Scenario → Scenario → Bool
 same_scenario s r = meant s.bits == meant r.bits
 
--- the same propositions are known, and the same of them are known true
+-- the same propositions are known, with the same values
 abbrev pub same_known : Known → Known → Bool
 same_known k l = (meant k.seen == meant l.seen) && (meant k.bits == meant l.bits)
 

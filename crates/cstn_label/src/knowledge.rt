@@ -17,7 +17,7 @@ impl Known {
     ghost use Rattle.cstn_label.specs.Read.{the_scenario, the_values, known_value};
     ghost use Rattle.cstn_label.specs.Words.{has_bit};
 
-    /// Nothing is known.
+    /// The value in which no proposition is known.
     pub fn nothing() -> Known
         ensures seen { result.seen ≡ 0 }
         ensures known { (q : ℕ) → known_value result q ≡ None }
@@ -25,7 +25,8 @@ impl Known {
         Known { seen: 0, bits: 0 }
     }
 
-    /// The propositions of `seen` are known, with their values in the scenario.
+    /// The value in which the propositions of `seen` are known, with their values in the scenario. Bit p of `seen` stands for
+    /// the proposition p.
     pub fn of(seen: u64, scenario: Scenario) -> Known
         ensures seen { result.seen ≡ seen }
         ensures values { result.bits ≡ bit_and scenario.bits seen }
@@ -37,7 +38,7 @@ impl Known {
         }
     }
 
-    /// What is known here, and that p has this value.
+    /// What is known here, but p is known and has this value.
     pub fn with(self, p: Prop, value: bool) -> Known
         ensures seen { (q : ℕ) → has_bit result.seen q ≡ cond (q == p.index) true (has_bit self.seen q) }
         ensures values { (q : ℕ) → the_values result q ≡ cond (q == p.index) value (the_values self q) }
@@ -49,7 +50,7 @@ impl Known {
         }
     }
 
-    /// The value of p, where it is known.
+    /// The value of p; none where p isn't known.
     pub fn value(self, p: Prop) -> Option<bool>
         ensures value { result ≡ known_value self p.index }
     {

@@ -36,8 +36,8 @@ impl Label {
         }
     }
 
-    /// The least marked proposition of this number or a higher one; none where there is none. With the number after it
-    /// this goes on to the next, so a label is walked from 0 in as many steps as it has marks.
+    /// The least marked proposition whose number is `from` or higher; none where no such proposition is marked. A walk that
+    /// starts at 0 and goes on at the number after each answer takes one step for each mark.
     pub fn first_marked_from(self, from: u8) -> Option<Prop>
         ensures marked { IfSome result (λ p. IsMarked (marks self) p.index) }
         ensures from { IfSome result (λ p. from ≤ p.index) }
@@ -73,7 +73,8 @@ impl Label {
         self.with(p, Mark::Absent)
     }
 
-    /// The two labels, joined mark by mark.
+    /// The join of the two labels: on each proposition equal marks stay, an absent mark gives way to the other, and every
+    /// other pair gives unknown.
     #[tactic(auto, using(crate::proofs::ReadLemmas::joined_at, crate::proofs::WordLemmas::or_in_range))]
     pub fn join(self, other: Label) -> Label
         ensures join { marks result ≡ joined (marks self) (marks other) }
@@ -91,7 +92,7 @@ impl Label {
         are_apart(self.yes, self.no)
     }
 
-    /// Whether each mark is absent, the other's, or met by an unknown mark there.
+    /// Whether on each proposition this label's mark is absent, equal to the other's, or the other's is unknown.
     pub fn is_within(self, other: Label) -> bool
         ensures within { IsTrue result ↔ IsWithin (marks self) (marks other) }
     {
@@ -106,7 +107,7 @@ impl Label {
         is_inside(self.yes, s.bits) && are_apart(self.no, s.bits)
     }
 
-    /// Whether what is known rules out no mark: a literal that is known false is ruled out, and an unknown mark of a
+    /// Whether what is known rules out no mark. It rules out a literal that is known to be false, and an unknown mark on a
     /// proposition that is known.
     pub fn possible(self, k: Known) -> bool
         ensures possible { IsTrue result ↔ IsPossible (is_known k) (the_values k) (marks self) }

@@ -1,5 +1,5 @@
-// Laws of labels and bounds, for callers to rest on. Where a law speaks of what is known, a test says of each proposition
-// whether it is.
+// Laws of labels and bounds, for callers to rest on. Where a law speaks of possible labels, the function `known` says of each
+// proposition whether it is known.
 ghost use Rattle.std.specs.Prelude.{ℕ, ◌≡◌, ◌≢◌, ◌<◌, ◌≤◌, ◌⊎◌, ◌↔◌, Some, Bool, IsTrue};
 ghost use Rattle.cstn_label.specs.declared.labels.Label.{Label as Words};
 ghost use Rattle.cstn_label.specs.declared.scenarios.Scenario.{Scenario as Bits};
@@ -10,7 +10,7 @@ ghost use Rattle.cstn_label.specs.Bounds.{Bound, Dominates};
 ghost use Rattle.cstn_label.specs.Letters.{letter_of, prop_of};
 ghost use Rattle.cstn_label.specs.Read.{marks, the_scenario, known_value, same_scenario, same_known};
 
-/// A label is its marks: equal marks are equal labels, and no proposition above 51 is marked.
+/// Labels with equal marks are equal, and no proposition above 51 is marked.
 pub fn labels_are_their_marks()
     ensures equal { (a b : Words) → marks a ≡ marks b → a ≡ b }
     ensures above { (a : Words) (p : ℕ) → 52 ≤ p → marks a p ≡ Absent }
@@ -39,22 +39,22 @@ pub fn joined_is_the_least_above()
     ensures plain { (a b : Label) → IsPlain (joined a b) → IsPlain a × IsPlain b }
 {}
 
-/// A label is plain exactly where it holds in some scenario, and what is within a label that holds is one that holds.
+/// A label is plain exactly where it holds in some scenario. A label within one that holds in a scenario holds there too.
 pub fn plain_labels_hold_somewhere()
     ensures plain { (a : Label) → (IsPlain a ↔ ((s : Scenario) × Holds s a)) }
     ensures within { (s : Scenario) (a b : Label) → IsWithin a b → Holds s b → Holds s a }
 {}
 
-/// Without its mark on p, a label has every other mark, and is within the label.
+/// A label without its mark on p keeps every other mark, and is within the label as it was.
 pub fn one_mark_is_taken_off()
     ensures gone { (a : Label) (p : ℕ) → without a p p ≡ Absent }
     ensures others { (a : Label) (p q : ℕ) → q ≢ p → without a p q ≡ a q }
     ensures within { (a : Label) (p : ℕ) → IsWithin (without a p) a }
 {}
 
-/// What is within a possible label is possible, and what was ruled out stays ruled out. A label that holds in a scenario
-/// is possible by what is known there, and where all that it marks is known, it is possible only where it holds. Where a
-/// plain label is possible, it holds in a scenario that has the values that are known.
+/// A label within a possible one is possible, and a label that was ruled out stays ruled out. A label that holds in a
+/// scenario is possible by what is known there. Where all propositions that it marks are known, it is possible only where it
+/// holds. A plain label that is possible holds in some scenario that has the known values.
 pub fn possible_until_ruled_out()
     ensures within { (known : ℕ → Bool) (s : Scenario) (a b : Label) → IsWithin a b → IsPossible (λ p. IsTrue (known p)) s b → IsPossible (λ p. IsTrue (known p)) s a }
     ensures earlier { (known later : ℕ → Bool) (r s : Scenario) (a : Label) → ((p : ℕ) → IsTrue (known p) → IsTrue (later p) × (r p ≡ s p)) → IsPossible (λ p. IsTrue (later p)) s a → IsPossible (λ p. IsTrue (known p)) r a }

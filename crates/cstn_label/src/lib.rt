@@ -1,4 +1,4 @@
-//! Marks, labels, scenarios, what is known, and bounds: what is said of 52 propositions, in two machine words.
+//! Marks, labels, scenarios, what is known, and bounds. A label gives each of 52 propositions a mark, in two machine words.
 #![tactic(auto)]
 
 mod bounds;

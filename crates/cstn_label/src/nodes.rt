@@ -17,7 +17,7 @@ impl NodeId {
         }
     }
 
-    /// The number.
+    /// The time-point's number, below 65,536.
     pub fn number(self) -> u32
         ensures number { result ≡ self.0 }
     {

@@ -14,7 +14,7 @@ pub fn are_apart(a: u64, b: u64) -> bool
     a & b == 0
 }
 
-// Each bit of the one is set in the other.
+// Each bit that is set in a is set in b.
 pub fn is_inside(a: u64, b: u64) -> bool
     ensures { IsTrue result ↔ IsInside a b }
 {
@@ -29,7 +29,7 @@ pub fn has_bit(word: u64, i: u8) -> bool
     word >> i & 1 == 1
 }
 
-// The word with bit i as it is told.
+// The word with bit i set where `on` is true, and clear where it is false.
 pub fn with_bit(word: u64, i: u8, on: bool) -> u64
     requires { i < 52 }
     ensures bits { (k : ℕ) → has_bit result k ≡ cond (k == i) on (has_bit word k) }
@@ -38,7 +38,7 @@ pub fn with_bit(word: u64, i: u8, on: bool) -> u64
     if on { word | 1 << i } else { word & !(1 << i) }
 }
 
-// The least bit at i or above that is set.
+// The least bit at i or above that is set; none where none is.
 pub fn first_bit_from(word: u64, i: u8) -> Option<u8>
     requires { word < 2 ^ 52 }
     ensures set { IfSome result (λ k. has_bit word k ≡ true) }

@@ -53,7 +53,7 @@ ends_inside deadline n points cs h is = λ k d inside.
     let same = length-map points observed in
     omega arith
 
--- a network with other constraints that are kept is well-formed
+-- a well-formed network stays so with other constraints that are those of such a network
 pub changed : (deadline : ℕ) (points : List TimePoint) (cs ds : List Constraint) → IsWellFormed (net_of deadline points cs) →
     AreKept (net_of deadline points cs) ds → IsWellFormed (net_of deadline points ds)
 changed deadline points cs ds h kept =
@@ -132,7 +132,7 @@ none_taken id (c ∷ cs) others =
 later_others : (id : ℕ) (c : Constraint) (cs : List Constraint) → c.id ≡ id → All (λ d. c.id < d.id) cs → All (λ d. d.id ≢ id) cs
 later_others id c cs e later = λ k d inside same. let above = later k d inside in omega arith
 
--- taking the place of an id out leaves the others
+-- removing the constraint at the place of an id leaves the constraints without that id
 pub remove_is : (id : ℕ) (cs : List Constraint) (at : ℕ) → at < length cs → ((d : Constraint) → (get_or cs at d).id ≡ id) →
     AllPairs (λ b c. b.id < c.id) cs → remove cs at ≡ without_id id cs
 remove_is id [] at inside is ascending = absurd (omega arith)
@@ -144,7 +144,7 @@ remove_is id (c ∷ cs) (suc at) inside is ascending =
     rw (has_other id c (λ e. omega arith))
     (ap (λ ds. c ∷ ds) (remove_is id cs at (omega arith) is (pairs_tail (λ b c. b.id < c.id) c cs ascending)))
 
--- setting the value at the place of an id sets it where the id is
+-- setting the value at the place of an id sets that of the constraint with the id, and no other
 pub set_is : (id : ℕ) (most : ℤ) (cs : List Constraint) (at : ℕ) (old new : Constraint) → at < length cs →
     ((d : Constraint) → (get_or cs at d).id ≡ id) → old ≡ get_or cs at old → new ≡ record old { most = most } →
     AllPairs (λ b c. b.id < c.id) cs → set cs at new ≡ map (with_most id most) cs
@@ -161,14 +161,14 @@ set_is id most (c ∷ cs) (suc at) old new inside is stood made ascending =
     (set_is id most cs at old new (omega arith) is stood made (pairs_tail (λ b c. b.id < c.id) c cs ascending)))
 
 module _ (id : ℕ) (cs : List Constraint) (ascending : AllPairs (λ b c. b.id < c.id) cs) where
-  -- the comparisons with an id rise along the constraints, as a search by halves asks
+  -- the comparisons with an id rise along the constraints, as binary search requires
   comparisons_rise : IsNonDecreasingBy (λ c. ordering_index (nat_cmp c.id id)) cs
   comparisons_rise i j d upto inside = elim (cases_lt i j) [
     | inl before ↦ let ordered = ascending i j d before inside in grind (arith, nat_tests)
     | inr after ↦ let same : i ≡ j = omega arith in subst (λ k. ordering_index (nat_cmp (get_or cs i d).id id) ≤ ordering_index (nat_cmp (get_or cs k d).id id)) same (omega arith)
   ]
 
-  -- where a search by halves ends at a place, the id stands there, and elsewhere no constraint has it
+  -- where a binary search finds a place, the id stands there; where it finds none, no constraint has the id
   pub searched : (r : Result ℕ ℕ) → IsSearchInRange r (length cs) → IsBinarySearchResult (λ c. nat_cmp c.id id) cs r →
       MatchResult r (λ k. (k < length cs) × ((d : Constraint) → (get_or cs k d).id ≡ id)) (λ _. All (λ c. c.id ≢ id) cs)
   searched (Ok k) inside equal = (inside, λ d. ranked (get_or cs k d).id id _ (sym (equal d)))
@@ -189,13 +189,13 @@ pub same_ends : (id : ℕ) (most : ℤ) (cs : List Constraint) → ends (map (wi
 same_ends id most [] = refl
 same_ends id most (c ∷ cs) = rw (same_ends id most cs) (ap (λ x. x ∷ ends cs) (same_end id most c))
 
--- what contracts see of a network after a change of its constraints
+-- networks with the same deadline and time-points are equal to contracts where their constraints and their room are equal
 pub same_parts : (deadline : ℕ) (points : List TimePoint) (cs ds : List Constraint) (m n : ℕ) → cs ≡ ds → m ≡ n →
     ◌≡◌ {A = NetworkParts} (record { deadline = deadline; points = points; constraints = cs; spare = m })
     (record { deadline = deadline; points = points; constraints = ds; spare = n })
 same_parts deadline points cs ds m n e f = cc
 
--- the ranges of the constraints of a well-formed network
+-- the constraints of a well-formed network are in range
 pub ranges : (deadline n : ℕ) (points : List TimePoint) (cs : List Constraint) → IsWellFormed (net_of deadline points cs) →
     length points ≡ n → All (IsInRange n) cs
 ranges deadline n points cs h is =
@@ -207,7 +207,8 @@ ranges deadline n points cs h is =
     let same = length-map points observed in
     record { from = omega arith; to = omega arith; value = kept.values k d inside }
 
--- what is left when the place of an id is taken out, which is a network still
+-- the constraints that are left when the one with the id is taken out: those without the id, which are fewer and still make a
+-- well-formed network
 pub record IsLeft (deadline id : ℕ) (points : List TimePoint) (cs left : List Constraint) : Type 0 where
   pub is : left ≡ without_id id cs
   pub well_formed : IsWellFormed (net_of deadline points left)

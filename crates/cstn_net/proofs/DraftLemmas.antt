@@ -27,7 +27,7 @@ pub constraints_length : (k : ℕ) (ds : List Draft) → length (constraints_fro
 constraints_length k [] = refl
 constraints_length k (d ∷ ds) = ap suc (constraints_length (k + 1) ds)
 
--- what is so of each draft's constraint is so of each constraint
+-- what holds of each draft's constraint, under any id, holds of each constraint
 pub all_constraints : (P : Constraint → Type 0) (k : ℕ) (ds : List Draft) →
     All (λ d. (id : ℕ) → P (constraint_of id d)) ds → All P (constraints_from k ds)
 all_constraints P k [] all = All-nil P
@@ -46,7 +46,7 @@ ids_ascend k (d ∷ ds) =
     AllPairs-cons (λ b c. b.id < c.id) (constraint_of k d) (constraints_from (k + 1) ds) (above k (k + 1) ds (omega arith))
     (ids_ascend (k + 1) ds)
 
--- setting the reaction of the time-point at a place
+-- setting the reaction at the place of a time-point gives the list of `with_reaction`
 pub reaction_is_set : (ticks : ℕ) (points : List TimePoint) (node : ℕ) (t : TimePoint) → t ≡ get_or points node t →
     set points node (record t { reaction = ticks }) ≡ with_reaction node ticks points
 reaction_is_set ticks [] node t stood = refl

@@ -12,7 +12,8 @@ pub same_moments : (net : Network) (table : Table) (s r : Scenario) (x : ℕ) �
 same_moments net table s r x dynamic here agree = dynamic s r x here (λ p k. agree k.observer p k.observes)
 
 module _ (net : Network) (table : Table) (good : IsNetwork net) (never : IsNeverLater net table) where
-  -- what is known in r when it executes x is known in s when that does, by induction on the observer's moment
+  -- each proposition that is known in r at the moment of x there has the same value in s, by induction on its observer's
+  -- moment
   known_there : (s r : Scenario) (x n : ℕ) → Agrees net (table s) (table s x) s r → table r x ≤ table s x →
       (j p : ℕ) → table r j < n → Observes net j p → table r j + net.reaction p ≤ table r x → s p ≡ r p
   known_there s r x zero agrees upto j p lt o soon = absurd (omega arith)
@@ -24,7 +25,7 @@ module _ (net : Network) (table : Table) (good : IsNetwork net) (never : IsNever
       let earlier = never r s j (observer_within net j p o) alike in
       sym (agrees p (record { observer = j; observes = o; passed = omega arith }))
 
-  -- a table in which no scenario that agrees with what is known is later is dynamic
+  -- a table is dynamic where each time-point is no later in scenarios that agree with what is known at its moment
   pub dynamic_from_one_side : IsDynamic net table
   dynamic_from_one_side s r x here agrees =
       let upto = never s r x here agrees in
@@ -56,7 +57,7 @@ module _ (net : Network) (table : Table) (good : IsNetwork net) (dynamic : IsDyn
   agrees_back s r t agrees = λ p k.
       past s r t (suc (table r k.observer)) agrees k.observer p (omega arith) k.observes k.passed
 
-  -- and has the same moments up to then
+  -- scenarios that agree on what is known at t have the same moments up to t
   pub same_past : (s r : Scenario) (t x : ℕ) → x < count net → Agrees net (table s) t s r →
       (table s x ≤ t) ⊎ (table r x ≤ t) → table r x ≡ table s x
   same_past s r t x here agrees (inl early) =
@@ -64,7 +65,7 @@ module _ (net : Network) (table : Table) (good : IsNetwork net) (dynamic : IsDyn
   same_past s r t x here agrees (inr early) =
       sym (dynamic r s x here (agrees_earlier net (table r) (table r x) t r s early (agrees_back s r t agrees)))
 
-  -- and knows the same
+  -- in scenarios that agree on what is known at t, the same is known at t
   pub same_known : (s r : Scenario) (t p : ℕ) → Agrees net (table s) t s r → IsKnown net (table s) t p →
       IsKnown net (table r) t p
   same_known s r t p agrees k =
@@ -72,7 +73,7 @@ module _ (net : Network) (table : Table) (good : IsNetwork net) (dynamic : IsDyn
       let same = same_past s r t k.observer (observer_within net k.observer p k.observes) agrees (inl (omega arith)) in
       record { observer = k.observer; observes = k.observes; passed = omega arith }
 
--- a time-point has one least moment in a scenario
+-- a time-point has at most one least moment in a scenario
 pub one_least : (net : Network) (s : Scenario) (x t u : ℕ) → IsLeast net s x t → IsLeast net s x u → t ≡ u
 one_least net s x t u here there =
     let upto = here.least there.reached.0 there.reached.1 in

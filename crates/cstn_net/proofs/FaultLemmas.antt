@@ -31,7 +31,7 @@ no_first P (x ∷ xs) k first none = none k x first.inside (first.here x)
 never_fails : {X : Type 0} (P : X → Type 0) (xs : List X) (k : ℕ) → IsFirst (λ x. P x → ⊥) xs k → All P xs → ⊥
 never_fails P xs k first all = no_first (λ x. P x → ⊥) xs k first (λ i d inside fails. fails (all i d inside))
 
--- a builder with few enough things has no fault below N5, nor a later one that was looked for
+-- each fault of a builder without the faults of N1 to N4 has number k or higher, where those from N5 to below k are ruled out
 pub lowest_from : (b : BuilderParts) (k : ℕ) → IsSized b → k ≤ 9 → (5 < k → All (λ d. IsValue d.most) b.drafts) →
     (6 < k → All (λ d. (q : ℕ) → LacksObserver (observations b) (marks d.label) q → ⊥) b.drafts) →
     (7 < k → HasTwins (observations b) (length b.points) → ⊥) → (8 < k → All (λ d. IsPlain (marks d.label)) b.drafts) → (f : NetError) → HasFault b f → k ≤ number f
@@ -101,7 +101,7 @@ module _ (observes : List (Option ℕ)) (table : List (Option NodeId)) (h : Know
       go None e = e
       go (Some y) e = absurd (l.unobserved y.0 (h.right q y e))
 
-  -- a proposition that is named by a label that lacks no observer has one
+  -- a proposition that a label names is observed, where the label doesn't lack an observer for it
   pub seen_or_lacks : (a : Label) (q : ℕ) → a q ≢ Absent → (LacksObserver observes a q → ⊥) →
       (x : ℕ) × (get_or observes x None ≡ Some q)
   seen_or_lacks a q named none = go (get_or table q None) refl
@@ -110,7 +110,7 @@ module _ (observes : List (Option ℕ)) (table : List (Option NodeId)) (h : Know
       go None e = absurd (none (unseen_lacks a q (record { named = named; unseen = e })))
       go (Some y) e = (y.0, h.right q y e)
 
--- the least number of the first place rests on the facts alone
+-- facts that imply each other have the same least number at the first place
 pub least_alike : {X : Type 0} (P Q : ℕ → X → Type 0) → ((q : ℕ) (x : X) → P q x → Q q x) →
     ((q : ℕ) (x : X) → Q q x → P q x) → (xs : List X) (p : ℕ) → IsLeastOfFirst P xs p → IsLeastOfFirst Q xs p
 least_alike P Q there back xs p h = record {
@@ -142,7 +142,7 @@ timely_first t p n timely rest (Some q) e =
       | false ↦ rest
     ]
 
--- where each time-point that observes reacts in time, so does the first that observes a proposition
+-- where each time-point that observes has a reaction in range, each proposition has one in range
 pub timely_reaction : (points : List TimePoint) (p : ℕ) → All HasReaction points → (0 < reaction_of points p) × (reaction_of points p ≤ 1000)
 timely_reaction [] p all = (omega arith, omega arith)
 timely_reaction (t ∷ ts) p all =

@@ -18,7 +18,7 @@ use Rattle.cstn_net.specs.Handed.{IsHanded}
 use Rattle.cstn_net.proofs.DraftLemmas.{constraints_length}
 use Rattle.cstn_net.proofs.ObserverLemmas.{reaction_at, observed_at}
 
--- what holds of the constraint of each draft
+-- what holds of each draft's constraint holds of each draft
 drafts_each : (P : ℤ → Label → Type 0) (k : ℕ) (ds : List Draft) → All (λ c. P c.most c.label) (map the_constraint (constraints_from k ds)) →
     All (λ d. P d.most (marks d.label)) ds
 drafts_each P k [] all = All-nil (λ d. P d.most (marks d.label))
@@ -27,7 +27,7 @@ drafts_each P k (d ∷ ds) all =
     All-cons (λ d. P d.most (marks d.label)) d ds (All-head (λ c. P c.most c.label) (the_constraint (constraint_of k d)) rest all)
     (drafts_each P (k + 1) ds (All-tail (λ c. P c.most c.label) (the_constraint (constraint_of k d)) rest all))
 
--- a fact that holds of each draft, and fails at some place
+-- where P holds of all drafts and excludes Q, Q holds of none of them
 nowhere : (P Q : Draft → Type 0) (ds : List Draft) (k : ℕ) → k < length ds → All P ds → ((d : Draft) → P d → Q d → ⊥) →
     ((d : Draft) → Q (slice_index_or ds k d)) → ⊥
 nowhere P Q [] k inside all apart fails = absurd (omega arith)
@@ -37,7 +37,7 @@ observes_one : (o : Option Prop) → IsSome o → (p : ℕ) × (option_map (λ p
 observes_one None some = cc
 observes_one (Some p) some = (p.index, refl)
 
--- at no place fails what holds wherever something is observed
+-- `HasReaction` can't fail at a place whose time-point has a reaction in range whenever it observes something
 nowhere_timely : (points : List TimePoint) (k : ℕ) → k < length points → ((t : TimePoint) → HasReaction (slice_index_or points k t) → ⊥) →
     ((t : TimePoint) → t ≡ slice_index_or points k t → (p : ℕ) → slice_index_or (map observed points) k None ≡ Some p → (0 < t.reaction) × (t.reaction ≤ 1000)) → ⊥
 nowhere_timely [] k inside fails timely = absurd (omega arith)
@@ -47,7 +47,7 @@ nowhere_timely (u ∷ us) k inside fails timely =
     fails u (λ some. let one = observes_one t.observes some in
     timely t is_t one.0 (observed_at (u ∷ us) k t inside is_t ∙ one.1))
 
--- each time-point that was handed in reacts in time, since it alone observes what it observes
+-- each time-point that was handed in has a reaction in range, since it is the only observer of what it observes
 untimely_nowhere : (b : BuilderParts) (net : Network) → IsWellFormed net → IsHanded b net → (k : ℕ) → IsFirst (λ t. HasReaction t → ⊥) b.points k → ⊥
 untimely_nowhere b net good handed k f =
     nowhere_timely b.points k f.inside f.here (λ t is_t p is.
@@ -60,7 +60,7 @@ untimely_nowhere b net good handed k f =
     let soon = good.soon k p (at k is) in
     (omega (arith, ticks, some), omega (arith, ticks, soon)))
 
--- a builder of which each time-point has a reaction of a tick gives each proposition that reaction
+-- where each time-point has a reaction of one tick, each proposition has a reaction of one tick
 pub prompt_reaction : (points : List TimePoint) → All (λ t. t.reaction ≡ 1) points → (p : ℕ) → reaction_of points p ≡ 1
 prompt_reaction [] all p = refl
 prompt_reaction (t ∷ ts) all p =
@@ -68,7 +68,7 @@ prompt_reaction (t ∷ ts) all p =
     let rest = prompt_reaction ts (All-tail (λ t. t.reaction ≡ 1) t ts all) p in
     grind arith
 
--- so no reaction of it is out of range
+-- where each time-point has a reaction of one tick, no reaction is out of range
 pub prompt_is_timely : (points : List TimePoint) → All (λ t. t.reaction ≡ 1) points → All HasReaction points
 prompt_is_timely points all = All-weaker (λ t. t.reaction ≡ 1) HasReaction (λ t one some. (omega arith, omega arith)) points all
 
@@ -104,7 +104,7 @@ no_fault b net good handed (TwoObservers prop first second) f =
 no_fault b net good handed (ReactionRange node) f = untimely_nowhere b net good handed node.0 f
 no_fault b net good handed (Memory e) f = f
 
--- so it is refused for want of memory alone
+-- a builder that was handed a well-formed network is refused for want of memory alone
 pub refused_for_memory : (b : BuilderParts) (net : Network) → IsWellFormed net → IsHanded b net → (e : NetError) → IsRefusal b e → number e ≡ 0
 refused_for_memory b net good handed e (inl memory) = memory
 refused_for_memory b net good handed e (inr fault) = absurd (no_fault b net good handed e fault.has)

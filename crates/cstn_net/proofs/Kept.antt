@@ -1,4 +1,4 @@
--- What a strategy of a network is for networks that ask for less.
+-- A strategy of a network is also one of the network with a later deadline or with fewer constraints.
 use Rattle.std.proofs.Common.{ℕ, zero, suc, ◌≤◌, List, arith}
 use Rattle.std.specs.List.{Contains}
 use Rattle.cstn_net.specs.Networks.{Network, Constraint, limit}
@@ -10,7 +10,7 @@ with_deadline net h = record net { deadline = h }
 abbrev pub with_list : Network → List Constraint → Network
 with_list net cs = record net { constraints = cs }
 
--- what is known rests neither on the deadline nor on the constraints
+-- what is known depends neither on the deadline nor on the constraints
 known_later_end : (net : Network) (h : ℕ) (at : Schedule) (t p : ℕ) → IsKnown net at t p → IsKnown (with_deadline net h) at t p
 known_later_end net h at t p k = record { observer = k.observer; observes = record { what = k.observes.what }; passed = k.passed }
 
@@ -34,7 +34,7 @@ later_deadline net table h upto strategy = record {
   meets = λ s c has holds. strategy.meets s c has holds;
 }
 
--- and with fewer constraints
+-- a strategy stays one with fewer constraints
 pub fewer_constraints : (net : Network) (table : Table) (cs : List Constraint) →
     ((c : Constraint) → Contains cs c → Contains net.constraints c) → IsStrategy net table →
     IsStrategy (with_list net cs) table

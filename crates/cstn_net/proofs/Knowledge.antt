@@ -1,4 +1,4 @@
--- What is known in a schedule, and what bounds say by it.
+-- What is known in a schedule, and which bounds hold by it.
 use Rattle.std.proofs.Common.{ℕ, ◌≡◌, ◌⊎◌, inl, inr, ◌+◌, ◌<◌, ◌≤◌, Some, None, arith, refl, sym, subst, ◌∙◌}
 use Rattle.std.specs.Prelude.{pos, ◌≤ℤ◌, ◌↔◌}
 use Rattle.std.proofs.lemmas.Bool.{cases_lt}
@@ -18,7 +18,7 @@ observer_within net x p o = elim (cases_lt x (count net)) [
   | inr past ↦ let e : None ≡ Some p = sym (get_or_past net.observes x None past) ∙ o.what in cc
 ]
 
--- a time-point observes one proposition
+-- a time-point observes at most one proposition
 pub one_observed : (net : Network) (x p q : ℕ) → Observes net x p → Observes net x q → p ≡ q
 one_observed net x p q o r =
     let one = o.what in
@@ -31,7 +31,7 @@ known_later net at t u p upto k =
     let passed = k.passed in
     record { observer = k.observer; observes = k.observes; passed = omega arith }
 
--- a scenario agrees with what is known in itself
+-- a scenario agrees with what is known in it
 pub agrees_itself : (net : Network) (at : Schedule) (t : ℕ) (s : Scenario) → Agrees net at t s s
 agrees_itself net at t s = λ p k. refl
 
@@ -39,7 +39,7 @@ pub agrees_earlier : (net : Network) (at : Schedule) (t u : ℕ) (s r : Scenario
     Agrees net at u s r → Agrees net at t s r
 agrees_earlier net at t u s r upto agrees = λ p k. agrees p (known_later net at t u p upto k)
 
--- a proposition that a time-point observes is known by the time, or it isn't
+-- the reaction of an observed proposition has passed at t, or it hasn't and the proposition isn't known
 pub known_or_not : (net : Network) (at : Schedule) (t x p : ℕ) → IsNetwork net → Observes net x p →
     (at x + net.reaction p ≤ t) ⊎ ((t < at x + net.reaction p) × (IsKnown net at t p → ⊥))
 known_or_not net at t x p good o = elim (cases_lt t (at x + net.reaction p)) [
@@ -63,7 +63,7 @@ known_when_passed net at t x p good o = (
   (λ passed. record { observer = x; observes = o; passed = passed }),
 )
 
--- what a time-point observes isn't known at its own moment
+-- what a time-point observes isn't known yet at the time-point's own moment
 pub unknown_at_observer : (net : Network) (at : Schedule) (x p : ℕ) → IsNetwork net → Observes net x p →
     IsKnown net at (at x) p → ⊥
 unknown_at_observer net at x p good o known =
@@ -78,17 +78,17 @@ pub flipped : (net : Network) (at : Schedule) (t : ℕ) (s : Scenario) (a : Labe
 flipped net at t s a plain possible =
     (made_true a s, made_agrees (IsKnown net at t) s a possible, made_holds a s plain)
 
--- what holds in a scenario that agrees with what is known is possible
+-- a label that holds in a scenario that agrees with what is known is possible
 pub holds_possible : (net : Network) (at : Schedule) (t : ℕ) (s r : Scenario) (a : Label) → Agrees net at t s r → Holds r a →
     IsPossible (IsKnown net at t) s a
 holds_possible net at t s r a agrees holds p k = subst (λ v. MarkFits v (a p)) (agrees p k) (holds p)
 
--- a time-point is at 0 or later
+-- the bound 0 with the empty label holds in every table
 pub base_holds : (net : Network) (table : Table) (x : ℕ) →
     HoldsIn net table (record { node = x; least = pos 0; label = empty })
 base_holds net table x = record { holds = λ s possible. omega (arith, ints) }
 
--- a bound that holds makes each one hold that it dominates
+-- where a bound holds, each bound that it dominates holds
 pub dominated_holds : (net : Network) (table : Table) (a b : Bound) → Dominates a b → HoldsIn net table a →
     HoldsIn net table b
 dominated_holds net table a b over h = record {

@@ -11,7 +11,7 @@ only_holds : (s : Scenario) (m : Mark) → MarkFits (s 0) m → Holds s (only m)
 only_holds s m h zero = h
 only_holds s m h (suc p) = tt
 
--- nothing is known while X is at 3 or earlier and P at 3 or later
+-- where X is at 3 or earlier and P is at 3 or later, nothing is known at the moment of X
 unknown : (at : Schedule) (x p : ℕ) → at 2 ≤ 3 → 3 ≤ at 1 → get_or late.observes x None ≡ Some p → at x + 1 ≤ at 2 → ⊥
 unknown at zero p early waits observes passed = cc
 unknown at (suc zero) p early waits observes passed = omega arith
@@ -30,7 +30,7 @@ module _ (table : Table) (h : IsStrategy late table) where
       let met = h.meets (λ p. false) observed_late (2, omega arith, refl) (λ p. tt) in
       omega (arith, ints)
 
-  -- so X is at the same moment where p is true
+  -- X is at the same moment where p is true as where p is false, since p isn't known by then
   same : table (λ p. true) 2 ≡ table (λ p. false) 2
   same = h.dynamic (λ p. false) (λ p. true) 2 (omega arith) (λ p known.
       absurd (unknown (table (λ p. false)) known.observer p early waits known.observes.what known.passed))

@@ -13,7 +13,7 @@ none_in zero k = refl
 none_in (suc n) zero = refl
 none_in (suc n) (suc k) = none_in n k
 
--- nothing is linked
+-- without constraints, the links are right where each chain is empty
 pub none_linked : (n : ℕ) → AreLinked [] (replicate n None) []
 none_linked n = record {
   long = refl;
@@ -94,7 +94,7 @@ module _ (xs : List ℕ) (y : ℕ) where
   nothing_after_new x k from inside at = let long = longer in omega arith
 
 module _ (xs : List ℕ) (chains : List (Option Chain)) (nexts : List (Option ℕ)) (y : ℕ) (inside : y < length chains) (linked : AreLinked xs chains nexts) where
-  -- the chains, of which that of y is another
+  -- the chains stay right when y gets a chain that is right for it
   chains_with : (o : Option Chain) → IsChain y (xs ++ y ∷ []) o → (x : ℕ) → x < length (set chains y o) →
       IsChain x (xs ++ y ∷ []) (get_or (set chains y o) x None)
   chains_with o at_y x within = elim (cases_eq x y) [
@@ -122,7 +122,7 @@ module _ (xs : List ℕ) (chains : List (Option Chain)) (nexts : List (Option �
       (subst (λ n. IsNextPlace (get_or (xs ++ y ∷ []) k 0) (n + 1) (xs ++ y ∷ []) None) (sym is)
       (nothing_after_new xs y (get_or (xs ++ y ∷ []) k 0)))
 
-  -- y had no chain yet
+  -- the first constraint that ends at y begins the chain of y
   pub chain_begun : (m : ℕ) → m ≡ length xs → get_or chains y None ≡ None →
       AreLinked (xs ++ y ∷ []) (set chains y (Some (record { first = m; last = m }))) (nexts ++ None ∷ [])
   chain_begun m at none =
@@ -138,7 +138,7 @@ module _ (xs : List ℕ) (chains : List (Option Chain)) (nexts : List (Option �
         ];
       }
 
-  -- y had one
+  -- a further constraint that ends at y extends the chain of y
   pub chain_grown : (m : ℕ) (c : Chain) → m ≡ length xs → get_or chains y None ≡ Some c →
       AreLinked (xs ++ y ∷ []) (set chains y (Some (record { first = c.first; last = m }))) (set (nexts ++ None ∷ []) c.last (Some m))
   chain_grown m c at some =
@@ -170,7 +170,7 @@ module _ (xs : List ℕ) (chains : List (Option Chain)) (nexts : List (Option �
         ];
       }
 
--- from the place of x that comes next, the constraints that end at x are those that are left from `low` on
+-- a walk at the next place of x from `low` on has ahead of it the constraints that end at x from `low` on
 pub left_from : (x low : ℕ) (cs : List Constraint) (o : Option ℕ) → IsNextPlace x low (ends cs) o → left_to x o cs ≡ filter (ends_at x) (drop low cs)
 left_from x low [] None none = sym (ap (filter (ends_at x)) (drop-nil low))
 left_from x zero (c ∷ cs) None none =
@@ -196,24 +196,24 @@ left_from x (suc low) (c ∷ cs) (Some (suc p)) h =
       skipped = λ k from before at. h.skipped (suc k) (omega arith) (omega arith) at;
     })
 
--- where a constraint ends at x, it is the first of those that are left from its place on
+-- a walk at the place of a constraint that ends at x has ahead of it this constraint, and then those that come after it
 pub left_here : (x p : ℕ) (cs : List Constraint) (d : Constraint) → p < length cs → (get_or cs p d).to.0 ≡ x →
     left_to x (Some p) cs ≡ get_or cs p d ∷ filter (ends_at x) (drop (suc p) cs)
 left_here x p [] d inside at = absurd (omega arith)
 left_here x zero (c ∷ cs) d inside at = rw (eq-eqb c.to.0 x at) refl
 left_here x (suc p) (c ∷ cs) d inside at = left_here x p cs d (omega arith) at
 
--- the end of the constraint at a place
+-- the list of ends has at each place the end of the constraint there
 pub end_at : (cs : List Constraint) (p : ℕ) (d : Constraint) → p < length cs → get_or (ends cs) p 0 ≡ (get_or cs p d).to.0
 end_at cs p d inside = get_or-map (λ c. c.to.0) cs p d 0 inside
 
--- a place that comes next is that of a constraint that ends at x
+-- the next place of x is that of a constraint that ends at x
 pub visited : (x low p : ℕ) (cs : List Constraint) → IsNextPlace x low (ends cs) (Some p) → (p < length cs) × HoldsAt (λ c. c.to.0 ≡ x) cs p
 visited x low p cs h =
     let inside : p < length cs = let inside = h.inside in omega (arith, length-map cs (λ c. c.to.0)) in
     (inside, λ d. sym (end_at cs p d inside) ∙ h.here)
 
--- the step of a walk
+-- a walk at a constraint has ahead of it this constraint, and then what it has ahead at the next place
 pub walk_on : (x p : ℕ) (cs : List Constraint) (c : Constraint) (o : Option ℕ) → p < length cs → c ≡ get_or cs p c → c.to.0 ≡ x →
     IsNextPlace (get_or (ends cs) p 0) (p + 1) (ends cs) o → left_to x (Some p) cs ≡ c ∷ left_to x o cs
 walk_on x p cs c o inside is to next =

@@ -1,11 +1,12 @@
--- Facts on lists and the lists that a function makes of them.
+-- Facts on lists and on what `map` makes of them.
 use Rattle.std.proofs.Common.{suc, ◌≡◌, inl, inr, ◌<◌, Bool, false, Some, None, List, [], ◌∷◌, length, get_or, map, cond, arith, subst}
 use Rattle.std.specs.List.{All, AllPairs, position, position_or_len}
 use Rattle.std.proofs.lemmas.Bool.{cases_lt, lt-ltb}
 use Rattle.std.proofs.lemmas.List.{get_or-map, length-map}
 use Rattle.std.proofs.lemmas.List.Sums.{fails_before_first}
 
--- what is so of each element's image is so of each image, and the other way round
+-- what holds of all elements or pairs of `map f xs` holds of the images of all elements or pairs of xs, and the other way
+-- round
 pub all_unmap : {X Y : Type 0} (P : Y → Type 0) (f : X → Y) (xs : List X) → All P (map f xs) → All (λ x. P (f x)) xs
 all_unmap P f xs all = λ k d inside.
     let there : k < length (map f xs) = rw (length-map xs f) inside in

@@ -1,4 +1,5 @@
--- Whatever a strategy does in all scenarios, it does in those of the observed propositions.
+-- Strategies on the network's own scenarios, and strategies on all scenarios: one exists where the other does, with the same
+-- least moments.
 use Rattle.std.proofs.Common.{ℕ, zero, suc, ◌≡◌, ◌<◌, ◌≤◌, Bool, true, false, ◌&&◌, ◌||◌, inl, inr, List, [], ◌∷◌, Option, Some, None, get_or, arith, refl, sym, subst, ap, ◌∙◌}
 use Rattle.std.specs.Prelude.{◌↔◌}
 use Rattle.std.specs.List.{list_any}
@@ -45,17 +46,17 @@ found_at (o ∷ os) p zero e = or_first (is_just p o) (list_any (is_just p) os) 
 found_at (o ∷ os) p (suc x) e = or_second (is_just p o) (list_any (is_just p) os) (found_at os p x e)
 
 module _ (net : Network) where
-  -- what is observed keeps its value
+  -- an observed proposition keeps its value in `observed_alone`
   pub kept_value : (s : Scenario) (x p : ℕ) → Observes net x p → observed_alone net s p ≡ s p
   kept_value s x p o = ap (λ b. b && s p) (found_at net.observes p x o.what)
 
-  -- the result is a scenario of the network
+  -- `observed_alone` gives a scenario of the network
   pub is_own : (s : Scenario) → IsScenarioOf net (observed_alone net s)
   is_own s p e =
       let found = place_of net.observes p (and_parts (is_observed net p) (s p) e).0 in
       (found.0, record { what = found.1 })
 
-  -- and a scenario of the network stays as it is
+  -- `observed_alone` leaves a scenario of the network as it is
   pub own_same : (s : Scenario) → IsScenarioOf net s → observed_alone net s ≡ s
   own_same s own = fun_ext (λ p. elim (cases_Bool (s p)) [
     | inl so ↦ kept_value s (own p so).0 p (own p so).1
@@ -65,7 +66,7 @@ module _ (net : Network) where
       both_false : (b c : Bool) → c ≡ false → (b && c) ≡ c
       both_false b c e = grind arith
 
-  -- a label on observed propositions holds in both or in neither
+  -- a label on observed propositions that holds in a scenario holds in its `observed_alone`
   pub own_holds : (s : Scenario) (a : Label) → IsOnObserved net a → Holds s a → Holds (observed_alone net s) a
   own_holds s a observed holds p = elim (absent_or_not (a p)) [
     | inl gone ↦ fits_absent (observed_alone net s p) (a p) gone
@@ -74,7 +75,7 @@ module _ (net : Network) where
         subst (λ v. MarkFits v (a p)) (sym (kept_value s o.0 p o.1)) (holds p)
   ]
 
-  -- a strategy is one on the network's scenarios
+  -- a strategy is also one on the network's scenarios alone
   pub restricted : (table : Table) → IsStrategy net table → IsStrategyOnObserved net table
   restricted table h = record {
     within = λ s x own here. h.within s x here;

@@ -33,7 +33,7 @@ no_observers = record {
   first = λ p x e. cc;
 }
 
--- what stands in a list stands there still when one more is appended
+-- what stands in a list stays at its place when one more element is appended
 old_there : (xs : List (Option ℕ)) (o : Option ℕ) (y p : ℕ) → get_or xs y None ≡ Some p → get_or (xs ++ o ∷ []) y None ≡ Some p
 old_there [] o y p e = cc
 old_there (x ∷ xs) o zero p e = e
@@ -165,7 +165,7 @@ reaction_none [] p none = refl
 reaction_none (t ∷ ts) p none =
     rw (is_prop_other p (observed t) (none 0)) (reaction_none ts p (λ x there. none (suc x) there))
 
--- the reaction by the table of observers
+-- the reaction of a proposition is that of its observer in the table
 pub reaction_by : (points : List TimePoint) (table : List (Option NodeId)) (p : ℕ) (x : NodeId) (d : TimePoint) →
     KnowsObservers (map observed points) table → get_or table p None ≡ Some x →
     reaction_of points p ≡ (get_or points x.0 d).reaction
@@ -189,7 +189,8 @@ same_node : (x y : NodeId) → x.0 ≡ y.0 → x ≡ y
 same_node x y e = ap {B = NodeId} (λ n. record { 0 = n }) e
 
 module _ (observes : List (Option ℕ)) (table : List (Option NodeId)) (h : KnowsObservers observes table) (x : NodeId) (o : Option ℕ) (at_x : get_or observes x.0 None ≡ o) where
-  -- a time-point that isn't the first observer of its proposition is the second of the first twins, where none are before
+  -- where no two earlier time-points observe one proposition, a time-point that isn't the first observer of its proposition
+  -- is the second of the first twins
   pub twins_here : (p : ℕ) (y : NodeId) → (HasTwins observes x.0 → ⊥) → IsTwin table o x p y →
       AreFirstTwins observes p y.0 x.0
   twins_here p y none twin =
@@ -228,7 +229,7 @@ module _ (observes : List (Option ℕ)) (table : List (Option NodeId)) (h : Know
         })
   ]
 
--- what a time-point observes
+-- the list of what is observed has at each place what the time-point there observes
 pub observed_at : (points : List TimePoint) (i : ℕ) (t : TimePoint) → i < length points → t ≡ get_or points i t →
     get_or (map observed points) i None ≡ observed t
 observed_at points i t inside is = get_or-map observed points i t None inside ∙ ap observed (sym is)

@@ -19,7 +19,7 @@ all_hold net good none c has s p = elim (absent_or_not (c.label p)) [
       absurd (none o.0 p o.1)
 ]
 
--- where nothing is observed, a strategy is one schedule
+-- a network that observes nothing is consistent exactly where there is a schedule of it
 pub plain_strategy : (net : Network) → IsNetwork net → ((x p : ℕ) → Observes net x p → ⊥) →
     IsConsistent net ↔ ((at : Schedule) × IsSchedule net at)
 plain_strategy net good none = (
@@ -40,7 +40,7 @@ plain_strategy net good none = (
   )),
 )
 
--- nothing is known where nothing is observed, so all rows are one
+-- where nothing is observed, nothing is ever known, so all rows of a strategy are the same
 pub plain_rows : (net : Network) → IsNetwork net → ((x p : ℕ) → Observes net x p → ⊥) → (table : Table) →
     IsStrategy net table ↔ (((s : Scenario) → IsSchedule net (table s)) ×
     ((s r : Scenario) (x : ℕ) → x < count net → table r x ≡ table s x))
@@ -59,7 +59,7 @@ plain_rows net good none table = (
   }),
 )
 
--- and a least moment is that of the earliest schedule
+-- where nothing is observed, a least moment is the least in any schedule
 pub plain_least : (net : Network) → IsNetwork net → ((x p : ℕ) → Observes net x p → ⊥) → (s : Scenario) (x t : ℕ) →
     IsLeast net s x t ↔ (((at : Schedule) × IsSchedule net at × (at x ≡ t)) × ((at : Schedule) → IsSchedule net at → t ≤ at x))
 plain_least net good none s x t = (

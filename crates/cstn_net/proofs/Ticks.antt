@@ -75,7 +75,7 @@ coarse_well_formed = is_well_formed 3 (pos 1) (negsuc 1) (omega arith) (search r
 pub fine_well_formed : IsWellFormed fine
 fine_well_formed = is_well_formed 6 (pos 2) (negsuc 3) (omega arith) (search rules) (search rules)
 
--- the scenario of two values
+-- the scenario in which the propositions 0 and 1 have these values, and no other is true
 values : Bool → Bool → Scenario
 values p q zero = p
 values p q (suc zero) = q
@@ -86,7 +86,7 @@ both_hold s m n h k zero = h
 both_hold s m n h k (suc zero) = k
 both_hold s m n h k (suc (suc p)) = tt
 
--- q isn't known within a tick, where Q is at 1 or later
+-- where Q is at 1 or later, q isn't known at 1
 unknown : (at : Schedule) (x : ℕ) → 1 ≤ at 2 → get_or coarse.observes x None ≡ Some 1 → at x + 1 ≤ 1 → ⊥
 unknown at zero waits observes passed = cc
 unknown at (suc zero) waits observes passed = cc
@@ -135,7 +135,7 @@ module _ (table : Table) (h : IsStrategy coarse table) where
   same_values (suc zero) x observes passed = absurd (unknown (table (values false false)) x q_waits observes passed)
   same_values (suc (suc p)) x observes passed = refl
 
-  -- so X is at one moment by q
+  -- q isn't known at the moment of X, so X can't be early where q is false and late where q is true
   pub coarse_refuted : ⊥
   coarse_refuted =
       let early = x_early in
@@ -171,7 +171,7 @@ x_after_p true q = omega arith
 x_after_p false true = omega arith
 x_after_p false false = omega arith
 
--- X is at the same moment by the same p, and where that is false by the same q
+-- X is at the same moment in scenarios with the same p and, where q is known by then, the same q
 x_same : (p q r : Bool) → (fine_q p + 1 ≤ fine_x p q → r ≡ q) → fine_x p r ≡ fine_x p q
 x_same true q r told = refl
 x_same false true r told = ap (fine_x false) (told (omega arith))

@@ -4,7 +4,7 @@ use Rattle.std.specs.List.{All, AllPairs}
 use Rattle.std.proofs.lemmas.List.Elements.{All-weaker}
 use Rattle.cstn_net.specs.Networks.{Network, Constraint, Observes, IsConstraint, IsValue, IsWellFormed}
 
--- what a network observes doesn't rest on its constraints
+-- what a network observes doesn't depend on its constraints
 pub observes_alike : (net : Network) (cs : List Constraint) (x p : ℕ) → Observes (record net { constraints = cs }) x p →
     Observes net x p
 observes_alike net cs x p o = record { what = o.what }
@@ -36,7 +36,7 @@ well_formed_by net deadline h in_time = record {
   in_time = in_time;
 }
 
--- nor does what is a constraint of it
+-- what is a constraint of a network doesn't depend on the network's other constraints
 pub constraint_with : (net : Network) (cs : List Constraint) (c : Constraint) → IsConstraint net c →
     IsConstraint (record net { constraints = cs }) c
 constraint_with net cs c h = record {

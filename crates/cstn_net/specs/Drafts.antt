@@ -22,7 +22,7 @@ pub record BuilderParts : Type 0 where
 abbrev pub observations : BuilderParts → List (Option ℕ)
 observations b = map observed b.points
 
--- the time-points, of which the one with this number has another reaction
+-- the time-points, with the reaction of number `node` set to `ticks`
 abbrev pub with_reaction : ℕ → ℕ → List TimePoint → List TimePoint
 with_reaction node ticks [] = []
 with_reaction zero ticks (t ∷ ts) = record t { reaction = ticks } ∷ ts
@@ -37,7 +37,7 @@ abbrev pub constraints_from : ℕ → List Draft → List Constraint
 constraints_from k [] = []
 constraints_from k (d ∷ ds) = constraint_of k d ∷ constraints_from (k + 1) ds
 
--- the ends are two of the first n time-points
+-- both ends are among the first n time-points
 abbrev pub IsDraftAmong : ℕ → Draft → Type 0
 IsDraftAmong n d = (d.from < n) × (d.to < n)
 
@@ -47,7 +47,7 @@ pub record IsFirst {X : Type 0} (P : X → Type 0) (xs : List X) (k : ℕ) : Typ
   pub here : HoldsAt P xs k
   pub before : All (λ x. P x → ⊥) (take k xs)
 
--- p is the least number at which the fact holds of the first x at which it holds of some number
+-- at the first element for which the fact holds of some number, p is the least such number
 pub record IsLeastOfFirst {X : Type 0} (P : ℕ → X → Type 0) (xs : List X) (p : ℕ) : Type 0 where
   pub place : ℕ
   pub first : IsFirst (λ x. (q : ℕ) × P q x) xs place
@@ -80,7 +80,7 @@ pub record AreFirstTwins (observes : List (Option ℕ)) (p first second : ℕ) :
 abbrev pub HasReaction : TimePoint → Type 0
 HasReaction t = IsSome t.observes → (0 < t.reaction) × (t.reaction ≤ 1000)
 
--- what each refusal says of a builder
+-- the builder has the fault that the refusal names
 abbrev pub HasFault : BuilderParts → NetError → Type 0
 HasFault b TooManyNodes = 1024 < length b.points
 HasFault b NoOrigin = length b.points ≡ 0

@@ -1,4 +1,4 @@
--- Small networks whose strategies are known, and some that have none. The proposition 0 is called p here, and 1 is called q.
+-- Small networks, two with a strategy and two without one. The proposition 0 is called p here, and 1 is called q.
 use Rattle.std.specs.Prelude.{ℕ, zero, suc, Bool, true, false, [], ◌∷◌, ◌++◌, Some, None, ℤ, pos, negsuc}
 use Rattle.cstn_label.specs.declared.marks.Mark.{Mark}
 use Rattle.cstn_label.specs.declared.marks.Mark.TheVariants.{Absent, Yes, No}
@@ -53,8 +53,8 @@ both m n zero = m
 both m n (suc zero) = n
 both m n (suc (suc p)) = Absent
 
--- Z, P, which observes p, Q, which observes q, and X. Where p is false Q is early, and X is early or late by q; where p is true
--- Q is late.
+-- Z, P, which observes p, Q, which observes q, and X. Where p is true, Q is late. Where p is false, Q is early, and X is
+-- early where q is false and late where q is true.
 abbrev pub split : ℕ → ℤ → ℤ → Network
 split deadline early late_by = record {
   deadline = deadline;
@@ -67,11 +67,11 @@ split deadline early late_by = record {
       (record { id = 3; from = 3; to = 0; most = late_by; label = both No Yes } ∷ [])));
 }
 
--- early is 1 or earlier, late is 2 or later
+-- the network `split` with deadline 3, where early is 1 or earlier, and late is 2 or later
 abbrev pub coarse : Network
 coarse = split 3 (pos 1) (negsuc 1)
 
--- the same with every value doubled, and the reactions left
+-- the network `coarse` with the deadline and every value doubled; the reactions stay one tick
 abbrev pub fine : Network
 fine = split 6 (pos 2) (negsuc 3)
 
@@ -86,7 +86,7 @@ fine_x true q = 1
 fine_x false true = 4
 fine_x false false = 2
 
--- P is at 0, Q waits for p, and X for p, and where that is false for q
+-- P is at 0, Q waits for p, and X waits for p and, where p is false, also for q
 abbrev pub fine_table : Table
 fine_table s zero = 0
 fine_table s (suc zero) = 0

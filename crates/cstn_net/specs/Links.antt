@@ -24,7 +24,7 @@ IsNextPlace x low xs (Some p) = IsPlaceOf x low xs p
 abbrev pub ends_at : ℕ → Constraint → Bool
 ends_at x c = c.to.0 == x
 
--- what is left of the constraints that end at x when a walk along them stands at a place, or has come to its end
+-- of the constraints that end at x, those from the place of a walk on; none where the walk has come to its end
 abbrev pub left_to : ℕ → Option ℕ → List Constraint → List Constraint
 left_to x None cs = []
 left_to x (Some p) cs = filter (ends_at x) (drop p cs)
@@ -40,7 +40,8 @@ abbrev pub IsChain : ℕ → List ℕ → Option Chain → Type 0
 IsChain x xs None = IsNextPlace x 0 xs None
 IsChain x xs (Some c) = IsPlaceOf x 0 xs c.first × IsLastPlace x xs c.last
 
--- each time-point has the chain of its places, and each place the next one of the same time-point
+-- `chains` has the first and the last place of each time-point, and `nexts` has the next place of the same time-point for
+-- each place
 pub record AreLinked (xs : List ℕ) (chains : List (Option Chain)) (nexts : List (Option ℕ)) : Type 0 where
   pub long : length nexts ≡ length xs
   pub chained : (x : ℕ) → x < length chains → IsChain x xs (slice_index_or chains x None)

@@ -13,7 +13,7 @@ pub record Constraint : Type 0 where
   pub label : Label
 
 -- the time-points are numbered from 0, the origin; `observes` has the proposition that each of them observes, if any, and
--- `reaction` the ticks after its observer at which a proposition is known
+-- `reaction` has the ticks from the execution of a proposition's observer until the proposition is known
 pub record Network : Type 0 where
   pub deadline : ℕ
   pub observes : List (Option ℕ)
@@ -41,7 +41,7 @@ IsOnObserved net a = (p : ℕ) → a p ≢ Absent → (x : ℕ) × Observes net 
 abbrev pub IsUnobserved : Network → Label → ℕ → Type 0
 IsUnobserved net a p = (a p ≢ Absent) × ((x : ℕ) → Observes net x p → ⊥)
 
--- and it is the least such proposition
+-- the proposition is the least that the label names and nothing observes
 abbrev pub IsLeastUnobserved : Network → Label → ℕ → Type 0
 IsLeastUnobserved net a p = IsUnobserved net a p × ((q : ℕ) → q < p → IsUnobserved net a q → ⊥)
 
@@ -52,8 +52,8 @@ pub record IsConstraint (net : Network) (c : Constraint) : Type 0 where
   pub plain : IsPlain c.label
   pub observed : IsOnObserved net c.label
 
--- there is an origin, a proposition has at most one observer and a reaction of a tick or more, and each constraint is one
--- of the network
+-- there is an origin, a proposition has at most one observer and a reaction of a tick or more, and each constraint has its
+-- ends and its propositions in the network
 pub record IsNetwork (net : Network) : Type 0 where
   pub origin : 0 < count net
   pub one_observer : (x y p : ℕ) → Observes net x p → Observes net y p → x ≡ y

@@ -1,4 +1,4 @@
--- The table of the time-points that observe each proposition.
+-- The table of observers, which has the first time-point that observes each proposition.
 use Rattle.std.specs.Prelude.{ℕ, ◌≡◌, ◌≢◌, ◌≤◌, List, Option, None, Some, is_some, length, slice_index_or, slice_set, map, if◌then◌else◌}
 use Rattle.cstn_label.specs.declared.marks.Mark.TheVariants.{Absent}
 use Rattle.cstn_label.specs.declared.nodes.NodeId.{NodeId}
@@ -16,7 +16,7 @@ pub record KnowsObservers (observes : List (Option ℕ)) (table : List (Option N
   pub first : (p x : ℕ) → slice_index_or observes x None ≡ Some p →
       (y : NodeId) × (slice_index_or table p None ≡ Some y) × (y.0 ≤ x)
 
--- the table after a further time-point
+-- the table with the time-point x entered as the observer of this proposition, unless the proposition has one already
 abbrev pub noted : List (Option NodeId) → NodeId → Option ℕ → List (Option NodeId)
 noted table x None = table
 noted table x (Some p) = if is_some (slice_index_or table p None) then table else slice_set table p (Some x)
@@ -32,7 +32,7 @@ pub record IsTwin (table : List (Option NodeId)) (observes : Option ℕ) (x : No
   pub first : slice_index_or table p None ≡ Some y
   pub other : y ≢ x
 
--- what a network of the program keeps
+-- what stays true of a network of the program: its table of observers is right, it is well-formed, and its links are right
 pub record IsKept (deadline : ℕ) (points : List TimePoint) (table : List (Option NodeId)) (constraints : List Constraint) (chains : List (Option Chain)) (nexts : List (Option ℕ)) : Type 0 where
   pub observers : KnowsObservers (map observed points) table
   pub well_formed : IsWellFormed (the_network (record { deadline = deadline; points = points; constraints = constraints; spare = 0 }))

@@ -1,4 +1,4 @@
--- How the values of the program are read.
+-- How the program's networks and constraints are read as those of the definitions.
 use Rattle.std.specs.Prelude.{ℕ, Bool, false, ◌==◌, ◌<◌, List, [], ◌∷◌, Option, Some, None, map, option_map, if◌then◌else◌, not, ℤ}
 use Rattle.std.specs.List.{filter}
 use Rattle.cstn_label.specs.Read.{marks}
@@ -13,7 +13,7 @@ pub record NetworkParts : Type 0 where
   pub constraints : List Constraint
   pub spare : ℕ
 
--- a constraint's parts and marks
+-- a constraint, with its ends as numbers and its label as marks
 abbrev pub the_constraint : Constraint → TheConstraint
 the_constraint c = record { id = c.id; from = c.from.0; to = c.to.0; most = c.most; label = marks c.label }
 
@@ -26,7 +26,7 @@ abbrev pub is_prop : ℕ → Option ℕ → Bool
 is_prop p None = false
 is_prop p (Some q) = q == p
 
--- the reaction of the time-point that observes p, and 1 where none does
+-- the reaction of the first time-point that observes p, and 1 where none does
 abbrev pub reaction_of : List TimePoint → ℕ → ℕ
 reaction_of [] p = 1
 reaction_of (t ∷ ts) p = if is_prop p (observed t) then t.reaction else reaction_of ts p

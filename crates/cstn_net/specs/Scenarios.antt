@@ -5,7 +5,7 @@ use Rattle.cstn_label.specs.Labels.{Scenario, Holds}
 use Rattle.cstn_net.specs.Networks.{Network, Constraint, Observes, count, limit}
 use Rattle.cstn_net.specs.Strategies.{Table, Agrees, Meets}
 
--- what is observed, if anything is, is p
+-- what a time-point observes, if anything, is p
 abbrev pub is_just : ℕ → Option ℕ → Bool
 is_just p None = false
 is_just p (Some q) = q == p
@@ -14,7 +14,7 @@ is_just p (Some q) = q == p
 abbrev pub is_observed : Network → ℕ → Bool
 is_observed net p = list_any (is_just p) net.observes
 
--- a scenario of the network: in it no other proposition is true than observed ones
+-- a scenario of the network: only observed propositions are true in it
 abbrev pub IsScenarioOf : Network → Scenario → Type 0
 IsScenarioOf net s = (p : ℕ) → s p ≡ true → (x : ℕ) × Observes net x p
 
@@ -30,7 +30,7 @@ pub record IsStrategyOnObserved (net : Network) (table : Table) : Type 0 where
   pub meets : (s : Scenario) (c : Constraint) → IsScenarioOf net s → Contains net.constraints c → Holds s c.label →
       Meets (table s) c
 
--- t is the least moment of x in the scenario s of the network, where its scenarios alone are looked at
+-- t is the least moment of x in s, among the tables that are strategies on the network's scenarios
 pub record IsLeastOnObserved (net : Network) (s : Scenario) (x t : ℕ) : Type 0 where
   pub reached : (table : Table) × IsStrategyOnObserved net table × (table s x ≡ t)
   pub least : (table : Table) → IsStrategyOnObserved net table → t ≤ table s x

@@ -12,7 +12,7 @@ Schedule = ℕ → ℕ
 abbrev pub Table : Type 0
 Table = Scenario → Schedule
 
--- a table is one of the network where each moment is within the time-point's limit
+-- a table of the network: each moment is within the time-point's limit
 abbrev pub IsTable : Network → Table → Type 0
 IsTable net table = (s : Scenario) (x : ℕ) → x < count net → table s x ≤ limit net x
 
@@ -26,18 +26,18 @@ pub record IsKnown (net : Network) (at : Schedule) (t p : ℕ) : Type 0 where
 abbrev pub Agrees : Network → Schedule → ℕ → Scenario → Scenario → Type 0
 Agrees net at t s r = (p : ℕ) → IsKnown net at t p → r p ≡ s p
 
--- a table is dynamic where a moment rests on what is known then alone: a scenario that agrees with what is known when x is
--- executed has x at that moment too
+-- a table is dynamic where each moment depends only on what is known then: in every scenario that agrees with what is known
+-- when x is executed, x is executed at the same moment
 abbrev pub IsDynamic : Network → Table → Type 0
 IsDynamic net table =
     (s r : Scenario) (x : ℕ) → x < count net → Agrees net (table s) (table s x) s r → table r x ≡ table s x
 
--- a scenario that agrees with what is known when x is executed has x no later
+-- in every scenario that agrees with what is known when x is executed, x is executed no later
 abbrev pub IsNeverLater : Network → Table → Type 0
 IsNeverLater net table =
     (s r : Scenario) (x : ℕ) → x < count net → Agrees net (table s) (table s x) s r → table r x ≤ table s x
 
--- in the schedule, `to` is at most `most` after `from`
+-- in the schedule, `to` is at most `most` ticks after `from`
 abbrev pub Meets : Schedule → Constraint → Type 0
 Meets at c = (pos (at c.to) -ℤ pos (at c.from)) ≤ℤ c.most
 

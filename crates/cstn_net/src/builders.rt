@@ -42,7 +42,7 @@ impl Model for Builder {
 }
 
 impl Builder {
-    /// No time-points and no constraints yet. The deadline is in ticks.
+    /// A builder with this deadline, in ticks, and no time-points or constraints yet.
     pub fn new(alloc: Global, deadline: u32) -> Builder
         ensures new { result ≡ record { deadline = deadline; points = []; drafts = [] } }
     {
@@ -69,7 +69,7 @@ impl Builder {
         Ok(number)
     }
 
-    /// Sets the ticks after which the outcome of a time-point is known, by its number. `close` judges them.
+    /// Sets the reaction of the time-point with this number, in ticks. `close` checks its range.
     pub fn react(&mut self, node: u32, ticks: u32)
         requires { node < length self.old.points }
         ensures react { self.new ≡ record self.old { points = with_reaction node ticks self.old.points } }
@@ -77,7 +77,8 @@ impl Builder {
         self.points[node as usize].reaction = ticks;
     }
 
-    /// Adds a constraint between two time-points by their numbers, and answers its id. `close` judges `most` and the label.
+    /// Adds a constraint between two time-points by their numbers, and answers its id. `most` is in ticks; `close` checks it
+    /// and the label.
     pub fn constrain(
         &mut self,
         from: u32,
@@ -102,7 +103,8 @@ impl Builder {
         Ok(id)
     }
 
-    /// Makes the network of exactly what was handed in, with ids from 0 in the order of the constraints.
+    /// Makes the network of exactly what was handed in, with ids from 0 in the order of the constraints. Refuses a builder
+    /// that has a fault.
     pub fn close(self) -> Result<Network, NetError>
         ensures deadline { IfOk result (λ n. n.deadline ≡ self.deadline) }
         ensures points { IfOk result (λ n. n.points ≡ self.points) }
@@ -110,7 +112,8 @@ impl Builder {
         ensures spare { IfOk result (λ n. n.spare ≡ 0) }
         ensures well_formed { IfOk result (λ n. IsWellFormed (the_network n)) }
 
-        // It is refused exactly where it has a fault, and then for the lowest, but for want of memory.
+        // Unless memory is refused, a builder is refused exactly where it has a fault, and then for the one with the lowest
+        // number.
         ensures faultless { IfOk result (λ _. (e : NetError) → HasFault self e → ⊥) }
         ensures refused { IfErr result (IsRefusal self) }
     {
@@ -138,7 +141,7 @@ impl Builder {
         }
     }
 
-    // The lowest fault of the numbers of things.
+    // The lowest fault among N1 to N4, of the counts and the deadline; none where the builder has none of these.
     fn size_fault(&self) -> Option<NetError>
         ensures { MatchOption result (IsSized self.now) (IsLowestFault self.now) }
     {
@@ -159,7 +162,7 @@ impl Builder {
         None
     }
 
-    // The lowest fault of the constraints, the observers and the reactions.
+    // The lowest fault among N5 to N9, of the constraints, the observers and the reactions; none where the builder has none.
     fn other_fault(&self, observers: &Observers) -> Option<NetError>
         requires sized { IsSized self.now }
         requires observers { KnowsObservers (map observed self.now.points) observers.now }

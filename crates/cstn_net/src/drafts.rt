@@ -1,4 +1,4 @@
-// A constraint as it was handed in, and the constraint of a network that becomes of it.
+// Constraints as they were handed in, and the constraints of a network that are made of them.
 ghost use Rattle.std.specs.Prelude.{◌≡◌, ◌<◌, ◌≤◌, length, IfOk};
 ghost use Rattle.std.specs.List.{All};
 ghost use Rattle.cstn_net.specs.Drafts.{IsDraftAmong, constraint_of, constraints_from};
@@ -7,7 +7,7 @@ use crate::constraints::Constraint;
 use cstn_label::{Label, NodeId};
 use std::alloc::{AllocError, Global};
 
-/// A constraint as it was handed in. Its ends are among more time-points than a `NodeId` can name.
+/// A constraint as it was handed in. Its ends are `u32`, since a builder may hold more time-points than a `NodeId` can name.
 #[derive(Clone, Copy, Debug, PartialEq, Eq)]
 pub struct Draft {
     pub from: u32,

@@ -2,7 +2,8 @@ use cstn_label::{NodeId, Prop};
 use std::alloc::AllocError;
 use thiserror::Error;
 
-/// Why a builder isn't closed: the lowest number that applies, and under it the first time-point or constraint.
+/// Why `close` refuses a builder: want of memory, or of the builder's faults the one with the lowest number, at the first
+/// time-point or constraint that has it.
 #[derive(Clone, Copy, Debug, PartialEq, Eq, Error)]
 pub enum NetError {
     /// N1: there are more than 1,024 time-points.
@@ -19,12 +20,12 @@ pub enum NetError {
     DeadlineRange {
         deadline: u32,
     },
-    /// N5: the value of the first such constraint is below -1,000,000,000 or above 1,000,000,000 ticks.
+    /// N5: `constraint` is the first whose value is below -1,000,000,000 or above 1,000,000,000 ticks.
     #[error("the value of constraint {constraint} is out of range")]
     ValueRange {
         constraint: u32,
     },
-    /// N6: the least proposition that nothing observes, of the first constraint that names one.
+    /// N6: `prop` is the least unobserved proposition in the label of the first constraint that names one.
     #[error("nothing observes the proposition {}", prop.letter() as char)]
     NotObserved {
         prop: Prop,
@@ -36,17 +37,17 @@ pub enum NetError {
         first: NodeId,
         second: NodeId,
     },
-    /// N8: the label of the first such constraint isn't plain.
+    /// N8: `constraint` is the first whose label isn't plain.
     #[error("the label of constraint {constraint} isn't plain")]
     NotPlain {
         constraint: u32,
     },
-    /// N9: the first time-point that observes and has a reaction below 1 or above 1,000 ticks.
+    /// N9: `node` is the first time-point that observes and has a reaction below 1 or above 1,000 ticks.
     #[error("the reaction of the time-point {} is out of range", node.0)]
     ReactionRange {
         node: NodeId,
     },
-    /// There wasn't the memory that the network takes.
+    /// Memory for the network was refused.
     #[error("out of memory")]
     Memory(AllocError),
 }

@@ -15,13 +15,14 @@ pub fn handed_networks_are_closed()
     ensures memory { (b : BuilderParts) (net : Network) → IsWellFormed net → IsHanded b net → (e : NetError) → IsRefusal b e → number e ≡ 0 }
 {}
 
-/// Where no time-point was told another reaction, each is in range, and each proposition has one of a tick.
+/// Where each time-point has a reaction of one tick, all reactions are in range, and each proposition has a reaction of one
+/// tick.
 pub fn reactions_are_a_tick_at_first()
     ensures timely { (points : List TimePoint) → All (λ t. t.reaction ≡ 1) points → All HasReaction points }
     ensures reaction { (points : List TimePoint) → All (λ t. t.reaction ≡ 1) points → (p : ℕ) → reaction_of points p ≡ 1 }
 {}
 
-/// One more draft gives one more constraint, under the id that is the count before.
+/// One more draft gives one more constraint, whose id is the first id plus the number of drafts before it.
 pub fn drafts_are_numbered()
     ensures more { (k i : ℕ) (ds : List Draft) (d : Draft) → i ≡ k + length ds → constraints_from k (ds ++ d ∷ []) ≡ constraints_from k ds ++ constraint_of i d ∷ [] }
     ensures length { (k : ℕ) (ds : List Draft) → length (constraints_from k ds) ≡ length ds }

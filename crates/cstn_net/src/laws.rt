@@ -15,8 +15,8 @@ pub fn observers_are_time_points()
     ensures one { (net : Network) (x p q : ℕ) → Observes net x p → Observes net x q → p ≡ q }
 {}
 
-/// What is known stays known. What a time-point observes is known exactly once its reaction has passed, so not at its own
-/// moment. A scenario agrees with what is known in itself.
+/// What is known stays known. What a time-point observes is known exactly once its reaction has passed, so not yet at the
+/// time-point's own moment. Each scenario agrees with what is known in it.
 pub fn knowledge_grows()
     ensures later { (net : Network) (at : Schedule) (t u p : ℕ) → t ≤ u → IsKnown net at t p → IsKnown net at u p }
     ensures passed { (net : Network) (at : Schedule) (t x p : ℕ) → IsNetwork net → Observes net x p → (IsKnown net at t p ↔ (at x + net.reaction p ≤ t)) }
@@ -24,9 +24,10 @@ pub fn knowledge_grows()
     ensures reflexive { (net : Network) (at : Schedule) (t : ℕ) (s : Scenario) → Agrees net at t s s }
 {}
 
-/// What is within a possible label is possible, a join is possible where both labels are, and what was ruled out stays ruled
-/// out. What holds in a scenario that agrees with what is known is possible. A possible label holds where all that it marks
-/// is known, and a plain one holds in some scenario that agrees with what is known.
+/// A label within a possible one is possible, a join is possible exactly where both labels are, and a label that was ruled
+/// out stays ruled out. Scenarios that agree on what is known have the same possible labels. A label that holds in a scenario
+/// that agrees with what is known is possible. A possible label holds where all propositions that it marks are known, and a
+/// plain possible label holds in some scenario that agrees with what is known.
 pub fn possible_until_ruled_out()
     ensures within { (net : Network) (at : Schedule) (t : ℕ) (s : Scenario) (a b : Label) → IsWithin a b → IsPossible (IsKnown net at t) s b → IsPossible (IsKnown net at t) s a }
     ensures joined { (net : Network) (at : Schedule) (t : ℕ) (s : Scenario) (a b : Label) → (IsPossible (IsKnown net at t) s (joined a b) ↔ (IsPossible (IsKnown net at t) s a × IsPossible (IsKnown net at t) s b)) }
@@ -37,7 +38,8 @@ pub fn possible_until_ruled_out()
     ensures flipped { (net : Network) (at : Schedule) (t : ℕ) (s : Scenario) (a : Label) → IsPlain a → IsPossible (IsKnown net at t) s a → (r : Scenario) × Agrees net at t s r × Holds r a }
 {}
 
-/// A table is dynamic exactly where no scenario that agrees with what is known when a time-point is executed has it later.
+/// A table is dynamic exactly where, in every scenario that agrees with what is known when a time-point is executed, that
+/// time-point is executed no later.
 pub fn dynamic_is_one_sided()
     ensures { (net : Network) (table : Table) → IsNetwork net → IsDynamic net table ↔ IsNeverLater net table }
 {}
@@ -88,20 +90,21 @@ pub fn consistency_is_kept()
     ensures constraints { (net : Network) (cs : List Constraint) → ((c : Constraint) → Contains cs c → Contains net.constraints c) → IsConsistent net → IsConsistent (record net { constraints = cs }) }
 {}
 
-/// A well-formed network stays so with other constraints of it, in ascending id and in range.
+/// A well-formed network stays so when its constraints are replaced by at most 16,384 others that are between its
+/// time-points, have plain labels on observed propositions, and are in ascending id and in range.
 pub fn other_constraints_are_well_formed()
     ensures { (net : Network) (cs : List Constraint) → IsWellFormed net → length cs ≤ 16384 → All (IsConstraint net) cs → AllPairs (λ b c. b.id < c.id) cs → All (λ c. IsValue c.most) cs → IsWellFormed (record net { constraints = cs }) }
 {}
 
-/// A bound that holds in a table makes each one hold there that it dominates, and the bound 0 with the empty label holds in
-/// every table. A bound holds exactly where, in each scenario, the moment is late enough or the label isn't possible.
+/// Where a bound holds in a table, each bound that it dominates holds there too, and the bound 0 with the empty label holds
+/// in every table. A bound holds exactly where, in each scenario, the moment is late enough or the label isn't possible.
 pub fn bounds_hold()
     ensures dominated { (net : Network) (table : Table) (a b : Bound) → Dominates a b → HoldsIn net table a → HoldsIn net table b }
     ensures base { (net : Network) (table : Table) (x : ℕ) → HoldsIn net table (record { node = x; least = pos 0; label = empty }) }
     ensures cases { (net : Network) (table : Table) (b : Bound) → HoldsIn net table b ↔ ((s : Scenario) → (b.least ≤ℤ pos (table s b.node)) ⊎ (IsPossible (IsKnown net (table s) (table s b.node)) s b.label → ⊥)) }
 {}
 
-/// A time-point has at most one least moment in a scenario.
+/// A time-point has at most one least moment in each scenario.
 pub fn least_moment_is_one()
     ensures { (net : Network) (s : Scenario) (x t u : ℕ) → IsLeast net s x t → IsLeast net s x u → t ≡ u }
 {}
@@ -120,8 +123,8 @@ pub fn late_has_no_strategy()
     ensures strategy { IsConsistent late → ⊥ }
 {}
 
-/// Whole ticks are stricter than dense time: this network has no strategy, though one exists in dense time, and the same network
-/// with every value doubled has one.
+/// Whole ticks are stricter than dense time: the network `coarse`, which has a strategy in dense time, has none on ticks, and
+/// `fine`, the same network with every value doubled, has one.
 pub fn ticks_are_not_dense()
     ensures networks { IsWellFormed coarse × IsWellFormed fine }
     ensures coarse { IsConsistent coarse → ⊥ }

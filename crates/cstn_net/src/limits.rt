@@ -2,10 +2,10 @@
 ghost use Rattle.std.specs.Prelude.{◌↔◌, IsTrue};
 ghost use Rattle.cstn_net.specs.Networks.{IsValue};
 
-/// The most time-points.
+/// The most time-points that a network may have.
 pub const MAX_NODES: usize = 1024;
 
-/// The most constraints.
+/// The most constraints that a network may have.
 pub const MAX_CONSTRAINTS: usize = 16384;
 
 /// The latest deadline, in ticks.
@@ -17,7 +17,7 @@ pub const MAX_MOST: i32 = 1_000_000_000;
 /// The longest reaction, in ticks; the shortest is 1.
 pub const MAX_REACTION: u32 = 1000;
 
-/// Whether a value is in the range of a constraint's.
+/// Whether a constraint may have this value, in ticks.
 pub fn is_value(most: i32) -> bool
     ensures { IsTrue result ↔ IsValue most }
 {

@@ -15,7 +15,8 @@ pub struct Chain {
     pub last: u16,
 }
 
-/// For each time-point the constraints that end there, and for each constraint the place of the next one.
+/// For each time-point the first and the last constraint that end there, and for each constraint the place of the next one
+/// that ends where it does.
 #[derive(Drop)]
 pub struct Links {
     pub chains: Vec<Option<Chain>>,
@@ -23,7 +24,7 @@ pub struct Links {
 }
 
 impl Links {
-    // The links of constraints between so many time-points.
+    // The links of these constraints, which are between `nodes` time-points.
     pub fn of(alloc: Global, nodes: usize, constraints: &[Constraint]) -> Result<Links, AllocError>
         requires few { length constraints.now ≤ 16384 }
         requires inside { All (λ c. c.to.0 < nodes) constraints.now }

@@ -103,7 +103,7 @@ impl Network {
         self.observers[p.index as usize]
     }
 
-    /// The ticks after its observer at which a proposition is known, from 1 to 1,000; 1 where nothing observes it.
+    /// How many ticks after its observer is executed a proposition is known, from 1 to 1,000; 1 where nothing observes it.
     pub fn reaction(&self, p: Prop) -> u32
         ensures reaction { result ≡ (the_network self.now).reaction p.index }
         ensures range { (1 ≤ result) × (result ≤ 1000) }
@@ -131,7 +131,7 @@ impl Network {
         unobserved(&self.observers, label)
     }
 
-    /// The place in `constraints` of the one with an id, found by halves; none where no constraint has it.
+    /// The place in `constraints` of the constraint with this id, found by binary search; none where no constraint has it.
     pub fn place_of(&self, id: u32) -> Option<usize>
         ensures none { IsNone result ↔ All (λ c. c.id ≢ id) self.now.constraints }
         ensures place { IfSome result (λ k. (k < length self.now.constraints) × HoldsAt (λ c. c.id ≡ id) self.now.constraints k) }
@@ -139,7 +139,7 @@ impl Network {
         place_in(&self.constraints, id)
     }
 
-    /// The place in `constraints` of the first one that ends at a time-point; none where none does.
+    /// The place in `constraints` of the first constraint that ends at a time-point; none where no constraint does.
     pub fn first_to(&self, x: NodeId) -> Option<usize>
         requires { x.0 < count (the_network self.now) }
         ensures first { IsNextPlace x.0 0 (ends self.now.constraints) result }
@@ -161,7 +161,7 @@ impl Network {
         }
     }
 
-    /// An equal network with no room for more constraints.
+    /// An equal network with no room for more constraints. Fails where memory is refused.
     pub fn copy(&self, alloc: Global) -> Result<Network, AllocError>
         ensures equal { IfOk result (λ n. n ≡ record self.now { spare = 0 }) }
         ensures well_formed { IsWellFormed (the_network self.now) }
@@ -172,7 +172,7 @@ impl Network {
         Ok(Network::new(self.deadline, points, self.observers, constraints, links))
     }
 
-    /// Sets the deadline, in ticks.
+    /// Sets the deadline, in ticks, at most 1,000,000.
     pub fn set_deadline(&mut self, deadline: u32)
         requires { deadline ≤ 1000000 }
         ensures set { self.new ≡ record self.old { deadline = deadline } }
@@ -181,7 +181,8 @@ impl Network {
         self.deadline = deadline;
     }
 
-    /// Makes room, so that in all `room` constraints can be held without taking memory again.
+    /// Makes room for `room` constraints in all, so that inserting up to that number takes no memory. Where memory is
+    /// refused, the network stays as it is.
     pub fn reserve(&mut self, room: u32) -> Result<(), AllocError>
         ensures room { OnOk result (room - length self.old.constraints ≤ self.new.spare) }
         ensures exact { OnOk result (self.new.spare ≡ max self.old.spare (room - length self.old.constraints)) }
@@ -195,7 +196,7 @@ impl Network {
         self.links.nexts.reserve_exact(missing)
     }
 
-    /// Puts in a constraint, where there is room, with an id above all others.
+    /// Adds a constraint behind the others. There must be room for it, and its id must be above theirs.
     pub fn insert(&mut self, c: Constraint)
         requires room { 0 < self.old.spare }
         requires few { length self.old.constraints < 16384 }
@@ -210,7 +211,7 @@ impl Network {
         self.constraints.push_reserved(c);
     }
 
-    /// Takes out the constraint of an id; none where no constraint has it.
+    /// Takes out the constraint with this id and answers it; none where no constraint has it.
     pub fn take_out(&mut self, id: u32) -> Option<Constraint>
         ensures none { IsNone result ↔ All (λ c. c.id ≢ id) self.old.constraints }
         ensures same { IfNone result (self.new ≡ self.old) }
@@ -226,7 +227,7 @@ impl Network {
         Some(taken)
     }
 
-    /// Sets the value of the constraint of an id, in ticks; false where no constraint has it.
+    /// Sets the value of the constraint with this id, in ticks; false where no constraint has it.
     pub fn set_most(&mut self, id: u32, most: i32) -> bool
         requires { IsValue most }
         ensures absent { (result ≡ false) ↔ All (λ c. c.id ≢ id) self.old.constraints }

@@ -33,7 +33,8 @@ fn note(table: &mut Observers, x: NodeId, observes: Option<Prop>)
     }
 }
 
-// The least proposition that the label names and nothing observes, found in as many steps as the label has marks.
+// The least proposition that the label names and nothing observes, found in at most one step for each mark; none where there
+// is none.
 pub fn unobserved(table: &Observers, label: Label) -> Option<Prop>
     ensures { MatchOption result ((q : ℕ) → IsUnseen table.now (marks label) q → ⊥) (λ p. IsUnseen table.now (marks label) p.index × ((q : ℕ) → q < p.index → IsUnseen table.now (marks label) q → ⊥)) }
 {

@@ -57,7 +57,7 @@ pub fn first_unobserved(table: &Observers, drafts: &[Draft]) -> Option<Prop>
     None
 }
 
-// The proposition of a time-point that isn't the first to observe it, with the one that is and its own number.
+// Where a time-point isn't the first to observe its proposition: the proposition, its first observer, and the time-point.
 fn twin(table: &Observers, x: NodeId, observes: Option<Prop>) -> Option<(Prop, NodeId, NodeId)>
     ensures { MatchOption result ((p : ℕ) (y : NodeId) → IsTwin table.now (option_map (λ p. p.index) observes) x p y → ⊥) (λ t. IsTwin table.now (option_map (λ p. p.index) observes) x t.0.index t.1 × (t.2 ≡ x)) }
 {
@@ -70,7 +70,7 @@ fn twin(table: &Observers, x: NodeId, observes: Option<Prop>) -> Option<(Prop, N
     }
 }
 
-// The first time-point whose proposition an earlier one observes.
+// The proposition, its first observer and the time-point, for the first time-point whose proposition an earlier one observes.
 pub fn first_twins(table: &Observers, points: &[TimePoint]) -> Option<(Prop, NodeId, NodeId)>
     requires few { length points.now ≤ 1024 }
     requires observers { KnowsObservers (map observed points.now) table.now }

@@ -13,7 +13,7 @@ fn p(rt: &impl Abort) -> Prop {
     Prop::from_letter(b'p').expect(rt, "a letter")
 }
 
-// A builder with so many time-points that observe nothing.
+// A builder with `count` time-points, which observe nothing.
 fn nodes(rt: &impl Abort, alloc: Global, deadline: u32, count: u32) -> Builder
     requires { count ≤ 2000 }
     ensures points { length result.points ≡ count }
@@ -26,7 +26,7 @@ fn nodes(rt: &impl Abort, alloc: Global, deadline: u32, count: u32) -> Builder
     builder
 }
 
-// What closing says of a builder with 1,024 time-points and so many constraints of this value.
+// The error of closing a builder with 1,024 time-points and `count` constraints of the value `most`.
 fn constrained(rt: &impl Abort, alloc: Global, count: u32, most: i32) -> Option<NetError>
     requires { count ≤ 20000 }
 {
@@ -39,8 +39,8 @@ fn constrained(rt: &impl Abort, alloc: Global, count: u32, most: i32) -> Option<
     builder.close().err()
 }
 
-// What closing says of Z, which observes `first`, and of another time-point, which observes `second`, with a constraint from Z
-// to it whose label has this mark on `p`.
+// The error of closing a builder with Z, which observes `first`, another time-point, which observes `second`, and a
+// constraint from Z to it with the value `most` and the mark `mark` on `p`.
 fn labelled(
     rt: &impl Abort,
     alloc: Global,
@@ -219,8 +219,8 @@ fn a_copy_is_apart(rt: HostRuntime) {
     assert_eq!(rt; net.deadline(), 10);
 }
 
-// What closing says of Z and of another time-point that observes this with such a reaction, and of a constraint whose label has
-// this mark on `p`.
+// The error of closing a builder with Z, another time-point, which observes `observes` with a reaction of `ticks`, and a
+// constraint with the mark `mark` on `p`.
 fn reacting(
     rt: &impl Abort,
     alloc: Global,
@@ -252,7 +252,8 @@ fn reactions_are_judged(rt: HostRuntime) {
     assert_eq!(rt; reacting(&rt, alloc, prop, 0, Mark::Unknown), not_plain);
 }
 
-// What closing says of Z and of two time-points that observe these, with a good constraint and two of such values and labels.
+// The error of closing a builder with Z, two time-points, which observe `first` and `second`, a constraint without fault, and
+// two constraints with the values and labels of `one` and `other`.
 fn faulty(
     rt: &impl Abort,
     alloc: Global,

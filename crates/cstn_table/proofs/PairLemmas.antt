@@ -10,7 +10,7 @@ use Rattle.cstn_net.specs.Strategies.{Schedule, Agrees}
 abbrev pub IsAlikeBelow : Network → Schedule → Scenario → Scenario → ℕ → ℕ → Type 0
 IsAlikeBelow net at s r t x = (y p : ℕ) → y < x → Observes net y p → at y + net.reaction p ≤ t → r p ≡ s p
 
--- one more time-point
+-- where the time-points below x tell r from s from the moment a on, and x does from b on, all of them do from the lesser on
 pub alike_more : (net : Network) (at : Schedule) (s r : Scenario) (t x a b : ℕ) → IsAlikeBelow net at s r t x ↔ (t < a) →
     ((p : ℕ) → Observes net x p → at x + net.reaction p ≤ t → r p ≡ s p) ↔ (t < b) → IsAlikeBelow net at s r t (x + 1) ↔ (t < min a b)
 alike_more net at s r t x a b before here = (
@@ -26,7 +26,7 @@ alike_more net at s r t x a b before here = (
   ]),
 )
 
--- all time-points, where each observer is one
+-- once all time-points are counted, r agrees with what is known before the moment at which one of them tells it from s
 pub alike_agrees : (net : Network) → ((x p : ℕ) → Observes net x p → x < count net) → (at : Schedule) (s r : Scenario) (t x a : ℕ) → count net ≤ x →
     IsAlikeBelow net at s r t x ↔ (t < a) → Agrees net at t s r ↔ (t < a)
 alike_agrees net within at s r t x a all alike = (

@@ -18,7 +18,7 @@ abbrev pub IsUnseen : Network → Type 0
 IsUnseen net = (table : Table) (s r : Scenario) (x : ℕ) → IsDynamic net table → x < count net →
     ((y p : ℕ) → Observes net y p → r p ≡ s p) → table r x ≡ table s x
 
--- places of different moments differ
+-- the place of a time-point's moment in a row is inside the list of moments
 pub place_inside : (net : Network) (moments : List ℕ) (row x : ℕ) → IsLow net moments → row < rows net → x < count net →
     row * count net + x < length moments
 place_inside net moments row x low r h =
@@ -26,7 +26,7 @@ place_inside net moments row x low r h =
     let sized = low.sized in
     omega arith
 
--- what is so of the raised moment, and of what stood elsewhere, is so of each moment after the raise
+-- what holds of the new moment at its place, and of the old moments at all others, holds of each moment after the raise
 moved : (P : ℕ → Type 0) (n : ℕ) (moments : List ℕ) (row x i y t : ℕ) → x < n → y < n → row * n + x < length moments →
     (i ≡ row → y ≡ x → P t) → P (get_or moments (i * n + y) 0) → P (get_or (set moments (row * n + x) t) (i * n + y) 0)
 moved P n moments row x i y t x_in y_in inside here there = elim (cases_eq (i * n + y) (row * n + x)) [
@@ -38,7 +38,7 @@ moved P n moments row x i y t x_in y_in inside here there = elim (cases_eq (i * 
 ]
 
 module _ (net : Network) (good : IsNetwork net) (moments : List ℕ) (low : IsLow net moments) where
-  -- a strategy has the moments of a scenario's row
+  -- what is forced in the scenario of s's row is forced in s
   pub forced_alike : IsUnseen net → (s : Scenario) (x t : ℕ) → x < count net →
       IsForced net (scenario_of (observed_props net.observes) (row_of (observed_props net.observes) s)) x t → IsForced net s x t
   forced_alike unseen s x t here forced table strategy =
@@ -54,13 +54,13 @@ module _ (net : Network) (good : IsNetwork net) (moments : List ℕ) (low : IsLo
       let least = low.below (scenario_of (observed_props net.observes) row) x here table strategy in
       subst (λ i. row_at (count net) moments i x ≤ table (scenario_of (observed_props net.observes) row) x) (row_there net good row r) least
 
-  -- and within the limits
+  -- the moments of a row are within the limits
   pub row_within : (row x : ℕ) → row < rows net → x < count net → row_at (count net) moments row x ≤ limit net x
   row_within row x r here =
       subst (λ i. row_at (count net) moments i x ≤ limit net x) (row_there net good row r)
       (low.within (scenario_of (observed_props net.observes) row) x here)
 
-  -- a raise to what is forced
+  -- moments that are low stay so after a raise to a forced moment within its limit
   pub raised_low : IsUnseen net → (row x t : ℕ) → row < rows net → x < count net →
       IsForced net (scenario_of (observed_props net.observes) row) x t → t ≤ limit net x →
       IsLow net (set moments (row * count net + x) t)
@@ -77,7 +77,7 @@ module _ (net : Network) (good : IsNetwork net) (moments : List ℕ) (low : IsLo
             (low.below s y y_in);
       }
 
-  -- what a constraint forces
+  -- a constraint whose label holds in a row's scenario forces its start to the earliest moment that meets it
   pub forced_start : (c : Constraint) → Contains net.constraints c → c.to < count net → (row : ℕ) → row < rows net →
       Holds (scenario_of (observed_props net.observes) row) c.label → (t : ℕ) →
       ((u : ℕ) → (pos (row_at (count net) moments row c.to) -ℤ pos u) ≤ℤ c.most → t ≤ u) →
@@ -87,7 +87,7 @@ module _ (net : Network) (good : IsNetwork net) (moments : List ℕ) (low : IsLo
       let below = row_forced row c.to r to_in table strategy in
       least (table (scenario_of (observed_props net.observes) row) c.from) (omega (arith, ints))
 
-  -- what a scenario forces that isn't told apart yet
+  -- what is forced in the scenario r is forced in the scenario of a row that isn't told apart from r before that moment
   pub forced_by_pair : ((x p : ℕ) → Observes net x p → x < count net) → (r : Scenario) (row x t : ℕ) → row < rows net → x < count net →
       ((u : ℕ) → u < t → Agrees net (row_at (count net) moments row) u (scenario_of (observed_props net.observes) row) r) →
       IsForced net r x t → IsForced net (scenario_of (observed_props net.observes) row) x t
@@ -104,7 +104,7 @@ module _ (net : Network) (good : IsNetwork net) (moments : List ℕ) (low : IsLo
         | inr late ↦ late
       ]
 
--- the moments of a row are small
+-- the moments of a row are at most 1,000,000
 pub row_small : (net : Network) → IsWellFormed net → (moments : List ℕ) → IsLow net moments → (row x : ℕ) → row < rows net →
     x < count net → row_at (count net) moments row x ≤ 1000000
 row_small net good moments low row zero r here = let within = row_within net good.network moments low row zero r here in omega arith
@@ -113,7 +113,7 @@ row_small net good moments low row (suc x) r here =
     let soon = good.in_time in
     omega arith
 
--- past a limit there is no strategy
+-- where a moment past the limit of x is forced, there is no strategy
 pub past_limit : (net : Network) (s : Scenario) (x t : ℕ) → x < count net → limit net x < t → IsForced net s x t → IsConsistent net → ⊥
 past_limit net s x t here past forced consistent =
     let later = forced consistent.0 consistent.1 in

@@ -18,7 +18,7 @@ digit_below : (v : Bool) (r w : ℕ) → r < w → 2 * r + cond v 1 0 < 2 * w
 digit_below true r w h = omega arith
 digit_below false r w h = omega arith
 
--- a scenario has a row
+-- the row of a scenario of n propositions is below 2 ^ n
 pub row_below : (ps : List ℕ) (s : Scenario) → row_of ps s < 2 ^ length ps
 row_below [] s = omega arith
 row_below (p ∷ ps) s = rw (pow-succ' 2 (length ps)) (digit_below (s p) (row_of ps s) (2 ^ length ps) (row_below ps s))
@@ -42,7 +42,7 @@ same_values (p ∷ ps) s r e =
     let both = digits_same (r p) (s p) (row_of ps r) (row_of ps s) e in
     All-cons (λ p. r p ≡ s p) p ps both.0 (same_values ps s r both.1)
 
--- each proposition of a list stands there once
+-- each proposition of the list stands there once
 pub AreApart : List ℕ → Type 0
 AreApart [] = Unit {0}
 AreApart (p ∷ ps) = All (λ q. q ≢ p) ps × AreApart ps
@@ -66,7 +66,7 @@ row_of_scenario (p ∷ ps) row apart h =
     let here = digits_of row in
     rw (alike, rest, eq-eqb p p refl) here
 
--- what is so of each observed proposition is so of those in the list, and the other way round
+-- what holds of each observed proposition holds of each in the list, and the other way round
 pub all_observed : (P : ℕ → Type 0) (os : List (Option ℕ)) → All P (observed_props os) → (x p : ℕ) → get_or os x None ≡ Some p → P p
 all_observed P [] all x p e = cc
 all_observed P (None ∷ os) all zero p e = cc
@@ -81,7 +81,7 @@ all_props P [] each = All-nil P
 all_props P (None ∷ os) each = all_props P os (λ x p e. each (suc x) p e)
 all_props P (Some q ∷ os) each = All-cons P q (observed_props os) (each 0 q refl) (all_props P os (λ x p e. each (suc x) p e))
 
--- where a proposition has one observer, it stands in the list once
+-- where each proposition has at most one observer, each stands in the list once
 pub props_apart : (os : List (Option ℕ)) →
     ((x y p : ℕ) → get_or os x None ≡ Some p → get_or os y None ≡ Some p → x ≡ y) → AreApart (observed_props os)
 unfolding AreApart
@@ -105,7 +105,7 @@ pub props_more : (os : List (Option ℕ)) (i : ℕ) (o : Option ℕ) → i < len
     observed_props (take (i + 1) os) ≡ observed_props (take i os) ++ observed_props (o ∷ [])
 props_more os i o inside there = rw (take_more os i None inside, there) (props_append (take i os) o)
 
--- a turn of the loop that counts them
+-- a turn of the loop that counts the observed propositions
 pub count_turn : (os : List (Option ℕ)) (i : ℕ) (o : Option Prop) (b : Bool) → i < length os →
     option_map (λ p. p.index) o ≡ get_or os i None → b ≡ is_some o →
     length (observed_props (take (i + 1) os)) ≡ length (observed_props (take i os)) + cond b 1 0
@@ -114,7 +114,7 @@ count_turn os i None b inside there is =
 count_turn os i (Some p) b inside there is =
     rw (is, props_more os i (Some p.index) inside (sym there), length-append (observed_props (take i os)) (p.index ∷ [])) refl
 
--- and of the one that lists them
+-- a turn of the loop that lists the observed propositions
 pub props_turn : (os : List (Option ℕ)) (i : ℕ) (old new : List Prop) (p : Prop) → i < length os →
     Some p.index ≡ get_or os i None → numbers old ≡ observed_props (take i os) → new ≡ old ++ p ∷ [] →
     numbers new ≡ observed_props (take (i + 1) os)
@@ -133,7 +133,7 @@ module _ (net : Network) (good : IsNetwork net) where
   pub row_there : (row : ℕ) → row < rows net → row_of (observed_props net.observes) (scenario_of (observed_props net.observes) row) ≡ row
   row_there row h = row_of_scenario (observed_props net.observes) row (props_apart net.observes one_place) h
 
-  -- a scenario's row has its values
+  -- the scenario of a scenario's row gives observed propositions the same values
   pub values_there : (s : Scenario) (x p : ℕ) → Observes net x p →
       scenario_of (observed_props net.observes) (row_of (observed_props net.observes) s) p ≡ s p
   values_there s x p o =

@@ -13,7 +13,7 @@ use Rattle.cstn_table.specs.Raises.{IsLow, IsSettled, IsLeastTable}
 use Rattle.cstn_table.specs.Read.{TableParts, numbers, the_table}
 use Rattle.cstn_table.proofs.RowLemmas.{row_below, values_there}
 
--- a mark fits that fits unless it is absent
+-- a mark fits if it fits whenever it isn't absent
 fits_unless_absent : (v : Bool) (m : Mark) → ((m ≡ Absent → ⊥) → MarkFits v m) → MarkFits v m
 fits_unless_absent v Absent h = tt
 fits_unless_absent v Yes h = h (λ e. cc)
@@ -21,7 +21,7 @@ fits_unless_absent v No h = h (λ e. cc)
 fits_unless_absent v Unknown h = h (λ e. cc)
 
 module _ (net : Network) (good : IsNetwork net) where
-  -- what holds in a scenario holds in its row's
+  -- a label that holds in a scenario holds in the scenario of its row
   holds_there : (s : Scenario) (a : Label) → IsOnObserved net a → Holds s a →
       Holds (scenario_of (observed_props net.observes) (row_of (observed_props net.observes) s)) a
   holds_there s a observed holds p =
@@ -57,7 +57,7 @@ module _ (net : Network) (good : IsNetwork net) where
       least = λ table strategy. low.below s x here table strategy;
     }
 
-    -- and the program's table of these moments has the least ones
+    -- the program's table of these moments is a table of the network's least moments
     pub settled_table : (props : List Prop) (points : ℕ) (t : TableParts) → numbers props ≡ observed_props net.observes →
         points ≡ count net → t ≡ record { props = props; points = points; moments = moments } → IsLeastTable net t
     settled_table props points t all counted is =

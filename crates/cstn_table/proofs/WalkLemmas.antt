@@ -7,11 +7,11 @@ use Rattle.cstn_net.specs.Networks.{Network, Constraint as TheConstraint}
 use Rattle.cstn_net.specs.Read.{the_constraint}
 use Rattle.cstn_table.specs.Raises.{IsLow, IsWalk, room}
 
--- a walk that raises nothing
+-- a walk that raises nothing, where `Quiet` holds already
 pub standing : (net : Network) (Quiet : List ℕ → Type 0) (now : List ℕ) → IsLow net now → Quiet now → IsWalk net Quiet now now false
 standing net Quiet now low quiet = record { low = low; rises = λ e. cc; stays = λ e. refl; quiet = λ e. quiet }
 
--- a walk, and one more over what it left
+-- two walks, one after the other, are one walk that looked at what both looked at
 pub both_walks : (net : Network) (P Q : List ℕ → Type 0) (before between now : List ℕ) (a b : Bool) →
     IsWalk net P before between a → IsWalk net Q between now b → IsWalk net (λ ts. P ts × Q ts) before now (a || b)
 both_walks net P Q before between now true true h k = record {
@@ -39,7 +39,7 @@ both_walks net P Q before between now false false h k = record {
   quiet = λ e. (subst P (sym (k.stays refl)) (h.quiet refl), k.quiet refl);
 }
 
--- a walk with less to say
+-- a walk stays one with a `Quiet` that follows from its own
 pub weaker : (net : Network) (P Q : List ℕ → Type 0) (before now : List ℕ) (raised : Bool) → (P before → Q before) →
     IsWalk net P before now raised → IsWalk net Q before now raised
 weaker net P Q before now raised f h = record {
@@ -49,13 +49,13 @@ weaker net P Q before now raised f h = record {
   quiet = λ e. subst Q (sym (h.stays e)) (f (subst P (h.stays e) (h.quiet e)));
 }
 
--- the same of a walk that may stop past a limit
+-- a walk that may stop past a limit stays one with a `Quiet` that follows from its own
 pub if_weaker : (net : Network) (P Q : List ℕ → Type 0) (before now : List ℕ) (raised : Option Bool) → (P before → Q before) →
     IfSome raised (IsWalk net P before now) → IfSome raised (IsWalk net Q before now)
 if_weaker net P Q before now None f h = tt
 if_weaker net P Q before now (Some raised) f h = weaker net P Q before now raised f h
 
--- a walk over the first k things, and one more over the next
+-- a walk over the first k elements, and then one over the next, are a walk over the first k + 1
 pub one_more : (net : Network) (Q : ℕ → List ℕ → Type 0) (k : ℕ) (before between now : List ℕ) (a b : Bool) →
     IsWalk net (λ ts. (i : ℕ) → i < k → Q i ts) before between a → IsWalk net (Q k) between now b →
     IsWalk net (λ ts. (i : ℕ) → i < k + 1 → Q i ts) before now (a || b)
@@ -75,7 +75,7 @@ less_room (u ∷ ts) (suc i) t inside later within =
     let rest = less_room ts i t (omega arith) later within in
     omega arith
 
--- a constraint of the network, as the program has it
+-- the program's constraint at a place stands for the network's constraint there
 pub constraint_at : (cs : List Constraint) (k : ℕ) (d : Constraint) (c : TheConstraint) → k < length cs → d ≡ get_or cs k d →
     get_or (map the_constraint cs) k c ≡ c → the_constraint d ≡ c
 constraint_at cs k d c inside is there = ap the_constraint is ∙ sym (get_or-map the_constraint cs k d c inside) ∙ there

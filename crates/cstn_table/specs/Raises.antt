@@ -12,7 +12,7 @@ use Rattle.cstn_table.specs.Read.{TableParts, numbers, the_table}
 abbrev pub IsForced : Network → Scenario → ℕ → ℕ → Type 0
 IsForced net s x t = (table : Table) → IsStrategy net table → t ≤ table s x
 
--- a table is below the strategies: each has every time-point no earlier
+-- a table is below the strategies: every strategy has every time-point at the table's moment or later
 abbrev pub IsBelow : Network → Table → Type 0
 IsBelow net low = (s : Scenario) (x : ℕ) → x < count net → IsForced net s x (low s x)
 
@@ -32,12 +32,13 @@ pub record IsLow (net : Network) (moments : List ℕ) : Type 0 where
   pub within : IsTable net (table_of net moments)
   pub below : IsBelow net (table_of net moments)
 
--- how far the moments can rise in all
+-- how far the moments can rise, added up over all of them
 abbrev pub room : List ℕ → ℕ
 room [] = 0
 room (t ∷ ts) = (1000000 - t) + room ts
 
--- what a walk over the moments leaves: they were raised, or they stayed and what the walk looked at is quiet
+-- what is true after a walk over the moments: they are low; where `raised`, one has risen, so there is less room; otherwise
+-- all stayed, and `Quiet` holds, which says that nothing the walk looked at raises a moment
 pub record IsWalk (net : Network) (Quiet : List ℕ → Type 0) (before now : List ℕ) (raised : Bool) : Type 0 where
   pub low : IsLow net now
   pub rises : raised ≡ true → room now < room before
@@ -49,7 +50,8 @@ abbrev pub MeetsIn : Network → ℕ → Constraint → List ℕ → Type 0
 MeetsIn net row c moments =
     Holds (scenario_of (observed_props net.observes) row) c.label → Meets (row_at (count net) moments row) c
 
--- no time-point is later in the other row, if that agrees with what is known when this row executes it
+-- no time-point is later in the row `other` than in this row, where the scenario of `other` agrees with what is known in this
+-- row when the time-point is executed
 abbrev pub IsNoLater : Network → ℕ → ℕ → List ℕ → Type 0
 IsNoLater net row other moments =
     (x : ℕ) → x < count net →
@@ -57,7 +59,7 @@ IsNoLater net row other moments =
     (scenario_of (observed_props net.observes) row) (scenario_of (observed_props net.observes) other) →
     row_at (count net) moments other x ≤ row_at (count net) moments row x
 
--- nothing raises a moment
+-- no constraint and no other row raises a moment
 pub record IsSettled (net : Network) (moments : List ℕ) : Type 0 where
   pub meets : (c : Constraint) → Contains net.constraints c → (row : ℕ) → row < rows net → MeetsIn net row c moments
   pub no_later : (row other : ℕ) → row < rows net → other < rows net → IsNoLater net row other moments

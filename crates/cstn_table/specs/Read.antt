@@ -1,4 +1,4 @@
--- How the values of the program are read.
+-- How the program's propositions and tables are read as those of the definitions.
 use Rattle.std.specs.Prelude.{ℕ, List, map}
 use Rattle.cstn_label.specs.declared.props.Prop.{Prop}
 use Rattle.cstn_net.specs.Strategies.{Table}

@@ -15,7 +15,7 @@ abbrev pub row_of : List ℕ → Scenario → ℕ
 row_of [] s = 0
 row_of (p ∷ ps) s = 2 * row_of ps s + cond (s p) 1 0
 
--- the scenario of a row, in which no other proposition is true
+-- the scenario of a row, in which no proposition but those of the list is true
 abbrev pub scenario_of : List ℕ → ℕ → Scenario
 scenario_of [] row = λ q. false
 scenario_of (p ∷ ps) row = λ q. cond (q == p) (row % 2 == 1) (scenario_of ps (row / 2) q)
@@ -28,6 +28,6 @@ row_at points moments row = λ x. slice_index_or moments (row * points + x) 0
 abbrev pub table_by : List ℕ → ℕ → List ℕ → Table
 table_by props points moments = λ s. row_at points moments (row_of props s)
 
--- the table of a network's scenarios that the rows stand for
+-- the table that rows for the scenarios of a network stand for
 abbrev pub table_of : Network → List ℕ → Table
 table_of net moments = table_by (observed_props net.observes) (count net) moments

@@ -19,8 +19,9 @@ use std::alloc::{AllocError, Global};
 
 const MOST_PROPS: usize = 8;
 
-/// Decides a network of at most 8 observed propositions: none where it has no strategy, and else the strategy that has every
-/// time-point, in every scenario, at its least moment. A table takes four bytes for each moment.
+/// Decides a network of at most 8 observed propositions, and refuses one of more. The answer is none where the network has no
+/// strategy, and else the strategy in which every time-point is at its least moment in every scenario. A table takes four
+/// bytes for each moment.
 pub fn decide(alloc: Global, net: &Network) -> Result<Option<Table>, TableError>
     ensures many { (result ≡ Err TooManyProps) ↔ (8 < length (observed_props (the_network net.now).observes)) }
     ensures none { IfOk result (λ o. IsNone o ↔ (IsConsistent (the_network net.now) → ⊥)) }
@@ -52,7 +53,7 @@ fn least_table(alloc: Global, net: &Network) -> Result<Option<Table>, AllocError
     }
 }
 
-// Every time-point at 0 in every scenario.
+// The moments of a table in which every time-point is at 0 in every scenario.
 fn zeros(alloc: Global, net: &Network, props: &[Prop]) -> Result<Vec<u32>, AllocError>
     requires props { AreObserved (the_network net.now) props.now }
     ensures { IfOk result (λ v. IsLow (the_network net.now) v.items) }
@@ -60,7 +61,7 @@ fn zeros(alloc: Global, net: &Network, props: &[Prop]) -> Result<Vec<u32>, Alloc
     vec![in alloc; 0; rows_of(props) * net.count() as usize]
 }
 
-// Raises moments until nothing raises them any more; false where one would pass its limit.
+// Raises moments until no constraint and no pair of scenarios raises one; false where one would pass its limit.
 fn settle(net: &Network, props: &[Prop], moments: &mut [u32]) -> bool
     requires props { AreObserved (the_network net.now) props.now }
     requires low { IsLow (the_network net.now) moments.old }

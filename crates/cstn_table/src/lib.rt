@@ -1,4 +1,5 @@
-//! Decides small networks by a whole table of moments, a row for each scenario, raised until nothing raises it any more.
+//! Decides small networks by a table of moments with a row for each scenario. The moments start at 0 and are raised until no
+//! constraint and no other row forces a later one.
 #![tactic(auto)]
 
 mod decisions;

@@ -1,4 +1,4 @@
-// Raises of moments by scenarios that can't be told apart.
+// Raises of moments by pairs of scenarios that what is known doesn't tell apart.
 ghost use Rattle.std.specs.Prelude.{ℕ, ◌≡◌, ◌<◌, ◌≤◌, ◌+◌, ◌-◌, ◌^◌, ◌↔◌, IfNone, IfSome};
 ghost use Rattle.cstn_label.specs.Read.{the_scenario};
 ghost use Rattle.cstn_net.specs.Networks.{Observes, count};
@@ -12,7 +12,7 @@ use crate::rows::{place, rows_of, scenario_of};
 use cstn_label::{NodeId, Prop, Scenario};
 use cstn_net::{Network, observers_are_time_points};
 
-// The first moment of a row at which what a time-point observes tells two scenarios apart; the last number where it doesn't.
+// The first moment of a row at which the outcome of a time-point tells two scenarios apart; `u32::MAX` where it never does.
 fn told_apart_by(
     net: &Network,
     moments: &[u32],
@@ -34,7 +34,7 @@ fn told_apart_by(
     }
 }
 
-// The first moment of a row at which what is known tells two scenarios apart; the last number where nothing does.
+// The first moment of a row at which what is known tells two scenarios apart; `u32::MAX` where it never does.
 fn told_apart(net: &Network, moments: &[u32], row: usize, s: Scenario, r: Scenario) -> u32
     requires low { IsLow (the_network net.now) moments.now }
     requires row { row < rows (the_network net.now) }
@@ -48,7 +48,8 @@ fn told_apart(net: &Network, moments: &[u32], row: usize, s: Scenario, r: Scenar
     apart
 }
 
-// Raises the moments of a row to those of another, or to the moment at which the two are told apart.
+// Raises each moment of a row to that of another row, or to the moment at which the two rows are told apart if that is
+// earlier. Answers whether any was raised; none where one would pass its limit.
 fn raise_row(
     net: &Network,
     props: &[Prop],
@@ -79,7 +80,7 @@ fn raise_row(
     Some(raised)
 }
 
-// Raises the moments of a row by every row.
+// Raises the moments of a row by every row, and answers whether any was raised; none where one would pass its limit.
 fn raise_row_by_all(net: &Network, props: &[Prop], moments: &mut [u32], row: usize) -> Option<bool>
     requires props { AreObserved (the_network net.now) props.now }
     requires low { IsLow (the_network net.now) moments.old }
@@ -94,7 +95,7 @@ fn raise_row_by_all(net: &Network, props: &[Prop], moments: &mut [u32], row: usi
     Some(raised)
 }
 
-// Raises the moments of every row by every row.
+// Raises the moments of every row by every row, and answers whether any was raised; none where one would pass its limit.
 pub fn raise_by_scenarios(net: &Network, props: &[Prop], moments: &mut [u32]) -> Option<bool>
     requires props { AreObserved (the_network net.now) props.now }
     requires low { IsLow (the_network net.now) moments.old }

@@ -11,7 +11,8 @@ use crate::rows::{place, rows_of, scenario_of};
 use cstn_label::{NodeId, Prop};
 use cstn_net::{Constraint, Network, unobserved_is_unseen};
 
-// Raises a moment to the least one that is forced, and answers whether it was below; none where that is past its limit.
+// Raises the moment of a time-point in a row to `least`, and answers whether it was below; none where `least` is past the
+// time-point's limit.
 pub fn raise(net: &Network, moments: &mut [u32], row: usize, x: NodeId, least: u32) -> Option<bool>
     requires low { IsLow (the_network net.now) moments.old }
     requires row { row < rows (the_network net.now) }
@@ -32,7 +33,7 @@ pub fn raise(net: &Network, moments: &mut [u32], row: usize, x: NodeId, least: u
     Some(true)
 }
 
-// The earliest moment of the start of a constraint whose end is at this moment.
+// The earliest moment for the start of a constraint whose end is at the moment `end`.
 fn earliest_start(end: u32, most: i32) -> u32
     requires end { end ≤ 1000000 }
     requires most { IsValue most }
@@ -45,7 +46,8 @@ fn earliest_start(end: u32, most: i32) -> u32
     }
 }
 
-// Raises the start of a constraint in a row in which its label holds.
+// Raises the start of a constraint in a row if its label holds there, and answers whether it was raised; none where it would
+// pass its limit.
 fn raise_start(
     net: &Network,
     props: &[Prop],
@@ -69,7 +71,7 @@ fn raise_start(
     raise(net, moments, row, c.from, earliest_start(end, c.most))
 }
 
-// Raises the start of a constraint in every row.
+// Raises the start of a constraint in every row, and answers whether any was raised; none where one would pass its limit.
 fn raise_starts(net: &Network, props: &[Prop], moments: &mut [u32], c: &Constraint) -> Option<bool>
     requires props { AreObserved (the_network net.now) props.now }
     requires low { IsLow (the_network net.now) moments.old }
@@ -85,7 +87,7 @@ fn raise_starts(net: &Network, props: &[Prop], moments: &mut [u32], c: &Constrai
     Some(raised)
 }
 
-// Raises the start of every constraint in every row.
+// Raises the start of every constraint in every row, and answers whether any was raised; none where one would pass its limit.
 pub fn raise_by_constraints(net: &Network, props: &[Prop], moments: &mut [u32]) -> Option<bool>
     requires props { AreObserved (the_network net.now) props.now }
     requires low { IsLow (the_network net.now) moments.old }

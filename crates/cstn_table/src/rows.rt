@@ -35,7 +35,7 @@ pub fn props_of(alloc: Global, net: &Network) -> Result<Vec<Prop>, AllocError>
     Ok(props)
 }
 
-// How many rows there are.
+// How many rows a table of these propositions has: 2 to the power of their number.
 pub fn rows_of(props: &[Prop]) -> usize
     requires few { length props.now ≤ 8 }
     ensures rows { result ≡ 2 ^ length props.now }
@@ -47,7 +47,7 @@ pub fn rows_of(props: &[Prop]) -> usize
     }
 }
 
-// The row of a scenario.
+// The row of a scenario, by the values that it gives these propositions.
 pub fn row_of(props: &[Prop], s: Scenario) -> usize
     requires few { length props.now ≤ 8 }
     ensures row { result ≡ row_of (numbers props.now) (the_scenario s) }
@@ -59,7 +59,7 @@ pub fn row_of(props: &[Prop], s: Scenario) -> usize
     }
 }
 
-// The scenario of a row, in which no other proposition is true.
+// The scenario of a row, in which no proposition but these is true.
 pub fn scenario_of(props: &[Prop], row: usize) -> Scenario
     ensures { the_scenario result ≡ scenario_of (numbers props.now) row }
 {
@@ -69,7 +69,7 @@ pub fn scenario_of(props: &[Prop], row: usize) -> Scenario
     }
 }
 
-// The place of a time-point's moment in a row of so many.
+// The place of a time-point's moment in the list of all rows, each of which has `points` moments.
 pub fn place(points: u16, row: usize, x: NodeId) -> usize
     requires row { row < 256 }
     requires x { x.0 < points }

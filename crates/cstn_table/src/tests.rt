@@ -26,7 +26,7 @@ fn both(first: Mark, second: Mark) -> Label {
     only(P, first).with(Q, second)
 }
 
-// The network of these time-points and of constraints with these ends, values and labels.
+// The network of time-points that observe `points` and of `constraints`, each given by its ends, its value and its label.
 fn network(
     rt: &impl Abort,
     alloc: Global,
@@ -64,7 +64,7 @@ fn branch(rt: &impl Abort, alloc: Global, late: i32) -> Network {
     )
 }
 
-// The branch where the outcome of p is known so many ticks after P.
+// The network of `branch` without a bound on P, where p is known `ticks` after P.
 fn slow_branch(rt: &impl Abort, alloc: Global, ticks: u32) -> Network {
     let mut net = Builder::new(alloc, 10);
     let origin = net.node(None).expect(rt, "memory");
@@ -78,7 +78,8 @@ fn slow_branch(rt: &impl Abort, alloc: Global, ticks: u32) -> Network {
     net.close().expect(rt, "a network")
 }
 
-// Z, P and Q, where P is at 5 or later where q is true, and Q where p is, and P is due at `due` where q is false.
+// Z, P and Q, where P is at 5 or later where q is true, Q is at 5 or later where p is true, and P is due at `due` where q is
+// false.
 fn crossed(rt: &impl Abort, alloc: Global, due: i32) -> Network {
     network(
         rt,
@@ -109,7 +110,7 @@ fn unknown(rt: &impl Abort, alloc: Global) -> Network {
     )
 }
 
-// Z, S, P, T and E: T is 2 after P where p is true, and 8 where it is false.
+// Z, S, P, T and E: T is at least 2 after P where p is true, and at least 8 after P where p is false.
 fn process(rt: &impl Abort, alloc: Global) -> Network {
     network(
         rt,
@@ -138,7 +139,7 @@ fn pair(rt: &impl Abort, alloc: Global, deadline: u32) -> Network {
     )
 }
 
-// So many time-points, each with a proposition of its own.
+// A network of `count` time-points, each of which observes a proposition of its own.
 fn observers(rt: &impl Abort, alloc: Global, count: u8) -> Network
     requires { count ≤ 52 }
 {

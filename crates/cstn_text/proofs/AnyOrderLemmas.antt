@@ -26,7 +26,7 @@ text_some a [] some new = absurd (omega (arith, some))
 text_some a (m ∷ ms) some new =
     omega (arith, length-append (printed_mark (letter_of m.0) m.1) (marks_text ms), mark_some (letter_of m.0) m.1 new.1)
 
--- such marks are a label's text
+-- one or more marks of different propositions are the text of a label
 pub label_of_marks : (ms : List (ℕ × Mark)) → AreNew empty ms → 1 ≤ length ms → label_read (marks_text ms) ≡ Some (label_with empty ms)
 label_of_marks ms new some = nonempty_read (marks_text ms) (label_with empty ms) (text_some empty ms some new) (marks_back empty ms new)
 
@@ -37,7 +37,7 @@ sign_text Yes = []
 sign_text No = 33 ∷ []
 sign_text Unknown = 63 ∷ []
 
--- marks that the text, after the sign, is, and the label with them
+-- the sign and the bytes together are the text of some marks, and b is the label a with these marks set
 record AreMarks (a : Label) (sign : Mark) (bytes : List ℕ) (b : Label) : Type 0 where
   pub marks : List (ℕ × Mark)
   pub new : AreNew a marks
@@ -104,7 +104,7 @@ ended_marks a No b e = absurd (cc)
 ended_marks a Unknown b e = absurd (cc)
 ended_marks a Yes b e = record { marks = []; new = tt; text = refl; label = sym (same_Some a b e) }
 
--- what is read as marks is marks
+-- bytes that are read as marks, together with the sign before them, are the text of marks
 marks_said : (r : Reading) (bytes : List ℕ) (b : Label) → r.sign ≢ Absent → marks_read r bytes ≡ Some b → AreMarks r.label r.sign bytes b
 marks_said r [] b some e = ended_marks r.label r.sign b e
 marks_said r (c ∷ bytes) b some e =

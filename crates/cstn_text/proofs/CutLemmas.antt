@@ -14,7 +14,7 @@ use Rattle.std.proofs.lemmas.List.Sums.{position_or_len_is}
 use Rattle.std.proofs.lemmas.Grind.{common_steps}
 use Rattle.cstn_text.specs.Cuts.{cut_at}
 
--- the first place that passes
+-- a place that passes the test, where no earlier one does, is the position that is found
 pub position_at : {X : Type 0} (p : X → Bool) (xs : List X) (i : ℕ) (d : X) → i < length xs →
     ((k : ℕ) → k < i → p (get_or xs k d) ≡ false) → p (get_or xs i d) ≡ true → position p xs ≡ Some i
 position_at p xs i d inside before here =

@@ -1,4 +1,4 @@
--- A label that was read marks letters alone.
+-- A label that was read marks only the 52 propositions.
 use Rattle.std.proofs.Common.{ℕ, ◌≡◌, ◌<◌, ◌≤◌, Bool, true, false, List, [], ◌∷◌, length, arith, refl, subst}
 use Rattle.std.specs.Prelude.{◌==◌, ◌&&◌, if◌then◌else◌, Some}
 use Rattle.std.specs.Option.{option_and_then}
@@ -9,7 +9,7 @@ use Rattle.cstn_label.specs.Labels.{Label, empty, with_mark}
 use Rattle.cstn_label.specs.Letters.{prop_of}
 use Rattle.cstn_text.specs.PrintedLabels.{Reading, nothing_read, signed, marked, after_byte, ended, marks_read, label_read}
 
--- a label marks the 52 propositions alone
+-- a label marks only the 52 propositions
 abbrev IsSmall : Label → Type 0
 IsSmall a = (p : ℕ) → 52 ≤ p → a p ≡ Absent
 

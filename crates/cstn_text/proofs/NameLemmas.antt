@@ -37,7 +37,7 @@ not_true : (b : Bool) → (b ≡ true → ⊥) → b ≡ false
 not_true true wrong = absurd (wrong refl)
 not_true false wrong = refl
 
--- the texts of a set with one more
+-- a set into which a new text is put has this text after its others
 pub pushed : (keys new : List (String Global)) (owned : String Global) (name : List ℕ) → string_bytes owned ≡ name → (Contains (map string_bytes keys) name → ⊥)
     → new ≡ (if list_any (string_eq owned) keys then keys else keys ++ owned ∷ []) → map string_bytes new ≡ map string_bytes keys ++ name ∷ []
 pushed keys new owned name text unknown is =

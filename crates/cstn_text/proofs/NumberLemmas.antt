@@ -42,7 +42,7 @@ pub is_numeral_text : (text : List ℕ) → IsNumeralText text → is_numeral te
 is_numeral_text [] is = absurd (omega (arith, is.some))
 is_numeral_text (d ∷ ds) is = is_numeral_parts (list_all is_ascii_digit (d ∷ ds)) d (length ds) is.digits is.lone_zero
 
--- a numeral is text
+-- a numeral is UTF-8
 pub numeral_utf8 : (text : List ℕ) → is_numeral text ≡ true → IsUtf8 text
 numeral_utf8 text e = IsUtf8-from_ascii text (IsAscii-from_digits text (digits.to text (numeral_text text e).digits))
 
@@ -56,7 +56,7 @@ picked : {E : Type 0} (r : Result ℕ E) (numeral : Bool) (n v : ℕ) → numera
 picked (Ok x) numeral n v e some says = rw says.1 (sym (chosen numeral v e says.0.1))
 picked (Err x) numeral n v e some says = not_chosen numeral v (λ small. says (some, small))
 
--- what std parses of a numeral
+-- std parses a numeral as `number_read` reads it
 pub parsed : {E : Type 0} (text : List ℕ) (r : Result ℕ E) → ParsesUnsigned 64 10 text r → is_numeral text ≡ true → result_ok r ≡ number_read text
 parsed text r says numeral =
     let is = numeral_text text numeral in
@@ -76,7 +76,7 @@ number_back n small =
 chosen_is : (numeral : Bool) (v n : ℕ) → (if numeral && nat_lt v (2 ^ 64) then Some v else None) ≡ Some n → (numeral ≡ true) × (v < 2 ^ 64) × (v ≡ n)
 chosen_is numeral v n e = grind arith
 
--- what is read as a number is its printed form, and a number below 2^64
+-- a text that is read as a number is that number's printed form, and the number is below 2^64
 pub number_printed : (text : List ℕ) (n : ℕ) → number_read text ≡ Some n → (printed_number n ≡ text) × (n < 2 ^ 64)
 number_printed text n e =
     let found = chosen_is (is_numeral text) (digits_value 10 text) n e in
@@ -150,7 +150,7 @@ value_cases b bytes true v is e =
     rw same (minus_read bytes (number_read bytes) v refl e)
 value_cases b bytes false v is e = plain_read (b ∷ bytes) (number_read (b ∷ bytes)) v refl e
 
--- what is read as a value is its printed form, and a value in range
+-- a text that is read as a value is that value's printed form, and the value is in range
 pub value_printed : (text : List ℕ) (v : ℤ) → value_read text ≡ Some v → (printed_value v ≡ text) × FitsSigned w32 v
 value_printed [] v e = absurd (cc)
 value_printed (b ∷ bytes) v e = value_cases b bytes (b == 45) v refl e

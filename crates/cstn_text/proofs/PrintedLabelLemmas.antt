@@ -23,7 +23,7 @@ unmarked_between a m (suc n) le none = elim (cases_lt n m) [
       ∙ unmarked_between a m n past (λ q low high. none q low (omega arith))
 ]
 
--- a mark has a text
+-- the text of a mark that isn't absent has some bytes
 pub mark_some : (letter : ℕ) (m : Mark) → m ≢ Absent → 0 < length (printed_mark letter m)
 mark_some letter Absent marked = absurd (marked refl)
 mark_some letter Yes marked = omega arith
@@ -53,7 +53,7 @@ pub printed_dash : (a : Label) → ((q : ℕ) → 0 ≤ q → a q ≡ Absent) �
 unfolding marks_below
 printed_dash a none = ap or_dash (unmarked_between a 0 52 (omega arith) (λ q low high. none q low))
 
--- the next mark is printed
+-- a text to which the next mark is appended has all marks up to that one
 pub marks_on : (a : Label) (from p : ℕ) (old text new : List ℕ) → text ≡ old ++ marks_below a from → from ≤ p → ((q : ℕ) → from ≤ q → q < p → a q ≡ Absent) →
     new ≡ text ++ printed_mark (letter_of p) (a p) → new ≡ old ++ marks_below a (p + 1)
 unfolding marks_below

@@ -1,4 +1,4 @@
--- A printed name is text, and gives the name back.
+-- A printed name is UTF-8, and gives the name back.
 use Rattle.std.proofs.Common.{◌≡◌, ℕ, zero, suc, ◌+◌, ◌*◌, ◌/◌, ◌%◌, ◌<◌, ◌≤◌, List, [], ◌∷◌, ◌++◌, length, get_or, drop, refl, ap, sym, ◌∙◌, subst, arith, Bool, true, false, ◌&&◌, Option, append_assoc, append-nil, ⊎_elim, ◌⊎◌, length-append}
 use Rattle.std.specs.Prelude.{◌==◌, nat_lt, nat_le, IfNone, Some, None, if◌then◌else◌, bytes_eq}
 use Rattle.std.specs.Fmt.{digit_glyph}
@@ -76,7 +76,7 @@ printed_chars (c ∷ cs) all =
     let parts = both_true (scalar c) (all_scalars cs) all in
     rw flat_map-append (IsUtf8-append _ _ (printed_char c parts.0) (printed_chars cs parts.1))
 
--- a printed name is text
+-- a printed name is UTF-8
 pub printed_utf8 : (name : List ℕ) → IsUtf8 name → IsUtf8 (printed_name name)
 printed_utf8 name text = subst (λ (bs : List ℕ). IsUtf8 (printed_name bs)) text.1.1 (printed_chars text.0 text.1.0)
 
@@ -94,7 +94,7 @@ byte_back b false rest e =
     let value : 16 * hex_value (digit_glyph true (b / 16)) + hex_value (digit_glyph true (b % 16)) ≡ b = omega (arith, hex_back (b / 16) (omega arith), hex_back (b % 16) (omega arith)) in
     rw e (ap (λ n. n ∷ unprinted rest) value)
 
--- what was printed is told back
+-- `unprinted` gives back a text that is printed at the front
 pub text_back : (text rest : List ℕ) → unprinted (printed_name text ++ rest) ≡ text ++ unprinted rest
 text_back [] rest = refl
 text_back (b ∷ text) rest =
@@ -103,7 +103,7 @@ text_back (b ∷ text) rest =
 choose : {A : Type 0} (utf8 shape same : Bool) (x : A) → utf8 ≡ true → shape ≡ true → same ≡ true → Some x ≡ (if (utf8 && shape) && same then Some x else None)
 choose utf8 shape same x e f g = rw (e, f, g) refl
 
--- a name is read
+-- a text that passes the tests of `name_read` is what it reads
 pub accepted : (bytes text printed : List ℕ) → text ≡ unprinted bytes → IsUtf8 text → (nat_lt 0 (length text) && nat_le (length text) 64) ≡ true
     → printed ≡ printed_name text → bytes_eq printed bytes ≡ true → Some text ≡ name_read bytes
 accepted bytes text printed is utf8 shape p same =
@@ -114,7 +114,7 @@ accepted bytes text printed is utf8 shape p same =
 shape_true : (n : ℕ) → 1 ≤ n → n ≤ 64 → (nat_lt 0 n && nat_le n 64) ≡ true
 shape_true n some few = grind arith
 
--- the text of a name is told back
+-- `unprinted` gives back a text that was printed
 told_back : (text : List ℕ) → unprinted (printed_name text) ≡ text
 unfolding unprinted_after
 told_back text = ap unprinted (sym (append-nil (printed_name text))) ∙ text_back text [] ∙ append-nil text
@@ -135,7 +135,7 @@ chosen_is utf8 some few same x y e = grind arith
 shape_is : (n : ℕ) → nat_lt 0 n ≡ true → nat_le n 64 ≡ true → (1 ≤ n) × (n ≤ 64)
 shape_is n some few = grind arith
 
--- what is read is a name, and its printed form stood there
+-- what is read is a name, and the bytes are its printed form
 pub name_printed : (bytes name : List ℕ) → name_read bytes ≡ Some name → (printed_name name ≡ bytes) × IsName name
 name_printed bytes name e =
     let text = unprinted bytes in
@@ -144,7 +144,7 @@ name_printed bytes name e =
     subst (λ (t : List ℕ). (printed_name t ≡ bytes) × IsName t) found.4
     ((bytes_eq-Decides (printed_name text) bytes).0 found.3, record { some = sizes.0; few = sizes.1; utf8 = found.0 })
 
--- what is printed at the front of the bytes of a name is a front of the name
+-- where the bytes of a name begin with a printed text, the name begins with that text
 rest_read : (bytes text left name : List ℕ) → bytes ≡ printed_name text ++ left → name_read bytes ≡ Some name →
     (more : List ℕ) × (name ≡ text ++ more) × (printed_name more ≡ left)
 rest_read bytes text left name is e =
@@ -154,7 +154,7 @@ rest_read bytes text left name is e =
     sym (flat_map-append printed_byte text (unprinted left)) ∙ ap printed_name (sym told) ∙ printed ∙ is in
     (unprinted left, told, append_cancel_left (printed_name text) (printed_name (unprinted left)) left both)
 
--- no name is read where none begins with the text and ends with what is left
+-- no name is read where no name begins with the text and goes on with what was printed as the bytes left
 no_name : (bytes text left : List ℕ) → bytes ≡ printed_name text ++ left →
     ((name more : List ℕ) → IsName name → name ≡ text ++ more → printed_name more ≡ left → ⊥) → name_read bytes ≡ None
 no_name bytes text left is wrong = at (name_read bytes) refl
@@ -165,7 +165,7 @@ no_name bytes text left is wrong = at (name_read bytes) refl
         let rest = rest_read bytes text left name is e in
         absurd (wrong name rest.0 (name_printed bytes name e).1 rest.1 rest.2)
 
--- where no printed byte stands first, no name does
+-- where the bytes left don't begin with a printed byte, no name is read
 pub none_first : (bytes text left : List ℕ) → bytes ≡ printed_name text ++ left → 0 < length left →
     ((b : ℕ) (rest : List ℕ) → left ≡ printed_byte b ++ rest → ⊥) → name_read bytes ≡ None
 none_first bytes text left is some none = no_name bytes text left is (λ name more named e printed. at more printed)
@@ -174,7 +174,7 @@ none_first bytes text left is some none = no_name bytes text left is (λ name mo
     at [] printed = omega (arith, some, ap length printed)
     at (b ∷ more) printed = none b (printed_name more) (sym printed)
 
--- a name has at most 64 bytes
+-- where bytes are left after 64 printed ones, no name is read
 pub too_long : (bytes text left : List ℕ) → bytes ≡ printed_name text ++ left → 0 < length left → 64 ≤ length text → name_read bytes ≡ None
 too_long bytes text left is some full = no_name bytes text left is (λ name more named e printed. at name more named e printed)
   where
@@ -182,7 +182,7 @@ too_long bytes text left is some full = no_name bytes text left is (λ name more
     at name [] named e printed = omega (arith, some, ap length printed)
     at name (b ∷ more) named e printed = omega (arith, named.few, full, ap length e ∙ length-append text (b ∷ more))
 
--- the bytes of a printed name are read
+-- the bytes of a printed name are read as the name
 pub name_of : (bytes text : List ℕ) → printed_name text ≡ bytes → IsName text → name_read bytes ≡ Some text
 name_of bytes text printed is = subst (λ (bs : List ℕ). name_read bs ≡ Some text) printed (name_back text is)
 
@@ -191,7 +191,7 @@ not_named bytes text printed wrong =
     no_name bytes text [] (sym printed ∙ sym (append-nil (printed_name text)))
     (λ name more named e none. wrong (subst IsName (printed_once name text ((ap printed_name e ∙ flat_map-append printed_byte text more) ∙ ap (λ (bs : List ℕ). printed_name text ++ bs) none ∙ append-nil (printed_name text))) named))
 
--- one more byte is read
+-- a printed byte at the front of the bytes left is one more byte of the text
 pub byte_read : (bytes text left rest : List ℕ) (b : ℕ) → bytes ≡ printed_name text ++ left → left ≡ printed_byte b ++ rest → bytes ≡ printed_name (text ++ b ∷ []) ++ rest
 byte_read bytes text left rest b is first =
     is ∙ ap (λ (bs : List ℕ). printed_name text ++ bs) first
@@ -210,7 +210,7 @@ name_length (b ∷ text) =
     let here = byte_length b (is_plain_byte b) refl in
     rw length-append (omega arith, omega arith)
 
--- what follows a printed byte is shorter
+-- what follows a printed byte is shorter than the bytes that begin with it
 pub shorter : (b : ℕ) (left rest : List ℕ) → left ≡ printed_byte b ++ rest → length rest < length left
 shorter b left rest e = omega (arith, (byte_length b (is_plain_byte b) refl).0, ap length e ∙ length-append (printed_byte b) rest)
 

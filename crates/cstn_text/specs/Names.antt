@@ -9,7 +9,7 @@ pub record IsName (text : List ℕ) : Type 0 where
   pub few : length text ≤ 64
   pub utf8 : is_utf8 text ≡ true
 
--- the same as a test
+-- whether a text is a name, as a test
 abbrev pub is_name : List ℕ → Bool
 is_name text = is_utf8 text && (nat_lt 0 (length text) && nat_le (length text) 64)
 

@@ -19,15 +19,15 @@ abbrev pub is_numeral : List ℕ → Bool
 is_numeral [] = false
 is_numeral (d ∷ ds) = list_all is_ascii_digit (d ∷ ds) && (not (d == 48) || length ds == 0)
 
--- the number below 2^64 that a text is
+-- the number below 2^64 that a text is read as
 abbrev pub number_read : List ℕ → Option ℕ
 number_read text = if is_numeral text && nat_lt (digits_value 10 text) (2 ^ 64) then Some (digits_value 10 text) else None
 
--- the number from low to high that a text is
+-- the number from low to high that a text is read as
 abbrev pub number_within : ℕ → ℕ → List ℕ → Option ℕ
 number_within low high text = option_and_then (λ n. if nat_le low n && nat_le n high then Some n else None) (number_read text)
 
--- the value that a text is: `-` and a number from 1 to 2^31, or a number below 2^31
+-- the value that a text is read as: `-` and a number from 1 to 2^31, or a number below 2^31
 abbrev pub value_read : List ℕ → Option ℤ
 value_read [] = None
 value_read (b ∷ bytes) =

@@ -6,14 +6,14 @@ use Rattle.cstn_label.specs.declared.marks.Mark.TheVariants.{Absent, Yes, No, Un
 use Rattle.cstn_label.specs.Labels.{Label, empty, with_mark}
 use Rattle.cstn_label.specs.Letters.{letter_of, prop_of}
 
--- the mark of a letter: the letter, after `!` for no and `?` for unknown
+-- the text of a mark: its letter, after `!` for no and after `?` for unknown; none for absent
 abbrev pub printed_mark : ℕ → Mark → List ℕ
 printed_mark letter Absent = []
 printed_mark letter Yes = letter ∷ []
 printed_mark letter No = 33 ∷ letter ∷ []
 printed_mark letter Unknown = 63 ∷ letter ∷ []
 
--- the marks of the propositions below n, in ascending order
+-- the texts of the marks on the propositions below n, in ascending order
 unfoldable pub marks_below : Label → ℕ → List ℕ
 marks_below a zero = []
 marks_below a (suc n) = marks_below a n ++ printed_mark (letter_of n) (a n)
@@ -35,35 +35,35 @@ pub record Reading : Type 0 where
 abbrev pub nothing_read : Reading
 nothing_read = record { label = empty; sign = Yes }
 
--- a sign stands after no other sign
+-- the reading after a sign; none where another sign is waiting for its letter
 abbrev pub signed : Label → Mark → Mark → Option Reading
 signed a Absent sign = None
 signed a Yes sign = Some (record { label = a; sign = sign })
 signed a No sign = None
 signed a Unknown sign = None
 
--- a proposition that has no mark yet gets one
+-- the reading after a letter: its proposition gets the mark of the sign; none where it has a mark already
 abbrev pub marked : Label → Mark → Mark → ℕ → Option Reading
 marked a sign Absent p = Some (record { label = with_mark a p sign; sign = Yes })
 marked a sign Yes p = None
 marked a sign No p = None
 marked a sign Unknown p = None
 
--- what is read after one more byte: a sign, or a letter
+-- the reading after one more byte, a sign or a letter; none where the byte is out of place
 abbrev pub after_byte : Reading → ℕ → Option Reading
 after_byte r b =
     if b == 33 then signed r.label r.sign No
     else if b == 63 then signed r.label r.sign Unknown
     else option_and_then (λ p. marked r.label r.sign (r.label p) p) (prop_of b)
 
--- no sign is left without its letter
+-- the label at the end of the bytes; none where a sign is left without its letter
 abbrev pub ended : Label → Mark → Option Label
 ended a Absent = None
 ended a Yes = Some a
 ended a No = None
 ended a Unknown = None
 
--- the label of one mark after the other
+-- the label that the bytes are read as, one after the other
 abbrev pub marks_read : Reading → List ℕ → Option Label
 marks_read r [] = ended r.label r.sign
 marks_read r (b ∷ bytes) = option_and_then (λ next. marks_read next bytes) (after_byte r b)
@@ -77,12 +77,12 @@ label_read (b ∷ bytes) = if b == 45 && length bytes == 0 then Some empty else 
 abbrev pub marks_text : List (ℕ × Mark) → List ℕ
 marks_text ms = flat_map (λ m. printed_mark (letter_of m.0) m.1) ms
 
--- the label with these marks more
+-- the label with these marks set in it
 abbrev pub label_with : Label → List (ℕ × Mark) → Label
 label_with a [] = a
 label_with a (m ∷ ms) = label_with (with_mark a m.0 m.1) ms
 
--- each is a mark of one of the 52 propositions that has none in the label, nor before in the list
+-- each element gives a mark to one of the 52 propositions, which neither the label nor an earlier element marks
 abbrev pub AreNew : Label → List (ℕ × Mark) → Type 0
 AreNew a [] = Unit {0}
 AreNew a (m ∷ ms) = (m.0 < 52) × (m.1 ≢ Absent) × (a m.0 ≡ Absent) × AreNew (with_mark a m.0 m.1) ms

@@ -7,7 +7,7 @@ use Rattle.cstn_text.specs.Names.{is_name}
 abbrev pub is_plain_byte : ℕ → Bool
 is_plain_byte b = nat_le 33 b && nat_le b 126 && not (b == 37) || nat_le 128 b
 
--- every other byte is `%` and two upper-case hexadecimal digits
+-- a plain byte is printed as itself, and every other byte as `%` and two upper-case hexadecimal digits
 abbrev pub printed_byte : ℕ → List ℕ
 printed_byte b = if is_plain_byte b then b ∷ [] else 37 ∷ digit_glyph true (b / 16) ∷ digit_glyph true (b % 16) ∷ []
 
@@ -23,16 +23,16 @@ hex_value b = if nat_le 48 b && nat_le b 57 then b - 48 else if nat_le 65 b && n
 abbrev pub escaped_byte : List ℕ → ℕ
 escaped_byte bytes = 16 * hex_value (slice_index bytes 0) + hex_value (slice_index bytes 1)
 
--- the text that was printed, without the first so many bytes
+-- the text that was printed as these bytes, of which the first `skip` are passed over
 unfoldable pub unprinted_after : ℕ → List ℕ → List ℕ
 unprinted_after skip [] = []
 unprinted_after zero (b ∷ bytes) = (if b == 37 then escaped_byte bytes else b) ∷ unprinted_after (if b == 37 then 2 else 0) bytes
 unprinted_after (suc skip) (b ∷ bytes) = unprinted_after skip bytes
 
--- the text that was printed, if one was
+-- the text that was printed as these bytes, if one was
 abbrev pub unprinted : List ℕ → List ℕ
 unprinted bytes = unprinted_after 0 bytes
 
--- the name of which these bytes are the printed form
+-- the name whose printed form these bytes are; none where they are no name's
 abbrev pub name_read : List ℕ → Option (List ℕ)
 name_read bytes = if is_name (unprinted bytes) && bytes_eq (printed_name (unprinted bytes)) bytes then Some (unprinted bytes) else None

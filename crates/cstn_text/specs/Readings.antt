@@ -1,4 +1,4 @@
--- What a reading of the program stands for.
+-- How the program's reading of a label stands for that of the definitions.
 use Rattle.cstn_label.specs.Read.{marks}
 use Rattle.cstn_text.specs.declared.printed_labels.Reading.{Reading}
 use Rattle.cstn_text.specs.PrintedLabels.{Reading as TheReading}

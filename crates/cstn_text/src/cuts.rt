@@ -4,7 +4,7 @@ ghost use Rattle.std.specs.Prelude.{◌≡◌, ◌<◌, ◌==◌, IfSome, length
 ghost use Rattle.std.specs.Option.{option_map};
 ghost use Rattle.cstn_text.specs.Cuts.{cut_at};
 
-/// The first place of the byte, if it is there.
+/// The first place of the byte; none where it doesn't occur.
 pub fn first_place(bytes: &[u8], byte: u8) -> Option<usize>
     ensures place { result ≡ position (λ b. b == byte) bytes.now }
     ensures inside { IfSome result (λ i. i < length bytes.now) }

@@ -19,7 +19,7 @@ pub fn numbers_have_one_text()
     ensures small { (text : List ℕ) (n : ℕ) → number_read text ≡ Some n → n < 2 ^ 64 }
 {}
 
-/// Each value has one text.
+/// Each value from -2,147,483,648 to 2,147,483,647 has one text.
 #[tactic(auto, using(crate::proofs::NumberLemmas::value_back, crate::proofs::NumberLemmas::value_printed))]
 pub fn values_have_one_text()
     ensures back { (v : ℤ) → FitsSigned w32 v → value_read (printed_value v) ≡ Some v }
@@ -43,20 +43,21 @@ pub fn printed_names_are_short()
     ensures most { (name : List ℕ) → length (printed_name name) ≤ 3 * length name }
 {}
 
-/// A printed label is read again. The proposition numbers end at 51.
+/// The printed form of a label that marks no proposition above 51 is read as that label.
 #[tactic(auto, using(crate::proofs::PrintedLabelLemmas::label_back))]
 pub fn labels_are_read_back()
     ensures back { (a : Label) → ((p : ℕ) → 52 ≤ p → a p ≡ Absent) → label_read (printed_label a) ≡ Some a }
 {}
 
-/// The texts of labels are `-`, and marks in any order, a letter at most once.
+/// The texts that are read as labels are `-`, and one or more marks in any order with each letter at most once.
 #[tactic(auto, using(crate::proofs::AnyOrderLemmas::label_of_marks, crate::proofs::AnyOrderLemmas::label_said))]
 pub fn label_texts_are_marks()
     ensures read { (ms : List (ℕ × Mark)) → AreNew empty ms → 1 ≤ length ms → label_read (marks_text ms) ≡ Some (label_with empty ms) }
     ensures only { (text : List ℕ) (a : Label) → label_read text ≡ Some a → ((text ≡ 45 ∷ []) × (a ≡ empty)) ⊎ ((ms : List (ℕ × Mark)) × (1 ≤ length ms) × AreNew empty ms × (text ≡ marks_text ms) × (a ≡ label_with empty ms)) }
 {}
 
-/// What is printed, and what is read as a label, has some bytes, none of them a space or below it, so a line is cut at spaces without loss.
+/// Each printed text, and each text that is read as a label, has at least one byte, and none that is a space or below it. So
+/// a line of such texts can be cut at its spaces.
 #[tactic(auto, using(crate::proofs::PartLemmas::number_part, crate::proofs::PartLemmas::value_part, crate::proofs::PartLemmas::name_part, crate::proofs::PartLemmas::label_part, crate::proofs::AnyOrderLemmas::label_text_part))]
 pub fn printed_texts_are_parts()
     ensures number { (n : ℕ) → n < 2 ^ 64 → IsOnePart (printed_number n) }

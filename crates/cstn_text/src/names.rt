@@ -22,7 +22,7 @@ pub enum NameError {
     /// It is in the list already.
     #[error("the name is in the list already")]
     Twice,
-    /// There was no memory for it.
+    /// Memory for it was refused.
     #[error(transparent)]
     Memory(#[from(alloc)] AllocError),
 }
@@ -46,7 +46,7 @@ impl Model for Names {
 }
 
 impl Names {
-    /// No name. Those that come will be hashed with the key.
+    /// An empty list, whose names will be hashed with the key.
     pub fn new(alloc: Global, key: NameKey) -> Names
         ensures new { result ≡ [] }
     {
@@ -72,7 +72,7 @@ impl Names {
         self.set.as_slice()
     }
 
-    /// The number of a name, if it is in the list.
+    /// The number of a name; none where it isn't in the list.
     #[tactic(auto, using(crate::proofs::NameLemmas::position_map))]
     pub fn find(&self, name: &str) -> Option<u32>
         ensures find { result ≡ number_of self.now name.now }
@@ -83,7 +83,8 @@ impl Names {
         }
     }
 
-    /// The number of the name of which the bytes are the printed form, if it is in the list. It takes no memory.
+    /// The number of the name whose printed form the bytes are; none where there is no such name in the list. It takes no
+    /// memory.
     pub fn find_printed(&self, bytes: &[u8]) -> Option<u32>
         ensures find { result ≡ option_and_then (number_of self.now) (name_read bytes.now) }
     {
@@ -92,7 +93,7 @@ impl Names {
         self.find(name)
     }
 
-    /// The name of a number.
+    /// The name of a time-point, whose number must be below `count`.
     pub fn name(&self, x: NodeId) -> &str
         requires { x.0 < length self.now }
         ensures name { slice_get self.now x.0 ≡ Some result.now }
@@ -107,9 +108,8 @@ impl Names {
         self.set.contains(name)
     }
 
-    /// Puts a name at the end of the list, and answers its number.
-    ///
-    /// `Shape` where it has 0 bytes or more than 64, and else `Twice` where it is in the list already.
+    /// Puts a name at the end of the list, and answers its number. It refuses a name as `Shape` where it has 0 bytes or more
+    /// than 64, and else as `Twice` where it is in the list already. A name that is refused leaves the list as it was.
     pub fn push(&mut self, name: &str) -> Result<u32, NameError>
         requires { length self.old < 2 ^ 32 - 1 }
         ensures shape { IsErrOf result NameError.Shape ↔ ((length name.now ≡ 0) ⊎ (64 < length name.now)) }

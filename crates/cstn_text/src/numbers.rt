@@ -8,7 +8,7 @@ ghost use Rattle.cstn_text.specs.Numbers.{is_numeral, number_read, number_within
 use itoa::Buffer;
 use std::alloc::AllocError;
 
-/// The number below 2^64 that a text is: `0`, or digits that don't begin with `0`.
+/// Reads a text as a number below 2^64: `0`, or digits that don't begin with `0`. None where the text is no such number.
 pub fn read_number(bytes: &[u8]) -> Option<u64>
     ensures read { result ≡ number_read bytes.now }
 {
@@ -21,7 +21,8 @@ pub fn read_number(bytes: &[u8]) -> Option<u64>
     text.parse().ok()
 }
 
-/// The number from `low` to `high` that a text is. From 0 to `u32::MAX` it is an id, a place or a moment.
+/// Reads a text as a number from `low` to `high`; none where it is no such number. Ids, places and moments are read with the
+/// range from 0 to `u32::MAX`.
 pub fn read_number_within(low: u32, high: u32, bytes: &[u8]) -> Option<u32>
     ensures read { result ≡ number_within low high bytes.now }
     ensures low { IfSome result (λ n. low ≤ n) }
@@ -34,7 +35,8 @@ pub fn read_number_within(low: u32, high: u32, bytes: &[u8]) -> Option<u32>
     Some(n as u32)
 }
 
-/// Appends the text of a number. It takes no memory but for the room in the text; refused, the text stays.
+/// Appends the decimal digits of a number. It takes memory only for room in `text`. Where that is refused, `text` stays as it
+/// was.
 pub fn push_number(text: &mut String, n: u64) -> Result<(), AllocError>
     ensures pushed { OnOk result (string_bytes text.new ≡ string_bytes text.old ++ printed_number n) }
     ensures refused { OnErr result (string_bytes text.new ≡ string_bytes text.old) }
@@ -43,7 +45,8 @@ pub fn push_number(text: &mut String, n: u64) -> Result<(), AllocError>
     text.push_str(digits.format(n))
 }
 
-/// Appends the text of a value. It takes no memory but for the room in the text; refused, the text stays.
+/// Appends the decimal digits of a value, after `-` where it is below 0. It takes memory only for room in `text`. Where that
+/// is refused, `text` stays as it was.
 pub fn push_value(text: &mut String, v: i32) -> Result<(), AllocError>
     ensures pushed { OnOk result (string_bytes text.new ≡ string_bytes text.old ++ printed_value v) }
     ensures refused { OnErr result (string_bytes text.new ≡ string_bytes text.old) }
@@ -52,7 +55,8 @@ pub fn push_value(text: &mut String, v: i32) -> Result<(), AllocError>
     text.push_str(digits.format(v))
 }
 
-/// The value that a text is: `0`, or `-` or nothing and a number above 0, from -2,147,483,648 to 2,147,483,647.
+/// Reads a text as a value from -2,147,483,648 to 2,147,483,647: `0`, or a number above 0 with or without `-` before it. None
+/// where the text is no such value.
 pub fn read_value(bytes: &[u8]) -> Option<i32>
     ensures read { result ≡ value_read bytes.now }
 {

@@ -10,7 +10,7 @@ ghost use Rattle.cstn_text.specs.Pushes.{IsLonger};
 use cstn_label::{Label, Mark, Prop};
 use std::alloc::{AllocError, Global};
 
-/// The printed form of a label: `-`, or its marks in ascending proposition.
+/// The printed form of a label: `-` where it has no mark, and else its marks in ascending order of their propositions.
 pub fn print_label(alloc: Global, label: Label) -> Result<String, AllocError>
     ensures printed { IfOk result (λ text. string_bytes text ≡ printed_label (marks label)) }
 {
@@ -19,7 +19,7 @@ pub fn print_label(alloc: Global, label: Label) -> Result<String, AllocError>
     Ok(text)
 }
 
-/// Appends the printed form of a label. Refused, the text is the old one and maybe some bytes more.
+/// Appends the printed form of a label. Where memory is refused, `text` may have some bytes more than before.
 pub fn push_label(text: &mut String, label: Label) -> Result<(), AllocError>
     ensures pushed { OnOk result (string_bytes text.new ≡ string_bytes text.old ++ printed_label (marks label)) }
     ensures refused { OnErr result (IsLonger (string_bytes text.old) (string_bytes text.new)) }
@@ -30,7 +30,8 @@ pub fn push_label(text: &mut String, label: Label) -> Result<(), AllocError>
     }
 }
 
-/// The label of a text, if it is one: `-`, or marks in any order with a letter at most once.
+/// Reads a text as a label: `-`, or one or more marks in any order with each letter at most once. None where the text is no
+/// such label.
 pub fn read_label(bytes: &[u8]) -> Option<Label>
     ensures read { option_map marks result ≡ label_read bytes.now }
 {
@@ -41,7 +42,7 @@ pub fn read_label(bytes: &[u8]) -> Option<Label>
     }
 }
 
-// Appends the marks, one step for each.
+// Appends the marks of a label in ascending order of their propositions, with one step for each.
 fn push_marks(text: &mut String, label: Label) -> Result<(), AllocError>
     ensures pushed { OnOk result (string_bytes text.new ≡ string_bytes text.old ++ marks_below (marks label) 52) }
     ensures refused { OnErr result (IsLonger (string_bytes text.old) (string_bytes text.new)) }

@@ -21,8 +21,8 @@ pub fn print_name(alloc: Global, name: &str) -> Result<String, AllocError>
     Ok(String::from_utf8(bytes).unwrap())
 }
 
-/// The name of which the bytes are the printed form; none where they are no name's. It looks at 192 bytes at most, and takes
-/// memory for the name alone.
+/// The name whose printed form the bytes are; none where they are no name's. It looks at 195 bytes at most, 3 for each byte
+/// of a name and 3 past them, and takes memory for the name alone.
 pub fn read_name(alloc: Global, bytes: &[u8]) -> Result<Option<String>, AllocError>
     ensures read { IfOk result (λ name. option_map string_bytes name ≡ name_read bytes.now) }
 {
@@ -35,7 +35,7 @@ pub fn read_name(alloc: Global, bytes: &[u8]) -> Result<Option<String>, AllocErr
     Ok(Some(String::from_str(alloc, name)?))
 }
 
-/// The name that a text is, if it is one.
+/// The text as a name; none where it isn't UTF-8 of 1 to 64 bytes.
 pub(crate) fn as_name(text: &[u8]) -> Option<&str>
     ensures some { IfSome result (λ name. (name.now ≡ text.now) × IsName text.now) }
     ensures none { IfNone result (IsName text.now → ⊥) }
@@ -49,7 +49,7 @@ pub(crate) fn as_name(text: &[u8]) -> Option<&str>
     Some(name)
 }
 
-/// The text that was printed as these bytes, if one of at most 64 bytes was.
+/// The text whose printed form these bytes are; none where there is no such text of at most 64 bytes.
 pub(crate) fn unprinted(bytes: &[u8]) -> Option<ArrayVec<u8, 64>>
     ensures printed { IfSome result (λ text. printed_name text.items ≡ bytes.now) }
     ensures none { IfNone result (name_read bytes.now ≡ None) }
@@ -67,7 +67,7 @@ pub(crate) fn unprinted(bytes: &[u8]) -> Option<ArrayVec<u8, 64>>
     Some(text)
 }
 
-// The byte of which the printed form stands first, and what follows.
+// The byte whose printed form stands first, and what follows it; none where no byte's printed form stands first.
 fn first_printed(bytes: &[u8]) -> Option<(u8, &[u8])>
     ensures first { IfSome result (λ r. bytes.now ≡ printed_byte r.0 ++ r.1.now) }
     ensures none { IfNone result ((b : ℕ) (rest : List ℕ) → bytes.now ≡ printed_byte b ++ rest → ⊥) }
@@ -79,7 +79,7 @@ fn first_printed(bytes: &[u8]) -> Option<(u8, &[u8])>
     }
 }
 
-// The byte that is printed as `%` and these two digits.
+// The byte that is printed as `%` and these two digits; none where no byte is.
 fn escaped_byte(high: u8, low: u8) -> Option<u8>
     ensures byte { IfSome result (λ b. printed_byte b ≡ 37 ∷ high ∷ low ∷ []) }
     ensures none { IfNone result ((b : ℕ) → printed_byte b ≡ 37 ∷ high ∷ low ∷ [] → ⊥) }

@@ -7,13 +7,13 @@ use std::alloc::Global;
 use std::process::Abort;
 use std::test::Fail;
 
-// The number of a name that was pushed.
+// Pushes a name and answers its number; none where it is refused.
 fn pushed(rt: &impl Abort, names: &mut Names, name: &str) -> Option<u32> {
     assert!(rt; names.count() < 1000);
     names.push(name).ok()
 }
 
-// The name is refused for its bytes.
+// Pushing the name is refused as `Shape`.
 fn no_shape(rt: &impl Abort, names: &mut Names, name: &str) {
     assert!(rt; names.count() < 1000);
     assert!(rt; matches!(names.push(name), Err(NameError::Shape)));
@@ -43,11 +43,11 @@ fn names_are_numbered_in_order(rt: HostRuntime) -> Result<(), Fail> {
     Ok(())
 }
 
-// 64 times the text of `%`.
+// The printed form of `%`, 64 times.
 const PERCENTS: &str =
     "%25%25%25%25%25%25%25%25%25%25%25%25%25%25%25%25%25%25%25%25%25%25%25%25%25%25%25%25%25%25%25%25%25%25%25%25%25%25%25%25%25%25%25%25%25%25%25%25%25%25%25%25%25%25%25%25%25%25%25%25%25%25%25%25";
 
-// The name is printed so, and read again.
+// The name is printed as `text`, which is read as the name.
 fn printed(rt: &impl Abort, alloc: Global, name: &str, text: &str) -> Result<(), Fail> {
     let found = print_name(alloc, name)?;
     assert_eq!(rt; found.as_str(), text);
@@ -87,7 +87,7 @@ fn names_are_printed_and_read(rt: HostRuntime) -> Result<(), Fail> {
     Ok(())
 }
 
-// The text is a label, which is printed so.
+// The text is read as a label, which is printed as `found`.
 fn label(rt: &impl Abort, alloc: Global, text: &[u8], found: &str) -> Result<(), Fail> {
     let label = read_label(text).expect(rt, found);
     assert_eq!(rt; print_label(alloc, label)?.as_str(), found);
