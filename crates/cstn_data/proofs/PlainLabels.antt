@@ -44,7 +44,7 @@ after_plain letter a b (x ∷ bytes) p e = byte_plain (after_byte letter x) a b 
 empty_plain : IsPlain empty
 empty_plain = λ p. tt
 
--- the label of a label text
+-- the label of a label text has no unknown mark
 pub label_plain : (bytes : List ℕ) (a : Label) → label_of bytes ≡ Some a → IsPlain a
 label_plain bytes a e =
     elim (which (is_of_empty bytes) _ _ _ e) [
@@ -52,7 +52,7 @@ label_plain bytes a e =
       | inr h ↦ after_plain literal empty a bytes empty_plain h.1
     ]
 
--- the label of a pair, where it is one
+-- the label of a pair has no unknown mark, where the pair has a label
 abbrev pub HasPlainLabel : Pair → Type 0
 HasPlainLabel pair = (a : Label) → pair.label ≡ Some a → IsPlain a
 
@@ -91,7 +91,7 @@ pairs_plain (suc skip) found [] pairs h e = absurd (cc)
 pairs_plain zero found (b ∷ bytes) pairs h e = pairs_by_plain (is_separator b) b bytes found pairs h (λ skip more p k. pairs_plain skip more bytes pairs p k) e
 pairs_plain (suc skip) found (b ∷ bytes) pairs h e = pairs_plain skip found bytes pairs h e
 
--- the labels of a text of values
+-- the labels of the pairs of a text of values have no unknown mark
 pub values_plain : (bytes : List ℕ) (pairs : List Pair) → values_of bytes ≡ Some pairs → All HasPlainLabel pairs
 values_plain [] pairs e = subst (All HasPlainLabel) (some_is e) (All-nil HasPlainLabel)
 values_plain (b ∷ bytes) pairs e =

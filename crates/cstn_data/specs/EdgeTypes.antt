@@ -10,7 +10,7 @@ is_kept_type bytes = is_same bytes [] || is_same bytes (codes "requirement") || 
 abbrev pub is_passed_type : List ℕ → Bool
 is_passed_type bytes = is_same bytes (codes "derived") || is_same bytes (codes "internal")
 
--- the type that a word names, if it names one
+-- what becomes of an edge whose type is this word; None where the word is no type
 abbrev pub edge_type_of : List ℕ → Option EdgeType
 edge_type_of bytes =
     if is_kept_type bytes then Some Kept else

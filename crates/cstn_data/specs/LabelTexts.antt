@@ -17,7 +17,7 @@ pub data Expects : Type 0 where
   second_byte : Expects
   letter : Expects
 
--- what a byte gives where a sign or a letter may stand, and what may follow it
+-- the literal that a byte completes, if it completes one, and what may follow it; None where the byte may not stand there
 abbrev pub after_byte : Expects → ℕ → Option (Option Literal × Expects)
 after_byte literal b =
     if is_white b then Some (None, literal) else
@@ -39,12 +39,12 @@ abbrev pub said_by : Bool → Mark
 said_by true = No
 said_by false = Yes
 
--- the label with the literal, whose letter doesn't stand there already
+-- the label with the literal, if there is one; None where the label has its letter already
 abbrev pub with_literal : Label → Option Literal → Option Label
 with_literal a None = Some a
 with_literal a (Some l) = when (is_absent (a l.prop)) (with_mark a l.prop (said_by l.negated))
 
--- the label that literals write when they follow those of a; None where they aren't of the form
+-- the label of the literals of a and of those that the bytes write behind them; None where the bytes aren't of the form
 unfoldable pub label_after : Expects → Label → List ℕ → Option Label
 label_after literal a [] = Some a
 label_after second_byte a [] = None
@@ -55,6 +55,6 @@ label_after expects a (b ∷ bytes) = after_byte expects b >>= λ found. with_li
 abbrev pub is_of_empty : List ℕ → Bool
 is_of_empty bytes = is_same bytes [] || is_same bytes (226 ∷ 138 ∷ 161 ∷ [])
 
--- a label text: one of the empty label, or literals
+-- the label of a label text, which is a text of the empty label, or literals
 abbrev pub label_of : List ℕ → Option Label
 label_of bytes = if is_of_empty bytes then Some empty else label_after literal empty bytes

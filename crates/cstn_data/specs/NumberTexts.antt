@@ -20,12 +20,12 @@ IsReaction ticks = (0 < ticks) × (ticks ≤ 1000)
 abbrev pub few_ticks : List ℕ → Option ℕ
 few_ticks digits = when (nat_le (length digits) 4) digits >>= λ few. short_number 1001 few >>= λ n. when (nat_lt 0 n) n
 
--- a reaction; an empty text is one of a tick
+-- a reaction in ticks; an empty text is a reaction of one tick
 abbrev pub reaction_in : List ℕ → Option ℕ
 reaction_in [] = Some 1
 reaction_in (b ∷ bytes) = few_ticks (b ∷ bytes)
 
--- `-`, or the three bytes of U+2212, and what follows it
+-- what follows the minus sign at the front, which is `-` or the three bytes of U+2212
 abbrev pub past_minus : List ℕ → Option (List ℕ)
 past_minus bytes = if begins (codes "-") bytes then Some (drop 1 bytes) else past (226 ∷ 136 ∷ 146 ∷ []) bytes
 
@@ -33,6 +33,6 @@ abbrev pub signed_text : List ℕ → Option (List ℕ) → Option ℤ
 signed_text bytes (Some digits) = short_number 2147483649 digits >>= λ n. Some (neg_ℤ (pos n))
 signed_text bytes None = short_number 2147483648 bytes >>= λ n. Some (pos n)
 
--- an integer text
+-- the integer of 32 bits that a text writes, as 1 to 10 digits with a minus sign before them or none
 abbrev pub integer_text : List ℕ → Option ℤ
 integer_text bytes = signed_text bytes (past_minus bytes)

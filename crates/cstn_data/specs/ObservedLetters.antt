@@ -6,7 +6,7 @@ abbrev pub maybe_prop : Option ℕ → Option (Option ℕ)
 maybe_prop (Some p) = Some (Some p)
 maybe_prop None = None
 
--- the proposition of an observed letter; an empty text is none
+-- the proposition that a text of one letter names; an empty text names none, and any other isn't of the form
 abbrev pub observed_in : List ℕ → Option (Option ℕ)
 observed_in [] = Some None
 observed_in (b ∷ []) = maybe_prop (prop_of b)

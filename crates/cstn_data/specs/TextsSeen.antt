@@ -1,4 +1,4 @@
--- Literals, pairs and propositions of the program as those of a text.
+-- The literals, pairs and propositions that the program has, as those that the definitions speak of.
 use Rattle.std.specs.Prelude.{ℕ, Option, Some, None, option_map}
 use Rattle.cstn_label.specs.declared.props.Prop.{Prop}
 use Rattle.cstn_label.specs.Read.{marks}

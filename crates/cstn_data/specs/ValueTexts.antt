@@ -7,19 +7,19 @@ use Rattle.cstn_data.specs.WhiteSpace.{trimmed}
 use Rattle.cstn_data.specs.NumberTexts.{integer_text}
 use Rattle.cstn_data.specs.LabelTexts.{label_of}
 
--- a pair of a text of values: its integer, and its label; None where that isn't a label text
+-- a pair of a text of values: its integer, and its label, which is None where its text isn't a label text
 pub record Pair : Type 0 where
   pub most : ℤ
   pub label : Option Label
 
--- no bracket, brace or comma
+-- the byte may stand in a part of a pair: it is no bracket, brace or comma
 abbrev pub is_of_part : ℕ → Bool
 is_of_part b = not (b == 40 || b == 41 || b == 123 || b == 125 || b == 44)
 
 abbrev pub is_separator : ℕ → Bool
 is_separator b = is_white b || b == 44
 
--- exactly one of two parts is an integer text
+-- the pair of two parts, of which exactly one is an integer text and the other one is the label
 abbrev pub pair_of : List ℕ → List ℕ → Option ℤ → Option ℤ → Option Pair
 pair_of first second (Some n) None = Some (record { most = n; label = label_of second })
 pair_of first second None (Some n) = Some (record { most = n; label = label_of first })
@@ -29,11 +29,11 @@ pair_of first second None None = None
 abbrev pub paired : List ℕ → List ℕ → Option Pair
 paired first second = pair_of first second (integer_text first) (integer_text second)
 
--- how many bytes of a part stand at the front
+-- how many bytes at the front may stand in a part of a pair
 abbrev pub part_len : List ℕ → ℕ
 part_len bytes = prefix_len is_of_part bytes
 
--- the rest of a pair after its bracket, and how many bytes that takes
+-- the pair whose opening bracket stands before the bytes, and how many bytes it takes behind that bracket
 abbrev pub pair_at : List ℕ → Option (Pair × ℕ)
 pair_at bytes =
     let n = part_len bytes in
@@ -43,7 +43,8 @@ pair_at bytes =
     paired (trimmed (take n bytes)) (trimmed (take m behind)) >>= λ pair.
     Some (pair, n + m + 2)
 
--- What a byte among the pairs begins, given the pairs from each later byte on: a separator, the end of the text, or a pair.
+-- The pairs from the byte b on, which is a separator, the closing brace or the opening bracket of a pair; None for any other
+-- byte. `later` gives the pairs behind a number of further bytes.
 abbrev pub pairs_by : Bool → ℕ → List ℕ → List Pair → (ℕ → List Pair → Option (List Pair)) → Option (List Pair)
 pairs_by true b bytes found later = later 0 found
 pairs_by false b bytes found later =

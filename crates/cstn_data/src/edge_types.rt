@@ -29,7 +29,7 @@ fn is_passed_type(bytes: &[u8]) -> bool
     bytes == b"derived".as_slice() || bytes == b"internal".as_slice()
 }
 
-/// The type that a word names; none is `requirement`, and every other word names none.
+/// What becomes of an edge whose type is this word. The empty word counts as `requirement`. None where the word is no type.
 pub fn edge_type_of(bytes: &[u8]) -> Option<EdgeType>
     ensures { result ≡ edge_type_of bytes.now }
 {

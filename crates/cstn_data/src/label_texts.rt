@@ -25,7 +25,8 @@ pub struct Literal {
     pub negated: bool,
 }
 
-/// What a byte gives in a label text, and what may follow it.
+/// The literal that a byte of a label text completes, if it completes one, and what may follow it. None where the byte may not
+/// stand there.
 fn after_byte(expects: Expects, b: u8) -> Option<(Option<Literal>, Expects)>
     ensures { option_map (λ x. (maybe_literal x.0, expects_of x.1)) result ≡ after_byte (expects_of expects) b }
 {
@@ -68,7 +69,7 @@ fn said_by(negated: bool) -> Mark
     if negated { Mark::No } else { Mark::Yes }
 }
 
-/// The label with the literal, whose letter doesn't stand there already.
+/// The label with the literal, if there is one. None where the label has its letter already.
 fn with_literal(label: Label, literal: Option<Literal>) -> Option<Label>
     ensures { option_map marks result ≡ with_literal (marks label) (maybe_literal literal) }
 {
@@ -83,7 +84,7 @@ fn with_literal(label: Label, literal: Option<Literal>) -> Option<Label>
     }
 }
 
-/// The label that literals write.
+/// The label that literals write, with each letter at most once. None where the bytes aren't of this form.
 #[tactic(auto, unfolding(crate::specs::LabelTexts::label_after))]
 fn literals(bytes: &[u8]) -> Option<Label>
     ensures { option_map marks result ≡ label_after literal empty bytes.now }
@@ -111,7 +112,8 @@ fn is_of_empty(bytes: &[u8]) -> bool
     bytes == b"".as_slice() || bytes == [226, 138, 161].as_slice()
 }
 
-/// The label of a label text: one of the empty label, or literals with a letter at most once.
+/// The label of a label text, which is a text of the empty label, or literals with each letter at most once. None for any other
+/// text.
 pub fn label_of(bytes: &[u8]) -> Option<Label>
     ensures { option_map marks result ≡ label_of bytes.now }
 {

@@ -5,7 +5,7 @@ ghost use Rattle.cstn_data.specs.NumberTexts.{short_number, integer_text};
 
 use cstn_markup::number;
 
-/// The number that 1 to 10 digits write, below the limit.
+/// The number that 1 to 10 decimal digits write, below the limit. None for any other text.
 pub(crate) fn short_number(limit: u64, digits: &[u8]) -> Option<u64>
     ensures { result ≡ short_number limit digits.now }
 {
@@ -19,7 +19,7 @@ pub(crate) fn short_number(limit: u64, digits: &[u8]) -> Option<u64>
     Some(n)
 }
 
-/// An integer text.
+/// The integer of 32 bits that 1 to 10 digits write, with `-` or U+2212 before them or no sign. None for any other text.
 pub(crate) fn integer_text(bytes: &[u8]) -> Option<i32>
     ensures { result ≡ integer_text bytes.now }
 {

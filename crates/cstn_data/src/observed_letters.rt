@@ -6,7 +6,7 @@ ghost use Rattle.cstn_data.specs.TextsSeen.{prop_seen};
 
 use cstn_label::Prop;
 
-/// The proposition that one ASCII letter names. An empty text names none, and every other text isn't of the form.
+/// The proposition that one ASCII letter names. An empty text names none, which is `Some(None)`. None for any other text.
 pub fn observed_in(bytes: &[u8]) -> Option<Option<Prop>>
     ensures { option_map prop_seen result ≡ observed_in bytes.now }
 {

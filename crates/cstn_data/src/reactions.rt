@@ -5,7 +5,7 @@ ghost use Rattle.cstn_data.specs.NumberTexts.{reaction_in};
 
 use crate::number_texts::short_number;
 
-/// The reaction in ticks that 1 to 4 digits write, from 1 to 1,000. An empty text is one tick.
+/// The reaction in ticks that 1 to 4 digits write, from 1 to 1,000. An empty text is one tick. None for any other text.
 pub fn reaction_in(bytes: &[u8]) -> Option<u32>
     ensures { result ≡ reaction_in bytes.now }
 {

@@ -12,7 +12,7 @@ use crate::white_space::{is_white, trimmed};
 use cstn_label::Label;
 use std::marker::Model;
 
-/// A pair of a text of values: its integer, and its label; None where that isn't a label text.
+/// A pair of a text of values: its integer, and its label, which is None where its text isn't a label text.
 #[derive(Clone, Copy, Default)]
 pub struct Pair {
     pub most: i32,
@@ -31,7 +31,7 @@ fn is_separator(b: u8) -> bool
     is_white(b) || b == b','
 }
 
-/// How many bytes of a part stand at the front.
+/// How many bytes at the front may stand in a part of a pair.
 fn part_len(bytes: &[u8]) -> usize
     ensures value { result ≡ part_len bytes.now }
     ensures within { result ≤ length bytes.now }
@@ -39,7 +39,7 @@ fn part_len(bytes: &[u8]) -> usize
     bytes.iter().take_while(|b| is_of_part(**b)).count()
 }
 
-/// The pair of two parts, exactly one of which is an integer text.
+/// The pair of two parts, of which exactly one is an integer text and the other one is the label. None for any other parts.
 fn paired(first: &[u8], second: &[u8]) -> Option<Pair>
     ensures { option_map pair_seen result ≡ paired first.now second.now }
 {
@@ -57,7 +57,8 @@ fn paired(first: &[u8], second: &[u8]) -> Option<Pair>
     }
 }
 
-/// The rest of a pair after its bracket, and how many bytes that takes.
+/// The pair whose opening bracket stands before the bytes, and how many bytes it takes behind that bracket. None where the
+/// bytes aren't of this form.
 fn pair_at(bytes: &[u8]) -> Option<(Pair, usize)>
     ensures value { option_map (λ x. (pair_seen x.0, x.1)) result ≡ pair_at bytes.now }
     ensures within { IfSome result (λ x. x.1 ≤ length bytes.now) }
@@ -70,7 +71,8 @@ fn pair_at(bytes: &[u8]) -> Option<(Pair, usize)>
     Some((pair, n + m + 2))
 }
 
-/// What the pairs of a text begin with: the first one, and the bytes behind it; their end; or what is not of the form.
+/// What the pairs of a text begin with: the first pair with the bytes behind it, the closing brace that ends the text, or what
+/// isn't of the form.
 #[derive(Clone, Copy)]
 pub enum First<'a> {
     Pair { pair: Pair, rest: &'a [u8] },
@@ -150,7 +152,7 @@ impl<'a> Model for Pairs<'a> {
 }
 
 impl<'a> Pairs<'a> {
-    /// The next pair, which is taken.
+    /// Takes the next pair. None where no pair is left.
     pub fn next_pair(&mut self) -> Option<Pair>
         ensures taken { MatchOption result ((pairs_left self.old ≡ []) × (self.new ≡ self.old)) (λ pair. pairs_left self.old ≡ pair_seen pair ∷ pairs_left self.new) }
     {
@@ -165,7 +167,7 @@ impl<'a> Pairs<'a> {
     }
 }
 
-/// The pairs of a text of values; an empty one has none.
+/// The pairs of a text of values, to be taken one after the other. An empty text has none. None where a text isn't of the form.
 #[tactic(auto, unfolding(crate::specs::ValueTexts::pairs_after))]
 pub fn values_of(bytes: &[u8]) -> Option<Pairs>
     ensures { option_map pairs_left result ≡ values_of bytes.now }

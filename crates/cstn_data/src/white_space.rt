@@ -1,4 +1,4 @@
-//! White space.
+//! White space at the ends of a text.
 
 ghost use Rattle.std.specs.Prelude.{◌≡◌, ◌≤◌, length};
 ghost use Rattle.std.specs.List.{prefix_len, suffix_len, list_all};
@@ -43,7 +43,7 @@ fn white_end(bytes: &[u8]) -> usize
     bytes.iter().rev().take_while(|b| is_white(**b)).count()
 }
 
-/// Without the white space at both ends.
+/// The text without the white space at both ends.
 pub fn trimmed(bytes: &[u8]) -> &[u8]
     ensures { result.now ≡ trimmed bytes.now }
 {

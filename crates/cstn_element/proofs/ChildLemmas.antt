@@ -21,7 +21,7 @@ use Rattle.cstn_element.specs.declared.errors.DocError.TheVariants.{Shape}
 use Rattle.cstn_element.proofs.Places.{run_is, opens_by, tag_of}
 use Rattle.cstn_element.proofs.PassedOver.{fails_through}
 
--- white space at the front is passed, and then the same stands next
+-- behind white space, the same stands next at the tokens `first` and at the tokens `before`
 abbrev pub AreSame : List (List ℕ) → List Token → List Token → Type 0
 AreSame names first before = (past_blanks (inner (contents names first)) ≡ past_blanks (inner (contents names before))) × (outer (contents names first) ≡ outer (contents names before))
 
@@ -57,14 +57,14 @@ starts names first before after at child attributes closed c h d =
     let e = opens_by names at child attributes closed before after h ∙ ap (λ b. opened b closed names (tag_of at child attributes) (λ o. contents o after)) (lt-ltb (length names) 32 d) ∙ child_by closed names (tag_of at child attributes) after in
     record { told = c.0 ∙ ap (λ cs. past_blanks (inner cs)) e; left = c.1 ∙ ap outer e }
 
--- what stands next, by what it is
+-- two equal answers of `next_child` say the same of what stands next
 pub next_is : (n m : Next) (name : List ℕ) (others : List (List ℕ)) (before after : List Token) → IsNext n name others before after → n ≡ m → IsNext m name others before after
 next_is n m name others before after h e = subst (λ x. IsNext x name others before after) e h
 
 pub takes_one : (n : Next) (start : Start) (before after : ℕ) → Takes n before after → n ≡ Child start → after < before
 takes_one n start before after h e = subst (λ x. Takes x before after) e h
 
--- reading where texts are white space
+-- a reading in which white space changes no state and any other text is refused
 module _ {S A : Type 0} (r : Reading S A) (blanks : (s : S) (at : ℕ) (raw : List ℕ) → r.runs s at raw ≡ (blank at raw >>= λ same. Ok s)) where
   blank_by : (b : Bool) (s : S) (at : ℕ) (after : Content) → read_by r s after ≡ read_by r s (past_blanks after) → ((demand b (shape at) >>= λ same. Ok s) >>= λ t. read_by r t after) ≡ read_by r s (if b then past_blanks after else cut at)
   unfolding read_by
@@ -79,7 +79,7 @@ module _ {S A : Type 0} (r : Reading S A) (blanks : (s : S) (at : ℕ) (raw : Li
   read_past s (element tag content after) = refl
 
   module _ (start s : S) (name : List ℕ) (others : List (List ℕ)) (first before : List Token) (c : Continues (read_by r start) (read_by r s) (name ∷ others) first before) where
-    -- an element that was read
+    -- behind a child that was read, the reading goes on in the state that the child made
     pub fold_child : (t : S) (tag : Tag) (closed : Bool) (after later : List Token)
         → Reaches (name ∷ others) before (element tag (inside closed tag.at tag.name (name ∷ others) after) (inner (behind closed tag.name (name ∷ others) after))) (outer (behind closed tag.name (name ∷ others) after))
         → r.elements s tag (inside closed tag.at tag.name (name ∷ others) after) ≡ Ok t → behind closed tag.name (name ∷ others) after ≡ contents (name ∷ others) later
@@ -91,7 +91,7 @@ module _ {S A : Type 0} (r : Reading S A) (blanks : (s : S) (at : ℕ) (raw : Li
     }
 
     module _ {X : Type 0} (view : X → A) where
-      -- an element that was refused
+      -- a child that was refused has the element refused
       pub fold_child_fails : (e : DocError) (tag : Tag) (closed : Bool) (after later : List Token)
           → Reaches (name ∷ others) before (element tag (inside closed tag.at tag.name (name ∷ others) after) (inner (behind closed tag.name (name ∷ others) after))) (outer (behind closed tag.name (name ∷ others) after))
           → Fails e (r.elements s tag (inside closed tag.at tag.name (name ∷ others) after)) → Reads view (read_by r start) name others first later (Err e)
@@ -101,12 +101,12 @@ module _ {S A : Type 0} (r : Reading S A) (blanks : (s : S) (at : ℕ) (raw : Li
         left = tt;
       }
 
-      -- a token that isn't allowed
+      -- a token that isn't allowed has the element refused at its place
       pub fold_wrong : (at : ℕ) (after : List Token) → past_blanks (inner (contents (name ∷ others) before)) ≡ cut at → Reads view (read_by r start) name others first after (Err (Shape at))
       unfolding read_by
       fold_wrong at after e = record { told = c.told ∙ read_past s _ ∙ ap (read_by r s) e; left = tt }
 
-      -- the end, which may be refused
+      -- at the end, the answer for the element is what its end makes of the state, which may be a refusal
       pub fold_done : (x : X) (at : ℕ) (after : List Token) → Reaches (name ∷ others) before (done at) (contents others after) → r.ends s at ≡ Ok (view x) → Reads view (read_by r start) name others first after (Ok x)
       unfolding read_by
       fold_done x at after n e = record { told = c.told ∙ read_past s _ ∙ ap (read_by r s) n.told ∙ e; left = c.left ∙ n.left }

@@ -27,7 +27,7 @@ module _ {X : Type 0} (view : X → Option Datum) (used : List (List ℕ)) (take
   abbrev Told : Content → Result (Option Datum) Refusal
   Told content = datum used taken tag content
 
-  -- another key
+  -- a data element whose key isn't used is passed over
   pub unused_ok : (x : X) (t : Bool) → Told (inside closed tag.at name names before) ≡ datum_by false t key tag (inside closed tag.at name names before)
       → ReadsWhole {A = Unit {0}} (λ u. u) passed closed tag.at name names before after (Ok tt) → view x ≡ None → ReadsWhole view Told closed tag.at name names before after (Ok x)
   unused_ok x t e h v = record { told = e ∙ ap (λ o. o >>= λ same. Ok None) h.told ∙ ap (λ w. Ok w) (sym v); left = h.left }
@@ -36,7 +36,7 @@ module _ {X : Type 0} (view : X → Option Datum) (used : List (List ℕ)) (take
       → ReadsWhole {A = Unit {0}} (λ u. u) passed closed tag.at name names before after (Err e) → ReadsWhole view Told closed tag.at name names before after (Err e)
   unused_fails e t is h = record { told = subst (Fails e) (sym is) (fails_through e (passed (inside closed tag.at name names before)) (λ same. Ok None) h.told); left = tt }
 
-  -- a used key twice
+  -- a used key that was found before is refused
   pub taken_twice : Told (inside closed tag.at name names before) ≡ datum_by true true key tag (inside closed tag.at name names before) → ReadsWhole view Told closed tag.at name names before after (Err (Shape tag.at))
   taken_twice is = record { told = is; left = tt }
 

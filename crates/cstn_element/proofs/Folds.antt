@@ -16,13 +16,13 @@ use Rattle.cstn_element.proofs.Places.{run_is, closed_is, open_is, opens_by, tag
 use Rattle.cstn_element.proofs.PassedOver.{fails_through}
 
 module _ {S A X : Type 0} (r : Reading S A) (start : S) (view : X → A) where
-  -- a token that isn't allowed
+  -- a token that isn't allowed has the element refused at its place
   pub fold_cut : (s : S) (name : List ℕ) (others : List (List ℕ)) (at : ℕ) (first before after : List Token) → Continues (read_by r start) (read_by r s) (name ∷ others) first before
       → contents (name ∷ others) before ≡ all_cut (name ∷ others) at → Reads view (read_by r start) name others first after (Err (Shape at))
   unfolding read_by
   fold_cut s name others at first before after c e = record { told = c.told ∙ ap (λ cs. read_by r s (inner cs)) e; left = tt }
 
-  -- the end
+  -- at the end, the answer for the element is what its end makes of the state
   pub fold_end : (s : S) (x : X) (name : List ℕ) (others : List (List ℕ)) (at : ℕ) (first before after : List Token) → Continues (read_by r start) (read_by r s) (name ∷ others) first before
       → contents (name ∷ others) before ≡ done at ∷ contents others after → r.ends s at ≡ Ok (view x) → Reads view (read_by r start) name others first after (Ok x)
   unfolding read_by
@@ -42,7 +42,7 @@ module _ {S A X : Type 0} (r : Reading S A) (start : S) (view : X → A) where
       let is = run_is (name ∷ others) at raw before after h in
       record { told = subst (Fails e) (sym (c.told ∙ ap (λ cs. read_by r s (inner cs)) is)) (fails_through e (r.runs s at raw) (λ u. read_by r u (inner (contents (name ∷ others) after))) d); left = tt }
 
-  -- an element that is closed at once
+  -- behind an element that is closed at once, the reading goes on in the state that the element made
   pub fold_closed : (s t : S) (names : List (List ℕ)) (at : ℕ) (name : List ℕ) (attributes : List Attribute) (closed : Bool) (first before after : List Token) → Continues (read_by r start) (read_by r s) names first before
       → StepsBy (start_tag name attributes closed) (record { at = at; kind = start_tag name attributes closed }) before after → length names < 32 → closed ≡ true
       → r.elements s (tag_of at name attributes) (done at) ≡ Ok t → Continues (read_by r start) (read_by r t) names first after
@@ -51,7 +51,7 @@ module _ {S A X : Type 0} (r : Reading S A) (start : S) (view : X → A) where
       let e = closed_is names at name attributes closed before after h d q in
       record { told = c.told ∙ ap (λ cs. read_by r s (inner cs)) e ∙ ap (λ o. o >>= λ u. read_by r u (inner (contents names after))) m; left = c.left ∙ ap outer e }
 
-  -- an element that was read
+  -- behind an element that was read to its end, the reading goes on in the state that the element made
   pub fold_open : (s t : S) (names : List (List ℕ)) (at : ℕ) (name : List ℕ) (attributes : List Attribute) (closed : Bool) (first before after later : List Token) → Continues (read_by r start) (read_by r s) names first before
       → StepsBy (start_tag name attributes closed) (record { at = at; kind = start_tag name attributes closed }) before after → length names < 32 → closed ≡ false
       → r.elements s (tag_of at name attributes) (inner (contents (name ∷ names) after)) ≡ Ok t → outer (contents (name ∷ names) after) ≡ contents names later → Continues (read_by r start) (read_by r t) names first later
@@ -71,7 +71,7 @@ module _ {S A X : Type 0} (r : Reading S A) (start : S) (view : X → A) where
       let is = open_is (name ∷ others) at child attributes closed before after h d q in
       record { told = subst (Fails e) (sym (c.told ∙ ap (λ cs. read_by r s (inner cs)) is)) (fails_through e _ (λ u. read_by r u (inner (outer (contents (child ∷ (name ∷ others)) after)))) m); left = tt }
 
--- where no element may stand
+-- an element is refused where none may stand
 module _ {S A X : Type 0} (r : Reading S A) (start : S) (view : X → A) where
   refused_by : (b q : Bool) (s : S) (names : List (List ℕ)) (tag : Tag) (later : List (List ℕ) → List Content) → ((inside : Content) → r.elements s tag inside ≡ Err (shape tag.at)) → read_by r s (inner (opened b q names tag later)) ≡ Err (shape tag.at)
   unfolding read_by
@@ -87,7 +87,7 @@ module _ {S A X : Type 0} (r : Reading S A) (start : S) (view : X → A) where
     left = tt;
   }
 
--- an element, closed at once or not
+-- the reading goes on behind an element, closed at once or not
 module _ {S A : Type 0} (r : Reading S A) (start : S) where
   whole_by : (q : Bool) (s t : S) (names : List (List ℕ)) (at : ℕ) (name : List ℕ) (attributes : List Attribute) (closed : Bool) (first before after later : List Token) → closed ≡ q → Continues (read_by r start) (read_by r s) names first before
       → StepsBy (start_tag name attributes closed) (record { at = at; kind = start_tag name attributes closed }) before after → length names < 32
@@ -102,7 +102,7 @@ module _ {S A : Type 0} (r : Reading S A) (start : S) where
       → r.elements s (tag_of at name attributes) (inside closed at name names after) ≡ Ok t → behind closed name names after ≡ contents names later → Continues (read_by r start) (read_by r t) names first later
   fold_whole s t names at name attributes closed first before after later c h d m l = whole_by closed s t names at name attributes closed first before after later refl c h d m l
 
--- an element that was refused, closed at once or not
+-- an element that was refused, closed at once or not, has the element around it refused
 module _ {S A X : Type 0} (r : Reading S A) (start : S) (view : X → A) where
   pub element_fails : (q : Bool) (s : S) (e : DocError) (names : List (List ℕ)) (at : ℕ) (name : List ℕ) (attributes : List Attribute) (after : List Token) → Fails e (r.elements s (tag_of at name attributes) (inside q at name names after))
       → Fails e (read_by r s (inner (opened true q names (tag_of at name attributes) (λ o. contents o after))))

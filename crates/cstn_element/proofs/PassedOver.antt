@@ -22,12 +22,12 @@ regroup : (a b c : Result (Unit {0}) Refusal) → ((a >>= λ x. b) >>= λ y. c) 
 regroup (Ok u) b c = refl
 regroup (Err e) b c = refl
 
--- the element alone is open
+-- at the start, only the element itself is open
 pub passes_from : (name : List ℕ) (open_names others : List (List ℕ)) (start : List Token) → open_names ≡ name ∷ [] → Passes name open_names others start start
 unfolding all_passed around_all
 passes_from name open_names others start e = rw e (record { told = then_nothing (passed (inner (contents (name ∷ others) start))); left = refl })
 
--- a token that isn't allowed
+-- a token that isn't allowed has the element refused at its place
 pub passes_cut : (name : List ℕ) (open_names others : List (List ℕ)) (at : ℕ) (start before after : List Token) → 0 < length open_names → Passes name open_names others start before
     → contents (open_names ++ others) before ≡ all_cut (open_names ++ others) at → Reads {A = Unit {0}} (λ u. u) passed name others start after (Err (Shape at))
 unfolding passed all_passed
@@ -39,7 +39,7 @@ pub passes_unfinished : (name : List ℕ) (open_names others : List (List ℕ)) 
 passes_unfinished name [] others at start before after some c h = absurd (omega arith)
 passes_unfinished name (last ∷ names) others at start before after some c h = passes_cut name (last ∷ names) others at start before after some c (unfinished_is last (names ++ others) at before after h)
 
--- the end of the innermost element, or of another
+-- an end tag closes the innermost element where it has that one's name, and is refused otherwise
 pub passes_end : (name last tag : List ℕ) (open_names names others : List (List ℕ)) (at : ℕ) (start before after : List Token) → open_names ≡ last ∷ names → Passes name open_names others start before
     → StepsBy (end_tag tag) (record { at = at; kind = end_tag tag }) before after → true ≡ is_same tag last → Passes name names others start after
 unfolding passed all_passed around_all
@@ -81,7 +81,7 @@ passes_open name (last ∷ names) new others at child attributes closed start be
       left = c.left ∙ ap (around_all (last ∷ names)) e;
     })
 
--- no element is open
+-- where no element is open any more, the element was passed over to its end
 pub passes_all : (name : List ℕ) (open_names others : List (List ℕ)) (start after : List Token) → length open_names ≡ 0 → Passes name open_names others start after → Reads {A = Unit {0}} (λ u. u) passed name others start after (Ok tt)
 unfolding all_passed around_all
 passes_all name [] others start after none c = record { told = c.told; left = c.left }

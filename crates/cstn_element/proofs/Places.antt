@@ -1,4 +1,4 @@
--- What a token says of the contents that are left.
+-- The contents left at a token, by its kind.
 use Rattle.std.proofs.Common.{◌≡◌, ℕ, ◌<◌, ◌≤◌, Bool, true, false, List, [], ◌∷◌, length, refl, ap, sym, ◌∙◌, subst, le-ltb, lt-ltb}
 use Rattle.std.specs.Prelude.{nat_lt}
 use Rattle.cstn_markup.specs.Bytes.{is_same}
@@ -11,7 +11,7 @@ use Rattle.cstn_markup.specs.declared.token.Kind.{Kind as Lent}
 use Rattle.cstn_element.specs.Contents.{Tag, contents, contents_by, all_cut, with_run, with_closed, with_element, opened, closed_by}
 use Rattle.cstn_element.specs.Contents.Content.{done}
 
--- a step that gave a token of a kind
+-- what a step left, by the kind of the token that it gave
 pub step_of : (t : LentToken) (k : Lent) (before after : List Token) → Steps (token_of t) before after → t.kind ≡ k → StepsBy (kind_of k) (record { at = t.at; kind = kind_of k }) before after
 step_of t k before after h e = subst (λ q. StepsBy (kind_of q) (record { at = t.at; kind = kind_of q }) before after) e h
 

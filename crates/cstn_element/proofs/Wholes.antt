@@ -1,4 +1,4 @@
--- Elements that are closed at once, and attributes.
+-- Elements that are closed at once.
 use Rattle.std.proofs.Common.{◌≡◌, ℕ, List, ap, ◌∙◌, Ok, Result, Bool, true}
 use Rattle.cstn_markup.specs.Tokens.{Token}
 use Rattle.cstn_element.specs.Results.{Refusal}

@@ -17,16 +17,18 @@ past_blanks (cut at) = cut at
 past_blanks (run at raw after) = if list_all is_white raw then past_blanks after else cut at
 past_blanks (element tag content after) = element tag content after
 
--- a start tag of the program
+-- a start tag that the program read, as the definitions have it
 abbrev pub tag_seen : Start → Tag
 tag_seen start = record { at = start.at; name = start.name.now; attributes = start.attributes }
 
--- From some tokens in the element of this name to later ones: what stands next, and what stands around it.
+-- Inside open elements of these names, the innermost first, the tokens `before` begin with `found` behind white space. `around`
+-- is what is left of the elements around the innermost one.
 pub record Reaches (names : List (List ℕ)) (before : List Token) (found : Content) (around : List Content) : Type 0 where
   pub told : past_blanks (inner (contents names before)) ≡ found
   pub left : outer (contents names before) ≡ around
 
--- an element, of which the start tag was read, the end of the innermost element, which was read, or what isn't allowed
+-- What the tokens `before` begin with behind white space: an element, of which the start tag was read, the end of the innermost
+-- element, which was read, or a token that isn't allowed there. `after` are the tokens left then.
 abbrev pub IsNext : Next → List ℕ → List (List ℕ) → List Token → List Token → Type 0
 IsNext (Child start) name others before after =
     Reaches (name ∷ others) before
@@ -35,7 +37,7 @@ IsNext (Child start) name others before after =
 IsNext (End at) name others before after = Reaches (name ∷ others) before (done at) (contents others after)
 IsNext (Wrong at) name others before after = past_blanks (inner (contents (name ∷ others) before)) ≡ cut at
 
--- an element, of which the start tag was read, takes a token
+-- fewer tokens are left after a start tag, and no more than before after anything else
 abbrev pub Takes : Next → ℕ → ℕ → Type 0
 Takes (Child start) before after = after < before
 Takes (End at) before after = after ≤ before

@@ -1,4 +1,4 @@
--- Data elements of the program.
+-- The data elements that the program has, as those that the definitions speak of.
 use Rattle.std.specs.Prelude.{Option, Some, None}
 use Rattle.std.specs.Borrow.{Bor}
 use Rattle.cstn_data.specs.WhiteSpace.{trimmed}

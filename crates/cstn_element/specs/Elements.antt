@@ -13,7 +13,7 @@ abbrev pub or_no_bytes : Option (List ℕ) → List ℕ
 or_no_bytes (Some bytes) = bytes
 or_no_bytes None = []
 
--- the bytes with references put in; where the scanner gave them, each reference is of its form
+-- the bytes with each reference replaced by its character; in bytes that the scanner gave, each reference is of its form
 abbrev pub read_of : List ℕ → List ℕ
 read_of raw = or_no_bytes (resolved raw)
 
@@ -21,15 +21,15 @@ abbrev pub read_option : Option (List ℕ) → Option (List ℕ)
 read_option (Some raw) = Some (read_of raw)
 read_option None = None
 
--- the attribute of a name, references put in
+-- the value of the attribute with the name, its references replaced by their characters
 abbrev pub attribute : List ℕ → Tag → Option (List ℕ)
 attribute name tag = read_option (raw_with name tag.attributes)
 
--- text straight in an element that isn't passed over is white space
+-- a text between elements has to be white space, and is refused at its place otherwise
 abbrev pub blank : ℕ → List ℕ → Result (Unit {0}) Refusal
 blank at raw = demand (list_all is_white raw) (shape at)
 
--- of what is passed over, only the tokens and their nesting count
+-- what is passed over is refused only at a token that isn't of its form, is nested wrongly or too deep
 unfoldable pub passed : Content → Result (Unit {0}) Refusal
 passed (done at) = Ok tt
 passed (cut at) = Err (shape at)
@@ -49,7 +49,7 @@ read_by r s (cut at) = Err (shape at)
 read_by r s (run at raw after) = r.runs s at raw >>= λ t. read_by r t after
 read_by r s (element tag inside after) = r.elements s tag inside >>= λ t. read_by r t after
 
--- the texts of a data element, one after the other; no element stands in it
+-- the texts of a data element, joined; an element in it is refused
 abbrev pub texts_reading : Reading (List ℕ) (List ℕ)
 texts_reading = record {
   ends = λ found at. Ok found;
@@ -71,7 +71,7 @@ datum_by false is_taken key tag inside = passed inside >>= λ same. Ok None
 datum_by true true key tag inside = Err (shape tag.at)
 datum_by true false key tag inside = texts inside >>= λ bytes. Ok (Some (record { key = key; at = tag.at; value = trimmed bytes }))
 
--- a data element; None where its key isn't used, and refused where its key is used and taken
+-- a data element; None where its key isn't used, and refused where it has no key, or a used key that is taken
 abbrev pub datum : List (List ℕ) → (List ℕ → Bool) → Tag → Content → Result (Option Datum) Refusal
 datum used is_taken tag inside =
     or_refused (attribute (codes "key") tag) (shape tag.at) >>= λ key.
@@ -84,7 +84,7 @@ abbrev pub with_datum : List Datum → Option Datum → List Datum
 with_datum found (Some d) = found ++ (d ∷ [])
 with_datum found None = found
 
--- an element in a node or an edge
+-- the data found, after an element in a node or an edge: a data element is read, and any other element is passed over
 abbrev pub child : Bool → List (List ℕ) → List Datum → Tag → Content → Result (List Datum) Refusal
 child true used found tag inside = datum used (λ key. list_any (λ d. is_same d.key key) found) tag inside >>= λ d. Ok (with_datum found d)
 child false used found tag inside = passed inside >>= λ same. Ok found

@@ -1,4 +1,4 @@
--- What is found to be wrong without taking memory, as a refusal.
+-- Faults, which are found without taking memory, as refusals.
 use Rattle.cstn_element.specs.declared.errors.DocError.{DocError}
 use Rattle.cstn_element.specs.declared.errors.DocError.TheVariants.{Shape, Value, LabelText, Contingent, EdgeType}
 use Rattle.cstn_element.specs.declared.errors.Fault.{Fault}

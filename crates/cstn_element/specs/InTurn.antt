@@ -26,7 +26,8 @@ use Rattle.cstn_element.specs.declared.errors.DocError.TheVariants.{Shape}
 abbrev pub PassesBlanks : (S A : Type 0) → Reading S A → Type 0
 PassesBlanks S A r = (s : S) (at : ℕ) (raw : List ℕ) → r.runs s at raw ≡ (blank at raw >>= λ same. Ok s)
 
--- the reading began at the first tokens in one state, and is now at others in another: what it tells of the rest, it tells of all
+-- the reading began at the tokens `first` in the state `begun`, and is at the tokens `left` in the state `now`: what it answers
+-- from there on is what it answers of the whole
 abbrev pub IsAt : {S A : Type 0} → Reading S A → S → S → List (List ℕ) → List Token → List Token → Type 0
 IsAt r begun now names first left = Continues (read_by r begun) (read_by r now) names first left
 
@@ -53,7 +54,7 @@ IsRefusedNext S A X r view =
     → IsAt r begun now (name ∷ others) first before → IsNext next name others before after → next ≡ Wrong at
     → Reads view (read_by r begun) name others first after (Err (Shape at))
 
--- the end stands next, and the element is what its end makes of the state
+-- the end stands next, and the answer for the element is what its end makes of the state
 abbrev pub IsEnded : (S A X : Type 0) → Reading S A → (X → A) → Type 0
 IsEnded S A X r view =
     (begun now : S) (name : List ℕ) (others : List (List ℕ)) (first before after : List Token) (next : Next) (at : ℕ) (result : Result X DocError)
@@ -71,7 +72,7 @@ LeavesState S =
 abbrev pub tag_at : ℕ → Bor (List ℕ) → List Attribute → Tag
 tag_at at name attributes = record { at = at; name = name.now; attributes = attributes }
 
--- in the document: an element was read, and the reading goes on behind it
+-- an element was read in the document, and the reading goes on behind it, in the state that the element made
 abbrev pub GoesOnInDocument : (S A : Type 0) → Reading S A → Type 0
 GoesOnInDocument S A r =
     (begun now later : S) (first before inside behind : List Token) (t : LentToken) (name : Bor (List ℕ)) (attributes : List Attribute) (closed : Bool)
@@ -79,7 +80,7 @@ GoesOnInDocument S A r =
     → ReadsWhole {A = Unit {0}} (λ u. later) (r.elements now (tag_at t.at name attributes)) closed t.at name.now [] inside behind (Ok tt)
     → IsAt r begun later [] first behind
 
--- an element was refused, and so is the document
+-- an element in the document was refused, and so is the document
 abbrev pub IsRefusedInDocument : (S A : Type 0) → Reading S A → Type 0
 IsRefusedInDocument S A r =
     (begun now later : S) (first before inside behind : List Token) (t : LentToken) (name : Bor (List ℕ)) (attributes : List Attribute) (closed : Bool) (error : DocError)
@@ -87,14 +88,14 @@ IsRefusedInDocument S A r =
     → ReadsWhole {A = Unit {0}} (λ u. later) (r.elements now (tag_at t.at name attributes)) closed t.at name.now [] inside behind (Err error)
     → Fails error (read_by r begun (content_of first))
 
--- white space was read
+-- white space was read in the document, and the reading goes on behind it in the same state
 abbrev pub PassesBlank : (S A : Type 0) → Reading S A → Type 0
 PassesBlank S A r =
     (begun now : S) (first before after : List Token) (t : LentToken) (raw : Bor (List ℕ))
     → IsAt r begun now [] first before → Steps (token_of t) before after → t.kind ≡ Text raw → list_all is_white raw.now ≡ true
     → IsAt r begun now [] first after
 
--- an end tag, a text with more than white space, or what is of no form
+-- an end tag, a text with more than white space, or a token that isn't of its form
 abbrev pub IsStray : Lent → Type 0
 IsStray (StartTag name attributes closed) = ⊥
 IsStray (EndTag name) = Unit {0}
@@ -102,14 +103,14 @@ IsStray (Text raw) = list_all is_white raw.now ≡ false
 IsStray WrongToken = Unit {0}
 IsStray Finish = ⊥
 
--- such a token was read, and the document is refused at its place
+-- a stray token was read, and the document is refused at its place
 abbrev pub IsRefusedAt : (S A : Type 0) → Reading S A → Type 0
 IsRefusedAt S A r =
     (begun now : S) (first before after : List Token) (t : LentToken)
     → IsAt r begun now [] first before → Steps (token_of t) before after → IsStray t.kind
     → read_by r begun (content_of first) ≡ Err (shape t.at)
 
--- the document has ended, and is what its end makes of the state
+-- the document has ended, and the answer for it is what its end makes of the state
 abbrev pub IsFinished : (S A : Type 0) → Reading S A → Type 0
 IsFinished S A r =
     (begun now : S) (first before after : List Token) (t : LentToken)

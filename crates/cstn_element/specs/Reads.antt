@@ -10,7 +10,7 @@ use Rattle.cstn_element.specs.declared.errors.Fault.{Fault}
 use Rattle.cstn_element.specs.declared.errors.DocError.{DocError}
 use Rattle.cstn_element.specs.declared.errors.DocError.TheVariants.{NotUtf8, Shape, NameTwice, UnknownNode, Value, LabelText, Contingent, EdgeType, NoDeadline, Net, Lift, Memory}
 
--- an error is this refusal, or want of memory, which may come at any point
+-- the error is the refusal that the definition tells, or it is want of memory, which may come at any point
 abbrev pub Fails : {B : Type 0} → DocError → Result B Refusal → Type 0
 Fails (NotUtf8 at) told = told ≡ Err (not_utf8 at)
 Fails (Shape at) told = told ≡ Err (shape at)
@@ -25,7 +25,7 @@ Fails (Net error names) told = ⊥
 Fails (Lift error names) told = ⊥
 Fails (Memory e) told = Unit {0}
 
--- what was returned, its fault as a refusal
+-- what was returned, with a fault as the refusal that it stands for
 abbrev pub raised : {A : Type 0} → Result A Fault → Result A DocError
 raised (Ok x) = Ok x
 raised (Err fault) = Err (refusal_of fault)
@@ -39,13 +39,14 @@ abbrev pub LeavesAt : {A : Type 0} → Result A DocError → List (List ℕ) →
 LeavesAt (Ok x) names before after others = outer (contents names before) ≡ contents others after
 LeavesAt (Err e) names before after others = Unit {0}
 
--- The rest of the element of this name, in elements of the other names, was read: what was returned is what the meaning
--- of its content tells, and the tokens left are those behind its end.
+-- The rest of the element of this name, inside elements of the other names, was read: what was returned is what `meaning` tells
+-- of its content, and the tokens left are those behind its end.
 pub record Reads {A B : Type 0} (view : A → B) (meaning : Content → Result B Refusal) (name : List ℕ) (others : List (List ℕ)) (before after : List Token) (result : Result A DocError) : Type 0 where
   pub told : Gives view result (meaning (inner (contents (name ∷ others) before)))
   pub left : LeavesAt result (name ∷ others) before after others
 
--- From some tokens to later ones in the same element: what the first meaning tells of the rest, the later one tells.
+-- The reading went from the tokens `before` on to the tokens `after` in the same element: what `meaning` tells of the rest from
+-- `before` on, `later` tells of the rest from `after` on.
 pub record Continues {B : Type 0} (meaning later : Content → Result B Refusal) (names : List (List ℕ)) (before after : List Token) : Type 0 where
   pub told : meaning (inner (contents names before)) ≡ later (inner (contents names after))
   pub left : outer (contents names before) ≡ outer (contents names after)
@@ -55,12 +56,13 @@ abbrev pub inside : Bool → ℕ → List ℕ → List (List ℕ) → List Token
 inside true at name names left = done at
 inside false at name names left = inner (contents (name ∷ names) left)
 
--- and what stands behind it
+-- what stands behind that element, in each element around it
 abbrev pub behind : Bool → List ℕ → List (List ℕ) → List Token → List Content
 behind true name names left = contents names left
 behind false name names left = outer (contents (name ∷ names) left)
 
--- An element of which the start tag was read, in elements of these names, was read to its end.
+-- An element whose start tag was read, inside elements of these names, was read to its end: what was returned is what `meaning`
+-- tells of its content.
 pub record ReadsWhole {A B : Type 0} (view : A → B) (meaning : Content → Result B Refusal) (closed : Bool) (at : ℕ) (name : List ℕ) (names : List (List ℕ)) (before after : List Token) (result : Result A DocError) : Type 0 where
   pub told : Gives view result (meaning (inside closed at name names before))
   pub left : OnOk result (behind closed name names before ≡ contents names after)

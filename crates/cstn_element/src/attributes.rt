@@ -1,4 +1,4 @@
-//! Attributes with references put in.
+//! The values of attributes, with their references replaced by their characters.
 
 ghost use Rattle.std.specs.Prelude.{◌≡◌, ℕ, List, option_map, IfOk, IfSome};
 ghost use Rattle.std.specs.Str.{IsUtf8};
@@ -9,7 +9,8 @@ ghost use Rattle.cstn_element.specs.Elements.{read_option};
 use cstn_markup::{Attributes, resolve};
 use std::alloc::{AllocError, Global};
 
-/// The value of the attribute with this name, references put in.
+/// The value of the attribute with this name, its references replaced by their characters. None where no attribute has the
+/// name. Fails only where memory is refused.
 pub fn attribute(
     alloc: Global,
     attributes: &Attributes,
@@ -24,7 +25,7 @@ pub fn attribute(
     }
 }
 
-/// The value of the attribute with this name as a text, references put in.
+/// The same value as [`attribute`] gives, as a string.
 pub fn text_attribute(
     alloc: Global,
     attributes: &Attributes,

@@ -26,7 +26,8 @@ pub enum Next<'a> {
     Wrong { at: usize },
 }
 
-/// Reads what stands next in the element of this name, which is less than 31 deep.
+/// Reads what stands next in the element of this name, behind white space. The contract speaks of an element with fewer than 31
+/// others open around it.
 pub fn next_child<'a>(scanner: &mut Scanner<'a>, name: &[u8]) -> Next<'a>
     ensures next { (others : List (List ℕ)) → length others < 31 → IsNext result name.now others scanner.old scanner.new }
     ensures takes { Takes result (length scanner.old) (length scanner.new) }

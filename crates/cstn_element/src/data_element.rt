@@ -1,4 +1,4 @@
-//! A data element.
+//! Data elements, with their keys and values.
 
 ghost use Rattle.std.specs.Prelude.{◌≡◌, ℕ, List, ◌≤◌, ◌<◌, ◌+◌, length, map, IsSome};
 ghost use Rattle.std.specs.List.{list_any};
@@ -17,7 +17,8 @@ use cstn_data::trimmed;
 use cstn_markup::Scanner;
 use std::alloc::Global;
 
-/// A data element with a used key, and its text, of which the value is what stands between white space at the ends.
+/// A data element with a used key: the key, the place of its start tag in bytes, and its text. Its value is the text without
+/// the white space at both ends.
 #[derive(Drop)]
 pub struct Datum {
     pub key: Vec<u8>,
@@ -26,7 +27,7 @@ pub struct Datum {
 }
 
 impl Datum {
-    /// The text without the white space at both ends.
+    /// The value: the text without the white space at both ends.
     pub fn value(&self) -> &[u8]
         ensures { result.now ≡ (datum_seen self.now).value }
     {
@@ -48,7 +49,8 @@ fn is_found(found: &[Datum], key: &[u8]) -> bool
     found.iter().any(|d| d.key.as_slice() == key)
 }
 
-/// A data element of which the start tag was read, with so many elements around it; None where its key isn't used.
+/// Reads the rest of a data element, whose start tag was read and around which `depth` elements are open. None where its key
+/// isn't used. Refused where it has no key, where its key is used and was found before, and at a token that isn't allowed.
 pub fn read_datum<'a>(
     alloc: Global,
     scanner: &mut Scanner<'a>,
@@ -76,7 +78,7 @@ pub fn read_datum<'a>(
     Ok(Some(Datum { key, at, text }))
 }
 
-/// The data element with this key.
+/// The data element with this key, or None where none was found.
 pub fn datum_of<'a>(found: &'a [Datum], key: &[u8]) -> Option<&'a Datum>
     ensures { lent_datum result ≡ datum_of key.now (map datum_seen found.now) }
 {

@@ -9,7 +9,7 @@ use crate::errors::DocError;
 use cstn_markup::{Kind, Scanner, resolve};
 use std::alloc::Global;
 
-/// The texts of the rest of a data element, one after the other, references put in.
+/// The texts in the rest of a data element, joined, with their references replaced by their characters.
 fn read_texts(alloc: Global, scanner: &mut Scanner, name: &[u8]) -> Result<Vec<u8>, DocError>
     ensures reads { (others : List (List ℕ)) → Reads (λ v. v.items) texts name.now others scanner.old scanner.new result }
     ensures less { length scanner.new ≤ length scanner.old }
@@ -43,7 +43,8 @@ fn read_texts(alloc: Global, scanner: &mut Scanner, name: &[u8]) -> Result<Vec<u
     }
 }
 
-/// The text of an element of which the start tag was read.
+/// The text of a data element whose start tag was read, with its references replaced by their characters. Refused at a token
+/// that isn't allowed, such as the start tag of an element in it.
 pub fn read_element_text(
     alloc: Global,
     scanner: &mut Scanner,

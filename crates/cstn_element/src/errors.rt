@@ -10,7 +10,7 @@ use thiserror::Error;
 /// Why a document is refused. Places are bytes from 0 over the whole document.
 #[derive(Drop, Error)]
 pub enum DocError {
-    /// X1: the bytes aren't UTF-8; the first byte of the first wrong sequence.
+    /// X1: the bytes aren't UTF-8; the place is the first byte of the first wrong sequence.
     #[error("no UTF-8 at byte {at}")]
     NotUtf8 { at: usize },
     /// X2: a token isn't of its form, or isn't allowed where it stands.
@@ -31,7 +31,7 @@ pub enum DocError {
     /// X7: an edge is contingent.
     #[error("the type at byte {at} is contingent")]
     Contingent { at: usize },
-    /// X8: an edge's type is another word.
+    /// X8: an edge's type is a word that names no type.
     #[error("no type of an edge at byte {at}")]
     EdgeType { at: usize },
     /// X9: no deadline was handed in, and the document has none.

@@ -2,8 +2,9 @@
 
 ghost use Rattle.cstn_element.specs.InTurn.{GoesOn, IsRefusedInside, IsRefusedNext, IsEnded, LeavesState, GoesOnInDocument, IsRefusedInDocument, PassesBlank, IsRefusedAt, IsFinished};
 
-/// A way to read what stands in an element or in the document, where elements and white space alone may stand: its states,
-/// what the end makes of one, and the program's answer, which is seen as that. A type without fields names it, for the laws.
+/// A way to read the content of an element or of the document, in which only elements and white space may stand. `State` is the
+/// type of its states, `Found` that of what the end makes of a state, and `Answer` that of the program's answer, seen as a
+/// `Found`. A type without fields implements it, so that the laws can be stated of it.
 pub trait ElementReading {
     ghost use Rattle.cstn_element.specs.Elements.{Reading};
     ghost use Rattle.cstn_element.specs.InTurn.{PassesBlanks};
@@ -21,9 +22,9 @@ pub trait ElementReading {
     ghost blanks: { PassesBlanks State Found reading };
 }
 
-/// An element is read one child after the other. Behind a child that was read the reading goes on in the state that the child
-/// made. A child that is refused has the whole element refused, and so has what isn't allowed between the children, at its place.
-/// At the end the element is what the end makes of the state.
+/// An element is read one child after the other. Behind a child that was read, the reading goes on in the state that the child
+/// made. Where a child is refused, so is the element. A token that isn't allowed between the children has the element refused
+/// at the token's place. At its end the answer for the element is what the end makes of the state.
 pub fn elements_are_read_in_turn<R: ElementReading>()
     ensures child { GoesOn R.State R.Found R.reading }
     ensures refused { IsRefusedInside R.State R.Found R.Answer R.reading R.seen }
@@ -36,8 +37,9 @@ pub fn elements_passed_over_leave_the_state<R: ElementReading>()
     ensures passed { LeavesState R.State }
 {}
 
-/// A document is read one element after the other, in the same way: white space is passed, any other text, an end tag and a
-/// token that is of no form have the document refused at their place, and at the end it is what the end makes of the state.
+/// A document is read one element after the other, as an element is. White space is passed. Any other text, an end tag, or a
+/// token that isn't of its form has the document refused at its place. At the end of the document the answer is what the end
+/// makes of the state.
 pub fn documents_are_read_in_turn<R: ElementReading>()
     ensures child { GoesOnInDocument R.State R.Found R.reading }
     ensures refused { IsRefusedInDocument R.State R.Found R.reading }

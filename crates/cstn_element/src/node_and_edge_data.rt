@@ -14,7 +14,8 @@ use crate::passing::pass_element;
 use cstn_markup::Scanner;
 use std::alloc::Global;
 
-/// An element in a node or an edge, of which the start tag was read.
+/// Reads the rest of an element in a node or an edge, whose start tag was read. A data element with a used key is put behind
+/// those found, and any other element is passed over.
 fn read_child<'a>(
     alloc: Global,
     scanner: &mut Scanner<'a>,
@@ -58,7 +59,8 @@ fn read_data(
     }
 }
 
-/// The data of a node or an edge of which the start tag was read.
+/// The data elements with used keys of a node or an edge whose start tag was read, in order. Refused at a token that isn't
+/// allowed, at a data element without a key, and at a used key that stands twice.
 pub fn read_element_data(
     alloc: Global,
     scanner: &mut Scanner,

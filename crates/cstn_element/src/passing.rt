@@ -9,7 +9,8 @@ use crate::errors::Fault;
 use crate::open_names::OpenNames;
 use cstn_markup::{Kind, Scanner, Token};
 
-/// Passes over the rest of the element of this name, in which only tokens and nesting count.
+/// Passes over the rest of the element of this name. A fault is the first token that isn't of its form, is nested wrongly or
+/// too deep.
 fn pass_over<'a>(scanner: &mut Scanner<'a>, name: &'a [u8], depth: usize) -> Result<(), Fault>
     requires { depth < 32 }
     ensures reads { (others : List (List ℕ)) → length others ≡ depth → Reads (λ u. u) passed name.now others scanner.old scanner.new (raised result) }
@@ -44,7 +45,8 @@ fn pass_over<'a>(scanner: &mut Scanner<'a>, name: &'a [u8], depth: usize) -> Res
     Ok(())
 }
 
-/// Passes over an element of which the start tag was read, with so many elements around it.
+/// Passes over the rest of an element, whose start tag was read and around which `depth` elements are open. A fault is the
+/// first token that isn't of its form, is nested wrongly or too deep.
 pub fn pass_element<'a>(
     scanner: &mut Scanner<'a>,
     start: &Start<'a>,

@@ -4,7 +4,7 @@ use std::alloc::Global;
 use std::process::Abort;
 use std::test::Fail;
 
-// What the element that the text begins with has under the key `k`, or the words of its refusal.
+// The element with which the text begins has this value under the key `k`, or is refused with these words.
 fn expect(rt: &impl Abort, alloc: Global, text: &str, words: &str) -> Result<(), Fail> {
     let mut scanner = Scanner::new(text.as_bytes());
     let Token { at, kind } = scanner.step();
@@ -71,7 +71,7 @@ fn data_of_an_element(rt: HostRuntime) -> Result<(), Fail> {
     Ok(())
 }
 
-// A text in many pieces, of a hundred thousand bytes in all.
+// A text of 200,000 bytes, in two pieces with a comment between them.
 #[test]
 fn a_long_text(rt: HostRuntime) -> Result<(), Fail> {
     let alloc = rt.alloc();

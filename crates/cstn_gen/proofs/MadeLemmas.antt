@@ -18,7 +18,7 @@ use Rattle.cstn_gen.specs.Generated.{observed_by, props_of, point_name, constrai
 use Rattle.cstn_gen.specs.declared.constraints.Span.{Span}
 use Rattle.cstn_gen.specs.Made.{HasPoints, HasConstraints}
 
--- one more time-point
+-- the time-points with the next one at their end
 pub one_more_point : (size n : ℕ) (points : List TimePoint) (observes : Option Prop) → HasPoints size n points →
     option_map (λ p. p.index) observes ≡ observed_by (props_of size) n →
     HasPoints size (n + 1) (points ++ record { observes = observes; reaction = 1 } ∷ [])
@@ -36,7 +36,7 @@ points_count size n points has =
     let observes = ap length has.observes in
     omega (arith, observes, length-map points observed, length-map-range_with_len (observed_by (props_of size)) 0 n)
 
--- one more constraint, where one more draft gives one
+-- the constraints with the next one at their end, where a draft put behind the others gives that
 pub one_more_constraint : (number size n : ℕ) (drafts : List Draft) (d : Draft) →
     constraints_from 0 (drafts ++ d ∷ []) ≡ constraints_from 0 drafts ++ constraint_of n d ∷ [] →
     HasConstraints number size n drafts → the_constraint (constraint_of n d) ≡ constraint_at number size n →
@@ -48,7 +48,7 @@ one_more_constraint number size n drafts d more before is =
     ∙ ap (λ c. map (constraint_at number size) (range_with_len 0 n) ++ c ∷ []) is
     ∙ sym (map-range_with_len_more (constraint_at number size) 0 n n (omega arith))
 
--- a name has 1 to 64 bytes
+-- a name has at most 64 bytes
 pub name_short : (n : ℕ) → n < 2 ^ 32 → length (point_name n) ≤ 64
 name_short n small =
     let digits = length-decimal-le 10 (n + 1) (omega arith) (omega arith) (omega arith) in
@@ -74,14 +74,14 @@ fresh_name n small (suc k, inside, is) =
 pub names_count : (n : ℕ) → length (codes "Z" ∷ map point_name (range_with_len 0 n)) ≡ n + 1
 names_count n = let len = length-map-range_with_len point_name 0 n in omega (arith, len)
 
--- one more name
+-- the names with the next one at their end
 pub one_more_name : (n : ℕ) (names new : List (List ℕ)) (name : List ℕ) → names ≡ codes "Z" ∷ map point_name (range_with_len 0 n) →
     name ≡ point_name n → new ≡ names ++ name ∷ [] → new ≡ codes "Z" ∷ map point_name (range_with_len 0 (n + 1))
 one_more_name n names new name before is pushed =
     pushed ∙ ap (λ ns. ns ++ name ∷ []) before ∙ ap (λ t. codes "Z" ∷ (map point_name (range_with_len 0 n) ++ t ∷ [])) is
     ∙ ap (λ ns. codes "Z" ∷ ns) (sym (map-range_with_len_more point_name 0 n n (omega arith)))
 
--- a constraint with the ends and the label that are drawn from a state
+-- a constraint with the ends, the value and the label that are drawn from the state of its id is the one of that id
 pub drawn_is_at : (number size n x : ℕ) (s : Span) (l : TheLabel) → x ≡ state_at number size n → s ≡ span_at size x →
     marks l ≡ (literals_at size x).label →
     the_constraint (constraint_of n (record { from = s.from; to = s.to; most = s.most; label = l })) ≡ constraint_at number size n
@@ -90,7 +90,7 @@ drawn_is_at number size n x s l at ends label =
     ∙ ap (λ e. record { id = n; from = e.from; to = e.to; most = e.most; label = (literals_at size x).label }) ends
     ∙ ap (constraint_from size n) at
 
--- what was handed in, with reactions of a tick, is the network
+-- a network of what was handed in, with reactions of one tick, is the generated network
 pub made_is : (number size : ℕ) (n : NetworkParts) (points : List TimePoint) (drafts : List Draft) → n.deadline ≡ 10 + 2 * size →
     n.points ≡ points → n.constraints ≡ constraints_from 0 drafts → HasPoints size size points → ((p : ℕ) → reaction_of points p ≡ 1) →
     HasConstraints number size (2 * size) drafts → the_network n ≡ generated number size

@@ -1,4 +1,4 @@
--- The network of a number and a size is well-formed.
+-- The network that is generated for a number and a size is well-formed.
 use Rattle.std.proofs.Common.{ℕ, zero, suc, ◌≡◌, ◌≢◌, ◌⊎◌, inl, inr, ◌+◌, ◌*◌, ◌/◌, ◌<◌, ◌≤◌, Some, None, true, false, refl, ap, sym, subst, arith, ◌∙◌}
 use Rattle.std.specs.Prelude.{map, nat_lt, ◌==◌, if◌then◌else◌, cond, pos, ◌≤ℤ◌, negsuc}
 use Rattle.std.specs.List.{All, range_with_len}
@@ -48,7 +48,7 @@ module _ (number size : ℕ) (some : 1 ≤ size) (few : size ≤ 200) where
             ∙ ap (λ b. if b then Some (letter_prop i) else None) yes;
       }
 
-  -- which time-point observes what
+  -- x, which observes p, is one of the first k time-points after the origin, and p is its letter
   record Place (x p : ℕ) : Type 0 where
     later : 0 < x
     inside : x ≤ k

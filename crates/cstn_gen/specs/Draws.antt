@@ -1,7 +1,7 @@
 -- Numbers drawn by a linear recurrence.
 use Rattle.std.specs.Prelude.{ℕ, zero, suc, ◌+◌, ◌*◌, ◌%◌, ◌/◌, ◌^◌}
 
--- the state after a state
+-- the state that follows the state x
 unfoldable pub next : ℕ → ℕ
 next x = (x * 6364136223846793005 + 1442695040888963407) % 2 ^ 64
 
@@ -9,7 +9,7 @@ next x = (x * 6364136223846793005 + 1442695040888963407) % 2 ^ 64
 unfoldable pub number_below : ℕ → ℕ → ℕ
 number_below m x = x / 2 ^ 33 % m
 
--- the state after n further states
+-- the state n steps after x
 abbrev pub after : ℕ → ℕ → ℕ
 after zero x = x
 after (suc n) x = next (after n x)

@@ -26,7 +26,7 @@ pub(crate) fn letter(i: u32) -> Prop
     }
 }
 
-// The ends of a constraint, by the numbers that were drawn for it.
+// The ends and the value of a constraint, by the numbers that were drawn for it.
 fn span_of(q: u32, i: u32, j: u32, w: u32) -> Span
     requires { w < 10 }
     ensures span { result ≡ span_of q i j w }
@@ -53,14 +53,14 @@ fn span_of(q: u32, i: u32, j: u32, w: u32) -> Span
     }
 }
 
-// The earlier of two time-points, or the origin where they are one.
+// The lower one of the numbers of two time-points, or the origin where they are the same.
 fn lower_of(i: u32, j: u32) -> u32
     ensures { result ≡ lower_of i j }
 {
     if i == j { 0 } else { i.min(j) }
 }
 
-/// Draws the ends of a constraint.
+/// Draws the ends and the value of a constraint.
 pub(crate) fn draw_span(draws: &mut Draws, size: u32) -> Span
     requires some { 1 ≤ size }
     requires most { size ≤ 200 }

@@ -5,7 +5,7 @@ const FACTOR: u64 = 6_364_136_223_846_793_005;
 
 const STEP: u64 = 1_442_695_040_888_963_407;
 
-/// Numbers drawn one after another from a number.
+/// Draws numbers one after another by a linear recurrence from its state.
 #[derive(Drop)]
 pub(crate) struct Draws {
     pub(crate) state: u64,

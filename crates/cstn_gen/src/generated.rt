@@ -18,8 +18,9 @@ use std::alloc::{AllocError, Global};
 
 const MOST_PROPS: u32 = 6;
 
-/// The network of a number and a size: the origin `Z`, the time-points `T1` to `Tsize`, and two constraints for each of
-/// them, drawn by the recurrence. Fails for want of memory alone.
+/// Generates a network of a size from 1 to 200, and the names of its time-points. It has the origin `Z`, the time-points `T1`
+/// to `Tsize`, two constraints for each of these, drawn by the recurrence from `number`, and a deadline of 10 + 2 * `size`
+/// ticks. Fails only where memory is refused.
 #[tactic(auto, using(crate::proofs::WellFormed::well_formed))]
 pub fn network(alloc: Global, number: u64, size: u32) -> Result<(Network, Names), AllocError>
     requires some { 1 ≤ size }
@@ -40,7 +41,7 @@ pub fn network(alloc: Global, number: u64, size: u32) -> Result<(Network, Names)
     }
 }
 
-// The want of memory that an error tells.
+// The refusal of memory that a builder's error stands for, which may be no other error.
 fn memory_of(error: NetError) -> AllocError
     requires { number error ≡ 0 }
 {
@@ -115,7 +116,7 @@ fn add_constraint(builder: &mut Builder, span: &Span, label: Label) -> Result<()
     Ok(())
 }
 
-// `Z`, `T1`, `T2` and so on.
+// The names of the time-points: `Z`, `T1`, `T2` and so on.
 fn names_of(alloc: Global, size: u32) -> Result<Names, AllocError>
     requires few { size ≤ 200 }
     ensures names { IfOk result (λ names. names ≡ generated_names size) }

@@ -20,7 +20,7 @@ use Rattle.cstn_graphml.specs.Document.{Parts, or_nothing}
 use Rattle.cstn_graphml.specs.Labels.{labels_seen}
 use Rattle.cstn_graphml.specs.Networks.{with_points, with_drafts, point_of, draft_of, drawn_of, numbered, observed_prop, reaction_by, reaction_among, observation_of, builder_of, at_origin, HasParts, network_of, IsBuilt}
 
--- one element more in the middle
+-- the last element of one list may as well be the first of the next
 seam : {A : Type 0} (xs : List A) (x : A) (ys : List A) → (xs ++ (x ∷ [])) ++ ys ≡ xs ++ (x ∷ ys)
 seam xs x ys = append_assoc xs (x ∷ []) ys
 
@@ -56,7 +56,7 @@ seen_points : (observes : List (Option LentObservation)) → map observation_of 
 seen_points [] = refl
 seen_points (o ∷ observes) = rw (seen_point o, seen_points observes) refl
 
--- a builder's observations and reactions, by what its time-points observe
+-- the propositions and the reactions of a builder's time-points are those of their observations
 prop_kept : (prop : Option ℕ) (ticks : ℕ) → prop ≡ observed_prop (observation prop ticks)
 prop_kept (Some p) ticks = refl
 prop_kept None ticks = refl
@@ -122,7 +122,7 @@ same_network : {h k : ℕ} {os ps : List (Option ℕ)} {r s : ℕ → ℕ} {cs d
     → ◌≡◌ {A = Network} (record { deadline = h; observes = os; reaction = r; constraints = cs }) (record { deadline = k; observes = ps; reaction = s; constraints = ds })
 same_network a b c d = rw (a, b, c, d) refl
 
--- a network that such a builder made is that of the parts
+-- the network that the builder of a graph makes is that of the graph's parts
 pub made_network : (deadline : ℕ) (d : LentGraph) (n : NetworkParts) → IsBuilt (builder_of deadline d) n → the_network n ≡ network_of (parts_with deadline d)
 made_network deadline d n h =
     let parts = has_parts deadline d in
@@ -131,23 +131,23 @@ made_network deadline d n h =
     (fun_ext (λ p. reactions_kept n.points p ∙ ap (λ os. reaction_among os p) observed_is))
     (ap (map the_constraint) h.constraints ∙ made_constraints 0 (builder_of deadline d).drafts ∙ ap (numbered 0) parts.constraints)
 
--- the names of a network that was made
+-- the network that was made has a time-point for each name of the graph
 pub made_count : (deadline : ℕ) (d : LentGraph) (n : NetworkParts) → IsBuilt (builder_of deadline d) n → length d.names ≡ length d.observes.items + 1 → length d.names ≡ length (the_network n).observes
 made_count deadline d n h e = omega (arith, e, length-map d.observes.items observed_seen, length-map (parts_with deadline d).observes observed_prop, ap (λ (x : Network). length x.observes) (made_network deadline d n h))
 
--- the reaction of the last time-point
+-- setting the reaction of the last time-point leaves those before it
 pub last_reacts : (points : List TimePoint) (t : TimePoint) (ticks : ℕ) → with_reaction (length points) ticks (points ++ (t ∷ [])) ≡ points ++ (record t { reaction = ticks } ∷ [])
 last_reacts [] t ticks = refl
 last_reacts (first ∷ points) t ticks = ap (λ later. first ∷ later) (last_reacts points t ticks)
 
--- what a builder holds before the constraints are handed in
+-- how many time-points a builder has after it was handed some
 pub points_count : (props : List (Option LentObservation)) (b c : BuilderParts) → c ≡ with_points props b → length c.points ≡ length b.points + length props
 points_count props b c e = rw (e, points_are props b, length-append b.points (map point_of props), length-map props point_of) refl
 
 pub among_rest : (n m : ℕ) (c : Lent) (rest next : List Lent) → rest ≡ c ∷ next → m ≡ n → All (λ (c : Lent). (c.from < n) × (c.to < n)) rest → All (λ (c : Lent). (c.from < m) × (c.to < m)) next
 among_rest n m c rest next e f h = subst (λ k. All (λ (c : Lent). (c.from < k) × (c.to < k)) next) (sym f) (All-tail (λ (c : Lent). (c.from < n) × (c.to < n)) c next (subst (All (λ (c : Lent). (c.from < n) × (c.to < n))) e h))
 
--- constraints between time-points of a graph, of the program
+-- the constraints of the program are between the time-points that those of the definitions are between
 pub among_seen : (n m : ℕ) (cs ds : List Lent) → ds ≡ cs → m ≡ n → All (IsDrawnAmong n) (map drawn_seen cs) → All (λ (c : Lent). (c.from < m) × (c.to < m)) ds
 among_seen n m [] ds e f h = rw e (λ k d inside. absurd (omega (arith, inside)))
 among_seen n m (c ∷ cs) ds e f h = rw (e, f) (All-cons (λ (c : Lent). (c.from < n) × (c.to < n)) c cs (All-head (IsDrawnAmong n) (drawn_seen c) (map drawn_seen cs) h) (among_seen n n cs cs refl refl (All-tail (IsDrawnAmong n) (drawn_seen c) (map drawn_seen cs) h)))

@@ -1,4 +1,4 @@
--- Every graph of a graph is one.
+-- The laws of drawn graphs hold of everything that is read.
 use Rattle.std.proofs.Common.{◌≡◌, ℕ, ◌<◌, ◌≤◌, Bool, true, false, List, [], ◌∷◌, ◌++◌, length, refl, ap, subst, arith, Option, Some, None, Result, Ok, Err}
 use Rattle.std.specs.Prelude.{if◌then◌else◌, is_some, codes, not, nat_lt, nat_le, ◌&&◌}
 use Rattle.std.specs.List.{All, list_any}
@@ -63,11 +63,11 @@ picked true true later k n e z h = let i : 0 ≡ k = cc in subst (λ j. j < n) i
 picked true false later k n e z h = absurd (cc)
 picked false c later k n e z h = h k e
 
--- a node that was read has one of the numbers
+-- a node that was read has the number of a name
 node_inside : (name : List ℕ) (d : DrawnGraph) (k : ℕ) → IsDrawnGraph d → node_of name d ≡ Some k → k < length d.names
 node_inside name d k h e = picked (is_same name origin_name) (is_some d.origin) (number_of d.names name) k (length d.names) e (omega (arith, h.each)) (λ j f. (position-Some _ d.names j [] f).0)
 
--- where there is no room for it, a constraint changes nothing
+-- what holds of all constraints and of one more holds of them all, whether there is room for that one or not
 room_keeps : (P : DrawnConstraint → Type 0) (room : Bool) (cs : List DrawnConstraint) (c : DrawnConstraint) → All P cs → P c → All P (if room then cs ++ (c ∷ []) else cs)
 room_keeps P true cs c h p = All-push P cs c h p
 room_keeps P false cs c h p = h
@@ -118,12 +118,12 @@ node_by false name observed label d h t p =
 node_kept : (name : List ℕ) (observed : Option Observation) (label : Label) (d : DrawnGraph) → IsDrawnGraph d → IsWithReaction observed → IsPlain label → IsDrawnGraph (with_node name observed label d)
 node_kept name observed label d h t p = node_by (is_same name origin_name) name observed label d h t p
 
--- the reaction of a node
+-- the reaction of a node is in range
 reacting_in_reach : (found : Option Datum) (ticks : ℕ) → reacting found ≡ Ok ticks → IsReaction ticks
 reacting_in_reach None ticks e = subst IsReaction (ok_is 1 ticks e) (omega arith, omega arith)
 reacting_in_reach (Some x) ticks e = reaction_in_reach x.value ticks (given (reaction_in x.value) (bad_value x.at) ticks e)
 
--- the label of a node
+-- the label of a node is plain
 labelled_plain : (found : Option Datum) (label : Label) → labelled found ≡ Ok label → IsPlain label
 labelled_plain None label e = subst IsPlain (ok_is empty label e) (λ p. tt)
 labelled_plain (Some x) label e = label_plain x.value label (given (label_of x.value) (label_text x.at) label e)
@@ -185,7 +185,7 @@ pub graph_is_drawn : (inside : Content) (d : DrawnGraph) → in_graph empty_grap
 graph_is_drawn inside d k = read_keeps graph_reading IsDrawnGraph IsDrawnGraph (λ s at a h e. subst IsDrawnGraph (ok_is s a e) h) (λ s t at raw h e. blank_keeps IsDrawnGraph s t at raw h e)
     (λ s t tag content h e. child_kept (part_of tag.name) s t tag content h e) inside empty_graph d empty_is k
 
--- a graph that is there is one
+-- the laws of drawn graphs hold of the graph, if one was read
 abbrev Seen : Option DrawnGraph → Type 0
 Seen (Some d) = IsDrawnGraph d
 Seen None = Unit {0}

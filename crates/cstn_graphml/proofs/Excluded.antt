@@ -31,11 +31,11 @@ use Rattle.cstn_graphml.specs.Answers.{IsTold, IsLabelRefusal}
 use Rattle.cstn_element.specs.Reads.{Fails}
 use Rattle.cstn_graphml.proofs.Built.{all_points, built_points, built_drafts}
 
--- what is refused before a network is made is no fault of one
+-- a refusal by the grammar is none by the network
 pub no_net : {B : Type 0} (e : DocError) (told : Result B Refusal) → Fails e told → (error : NetError) (names : List (List ℕ)) → e ≢ Net error names
 no_net e told h error names is = subst (λ x. Fails x told) is h
 
--- nor of labels
+-- a refusal by the grammar is none by the labels
 pub no_lift : {B : Type 0} (e : DocError) (told : Result B Refusal) → Fails e told → (error : LiftError) (names : List (List ℕ)) → e ≢ Lift error names
 no_lift e told h error names is = subst (λ x. Fails x told) is h
 
@@ -51,11 +51,11 @@ told_no_lift (TwoObservers prop first second) names others e fault t is = absurd
 told_no_lift (NotPlain constraint) names others e fault t is = absurd (cc)
 told_no_lift (ReactionRange node) names others e fault t is = absurd (cc)
 
--- what is refused for its labels has a network
+-- a refusal by the labels is none by the network
 pub label_no_net : (m : Labelled) (names : List (List ℕ)) (e : DocError) → IsLabelRefusal m names e → (error : NetError) (others : List (List ℕ)) → e ≢ Net error others
 label_no_net m names e h error others is = subst (IsLabelRefusal m names) is h
 
--- and plain labels
+-- no refusal by the labels says that a label isn't plain
 pub plain_nodes : (network : NetworkParts) (d : LentGraph) (e : DocError) (node : NodeId) (others : List (List ℕ)) → IsDrawnGraph (graph_seen d) → length (labels_seen d) ≡ count (the_network network) → IsLabelRefusal (with_labels_of network d) d.names e → e ≢ Lift (NotPlainLabel node) others
 plain_nodes network d e node others graph each h is =
     let first = (subst (IsLabelRefusal (with_labels_of network d) d.names) is h).0.has in

@@ -23,7 +23,7 @@ nowhere p xs e h =
     let there : position p xs ≡ Some k = ap (λ b. cond b (Some k) None) (lt-ltb k (length xs) (any_place p xs h)) in
     absurd (cc)
 
--- a name that no node has, and that isn't the origin's
+-- a name that no node has, and that isn't the origin's, has no number
 fresh_by : (b c : Bool) (later : Option ℕ) → (if b then when c 0 else later) ≡ None → b ≡ false → later ≡ None
 fresh_by true c later e f = absurd (cc)
 fresh_by false c later e f = e

@@ -17,12 +17,12 @@ use Rattle.cstn_graphml.specs.Answers.{IsLabelRefusal, IsLiftTold}
 pub handed : (network : NetworkParts) (d : LentGraph) (labels : List Lent) → labels ≡ d.origin_label ∷ d.labels.items → with_labels network labels ≡ with_labels_of network d
 handed network d labels is = ap (λ (ls : List Lent). with_labels network ls) is
 
--- a labelled network of them
+-- a labelled network of the labels that were handed in is that of the graph
 pub lifted : (network : NetworkParts) (d : LentGraph) (labels : List Lent) (l : LabelledParts) → labels ≡ d.origin_label ∷ d.labels.items → l.base ≡ network → l.labels ≡ labels → the_labelled l ≡ with_labels_of network d
 lifted network d labels l is base same =
     ap (λ (net : NetworkParts). with_labels net l.labels) base ∙ ap (λ (ls : List Lent). with_labels network ls) same ∙ handed network d labels is
 
--- a refusal of them
+-- a refusal of the labels is told with their lowest fault, or is for want of memory
 module _ (m : Labelled) (names : List (List ℕ)) where
   lowest_of : (error : LiftError) → IsRefusal m error → (number error ≡ 0 → ⊥) → IsLowestFault m error
   lowest_of error (inl z) h = absurd (h z)

@@ -1,4 +1,4 @@
--- What a document is told to be.
+-- What a document means, its parts or its refusal, by what was read of it.
 use Rattle.std.proofs.Common.{◌≡◌, ℕ, List, ◌∷◌, length, refl, ap, sym, ◌∙◌, subst, arith, Option, Some, None, Result, Ok, Err, inl, inr}
 use Rattle.std.proofs.lemmas.Bool.{false_from_ne_true}
 use Rattle.std.specs.Prelude.{IfOk, IfErr}
@@ -36,13 +36,13 @@ use Rattle.cstn_graphml.proofs.DrawnGraphLaws.{document_is_drawn}
 told_at : (m n : ℕ) → m ≡ n → ◌≡◌ {A = Result Parts Refusal} (Err (not_utf8 m)) (Err (not_utf8 n))
 told_at m n e = rw e refl
 
--- bytes that aren't UTF-8
+-- bytes that aren't UTF-8 are refused at the first byte of the first wrong sequence
 pub not_text : (bytes : List ℕ) (word : Option ℕ) (at : ℕ) → (IsUtf8 bytes → ⊥) → at ≡ utf8_valid_len bytes → document bytes word ≡ Err (not_utf8 at)
 not_text bytes word at h e =
     ap (λ b. demand b (not_utf8 (utf8_valid_len bytes)) >>= λ same. in_document (content_of (tokens bytes)) >>= drawn_parts word) (false_from_ne_true (is_utf8 bytes) (λ t. h (IsUtf8-from_is_utf8 bytes t)))
     ∙ told_at (utf8_valid_len bytes) at (sym e)
 
--- the document of a text
+-- what a document of UTF-8 means is told by its tokens and elements
 pub of_text : (bytes : List ℕ) (word : Option ℕ) → IsUtf8 bytes → document bytes word ≡ (in_document (content_of (tokens bytes)) >>= drawn_parts word)
 of_text bytes word h = ap (λ b. demand b (not_utf8 (utf8_valid_len bytes)) >>= λ same. in_document (content_of (tokens bytes)) >>= drawn_parts word) (is_utf8-from_IsUtf8 bytes h)
 
@@ -60,22 +60,22 @@ refused_by (Net error names) read word h = absurd h
 refused_by (Lift error names) read word h = absurd h
 refused_by (Memory e) read word h = tt
 
--- refused by its tokens and elements
+-- the document is refused where its tokens and elements are
 pub refused_before : (bytes : List ℕ) (word : Option ℕ) (e : DocError) → IsUtf8 bytes → Fails e (in_document (content_of (tokens bytes))) → RefusesDocument (document bytes word) e
 refused_before bytes word e u h = subst (λ told. RefusesDocument told e) (sym (of_text bytes word u)) (refused_by e (in_document (content_of (tokens bytes))) word h)
 
--- read, without a deadline
+-- a document is refused where its graph was read and there is no deadline
 pub lacks_deadline : (bytes : List ℕ) (word : Option ℕ) (d : LentGraph) → IsUtf8 bytes → in_document (content_of (tokens bytes)) ≡ Ok (graph_seen d) → first_of_two word d.deadline ≡ None → document bytes word ≡ Err no_deadline
 lacks_deadline bytes word d u h e = of_text bytes word u ∙ ap (λ o. o >>= drawn_parts word) h ∙ ap (λ o. or_refused o no_deadline >>= λ deadline. Ok (parts_with deadline d)) e
 
--- read, with one
+-- a document has its parts where its graph was read and there is a deadline
 pub has_deadline : (bytes : List ℕ) (word : Option ℕ) (n : ℕ) (d : LentGraph) → IsUtf8 bytes → in_document (content_of (tokens bytes)) ≡ Ok (graph_seen d) → first_of_two word d.deadline ≡ Some n → document bytes word ≡ Ok (parts_with n d)
 has_deadline bytes word n d u h e = of_text bytes word u ∙ ap (λ o. o >>= drawn_parts word) h ∙ ap (λ o. or_refused o no_deadline >>= λ deadline. Ok (parts_with deadline d)) e
 
 pub read_is_drawn : (bytes : List ℕ) (d : LentGraph) → in_document (content_of (tokens bytes)) ≡ Ok (graph_seen d) → IsDrawnGraph (graph_seen d)
 read_is_drawn bytes d h = document_is_drawn (content_of (tokens bytes)) (graph_seen d) h
 
--- its network was made
+-- Of a document that has its parts, and whose network was made.
 module _ (told : Result Parts Refusal) (n : ℕ) (d : LentGraph) (network : NetworkParts) (is : told ≡ Ok (parts_with n d)) (built : IsBuilt (builder_of n d) network) (good : IsWellFormed (the_network network)) where
   labels_made : with_labels_of network d ≡ labelled_of (parts_with n d)
   labels_made = ap (λ (net : Network). record { base = net; labels = labels_seen d }) (made_network n d network built)
@@ -83,7 +83,7 @@ module _ (told : Result Parts Refusal) (n : ℕ) (d : LentGraph) (network : Netw
   well_made : IsWellFormed (the_network network) → IsWellFormed (labelled_of (parts_with n d)).base
   well_made = subst IsWellFormed (made_network n d network built)
 
-  -- and its labels have no fault
+  -- where its labels have no fault, the document is accepted
   pub made_document : (labelled : LabelledParts) (names : List (List ℕ)) → the_labelled labelled ≡ with_labels_of network d → names ≡ d.names → IsLabelled (the_labelled labelled) → ((error : LiftError) → HasFault (with_labels_of network d) error → ⊥) → IsDocument told labelled names
   made_document labelled names same named in_order none = record {
     parts = parts_with n d;
@@ -97,7 +97,7 @@ module _ (told : Result Parts Refusal) (n : ℕ) (d : LentGraph) (network : Netw
   all_made (Ok x) same named in_order none = made_document x.0 x.1 same named in_order none
   all_made (Err e) same named in_order none = tt
 
-  -- and its labels were refused
+  -- where its labels are refused, so is the document
   pub mislabelled_is_refused : (e : DocError) → IsLabelRefusal (with_labels_of network d) d.names e → RefusesDocument told e
   mislabelled_is_refused (Lift error names) h = record {
     parts = parts_with n d;
@@ -117,7 +117,7 @@ module _ (told : Result Parts Refusal) (n : ℕ) (d : LentGraph) (network : Netw
   mislabelled_is_refused NoDeadline h = absurd h
   mislabelled_is_refused (Net error names) h = absurd h
 
--- what follows of an error, of any error
+-- what follows for each error follows for the error that was returned, if one was
 pub each_error : {A E : Type 0} (P Q : E → Type 0) (r : Result A E) → ((e : E) → P e → Q e) → IfErr r P → IfErr r Q
 each_error P Q (Ok x) h p = tt
 each_error P Q (Err e) h p = h e p
@@ -142,7 +142,7 @@ lowest_of : (b : BuilderParts) (e : NetError) → IsRefusal b e → (number e �
 lowest_of b e (inl z) h = absurd (h z)
 lowest_of b e (inr l) h = l
 
--- its network was refused
+-- Of a document that has its parts, and whose network was refused.
 module _ (told : Result Parts Refusal) (n : ℕ) (d : LentGraph) (names : List (List ℕ)) (e : DocError) (is : told ≡ Ok (parts_with n d)) (named : names ≡ d.names) where
   unfit : (error : NetError) → IsRefusal (builder_of n d) error → (number error ≡ 0 → ⊥) → IsUnfitDocument told error names
   unfit error h z = record { parts = parts_with n d; told_are = is; unfit = record { builder = builder_of n d; parts_are = has_parts n d; fault = lowest_of _ error h z }; names_are = named }

@@ -51,7 +51,7 @@ RefusesDocument told NoDeadline = Fails NoDeadline told
 RefusesDocument told (Lift error names) = IsMislabelledDocument told error names
 RefusesDocument told (Memory e) = Unit {0}
 
--- how a refused builder is told
+-- the refusal of a document for what the builder refused: want of memory by itself, any other fault with the names
 abbrev pub IsTold : NetError → List (List ℕ) → DocError → Type 0
 IsTold (NoMemory e) names error = error ≡ Memory e
 IsTold TooManyNodes names error = error ≡ Net TooManyNodes names
@@ -64,13 +64,13 @@ IsTold (TwoObservers prop first second) names error = error ≡ Net (TwoObserver
 IsTold (NotPlain constraint) names error = error ≡ Net (NotPlain constraint) names
 IsTold (ReactionRange node) names error = error ≡ Net (ReactionRange node) names
 
--- how refused labels are told: by their lowest fault
+-- a document is refused for its labels: with their lowest fault and the names, or for want of memory
 abbrev pub IsLabelRefusal : Labelled → List (List ℕ) → DocError → Type 0
 IsLabelRefusal m names (Lift error others) = IsLowestFault m error × (others ≡ names)
 IsLabelRefusal m names (Memory e) = Unit {0}
 IsLabelRefusal m names error = ⊥
 
--- how a refusal of labels is told
+-- the refusal of a document for labels that were refused: want of memory by itself, any other fault with the names
 abbrev pub IsLiftTold : LiftError → List (List ℕ) → DocError → Type 0
 IsLiftTold (NoLiftMemory e) names error = error ≡ Memory e
 IsLiftTold OriginLabel names error = error ≡ Lift OriginLabel names

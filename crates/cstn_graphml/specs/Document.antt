@@ -25,14 +25,14 @@ part_of name =
     if is_same name (codes "node") then a_node else
     if is_same name (codes "edge") then an_edge else another
 
--- an element in the graph
+-- the graph, once an element in it was read
 abbrev pub graph_child : Part → DrawnGraph → Tag → Content → Result DrawnGraph Refusal
 graph_child a_datum graph tag inside = datum (codes "Deadline" ∷ []) (λ key. list_any (λ d. is_same d.key key) graph.own) tag inside >>= judged_deadline graph
 graph_child a_node graph tag inside = data_of (codes "Obs" ∷ (codes "Reaction" ∷ (codes "Label" ∷ []))) inside >>= judged_node tag graph
 graph_child an_edge graph tag inside = data_of (codes "Type" ∷ (codes "LabeledValues" ∷ [])) inside >>= judged_edge tag graph
 graph_child another graph tag inside = passed inside >>= λ same. Ok graph
 
--- what a graph makes of a graph
+-- how the graph is read: the state is what was read of it so far
 abbrev pub graph_reading : Reading DrawnGraph DrawnGraph
 graph_reading = record {
   ends = λ graph at. Ok graph;
@@ -43,13 +43,13 @@ graph_reading = record {
 abbrev pub in_graph : DrawnGraph → Content → Result DrawnGraph Refusal
 in_graph graph inside = read_by graph_reading graph inside
 
--- an element in the root: exactly one is a graph
+-- the graph of the root, if any, once an element in the root was read: a second graph is refused
 abbrev pub root_child : Bool → Option DrawnGraph → Tag → Content → Result (Option DrawnGraph) Refusal
 root_child true (Some graph) tag inside = Err (shape tag.at)
 root_child true None tag inside = in_graph empty_graph inside >>= λ graph. Ok (Some graph)
 root_child false seen tag inside = passed inside >>= λ same. Ok seen
 
--- the root, with its graph's graph once that is read
+-- how the root is read: the state is its graph, once that was read, and the end is refused without one
 abbrev pub root_reading : Reading (Option DrawnGraph) DrawnGraph
 root_reading = record {
   ends = λ seen at. or_refused seen (shape at);
@@ -60,12 +60,12 @@ root_reading = record {
 abbrev pub in_root : Content → Result DrawnGraph Refusal
 in_root inside = read_by root_reading None inside
 
--- an element of the document: the root, and nothing behind it
+-- the graph of the document, once an element of it was read: that is the root, and a second one is refused
 abbrev pub document_child : Option DrawnGraph → Tag → Content → Result (Option DrawnGraph) Refusal
 document_child (Some graph) tag inside = Err (shape tag.at)
 document_child None tag inside = demand (is_same tag.name (codes "graphml")) (shape tag.at) >>= λ same. in_root inside >>= λ graph. Ok (Some graph)
 
--- the document, with its root's graph once that is read
+-- how the document is read: the state is the graph of its root, once that was read, and the end is refused without one
 abbrev pub document_reading : Reading (Option DrawnGraph) DrawnGraph
 document_reading = record {
   ends = λ seen at. or_refused seen (shape at);
@@ -76,7 +76,8 @@ document_reading = record {
 abbrev pub in_document : Content → Result DrawnGraph Refusal
 in_document whole = read_by document_reading None whole
 
--- the labelled network of a document: names, what is observed and labels by number, and the constraints by id
+-- What a document says: the deadline in ticks, the names, observations and labels of the time-points by number, and the
+-- constraints by id.
 pub record Parts : Type 0 where
   pub deadline : ℕ
   pub names : List (List ℕ)
@@ -89,7 +90,7 @@ abbrev pub first_of_two : Option ℕ → Option ℕ → Option ℕ
 first_of_two (Some n) m = Some n
 first_of_two None m = m
 
--- an origin that is added observes nothing
+-- what the origin observes: nothing where its node wasn't read
 abbrev pub or_nothing : Option (Option Observation) → Option Observation
 or_nothing (Some observed) = observed
 or_nothing None = None

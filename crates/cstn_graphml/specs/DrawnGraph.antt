@@ -5,25 +5,25 @@ use Rattle.cstn_markup.specs.Bytes.{is_same, when}
 use Rattle.cstn_text.specs.Names.{number_of}
 use Rattle.cstn_element.specs.Elements.{Datum}
 
--- what a time-point observes: a proposition, and after how many ticks it is known
+-- what a time-point observes: a proposition, and its reaction, after how many ticks the outcome is known
 pub record Observation : Type 0 where
   pub prop : ℕ
   pub reaction : ℕ
 
--- the reaction of what observes nothing is ignored
+-- the observation of a node by its proposition, if any, and its reaction; without a proposition the reaction is ignored
 abbrev pub observation : Option ℕ → ℕ → Option Observation
 observation (Some p) ticks = Some (record { prop = p; reaction = ticks })
 observation None ticks = None
 
--- a constraint: at most so much from one time-point to another
+-- a constraint: where the label holds, `to` is at most `most` ticks after `from`
 pub record DrawnConstraint : Type 0 where
   pub from : ℕ
   pub to : ℕ
   pub most : ℤ
   pub label : Label
 
--- What was read so far: the graph's own data, what the origin observes, once its node was read, and its label, the names of
--- the time-points, of which the origin's stands first, and what those after the origin observe, and their labels.
+-- What was read of a graph so far. `own` has the data elements of the graph itself, and `origin` is None until the node of the
+-- origin was read. `names` begins with the origin; `observes` and `labels` are those of the time-points after it.
 pub record DrawnGraph : Type 0 where
   pub own : List Datum
   pub deadline : Option ℕ
@@ -40,7 +40,7 @@ origin_name = codes "Z"
 abbrev pub empty_graph : DrawnGraph
 empty_graph = record { own = []; deadline = None; origin = None; origin_label = empty; names = origin_name ∷ []; observes = []; labels = []; constraints = [] }
 
--- the number of the node of a name, where it was read
+-- the number of the node with this name, or None where none was read; the origin's is 0
 abbrev pub node_of : List ℕ → DrawnGraph → Option ℕ
 node_of name graph = if is_same name origin_name then when (is_some graph.origin) 0 else number_of graph.names name
 

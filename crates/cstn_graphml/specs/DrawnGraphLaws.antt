@@ -1,11 +1,11 @@
--- What holds of every graph of a graph.
+-- What holds of everything that was read of a graph.
 use Rattle.std.specs.Prelude.{ℕ, ◌≡◌, ◌<◌, ◌≤◌, ◌+◌, List, ◌∷◌, length, Option, Some, None}
 use Rattle.std.specs.List.{All}
 use Rattle.cstn_label.specs.Labels.{IsPlain}
 use Rattle.cstn_data.specs.NumberTexts.{IsReaction}
 use Rattle.cstn_graphml.specs.DrawnGraph.{Observation, DrawnGraph, DrawnConstraint, origin_name}
 
--- the ends are two of the first n time-points
+-- both ends are among the first n time-points
 abbrev pub IsDrawnAmong : ℕ → DrawnConstraint → Type 0
 IsDrawnAmong n c = (c.from < n) × (c.to < n)
 
@@ -14,13 +14,14 @@ abbrev pub IsWithReaction : Option Observation → Type 0
 IsWithReaction (Some o) = IsReaction o.reaction
 IsWithReaction None = Unit {0}
 
--- and so is the origin's, once its node was read
+-- what the origin observes, once its node was read, has a reaction in that range too
 abbrev pub IsTimelyOrigin : Option (Option Observation) → Type 0
 IsTimelyOrigin (Some observed) = IsWithReaction observed
 IsTimelyOrigin None = Unit {0}
 
--- the origin's name stands first, each name after it has its observation and its label, and each constraint is between two
--- time-points, of which there is one past the limit of a network at most; labels are plain, and reactions are in range
+-- The name of the origin stands first, and each name after it has an entry in `observes` and in `labels`. Each constraint is
+-- between time-points with names, one constraint at most is past the limit of a network, labels are plain, and reactions are in
+-- range.
 pub record IsDrawnGraph (d : DrawnGraph) : Type 0 where
   pub later : List (List ℕ)
   pub first : d.names ≡ origin_name ∷ later

@@ -1,4 +1,4 @@
--- Drawn graphs of the program.
+-- What the definitions see in a drawn graph of the program.
 use Rattle.std.specs.Prelude.{Option, option_map, map}
 use Rattle.cstn_label.specs.Read.{marks}
 use Rattle.cstn_graphml.specs.declared.drawn_graph.DrawnConstraint.{DrawnConstraint as LentDrawn}

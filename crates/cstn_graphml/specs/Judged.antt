@@ -1,4 +1,4 @@
--- Nodes, edges and deadlines, judged when they end.
+-- Nodes, edges and deadlines, which are checked and put in the graph when they end.
 use Rattle.std.specs.Prelude.{ℕ, ◌&&◌, not, Bool, true, false, nat_lt, nat_le, List, [], ◌∷◌, length, Option, Some, None, is_some, Result, Ok, Err, codes}
 use Rattle.cstn_label.specs.Labels.{Label, empty}
 use Rattle.cstn_element.specs.Results.{Refusal, ◌>>=◌, or_refused, demand}
@@ -14,12 +14,12 @@ use Rattle.cstn_element.specs.Contents.{Tag}
 use Rattle.cstn_element.specs.Elements.{attribute, Datum, datum_of}
 use Rattle.cstn_graphml.specs.DrawnGraph.{DrawnGraph, observation, node_of, with_node, with_constraint, with_deadline}
 
--- what a node observes
+-- the proposition that a node observes by its data element, if any
 abbrev pub observed : Option Datum → Result (Option ℕ) Refusal
 observed None = Ok None
 observed (Some d) = or_refused (observed_in d.value) (label_text d.at)
 
--- the reaction of a node, and a tick where none is written
+-- the reaction of a node in ticks, 1 where none is written
 abbrev pub reacting : Option Datum → Result ℕ Refusal
 reacting None = Ok 1
 reacting (Some d) = or_refused (reaction_in d.value) (bad_value d.at)
@@ -29,7 +29,7 @@ abbrev pub labelled : Option Datum → Result Label Refusal
 labelled None = Ok empty
 labelled (Some d) = or_refused (label_of d.value) (label_text d.at)
 
--- a node is judged when it ends
+-- the graph with a node whose data were read, or the refusal of the node
 abbrev pub judged_node : Tag → DrawnGraph → List Datum → Result DrawnGraph Refusal
 judged_node tag graph found =
     or_refused (attribute (codes "id") tag) (shape tag.at) >>= λ id.
@@ -40,7 +40,7 @@ judged_node tag graph found =
     labelled (datum_of (codes "Label") found) >>= λ label.
     Ok (with_node id (observation prop ticks) label graph)
 
--- whether an edge of this type, named at this place, is kept
+-- whether an edge of this type is kept; a contingent one is refused at the place of the type
 abbrev pub is_kept_as : ℕ → EdgeType → Result Bool Refusal
 is_kept_as at Kept = Ok true
 is_kept_as at PassedOver = Ok false
@@ -55,7 +55,7 @@ is_kept (Some d) = or_refused (edge_type_of d.value) (edge_type d.at) >>= is_kep
 abbrev pub with_pair : ℕ → ℕ → ℕ → Pair → DrawnGraph → Result DrawnGraph Refusal
 with_pair at from to p graph = or_refused p.label (label_text at) >>= λ label. Ok (with_constraint (record { from = from; to = to; most = p.most; label = label }) graph)
 
--- and with a constraint for each pair
+-- the graph with a constraint for each pair
 unfoldable pub with_pairs : ℕ → ℕ → ℕ → List Pair → DrawnGraph → Result DrawnGraph Refusal
 with_pairs at from to [] graph = Ok graph
 with_pairs at from to (p ∷ pairs) graph = with_pair at from to p graph >>= with_pairs at from to pairs
@@ -72,7 +72,7 @@ with_edge true at source target graph found =
     or_refused (node_of target graph) (unknown_node at) >>= λ to.
     with_values from to (datum_of (codes "LabeledValues") found) graph
 
--- an edge is judged when it ends
+-- the graph with the constraints of an edge whose data were read, or the refusal of the edge
 abbrev pub judged_edge : Tag → DrawnGraph → List Datum → Result DrawnGraph Refusal
 judged_edge tag graph found =
     or_refused (attribute (codes "source") tag) (shape tag.at) >>= λ source.
@@ -80,7 +80,7 @@ judged_edge tag graph found =
     is_kept (datum_of (codes "Type") found) >>= λ keeps.
     with_edge keeps tag.at source target graph found
 
--- the deadline is judged when its data element ends
+-- the graph with the deadline of a data element of its own, or the refusal of the value; None is one whose key isn't used
 abbrev pub judged_deadline : DrawnGraph → Option Datum → Result DrawnGraph Refusal
 judged_deadline graph None = Ok graph
 judged_deadline graph (Some d) = or_refused (deadline_of d.value) (bad_value d.at) >>= λ n. Ok (with_deadline d n graph)

@@ -30,7 +30,7 @@ abbrev pub reaction_by : Option Observation → ℕ → ℕ → ℕ
 reaction_by (Some o) p later = if o.prop == p then o.reaction else later
 reaction_by None p later = later
 
--- the reaction of the first observation of p, and a tick where there is none
+-- the reaction of the first observation of p in ticks, 1 where there is none
 abbrev pub reaction_among : List (Option Observation) → ℕ → ℕ
 reaction_among [] p = 1
 reaction_among (observed ∷ later) p = reaction_by observed p (reaction_among later p)
@@ -44,7 +44,7 @@ network_of parts = record {
   constraints = numbered 0 parts.constraints;
 }
 
--- and with the labels of its time-points
+-- the network of a document with the labels of its time-points
 abbrev pub labelled_of : Parts → Labelled
 labelled_of parts = record { base = network_of parts; labels = parts.labels }
 
@@ -62,22 +62,22 @@ draft_of c = record { from = c.from; to = c.to; most = c.most; label = c.label }
 abbrev pub drawn_of : LentDraft → DrawnConstraint
 drawn_of d = record { from = d.from; to = d.to; most = d.most; label = marks d.label }
 
--- the builder with the time-points at its end
+-- the builder, once it was handed these time-points after its own
 abbrev pub with_points : List (Option LentObservation) → BuilderParts → BuilderParts
 with_points [] b = b
 with_points (observed ∷ later) b = with_points later (record b { points = b.points ++ (point_of observed ∷ []) })
 
--- and with the constraints
+-- the builder, once it was handed these constraints after its own
 abbrev pub with_drafts : List Lent → BuilderParts → BuilderParts
 with_drafts [] b = b
 with_drafts (c ∷ cs) b = with_drafts cs (record b { drafts = b.drafts ++ (draft_of c ∷ []) })
 
--- what the origin observes
+-- what the origin observes: nothing where its node wasn't read
 abbrev pub at_origin : Option (Option LentObservation) → Option LentObservation
 at_origin (Some observed) = observed
 at_origin None = None
 
--- the builder of a graph
+-- the builder, once it was handed this deadline and what a graph holds
 abbrev pub builder_of : ℕ → LentGraph → BuilderParts
 builder_of deadline d = with_drafts d.constraints.items (with_points (at_origin d.origin ∷ d.observes.items) (record { deadline = deadline; points = []; drafts = [] }))
 
@@ -103,7 +103,7 @@ pub record IsFit (parts : Parts) : Type 0 where
   pub labelled : IsLabelled (labelled_of parts)
   pub faultless : (error : LiftError) → HasFault (labelled_of parts) error → ⊥
 
--- a network was made of a builder
+-- the network has what the builder was handed, and the ids of its constraints are their places
 pub record IsBuilt (b : BuilderParts) (n : NetworkParts) : Type 0 where
   pub deadline : n.deadline ≡ b.deadline
   pub points : n.points ≡ b.points

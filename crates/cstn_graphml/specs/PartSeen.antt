@@ -1,4 +1,4 @@
--- What an element in a graph is, in the program.
+-- What the definitions see in a `Part` of the program.
 use Rattle.cstn_graphml.specs.declared.graph.Part.{Part as Lent}
 use Rattle.cstn_graphml.specs.declared.graph.Part.TheVariants.{Datum, Node, Edge, Another}
 use Rattle.cstn_graphml.specs.Document.{Part}

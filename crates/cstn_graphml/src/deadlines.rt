@@ -1,4 +1,4 @@
-//! Deadlines, judged when their data element ends.
+//! Deadlines, which are checked and put in the graph when their data element ends.
 ghost use Rattle.std.specs.Prelude.{◌≡◌};
 ghost use Rattle.cstn_graphml.specs.Judged.{judged_deadline};
 ghost use Rattle.cstn_element.specs.DataElementSeen.{maybe_datum};
@@ -9,7 +9,8 @@ use crate::drawn_graph::{DrawnGraph, put_deadline};
 use cstn_data::deadline_of;
 use cstn_element::{Datum, DocError};
 
-/// Puts in the deadline that a data element of the graph has, if its key is used.
+/// Puts in the deadline of a data element of the graph, in ticks; None is one whose key isn't used. Refused with `Value` where
+/// the text isn't of its form.
 pub fn judge_deadline(datum: Option<Datum>, graph: &mut DrawnGraph) -> Result<(), DocError>
     ensures { Gives (λ u. graph_seen graph.new) result (judged_deadline (graph_seen graph.old) (maybe_datum datum)) }
 {

@@ -1,4 +1,4 @@
-//! The document around its root.
+//! Reading the whole document: its root, and what may stand around the root.
 
 ghost use Rattle.std.specs.Prelude.{◌≡◌, [], ◌≤◌, length, option_map};
 ghost use Rattle.cstn_element.specs.Contents.{content_of};
@@ -16,7 +16,8 @@ use cstn_markup::{Kind, Scanner, Token};
 use cstn_text::NameKey;
 use std::alloc::Global;
 
-/// An element of the document, of which the start tag was read: its root, behind which none stands.
+/// Reads an element of the document, whose start tag was read, and puts its graph in `seen`. Refused with `Shape` where its
+/// name isn't `graphml`, or where `seen` has a graph already.
 fn read_document_child(
     alloc: Global,
     key: NameKey,
@@ -39,7 +40,8 @@ fn read_document_child(
     Ok(())
 }
 
-/// The document of which no token was read.
+/// Reads the document, of which no token was read yet, to its end. Returns its graph, whose names are hashed with the key, or
+/// the first refusal; a document without a root is refused with `Shape` at its end.
 pub fn read_document(
     alloc: Global,
     key: NameKey,

@@ -12,14 +12,14 @@ use cstn_net::MAX_CONSTRAINTS;
 use cstn_text::{NameError, NameKey, Names};
 use std::alloc::{AllocError, Global};
 
-/// What a time-point observes, and after how many ticks it is known.
+/// The proposition that a time-point observes, and its reaction: after how many ticks the outcome is known.
 #[derive(Clone, Copy)]
 pub struct Observation {
     pub prop: Prop,
     pub reaction: u32,
 }
 
-/// A constraint, by the numbers of its time-points: at most so many ticks from one to the other where the label holds.
+/// A constraint, by the numbers of its time-points: where the label holds, `to` is at most `most` ticks after `from`.
 #[derive(Clone, Copy)]
 pub struct DrawnConstraint {
     pub from: u32,
@@ -28,8 +28,8 @@ pub struct DrawnConstraint {
     pub label: Label,
 }
 
-/// What was read of a graph so far: its own data, what the origin observes, once its node was read, and its label, the
-/// names of the time-points, of which the origin's stands first, and what those after the origin observe, and their labels.
+/// What was read of a graph so far. `own` has the data elements of the graph itself, and `origin` is None until the node of the
+/// origin was read. `names` begins with the origin; `observes` and `labels` are those of the time-points after it.
 #[derive(Drop)]
 pub struct DrawnGraph {
     pub own: Vec<Datum>,
@@ -42,7 +42,8 @@ pub struct DrawnGraph {
     pub constraints: Vec<DrawnConstraint>,
 }
 
-/// The graph of a graph of which nothing was read. Its names are hashed with the key.
+/// A graph of which nothing was read yet: it has the name of the origin alone. Its names are hashed with the key. Fails for
+/// want of memory alone.
 pub fn empty_graph(alloc: Global, key: NameKey) -> Result<DrawnGraph, AllocError>
     ensures { IfOk result (λ d. graph_seen d ≡ empty_graph) }
 {
@@ -62,7 +63,7 @@ pub fn empty_graph(alloc: Global, key: NameKey) -> Result<DrawnGraph, AllocError
     })
 }
 
-/// The number of the node of a name, where it was read.
+/// The number of the node with this name, or None where none was read. The origin's is 0.
 pub fn node_of(graph: &DrawnGraph, name: &str) -> Option<u32>
     ensures { result ≡ node_of name.now (graph_seen graph.now) }
 {
@@ -75,7 +76,8 @@ pub fn node_of(graph: &DrawnGraph, name: &str) -> Option<u32>
     }
 }
 
-/// Puts in a node of a name of 1 to 64 bytes that no node has.
+/// Puts in a node of a name of 1 to 64 bytes that no node has. Fails where memory is refused, or where the graph has 2^32 - 1
+/// names.
 pub fn put_node(
     graph: &mut DrawnGraph,
     name: &str,
@@ -106,7 +108,7 @@ pub fn put_node(
     }
 }
 
-/// Puts in a constraint, where the graph has none past the limit of a network.
+/// Puts in a constraint, unless the graph has one past the limit of a network already. Fails for want of memory alone.
 pub fn put_constraint(graph: &mut DrawnGraph, constraint: DrawnConstraint) -> Result<(), AllocError>
     ensures { OnOk result (graph_seen graph.new ≡ with_constraint (drawn_seen constraint) (graph_seen graph.old)) }
 {
@@ -117,7 +119,7 @@ pub fn put_constraint(graph: &mut DrawnGraph, constraint: DrawnConstraint) -> Re
     Ok(())
 }
 
-/// Puts in the deadline of a data element.
+/// Puts in a data element of the graph, and its deadline in ticks. Fails for want of memory alone.
 pub fn put_deadline(graph: &mut DrawnGraph, datum: Datum, deadline: u32) -> Result<(), AllocError>
     ensures { OnOk result (graph_seen graph.new ≡ with_deadline (datum_seen datum) deadline (graph_seen graph.old)) }
 {

@@ -1,4 +1,4 @@
-//! Edges, judged when they end.
+//! Edges, which are checked and put in the graph as constraints when they end.
 
 ghost use Rattle.std.specs.Prelude.{◌≡◌, map, true};
 ghost use Rattle.cstn_graphml.specs.Judged.{is_kept, with_pair, with_pairs, with_values, with_edge, judged_edge};
@@ -14,7 +14,7 @@ use cstn_data::{EdgeType, Pair, Pairs, edge_type_of, values_of};
 use cstn_element::{Datum, DocError, Fault, Start, datum_of, text_attribute};
 use std::alloc::Global;
 
-/// Whether an edge of this type is kept.
+/// Whether an edge is kept, by its data element `Type`, if it has one. A contingent or unknown type is refused.
 fn is_kept(datum: Option<&Datum>) -> Result<bool, Fault>
     ensures { Gives (λ b. b) (raised result) (is_kept (lent_datum datum.entry)) }
 {
@@ -72,7 +72,7 @@ fn put_pairs(
     Ok(())
 }
 
-/// Puts in the constraints of an edge between these two.
+/// Puts in the constraints between these time-points that the data element `LabeledValues` has, if the edge has one.
 fn put_values(
     from: u32,
     to: u32,
@@ -109,7 +109,8 @@ fn put_edge(
     put_values(from, to, datum_of(found, b"LabeledValues"), graph)
 }
 
-/// Puts in an edge whose data were read.
+/// Checks an edge whose data were read, and puts its constraints in the graph. Refused where it has no `source` or no `target`,
+/// where its type is contingent or unknown, where one of its ends is no earlier node, and where a datum isn't of its form.
 pub fn judge_edge(
     alloc: Global,
     start: &Start,

@@ -1,4 +1,4 @@
-//! The graph.
+//! Reading the graph: its deadline, its nodes and its edges.
 
 ghost use Rattle.std.specs.Prelude.{◌≡◌, ℕ, List, ◌≤◌, length};
 ghost use Rattle.cstn_graphml.specs.DrawnGraph.{empty_graph};
@@ -22,7 +22,7 @@ use cstn_markup::Scanner;
 use cstn_text::NameKey;
 use std::alloc::Global;
 
-/// What an element in a graph is.
+/// What an element in a graph is, by its name. `Another` is passed over.
 #[derive(Clone, Copy)]
 pub enum Part {
     Datum,
@@ -46,7 +46,7 @@ fn part_of(name: &[u8]) -> Part
     Part::Another
 }
 
-/// A data element of the graph, of which the start tag was read.
+/// Reads a data element of the graph, whose start tag was read, to its end, and puts in the deadline that it has, if any.
 fn read_graph_datum<'a>(
     alloc: Global,
     scanner: &mut Scanner<'a>,
@@ -62,7 +62,7 @@ fn read_graph_datum<'a>(
     judge_deadline(datum, graph)
 }
 
-/// A node of which the start tag was read.
+/// Reads a node, whose start tag was read, to its end, and puts it in.
 fn read_node(
     alloc: Global,
     scanner: &mut Scanner,
@@ -77,7 +77,7 @@ fn read_node(
     judge_node(alloc, start, found.as_slice(), graph)
 }
 
-/// An edge of which the start tag was read.
+/// Reads an edge, whose start tag was read, to its end, and puts its constraints in.
 fn read_edge(
     alloc: Global,
     scanner: &mut Scanner,
@@ -92,7 +92,7 @@ fn read_edge(
     judge_edge(alloc, start, found.as_slice(), graph)
 }
 
-/// An element in the graph, of which the start tag was read.
+/// Reads an element in the graph, whose start tag was read, to its end.
 fn read_graph_child<'a>(
     alloc: Global,
     scanner: &mut Scanner<'a>,
@@ -114,7 +114,7 @@ fn read_graph_child<'a>(
     }
 }
 
-/// The rest of the graph, which is the element of this name.
+/// Reads the graph, which has this name, from behind its start tag to its end.
 fn read_graph(
     alloc: Global,
     key: NameKey,
@@ -135,7 +135,8 @@ fn read_graph(
     }
 }
 
-/// A graph of which the start tag was read.
+/// Reads a graph, whose start tag was read, to its end. Returns what it holds, with names hashed with the key, or the first
+/// refusal.
 pub fn read_whole_graph(
     alloc: Global,
     key: NameKey,

@@ -1,4 +1,5 @@
-//! How the graph, the root and the document are read, one element after the other: each is named by a type, for the laws.
+//! How the graph, the root and the document are read, one element after the other. Each way has a type, to which the laws of
+//! `cstn_element` are applied.
 
 use cstn_element::ElementReading;
 

@@ -19,7 +19,7 @@ use cstn_net::Network;
 use cstn_text::Names;
 use std::alloc::{AllocError, Global};
 
-/// The names of a graph.
+/// The names of the time-points of a graph, the origin's first. The rest of the graph is dropped.
 pub fn names_of(graph: DrawnGraph) -> Names
     ensures { result ≡ graph.names }
 {
@@ -36,7 +36,7 @@ fn labels_of(alloc: Global, graph: &DrawnGraph) -> Result<Vec<Label>, AllocError
     Ok(labels)
 }
 
-/// How refused labels are told.
+/// The refusal of a document for labels that were refused: want of memory by itself, any other fault with the names.
 fn refusal(error: LiftError, names: Names) -> DocError
     ensures { IsLiftTold error names result }
 {
@@ -51,7 +51,7 @@ fn refusal(error: LiftError, names: Names) -> DocError
     }
 }
 
-/// The network of a graph with the labels of its time-points, and their names.
+/// The network of a graph with the labels of its time-points, and their names. Refused with the lowest fault of the labels.
 pub fn labelled_of(
     alloc: Global,
     network: Network,

@@ -8,8 +8,8 @@ ghost use Rattle.cstn_net.specs.Networks.{IsWellFormed};
 ghost use Rattle.cstn_graphml.specs.Document.{Parts, document};
 ghost use Rattle.cstn_graphml.specs.Networks.{network_of, IsUnfit};
 
-/// Of a document one constraint past the limit of a network is kept at most. With that one its parts make no network, and the
-/// fault that is told is that, or one with a lower number.
+/// Of the constraints of a document past the limit of a network, one at most is kept. Parts with that one make no network, and
+/// the fault that is told is `TooManyConstraints` or one with a lower number.
 pub fn documents_past_the_limit_are_refused()
     ensures kept { (bytes : List ℕ) (deadline : Option ℕ) (parts : Parts) → document bytes deadline ≡ Ok parts → length parts.constraints ≤ 16385 }
     ensures no_network { (parts : Parts) → 16384 < length parts.constraints → IsWellFormed (network_of parts) → ⊥ }

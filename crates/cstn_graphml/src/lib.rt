@@ -1,4 +1,4 @@
-//! The reader of the document profile.
+//! Reads GraphML documents, in the profile of docs/formats.md, as labelled networks with names.
 #![tactic(auto)]
 
 mod deadlines;

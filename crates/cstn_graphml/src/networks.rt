@@ -12,7 +12,7 @@ use crate::drawn_graph::{DrawnConstraint, DrawnGraph, Observation};
 use cstn_net::{Builder, NetError, Network};
 use std::alloc::{AllocError, Global};
 
-/// Hands in a time-point.
+/// Hands the builder a time-point, with its reaction where it observes something.
 fn put_point(builder: &mut Builder, observed: Option<Observation>) -> Result<(), AllocError>
     requires { length builder.old.points < 2 ^ 32 - 1 }
     ensures { OnOk result (builder.new ≡ record builder.old { points = builder.old.points ++ point_of observed ∷ [] }) }
@@ -30,7 +30,7 @@ fn put_point(builder: &mut Builder, observed: Option<Observation>) -> Result<(),
     }
 }
 
-/// Hands in the time-points.
+/// Hands the builder these time-points in their order.
 fn put_points(builder: &mut Builder, observes: &[Option<Observation>]) -> Result<(), AllocError>
     requires { length builder.old.points + length observes.now < 2 ^ 32 }
     ensures { OnOk result (builder.new ≡ with_points observes.now builder.old) }
@@ -43,7 +43,7 @@ fn put_points(builder: &mut Builder, observes: &[Option<Observation>]) -> Result
     Ok(())
 }
 
-/// Hands in a constraint.
+/// Hands the builder a constraint.
 fn put_constraint(builder: &mut Builder, c: DrawnConstraint) -> Result<(), AllocError>
     requires room { length builder.old.drafts < 2 ^ 32 - 1 }
     requires from { c.from < length builder.old.points }
@@ -54,7 +54,7 @@ fn put_constraint(builder: &mut Builder, c: DrawnConstraint) -> Result<(), Alloc
     Ok(())
 }
 
-/// Hands in the constraints.
+/// Hands the builder these constraints in their order.
 fn put_constraints(builder: &mut Builder, constraints: &[DrawnConstraint]) -> Result<(), AllocError>
     requires room { length builder.old.drafts + length constraints.now < 2 ^ 32 }
     requires among { All (λ c. (c.from < length builder.old.points) × (c.to < length builder.old.points)) constraints.now }
@@ -87,7 +87,7 @@ fn builder_of(alloc: Global, deadline: u32, graph: &DrawnGraph) -> Result<Builde
     Ok(builder)
 }
 
-/// The network of a graph with this deadline.
+/// The network of a graph with this deadline in ticks, or the fault for which the builder refuses it.
 pub fn network_of(alloc: Global, deadline: u32, graph: &DrawnGraph) -> Result<Network, NetError>
     requires { IsDrawnGraph (graph_seen graph.now) }
     ensures accepted { IfOk result (IsBuilt (builder_of deadline graph.now)) }

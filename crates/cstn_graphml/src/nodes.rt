@@ -1,4 +1,4 @@
-//! Nodes, judged when they end.
+//! Nodes, which are checked and put in the graph when they end.
 
 ghost use Rattle.std.specs.Prelude.{◌≡◌, map, option_map};
 ghost use Rattle.cstn_label.specs.Read.{marks};
@@ -16,7 +16,7 @@ use cstn_element::{Datum, DocError, Fault, Start, datum_of, text_attribute};
 use cstn_label::{Label, Prop};
 use std::alloc::Global;
 
-/// What a node observes.
+/// The proposition that a node observes by its data element `Obs`, if any. Refused where its text isn't of its form.
 fn observed(datum: Option<&Datum>) -> Result<Option<Prop>, Fault>
     ensures { Gives prop_seen (raised result) (observed (lent_datum datum.entry)) }
 {
@@ -29,7 +29,7 @@ fn observed(datum: Option<&Datum>) -> Result<Option<Prop>, Fault>
     Ok(prop)
 }
 
-/// The reaction of a node in ticks, and a tick where none is written.
+/// The reaction of a node in ticks, 1 where none is written.
 fn reacting(datum: Option<&Datum>) -> Result<u32, Fault>
     ensures { Gives (λ n. n) (raised result) (reacting (lent_datum datum.entry)) }
 {
@@ -65,7 +65,8 @@ fn labelled(datum: Option<&Datum>) -> Result<Label, Fault>
     Ok(label)
 }
 
-/// Puts in a node whose data were read.
+/// Checks a node whose data were read, and puts it in the graph. Refused where it has no `id`, where the `id` isn't of 1 to 64
+/// bytes or is that of an earlier node, and where a datum isn't of its form.
 pub fn judge_node(
     alloc: Global,
     start: &Start,

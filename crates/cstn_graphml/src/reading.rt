@@ -1,4 +1,4 @@
-//! Reading a document.
+//! Reading a document: from its bytes to its labelled network, or to its refusal.
 
 ghost use Rattle.std.specs.Prelude.{◌≡◌, ◌≢◌, ℕ, List, ◌∷◌, length, IfOk, IfErr};
 ghost use Rattle.cstn_label.specs.declared.nodes.NodeId.{NodeId};
@@ -31,7 +31,7 @@ fn first_of_two(one: Option<u32>, other: Option<u32>) -> Option<u32>
     }
 }
 
-/// How a refused builder is told.
+/// The refusal of a document for what the builder refused: want of memory by itself, any other fault with the names.
 fn refusal(error: NetError, names: Names) -> DocError
     ensures { IsTold error names result }
 {
@@ -53,8 +53,8 @@ fn refusal(error: NetError, names: Names) -> DocError
     }
 }
 
-/// Reads a document: its labelled network, and the names of the time-points by number, of which the first is `Z`. A deadline
-/// in ticks that is handed in wins over the document's.
+/// Reads a document. Returns its labelled network and the names of its time-points by number, `Z` first, or the first refusal.
+/// A deadline in ticks that is handed in wins over the document's; with neither the document is refused.
 pub fn read(
     alloc: Global,
     bytes: &[u8],

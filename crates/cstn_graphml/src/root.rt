@@ -1,4 +1,4 @@
-//! The root element.
+//! Reading the root, which holds exactly one graph.
 
 ghost use Rattle.std.specs.Prelude.{◌≡◌, ℕ, List, ◌≤◌, length, option_map, codes};
 ghost use Rattle.cstn_markup.specs.Bytes.{is_same};
@@ -18,7 +18,8 @@ use cstn_markup::Scanner;
 use cstn_text::NameKey;
 use std::alloc::Global;
 
-/// An element in the root, of which the start tag was read.
+/// Reads an element in the root, whose start tag was read: a graph goes into `seen`, a second graph is refused, and any other
+/// element is passed over.
 fn read_root_child<'a>(
     alloc: Global,
     key: NameKey,
@@ -42,7 +43,7 @@ fn read_root_child<'a>(
     Ok(())
 }
 
-/// The rest of the root, which is the element of this name.
+/// Reads the root, which has this name, from behind its start tag to its end. Refused where it holds no graph.
 fn read_root(
     alloc: Global,
     key: NameKey,
@@ -68,7 +69,8 @@ fn read_root(
     }
 }
 
-/// A root of which the start tag was read.
+/// Reads the root, whose start tag was read, to its end. Returns its graph, whose names are hashed with the key, or the first
+/// refusal; a root without a graph, or with two, is refused with `Shape`.
 pub fn read_whole_root(
     alloc: Global,
     key: NameKey,

@@ -13,10 +13,10 @@ const PROCESS: &str =
 // Elements that are passed over, one inside the other.
 const NESTED: &str = "<graphml><a><b><c/>t</b><b></b></a><graph/></graphml>";
 
-// The outer one ends first.
+// Elements that are passed over, of which the outer one ends first.
 const CROSSED: &str = "<graphml><a><b></a></b><graph/></graphml>";
 
-// The tags of `PAIR`, from their first bytes to what follows them.
+// The tags of `PAIR`: the place of the first byte of each, and the place behind its last.
 const TAGS: [(usize, usize); 10] = [
     (0, 9),
     (9, 16),
@@ -30,7 +30,7 @@ const TAGS: [(usize, usize); 10] = [
     (131, 141),
 ];
 
-// The document is accepted, and has so many time-points and constraints.
+// The document is accepted, with these numbers of time-points and constraints.
 fn expect_accepted(
     rt: &impl Abort,
     alloc: Global,
@@ -62,7 +62,7 @@ fn expect_refused(
     Ok(())
 }
 
-// The graph that holds this is refused, in these words.
+// A document whose graph holds this text is refused, in these words.
 fn expect_refused_in(
     rt: &impl Abort,
     alloc: Global,
@@ -85,7 +85,7 @@ fn documents(rt: HostRuntime) -> Result<(), Fail> {
     expect_refused(&rt, alloc, b"\xff", Some(5), "no UTF-8 at byte 0")
 }
 
-// The graph that holds an edge from Z to Z with this data is refused, in these words.
+// A document with an edge from Z to Z with this data is refused, in these words.
 fn expect_refused_edge(
     rt: &impl Abort,
     alloc: Global,
@@ -99,7 +99,7 @@ fn expect_refused_edge(
     expect_refused_in(rt, alloc, inside.as_str(), words)
 }
 
-// The graph that holds a node with this data is refused, in these words.
+// A document with a node with this data is refused, in these words.
 fn expect_refused_node(
     rt: &impl Abort,
     alloc: Global,
@@ -111,7 +111,7 @@ fn expect_refused_node(
     expect_refused_in(rt, alloc, inside.as_str(), words)
 }
 
-// One document for each refusal of an element, and of a network that isn't large.
+// A document for each refusal of an element but `Shape`, and for each of a network that a small document can have.
 #[test]
 fn refusals(rt: HostRuntime) -> Result<(), Fail> {
     let alloc = rt.alloc();
@@ -222,7 +222,7 @@ fn labels_of_time_points(rt: HostRuntime) -> Result<(), Fail> {
     Ok(())
 }
 
-// One document for each refusal of labels.
+// One document for each refusal of labels that a small document can have.
 #[test]
 fn refusals_of_labels(rt: HostRuntime) -> Result<(), Fail> {
     let alloc = rt.alloc();
@@ -257,7 +257,7 @@ fn refusals_of_labels(rt: HostRuntime) -> Result<(), Fail> {
     )
 }
 
-// A document of so many time-points besides the origin, of so many constraints on one edge, and of what is put behind it.
+// A document of the origin and `nodes` more time-points, of one edge with `pairs` constraints, and of the text `behind` it.
 fn large(alloc: Global, nodes: u32, pairs: u32, behind: &str) -> Result<String, AllocError> {
     let mut text = String::from_str(alloc, "<graphml><graph><node id=\"Z\"/>")?;
     for n in 0..nodes {
@@ -306,7 +306,7 @@ fn faults_past_the_limit(rt: HostRuntime) -> Result<(), Fail> {
     expect_refused(&rt, alloc, label.as_bytes(), Some(5), words)
 }
 
-// Why so many of the first bytes of `PAIR` are refused: at the tag that they end in, and else at their end.
+// Why the first `len` bytes of `PAIR` are refused: where they end in a character, in a tag, or elsewhere.
 fn cut_words(alloc: Global, len: usize) -> Result<String, AllocError> {
     if len == 105 || len == 106 {
         return String::from_str(alloc, "no UTF-8 at byte 104");

@@ -27,7 +27,7 @@ use Rattle.cstn_lift.proofs.LoweredLemmas.{plain_true, plain_back, prop_back}
 
 module _ (long : (k : ℕ) (ds : List Draft) → length (constraints_from k ds) ≡ length ds)
     (more : (k i : ℕ) (ds : List Draft) (d : Draft) → i ≡ k + length ds → constraints_from k (ds ++ d ∷ []) ≡ constraints_from k ds ++ constraint_of i d ∷ []) where
-  -- one more constraint
+  -- a draft put behind the others puts its constraint behind theirs
   constraint_added : (cs : List TheConstraint) (ds : List Draft) (c : TheConstraint) (d : Draft) → HasConstraints cs ds →
       ((i : ℕ) → the_constraint (constraint_of i d) ≡ record c { id = i }) → HasConstraints (cs ++ c ∷ []) (ds ++ d ∷ [])
   constraint_added cs ds c d has is =
@@ -41,7 +41,7 @@ module _ (long : (k : ℕ) (ds : List Draft) → length (constraints_from k ds) 
       ∙ ap (λ n. numbered 0 cs ++ record c { id = n } ∷ []) next
       ∙ sym (numbered_append 0 cs (c ∷ []))
 
-  -- a constraint with its full label
+  -- a constraint with its full label, where that is plain, is put behind the others
   pub full_added : (m : Labelled) (c : Constraint) (cs : List TheConstraint) (ds : List Draft) (from to : ℕ) (most : ℤ) (l : Words) →
       from ≡ c.from.0 → to ≡ c.to.0 → most ≡ c.most → marks l ≡ full_label m (the_constraint c) → IsPlain (marks l) → HasConstraints cs ds →
       HasConstraints (cs ++ filter_map (with_full_label m) (the_constraint c ∷ [])) (ds ++ record { from = from; to = to; most = most; label = l } ∷ [])
@@ -54,7 +54,7 @@ module _ (long : (k : ℕ) (ds : List Draft) → length (constraints_from k ds) 
       (constraint_added cs ds with_full (record { from = from; to = to; most = most; label = l }) has
       (λ i. rw (from_is, to_is, most_is, label_is) refl))
 
-  -- a constraint by which x waits
+  -- the constraint by which x waits until p is known is put behind the others
   pub guard_added : (net : Network) (x j p : ℕ) (l : Words) (cs : List TheConstraint) (ds : List Draft) (from to : ℕ) (most : ℤ) →
       IsMarked (marks l) p → observer_of net p ≡ Some j → from ≡ x → to ≡ j → most ≡ pos 0 -ℤ pos (net.reaction p) → HasConstraints cs ds →
       HasConstraints (cs ++ filter_map (guard net x (marks l)) (p ∷ [])) (ds ++ record { from = from; to = to; most = most; label = l } ∷ [])
@@ -92,7 +92,7 @@ range_more a (suc n) j at =
     let e : suc n + 1 ≡ suc (n + 1) = omega arith in
     ap (range_with_len a) e ∙ ap (λ is. a ∷ is) (range_more (a + 1) n j (omega arith))
 
--- numbers that give nothing
+-- numbers of which h gives nothing add nothing at the end of a range
 skipped : {Y : Type 0} → (h : ℕ → Option Y) (from k : ℕ) → ((q : ℕ) → from ≤ q → q < from + k → h q ≡ None) →
     filter_map h (range_with_len 0 (from + k)) ≡ filter_map h (range_with_len 0 from)
 skipped h from zero none = let e : from + 0 ≡ from = omega arith in ap (λ n. filter_map h (range_with_len 0 n)) e
@@ -109,7 +109,7 @@ skipped {Y} h from (suc k) none =
 unmarked : (net : Network) (x : ℕ) (a : Label) (q : ℕ) → a q ≡ Absent → guard net x a q ≡ None
 unmarked net x a q gone = rw gone refl
 
--- the numbers up to the next one that the label marks
+-- the constraints by which x waits, up to the next proposition p that the label marks
 pub guards_turn : (net : Network) (x : ℕ) (a : Label) (cs : List TheConstraint) (from p : ℕ) → from ≤ p →
     ((q : ℕ) → from ≤ q → q < p → a q ≡ Absent) →
     (cs ++ filter_map (guard net x a) (range_with_len 0 from)) ++ filter_map (guard net x a) (p ∷ []) ≡ cs ++ filter_map (guard net x a) (range_with_len 0 (p + 1))
@@ -129,7 +129,7 @@ guards_end net x a cs from upto none =
     let e : from + (52 - from) ≡ 52 = omega arith in
     ap (λ ds. cs ++ ds) (sym (skipped h from (52 - from) (λ q low high. unmarked net x a q (none q low))) ∙ ap (λ n. filter_map h (range_with_len 0 n)) e)
 
--- one more time-point waits
+-- the constraints of the first x time-points, and those of the next one behind them
 pub points_turn : (f : ℕ → List TheConstraint) (cs : List TheConstraint) (x : ℕ) →
     (cs ++ flat_map f (range_with_len 0 x)) ++ f x ≡ cs ++ flat_map f (range_with_len 0 (x + 1))
 points_turn f cs x =
@@ -137,7 +137,7 @@ points_turn f cs x =
     ∙ ap (λ ds. cs ++ (flat_map f (range_with_len 0 x) ++ ds)) (sym (append-nil (f x)))
     ∙ ap (λ ds. cs ++ ds) (sym (flat_map-append f (range_with_len 0 x) (x ∷ [])) ∙ ap (flat_map f) (sym (range_more 0 x x (omega arith))))
 
--- one more constraint of the network
+-- the first i constraints with their full labels, and the next one behind them
 pub full_turn : (m : Labelled) (cs : List Constraint) (i : ℕ) (c : Constraint) → i < length cs → c ≡ slice_index_or cs i c →
     filter_map (with_full_label m) (map the_constraint (take i cs)) ++ filter_map (with_full_label m) (the_constraint c ∷ [])
     ≡ filter_map (with_full_label m) (map the_constraint (take (i + 1) cs))
@@ -146,13 +146,13 @@ full_turn m cs i c inside is =
     ∙ ap (filter_map (with_full_label m)) (sym (map-append the_constraint (take i cs) (c ∷ []))
     ∙ ap (λ d. map the_constraint (take i cs ++ d ∷ [])) is ∙ ap (map the_constraint) (sym (take_more cs i c inside)))
 
--- how many time-points there are so far
+-- n time-points have been handed in so far
 pub points_long : (net : Network) (n : ℕ) (points : List TimePoint) → n ≤ count net → HasPoints net n points → length points ≡ n
 points_long net n points upto has =
     let observes = ap length has.observes in
     omega (arith, observes, length-map points observed, length-take-le n net.observes upto)
 
--- one more time-point
+-- the next time-point is put behind the others
 pub point_added : (net : Network) (n : ℕ) (points : List TimePoint) (t : TimePoint) → n < count net → HasPoints net n points →
     observed t ≡ slice_index_or net.observes n None → ((p : ℕ) → observed t ≡ Some p → t.reaction ≡ net.reaction p) →
     HasPoints net (n + 1) (points ++ t ∷ [])
@@ -203,7 +203,7 @@ reaction_untold (t ∷ ts) p none = elim (cases_Bool (is_prop p (observed t))) [
   | inr later ↦ reaction_if ts t p false later ∙ reaction_untold ts p (λ x. none (suc x))
 ]
 
--- the reaction of the proposition that a time-point observes
+-- the reaction of p, given to a time-point that observes p, is that of each proposition that it observes
 pub reacts_there : (o : Option Prop) (p : Prop) (f : ℕ → ℕ) (ticks : ℕ) → o ≡ Some p → ticks ≡ f p.index → (q : ℕ) →
     option_map (λ p. p.index) o ≡ Some q → ticks ≡ f q
 reacts_there o p f ticks is ticks_are q at =

@@ -50,7 +50,7 @@ module _ (m : Labelled) where
   pub seen_marked : (a : Label) (x p : ℕ) → Observes m.base x p → IsMarked a p → is_observed_by (what x) a ≡ true
   seen_marked a x p o marked = rw o.what (marked_true (a p) marked)
 
-  -- what is brought by x is within c where its label is, if a marks what x observes
+  -- where l is within c if a marks what is observed, the label that is brought, l or the empty one, is within c
   brought_if : (a c l : Label) (o : Option ℕ) (b : Bool) → is_observed_by o a ≡ b → (b ≡ true → IsWithin l c) →
       IsWithin (if b then l else empty) c
   brought_if a c l o true e h = h refl
@@ -193,7 +193,7 @@ module _ (m : Labelled) where
         omega arith
   ]
 
-  -- a round marks more that is observed, or the next round changes nothing
+  -- either a round marks more of what is observed, or the round after it changes nothing
   fixed_or_more : (a : Label) → (round (round a) ≡ round a) ⊎ (seen (count m.base) a < seen (count m.base) (round a))
   fixed_or_more a = elim (same_or_more (count m.base) a (round a) (round_contains a)) [
     | inr more ↦ inr more
@@ -241,7 +241,7 @@ module _ (m : Labelled) where
   completed_grows a b h =
       completed_least a (completed m b) (within_through a b (completed m b) h (completed_contains b)) (completed_complete b)
 
-  -- rounds that come to nothing new have come to the end
+  -- where a further round changes nothing, the label is the completed one
   pub rounds_end : (n : ℕ) (a : Label) → round (rounds m n a) ≡ rounds m n a → rounds m n a ≡ completed m a
   rounds_end n a fixed = within_same (rounds m n a) (completed m a)
       (rounds_least n a (completed m a) (completed_contains a) (completed_complete a))

@@ -1,5 +1,5 @@
--- In a dynamic table in which whoever is executed has seen what its label marks: whoever's label isn't ruled out when its
--- moment comes is executed.
+-- In a dynamic table in which what the completed label of an executed time-point marks is known at its moment, each time-point
+-- whose completed label isn't ruled out at its moment is executed.
 use Rattle.std.proofs.Common.{ℕ, inl, inr, ◌+◌, ◌<◌, ◌≤◌, arith, subst}
 use Rattle.cstn_label.specs.Labels.{Scenario, MarkFits, IsMarked, IsPossible}
 use Rattle.cstn_label.proofs.MarkLemmas.{absent_or_not, fits_absent}
@@ -13,13 +13,13 @@ use Rattle.cstn_lift.specs.WellFormed.{IsLabelled}
 use Rattle.cstn_lift.specs.Strategies.{IsExecuted}
 use Rattle.cstn_lift.proofs.FullLemmas.{full_plain, full_on}
 
--- whoever is executed has seen what its label marks
+-- what the completed label of an executed time-point marks is known at its moment
 abbrev pub IsGuarded : Labelled → Table → Type 0
 IsGuarded m table = (s : Scenario) (x j p : ℕ) → x < count m.base → IsExecuted m s x → IsMarked (completed_label m x) p →
     Observes m.base j p → table s j + m.base.reaction p ≤ table s x
 
 module _ (m : Labelled) (good : IsLabelled m) (table : Table) (dynamic : IsDynamic m.base table) (guarded : IsGuarded m table) where
-  -- each mark is known at the moment, and the label holds
+  -- where the completed label of x isn't ruled out at its moment, each proposition that it marks is known then, and fits it
   pub marks_seen : (s : Scenario) (x : ℕ) → x < count m.base → IsPossible (IsKnown m.base (table s) (table s x)) s (completed_label m x) →
       (j p : ℕ) → Observes m.base j p → IsMarked (completed_label m x) p →
       (table s j + m.base.reaction p ≤ table s x) × MarkFits (s p) (completed_label m x p)

@@ -46,7 +46,7 @@ value_same (inl a) v = refl
 value_same (inr b) v = refl
 
 module _ (m : Labelled) (good : IsLabelled m) where
-  -- s, with the values of d for what nobody observes there
+  -- the value of p in s, or in d where the observer of p isn't executed in s
   mixed_at : Scenario → Scenario → ℕ → Option ℕ → Bool
   mixed_at d s p None = s p
   mixed_at d s p (Some k) = value_by (executed_or_not m good s k) (s p) (d p)
@@ -70,7 +70,7 @@ module _ (m : Labelled) (good : IsLabelled m) where
   unfolding mixed
   own s p = own_at s p (observer_of m.base p)
 
-  -- the full label of a constraint: complete, and with the completed labels of the ends within it
+  -- the full label of a constraint is complete, and the completed labels of the constraint's ends are within it
   pub full_closed : (c : Constraint) → IsCompleteLabel m (full_label m c)
   full_closed c = completed_complete m (joined c.label (joined (label_of m c.from) (label_of m c.to)))
 
@@ -108,7 +108,7 @@ module _ (m : Labelled) (good : IsLabelled m) where
   dynamic_lowered table dynamic s r x here agrees = dynamic s r x here (λ p k.
       agrees p (record { observer = k.observer; observes = record { what = k.observes.what }; passed = k.passed }))
 
-  -- plain strategies are guarded
+  -- in a strategy of the lowered network, what the completed label of an executed time-point marks is known at its moment
   pub guards_met : (table : Table) → IsStrategy (lowered m) table → IsGuarded m table
   guards_met table strategy s x j p here h marked o =
       let g = guarded m good x j p here o marked in
@@ -180,7 +180,7 @@ module _ (m : Labelled) (good : IsLabelled m) where
       meets = λ s d has h. meets_one s d h (only m good d has);
     }
 
-  -- the moments of a plain strategy in one scenario are those of a labelled one
+  -- a strategy of the lowered network has the same moments in s and in s with default values from s itself
   own_moment : (table : Table) → IsStrategy (lowered m) table → (s : Scenario) (x : ℕ) → x < count m.base → table (mixed s s) x ≡ table s x
   own_moment table strategy s x here = strategy.dynamic s (mixed s s) x here (λ p k. own s p)
 

@@ -1,4 +1,4 @@
--- Who is executed in scenarios that agree on what is observed in one of them.
+-- Which time-points are executed in scenarios that agree on what is observed in one of them.
 use Rattle.std.proofs.Common.{ℕ, zero, suc, ◌≡◌, ◌⊎◌, inl, inr, ◌<◌, arith, sym, subst}
 use Rattle.cstn_label.specs.declared.marks.Mark.{Mark}
 use Rattle.cstn_label.specs.declared.marks.Mark.TheVariants.{Absent, Yes, No, Unknown}
@@ -65,7 +65,7 @@ module _ (m : Labelled) (good : IsLabelled m) where
         subst (λ v. MarkFits v (full x p)) (same o.0 p o.1 there) (h p)
   ]
 
-  -- the first q propositions fit, or one of them doesn't
+  -- the scenario fits the label at each of the first q propositions, or there is a proposition at which it doesn't
   fits_upto : (s : Scenario) (a : Label) (q : ℕ) → ((p : ℕ) → p < q → MarkFits (s p) (a p)) ⊎ ((p : ℕ) × (MarkFits (s p) (a p) → ⊥))
   fits_upto s a zero = inl (λ p before. absurd (omega arith))
   fits_upto s a (suc q) = elim (fits_upto s a q) [
@@ -79,7 +79,7 @@ module _ (m : Labelled) (good : IsLabelled m) where
     ]
   ]
 
-  -- whoever has a label with no misfit is executed
+  -- a time-point is executed in a scenario, or it isn't
   pub executed_or_not : (s : Scenario) (x : ℕ) → IsExecuted m s x ⊎ (IsExecuted m s x → ⊥)
   executed_or_not s x = elim (fits_upto s (full x) 52) [
     | inr found ↦ inr (λ h. found.1 (h found.0))

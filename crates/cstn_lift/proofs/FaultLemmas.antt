@@ -14,20 +14,20 @@ use Rattle.cstn_lift.specs.WellFormed.{IsLabelled}
 use Rattle.cstn_lift.specs.Lowered.{lowered}
 use Rattle.cstn_lift.specs.Faults.{IsFirstBelow, IsSeenBy, HasFault, number, IsLowestFault, IsRefusal, HasGoodLabels}
 
--- the label of a time-point among the completed ones
+-- the label at the place x of the completed labels is the completed label of x
 pub whole_at : (m : Labelled) → length m.labels ≡ count m.base → (whole : List Label) → whole ≡ map (completed m) m.labels →
     (x : ℕ) → x < count m.base → label_in whole x ≡ completed_label m x
 whole_at m one_each whole is x inside =
     ap (λ ls. label_in ls x) is ∙ get_or-map (completed m) m.labels x empty empty (omega arith)
 
--- the first of the numbers of which one fact holds is the first of which another does
+-- where P and Q hold of the same numbers below n, the first of which P holds is the first of which Q holds
 pub first_same : (n : ℕ) (P Q : ℕ → Type 0) (x : ℕ) → ((y : ℕ) → y < n → P y → Q y) → ((y : ℕ) → y < n → Q y → P y) →
     IsFirstBelow n P x → IsFirstBelow n Q x
 first_same n P Q x to back first =
     let inside = first.inside in
     record { inside = inside; here = to x inside first.here; before = λ y before q. first.before y before (back y (omega arith) q) }
 
--- a mark that can't be there is absent
+-- a mark that can't be other than absent is absent
 absent_if : (a : Mark) → ((a ≡ Absent → ⊥) → ⊥) → a ≡ Absent
 absent_if Absent h = refl
 absent_if Yes h = absurd (h (λ e. cc))
@@ -59,7 +59,7 @@ module _ (m : Labelled) (good : HasGoodLabels m) where
       let o = good.observed node.0 h.0.inside names.0 names.1.0 in
       absurd (names.1.1 o.0 o.1)
 
-  -- labels without the faults of L1 to L5, where each observer is a time-point
+  -- labels without the faults of L1 to L5 make a labelled network, where each observer is a time-point
   pub labelled_from : ((x p : ℕ) → Observes m.base x p → x < count m.base) → IsWellFormed m.base → length m.labels ≡ count m.base →
       ((x : ℕ) → x < count m.base → IsSeenBy m.base (completed_label m x) x → ⊥) → ((x : ℕ) → x < count m.base → IsPlain (completed_label m x)) →
       IsLabelled m

@@ -13,7 +13,7 @@ use Rattle.cstn_lift.specs.Completion.{is_observed_by, brought_by, joined_upto, 
 use Rattle.cstn_lift.specs.WellFormed.{IsLabelled}
 use Rattle.cstn_lift.proofs.CompletionLemmas.{completed_complete, completed_least, seen, what, seen_marked, same_or_more, empty_within}
 
--- joins of labels that name observed propositions alone
+-- the join of two labels that name only observed propositions names only observed ones
 pub joined_on : (net : Network) (a b : Label) → IsOnObserved net a → IsOnObserved net b → IsOnObserved net (joined a b)
 joined_on net a b h k p there = elim (absent_or_not (a p)) [
   | inl gone ↦ k p (λ also. there (absent_joined a b p gone also))
@@ -38,7 +38,7 @@ module _ (m : Labelled) (each : (x : ℕ) → IsOnObserved m.base (label_of m x)
   pub completed_on : (a : Label) → IsOnObserved m.base a → IsOnObserved m.base (completed m a)
   completed_on a h = rounds_on (count m.base) a h
 
--- labels above the count are empty
+-- from the number of time-points on, each number has the empty label
 module _ (m : Labelled) (good : IsLabelled m) where
   pub past_empty : (x : ℕ) → count m.base ≤ x → label_of m x ≡ empty
   past_empty x past = let long = good.one_each in get_or_past m.labels x empty (omega arith)
@@ -62,7 +62,7 @@ module _ (m : Labelled) (good : IsLabelled m) where
   pub full_on : (x : ℕ) → IsOnObserved m.base (completed_label m x)
   full_on x = completed_on m label_on (label_of m x) (label_on x)
 
-  -- with what a complete label marks come the completed labels of the observers
+  -- the completed labels of the observers of what a complete label marks are within it
   pub full_within : (a : Label) → IsCompleteLabel m a → (j p : ℕ) → Observes m.base j p → IsMarked a p → IsWithin (completed_label m j) a
   full_within a closed j p o marked = completed_least m (label_of m j) a (closed j p o marked) closed
 

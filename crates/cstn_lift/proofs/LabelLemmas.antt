@@ -1,4 +1,4 @@
--- Labels in words, and lists of them.
+-- Labels as the program has them, in two words, and lists of them.
 use Rattle.std.proofs.Common.{ℕ, ◌≡◌, ◌<◌, ◌+◌, Bool, true, ◌&&◌, eqb, List, inl, inr, arith, refl, sym, subst, ap, ◌∙◌, length}
 use Rattle.std.specs.Prelude.{map, slice_index_or}
 use Rattle.std.proofs.lemmas.Bool.{eqb-true, cases_lt}

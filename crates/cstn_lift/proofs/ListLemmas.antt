@@ -1,4 +1,4 @@
--- What lists contain that are made from others.
+-- What a list that is made from another one contains.
 use Rattle.std.proofs.Common.{ℕ, zero, suc, ◌≡◌, ◌+◌, ◌<◌, ◌≤◌, Bool, true, false, get_or, Option, Some, None, List, [], ◌∷◌, ◌++◌, length, arith, refl, sym, subst, ap, ◌∙◌}
 use Rattle.std.specs.Prelude.{nat_lt, slice_index_or}
 use Rattle.std.specs.List.{All, AllPairs, Contains, filter_map, flat_map, cons_option, range_with_len, position}
@@ -15,7 +15,7 @@ contains_head x xs = (0, omega arith, refl)
 contains_tail : {X : Type 0} → (y x : X) (xs : List X) → Contains xs x → Contains (y ∷ xs) x
 contains_tail y x xs has = (suc has.0, (let inside = has.1 in omega arith), has.2)
 
--- what h gives of what a list contains
+-- what h gives of an element of a list is in the list that `filter_map` makes of it
 pub filter_map_contains : {X Y : Type 0} → (h : X → Option Y) (xs : List X) (x : X) (y : Y) → Contains xs x → h x ≡ Some y →
     Contains (filter_map h xs) y
 filter_map_contains h [] x y has is = let inside = has.1 in absurd (omega arith)
@@ -43,7 +43,7 @@ range_contains n i inside =
     let at : get_or (range_with_len 0 n) i 0 ≡ i = get_or-range_with_len 0 n i 0 inside ∙ omega arith in
     subst (Contains (range_with_len 0 n)) at (Contains-get_or (range_with_len 0 n) i 0 (omega arith))
 
--- each constraint is in the list under some id
+-- each constraint is in the numbered list under some id
 pub numbered_contains : (k : ℕ) (cs : List Constraint) (c : Constraint) → Contains cs c →
     (id : ℕ) × Contains (numbered k cs) (record c { id = id })
 numbered_contains k [] c has = let inside = has.1 in absurd (omega arith)
@@ -53,7 +53,7 @@ numbered_contains k (d ∷ ds) c (suc i, inside, here) =
     let rest = numbered_contains (k + 1) ds c (i, omega arith, here) in
     (rest.0, contains_tail (record d { id = k }) (record c { id = rest.0 }) (numbered (k + 1) ds) rest.1)
 
--- what is so of each constraint under any id is so of each under its own
+-- what holds of each constraint under any id holds of each in the numbered list
 pub numbered_all : (P : Constraint → Type 0) (k : ℕ) (cs : List Constraint) → All (λ c. (id : ℕ) → P (record c { id = id })) cs →
     All P (numbered k cs)
 numbered_all P k [] all = All-nil P
@@ -106,7 +106,7 @@ numbered_ascending k (c ∷ cs) =
       AllPairs-cons (λ b c. b.id < c.id) first rest (All-weaker (λ c. k + 1 ≤ c.id) (λ c. k < c.id) (λ c low. omega arith) rest below.0) below.1,
     )
 
--- the first place that passes, where there is one alone
+-- the place that is found is the first one that passes the test
 pub position_found : {X : Type 0} → (p : X → Bool) (xs : List X) (i : ℕ) (d : X) → i < length xs →
     ((k : ℕ) → k < i → p (slice_index_or xs k d) ≡ false) → p (slice_index_or xs i d) ≡ true → position p xs ≡ Some i
 position_found p xs i d inside before here =

@@ -80,7 +80,7 @@ pub record IsBetween (c : Constraint) (x y : ℕ) (most : ℤ) (label : Label) :
   pub value : c.most ≡ most
   pub marks : c.label ≡ label
 
--- x comes the reaction or more after the observer j of p, which its completed label marks
+-- by the constraint, x comes the reaction of p or more after the observer j of p, which the completed label of x marks
 pub record IsGuard (m : Labelled) (c : Constraint) (x j p : ℕ) : Type 0 where
   pub here : x < count m.base
   pub observes : Observes m.base j p
@@ -94,7 +94,7 @@ IsOfLowered m d =
     ⊎ ((x : ℕ) × (j : ℕ) × (p : ℕ) × IsGuard m d x j p)
 
 module _ (m : Labelled) (good : IsLabelled m) where
-  -- the label among the completed ones
+  -- the label at the place x of the completed labels is the completed label of x
   pub completed_at : (x : ℕ) → x < count m.base → label_in (map (completed m) m.labels) x ≡ completed_label m x
   completed_at x inside = let long = good.one_each in get_or-map (completed m) m.labels x empty empty (omega arith)
 

@@ -1,4 +1,4 @@
--- The worked rows.
+-- Worked examples of completed labels and lowered constraints.
 use Rattle.std.proofs.Common.{ℕ, zero, suc, ◌≡◌, [], ◌∷◌, Some, None, refl}
 use Rattle.std.specs.Prelude.{map, pos, negsuc, ℤ}
 use Rattle.cstn_label.specs.declared.marks.Mark.{Mark}
@@ -26,7 +26,7 @@ circle = record { base = record { deadline = 10; observes = None ∷ (Some 0 ∷
 circle_row : completed_label circle 1 0 ≡ Yes
 circle_row = refl
 
--- P:p, Q:q with label p, X with label q!p
+-- P observes p, Q has the label p and observes q, and X has the label q!p: X is never executed
 abbrev pub never : Labelled
 never = record { base = record { deadline = 10; observes = None ∷ (Some 0 ∷ (Some 1 ∷ (None ∷ []))); reaction = λ p. 3; constraints = record { id = 0; from = 3; to = 2; most = pos 1; label = empty } ∷ [] }; labels = empty ∷ (empty ∷ (only Yes ∷ (both No Yes ∷ []))) }
 
@@ -37,7 +37,8 @@ never_lowered : map shape (lowered never).constraints ≡ (0, 2, 1, negsuc 2, Ye
 unfolding is_plain waits
 never_lowered = refl
 
--- R:r (2) with label q, Q:q (1) with label p, P:p, X with label r: a chain of three
+-- a label with these marks of p, q and r, for a chain of three observers: R has the label !q and observes r, Q has the label p
+-- and observes q, P observes p, and X has the label r
 abbrev pub three : Mark → Mark → Mark → Label
 three m n o zero = m
 three m n o (suc zero) = n

@@ -1,4 +1,4 @@
--- A builder that was handed what becomes of a labelled network.
+-- A builder that was handed the lowered network of a labelled one.
 use Rattle.std.proofs.Common.{ℕ, ◌≡◌, inl, inr, ◌<◌, ◌≤◌, None, List, length, arith, sym, ap, ◌∙◌}
 use Rattle.std.specs.Prelude.{map, slice_index_or}
 use Rattle.std.proofs.Math.Path.{fun_ext}
@@ -42,8 +42,8 @@ closed_is m net n b base has deadline constraints n_deadline n_points n_constrai
     ∙ ap (λ v. record { deadline = low.deadline; observes = low.observes; reaction = v; constraints = map the_constraint n.constraints }) r
     ∙ ap (λ v. record { deadline = low.deadline; observes = low.observes; reaction = low.reaction; constraints = v }) c
 
--- where a builder that was handed a well-formed network is refused for want of memory alone, one that is refused otherwise
--- has too many constraints
+-- A builder that was handed a well-formed network is refused only for want of memory. So one that was handed a lowered network
+-- and is refused otherwise has too many constraints.
 pub refused_long : ((b : BuilderParts) (net : Network) → IsWellFormed net → IsHanded b net → (e : NetError) → IsRefusal b e → number e ≡ 0) →
     (m : Labelled) → IsLabelled m → (b : BuilderParts) → b.deadline ≡ m.base.deadline → map observed b.points ≡ m.base.observes →
     ((p : ℕ) → reaction_of b.points p ≡ m.base.reaction p) → map the_constraint (constraints_from 0 b.drafts) ≡ (lowered m).constraints →
@@ -58,7 +58,7 @@ refused_long for_memory m good b deadline observes reaction constraints e refusa
   }) e refusal))
 ]
 
--- a builder that is closed, with a constraint for each draft, has few
+-- a builder without a fault, which has a constraint for each draft, has at most 16,384 of them
 pub closed_few : (m : Labelled) (b : BuilderParts) → length (constraints_from 0 b.drafts) ≡ length b.drafts → map the_constraint (constraints_from 0 b.drafts) ≡ (lowered m).constraints →
     ((e : NetError) → HasFault b e → ⊥) → length (lowered m).constraints ≤ 16384
 closed_few m b long constraints faultless = elim (cases_lt 16384 (length (lowered m).constraints)) [

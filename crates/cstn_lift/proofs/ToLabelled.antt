@@ -1,5 +1,5 @@
--- A dynamic table in which everybody waits for what its label marks, read at scenarios with default values for what
--- nobody observes, is a dynamic labelled table.
+-- A dynamic table in which what the completed label of an executed time-point marks is known at its moment, read at scenarios
+-- with default values for what isn't observed, is a dynamic labelled table.
 use Rattle.std.proofs.Common.{ℕ, zero, suc, ◌≡◌, inl, inr, ◌<◌, ◌≤◌, arith, sym, subst, ◌∙◌}
 use Rattle.cstn_label.specs.Labels.{Label, Scenario, MarkFits, IsPossible}
 use Rattle.cstn_label.proofs.MarkLemmas.{absent_or_not, fits_absent}
@@ -22,7 +22,7 @@ module _ (m : Labelled) (good : IsLabelled m) (table : Table) (d : Scenario) (tw
   same : (s : Scenario) (j p : ℕ) → Observes m.base j p → IsExecuted m s j → twin s p ≡ s p
   same s j p o h = (defaulted s).executed j p o h
 
-  -- whoever is executed by then in the one scenario is executed in the other
+  -- a time-point that is executed in s, at t or earlier, is executed in r, which agrees with what is known at t in s
   onward : (s r : Scenario) (t : ℕ) → ((p : ℕ) → IsKnownExecuted m s (table (twin s)) t p → r p ≡ s p) → (y : ℕ) →
       y < count m.base → table (twin s) y ≤ t → IsExecuted m s y → IsExecuted m r y
   onward s r t agrees y here by_then h p = elim (absent_or_not (full y p)) [

@@ -1,4 +1,4 @@
--- A labelled strategy, read as a plain table: whoever isn't executed stands at its limit.
+-- A labelled strategy, read as a plain table: the moment of a time-point that isn't executed is its limit.
 use Rattle.std.proofs.Common.{ℕ, ◌≡◌, ◌⊎◌, inl, inr, ◌+◌, ◌<◌, ◌≤◌, arith, refl, subst, ap}
 use Rattle.std.specs.Prelude.{Bool, cond, eqb, not}
 use Rattle.std.proofs.lemmas.Bool.{cases_lt, cases_eq, eq-eqb, ne_eqb}
@@ -14,7 +14,7 @@ use Rattle.cstn_lift.specs.WellFormed.{IsLabelled}
 use Rattle.cstn_lift.specs.Strategies.{IsExecuted, IsLabelledStrategy}
 use Rattle.cstn_lift.proofs.Executed.{executed_or_not}
 
--- a scenario with the value of p turned round
+-- the scenario s with the other value of p
 turned : Scenario → ℕ → Scenario
 turned s p = λ q. cond (eqb q p) (not (s q)) (s q)
 
@@ -64,7 +64,7 @@ module _ (m : Labelled) (good : IsLabelled m) (labelled : Table) (strategy : IsL
   unfolding filled
   filled_last s x h = pick_right (executed_or_not m good s x) (labelled s x) (limit m.base x) h
 
-  -- whoever is executed has seen what its label marks
+  -- what the completed label of an executed time-point marks is known at its moment
   pub seen_marks : (s : Scenario) (x j p : ℕ) → x < count m.base → IsExecuted m s x → IsMarked (completed_label m x) p →
       Observes m.base j p → labelled s j + m.base.reaction p ≤ labelled s x
   seen_marks s x j p here h marked o = elim (cases_lt (labelled s x) (labelled s j + m.base.reaction p)) [

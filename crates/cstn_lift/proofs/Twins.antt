@@ -1,4 +1,4 @@
--- What scenarios have in common that agree on what is observed in one of them, and the labelled strategies of plain ones.
+-- What scenarios that agree on what is observed in one of them have in common, and labelled strategies made from plain ones.
 use Rattle.std.proofs.Common.{ℕ, ◌≡◌, inl, inr, ◌<◌, arith, sym, subst, ◌∙◌}
 use Rattle.std.specs.Prelude.{◌↔◌}
 use Rattle.cstn_label.specs.Labels.{Scenario, IsMarked, IsPossible}
@@ -54,7 +54,7 @@ module _ (m : Labelled) (good : IsLabelled m) (table : Table) (strategy : IsStra
       let seen = marks_seen m good table (dynamic_base m good table strategy.dynamic) (guards_met m good table strategy) s x here possible_base o.0 p o.1 marked in
       record { observer = o.0; observes = record { what = o.1.what }; passed = seen.0 }
 
--- least moments of the lowered network, in scenarios with default values
+-- the least moments of the lowered network, in scenarios with default values, are the least of the labelled one
 pub defaulted_least : (m : Labelled) (table : Table) (d : Scenario) (twin : Scenario → Scenario) → IsLabelled m →
     ((s : Scenario) → IsDefaulted m d s (twin s)) → ((s : Scenario) (x : ℕ) → x < count m.base → IsLeast (lowered m) s x (table s x)) →
     (s : Scenario) (x : ℕ) → x < count m.base → IsExecuted m s x → IsLabelledLeast m s x (table (twin s) x)

@@ -19,7 +19,7 @@ use Rattle.cstn_lift.proofs.LoweredLemmas.{IsOfLowered, only, plain_back}
 use Rattle.cstn_lift.proofs.Equivalent.{full_observed}
 
 module _ (m : Labelled) (good : IsLabelled m) where
-  -- labels on observed propositions mark none above 51
+  -- a label that names only observed propositions marks none with a number above 51
   above : (a : Label) → IsOnObserved m.base a → (p : ℕ) → 52 ≤ p → a p ≡ Absent
   above a on p past = elim (absent_or_not (a p)) [
     | inl gone ↦ gone

@@ -1,4 +1,4 @@
--- Completed labels: with what a label marks come the labels of those who observe it.
+-- Completed labels: a label, joined again and again with the labels of the time-points that observe what it marks.
 use Rattle.std.specs.Prelude.{ℕ, zero, suc, ◌≡◌, ◌⊎◌, Bool, true, false, Option, None, Some, slice_index_or, if◌then◌else◌}
 use Rattle.cstn_label.specs.declared.marks.Mark.{Mark}
 use Rattle.cstn_label.specs.declared.marks.Mark.TheVariants.{Absent, Yes, No, Unknown}
@@ -18,22 +18,22 @@ abbrev pub is_observed_by : Option ℕ → Label → Bool
 is_observed_by None a = false
 is_observed_by (Some p) a = is_marked (a p)
 
--- what x brings into a: its label, where it observes a proposition that a marks
+-- the label of x, where x observes a proposition that a marks, and the empty label otherwise
 abbrev pub brought_by : Labelled → ℕ → Label → Label
 brought_by m x a = if is_observed_by (slice_index_or m.base.observes x None) a then label_of m x else empty
 
--- a joined with what the first n time-points bring in
+-- a, joined with the label of each of the first n time-points that observes what a marks
 abbrev pub joined_upto : Labelled → ℕ → Label → Label
 joined_upto m zero a = a
 joined_upto m (suc x) a = joined (joined_upto m x a) (brought_by m x a)
 
--- n times, the label of the observer of each marked proposition is joined in
+-- the label after n rounds, each of which joins in the labels of the observers of what is marked
 abbrev pub rounds : Labelled → ℕ → Label → Label
 rounds m zero a = a
 rounds m (suc n) a = joined_upto m (count m.base) (rounds m n a)
 
--- the completed label: the labels of the observers are joined in until nothing changes, which it does in as many rounds as
--- there are time-points
+-- the completed label: the labels of the observers of what is marked are joined in, for as many rounds as there are
+-- time-points, after which nothing changes any more
 abbrev pub completed : Labelled → Label → Label
 completed m a = rounds m (count m.base) a
 
@@ -42,7 +42,7 @@ abbrev pub IsLabelOfObserver : Labelled → ℕ → Label → Type 0
 IsLabelOfObserver m p a =
     ((x : ℕ) × Observes m.base x p × (a ≡ label_of m x)) ⊎ (((x : ℕ) → Observes m.base x p → ⊥) × (a ≡ empty))
 
--- with each proposition that a label marks, the label of its observer is within it
+-- the label is complete: for each proposition that it marks, the label of the proposition's observer is within it
 abbrev pub IsCompleteLabel : Labelled → Label → Type 0
 IsCompleteLabel m a = (x p : ℕ) → Observes m.base x p → IsMarked a p → IsWithin (label_of m x) a
 
@@ -50,6 +50,6 @@ IsCompleteLabel m a = (x p : ℕ) → Observes m.base x p → IsMarked a p → I
 abbrev pub completed_label : Labelled → ℕ → Label
 completed_label m x = completed m (label_of m x)
 
--- the full label of a constraint: its own and those of its ends, completed
+-- the full label of a constraint: its own label and those of its ends, joined and completed
 abbrev pub full_label : Labelled → Constraint → Label
 full_label m c = completed m (joined c.label (joined (label_of m c.from) (label_of m c.to)))

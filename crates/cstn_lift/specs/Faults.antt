@@ -22,7 +22,7 @@ NamesUnobserved net a = (p : ℕ) × IsUnobserved net a p
 abbrev pub IsSeenBy : Network → Label → ℕ → Type 0
 IsSeenBy net a x = (p : ℕ) × Observes net x p × IsMarked a p
 
--- what each refusal says
+-- the fault that each refusal names
 abbrev pub HasFault : Labelled → LiftError → Type 0
 HasFault m OriginLabel = label_of m 0 ≢ empty
 HasFault m (NotPlain node) = IsFirstBelow (count m.base) (λ x. IsPlain (label_of m x) → ⊥) node.0

@@ -32,22 +32,22 @@ with_full_label m c = if is_plain (full_label m c) then Some (record c { label =
 abbrev pub full_constraints : Labelled → List Constraint
 full_constraints m = filter_map (with_full_label m) m.base.constraints
 
--- x waits until p is known, where the label marks it
+-- the constraint by which x waits until p is known, where the label a marks p and a time-point observes it
 abbrev pub guard : Network → ℕ → Label → ℕ → Option Constraint
 guard net x a p =
     if is_marked (a p)
     then option_map (λ j. record { id = 0; from = x; to = j; most = pos 0 -ℤ pos (net.reaction p); label = a }) (observer_of net p)
     else None
 
--- x waits until each of the 52 propositions is known that the label marks
+-- the constraints by which x waits until each of the 52 propositions that the label marks is known
 unfoldable pub waits : Network → ℕ → Label → List Constraint
 waits net x a = filter_map (guard net x a) (range_with_len 0 52)
 
--- each time-point waits for what its label among these marks
+-- the constraints by which x waits until what its label among these marks is known
 abbrev pub guards_with : Network → List Label → ℕ → List Constraint
 guards_with net labels x = waits net x (label_in labels x)
 
--- for each time-point those by which it waits for what its completed label marks
+-- for each time-point, the constraints by which it waits until what its completed label marks is known
 abbrev pub guards : Labelled → List Constraint
 guards m = flat_map (guards_with m.base (map (completed m) m.labels)) (range_with_len 0 (count m.base))
 
@@ -56,8 +56,8 @@ abbrev pub numbered : ℕ → List Constraint → List Constraint
 numbered k [] = []
 numbered k (c ∷ cs) = record c { id = k } ∷ numbered (k + 1) cs
 
--- The lowered network: the constraints with their full labels, of those that are plain, and then, for each time-point, those
--- by which it waits for what its completed label marks.
+-- The lowered network: first the constraints whose full labels are plain, with these labels, and then, for each time-point, the
+-- constraints by which it waits until what its completed label marks is known.
 abbrev pub lowered : Labelled → Network
 lowered m = record m.base {
   constraints = numbered 0 (full_constraints m ++ guards m);

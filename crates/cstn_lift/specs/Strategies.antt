@@ -15,7 +15,8 @@ IsExecuted m s x = Holds s (completed_label m x)
 abbrev pub IsInForce : Labelled → Scenario → Constraint → Type 0
 IsInForce m s c = Holds s (full_label m c)
 
--- of a labelled table, only the moments count of those who are executed in the scenario; each is within the limit
+-- in a labelled table, only the moments of the time-points that are executed in a scenario count there; each of these is within
+-- the time-point's limit
 abbrev pub IsLabelledTable : Labelled → Table → Type 0
 IsLabelledTable m table = (s : Scenario) (x : ℕ) → x < count m.base → IsExecuted m s x → table s x ≤ limit m.base x
 
@@ -26,8 +27,8 @@ pub record IsKnownExecuted (m : Labelled) (s : Scenario) (at : Schedule) (t p : 
   pub executed : IsExecuted m s observer
   pub passed : at observer + m.base.reaction p ≤ t
 
--- a labelled table is dynamic where each scenario that agrees with what is known when x is executed executes x, and at that
--- moment
+-- a labelled table is dynamic where a time-point x that is executed in a scenario is executed, at the same moment, in each
+-- scenario that agrees with what is known then
 abbrev pub IsLabelledDynamic : Labelled → Table → Type 0
 IsLabelledDynamic m table =
     (s r : Scenario) (x : ℕ) → x < count m.base → IsExecuted m s x →
@@ -49,8 +50,8 @@ pub record IsLabelledLeast (m : Labelled) (s : Scenario) (x t : ℕ) : Type 0 wh
   pub reached : (table : Table) × IsLabelledStrategy m table × (table s x ≡ t)
   pub least : (table : Table) → IsLabelledStrategy m table → t ≤ table s x
 
--- a plain network is consistent exactly where the labelled one is, and whoever is executed in a scenario has the same least
--- moments in both
+-- a plain network is consistent exactly where the labelled one is, and a time-point that is executed in a scenario has the same
+-- least moments there in both
 pub record IsEquivalent (m : Labelled) (net : Network) : Type 0 where
   pub consistent : IsLabelledConsistent m ↔ IsConsistent net
   pub least : (s : Scenario) (x t : ℕ) → x < count m.base → IsExecuted m s x → (IsLabelledLeast m s x t ↔ IsLeast net s x t)

@@ -26,7 +26,7 @@ pub fn completed_labels(
     Ok(whole)
 }
 
-/// A label, joined with those of the observers of what it marks until nothing changes.
+/// The completed label of a label: the labels of the observers of what it marks are joined in until nothing changes.
 pub fn completed(net: &Network, labels: &[Label], label: Label) -> Label
     requires one_each { length labels.now ≡ count (the_network net.now) }
     ensures completed { marks result ≡ completed (with_labels net.now labels.now) (marks label) }
@@ -42,7 +42,7 @@ pub fn completed(net: &Network, labels: &[Label], label: Label) -> Label
     whole
 }
 
-// A label, joined with those of the observers of what it marks.
+// The label, joined once with the label of the observer of each proposition that it marks.
 fn with_observers(net: &Network, labels: &[Label], label: Label) -> Label
     requires one_each { length labels.now ≡ count (the_network net.now) }
     requires well_formed { IsWellFormed (the_network net.now) }

@@ -10,8 +10,8 @@ ghost use Rattle.cstn_lift.specs.WellFormed.{IsLabelled};
 ghost use Rattle.cstn_lift.specs.Lowered.{lowered, numbered, observer_of};
 ghost use Rattle.cstn_lift.specs.Strategies.{IsExecuted, IsLabelledStrategy, IsLabelledLeast, IsEquivalent, IsDefaulted, AreTwins};
 
-/// A label is within its completed one, which is complete, and within each complete label that the label is within.
-/// Completing again changes nothing, and a label that another is within has a completed label that the other's is within.
+/// The completed label of a label is the least complete label that the label is within. Completing it again changes nothing.
+/// Where a label is within another, its completed label is within the completed label of the other.
 pub fn completion_is_a_closure()
     ensures contains { (m : Labelled) (a : Label) → IsWithin a (completed m a) }
     ensures complete { (m : Labelled) (a : Label) → IsCompleteLabel m (completed m a) }
@@ -20,8 +20,9 @@ pub fn completion_is_a_closure()
     ensures grows { (m : Labelled) (a b : Label) → IsWithin a b → IsWithin (completed m a) (completed m b) }
 {}
 
-/// The completed label of each time-point is plain and names observed propositions alone, and within it are those of the
-/// observers of what it marks. These follow one another in no circle: along them a rank falls.
+/// The completed label of each time-point is plain and names only observed propositions, and the completed labels of the
+/// observers of what it marks are within it. Observers wait for each other in no circle: each has a rank, and where the
+/// completed label of one marks what another observes, the rank of the other is lower.
 pub fn completed_labels_are_ordered()
     ensures plain { (m : Labelled) (x : ℕ) → IsLabelled m → IsPlain (completed_label m x) }
     ensures observed { (m : Labelled) (x : ℕ) → IsLabelled m → IsOnObserved m.base (completed_label m x) }
@@ -36,28 +37,29 @@ pub fn observers_are_found()
     ensures none { (net : Network) (p : ℕ) → ((x : ℕ) → Observes net x p → ⊥) → observer_of net p ≡ None }
 {}
 
-/// The lowered network is well-formed where it isn't too long. Each of its labels is plain, names observed propositions alone and
-/// is complete.
+/// The lowered network is well-formed where it has at most 16,384 constraints. Each of its labels is plain and complete, and
+/// names only observed propositions.
 pub fn lowered_is_well_formed()
     ensures well_formed { (m : Labelled) → IsLabelled m → length (lowered m).constraints ≤ 16384 → IsWellFormed (lowered m) }
     ensures labels { (m : Labelled) (c : Constraint) → IsLabelled m → Contains (lowered m).constraints c → IsPlain c.label × IsOnObserved m.base c.label × IsCompleteLabel m c.label }
 {}
 
-/// Where no time-point has a label, the lowered network is the network with its constraints numbered anew, and so the network
-/// itself where their ids are 0 and up.
+/// Where no time-point has a label, the lowered network is the network with its constraints numbered anew from 0. So it is the
+/// network itself where the ids of these are 0, 1, 2 and so on.
 pub fn unlabelled_is_plain()
     ensures numbered { (m : Labelled) → IsLabelled m → ((x : ℕ) → x < count m.base → label_of m x ≡ empty) → lowered m ≡ record m.base { constraints = numbered 0 m.base.constraints } }
     ensures same { (k : ℕ) (cs : List Constraint) → ((i : ℕ) (d : Constraint) → i < length cs → (slice_index_or cs i d).id ≡ k + i) → numbered k cs ≡ cs }
 {}
 
-/// The lowered network is consistent exactly where the labelled one is, with the same least moments of whoever is executed.
+/// The lowered network is consistent exactly where the labelled one is, and a time-point that is executed in a scenario has the
+/// same least moments there in both.
 pub fn lowered_is_equivalent()
     ensures { (m : Labelled) → IsLabelled m → IsEquivalent m (lowered m) }
 {}
 
-/// Whether a time-point is executed in a scenario is decided, and with it the observers of what its completed label marks are.
-/// Scenarios that agree on what is observed in one of them execute the same time-points, at the same moments of a labelled
-/// strategy, with the same least ones.
+/// A time-point is executed in a scenario or it isn't, and where it is, so are the observers of what its completed label marks.
+/// In scenarios that agree on what is observed in one of them, the same time-points are executed. A labelled strategy has each
+/// of these at the same moment in both, and their least moments are the same.
 pub fn twins_are_executed_alike()
     ensures decided { (m : Labelled) (s : Scenario) (x : ℕ) → IsLabelled m → IsExecuted m s x ⊎ (IsExecuted m s x → ⊥) }
     ensures observers { (m : Labelled) (s : Scenario) (x j p : ℕ) → IsLabelled m → IsExecuted m s x → Observes m.base j p → IsMarked (completed_label m x) p → IsExecuted m s j }
@@ -66,15 +68,15 @@ pub fn twins_are_executed_alike()
     ensures least { (m : Labelled) (s r : Scenario) (x t : ℕ) → IsLabelled m → AreTwins m s r → x < count m.base → IsExecuted m s x → (IsLabelledLeast m s x t ↔ IsLabelledLeast m r x t) }
 {}
 
-/// In a strategy of the lowered network, when a time-point's moment comes, what is known either rules its completed label out,
-/// or all that it marks is known and it holds.
+/// In a strategy of the lowered network, what is known at the moment of a time-point either rules its completed label out, or
+/// each proposition that the label marks is known then and the label holds.
 pub fn labels_are_decided_in_time()
     ensures executed { (m : Labelled) (table : Table) (s : Scenario) (x : ℕ) → IsLabelled m → IsStrategy (lowered m) table → x < count m.base → IsPossible (IsKnown (lowered m) (table s) (table s x)) s (completed_label m x) → IsExecuted m s x }
     ensures known { (m : Labelled) (table : Table) (s : Scenario) (x p : ℕ) → IsLabelled m → IsStrategy (lowered m) table → x < count m.base → IsPossible (IsKnown (lowered m) (table s) (table s x)) s (completed_label m x) → IsMarked (completed_label m x) p → IsKnown (lowered m) (table s) (table s x) p }
 {}
 
 /// A strategy of the lowered network, read in each scenario with default values for what isn't observed there, is a labelled
-/// strategy. One that has all least moments gives one that has all least moments of those who are executed.
+/// strategy. Where it has each time-point at its least moment, so has the labelled strategy each time-point that is executed.
 pub fn defaults_give_a_labelled_strategy()
     ensures twins { (m : Labelled) (d : Scenario) → IsLabelled m → (twin : Scenario → Scenario) × ((s : Scenario) → IsDefaulted m d s (twin s)) }
     ensures strategy { (m : Labelled) (table : Table) (d : Scenario) (twin : Scenario → Scenario) → IsLabelled m → ((s : Scenario) → IsDefaulted m d s (twin s)) → IsStrategy (lowered m) table → IsLabelledStrategy m (λ s. table (twin s)) }

@@ -18,14 +18,15 @@ use cstn_label::Label;
 use cstn_net::{Network, observers_are_time_points};
 use std::alloc::Global;
 
-/// Makes a labelled network of a network and the labels of its time-points, in ascending number.
+/// Makes a labelled network of a network and the labels of its time-points, in ascending number of these. Refused where there
+/// is a fault, or where memory is refused.
 pub fn lift(alloc: Global, net: Network, labels: Vec<Label>) -> Result<Labelled, LiftError>
     requires one_each { length labels.items ≡ count (the_network net) }
     ensures base { IfOk result (λ l. l.base ≡ net) }
     ensures labels { IfOk result (λ l. l.labels ≡ labels.items) }
     ensures labelled { IfOk result (λ l. IsLabelled (the_labelled l)) }
 
-    // It is refused exactly where there is a fault, and then for the lowest, but for want of memory.
+    // Unless memory is refused, it is refused exactly where there is a fault, and then by the lowest one.
     ensures faultless { IfOk result (λ _. (e : LiftError) → HasFault (with_labels net labels.items) e → ⊥) }
     ensures refused { IfErr result (IsRefusal (with_labels net labels.items)) }
 {

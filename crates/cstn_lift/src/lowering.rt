@@ -21,8 +21,8 @@ use cstn_net::{
 };
 use std::alloc::{AllocError, Global};
 
-/// The lowered network of a network with these labels, which are completed in `whole`. Refused only where it has too many
-/// constraints, but for want of memory.
+/// The lowered network of a network with these labels, whose completed labels are `whole`. Refused only where it has more than
+/// 16,384 constraints, or where memory is refused.
 pub fn lowered(
     alloc: Global,
     net: &Network,
@@ -48,7 +48,8 @@ pub fn lowered(
     }
 }
 
-// What a builder's error says of a labelled network, which is well-formed but for the number of constraints.
+// The refusal that a builder's error stands for. The lowered network is well-formed but for the number of its constraints, so
+// an error other than want of memory says that there are too many.
 fn error_of(error: NetError) -> LiftError
     ensures memory { net_number error ≡ 0 → number result ≡ 0 }
     ensures constraints { net_number error ≢ 0 → result ≡ LiftError.TooManyConstraints }

@@ -85,8 +85,8 @@ impl Labelled {
         self.rest.given[x.index()]
     }
 
-    /// The plain network that the labelled one is lowered to: it has the same time-points, and is consistent with the same least
-    /// moments.
+    /// The plain network that the labelled one is lowered to. It has the same time-points, is consistent exactly where the
+    /// labelled one is, and has the same least moments of each time-point that is executed.
     pub fn lowered(&self) -> &Network
         ensures lowered { the_network result.now ≡ lowered (the_labelled self.now) }
         ensures well_formed { IsWellFormed (the_network result.now) }
@@ -102,7 +102,7 @@ impl Labelled {
         some_label(&self.rest.given)
     }
 
-    /// The plain network that it is lowered to, and the rest.
+    /// The plain network that the labelled one is lowered to, and the labelled network without it.
     pub fn split(self) -> (Network, Labels)
         ensures lowered { the_network result.0 ≡ lowered (the_labelled self) }
         ensures well_formed { IsWellFormed (the_network result.0) }

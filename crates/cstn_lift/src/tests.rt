@@ -33,7 +33,7 @@ fn network(rt: &impl Abort, alloc: Global, reaction: u32) -> Network
     builder.close().expect(rt, "a network")
 }
 
-// That network, lifted with these labels of its time-points.
+// Lifts the network above with these labels of its time-points.
 fn lifted(
     rt: &impl Abort,
     alloc: Global,
@@ -80,7 +80,7 @@ fn guards_follow_the_constraints(rt: HostRuntime) {
     assert!(rt; lifted.is_labelled() && lifted.base().constraints().len() == 1);
 }
 
-// What refuses these labels.
+// Why the network above is refused with these labels, if it is.
 fn refusal(
     rt: &impl Abort,
     alloc: Global,
@@ -152,8 +152,8 @@ fn a_network_without_labels_stays(rt: HostRuntime) {
     assert_eq!(rt; lifted.lowered().constraints(), lifted.base().constraints());
 }
 
-// What lifting says of the network of the origin and of a time-point that observes p, with so many equal constraints, and of
-// one that has the label p.
+// Lifts the network of the origin, a time-point that observes p and one that has the label p, with this number of equal
+// constraints, and answers why it is refused, if it is.
 fn counted(rt: &impl Abort, alloc: Global, constraints: u32) -> Option<LiftError>
     requires { constraints ≤ 16384 }
 {

@@ -7,7 +7,7 @@ use Rattle.cstn_markup.specs.Bytes.{◌>>=◌, when, is_same, begins, past, past
 use Rattle.cstn_markup.specs.Tokens.{Attribute, Tail, Kind, name_at, value_at, attribute_at, tag_end_at, tail_at, raw_with, attributes_of, attributes_at, with_front, ended_or, start_tag_at, end_tag_at, text_at, piece_at}
 use Rattle.cstn_markup.proofs.Rests.{bind_some, when_some, some_is, which, attribute_parts}
 
--- a piece is a comment, a tag or a text
+-- the token is a tag or a text, with each reference of its form
 abbrev pub IsGiven : Kind → Type 0
 IsGiven (Kind.start_tag name attributes closed) = AllByRecursion (λ a. IsSome (resolved a.raw)) attributes
 IsGiven (Kind.end_tag name) = Unit {0}
@@ -86,7 +86,7 @@ right_of room bytes (Some tail) e = tail_right room bytes tail e
 pub attributes_right : (room : ℕ) (bytes : List ℕ) → AreRight (attributes_at room bytes)
 attributes_right room bytes = right_of room bytes (tail_at room bytes) refl
 
--- the value of an attribute is as the values of all are
+-- what holds of the values of all attributes holds of the value that is found by a name
 pub raw_found : (P : List ℕ → Type 0) (name raw : List ℕ) (attributes : List Attribute) → AllByRecursion (λ a. P a.raw) attributes → Some raw ≡ raw_with name attributes → P raw
 raw_found P name raw [] h e = absurd (cc)
 raw_found P name raw (a ∷ attributes) h e =

@@ -27,19 +27,19 @@ later_begins : (low high : ℕ) (ts : List Token) → low ≤ high → Begins hi
 later_begins low high [] h b = b
 later_begins low high (t ∷ ts) h b = omega arith
 
--- a token before others, with its spans up to where they begin
+-- a token put before others that are in place is in place, where its spans end at the place of the next one or before it
 token_first : (text : List ℕ) (t : Token) (to : ℕ) (later : List Token) → t.at < to → AllByRecursion (LiesBetween text t.at to) (spans t.kind) → Follow text to later → AreInPlace text (t ∷ later)
 token_first text t to [] h s f = absurd f.0
 token_first text t to (next ∷ later) h s f = (omega (arith, f.0), all_by (spans t.kind) (λ x. loosen text x t.at to t.at next.at (omega arith) f.0) s, f.1)
 
--- the spans of the piece at a place
+-- the spans of the piece at a place lie between that place and the end of the piece
 spans_at : (text rest : List ℕ) (at : ℕ) (k : Kind) → at < length text → piece_at (drop at text) ≡ Some (Some k, rest) → IsUtf8 (drop at text) → AllByRecursion (LiesBetween text at (length text - length rest)) (spans k)
 spans_at text rest at k h e u =
     let p = piece_of text at (Some k, rest) h e in
     let short = no_longer _ _ p.behind.rests in
     all_by (spans k) (λ x. shift text (drop at text) rest x at refl (omega arith) short) (piece_spans (drop at text) k rest e u)
 
--- what follows the piece at a place
+-- what follows the piece at a place is UTF-8
 pub next_utf8 : (text : List ℕ) (at : ℕ) (x : Option Kind × List ℕ) → at < length text → piece_at (drop at text) ≡ Some x → IsUtf8 (drop at text) → IsUtf8 (drop (length text - length x.1) text)
 next_utf8 text at x h e u =
     let p = piece_of text at x h e in
@@ -111,7 +111,7 @@ declaration_utf8 bytes n e u =
       | inr h ↦ subst (λ k. (k ≤ length bytes) × IsUtf8 (drop k bytes)) (some_is h.1) (omega arith, u)
     ]
 
--- behind both
+-- what follows a byte order mark and a declaration is UTF-8
 pub started_utf8 : (text : List ℕ) (mark n : ℕ) → mark ≡ mark_len text → declaration_len (drop mark text) ≡ Some n → IsUtf8 text → (mark + n ≤ length text) × IsUtf8 (drop (mark + n) text)
 started_utf8 text mark n is e u =
     let m = mark_utf8 text u in
@@ -144,10 +144,10 @@ tokens_few text u = few text (tokens text) (tokens_in_place text u)
 pub mark_start : (text : List ℕ) (mark : ℕ) → mark ≡ mark_len text → IsUtf8 text → (mark ≤ length text) × IsUtf8 (drop mark text)
 mark_start text mark is u = rw is (mark_utf8 text u)
 
--- the same, by the slice that the program reads
+-- what follows a byte order mark and a declaration is UTF-8, also where the declaration is read from a slice
 pub started_slice : (text : List ℕ) (mark n : ℕ) → mark ≡ mark_len text → Some n ≡ declaration_len (take (length text - mark) (drop mark text)) → IsUtf8 text → (mark + n ≤ length text) × IsUtf8 (drop (mark + n) text)
 started_slice text mark n is e u = started_utf8 text mark n is (sym (e ∙ ap declaration_len (take_rest mark text))) u
 
--- what a scanner says at its start, by the tokens it was found to have
+-- the tokens with which a scanner starts are in place, and number at most one more than the bytes
 pub told_so : (text : List ℕ) (ts : List Token) → IsUtf8 text → ts ≡ tokens text → (AreInPlace text ts × (length ts ≤ length text + 1))
 told_so text ts u e = rw e (tokens_in_place text u, tokens_few text u)

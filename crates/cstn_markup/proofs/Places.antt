@@ -1,4 +1,4 @@
--- The spans of a piece stand in its bytes, from one character on and up to another.
+-- The spans of a piece are slices of its bytes, cut at the bounds of characters.
 use Rattle.std.proofs.Common.{◌≡◌, ℕ, zero, suc, ◌+◌, ◌-◌, ◌≤◌, Bool, not, List, [], ◌∷◌, length, length-drop, take, drop, refl, ap, sym, ◌∙◌, subst, arith, Option, Some, None}
 use Rattle.std.specs.Prelude.{codes, ◌==◌, ◌||◌}
 use Rattle.std.specs.List.{prefix_len, AllByRecursion}
@@ -20,7 +20,7 @@ pub loosen : (text span : List ℕ) (from to low high : ℕ) → low ≤ from �
 loosen text span from to low high h k s =
     record { begin = s.begin; end = s.end; after = omega (arith, s.after); ordered = s.ordered; before = omega (arith, s.before); is = s.is; begins = s.begins; ends = s.ends }
 
--- in what follows the first n bytes
+-- a span of the bytes behind the first n is a span of the whole, n bytes later
 pub shift : (whole mid rest span : List ℕ) (n : ℕ) → drop n whole ≡ mid → n ≤ length whole → length rest ≤ length mid → LiesBetween mid 0 (length mid - length rest) span → LiesBetween whole n (length whole - length rest) span
 shift whole mid rest span n e inside short s =
     let len : length mid ≡ length whole - n = ap length (sym e) ∙ length-drop n whole in
@@ -37,14 +37,14 @@ shift whole mid rest span n e inside short s =
       ends = IsCharBoundary-from_rest whole n s.end inside (subst (λ w. IsCharBoundary w s.end) (sym e) s.ends);
     }
 
--- a part of a rest is a part of the whole
+-- a span of a rest is a span of the whole
 pub within : (whole mid rest last span : List ℕ) → IsRest whole mid → length rest ≤ length mid → length last ≤ length rest → LiesBetween mid 0 (length mid - length rest) span → LiesBetween whole 0 (length whole - length last) span
 within whole mid rest last span h short le s =
     let len = no_longer whole mid h in
     loosen whole span (length whole - length mid) (length whole - length rest) 0 (length whole - length last) (omega arith) (omega arith)
     (shift whole mid rest span (length whole - length mid) (rest_is whole mid h) (omega arith) short s)
 
--- a part at the front
+-- the first n bytes are a span, where what follows them is UTF-8
 front_span : (bytes rest span : List ℕ) (n : ℕ) → n ≤ length bytes → span ≡ take n bytes → rest ≡ drop n bytes → IsUtf8 bytes → IsUtf8 rest → LiesBetween bytes 0 (length bytes - length rest) span
 front_span bytes rest span n h e f u v =
     let len : length rest ≡ length bytes - n = ap length f ∙ length-drop n bytes in
@@ -73,7 +73,7 @@ value_span (quote ∷ bytes) x e u =
     within (quote ∷ bytes) bytes (drop n bytes) x.1 x.0 v.opened (no_longer _ _ v.ended) (no_longer _ _ v.closed)
     (front_span bytes (drop n bytes) x.0 n (prefix_len-le-length _ bytes) v.value refl (v.opened.keeps u) (v.ended.keeps (v.opened.keeps u)))
 
--- the name and the value of an attribute
+-- the name and the value of an attribute lie in the bytes before the rest
 abbrev Holds : List ℕ → List ℕ → Attribute → Type 0
 Holds bytes rest a = LiesBetween bytes 0 (length bytes - length rest) a.name × LiesBetween bytes 0 (length bytes - length rest) a.raw
 
@@ -118,7 +118,7 @@ tail_spans (suc room) bytes tail e u =
     ))
     e
 
--- the spans of a token
+-- the spans of a token lie in the bytes before the rest
 abbrev pub Spans : List ℕ → Kind → List ℕ → Type 0
 Spans bytes k rest = AllByRecursion (LiesBetween bytes 0 (length bytes - length rest)) (spans k)
 
@@ -149,7 +149,7 @@ text_spans bytes x e u =
     subst (λ (y : Kind × List ℕ). Spans bytes y.0 y.1) (when_some _ _ x e)
     (front_span bytes (drop n bytes) (take n bytes) n (prefix_len-le-length _ bytes) refl refl u (subst IsUtf8 (sym (ap (λ p. p.1) (when_some _ _ x e))) ((text_rest bytes x e).keeps u)), tt)
 
--- behind the bytes that begin a tag
+-- spans that lie behind the bytes which begin a tag lie in the whole tag
 tag_spans : (front bytes : List ℕ) (x : Kind × List ℕ) → IsRest bytes front → length x.1 ≤ length front → Spans front x.0 x.1 → Spans bytes x.0 x.1
 tag_spans front bytes x h short s = all_by (spans x.0) (λ w. within bytes front x.1 x.1 w h short (omega arith)) s
 

@@ -1,4 +1,4 @@
--- What references put in: UTF-8 from UTF-8, and the same bytes where there is none.
+-- Replacing references by their characters makes UTF-8 of UTF-8, and changes nothing where there is no reference.
 use Rattle.std.proofs.Common.{◌≡◌, ℕ, zero, suc, ◌+◌, ◌<◌, ◌≤◌, ◌≢◌, ◌⊎◌, inl, inr, true, false, not, List, [], ◌∷◌, ◌++◌, length, take, drop, get_or, refl, ap, sym, ◌∙◌, subst, arith, Some, None, append_assoc, length-drop, IsSome}
 use Rattle.std.specs.Prelude.{codes, ◌==◌, nat_lt, nat_le, ◌&&◌}
 use Rattle.std.specs.List.{prefix_len, list_all}
@@ -56,7 +56,7 @@ character_found name c e =
 semicolon_low : (b : ℕ) → not (b == 59) ≡ false → b < 128
 semicolon_low b e = grind arith
 
--- behind a reference
+-- a reference that was read stands for a character, and what follows it is UTF-8
 pub record IsReference (bytes : List ℕ) (c n : ℕ) : Type 0 where
   pub scalar : IsScalar c
   pub keeps : IsUtf8 bytes → IsUtf8 (drop n bytes)
@@ -94,7 +94,7 @@ piece_found b bytes piece n e =
           record { case = inr (grind arith, sym (ap (λ p. p.1) pair), sym (ap (λ p. p.0) pair)) }
     ]
 
--- UTF-8 is cut before ASCII
+-- UTF-8 that is cut before an ASCII byte gives UTF-8 on both sides
 pub cut : (head bytes : List ℕ) (b : ℕ) → b < 128 → IsUtf8 (head ++ (b ∷ bytes)) → IsUtf8 head × IsUtf8 (b ∷ bytes)
 cut head bytes b low u =
     let first : get_or (head ++ (b ∷ bytes)) (length head) 0 ≡ b = get_or-append_seam head b bytes 0 in
@@ -125,7 +125,7 @@ after_piece b bytes head piece more n p u next =
       | inr h ↦ subst (λ x. IsUtf8 (head ++ (x ++ more))) (sym h.2) (after_byte bytes head more b n h.1 u next)
     ]
 
--- what stands behind bytes that were put in, where those and what is left make UTF-8
+-- where head and the raw bytes behind it are UTF-8 together, so are head and the resolved bytes behind it
 resolved_by : (left : ℕ) (raw v head : List ℕ) → length raw ≤ left → IsUtf8 (head ++ raw) → resolved_after 0 raw ≡ Some v → IsUtf8 (head ++ v)
 unfolding resolved_after
 resolved_by left [] v head h u e = subst (λ w. IsUtf8 (head ++ w)) (some_is e) u
@@ -145,7 +145,7 @@ plain_piece : (b : ℕ) (bytes : List ℕ) → not (b == 38) ≡ true → piece_
 unfolding piece_at
 plain_piece b bytes h = grind arith
 
--- where there is no `&`
+-- bytes without `&` are resolved to themselves
 pub resolved_plain : (raw : List ℕ) → list_all (λ b. not (b == 38)) raw ≡ true → resolved raw ≡ Some raw
 unfolding resolved_after
 resolved_plain [] h = refl
@@ -153,11 +153,11 @@ resolved_plain (b ∷ raw) h =
     let p = and_parts _ (list_all (λ b. not (b == 38)) raw) h in
     rw (plain_piece b raw p.0, resolved_plain raw p.1) refl
 
--- where no reference is left to put in
+-- where no reference is left, the whole is resolved to the bytes put so far and the rest
 pub all_put : (raw rest put done : List ℕ) → list_all (λ b. not (b == 38)) rest ≡ true → done ≡ put ++ rest → resolved_after 0 raw ≡ (resolved_after 0 rest >>= λ more. Some (put ++ more)) → resolved raw ≡ Some done
 all_put raw rest put done h d e = e ∙ rw (resolved_plain rest h, d) refl
 
--- what is left is right where the whole is
+-- where the whole can be resolved, what is left of it can
 pub none_left : (raw rest put : List ℕ) → resolved_after 0 rest ≡ None → resolved_after 0 raw ≡ (resolved_after 0 rest >>= λ more. Some (put ++ more)) → IsSome (resolved raw) → ⊥
 none_left raw rest put e so some =
     let none : resolved raw ≡ None = so ∙ rw e refl in

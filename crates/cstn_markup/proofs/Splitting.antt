@@ -11,7 +11,7 @@ use Rattle.cstn_markup.proofs.Skips.{take_rest}
 abbrev is_plain : ℕ → Bool
 is_plain b = not (b == 38)
 
--- the front passes the test
+-- each byte of the longest front that passes the test passes it
 front_by : (p : ℕ → Bool) (b : ℕ) (bytes : List ℕ) (t : Bool) → p b ≡ t → list_all p (take (prefix_len p bytes) bytes) ≡ true → list_all p (take (cond (p b) (1 + prefix_len p bytes) 0) (b ∷ bytes)) ≡ true
 front_by p b bytes true e h = let one : 1 + prefix_len p bytes ≡ suc (prefix_len p bytes) = omega arith in rw (e, one, e, h) refl
 front_by p b bytes false e h = rw e refl
@@ -20,7 +20,7 @@ front_passes : (p : ℕ → Bool) (bytes : List ℕ) → list_all p (take (prefi
 front_passes p [] = refl
 front_passes p (b ∷ bytes) = front_by p b bytes (p b) refl (front_passes p bytes)
 
--- and all of the bytes where nothing follows the front
+-- all bytes pass the test where nothing follows the longest front that passes it
 all_pass : (p : ℕ → Bool) (bytes : List ℕ) → length (drop (prefix_len p bytes) bytes) ≡ 0 → list_all p bytes ≡ true
 all_pass p bytes e =
     let long : length bytes ≤ prefix_len p bytes = omega (arith, length-drop (prefix_len p bytes) bytes) in

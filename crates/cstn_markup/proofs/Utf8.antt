@@ -1,4 +1,4 @@
--- Where UTF-8 may be cut: beside ASCII.
+-- UTF-8 may be cut beside an ASCII byte.
 use Rattle.std.proofs.Common.{◌≡◌, ℕ, suc, ◌+◌, ◌<◌, ◌≤◌, Bool, true, false, cond, List, [], ◌∷◌, length, drop, get_or, refl, ap, sym, ◌∙◌, subst, arith, inl, inr, ◌⊎◌}
 use Rattle.std.specs.List.{prefix_len, list_all}
 use Rattle.std.specs.Str.{IsUtf8, IsCharBoundary}
@@ -12,7 +12,7 @@ use Rattle.cstn_markup.specs.Bytes.{begins}
 pub past_ascii : (b : ℕ) (bytes : List ℕ) → b < 128 → IsUtf8 (b ∷ bytes) → IsUtf8 bytes
 past_ascii b bytes h u = IsUtf8-drop (b ∷ bytes) 1 u (IsCharBoundary-after_ascii (b ∷ bytes) 0 u (omega arith) h)
 
--- past a run of ASCII
+-- what follows a run of ASCII is UTF-8
 run_by : (t : Bool) (n b : ℕ) (bytes : List ℕ) → (t ≡ true → IsUtf8 (drop n bytes)) → IsUtf8 (b ∷ bytes) → IsUtf8 (drop (cond t (1 + n) 0) (b ∷ bytes))
 run_by true n b bytes h u = let is : suc n ≡ 1 + n = omega arith in subst (λ k. IsUtf8 (drop k (b ∷ bytes))) is (h refl)
 run_by false n b bytes h u = u
@@ -21,7 +21,7 @@ pub past_run : (p : ℕ → Bool) (bytes : List ℕ) → ((b : ℕ) → p b ≡ 
 past_run p [] h u = u
 past_run p (b ∷ bytes) h u = run_by (p b) (prefix_len p bytes) b bytes (λ e. past_run p bytes h (past_ascii b bytes (h b e) u)) u
 
--- up to ASCII, or to the end
+-- a run that ends before an ASCII byte, or at the end of the bytes, ends at the bound of a character
 pub before_run_end : (p : ℕ → Bool) (bytes : List ℕ) → ((b : ℕ) → p b ≡ false → b < 128) → IsCharBoundary bytes (prefix_len p bytes)
 before_run_end p bytes h = by (cases_lt (prefix_len p bytes) (length bytes))
   where
@@ -35,7 +35,7 @@ before_run_end p bytes h = by (cases_lt (prefix_len p bytes) (length bytes))
 pub from_run_end : (p : ℕ → Bool) (bytes : List ℕ) → ((b : ℕ) → p b ≡ false → b < 128) → IsUtf8 bytes → IsUtf8 (drop (prefix_len p bytes) bytes)
 from_run_end p bytes h u = IsUtf8-drop bytes (prefix_len p bytes) u (before_run_end p bytes h)
 
--- past a front of ASCII
+-- what follows a front of ASCII is UTF-8
 pub past_front : (front bytes : List ℕ) → list_all is_ascii front ≡ true → begins front bytes ≡ true → IsUtf8 bytes → IsUtf8 (drop (length front) bytes)
 past_front [] bytes h e u = u
 past_front (f ∷ front) [] h e u = absurd (false≢true e)
@@ -45,7 +45,7 @@ past_front (f ∷ front) (b ∷ bytes) h e u =
     let is : b ≡ f = eqb-true b f same.0 in
     past_front front bytes low.1 same.1 (past_ascii b bytes (omega (arith, ltb-true f 128 low.0)) u)
 
--- from a byte of ASCII on
+-- what begins with an ASCII byte is UTF-8
 pub from_ascii : (whole bytes : List ℕ) (n b : ℕ) → drop n whole ≡ b ∷ bytes → n < length whole → b < 128 → IsUtf8 whole → IsUtf8 (b ∷ bytes)
 from_ascii whole bytes n b e inside low u =
     let at : get_or (drop n whole) 0 0 ≡ get_or whole (n + 0) 0 = get_or-drop n whole 0 0 in

@@ -17,7 +17,7 @@ spans (text_run raw) = raw ∷ []
 spans wrong = []
 spans finish = []
 
--- the span is what a text has from one character on and up to another, between two places
+-- the span is a slice of the text between two places, cut at the bounds of characters
 pub record LiesBetween (text : List ℕ) (from to : ℕ) (span : List ℕ) : Type 0 where
   pub begin : ℕ
   pub end : ℕ

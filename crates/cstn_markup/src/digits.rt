@@ -1,9 +1,9 @@
-//! Digits.
+//! The number that digits write.
 
 ghost use Rattle.std.specs.Prelude.{◌≡◌, ◌≤◌, ◌<◌, ◌^◌, length, IfSome};
 ghost use Rattle.cstn_markup.specs.Bytes.{number_after};
 
-/// The number that up to ten digits write, of which none is the number 0. None where a byte is no digit of the radix.
+/// The number that up to ten digits write; no digits at all write 0. None where a byte is no digit of the radix.
 #[tactic(auto, unfolding(crate::specs::Bytes::number_after))]
 pub fn number(radix: u32, digits: &[u8]) -> Option<u64>
     requires small { radix ≤ 16 }

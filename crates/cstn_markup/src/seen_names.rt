@@ -1,4 +1,4 @@
-//! The names of the attributes of a tag that were read.
+//! The names of those attributes of a tag that were read so far.
 
 ghost use Rattle.std.specs.Prelude.{◌≡◌, ◌==◌, ◌<◌, ◌++◌, ◌∷◌, [], length};
 ghost use Rattle.std.specs.List.{list_any};
@@ -51,7 +51,7 @@ impl<'a> SeenNames<'a> {
         self.names[..self.len].contains(&name)
     }
 
-    /// One name more.
+    /// Adds a name behind the others.
     pub fn push(&mut self, name: &'a [u8])
         requires { length self.old < 32 }
         ensures { self.new ≡ self.old ++ name.now ∷ [] }

@@ -16,7 +16,7 @@ use Rattle.cstn_graphml.specs.DrawnGraph.{Observation}
 use Rattle.cstn_save.specs.Canonical.{literal, literals_below, or_empty, reaction_data, label_data, node_end, node_line, nodes_below, edge_tag, edge_data, edge_line, edges}
 use Rattle.cstn_save.proofs.JoinLemmas.{two, three}
 
--- a constraint's line is put
+-- the two pieces of a constraint's line are put at the end of the text
 pub edge_put : (names : List (List ℕ)) (c : Constraint) (source target old t1 t2 : List ℕ) → slice_get names c.from ≡ Some source → slice_get names c.to ≡ Some target
     → t1 ≡ old ++ edge_tag source target → t2 ≡ t1 ++ edge_data c.most c.label → t2 ≡ old ++ edge_line names c
 edge_put names c source target old t1 t2 from to e1 e2 =
@@ -59,13 +59,13 @@ pub end_put : (inner_bytes old t1 t2 t3 : List ℕ) (b : Bool) → b ≡ (length
 end_put [] old t1 t2 t3 b is some e1 e2 e3 = absurd (true≢false (sym is ∙ some))
 end_put (x ∷ inner_bytes) old t1 t2 t3 b is some e1 e2 e3 = three old (codes "\">") (x ∷ inner_bytes) (codes "</node>\n") t1 t2 t3 e1 e2 e3
 
--- and of one that has none
+-- the end of the line of a time-point that has no data
 pub end_bare : {U E : Type 0} (inner_bytes old new : List ℕ) (b : Bool) (r : Result U E) → b ≡ (length inner_bytes == 0) → b ≡ true → new ≡ (if is_ok r then old ++ codes "\"/>\n" else old) → OnOk r (new ≡ old ++ node_end inner_bytes)
 end_bare [] old new b (Ok u) is none put = put
 end_bare [] old new b (Err e) is none put = tt
 end_bare (x ∷ inner_bytes) old new b r is none put = absurd (something_there (length inner_bytes) b (length (x ∷ inner_bytes)) is none refl)
 
--- the data of a label
+-- the data of a label that has literals
 pub label_put : (literals old t1 t2 t3 : List ℕ) (b : Bool) → b ≡ (length literals == 0) → b ≡ false → t1 ≡ old ++ codes "<data key=\"Label\">" → t2 ≡ t1 ++ literals → t3 ≡ t2 ++ codes "</data>" → t3 ≡ old ++ label_data literals
 label_put [] old t1 t2 t3 b is some e1 e2 e3 = absurd (true≢false (sym is ∙ some))
 label_put (x ∷ literals) old t1 t2 t3 b is some e1 e2 e3 = three old (codes "<data key=\"Label\">") (x ∷ literals) (codes "</data>") t1 t2 t3 e1 e2 e3
@@ -83,7 +83,7 @@ pub literals_more : (a : Label) (n : ℕ) (old text new : List ℕ) → text ≡
 unfolding literals_below
 literals_more a n old text new so_far put = rw add-one (two old (literals_below a n) (literal (letter_of n) (a n)) text new so_far put)
 
--- a label is its literals, or what stands for none where they add nothing
+-- where the literals add nothing to the text, the sign of the empty label is put
 pub no_literal : (literals old text new : List ℕ) → text ≡ old ++ literals → length text ≡ length old → new ≡ text ++ (226 ∷ 138 ∷ 161 ∷ []) → new ≡ old ++ or_empty literals
 no_literal [] old text new is same put = put ∙ ap (λ (t : List ℕ). t ++ (226 ∷ 138 ∷ 161 ∷ [])) (is ∙ append-nil old)
 no_literal (b ∷ literals) old text new is same put = absurd (omega (arith, same, ap length is, length-append old (b ∷ literals)))
@@ -92,6 +92,6 @@ pub some_literal : (literals old text : List ℕ) → text ≡ old ++ literals �
 some_literal [] old text is other = absurd (other (ap length (is ∙ append-nil old)))
 some_literal (b ∷ literals) old text is other = is
 
--- the data of a reaction that is no tick
+-- the data of a reaction of other than 1 tick
 pub reaction_put : (ticks : ℕ) (old new : List ℕ) → ticks ≢ 1 → new ≡ old ++ (codes "<data key=\"Reaction\">" ++ printed_number ticks ++ codes "</data>") → new ≡ old ++ reaction_data ticks
 reaction_put ticks old new other put = let no : (ticks == 1) ≡ false = grind arith in rw no put

@@ -23,7 +23,7 @@ differ xs ys h = false_from_ne_true (bytes_eq xs ys) (λ e. h ((bytes_eq-Decides
 self : (xs : List ℕ) → bytes_eq xs xs ≡ true
 self xs = (bytes_eq-Decides xs xs).1 refl
 
--- one name for each time-point, the first `Z`, different, and each of its size
+-- the names are different and of 1 to 64 bytes, the first is `Z`, and each has its observation and its label
 pub record AreGiven (names : List (List ℕ)) (observes : List (Option Observation)) (labels : List Label) : Type 0 where
   pub sized : (i : ℕ) → i < length names → (nat_lt 0 (length (slice_index_or names i [])) && nat_le (length (slice_index_or names i [])) 64) ≡ true
   pub different : AllPairs (λ a b. a ≢ b) names
@@ -96,7 +96,7 @@ found_at p xs i h e = let t : nat_lt i (length xs) ≡ true = grind arith in rw 
 found_none : (p : List ℕ → Bool) (xs : List (List ℕ)) → position_or_len p xs ≡ length xs → position p xs ≡ None
 found_none p xs e = let t : nat_lt (length xs) (length xs) ≡ false = grind arith in rw (e, t) refl
 
--- a name is new where those before it stand
+-- the name of a time-point is new to the draft of the time-points before it
 pub fresh : (names : List (List ℕ)) (observes : List (Option Observation)) (labels : List Label) (deadline at i : ℕ) → AreGiven names observes labels → i < length names → node_of (slice_index_or names i []) (drafted names observes labels (begun deadline at) i) ≡ None
 unfolding drafted
 fresh names observes labels deadline at zero given h = subst (λ (x : List ℕ). node_of x (begun deadline at) ≡ None) (sym given.origin) refl
@@ -116,7 +116,7 @@ fresh names observes labels deadline at (suc n) given h =
     length-taken : (m : ℕ) (xs : List (List ℕ)) → m ≤ length xs → length (take m xs) ≡ m
     length-taken m xs h = omega (arith, length-take m xs)
 
--- and is found at its number at the end
+-- each name is found at its number in the draft of all time-points
 pub found : (names : List (List ℕ)) (observes : List (Option Observation)) (labels : List Label) (deadline n i : ℕ) (d : DrawnGraph) → AreGiven names observes labels → suc n ≡ length names → IsShaped names observes labels deadline n d → i < length names → node_of (slice_index_or names i []) d ≡ Some i
 found names observes labels deadline n zero d given all so h = subst (λ (x : List ℕ). node_of x d ≡ Some 0) (sym given.origin) (rw so.origin_is refl)
 found names observes labels deadline n (suc i) d given all so h =

@@ -98,7 +98,7 @@ edge_line_made names c rest at d is =
     subst (λ (x : List ℕ). Makes d (with_constraint (drawn c) d) at x (60 ∷ rest)) (sym (line_flat source target rest c.most c.label))
     (edge_made source target (values_inside c.most c.label) rest c.from c.to at c.most c.label d (no_less c.most c.label is.fits) (no_ampersand c.most c.label is.fits) (values_trimmed c.most c.label) values is.from is.to)
 
--- the draft with constraints more
+-- the draft with these constraints put in
 unfoldable pub with_all : List Constraint → DrawnGraph → DrawnGraph
 with_all [] d = d
 with_all (c ∷ cs) d = with_all cs (with_constraint (drawn c) d)

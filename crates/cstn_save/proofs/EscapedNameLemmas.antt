@@ -1,4 +1,4 @@
--- Escaped names: references put in give the name back, and neither a quote nor `<` stands in them.
+-- Escaped names: putting the references in gives the name back, and neither a quote nor `<` stands in them.
 use Rattle.std.proofs.Common.{◌≡◌, ℕ, ◌+◌, ◌<◌, ◌≤◌, List, [], ◌∷◌, ◌++◌, length, refl, ◌∙◌, arith, Bool, true, false, not, ◌&&◌, ◌||◌, append_assoc}
 use Rattle.std.specs.Prelude.{◌==◌, nat_lt, nat_le, Option, Some, if◌then◌else◌, decimal, codes}
 use Rattle.std.specs.Char.{is_ascii_digit, encode_utf8}
@@ -34,7 +34,7 @@ unfolding resolved_after piece_at
 reference_gives name rest c small h e =
     rw (append_assoc name (59 ∷ []) rest, reference_here name rest c h e, encoded c small, resolved_skip (length name + 1) (name ++ 59 ∷ rest), past_stop name 59 rest) refl
 
--- a byte is written by its number
+-- a digit is no semicolon
 no_semicolon : (b : ℕ) → is_ascii_digit b ≡ true → not (b == 59) ≡ true
 no_semicolon b h = grind arith
 
@@ -83,13 +83,13 @@ byte_gives b rest = byte_cases b rest (is_numbered b) (b == 38) (b == 60) (b == 
 some_more : (b : ℕ) (o : Option (List ℕ)) (name : List ℕ) → o ≡ Some name → (o >>= λ more. Some (b ∷ more)) ≡ Some (b ∷ name)
 some_more b o name e = rw e refl
 
--- references put in give the name back
+-- putting the references in gives the name back
 pub name_back : (name : List ℕ) → resolved (escaped_name name) ≡ Some name
 unfolding resolved_after
 name_back [] = refl
 name_back (b ∷ name) = byte_gives b (escaped_name name) ∙ some_more b (resolved_after 0 (escaped_name name)) name (name_back name)
 
--- neither a quote nor `<`
+-- a byte that is neither a quote nor `<`
 abbrev is_of_value : ℕ → Bool
 is_of_value b = not (b == 34 || b == 60)
 
@@ -117,7 +117,7 @@ name_of_value : (name : List ℕ) → list_all is_of_value (escaped_name name) �
 name_of_value [] = refl
 name_of_value (b ∷ name) = both_all is_of_value (escaped_byte b) (escaped_name name) (byte_of_value b) (name_of_value name)
 
--- between two quotes it is a value
+-- an escaped name between two quotes is a value
 pub name_quoted : (name rest : List ℕ) → value_at (34 ∷ (escaped_name name ++ 34 ∷ rest)) ≡ Some (escaped_name name, rest)
 name_quoted name rest =
     rw (run_len is_of_value (escaped_name name) 34 rest (name_of_value name) refl, drop-append_seam (escaped_name name) (34 ∷ rest), take-append_seam (escaped_name name) (34 ∷ rest), name_back name) refl

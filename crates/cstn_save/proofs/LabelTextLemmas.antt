@@ -12,7 +12,7 @@ use Rattle.cstn_data.specs.LabelTexts.Expects.{literal as for_literal}
 use Rattle.cstn_text.proofs.PrintedLabelLemmas.{below, below_none, below_more, below_absent, below_here, below_all, letter_back}
 use Rattle.cstn_save.specs.Canonical.{literal, literals_below, or_empty, document_label}
 
--- the letter of a proposition
+-- the letter of a proposition is neither white space nor `!`, nor the first byte of U+00AC
 pub letter_kind : (p : ℕ) → p < 52 → (is_white (letter_of p) ≡ false) × ((letter_of p == 33) ≡ false) × ((letter_of p == 194) ≡ false)
 letter_kind p small = grind arith
 
@@ -35,7 +35,7 @@ literals_read a zero rest small plain = ap (λ (b : Label). label_after for_lite
 literals_read a (suc n) rest small plain =
     rw append_assoc (literals_read a n (literal (letter_of n) (a n) ++ rest) (omega arith) plain ∙ literal_read a n (a n) rest (omega arith) refl (plain n))
 
--- a text of literals isn't the one of the empty label
+-- a text that is read as literals isn't the sign of the empty label
 empty_cases : (b : ℕ) (bytes : List ℕ) (a : Label) (is : Bool) → is_same (b ∷ bytes) (226 ∷ 138 ∷ 161 ∷ []) ≡ is → label_after for_literal empty (b ∷ bytes) ≡ Some a → label_of (b ∷ bytes) ≡ Some a
 unfolding label_after
 empty_cases b bytes a true is e =

@@ -1,4 +1,4 @@
--- Reading what is saved gives the same names and the same labelled network.
+-- Reading what is saved gives the same names, and the same labelled network but for ids.
 use Rattle.std.proofs.Common.{◌≡◌, ◌≢◌, ℕ, zero, suc, ◌-◌, ◌<◌, ◌≤◌, ◌^◌, List, [], ◌∷◌, ◌++◌, length, refl, ap, sym, ◌∙◌, arith, true, subst, map, Ok}
 use Rattle.std.specs.Prelude.{Option, Some, None, codes, nat_lt, nat_le, ◌&&◌, slice_index_or, ℤ, pos, negsuc, ◌≤ℤ◌, FitsSigned}
 use Rattle.std.specs.Int.{w32}
@@ -32,7 +32,7 @@ use Rattle.cstn_save.proofs.DraftedLemmas.{AreGiven, IsShaped, shaped, fresh, fo
 sized_name : (n : ℕ) → 1 ≤ n → n ≤ 64 → (nat_lt 0 n && nat_le n 64) ≡ true
 sized_name n some few = grind arith
 
--- what a time-point observes, and its reaction
+-- what a time-point observes, with the reaction of the proposition
 observed_at : (reaction : ℕ → ℕ) (os : List (Option ℕ)) (i : ℕ) → slice_index_or (map (observed_by reaction) os) i None ≡ observed_by reaction (slice_index_or os i None)
 observed_at reaction [] i = refl
 observed_at reaction (o ∷ os) zero = refl
@@ -77,7 +77,7 @@ absent_by a p Yes low e high = absurd (omega (arith, high, low (λ none. false�
 absent_by a p No low e high = absurd (omega (arith, high, low (λ none. false≢true (ap is_absent (sym e ∙ none)))))
 absent_by a p Unknown low e high = absurd (omega (arith, high, low (λ none. false≢true (ap is_absent (sym e ∙ none)))))
 
--- a label of observed propositions alone marks letters
+-- a label of observed propositions alone marks no proposition above 51
 high_of : (net : Network) (a : Label) → IsWellFormed net → IsOnObserved net a → (p : ℕ) → 52 ≤ p → a p ≡ Absent
 high_of net a wf observed p high = absent_by a p (a p) (λ marked. let o = observed p marked in wf.letters o.0 p o.1) refl high
 
@@ -139,6 +139,6 @@ canonical_utf8 m names wf is =
     is_utf8-from_IsUtf8 (canonical m names)
     (IsUtf8-append (head net.deadline ++ text ++ edges names net.constraints) tail (IsUtf8-append (head net.deadline ++ text) (edges names net.constraints) (IsUtf8-append (head net.deadline) text (head_utf8 net.deadline (omega (arith, wf.in_time))) nodes) lines) tail_utf8)
 
--- and so has the document
+-- the canonical document has the parts of the labelled network
 pub document_back : (m : Labelled) (names : List (List ℕ)) → IsLabelled m → AreNamesOf m.base names → document (canonical m names) None ≡ Ok (parts m names)
 document_back m names good is = rw (canonical_utf8 m names good.base is) (content_back m names good is)

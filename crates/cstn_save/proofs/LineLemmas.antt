@@ -25,13 +25,13 @@ use Rattle.cstn_save.proofs.TokenLemmas.{next_token, text_piece, graphml_tag, gr
 abbrev pub around : List (List ℕ)
 around = codes "graph" ∷ codes "graphml" ∷ []
 
--- the bytes in front of the rest make this draft of that one
+-- reading the bytes in front of the rest makes the draft `after` of the draft `before`
 pub record Makes (before after : DrawnGraph) (at : ℕ) (bytes rest : List ℕ) : Type 0 where
   pub place : ℕ
   pub told : in_graph before (inner (contents around (tokens_after 0 at bytes))) ≡ in_graph after (inner (contents around (tokens_after 0 place rest)))
   pub left : outer (contents around (tokens_after 0 at bytes)) ≡ outer (contents around (tokens_after 0 place rest))
 
--- the line of a time-point without data
+-- the line of a time-point without data is read
 pub plain_node : (name rest : List ℕ) (at : ℕ) (draft : DrawnGraph) → (nat_lt 0 (length name) && nat_le (length name) 64) ≡ true → node_of name draft ≡ None
     → Makes draft (with_node name None empty draft) at (codes "<node id=" ++ 34 ∷ (escaped_name name ++ 34 ∷ 47 ∷ 62 ∷ 10 ∷ 60 ∷ rest)) (60 ∷ rest)
 unfolding contents read_by
@@ -69,13 +69,13 @@ node_keys = codes "Obs" ∷ (codes "Reaction" ∷ (codes "Label" ∷ []))
 abbrev pub in_node : List (List ℕ)
 in_node = codes "node" ∷ around
 
--- the bytes in front of the rest are these data more of a time-point
+-- reading the bytes in front of the rest takes the data found of a time-point from `before` to `after`
 pub record Finds (before after : List Datum) (at : ℕ) (bytes rest : List ℕ) : Type 0 where
   pub place : ℕ
   pub told : read_by (data_reading node_keys) before (inner (contents in_node (tokens_after 0 at bytes))) ≡ read_by (data_reading node_keys) after (inner (contents in_node (tokens_after 0 place rest)))
   pub left : outer (contents in_node (tokens_after 0 at bytes)) ≡ outer (contents in_node (tokens_after 0 place rest))
 
--- a data element
+-- a data element with this key, place and value
 abbrev datum_with : List ℕ → ℕ → List ℕ → Datum
 datum_with key at value = record { key = key; at = at; value = value }
 
@@ -100,7 +100,7 @@ datum_found key front d ds rest at found tag key_read used fresh few plain trims
 pub finds_then : {a b c : List Datum} {at : ℕ} {x y z : List ℕ} → (m : Finds a b at x y) → Finds b c m.place y z → Finds a c at x z
 finds_then m n = record { place = n.place; told = m.told ∙ n.told; left = m.left ∙ n.left }
 
--- what is observed and the label, by these data
+-- the data say that a time-point observes o and has the label a
 pub record Says (o : Option Observation) (a : Label) (found : List Datum) : Type 0 where
   pub prop : Option ℕ
   pub ticks : ℕ
@@ -109,7 +109,7 @@ pub record Says (o : Option Observation) (a : Label) (found : List Datum) : Type
   pub labels : labelled (datum_of (codes "Label") found) ≡ Ok a
   pub is : observation prop ticks ≡ o
 
--- the line of a time-point with data
+-- the line of a time-point with data is read
 pub open_node : (name bytes rest : List ℕ) (at : ℕ) (o : Option Observation) (a : Label) (draft : DrawnGraph) → (nat_lt 0 (length name) && nat_le (length name) 64) ≡ true → node_of name draft ≡ None
     → ((place : ℕ) → (found : List Datum) × Says o a found × Finds [] found place bytes (codes "</node>\n" ++ 60 ∷ rest))
     → Makes draft (with_node name o a draft) at (codes "<node id=" ++ 34 ∷ (escaped_name name ++ 34 ∷ 62 ∷ bytes)) (60 ∷ rest)
@@ -130,7 +130,7 @@ open_node name bytes rest at o a draft sized fresh finds =
 requirement_read : resolved (codes "requirement") ≡ Some (codes "requirement")
 requirement_read = resolved_plain (codes "requirement") refl
 
--- the line of a constraint
+-- the line of a constraint is read
 pub edge_made : (source target raw rest : List ℕ) (from to at : ℕ) (v : ℤ) (a : Label) (draft : DrawnGraph)
     → list_all (λ c. not (c == 60)) (123 ∷ raw) ≡ true → list_all (λ c. not (c == 38)) (123 ∷ raw) ≡ true → trimmed (123 ∷ raw) ≡ 123 ∷ raw
     → values_of (123 ∷ raw) ≡ Some (record { most = v; label = Some a } ∷ []) → node_of source draft ≡ Some from → node_of target draft ≡ Some to
@@ -160,7 +160,7 @@ edge_made source target raw rest from to at v a draft h k trims values is_from i
       left = rw (t1.1, t2.1, t3.1, t4.1, t5.1, t6.1, t7.1, t8.1, t9.1) refl;
     }
 
--- the line of the deadline
+-- the line of the deadline is read
 pub deadline_made : (d n : ℕ) (ds rest : List ℕ) (at : ℕ) → list_all (λ c. not (c == 60)) (d ∷ ds) ≡ true → list_all (λ c. not (c == 38)) (d ∷ ds) ≡ true → trimmed (d ∷ ds) ≡ d ∷ ds → short_number 4294967296 (d ∷ ds) ≡ Some n
     → Makes empty_graph (with_deadline (record { key = codes "Deadline"; at = at; value = d ∷ ds }) n empty_graph) at (codes "<data key=\"Deadline\">" ++ d ∷ (ds ++ (codes "</data>\n" ++ 60 ∷ rest))) (60 ∷ rest)
 unfolding contents read_by
@@ -177,7 +177,7 @@ deadline_made d n ds rest at h k trims number =
       left = rw (t1.1, t2.1, t3.1, t4.1) refl;
     }
 
--- one after the other
+-- what two runs of bytes, read one after the other, make of a draft
 pub then : {a b c : DrawnGraph} {at : ℕ} {x y z : List ℕ} → Makes a b at x y → ((place : ℕ) → Makes b c place y z) → Makes a c at x z
 then m next = let n = next m.place in record { place = n.place; told = m.told ∙ n.told; left = m.left ∙ n.left }
 
@@ -192,7 +192,7 @@ pub tail_ending : (d : DrawnGraph) (at : ℕ) → ending d (contents around (tok
 unfolding contents read_by tokens_after resolved_after bytes_piece_at tail_at
 tail_ending d at = refl
 
--- the lines in front of the deadline
+-- the lines in front of the deadline are read
 pub head_ending : (rest : List ℕ) → (place : ℕ) × (in_document (content_of (tokens (codes "<?xml version=\"1.0\" encoding=\"UTF-8\"?>\n<graphml>\n<graph edgedefault=\"directed\">\n" ++ 60 ∷ rest))) ≡ ending empty_graph (contents around (tokens_after 0 place (60 ∷ rest))))
 unfolding contents read_by past_first
 head_ending rest =

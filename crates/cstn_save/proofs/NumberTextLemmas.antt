@@ -25,7 +25,7 @@ number_along (d ∷ ds) n h =
 pub decimal_digits : (n : ℕ) → n < 2 ^ 64 → list_all is_ascii_digit (decimal n) ≡ true
 decimal_digits n small = digits_decimal digits n small
 
--- the digits of a number write it
+-- the digits of a number are read as the number
 pub number_back : (n : ℕ) → n < 2 ^ 64 → number_after 10 0 (decimal n) ≡ Some n
 number_back n small = number_along (decimal n) 0 (decimal_digits n small) ∙ ap Some (digits_value-decimal digits n small)
 

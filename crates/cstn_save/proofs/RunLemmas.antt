@@ -4,7 +4,7 @@ use Rattle.std.specs.List.{prefix_len, list_all}
 use Rattle.std.proofs.Math.Seq.{drop-append-add}
 use Rattle.std.proofs.lemmas.Bool.{and_parts}
 
--- what holds of each byte for one reason holds for another
+-- where p implies q of each byte, it does of all bytes of a list
 pub all_for : (p q : ℕ → Bool) (xs : List ℕ) → ((b : ℕ) → p b ≡ true → q b ≡ true) → list_all p xs ≡ true → list_all q xs ≡ true
 all_for p q [] f h = refl
 all_for p q (x ∷ xs) f h =
@@ -25,7 +25,7 @@ run_len p (x ∷ xs) stop rest h s =
     let more : 1 + length xs ≡ suc (length xs) = omega arith in
     rw (both.0, run_len p xs stop rest both.1 s) more
 
--- one byte more
+-- behind a run and the byte that ends it stands the rest
 pub past_stop : (xs : List ℕ) (stop : ℕ) (rest : List ℕ) → drop (length xs + 1) (xs ++ stop ∷ rest) ≡ rest
 past_stop xs stop rest = drop-append-add xs (stop ∷ rest) 1
 

@@ -1,4 +1,4 @@
--- The network that is read back is the one that was written, but for ids.
+-- The network that is read back is the one that was written, but for ids and the reactions of what nothing observes.
 use Rattle.std.proofs.Common.{◌≡◌, ℕ, zero, suc, ◌+◌, ◌<◌, ◌≤◌, List, [], ◌∷◌, length, refl, ap, sym, ◌∙◌, arith, Bool, true, false, subst, map, Ok, Result}
 use Rattle.std.specs.Prelude.{Option, Some, None, ◌==◌, slice_index_or, if◌then◌else◌}
 use Rattle.std.specs.List.{All}
@@ -37,7 +37,7 @@ here_or_later : (reaction : ℕ → ℕ) (q p later : ℕ) (b : Bool) → (q == 
 here_or_later reaction q p later true e next = rw e (ap reaction (eqb-true q p e))
 here_or_later reaction q p later false e next = rw e (next refl)
 
--- the reaction of an observed proposition
+-- the reaction of an observed proposition is read back
 reaction_found : (reaction : ℕ → ℕ) (os : List (Option ℕ)) (x p : ℕ) → slice_index_or os x None ≡ Some p → reaction_among (map (observed_by reaction) os) p ≡ reaction p
 reaction_found reaction [] x p e = absurd (cc)
 reaction_found reaction (None ∷ os) zero p e = absurd (cc)
@@ -49,7 +49,7 @@ nowhere : (o : Option ℕ) (os : List (Option ℕ)) (p : ℕ) → (o ≡ Some p 
 nowhere o os p first later zero e = first e
 nowhere o os p first later (suc x) e = later x e
 
--- and of every other one, where it is of a tick
+-- the reaction of each proposition is read back, where it is 1 tick for those that nothing observes
 reaction_all : (reaction : ℕ → ℕ) (os : List (Option ℕ)) (p : ℕ) → (((x : ℕ) → slice_index_or os x None ≡ Some p → ⊥) → reaction p ≡ 1) → reaction_among (map (observed_by reaction) os) p ≡ reaction p
 reaction_all reaction [] p tick = sym (tick (λ x e. absurd (cc)))
 reaction_all reaction (None ∷ os) p tick = reaction_all reaction os p (λ none. tick (nowhere None os p (λ e. absurd (cc)) none))
@@ -61,7 +61,7 @@ drawn_numbered : (j : ℕ) (ds : List DrawnConstraint) → map drawn (numbered j
 drawn_numbered j [] = refl
 drawn_numbered j (d ∷ ds) = ap (λ (es : List DrawnConstraint). d ∷ es) (drawn_numbered (j + 1) ds)
 
--- the network that is read
+-- the network that is read is the one that was written, but for ids and the reactions of what nothing observes
 pub same_but_ids : (m : Labelled) (names : List (List ℕ)) → AreSameButIds (network_of (parts m names)) m.base
 same_but_ids m names = let net : Network = m.base in record {
   deadline = refl;
@@ -81,7 +81,7 @@ same_network : (h k : ℕ) (os ps : List (Option ℕ)) (r s : ℕ → ℕ) (cs d
     → ◌≡◌ {A = Network} (record { deadline = h; observes = os; reaction = r; constraints = cs }) (record { deadline = k; observes = ps; reaction = s; constraints = ds })
 same_network h k os ps r s cs ds a b c d = rw (a, b, c, d) refl
 
--- it is the very same, where ids have no gap and what nothing observes has a reaction of a tick
+-- it is the very same, where ids have no gap and what nothing observes has a reaction of 1 tick
 network_back : (m : Labelled) (names : List (List ℕ)) → ((p : ℕ) → ((x : ℕ) → Observes m.base x p → ⊥) → m.base.reaction p ≡ 1) → AreNumbered m.base.constraints → network_of (parts m names) ≡ m.base
 network_back m names ticks ids =
     let net : Network = m.base in
@@ -92,7 +92,7 @@ network_back m names ticks ids =
 pub labelled_back : (m : Labelled) (names : List (List ℕ)) → ((p : ℕ) → ((x : ℕ) → Observes m.base x p → ⊥) → m.base.reaction p ≡ 1) → AreNumbered m.base.constraints → labelled_of (parts m names) ≡ m
 labelled_back m names ticks ids = ap (λ (n : Network). record m { base = n }) (network_back m names ticks ids)
 
--- what holds of constraints whatever their ids
+-- what holds of constraints whatever their ids holds of them with other ids
 all_numbered : (P : Constraint → Type 0) → ((i : ℕ) (c : Constraint) → P c → P (record { id = i; from = c.from; to = c.to; most = c.most; label = c.label }))
     → (j : ℕ) (cs : List Constraint) → All P cs → All P (numbered j (map drawn cs))
 all_numbered P keeps j [] all = All-nil P
@@ -161,14 +161,15 @@ fits parts error good unfit =
     })
     error unfit.fault.has
 
--- and so have the parts of a canonical document
+-- the parts of a canonical document have no fault
 pub accepted : (m : Labelled) (names : List (List ℕ)) (error : NetError) → IsWellFormed m.base → IsUnfit (parts m names) error → ⊥
 accepted m names error wf unfit = fits (parts m names) error (well_formed_back m names wf) unfit
 
 parts_are : (a b : Parts) → ◌≡◌ {A = Result Parts Refusal} (Ok a) (Ok b) → a ≡ b
 parts_are a b e = cc
 
--- one text is the canonical document of one labelled network under one list of names
+-- Equal canonical texts are of equal names, of equal labels, and of networks that are the same but for ids and the reactions of
+-- what nothing observes.
 pub told_apart : (m other : Labelled) (names more : List (List ℕ)) → IsLabelled m → AreNamesOf m.base names → IsLabelled other → AreNamesOf other.base more
     → canonical m names ≡ canonical other more → (names ≡ more) × (m.labels ≡ other.labels) × AreSameButIds m.base other.base
 told_apart m other names more wf is good are same =

@@ -1,4 +1,4 @@
--- The tokens of the pieces of a document in front of other bytes.
+-- The tokens that the pieces of a document give, whatever bytes stand behind them.
 use Rattle.std.proofs.Common.{◌≡◌, ℕ, zero, suc, ◌+◌, ◌-◌, ◌<◌, ◌≤◌, List, [], ◌∷◌, ◌++◌, length, drop, refl, ap, arith, true, false, not, length-drop}
 use Rattle.std.specs.Prelude.{Some, codes, ◌==◌}
 use Rattle.std.proofs.Math.Seq.{take-append_seam, drop-append_seam}
@@ -65,7 +65,7 @@ pub values_tag : (rest : List ℕ) → piece_at (codes "<data key=\"LabeledValue
 unfolding tail_at resolved_after bytes_piece_at
 values_tag rest = refl
 
--- the attribute of a name that is escaped
+-- an attribute whose value is an escaped name
 id_attribute : (name rest : List ℕ) → attribute_at (codes " id=" ++ 34 ∷ (escaped_name name ++ 34 ∷ rest)) ≡ Some (record { name = codes "id"; raw = escaped_name name }, rest)
 id_attribute name rest = rw (name_quoted name rest) refl
 

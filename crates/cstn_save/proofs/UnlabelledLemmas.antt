@@ -70,6 +70,6 @@ unlabelled_fit m names error wf each none wrong =
     unlabelled_faultless (labelled_of (parts m names)) none (well_formed_back m names wf)
     (each ∙ sym (length-map m.base.observes (observed_by m.base.reaction)) ∙ sym (length-map (observations m.base) observed_prop)) error wrong.fault.has
 
--- nor have any labels, where the very same labelled network is read back
+-- labels without a fault stay without one where the very same labelled network is read back
 pub labelled_fit : (m : Labelled) (names : List (List ℕ)) (error : LiftError) → ((e : LiftError) → HasFault m e → ⊥) → labelled_of (parts m names) ≡ m → IsMislabelled (parts m names) error → ⊥
 labelled_fit m names error none same wrong = none error (subst (λ (x : Labelled). HasFault x error) same wrong.fault.has)

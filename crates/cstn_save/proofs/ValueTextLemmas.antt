@@ -92,7 +92,7 @@ or_empty_solid (b ∷ bytes) h = all_for is_of_literal is_solid (b ∷ bytes) li
 pub label_solid : (a : Label) → list_all is_solid (document_label a) ≡ true
 label_solid a = or_empty_solid (literals_below a 52) (literals_bytes a 52 (omega arith))
 
--- and is no integer text
+-- the text of a label is no integer text
 high_digit : (b : ℕ) → 65 ≤ b → is_digit b 10 ≡ false
 high_digit b least = grind arith
 

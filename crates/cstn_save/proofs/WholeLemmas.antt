@@ -30,7 +30,7 @@ use Rattle.cstn_save.proofs.LineLemmas.{Makes, Finds, Says, plain_node, obs_read
 pub joined_four : (a b c d : List ℕ) → a ++ b ++ c ++ d ≡ a ++ (b ++ (c ++ d))
 joined_four a b c d = append_assoc (a ++ b) c d ∙ append_assoc a b (c ++ d)
 
--- a letter as a text
+-- the text of a letter has neither `<` nor `&`, and is solid
 letter_text : (p : ℕ) → p < 52 → (list_all (λ c. not (c == 60)) (letter_of p ∷ []) ≡ true) × (list_all (λ c. not (c == 38)) (letter_of p ∷ []) ≡ true) × (list_all is_solid (letter_of p ∷ []) ≡ true)
 letter_text p small =
     let low : 65 ≤ letter_of p = grind arith in
@@ -40,7 +40,7 @@ letter_text p small =
     by_range : (l : ℕ) → 65 ≤ l → l < 123 → (list_all (λ c. not (c == 60)) (l ∷ []) ≡ true) × (list_all (λ c. not (c == 38)) (l ∷ []) ≡ true) × (list_all is_solid (l ∷ []) ≡ true)
     by_range l low high = (grind arith, grind arith, grind arith)
 
--- what a time-point observes is a proposition, and its reaction is from 1 to 1,000 ticks
+-- what a time-point observes is one of the 52 propositions, and its reaction is from 1 to 1,000 ticks
 abbrev pub IsInReach : Option Observation → Type 0
 IsInReach None = Unit {0}
 IsInReach (Some o) = (o.prop < 52) × (0 < o.reaction) × (o.reaction ≤ 1000)
@@ -50,7 +50,7 @@ pub record IsDocumentLabel (a : Label) : Type 0 where
   pub plain : IsPlain a
   pub high : (p : ℕ) → 52 ≤ p → a p ≡ Absent
 
--- what is observed, by these data, in front of a label or of nothing
+-- the data say what a time-point observes, and still do with the data element of a label behind them
 record Opens (o : Option Observation) (found : List Datum) : Type 0 where
   prop : Option ℕ
   ticks : ℕ
@@ -87,7 +87,7 @@ reaction_digits (d ∷ ds) next l p ticks at letter some digits number place =
           (trimmed_solid (d ∷ ds) (all_for is_ascii_digit is_solid (d ∷ ds) digit_solid digits)),
     )
 
--- the data of what is observed
+-- the data of what a time-point observes are found
 observed_by_data : (o : Observation) (b : Bool) (next : List ℕ) (place : ℕ) → (o.reaction == 1) ≡ b → IsInReach (Some o)
     → (found : List Datum) × Opens (Some o) found × Finds [] found place (observation_data (Some o) ++ next) next
 observed_by_data o true next place e reach =
@@ -133,7 +133,7 @@ observation_found None next place reach = (
 )
 observation_found (Some o) next place reach = observed_by_data o (o.reaction == 1) next place refl reach
 
--- a label by its literals
+-- the literals are those of the label: reading them gives the label back
 record IsWritten (a : Label) (literals : List ℕ) : Type 0 where
   back : label_of (or_empty literals) ≡ Some a
   bytes : list_all is_of_literal literals ≡ true
@@ -168,7 +168,7 @@ label_found o a found (b ∷ literals) next place opens is =
           (trimmed_solid (b ∷ literals) is.solid)),
     )
 
--- the data of a time-point
+-- the data of a time-point are found
 data_found : (o : Option Observation) (a : Label) (literals next : List ℕ) (place : ℕ) → IsInReach o → IsWritten a literals
     → (found : List Datum) × Says o a found × Finds [] found place ((observation_data o ++ label_data literals) ++ next) next
 data_found o a literals next place reach is =
@@ -176,7 +176,7 @@ data_found o a literals next place reach is =
     let two = label_found o a one.0 literals next one.2.place one.1 is in
     (two.0, two.1, subst (λ (x : List ℕ). Finds [] two.0 place x next) (sym (append_assoc (observation_data o) (label_data literals) next)) (finds_then one.2 two.2))
 
--- a line with data
+-- the line of a time-point with data is read
 opened_node : (name inner_bytes rest : List ℕ) (o : Option Observation) (a : Label) (at : ℕ) (draft : DrawnGraph) → (nat_lt 0 (length name) && nat_le (length name) 64) ≡ true → node_of name draft ≡ None
     → ((place : ℕ) → (found : List Datum) × Says o a found × Finds [] found place (inner_bytes ++ (codes "</node>\n" ++ 60 ∷ rest)) (codes "</node>\n" ++ 60 ∷ rest))
     → Makes draft (with_node name o a draft) at (codes "<node id=\"" ++ (escaped_name name ++ ((codes "\">" ++ inner_bytes ++ codes "</node>\n") ++ 60 ∷ rest))) (60 ∷ rest)
@@ -193,7 +193,7 @@ made_by name rest None a (b ∷ literals) at draft sized fresh reach is =
 made_by name rest (Some o) a literals at draft sized fresh reach is =
     opened_node name (observation_data (Some o) ++ label_data literals) rest (Some o) a at draft sized fresh (λ place. data_found (Some o) a literals (codes "</node>\n" ++ 60 ∷ rest) place reach is)
 
--- the line of a time-point
+-- the line of a time-point is read
 pub node_made : (name rest : List ℕ) (o : Option Observation) (a : Label) (at : ℕ) (draft : DrawnGraph) → (nat_lt 0 (length name) && nat_le (length name) 64) ≡ true → node_of name draft ≡ None → IsInReach o → IsDocumentLabel a
     → Makes draft (with_node name o a draft) at (node_line name o a ++ 60 ∷ rest) (60 ∷ rest)
 node_made name rest o a at draft sized fresh reach is =
@@ -205,7 +205,7 @@ unfoldable pub drafted : List (List ℕ) → List (Option Observation) → List 
 drafted names observes labels d zero = d
 drafted names observes labels d (suc n) = with_node (slice_index_or names n []) (slice_index_or observes n None) (label_in labels n) (drafted names observes labels d n)
 
--- the time-point is new, and its name has its size
+-- the time-point n can be put into the draft of those before it: its name is new there, and all its parts are in range
 pub record IsNew (names : List (List ℕ)) (observes : List (Option Observation)) (labels : List Label) (d : DrawnGraph) (n : ℕ) : Type 0 where
   pub sized : (nat_lt 0 (length (slice_index_or names n [])) && nat_le (length (slice_index_or names n [])) 64) ≡ true
   pub fresh : node_of (slice_index_or names n []) (drafted names observes labels d n) ≡ None

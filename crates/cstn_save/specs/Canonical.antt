@@ -27,7 +27,7 @@ escaped_byte b =
 abbrev pub escaped_name : List ℕ → List ℕ
 escaped_name name = flat_map escaped_byte name
 
--- a literal: its letter, after the two bytes of U+00AC where it is negated; a constraint has no unknown mark
+-- a literal: its letter, after the two bytes of U+00AC where it is negated; a label of a document has no unknown mark
 abbrev pub literal : ℕ → Mark → List ℕ
 literal letter Absent = []
 literal letter Yes = letter ∷ []
@@ -39,12 +39,12 @@ unfoldable pub literals_below : Label → ℕ → List ℕ
 literals_below a zero = []
 literals_below a (suc n) = literals_below a n ++ literal (letter_of n) (a n)
 
--- the three bytes of U+22A1 stand for no literal
+-- the bytes of the literals, or the three bytes of U+22A1 where there are none
 abbrev pub or_empty : List ℕ → List ℕ
 or_empty [] = 226 ∷ 138 ∷ 161 ∷ []
 or_empty (b ∷ bytes) = b ∷ bytes
 
--- the label of a document
+-- the text of a label in the document
 abbrev pub document_label : Label → List ℕ
 document_label a = or_empty (literals_below a 52)
 
@@ -54,7 +54,7 @@ head deadline =
     codes "<?xml version=\"1.0\" encoding=\"UTF-8\"?>\n<graphml>\n<graph edgedefault=\"directed\">\n<data key=\"Deadline\">"
     ++ printed_number deadline ++ codes "</data>\n"
 
--- what is observed has its reaction
+-- what a time-point observes, with the reaction of the proposition
 abbrev pub observed_by : (ℕ → ℕ) → Option ℕ → Option Observation
 observed_by reaction (Some p) = Some (record { prop = p; reaction = reaction p })
 observed_by reaction None = None
@@ -63,16 +63,16 @@ observed_by reaction None = None
 abbrev pub observations : Network → List (Option Observation)
 observations net = map (observed_by net.reaction) net.observes
 
--- the data of a reaction, of which there is none for a tick
+-- the data element of a reaction, and nothing for a reaction of 1 tick
 abbrev pub reaction_data : ℕ → List ℕ
 reaction_data ticks = if ticks == 1 then [] else codes "<data key=\"Reaction\">" ++ printed_number ticks ++ codes "</data>"
 
--- the data of what is observed
+-- the data elements of what a time-point observes
 abbrev pub observation_data : Option Observation → List ℕ
 observation_data None = []
 observation_data (Some o) = codes "<data key=\"Obs\">" ++ letter_of o.prop ∷ codes "</data>" ++ reaction_data o.reaction
 
--- the data of a label by its literals, of which the empty one has none
+-- the data element of a label by its literals, and nothing where there are none
 abbrev pub label_data : List ℕ → List ℕ
 label_data [] = []
 label_data (b ∷ bytes) = codes "<data key=\"Label\">" ++ (b ∷ bytes) ++ codes "</data>"
@@ -100,7 +100,7 @@ nodes_below names observes labels (suc n) =
 abbrev pub edge_tag : List ℕ → List ℕ → List ℕ
 edge_tag source target = codes "<edge source=\"" ++ escaped_name source ++ codes "\" target=\"" ++ escaped_name target ++ codes "\">"
 
--- what the edge of a constraint holds
+-- what follows the start tag in the line of a constraint
 abbrev pub edge_data : ℤ → Label → List ℕ
 edge_data most label =
     codes "<data key=\"Type\">requirement</data><data key=\"LabeledValues\">{(" ++ printed_value most ++ codes ", " ++ document_label label ++ codes ")}</data></edge>\n"

@@ -25,7 +25,7 @@ pub record AreNamesOf (net : Network) (names : List (List ℕ)) : Type 0 where
 abbrev pub AreNumbered : List Constraint → Type 0
 AreNumbered cs = (k : ℕ) (d : Constraint) → k < length cs → (slice_index_or cs k d).id ≡ k
 
--- the two networks are one, but for the ids of their constraints and the reactions of what nothing observes
+-- the two networks are the same but for the ids of their constraints and the reactions of what nothing observes
 pub record AreSameButIds (read net : Network) : Type 0 where
   pub deadline : read.deadline ≡ net.deadline
   pub observes : read.observes ≡ net.observes

@@ -1,4 +1,4 @@
--- What the program has seen observed.
+-- What the definitions see in an observation of the program.
 use Rattle.std.specs.Prelude.{Option, Some, None}
 use Rattle.cstn_graphml.specs.DrawnGraph.{Observation}
 use Rattle.cstn_save.specs.declared.lines.Observation.{Observation as Lent}

@@ -20,6 +20,7 @@ use std::alloc::{AllocError, Global};
 ///
 /// The lines are those of the deadline in ticks, of each time-point by number and of each constraint by id. Reading the
 /// document gives the same names, the same labels of time-points, and the same network with its constraints numbered from 0.
+/// Fails for want of memory alone.
 pub fn write(alloc: Global, net: &Labelled, names: &Names) -> Result<Vec<u8>, AllocError>
     requires named { length names.now ≡ count (the_network net.now.base) }
     requires origin { slice_get names.now 0 ≡ Some (codes "Z") }

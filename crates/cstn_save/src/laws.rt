@@ -21,7 +21,7 @@ ghost use Rattle.cstn_graphml.specs.Networks.{network_of, labelled_of, IsUnfit, 
 ghost use Rattle.cstn_lift.specs.declared.errors.LiftError.{LiftError};
 ghost use Rattle.cstn_save.specs.ReadBack.{parts, AreNamesOf, AreNumbered, AreSameButIds};
 
-/// An escaped name between quotes is a value of an attribute, and its references put in give the name back.
+/// An escaped name between quotes is a value of an attribute, and putting its references in gives the name back.
 #[tactic(auto, using(crate::proofs::EscapedNameLemmas::name_back, crate::proofs::EscapedNameLemmas::name_quoted))]
 pub fn names_are_read_back()
     ensures back { (name : List ℕ) → resolved (escaped_name name) ≡ Some name }
@@ -43,9 +43,10 @@ pub fn values_are_read_back()
         → values_of (codes "{(" ++ printed_value v ++ codes ", " ++ document_label a ++ codes ")}") ≡ Some (record { most = v; label = Some a } ∷ []) }
 {}
 
-/// Reading the canonical document gives the same names, the same labels of time-points, and the same network with its constraints
-/// numbered from 0, which isn't refused. It is the very same labelled network where its ids have no gap and a proposition that
-/// nothing observes has a reaction of a tick; then its labels aren't refused either, and empty labels never are.
+/// Reading the canonical document gives the same names, the same labels of time-points, and the same network with constraints
+/// numbered from 0, which isn't refused. It is the very same labelled network where the ids go from 0 up without a gap and each
+/// proposition that nothing observes has a reaction of 1 tick; then labels without a fault aren't refused either. Empty labels
+/// never are.
 #[tactic(auto, using(crate::proofs::LawLemmas::document_back, crate::proofs::SameLemmas::same_but_ids))]
 pub fn documents_are_read_back()
     ensures back { (m : Labelled) (names : List (List ℕ)) → IsLabelled m → AreNamesOf m.base names → document (canonical m names) None ≡ Ok (parts m names) }
@@ -56,7 +57,8 @@ pub fn documents_are_read_back()
     ensures same { (m : Labelled) (names : List (List ℕ)) → ((p : ℕ) → ((x : ℕ) → Observes m.base x p → ⊥) → m.base.reaction p ≡ 1) → AreNumbered m.base.constraints → labelled_of (parts m names) ≡ m }
 {}
 
-/// Equal canonical texts are of equal names, equal labels and of networks that differ in ids alone.
+/// Equal canonical texts are of equal names, of equal labels, and of networks that differ at most in the ids of constraints and
+/// in the reactions of propositions that nothing observes.
 pub fn canonical_texts_tell_networks_apart()
     ensures { (m other : Labelled) (names more : List (List ℕ)) → IsLabelled m → AreNamesOf m.base names → IsLabelled other → AreNamesOf other.base more
         → canonical m names ≡ canonical other more → (names ≡ more) × (m.labels ≡ other.labels) × AreSameButIds m.base other.base }

@@ -20,7 +20,7 @@ pub(crate) fn push_head(text: &mut Vec<u8>, deadline: u32) -> Result<(), AllocEr
     Ok(())
 }
 
-/// What a time-point observes, and after how many ticks it is known.
+/// The proposition that a time-point observes, and its reaction: after how many ticks the outcome is known.
 #[derive(Clone, Copy)]
 pub(crate) struct Observation {
     pub prop: Prop,

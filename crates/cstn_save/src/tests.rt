@@ -33,7 +33,7 @@ const BRANCH: &str = "<?xml version=\"1.0\" encoding=\"UTF-8\"?>
 </graphml>
 ";
 
-// The same network otherwise.
+// The network of `BRANCH` in another document, without its deadline.
 const COMPACT: &str =
     "<graphml><graph><node id=\"Z\"/><node id=\"P\"><data key=\"Obs\"> p</data></node><node id=\"X\"/><edge source=\"X\" target=\"Z\"><data key=\"LabeledValues\">{(p, -10)}</data></edge><edge source=\"Z\" target=\"X\"><data key=\"LabeledValues\">{( 3 , ! p )}</data></edge></graph></graphml>";
 
