@@ -21,7 +21,7 @@ use Rattle.cstn_check.proofs.Decides.{log_last_refutes}
 use Rattle.cstn_check.proofs.Ends.{load_above}
 
 module _ (net : Network) (s : State) (good : IsWellFormed net) (started : IsStarted net s) where
-  -- a log with room for them has the base bounds
+  -- a log that is started and not empty has the base bounds
   pub has_bases : (length s.entries ≡ 0 → ⊥) → the_entries s.entries ≡ bases (count net)
   has_bases some = elim (cases_Bool (nat_lt s.cap (count net))) [
     | inl small ↦
@@ -51,7 +51,7 @@ module _ (net : Network) (s : State) (good : IsWellFormed net) (started : IsStar
   pub start_last : (length s.entries ≡ 0 → ⊥) → IsRefutedLast net (the_entries s.entries)
   start_last some = subst (λ l. IsRefutedLast net l) (sym (has_bases some)) (bases_stand net)
 
-  -- where there is no room for them, the log of the network has more entries
+  -- where the log has no room for the base bounds, the log of the network has more entries than the cap
   pub no_room : length s.entries ≡ 0 → IsVerdict net s.cap (the_entries s.entries) FullVerdict
   no_room none =
       let long : length (the_entries s.entries) ≡ length s.entries = length-map s.entries the_entry in

@@ -73,7 +73,7 @@ label_code_lt a [] = omega arith
 label_code_lt a (None ∷ os) = label_code_lt a os
 label_code_lt a (Some p ∷ os) = rw pow-suc (digits_lt (label_code_lt a os) (digit_lt (a p)))
 
--- two numbers with the same parts
+-- two equal numbers have the same quotient and remainder
 parts_same : (q r s t c : ℕ) → r < c → t < c → q * c + r ≡ s * c + t → (q ≡ s) × (r ≡ t)
 parts_same q r s t c h k e =
     (sym (digits_div q h) ∙ ap (λ n. n / c) e ∙ digits_div s k, sym (digits_mod q h) ∙ ap (λ n. n % c) e ∙ digits_mod s k)

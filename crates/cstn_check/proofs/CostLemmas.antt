@@ -4,11 +4,12 @@ use Rattle.std.proofs.lemmas.Bool.{cases_lt, cond-true, cond-false}
 use Rattle.std.proofs.Math.Nat.{mul-suc, suc-mul}
 use Rattle.cstn_check.specs.Spent.{most_tries}
 
--- how many rules turn j tries at most, of a list of g entries in the end, where the first n have only f left
+-- how many rules turn j tries at most where the list comes to g entries: f on each of the first n entries, and m chains and two
+-- waits with each entry on any other
 abbrev pub turn_cost : ℕ → ℕ → ℕ → ℕ → ℕ → ℕ
 turn_cost m f n g j = cond (nat_lt j n) f (m + 2 * g)
 
--- and the first j turns
+-- how many rules the first j turns try at most
 abbrev pub turn_costs : ℕ → ℕ → ℕ → ℕ → ℕ → ℕ
 turn_costs m f n g zero = 0
 turn_costs m f n g (suc j) = turn_costs m f n g j + turn_cost m f n g j
@@ -29,7 +30,7 @@ pub costs_more : (m f n g h j : ℕ) → g ≤ h → turn_costs m f n g j ≤ tu
 costs_more m f n g h zero upto = omega arith
 costs_more m f n g h (suc j) upto = let rest = costs_more m f n g h j upto in omega (arith, rest, cost_more m f n g h j upto)
 
--- one more turn
+-- one more turn adds at most its cost to the tries
 pub costs_step : (m f n g h j before now : ℕ) → g ≤ h → j + 1 ≤ h → (j < n → now ≤ before + f) → now ≤ before + (m + 2 * (j + 1)) → (start : ℕ) → before ≤ start + turn_costs m f n g j → now ≤ start + turn_costs m f n h (j + 1)
 costs_step m f n g h j before now upto short fresh most start was =
     let next : j + 1 ≡ suc j = omega arith in
@@ -65,7 +66,7 @@ costs_grow m f n g j (suc k) upto = elim (cases_lt k j) [
   | inr before ↦ let rest = costs_grow m f n g j k before in omega (arith, rest)
 ]
 
--- all turns of a list of g entries
+-- all turns of a list of g entries cost at most `most_tries`
 pub costs_all : (m f n g j : ℕ) → j ≤ g → n ≤ g → turn_costs m f n g j ≤ most_tries m f n g
 costs_all m f n g j upto front =
     let e : n + (g - n) ≡ g = omega (arith, front) in

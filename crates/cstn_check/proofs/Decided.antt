@@ -16,7 +16,7 @@ use Rattle.cstn_check.specs.Tests.{each_below, is_plain_mark, is_absent, is_mark
 abbrev pub HasLetters : Network → Type 0
 HasLetters net = (x p : ℕ) → Observes net x p → p < 52
 
--- no mark from the 52nd proposition on
+-- no proposition from 52 on is marked
 abbrev pub Small : Label → Type 0
 Small a = (p : ℕ) → 52 ≤ p → a p ≡ Absent
 

@@ -74,7 +74,7 @@ refuted_by_last net L small last over =
           }
     ]
 
--- so that none does where the last doesn't
+-- where no entry but perhaps the last refutes, and the last doesn't, none does
 pub unrefuted : (net : Network) (L : List Entry) (e : Entry) → AreSmall L → IsRefutedLast net L → slice_get L (length L - 1) ≡ Some e →
     ¬ Refutes net e.bound → is_refuted net L ≡ false
 unrefuted net L e small last there not = elim (cases_Bool (is_refuted net L)) [
@@ -92,7 +92,7 @@ stands_false net b small not = elim (cases_Bool (refutes net b)) [
   | inr h ↦ h
 ]
 
--- growth leaves it so
+-- after growth again no entry but perhaps the last refutes
 pub grown_refuted_last : (net : Network) (L : List Entry) (n : ℕ) → AreSmall L → IsRefutedLast net L → IsRefutedLast net (grown net L n)
 grown_refuted_last net L n small last =
     only_refuted_last net (grown net L n)

@@ -31,7 +31,7 @@ OfNetwork net (wait_at i j) = Unit {0}
 abbrev pub with_entry : List Entry → Instance → Bound → List Entry
 with_entry L i r = L ++ record { bound = r; why = why_of i } ∷ []
 
--- what each appended conclusion keeps is kept by growth
+-- a property of lists that stays true whenever a conclusion is appended is kept by growth
 module _ (net : Network) (P : List Entry → Type 0)
     (keeps : (L : List Entry) (i : Instance) (r : Bound) → OfNetwork net i → P L → conclusion net L i ≡ Some r →
     is_covered L r ≡ false → is_refuted net L ≡ false → P (with_entry L i r)) where

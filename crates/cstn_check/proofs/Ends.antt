@@ -36,7 +36,7 @@ module _ (net : Network) (wf : IsNetwork net) (letters : HasLetters net) (list :
     | inr past ↦ grow_past n past
   ]
 
-  -- growth goes on from each of its turns
+  -- the grown list begins with the list after any number of turns
   pub grow_from : (n : ℕ) → Extends (grown net list n) (grow net list)
   grow_from n = elim (cases_lt n (length list + most_entries net)) [
     | inl before ↦ grown_extends net list n (length list + most_entries net) (omega arith)

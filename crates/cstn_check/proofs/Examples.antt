@@ -8,7 +8,7 @@ use Rattle.cstn_check.specs.Growth.{step, grown, log_of, most_entries, is_refute
 use Rattle.cstn_check.specs.Examples.{HasLog, Shows, Line, line_of, of_two_marks, after, before, prompt, branch_and, crossed_and, unknown_mark, process, drawn, crossed_lines, unknown_mark_lines, process_lines}
 use Rattle.cstn_check.proofs.Grows.{grown_idle}
 
--- the log is what grows in as many turns as it then has entries
+-- the log is the list after n turns, where that has n entries
 log_at : (net : Network) (n : ℕ) → length (grown net (bases (count net)) n) ≡ n → n ≤ length (bases (count net)) + most_entries net →
     log_of net ≡ grown net (bases (count net)) n
 log_at net n long few = grown_idle net (bases (count net)) n (length (bases (count net)) + most_entries net) (omega arith) few

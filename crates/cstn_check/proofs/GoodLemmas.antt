@@ -31,7 +31,7 @@ pub good_more : (net : Network) (L M : List Entry) → AllGood net L → AllGood
 good_more net [] M h k = k
 good_more net (x ∷ xs) M h k = (h.0, good_more net xs M h.1 k)
 
--- the propositions of marks are letters
+-- a bound of the network marks propositions from 0 to 51 alone
 pub good_small : (net : Network) (b : Bound) → HasLetters net → IsBoundOf net b → Small b.label
 good_small net b letters good = λ p past. elim (absent_or_not (b.label p)) [
   | inl none ↦ none

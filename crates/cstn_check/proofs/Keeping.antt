@@ -52,7 +52,7 @@ whole_of net cap list (Yes load) is some = is.2
 whole_of net cap list (No load) is some = is.2
 whole_of net cap list Full is some = absurd (some refl)
 
--- what holds of a check's parts holds of what is seen of it
+-- what holds of the fields of a check holds of the value that contracts see
 pub front_seen : (n : NetworkParts) (log : State) (o : Option Verdict) (parts : CheckParts) → n ≡ parts.net →
     IsWellFormed (the_network n) → HasAnswered (the_network n) log o → IsPrefix (the_entries log.entries) (log_of (the_network parts.net))
 front_seen n log o parts e good is =

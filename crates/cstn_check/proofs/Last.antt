@@ -1,4 +1,4 @@
--- Growth stops at the first entry that refutes, which is the last, and where all turns are done.
+-- Growth stops at the first entry that refutes, which is then the last, or once all turns are done.
 use Rattle.std.proofs.Common.{ℕ, zero, suc, ◌≡◌, inl, inr, ◌+◌, ◌-◌, ◌<◌, true, false, ◌&&◌, List, [], ◌∷◌, length, Some, ltb, arith, refl, sym, subst, ap, ◌∙◌, length-append}
 use Rattle.std.specs.Prelude.{pos, int_lt, slice_get}
 use Rattle.std.proofs.lemmas.Int.{ints}

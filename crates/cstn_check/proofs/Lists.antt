@@ -76,7 +76,7 @@ live_entry (x ∷ xs) (suc k) h = let r = live_entry xs k h in (let l = r.0 in o
 
 -- ---- each entry is dominated by a live one
 
--- the marks of each entry are of letters
+-- no entry marks a proposition from 52 on
 abbrev pub AreSmall : List Entry → Type 0
 AreSmall L = (k : ℕ) (e : Entry) → slice_get L k ≡ Some e → Small e.bound.label
 

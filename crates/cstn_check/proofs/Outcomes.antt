@@ -34,7 +34,7 @@ refuted_itself net s k e good kept short there refutes =
     let same = grow_at_refuted net good.network good.letters L kept 0 over in
     record { entries = sym same; refuted_is = sym (ap (is_refuted net) same ∙ over); longer = longer_itself s short }
 
--- and one in which no entry refutes is open
+-- a log in which no entry but perhaps the last refutes, and the last doesn't, is open
 pub open_from : (net : Network) (s : State) (e : DeclaredEntry) → s.nodes ≡ count net → IsDerivation net (the_entries s.entries) →
     IsKept net (the_entries s.entries) → IsRefutedLast net (the_entries s.entries) → s.births < 2 ^ 61 →
     length s.entries ≤ s.cap → s.cap ≤ 4194304 → slice_get s.entries (length s.entries - 1) ≡ Some e →
@@ -127,11 +127,11 @@ module _ (net : Network) (old new : State) where
       let short = l.short in
       omega arith
 
--- the first entries of a derivation are one
+-- the first entries of a derivation are a derivation
 abbrev pub FirstDerive : Type 0
 FirstDerive = (net : Network) (steps more : List Entry) → IsDerivation net (steps ++ more) → IsDerivation net steps
 
--- the list is again a derivation
+-- after growth, however it ended, the list of the log is a derivation
 pub derived_after : FirstDerive → (net : Network) (old new : State) (r : Grown) → IsWellFormed net → IsDerivation net (the_entries old.entries) →
     IsKept net (the_entries old.entries) → Outcome net old new r → IsDerivation net (the_entries new.entries)
 derived_after first net old new r good derivation kept o = by_answer r o

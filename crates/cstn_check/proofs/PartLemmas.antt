@@ -105,7 +105,7 @@ module _ (net : Network) (good : IsWellFormed net) (list : List Entry) (kept : I
   pub part_named : (steps : List DeclaredEntry) → the_entries steps ≡ part list → All (λ e. e.bound.node.0 < count net) steps
   part_named steps is = λ k d inside. part_node k (the_entry (get_or steps k d)) (step_there steps is k d inside)
 
--- the log of a network is such a list
+-- where its last entry refutes, the log of a network is a refutation
 pub log_refutation : (net : Network) → IsWellFormed net → LastRefutes net (log_of net) → IsRefutation net (log_of net)
 log_refutation net good last = record {
   derivation = log_derived net good.network good.letters;

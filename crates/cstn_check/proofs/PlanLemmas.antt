@@ -23,7 +23,7 @@ live_listed_next (x ∷ xs) zero e there live =
     ∙ ap (λ (y : Entry). y.bound ∷ live_bounds xs) same
 live_listed_next (x ∷ xs) (suc k) e there live = live_listed_next xs k e there live
 
--- and of any other one it isn't
+-- the bound of a dead entry isn't listed
 pub dead_left_out : (L : List Entry) (k : ℕ) → k < length L → is_live L k ≡ false →
     live_bounds (drop k L) ≡ live_bounds (drop (suc k) L)
 dead_left_out [] k inside dead = absurd (omega arith)
@@ -34,7 +34,7 @@ dead_left_out (x ∷ xs) zero inside dead =
     not_false b h = grind arith
 dead_left_out (x ∷ xs) (suc k) inside dead = dead_left_out xs k (omega arith) dead
 
--- the bounds and what is still to come are all of the list
+-- the bounds, with those of the live entries from the place k on, are those of all live entries of the list
 pub record IsListedUpto (bounds : List DeclaredBound) (L : List Entry) (k : ℕ) : Type 0 where
   pub all : map the_bound bounds ++ live_bounds (drop k L) ≡ live_bounds L
   pub short : length bounds ≤ k

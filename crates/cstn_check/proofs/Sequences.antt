@@ -155,7 +155,7 @@ chains_whole cs j k x is inside =
     ∙ ap (λ (l : List Constraint). chains_at l j) (sym (map-append the_constraint (take (k + 1) cs) (drop (k + 1) cs)))
     ∙ ap (λ (l : List DeclaredConstraint). chains_at (map the_constraint l) j) (take-append-drop (k + 1) cs)
 
--- the waits of the first places, and those after them
+-- the waits below n are those below m and the rest
 pub record WaitsAfter (n m j : ℕ) : Type 0 where
   pub rest : List Instance
   pub is : waits_below n j ≡ waits_below m j ++ rest

@@ -44,7 +44,7 @@ tried_without net keep (i ∷ is) L idle =
           ∙ ap (λ l. tried net l (filter keep is)) (sym ((idle L (extends_itself L)).0 left)) ∙ rest
     ]
 
--- the waits of a place with others that are idle
+-- the waits of the entry at j with the places from i up to r may be left out where they are idle
 pub waits_passed : (net : Network) (L M : List TheEntry) (j i r : ℕ) → i ≤ r → M ≡ tried net L (waits_below i j) →
     ((k : ℕ) → i ≤ k → k < r → IsIdle net M (wait_at k j) × IsIdle net M (wait_at j k)) → M ≡ tried net L (waits_below r j)
 waits_passed net L M j i zero upto is idle = let e : i ≡ 0 = omega arith in is ∙ ap (λ k. tried net L (waits_below k j)) e

@@ -48,14 +48,14 @@ spent_on net L G fresh n ext front are = record {
   waits = λ i j low below. spent_kept net L G (wait_at i j) ext (omega (arith, low, front), omega (arith, below, front)) (are.waits i j low below);
 }
 
--- they stay spent when a log goes on
+-- spent instances stay spent when a log goes on
 pub spent_after : (net : Network) (old new : State) (is : List Instance) (r : Bool) (fresh : List ℕ) (n : ℕ) → IsTaken net old new (tried net (the_entries old.entries) is) r → n ≤ length old.entries → AreSpent net (the_entries old.entries) fresh n → AreSpent net (the_entries new.entries) fresh n
 spent_after net old new is r fresh n t front are =
     let L = the_entries old.entries in
     let ext : Extends L (the_entries new.entries) = subst (λ l. Extends L l) (sym t.entries) (tried_extends net is L) in
     spent_on net L (the_entries new.entries) fresh n ext (omega (arith, front, length-map old.entries the_entry)) are
 
--- nothing is spent of no entries
+-- on the first 0 entries there is nothing that has to be spent
 pub none_spent : (net : Network) (L : List Entry) (fresh : List ℕ) → AreSpent net L fresh 0
 none_spent net L fresh = record {
   chains = λ c j has other low. absurd (omega (arith, low));

@@ -43,7 +43,7 @@ total_upto f (suc a) (suc b) upto = elim (cases_lt a b) [
   | inr last ↦ let same : b ≡ a = omega (arith, last, upto) in rw same (omega arith)
 ]
 
--- the pairs of the first n
+-- the sum over the ordered pairs of the first n places
 abbrev square : (ℕ → ℕ → ℕ) → ℕ → ℕ
 square f n = total (λ i. total (f i) n) n
 
@@ -59,7 +59,7 @@ square_upto f a b upto =
     let outer = total_upto (λ i. total (f i) b) a b upto in
     omega (arith, inner, outer)
 
--- ---- no entry marks what it observes
+-- ---- no entry marks what its time-point observes
 
 own_off : (o : Option ℕ) (a : Label) (p : ℕ) → o ≡ Some p → without_own o a p ≡ Absent
 own_off o a p e = rw e (grind arith)
@@ -109,7 +109,7 @@ withs_kept net L G j (suc n) more below upto =
 pub upto_kept : (net : Network) (L G : List Entry) (j : ℕ) → Extends L G → j < length L → concludes_upto net G j ≡ concludes_upto net L j
 upto_kept net L G j more below = withs_kept net L G j (suc j) more below (omega (arith, below))
 
--- the waits of the first n turns
+-- how many waits of the first n turns have a conclusion
 abbrev pub waits_of : Network → List Entry → ℕ → ℕ
 waits_of net L n = total (concludes_upto net L) n
 
@@ -123,7 +123,7 @@ waits_square net L zero derived = refl
 waits_square net L (suc n) derived =
     omega (arith, waits_square net L n derived, square_next (concludes net L) n, alone_none net L n derived)
 
--- the pairs of a list that goes on are no fewer
+-- a list that goes on has no fewer pairs of which wait has a conclusion
 pairs_least : (net : Network) (L G : List Entry) → Extends L G → square (concludes net L) (length L) ≤ concluding_pairs net G
 pairs_least net L G more =
     let same : square (concludes net L) (length L) ≤ square (concludes net G) (length L) =
@@ -131,7 +131,7 @@ pairs_least net L G more =
     total_least (concludes net L i) (concludes net G i) (length L) (λ j below. omega (arith, concludes_kept net L G i j more low below))) in
     omega (arith, same, square_upto (concludes net G) (length L) (length G) (length_upto L G more))
 
--- one more turn
+-- one more turn tries at most m chains, and its waits that have a conclusion
 pub tries_step : (net : Network) (m : ℕ) (L G : List Entry) (j start before now : ℕ) → Extends L G → j < length L →
     before ≤ start + (m * j + waits_of net L j) → now ≤ before + (m + concludes_upto net L j) → now ≤ start + (m * (j + 1) + waits_of net G (j + 1))
 tries_step net m L G j start before now more below was rose =
@@ -139,7 +139,7 @@ tries_step net m L G j start before now more below was rose =
     let times : m * suc j ≡ m * j + m = mul-suc m j in
     rw next (omega (arith, was, rose, times, waits_kept net L G j more (omega (arith, below)), upto_kept net L G j more below))
 
--- all turns
+-- all turns try at most m chains for each entry, and one wait for each pair of which wait has a conclusion
 pub tries_all : (net : Network) (m : ℕ) (L G : List Entry) (n : ℕ) → IsDerivation net L → Extends L G → n ≤ length L →
     m * n + waits_of net G n ≤ m * length G + concluding_pairs net G
 tries_all net m L G n derived more upto =
@@ -150,13 +150,13 @@ tries_all net m L G n derived more upto =
     let few : m * n ≤ m * length G = mul-le-mul_left m (omega (arith, upto, length_upto L G more)) in
     omega (arith, turns, pairs, wide, most, few)
 
--- one more place
+-- one more place adds its value to the sum
 pub total_next : (f : ℕ → ℕ) (i next : ℕ) → i + 1 ≤ next → total f i + f i ≤ total f next
 total_next f i next upto =
     let more = total_upto f (suc i) next (omega (arith, upto)) in
     omega (arith, more)
 
--- a log goes on
+-- after instances are tried, the list of the log extends the one before
 pub taken_on : (net : Network) (old new : State) (is : List Instance) (r : Bool) → IsTaken net old new (tried net (the_entries old.entries) is) r →
     Extends (the_entries old.entries) (the_entries new.entries)
 taken_on net old new is r t =
@@ -165,7 +165,7 @@ taken_on net old new is r t =
 pub size_is : (s : State) → length (the_entries s.entries) ≡ length s.entries
 size_is s = length-map s.entries the_entry
 
--- a turn's waits with one more entry
+-- a turn's waits with one more entry add at most those that have a conclusion
 pub pairs_step : (net : Network) (old mid : State) (j i next : ℕ) (is : List Instance) (start before now : ℕ) →
     IsTaken net old mid (tried net (the_entries old.entries) is) false → j < length old.entries → i < length old.entries →
     before ≤ start + total (concludes_with net (the_entries old.entries) j) i →

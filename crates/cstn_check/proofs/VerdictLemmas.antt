@@ -67,7 +67,7 @@ pub held : (net : Network) (log : State) (o : Option Verdict) (v : Verdict) → 
     IsVerdict net log.cap (the_entries log.entries) v
 held net log o v e is = subst (λ x. HasAnswered net log x) e is
 
--- what holds of a check's parts holds of what is seen of it
+-- what holds of the fields of a check holds of the value that contracts see
 pub seen_so : (n : NetworkParts) (cap : ℕ) (list : List Entry) (v : Verdict) (parts : CheckParts) → n ≡ parts.net → cap ≡ parts.cap →
     IsWellFormed (the_network n) → IsVerdict (the_network n) cap list v →
     IsWellFormed (the_network parts.net) × IsVerdict (the_network parts.net) parts.cap list v

@@ -83,7 +83,7 @@ module _ (net : Network) (entries : List TheEntry) where
           let got : get_or new q 0 ≡ get_or old q 0 = ap (λ l. get_or l q 0) is ∙ get_or-set_other old p q place 0 ne in
           subst (λ n. NoneSees net entries q j from n) (sym got) (was.each q below marked)
 
--- the walks go on while the list grows
+-- places that are passed stay passed while the list grows
 pub passed_on : (net : Network) (L G : List TheEntry) (j from next : ℕ) (places : List ℕ) (place : ℕ) → Extends L G → j < length L → from ≤ next →
     ArePassed net L j from places place → ArePassed net G j next places place
 passed_on net L G j from next places place more inside upto was = record {
@@ -106,7 +106,7 @@ passed_on net L G j from next places place more inside upto was = record {
     back : (k : ℕ) (e : TheEntry) → k < length L → slice_get G k ≡ Some e → slice_get L k ≡ Some e
     back k e low at = sym (get_kept L G k more low) ∙ at
 
--- before the first place there is none
+-- before the first place no place is passed
 pub none_yet : (net : Network) (L : List TheEntry) (j : ℕ) (places : List ℕ) → ((p : ℕ) → p < 52 → get_or places p 0 ≡ 0) → ArePassed net L j 0 places 0
 none_yet net L j places zeros = record {
   sees = λ b there. record { each = λ p small marked. record { none = λ k e low under high. absurd (omega (arith, high, zeros p small)) } };

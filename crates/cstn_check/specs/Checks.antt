@@ -25,23 +25,24 @@ pub record IsStarted (net : Network) (log : State) : Type 0 where
   pub nodes : log.nodes ≡ count net
   pub births : log.births ≤ count net
 
--- the list is a front of the other
+-- the second list begins with the first
 pub record IsPrefix (front list : List Entry) : Type 0 where
   pub rest : List Entry
   pub is : front ++ rest ≡ list
 
--- what a verdict says of a network, with a log of this cap, and of the list
+-- what a verdict says, for a log with this cap: how the load compares with the cap, which entries the log has then, and whether
+-- one of them refutes the network
 abbrev pub IsVerdict : Network → ℕ → List Entry → Verdict → Type 0
 IsVerdict net cap list (Yes load) = (load ≡ load_of net) × (load_of net ≤ cap) × (list ≡ log_of net) × (is_refuted net (log_of net) ≡ false)
 IsVerdict net cap list (No load) = (load ≡ load_of net) × (load_of net ≤ cap) × (list ≡ log_of net) × LastRefutes net (log_of net)
 IsVerdict net cap list Full = (cap < load_of net) × IsPrefix list (log_of net) × (cap < count net → list ≡ [])
 
--- a log that hasn't answered has its first entries, and one that has has what its verdict says
+-- before a verdict the log has its first entries, and after one what the verdict says
 abbrev pub HasAnswered : Network → State → Option Verdict → Type 0
 HasAnswered net log None = IsStarted net log
 HasAnswered net log (Some v) = IsVerdict net log.cap (the_entries log.entries) v
 
--- a check has what it has answered, for no more tries than that takes, and room for a bound of each entry
+-- the log and the count of tries are as the verdict says, and `bounds` is empty, with room for as many bounds as the log's cap
 pub record IsCheck (net : Network) (log : State) (verdict : Option Verdict) (tries : ℕ) (bounds : List Bound) (room : ℕ) : Type 0 where
   pub answered : HasAnswered net log verdict
   pub counted : HasTried net verdict tries

@@ -9,12 +9,12 @@ use Rattle.cstn_rules.specs.declared.entries.Why.TheVariants.{Base, Chain, Wait}
 use Rattle.cstn_rules.specs.Derivations.{Entry}
 use Rattle.cstn_check.specs.Growth.{log_of, load_of, is_refuted}
 
--- the log has so many entries, and some entry refutes or none does
+-- the log has `load` entries, and `refuted` says whether one of them refutes the network
 pub record HasLog (net : Network) (load : ℕ) (refuted : Bool) : Type 0 where
   pub load_is : load_of net ≡ load
   pub refuted_is : is_refuted net (log_of net) ≡ refuted
 
--- the marks of the propositions 0 and 1
+-- the label with these marks on the propositions 0 and 1, and no other
 abbrev pub of_two_marks : Mark → Mark → Label
 of_two_marks m n zero = m
 of_two_marks m n (suc zero) = n
@@ -43,7 +43,7 @@ abbrev pub crossed_and : List Constraint → Network
 crossed_and more = prompt 5 (None ∷ (Some 0 ∷ (Some 1 ∷ [])))
     (after 0 1 0 5 (of_two_marks Absent Yes) ∷ (after 1 2 0 5 (of_two_marks Yes Absent) ∷ more))
 
--- X waits for p and q, and Q for p, which is known too late
+-- a network whose log has an unknown mark: X waits for p and q, and Q for p, which is known too late
 abbrev pub unknown_mark : Network
 unknown_mark = prompt 10 (None ∷ (Some 0 ∷ (Some 1 ∷ (None ∷ []))))
     (after 0 3 0 9 (of_two_marks Yes Yes) ∷ (after 1 2 0 7 (of_two_marks No Absent) ∷
@@ -55,7 +55,7 @@ process = prompt 40 (None ∷ (None ∷ (Some 0 ∷ (None ∷ (None ∷ [])))))
     (after 0 2 1 5 empty ∷ (before 1 1 2 10 empty ∷ (after 2 3 2 2 (of_two_marks Yes Absent) ∷
     (after 3 3 2 8 (of_two_marks No Absent) ∷ (after 4 4 3 3 empty ∷ (before 5 0 4 30 empty ∷ []))))))
 
--- the marks of the first propositions
+-- the label with these marks on the first propositions, and no other
 abbrev pub of_marks : List Mark → Label
 of_marks [] p = Absent
 of_marks (m ∷ ms) zero = m
@@ -71,7 +71,7 @@ drawn = prompt 22 (None ∷ (Some 0 ∷ (Some 1 ∷ (Some 2 ∷ (None ∷ (None 
     (after 9 6 1 1 (of_marks (No ∷ (Yes ∷ []))) ∷ (after 10 6 4 8 (of_marks (No ∷ (Absent ∷ (No ∷ [])))) ∷
     (after 11 2 0 9 (of_marks (Absent ∷ (No ∷ (No ∷ [])))) ∷ []))))))))))))
 
--- an entry as a line: its time-point, its least value, its marks on 0 and 1, and why
+-- an entry as a line: its time-point, its least value, its marks on the propositions 0 and 1, and the rule that gave it
 pub record Line : Type 0 where
   pub node : ℕ
   pub least : ℤ
@@ -79,7 +79,7 @@ pub record Line : Type 0 where
   pub second : Mark
   pub why : Why
 
--- a line with a least value from 0 on
+-- a line with a least value of 0 or more
 abbrev pub line : ℕ → ℕ → Mark → Mark → Why → Line
 line node least first second why = record { node = node; least = pos least; first = first; second = second; why = why }
 
@@ -87,7 +87,7 @@ line node least first second why = record { node = node; least = pos least; firs
 abbrev pub line_of : Entry → Line
 line_of e = record { node = e.bound.node; least = e.bound.least; first = e.bound.label 0; second = e.bound.label 1; why = e.why }
 
--- the log is these lines
+-- the entries of the network's log are these lines
 abbrev pub Shows : Network → List Line → Type 0
 Shows net lines = map line_of (log_of net) ≡ lines
 
@@ -98,7 +98,7 @@ crossed_lines =
     (line 1 5 Absent Yes (Chain 0 0) ∷ (line 2 5 Yes Absent (Chain 1 0) ∷ (line 1 1 Absent Absent (Wait 2 3) ∷
     (line 2 5 Absent Absent (Wait 3 4) ∷ (line 1 5 Absent Absent (Wait 6 3) ∷ [])))))))
 
--- the log in which a mark is unknown
+-- the log of `unknown_mark`
 abbrev pub unknown_mark_lines : List Line
 unknown_mark_lines =
     line 0 0 Absent Absent Base ∷ (line 1 0 Absent Absent Base ∷ (line 2 0 Absent Absent Base ∷ (line 3 0 Absent Absent Base ∷

@@ -97,8 +97,8 @@ observed [] = 0
 observed (None ∷ os) = observed os
 observed (Some p ∷ os) = suc (observed os)
 
--- no growth from the base bounds has more entries: a time-point, a least value up to the deadline + 1 and four marks
--- for each observed proposition
+-- no list that is grown from the base bounds has more entries: the number of time-points, times that of the least values from 0
+-- to the deadline + 1, times four marks for each observed proposition
 abbrev pub most_entries : Network → ℕ
 most_entries net = count net * (net.deadline + 2) * 4 ^ observed net.observes
 

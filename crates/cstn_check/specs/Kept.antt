@@ -1,4 +1,4 @@
--- What the list of a growing log keeps.
+-- What the list of a log keeps while it grows.
 use Rattle.std.specs.Prelude.{ℕ, ◌≡◌, ◌<◌, ◌≤ℤ◌, ◌+◌, true, pos, List, [], ◌∷◌, Some, slice_get}
 use Rattle.cstn_label.specs.Bounds.{Bound, Dominates}
 use Rattle.cstn_net.specs.Networks.{Network, IsOnObserved, count, limit}
@@ -11,7 +11,7 @@ pub record IsBoundOf (net : Network) (b : Bound) : Type 0 where
   pub node : b.node < count net
   pub observed : IsOnObserved net b.label
 
--- each entry's bound is
+-- the bound of each entry is at a time-point of the network, and marks observed propositions alone
 abbrev pub AllGood : Network → List Entry → Type 0
 AllGood net [] = Unit {0}
 AllGood net (e ∷ es) = IsBoundOf net e.bound × AllGood net es

@@ -1,4 +1,4 @@
--- Instances of which nothing is left to do, and how many rules are tried where they are passed over.
+-- Spent instances, which add nothing to a list, and how many rules growth tries where it passes over them.
 use Rattle.std.specs.Prelude.{ℕ, ◌≡◌, ◌<◌, ◌+◌, ◌-◌, ◌*◌, ◌==◌, Bool, true, false, cond, List, [], ◌∷◌, length, Some}
 use Rattle.std.specs.List.{Contains, list_any}
 use Rattle.cstn_net.specs.Networks.{Network, Constraint}
@@ -30,7 +30,8 @@ abbrev pub fresh_count : List ℕ → List Constraint → ℕ
 fresh_count fresh [] = 0
 fresh_count fresh (c ∷ cs) = cond (is_fresh fresh c.id) 1 0 + fresh_count fresh cs
 
--- how many rules growth from n entries to g tries at most, with m constraints: the f fresh ones with each of the n entries, and
--- with each of the others every constraint and both waits with each entry
+-- how many rules growth from n entries to g tries at most, with m constraints, f of them fresh: with each of the n entries
+-- chain of the fresh constraints, and with each later entry chain of every constraint and wait with each of the g entries, in
+-- both orders
 abbrev pub most_tries : ℕ → ℕ → ℕ → ℕ → ℕ
 most_tries m f n g = f * n + (g - n) * (m + 2 * g)

@@ -1,4 +1,4 @@
--- The definitions on labels and bounds as tests.
+-- The definitions on labels and bounds as functions that answer true or false.
 use Rattle.std.specs.Prelude.{ℕ, zero, suc, Bool, true, false, not, cond, ◌&&◌, ◌==◌, Option, Some, None, slice_index_or, pos, int_lt, nat_lt}
 use Rattle.cstn_label.specs.declared.marks.Mark.{Mark}
 use Rattle.cstn_label.specs.Labels.{Label, joined}

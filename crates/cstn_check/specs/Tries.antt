@@ -18,7 +18,7 @@ abbrev pub how_many : Option Bound → ℕ
 how_many None = 0
 how_many (Some b) = 1
 
--- 1 where wait of the entries at i, as the observation's, and j has a conclusion, and else 0
+-- 1 where wait has a conclusion from the entry at i, as the one at the observer, and the entry at j, and else 0
 abbrev pub concludes : Network → List Entry → ℕ → ℕ → ℕ
 concludes net list i j = how_many (conclusion net list (wait_at i j))
 
@@ -34,11 +34,11 @@ most_tried net list = length net.constraints * length list + concluding_pairs ne
 abbrev pub concludes_with : Network → List Entry → ℕ → ℕ → ℕ
 concludes_with net list j i = concludes net list i j + concludes net list j i
 
--- and of those with each entry up to it
+-- how many of the waits of entry j with the entries up to it, in both orders, have a conclusion
 abbrev pub concludes_upto : Network → List Entry → ℕ → ℕ
 concludes_upto net list j = total (concludes_with net list j) (suc j)
 
--- what a check may have tried: nothing before it has answered, and no more than that after yes or no
+-- how many rules a check has tried: none before its verdict, and at most `most_tried` after yes or no
 abbrev pub HasTried : Network → Option Verdict → ℕ → Type 0
 HasTried net None tries = tries ≡ 0
 HasTried net (Some v) tries = (v ≡ Full → ⊥) → tries ≤ most_tried net (log_of net)

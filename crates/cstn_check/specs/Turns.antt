@@ -7,7 +7,8 @@ use Rattle.cstn_log.specs.Entries.{State, the_entries}
 use Rattle.cstn_check.specs.Growth.{is_refuted}
 use Rattle.cstn_check.specs.Kept.{IsKept}
 
--- the log is a derivation of the network with no refuting entry, and has births for all that its cap allows
+-- the log is a derivation of the network with no refuting entry, and the pool has births left for all entries that its cap
+-- allows
 pub record IsOpen (net : Network) (log : State) : Type 0 where
   pub nodes : log.nodes ≡ count net
   pub derivation : IsDerivation net (the_entries log.entries)
@@ -16,7 +17,7 @@ pub record IsOpen (net : Network) (log : State) : Type 0 where
   pub short : length log.entries ≤ log.cap
   pub births : log.births + log.cap < 2 ^ 62 + length log.entries
 
--- the log has the same cap and time-points, and a birth for each entry that is new
+-- the new log has the cap and the time-points of the old one, no fewer entries, and one birth more for each new entry
 pub record IsLonger (old new : State) : Type 0 where
   pub cap : new.cap ≡ old.cap
   pub nodes : new.nodes ≡ old.nodes
@@ -30,13 +31,13 @@ pub record IsTaken (net : Network) (old new : State) (list : List Entry) (refute
   pub refuted_is : refuted ≡ is_refuted net list
   pub longer : IsLonger old new
 
--- the list goes on behind this front
+-- the list is this front with one or more entries behind it
 pub record IsFront (front list : List Entry) : Type 0 where
   pub next : Entry
   pub rest : List Entry
   pub is : front ++ next ∷ rest ≡ list
 
--- the log is full, and the list goes on behind it
+-- the new log is full, and the list has more entries behind those of the log
 pub record IsCut (old new : State) (list : List Entry) : Type 0 where
   pub full : length new.entries ≡ old.cap
   pub front : IsFront (the_entries new.entries) list

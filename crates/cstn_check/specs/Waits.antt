@@ -29,15 +29,17 @@ pub record IsWaiting (net : Network) (entries : List Entry) (i j : ℕ) : Type 0
 pub record NoneSees (net : Network) (entries : List TheEntry) (p j from next : ℕ) : Type 0 where
   pub none : (k : ℕ) (e : TheEntry) → from ≤ k → k ≤ j → k < next → slice_get entries k ≡ Some e → is_live entries k ≡ true → Observes net e.bound.node p → ⊥
 
--- no such place marks what x observes
+-- no live place from `from` up to j, before `next`, has a label that marks what x observes
 pub record NoneMarks (net : Network) (entries : List TheEntry) (x j from next : ℕ) : Type 0 where
   pub none : (k p : ℕ) (e : TheEntry) → from ≤ k → k ≤ j → k < next → slice_get entries k ≡ Some e → is_live entries k ≡ true → Observes net x p → IsMarked e.bound.label p → ⊥
 
--- for each p that the label marks there is none at its observer, before the place that stands for p
+-- for each p that the label marks, no live place from `from` up to j is at the observer of p before the place that `places` has
+-- for p
 pub record NoneSeesEach (net : Network) (entries : List TheEntry) (a : Label) (j from : ℕ) (places : List ℕ) : Type 0 where
   pub each : (p : ℕ) → p < 52 → IsMarked a p → NoneSees net entries p j from (slice_index_or places p 0)
 
--- before these places there is none of which wait with the entry at j has a conclusion
+-- `places` and `place` are as far as the walks for the entry at j came: before them, no live place from `from` up to j is at an
+-- observer of what that entry's label marks, or marks what its time-point observes
 pub record ArePassed (net : Network) (entries : List TheEntry) (j from : ℕ) (places : List ℕ) (place : ℕ) : Type 0 where
   pub sees : (b : TheEntry) → slice_get entries j ≡ Some b → NoneSeesEach net entries b.bound.label j from places
   pub marks : (b : TheEntry) → slice_get entries j ≡ Some b → NoneMarks net entries b.bound.node j from place

@@ -49,8 +49,8 @@ impl Model for Check {
 }
 
 impl Check {
-    /// A check of the network, whose log may have `cap` entries. All memory is taken here; fails
-    /// for want of it alone, and drops the network then.
+    /// A check of the network, whose log has at most `cap` entries. All memory for the verdict and for a plan is taken here;
+    /// fails only where memory is refused, and drops the network then.
     pub fn start(alloc: Global, net: Network, cap: u32) -> Result<Check, AllocError>
         requires some { 1 ≤ cap }
         requires most { cap ≤ 4194304 }
@@ -67,8 +67,9 @@ impl Check {
         })
     }
 
-    /// The verdict: full exactly where the load is above the cap, else no exactly where the last entry of the log refutes
-    /// the network, and yes else, with the load. Unless the log is full, it is yes exactly where there is a strategy.
+    /// The verdict: full exactly where the load is above the cap; else no with the load exactly where the last entry of the log
+    /// refutes the network, and else yes with the load. Unless the log is full, it is yes exactly where the network has a
+    /// strategy. Further calls give the same verdict.
     pub fn run(&mut self) -> Verdict
         ensures full { result ≡ Verdict.Full ↔ (self.old.cap < load_of (the_network self.old.net)) }
         ensures bounded { result ≡ Verdict.Full → self.old.cap < most_entries (the_network self.old.net) }
@@ -92,8 +93,8 @@ impl Check {
         verdict
     }
 
-    /// How many rules were tried for the verdict: after a yes or no at most the number of constraints times the load, and one
-    /// for each ordered pair of entries of the log of which wait has a conclusion.
+    /// How many rules were tried for the verdict, so 0 before it. After a yes or no these are at most the number of constraints
+    /// times the load, plus one for each ordered pair of entries of the log of which wait has a conclusion.
     pub fn tries(&self) -> u64
         ensures tries { result ≡ self.now.tries }
         ensures before { self.now.verdict ≡ None → result ≡ 0 }
@@ -102,8 +103,8 @@ impl Check {
         self.tries.count
     }
 
-    /// The log: all of it, once the check has answered yes or no, and else a front of it, which is empty where `cap` is
-    /// below the number of time-points.
+    /// The log: all of it once the check has answered yes or no, and else its first entries. It is empty where `cap` is below
+    /// the number of time-points.
     pub fn kept(&self) -> &Log
         ensures whole { (v : Verdict) → self.now.verdict ≡ Some v → (v ≡ Verdict.Full → ⊥) → the_entries result.now.entries ≡ log_of (the_network self.now.net) }
         ensures front { IsPrefix (the_entries result.now.entries) (log_of (the_network self.now.net)) }
@@ -115,6 +116,7 @@ impl Check {
     }
 
     /// What refutes the network, once the check has answered no: the last entry of the log with its ancestors, and the load.
+    /// Fails only where memory is refused.
     pub fn refutation(&self, alloc: Global) -> Result<Refutation, AllocError>
         requires no { (load : ℕ) × (self.now.verdict ≡ Some (Verdict.No load)) }
         ensures part { IfOk result (λ r. the_steps r ≡ part (log_of (the_network self.now.net))) }
@@ -143,7 +145,7 @@ impl Check {
         SoundPlan::new(self.net, bounds)
     }
 
-    /// The network.
+    /// The network that is checked.
     pub fn network(&self) -> &Network
         ensures network { result.now ≡ self.now.net }
     {
@@ -151,7 +153,8 @@ impl Check {
     }
 }
 
-// Grows the log of a network from its first entries, and says what that tells.
+// Grows the log of the network from its base bounds and gives the verdict. It is full at once where the log has no room for the
+// base bounds.
 fn answer(net: &Network, log: &mut Log, tries: &mut Tries) -> Verdict
     requires started { IsStarted (the_network net.now) log.old }
     requires none { tries.old.count ≡ 0 }
@@ -168,7 +171,7 @@ fn answer(net: &Network, log: &mut Log, tries: &mut Tries) -> Verdict
     verdict_of(grown, load)
 }
 
-// The verdict of growth, by the load.
+// The verdict for what growth came to, with the load of the log.
 fn verdict_of(grown: Grown, load: u32) -> Verdict
     ensures closed { grown ≡ Grown.Closed → result ≡ Verdict.Yes load }
     ensures refuted { grown ≡ Grown.Refuted → result ≡ Verdict.No load }

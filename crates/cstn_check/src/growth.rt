@@ -22,10 +22,10 @@ pub enum Grown {
     Full,
 }
 
-/// Grows the list of the log in a fixed order: each entry in its turn, chain of each constraint with it in ascending id,
-/// then wait of it with each entry up to it, either way round. A conclusion of live entries is appended where no entry
-/// dominates it. Growth ends at the first entry that refutes the network, or after the last entry's turn. The log is full
-/// exactly where the list would have more entries than its cap.
+/// Grows the list of the log in a fixed order, and says why growth ended. Each entry has a turn, which tries chain of each
+/// constraint with the entry, in ascending id, and then wait of the entry with each entry up to it, in both orders. A
+/// conclusion of live entries is appended where no entry dominates it. Growth ends at the first entry that refutes the network,
+/// or after the last entry's turn. The log is full exactly where the list would have more entries than its cap.
 pub fn grow(net: &Network, log: &mut Log, tries: &mut Tries) -> Grown
     requires nodes { log.old.nodes ≡ count (the_network net.now) }
     requires derivation { IsDerivation (the_network net.now) (the_entries log.old.entries) }
@@ -50,9 +50,9 @@ pub fn grow(net: &Network, log: &mut Log, tries: &mut Tries) -> Grown
     grow_kept(net, log, &[], 0, tries)
 }
 
-/// Grows the list of the log as [`grow`] does, where each instance on its entries is spent, but for chains of constraints with
-/// fresh ids: what it gives from live premises is dominated by some entry. So of all these only chains of fresh constraints
-/// are tried.
+/// Grows the list of the log as [`grow`] does, with fewer tries: on the entries that the log has already, it tries only chains
+/// of constraints whose ids are in `fresh`. So what any other rule gives from live ones of these entries must be dominated by
+/// some entry already.
 pub fn grow_on(net: &Network, log: &mut Log, fresh: &[u32], tries: &mut Tries) -> Grown
     requires nodes { log.old.nodes ≡ count (the_network net.now) }
     requires derivation { IsDerivation (the_network net.now) (the_entries log.old.entries) }
@@ -79,8 +79,8 @@ pub fn grow_on(net: &Network, log: &mut Log, fresh: &[u32], tries: &mut Tries) -
     grow_kept(net, log, fresh, old, tries)
 }
 
-// Grows a list in which no entry refutes, and nothing is left to do for the first `old` places, but for chains of fresh
-// constraints.
+// Grows a list in which no entry refutes the network. On its first `old` entries all rules but chains of fresh constraints are
+// spent.
 fn grow_open(net: &Network, log: &mut Log, fresh: &[u32], old: u32, tries: &mut Tries) -> Grown
     requires ready { IsOpen (the_network net.now) log.old }
     requires front { old ≤ length log.old.entries }
@@ -104,8 +104,8 @@ fn grow_open(net: &Network, log: &mut Log, fresh: &[u32], old: u32, tries: &mut 
     Grown::Closed
 }
 
-// Grows a list that no entry but perhaps the last refutes, where nothing is left to do for the first `old` places, but for
-// chains of fresh constraints.
+// Grows a list in which at most the last entry refutes the network, and leaves it as it is where that one does. On its first
+// `old` entries all rules but chains of fresh constraints are spent.
 fn grow_kept(net: &Network, log: &mut Log, fresh: &[u32], old: u32, tries: &mut Tries) -> Grown
     requires front { old ≤ length log.old.entries }
     requires spent { AreSpent (the_network net.now) (the_entries log.old.entries) fresh.now old }

@@ -20,16 +20,16 @@ pub fn growth_is_bounded()
     ensures load { (net : Network) → IsWellFormed net → load_of net ≤ most_entries net }
 {}
 
-/// The log goes on from each of its turns. It is reached at the first turn that ends past the list, or at an entry that
-/// refutes, and further turns change nothing.
+/// The list after any number of turns is the log or its first entries. It is the whole log once there were as many turns as the
+/// log has entries, or once an entry refutes the network; further turns change nothing.
 pub fn growth_ends()
     ensures goes_on { (net : Network) (n : ℕ) → IsWellFormed net → (more : List Entry) × (grown net (bases (count net)) n ++ more ≡ log_of net) }
     ensures done { (net : Network) (n : ℕ) → IsWellFormed net → load_of net ≤ n → grown net (bases (count net)) n ≡ log_of net }
     ensures refuted { (net : Network) (n : ℕ) → IsWellFormed net → is_refuted net (grown net (bases (count net)) n) ≡ true → grown net (bases (count net)) n ≡ log_of net }
 {}
 
-/// The log is a derivation in which no entry but the last refutes. Where none does, the live entries are closed, and this is
-/// so exactly where there is a strategy; then one has the least moments.
+/// The log is a derivation in which at most the last entry refutes the network. None does exactly where the network has a
+/// strategy. Then the bounds of the live entries are closed, and one strategy has each time-point at its least moment.
 pub fn growth_decides()
     ensures derivation { (net : Network) → IsWellFormed net → IsDerivation net (log_of net) }
     ensures last { (net : Network) (e : Entry) → IsWellFormed net → slice_get (log_of net) (length (log_of net) - 1) ≡ Some e → (Refutes net e.bound ↔ (is_refuted net (log_of net) ≡ true)) }
@@ -43,17 +43,18 @@ pub fn live_bounds_are_in_range()
     ensures ranged { (net : Network) → IsWellFormed net → (b : Bound) → Contains (live_bounds (log_of net)) b → IsBoundOf net b }
 {}
 
-/// An instance that is spent stays spent while the list grows.
+/// An instance, a rule with its premises, is spent where what it gives from live premises is dominated by some entry. It stays
+/// spent while the list grows.
 pub fn spent_instances_stay_spent()
     ensures { (net : Network) (list more : List Entry) (i : Instance) → HasPremises list i → IsSpent net list i → IsSpent net (list ++ more) i }
 {}
 
-/// Once a list is grown and no entry refutes, each instance on its entries is spent.
+/// Once a list is grown and no entry refutes the network, each instance on its entries is spent.
 pub fn grown_lists_are_spent()
     ensures { (net : Network) (list : List Entry) (fresh : List ℕ) → IsWellFormed net → IsKept net list → is_refuted net (grow net list) ≡ false → AreSpent net (grow net list) fresh (length (grow net list)) }
 {}
 
-/// The loads of small networks, and whether their logs refute.
+/// The loads of small networks, and whether their logs refute them.
 pub fn loads_are_known()
     ensures alone { HasLog (prompt 0 (None ∷ []) []) 1 false }
     ensures branch { HasLog (branch_and []) 5 false }
@@ -66,7 +67,7 @@ pub fn loads_are_known()
     ensures drawn { HasLog drawn 31 false }
 {}
 
-/// Three whole logs.
+/// All entries of the logs of three small networks.
 pub fn logs_are_known()
     ensures crossed { Shows (crossed_and []) crossed_lines }
     ensures unknown { Shows unknown_mark unknown_mark_lines }

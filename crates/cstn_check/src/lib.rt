@@ -1,4 +1,5 @@
-//! Growth of the list of bounds, and the verdict by it.
+//! The check of a network: grows its log, the list of bounds that the rules give, and says by it whether the network has a
+//! strategy.
 #![tactic(auto)]
 
 mod checks;

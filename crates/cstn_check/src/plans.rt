@@ -6,7 +6,7 @@ ghost use Rattle.cstn_check.specs.Growth.{live_bounds};
 use cstn_label::Bound;
 use cstn_log::Log;
 
-/// The bounds of the live entries in order, in a vector that is empty and has room for them.
+/// Writes the bounds of the live entries, in order, into `room`, an empty vector with room for as many as the log's cap.
 pub(crate) fn live_bounds(log: &Log, room: Vec<Bound>) -> Vec<Bound>
     requires empty { room.items ≡ [] }
     requires room { log.now.cap ≤ vec_capacity room }

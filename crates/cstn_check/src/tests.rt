@@ -18,7 +18,7 @@ fn check(rt: &impl Abort, alloc: Global, net: Network, cap: u32) -> Check {
     Check::start(alloc, net, cap).expect(rt, "memory")
 }
 
-// It answers so with this cap.
+// A check of the network with this cap gives this verdict, and gives it again when it runs again.
 fn answers(rt: &impl Abort, alloc: Global, net: Network, cap: u32, verdict: Verdict) {
     let mut check = check(rt, alloc, net, cap);
     assert!(rt; check.run() == verdict);
@@ -149,7 +149,7 @@ fn grows_as_the_definition_does(rt: HostRuntime) {
     grows_plainly(&rt, alloc, generated(&rt, alloc), 31);
 }
 
-// These steps refute the network, after this load.
+// A check whose cap is this load says no, and its refutation has this load and these steps.
 fn refuted_by(rt: &impl Abort, alloc: Global, net: Network, load: u32, steps: &[Entry]) {
     let mut check = check(rt, alloc, net, load);
     let Verdict::No { .. } = check.run() else {
@@ -176,7 +176,7 @@ fn refutes_by_the_part_of_the_log(rt: HostRuntime) {
     refuted_by(&rt, alloc, branched_late(&rt, alloc), 7, &too_late);
 }
 
-// The plan that is left after this load has these bounds.
+// A check whose cap is this load says yes with it, and its plan has these bounds.
 fn planned(rt: &impl Abort, alloc: Global, net: Network, load: u32, bounds: &[Bound]) {
     let mut check = check(rt, alloc, net, load);
     let Verdict::Yes { load: said } = check.run() else {

@@ -70,7 +70,7 @@ fn try_chain(
     put(net, log, Entry { bound, why })
 }
 
-// Tries wait of the entries at two places, the first as the observation's, and says whether the list is refuted then.
+// Tries wait of the entry at i, as the one at the observer, and the entry at j, and says whether the list is refuted then.
 fn try_wait(net: &Network, log: &mut Log, i: u32, j: u32, tries: &mut Tries) -> Result<bool, Full>
     requires ready { IsOpen (the_network net.now) log.old }
     requires seen { i < length log.old.entries }
@@ -116,14 +116,15 @@ fn waits(net: &Network, seen: &Bound, b: &Bound) -> bool
     }
 }
 
-// Every network is well-formed.
+// Does nothing but tell the proof of its caller that every network is well-formed.
 pub(crate) fn is_well_formed(net: &Network)
     ensures { IsWellFormed (the_network net.now) }
 {
     let _ = net.count();
 }
 
-// Each constraint of a network is one of the network that it stands for.
+// Does nothing but tell the proof of its caller that a constraint of a network in memory stands for one of the network that the
+// definitions speak of.
 fn is_of_network(net: &Network, c: &Constraint)
     requires { Contains net.now.constraints c.now }
     ensures network { IsWellFormed (the_network net.now) }
@@ -139,8 +140,8 @@ fn is_fresh(fresh: &[u32], id: u32) -> bool
     fresh.iter().any(|known| *known == id)
 }
 
-// Tries chain of a constraint with the entry at a place, unless nothing is left to do there: that is so for the first `old`
-// places and each constraint that isn't fresh. Says whether the list is refuted then.
+// Tries chain of a constraint with the entry at the place j, and says whether the list is refuted then. Where j is below `old`
+// and the constraint isn't fresh, that chain is spent, and it isn't tried.
 fn try_fresh(
     net: &Network,
     log: &mut Log,
@@ -171,8 +172,8 @@ fn try_fresh(
     Ok(false)
 }
 
-// Tries chain of each constraint that ends at its time-point with the entry at a place, unless nothing is left to do there, and
-// says whether the list is refuted then.
+// Tries chain of each constraint that ends at the time-point of the entry at the place j with that entry, unless it is spent,
+// and says whether the list is refuted then. Chain of other constraints with it has no conclusion.
 fn try_chains(
     net: &Network,
     log: &mut Log,
@@ -232,7 +233,7 @@ fn first_ending(net: &Network, x: NodeId) -> usize
     }
 }
 
-// The place of the next constraint that ends where the one at this place does, or their number where none does.
+// The place of the next constraint that ends where the one at this place does, or the number of constraints where none does.
 fn next_ending(net: &Network, at: usize) -> usize
     requires { at < length net.now.constraints }
     ensures upto { (at + 1 ≤ result) × (result ≤ length net.now.constraints) }
@@ -265,8 +266,8 @@ fn try_both(net: &Network, log: &mut Log, i: u32, j: u32, tries: &mut Tries) -> 
     }
 }
 
-// Tries the waits of the entry at a place with those up to it of which a wait has a conclusion, and says whether the list
-// is refuted then.
+// Tries wait of the entry at the place j with each entry up to it, in both orders, where it has a conclusion, and says whether
+// the list is refuted then.
 fn try_waits(net: &Network, log: &mut Log, j: u32, tries: &mut Tries) -> Result<bool, Full>
     requires ready { IsOpen (the_network net.now) log.old }
     requires place { j < length log.old.entries }
@@ -292,7 +293,7 @@ fn try_waits(net: &Network, log: &mut Log, j: u32, tries: &mut Tries) -> Result<
     Ok(false)
 }
 
-// The same, unless nothing is left to do for the place.
+// Tries these waits unless j is below `old`, where they are spent, and says whether the list is refuted then.
 fn try_new_waits(
     net: &Network,
     log: &mut Log,
@@ -318,8 +319,8 @@ fn try_new_waits(
     try_waits(net, log, j, tries)
 }
 
-// Takes the turn of the entry at a place, and says whether the list is refuted then. Nothing is left to do for the first
-// `old` places, but for chains of fresh constraints.
+// Takes the turn of the entry at the place j, and says whether the list is refuted then. On the first `old` entries all rules
+// but chains of fresh constraints are spent, and no spent rule on them is tried.
 pub(crate) fn take_turn(
     net: &Network,
     log: &mut Log,
@@ -348,7 +349,7 @@ pub(crate) fn take_turn(
     }
 }
 
-// A count is a number of 64 bits.
+// Does nothing but tell the proof of its caller that a count is a number of 64 bits.
 fn is_in_range(tries: &Tries)
     ensures { tries.now.count < 2 ^ 64 }
 {

@@ -1,4 +1,5 @@
-// The places of which wait with an entry has a conclusion, looked for along the chains of the log.
+// Finds the entries of which wait with a given entry has a conclusion, along the chains of the log: those link the places at
+// one time-point, or the places whose labels mark one proposition.
 ghost use Rattle.std.specs.Prelude.{ℕ, ◌≡◌, ◌+◌, ◌<◌, ◌≤◌, length, set, slice_index_or};
 ghost use Rattle.cstn_label.specs.Labels.{IsMarked};
 ghost use Rattle.cstn_label.specs.Read.{marks};
@@ -16,10 +17,10 @@ use cstn_net::Network;
 // How many propositions there may be.
 pub const PROPS: usize = 52;
 
-// The first place from `from` up to `j` with an entry of which wait with the entry at `j`, either way round, has a
-// conclusion; `j + 1` where none has, or the entry at `j` is dead. A chain is gone along only from the place where it stands,
-// past the dead entries: `sees` has the next place at the observer of each proposition, and `marking` the next that marks what
-// is observed.
+// The next place from `from` up to `j` at which to try wait with the entry at `j`, in both orders: the places between have no
+// wait with a conclusion. It is `j + 1` where none is left, or the entry at `j` is dead. `sees` keeps the next place at the
+// observer of each proposition, and `marking` the next place whose label marks what the time-point of the entry at `j`
+// observes, so that a chain is walked on only once `from` is past that place.
 pub fn next_waiting(
     net: &Network,
     log: &mut Log,
@@ -57,7 +58,8 @@ fn least(a: u32, b: u32) -> u32
     if a < b { a } else { b }
 }
 
-// The first live place from `from` on whose entry marks what the time-point observes, unless the chain stands there already.
+// `next`, the place that was found before, where `from` isn't past it, and else the first live place from `from` on whose label
+// marks what the time-point observes.
 fn next_marking(net: &Network, log: &mut Log, x: NodeId, from: u32, j: u32, next: u32) -> u32
     requires node { x.0 < count (the_network net.now) }
     requires upto { from ≤ length log.old.entries }
@@ -87,7 +89,8 @@ fn first_marking(net: &Network, log: &mut Log, x: NodeId, from: u32, j: u32, nea
     }
 }
 
-// The first live place from `from` on at the observer of a proposition that the label of the bound marks.
+// The next place from `from` on at the observer of a proposition that the label of the bound marks. `places` keeps the next one
+// of each proposition.
 fn next_seen(net: &Network, log: &mut Log, b: &Bound, from: u32, j: u32, places: &mut [u32]) -> u32
     requires nodes { log.old.nodes ≡ count (the_network net.now) }
     requires upto { from ≤ length log.old.entries }
@@ -124,7 +127,8 @@ fn set_place(places: &mut [u32], p: Prop, place: u32)
     places[p.index as usize] = place;
 }
 
-// The first live place from `from` on at the observer of p, unless the chain stands there already.
+// `next`, the place that was found before, where `from` isn't past it, and else the first live place from `from` on at the
+// observer of p.
 fn next_at_observer(net: &Network, log: &mut Log, p: Prop, from: u32, j: u32, next: u32) -> u32
     requires nodes { log.old.nodes ≡ count (the_network net.now) }
     requires upto { from ≤ length log.old.entries }

@@ -77,7 +77,7 @@ greatest_upper test (x ∷ xs) b (suc k) h e t =
           omega (arith, ints)
     ]
 
--- some bound that passes the test asks for it, or it is 0
+-- some bound of the list passes the test and asks for n or more
 pub record Attains (test : Bound → Bool) (bs : List Bound) (n : ℕ) : Type 0 where
   pub bound : Bound
   pub in_list : Contains bs bound
@@ -124,7 +124,7 @@ greatest_attained test (x ∷ xs) = elim (cases_Bool (test x)) [
       ]
 ]
 
--- ---- the same of `asked`
+-- ---- the moments that `asked` gives
 
 -- a bound of the list for x, whose label holds, that asks for the moment t
 pub record Asks (net : Network) (bounds : List Bound) (s : Scenario) (t x : ℕ) : Type 0 where
@@ -141,7 +141,7 @@ module _ (net : Network) (bounds : List Bound) (s : Scenario) (wf : IsNetwork ne
       (and_from (eqb b.node b.node) (fits_upto net s b.label (count net)) (eq-eqb b.node b.node refl)
       (upto_from net s b.label (count net) holds))
 
-  -- what the base bound is dominated by asks for 0
+  -- the bound that dominates the base bound asks for 0
   asks_zero : (x : ℕ) → x < count net → Asks net bounds s 0 x
   asks_zero x here =
       let c = closed.base (record { node = x; least = pos 0; label = empty }) (record { node = here; gives = refl }) in

@@ -89,7 +89,7 @@ module _ (test new keep stay : ℕ → Type 0) (end : ℕ) (few : end < no_place
     ];
   }
     where
-      -- what leads past the last place that passed the test so far
+      -- the link from behind the last place that passed the test so far leads to the new place
       at_last : IsNext new stay last (end + 1) end
       at_last = record {
         within = inl (omega arith);
@@ -98,7 +98,7 @@ module _ (test new keep stay : ℕ → Type 0) (end : ℕ) (few : end < no_place
         ends = λ past k low high t. absurd (omega (arith, past));
       }
 
-      -- a place behind which the chain went on before its last
+      -- from behind a place before its last, the chain led to a place of the list already
       below_last : (n from : ℕ) → n ≤ end → IsBehind test n → from < n → (r : ℕ) → IsNext test keep from end r → r < end
       below_last zero from h b under r f = absurd (omega (arith, under))
       below_last (suc k) from h b under r f = elim (cases_lt r end) [
@@ -142,7 +142,7 @@ chain_empty test keep link e = record {
       }));
 }
 
--- links that lead on as those of a chain do
+-- links that lead on wherever those of a chain do are a chain too
 pub chain_over : (test keep : ℕ → Type 0) (end last : ℕ) (link next : ℕ → ℕ) →
     ((from : ℕ) → from ≤ end → IsBehind test from → IsNext test keep from end (link from) → IsNext test keep from end (next from)) →
     IsChain test keep end link last → IsChain test keep end next last
@@ -190,7 +190,7 @@ none_past test keep from upto end place after inside passed f none k low high be
   ]
 ]
 
--- and up to the place that it begins at, none was to be found
+-- the place that a walk meets first has no kept place before it from `from` on
 pub none_first : (test keep : ℕ → Type 0) (start from upto end place : ℕ) → start ≤ from → upto < end → IsNext test keep start end place →
     (k : ℕ) → from ≤ k → k ≤ upto → k < place → keep k → test k → ⊥
 none_first test keep start from upto end place low inside f k under high before live t =

@@ -31,7 +31,7 @@ rank_less marks i k h less =
     let grows = rank_grows marks (suc i) k (omega arith) in
     omega arith
 
--- a place moves by at most as much as lies between
+-- the rank rises by at most k over k places
 pub rank_between : (marks : List Bool) (i k : ℕ) → rank marks (i + k) ≤ rank marks i + k
 rank_between marks i zero = let e : i + 0 ≡ i = omega arith in rw e (omega arith)
 rank_between marks i (suc k) =
@@ -45,7 +45,7 @@ rank_between marks i (suc k) =
 pub rank_upto : (marks : List Bool) (k : ℕ) → rank marks k ≤ k
 rank_upto marks k = let all = rank_between marks 0 k in let e : 0 + k ≡ k = omega arith in omega (arith, rw e at all)
 
--- where all of n are marked, no place below moves
+-- where the first n places are all marked, each place up to n is its own rank
 pub rank_same : (marks : List Bool) (n k : ℕ) → rank marks n ≡ n → k ≤ n → rank marks k ≡ k
 rank_same marks n k all upto = from (difference k n upto)
   where
@@ -85,7 +85,7 @@ length_from marks k (x ∷ xs) =
           rw (chosen_unmarked marks k x xs f, e) (omega (arith, rest, up))
     ]
 
--- as many values as marks
+-- as many values are chosen as places are marked
 pub length_chosen : {X : Type 0} (marks : List Bool) (xs : List X) → length (chosen marks xs) ≡ rank marks (length xs)
 length_chosen marks xs =
     let none : 0 + length xs ≡ length xs = omega arith in
@@ -129,7 +129,7 @@ record Comes {X : Type 0} (marks : List Bool) (xs : List X) (k d : ℕ) (e : X) 
   still : is_marked marks n ≡ true
   place : rank marks n ≡ d + rank marks k
 
--- from the rest of the list
+-- what comes from the rest of the list comes from the list
 comes_on : {X : Type 0} (marks : List Bool) (x : X) (xs : List X) (k d c : ℕ) (e : X) →
     rank marks (suc k) + c ≡ d + rank marks k → (b : Comes marks xs (suc k) c e) → Comes marks (x ∷ xs) k d e
 comes_on marks x xs k d c e up b =
@@ -200,7 +200,7 @@ same_there xs ys k same = sym (get_dropped xs k) ∙ ap (λ zs. slice_get zs 0) 
 same_on : {X : Type 0} (xs ys : List X) (k : ℕ) → drop k xs ≡ drop k ys → drop (suc k) xs ≡ drop (suc k) ys
 same_on xs ys k same = sym (drop_one xs k) ∙ ap (drop 1) same ∙ drop_one ys k
 
--- the values that were chosen among the first k of a list, and what is left of it
+-- while values are chosen in place: the first `count` are those chosen among the first k, and from k on the list is as it was
 pub record IsChoosing {X : Type 0} (marks : List Bool) (old new : List X) (k count : ℕ) : Type 0 where
   pub size : length new ≡ length old
   pub count_is : count ≡ rank marks k

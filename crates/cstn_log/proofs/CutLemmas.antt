@@ -29,7 +29,7 @@ cut_chosen marks k (x ∷ xs) = elim (cases_Bool (is_marked marks k)) [
   | inr f ↦ rw (cut_unmarked marks k x xs f, chosen_unmarked marks k x xs f, cut_chosen marks (suc k) xs) refl
 ]
 
--- as many entries as marks
+-- a cut list has as many entries as places are marked
 pub length_cut : (marks : List Bool) (steps : List Entry) → length (cut marks steps) ≡ rank marks (length steps)
 length_cut marks steps = ap length (cut_chosen marks 0 steps) ∙ length-map (chosen marks steps) (moved marks) ∙ length_chosen marks steps
 
@@ -47,7 +47,7 @@ pub goes : (marks : List Bool) (steps : List Entry) (i : ℕ) (e : Entry) → sl
 goes marks steps i e there h =
     rw (cut_chosen marks 0 steps) (slice_get-map (moved marks) (chosen marks steps) (rank marks i) ∙ rw (chosen_goes marks steps i e there h) refl)
 
--- a list is what is left of it where all are marked
+-- a list of which all entries are marked is cut to itself
 pub cut_all : (marks : List Bool) (steps : List Entry) → AllEarlier steps → rank marks (length steps) ≡ length steps → cut marks steps ≡ steps
 cut_all marks steps all whole =
     cut_chosen marks 0 steps ∙ ap (map (moved marks)) (chosen_all marks steps whole) ∙ unmoved steps (λ k e there. moved_same e k (all.below k e there) (omega (arith, slice_get_within steps k e there)))

@@ -33,7 +33,7 @@ follows_inside net L k (Wait i j) r good all f = (wait_within net f.0 f.1 f.2 r 
         let same : (the_entry got.0).bound ≡ b = ap (λ z. z.bound) got.2 ∙ earlier.bound in
         subst (λ (z : Bound). z.node < count net) same (all j got.0 got.1)
 
--- a derivation with one more that follows
+-- a derivation with one more entry that follows is a derivation
 pub pushed_derivation : (net : Network) (L new : List Entry) (x : Entry) → new ≡ L ++ x ∷ [] → Follows net (the_entries L) (length L) x.why (the_bound x.bound) → IsDerivation net (the_entries L) → IsDerivation net (the_entries new)
 pushed_derivation net L new x longer follows derivation =
     let all : the_entries new ≡ the_entries L ++ the_entry x ∷ [] = ap (map the_entry) longer ∙ map-append the_entry L (x ∷ []) in
@@ -52,7 +52,7 @@ bases_below (suc n) k e there = elim (get_more (bases n) (record { bound = base 
   | inr new ↦ let same : n ≡ e.bound.node = ap (λ z. z.bound.node) new.1 in omega arith
 ]
 
--- they dominate no bound of another time-point
+-- the base bounds of the first n time-points dominate no bound of a later one
 pub bases_uncovered : (n : ℕ) (L : List Entry) (b : DeclaredBound) → the_entries L ≡ bases n → n ≤ b.node.0 → ¬ IsCoveredBy L b
 bases_uncovered n L b are above covered =
     let there : slice_get (bases n) covered.0 ≡ Some (the_entry covered.1) = subst (λ (xs : List TheEntry). slice_get xs covered.0 ≡ Some (the_entry covered.1)) are (slice_get-map the_entry L covered.0 ∙ rw covered.2 refl) in
@@ -88,6 +88,6 @@ earlier L k e there = record {
 pub chain_follows : (net : Network) (L : List Entry) (c : Constraint) (k : ℕ) (e : Entry) (r : Bound) → Contains net.constraints c → slice_get L k ≡ Some e → IsChain net c (the_bound e.bound) r → Follows net (the_entries L) (length L) (Chain c.id k) r
 chain_follows net L c k e r has there is = (c, the_bound e.bound, has, refl, earlier L k e there, is)
 
--- and so does what wait gives from two
+-- what wait gives from two entries of the list follows
 pub wait_follows : (net : Network) (L : List Entry) (p i j : ℕ) (e f : Entry) (r : Bound) → slice_get L i ≡ Some e → slice_get L j ≡ Some f → IsWait net p (the_bound e.bound) (the_bound f.bound) r → Follows net (the_entries L) (length L) (Wait i j) r
 wait_follows net L p i j e f r one other is = (p, the_bound e.bound, the_bound f.bound, earlier L i e one, earlier L j f other, is)

@@ -11,7 +11,7 @@ pub limit_deadline : (net : Network) (x : ℕ) → limit net x ≤ net.deadline
 limit_deadline net zero = omega arith
 limit_deadline net (suc x) = omega arith
 
--- what is so of absent, and of a mark of a conclusion, is so of that mark when the conclusion is finished
+-- a property of the absent mark and of a conclusion's mark is one of that mark when the conclusion is finished
 pub kept_own : (P : Mark → Type 0) (o : Option ℕ) (a : Label) (q : ℕ) → P Absent → P (a q) → P (without_own o a q)
 kept_own P None a q none h = h
 kept_own P (Some p) a q none h = kept_without P a p q none h

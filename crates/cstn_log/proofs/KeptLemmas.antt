@@ -18,14 +18,14 @@ pub other_slot : (slots : List (Option (ℕ × Entry))) (births : ℕ) (entries 
 other_slot slots births entries ids slot is free k id there e =
     let h = is.held k id there in none-some (id.birth, h.1) (sym free ∙ subst (λ (s : ℕ). get_or slots s None ≡ Some (id.birth, h.1)) e h.3)
 
--- an id of a birth stands at one place
+-- ids at different places have different births
 pub same_place : (slots : List (Option (ℕ × Entry))) (births : ℕ) (entries : List Entry) (ids : List SlotId) (k j : ℕ) (a b : SlotId) → IsPooled slots births entries ids → slice_get ids k ≡ Some a → slice_get ids j ≡ Some b → a.birth ≡ b.birth → k ≡ j
 same_place slots births entries ids k j a b is p q same = elim (cases_lt k j) [
   | inl less ↦ absurd (omega (arith, is.ascending k j a b less p q))
   | inr more ↦ elim (cases_lt j k) [ inl less ↦ absurd (omega (arith, is.ascending j k b a less q p)) | inr le ↦ omega arith ]
 ]
 
--- and so does one of a slot
+-- ids at different places have different slots
 pub same_slot : (slots : List (Option (ℕ × Entry))) (births : ℕ) (entries : List Entry) (ids : List SlotId) (k j : ℕ) (a b : SlotId) → IsPooled slots births entries ids → slice_get ids k ≡ Some a → slice_get ids j ≡ Some b → a.slot ≡ b.slot → k ≡ j
 same_slot slots births entries ids k j a b is p q same =
     let h = is.held k a p in
@@ -90,13 +90,13 @@ covered_there table entries ids b covered is covers = (
         let f = is.placed c.0 c.1 c.2 in
         (f.0, f.1, f.3, subst (λ (z : Bound). IsOver z b) (sym f.5) c.3)
 
--- and so nothing is covered by the minimal set that the list doesn't cover
+-- what the list doesn't cover isn't covered by the minimal set
 pub uncovered_there : (table : Entries) (entries : List Entry) (ids : List SlotId) (b : Bound) → IsTabled table entries ids → ¬ IsCoveredBy entries b → ¬ IsCovered table b
 uncovered_there table entries ids b is not c =
     let f = is.placed c.0 c.1 c.2 in
     not (f.0, f.1, f.3, subst (λ (z : Bound). IsOver z b) (sym f.5) c.3)
 
--- the births of the minimal set are below one above those of the ids
+-- where the births of the ids are all below a number, so are those in the minimal set
 pub born_before : (table : Entries) (entries : List Entry) (ids : List SlotId) (birth : ℕ) → IsTabled table entries ids → ((k : ℕ) (id : SlotId) → slice_get ids k ≡ Some id → id.birth < birth) → (s : ℕ) (b : ℕ × Bound) → get_or table s None ≡ Some b → b.0 < birth
 born_before table entries ids birth is before s b there =
     let f = is.placed s b there in before f.0 (record { slot = s; birth = b.0 }) f.2.there
@@ -121,7 +121,7 @@ tabled_empty table none = record {
   live = λ k id e there at live. absurd (none-some id there);
 }
 
--- nothing is kept in a pool with empty slots alone
+-- a pool and a table with empty slots alone keep the list without entries
 pub kept_empty : (cap births nodes : ℕ) → IsKept (replicate cap None) births (replicate cap None) [] [] nodes
 kept_empty cap births nodes = record {
   pooled = record {

@@ -18,7 +18,7 @@ use Rattle.cstn_log.proofs.ChoiceLemmas.{rank_marked, rank_unmarked, rank_grows,
 pub clash : {t : Bool} → t ≡ true → t ≡ false → ⊥
 clash y n = let e = rw y at n in cc
 
--- a slot less is in use
+-- emptying a used slot leaves one slot less in use
 count_emptied : (slots : List (Option (ℕ × Entry))) (slot : ℕ) → slot < length slots → is_some (get_or slots slot None) ≡ true → live_of (set slots slot None) + 1 ≡ live_of slots
 count_emptied slots slot inside live =
     let one : live_of (set slots slot None) + cond (is_some (get_or slots slot None)) 1 0 ≡ live_of slots + 0 = sum_by-set (λ x. cond (is_some x) 1 0) slots slot None None inside in
@@ -34,7 +34,7 @@ left_all marks ids slots = record {
   count = refl;
 }
 
--- a marked one stays
+-- the id at a marked place stays
 pub left_kept : (marks : List Bool) (ids : List SlotId) (k : ℕ) (old new : List (Option (ℕ × Entry))) → is_marked marks k ≡ true → AreLeft marks ids k old new → AreLeft marks ids (suc k) old new
 left_kept marks ids k old new h left = record {
   size = left.size;
@@ -47,7 +47,7 @@ left_kept marks ids k old new h left = record {
   count = omega (arith, left.count, rank_marked marks k h);
 }
 
--- one that isn't is given back
+-- the id at a place that isn't marked is given back
 pub left_given : (marks : List Bool) (births : ℕ) (entries : List Entry) (ids : List SlotId) (k : ℕ) (id : SlotId) (old new : List (Option (ℕ × Entry))) → IsPooled old births entries ids → slice_get ids k ≡ Some id → is_marked marks k ≡ false → AreLeft marks ids k old new → AreLeft marks ids (suc k) old (set new id.slot None)
 left_given marks births entries ids k id old new is there h left =
     let held = is.held k id there in
@@ -73,7 +73,7 @@ left_given marks births entries ids k id old new is there h left =
       count = omega (arith, count_emptied new id.slot inside full, left.count, rank_unmarked marks k h);
     }
 
--- what was given back is no more among the ids
+-- the id at a place that isn't marked is none of the chosen ids
 pub none_gone : (marks : List Bool) (slots : List (Option (ℕ × Entry))) (births : ℕ) (entries : List Entry) (ids : List SlotId) (k : ℕ) (id : SlotId) → IsPooled slots births entries ids → slice_get ids k ≡ Some id → is_marked marks k ≡ false → ¬ HasId (chosen marks ids) id
 none_gone marks slots births entries ids k id is there h has =
     let c = chosen_comes marks ids has.0 id has.1 in

@@ -30,12 +30,12 @@ slots_within places ids Base filed are = tt
 slots_within places ids (Chain by s) filed are = slot_within places ids s filed are
 slots_within places ids (Wait s t) filed are = (slot_within places ids s filed are.0, slot_within places ids t filed are.1)
 
--- ids of a table have slots of their own
+-- ids whose places a table tells have slots of their own
 pub filed_apart : (places : List ℕ) (ids : List SlotId) → IsFiled places ids → AreApart ids
 filed_apart places ids filed j k jd kd one other same =
     sym (filed.at j jd one) ∙ ap (λ s. get_or places s 0) same ∙ filed.at k kd other
 
--- a premise by its slot
+-- what is read past the end of a list of ids
 abbrev no_id : SlotId
 no_id = record { slot = 0; birth = 0 }
 
@@ -69,7 +69,7 @@ slots_more ids id Base are = tt
 slots_more ids id (Chain by s) are = slot_more ids id s are
 slots_more ids id (Wait s t) are = (slot_more ids id s are.0, slot_more ids id t are.1)
 
--- an entry more, whose id has a slot of its own, and what is stored of it
+-- the entry e is pushed under an id whose slot is free, and stored as x
 pub record IsPushed (places new : List ℕ) (ids : List SlotId) (id : SlotId) (e x : Entry) : Type 0 where
   pub low : PremisesBelow (length ids) e.why
   pub bound : x.bound ≡ e.bound
@@ -121,7 +121,7 @@ module _ (places new : List ℕ) (stored : List Entry) (ids : List SlotId) (id :
       let last : placed new x ≡ e = ap (λ b. of_rule b (replaced new x.why)) is.bound ∙ ap (of_rule e.bound) rule in
       map-append (placed new) stored (x ∷ []) ∙ rw (old, last) refl
 
--- lists of images of what is chosen
+-- the images of chosen values are the values chosen among the images
 pub chosen_map : {X Y Z : Type 0} (marks : List Bool) (f : X → Z) (g : X → Y) (h : Y → Z) (xs : List X) →
     ((k : ℕ) (x : X) → slice_get xs k ≡ Some x → is_marked marks k ≡ true → f x ≡ h (g x)) → map f (chosen marks xs) ≡ chosen marks (map h (map g xs))
 chosen_map {X = X} marks f g h xs same = go 0 xs (λ k x there marked. same k x there (let e : 0 + k ≡ k = omega arith in rw e at marked))
@@ -137,7 +137,7 @@ chosen_map {X = X} marks f g h xs same = go 0 xs (λ k x there marked. same k x 
           | inr u ↦ rw (chosen_unmarked marks n y ys u, chosen_unmarked marks n (h (g y)) (map h (map g ys)) u) rest
         ]
 
--- ids that are chosen
+-- chosen ids have slots of their own, where all ids have
 pub chosen_apart : (marks : List Bool) (ids : List SlotId) → AreApart ids → AreApart (chosen marks ids)
 chosen_apart marks ids apart j k jd kd one other same =
     let a = chosen_comes marks ids j jd one in

@@ -32,7 +32,7 @@ live_last L x = record {
       absurd (omega (arith, slice_get_within (L ++ x ∷ []) j f q, length-append L (x ∷ [])));
 }
 
--- an entry that no earlier one dominates
+-- where no entry dominates an appended one, again none of the list is dominated by an earlier one
 pub new_more : (L : List Entry) (x : Entry) → AllNew L → ¬ IsCoveredBy L x.bound → AllNew (L ++ x ∷ [])
 new_more L x all uncovered = record {
   none_over = λ j k e f less p q over. elim (get_more L x k f q) [

@@ -32,7 +32,7 @@ pub last_marked : (entries : List Entry) (e : Entry) (p : ℕ) → IsMarkedAt (e
 last_marked entries e p m =
     subst (λ (x : Entry). IsMarked (marks x.bound.label) p) (one_there (entries ++ e ∷ []) (length entries) m.entry e m.there (get_last entries e)) m.marked
 
--- the chains through no entry, with what a resize of no ends answers
+-- the chains of a list without entries, as clearing and a resize leave them
 pub marks_empty : (links none lasts : List ℕ) (len : ℕ) → links ≡ replicate 52 no_place → none ≡ [] → len ≡ 0 →
     lasts ≡ take 52 none ++ replicate (52 - len) 0 → AreMarkChains [] links lasts
 marks_empty links none lasts len is old size new = rw (new, old, size, is) (record {
@@ -68,7 +68,7 @@ upto_none entries e links lasts c =
       lasts_size = c.lasts_size;
     }
 
--- the label of the new entry doesn't mark p
+-- where the label of the new entry doesn't mark p, the chain of p is done as it is
 pub upto_passed : (entries : List Entry) (e : Entry) (p : ℕ) (links lasts : List ℕ) → length entries < no_place →
     (IsMarked (marks e.bound.label) p → ⊥) → AreMarkChainsUpto entries e p links lasts → AreMarkChainsUpto entries e (p + 1) links lasts
 upto_passed entries e p links lasts few not c = record {
@@ -87,7 +87,7 @@ upto_passed entries e p links lasts few not c = record {
   lasts_size = c.lasts_size;
 }
 
--- the label of the new entry marks none of those from a up to b
+-- where the label of the new entry marks none of the propositions from a up to b, their chains are done as they are
 pub upto_skipped : (entries : List Entry) (e : Entry) (a b : ℕ) (links lasts : List ℕ) → length entries < no_place → a ≤ b →
     ((q : ℕ) → a ≤ q → q < b → IsMarked (marks e.bound.label) q → ⊥) → AreMarkChainsUpto entries e a links lasts → AreMarkChainsUpto entries e b links lasts
 upto_skipped entries e a zero links lasts few upto none c =
@@ -173,7 +173,7 @@ marks_whole entries e n links lasts all c =
       lasts_size = c.lasts_size;
     }
 
--- the link of p from a place is set to one that is next from there
+-- the chains stay chains when the link of p from a place is set to one that is next from there
 pub marks_over : (entries : List Entry) (p start after : ℕ) (links lasts next : List ℕ) → p < 52 → start ≤ length entries →
     next ≡ set links (start * 52 + p) after → IsNext (IsMarkedAt entries p) (IsLive entries) start (length entries) after →
     AreMarkChains entries links lasts → AreMarkChains entries next lasts

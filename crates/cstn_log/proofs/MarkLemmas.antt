@@ -172,7 +172,7 @@ part_last steps last there =
     let at : length (part steps) - 1 ≡ rank marks (n - 1) = omega (arith, long, full) in
     (moved marks last, subst (λ k. slice_get (part steps) k ≡ Some (moved marks last)) (sym at) (goes marks steps (n - 1) last there marked), refl)
 
--- the part of a refutation is one
+-- the part of a refutation is a refutation
 pub part_refutation : (net : Network) (steps : List Entry) → IsRefutation net steps → IsRefutation net (part steps)
 part_refutation net steps refutation =
     let end = part_last steps refutation.last refutation.is_last in
@@ -194,7 +194,7 @@ same_stay id marks more Base low = refl
 same_stay id marks more (Chain c i) low = ap (λ b. not (nat_eq c id) && b) (get_or_append_left marks more false i low)
 same_stay id marks more (Wait i j) low = rw (get_or_append_left marks more false i low.0, get_or_append_left marks more false j low.1) refl
 
--- what is marked, and what comes after it
+-- marking further entries keeps the marks that there are
 pub staying_more : (id : ℕ) (marks : List Bool) (es : List Entry) → (more : List Bool) × (marked_staying id marks es ≡ marks ++ more)
 staying_more id marks [] = ([], sym (append-nil marks))
 staying_more id marks (e ∷ es) =
@@ -236,7 +236,7 @@ stays_closed id marks Base h = tt
 stays_closed id marks (Chain c i) h = (both_true (not (nat_eq c id)) (is_marked marks i) h).1
 stays_closed id marks (Wait i j) h = both_true (is_marked marks i) (is_marked marks j) h
 
--- what a constraint didn't give, nor an ancestor, is closed under premises
+-- the entries that stay without a constraint are closed under premises
 pub staying_closed : (steps : List Entry) (id : ℕ) → AllEarlier steps → IsClosedUnder (marked_staying id [] steps) steps
 staying_closed steps id all k e there marked =
     stays_closed id (marked_staying id [] steps) e.why (marked_stays id steps all.below k e there marked)
@@ -254,7 +254,7 @@ renumbered_chain marks Base c i h = cc
 renumbered_chain marks (Chain d j) c i h = (j, cc)
 renumbered_chain marks (Wait j m) c i h = cc
 
--- what is left when a constraint's entries are dropped is a derivation, also of a network with another such constraint or none
+-- what is left without a constraint's entries is a derivation of each network that has the other constraints
 pub dropped_derivation : (net : Network) (cs : List Constraint) (steps : List Entry) (id : ℕ) →
     ((c : Constraint) → Contains net.constraints c → (c.id ≡ id → ⊥) → Contains cs c) → IsDerivation net steps →
     IsDerivation (with_constraints net cs) (dropped steps id)

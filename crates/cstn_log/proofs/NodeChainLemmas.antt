@@ -32,7 +32,7 @@ pub last_node : (entries : List Entry) (e : Entry) (x : ℕ) → IsAtNode (entri
 last_node entries e x m =
     ap (λ (y : Entry). y.bound.node.0) (one_there (entries ++ e ∷ []) (length entries) e m.entry (get_last entries e) m.there) ∙ m.node
 
--- the link of each place is there
+-- each link is inside the list of links
 cell_inside : (nodes : ℕ) (entries : List Entry) (links lasts : List ℕ) (y from : ℕ) → AreNodeChains nodes entries links lasts → y < nodes → from ≤ length entries →
     node_cell nodes y from < length links
 cell_inside nodes entries links lasts y zero c h low = let l = c.links_size in omega arith
@@ -99,7 +99,7 @@ module _ (nodes : ℕ) (entries : List Entry) (e : Entry) (links lasts next ends
   behind_back y zero low b = tt
   behind_back y (suc k) low b = node_back entries e y k (omega arith) b
 
-  -- the chain of another time-point: only links that are read count
+  -- the chain of another time-point is as it was, with no place more
   other : (y : ℕ) → y < nodes → y ≢ e.bound.node.0 → IsChain (IsAtNode (entries ++ e ∷ []) y) (IsLive (entries ++ e ∷ [])) (length entries + 1) (node_link nodes next y) (get_or ends y 0)
   other y h ne =
       let was = c.chains y h in
@@ -166,7 +166,7 @@ module _ (nodes : ℕ) (entries : List Entry) (e : Entry) (links lasts next ends
     lasts_size = ap length to ∙ length-set lasts e.bound.node.0 (length entries + 1) ∙ c.lasts_size;
   }
 
--- the link of x from a place is set to one that is next from there
+-- the chains stay chains when the link of x from a place is set to one that is next from there
 pub nodes_over : (nodes : ℕ) (entries : List Entry) (x start after : ℕ) (links lasts next : List ℕ) → x < nodes → start ≤ length entries →
     next ≡ set links (node_cell nodes x start) after → IsBehind (IsAtNode entries x) start →
     IsNext (IsAtNode entries x) (IsLive entries) start (length entries) after → AreNodeChains nodes entries links lasts →

@@ -18,7 +18,7 @@ pub bound_there : (bounds : List DeclaredBound) (k : ℕ) (b : DeclaredBound) �
 bound_there bounds k b there =
     contains_map the_bound bounds b (k, slice_get_within bounds k b there, get_or_from_slice_get bounds k b b there)
 
--- the moments that a sound closed list asks for
+-- where a closed list's bounds hold in every strategy, the moments that it asks for are the earliest
 pub asked_earliest : (net : Network) (bounds : List Bound) → IsNetwork net → IsClosed net bounds → AllSound net bounds → IsEarliest net bounds (asked net bounds)
 asked_earliest net bounds wf closed sound = record {
   strategy = asked_strategy net bounds wf closed;

@@ -18,11 +18,11 @@ use Rattle.cstn_log.proofs.ListLemmas.{get_left, get_last, get_more}
 use Rattle.cstn_log.proofs.LiveLemmas.{live_more, live_less, last_not_over, live_last, new_more}
 use Rattle.cstn_log.proofs.KeptLemmas.{other_slot, unplaced}
 
--- what stands behind a list of the same length
+-- a value behind a list stands at the length of that list
 last_of : {X Y : Type 0} (xs : List X) (ys : List Y) (y : Y) → length ys ≡ length xs → slice_get (ys ++ y ∷ []) (length xs) ≡ Some y
 last_of xs ys y size = subst (λ (n : ℕ). slice_get (ys ++ y ∷ []) n ≡ Some y) size (get_last ys y)
 
--- what is dominated through another is dominated
+-- domination is transitive
 abbrev pub IsThrough : Type 0
 IsThrough = (a b c : TheBound) → Dominates a b → Dominates b c → Dominates a c
 
@@ -33,7 +33,7 @@ placed_more table slot u x e inside is = elim (cases_eq u slot) [
   | inr other ↦ inr (other, sym (get_or-set_other table slot u (Some x) None other) ∙ is)
 ]
 
--- a slot more is in use
+-- filling an empty slot puts one slot more in use
 count_filled : (slots : List (Option (ℕ × Entry))) (slot : ℕ) (entry : ℕ × Entry) → slot < length slots → get_or slots slot None ≡ None → live_of (set slots slot (Some entry)) ≡ live_of slots + 1
 count_filled slots slot entry inside none =
     let one : live_of (set slots slot (Some entry)) + cond (is_some (get_or slots slot None)) 1 0 ≡ live_of slots + 1 = sum_by-set (λ x. cond (is_some x) 1 0) slots slot (Some entry) None inside in
@@ -85,7 +85,7 @@ module _ (through : IsThrough) (table cleared : Entries) (entries : List Entry) 
         ];
       }
 
--- one more in the pool
+-- one more entry in the pool
 pub pooled_more : (slots : List (Option (ℕ × Entry))) (births : ℕ) (entries : List Entry) (ids : List SlotId) (slot : ℕ) (x : Entry) → IsPooled slots births entries ids → length entries ≡ length ids → slot < length slots → get_or slots slot None ≡ None →
     IsPooled (set slots slot (Some (births, x))) (births + 1) (entries ++ x ∷ []) (ids ++ record { slot = slot; birth = births } ∷ [])
 pooled_more slots births entries ids slot x is size inside free =
@@ -108,7 +108,7 @@ pooled_more slots births entries ids slot x is size inside free =
       before = λ k jd there. elim (get_more ids id k jd there) [ inl p ↦ omega (arith, is.before k jd p) | inr p ↦ rw (← p.1) (omega arith) ];
     }
 
--- one more in the pool and in the minimal set
+-- one more entry in the pool and in the minimal set
 pub kept_more : IsThrough → (slots : List (Option (ℕ × Entry))) (births : ℕ) (table cleared : Entries) (entries : List Entry) (ids : List SlotId) (nodes slot : ℕ) (x : Entry) → IsKept slots births table entries ids nodes → slot < length slots → get_or slots slot None ≡ None → IsCleared x.bound table cleared → ¬ IsCoveredBy entries x.bound → x.bound.node.0 < nodes →
     IsKept (set slots slot (Some (births, x))) (births + 1) (set cleared slot (Some (births, x.bound))) (entries ++ x ∷ []) (ids ++ record { slot = slot; birth = births } ∷ []) nodes
 kept_more through slots births table cleared entries ids nodes slot x is inside free clear uncovered node =
@@ -129,7 +129,7 @@ empty_in slots s is = (slice_get_within slots s None is, get_or_from_slice_get s
 abbrev the_id : ℕ → ℕ → SlotId
 the_id s n = record { slot = s; birth = n }
 
--- the steps of the code
+-- the calls of `push` leave what a log keeps
 pub push_step : IsThrough → (slots : List (Option (ℕ × Entry))) (births : ℕ) (minimal : Places) (cleared : Entries) (entries longer : List Entry) (ids : List SlotId) (id : SlotId) (x : Entry) (pool : Slots Entry) (placed : Places) (new : List SlotId) → IsKept slots births minimal.table entries ids minimal.nodes → slice_get slots id.slot ≡ Some None → id.birth ≡ births → pool ≡ record { slots = set slots id.slot (Some (id.birth, x)); births = births + 1 } → IsCleared x.bound minimal.table cleared → placed ≡ record minimal { table = set cleared id.slot (Some (id.birth, x.bound)) } → longer ≡ entries ++ x ∷ [] → new ≡ ids ++ id ∷ [] → ¬ IsCoveredBy entries x.bound → x.bound.node.0 < minimal.nodes → IsKept pool.slots pool.births placed.table longer new placed.nodes
 push_step through slots births minimal cleared entries longer ids id x pool placed new is empty same taken clear placed_is longer_is new_is uncovered node =
     let e = empty_in slots id.slot empty in

@@ -55,7 +55,7 @@ cut_new marks L steps is all = record {
       ];
 }
 
--- it is at the time-points of the list
+-- the entries of a cut list are at time-points below the same number
 pub cut_inside : (marks : List Bool) (L steps : List Entry) (nodes : ℕ) → the_entries steps ≡ cut marks (the_entries L) → ((k : ℕ) (e : Entry) → slice_get L k ≡ Some e → e.bound.node.0 < nodes) →
     (k : ℕ) (e : Entry) → slice_get steps k ≡ Some e → e.bound.node.0 < nodes
 cut_inside marks L steps nodes is all k e there =

@@ -19,7 +19,7 @@ use Rattle.cstn_log.proofs.CutLemmas.{cut_marked, cut_unmarked}
 pub entry_read : (L : List Entry) (k : ℕ) (e : Entry) → slice_get L k ≡ Some e → slice_get (the_entries L) k ≡ Some (the_entry e)
 entry_read L k e there = slice_get-map the_entry L k ∙ rw there refl
 
--- the marks below a marked entry
+-- at a marked entry its premises are marked
 pub below_marked : (L : List Entry) (k : ℕ) (e : Entry) (marks : List Bool) → slice_get L k ≡ Some e → is_marked marks k ≡ true →
     with_ancestors (the_entries L) k (with_premises e.why marks) ≡ with_ancestors (the_entries L) (suc k) marks
 below_marked L k e marks there marked =
@@ -34,13 +34,13 @@ below_unmarked steps k marks unmarked = sym (ap (λ m. with_ancestors steps k m)
     none None = refl
     none (Some e) = rw unmarked refl
 
--- the mark of one more entry
+-- marking one more entry
 pub staying_step : (id : ℕ) (L : List Entry) (k : ℕ) (e : Entry) (marks : List Bool) → slice_get L k ≡ Some e →
     marked_staying id (marks ++ stays id marks e.why ∷ []) (drop (suc k) (the_entries L)) ≡ marked_staying id marks (drop k (the_entries L))
 staying_step id L k e marks there =
     sym (rw (drop_step (the_entries L) k (the_entry e) (entry_read L k e there)) refl)
 
--- what a place says is the rank of each place below k
+-- `places` has the rank of each place below k
 abbrev pub AreRanks : List Bool → List ℕ → ℕ → Type 0
 AreRanks marks places k = (length places ≡ k) × ((i : ℕ) → i < k → get_or places i 0 ≡ rank marks i)
 
@@ -60,7 +60,7 @@ placed_renumbered marks places k n Base are low over = refl
 placed_renumbered marks places k n (Chain id i) are low over = ap (Chain id) (are.1 i (omega (arith, low, over)))
 placed_renumbered marks places k n (Wait i j) are low over = rw (are.1 i (omega (arith, low.0, over)), are.1 j (omega (arith, low.1, over))) refl
 
--- what is left to cut, after a marked entry
+-- after a marked entry is appended, the steps and what is still to be cut make the same list as before
 pub cut_step_marked : (marks : List Bool) (L steps : List Entry) (k : ℕ) (e m : Entry) → slice_get L k ≡ Some e → is_marked marks k ≡ true →
     the_entry m ≡ moved marks (the_entry e) →
     the_entries (steps ++ m ∷ []) ++ cut_from marks (suc k) (drop (suc k) (the_entries L)) ≡ the_entries steps ++ cut_from marks k (drop k (the_entries L))
@@ -70,7 +70,7 @@ cut_step_marked marks L steps k e m there marked is =
     let more : the_entries (steps ++ m ∷ []) ≡ the_entries steps ++ the_entry m ∷ [] = map-append the_entry steps (m ∷ []) in
     rw (more, here) (append_assoc (the_entries steps) (the_entry m ∷ []) rest)
 
--- and after one that isn't
+-- after an entry that isn't marked is left out, they make the same list, too
 pub cut_step_unmarked : (marks : List Bool) (L steps : List Entry) (k : ℕ) → is_marked marks k ≡ false →
     the_entries steps ++ cut_from marks (suc k) (drop (suc k) (the_entries L)) ≡ the_entries steps ++ cut_from marks k (drop k (the_entries L))
 cut_step_unmarked marks L steps k unmarked = ap (λ xs. the_entries steps ++ xs) (sym (here (the_entries L) k))

@@ -118,7 +118,8 @@ module _ (net : Network) (bounds : List Bound) (wf : IsNetwork net) (closed : Is
   late_upto s u x room first (suc k) =
       late_next s u x k room (late_upto s u x room first k) (slice_index_or net.observes k None) refl
 
-  -- the elimination: if each mark of a bound that doesn't fit s is on what isn't known at u, the bound is met at u
+  -- the elimination: where a bound asks for a moment after u, and each of its marks that doesn't fit s is on what isn't known
+  -- at u, its time-point is executed after u
   later : (s : Scenario) (u : ℕ) (b : Bound) → Contains bounds b → pos u <ℤ b.least → u ≤ limit net b.node →
       ((j p : ℕ) → Observes net j p → MarkFits (s p) (b.label p) ⊎ (u < asked net bounds s j + net.reaction p)) →
       u < asked net bounds s b.node
@@ -133,7 +134,7 @@ module _ (net : Network) (bounds : List Bound) (wf : IsNetwork net) (closed : Is
       let least = end.least in
       omega (arith, ints)
 
-  -- who agrees with what is known when x is executed isn't later
+  -- in a scenario that agrees with what is known when x is executed, x isn't later
   never_later : IsNeverLater net (asked net bounds)
   never_later s r x here agrees = elim (cases_lt (asked net bounds s x) (asked net bounds r x)) [
     | inr upto ↦ upto

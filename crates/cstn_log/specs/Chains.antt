@@ -28,8 +28,8 @@ pub record IsFirstLive (test : ℕ → Type 0) (entries : List Entry) (upto from
   pub here : place ≤ upto → IsLive entries place × test place
   pub none : (k : ℕ) → from ≤ k → k ≤ upto → k < place → IsLive entries k → test k → ⊥
 
--- a place from `from` on, below `end`, that passes the test, with none before it that passes it and is kept; or no place
--- where none passes it
+-- where a link leads from `from`: to a place below `end` that passes the test, past none that passes it and is kept; or to no
+-- place, where none from `from` on passes it
 pub record IsNext (test keep : ℕ → Type 0) (from end place : ℕ) : Type 0 where
   pub within : (place < end) ⊎ (place ≡ no_place)
   pub here : place < end → (from ≤ place) × test place
@@ -41,7 +41,7 @@ pub record Cells : Type 0 where
   pub cells : List ℕ
   pub room : ℕ
 
--- where a chain starts, or goes on behind a place that passes the test
+-- a position in a chain: 0, its start, or one more than a place that passes the test, which is behind that place
 abbrev pub IsBehind : (ℕ → Type 0) → ℕ → Type 0
 IsBehind test zero = Unit {0}
 IsBehind test (suc k) = test k
@@ -54,7 +54,7 @@ pub record IsChain (test keep : ℕ → Type 0) (end : ℕ) (link : ℕ → ℕ)
   pub none : (k : ℕ) → last ≤ k → k < end → test k → ⊥
   pub leads : (from : ℕ) → from ≤ end → IsBehind test from → IsNext test keep from end (link from)
 
--- the link of the chain of p from there
+-- the next place of the chain of p from `from` on, which is 0, its start, or one more than a place of it
 abbrev pub mark_link : List ℕ → ℕ → ℕ → ℕ
 mark_link links p from = slice_index_or links (from * 52 + p) no_place
 
@@ -64,12 +64,12 @@ pub record AreMarkChains (entries : List Entry) (links lasts : List ℕ) : Type 
   pub links_size : length links ≡ length entries * 52 + 52
   pub lasts_size : length lasts ≡ 52
 
--- where the link of the chain of x from there stands
+-- the index in the links of what leads from `from` in the chain of x
 abbrev pub node_cell : ℕ → ℕ → ℕ → ℕ
 node_cell nodes x zero = x
 node_cell nodes x (suc k) = nodes + k
 
--- the link of the chain of x from there
+-- the next place of the chain of x from `from` on, which is 0, its start, or one more than a place of it
 abbrev pub node_link : ℕ → List ℕ → ℕ → ℕ → ℕ
 node_link nodes links x from = slice_index_or links (node_cell nodes x from) no_place
 
@@ -79,7 +79,7 @@ pub record AreNodeChains (nodes : ℕ) (entries : List Entry) (links lasts : Lis
   pub links_size : length links ≡ nodes + length entries
   pub lasts_size : length lasts ≡ nodes
 
--- the links of mark chains where the entry after `entries` stands in the chains of the first n propositions already
+-- the chains while e, the entry after `entries`, is put in: those of the first n propositions are done already
 pub record AreMarkChainsUpto (entries : List Entry) (e : Entry) (n : ℕ) (links lasts : List ℕ) : Type 0 where
   pub done : (p : ℕ) → p < n → p < 52 → IsChain (IsMarkedAt (entries ++ e ∷ []) p) (IsLive (entries ++ e ∷ [])) (length entries + 1) (mark_link links p) (slice_index_or lasts p 0)
   pub left : (p : ℕ) → n ≤ p → p < 52 → IsChain (IsMarkedAt entries p) (IsLive entries) (length entries) (mark_link links p) (slice_index_or lasts p 0)

@@ -28,7 +28,7 @@ too_late_part =
     entry 0 0 Absent Base ∷ (entry 2 10 Yes (Chain 0 0) ∷ (entry 1 3 Absent (Chain 2 0) ∷ (entry 2 4 Absent (Wait 2 1) ∷
     (entry 0 1 No (Chain 1 3) ∷ []))))
 
--- a list that the constraints 2 and 3 gave bounds at P, and what is left without 3
+-- a list in which the constraints 2 and 3 gave bounds at P, and what is left without 3
 abbrev pub two_at_p : List Entry
 two_at_p = based
     (entry 2 10 Yes (Chain 0 0) ∷ (entry 1 2 Absent (Chain 2 0) ∷ (entry 1 3 Absent (Chain 3 0) ∷

@@ -29,7 +29,7 @@ renumbered marks Base = Base
 renumbered marks (Chain id i) = Chain id (rank marks i)
 renumbered marks (Wait i j) = Wait (rank marks i) (rank marks j)
 
--- the rule, with the new places of its premises in a table
+-- the rule, with each premise replaced by what a table has for it
 abbrev pub replaced : List ℕ → Why → Why
 replaced places Base = Base
 replaced places (Chain id i) = Chain id (slice_index_or places i 0)
@@ -62,7 +62,7 @@ PremisesMarked marks Base = ⊤
 PremisesMarked marks (Chain id i) = is_marked marks i ≡ true
 PremisesMarked marks (Wait i j) = (is_marked marks i ≡ true) × (is_marked marks j ≡ true)
 
--- with an entry its premises are marked
+-- the premises of each marked entry are marked
 abbrev pub IsClosedUnder : List Bool → List Entry → Type 0
 IsClosedUnder marks steps = (k : ℕ) (e : Entry) → slice_get steps k ≡ Some e → is_marked marks k ≡ true → PremisesMarked marks e.why
 
@@ -77,7 +77,7 @@ abbrev pub with_premises_of : Option Entry → Bool → List Bool → List Bool
 with_premises_of None here marks = marks
 with_premises_of (Some e) here marks = if here then with_premises e.why marks else marks
 
--- the marks, and marks at the ancestors of what is marked below the place k, from there down
+-- the marks, and marks at the ancestors of the marked entries below the place k
 abbrev pub with_ancestors : List Entry → ℕ → List Bool → List Bool
 with_ancestors steps zero marks = marks
 with_ancestors steps (suc k) marks = with_ancestors steps k (with_premises_of (slice_get steps k) (is_marked marks k) marks)

@@ -10,7 +10,7 @@ use Rattle.cstn_rules.specs.Read.{the_entry}
 use Rattle.cstn_pool.specs.declared.slot_id.SlotId.{SlotId}
 use Rattle.cstn_minset.specs.Sets.{IsOver}
 
--- what contracts see of a log: its entries with their ids in the pool, how many births the pool answered, how many entries
+-- what contracts see of a log: its entries with their ids in the pool, how many births the pool has given, how many entries
 -- there may be, and the number of time-points
 pub record State : Type 0 where
   pub entries : List Entry

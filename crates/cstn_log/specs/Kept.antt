@@ -21,7 +21,7 @@ pub record IsIdAt (ids : List SlotId) (slot birth k : ℕ) : Type 0 where
 abbrev pub AreHeld : List (Option (ℕ × Entry)) → List Entry → List SlotId → Type 0
 AreHeld slots entries ids = (k : ℕ) (id : SlotId) → slice_get ids k ≡ Some id → (e : Entry) × (held : Entry) × (slice_get entries k ≡ Some e) × (slice_index_or slots id.slot None ≡ Some (id.birth, held)) × (held.bound ≡ e.bound)
 
--- the pool holds what the ids name and nothing else, in ascending births
+-- the pool holds an entry for each id and nothing else, and births ascend along the ids
 pub record IsPooled (slots : List (Option (ℕ × Entry))) (births : ℕ) (entries : List Entry) (ids : List SlotId) : Type 0 where
   pub held : AreHeld slots entries ids
   pub used : live_of slots ≡ length ids
@@ -44,7 +44,7 @@ pub record IsKept (slots : List (Option (ℕ × Entry))) (births : ℕ) (table :
   pub fresh : AllNew entries
   pub inside : (k : ℕ) (e : Entry) → slice_get entries k ≡ Some e → e.bound.node.0 < nodes
 
--- what is left of a pool that had the ids, where the first n of them were given back but for the marked ones
+-- the pool is `new` after those of the first n ids that aren't marked were given back
 pub record AreLeft (marks : List Bool) (ids : List SlotId) (n : ℕ) (old new : List (Option (ℕ × Entry))) : Type 0 where
   pub size : length new ≡ length old
   pub was : (s : ℕ) (e : ℕ × Entry) → slice_index_or new s None ≡ Some e → slice_index_or old s None ≡ Some e

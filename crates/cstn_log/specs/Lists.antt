@@ -26,7 +26,7 @@ pub record IsFiled (places : List ℕ) (ids : List SlotId) : Type 0 where
   pub inside : (k : ℕ) (id : SlotId) → slice_get ids k ≡ Some id → id.slot < length places
   pub at : (k : ℕ) (id : SlotId) → slice_get ids k ≡ Some id → slice_index_or places id.slot 0 ≡ k
 
--- no two ids have a slot
+-- no two ids have the same slot
 abbrev pub AreApart : List SlotId → Type 0
 AreApart ids = (j k : ℕ) (jd kd : SlotId) → slice_get ids j ≡ Some jd → slice_get ids k ≡ Some kd → jd.slot ≡ kd.slot → j ≡ k
 

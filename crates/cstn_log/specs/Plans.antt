@@ -10,12 +10,12 @@ use Rattle.cstn_net.specs.Read.{NetworkParts, the_network}
 use Rattle.cstn_rules.specs.Closed.{IsClosed}
 use Rattle.cstn_log.specs.Asked.{IsHeldBack}
 
--- a network and bounds
+-- what contracts see of a plan: its network and its bounds
 pub record PlanParts : Type 0 where
   pub net : NetworkParts
   pub bounds : List Bound
 
--- the bounds that a plan's values stand for
+-- the bounds of a plan in memory, as the definitions have them
 abbrev pub the_bounds : List Bound → List TheBound
 the_bounds bounds = map the_bound bounds
 

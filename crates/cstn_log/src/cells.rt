@@ -37,7 +37,7 @@ impl LinkCells {
         Ok(LinkCells { front, len: 0 })
     }
 
-    // Puts in so many that lead to no place, behind the others.
+    // Appends this many cells that lead to no place.
     pub fn extend(&mut self, count: usize)
         requires { length self.old.cells + count ≤ self.old.room }
         ensures cells { self.new.cells ≡ self.old.cells ++ replicate count no_place }
@@ -46,7 +46,7 @@ impl LinkCells {
         self.len += count;
     }
 
-    // Where a cell leads.
+    // The place to which a cell leads, or NO_PLACE.
     pub fn at(&self, cell: usize) -> u32
         ensures { result ≡ slice_index_or self.now.cells cell no_place }
     {

@@ -12,12 +12,13 @@ use cstn_label::{Mark, NodeId, Prop};
 use cstn_rules::Entry;
 use std::alloc::{AllocError, Global};
 
-// For each proposition the places whose label marks it, in order.
+// For each proposition the chain of the places whose labels mark it, in order.
 #[derive(Drop)]
 pub struct MarkChains {
-    // For each proposition the first place of its chain, and then, for each place, the one behind it in each chain.
+    // A row of 52 cells, one for each proposition, that lead to the first places of the chains, and then a row for each place,
+    // whose cells lead to the next places.
     links: LinkCells,
-    // For each proposition where its chain ends: behind its last place, or 0.
+    // For each proposition one more than the last place of its chain, or 0 where the chain has none.
     lasts: Vec<u32>,
 }
 
@@ -47,7 +48,7 @@ impl MarkChains {
         self.lasts.resize(52, 0).unwrap();
     }
 
-    // Puts in the entry that comes next, at this place.
+    // Puts the next entry of the list, at this place, into the chains of the propositions that its label marks.
     pub fn append(&mut self, place: u32, e: Entry)
         requires chains { (entries : List TheEntry) × AreMarkChains entries self.old.links.cells self.old.lasts.items × (length entries ≡ place) }
         requires room { place * 52 + 104 ≤ self.old.links.room }
@@ -88,14 +89,15 @@ impl MarkChains {
         self.lasts[p.index as usize] = place + 1;
     }
 
-    // The place of the chain of p that comes next from there on, behind a place of it or at its start.
+    // The next place of the chain of p from `from` on, which is 0, its start, or one more than a place of it; NO_PLACE at its
+    // end.
     pub fn next(&self, p: Prop, from: u32) -> u32
         ensures { result ≡ mark_link self.now.links.cells p.index from }
     {
         self.links.at(from as usize * 52 + p.index as usize)
     }
 
-    // Has the chain of p go on at the place `after` from `start`, and so passes over what is between.
+    // Lets the chain of p lead from `start` to the place `after`, past the places between.
     pub fn pass_over(&mut self, p: Prop, start: u32, after: u32)
         requires { start * 52 + 52 ≤ length self.old.links.cells }
         ensures chains { (entries : List TheEntry) → AreMarkChains entries self.old.links.cells self.old.lasts.items → IsNext (IsMarkedAt entries p.index) (IsLive entries) start (length entries) after → AreMarkChains entries self.new.links.cells self.new.lasts.items }
@@ -120,17 +122,17 @@ pub fn is_at(e: Entry, x: NodeId) -> bool
     e.bound.node == x
 }
 
-// For each time-point the places at it, in order.
+// For each time-point the chain of the places at it, in order.
 #[derive(Drop)]
 pub struct NodeChains {
-    // For each time-point the first place of its chain, and then, for each place, the one behind it.
+    // For each time-point the first place of its chain, and then, for each place, the next one at the same time-point.
     links: Vec<u32>,
-    // For each time-point where its chain ends: behind its last place, or 0.
+    // For each time-point one more than the last place of its chain, or 0 where the chain has none.
     lasts: Vec<u32>,
 }
 
 impl NodeChains {
-    // Chains of so many time-points with no place, and room for this many places.
+    // Chains of `nodes` time-points with no place, and room for `cap` places.
     pub fn empty(alloc: Global, nodes: u16, cap: u32) -> Result<NodeChains, AllocError>
         requires { cap ≤ 4194304 }
         ensures chains { IfOk result (λ m. AreNodeChains nodes [] m.links.items m.lasts.items) }
@@ -156,7 +158,7 @@ impl NodeChains {
         self.lasts.resize(nodes, 0).unwrap();
     }
 
-    // Puts in the entry that comes next, at this place.
+    // Puts the next entry of the list, at this place, into the chain of its time-point.
     pub fn append(&mut self, place: u32, e: Entry)
         requires node { e.bound.node.0 < length self.old.lasts.items }
         requires chains { (entries : List TheEntry) × AreNodeChains (length self.old.lasts.items) entries self.old.links.items self.old.lasts.items × (length entries ≡ place) }
@@ -173,7 +175,7 @@ impl NodeChains {
         self.links.push(NO_PLACE).unwrap();
     }
 
-    // Where the chain of x ends.
+    // One more than the last place of the chain of x, or 0 where the chain has none.
     fn last(&self, x: NodeId) -> u32
         requires { x.0 < length self.now.lasts.items }
         ensures { result ≡ slice_index_or self.now.lasts.items x.0 0 }
@@ -181,7 +183,7 @@ impl NodeChains {
         self.lasts[x.index()]
     }
 
-    // Where the link of the chain of x from there stands.
+    // The index in `links` of what leads from `from` in the chain of x. There, 0 is its start, and k + 1 is behind the place k.
     fn cell(&self, x: NodeId, from: u32) -> usize
         requires { length self.now.lasts.items < 65536 }
         ensures { result ≡ node_cell (length self.now.lasts.items) x.0 from }
@@ -193,7 +195,8 @@ impl NodeChains {
         }
     }
 
-    // The place of the chain of x that comes next from there on, behind a place of it or at its start.
+    // The next place of the chain of x from `from` on, which is 0, its start, or one more than a place of it; NO_PLACE at its
+    // end.
     pub fn next(&self, x: NodeId, from: u32) -> u32
         requires few { length self.now.lasts.items < 65536 }
         requires node { x.0 < length self.now.lasts.items }
@@ -203,7 +206,7 @@ impl NodeChains {
         self.links[self.cell(x, from)]
     }
 
-    // Has the chain of x go on at the place `after` from `start`, and so passes over what is between.
+    // Lets the chain of x lead from `start` to the place `after`, past the places between.
     pub fn pass_over(&mut self, x: NodeId, start: u32, after: u32)
         requires few { length self.old.lasts.items < 65536 }
         requires node { x.0 < length self.old.lasts.items }
@@ -216,7 +219,7 @@ impl NodeChains {
     }
 }
 
-// Puts the entries of a list in, in order.
+// Puts the entries of a list into empty chains, in order.
 pub fn append_all(marks: &mut MarkChains, nodes: &mut NodeChains, list: &EntryList)
     requires empty { AreMarkChains [] marks.old.links.cells marks.old.lasts.items × AreNodeChains (length nodes.old.lasts.items) [] nodes.old.links.items nodes.old.lasts.items }
     requires room { (length list.now.entries * 52 + 52 ≤ marks.old.links.room) × (length nodes.old.lasts.items + length list.now.entries ≤ vec_capacity nodes.old.links) }

@@ -25,7 +25,7 @@ pub fn dropping_leaves_derivations()
     ensures { (net : Network) (constraints : List Constraint) (steps : List Entry) (id : ℕ) → ((c : Constraint) → Contains net.constraints c → (c.id ≡ id → ⊥) → Contains constraints c) → IsDerivation net steps → IsDerivation (record net { constraints = constraints }) (dropped steps id) }
 {}
 
-/// The part of one list, and what is left of two without a constraint.
+/// The last entry of one list with its ancestors, and what is left of two lists without the entries of a constraint.
 pub fn cuts_are_known()
     ensures part { part too_late_log ≡ too_late_part }
     ensures dropped { dropped two_at_p 3 ≡ one_at_p }

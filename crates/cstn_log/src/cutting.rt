@@ -1,4 +1,4 @@
-// Entries in their order, with which of them are kept when the list is cut, and the cut list.
+// Marks the entries of a list that are to be kept, and cuts the list to the marked ones.
 ghost use Rattle.std.specs.Prelude.{◌≡◌, ◌≤◌, [], length, vec_capacity};
 ghost use Rattle.cstn_log.specs.Entries.{the_entries};
 ghost use Rattle.cstn_log.specs.Cuts.{PremisesBelow, rank, with_premises, with_ancestors, stays, marked_staying, cut};
@@ -49,7 +49,8 @@ pub fn mark_staying(list: &EntryList, constraint: u32, marks: &mut Vec<bool>)
     }
 }
 
-// Whether an entry of that rule stays without a constraint, where it is known which of those before it stay.
+// Whether an entry stays when those that a constraint gave are taken out. `why` is its rule, and `marks` says which of the
+// entries before it stay.
 fn is_staying(why: Why, constraint: u32, marks: &[bool]) -> bool
     requires { PremisesBelow (length marks.now) why }
     ensures { result ≡ stays constraint marks.now why }

@@ -19,8 +19,8 @@ use std::marker::Model;
 pub struct EntryList {
     stored: Vec<Entry>,
     ids: Vec<SlotId>,
-    // The place of the entry in each slot. Slots from the first on that was never used are not
-    // written, and what is written for a slot without an entry means nothing.
+    // The place of the entry in each slot, up to the highest slot that was used. What it has for a slot without an entry means
+    // nothing.
     places: Vec<u32>,
     cap: u32,
 }
@@ -88,7 +88,7 @@ impl EntryList {
         self.ids[k]
     }
 
-    // The place of the entry with this id.
+    // The place of the entry with this id, if one has it.
     pub fn place(&self, id: SlotId) -> Option<u32>
         ensures place { IfSome result (λ k. slice_get self.now.ids k ≡ Some id) }
         ensures none { IfNone result (¬ HasId self.now.ids id) }
@@ -144,7 +144,7 @@ impl EntryList {
     }
 }
 
-// The entry with its premises at the places that a table tells.
+// The entry, with each premise replaced by the place that a table has for it.
 pub fn placed(e: Entry, places: &[u32]) -> Entry
     requires { PremisesBelow (length places.now) e.why }
     ensures bound { result.bound ≡ e.bound }
@@ -218,7 +218,7 @@ fn write_place(places: &mut Vec<u32>, slot: u32, place: u32)
     places[slot as usize] = place;
 }
 
-// Writes the place of each entry.
+// Writes the place of each entry under its slot.
 fn write_places(places: &mut Vec<u32>, ids: &[SlotId])
     requires inside { (k : ℕ) (id : TheId) → slice_get ids.now k ≡ Some id → id.slot < length places.old.items }
     requires apart { AreApart ids.now }

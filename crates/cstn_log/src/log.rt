@@ -26,16 +26,15 @@ use cstn_rules::{Entry, Why, derivations_are_sound};
 use std::alloc::{AllocError, Global};
 use std::marker::Model;
 
-/// Entries in the order in which they were pushed, none dominated by an earlier one.
+/// Entries in the order in which they were pushed. None is dominated by an earlier one.
 ///
-/// An entry is live while no later one dominates it. A pool has the bound of each entry, and a
-/// minimal set those of the live ones, each under the id that [`Log::slot`] answers. An entry keeps
-/// its id while entries before it are taken out, and only its place changes: premises are kept by
-/// slot, and a table tells the place of each. All memory is taken by [`Log::start`]: 389 bytes for
-/// each entry that there may be, so 1,632 MB for the largest cap of 4,194,304, and 24 bytes for each
-/// time-point. Of these, 212 bytes an entry are links of chains: 4 by time-point, written for entries
-/// that are pushed, and 208 by proposition, written only up to the last entry whose label marks
-/// something. One is used by [`Log::retract`] alone.
+/// An entry is live while no later one dominates it. A pool has the bound of each entry, and a minimal set those of the live
+/// ones, each under the id that [`Log::slot`] answers. An entry keeps its id while entries before it are taken out, and only
+/// its place changes: premises are kept by slot, and a table tells the place of each. All memory of the log is taken by
+/// [`Log::start`]: 389 bytes for each entry that there may be, so 1,632 MB for the largest cap of 4,194,304, and 24 bytes for
+/// each time-point. Of these, 212 bytes an entry are links of chains: 4 by time-point, written for entries that are pushed, and
+/// 208 by proposition, written only up to the last entry whose label marks something. One more byte an entry is used by
+/// [`Log::retract`] alone.
 #[derive(Drop)]
 pub struct Log {
     pool: Pool<Entry>,
@@ -116,7 +115,8 @@ impl Log {
         }
     }
 
-    /// Appends an entry that follows by its rule, and answers its place.
+    /// Appends an entry that follows by its rule and that no entry dominates, and answers its place, from 0. Where the log has
+    /// as many entries as its cap, it refuses the entry and stays as it was.
     pub fn push(&mut self, net: &Network, e: Entry) -> Result<u32, Full>
         requires net { self.old.nodes ≡ count (the_network net.now) }
         requires follows { Follows (the_network net.now) (the_entries self.old.entries) (length self.old.entries) e.why (the_bound e.bound) }
@@ -133,7 +133,7 @@ impl Log {
         domination_is_an_order();
         let count = net.count();
         let id = self.pool.take(e)?;
-        // What follows is at a time-point of the network.
+        // A bound that follows by a rule is at a time-point of the network.
         prove!(e.bound.node.0 < count);
         self.minimal.place(&e.bound, id);
         let place = self.list.len() as u32;
@@ -181,9 +181,8 @@ impl Log {
         self.list.entry(k as usize)
     }
 
-    /// The last entry and its ancestors, in order, with premises as places in the answer. It is a
-    /// derivation that ends in the same bound wherever the log is a derivation, and so a refutation
-    /// where the log is one. Fails for want of memory alone.
+    /// The last entry and its ancestors, in order, with premises as places in the answer. They are a derivation of each network
+    /// of which the log is one, and a refutation where the log is one. Fails for want of memory alone.
     pub fn part(&self, alloc: Global) -> Result<Vec<Entry>, AllocError>
         requires { 0 < length self.now.entries }
         ensures part { IfOk result (λ steps. the_entries steps.items ≡ part (the_entries self.now.entries)) }
@@ -207,9 +206,9 @@ impl Log {
         Ok(steps)
     }
 
-    /// Takes out the entries that a constraint gave and those with such an ancestor, gives their slots
-    /// back, and answers how many they were. The others keep their ids. What is left is a derivation
-    /// of each network that differs at most in that constraint from one of which the log was one.
+    /// Takes out the entries that the constraint of this id gave, and their descendants, gives their slots back, and answers
+    /// how many they were. The others keep their ids. Where the log was a derivation of a network, it still is one of any
+    /// network that has the other constraints and is the same in all else.
     pub fn retract(&mut self, constraint: u32) -> u32
         ensures dropped { the_entries self.new.entries ≡ dropped (the_entries self.old.entries) constraint }
         ensures ids { self.new.ids ≡ chosen (marked_staying constraint [] (the_entries self.old.entries)) self.old.ids }
@@ -261,9 +260,9 @@ impl Log {
         self.standing.clear();
     }
 
-    /// The first live place from `from` up to `upto` whose entry's label marks p, or one above `upto` where there is none.
-    /// `near`, a place before `from` whose entry's label marks p, makes it quick, and nothing else. Links are led past the dead
-    /// places that are met, so that most are met once.
+    /// The first live place from `from` up to `upto` whose entry's label marks p, or one above `upto` where there is none. To
+    /// save time, the walk starts at `near`, where that is a place before `from` whose label marks p. Links are led past the
+    /// dead places that are met, so that most are met once.
     pub fn first_marked(&mut self, p: Prop, from: u32, near: u32, upto: u32) -> u32
         requires from { from ≤ length self.old.entries }
         requires upto { upto < length self.old.entries }
@@ -281,7 +280,8 @@ impl Log {
         place
     }
 
-    // Where to begin to look for the first place from `from` on that marks p.
+    // Where the walk to the first place from `from` on that marks p starts: behind `near`, if that is before `from` and marks
+    // p, and else at 0, the start of the chain.
     fn start_marked(&self, p: Prop, from: u32, near: u32) -> u32
         requires { from ≤ length self.now.entries }
         ensures upto { result ≤ from }
@@ -296,7 +296,8 @@ impl Log {
         near + 1
     }
 
-    // The place that comes next from there on in the chain of p, behind a place of it or at its start.
+    // The next place of the chain of p from `start` on, which is 0, its start, or one more than a place of it; NO_PLACE at its
+    // end.
     fn next_marked(&self, p: Prop, start: u32) -> u32
         requires inside { start ≤ length self.now.entries }
         requires behind { IsBehind (IsMarkedAt self.now.entries p.index) start }
@@ -305,8 +306,8 @@ impl Log {
         self.marking.next(p, start)
     }
 
-    // Where the chain of p goes on to `after`, the place that comes behind `place`: at `start` still, if `place` is dead and so
-    // can be passed over, and else behind `place`.
+    // From where the chain of p leads to `after`, its next place behind `place`: from `start`, by a new link, if `place` is
+    // dead and the chain goes on, and else from behind `place`.
     fn step_marked(&mut self, p: Prop, start: u32, place: u32, after: u32) -> u32
         requires inside { place < length self.old.entries }
         requires behind { IsBehind (IsMarkedAt self.old.entries p.index) start }
@@ -326,7 +327,8 @@ impl Log {
         start
     }
 
-    // Whether a walk from `from` up to `upto` goes on behind this place.
+    // Whether a walk for the first live place from `from` up to `upto` goes on behind this place: it is before `from`, or is
+    // dead and not above `upto`.
     fn is_passed(&self, place: u32, from: u32, upto: u32) -> bool
         requires { upto < length self.now.entries }
         ensures yes { IsTrue result → (place < from) ⊎ ((place ≤ upto) × ¬ IsLive self.now.entries place) }
@@ -341,9 +343,9 @@ impl Log {
         !self.live(place)
     }
 
-    /// The first live place from `from` up to `upto` whose entry is at a time-point, or one above `upto` where there is none.
-    /// `near`, a place before `from` whose entry is there, makes it quick, and nothing else. Links are led past the dead places
-    /// that are met, so that most are met once.
+    /// The first live place from `from` up to `upto` whose entry is at the time-point, or one above `upto` where there is none.
+    /// To save time, the walk starts at `near`, where that is a place before `from` at the time-point. Links are led past the
+    /// dead places that are met, so that most are met once.
     pub fn first_at(&mut self, x: NodeId, from: u32, near: u32, upto: u32) -> u32
         requires from { from ≤ length self.old.entries }
         requires upto { upto < length self.old.entries }
@@ -362,7 +364,8 @@ impl Log {
         place
     }
 
-    // Where to begin to look for the first place from `from` on at the time-point.
+    // Where the walk to the first place from `from` on at the time-point starts: behind `near`, if that is before `from` and at
+    // the time-point, and else at 0, the start of the chain.
     fn start_at(&self, x: NodeId, from: u32, near: u32) -> u32
         requires { from ≤ length self.now.entries }
         ensures upto { result ≤ from }
@@ -377,7 +380,8 @@ impl Log {
         near + 1
     }
 
-    // The place that comes next from there on in the chain of x, behind a place of it or at its start.
+    // The next place of the chain of x from `start` on, which is 0, its start, or one more than a place of it; NO_PLACE at its
+    // end.
     fn next_at(&self, x: NodeId, start: u32) -> u32
         requires node { x.0 < self.now.nodes }
         requires inside { start ≤ length self.now.entries }
@@ -387,8 +391,8 @@ impl Log {
         self.standing.next(x, start)
     }
 
-    // Where the chain of x goes on to `after`, the place that comes behind `place`: at `start` still, if `place` is dead and so
-    // can be passed over, and else behind `place`.
+    // From where the chain of x leads to `after`, its next place behind `place`: from `start`, by a new link, if `place` is
+    // dead and the chain goes on, and else from behind `place`.
     fn step_at(&mut self, x: NodeId, start: u32, place: u32, after: u32) -> u32
         requires node { x.0 < self.old.nodes }
         requires inside { place < length self.old.entries }
@@ -409,7 +413,7 @@ impl Log {
         start
     }
 
-    /// The id under which the pool keeps an entry.
+    /// The id under which the pool keeps the entry at a place. A later entry has an id of a greater birth.
     pub fn slot(&self, k: u32) -> SlotId
         requires { k < length self.now.entries }
         ensures slot { slice_get self.now.ids k ≡ Some result }
@@ -427,7 +431,7 @@ impl Log {
         self.list.place(id)
     }
 
-    /// Whether some entry has this id. Once an entry went, its id names none ever after.
+    /// Whether some entry has this id. The id of an entry that was taken out is given to no entry again.
     pub fn holds(&self, id: SlotId) -> bool
         ensures holds { IsTrue result ↔ HasId self.now.ids id }
     {

@@ -53,7 +53,7 @@ impl Plan {
         &self.net
     }
 
-    // The bounds once more.
+    // A copy of the bounds.
     fn copy_bounds(&self, alloc: Global) -> Result<Vec<Bound>, AllocError>
         ensures equal { IfOk result (λ bounds. bounds.items ≡ self.now.bounds) }
         ensures few { length self.now.bounds < 2 ^ 32 }
@@ -80,8 +80,8 @@ impl Plan {
     }
 }
 
-/// A plan each of whose bounds holds in every strategy of its network. So whoever executes each
-/// time-point as soon as no bound holds it back has each of them at its least moment.
+/// A plan each of whose bounds holds in every strategy of its network. So a time-point that is executed as soon as no bound
+/// holds it back is executed at its least moment.
 #[derive(Drop)]
 pub struct SoundPlan {
     plan: Plan,
@@ -112,7 +112,7 @@ impl SoundPlan {
         }
     }
 
-    /// An equal plan: its network has no room for more constraints. Fails for want of memory alone.
+    /// A copy of the plan, whose network has no room for more constraints. Fails for want of memory alone.
     pub fn copy(&self, alloc: Global) -> Result<SoundPlan, AllocError>
         ensures equal { IfOk result (λ p. p ≡ record { net = record self.now.net { spare = 0 }; bounds = self.now.bounds }) }
     {
@@ -121,8 +121,8 @@ impl SoundPlan {
         Ok(SoundPlan::new(net, bounds))
     }
 
-    /// The network. It is consistent: one strategy has each time-point at its least moment in every
-    /// scenario, and holds it back, by a bound of the plan, at just the moments before.
+    /// The network. It is consistent: one strategy has each time-point at its least moment in every scenario, and a bound of
+    /// the plan holds the time-point back at just the moments before.
     pub fn network(&self) -> &Network
         ensures network { result.now ≡ self.now.net }
         ensures consistent { IsConsistent (the_network result.now) }

@@ -1,4 +1,4 @@
-// The pool and the minimal set of a log, emptied, and filled with what is left of it.
+// Empties the pool and the minimal set of a log, and fills the set with the bounds of the entries that are left.
 ghost use Rattle.std.specs.Prelude.{ℕ, ◌≡◌, ◌<◌, [], List, Option, Some, length, slice_get, slice_index_or, None};
 ghost use Rattle.cstn_rules.specs.declared.entries.Entry.{Entry as TheEntry};
 ghost use Rattle.cstn_log.specs.Entries.{AllNew};
@@ -23,7 +23,7 @@ pub fn clear(pool: &mut Pool<Entry>, minimal: &mut MinSet, list: &mut EntryList)
     list.clear();
 }
 
-// Gives the slots of the entries back that aren't marked.
+// Gives back the slots of the entries that aren't marked.
 pub fn give_rest(pool: &mut Pool<Entry>, list: &EntryList, marks: &[bool])
     requires pooled { IsPooled pool.old.slots pool.old.births list.now.entries list.now.ids }
     requires size { length marks.now ≡ length list.now.entries }

@@ -15,7 +15,7 @@ in_inside (x ∷ T) h (suc s) k is = let rest = in_inside T h s k is in omega ar
 pub same_in : (T : Table) (s h k h' k' : ℕ) → IsIn T h s k → IsIn T h' s k' → (h ≡ h') × (k ≡ k')
 same_in T s h k h' k' a b = some_pair_parts h h' k k' (sym a ∙ b)
 
--- the table with one slot more in a chain
+-- which slots are in chains after one was put in
 pub in_more : (T : Table) (slot head key h u j : ℕ) → slot < length T → IsIn (set T slot (Some (head, key))) h u j → ((u ≡ slot) × (h ≡ head) × (j ≡ key)) ⊎ ((u ≢ slot) × IsIn T h u j)
 in_more T slot head key h u j inside is = elim (cases_eq u slot) [
   | inl same ↦ (let here = sym (get_or-set_same T slot (Some (head, key)) None inside) ∙ rw same at is in
@@ -29,7 +29,7 @@ more_in T slot head key h u j other is = get_or-set_other T slot u (Some (head, 
 pub new_in : (T : Table) (slot head key : ℕ) → slot < length T → IsIn (set T slot (Some (head, key))) head slot key
 new_in T slot head key inside = get_or-set_same T slot (Some (head, key)) None inside
 
--- and with one less
+-- which slots are in chains after one was taken out
 none_set : (T : Table) (slot : ℕ) (e : ℕ × ℕ) → get_or (set T slot None) slot None ≡ Some e → ⊥
 none_set [] slot e is = cc
 none_set (x ∷ T) zero e is = cc
@@ -66,7 +66,7 @@ same_stop T n heads h i b high high' x keyed (inr one) (inl two) le le' gap gap'
     absurd (elim (gap b high' two) [ inl p ↦ omega arith | inr p ↦ omega (arith, one.2, (keyed.in_range b h high' two).1) ])
 same_stop T n heads h i b high high' x keyed (inr one) (inr two) le le' gap gap' = one.0 ∙ sym two.0
 
--- a place of a chain lies before the end of all places
+-- a place of a chain is one of the n slots and the ends behind them
 pub start_inside : (T : Table) (n heads i h low : ℕ) → length T ≡ n → IsStart T n heads i h low → i < n + heads
 start_inside T n heads i h low size (inl one) = let l = in_inside T h i one.0 one.1 in omega arith
 start_inside T n heads i h low size (inr one) = omega (arith, one.0, one.1)
@@ -96,7 +96,7 @@ more_stop T n heads slot head key i h high free (inl one) =
     inl (more_in T slot head key h i high (λ e. none-some (h, high) (sym free ∙ rw e at one)) one)
 more_stop T n heads slot head key i h high free (inr one) = inr one
 
--- where a slot is put in
+-- a key belongs between the places a and b, which are neighbors in its chain
 pub record IsRoom (T : Table) (n heads head key a b : ℕ) : Type 0 where
   pub low : ℕ
   pub high : ℕ
@@ -406,7 +406,7 @@ removed T n heads slot head k next prev linked there =
           ];
     }
 
--- what is read of the links
+-- what is read of the links is the next place, or the place before
 pub next_of : (T : Table) (n heads i h low l : ℕ) (next prev : List ℕ) → IsLinked n heads T next prev → IsStart T n heads i h low → l ≡ get_or next i 0 → IsNext T n heads h low l
 next_of T n heads i h low l next prev linked start read = rw read (linked.after i h low start)
 
@@ -432,7 +432,7 @@ first_answers T n heads head len l next prev linked in_heads size read =
     let N : IsNext T n heads head 0 l = next_of T n heads (len + head) head 0 l next prev linked (inr (omega arith, in_heads, refl)) read in
     ((λ h. next_least T n heads head 0 l N (omega arith)), (λ h. next_none T n heads head 0 l linked.size linked.keyed N (omega arith)))
 
--- there is no key in a chain that there isn't
+-- past the last chain there are no keys
 pub no_chain : (T : Table) (n heads head : ℕ) (next prev : List ℕ) → IsLinked n heads T next prev → heads ≤ head → (u j : ℕ) → IsIn T head u j → j < 0
 no_chain T n heads head next prev linked beyond u j there = absurd (omega (arith, (linked.keyed.in_range u head j there).0))
 
@@ -453,7 +453,7 @@ narrowed T n heads h high key slot is le new small = record {
     up (inl one) = elim (cases_eq one.0 key) [ inl e ↦ absurd (new slot (rw e at one.1)) | inr e ↦ omega (arith, small one.0 one.1, one.2) ]
     up (inr one) = omega (arith, one.2)
 
--- a slot before keys below `high` has such a key
+-- the last slot with a key below `high` has such a key
 pub prev_below : (T : Table) (n heads h high slot k : ℕ) → length T ≡ n → IsPrev T n heads h high slot → IsIn T h slot k → k < high
 prev_below T n heads h high slot k size is there = go is.start
   where
@@ -461,7 +461,7 @@ prev_below T n heads h high slot k size is there = go is.start
     go (inl one) = omega (arith, (same_in T slot h k h one.0 there one.1).1, one.2, is.up)
     go (inr one) = absurd (omega (arith, one.0, in_inside T h slot k there))
 
--- no slot is in a chain
+-- in a table without entries no slot is in a chain
 none_in : (n h u j : ℕ) → IsIn (replicate n None) h u j → ⊥
 none_in zero h u j is = cc
 none_in (suc n) h zero j is = cc

@@ -14,7 +14,7 @@ at_map f none [] u = sym none
 at_map f none (x ∷ T) zero = refl
 at_map f none (x ∷ T) (suc u) = at_map f none T u
 
--- the entries of the table are those of the chains of each order
+-- a slot is in a chain exactly where it holds an entry to which the order gives that chain and key
 module _ (order : Option (ℕ × Bound) → Option (ℕ × ℕ)) (none : order None ≡ None) (T : Entries) where
   pub placed_at : (s h k : ℕ) (e : ℕ × Bound) → IsPlaced T s e → order (Some e) ≡ Some (h, k) → IsIn (map order T) h s k
   placed_at s h k e is key = at_map order none T s ∙ ap order is ∙ key
@@ -26,7 +26,7 @@ module _ (order : Option (ℕ × Bound) → Option (ℕ × ℕ)) (none : order N
       go None here key = absurd (none-some (h, k) (sym none ∙ key))
       go (Some e) here key = (e, here, key)
 
--- what the calls of links promise
+-- what the contracts of `remove`, `insert` and `before` say of the links
 abbrev pub Removes : Ring → Ring → ℕ → Type 0
 Removes old new slot = (t : Table) (head key : ℕ) → AreLinks old t → IsIn t head slot key → AreLinks new (set t slot None)
 
@@ -37,7 +37,7 @@ abbrev pub IsBefore : Ring → ℕ → ℕ → Type 0
 IsBefore links place before = (t : Table) (h high : ℕ) → AreLinks links t → IsStop t links.slots links.heads place h high → IsPrev t links.slots links.heads h high before
 
 module _ (order : Option (ℕ × Bound) → Option (ℕ × ℕ)) (none : order None ≡ None) (heads : ℕ) (T : Entries) where
-  -- an entry is taken out of the chain that it is in
+  -- the links are still in order after an entry was taken out of its chain
   pub order_less : (old new : Ring) (slot h k : ℕ) (e : ℕ × Bound) → AreOrdered order heads old T → IsPlaced T slot e → order (Some e) ≡ Some (h, k) → SameSize old new → Removes old new slot → AreOrdered order heads new (set T slot None)
   order_less old new slot h k e is there key sizes step = record {
     slots = sizes.0 ∙ is.slots ∙ sym (length-set T slot None);
@@ -45,7 +45,7 @@ module _ (order : Option (ℕ × Bound) → Option (ℕ × ℕ)) (none : order N
     linked = rw (map-set order T slot None, none) (step (map order T) h k is.linked (placed_at order none T slot h k e there key));
   }
 
-  -- one is put in
+  -- the links are still in order after an entry was put in where its key belongs
   pub order_more : (old new : Ring) (slot before h k : ℕ) (e : ℕ × Bound) → AreOrdered order heads old T → slot < length T → get_or T slot None ≡ None → order (Some e) ≡ Some (h, k) → h < heads → k < 2 ^ 128 → ((u : ℕ) → ¬ IsIn (map order T) h u k) → IsPrev (map order T) old.slots old.heads h k before → SameSize old new → Inserts old new slot before → AreOrdered order heads new (set T slot (Some e))
   order_more old new slot before h k e is inside free key in_heads small new_key prev sizes step = record {
     slots = sizes.0 ∙ is.slots ∙ sym (length-set T slot (Some e));
@@ -63,7 +63,7 @@ none_map : (order : Option (ℕ × Bound) → Option (ℕ × ℕ)) → order Non
 none_map order none zero = refl
 none_map order none (suc n) = rw none (ap (λ (t : Table). None ∷ t) (none_map order none n))
 
--- no slot holds an entry
+-- links with empty chains are in order where no slot holds an entry
 pub order_none : (order : Option (ℕ × Bound) → Option (ℕ × ℕ)) → order None ≡ None → (links : Ring) (heads n : ℕ) → links.slots ≡ n → links.heads ≡ heads → AreLinks links (replicate links.slots None) → AreOrdered order heads links (replicate n None)
 order_none order none links heads n slots heads_are linked = record {
   slots = slots ∙ sym (length-replicate n None);

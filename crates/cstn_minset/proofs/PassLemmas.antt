@@ -7,7 +7,7 @@ use Rattle.cstn_label.specs.declared.bounds.Bound.{Bound}
 use Rattle.cstn_pool.specs.declared.slot_id.SlotId.{SlotId}
 use Rattle.cstn_minset.specs.Sets.{Entries, entry_at, IsPlaced, IsFirst}
 
--- a bound of the kind is placed under the id, born from `low` on
+-- a bound of the kind is placed under the id, with a birth from `low` on
 pub record IsOne (T : Entries) (Kind : Bound → Type 0) (low : ℕ) (id : SlotId) : Type 0 where
   pub bound : Bound
   pub there : IsPlaced T id.slot (id.birth, bound)
@@ -18,12 +18,12 @@ pub record IsOne (T : Entries) (Kind : Bound → Type 0) (low : ℕ) (id : SlotI
 abbrev pub IsBeaten : ℕ → Option SlotId → ℕ → Type 0
 IsBeaten low best birth = (birth < low) ⊎ MatchOption best ⊥ (λ id. id.birth ≤ birth)
 
--- the best of the slots below a number
+-- the best of the first n slots: of the bounds of the kind, the one with the least birth from `low` on
 pub record IsBest (T : Entries) (Kind : Bound → Type 0) (low n : ℕ) (best : Option SlotId) : Type 0 where
   pub one : IfSome best (IsOne T Kind low)
   pub beats : (u : ℕ) (e : ℕ × Bound) → u < n → IsPlaced T u e → Kind e.1 → IsBeaten low best e.0
 
--- the next slot has nothing better
+-- where the next slot has nothing better, the best stays
 pub best_stays : (T : Entries) (Kind : Bound → Type 0) (low n : ℕ) (best : Option SlotId) → IsBest T Kind low n best → ((e : ℕ × Bound) → IsPlaced T n e → Kind e.1 → IsBeaten low best e.0) → IsBest T Kind low (n + 1) best
 best_stays T Kind low n best is beaten = record {
   one = is.one;
@@ -36,7 +36,7 @@ beats_more low birth born slot best before (inl early) = inl early
 beats_more low birth born slot None before (inr none) = absurd none
 beats_more low birth born slot (Some id) before (inr le) = inr (omega (arith, before, le))
 
--- the next slot has a better one
+-- where the next slot has a better one, that is the best
 pub best_more : (T : Entries) (Kind : Bound → Type 0) (low n birth : ℕ) (b : Bound) (best : Option SlotId) → IsBest T Kind low n best → IsPlaced T n (birth, b) → Kind b → low ≤ birth → IfSome best (λ id. birth < id.birth) → IsBest T Kind low (n + 1) (Some (record { slot = n; birth = birth }))
 best_more T Kind low n birth b best is here kind above before = record {
   one = record { bound = b; there = here; kind = kind; above = above };
@@ -47,7 +47,7 @@ best_more T Kind low n birth b best is here kind above before = record {
       ];
 }
 
--- no slot past these holds a bound
+-- where no slot past the first n holds a bound, the best is the best of all
 beats_all : (T : Entries) (Kind : Bound → Type 0) (low n : ℕ) (best : Option SlotId) → IsBest T Kind low n best → ((u : ℕ) → n ≤ u → entry_at T u ≡ None) → (u : ℕ) (e : ℕ × Bound) → IsPlaced T u e → Kind e.1 → IsBeaten low best e.0
 beats_all T Kind low n best is past u e there kind = elim (cases_lt u n) [ inl less ↦ is.beats u e less there kind | inr more ↦ absurd (none-some e (sym (past u more) ∙ there)) ]
 

@@ -24,7 +24,7 @@ in_placed T h s k is =
     let both = some_pair_parts found.0.1.node.0 h found.0.0 k found.2 in
     (found.0.1, found.1 ∙ ap (λ (n : ℕ). some_entry n found.0.1) both.1, both.0)
 
--- the first slot of a chain is that of the time-point
+-- the first slot of a chain by birth is the first slot of the time-point
 pub first_of : (T : Entries) (h low : ℕ) (answer : Option ℕ) → IsFirstKey (map by_birth T) h low answer → IsFirstSlot T (IsAt h) low answer
 first_of T h low None none = λ u e is at'. none u e.0 (rw at' at (placed_in T u e is))
 first_of T h low (Some s) is =
@@ -51,7 +51,7 @@ none_set [] slot e is = cc
 none_set (x ∷ T) zero e is = cc
 none_set (x ∷ T) (suc slot) e is = none_set T slot e is
 
--- and after one was emptied
+-- what stands in the table after a slot was emptied
 pub placed_less : (T : Entries) (slot u : ℕ) (e : ℕ × Bound) → IsPlaced (set T slot None) u e → (u ≢ slot) × IsPlaced T u e
 placed_less T slot u e is = elim (cases_eq u slot) [
   | inl same ↦ absurd (none_set T slot e (rw same at is))
@@ -94,11 +94,11 @@ pub some_entry_is : (o : Option (ℕ × Bound)) → IsSome o → (e : ℕ × Bou
 some_entry_is None is = absurd (cc)
 some_entry_is (Some e) is = (e, refl)
 
--- each key of a time-point by birth is below a birth above all
+-- a birth above all in the table is above each key of a chain by birth
 births_below : (T : Entries) (birth h u j : ℕ) → AllBornBefore T birth → IsIn (map by_birth T) h u j → j < birth
 births_below T birth h u j births there = let f = in_placed T h u j there in omega (arith, births u (j, f.0) f.1)
 
--- what a call of links did
+-- what the calls of the links did: a slot taken out, and a slot put in behind the place before another
 pub record IsRemoval (old new : Ring) (slot : ℕ) : Type 0 where
   pub size : SameSize old new
   pub linked : Removes old new slot
@@ -108,7 +108,7 @@ pub record IsInsertion (old new : Ring) (slot place last : ℕ) : Type 0 where
   pub linked : Inserts old new slot last
   pub before : IsBefore old place last
 
--- the steps of the code: an entry is taken out
+-- `take_out` keeps the set minimal and its links in order
 pub take_out_step : (births births' values values' : Ring) (nodes slot : ℕ) (T : Entries) → IsChained births values nodes T → IsSome (get_or T slot None) → IsRemoval births births' slot → IsRemoval values values' slot → IsChained births' values' nodes (set T slot None)
 take_out_step births births' values values' nodes slot T is some birth value =
     let e = some_entry_is (get_or T slot None) some in
@@ -129,7 +129,7 @@ pub record IsNew (nodes slot birth : ℕ) (b : Bound) (T : Entries) : Type 0 whe
   pub none_under : (u : ℕ) (e : ℕ × Bound) → IsPlaced T u e → ¬ IsOver b e.1
   pub births : AllBornBefore T birth
 
--- and one is put in
+-- `put` keeps the set minimal and its links in order
 pub put_step : (births births' values values' : Ring) (nodes slot birth end last above below : ℕ) (b : Bound) (T : Entries) → IsChained births values nodes T → IsNew nodes slot birth b T → IsInsertion births births' slot end last → end ≡ births.slots + b.node.0 → IsInsertion values values' slot above below → IsNext (map by_value T) (length T) nodes b.node.0 (value_key b.least + 2 ^ 64) above → IsChained births' values' nodes (set T slot (Some (birth, b)))
 put_step births births' values values' nodes slot birth end last above below b T is new by_birth' end_is by_value' next =
     let before : (u j : ℕ) → IsIn (map by_birth T) b.node.0 u j → j < birth = λ u j there. births_below T birth b.node.0 u j new.births there in
@@ -160,7 +160,7 @@ all_free births values nodes n births_size births_linked values_size values_link
   minimal = minimal_none nodes n;
 }
 
--- whether a slot holds the birth
+-- a slot holds a bound with the birth that is asked for exactly where its own birth is that one
 pub holds_there : (T : Entries) (slot birth asked : ℕ) (b : Bound) → IsPlaced T slot (birth, b) → (IsTrue (nat_eq birth asked) → (x : Bound) × IsPlaced T slot (asked, x)) × ((x : Bound) × IsPlaced T slot (asked, x) → IsTrue (nat_eq birth asked))
 holds_there T slot birth asked b here =
     (λ same. (b, here ∙ ap (λ (n : ℕ). some_entry n b) (equal birth asked same)), λ there. alike birth asked (ap (λ z. z.0) (same_Some (birth, b) (asked, there.0) (sym here ∙ there.1))))
@@ -171,7 +171,7 @@ holds_there T slot birth asked b here =
     alike : (m n : ℕ) → m ≡ n → nat_eq m n ≡ true
     alike m n is = grind arith
 
--- the id of the first slot
+-- the id of the first slot has the birth of the first entry
 pub first_id : (T : Entries) (Kind : Bound → Type 0) (low slot : ℕ) (id : SlotId) → (birth : ℕ) × IsLeast T Kind low slot birth → id.slot ≡ slot → ((e : ℕ × Bound) → IsPlaced T slot e → id.birth ≡ e.0) → IsLeast T Kind low id.slot id.birth
 first_id T Kind low slot id found slot_is birth_is =
     let same = birth_is (found.0, found.1.bound) found.1.there in
@@ -183,7 +183,7 @@ none_of zero u = refl
 none_of (suc n) zero = refl
 none_of (suc n) (suc u) = none_of n u
 
--- the place that comes next by value is one of the links
+-- the place that comes next by value is one of the places of the links
 pub next_inside : (links : Ring) (nodes h low place : ℕ) (T : Entries) → AreOrdered by_value nodes links T → IsNext (map by_value T) (length T) nodes h low place → place < links.slots + links.heads
 next_inside links nodes h low place T is N =
     let inside = stop_inside (map by_value T) (length T) nodes place h N.high (is.linked.size ∙ is.slots) N.stop in

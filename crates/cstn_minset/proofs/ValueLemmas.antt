@@ -41,7 +41,7 @@ in_valued T h s k is =
     (found.0, found.1, both.0, both.1)
 
 module _ (T : Entries) (birth : ℕ) (b : Bound) (fits : SFits w32 b.least) (small : birth < 2 ^ 64) (births : AllBornBefore T birth) where
-  -- a key up to those of the bound's value is below the key of the bound, which is born last
+  -- a key of the bound's least value or of a lower one is below the key of the bound, whose birth is above all
   key_below : (h u j : ℕ) → IsIn (map by_value T) h u j → j < value_key b.least + 2 ^ 64 → j < value_key b.least + birth
   key_below h u j there less =
       let e = in_valued T h u j there in
@@ -53,7 +53,7 @@ module _ (T : Entries) (birth : ℕ) (b : Bound) (fits : SFits w32 b.least) (sma
   pub key_new : (h u : ℕ) → IsIn (map by_value T) h u (value_key b.least + birth) → ⊥
   key_new h u there = let less = key_below h u (value_key b.least + birth) there (omega arith) in omega (arith, less)
 
-  -- the bound belongs behind what is before the next place above its value
+  -- the bound belongs behind the place before the first one with a greater least value
   pub value_prev : (links : Ring) (nodes above before : ℕ) → AreOrdered by_value nodes links T → IsBefore links above before → IsNext (map by_value T) (length T) nodes b.node.0 (value_key b.least + 2 ^ 64) above → IsPrev (map by_value T) links.slots links.heads b.node.0 (value_key b.least + birth) before
   value_prev links nodes above before is back N =
       let C = map by_value T in

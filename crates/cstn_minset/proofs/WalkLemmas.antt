@@ -1,4 +1,4 @@
--- Walks through chains, and those by rising least value that `covers` and `place` make.
+-- Walks through chains: those by rising least value of `covers` and `place`, and that by birth of `first_from`.
 use Rattle.std.proofs.Common.{◌≡◌, ◌⊎◌, inl, inr, ℕ, ◌+◌, ◌-◌, ◌<◌, ◌≤◌, ◌^◌, length, set, map, Bool, true, false, refl, ap, sym, ◌∙◌, subst, arith, SFits, w32}
 use Rattle.std.specs.Prelude.{Option, None, Some, IsTrue, ◌↔◌, ◌≤ℤ◌, ◌<ℤ◌}
 use Rattle.std.proofs.lemmas.List.{length-set, map-set}
@@ -59,7 +59,7 @@ same_or_later heads C h slot k u j keyed is there le = elim (cases_eq j k) [ inl
 at_or_later : (heads : ℕ) (C : Table) (h low slot u j : ℕ) → IsKeyed heads C → (L : HasLeastKey C h low slot) → IsIn C h u j → low ≤ j → (u ≡ slot) ⊎ (L.key + 1 ≤ j)
 at_or_later heads C h low slot u j keyed L there above = elim (L.least u j there) [ inl p ↦ absurd (omega arith) | inr p ↦ same_or_later heads C h slot L.key u j keyed L.there there p ]
 
--- a walk that looks for a bound over this one: none is before the place
+-- a walk that looks for an entry that dominates the bound: none before the place does
 pub record IsPassed (T : Entries) (b : Bound) (place : Option ℕ) : Type 0 where
   pub low : ℕ
   pub passed : (u : ℕ) (e : ℕ × Bound) → IsPlaced T u e → IsAt b.node.0 e.1 → key_by_value e < low → ¬ IsOver e.1 b
@@ -121,7 +121,7 @@ swept_start nodes T b place first = record {
   here = first;
 }
 
--- the slot of a value that isn't above the bound's has a key up to the bound's value
+-- a slot whose least value isn't above the bound's has a key below those of greater values
 within_at : (nodes : ℕ) (T : Entries) (b : Bound) (low slot : ℕ) (read : Bound) → IsMinimal nodes T → (L : HasLeastKey (map by_value T) b.node.0 low slot) → Reads T slot read → read.least ≤ℤ b.least → L.key + 1 ≤ value_key b.least + 2 ^ 64
 within_at nodes T b low slot read minimal L reads most =
     let e = here_at T b low slot read L reads in
@@ -171,7 +171,7 @@ swept_stays_more nodes now_nodes old T b slot next read minimal keyed walk reads
       rank_falls (map by_value T) (map by_value T) b.node.0 slot L.key next L.there (keyed.in_range slot b.node.0 L.key L.there).1 first,
     )
 
--- the walk is done at the end of the chain
+-- at the end of the chain, all that the bound dominates is gone
 pub swept_all : (nodes now_nodes : ℕ) (old T : Entries) (b : Bound) (place : Option ℕ) → ((s : ℕ) → place ≡ Some s → ⊥) → IsSwept nodes old now_nodes T b place → IsCleared b old T
 swept_all nodes now_nodes old T b (Some s) not walk = absurd (not s refl)
 swept_all nodes now_nodes old T b None not walk = record {
@@ -190,7 +190,7 @@ end_above nodes now_nodes old T b None end fits not walk node is = record {
   gap = λ u j there. inl (omega (arith, walk.within, walk.here u j there));
 }
 
--- or at the first value above the bound's
+-- at the first least value above the bound's, all that the bound dominates is gone
 pub swept_below : (nodes now_nodes : ℕ) (old T : Entries) (b : Bound) (slot : ℕ) (read : Bound) → SFits w32 b.least → IsMinimal now_nodes T → IsSwept nodes old now_nodes T b (Some slot) → Reads T slot read → b.least <ℤ read.least → IsCleared b old T
 swept_below nodes now_nodes old T b slot read fits minimal walk reads more =
     let L : HasLeastKey (map by_value T) b.node.0 walk.low slot = walk.here in
@@ -218,7 +218,7 @@ slot_above nodes now_nodes old T b slot read fits walk reads more =
       gap = λ u j there. elim (L.least u j there) [ inl p ↦ inl (omega (arith, walk.within)) | inr p ↦ inr p ];
     }
 
--- a walk by birth through the bounds of a kind that looks for a birth that is high enough: none is before the place
+-- a walk by birth that looks for a bound of a kind with a birth that is high enough: none is before the place
 pub record IsSought (T : Entries) (Kind : Bound → Type 0) (birth : ℕ) (place : Option ℕ) : Type 0 where
   pub low : ℕ
   pub within : low ≤ birth

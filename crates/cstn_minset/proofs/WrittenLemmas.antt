@@ -7,7 +7,7 @@ use Rattle.std.proofs.lemmas.Grind.{get_or_default_zero}
 use Rattle.cstn_pool.specs.Slots.{padded}
 use Rattle.cstn_minset.specs.Links.{AreEnds}
 
--- a place that is written of what a resize answers, where it is told of what was written and is filled up with blanks
+-- what holds of a write into the resized list, spelled out, holds of a write into the list that the resize returned
 pub resized_at : {A : Type 0} (blank : A) (n m i len : ℕ) (x : A) (written new : List A) → new ≡ take m written ++ replicate (m - len) blank → len ≡ length written →
     padded blank n (set (take m written ++ replicate (m - length written) blank) i x) ≡ set (padded blank n written) i x → padded blank n (set new i x) ≡ set (padded blank n written) i x
 resized_at blank n m i len x written new is size filled = rw (is, size) filled

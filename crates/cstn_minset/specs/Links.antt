@@ -3,11 +3,11 @@
 use Rattle.std.specs.Prelude.{◌≡◌, ◌⊎◌, ℕ, ◌+◌, ◌<◌, ◌≤◌, ◌^◌, List, length, slice_index_or, All}
 use Rattle.cstn_minset.specs.Chains.{Table, IsIn}
 
--- what stands at the place is followed by keys from `low` on
+-- the keys of chain h behind the place i are from `low` on: i is a slot with the key below `low`, or the end, and `low` is 0
 abbrev pub IsStart : Table → ℕ → ℕ → ℕ → ℕ → ℕ → Type 0
 IsStart table n heads i h low = ((k : ℕ) × IsIn table h i k × (low ≡ k + 1)) ⊎ ((i ≡ n + h) × (h < heads) × (low ≡ 0))
 
--- what stands at the place comes after keys below `high`
+-- the keys of chain h before the place i are below `high`: i is a slot with the key `high`, or the end, and `high` is 2 ^ 128
 abbrev pub IsStop : Table → ℕ → ℕ → ℕ → ℕ → ℕ → Type 0
 IsStop table n heads i h high = IsIn table h i high ⊎ ((i ≡ n + h) × (h < heads) × (high ≡ 2 ^ 128))
 
@@ -15,21 +15,21 @@ IsStop table n heads i h high = IsIn table h i high ⊎ ((i ≡ n + h) × (h < h
 abbrev pub IsGap : Table → ℕ → ℕ → ℕ → Type 0
 IsGap table h low high = (u j : ℕ) → IsIn table h u j → (j < low) ⊎ (high ≤ j)
 
--- the place is the next one of the chain for keys from `low` on
+-- the place i is the first slot of chain h with a key from `low` on, or the end where there is none
 pub record IsNext (table : Table) (n heads h low i : ℕ) : Type 0 where
   pub high : ℕ
   pub stop : IsStop table n heads i h high
   pub up : low ≤ high
   pub gap : IsGap table h low high
 
--- the place is the one before for keys below `high`
+-- the place i is the last slot of chain h with a key below `high`, or the end where there is none
 pub record IsPrev (table : Table) (n heads h high i : ℕ) : Type 0 where
   pub low : ℕ
   pub start : IsStart table n heads i h low
   pub up : low ≤ high
   pub gap : IsGap table h low high
 
--- no chain has two slots of one key
+-- chains and keys are in range, and no chain has two slots of one key
 pub record IsKeyed (heads : ℕ) (table : Table) : Type 0 where
   pub in_range : (s h k : ℕ) → IsIn table h s k → (h < heads) × (k < 2 ^ 128)
   pub apart : (s t h k : ℕ) → IsIn table h s k → IsIn table h t k → s ≡ t
@@ -48,12 +48,12 @@ pub record IsLinked (n heads : ℕ) (table : Table) (next prev : List ℕ) : Typ
 abbrev pub AreEnds : ℕ → ℕ → List ℕ → Type 0
 AreEnds n heads places = (h : ℕ) → h < heads → slice_index_or places (n + h) 0 ≡ n + h
 
--- where places lead, of which the first are slots
+-- for each place, the place that it leads to; the first places are the slots
 pub record Leads : Type 0 where
   pub slots : ℕ
   pub places : List ℕ
 
--- what contracts see of links alone
+-- what contracts see of `Links`: where its places lead, and no table
 pub record Ring : Type 0 where
   pub slots : ℕ
   pub heads : ℕ
@@ -64,11 +64,11 @@ pub record Ring : Type 0 where
 abbrev pub AreLinks : Ring → Table → Type 0
 AreLinks ring table = IsLinked ring.slots ring.heads table ring.next ring.prev
 
--- the rings have as many slots and chains
+-- both have the same numbers of slots and of chains
 abbrev pub SameSize : Ring → Ring → Type 0
 SameSize old new = (new.slots ≡ old.slots) × (new.heads ≡ old.heads)
 
--- each place leads to a place
+-- there is a place for each slot and for each end, and each leads to one of these places
 pub record IsRing (slots heads : ℕ) (next prev : Leads) : Type 0 where
   pub next_slots : next.slots ≡ slots
   pub prev_slots : prev.slots ≡ slots

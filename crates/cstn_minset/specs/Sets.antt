@@ -55,7 +55,7 @@ IsAt node b = b.node.0 ≡ node
 abbrev pub IsMarking : ℕ → Bound → Type 0
 IsMarking p b = IsMarked (marks b.label) p
 
--- of the bounds of a kind, the one with the least birth from `low` on
+-- the slot holds, of the bounds of a kind, the one with the least birth from `low` on
 pub record IsLeast (table : Entries) (Kind : Bound → Type 0) (low slot birth : ℕ) : Type 0 where
   pub bound : Bound
   pub there : IsPlaced table slot (birth, bound)
@@ -71,12 +71,12 @@ IsNone table Kind low = (u : ℕ) (e : ℕ × Bound) → IsPlaced table u e → 
 abbrev pub IsFirst : Entries → (Bound → Type 0) → ℕ → Option SlotId → Type 0
 IsFirst table Kind low answer = MatchOption answer (IsNone table Kind low) (λ id. IsLeast table Kind low id.slot id.birth)
 
--- the ids that come one after another, each first of its kind after the one before, until there is none
+-- the ids of the bounds of a kind with births from `low` on, each the first after the one before, up to the last
 abbrev pub IsWalk : Entries → (Bound → Type 0) → ℕ → List SlotId → Type 0
 IsWalk table Kind low [] = IsFirst table Kind low None
 IsWalk table Kind low (id ∷ ids) = IsFirst table Kind low (Some id) × IsWalk table Kind (id.birth + 1) ids
 
--- the same of a slot alone
+-- the answer is the slot of the bound of a kind with the least birth from `low` on, and none only where there is none
 abbrev pub IsFirstSlot : Entries → (Bound → Type 0) → ℕ → Option ℕ → Type 0
 IsFirstSlot table Kind low answer = MatchOption answer (IsNone table Kind low) (λ slot. (birth : ℕ) × IsLeast table Kind low slot birth)
 
@@ -85,12 +85,12 @@ abbrev pub by_birth : Option (ℕ × Bound) → Option (ℕ × ℕ)
 by_birth None = None
 by_birth (Some entry) = Some (entry.1.node.0, entry.0)
 
--- the least key of a least value in a chain by value: births add less than the next value does
+-- the lowest key in a chain by value of bounds with this least value; a birth adds less to it than the step to the next value
 abbrev pub value_key : ℤ → ℕ
 value_key (pos n) = (2 ^ 31 + n) * 2 ^ 64
 value_key (negsuc n) = (2 ^ 31 - suc n) * 2 ^ 64
 
--- in the same chain its key is its least value, and of one value its birth
+-- the chain of an entry is its time-point's, and its key there orders by least value, and where that is equal by birth
 abbrev pub by_value : Option (ℕ × Bound) → Option (ℕ × ℕ)
 by_value None = None
 by_value (Some entry) = Some (entry.1.node.0, value_key entry.1.least + entry.0)

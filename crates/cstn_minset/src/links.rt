@@ -13,8 +13,8 @@ use std::marker::Model;
 /// 8 bytes, and so does each chain.
 #[derive(Drop)]
 pub struct Links {
-    // The next place of each slot: a slot, or the end of the chain, which is the number of slots
-    // and the chain's own. An end leads to the first slot.
+    // For each place the next one: behind a slot the next slot of its chain, or the end of the
+    // chain, and behind an end the first slot. The end of chain h is the place `slots + h`.
     next: Places,
     prev: Places,
     slots: u32,
@@ -32,7 +32,7 @@ impl Model for Links {
 }
 
 impl Links {
-    /// Empty chains. Fails for want of memory alone.
+    /// `heads` empty chains for `slots` slots. Fails for want of memory alone.
     pub fn start(alloc: Global, heads: u32, slots: u32) -> Result<Links, AllocError>
         requires { slots + heads < 2 ^ 32 }
         ensures size { IfOk result (λ links. (links.slots ≡ slots) × (links.heads ≡ heads)) }
@@ -48,7 +48,7 @@ impl Links {
         })
     }
 
-    /// The chain's slot with the least key, and none where there is no such chain.
+    /// The chain's slot with the least key; None where the chain is empty, or past the last chain.
     pub fn first(&self, head: u32) -> Option<u32>
         ensures { (table : Table) → AreLinks self.now table → IsFirstKey table head 0 result }
     {
@@ -59,7 +59,7 @@ impl Links {
         if slot < self.slots { Some(slot) } else { None }
     }
 
-    /// The slot of the same chain with the next greater key.
+    /// The slot of the same chain with the next greater key; None behind the last.
     pub fn next(&self, slot: u32) -> Option<u32>
         requires { slot < self.now.slots }
         ensures { (table : Table) (h k : ℕ) → AreLinks self.now table → IsIn table h slot k → IsFirstKey table h (k + 1) result }

@@ -19,7 +19,7 @@ pub struct MinSet {
     table: Table,
     // The slots of each time-point by birth.
     births: Links,
-    // The same by rising least value, and of one value by birth.
+    // The slots of each time-point by rising least value, and where that is equal by birth.
     values: Links,
     nodes: u16,
 }
@@ -35,8 +35,8 @@ impl Model for MinSet {
 }
 
 impl MinSet {
-    /// An empty set over this many time-points and slots. Fails for want of memory alone, as which
-    /// it also counts more slots and time-points in all than 32 bits number.
+    /// An empty set over this many time-points and slots. Fails where memory is refused, or where
+    /// slots and time-points are 2^32 or more together.
     pub fn start(alloc: Global, nodes: u16, capacity: u32) -> Result<MinSet, AllocError>
         ensures empty { IfOk result (λ set. set ≡ record { nodes = nodes; table = replicate capacity None }) }
     {
@@ -86,7 +86,8 @@ impl MinSet {
         self.put(*b, id.slot, id.birth, above);
     }
 
-    // Takes out what the bound dominates. Answers the next place above its least value.
+    // Takes out what the bound dominates. Returns the place in the time-point's chain by value of the
+    // first entry with a greater least value, or the end of the chain.
     fn clear_for(&mut self, b: &Bound) -> u32
         requires { b.now.node.0 < self.old.nodes }
         ensures nodes { self.new.nodes ≡ self.old.nodes }
@@ -108,7 +109,8 @@ impl MinSet {
         self.values.end(b.node.0 as u32)
     }
 
-    // Puts the bound in before the next place above its least value.
+    // Puts the bound in. In its chain by value it goes before `above`, the first place with a greater
+    // least value.
     fn put(&mut self, b: Bound, slot: u32, birth: u64, above: u32)
         requires uncovered { ¬ IsCovered self.old.table b }
         requires none_under { (u : ℕ) (e : ℕ × Bound) → IsPlaced self.old.table u e → ¬ IsOver b e.1 }
@@ -135,7 +137,7 @@ impl MinSet {
         self.table.set(slot, None);
     }
 
-    // The time-point's slot with the least value.
+    // The time-point's slot with the lowest least value.
     fn lowest(&self, node: NodeId) -> Option<u32>
         ensures lowest { IsFirstKey (map by_value self.now.table) node.0 0 result }
         ensures minimal { IsMinimal self.now.nodes self.now.table }
@@ -177,7 +179,7 @@ impl MinSet {
         self.table.at(slot).unwrap().1
     }
 
-    // The id of a slot.
+    // The id of the entry in a slot.
     fn id(&self, slot: u32) -> SlotId
         requires { slot < length self.now.table }
         ensures slot { result.slot ≡ slot }
@@ -190,7 +192,7 @@ impl MinSet {
         SlotId { slot, birth }
     }
 
-    /// The id of the time-point's entry with the least birth.
+    /// The id of the time-point's entry with the least birth; None where it has no entry.
     pub fn first(&self, node: NodeId) -> Option<SlotId>
         ensures first { IsFirst self.now.table (IsAt node.0) 0 result }
     {
@@ -200,7 +202,7 @@ impl MinSet {
         }
     }
 
-    /// The id of the same time-point's entry with the next birth.
+    /// The id of the same time-point's entry with the next birth; None behind the last.
     pub fn next(&self, id: SlotId) -> Option<SlotId>
         requires { IsThere self.now.table id }
         ensures next { (b : Bound) → IsPlaced self.now.table id.slot (id.birth, b) → IsFirst self.now.table (IsAt b.node.0) (id.birth + 1) result }
@@ -211,7 +213,8 @@ impl MinSet {
         }
     }
 
-    /// The id of the time-point's entry with the least birth that is at least this one.
+    /// The id of the time-point's entry with the least birth that is at least this one; None where
+    /// there is none.
     pub fn first_from(&self, node: NodeId, birth: u64) -> Option<SlotId>
         ensures first { IsFirst self.now.table (IsAt node.0) birth result }
     {
@@ -226,9 +229,9 @@ impl MinSet {
         None
     }
 
-    /// The id of the entry with the least birth that is at least this one, among those of every
-    /// time-point whose label marks the proposition. Passes over every slot that was used since the
-    /// set was last empty.
+    /// Of the entries of all time-points, those whose label marks the proposition: the id of the one
+    /// with the least birth that is at least this one; None where there is none. Looks at every slot up
+    /// to the last that was used since the set was last empty.
     pub fn marked_from(&self, p: Prop, birth: u64) -> Option<SlotId>
         ensures first { IsFirst self.now.table (IsMarking p.index) birth result }
     {
@@ -268,7 +271,7 @@ impl MinSet {
         }
     }
 
-    // The birth and the bound in a slot, which may be any number.
+    // The birth and the bound in a slot. Any number may be asked for; past the table it is None.
     fn entry(&self, slot: u32) -> Option<(u64, Bound)>
         ensures entry { result ≡ entry_at self.now.table slot }
         ensures minimal { IsMinimal self.now.nodes self.now.table }

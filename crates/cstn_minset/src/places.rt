@@ -5,10 +5,11 @@ use cstn_pool::blanks_fill_up_to_a_count;
 use std::alloc::{AllocError, Global};
 use std::marker::Model;
 
-/// Where each place leads: first the slots, and then the ends of chains.
+/// For each place, the place that it leads to. The first places are the slots, and those behind
+/// them the ends of chains.
 ///
-/// Room for every slot is taken once, and slots from the first on that was never used are not
-/// written.
+/// Memory for all slots is taken at once. Slots behind the last one that was used are not written,
+/// and lead to place 0.
 #[derive(Drop)]
 pub struct Places {
     used: Vec<u32>,
@@ -29,7 +30,8 @@ impl Model for Places {
 }
 
 impl Places {
-    /// Ends that lead to themselves. Fails for want of memory alone.
+    /// Places of `slots` slots and `heads` ends, where each end leads to itself. Fails for want of
+    /// memory alone.
     pub fn start(alloc: Global, heads: u32, slots: u32) -> Result<Places, AllocError>
         requires { slots + heads < 2 ^ 32 }
         ensures size { IfOk result (λ p. (p.slots ≡ slots) × (length p.places ≡ slots + heads)) }

@@ -8,8 +8,8 @@ use std::marker::Model;
 
 /// A birth and a bound for each slot in use.
 ///
-/// Room for every slot is taken once, and slots from the first on that was never used are not
-/// written.
+/// Memory for all slots is taken at once. Slots behind the last one that was used are not written,
+/// and hold nothing.
 #[derive(Drop)]
 pub struct Table {
     used: Vec<Option<(u64, Bound)>>,
@@ -29,7 +29,7 @@ impl Model for Table {
 }
 
 impl Table {
-    /// Slots that hold nothing. Fails for want of memory alone.
+    /// `capacity` slots that hold nothing. Fails for want of memory alone.
     pub fn start(alloc: Global, capacity: u32) -> Result<Table, AllocError>
         ensures { IfOk result (λ table. table ≡ replicate capacity None) }
     {
@@ -37,7 +37,7 @@ impl Table {
         Ok(Table { used, capacity })
     }
 
-    /// What a slot holds, which may be any number.
+    /// What a slot holds. Any number may be asked for; past the table it is None.
     pub fn at(&self, slot: u32) -> Option<(u64, Bound)>
         ensures { result ≡ entry_at self.now slot }
     {
@@ -47,7 +47,8 @@ impl Table {
         }
     }
 
-    /// From this slot on, none was used since the table was last empty.
+    /// The number of slots up to the last that was used since the table was last empty; those behind
+    /// it hold nothing.
     pub fn used(&self) -> u32
         ensures unused { (slot : ℕ) → result ≤ slot → entry_at self.now slot ≡ None }
     {

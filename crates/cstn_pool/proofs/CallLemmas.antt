@@ -5,7 +5,7 @@ use Rattle.cstn_pool.proofs.PaddedLemmas.{none_held}
 use Rattle.cstn_pool.specs.Calls.{Call, filled, emptied_at, AfterCall, AfterCalls}
 use Rattle.cstn_pool.specs.Calls.Call.{Take, Give, Clear}
 
--- a call leaves the number of slots
+-- a call leaves the number of slots as it is
 call_keeps_size : {T : Type 0} (call : Call T) (before after : Slots T) → AfterCall call before after → length after.slots ≡ length before.slots
 call_keeps_size (Take value) before after is = elim is [
   | inl refused ↦ ap (λ p. length p.slots) refused.1
@@ -42,7 +42,7 @@ pub calls_keep_births : {T : Type 0} (calls : List (Call T)) (before after : Slo
 calls_keep_births [] before after is = omega (arith, ap (λ p. p.births) is)
 calls_keep_births (call ∷ calls) before after is = omega (arith, call_keeps_births call before is.0 is.1, calls_keep_births calls is.0 after is.2)
 
--- an id that names nothing, of a birth that was answered before, names nothing after a call
+-- an id of an earlier birth that names nothing names nothing after a call
 gone_where_filled : {T : Type 0} (slots : List (Option (ℕ × T))) (slot s births birth : ℕ) (value : T) → birth < births → value_at slots s birth ≡ None → value_at (set slots slot (Some (births, value))) s birth ≡ None
 gone_where_filled [] slot s births birth value less none = none
 gone_where_filled {T} (x ∷ slots) zero zero births birth value less none =

@@ -1,4 +1,4 @@
--- What was written, and blanks up to a count; so the used slots of a pool, and empty ones up to its capacity.
+-- Lists that blanks fill up to a count, as empty slots fill the used ones of a pool up to its capacity.
 use Rattle.std.proofs.Common.{◌≡◌, ℕ, zero, suc, ◌+◌, ◌-◌, ◌<◌, ◌≤◌, List, [], ◌∷◌, ◌++◌, length, get_or, set, take, replicate, cond, refl, ap, sym, ◌∙◌, subst, arith, length-append, append_assoc}
 use Rattle.std.specs.Prelude.{Option, None, Some, is_some, slice_get}
 use Rattle.std.proofs.lemmas.List.{length-replicate, length-set, set-append_left, take_all, replicate-append-replicate}
@@ -26,7 +26,7 @@ appended_at blank k (suc i) (x ∷ written) = appended_at blank k i written
 pub padded_at : {A : Type 0} (blank : A) (n i : ℕ) (written : List A) → get_or (padded blank n written) i blank ≡ get_or written i blank
 padded_at blank n i written = appended_at blank (n - length written) i written
 
--- what was written is written over
+-- writing over what was written writes it in the filled-up list
 pub padded_set : {A : Type 0} (blank : A) (n i : ℕ) (x : A) (written : List A) → i < length written → padded blank n (set written i x) ≡ set (padded blank n written) i x
 padded_set blank n i x written inside =
     rw (length-set written i x) (sym (set-append_left written (replicate (n - length written) blank) i x inside))
@@ -35,14 +35,14 @@ join : {A : Type 0} (x : A) (xs ys : List A) → (xs ++ x ∷ []) ++ ys ≡ xs +
 join x [] ys = refl
 join x (y ∷ xs) ys = ap (λ zs. y ∷ zs) (join x xs ys)
 
--- and the first blank
+-- appending to what was written writes over the first blank in the filled-up list
 pub padded_push : {A : Type 0} (blank : A) (n : ℕ) (x : A) (written : List A) → length written < n → padded blank n (written ++ x ∷ []) ≡ set (padded blank n written) (length written) x
 padded_push blank n x written inside = go (n - length written) (n - length (written ++ x ∷ [])) (omega (arith, length-append written (x ∷ [])))
   where
     go : (m k : ℕ) → m ≡ suc k → (written ++ x ∷ []) ++ replicate k blank ≡ set (written ++ replicate m blank) (length written) x
     go m k e = rw e (join x written (replicate k blank) ∙ sym (set-append_seam written blank (replicate k blank) x))
 
--- blanks that are written are as before
+-- writing some of the blanks leaves the filled-up list as it is
 pub padded_more : {A : Type 0} (blank : A) (n m : ℕ) (written : List A) → m ≤ n → length written ≤ m → padded blank n (take m written ++ replicate (m - length written) blank) ≡ padded blank n written
 padded_more blank n m written within more =
     let all : take m written ≡ written = take_all m written more in
@@ -51,7 +51,7 @@ padded_more blank n m written within more =
     let rest : (m - length written) + (n - m) ≡ n - length written = omega arith in
     rw (all, count) (append_assoc written (replicate (m - length written) blank) (replicate (n - m) blank) ∙ ap (λ xs. written ++ xs) (replicate-append-replicate (m - length written) (n - m) blank ∙ ap (λ k. replicate k blank) rest))
 
--- a place is written, whether or not it was written before
+-- a place is written in the filled-up list, whether or not it was written before
 pub padded_write : {A : Type 0} (blank : A) (n m i : ℕ) (x : A) (written : List A) → m ≤ n → length written ≤ m → i < m → padded blank n (set (take m written ++ replicate (m - length written) blank) i x) ≡ set (padded blank n written) i x
 padded_write blank n m i x written within more inside =
     let size : length (take m written ++ replicate (m - length written) blank) ≡ m = rw (take_all m written more) (padded_length blank m written more) in
@@ -75,7 +75,7 @@ pub padded_live : {T : Type 0} (n : ℕ) (used : List (Option (ℕ × T))) → l
 padded_live {T} n used =
     omega (arith, sum_by-append (λ x. cond (is_some x) 1 0) used (replicate {A = Option (ℕ × T)} (n - length used) None), none_live T (n - length used))
 
--- births of the used slots are those of all
+-- births that are in order in the used slots are so in all slots
 pub padded_born : {T : Type 0} (n births : ℕ) (used : List (Option (ℕ × T))) → IsBorn births used → IsBorn births (padded None n used)
 padded_born n births used born = record {
   before = λ i e is. born.before i e (sym (padded_at None n i used) ∙ is);
@@ -96,7 +96,7 @@ shown_empty {T} n births slot used now view inside within none =
     subst (λ (v : Slots T). slice_get v.slots slot ≡ Some None) view
     (slice_get-get_or (padded None n used) slot None (omega (arith, padded_length None n used within)) ∙ ap (λ x. Some x) (padded_at None n slot used ∙ none))
 
--- the slots in use, those that came back and those that were never used are all
+-- the slots in use, those that came back and those that were never used are all the slots
 pub shown_count : {T : Type 0} (n births : ℕ) (used : List (Option (ℕ × T))) (free : List ℕ) (now : Slots T) → shown n used births ≡ now → length used ≤ n → IsFree used free → live_of now.slots + length free + n ≡ length now.slots + length used
 shown_count {T} n births used free now view within is =
     subst (λ (v : Slots T). live_of v.slots + length free + n ≡ length v.slots + length used) view

@@ -22,7 +22,7 @@ count_emptied slots slot inside live =
 apart : {T : Type 0} (slots : List (Option (ℕ × T))) (i slot : ℕ) → get_or slots i None ≡ None → is_some (get_or slots slot None) ≡ true → i ≡ slot → ⊥
 apart slots i slot none live e = let no = rw (← e, none) at live in cc
 
--- the last free slot is taken
+-- the free list is right after its last slot was taken
 pub taken_free : {T : Type 0} (slots : List (Option (ℕ × T))) (rest : List ℕ) (slot : ℕ) (entry : ℕ × T) → IsFree slots (rest ++ slot ∷ []) → IsFree (set slots slot (Some entry)) rest
 taken_free slots rest slot entry free =
     let long : length (rest ++ slot ∷ []) ≡ length rest + 1 = length-append rest (slot ∷ []) in
@@ -51,7 +51,7 @@ last_empty slots rest slot free =
     let was = rw (get_or-append_seam rest slot [] 0) at (free.empty (length rest) 0 (omega arith)) in
     was.1
 
--- a slot is given back
+-- the free list is right after a slot was given back
 pub given_free : {T : Type 0} (slots : List (Option (ℕ × T))) (free : List ℕ) (slot : ℕ) → slot < length slots → is_some (get_or slots slot None) ≡ true → IsFree slots free → IsFree (set slots slot None) (free ++ slot ∷ [])
 given_free slots free slot inside live is =
     let size : length (set slots slot None) ≡ length slots = length-set slots slot None in
@@ -75,11 +75,11 @@ pub none_live : (T : Type 0) (n : ℕ) → live_of {T = T} (replicate n None) �
 none_live T zero = refl
 none_live T (suc n) = none_live T n
 
--- no slot was used yet
+-- an empty free list is right where no slot was used yet
 pub none_used : {T : Type 0} → IsFree {T = T} [] []
 none_used {T} = record { empty = λ k d inside. absurd (omega arith); distinct = λ i j d below inside e. absurd (omega arith); count = refl }
 
--- the first slot that was never used is taken
+-- an empty free list stays right after the first slot that was never used was taken
 pub new_free : {T : Type 0} (slots : List (Option (ℕ × T))) (free rest : List ℕ) (entry : ℕ × T) → IsFree slots free → length free ≡ 0 → length rest ≡ 0 → IsFree (slots ++ Some entry ∷ []) rest
 new_free {T} slots free rest entry is none no_more = record {
   empty = λ k d inside. absurd (omega (arith, inside, no_more));
@@ -87,14 +87,14 @@ new_free {T} slots free rest entry is none no_more = record {
   count = omega (arith, is.count, none, no_more, length-append slots (Some entry ∷ []), sum_by-append (λ x. cond (is_some x) 1 0) slots (Some entry ∷ []));
 }
 
--- what is held stands in a slot in use
+-- a value that is found under an id stands in a slot in use
 pub held_live : {T : Type 0} (slots : List (Option (ℕ × T))) (slot birth : ℕ) (v : T) → Some v ≡ value_at slots slot birth → (slot < length slots) × (is_some (get_or slots slot None) ≡ true)
 held_live [] slot birth v is = absurd (cc)
 held_live (None ∷ slots) zero birth v is = absurd (cc)
 held_live (Some entry ∷ slots) zero birth v is = (omega arith, refl)
 held_live (x ∷ slots) (suc slot) birth v is = let rest = held_live slots slot birth v is in (omega (arith, rest.0), rest.1)
 
--- then not every slot is free
+-- where a slot is in use, the free list doesn't have every slot
 pub room_left : {T : Type 0} (slots : List (Option (ℕ × T))) (free : List ℕ) (slot : ℕ) → slot < length slots → is_some (get_or slots slot None) ≡ true → IsFree slots free → length free < length slots
 room_left slots free slot inside live is = omega (arith, count_emptied slots slot inside live, is.count)
 
@@ -107,14 +107,14 @@ kept_given : {T : Type 0} (slots : List (Option (ℕ × T))) (slot i : ℕ) (e :
 kept_given slots slot i e is =
     elim (cases_eq i slot) [ inl same ↦ absurd (none_set slots slot e (rw same at is)) | inr other ↦ sym (get_or-set_other slots slot i None None other) ∙ is ]
 
--- births stay different after a slot is given back
+-- births stay different after a slot was given back
 pub given_born : {T : Type 0} (births slot : ℕ) (slots : List (Option (ℕ × T))) → IsBorn births slots → IsBorn births (set slots slot None)
 given_born births slot slots born = record {
   before = λ i e is. born.before i e (kept_given slots slot i e is);
   apart = λ i j e f is others same. born.apart i j e f (kept_given slots slot i e is) (kept_given slots slot j f others) same;
 }
 
--- and after one is taken
+-- births stay different after a free slot was taken
 pub taken_born : {T : Type 0} (births slot : ℕ) (value : T) (slots : List (Option (ℕ × T))) → slot < length slots → IsBorn births slots → IsBorn (births + 1) (set slots slot (Some (births, value)))
 taken_born {T} births slot value slots inside born = record {
   before = λ i e is. elim (there i e is) [ inl new ↦ omega (arith, new.1) | inr old ↦ omega (arith, born.before i e old) ];
@@ -131,7 +131,7 @@ taken_born {T} births slot value slots inside born = record {
       | inr other ↦ inr (sym (get_or-set_other slots slot i (Some (births, value)) None other) ∙ is)
     ]
 
--- a birth goes into a new slot
+-- births stay different after a slot that was never used was taken
 pub new_born : {T : Type 0} (births : ℕ) (value : T) (slots : List (Option (ℕ × T))) → IsBorn births slots → IsBorn (births + 1) (slots ++ Some (births, value) ∷ [])
 new_born {T} births value slots born = record {
   before = λ i e is. elim (there i e is) [ inl new ↦ omega (arith, new.1) | inr old ↦ omega (arith, born.before i e old) ];
@@ -151,7 +151,7 @@ new_born {T} births value slots born = record {
         go (x ∷ xs) zero is = inr is
         go (x ∷ xs) (suc k) is = elim (go xs k is) [ inl new ↦ inl (omega (arith, new.0), new.1) | inr old ↦ inr old ]
 
--- no slot is in use
+-- births are in order where no slot is in use
 pub none_born : {T : Type 0} (births : ℕ) (slots : List (Option (ℕ × T))) → ((i : ℕ) → get_or slots i None ≡ None) → IsBorn births slots
 none_born births slots none = record {
   before = λ i e is. absurd (let n = none i in cc);

@@ -10,7 +10,7 @@ pub record Slots (T : Type 0) : Type 0 where
 abbrev pub live_of : {T : Type 0} → List (Option (ℕ × T)) → ℕ
 live_of slots = count_by is_some slots
 
--- what a slot holds, where it was born by that birth
+-- the value of a slot, if it holds one of that birth
 abbrev pub held : {T : Type 0} → ℕ → Option (Option (ℕ × T)) → Option T
 held birth None = None
 held birth (Some None) = None
@@ -20,18 +20,18 @@ held birth (Some (Some entry)) = if entry.0 == birth then Some entry.1 else None
 abbrev pub value_at : {T : Type 0} → List (Option (ℕ × T)) → ℕ → ℕ → Option T
 value_at slots slot birth = held birth (slice_get slots slot)
 
--- each birth in use was answered before, and no two slots have the same
+-- each birth in use is below the number of births, and no two slots have the same
 pub record IsBorn {T : Type 0} (births : ℕ) (slots : List (Option (ℕ × T))) : Type 0 where
   pub before : (i : ℕ) (e : ℕ × T) → slice_index_or slots i None ≡ Some e → e.0 < births
   pub apart : (i j : ℕ) (e f : ℕ × T) → slice_index_or slots i None ≡ Some e → slice_index_or slots j None ≡ Some f → e.0 ≡ f.0 → i ≡ j
 
--- these are the empty slots
+-- the list has each empty slot once, and no other
 pub record IsFree {T : Type 0} (slots : List (Option (ℕ × T))) (free : List ℕ) : Type 0 where
   pub empty : All (λ i. (i < length slots) × (slice_index_or slots i None ≡ None)) free
   pub distinct : AllPairs (λ i j. i ≢ j) free
   pub count : live_of slots + length free ≡ length slots
 
--- what was written, and blanks up to so many
+-- what was written, filled up with blanks to a count
 abbrev pub padded : {A : Type 0} → A → ℕ → List A → List A
 padded blank count written = written ++ replicate (count - length written) blank
 

@@ -3,16 +3,16 @@ ghost use Rattle.std.specs.Prelude.{◌≡◌, ◌<◌, ◌≤◌, ◌-◌, ◌+
 ghost use Rattle.cstn_pool.specs.Slots.{Slots, value_at, padded};
 ghost use Rattle.cstn_pool.specs.Calls.{Call, AfterCalls};
 
-/// Whatever is called, births never fall, and an id whose value went names nothing ever after. An
-/// id is answered under the births of its moment, so no birth is answered twice.
+/// No call lowers the number of births, and an id whose value is gone never names a value again.
+/// A new id has the number of births so far as its birth, so no birth is returned twice.
 pub fn births_never_come_back<T: Copy>()
     ensures births { (calls : List (Call T)) (before after : Slots T) → AfterCalls calls before after → before.births ≤ after.births }
     ensures gone { (calls : List (Call T)) (before after : Slots T) (slot birth : ℕ) → AfterCalls calls before after → birth < before.births → value_at before.slots slot birth ≡ None → value_at after.slots slot birth ≡ None }
 {}
 
-/// What was written, with blanks up to a count, has that many places, and past what was written a
-/// blank is read. A place is written in the whole where what was written is first filled up with
-/// blanks so far that it has this place.
+/// A list that blanks fill up to a count has that many places, and past the list itself a blank is
+/// read. Filling the list up with blanks beyond a place, and then writing that place, writes it in
+/// the list that is filled up to the count.
 pub fn blanks_fill_up_to_a_count<A: Copy>()
     ensures length { (blank : A) (count : ℕ) (written : List A) → length written ≤ count → length (padded blank count written) ≡ count }
     ensures at { (blank : A) (count place : ℕ) (written : List A) → slice_index_or (padded blank count written) place blank ≡ slice_index_or written place blank }

@@ -1,8 +1,8 @@
 //! A fixed region of slots, taken once, with ids that never name two values.
 //!
-//! A [`Pool`] takes all its memory when it starts. A value goes into a free slot and is
-//! answered an id of that slot and of its birth, and no birth is ever answered twice, so an id
-//! that was given back never reads the value that came after it.
+//! A [`Pool`] takes all its memory when it starts. A value goes into a free slot, and its id is
+//! that slot with a new birth. No birth is used twice, so an id that was given back never reads a
+//! later value of its slot.
 #![tactic(auto)]
 
 mod laws;

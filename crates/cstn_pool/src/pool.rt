@@ -54,8 +54,8 @@ impl<T: Copy> Pool<T> {
         })
     }
 
-    /// Puts a value into a free slot, under a birth that was never answered before. `Full` exactly
-    /// where no slot is free; then nothing changes.
+    /// Puts a value into a free slot under a birth that was never used before, and returns its id.
+    /// `Full` exactly where no slot is free; then nothing changes.
     pub fn take(&mut self, value: T) -> Result<SlotId, Full>
         requires { self.old.births < 2 ^ 63 }
 
@@ -67,7 +67,7 @@ impl<T: Copy> Pool<T> {
         ensures birth { IfOk result (λ id. id.birth ≡ self.old.births) }
         ensures taken { IfOk result (λ id. self.new ≡ record { slots = slice_set self.old.slots id.slot (Some (id.birth, value)); births = self.old.births + 1 }) }
 
-        // Whichever slots were given back: after any calls there is room up to the capacity.
+        // After any calls there is room up to the capacity, whichever slots were given back.
         ensures after_calls { (capacity : ℕ) (calls : List (Call T)) → AfterCalls calls (record { slots = replicate capacity None; births = 0 }) self.old → (IsOk result ↔ (live_of self.old.slots < capacity)) }
     {
         let birth = self.births;
@@ -85,7 +85,7 @@ impl<T: Copy> Pool<T> {
         Ok(SlotId { slot, birth })
     }
 
-    /// The value under this id; `None` exactly where this slot doesn't hold one of this birth.
+    /// The value under this id; `None` exactly where its slot doesn't hold a value of its birth.
     pub fn get(&self, id: SlotId) -> Option<T>
         ensures value { result ≡ value_at self.now.slots id.slot id.birth }
         ensures births { IsBorn self.now.births self.now.slots }
@@ -93,7 +93,8 @@ impl<T: Copy> Pool<T> {
         value_in(&self.slots, id)
     }
 
-    /// Gives the slot back and answers the value; `None` exactly where `get` answers it.
+    /// Gives the slot back and returns the value; `None`, and nothing changes, exactly where `get`
+    /// returns `None`.
     pub fn give(&mut self, id: SlotId) -> Option<T>
         ensures value { result ≡ value_at self.old.slots id.slot id.birth }
         ensures none { IfNone result (self.new ≡ self.old) }
@@ -106,7 +107,7 @@ impl<T: Copy> Pool<T> {
         Some(value)
     }
 
-    /// How many values there are.
+    /// How many values the pool holds.
     pub fn live(&self) -> u32
         ensures live { result ≡ live_of self.now.slots }
         ensures at_most { result ≤ length self.now.slots }

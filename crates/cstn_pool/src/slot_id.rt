@@ -5,6 +5,6 @@
 pub struct SlotId {
     /// The place in the pool, below its capacity.
     pub slot: u32,
-    /// How many births the pool had answered before this one.
+    /// How many births the pool had before this one.
     pub birth: u64,
 }

@@ -139,7 +139,7 @@ step_back names k e label are small is read =
     (rule_back k e.why (bound_with names e.bound label) small is.places)
     ∙ ap (λ o. o >>= (λ b. Some (record { bound = b; why = e.why }))) (named_back names e label are is read)
 
--- no LF
+-- the text has no LF
 abbrev IsFree : List ℕ → Type 0
 IsFree text = All (λ b. b ≢ 10) text
 

@@ -1,4 +1,4 @@
--- A text that says a load and steps is theirs, but for the order of marks.
+-- A text that says a load and steps is the printed one, but for the order of marks.
 use Rattle.std.proofs.Common.{ℕ, ◌≡◌, ◌+◌, ◌≤◌, Bool, true, false, List, [], ◌∷◌, ◌++◌, length, get_or, min, arith, refl, sym, ap, ◌∙◌, subst, append_assoc, append-nil, length-append}
 use Rattle.std.specs.Prelude.{◌==◌, ◌&&◌, nat_le, is_some, if◌then◌else◌, bytes_eq, Option, Some, None, codes, pos}
 use Rattle.std.proofs.lemmas.Option.{same_Some}
@@ -175,7 +175,7 @@ unfolding lines_of joined
 lines_joined [] = refl
 lines_joined (b ∷ bytes) = byte_joined b (b == 10) (lines_of bytes) refl ∙ ap (λ (t : List ℕ). b ∷ t) (lines_joined bytes)
 
--- what the lines after some steps are
+-- the text is the lines of further steps, which with those before make all
 abbrev AreMore : List (List ℕ) → List Entry → List Entry → List ℕ → Type 0
 AreMore names done all text = (more : List Entry) × (all ≡ done ++ more) × AreLines names (length done) more text
 

@@ -19,7 +19,7 @@ use Rattle.cstn_refute.specs.Steps.{◌>>=◌, part, place_read, places_read, ch
 use Rattle.cstn_refute.specs.Texts.{Told, tells, wrong, at_end, or_wrong, told_after, load_read, lines_of, told_lines, told}
 use Rattle.cstn_refute.specs.Written.{ArePlaces, IsPrintableStep, AreWritten}
 
--- what is read of the first, where the whole is read
+-- where o and then f give a value, o has one from which f gives it
 pub first_some : {A B : Type 0} (o : Option A) (f : A → Option B) (y : B) → (o >>= f) ≡ Some y → (x : A) × (o ≡ Some x) × (f x ≡ Some y)
 first_some None f y e = absurd (cc)
 first_some (Some x) f y e = (x, refl, e)
@@ -123,7 +123,7 @@ not_wrong line load steps e = cc
 pub tells_both : (one other : ℕ) (xs ys : List Entry) → tells one xs ≡ tells other ys → (one ≡ other) × (xs ≡ ys)
 tells_both one other xs ys e = (cc, cc)
 
--- what tells a load and steps has no wrong line first
+-- where a load and steps are told, the line is read, and what comes next tells them
 pub told_or_wrong : {A : Type 0} (o : Option A) (line : ℕ) (next : A → Told) (load : ℕ) (steps : List Entry) →
     or_wrong o line next ≡ tells load steps → (x : A) × (o ≡ Some x) × (next x ≡ tells load steps)
 told_or_wrong None line next load steps e = absurd (not_wrong line load steps e)

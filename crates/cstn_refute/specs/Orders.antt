@@ -15,7 +15,7 @@ bound_with names b label = printed_name (slice_index_or names b.node []) ++ 32 �
 abbrev pub step_with : List (List ℕ) → ℕ → Entry → List ℕ → List ℕ
 step_with names k e label = printed_number k ++ 32 ∷ printed_why e.why ++ 32 ∷ bound_with names e.bound label
 
--- the lines of the steps from the place k on, each with some text of its label
+-- the lines of the steps from the place k on, each with some text that is read as its label
 abbrev pub AreLines : List (List ℕ) → ℕ → List Entry → List ℕ → Type 0
 AreLines names k [] text = text ≡ []
 AreLines names k (e ∷ steps) text =

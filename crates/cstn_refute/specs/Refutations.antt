@@ -15,13 +15,13 @@ pub record IsStep (e : Entry) : Type 0 where
   pub low : pos 0 ≤ℤ e.bound.least
   pub high : e.bound.least ≤ℤ pos 1000001
 
--- one step or more, and fewer than 2^32
+-- one step or more, and fewer than 2^32, each with a least value in range
 pub record AreSteps (steps : List Entry) : Type 0 where
   pub some : 1 ≤ length steps
   pub few : length steps < 2 ^ 32
   pub each : All IsStep steps
 
--- a text has numbers for the load and for each step
+-- the load and the number of steps are in the ranges of a text
 pub record FitsText (r : RefutationParts) : Type 0 where
   pub load_low : 1 ≤ r.load
   pub load_high : r.load ≤ 4194304

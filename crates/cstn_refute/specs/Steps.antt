@@ -12,7 +12,7 @@ use Rattle.cstn_text.specs.PrintedNames.{name_read, printed_name}
 use Rattle.cstn_text.specs.PrintedLabels.{label_read, printed_label}
 
 infixl 20 ◌>>=◌
--- what is read of the first, if it is there
+-- what f gives from the value of o, if both are there
 abbrev pub ◌>>=◌ : {A B : Type 0} → Option A → (A → Option B) → Option B
 o >>= f = option_and_then f o
 
@@ -24,7 +24,7 @@ part bytes = cut_at 32 bytes
 abbrev pub place_read : List ℕ → Option ℕ
 place_read text = number_within 0 4294967295 text
 
--- two of them, each with a space after it, and what follows
+-- two such numbers, each with a space after it, and what follows
 abbrev pub places_read : List ℕ → Option (ℕ × ℕ × List ℕ)
 places_read bytes =
     part bytes >>= (λ one. part one.1 >>= (λ other.
@@ -50,15 +50,15 @@ bound_read x bytes =
     part bytes >>= (λ least. number_within 0 1000001 least.0 >>= (λ d. label_read least.1 >>= (λ a.
     Some (record { node = x; least = pos d; label = a }))))
 
--- the printed form of a name of the list
+-- the number of the name of which this is the printed form
 abbrev pub node_read : List (List ℕ) → List ℕ → Option ℕ
 node_read names text = name_read text >>= number_of names
 
--- a time-point, a space, and the rest of its bound
+-- the printed name of a time-point, a space, and the rest of its bound
 abbrev pub named_bound_read : List (List ℕ) → List ℕ → Option Bound
 named_bound_read names bytes = part bytes >>= (λ name. node_read names name.0 >>= (λ x. bound_read x name.1))
 
--- the place of a step, which is k and below 4,194,304
+-- whether the text is the number k, where k is below 4,194,304
 abbrev pub is_place : ℕ → List ℕ → Bool
 is_place k text = is_some (number_within k (min k 4194303) text)
 

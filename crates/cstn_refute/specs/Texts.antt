@@ -25,7 +25,7 @@ pub data Told : Type 0 where
   tells : ℕ → List Entry → Told
   wrong : ℕ → Told
 
--- the text ends after a step, with LF
+-- what a text says at its end: its load and steps, where there is a step and nothing stands behind the last LF
 abbrev pub at_end : ℕ → List Entry → List ℕ → Told
 at_end load [] tail = wrong 2
 at_end load (e ∷ steps) [] = tells load (e ∷ steps)
@@ -36,14 +36,14 @@ abbrev pub or_wrong : {A : Type 0} → Option A → ℕ → (A → Told) → Tol
 or_wrong None line next = wrong line
 or_wrong (Some x) line next = next x
 
--- what the lines say after some steps: a step each
+-- what a text says after these steps, where each line that is left is a step
 unfoldable pub told_after : List (List ℕ) → ℕ → List Entry → List (List ℕ) → List ℕ → Told
 told_after names load steps [] tail = at_end load steps tail
 told_after names load steps (line ∷ lines) tail =
     or_wrong (step_read names (length steps) line) (length steps + 2)
     (λ e. told_after names load (steps ++ e ∷ []) lines tail)
 
--- the first line: `no`, a space, and the load
+-- the load that the first line says, which is `no`, a space, and the load
 abbrev pub load_read : List ℕ → Option ℕ
 load_read line = part line >>= (λ word. if bytes_eq word.0 (codes "no") then number_within 1 4194304 word.1 else None)
 
@@ -55,11 +55,11 @@ told_lines names (line ∷ lines) tail = or_wrong (load_read line) 1 (λ load. t
 abbrev pub told : List (List ℕ) → List ℕ → Told
 told names bytes = told_lines names (lines_of bytes).0 (lines_of bytes).1
 
--- the lines of the steps
+-- the lines of the steps from the place k on, each with its LF
 abbrev pub printed_steps : List (List ℕ) → ℕ → List Entry → List ℕ
 printed_steps names k [] = []
 printed_steps names k (e ∷ steps) = printed_step names k e ++ 10 ∷ printed_steps names (k + 1) steps
 
--- the text of a load and steps
+-- the printed text of a load and steps
 abbrev pub shown : List (List ℕ) → ℕ → List Entry → List ℕ
 shown names load steps = codes "no " ++ printed_number load ++ 10 ∷ printed_steps names 0 steps

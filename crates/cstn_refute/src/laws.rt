@@ -6,15 +6,16 @@ ghost use Rattle.cstn_refute.specs.Texts.{tells, told, shown};
 ghost use Rattle.cstn_refute.specs.Orders.{IsTextOfSteps};
 ghost use Rattle.cstn_refute.specs.Written.{AreWritten};
 
-/// The text of a load and steps says them, where each step's time-point has a name and the numbers are in their ranges.
-/// What any text says is in these ranges.
+/// The printed text of a load and steps is read as these again, where each step's time-point has a name and the numbers are in
+/// their ranges. What is read of any text is in these ranges.
 #[tactic(auto, using(crate::proofs::BackLemmas::shown_back, crate::proofs::SaidLemmas::text_said))]
 pub fn texts_are_read_back()
     ensures back { (names : List (List ℕ)) (load : ℕ) (steps : List Entry) → AreNames names → AreWritten names load steps → told names (shown names load steps) ≡ tells load steps }
     ensures ranges { (names : List (List ℕ)) (bytes : List ℕ) (load : ℕ) (steps : List Entry) → told names bytes ≡ tells load steps → AreWritten names load steps }
 {}
 
-/// The texts that say a load and steps in their ranges are the printed one, but for the order of the marks in its labels.
+/// The texts that are read as a load and steps in their ranges are exactly the printed one and those that differ from it in the
+/// order of marks in labels alone.
 pub fn texts_are_the_shown_ones()
     ensures said { (names : List (List ℕ)) (bytes : List ℕ) (load : ℕ) (steps : List Entry) → told names bytes ≡ tells load steps → IsTextOfSteps names load steps bytes }
     ensures says { (names : List (List ℕ)) (load : ℕ) (steps : List Entry) (bytes : List ℕ) → AreNames names → AreWritten names load steps → IsTextOfSteps names load steps bytes → told names bytes ≡ tells load steps }

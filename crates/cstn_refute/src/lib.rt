@@ -1,4 +1,4 @@
-//! Refutations as data: a load and a list of steps, and their text.
+//! Refutations as data: a load and a list of steps. They are printed as texts and read from them.
 #![tactic(auto)]
 
 mod errors;

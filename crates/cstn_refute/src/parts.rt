@@ -11,7 +11,7 @@ use cstn_label::{Bound, NodeId};
 use cstn_rules::{Entry, Why};
 use cstn_text::{Names, cut_at, read_label, read_number_within};
 
-/// What stands before the first space, and what stands after it.
+/// What stands before the first space, and what stands after it, if there is a space.
 pub(crate) fn part(bytes: &[u8]) -> Option<(&[u8], &[u8])>
     ensures part { option_map (λ parts. (parts.0.now, parts.1.now)) result ≡ part bytes.now }
 {
@@ -88,7 +88,7 @@ fn is_place(k: u32, bytes: &[u8]) -> bool
     read_number_within(k, k.min(MOST_STEPS - 1), bytes).is_some()
 }
 
-// The rule of the step at the place k, and what follows it.
+// The rule in the line of the step at the place k, and what follows it, if the line begins so.
 fn read_rule(k: u32, line: &[u8]) -> Option<(Why, &[u8])>
     ensures rule { option_map (λ found. (found.0, found.1.now)) result ≡ rule_read k line.now }
     ensures few { IfSome result (λ found. k < 4194304) }
@@ -121,7 +121,7 @@ fn read_named_bound(names: &Names, bytes: &[u8]) -> Option<Bound>
     read_bound(node, rest)
 }
 
-/// The step that a line is, if it is one whose place is k.
+/// The step that a line says, if it is the line of a step at the place k.
 pub(crate) fn read_step(names: &Names, k: u32, line: &[u8]) -> Option<Entry>
     requires few { length names.now ≤ 65536 }
     ensures step { option_map the_entry result ≡ step_read names.now k line.now }

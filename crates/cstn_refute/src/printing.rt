@@ -21,7 +21,7 @@ use std::alloc::{AllocError, Global};
 const USUAL_LINE: usize = 40;
 
 impl Refutation {
-    /// The text of the refutation: a line for its load, and one for each step.
+    /// The text of the refutation: a line for its load, and one for each step. Fails only where memory is refused.
     ///
     /// Where the load is from 1 to 4,194,304 and there are at most 4,194,304 steps, the text is read again as the same
     /// refutation. Beside the text it takes memory for the printed names, and none for a line.

@@ -18,8 +18,9 @@ use cstn_text::{Names, cut_at, read_number_within};
 use std::alloc::{AllocError, Global};
 
 impl Refutation {
-    /// The refutation that a text is. `Line` with the first line that isn't of the form, counted from 1. A text that ends
-    /// without a step, or without its last LF, is wrong at the line that is missing or cut.
+    /// Reads a refutation from its text. Fails with `Line` for the first line that isn't of the form, counted from 1: a text
+    /// that ends without a step, or without its last LF, is wrong at the line that is missing or cut. Fails with `Memory` where
+    /// memory is refused.
     pub fn read(alloc: Global, names: &Names, bytes: &[u8]) -> Result<Refutation, RefuteError>
         requires few { length names.now ≤ 65536 }
         ensures accepted { IfOk result (λ r. told names.now bytes.now ≡ tells r.load (the_steps r)) }
@@ -48,7 +49,7 @@ fn read_load(line: &[u8]) -> Option<u32>
     read_number_within(1, MOST_LOAD, rest)
 }
 
-// The refutation of a load and of the lines of its steps.
+// Reads the lines of the steps, and makes the refutation of these and the load.
 fn read_steps(
     alloc: Global,
     names: &Names,
@@ -76,7 +77,7 @@ fn read_steps(
     finish(load, steps, left)
 }
 
-// The step at the place k: what its line is, if it is of the form.
+// The step at the place k, which this line says; or the number of the line, where it isn't of the form.
 fn read_next(names: &Names, k: u32, line: &[u8]) -> Result<Entry, RefuteError>
     requires few { length names.now ≤ 65536 }
     requires place { k ≤ 4194304 }
@@ -91,7 +92,7 @@ fn read_next(names: &Names, k: u32, line: &[u8]) -> Result<Entry, RefuteError>
     }
 }
 
-// The refutation of the steps, where the text ends after one, with LF.
+// The refutation of the load and the steps, if there is a step and the text ends behind the LF of the last one.
 fn finish(load: u32, steps: Vec<Entry>, left: &[u8]) -> Result<Refutation, RefuteError>
     requires few { length steps.items ≤ 4194304 }
     requires each { All IsStep steps.items }

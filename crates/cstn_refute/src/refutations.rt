@@ -4,7 +4,8 @@ ghost use Rattle.cstn_refute.specs.Refutations.{AreSteps};
 use cstn_rules::Entry;
 use std::marker::Model;
 
-/// What a check hands out after a no: its load, and steps that are to refute the network. Nothing says that they do.
+/// What a check hands out after a no: its load, and steps that are to refute the network. The value alone doesn't say that they
+/// do; a replay decides it.
 #[derive(Debug, Drop)]
 pub struct Refutation {
     load: u32,

@@ -17,7 +17,7 @@ fn names(rt: &impl Abort, alloc: Global) -> Names {
     names
 }
 
-// The text is read, and printed so.
+// The text is read, and what was read is printed as expected.
 fn printed(rt: &impl Abort, alloc: Global, text: &str, expected: &str) -> Result<(), Fail> {
     let names = names(rt, alloc);
     assert!(rt; names.count() < 1000);
@@ -51,7 +51,7 @@ fn texts_are_printed_and_read(rt: HostRuntime) -> Result<(), Fail> {
     Ok(())
 }
 
-// A refutation of some size is printed and read: 2,000 steps.
+// A refutation of 2,000 steps is read and printed.
 #[test]
 fn thousands_of_steps_are_read(rt: HostRuntime) -> Result<(), Fail> {
     let alloc = rt.alloc();

@@ -24,7 +24,7 @@ same_bounds equal a b same = built a.node.0 b.node.0 a.least b.least a.label b.l
     (ap {A = TheBound} (λ x. x.node) same) (ap {A = TheBound} (λ x. x.least) same)
     (equal a.label b.label (ap {A = TheBound} (λ x. x.label) same))
 
--- where at most one bound can be concluded, it is the bound of which that is so
+-- where a call answers the only bound that a rule gives, if there is one, it answers r exactly where the rule gives r
 pub concluded : {P : TheBound → Type 0} → AreTheirMarks → (o : Option Bound) (r : Bound) → IfSome o (λ x. P (the_bound x)) →
     IfNone o ((q : TheBound) → P q → ⊥) → ((q s : TheBound) → P q → P s → q ≡ s) → (o ≡ Some r) ↔ P (the_bound r)
 concluded equal None r h none one = (λ e. cc, λ p. absurd (none (the_bound r) p))
@@ -33,7 +33,7 @@ concluded {P} equal (Some x) r h none one = (
   λ p. ap Some (same_bounds equal x r (one (the_bound x) (the_bound r) h p)),
 )
 
--- no bound is concluded of any number
+-- where P holds of no number and bound, it holds of no bound with some number
 pub none_of_all : (P : ℕ → TheBound → Type 0) (o : Option Bound) → IfNone o ((p : ℕ) (q : TheBound) → P p q → ⊥) →
     IfNone o ((q : TheBound) → (p : ℕ) × P p q → ⊥)
 none_of_all P None none = λ q x. none x.0 q x.1
@@ -42,7 +42,7 @@ none_of_all P (Some x) none = tt
 same_marks : (y z n m p : ℕ) → y ≡ z → n ≡ m → mark_of (has_bit y p) (has_bit n p) ≡ mark_of (has_bit z p) (has_bit m p)
 same_marks y z n m p e f = cc
 
--- the test of bounds by their parts
+-- whether two bounds are equal part by part
 abbrev pub test : Bound → Bound → Bool
 test a b = eqb a.node.0 b.node.0 && (int_eq a.least b.least && (eqb a.label.yes b.label.yes && eqb a.label.no b.label.no))
 

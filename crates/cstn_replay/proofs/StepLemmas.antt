@@ -19,7 +19,7 @@ use Rattle.cstn_refute.specs.Refutations.{IsStep}
 use Rattle.cstn_replay.proofs.IdLemmas.{one_id}
 use Rattle.cstn_replay.specs.Wrong.{IsRight, AreRightBefore}
 
--- each step asks for 0 or more
+-- each step's least value is 0 or more
 abbrev pub AreLow : List Entry → Type 0
 AreLow steps = (i : ℕ) (e : Entry) → slice_get steps i ≡ Some e → pos 0 ≤ℤ e.bound.least
 
@@ -31,12 +31,12 @@ base_within : (net : Network) (r : TheBound) → IsBase net r → IsBoundOf net 
 base_within net r is = subst (λ x. IsBoundOf net x) (sym is.gives)
     (record { node = is.node; low = omega (arith, ints); high = omega (arith, ints) })
 
--- what chain gives is at a time-point of the network, and asks for at most the limit + 1
+-- what chain gives is at a time-point of the network, with a least value of at most the limit + 1
 abbrev pub ChainsStay : Type 0
 ChainsStay = (net : Network) (c : Constraint) (b r : TheBound) → IsConstraint net c → IsChain net c b r →
     (r.node < count net) × (r.least ≤ℤ pos (limit net r.node + 1))
 
--- and so is what wait gives
+-- what wait gives is at a time-point of the network, with a least value of at most the limit + 1
 abbrev pub WaitsStay : Type 0
 WaitsStay = (net : Network) (p : ℕ) (seen b r : TheBound) → b.node < count net → IsWait net p seen b r →
     (r.node < count net) × (r.least ≤ℤ pos (limit net r.node + 1))
@@ -69,7 +69,7 @@ pub last_image : (xs : List DeclaredEntry) (x : DeclaredEntry) → slice_get xs 
     slice_get (map the_entry xs) (length (map the_entry xs) - 1) ≡ Some (the_entry x)
 last_image xs x there = rw (length-map xs the_entry) (there_image xs (length xs - 1) x there)
 
--- steps of the form of a refutation ask for 0 or more
+-- steps of the form of a refutation have least values of 0 or more
 pub steps_low : (xs : List DeclaredEntry) → All IsStep xs → AreLow (map the_entry xs)
 steps_low xs each i e there = elim (slice_get_cases xs i).1 [
   | inl f ↦
@@ -95,7 +95,7 @@ pub earlier : (xs : List DeclaredEntry) (k i : ℕ) (x : DeclaredEntry) → i < 
 earlier xs k i x before there =
     record { before = before; entry = the_entry x; there = there_image xs i x there; bound = refl }
 
--- one bound stands at a place
+-- at most one bound stands at a place
 pub one_earlier : (steps : List Entry) (k i : ℕ) (b d : TheBound) → IsEarlier steps k i b → IsEarlier steps k i d → b ≡ d
 one_earlier steps k i b d e f =
     let one = e.there in

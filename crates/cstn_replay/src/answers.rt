@@ -3,6 +3,7 @@
 pub enum Answer {
     /// The steps refute the network, which has no strategy.
     Accepted,
-    /// The first step that doesn't follow by its rule; the last one, where all follow and it doesn't refute the network.
+    /// `step` is the place, from 0, of the first step that doesn't follow by its rule, or of the last step, where all follow
+    /// and the last doesn't refute the network.
     Rejected { step: u32 },
 }

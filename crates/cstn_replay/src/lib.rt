@@ -1,4 +1,4 @@
-//! A replay of refutations: each step is looked at alone, by the rules, and nothing is kept.
+//! The replay of a refutation: checks each step alone, by its rule, from the network and the earlier steps that it names.
 #![tactic(auto)]
 
 mod answers;

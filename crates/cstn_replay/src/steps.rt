@@ -28,11 +28,11 @@ pub(crate) fn follows(net: &Network, steps: &[Entry], k: usize) -> bool
     is_given(net, steps, k, step.why, step.bound)
 }
 
-/// Every network is well formed.
+/// Does nothing but tell the proof of its caller that every network is well-formed.
 pub(crate) fn is_well_formed(net: &Network)
     ensures { IsWellFormed (the_network net.now) }
 {
-    // The clauses of any reader say it.
+    // The contract of each call that reads a network says so.
     let _ = net.count();
 }
 
@@ -155,7 +155,7 @@ fn premise(net: &Network, steps: &[Entry], k: usize, i: u32) -> Option<Bound>
     Some(step.bound)
 }
 
-// The constraint of an id.
+// The constraint that has the id, if there is one.
 fn constraint_of(net: &Network, id: u32) -> Option<&Constraint>
     ensures there { IfSome result (λ c. Contains net.now.constraints c.now) }
     ensures id { IfSome result (λ c. c.now.id ≡ id) }

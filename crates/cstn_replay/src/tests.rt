@@ -50,7 +50,7 @@ fn entry(why: Why, node: u16, least: i32, label: Label) -> Entry {
     Entry { bound, why }
 }
 
-// The five steps that refute it.
+// The five steps that refute the network `too_late`.
 fn proof() -> [Entry; 5] {
     [
         base(0, 0),
@@ -90,7 +90,7 @@ fn refutation(
     Ok(Refutation::new(load, steps))
 }
 
-// The replay of the steps answers so.
+// The replay of these steps on the network gives this answer.
 fn answers(
     rt: &impl Abort,
     alloc: Global,
@@ -103,7 +103,7 @@ fn answers(
     Ok(())
 }
 
-// The replay rejects the proof at the place k, where this is its step.
+// The replay rejects the proof at the place k, where `e` stands there instead of its step.
 fn changed(rt: &impl Abort, alloc: Global, net: &Network, k: usize, e: Entry) -> Result<(), Fail> {
     let mut steps = proof();
     assert!(rt; k < 5);
@@ -163,7 +163,7 @@ fn rejects_what_follows_from_later_steps(rt: HostRuntime) -> Result<(), Fail> {
     Ok(())
 }
 
-// The label of p and !q.
+// The label p!q.
 fn told_apart() -> Label {
     p(Mark::Yes).with(Prop { index: 42 }, Mark::No)
 }

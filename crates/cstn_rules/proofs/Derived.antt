@@ -157,7 +157,7 @@ follows_elsewhere net cs steps k e (Wait i j) has f = (
   record { observes = record { what = f.5.observes.what }; marked = f.5.marked; gives = f.5.gives },
 )
 
--- a derivation is one of each network that has the constraints that it uses, and is the same else
+-- a derivation is one of each network that has the constraints that it uses, and is otherwise the same
 pub derivation_elsewhere : (net : Network) (cs : List Constraint) (steps : List Entry) →
     ((c : Constraint) (b : Bound) (k i : ℕ) → Contains net.constraints c →
     slice_get steps k ≡ Some (record { bound = b; why = Chain c.id i }) → Contains cs c) →

@@ -65,7 +65,7 @@ one_wait net p q seen b r s one other =
 pub one_base : (net : Network) (r q : Bound) → IsBase net r → IsBase net q → r.node ≡ q.node → r ≡ q
 one_base net r q one other same = one.gives ∙ ap base same ∙ sym other.gives
 
--- and has one exactly where its premises fit
+-- chain and wait have a conclusion exactly where their premises fit
 pub chained : (net : Network) (c : Constraint) (b : Bound) →
     ((r : Bound) × IsChain net c b r) ↔ ((b.node ≡ c.to) × IsPlain (joined b.label c.label))
 chained net c b = (

@@ -1,4 +1,4 @@
--- What a rule gives holds in each table in which its premises hold.
+-- What a rule gives holds in each strategy in which its premises hold, and a refuting bound in none.
 use Rattle.std.proofs.Common.{ℕ, ◌≡◌, ◌<◌, inl, inr, Option, Some, None, false, arith, refl, sym, subst}
 use Rattle.std.specs.Prelude.{pos, ◌≤ℤ◌, slice_index_or}
 use Rattle.std.specs.List.{Contains}
@@ -55,7 +55,7 @@ chain_before net table c b dynamic meets here at together h = record {
       omega (arith, ints);
 }
 
--- chain, in a dynamic table that meets the one constraint
+-- what chain gives holds in a dynamic table that meets the constraint, where its premise does
 pub chain_sound : (net : Network) (table : Table) (c : Constraint) (b r : Bound) → IsNetwork net → IsDynamic net table →
     ((s : Scenario) → Holds s c.label → Meets (table s) c) → c.from < count net → IsChain net c b r →
     HoldsIn net table b → HoldsIn net table r
@@ -63,7 +63,7 @@ chain_sound net table c b r good dynamic meets here chain h =
     subst (λ x. HoldsIn net table x) (sym chain.gives)
     (finished_holds net table (carried c b) good (chain_before net table c b dynamic meets here chain.at chain.together h))
 
--- chain, in a strategy
+-- what chain gives holds in a strategy, where its premise does
 pub chain_in_strategy : (net : Network) (table : Table) (c : Constraint) (b r : Bound) → IsNetwork net →
     IsStrategy net table → Contains net.constraints c → IsChain net c b r → HoldsIn net table b → HoldsIn net table r
 chain_in_strategy net table c b r good strategy has chain h =
@@ -91,7 +91,7 @@ wait_before net table p seen b good observes seen_holds h = record {
       ];
 }
 
--- wait, in any table
+-- what wait gives holds in any table, where its premises do
 pub wait_sound : (net : Network) (table : Table) (p : ℕ) (seen b r : Bound) → IsNetwork net → IsWait net p seen b r →
     HoldsIn net table seen → HoldsIn net table b → HoldsIn net table r
 wait_sound net table p seen b r good wait seen_holds h =

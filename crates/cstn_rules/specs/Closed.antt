@@ -11,8 +11,8 @@ pub record IsCovered (bounds : List Bound) (r : Bound) : Type 0 where
   pub in_list : Contains bounds by
   pub dominates : Dominates by r
 
--- the bounds are at time-points of the network with marks on observed propositions alone, whatever a rule gives from them is
--- covered by them, and none of them refutes the network
+-- The bounds are at time-points of the network and mark observed propositions alone, each conclusion of a rule from them is
+-- covered by them, and none of them refutes the network.
 pub record IsClosed (net : Network) (bounds : List Bound) : Type 0 where
   pub nodes : (b : Bound) → Contains bounds b → b.node < count net
   pub observed : (b : Bound) → Contains bounds b → IsOnObserved net b.label

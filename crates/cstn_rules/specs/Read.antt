@@ -1,4 +1,4 @@
--- How the values of the program are read.
+-- What the definitions see in the values of the program.
 use Rattle.cstn_label.specs.Read.{the_bound}
 use Rattle.cstn_rules.specs.declared.entries.Entry.{Entry}
 use Rattle.cstn_rules.specs.Derivations.{Entry as TheEntry}

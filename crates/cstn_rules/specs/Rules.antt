@@ -31,7 +31,7 @@ pub record IsBase (net : Network) (r : Bound) : Type 0 where
 abbrev pub carried : Constraint → Bound → Bound
 carried c b = record { node = c.from; least = b.least -ℤ c.most; label = joined b.label c.label }
 
--- whoever doesn't know p waits until it is known, or for as long as a bound that marks p asks
+-- while p isn't known, a time-point waits until p is known, or until the least value of the bound that marks p, if that is less
 abbrev pub awaited : Network → ℕ → Bound → Bound → Bound
 awaited net p seen b = record {
   node = b.node;
@@ -39,14 +39,14 @@ awaited net p seen b = record {
   label = joined seen.label (without b.label p);
 }
 
--- chain: of a bound at the constraint's `to`, where the two labels are plain together
+-- chain: the conclusion from a bound at the constraint's `to`, where the two labels are plain together
 pub record IsChain (net : Network) (c : Constraint) (b r : Bound) : Type 0 where
   pub at : b.node ≡ c.to
   pub plain : IsPlain b.label
   pub together : IsPlain (joined b.label c.label)
   pub gives : r ≡ finished net (carried c b)
 
--- wait: of a bound at the observer of p, and one that marks p
+-- wait: the conclusion from a bound at the observer of p, and one that marks p
 pub record IsWait (net : Network) (p : ℕ) (seen b r : Bound) : Type 0 where
   pub observes : Observes net seen.node p
   pub marked : IsMarked b.label p

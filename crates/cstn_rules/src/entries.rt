@@ -1,6 +1,7 @@
 use cstn_label::Bound;
 
-/// The rule that gave a bound: a constraint by its id, and premises by their places in the list, from 0.
+/// The rule that gave a bound, with its constraint by id, and its premises by their places in the list, from 0. The premise
+/// `seen` of wait is the one at the observer.
 #[derive(Clone, Copy, Debug, PartialEq, Eq)]
 pub enum Why {
     Base,

@@ -11,8 +11,8 @@ ghost use Rattle.cstn_rules.specs.declared.entries.Why.TheVariants.{Chain};
 ghost use Rattle.cstn_rules.specs.Rules.{base, IsBase, IsChain, IsWait, Refutes};
 ghost use Rattle.cstn_rules.specs.Derivations.{Entry, Follows, IsDerivation, IsRefutation};
 
-/// Base holds in every table, and what wait gives holds in each table in which its premises hold; what chain gives does in
-/// each dynamic table that meets its constraint. A bound that refutes a network holds in none of its strategies.
+/// Base holds in every table. What wait gives holds in each table in which its premises hold, and what chain gives in each such
+/// table that is dynamic and meets the constraint. A bound that refutes a network holds in none of its strategies.
 pub fn rules_are_sound()
     ensures base { (net : Network) (table : Table) (r : Bound) → IsBase net r → HoldsIn net table r }
     ensures chain { (net : Network) (table : Table) (c : Constraint) (b r : Bound) → IsNetwork net → IsDynamic net table → ((s : Scenario) → Holds s c.label → Meets (table s) c) → c.from < count net → IsChain net c b r → HoldsIn net table b → HoldsIn net table r }
@@ -27,7 +27,7 @@ pub fn derivations_are_sound()
 {}
 
 /// A conclusion is at a time-point of the network, asks for at most the limit + 1, and marks only what its premises or its
-/// constraint mark. One that asks for less than 0 is dominated by base.
+/// constraint mark. One that asks for 0 or less is dominated by base.
 pub fn conclusions_stay_within()
     ensures chain { (net : Network) (c : Constraint) (b r : Bound) → IsConstraint net c → IsChain net c b r → (r.node < count net) × (r.least ≤ℤ pos (limit net r.node + 1)) }
     ensures chain_marks { (net : Network) (c : Constraint) (b r : Bound) (p : ℕ) → IsChain net c b r → b.label p ≡ Absent → c.label p ≡ Absent → r.label p ≡ Absent }
@@ -45,15 +45,15 @@ pub fn rules_have_one_conclusion()
     ensures chained { (net : Network) (c : Constraint) (b : Bound) → (((r : Bound) × IsChain net c b r) ↔ ((b.node ≡ c.to) × IsPlain (joined b.label c.label))) }
 {}
 
-/// A wait of two bounds has a conclusion exactly where the one is at the observer of a proposition that the other marks. So
-/// a search that passes over all other pairs passes over no conclusion.
+/// Wait has a conclusion from two bounds exactly where the first is at the observer of a proposition that the second marks. So
+/// a search may leave out all other pairs without missing a conclusion.
 pub fn waits_are_at_observers()
     ensures only { (net : Network) (p : ℕ) (seen b r : Bound) → IsWait net p seen b r → Observes net seen.node p × IsMarked b.label p }
     ensures awaited { (net : Network) (p : ℕ) (seen b : Bound) → (((r : Bound) × IsWait net p seen b r) ↔ (Observes net seen.node p × IsMarked b.label p)) }
 {}
 
-/// A derivation grows by an entry that follows from it, from the empty list on. Its first entries are one, and it is one of each
-/// network that differs in constraints alone and has those that it uses.
+/// The empty list is a derivation, and a derivation with a further entry that follows from it is one. So are the first entries
+/// of a derivation. A derivation is also one of each network that differs in constraints alone and has those that it uses.
 pub fn derivations_move()
     ensures empty { (net : Network) → IsDerivation net [] }
     ensures grown { (net : Network) (steps : List Entry) (last : Entry) → IsDerivation net steps → Follows net steps (length steps) last.why last.bound → IsDerivation net (steps ++ last ∷ []) }

@@ -13,8 +13,8 @@ use crate::counters::Tries;
 use cstn_label::{Bound, Label, Mark, NodeId, Prop, joined_is_the_least_above};
 use cstn_net::{Constraint, Network};
 
-/// What chain gives from a constraint of the network and a bound of it, or None where it gives nothing. The conclusion may
-/// ask for less than 0; base dominates it then. One more try is counted.
+/// The conclusion of chain from a constraint and a bound of the network, or None where there is none. Its least value may be
+/// below 0; base dominates it then. Counts one more try.
 pub fn chain(net: &Network, c: &Constraint, b: &Bound, tries: &mut Tries) -> Option<Bound>
     requires constraint { Contains net.now.constraints c.now }
     requires bound { IsBoundOf (the_network net.now) (the_bound b.now) }
@@ -42,8 +42,8 @@ pub fn chain(net: &Network, c: &Constraint, b: &Bound, tries: &mut Tries) -> Opt
     }
 }
 
-/// What wait gives from two bounds of the network, or None where it gives nothing. It gives a bound where `seen` is at the
-/// observer of some proposition, and `b` has a mark on that. One more try is counted.
+/// The conclusion of wait from two bounds of the network, or None where there is none. There is one exactly where `seen` is at
+/// an observer and `b` marks the proposition that this observes. Counts one more try.
 pub fn wait(net: &Network, seen: &Bound, b: &Bound, tries: &mut Tries) -> Option<Bound>
     requires seen { IsBoundOf (the_network net.now) (the_bound seen.now) }
     requires bound { IsBoundOf (the_network net.now) (the_bound b.now) }
@@ -62,7 +62,7 @@ pub fn wait(net: &Network, seen: &Bound, b: &Bound, tries: &mut Tries) -> Option
     }
 }
 
-/// Whether the bound refutes the network: its label is plain, and its least value is above the limit.
+/// Whether the bound refutes the network: its label is plain, and its least value is above its time-point's limit.
 pub fn refutes(net: &Network, b: &Bound) -> bool
     requires node { b.now.node.0 < count (the_network net.now) }
     ensures refutes { IsTrue result ↔ Refutes (the_network net.now) (the_bound b.now) }
@@ -71,7 +71,7 @@ pub fn refutes(net: &Network, b: &Bound) -> bool
     b.label.is_plain() && b.least > net.limit(b.node)
 }
 
-// What wait gives for the proposition p, which the first bound's time-point observes.
+// The conclusion of wait for the proposition p, which the time-point of `seen` observes; None where `b` doesn't mark p.
 fn wait_for(net: &Network, p: Prop, seen: &Bound, b: &Bound) -> Option<Bound>
     requires observes { Observes (the_network net.now) (the_bound seen.now).node p.index }
     requires seen { IsBoundOf (the_network net.now) (the_bound seen.now) }
@@ -92,7 +92,7 @@ fn wait_for(net: &Network, p: Prop, seen: &Bound, b: &Bound) -> Option<Bound>
     Some(finish(net, awaited))
 }
 
-// The ticks after its observer at which p is known.
+// How many ticks after its observer p is known.
 fn reaction(net: &Network, p: Prop) -> i32
     requires { (x : ℕ) × Observes (the_network net.now) x p.index }
     ensures reaction { result ≡ pos ((the_network net.now).reaction p.index) }
@@ -102,7 +102,8 @@ fn reaction(net: &Network, p: Prop) -> i32
     net.reaction(p) as i32
 }
 
-// The two finishing steps of every rule.
+// The last two steps of chain and of wait: the least value is cut to the limit + 1, and a mark on what the time-point observes
+// is taken off.
 fn finish(net: &Network, b: Bound) -> Bound
     requires { b.node.0 < count (the_network net.now) }
     ensures { the_bound result ≡ finished (the_network net.now) (the_bound b) }

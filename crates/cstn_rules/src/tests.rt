@@ -34,7 +34,7 @@ fn bound(node: u16, least: i32, label: Label) -> Bound {
 }
 
 // Z, P, which observes p with this reaction, and X: X is at 10 or later where p is true, and at 3 or earlier where it is false.
-// Where it is late, P is at 3 or later.
+// With `is_late`, P is at 3 or later.
 fn branch(alloc: Global, reaction: u32, is_late: bool) -> Result<Builder, AllocError> {
     let mut net = Builder::new(alloc, 10);
     net.node(None)?;
@@ -149,7 +149,7 @@ fn follows_on_the_branch(rt: HostRuntime) {
     );
 }
 
-// The constraint at the place asks for the least value of X from the bound, and that refutes the network, or not.
+// Constraint 0 gives X this least value from the bound, and that refutes the network where `is_late` is set, and only there.
 fn asks(rt: &impl Abort, net: &Network, b: Bound, least: i32, is_late: bool) {
     let asked = bound(1, least, Label::empty());
     assert_eq!(rt; chained(net, 0, b), Some(asked));

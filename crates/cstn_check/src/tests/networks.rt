@@ -24,7 +24,8 @@ fn pq(of_p: Mark, of_q: Mark) -> Label {
     only(P, of_p).with(Q, of_q)
 }
 
-// The network of these time-points, by what they observe, and of constraints with these ends, values and labels.
+// The network with a time-point for each of `points`, which says what it observes, and constraints with these ends, values and
+// labels.
 fn network(
     rt: &impl Abort,
     alloc: Global,
@@ -67,7 +68,7 @@ pub(super) fn branched(rt: &impl Abort, alloc: Global) -> Network {
     )
 }
 
-/// And P is at 3 or later.
+/// The network `branched`, with P at 3 or later.
 pub(super) fn branched_late(rt: &impl Abort, alloc: Global) -> Network {
     network(
         rt,
@@ -115,7 +116,7 @@ const B: Prop = Prop { index: 27 };
 
 const C: Prop = Prop { index: 28 };
 
-/// Z and six others, of which the first three observe, with the twelve constraints that the number 1 generates.
+/// Z and six others, of which the first three observe, with the twelve constraints that are generated from the number 1.
 pub(super) fn generated(rt: &impl Abort, alloc: Global) -> Network {
     let plain = Label::empty();
     let c = only(C, Mark::Yes);

@@ -24,7 +24,8 @@ pub(super) fn grown(alloc: Global, net: &Network, turns: u32) -> Result<Vec<Entr
     Ok(list)
 }
 
-// Whether the list is refuted after the turn, which ends there; and so for each step of it.
+// Takes the turn j, up to the first entry that refutes the network, and says whether there was one. The functions below say the
+// same after one rule.
 fn turn(net: &Network, list: &mut Vec<Entry>, j: u32) -> Result<bool, AllocError> {
     for place in 0..net.constraints().len() {
         if try_chain(net, list, place, j)? {
@@ -109,7 +110,7 @@ fn live(net: &Network, list: &[Entry], k: u32) -> Option<Bound>
     }
 }
 
-// Each bound of the list is one of the network.
+// Whether the bound is at a time-point of the network, with a least value from 0 to the limit + 1.
 fn is_of_network(net: &Network, b: &Bound) -> bool
     ensures { IsTrue result → IsBoundOf (the_network net.now) (the_bound b.now) }
 {

@@ -39,7 +39,8 @@ fn by_wait(seen: u32, premise: u32) -> Why {
     Why::Wait { seen, premise }
 }
 
-// The network of these time-points, by what they observe, and of constraints with these ends, values and labels.
+// The network with a time-point for each of `points`, which says what it observes, and constraints with these ends, values and
+// labels.
 fn network(
     rt: &impl Abort,
     alloc: Global,
@@ -191,7 +192,7 @@ fn are_live(log: &Log, places: &[u32]) -> bool {
     true
 }
 
-// The last entry has this bound, and the entries at these places are live.
+// The last entry has this bound, and the entries at these places are live, and no others.
 fn is_at(rt: &impl Abort, log: &Log, last: Bound, live: &[u32]) {
     let len = log.len();
     assert!(rt; len > 0 && log.entry(len - 1).bound == last);
@@ -276,7 +277,7 @@ fn refuted(rt: &impl Abort, alloc: Global, net: &Network) -> Log
     log
 }
 
-// Takes out what a constraint gave: so many entries.
+// Takes out what a constraint gave, which is this many entries.
 fn loses(rt: &impl Abort, log: &mut Log, constraint: u32, entries: u32)
     requires births { log.old.births < 2000 }
     ensures nodes { log.new.nodes ≡ log.old.nodes }
@@ -317,7 +318,7 @@ fn premises_keep_to_their_entries(rt: HostRuntime) {
     drop(net);
 }
 
-// The two entries from place 5 on were given so.
+// There are seven entries, and these rules gave the last two.
 fn ends_by(rt: &impl Abort, log: &Log, before: Why, last: Why) {
     assert!(rt; log.len() == 7);
     assert!(rt; log.entry(5).why == before && log.entry(6).why == last);

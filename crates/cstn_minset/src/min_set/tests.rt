@@ -17,7 +17,7 @@ fn set(alloc: Global) -> Result<MinSet, AllocError>
     MinSet::start(alloc, 4, 16)
 }
 
-// Places a bound under the slot and the birth of its turn.
+// Places a bound that no entry dominates, with its turn as slot and birth.
 fn add(set: &mut MinSet, b: Bound, turn: u32)
     requires node { b.node.0 < set.old.nodes }
     requires room { turn < length set.old.table }
@@ -33,7 +33,7 @@ fn add(set: &mut MinSet, b: Bound, turn: u32)
     }
 }
 
-// Places the bounds of 4 time-points, each under the slot and the birth of its turn.
+// Places the bounds of 4 time-points in turn, but for those that an entry dominates.
 fn add_all(set: &mut MinSet, rows: [Row; 14])
     requires nodes { set.old.nodes ≡ 4 }
     requires room { length set.old.table ≡ 16 }
@@ -56,7 +56,7 @@ fn after(set: &MinSet, id: SlotId) -> Option<SlotId> {
     if set.holds(id) { set.next(id) } else { None }
 }
 
-// The id of the bound that is placed at that turn.
+// The id of the bound that is placed in this turn.
 fn born(turn: u32) -> SlotId
     ensures { (result.slot ≡ turn) × (result.birth ≡ turn) }
 {

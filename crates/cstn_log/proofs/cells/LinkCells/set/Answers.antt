@@ -3,7 +3,7 @@ use Rattle.cstn_pool.specs.Slots.{padded}
 use Rattle.cstn_log.specs.Chains.{Cells, no_place}
 use Rattle.cstn_log.proofs.cells.LinkCells.set.Goals as goal
 
--- a place that is written of what a resize answers
+-- setting a cell after a resize sets it in the padded cells
 resized_at : {A : Type 0} (blank : A) (n m i len : ℕ) (x : A) (written new : List A) → new ≡ take m written ++ replicate (m - len) blank → len ≡ length written →
     padded blank n (set (take m written ++ replicate (m - length written) blank) i x) ≡ set (padded blank n written) i x → padded blank n (set new i x) ≡ set (padded blank n written) i x
 resized_at blank n m i len x written new is size filled = rw (is, size) filled
