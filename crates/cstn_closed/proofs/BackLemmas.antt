@@ -79,7 +79,7 @@ named_back names b label are is read =
     ∙ ap (λ o. o >>= (λ x. bound_read x rest)) (node_back names b.node are is.node)
     ∙ bound_at b.node b.least b.label label is.low is.high read
 
--- no LF
+-- the text has no LF
 abbrev IsFree : List ℕ → Type 0
 IsFree text = All (λ b. b ≢ 10) text
 

@@ -13,7 +13,7 @@ use Rattle.cstn_closed.specs.Faults.{Fault, bad, no_base, no_chain, no_wait, IsF
 use Rattle.cstn_closed.specs.Instances.{AreFit, AreBasesCovered, AreChainsCovered, AreWaitsCovered, IsSoBefore, IsFirstOfKind, IsFirstThere}
 use Rattle.cstn_closed.proofs.ListLemmas.{is_there}
 
--- what fits, or is covered, is no fault
+-- a bound that fits isn't bad, and a chain or a wait that is covered is no fault
 module _ (net : Network) (bounds : List Bound) where
   fit_there : (i : ℕ) → ((b : Bound) → slice_get bounds i ≡ Some b → IsFit net b) → IsFault net bounds (bad i) → ⊥
   fit_there i fit fault = fault.2 (fit fault.0 fault.1)
@@ -24,7 +24,7 @@ module _ (net : Network) (bounds : List Bound) where
   wait_there : (i j : ℕ) → ((b : Bound) → slice_get bounds i ≡ Some b → AreWaitsCovered net bounds b) → IsFault net bounds (no_wait i j) → ⊥
   wait_there i j covered fault = fault.7 (covered fault.1 fault.4 fault.2 (is_there bounds j fault.2 fault.5) fault.0 fault.3 fault.6)
 
-  -- none of them, of all kinds below
+  -- where all bounds fit, none is bad; where all bases, all chains or all waits are covered, there is no fault of their kind
   pub none_bad : AreFit net bounds → (i : ℕ) → IsFault net bounds (bad i) → ⊥
   none_bad fit i = fit_there i (λ b there. fit b (is_there bounds i b there))
 
@@ -85,7 +85,7 @@ module _ (net : Network) (bounds : List Bound) where
       earlier (no_wait k l) same (inr (alike, inl lower)) fault = wait_there k l (λ b at. before k b lower at) fault
       earlier (no_wait k l) same (inr (alike, inr (at, lower))) fault = there.before (no_wait k l) refl at lower fault
 
-  -- the first of its kind is the first fault where there is none of the kinds before
+  -- the first fault of its kind is the first of all where there is none of the kinds before
   pub first_of_all : (f : Fault) → IsFirstOfKind net bounds f → ((g : Fault) → kind g < kind f → IsFault net bounds g → ⊥) → IsFirstFault net bounds f
   first_of_all f first lower = record { fault = first.fault; before = earlier }
     where
@@ -93,7 +93,7 @@ module _ (net : Network) (bounds : List Bound) where
       earlier g (inl less) fault = lower g less fault
       earlier g (inr later) fault = first.before g later.0 (inr later) fault
 
-  -- and so for the four kinds, one after the other
+  -- the first fault of each of the four kinds is the first of all, where the conditions of the kinds before hold
   pub first_bad : (i : ℕ) → IsFirstOfKind net bounds (bad i) → IsFirstFault net bounds (bad i)
   first_bad i first = first_of_all (bad i) first (λ g less fault. omega arith)
 
@@ -125,7 +125,7 @@ module _ (net : Network) (bounds : List Bound) where
       lower (no_chain id k) less fault = none_chained chains id k fault
       lower (no_wait k l) less fault = omega arith
 
-  -- a list that has none of the four kinds
+  -- a list that has no fault of the four kinds is faultless
   pub no_fault : AreFit net bounds → AreBasesCovered net bounds → ((b : Bound) → Contains bounds b → AreChainsCovered net bounds b) →
       ((b : Bound) → Contains bounds b → AreWaitsCovered net bounds b) → IsFaultless net bounds
   no_fault fit bases chains waits (bad i) fault = none_bad fit i fault
@@ -133,7 +133,7 @@ module _ (net : Network) (bounds : List Bound) where
   no_fault fit bases chains waits (no_chain id i) fault = none_chained chains id i fault
   no_fault fit bases chains waits (no_wait i j) fault = none_awaited waits i j fault
 
-  -- it is closed
+  -- such a list is closed
   pub faultless_closed : AreFit net bounds → AreBasesCovered net bounds → ((b : Bound) → Contains bounds b → AreChainsCovered net bounds b) →
       ((b : Bound) → Contains bounds b → AreWaitsCovered net bounds b) → IsClosed net bounds
   faultless_closed fit bases chains waits = record {
@@ -145,7 +145,7 @@ module _ (net : Network) (bounds : List Bound) where
     none_refutes = λ b has. (fit b has).harmless;
   }
 
-  -- and what is closed, with least values in range, has no fault
+  -- a closed list with least values in range has no fault
   pub closed_faultless : IsClosed net bounds → ((b : Bound) → Contains bounds b → IsBoundOf net b) → IsFaultless net bounds
   closed_faultless closed range = no_fault
       (λ b has. record { range = range b has; observed = closed.observed b has; harmless = closed.none_refutes b has })
@@ -153,7 +153,7 @@ module _ (net : Network) (bounds : List Bound) where
       (λ b has c in_net r is. closed.chain c b r in_net has is)
       (λ seen has b also p r is. closed.wait p seen b r has also is)
 
--- of two faults one is before the other, or they are one
+-- of two faults one is before the other, or they are the same
 one_of : (f g : Fault) → (IsBefore f g ⊎ IsBefore g f) ⊎ (f ≡ g)
 one_of f g = elim (cases_lt (kind f) (kind g)) [
   | inl lower ↦ inl (inl (inl lower))
@@ -190,7 +190,7 @@ one_first net bounds f g first also = elim (one_of f g) [
   | inr same ↦ same
 ]
 
--- with a fault, the answer isn't that the list is accepted, and else it is
+-- where there is a fault and the answer isn't `Accepted`, the answer is `Accepted` exactly where the list has no fault
 pub refused : (net : Network) (bounds : List Bound) (f : Fault) (a : ClosedAnswer) → (a ≡ Accepted → ⊥) → IsFirstFault net bounds f →
     (a ≡ Accepted) ↔ IsFaultless net bounds
 refused net bounds f a other first = (λ is. absurd (other is), λ none. absurd (none f first.fault))

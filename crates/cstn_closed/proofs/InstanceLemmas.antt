@@ -25,17 +25,17 @@ use Rattle.cstn_closed.proofs.WalkLemmas.{IsWalked}
 one_there : {X : Type 0} (xs : List X) (k : ℕ) (x y : X) → slice_get xs k ≡ Some x → slice_get xs k ≡ Some y → x ≡ y
 one_there xs k x y is also = same_Some x y (sym is ∙ also)
 
--- an element of an image is that of an element
+-- an element of the mapped list is the image of the element at the same place
 from_image : (cs : List Declared) (k : ℕ) (y : Constraint) → slice_get (map the_constraint cs) k ≡ Some y → (x : Declared) × (slice_get cs k ≡ Some x) × (the_constraint x ≡ y)
 from_image [] k y is = absurd (none-some y is)
 from_image (x ∷ xs) zero y is = (x, refl, same_Some (the_constraint x) y is)
 from_image (x ∷ xs) (suc k) y is = from_image xs k y is
 
--- what chain gives of the constraint at the place k and the bound is covered
+-- what chain derives from the constraint at the place k and the bound is covered
 abbrev pub IsChainedAt : NetworkParts → List Bound → Bound → ℕ → Type 0
 IsChainedAt net bounds b k = (c : Declared) → slice_get net.constraints k ≡ Some c → IsChainCovered (the_network net) bounds (the_constraint c) b
 
--- a constraint that ends at another time-point gives nothing
+-- from a constraint that ends at another time-point chain derives nothing
 pub chained_elsewhere : (net : NetworkParts) (bounds : List Bound) (b : Bound) (k : ℕ) → k < length (ends net.constraints) →
     (get_or (ends net.constraints) k 0 ≡ b.node → ⊥) → IsChainedAt net bounds b k
 chained_elsewhere net bounds b k inside other c there r is =
@@ -43,13 +43,13 @@ chained_elsewhere net bounds b k inside other c there r is =
     absurd (other (get_or-map (λ (d : Declared). d.to.0) net.constraints k c 0 within
     ∙ ap (λ (d : Declared). d.to.0) (get_or_from_slice_get net.constraints k c c there) ∙ sym is.at))
 
--- the constraint that was read at a place
+-- the chain at the place k is covered where that of the constraint that was read there is
 pub chained_here : (net : NetworkParts) (bounds : List Bound) (b : Bound) (k : ℕ) (c : Declared) → slice_get net.constraints k ≡ Some c →
     IsChainCovered (the_network net) bounds (the_constraint c) b → IsChainedAt net bounds b k
 chained_here net bounds b k c is covered d there =
     subst (λ x. IsChainCovered (the_network net) bounds (the_constraint x) b) (one_there net.constraints k c d is there) covered
 
--- the walk has ended, and all are covered
+-- where the walk has ended, what chain derives from any constraint and the bound is covered
 pub all_chained : (net : NetworkParts) (bounds : List Bound) (b : Bound) (p : ℕ) → IsWalked (IsChainedAt net bounds b) (ends net.constraints) b.node p →
     length net.constraints ≤ p → AreChainsCovered (the_network net) bounds b
 all_chained net bounds b p walked ended c has r is =
@@ -74,7 +74,7 @@ ascends cs i j c d up at also less =
     image_at k x there =
         get_or-map the_constraint cs k c (the_constraint c) (slice_get_within cs k x there) ∙ ap the_constraint (get_or_from_slice_get cs k x c there)
 
--- the first constraint of the walk of which chain isn't covered is that of the least id
+-- the first constraint of the walk from which chain derives what isn't covered is the one with the least id
 pub first_chained : (net : NetworkParts) (bounds : List Bound) (b : Bound) (i p : ℕ) (c : Declared) → IsWellFormed (the_network net) →
     IsWalked (IsChainedAt net bounds b) (ends net.constraints) b.node p → slice_get bounds i ≡ Some b → slice_get net.constraints p ≡ Some c →
     (r : Bound) × IsChain (the_network net) (the_constraint c) b r × (IsCovered bounds r → ⊥) → IsFirstThere (the_network net) bounds (no_chain c.id i)
@@ -107,7 +107,7 @@ first_chained net bounds b i p c wf walked at here gives = record {
           ]
         ]
 
--- the first bound of which wait isn't covered
+-- the first bound from which wait, with `seen`, derives what isn't covered is the first fault of its kind at that place
 first_awaited : (net : Network) (bounds : List Bound) (i j : ℕ) (seen b : Bound) → slice_get bounds i ≡ Some seen → slice_get bounds j ≡ Some b →
     IsSoBefore (IsWaitCovered net bounds seen) bounds j → (p : ℕ) × (r : Bound) × IsWait net p seen b r × (IsCovered bounds r → ⊥) →
     IsFirstThere net bounds (no_wait i j)
@@ -124,15 +124,15 @@ first_awaited net bounds i j seen b at here before gives = record {
         let its : fault.1 ≡ seen = one_there bounds i fault.1 seen (subst (λ n. slice_get bounds n ≡ Some fault.1) there fault.4) at in
         fault.7 (before l fault.2 less fault.5 fault.0 fault.3 (subst (λ x. IsWait net fault.0 x fault.2 fault.3) its fault.6))
 
--- what wait gives of the bound at the place k is covered
+-- what wait derives from `seen` and the bound at the place k is covered
 abbrev pub IsAwaitedAt : Network → List Bound → Bound → ℕ → Type 0
 IsAwaitedAt net bounds seen k = (b : Bound) → slice_get bounds k ≡ Some b → IsWaitCovered net bounds seen b
 
--- wait gives something of bounds that mark the observed proposition alone
+-- wait derives something only from bounds that mark the observed proposition
 awaited_marks : (net : Network) (seen b r : Bound) (p q : ℕ) → Observes net seen.node p → IsWait net q seen b r → IsMarked b.label p
 awaited_marks net seen b r p q observes is = subst (IsMarked b.label) (same_Some q p (sym is.observes.what ∙ observes.what)) is.marked
 
--- so the bounds before one that marks it are covered where those among them that mark it are
+-- what wait derives from any bound before the i-th that marks p is covered, where this holds for the first i that mark p
 waits_before : (net : Network) (bounds : List Bound) (seen : Bound) (p i : ℕ) → Observes net seen.node p → i < length (marking p bounds) →
     ((n : ℕ) → n < i → IsAwaitedAt net bounds seen (get_or (marking p bounds) n 0)) →
     IsSoBefore (IsWaitCovered net bounds seen) bounds (get_or (marking p bounds) i 0)
@@ -140,7 +140,7 @@ waits_before net bounds seen p i observes inside done j b before there q r is =
     let at = marked_before p bounds i j b inside before there (awaited_marks net seen b r p q observes is) in
     done at.0 at.1 b (subst (λ k. slice_get bounds k ≡ Some b) (sym at.2) there) q r is
 
--- and all are
+-- what wait derives from any bound is covered, where this holds for all bounds that mark p
 waits_all : (net : Network) (bounds : List Bound) (seen : Bound) (p i : ℕ) → Observes net seen.node p → length (marking p bounds) ≤ i →
     ((n : ℕ) → n < i → IsAwaitedAt net bounds seen (get_or (marking p bounds) n 0)) → AreWaitsCovered net bounds seen
 waits_all net bounds seen p i observes all done b has q r is =
@@ -148,7 +148,7 @@ waits_all net bounds seen p i observes all done b has q r is =
     let at = marked_at p bounds there.0 b there.1 (awaited_marks net seen b r p q observes is) in
     done at.0 (omega (arith, at.1)) b (subst (λ k. slice_get bounds k ≡ Some b) (sym at.2) there.1) q r is
 
--- the next of them stands in the list
+-- the place of a bound that marks p is one of the list
 pub place_read : (bounds : List DeclaredBound) (places : List ℕ) (p i d : ℕ) → places ≡ marking p (map the_bound bounds) → i < length places → get_or places i d < length bounds
 place_read bounds places p i d are inside =
     let within : i < length (marking p (map the_bound bounds)) = subst (λ (ps : List ℕ). i < length ps) are inside in
@@ -157,7 +157,7 @@ place_read bounds places p i d are inside =
     ap (λ (ps : List ℕ). get_or ps i d) are ∙ get_or_default (marking p (map the_bound bounds)) i d 0 within in
     omega (arith, at, below, length-map bounds the_bound)
 
--- one more of them is covered
+-- what wait derives is covered for the first i + 1 bounds that mark p, where it is for the first i and for the next
 pub waits_more : (net : Network) (bounds : List Bound) (seen : Bound) (places : List ℕ) (i d : ℕ) → i < length places →
     ((n : ℕ) → n < i → IsAwaitedAt net bounds seen (get_or places n 0)) → IsAwaitedAt net bounds seen (get_or places i d) →
     (n : ℕ) → n < i + 1 → IsAwaitedAt net bounds seen (get_or places n 0)
@@ -166,7 +166,7 @@ waits_more net bounds seen places i d inside done here n before = elim (cases_lt
   | inr past ↦ subst (IsAwaitedAt net bounds seen) (get_or_default places i d 0 inside ∙ ap (λ m. get_or places m 0) (let e : i ≡ n = omega arith in e)) here
 ]
 
--- the first of them that isn't
+-- the first of these bounds from which wait derives what isn't covered gives the first fault of its kind at that place
 pub first_marked : (net : Network) (bounds : List Bound) (at p i d : ℕ) (places : List ℕ) (seen b : Bound) → places ≡ marking p bounds → i < length places →
     Observes net seen.node p → slice_get bounds at ≡ Some seen → slice_get bounds (get_or places i d) ≡ Some b →
     ((n : ℕ) → n < i → IsAwaitedAt net bounds seen (get_or places n 0)) → (q : ℕ) × (r : Bound) × IsWait net q seen b r × (IsCovered bounds r → ⊥) →
@@ -177,13 +177,13 @@ first_marked net bounds at p i d places seen b are inside observes there here do
     let before = waits_before net bounds seen p i observes within (subst (λ (ps : List ℕ). (n : ℕ) → n < i → IsAwaitedAt net bounds seen (get_or ps n 0)) are done) in
     first_awaited net bounds at (get_or places i d) seen b there here (subst (IsSoBefore (IsWaitCovered net bounds seen) bounds) (sym same) before) gives
 
--- none of them isn't
+-- what wait derives from any bound is covered, where this holds for all of `places`
 pub all_marked : (net : Network) (bounds : List Bound) (p i : ℕ) (places : List ℕ) (seen : Bound) → places ≡ marking p bounds → length places ≤ i →
     Observes net seen.node p → ((n : ℕ) → n < i → IsAwaitedAt net bounds seen (get_or places n 0)) → AreWaitsCovered net bounds seen
 all_marked net bounds p i places seen are all observes done =
     waits_all net bounds seen p i observes (subst (λ (ps : List ℕ). length ps ≤ i) are all)
     (subst (λ (ps : List ℕ). (n : ℕ) → n < i → IsAwaitedAt net bounds seen (get_or ps n 0)) are done)
 
--- at a time-point that observes nothing, no bound gives a wait
+-- at a time-point that observes nothing, wait derives nothing
 pub none_observed : (net : Network) (bounds : List Bound) (seen : Bound) → ((p : ℕ) → Observes net seen.node p → ⊥) → AreWaitsCovered net bounds seen
 none_observed net bounds seen none b has p r is = absurd (none p is.observes)

@@ -74,7 +74,7 @@ cut_shorter bytes line rest is = at (position (λ b. b == 10) bytes) refl is
         let inside = its.0 in
         subst (λ (parts : List ℕ × List ℕ). length parts.1 < length bytes) (pair _ _ e) (grind (arith, common_steps))
 
--- what the lines left say, by the first of them
+-- what the remaining lines say, by the first of them
 pub told_next : (names : List (List ℕ)) (load : ℕ) (bounds : List Declared) (left line rest : List ℕ) →
     cut_at 10 left ≡ Some (line, rest) →
     told_after names load (map the_bound bounds) (lines_of left).0 (lines_of left).1 ≡
@@ -86,7 +86,7 @@ told_next names load bounds left line rest is =
     ∙ ap (λ n. or_wrong (line_read names n line) (n + 2)
     (λ b. told_after names load (map the_bound bounds ++ b ∷ []) (lines_of rest).0 (lines_of rest).1)) (length-map bounds the_bound)
 
--- what is told stays where the next line is a step
+-- what is told stays the same when the next line is read as a bound
 pub told_on : (names : List (List ℕ)) (load : ℕ) (bounds : List Declared) (left line rest : List ℕ) (b : Declared) (t : Told) →
     cut_at 10 left ≡ Some (line, rest) → line_read names (length bounds) line ≡ Some (the_bound b) →
     told_after names load (map the_bound bounds) (lines_of left).0 (lines_of left).1 ≡ t →

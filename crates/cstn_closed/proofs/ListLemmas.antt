@@ -34,7 +34,7 @@ so_all P bounds n long before b has =
     let within = slice_get_within bounds there.0 b there.1 in
     before there.0 b (omega arith) there.1
 
--- the bound at a place, as it stands for one
+-- the bound at a place of the mapped list is the image of the one at that place
 pub image_there : (bounds : List Declared) (i : ℕ) (b : Declared) → slice_get bounds i ≡ Some b → slice_get (map the_bound bounds) i ≡ Some (the_bound b)
 image_there bounds i b there = slice_get-map the_bound bounds i ∙ ap (option_map the_bound) there
 

@@ -18,7 +18,7 @@ put_append : (m : Bool) (k : ℕ) (xs ys : List ℕ) → put_if m k (xs ++ ys) �
 put_append true k xs ys = refl
 put_append false k xs ys = refl
 
--- one more bound
+-- the places with one more bound at the end of the list
 from_more : (p k : ℕ) (bounds : List Bound) (b : Bound) → marking_from p k (bounds ++ b ∷ []) ≡ marking_from p k bounds ++ put_if (is_marked (b.label p)) (k + length bounds) []
 from_more p k [] b = ap (λ n. put_if (is_marked (b.label p)) n []) (let e : k ≡ k + 0 = omega arith in e)
 from_more p k (x ∷ bounds) b =
@@ -26,7 +26,7 @@ from_more p k (x ∷ bounds) b =
     ∙ ap (λ n. marking_from p (k + 1) bounds ++ put_if (is_marked (b.label p)) n []) (let e : k + 1 + length bounds ≡ k + suc (length bounds) = omega arith in e))
     ∙ put_append (is_marked (x.label p)) k (marking_from p (k + 1) bounds) (put_if (is_marked (b.label p)) (k + suc (length bounds)) [])
 
--- the places of some bounds and of the next
+-- the places of the first k + 1 bounds, from those of the first k
 pub marking_more : (p : ℕ) (xs : List Declared) (k : ℕ) (x : Declared) → k < length xs → x ≡ get_or xs k x →
     marking p (map the_bound (take (k + 1) xs)) ≡ marking p (map the_bound (take k xs)) ++ put_if (is_marked ((the_bound x).label p)) k []
 marking_more p xs k x inside there =
@@ -37,7 +37,7 @@ marking_more p xs k x inside there =
     count : 0 + length (map the_bound (take k xs)) ≡ k
     count = omega (arith, length-map (take k xs) the_bound, length-take k xs)
 
--- one more bound was looked at: its place was put to the others, or it doesn't mark p
+-- when one more bound is looked at, its place is added if it marks p, and else the places stay
 pub place_put : (p : ℕ) (xs : List Declared) (k : ℕ) (x : Declared) (old new : List ℕ) (m : Bool) → k < length xs → x ≡ get_or xs k x →
     m ≡ is_marked ((the_bound x).label p) → m ≡ true → old ≡ marking p (map the_bound (take k xs)) → new ≡ old ++ k ∷ [] →
     new ≡ marking p (map the_bound (take (k + 1) xs))
@@ -70,7 +70,7 @@ markings_more {bounds} lists new n v before here put = record {
       ∙ sym (map-range_with_len_more (λ p. marking p bounds) 0 n n (omega arith));
 }
 
--- all of them
+-- the lists of the first 52 propositions are those of all
 pub all_markings : {bounds : List Bound} (lists : List (Vec ℕ Global)) (n : ℕ) → AreMarkings n bounds lists → n ≡ 52 → map items lists ≡ markings bounds
 all_markings {bounds} lists n are all = are.are ∙ ap (λ (m : ℕ). map (λ p. marking p bounds) (range_with_len 0 m)) all
 
@@ -78,7 +78,7 @@ all_markings {bounds} lists n are all = are.are ∙ ap (λ (m : ℕ). map (λ p.
 pub many_lists : (bounds : List Bound) (lists : List (Vec ℕ Global)) → map items lists ≡ markings bounds → length lists ≡ 52
 many_lists bounds lists is = sym (length-map lists items) ∙ ap length is ∙ length-map-range_with_len (λ p. marking p bounds) 0 52
 
--- it has the places of the bounds that mark it
+-- the list of p has the places of the bounds that mark p
 pub its_list : (bounds : List Bound) (lists : List (Vec ℕ Global)) (p : ℕ) (d : Vec ℕ Global) → map items lists ≡ markings bounds → p < 52 →
     (get_or lists p d).items ≡ marking p bounds
 its_list bounds lists p d is below =
@@ -86,7 +86,7 @@ its_list bounds lists p d is below =
     sym (get_or-map items lists p d [] (omega arith)) ∙ ap (λ (ls : List (List ℕ)). get_or ls p []) is
     ∙ get_or-map-range_with_len (λ p. marking p bounds) 0 52 p p [] below (omega arith)
 
--- places are not below the first
+-- no place is below that of the first bound
 put_lower : (m : Bool) (k : ℕ) (places : List ℕ) → ((i : ℕ) → i < length places → k + 1 ≤ get_or places i 0) → (i : ℕ) → i < length (put_if m k places) → k ≤ get_or (put_if m k places) i 0
 put_lower true k places all zero inside = omega arith
 put_lower true k places all (suc i) inside = let above = all i (omega arith) in omega arith
@@ -96,7 +96,7 @@ from_lower : (p k : ℕ) (bounds : List Bound) (i : ℕ) → i < length (marking
 from_lower p k [] i inside = absurd (omega arith)
 from_lower p k (b ∷ bounds) i inside = put_lower (is_marked (b.label p)) k (marking_from p (k + 1) bounds) (from_lower p (k + 1) bounds) i inside
 
--- nor behind the last
+-- no place is behind that of the last bound
 put_upper : (m : Bool) (k n : ℕ) (places : List ℕ) → k < n → ((i : ℕ) → i < length places → get_or places i 0 < n) → (i : ℕ) → i < length (put_if m k places) → get_or (put_if m k places) i 0 < n
 put_upper true k n places first all zero inside = first
 put_upper true k n places first all (suc i) inside = all i (omega arith)
@@ -108,11 +108,11 @@ from_upper p k (b ∷ bounds) i inside =
     put_upper (is_marked (b.label p)) k (k + length (b ∷ bounds)) (marking_from p (k + 1) bounds) (omega arith)
     (λ j h. let below = from_upper p (k + 1) bounds j h in omega arith) i inside
 
--- each is the place of a bound
+-- each place is that of a bound
 pub place_inside : (p : ℕ) (bounds : List Bound) (i : ℕ) → i < length (marking p bounds) → get_or (marking p bounds) i 0 < length bounds
 place_inside p bounds i inside = let upper = from_upper p 0 bounds i inside in omega arith
 
--- they ascend
+-- the places ascend
 put_ascends : (m : Bool) (k : ℕ) (places : List ℕ) → ((i : ℕ) → i < length places → k + 1 ≤ get_or places i 0) →
     ((i j : ℕ) → i < j → j < length places → get_or places i 0 < get_or places j 0) →
     (i j : ℕ) → i < j → j < length (put_if m k places) → get_or (put_if m k places) i 0 < get_or (put_if m k places) j 0
@@ -127,7 +127,7 @@ from_ascends p k [] i j less inside = absurd (omega arith)
 from_ascends p k (b ∷ bounds) i j less inside =
     put_ascends (is_marked (b.label p)) k (marking_from p (k + 1) bounds) (from_lower p (k + 1) bounds) (from_ascends p (k + 1) bounds) i j less inside
 
--- a place of the list
+-- k is an element of `places`
 abbrev IsAt : List ℕ → ℕ → Type 0
 IsAt places k = (i : ℕ) × (i < length places) × (get_or places i 0 ≡ k)
 
@@ -155,14 +155,14 @@ from_has p k (x ∷ bounds) (suc j) b there marked =
     put_later (is_marked (x.label p)) k (k + suc j) (marking_from p (k + 1) bounds)
     (subst (IsAt (marking_from p (k + 1) bounds)) (let e : k + 1 + j ≡ k + suc j = omega arith in e) (from_has p (k + 1) bounds j b there marked))
 
--- a bound that marks p stands at one of them
+-- the place of a bound that marks p is one of the places for p
 pub marked_at : (p : ℕ) (bounds : List Bound) (j : ℕ) (b : Bound) → slice_get bounds j ≡ Some b → IsMarked b.label p →
     (i : ℕ) × (i < length (marking p bounds)) × (get_or (marking p bounds) i 0 ≡ j)
 marked_at p bounds j b there marked =
     let at = from_has p 0 bounds j b there marked in
     (at.0, at.1, omega (arith, at.2))
 
--- and before the i-th of them where it stands before its bound
+-- where it is before the i-th place for p, it is one of the first i places for p
 pub marked_before : (p : ℕ) (bounds : List Bound) (i j : ℕ) (b : Bound) → i < length (marking p bounds) → j < get_or (marking p bounds) i 0 →
     slice_get bounds j ≡ Some b → IsMarked b.label p → (n : ℕ) × (n < i) × (get_or (marking p bounds) n 0 ≡ j)
 marked_before p bounds i j b inside before there marked =

@@ -72,14 +72,14 @@ module _ (xs : List ℕ) (low y : ℕ) (firsts nexts : List ℕ) (here : get_or 
 abbrev pub IsUnder : List Declared → Bound → ℕ → Type 0
 IsUnder bounds r k = (b : Declared) → slice_get bounds k ≡ Some b → Dominates (the_bound b) r → ⊥
 
--- a bound at another time-point doesn't
+-- a bound at another time-point than r doesn't dominate r
 pub under_elsewhere : (bounds : List Declared) (r : Bound) (k : ℕ) → k < length (nodes bounds) → (get_or (nodes bounds) k 0 ≡ r.node → ⊥) → IsUnder bounds r k
 under_elsewhere bounds r k inside other b there over =
     let at = get_or_from_slice_get bounds k b b there in
     let within = slice_get_within bounds k b there in
     other (get_or-map (λ (d : Declared). d.node.0) bounds k b 0 within ∙ ap (λ (d : Declared). d.node.0) at ∙ over.node)
 
--- the walk has ended, and none does
+-- where the walk has ended, no bound dominates r
 pub none_over : (bounds : List Declared) (r : Bound) (p : ℕ) → IsWalked (IsUnder bounds r) (nodes bounds) r.node p → length bounds ≤ p →
     IsCovered (map the_bound bounds) r → ⊥
 none_over bounds r p walked ended covered =
@@ -89,7 +89,7 @@ none_over bounds r p walked ended covered =
     walked.done there.0 (omega arith) (omega (arith, length-map bounds (λ (d : Declared). d.node.0))) from.0 from.1
     (subst (λ d. Dominates d r) (sym from.2) covered.dominates)
 
--- a bound of the list does
+-- where a bound of the list dominates r, the list covers r
 pub one_over : (bounds : List Declared) (r : Bound) (k : ℕ) (b : Declared) → slice_get bounds k ≡ Some b → Dominates (the_bound b) r →
     IsCovered (map the_bound bounds) r
 one_over bounds r k b there over = record {
@@ -98,7 +98,7 @@ one_over bounds r k b there over = record {
   dominates = over;
 }
 
--- places, with the number of bounds where there is none
+-- the default of a place is the number of bounds, which is also that of their time-points
 pub place_as : (bounds : List Declared) (places : List ℕ) (k : ℕ) → get_or places k (length (nodes bounds)) ≡ get_or places k (length bounds)
 place_as bounds places k = ap (λ n. get_or places k n) (length-map bounds (λ (d : Declared). d.node.0))
 

@@ -40,7 +40,7 @@ one_more names load xs k x old inside there before =
     ∙ ap (λ t. codes "yes " ++ printed_number load ++ 10 ∷ t)
     (sym (lines_of_more names (map the_bound (take k xs)) (the_bound x)) ∙ ap (printed_bounds names) (sym more))
 
--- a name was printed at its place
+-- the text at the place of a name is the printed name
 pub name_at : (texts : List (String Global)) (names : List (List ℕ)) (i : ℕ) (d : String Global) → map string_bytes texts ≡ map printed_name names → i < length names →
     string_bytes (get_or texts i d) ≡ printed_name (get_or names i [])
 name_at texts names i d same inside =
@@ -92,7 +92,7 @@ are_named names (x ∷ xs) all =
     All-cons (IsNamed names) x xs (record { node = here.node; low = here.low; high = here.high })
     (are_named names xs (All-tail (IsPrintableBound names) (the_bound x) (map the_bound xs) all))
 
--- and a load and bounds that can be written fit a text
+-- a load and bounds that can be written fit a text
 pub fits_text : (names : List (List ℕ)) (c : ClosedParts) → AreWritten names c.load (the_bounds c) → FitsText c
 fits_text names c are = record {
   load_low = are.load_low;

@@ -24,7 +24,7 @@ use Rattle.cstn_closed.specs.Texts.{line_read, Told, tells, wrong, at_end, or_wr
 use Rattle.cstn_closed.specs.Orders.{AreLines, IsTextOfBounds}
 use Rattle.cstn_closed.specs.Written.{IsPrintableBound, AreWritten}
 
--- what is read of the first, where the whole is read
+-- where one reading after another succeeds, the first one does, and then the second
 pub first_some : {A B : Type 0} (o : Option A) (f : A → Option B) (y : B) → (o >>= f) ≡ Some y → (x : A) × (o ≡ Some x) × (f x ≡ Some y)
 first_some None f y e = absurd (cc)
 first_some (Some x) f y e = (x, refl, e)
@@ -40,7 +40,7 @@ within_text low high text n e =
 part_text : (bytes : List ℕ) (cut : List ℕ × List ℕ) → part bytes ≡ Some cut → bytes ≡ cut.0 ++ 32 ∷ cut.1
 part_text bytes cut e = cut_joined 32 bytes cut.0 cut.1 e
 
--- a test passed where the whole is read
+-- where something is read after a test, the test passed
 pub if_some : {A : Type 0} (b : Bool) (o : Option A) (y : A) → (if b then o else None) ≡ Some y → (b ≡ true) × (o ≡ Some y)
 if_some true o y e = (refl, e)
 if_some false o y e = absurd (cc)
@@ -56,7 +56,7 @@ node_text names text x e =
     let its = position-Some (bytes_eq name.0) names x [] name.2 in
     sym (name_printed text name.0 name.1).0 ∙ ap printed_name ((bytes_eq-Decides name.0 (get_or names x [])).0 its.1)
 
--- the bound can be written, and the text is its own, with some text of its label
+-- the bound can be written, and the bytes are its text, with some text of its label
 record IsSaid (names : List (List ℕ)) (bytes : List ℕ) (b : Bound) : Type 0 where
   written : IsPrintableBound names b
   label : List ℕ
@@ -88,7 +88,7 @@ named_said names bytes b e =
 few_said : (k : ℕ) → nat_lt k 4194304 ≡ true → k < 4194304
 few_said k e = grind arith
 
--- the line of a bound says one that can be written
+-- the line is that of a bound that can be written
 record IsLine (names : List (List ℕ)) (k : ℕ) (line : List ℕ) (b : Bound) : Type 0 where
   few : k < 4194304
   written : IsPrintableBound names b
@@ -120,7 +120,7 @@ not_wrong line load bounds e = cc
 pub tells_both : (one other : ℕ) (xs ys : List Bound) → tells one xs ≡ tells other ys → (one ≡ other) × (xs ≡ ys)
 tells_both one other xs ys e = (cc, cc)
 
--- what tells a load and bounds has no wrong line first
+-- where the rest of a text tells a load and bounds, its first line was read
 pub told_or_wrong : {A : Type 0} (o : Option A) (line : ℕ) (next : A → Told) (load : ℕ) (bounds : List Bound) →
     or_wrong o line next ≡ tells load bounds → (x : A) × (o ≡ Some x) × (next x ≡ tells load bounds)
 told_or_wrong None line next load bounds e = absurd (not_wrong line load bounds e)
@@ -200,7 +200,7 @@ unfolding lines_of joined
 lines_joined [] = refl
 lines_joined (b ∷ bytes) = byte_joined b (b == 10) (lines_of bytes) refl ∙ ap (λ (t : List ℕ). b ∷ t) (lines_joined bytes)
 
--- what the lines after some bounds are
+-- `all` is `done` and then bounds of which the text has the lines
 abbrev AreMore : List (List ℕ) → List Bound → List Bound → List ℕ → Type 0
 AreMore names done all text = (more : List Bound) × (all ≡ done ++ more) × AreLines names more text
 

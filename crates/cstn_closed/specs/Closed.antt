@@ -16,7 +16,7 @@ pub record ClosedParts : Type 0 where
 abbrev pub the_bounds : ClosedParts → List TheBound
 the_bounds c = map the_bound c.bounds
 
--- the bounds can be counted in 32 bits, and are found by their time-points, and by the propositions that they mark
+-- there are fewer than 2^32 bounds, and the places by time-point and by marked proposition are theirs
 pub record IsKept (bounds : List Bound) (firsts nexts : List ℕ) (lists : List (Vec ℕ Global)) : Type 0 where
   pub few : length bounds < 2 ^ 32
   pub places : ArePlaces (nodes bounds) firsts nexts

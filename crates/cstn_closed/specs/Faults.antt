@@ -1,4 +1,4 @@
--- The faults of a list of bounds: why it isn't closed for a network, or can't be told to be.
+-- The faults of a list of bounds: why it isn't closed for a network, or has least values out of range.
 use Rattle.std.specs.Prelude.{ℕ, ◌≡◌, ◌<◌, ◌⊎◌, List, Some, slice_get}
 use Rattle.std.specs.List.{Contains}
 use Rattle.cstn_label.specs.Bounds.{Bound}
@@ -13,8 +13,8 @@ pub record IsFit (net : Network) (b : Bound) : Type 0 where
   pub observed : IsOnObserved net b.label
   pub harmless : Refutes net b → ⊥
 
--- what is wrong: with the bound at a place, with a time-point, with a constraint, by its id, and the bound at a place, and with
--- the bounds at two places, of which the first is at an observer. Places count from 0
+-- where a fault may be: at a bound, by its place; at a time-point; at a constraint, by its id, and a bound, by its place; or at
+-- two bounds, by their places, the first of which is at an observer. Places count from 0
 pub data Fault : Type 0 where
   bad : ℕ → Fault
   no_base : ℕ → Fault

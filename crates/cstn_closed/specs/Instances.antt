@@ -15,32 +15,32 @@ AreFit net bounds = (b : Bound) → Contains bounds b → IsFit net b
 abbrev pub AreBasesCovered : Network → List Bound → Type 0
 AreBasesCovered net bounds = (x : ℕ) → x < count net → IsCovered bounds (base x)
 
--- what chain gives of a constraint and the bound is covered
+-- what chain derives from the constraint and the bound is covered
 abbrev pub IsChainCovered : Network → List Bound → Constraint → Bound → Type 0
 IsChainCovered net bounds c b = (r : Bound) → IsChain net c b r → IsCovered bounds r
 
--- and so for each constraint
+-- for each constraint, what chain derives from it and the bound is covered
 abbrev pub AreChainsCovered : Network → List Bound → Bound → Type 0
 AreChainsCovered net bounds b = (c : Constraint) → Contains net.constraints c → IsChainCovered net bounds c b
 
--- what wait gives of the two bounds is covered
+-- what wait derives from the two bounds is covered
 abbrev pub IsWaitCovered : Network → List Bound → Bound → Bound → Type 0
 IsWaitCovered net bounds seen b = (p : ℕ) (r : Bound) → IsWait net p seen b r → IsCovered bounds r
 
--- and so for each other bound of the list
+-- for each bound of the list, what wait derives from `seen` and it is covered
 abbrev pub AreWaitsCovered : Network → List Bound → Bound → Type 0
 AreWaitsCovered net bounds seen = (b : Bound) → Contains bounds b → IsWaitCovered net bounds seen b
 
--- the bound at each place before i is one of which P holds
+-- P holds of the bound at each place before i
 abbrev pub IsSoBefore : (Bound → Type 0) → List Bound → ℕ → Type 0
 IsSoBefore P bounds i = (j : ℕ) (b : Bound) → j < i → slice_get bounds j ≡ Some b → P b
 
--- a fault of the list, before which it has none of the kind
+-- a fault of the list, before which it has none of the same kind
 pub record IsFirstOfKind (net : Network) (bounds : List Bound) (f : Fault) : Type 0 where
   pub fault : IsFault net bounds f
   pub before : (g : Fault) → kind g ≡ kind f → IsBefore g f → IsFault net bounds g → ⊥
 
--- a fault of the list, before which it has none of the kind and of the same place
+-- a fault of the list, before which it has none of the same kind and place
 pub record IsFirstThere (net : Network) (bounds : List Bound) (f : Fault) : Type 0 where
   pub fault : IsFault net bounds f
   pub before : (g : Fault) → kind g ≡ kind f → place g ≡ place f → other g < other f → IsFault net bounds g → ⊥

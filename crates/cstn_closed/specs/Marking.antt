@@ -12,17 +12,17 @@ is_marked Yes = true
 is_marked No = true
 is_marked Unknown = true
 
--- a place is put before others where there is a mark
+-- the places with k put before them, if there is a mark
 abbrev pub put_if : Bool → ℕ → List ℕ → List ℕ
 put_if true k places = k ∷ places
 put_if false k places = places
 
--- the bounds stand from the place k on: the places of those that mark p, in ascending order
+-- the places of the bounds that mark p, in ascending order, where the first bound of the list is at the place k
 abbrev pub marking_from : ℕ → ℕ → List Bound → List ℕ
 marking_from p k [] = []
 marking_from p k (b ∷ bounds) = put_if (is_marked (b.label p)) k (marking_from p (k + 1) bounds)
 
--- those of a whole list
+-- the places of the bounds that mark p, in ascending order
 abbrev pub marking : ℕ → List Bound → List ℕ
 marking p bounds = marking_from p 0 bounds
 
@@ -30,6 +30,6 @@ marking p bounds = marking_from p 0 bounds
 abbrev pub markings : List Bound → List (List ℕ)
 markings bounds = map (λ p. marking p bounds) (range_with_len 0 52)
 
--- the numbers that are held
+-- the numbers that a vector holds
 abbrev pub items : Vec ℕ Global → List ℕ
 items v = v.items

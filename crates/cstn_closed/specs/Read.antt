@@ -4,7 +4,7 @@ use Rattle.cstn_closed.specs.declared.errors.ClosedError.{ClosedError}
 use Rattle.cstn_closed.specs.declared.errors.ClosedError.TheVariants.{Line, Memory}
 use Rattle.cstn_closed.specs.Texts.{Told, wrong}
 
--- a line is the first wrong one; want of memory says nothing
+-- the line of an error is the first wrong one of the text; want of memory says nothing of the text
 abbrev pub IsWrong : Told → ClosedError → Type 0
 IsWrong t (Line line) = t ≡ wrong line
 IsWrong t (Memory e) = Unit {0}

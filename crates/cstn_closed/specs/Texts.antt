@@ -19,7 +19,7 @@ pub data Told : Type 0 where
   tells : ℕ → List Bound → Told
   wrong : ℕ → Told
 
--- the text ends after a bound, with LF
+-- what a text says where no whole line is left: it must have a bound, and nothing after its last LF
 abbrev pub at_end : ℕ → List Bound → List ℕ → Told
 at_end load [] tail = wrong 2
 at_end load (b ∷ bounds) [] = tells load (b ∷ bounds)
@@ -30,7 +30,7 @@ abbrev pub or_wrong : {A : Type 0} → Option A → ℕ → (A → Told) → Tol
 or_wrong None line next = wrong line
 or_wrong (Some x) line next = next x
 
--- what the lines say after some bounds: a bound each
+-- what the remaining lines say, a bound each, after the bounds that were read
 unfoldable pub told_after : List (List ℕ) → ℕ → List Bound → List (List ℕ) → List ℕ → Told
 told_after names load bounds [] tail = at_end load bounds tail
 told_after names load bounds (line ∷ lines) tail =

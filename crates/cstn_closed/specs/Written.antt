@@ -12,7 +12,7 @@ pub record IsNamed (names : List (List ℕ)) (b : Declared) : Type 0 where
   pub low : pos 0 ≤ℤ b.least
   pub high : b.least ≤ℤ pos 1000001
 
--- a text has numbers for the load, and lines for one bound or more
+-- the load and the number of bounds are in the ranges of a text
 pub record FitsText (c : ClosedParts) : Type 0 where
   pub load_low : 1 ≤ c.load
   pub load_high : c.load ≤ 4194304

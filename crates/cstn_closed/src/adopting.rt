@@ -1,4 +1,4 @@
-// Lists of bounds and plans.
+// Lists of the bounds of plans, and plans of lists of bounds.
 ghost use Rattle.std.specs.Prelude.{◌≡◌, ◌≤◌, map, IfOk};
 ghost use Rattle.std.specs.List.{Contains};
 ghost use Rattle.cstn_label.specs.Bounds.{Bound as TheBound};
@@ -15,7 +15,7 @@ use cstn_net::Network;
 use std::alloc::{AllocError, Global};
 
 impl Closed {
-    /// The bounds of a plan, in order, with the load of its check. The plan stays as it is.
+    /// The list of a plan's bounds, in order, with the load of its check. Fails where memory is refused.
     ///
     /// Where the least values are from 0 to the limit + 1, as those of a check are, the list has no fault.
     pub fn of(alloc: Global, plan: &SoundPlan, load: u32) -> Result<Closed, AllocError>
@@ -33,16 +33,16 @@ impl Closed {
     }
 }
 
-// The bounds of a plan are closed for its network.
+// Does nothing: its contract says that the bounds of a plan are closed for its network.
 fn is_closed(plan: &SoundPlan)
     ensures closed { IsClosed (the_network plan.now.net) (map the_bound plan.now.bounds) }
 {
-    // The clauses of the reader say it.
+    // The contract of `network` says it.
     let _ = plan.network();
 }
 
-/// The plan of a network and a list that is closed for it, as `check` finds out. Its bounds need not hold in every strategy,
-/// so it isn't a sound plan.
+/// The plan of a network and a list that is closed for it, as a list is that `check` accepts. Its bounds need not hold in every
+/// strategy, so it isn't a sound plan.
 pub fn adopt(net: Network, closed: Closed) -> Plan
     requires closed { IsClosed (the_network net) (the_bounds closed) }
     ensures adopt { result ≡ record { net = net; bounds = closed.bounds } }

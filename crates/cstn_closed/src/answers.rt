@@ -10,8 +10,8 @@ pub enum ClosedAnswer {
     Bad { at: u32 },
     /// No bound dominates the base bound of the time-point.
     NoBase { node: NodeId },
-    /// No bound dominates what chain gives of the constraint, by its id, and the bound.
+    /// No bound dominates what chain derives from the constraint with this id and the bound.
     NoChain { constraint: u32, at: u32 },
-    /// No bound dominates what wait gives of the bound at the observer, and the other.
+    /// No bound dominates what wait derives from the bound `seen`, which is at an observer, and the bound `at`.
     NoWait { seen: u32, at: u32 },
 }

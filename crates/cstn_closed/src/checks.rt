@@ -16,8 +16,8 @@ use crate::lists::Closed;
 use cstn_label::NodeId;
 use cstn_net::Network;
 
-/// Whether the list is closed for the network, which then has a strategy, and its first fault where it isn't. The load isn't
-/// looked at. It takes no memory.
+/// `Accepted` where the list has no fault for the network, and else the first fault. A list without fault is closed, and the
+/// network then has a strategy. The load isn't looked at, and no memory is taken.
 pub fn check(net: &Network, closed: &Closed) -> ClosedAnswer
     ensures answer { IsAnswer (the_network net.now) (the_bounds closed.now) result }
     ensures accepted { (result ≡ ClosedAnswer.Accepted) ↔ IsFaultless (the_network net.now) (the_bounds closed.now) }
@@ -67,7 +67,8 @@ fn first_without_base(net: &Network, closed: &Closed) -> Option<NodeId>
     None
 }
 
-// The first bound, and the constraint of the least id, of which chain gives what isn't covered.
+// For the first bound from which chain derives a bound that isn't covered: the least id of a constraint with which it does,
+// and the bound's place.
 fn first_chain(net: &Network, closed: &Closed) -> Option<(u32, u32)>
     requires fit { AreFit (the_network net.now) (the_bounds closed.now) }
     ensures some { IfSome result (λ f. IsFirstOfKind (the_network net.now) (the_bounds closed.now) (no_chain f.0 f.1)) }
@@ -81,7 +82,8 @@ fn first_chain(net: &Network, closed: &Closed) -> Option<(u32, u32)>
     None
 }
 
-// The first bound, and the first other, of which wait gives what isn't covered.
+// For the first bound from which wait derives a bound that isn't covered: its place, and the first place of a bound with which
+// it does.
 fn first_wait(net: &Network, closed: &Closed) -> Option<(u32, u32)>
     requires fit { AreFit (the_network net.now) (the_bounds closed.now) }
     ensures some { IfSome result (λ f. IsFirstOfKind (the_network net.now) (the_bounds closed.now) (no_wait f.0 f.1)) }

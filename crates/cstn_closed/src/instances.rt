@@ -18,11 +18,11 @@ use cstn_label::{Bound, Label, NodeId, Prop};
 use cstn_net::{Constraint, Network};
 use cstn_rules::{Tries, chain, refutes, wait};
 
-/// Every network is well formed.
+/// Does nothing: its contract says that every network is well formed.
 pub(crate) fn is_well_formed(net: &Network)
     ensures { IsWellFormed (the_network net.now) }
 {
-    // The clauses of any reader say it.
+    // The contract of `count` says it.
     let _ = net.count();
 }
 
@@ -56,7 +56,8 @@ fn is_in_range(net: &Network, b: &Bound) -> bool
     0 <= b.least && b.least <= net.limit(b.node) + 1
 }
 
-/// The least id of a constraint of which chain, with the bound at a place, gives what isn't covered.
+/// The least id of a constraint from which, with the bound at the place `at`, chain derives a bound that isn't covered; none
+/// where there is no such constraint.
 pub(crate) fn uncovered_chain(net: &Network, closed: &Closed, at: u32) -> Option<u32>
     requires fit { AreFit (the_network net.now) (the_bounds closed.now) }
     requires place { at < length closed.now.bounds }
@@ -76,7 +77,7 @@ pub(crate) fn uncovered_chain(net: &Network, closed: &Closed, at: u32) -> Option
     None
 }
 
-// Whether what chain gives of the constraint and the bound is covered.
+// Whether the list covers what chain derives from the constraint and the bound, if anything.
 fn is_chain_covered(net: &Network, closed: &Closed, c: &Constraint, b: &Bound) -> bool
     requires constraint { Contains net.now.constraints c.now }
     requires bound { IsBoundOf (the_network net.now) (the_bound b.now) }
@@ -90,8 +91,9 @@ fn is_chain_covered(net: &Network, closed: &Closed, c: &Constraint, b: &Bound) -
     }
 }
 
-/// The first place of a bound of which wait, with the bound at the place of an observer, gives what isn't covered. Only the
-/// bounds that mark what is observed are looked at: of the others wait gives nothing.
+/// The first place of a bound from which, with the bound at the place `seen`, wait derives a bound that isn't covered; none
+/// where there is no such place. Only the bounds that mark the proposition observed at the time-point of `seen` are looked at:
+/// from the others wait derives nothing.
 pub(crate) fn uncovered_wait(net: &Network, closed: &Closed, seen: u32) -> Option<u32>
     requires fit { AreFit (the_network net.now) (the_bounds closed.now) }
     requires place { seen < length closed.now.bounds }
@@ -110,7 +112,7 @@ pub(crate) fn uncovered_wait(net: &Network, closed: &Closed, seen: u32) -> Optio
     None
 }
 
-// The proposition that the bound's time-point observes.
+// The proposition that the bound's time-point observes, if any.
 fn observed(net: &Network, b: &Bound) -> Option<Prop>
     requires node { b.now.node.0 < count (the_network net.now) }
     ensures observed { IfSome result (λ p. Observes (the_network net.now) b.now.node.0 p.index) }
@@ -119,7 +121,7 @@ fn observed(net: &Network, b: &Bound) -> Option<Prop>
     net.observes(b.node)
 }
 
-// Whether what wait gives of a bound at an observer, and another, is covered.
+// Whether the list covers what wait derives from the bound `seen`, at an observer, and the bound b, if anything.
 fn is_wait_covered(net: &Network, closed: &Closed, seen: &Bound, b: &Bound) -> bool
     requires seen { IsBoundOf (the_network net.now) (the_bound seen.now) }
     requires bound { IsBoundOf (the_network net.now) (the_bound b.now) }
@@ -158,7 +160,8 @@ fn first_ending(net: &Network, x: NodeId) -> usize
     }
 }
 
-// The place of the next constraint that ends where the one at this place does, or their number where none does.
+// The place of the next constraint that ends at the same time-point as the one at this place, or the number of constraints
+// where none does.
 fn next_ending(net: &Network, at: usize) -> usize
     requires place { at < length net.now.constraints }
     ensures next { IsNext (ends net.now.constraints) (slice_index_or (ends net.now.constraints) at 0) (at + 1) result }

@@ -1,4 +1,4 @@
-// Laws of lists of bounds. The calls do nothing: their contracts are the laws.
+// Laws of lists of bounds. The functions do nothing: their contracts are the laws.
 ghost use Rattle.std.specs.Prelude.{ℕ, ◌≡◌, List};
 ghost use Rattle.std.specs.List.{Contains};
 ghost use Rattle.cstn_label.specs.Bounds.{Bound};
@@ -17,14 +17,15 @@ pub fn closed_lists_are_accepted()
     ensures one { (net : Network) (bounds : List Bound) (f g : Fault) → IsFirstFault net bounds f → IsFirstFault net bounds g → f ≡ g }
 {}
 
-/// The text of a load and bounds says them, where each bound's time-point has a name and the numbers are in their ranges.
-/// What any text says is in these ranges.
+/// The text of a load and bounds is read as them, where each bound's time-point has a name and the numbers are in their ranges.
+/// What is read of any text is in these ranges.
 pub fn closed_texts_are_read_back()
     ensures back { (names : List (List ℕ)) (load : ℕ) (bounds : List Bound) → AreNames names → AreWritten names load bounds → told names (shown names load bounds) ≡ tells load bounds }
     ensures ranges { (names : List (List ℕ)) (bytes : List ℕ) (load : ℕ) (bounds : List Bound) → told names bytes ≡ tells load bounds → AreWritten names load bounds }
 {}
 
-/// The texts that say a load and bounds in their ranges are the printed one, but for the order of the marks in its labels.
+/// The texts that are read as a load and bounds are exactly the printed one and those that differ from it in the order of the
+/// marks in labels alone.
 pub fn closed_texts_are_the_shown_ones()
     ensures said { (names : List (List ℕ)) (bytes : List ℕ) (load : ℕ) (bounds : List Bound) → told names bytes ≡ tells load bounds → IsTextOfBounds names load bounds bytes }
     ensures says { (names : List (List ℕ)) (load : ℕ) (bounds : List Bound) (bytes : List ℕ) → AreNames names → AreWritten names load bounds → IsTextOfBounds names load bounds bytes → told names bytes ≡ tells load bounds }

@@ -1,4 +1,4 @@
-//! A yes as the list of its bounds: the list as data and as a text, and the check that it is closed for a network.
+//! The list of bounds that a yes rests on: as data and as a text, with the check that it is closed for a network.
 #![tactic(auto)]
 
 mod adopting;

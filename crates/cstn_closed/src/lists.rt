@@ -10,11 +10,10 @@ use cstn_label::{Bound, Prop};
 use std::alloc::{AllocError, Global};
 use std::marker::Model;
 
-/// What stands for a yes: the load that a check had, and bounds that are to be closed for the network. Nothing says that they
-/// are.
+/// Evidence for a yes: the load that a check had, and bounds that are meant to be closed for the network. Whether they are,
+/// `check` finds out.
 ///
-/// The bounds can be looked up by their time-points and by the propositions that they mark, for which the list holds some
-/// memory beside them.
+/// Beside the bounds, the list holds their places by time-point and by marked proposition, to look them up.
 #[derive(Debug, Drop)]
 pub struct Closed {
     load: u32,
@@ -34,7 +33,7 @@ impl Model for Closed {
 }
 
 impl Closed {
-    /// The list of these bounds, fewer than 2^32, in their order.
+    /// The list of this load and these bounds, fewer than 2^32, in their order. Fails where memory is refused.
     pub fn new(alloc: Global, load: u32, bounds: Vec<Bound>) -> Result<Closed, AllocError>
         requires few { length bounds.items < 2 ^ 32 }
         ensures new { IfOk result (λ c. c ≡ record { load = load; bounds = bounds.items }) }

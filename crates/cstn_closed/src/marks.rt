@@ -13,7 +13,7 @@ pub(crate) struct Marking {
 }
 
 impl Marking {
-    // The places of these bounds.
+    // The places of these bounds, by the propositions that they mark.
     pub fn of(alloc: Global, bounds: &[Bound]) -> Result<Marking, AllocError>
         requires few { length bounds.now < 2 ^ 32 }
         ensures lists { IfOk result (λ m. map items m.lists.items ≡ markings (map the_bound bounds.now)) }

@@ -9,8 +9,8 @@ ghost use Rattle.cstn_closed.specs.Places.{ArePlaces, ArePlacesFrom, IsNext, nod
 use cstn_label::{Bound, NodeId};
 use std::alloc::{AllocError, Global};
 
-// For each time-point the first place of a bound there, and for each place the next one of the same time-point; the number of
-// bounds where there is none.
+// For each time-point the first place of a bound at it, and for each place the next place of a bound at the same time-point.
+// The number of bounds stands for no place.
 #[derive(Debug, Drop)]
 pub(crate) struct Places {
     pub firsts: Vec<u32>,
@@ -18,7 +18,7 @@ pub(crate) struct Places {
 }
 
 impl Places {
-    // The places of these bounds.
+    // The places of these bounds, by their time-points.
     pub fn of(alloc: Global, bounds: &[Bound]) -> Result<Places, AllocError>
         requires few { length bounds.now < 2 ^ 32 }
         ensures places { IfOk result (λ p. ArePlaces (nodes bounds.now) p.firsts.items p.nexts.items) }
@@ -50,7 +50,7 @@ impl Places {
         }
     }
 
-    // The first place of a time-point, or the number of bounds.
+    // The first place of a bound at x, or the number of bounds where there is none.
     pub fn first(&self, bounds: &[Bound], x: NodeId) -> u32
         requires few { length bounds.now < 2 ^ 32 }
         ensures first { result ≡ slice_index_or self.now.firsts.items x.0 (length bounds.now) }
@@ -61,7 +61,7 @@ impl Places {
         }
     }
 
-    // The next place of the time-point of the bound at this one, or the number of bounds.
+    // The next place of a bound at the same time-point as the one at `place`, or the number of bounds where there is none.
     pub fn next(&self, bounds: &[Bound], place: u32) -> u32
         requires few { length bounds.now < 2 ^ 32 }
         ensures next { result ≡ slice_index_or self.now.nexts.items place (length bounds.now) }

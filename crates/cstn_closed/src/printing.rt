@@ -15,14 +15,14 @@ use cstn_label::{Bound, labels_are_their_marks};
 use cstn_text::{Names, print_name, push_label, push_number, push_value};
 use std::alloc::{AllocError, Global};
 
-// A usual line has fewer bytes. Room for longer ones is taken as they come.
+// The bytes that are reserved for each line. Where lines are longer, more memory is taken as they come.
 const USUAL_LINE: usize = 24;
 
 impl Closed {
     /// The text of the list: a line for its load, and one for each bound.
     ///
     /// Where the load is from 1 to 4,194,304 and there are 1 to 4,194,304 bounds, the text is read again as the same list.
-    /// Beside the text it takes memory for the printed names, and none for a line.
+    /// Beside the text it takes memory for the printed names, and none for a line. Fails where memory is refused.
     pub fn print(&self, alloc: Global, names: &Names) -> Result<String, AllocError>
         requires named { All (IsNamed names.now) self.now.bounds }
         ensures shown { IfOk result (λ text. string_bytes text ≡ shown names.now self.now.load (the_bounds self.now)) }
@@ -62,7 +62,7 @@ fn push_load(text: &mut String, load: u32) -> Result<(), AllocError>
     text.push('\n')
 }
 
-// Appends the line of a bound, at the time-point of this printed name.
+// Appends the line of a bound; `name` is the printed name of its time-point.
 fn push_bound(text: &mut String, bound: Bound, name: &str) -> Result<(), AllocError>
     ensures pushed { OnOk result (string_bytes text.new ≡ string_bytes text.old ++ (codes "bound " ++ (name.now ++ 32 ∷ printed_value bound.least ++ 32 ∷ printed_label (marks bound.label)) ++ 10 ∷ [])) }
 {

@@ -19,8 +19,9 @@ use cstn_text::{Names, cut_at, read_label, read_number_within};
 use std::alloc::{AllocError, Global};
 
 impl Closed {
-    /// The list that a text is. `Line` with the first line that isn't of the form, counted from 1. A text that ends without a
-    /// bound, or without its last LF, is wrong at the line that is missing or cut.
+    /// Reads the list that a text writes. Fails with `Line` and the first line that isn't of the form, counted from 1: where
+    /// the text ends without a bound, or without its last LF, that is the line that is missing or cut. Fails with `Memory`
+    /// where memory is refused.
     pub fn read(alloc: Global, names: &Names, bytes: &[u8]) -> Result<Closed, ClosedError>
         requires few { length names.now ≤ 65536 }
         ensures accepted { IfOk result (λ c. told names.now bytes.now ≡ tells c.load (the_bounds c)) }
@@ -47,7 +48,7 @@ impl Closed {
     }
 }
 
-// What stands before the first space, and what stands after it.
+// The bytes before the first space and those after it, if there is a space.
 fn part(bytes: &[u8]) -> Option<(&[u8], &[u8])>
     ensures part { option_map (λ parts. (parts.0.now, parts.1.now)) result ≡ part bytes.now }
 {
@@ -64,7 +65,7 @@ fn read_load(line: &[u8]) -> Option<u32>
     read_number_within(1, MOST_LOAD, rest)
 }
 
-// The list of a load and of the lines of its bounds, which may be none.
+// The list of a load and of the bounds on the lines of `bytes`, of which there may be none.
 fn read_bounds(alloc: Global, names: &Names, load: u32, bytes: &[u8]) -> Result<Closed, ClosedError>
     requires few { length names.now ≤ 65536 }
     ensures accepted { IfOk result (λ c. told_after names.now load [] (lines_of bytes.now).0 (lines_of bytes.now).1 ≡ at_end c.load (the_bounds c) []) }
@@ -87,7 +88,7 @@ fn read_bounds(alloc: Global, names: &Names, load: u32, bytes: &[u8]) -> Result<
     finish(alloc, load, bounds, left)
 }
 
-// The bound at the place k: what its line is, if it is of the form.
+// The bound at the place k, read from its line, or `Line` with the number of the line where that isn't of the form.
 fn read_next(names: &Names, k: u32, line: &[u8]) -> Result<Bound, ClosedError>
     requires few { length names.now ≤ 65536 }
     requires place { k ≤ 4194304 }
@@ -101,7 +102,7 @@ fn read_next(names: &Names, k: u32, line: &[u8]) -> Result<Bound, ClosedError>
     }
 }
 
-// The bound that a line is, if there is a place for it.
+// The bound on a line, if the line is of the form and k is below the greatest number of bounds.
 fn read_line(names: &Names, k: u32, line: &[u8]) -> Option<Bound>
     requires few { length names.now ≤ 65536 }
     ensures bound { option_map the_bound result ≡ line_read names.now k line.now }
@@ -145,7 +146,7 @@ fn read_bound(node: NodeId, bytes: &[u8]) -> Option<Bound>
     })
 }
 
-// The list of the bounds, where the text ends with LF.
+// The list of the load and the bounds, or `Line` with the cut line where the text doesn't end with LF.
 fn finish(alloc: Global, load: u32, bounds: Vec<Bound>, left: &[u8]) -> Result<Closed, ClosedError>
     requires few { length bounds.items ≤ 4194304 }
     ensures accepted { IfOk result (λ c. at_end load (map the_bound bounds.items) left.now ≡ at_end c.load (the_bounds c) []) }

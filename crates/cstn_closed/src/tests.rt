@@ -26,7 +26,7 @@ fn branch(alloc: Global) -> Result<Builder, AllocError> {
     Ok(net)
 }
 
-// And P is at 2 or later.
+// The network of `branch` with P at 2 or later.
 fn last_tick(alloc: Global) -> Result<Builder, AllocError> {
     let mut net = Builder::new(alloc, 10);
     net.node(None)?;
@@ -47,7 +47,7 @@ fn names(rt: &impl Abort, alloc: Global) -> Names {
     names
 }
 
-// The text is read, printed so again, and the list gets this answer on the network.
+// Asserts that the text is read and printed as the same text again, and that `check` gives the expected answer.
 fn answered(
     rt: &impl Abort,
     alloc: Global,
@@ -64,7 +64,7 @@ fn answered(
     Ok(())
 }
 
-// The line is the first wrong one of the text.
+// Asserts that the first wrong line of the text is the expected one.
 fn wrong(rt: &impl Abort, alloc: Global, text: &str, expected: u32) {
     let names = names(rt, alloc);
     assert!(rt; names.count() < 1000);
@@ -135,7 +135,8 @@ fn the_empty_list(rt: HostRuntime) -> Result<(), Fail> {
     Ok(())
 }
 
-// Bounds at Z and at P, X from this moment on, and X from each moment of 5,000 on, where p is true: those are at places from 3.
+// Bounds for Z and P at 0 or later, for X at `from` or later, for X at each of the moments 1 to 5,000 or later where p is true,
+// at the places 3 to 5,002, and for X at 1 or later with the label `last`.
 fn five_thousand(alloc: Global, from: i32, last: Label) -> Result<Vec<Bound>, AllocError> {
     let mut bounds = Vec::with_capacity(alloc, 5_004)?;
     bounds.push(bound(0, 0, Label::empty()))?;
@@ -208,7 +209,7 @@ fn first_wrong_lines(rt: HostRuntime) {
     wrong(&rt, alloc, "yes 5\n0 base Z 0 -\n", 2);
 }
 
-// The plan of a list that is accepted, if it is.
+// The number of bounds of the plan that adopts the list, if the list is accepted.
 fn adopted(net: Network, closed: Closed) -> Option<u32> {
     match check(&net, &closed) {
         ClosedAnswer::Accepted => Some(adopt(net, closed).count()),

@@ -102,12 +102,12 @@ module _ (net : Network) (good : IsWellFormed net) where
         by [] e = absurd (inconsistent (subst (λ s. IsConsistent (with_ids net s)) (sym e) empty_consistent))
         by (i ∷ is) e = omega arith
 
--- an error that is handed on
+-- the error of a result that fails only with x is x
 pub handed_on : {X E : Type 0} (r : Result X E) (x e : E) → IsErrAnd r (λ y. y ≡ x) → IsErrOf r e → x ≡ e
 handed_on (Ok v) x e is told = absurd is
 handed_on (Err y) x e is told = sym is ∙ (let same : y ≡ e = cc in same)
 
--- what a first check tells
+-- what the check of a copy of the whole network tells
 module _ (cap : ℕ) (net other : NetworkParts) (good : IsWellFormed (the_network net)) (v : Verdict) (copy : other ≡ record net { spare = 0 })
     (is : v ≡ verdict_on cap (the_network other)) where
   first : IsVerdictOn cap (the_network net) v

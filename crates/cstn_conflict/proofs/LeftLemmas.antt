@@ -12,7 +12,7 @@ use Rattle.cstn_conflict.specs.Conflicts.{left_out, left_of, tried_from, conflic
 use Rattle.cstn_conflict.specs.Trials.{without, smaller, is_any_above}
 use Rattle.cstn_conflict.proofs.SetLemmas.{less_has, without_is, ids_without, whole_is, set_well_formed, fewer_ids, decided, not_consistent}
 
--- the set is the same, or has one id less
+-- `left_out` is the set itself, or the set without the id
 pub out_cases : (net : Network) (set : List ℕ) (id : ℕ) (P : List ℕ → Type 0) →
     (is_consistent (with_ids net (less id set)) ≡ true → P set) →
     (is_consistent (with_ids net (less id set)) ≡ false → P (less id set)) → P (left_out net set id)
@@ -34,7 +34,7 @@ less_grows id a b among x h =
     let both = and_parts (has a x) (not (eqb x id)) (sym (less_has id x a) ∙ h) in
     less_has id x b ∙ and_from (has b x) (not (eqb x id)) (among x both.0) both.1
 
--- what is left is among the set
+-- each id that is left is one of the set
 pub left_among : (net : Network) (set ids : List ℕ) (x : ℕ) → has (left_of net set ids) x ≡ true → has set x ≡ true
 left_among net set [] x h = h
 left_among net set (id ∷ ids) x h =
@@ -59,7 +59,7 @@ module _ (net : Network) (good : IsWellFormed net) where
       ((decided (with_ids net (less id set)) (set_well_formed net (less id set) good)).0 t))
       (λ f stands. absurd (less_lacks id set (left_among net (less id set) ids id stands)))
 
-  -- and it is with any one of the tried ids less
+  -- the network is consistent with what is left, without any one of the tried ids
   pub left_needed : (set ids : List ℕ) (x : ℕ) → has ids x ≡ true → has (left_of net set ids) x ≡ true →
       IsConsistent (with_ids net (less x (left_of net set ids)))
   left_needed set [] x among h = absurd (both_ways false refl among)
@@ -82,7 +82,7 @@ left_within cap net set (id ∷ ids) within none =
     (λ f. ltb-false cap (load_of (with_ids net (less id set))) parts.0))
     parts.1
 
--- where the walk over the ids has come: the network now, and the ids that are left to try
+-- how far the walk over the ids has come: `now` is the network with what is left, and `rest` has the ids still to be tried
 pub record Reaches (cap : ℕ) (whole now : Network) (rest : List ℕ) : Type 0 where
   pub is : now ≡ with_ids whole (ids_of now)
   pub left : left_of whole (ids_of now) rest ≡ conflict_set whole
@@ -91,7 +91,7 @@ pub record Reaches (cap : ℕ) (whole now : Network) (rest : List ℕ) : Type 0 
 pub reaches_start : (cap : ℕ) (whole : Network) → Reaches cap whole whole (ids_of whole)
 reaches_start cap whole = record { is = sym (whole_is whole); left = refl; tried = refl }
 
--- the network without an id is that with the smaller set
+-- the network now, without the constraint of an id, is the whole network with the set without the id
 now_without : (whole now : Network) (id : ℕ) → now ≡ with_ids whole (ids_of now) → without id now ≡ with_ids whole (less id (ids_of now))
 now_without whole now id is = ap (without id) is ∙ without_is whole (ids_of now) id
 
@@ -104,7 +104,7 @@ reaches_full cap whole now id rest r above =
     (lt-ltb cap (load_of (with_ids whole (less id (ids_of now))))
     (subst (λ n. cap < load_of n) (now_without whole now id r.is) above))
 
--- a trial leaves the id out or not
+-- the ids after a trial are those that `left_out` says
 smaller_ids : (whole now : Network) (id : ℕ) → now ≡ with_ids whole (ids_of now) → ids_of (smaller id now) ≡ left_out whole (ids_of now) id
 smaller_ids whole now id is =
     let same = now_without whole now id is in
@@ -140,7 +140,7 @@ reaches_next cap whole now id rest r within =
     or_below : (a b : Bool) → a ≡ false → (a || b) ≡ b
     or_below a b f = ap (λ x. x || b) f
 
--- all ids were tried
+-- where all ids were tried, the network is the one with the conflict set
 pub reaches_end : (cap : ℕ) (whole now : Network) → Reaches cap whole now [] →
     (now ≡ with_ids whole (conflict_set whole)) × (ids_of now ≡ conflict_set whole) × (is_any_above cap whole ≡ false)
 reaches_end cap whole now r = (r.is ∙ ap (with_ids whole) r.left, r.left, sym r.tried)

@@ -55,13 +55,13 @@ filter_twice p q (x ∷ xs) = elim (cases_Bool (q x)) [
   | inr f ↦ rw (f, filter_twice p q xs) refl
 ]
 
--- taking the constraint of an id out of a network with a set leaves that with one id less
+-- taking the constraint of an id out of the network with a set leaves the network with the set without the id
 pub without_is : (net : Network) (set : List ℕ) (id : ℕ) → without id (with_ids net set) ≡ with_ids net (less id set)
 without_is net set id = ap (λ cs. record net { constraints = cs })
     (filter_twice (λ c. not (eqb c.id id)) (λ c. has set c.id) net.constraints
     ∙ filter_agree (λ c. has set c.id && not (eqb c.id id)) (λ c. has (less id set) c.id) (λ c. sym (less_has id c.id set)) net.constraints)
 
--- and the ids without it
+-- the ids of a network without the constraint of an id are its ids without that one
 pub ids_without : (id : ℕ) (net : Network) → ids_of (without id net) ≡ less id (ids_of net)
 ids_without id net = go net.constraints
   where
@@ -72,7 +72,7 @@ ids_without id net = go net.constraints
       | inr f ↦ rw f (go cs)
     ]
 
--- a network has its own ids
+-- a network with all of its own ids is the network itself
 pub whole_is : (net : Network) → with_ids net (ids_of net) ≡ net
 whole_is net = ap (λ cs. record net { constraints = cs }) (go net.constraints (λ id h. h))
   where
@@ -101,7 +101,7 @@ set_well_formed net set = some_well_formed net (λ c. has set c.id)
 pub without_well_formed : (id : ℕ) (net : Network) → IsWellFormed net → IsWellFormed (without id net)
 without_well_formed id net = some_well_formed net (λ c. not (eqb c.id id))
 
--- an element behind another, if that is there
+-- an element of a list is still one where another may be put before the list
 contains_behind : {X : Type 0} (y : X) (ys : List X) (b : Bool) (x : X) → Contains ys x → Contains (cond b (y ∷ ys) ys) x
 contains_behind y ys true x h = (suc h.0, (let less = h.1 in omega arith), h.2)
 contains_behind y ys false x h = h

@@ -121,7 +121,7 @@ pub same_net : (cap : ℕ) (net : NetworkParts) (check new : CheckParts) (v : Ve
     new ≡ record check { verdict = Some v; tries = new.tries } → new.net ≡ net
 same_net cap net check new v is answered = ap (λ (c : CheckParts). c.net) answered ∙ ap (λ (c : CheckParts). c.net) is
 
--- the clauses of a refutation, as one
+-- the clauses of a refutation, in one record
 pub refutation_of : (net : Network) (r : Result RefutationParts AllocError) → IfOk r (λ r. the_steps r ≡ part (log_of net)) → IfOk r (λ r. r.load ≡ load_of net) →
     IfOk r (λ r. IsRefutation net (the_steps r)) → IfOk r (λ r. All (λ e. e.bound.node.0 < count net) r.steps) → IfOk r FitsText → IfOk r (IsRefutationOf net)
 refutation_of net (Ok r) part load refutes named text = record { part = part; load = load; refutes = refutes; named = named; text = text }

@@ -12,7 +12,7 @@ ids_of net = map (λ c. c.id) net.constraints
 abbrev pub has : List ℕ → ℕ → Bool
 has set id = list_any (λ i. i == id) set
 
--- the set with one id less
+-- the set without the id
 abbrev pub less : ℕ → List ℕ → List ℕ
 less id set = filter (λ i. not (i == id)) set
 

@@ -1,4 +1,4 @@
--- What is asked of a network while its conflict set is looked for.
+-- The verdicts, networks and refutations in the search for a conflict set.
 use Rattle.std.specs.Prelude.{ℕ, ◌≡◌, ◌<◌, ◌≤◌, Bool, not, ◌==◌, nat_lt, if◌then◌else◌}
 use Rattle.std.specs.List.{All, filter, list_any}
 use Rattle.cstn_net.specs.Networks.{Network, count}
@@ -12,11 +12,12 @@ use Rattle.cstn_check.specs.declared.verdicts.Verdict.TheVariants.{Yes, No, Full
 use Rattle.cstn_conflict.specs.Sets.{ids_of, is_consistent}
 use Rattle.cstn_conflict.specs.Conflicts.{is_above, tried_from}
 
--- the verdict on a network whose log may have so many entries
+-- the verdict on a network whose log may have `cap` entries
 abbrev pub verdict_on : ℕ → Network → Verdict
 verdict_on cap net = if nat_lt cap (load_of net) then Full else if is_consistent net then Yes (load_of net) else No (load_of net)
 
--- what a verdict tells of it: its load, which is at most the cap, and whether it is consistent, or that the load is above the cap
+-- what a verdict tells of a network: its load, which is at most the cap, and whether it is consistent, or that its load is
+-- above the cap
 abbrev pub IsVerdictOn : ℕ → Network → Verdict → Type 0
 IsVerdictOn cap net (Yes load) = (load ≡ load_of net) × (load_of net ≤ cap) × IsConsistent net
 IsVerdictOn cap net (No load) = (load ≡ load_of net) × (load_of net ≤ cap) × ¬ IsConsistent net
@@ -26,7 +27,7 @@ IsVerdictOn cap net Full = cap < load_of net
 abbrev pub without : ℕ → Network → Network
 without id net = record net { constraints = filter (λ c. not (c.id == id)) net.constraints }
 
--- the network without it, where that isn't consistent, and else the network
+-- the network without the constraint of the id, where that isn't consistent, and else the network as it is
 abbrev pub smaller : ℕ → Network → Network
 smaller id net = if is_consistent (without id net) then net else without id net
 

@@ -20,20 +20,20 @@ use cstn_net::Network;
 use cstn_refute::Refutation;
 use std::alloc::Global;
 
-/// Ids of constraints that can't be met together, and what refutes the network with these alone.
+/// Ids of constraints that can't be met together, and a refutation of the network with these constraints alone.
 #[derive(Debug, Drop)]
 pub struct Conflict {
     pub ids: Ids,
     pub refutation: Refutation,
 }
 
-/// The conflict set of a network that isn't consistent: each constraint in ascending id is left out for good where the
-/// network isn't consistent without it. Each set is tried by a check whose log may have `cap` entries, and the refutation is
-/// that of the check of the network with the conflict set. The network is dropped, also where there is none.
+/// The conflict set of a network that isn't consistent: the constraints are tried in ascending order of their ids, and each is
+/// left out for good where what is left isn't consistent without it. Each set is tried by a check whose log may have `cap`
+/// entries. The refutation is that of the check of the network with the conflict set. The network is dropped, also on failure.
 pub fn smallest(alloc: Global, net: Network, cap: u32) -> Result<Conflict, ConflictError>
     requires some { 1 ≤ cap }
     requires most { cap ≤ 4194304 }
-    // It is refused exactly where the network is consistent or a log is full, but for want of memory.
+    // But for want of memory, it fails exactly where the network is consistent or a log is full.
     ensures consistent { (load : ℕ) → IsErrOf result (ConflictError.Consistent load) → (load ≡ load_of (the_network net)) × (load_of (the_network net) ≤ cap) × IsConsistent (the_network net) }
     ensures full { IsErrOf result ConflictError.Full → is_conflict_full cap (the_network net) ≡ true }
     ensures bounded { IsErrOf result ConflictError.Full → cap < most_entries (the_network net) }
@@ -43,7 +43,7 @@ pub fn smallest(alloc: Global, net: Network, cap: u32) -> Result<Conflict, Confl
     ensures ascending { IfOk result (λ conflict. AllPairs (λ a b. a < b) conflict.ids) }
     ensures some { IfOk result (λ conflict. 1 ≤ length conflict.ids) }
 
-    // The constraints can't be met together, and with any one of them less they can.
+    // The constraints can't be met together, and without any one of them they can.
     ensures inconsistent { IfOk result (λ conflict. IsConsistent (with_ids (the_network net) conflict.ids) → ⊥) }
     ensures needed { IfOk result (λ conflict. (id : ℕ) → Contains conflict.ids id → IsConsistent (with_ids (the_network net) (less id conflict.ids))) }
 
@@ -66,7 +66,7 @@ pub fn smallest(alloc: Global, net: Network, cap: u32) -> Result<Conflict, Confl
     }
 }
 
-// What is left of the network when each constraint was tried.
+// The network with the constraints that are left once each was tried.
 fn least(alloc: Global, net: Network, cap: u32) -> Result<Network, ConflictError>
     requires cap { (1 ≤ cap) × (cap ≤ 4194304) }
     ensures never { (load : ℕ) → IsErrOf result (ConflictError.Consistent load) → ⊥ }

@@ -4,13 +4,13 @@ use thiserror::Error;
 /// Why there is no conflict set.
 #[derive(Clone, Copy, Debug, PartialEq, Eq, Error)]
 pub enum ConflictError {
-    /// The network is consistent; the load of its log.
+    /// The network is consistent; `load` is the number of entries of its log.
     #[error("the network is consistent")]
     Consistent { load: u32 },
-    /// The log of the network, or of the network with a set that was tried, has more entries than it may have.
+    /// The log of the network, or of the network with a set that was tried, has more than `cap` entries.
     #[error("a log that is full")]
     Full,
-    /// There wasn't the memory that it takes.
+    /// Memory for the search was refused.
     #[error("out of memory")]
     Memory(AllocError),
 }

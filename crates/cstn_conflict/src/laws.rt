@@ -4,8 +4,8 @@ ghost use Rattle.cstn_net.specs.Networks.{Network, IsWellFormed};
 ghost use Rattle.cstn_net.specs.Strategies.{IsConsistent};
 ghost use Rattle.cstn_conflict.specs.Sets.{ids_of, has, with_ids, is_consistent};
 
-/// A network with some of its constraints is well-formed, with all of them it is the network, and its log decides whether it
-/// is consistent. With more constraints, one that isn't consistent stays so. With none, it is consistent.
+/// A well-formed network with some of its constraints is well-formed, and its log decides whether it is consistent. With all of
+/// its constraints it is the network itself. A network that is consistent stays so with fewer constraints.
 pub fn sets_are_decided()
     ensures well_formed { (net : Network) (set : List ℕ) → IsWellFormed net → IsWellFormed (with_ids net set) }
     ensures whole { (net : Network) → with_ids net (ids_of net) ≡ net }

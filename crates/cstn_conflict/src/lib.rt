@@ -1,4 +1,4 @@
-//! Conflict sets: a smallest set of constraints of a network that can't be met together.
+//! Conflict sets: constraints of a network that can't be met together, of which each is needed.
 #![tactic(auto)]
 
 mod conflicts;

@@ -22,8 +22,8 @@ fn twice(alloc: Global, deadline: u32) -> Result<Builder, AllocError> {
     Ok(net)
 }
 
-// Z, P, which observes p, and X: X is at 10 or later where p is true, and at 3 or earlier where it is false. Where it is
-// late, P is at 3 or later.
+// Z, P, which observes p, and X: X is at 10 or later where p is true, and at 3 or earlier where p is false. With `late`, P is
+// at 3 or later.
 fn branch(alloc: Global, late: bool) -> Result<Builder, AllocError> {
     let mut net = Builder::new(alloc, 10);
     net.node(None)?;
@@ -75,7 +75,7 @@ fn conflict(
     smallest(alloc, net, cap)
 }
 
-// The conflict set of the network is this one, and these steps refute it after this load.
+// Asserts that the network has the conflict set `ids`, and that its refutation has these steps and this load.
 fn conflicts(
     rt: &impl Abort,
     alloc: Global,
@@ -125,7 +125,7 @@ fn leaves_one_that_conflicts_with_itself(rt: HostRuntime) -> Result<(), Fail> {
     Ok(())
 }
 
-// There is no conflict set, for this reason.
+// Asserts that the search for a conflict set fails with this error.
 fn refuses(
     rt: &impl Abort,
     alloc: Global,

@@ -12,8 +12,8 @@ use cstn_net::Network;
 use cstn_refute::Refutation;
 use std::alloc::{AllocError, Global};
 
-/// The verdict of a check of a network, which is dropped. It tells the load, which is at most the cap, and whether the network
-/// is consistent, or that the load is above the cap.
+/// The verdict of a check of a network whose log may have `cap` entries: the load and whether the network is consistent, or
+/// that the load is above the cap. The network is dropped. Fails where memory is refused.
 pub fn verdict_on(alloc: Global, net: Network, cap: u32) -> Result<Verdict, AllocError>
     requires some { 1 ≤ cap }
     requires most { cap ≤ 4194304 }
@@ -25,7 +25,8 @@ pub fn verdict_on(alloc: Global, net: Network, cap: u32) -> Result<Verdict, Allo
     Ok(check.run())
 }
 
-/// What refutes a network whose check is no: the refutation of that check.
+/// The refutation of a network that isn't consistent, by a check whose log may have `cap` entries. The network is dropped.
+/// Fails where memory is refused.
 pub fn refuted(alloc: Global, net: Network, cap: u32) -> Result<Refutation, AllocError>
     requires some { 1 ≤ cap }
     requires most { cap ≤ 4194304 }
@@ -49,7 +50,8 @@ fn verdict_without(alloc: Global, net: &Network, id: u32, cap: u32) -> Result<Ve
     verdict_on(alloc, less, cap)
 }
 
-/// Takes the constraint of an id out where the network isn't consistent without it.
+/// Takes the constraint of an id out where the network isn't consistent without it. Fails with `Full` where the load without it
+/// is above the cap.
 pub(crate) fn leave_out(
     alloc: Global,
     net: &mut Network,
@@ -74,7 +76,7 @@ pub(crate) fn leave_out(
     }
 }
 
-/// Every network is well-formed.
+/// Does nothing: its contract says that every network is well-formed.
 pub(crate) fn is_well_formed(net: &Network)
     ensures { IsWellFormed (the_network net.now) }
 {

@@ -1,4 +1,4 @@
--- What stands of a session when a constraint is added.
+-- `IsSession` still holds after a constraint is added.
 use Rattle.std.proofs.Common.{inl, inr, ℕ, suc, ◌≡◌, ◌+◌, ◌<◌, ◌≤◌, List, [], ◌∷◌, ◌++◌, length, map, Option, Some, None, arith, sym, subst, ap, ◌∙◌}
 use Rattle.std.specs.Prelude.{slice_get}
 use Rattle.std.specs.List.{All, Contains}
@@ -18,14 +18,14 @@ use Rattle.cstn_log.specs.Entries.{State, the_entries}
 use Rattle.cstn_edit.specs.declared.outcomes.Outcome.{Outcome}
 use Rattle.cstn_edit.specs.Sessions.{next_id, most_births, IsLeastUnobserved, IsKeptLog, IsSession}
 
--- a derivation is one of each network that has the constraints that it uses, and is the same else
+-- a derivation of a network is one of the network with other constraints too, if those that it uses are among them
 abbrev pub DeriveElsewhere : Type 0
 DeriveElsewhere = (net : Network) (constraints : List TheConstraint) (steps : List Entry) →
     ((c : TheConstraint) (b : Bound) (k i : ℕ) → Contains net.constraints c →
     slice_get steps k ≡ Some (record { bound = b; why = Chain c.id i }) → Contains constraints c) →
     IsDerivation net steps → IsDerivation (record net { constraints = constraints }) steps
 
--- a log is kept for a network with further constraints
+-- a kept log of a network is one of the network with further constraints
 longer_log : DeriveElsewhere → (net : Network) (cs : List TheConstraint) (log : State) →
     ((c : TheConstraint) → Contains net.constraints c → Contains cs c) → IsKeptLog net log → IsKeptLog (record net { constraints = cs }) log
 longer_log elsewhere net cs log has kept = record {
@@ -50,7 +50,7 @@ more_births : (births edits : ℕ) (last : Option Outcome) → births ≤ most_b
 more_births births edits None few = omega arith
 more_births births edits (Some o) few = omega arith
 
--- the session with a further constraint
+-- a session with a further constraint is a session
 pub added_session : DeriveElsewhere → (old new : NetworkParts) (c : Constraint) (log : State) (room edits : ℕ) (highest : Option ℕ) (last : Option Outcome) →
     IsSession old log room edits highest last →
     new ≡ record old { constraints = old.constraints ++ c ∷ []; spare = new.spare } → new.spare + 1 ≡ old.spare →
@@ -74,7 +74,7 @@ added_session elsewhere old new c log room edits highest last session is spare f
       consistent = tt;
     }
 
--- two least propositions are one
+-- at most one proposition is the least that the label names and nothing observes
 least_once : (net : Network) (a : Label) (p q : ℕ) → IsLeastUnobserved net a p → IsLeastUnobserved net a q → p ≡ q
 least_once net a p q one other = elim (cases_lt p q) [
   | inl below ↦ absurd (other.1 p below one.0)

@@ -1,4 +1,4 @@
--- What is left of a session without what a constraint gave.
+-- `IsSession` still holds after a constraint is taken out or changed, and its entries are dropped from the log.
 use Rattle.std.proofs.Common.{ℕ, zero, suc, ◌≡◌, ◌+◌, ◌<◌, ◌≤◌, inl, inr, Bool, true, false, List, [], ◌∷◌, ◌++◌, length, map, Option, Some, None, arith, refl, sym, subst, ap, ◌∙◌, length-append}
 use Rattle.std.specs.Option.{is_some}
 use Rattle.std.specs.Prelude.{IfSome, ℤ, slice_get, slice_index_or, nat_lt, if◌then◌else◌}
@@ -58,7 +58,7 @@ first_next marks b is first k inside = elim (cases_lt k (length marks)) [
 stays_base : (id : ℕ) (marks : List Bool) (why : Why) → why ≡ Base → stays id marks why ≡ true
 stays_base id marks why is = ap (stays id marks) is
 
--- base bounds at the front stay
+-- base bounds at the front of a list are marked as staying
 front_marked : (id : ℕ) (marks : List Bool) (xs ys : List Entry) → AllBase xs → FirstMarked marks (length marks) →
     FirstMarked (marked_staying id marks (xs ++ ys)) (length marks + length xs)
 front_marked id marks [] ys all first k inside =
@@ -83,7 +83,7 @@ cut_front marks k (x ∷ xs) ys all first =
     ∙ ap (λ t. x ∷ t) (cut_front marks (suc k) xs ys (λ j d there. all (suc j) d there) (λ j inside. first j (omega arith))
     ∙ ap (λ n. xs ++ cut_from marks n ys) e)
 
--- the base bounds at the front of a list stay
+-- the base bounds at the front of a list stay when the entries of a constraint are dropped
 pub dropped_front : (n id : ℕ) (more : List Entry) → (left : List Entry) × (bases n ++ left ≡ dropped (bases n ++ more) id)
 dropped_front n id more =
     let marks = marked_staying id [] (bases n ++ more) in (
@@ -100,7 +100,8 @@ dropped_bases n id =
     (front_marked id [] (bases n) [] (bases_base n) (λ k inside. absurd (omega arith)))
     ∙ append-nil (bases n)
 
--- an entry that isn't the last of what is left wasn't the last before
+-- where no entry but perhaps the last refutes, none but perhaps the last does so in the list that is left, since an entry
+-- that isn't the last there wasn't the last before
 pub dropped_last : (net : Network) (cs : List TheConstraint) (steps : List Entry) (id : ℕ) → IsRefutedLast net steps →
     IsRefutedLast (with_constraints net cs) (dropped steps id)
 dropped_last net cs steps id last = record { before = before }
@@ -128,7 +129,8 @@ dropped_last net cs steps id last = record { before = before }
               absurd (omega arith)
         ]
 
--- a kept log without what a constraint gave is one of the network with the other constraints
+-- a kept log without the entries of a constraint is a kept log of the network with these constraints, if all other ones are
+-- among them
 pub cut_log : (net : Network) (cs : List TheConstraint) (old new : State) (id : ℕ) → IsKeptLog net old →
     ((c : TheConstraint) → Contains net.constraints c → (c.id ≡ id → ⊥) → Contains cs c) →
     the_entries new.entries ≡ dropped (the_entries old.entries) id → new.cap ≡ old.cap → new.nodes ≡ old.nodes →
@@ -151,7 +153,7 @@ cut_log net cs old new id kept others is cap nodes =
       most = omega arith;
     }
 
--- the kept list is what is left of it, also where the log has no room for the base bounds
+-- the kept list is the earlier one without the constraint's entries, also where the log has no room for the base bounds
 pub kept_dropped : (net left : Network) (old new : State) (id : ℕ) → count left ≡ count net → new.cap ≡ old.cap →
     the_entries new.entries ≡ dropped (the_entries old.entries) id →
     kept_list left new.cap (the_entries new.entries) ≡ dropped (kept_list net old.cap (the_entries old.entries)) id
@@ -165,13 +167,13 @@ kept_dropped net left old new id points cap is =
       | inr room ↦ cond-false _ _ _ room ∙ sym (ap (λ l. dropped l id) (cond-false _ _ _ room))
     ]
 
--- births after an edit
+-- the births after an edit are within the most that a session allows
 births_after : (before left entries cap edits : ℕ) (last : Option Outcome) → before ≤ most_births edits last → left ≤ before + entries →
     entries ≤ cap → cap ≤ 4194304 → left ≤ most_births (edits + 1) None
 births_after before left entries cap edits None few more short most = omega arith
 births_after before left entries cap edits (Some o) few more short most = omega arith
 
--- a session whose constraints were changed at one id alone
+-- a session is still one after the constraint with this id was taken out or changed, and its entries were dropped
 pub cut_session : (old new : NetworkParts) (log left : State) (room edits id : ℕ) (highest : Option ℕ) (last : Option Outcome) →
     IsSession old log room edits highest last → edits < 1000000 → length log.entries ≤ log.cap →
     the_network new ≡ with_constraints (the_network old) (map the_constraint new.constraints) →
@@ -198,7 +200,7 @@ cut_session old new log left room edits id highest last s few short is others fe
       consistent = tt;
     }
 
--- what holds where there is something
+-- what holds if an option has a value, where it does
 pub where_some : {A : Type 0} (P : Type 0) (o : Option A) → is_some o ≡ true → IfSome o (λ x. P) → P
 where_some P (Some x) is h = h
 where_some P None is h = absurd (false≢true is)
@@ -209,7 +211,7 @@ other_id id x c is other = ne_eqb x.id id (λ same. other (ap (λ (d : TheConstr
 contains_more : (x c : TheConstraint) (cs : List TheConstraint) → Contains cs c → Contains (x ∷ cs) c
 contains_more x c cs has = (suc has.0, (let inside = has.1 in omega arith), has.2)
 
--- the other constraints are there without the one of an id
+-- a constraint with another id is still there after the one with this id is taken out
 pub others_left : (id : ℕ) (cs : List Constraint) (c : TheConstraint) → Contains (map the_constraint cs) c → (c.id ≡ id → ⊥) →
     Contains (map the_constraint (without_id id cs)) c
 others_left id cs c has other = go cs has.0 has.1 has.2
@@ -223,7 +225,7 @@ others_left id cs c has other = go cs has.0 has.1 has.2
       | inr f ↦ rw f (contains_more (the_constraint x) c (map the_constraint (without_id id xs)) (go xs k (omega arith) at))
     ]
 
--- and where the value of that one is another
+-- a constraint with another id is still there after the one with this id gets another value
 pub others_with : (id : ℕ) (most : ℤ) (cs : List Constraint) (c : TheConstraint) → Contains (map the_constraint cs) c → (c.id ≡ id → ⊥) →
     Contains (map the_constraint (map (with_most id most) cs)) c
 others_with id most cs c has other = go cs has.0 has.1 has.2
@@ -237,7 +239,7 @@ others_with id most cs c has other = go cs has.0 has.1 has.2
     go (x ∷ xs) (suc k) inside at =
         contains_more (the_constraint (with_most id most x)) c (map the_constraint (map (with_most id most) xs)) (go xs k (omega arith) at)
 
--- one constraint at most has the id
+-- where the ids ascend, at most one constraint has the id, so at most one is taken out
 one_left : (id : ℕ) (cs : List Constraint) → AllPairs (λ b c. b.id < c.id) cs → length cs ≤ length (without_id id cs) + 1
 one_left id [] ascending = omega arith
 one_left id (x ∷ xs) ascending = elim (cases_Bool (has_id id x)) [

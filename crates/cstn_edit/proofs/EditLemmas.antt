@@ -29,7 +29,7 @@ use Rattle.cstn_edit.proofs.CutLemmas.{kept_dropped}
 use Rattle.cstn_edit.specs.Sessions.{SessionParts, kept_of, kept_list, IsUnobserved, IsLeastUnobserved, next_id}
 use Rattle.cstn_edit.specs.Edits.{Session, EditLimit, NoRoom, NoSuch, ValueRange, NotPlain, NotObserved, is_value, is_observed, unobserved, has_constraint, add_refusal, remove_refusal, change_refusal, without, with_value, with_added, with_others, the_session}
 
--- the value is in range or not
+-- the test of the value passes exactly where it is in range
 pub true_value : (most : ℤ) → is_value most ≡ true → IsValue most
 true_value most e = grind (arith, ints)
 
@@ -39,14 +39,14 @@ value_true most h = grind (arith, ints)
 pub value_false : (most : ℤ) → (IsValue most → ⊥) → is_value most ≡ false
 value_false most out = false_from_ne_true (is_value most) (λ t. out (true_value most t))
 
--- the label is plain or not
+-- the test of the label passes exactly where it is plain
 pub plain_seen : (a : Label) → IsPlain a → is_plain a ≡ true
 plain_seen a plain = plain_true a plain
 
 pub plain_false : (a : Label) → Small a → (IsPlain a → ⊥) → is_plain a ≡ false
 plain_false a small odd = false_from_ne_true (is_plain a) (λ t. odd (true_plain a small t))
 
--- some time-point observes the proposition, or none
+-- the test of the observers passes exactly where a time-point observes the proposition
 is_it : (p : ℕ) (o : Option ℕ) → is_prop p o ≡ true → o ≡ Some p
 is_it p None e = absurd (false≢true e)
 is_it p (Some q) e = ap Some (eqb-true q p e)
@@ -105,7 +105,7 @@ module _ (net : Network) (a : Label) where
   unfolding is_stray unobserved
   is_first = refl
 
-  -- the least one
+  -- the least proposition that the label names and nothing observes is the one found
   pub least_first : (p : ℕ) → p < 52 → IsLeastUnobserved net a p → unobserved net a ≡ Some p
   least_first p small least =
       is_first ∙ position_at is_stray (range_with_len 0 52) p 0 (omega (arith, length-range_with_len 0 52))
@@ -113,7 +113,7 @@ module _ (net : Network) (a : Label) where
       (false_from_ne_true (is_stray q) (λ t. least.1 q before (true_stray q t))))
       (stray_at p true small (stray_true p least.0))
 
-  -- and none where the label names observed propositions alone
+  -- none is found where the label names observed propositions alone
   pub none_first : IsOnObserved net a → unobserved net a ≡ None
   none_first on = is_first ∙ none_where (position is_stray (range_with_len 0 52)) (λ k e.
       let found = position-Some is_stray (range_with_len 0 52) k 0 e in
@@ -134,7 +134,7 @@ module _ (net : Network) (a : Label) where
         ]
   ]
 
--- why nothing is added
+-- what a session answers when it adds nothing is the refusal by the definition
 module _ (v : SessionParts) (most : ℤ) (a : Label) where
   pub add_at_limit : v.edits ≡ 1000000 → Some EditLimit ≡ add_refusal v.room (the_session v) most a
   add_at_limit many = sym (cond-true _ _ _ (le-leb 1000000 v.edits (omega arith)))
@@ -175,7 +175,7 @@ module _ (v : SessionParts) (most : ℤ) (a : Label) where
   add_by_observed o few room value plain first =
       ap (option_map NotObserved) first ∙ sym (in_range few room value ∙ cond-false _ _ _ (ap not plain))
 
--- some constraint has the id, or none
+-- the test of the ids passes exactly where some constraint has the id
 has_none : (id : ℕ) (cs : List Constraint) → list_any (has_id id) cs ≡ false → All (λ c. c.id ≢ id) cs
 has_none id [] none = λ k d inside. absurd (omega arith)
 has_none id (c ∷ cs) none =
@@ -203,7 +203,7 @@ some_seen s v id same some =
     subst (λ (w : SessionParts). has_constraint (the_network w.net) id ≡ true) same
     (has_seen s.net id ∙ true_from_ne_false (list_any (has_id id) s.net.constraints) (λ none. some (has_none id s.net.constraints none)))
 
--- why nothing is taken out or changed
+-- what a session answers when it takes out or changes nothing is the refusal by the definition
 module _ (v : SessionParts) (id : ℕ) where
   pub remove_at_limit : v.edits ≡ 1000000 → Some EditLimit ≡ remove_refusal (the_session v) id
   remove_at_limit many = sym (cond-true _ _ _ (le-leb 1000000 v.edits (omega arith)))
@@ -231,7 +231,7 @@ module _ (v : SessionParts) (id : ℕ) where
   change_some most few some value =
       sym (cond-false _ _ _ (lt-leb 1000000 v.edits few) ∙ cond-false _ _ _ (ap not some) ∙ cond-true _ _ _ value)
 
--- the session with a further constraint
+-- what contracts see of a session with a further constraint is `with_added`
 one_more_seen : (old : SessionParts) (c : Constraint) (spare : ℕ) → c.id ≡ next_id old.highest →
     the_session (record old { net = record old.net { constraints = old.net.constraints ++ c ∷ []; spare = spare }; edits = old.edits + 1; highest = Some c.id; last = None })
     ≡ with_added (the_session old) c.from.0 c.to.0 c.most (marks c.label)
@@ -256,13 +256,13 @@ added_seen s v new c spare same is id =
     subst (λ w. of new ≡ with_added (the_session w) c.from.0 c.to.0 c.most (marks c.label)) same
     (ap of is ∙ one_more_seen s c spare id)
 
--- there is room in the session that contracts see as well
+-- where the session has room for a constraint, so has what contracts see of it
 pub room_seen : (s v : SessionParts) (cs : List Constraint) → s ≡ v → cs ≡ s.net.constraints → length cs < s.room →
     length v.net.constraints < v.room
 room_seen s v cs same is few =
     subst (λ (w : SessionParts). length w.net.constraints < w.room) same (subst (λ ds. length ds < s.room) is few)
 
--- the session with other constraints, and without what one of them gave
+-- what contracts see of a session with other constraints, and without the entries that one of them gave, is `with_others`
 pub others_seen : (v : SessionParts) (old new : NetworkParts) (log left : State) (cs : List Constraint)
     (f : List TheConstraint → List TheConstraint) (room edits id spare tries : ℕ) (highest : Option ℕ) (last : Option Outcome) (fresh : List ℕ) (settled : Bool) →
     record { net = old; entries = log.entries; cap = log.cap; room = room; edits = edits; highest = highest; last = last; tries = tries; fresh = fresh; settled = settled } ≡ v →

@@ -1,4 +1,4 @@
--- What a session keeps of its fresh constraints.
+-- The fresh ids of a session through its edits.
 use Rattle.std.proofs.Common.{ℕ, ℤ, zero, suc, ◌≡◌, inl, inr, ◌+◌, ◌<◌, ◌≤◌, Bool, true, false, not, cond, ◌&&◌, ◌||◌, ◌==◌, List, [], ◌∷◌, ◌++◌, length, map, take, get_or, Some, arith, refl, sym, subst, ap, ◌∙◌, length-append}
 use Rattle.std.specs.Prelude.{slice_get, if◌then◌else◌, ◌↔◌}
 use Rattle.std.specs.List.{All, Contains, filter}
@@ -17,7 +17,7 @@ use Rattle.cstn_log.specs.Entries.{State, the_entries}
 use Rattle.cstn_log.proofs.ListLemmas.{take_step}
 use Rattle.cstn_edit.specs.Fresh.{ids_of, fresh_with, AreSome, IsFreshened}
 
--- the first of a filtered list
+-- a filter keeps the first element where it passes, and leaves it out where not
 kept_first : (p : ℕ → Bool) (x : ℕ) (xs : List ℕ) → p x ≡ true → filter p (x ∷ xs) ≡ x ∷ filter p xs
 kept_first p x xs t = cond-true (p x) (x ∷ filter p xs) (filter p xs) t
 
@@ -66,11 +66,11 @@ short_filter p (x ∷ xs) = let rest = short_filter p xs in elim (cases_Bool (p 
   | inr f ↦ rw (left_first p x xs f) (omega (arith, rest))
 ]
 
--- some of the ids are no more than there are
+-- the fresh ids are at most as many as all ids
 pub some_short : (fresh ids : List ℕ) → AreSome fresh ids → length fresh ≤ length ids
 some_short fresh ids some = let all = short_filter (λ x. is_fresh fresh x) ids in omega (arith, all, ap length some)
 
--- those that were fresh, and one, are some of the ids
+-- the ids that were fresh or are equal to one id are some of the ids
 pub some_with : (id : ℕ) (fresh ids : List ℕ) → AreSome (fresh_with id fresh ids) ids
 some_with id fresh ids =
     let p : ℕ → Bool = λ x. (x == id) || is_fresh fresh x in
@@ -87,7 +87,7 @@ fresh_more : (fresh : List ℕ) (id x : ℕ) → is_fresh (fresh ++ id ∷ []) x
 fresh_more [] id x = grind arith
 fresh_more (y ∷ ys) id x = let rest = fresh_more ys id x in grind (arith, rest)
 
--- an id of constraints below a bound is below it
+-- where the ids of all constraints are below n, an id that is among them is below n
 below_ids : (n : ℕ) (cs : List DeclaredConstraint) (x : ℕ) → All (λ c. c.id < n) cs → is_fresh (ids_of cs) x ≡ true → x < n
 below_ids n [] x below has = let no : false ≡ true = has in absurd (false≢true no)
 below_ids n (c ∷ cs) x below has = elim (cases_Bool (c.id == x)) [
@@ -95,7 +95,7 @@ below_ids n (c ∷ cs) x below has = elim (cases_Bool (c.id == x)) [
   | inr other ↦ below_ids n cs x (λ k d inside. below (suc k) d (omega (arith, inside))) (grind (arith, other, has))
 ]
 
--- a new id is fresh
+-- with a new constraint at the end, the fresh ids and the new one are some of the ids
 pub some_more : (n : ℕ) (fresh : List ℕ) (cs : List DeclaredConstraint) (c : DeclaredConstraint) → All (λ d. d.id < n) cs → n ≤ c.id → AreSome fresh (ids_of cs) → AreSome (fresh ++ c.id ∷ []) (ids_of (cs ++ c ∷ []))
 some_more n fresh cs c below above some =
     let id = c.id in
@@ -120,7 +120,7 @@ count_some fresh cs some = counted cs ∙ sym (ap length some)
       | inr f ↦ rw (left_first (λ x. is_fresh fresh x) d.id (ids_of ds) f, cond-false {A = ℕ} (is_fresh fresh d.id) 1 0 f) (omega (arith, rest))
     ]
 
--- the id of a constraint is one of their ids
+-- the id of a constraint of the list is among the ids of the list
 has_id_of : (cs : List DeclaredConstraint) (c : Constraint) → Contains (map the_constraint cs) c → is_fresh (ids_of cs) c.id ≡ true
 has_id_of cs c has = All-contains (λ (d : Constraint). is_fresh (ids_of cs) d.id ≡ true) (map the_constraint cs) c
     (All-map (λ (d : Constraint). is_fresh (ids_of cs) d.id ≡ true) the_constraint cs (each cs)) has
@@ -131,7 +131,7 @@ has_id_of cs c has = All-contains (λ (d : Constraint). is_fresh (ids_of cs) d.i
         (λ k e inside. let rest = each ds k e inside in grind (arith, rest))
 
 module _ (net : Network) (list : List Entry) (fresh : List ℕ) (n : ℕ) (are : AreSpent net list fresh n) where
-  -- what is spent stays so with other constraints that are old, or fresh
+  -- instances that are spent stay so with these constraints, if each of them was there before or is fresh
   pub spent_with : (id : ℕ) (cs : List DeclaredConstraint) → ((c : Constraint) → Contains (map the_constraint cs) c → (c.id ≡ id → ⊥) → Contains net.constraints c) →
       AreSpent (record net { constraints = map the_constraint cs }) list (fresh_with id fresh (ids_of cs)) n
   spent_with id cs old = record {
@@ -161,12 +161,12 @@ module _ (net : Network) (list : List Entry) (fresh : List ℕ) (n : ℕ) (are :
       one_of : (ds : List Constraint) (d : Constraint) → Contains (ds ++ c ∷ []) d → (c ≡ d → ⊥) → Contains ds d
       one_of ds d has apart = elim (Contains-push_cases ds c d has) [ inl old ↦ old | inr new ↦ absurd (apart new) ]
 
--- a constraint that is left was there
+-- a constraint that is left after one was taken out was there before
 pub left_there : (id : ℕ) (cs : List Constraint) (c : Constraint) → Contains (without id cs) c → Contains cs c
 left_there id cs c has =
     All-contains (Contains cs) (without id cs) c (All-filter (λ d. not (d.id == id)) (Contains cs) cs (All-contains_itself cs)) has
 
--- and so was one with another id, where one has another value
+-- a constraint with another id was there before the one with this id got its value
 pub with_there : (id : ℕ) (most : ℤ) (cs : List Constraint) (c : Constraint) → Contains (map (with_value id most) cs) c → (c.id ≡ id → ⊥) → Contains cs c
 with_there id most cs c has =
     All-contains (λ (d : Constraint). (d.id ≡ id → ⊥) → Contains cs d) (map (with_value id most) cs) c
@@ -182,12 +182,12 @@ with_there id most cs c has =
       | inr f ↦ rw f there
     ]
 
--- no ids are some of the ids
+-- the empty list is some of the ids
 pub some_none : (ids : List ℕ) → AreSome [] ids
 some_none [] = refl
 some_none (x ∷ xs) = some_none xs ∙ sym (left_first (λ y. is_fresh [] y) x xs refl)
 
--- one more of the ids is looked at
+-- what is picked of the first k + 1 ids, from what is picked of the first k
 pub picked_step : (id : ℕ) (fresh ids : List ℕ) (k x : ℕ) → slice_get ids k ≡ Some x →
     (((x == id) || is_fresh fresh x) ≡ true → fresh_with id fresh (take (k + 1) ids) ≡ fresh_with id fresh (take k ids) ++ x ∷ [])
     × (((x == id) || is_fresh fresh x) ≡ false → fresh_with id fresh (take (k + 1) ids) ≡ fresh_with id fresh (take k ids))
@@ -198,7 +198,7 @@ picked_step id fresh ids k x there =
       λ f. more ∙ ap (λ ys. filter p (take k ids) ++ ys) (left_first p x [] f) ∙ append-nil (filter p (take k ids)),
     )
 
--- what a session keeps of its fresh constraints when one is added
+-- `IsFreshened` holds after a constraint is added
 pub added_freshened : (old new : NetworkParts) (c : DeclaredConstraint) (log : State) (room : ℕ) (fresh more : List ℕ) (settled : Bool) (held spare wide n : ℕ) → IsFreshened old log room fresh settled held spare →
     All (λ d. d.id < n) old.constraints → n ≤ c.id → new ≡ record old { constraints = old.constraints ++ c ∷ []; spare = new.spare } → more ≡ fresh ++ c.id ∷ [] → held ≤ wide → IsFreshened new log room more settled wide spare
 added_freshened old new c log room fresh more settled held spare wide n was below above is longer upto =
@@ -212,7 +212,7 @@ added_freshened old new c log room fresh more settled held spare wide n was belo
       for_list = was.for_list;
     }))
 
--- and when one is taken out or changed
+-- `IsFreshened` holds after a constraint is taken out or changed
 pub cut_freshened : (old new : NetworkParts) (log left : State) (room id gone : ℕ) (fresh more : List ℕ) (settled now : Bool) (held spare : ℕ) (wide list : ℕ) → IsFreshened old log room fresh settled held spare →
     the_network new ≡ record (the_network old) { constraints = map the_constraint new.constraints } → ((c : Constraint) → Contains (map the_constraint new.constraints) c → (c.id ≡ id → ⊥) → Contains (map the_constraint old.constraints) c) →
     more ≡ fresh_with id fresh (ids_of new.constraints) → (now ≡ true ↔ ((settled ≡ true) × (gone ≡ 0))) → (gone ≡ 0 → left ≡ log) → room ≤ wide → room ≤ list → IsFreshened new left room more now wide list

@@ -1,4 +1,4 @@
--- What a session that answered no hands out.
+-- The refutation that a session hands out after a no.
 use Rattle.std.proofs.Common.{ℕ, ◌≡◌, ◌-◌, ◌<◌, ◌≤◌, List, length, Option, Some, arith, sym, subst, ap, ◌∙◌}
 use Rattle.std.specs.List.{All}
 use Rattle.std.proofs.lemmas.List.{length-map}
@@ -21,7 +21,7 @@ pub last_refutes : (net : Network) (log : State) (last : Option Outcome) (o : Ou
     Refuted net log last → LastRefutes net (the_entries log.entries)
 last_refutes net log last o load same verdict refuted = (subst (λ l. Refuted net log l) same refuted load verdict).1
 
--- so that the log has room for the base bounds
+-- a log whose last entry refutes has room for the base bounds
 room_refuted : (net : Network) (log : State) → IsKeptLog net log → LastRefutes net (the_entries log.entries) → count net ≤ log.cap
 room_refuted net log kept last =
     let L = the_entries log.entries in
@@ -39,7 +39,7 @@ kept_load net log o load kept refuted said =
 
 module _ (net : Network) (log : State) (steps : List DeclaredEntry) (good : IsWellFormed net) (kept : IsKeptLog net log)
     (last : LastRefutes net (the_entries log.entries)) (new : AllNew log.entries) (is : the_entries steps ≡ part (the_entries log.entries)) where
-  -- the part of the log has the form of steps
+  -- the last entry of the log with its ancestors has the form of the steps of a refutation
   pub kept_steps : length log.entries ≤ 4194304 → AreSteps steps
   kept_steps few =
       let L = the_entries log.entries in
@@ -47,6 +47,6 @@ module _ (net : Network) (log : State) (steps : List DeclaredEntry) (good : IsWe
       part_steps net good L (log_on net log good kept new (room_refuted net log kept last)).kept steps
       (record { derivation = kept.derivation; last = last.last; is_last = last.is_last; refutes = last.refutes }) is (omega arith)
 
-  -- each of them is of a time-point
+  -- each step is at a time-point of the network
   pub kept_named : All (λ e. e.bound.node.0 < count net) steps
   kept_named = part_named net good (the_entries log.entries) (log_on net log good kept new (room_refuted net log kept last)).kept steps is

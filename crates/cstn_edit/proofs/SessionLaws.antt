@@ -59,7 +59,7 @@ begun_is_sound net good =
       last = tt;
     }
 
--- what no test refuses passes each
+-- where a first test and the rest refuse nothing, each of them passes
 none_refused : (b : Bool) (r : Refusal) (o : Option Refusal) → (if b then Some r else o) ≡ None → (b ≡ false) × (o ≡ None)
 none_refused true r o e = cc
 none_refused false r o e = (refl, e)
@@ -79,7 +79,7 @@ refuted_with net cs list last = record {
   before = λ k e there inside r. last.before k e there inside (record { node = r.node; plain = r.plain; above = r.above });
 }
 
--- a constraint that is accepted is one of the network
+-- what holds of a constraint that a session adds
 record IsAccepted (net : Network) (room : ℕ) (most : ℤ) (a : Label) : Type 0 where
   few : length net.constraints < room
   value : is_value most ≡ true
@@ -99,7 +99,7 @@ accepted room s most a none =
       observed = none_mapped NotObserved (unobserved s.net a) four.1;
     }
 
--- and leaves the session sound
+-- a session is sound after a constraint is added
 pub added_is_sound : (room : ℕ) (s : Session) (x y : ℕ) (most : ℤ) (a : Label) → room ≤ 16384 → Small a → x < count s.net → y < count s.net →
     add_refusal room s most a ≡ None → IsSound s → IsSound (with_added s x y most a)
 added_is_sound room s x y most a few small from to none sound =
@@ -124,7 +124,7 @@ added_is_sound room s x y most a few small from to none sound =
       last = tt;
     }
 
--- what is left of a list stays apart
+-- where no entry is dominated by an earlier one, this holds of the entries that stay as well
 dropped_apart : (list : List Entry) (id : ℕ) → AreApart list → AreApart (dropped list id)
 dropped_apart list id a = record {
   apart = λ i j e f before at_i at_j over.
@@ -144,7 +144,7 @@ dropped_apart list id a = record {
       ];
 }
 
--- a session with other constraints, and without what the one that was changed gave, is sound
+-- a sound session stays sound when one constraint is taken out or changed, and the entries that it gave are dropped
 others_sound : (s : Session) (id : ℕ) (cs : List Constraint) → IsSound s → IsWellFormed (with_constraints s.net cs) →
     ((c : Constraint) → Contains s.net.constraints c → (c.id ≡ id → ⊥) → Contains cs c) → All (λ c. c.id < next_id s.highest) cs →
     IsSound (with_others s id cs)
@@ -173,7 +173,7 @@ contains_filter test xs x has passes = go xs has.0 has.1 has.2
           | inr f ↦ rw f rest
         ]
 
--- without a constraint
+-- a session is sound after a constraint is taken out
 pub removed_is_sound : (s : Session) (id : ℕ) → IsSound s → IsSound (with_removed s id)
 removed_is_sound s id sound =
     let cs = s.net.constraints in
@@ -201,7 +201,7 @@ one_with net id most c h = elim (cases_Bool (c.id == id)) [
 value_with : (id : ℕ) (most : ℤ) (c : Constraint) → IsValue most → IsValue c.most → IsValue (with_value id most c).most
 value_with id most c new old = elim (cases_Bool (c.id == id)) [ inl t ↦ rw t new | inr f ↦ rw f old ]
 
--- with another value of a constraint
+-- a session is sound after a constraint gets another value
 value_is_sound : (s : Session) (id : ℕ) (most : ℤ) → IsValue most → IsSound s → IsSound (with_changed s id most)
 value_is_sound s id most value sound =
     let cs = s.net.constraints in
@@ -236,7 +236,7 @@ sound_goes_on s sound = record {
   last = sound.refuted;
 }
 
--- what is kept of a network: a list that growth may go on from, behind the base bounds
+-- a list that a session on the network may keep: growth may go on from it, and it begins with the base bounds
 record IsKeptOf (net : Network) (list : List Entry) : Type 0 where
   on : GoesOn net list
   based : IsPrefix (bases (count net)) list
@@ -275,7 +275,7 @@ by_is_true net list good on =
       | inr stands ↦ subst (IsTrueOf net) (sym (cond-false _ _ _ stands)) (decides.1 stands)
     ]
 
--- and so is a new outcome
+-- the verdict of a new outcome is true
 pub new_is_true : (net : Network) (cap : ℕ) (list : List Entry) → IsWellFormed net → GoesOn net list → IsTrueOf net (outcome_of net cap list).verdict
 new_is_true net cap list good on = elim (cases_Bool (nat_lt cap (length (grow net list)))) [
   | inr short ↦
@@ -307,7 +307,7 @@ yes_is_true cap load s sound said = subst (IsTrueOf s.net) said (outcome_is_true
 pub no_is_true : (cap load : ℕ) (s : Session) → IsSound s → (outcome_at cap s).verdict ≡ No load → IsConsistent s.net → ⊥
 no_is_true cap load s sound said = subst (IsTrueOf s.net) said (outcome_is_true cap s sound)
 
--- a new outcome is full exactly where both lists are too long
+-- a new outcome is full exactly where both the kept list and the log of the network grow longer than the cap
 never_full : (net : Network) (list : List Entry) → verdict_by net list ≡ Full → ⊥
 never_full net list full = elim (cases_Bool (is_refuted net list)) [
   | inl over ↦ (let clash : No (length list) ≡ Full = sym (cond-true _ _ _ over) ∙ full in cc)

@@ -17,7 +17,7 @@ use Rattle.cstn_check.proofs.Last.{bases_stand}
 use Rattle.cstn_edit.specs.Sessions.{kept_list, next_id, greater, highest_of, IsKeptLog, IsSession}
 use Rattle.cstn_edit.specs.Edits.{Session, begun, the_session}
 
--- the greater of an id and of what is known
+-- the greater of an id and the known one is at least each of them
 upto_greater : (known : Option ℕ) (id : ℕ) → (next_id known ≤ suc (greater known id)) × (id < suc (greater known id))
 upto_greater None id = (omega arith, omega arith)
 upto_greater (Some k) id = (omega arith, omega arith)
@@ -30,7 +30,7 @@ greater_id : (known : Option ℕ) (id : ℕ) → next_id known ≤ id → greate
 greater_id None id above = refl
 greater_id (Some k) id above = omega arith
 
--- the highest id is above all others
+-- the highest id is at least the known one and the id of each constraint
 upto_highest : (known : Option ℕ) (cs : List TheConstraint) → next_id known ≤ next_id (highest_of known cs)
 upto_highest known [] = omega arith
 upto_highest known (c ∷ cs) =
@@ -53,7 +53,7 @@ highest_small n known (c ∷ cs) small below =
     highest_small n (Some (greater known c.id)) cs (greater_small n known c.id small (below 0 c (omega arith)))
     (λ k d inside. below (suc k) d (omega arith))
 
--- and it is the last one, where the ids ascend
+-- the highest id is the last constraint's, where the ids ascend
 pub highest_last : (known : Option ℕ) (cs : List TheConstraint) (d : TheConstraint) (k : ℕ) → suc k ≡ length cs →
     AllPairs (λ b c. b.id < c.id) cs → All (λ c. next_id known ≤ c.id) cs → highest_of known cs ≡ Some (get_or cs k d).id
 highest_last known [] d k last ascending above = absurd (omega arith)
@@ -77,7 +77,7 @@ last_highest net d k good last =
 no_entry : (net : Network) (list : List Entry) → list ≡ [] → IsRefutedLast net list
 no_entry net list is = subst (λ l. IsRefutedLast net l) (sym is) (record { before = λ k e there inside r. absurd (none-some e there) })
 
--- a log that was started keeps its base bounds
+-- a log that was just started is a kept log
 pub started_log : (net : Network) (log : State) → the_entries log.entries ≡ first_entries net log.cap → log.nodes ≡ count net →
     IsDerivation net (the_entries log.entries) → 1 ≤ log.cap → log.cap ≤ 4194304 → IsKeptLog net log
 started_log net log starts nodes derivation some most = record {
@@ -93,7 +93,7 @@ started_log net log starts nodes derivation some most = record {
   most = most;
 }
 
--- and the session has no edit
+-- what was just started, without an edit, is a session
 pub started_session : (given net : NetworkParts) (log : State) (room : ℕ) (highest : Option ℕ) → IsWellFormed (the_network net) →
     net ≡ record given { spare = net.spare } → length given.constraints ≤ room → room ≤ 16384 →
     All (λ c. c.id < 2 ^ 31) given.constraints → room - length given.constraints ≤ net.spare → IsKeptLog (the_network net) log →
@@ -119,7 +119,7 @@ started_session given net log room highest good same fits most ids spare kept bi
       consistent = tt;
     }
 
--- what contracts see of it is the session that begins
+-- what contracts see of a session that was just started is `begun`
 kept_started : (net : Network) (cap : ℕ) (entries : List Entry) → entries ≡ first_entries net cap →
     kept_list net cap entries ≡ bases (count net)
 kept_started net cap entries is = elim (cases_Bool (nat_lt cap (count net))) [

@@ -43,7 +43,7 @@ log_on net s good kept new room =
     }
 
 module _ (net : Network) (good : IsWellFormed net) (list : List Entry) (on : GoesOn net list) where
-  -- the verdict by the answer of growth
+  -- the verdict by the answer of growth is the one that the grown list gives
   pub verdict_is : (new : List Entry) (r : Grown) (v : Verdict) (load : ℕ) → (r ≡ Full → ⊥) →
       new ≡ grow net list → (r ≡ Refuted ↔ ((r ≡ Full → ⊥) × LastRefutes net new)) → load ≡ length new →
       (r ≡ Closed → v ≡ Yes load) → (r ≡ Refuted → v ≡ No load) → v ≡ verdict_by net (grow net list)
@@ -60,7 +60,7 @@ module _ (net : Network) (good : IsWellFormed net) (list : List Entry) (on : Goe
       n refl ∙ ap (λ k. No k) (long ∙ ap length is) ∙ sym (cond-true _ _ _ over)
   verdict_is new Full v load not is refuted long y n = absurd (not refl)
 
-  -- a verdict of the grown list is true
+  -- after a no by the grown list its last entry refutes the network, and after a yes the network is consistent
   pub no_by : (load : ℕ) → verdict_by net (grow net list) ≡ No load → (load ≡ length (grow net list)) × LastRefutes net (grow net list)
   no_by load is = elim (cases_Bool (is_refuted net (grow net list))) [
     | inl over ↦
@@ -88,7 +88,7 @@ module _ (net : Network) (good : IsWellFormed net) (list : List Entry) (on : Goe
     | inr stands ↦ grown_spent net list fresh good on.kept stands
   ]
 
--- and on the entries of a log that has this list
+-- so nothing is left to do on the entries of a log that has this list
 pub spent_entries : (net : Network) (entries : List DeclaredEntry) (list : List Entry) (fresh : List ℕ) → the_entries entries ≡ list → AreSpent net list fresh (length list) → AreSpent net (the_entries entries) fresh (length entries)
 spent_entries net entries list fresh is spent =
     subst (λ n. AreSpent net (the_entries entries) fresh n) (length-map entries the_entry) (subst (λ l. AreSpent net l fresh (length l)) (sym is) spent)
@@ -101,7 +101,7 @@ afresh_spent net cap load v good is yes' = elim (cases_Bool (nat_lt cap (load_of
   | inr fits ↦ yes_spent net good (bases (count net)) (bases_go_on net good.network good.letters) [] load (sym (is ∙ cond-false _ _ _ fits) ∙ yes')
 ]
 
--- the outcome by its two tests
+-- the outcome, from the answers of its two tests
 pub outcome_when : (net : Network) (cap : ℕ) (kept : List Entry) (b d : Bool) → nat_lt cap (length (grow net kept)) ≡ b →
     nat_lt cap (load_of net) ≡ d →
     outcome_of net cap kept ≡ record { afresh = b; verdict = if b && d then FullVerdict else verdict_by net (kept_after net cap kept) }
@@ -121,7 +121,7 @@ pub after_bases : (net : Network) (cap : ℕ) (kept : List Entry) → cap < leng
 after_bases net cap kept long full =
     cond-false _ _ _ (lt-leb (length (grow net kept)) cap long) ∙ cond-false _ _ _ (lt-leb (load_of net) cap full)
 
--- a log that is grown from a list that growth may go on from is kept
+-- a log whose entries are grown from a list that growth may go on from is a kept log
 pub grown_log : (net : Network) (list : List Entry) (new : State) → IsWellFormed net → GoesOn net list →
     Extends (bases (count net)) list → the_entries new.entries ≡ grow net list → new.nodes ≡ count net → count net ≤ new.cap →
     1 ≤ new.cap → new.cap ≤ 4194304 → IsKeptLog net new
@@ -137,7 +137,7 @@ grown_log net list new good on begins is nodes room some most =
       most = most;
     }
 
--- and so is one of the base bounds
+-- a log of the base bounds is a kept log
 pub bases_log : (net : Network) (new : State) → IsWellFormed net → the_entries new.entries ≡ bases (count net) → new.nodes ≡ count net →
     count net ≤ new.cap → 1 ≤ new.cap → new.cap ≤ 4194304 → IsKeptLog net new
 bases_log net new good is nodes room some most =
@@ -172,7 +172,7 @@ afresh_verdict net cap old new r v load good start full whole refuted long y n f
           ∙ sym (cond-false _ _ _ u)
     ]
 
--- what that verdict says is true
+-- after a yes by growth from the base bounds the network is consistent
 pub afresh_yes : (net : Network) (cap load : ℕ) (v : Verdict) → IsWellFormed net →
     v ≡ (if nat_lt cap (load_of net) then FullVerdict else verdict_by net (log_of net)) → v ≡ Yes load → IsConsistent net
 afresh_yes net cap load v good is said = elim (cases_Bool (nat_lt cap (load_of net))) [
@@ -182,7 +182,7 @@ afresh_yes net cap load v good is said = elim (cases_Bool (nat_lt cap (load_of n
   | inr u ↦ yes_by net good (bases (count net)) (bases_go_on net good.network good.letters) load (sym (cond-false _ _ _ u) ∙ sym is ∙ said)
 ]
 
--- a log without room for the base bounds
+-- where a log has no room for the base bounds, these are the kept list, also after a verdict, and the verdict is full
 module _ (net : Network) (cap : ℕ) (good : IsWellFormed net) (small : cap < count net) where
   cap_below_load : cap < load_of net
   cap_below_load = let above = load_above net good in omega arith
@@ -234,7 +234,7 @@ grown_outcome net cap entries v room short is =
     ∙ sym (ap (outcome_of net cap) (room_kept net cap entries room)
     ∙ outcome_when net cap entries false (nat_lt cap (load_of net)) (le-ltb cap (length (grow net entries)) short) refl)
 
--- a no is true
+-- after a no the network is not consistent
 pub no_true : (net : Network) (s : State) (o : Outcome) (load : ℕ) → IsWellFormed net → IsKeptLog net s → AfterNo net s (Some o) →
     o.verdict ≡ No load → IsConsistent net → ⊥
 no_true net s o load good kept after said c =
@@ -242,7 +242,7 @@ no_true net s o load good kept after said c =
     refuted_inconsistent net (the_entries s.entries) good.network
     (record { derivation = kept.derivation; last = l.last; is_last = l.is_last; refutes = l.refutes }) c
 
--- where the list wasn't thrown away, it is a front of the next
+-- where the kept list wasn't thrown away for a verdict, it is a front of the one after it
 pub prefix_of : (net : Network) (cap : ℕ) (kept after : List Entry) (o : Outcome) → o ≡ outcome_of net cap kept →
     after ≡ kept_after net cap kept → o.afresh ≡ false → (more : List Entry) × (kept ++ more ≡ after)
 prefix_of net cap kept after o is list not =

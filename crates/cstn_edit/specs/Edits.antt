@@ -14,8 +14,8 @@ use Rattle.cstn_edit.specs.declared.errors.EditError.TheVariants.{EditLimit as A
 use Rattle.cstn_edit.specs.declared.outcomes.Outcome.{Outcome}
 use Rattle.cstn_edit.specs.Sessions.{SessionParts, kept_of, kept_after, outcome_of, next_id, highest_of}
 
--- the network as edited, the kept list, how many edits were accepted, the highest id that was ever used, and the last outcome,
--- if no edit was accepted since
+-- a session: the network as edited, the list of bounds kept between its verdicts, the number of accepted edits, the highest
+-- id ever used, and the outcome of the last verdict, or none where an edit was accepted since
 pub record Session : Type 0 where
   pub net : Network
   pub kept : List Entry
@@ -32,7 +32,7 @@ pub data Refusal : Type 0 where
   NotPlain : Refusal
   NotObserved : (prop : ℕ) → Refusal
 
--- a session starts with the base bounds
+-- the session that starts on the network, whose kept list is the base bounds
 abbrev pub begun : Network → Session
 begun net = record { net = net; kept = bases (count net); edits = 0; highest = highest_of None net.constraints; last = None }
 
@@ -52,7 +52,8 @@ unobserved net a = position (λ p. not (is_absent (a p)) && not (is_observed net
 abbrev pub has_constraint : Network → ℕ → Bool
 has_constraint net id = list_any (λ c. c.id == id) net.constraints
 
--- why a constraint with this value and label isn't added, if it isn't, where there is room for so many
+-- the first reason for which a session with room for this many constraints refuses to add one with this value and label, or
+-- none where it adds it
 abbrev pub add_refusal : ℕ → Session → ℤ → Label → Option Refusal
 add_refusal room s most a =
     if nat_le 1000000 s.edits then Some EditLimit
@@ -61,12 +62,12 @@ add_refusal room s most a =
     else if not (is_plain a) then Some NotPlain
     else option_map NotObserved (unobserved s.net a)
 
--- why the constraint isn't taken out, if it isn't
+-- why the session refuses to take out the constraint with this id, or none where it takes it out
 abbrev pub remove_refusal : Session → ℕ → Option Refusal
 remove_refusal s id =
     if nat_le 1000000 s.edits then Some EditLimit else if has_constraint s.net id then None else Some (NoSuch id)
 
--- why its value isn't changed, if it isn't
+-- why the session refuses to give the constraint with this id this value, or none where it does
 abbrev pub change_refusal : Session → ℕ → ℤ → Option Refusal
 change_refusal s id most =
     if nat_le 1000000 s.edits then Some EditLimit
@@ -93,7 +94,8 @@ without id cs = filter (λ c. not (c.id == id)) cs
 abbrev pub with_value : ℕ → ℤ → Constraint → Constraint
 with_value id most c = if c.id == id then record c { most = most } else c
 
--- other constraints, without what the constraint of the id gave
+-- the session with these constraints after an edit of the one with this id: the kept list loses the entries that this
+-- constraint gave and those that descend from them
 abbrev pub with_others : Session → ℕ → List Constraint → Session
 with_others s id cs = record {
   net = record s.net { constraints = cs };
@@ -103,19 +105,19 @@ with_others s id cs = record {
   last = None;
 }
 
--- the constraint is taken out
+-- the session after the constraint with this id is taken out
 abbrev pub with_removed : Session → ℕ → Session
 with_removed s id = with_others s id (without id s.net.constraints)
 
--- its value is changed
+-- the session after the constraint with this id gets this value
 abbrev pub with_changed : Session → ℕ → ℤ → Session
 with_changed s id most = with_others s id (map (with_value id most) s.net.constraints)
 
--- the outcome of a verdict: the last one, if no edit was accepted since
+-- the outcome of a verdict: the last one, or a new one where an edit was accepted since
 abbrev pub outcome_at : ℕ → Session → Outcome
 outcome_at cap s = unwrap_or s.last (outcome_of s.net cap s.kept)
 
--- what is kept after a verdict
+-- the kept list after a verdict, which leaves it as it is where the last outcome still stands
 abbrev pub kept_at : ℕ → Session → Option Outcome → List Entry
 kept_at cap s None = kept_after s.net cap s.kept
 kept_at cap s (Some o) = s.kept
@@ -130,11 +132,11 @@ with_verdict cap s = record {
   last = Some (outcome_at cap s);
 }
 
--- what contracts see of a session, by this definition
+-- the session of this definition, from what contracts see of one
 abbrev pub the_session : SessionParts → Session
 the_session s = record { net = the_network s.net; kept = kept_of s; edits = s.edits; highest = s.highest; last = s.last }
 
--- what an error tells
+-- the refusal that an error stands for
 abbrev pub the_refusal : EditError → Refusal
 the_refusal AtLimit = EditLimit
 the_refusal (WithoutRoom room) = NoRoom room
@@ -143,7 +145,7 @@ the_refusal (OutOfRange most) = ValueRange most
 the_refusal Unplain = NotPlain
 the_refusal (Unobserved prop) = NotObserved prop.index
 
--- what a call was refused for, if it was
+-- why a call was refused, or none where it succeeded
 abbrev pub refusal_of : {X : Type 0} → Result X EditError → Option Refusal
 refusal_of (Ok x) = None
 refusal_of (Err e) = Some (the_refusal e)

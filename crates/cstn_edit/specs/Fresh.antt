@@ -10,16 +10,16 @@ use Rattle.cstn_check.specs.Spent.{AreSpent, is_fresh}
 abbrev pub ids_of : List Constraint → List ℕ
 ids_of cs = map (λ c. c.id) cs
 
--- those of the ids that were fresh, and this one
+-- the members of `ids` that are fresh or equal to `id`, in their order
 abbrev pub fresh_with : ℕ → List ℕ → List ℕ → List ℕ
 fresh_with id fresh ids = filter (λ x. (x == id) || is_fresh fresh x) ids
 
--- these are some of the ids, in their order
+-- the fresh ids are members of `ids`, in their order
 abbrev pub AreSome : List ℕ → List ℕ → Type 0
 AreSome fresh ids = fresh ≡ filter (λ x. is_fresh fresh x) ids
 
--- the fresh ids are among those of the constraints and there is room for them, and where the log is settled, nothing is left to
--- do on its entries but with fresh constraints
+-- the fresh ids are ids of the network's constraints, and both vectors of ids have capacity for `room` of them; where the log
+-- is settled, its entries give nothing new but with fresh constraints
 pub record IsFreshened (net : NetworkParts) (log : State) (room : ℕ) (fresh : List ℕ) (settled : Bool) (held spare : ℕ) : Type 0 where
   pub some : AreSome fresh (ids_of net.constraints)
   pub spent : settled ≡ true → AreSpent (the_network net) (the_entries log.entries) fresh (length log.entries)

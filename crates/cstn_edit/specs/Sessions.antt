@@ -15,10 +15,10 @@ use Rattle.cstn_check.specs.Growth.{grow, log_of, load_of, is_refuted}
 use Rattle.cstn_check.specs.Turns.{IsRefutedLast, LastRefutes}
 use Rattle.cstn_edit.specs.declared.outcomes.Outcome.{Outcome}
 
--- what contracts see of a session: the network as edited, the entries of its log, how many there may be, how many constraints
--- there may be, how many edits were accepted, the highest id that was ever used, the last outcome, if no edit was accepted
--- since, how many rules were tried, the ids of the constraints that were added or changed since the last verdict, and whether
--- that was yes and no entry went since
+-- what contracts see of a session: the network as edited; the entries of its log; how many entries (`cap`) and constraints
+-- (`room`) there may be; the number of accepted edits; the highest id ever used; the last outcome, or none where an edit was
+-- accepted since; how many rules were tried; the ids of the constraints that were added or changed since the last verdict;
+-- and whether that verdict was yes and no entry was taken out since
 pub record SessionParts : Type 0 where
   pub net : NetworkParts
   pub entries : List DeclaredEntry
@@ -31,7 +31,7 @@ pub record SessionParts : Type 0 where
   pub fresh : List ℕ
   pub settled : Bool
 
--- the kept list, for which the base bounds stand where a log has no room for them
+-- the kept list: the entries of the log, or the base bounds where the log has no room for them
 abbrev pub kept_list : Network → ℕ → List Entry → List Entry
 kept_list net cap entries = if nat_lt cap (count net) then bases (count net) else entries
 
@@ -47,12 +47,12 @@ kept_after net cap kept =
     else if nat_le (load_of net) cap then log_of net
     else bases (count net)
 
--- the verdict by a list that is grown
+-- the verdict that a grown list gives, with its length as the load
 abbrev pub verdict_by : Network → List Entry → Verdict
 verdict_by net list = if is_refuted net list then No (length list) else Yes (length list)
 
--- the outcome of a session that has none: it grows afresh where the kept list grows too long, and its verdict is full where
--- the log of the network is too long as well
+-- a new outcome: growth starts afresh where the kept list grows past the cap, and the verdict is full where the log of the
+-- network is longer than the cap as well
 abbrev pub outcome_of : Network → ℕ → List Entry → Outcome
 outcome_of net cap kept = record {
   afresh = nat_lt cap (length (grow net kept));
@@ -64,12 +64,12 @@ abbrev pub next_id : Option ℕ → ℕ
 next_id None = 0
 next_id (Some id) = suc id
 
--- the greater of an id and of what is known
+-- the greater of an id and the known one, if there is one
 abbrev pub greater : Option ℕ → ℕ → ℕ
 greater None id = id
 greater (Some known) id = max known id
 
--- the highest of the ids, and of what is known
+-- the highest id of the constraints and the known one, if there is any
 abbrev pub highest_of : Option ℕ → List Constraint → Option ℕ
 highest_of known [] = known
 highest_of known (c ∷ cs) = highest_of (Some (greater known c.id)) cs
@@ -78,12 +78,11 @@ highest_of known (c ∷ cs) = highest_of (Some (greater known c.id)) cs
 abbrev pub IsUnobserved : Network → Label → ℕ → Type 0
 IsUnobserved net a p = (a p ≡ Absent → ⊥) × ((x : ℕ) → Observes net x p → ⊥)
 
--- and it is the least
+-- the proposition is the least one that the label names and nothing observes
 abbrev pub IsLeastUnobserved : Network → Label → ℕ → Type 0
 IsLeastUnobserved net a p = IsUnobserved net a p × ((q : ℕ) → q < p → IsUnobserved net a q → ⊥)
 
--- how many births the log may have had: the calls of a session that raise them are the accepted edits and the verdicts
--- that follow them
+-- the most births that the log can have had: the start, each accepted edit and each new outcome add at most 2 ^ 24
 abbrev pub most_births : ℕ → Option Outcome → ℕ
 most_births edits None = (2 * edits + 1) * 2 ^ 24
 most_births edits (Some o) = (2 * edits + 2) * 2 ^ 24

@@ -1,4 +1,4 @@
--- Sessions by their definition that keep what a session needs, and what its verdicts say.
+-- When a session is sound, and when a verdict is true.
 use Rattle.std.specs.Prelude.{ℕ, ◌≡◌, ◌<◌, List, Option, Some, None, slice_get}
 use Rattle.std.specs.List.{All}
 use Rattle.cstn_label.specs.Bounds.{Dominates}

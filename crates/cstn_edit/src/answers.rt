@@ -1,4 +1,4 @@
-// The outcome of a session that has none.
+// The new outcome of a session.
 ghost use Rattle.std.specs.Prelude.{ℕ, true, false, [], List, take, ◌↔◌, ◌++◌, ◌≡◌, ◌≤◌, ◌<◌, ◌+◌, ◌*◌, ◌^◌, nat_lt, nat_le, if◌then◌else◌, length, Some};
 ghost use Rattle.cstn_net.specs.Networks.{IsWellFormed, count};
 ghost use Rattle.cstn_net.specs.Read.{the_network};
@@ -18,8 +18,8 @@ use cstn_log::Log;
 use cstn_net::Network;
 use cstn_rules::Tries;
 
-// Grows the kept list, or, where that gets too long, the log of the network. Where the list is settled, nothing is left to do
-// on its entries but with fresh constraints.
+// Grows the kept list, or, where that gets longer than the cap, the log of the network, and answers the verdict by the grown
+// list. Where the kept list is settled, its entries give nothing new but with fresh constraints.
 pub fn answer(
     net: &Network,
     log: &mut Log,
@@ -61,7 +61,7 @@ pub fn answer(
     }
 }
 
-// Grows the list, and passes over what is spent where it is settled.
+// Grows the list. Where it is settled, only rules with a fresh constraint or a new entry are tried.
 fn grow_further(
     net: &Network,
     log: &mut Log,
@@ -91,7 +91,7 @@ fn grow_further(
     grow(net, log, tries)
 }
 
-// Grows the log of the network, and leaves its base bounds where that is too long.
+// Replaces the list by the log of the network, or by the base bounds alone where the log is longer than the cap.
 fn answer_afresh(net: &Network, log: &mut Log, tries: &mut Tries) -> Verdict
     requires room { count (the_network net.now) ≤ log.old.cap }
     requires nodes { log.old.nodes ≡ count (the_network net.now) }
@@ -116,7 +116,7 @@ fn answer_afresh(net: &Network, log: &mut Log, tries: &mut Tries) -> Verdict
     verdict_of(grown, log.len())
 }
 
-// The verdict of growth, by the load.
+// The verdict by the answer of growth; yes and no have the load.
 fn verdict_of(grown: Grown, load: u32) -> Verdict
     ensures closed { grown ≡ Grown.Closed → result ≡ Verdict.Yes load }
     ensures refuted { grown ≡ Grown.Refuted → result ≡ Verdict.No load }

@@ -1,7 +1,7 @@
 use cstn_label::Prop;
 use thiserror::Error;
 
-/// Why an edit is refused: the first that applies.
+/// Why an edit is refused: the first of these reasons that applies.
 #[derive(Clone, Copy, Debug, PartialEq, Eq, Error)]
 pub enum EditError {
     /// S6: 1,000,000 edits were accepted.
@@ -19,7 +19,7 @@ pub enum EditError {
     /// S4: the label isn't plain.
     #[error("the label isn't plain")]
     NotPlain,
-    /// S5: the least proposition of the label that nothing observes.
+    /// S5: the label names propositions that nothing observes, of which this is the least.
     #[error("nothing observes the proposition {}", prop.index)]
     NotObserved { prop: Prop },
 }

@@ -1,4 +1,4 @@
-// The fresh ids of a session, in the order of the constraints.
+// The fresh ids of a session: those of the constraints that were added or changed since the last verdict, in their order.
 ghost use Rattle.std.specs.Prelude.{◌≡◌, ◌≤◌, ◌↔◌, ℕ, true, ◌==◌, ◌||◌, [], length, vec_capacity};
 ghost use Rattle.cstn_check.specs.declared.verdicts.Verdict.{Verdict};
 ghost use Rattle.cstn_check.specs.Spent.{is_fresh};
@@ -9,7 +9,8 @@ use cstn_check::Verdict;
 use cstn_net::Network;
 use std::mem::swap;
 
-// Leaves those of the ids that were fresh and still are of constraints, and this one if it is.
+// Leaves in `fresh` the ids of the network's constraints that were fresh before, and `id` where a constraint has it. `list`
+// lends the room for this.
 pub fn freshen(net: &Network, fresh: &mut Vec<u32>, list: &mut Vec<u32>, id: u32)
     requires room { length net.now.constraints ≤ vec_capacity list.old }
     ensures fresh { fresh.new.items ≡ fresh_with id fresh.old.items (ids_of net.now.constraints) }
@@ -20,7 +21,7 @@ pub fn freshen(net: &Network, fresh: &mut Vec<u32>, list: &mut Vec<u32>, id: u32
     swap(fresh, list);
 }
 
-// Picks those of the ids that are fresh, and this one.
+// Puts into `list` the ids of the network's constraints that are fresh or equal to `id`.
 fn pick_fresh(net: &Network, fresh: &[u32], list: &mut Vec<u32>, id: u32)
     requires empty { list.old.items ≡ [] }
     requires room { length net.now.constraints ≤ vec_capacity list.old }
@@ -51,7 +52,7 @@ fn is_known(fresh: &[u32], id: u32) -> bool
     fresh.iter().any(|known| *known == id)
 }
 
-// Whether nothing was left to do before, and nothing went.
+// Whether a list stays settled when `gone` of its entries are taken out.
 pub fn stays_settled(settled: bool, gone: u32) -> bool
     ensures { (result ≡ true) ↔ ((settled ≡ true) × (gone ≡ 0)) }
 {

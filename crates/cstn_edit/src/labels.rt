@@ -1,4 +1,4 @@
-// What the label of a new constraint may name.
+// Tests of the value and the label of a new constraint.
 ghost use Rattle.std.specs.Prelude.{ℕ, ◌≡◌, ◌<◌, ◌≤ℤ◌, IsTrue, ◌↔◌, IfNone, IfSome, MatchOption};
 ghost use Rattle.cstn_label.specs.Read.{marks};
 ghost use Rattle.cstn_net.specs.Networks.{IsOnObserved, IsValue};

@@ -18,8 +18,8 @@ pub fn sessions_stay_sound()
     ensures verdict { (cap : ℕ) (s : Session) → IsSound s → IsSound (with_verdict cap s) }
 {}
 
-/// Each verdict of a sound session is true of the network as edited: yes is said where it is consistent, no where it is not,
-/// and full exactly where both the kept list and the log of the network grow past the cap.
+/// Each verdict of a sound session is true of the network as edited: yes is said only where it is consistent, no only where
+/// it is not. A new verdict is full exactly where both the kept list and the log of the network grow past the cap.
 pub fn verdicts_are_true()
     ensures truth { (cap : ℕ) (s : Session) → IsSound s → IsTrueOf s.net (outcome_at cap s).verdict }
     ensures full { (cap : ℕ) (s : Session) → s.last ≡ None → ((outcome_at cap s).verdict ≡ Full ↔ ((cap < length (grow s.net s.kept)) × (cap < load_of s.net))) }

@@ -32,10 +32,10 @@ use std::marker::Model;
 
 const MOST_EDITS: u32 = 1_000_000;
 
-/// A network that is edited, with the list that is kept between its verdicts.
+/// A network that is edited, with the list of bounds that is kept between its verdicts.
 ///
-/// After a yes, as long as no entry of the list went, a verdict tries only what is new: the constraints that were added or
-/// changed since, and what concerns entries that are new. All memory is taken by [`Session::start`], but for what
+/// After a yes, as long as no entry of the list was taken out, a verdict tries only rules that use a new entry or a
+/// constraint that was added or changed since. [`Session::start`] takes all memory, except that of the refutations which
 /// [`Session::refutation`] hands out.
 #[derive(Drop)]
 pub struct Session {
@@ -46,10 +46,10 @@ pub struct Session {
     edits: u32,
     highest: Option<u32>,
     last: Option<Outcome>,
-    // The ids of the constraints that were added or changed since the last verdict, and room for others.
+    // The ids of the constraints that were added or changed since the last verdict, and a vector to pick the next ones into.
     fresh: Vec<u32>,
     list: Vec<u32>,
-    // Whether the last verdict was yes, and no entry went since.
+    // Whether the last verdict was yes, and no entry of the log was taken out since.
     settled: bool,
 }
 
@@ -66,8 +66,8 @@ impl Model for Session {
 }
 
 impl Session {
-    /// A session on the network, whose lists may have `cap` entries and which may have `room` constraints. Fails for want of
-    /// memory alone, and drops the network then.
+    /// A session on the network, whose list may have up to `cap` entries and which may have up to `room` constraints. Fails
+    /// for want of memory alone, and drops the network then.
     pub fn start(alloc: Global, net: Network, cap: u32, room: u32) -> Result<Session, AllocError>
         requires some { 1 ≤ cap }
         requires most { cap ≤ 4194304 }
@@ -104,8 +104,9 @@ impl Session {
         })
     }
 
-    /// Adds a constraint between two time-points and answers its id, which is one above the highest ever used. The kept list
-    /// stays.
+    /// Adds a constraint, by which `to` is at most `most` ticks after `from` where the label holds, and returns its id: one
+    /// above the highest ever used, or 0. The kept list stays. Refuses for each reason but [`EditError::NoSuch`], and then
+    /// changes nothing.
     pub fn add(
         &mut self,
         from: NodeId,
@@ -159,7 +160,8 @@ impl Session {
         Ok(id)
     }
 
-    /// Takes a constraint out, and from the kept list what it gave and what descends from that.
+    /// Takes the constraint with this id out of the network, and the entries that it gave and those that descend from them
+    /// out of the kept list. Refuses past the limit of edits and where no constraint has the id, and then changes nothing.
     pub fn remove(&mut self, id: u32) -> Result<(), EditError>
         ensures limit { IsErrOf result EditError.EditLimit ↔ (self.old.edits ≡ 1000000) }
         ensures none { (other : ℕ) → (IsErrOf result (EditError.NoSuch other) ↔ ((self.old.edits < 1000000) × All (λ c. c.id ≢ id) self.old.net.constraints × (other ≡ id))) }
@@ -184,7 +186,9 @@ impl Session {
         Ok(())
     }
 
-    /// Gives a constraint another value, and takes from the kept list what it gave and what descends from that.
+    /// Gives the constraint with this id the value `most`, in ticks, and takes the entries that it gave and those that
+    /// descend from them out of the kept list. Refuses past the limit of edits, where no constraint has the id, and where the
+    /// value is out of range, and then changes nothing.
     pub fn change(&mut self, id: u32, most: i32) -> Result<(), EditError>
         ensures limit { IsErrOf result EditError.EditLimit ↔ (self.old.edits ≡ 1000000) }
         ensures none { (other : ℕ) → (IsErrOf result (EditError.NoSuch other) ↔ ((self.old.edits < 1000000) × All (λ c. c.id ≢ id) self.old.net.constraints × (other ≡ id))) }
@@ -213,8 +217,8 @@ impl Session {
         Ok(())
     }
 
-    /// The verdict of the network as edited. It is grown from the kept list, or afresh where that gets too long, and stands
-    /// until the next accepted edit.
+    /// The verdict of the network as edited. The kept list is grown for it, or the log of the network afresh where that list
+    /// gets longer than the cap. The outcome stands until the next accepted edit.
     pub fn verdict(&mut self) -> Outcome
         ensures outcome { self.old.last ≡ None → result ≡ outcome_of (the_network self.old.net) self.old.cap (kept_of self.old) }
         ensures kept { self.old.last ≡ None → kept_of self.new ≡ kept_after (the_network self.old.net) self.old.cap (kept_of self.old) }
@@ -258,7 +262,7 @@ impl Session {
         ensures load { IfOk result (λ r. r.load ≡ length (kept_of self.now)) }
         ensures refutes { IfOk result (λ r. IsRefutation (the_network self.now.net) (the_steps r)) }
 
-        // It can be printed with the names of the time-points.
+        // Each step is at a time-point of the network, so the refutation can be printed with their names.
         ensures named { IfOk result (λ r. All (λ e. e.bound.node.0 < count (the_network self.now.net)) r.steps) }
     {
         is_well_formed(&self.net);
@@ -267,7 +271,7 @@ impl Session {
         Ok(Refutation::new(load, steps))
     }
 
-    /// How many rules were tried.
+    /// How many rules the session has tried since its start.
     pub fn tries(&self) -> u64
         ensures tries { result ≡ self.now.tries }
     {
@@ -283,7 +287,7 @@ impl Session {
         &self.net
     }
 
-    /// The kept list, or nothing where there is no room for the base bounds.
+    /// The kept list, or an empty one where there is no room for the base bounds.
     pub fn kept(&self) -> &Log
         ensures kept { count (the_network self.now.net) ≤ self.now.cap → the_entries result.now.entries ≡ kept_of self.now }
         ensures empty { self.now.cap < count (the_network self.now.net) → the_entries result.now.entries ≡ [] }

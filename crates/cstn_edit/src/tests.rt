@@ -25,7 +25,7 @@ fn branch(rt: &impl Abort, alloc: Global) -> Network {
     net.close().expect(rt, "a network")
 }
 
-// And P is at 2 or later.
+// The network of `branch`, where P is at 2 or later as well.
 fn late(rt: &impl Abort, alloc: Global) -> Network {
     let mut net = Builder::new(alloc, 10);
     net.node(None).expect(rt, "memory");
@@ -46,7 +46,7 @@ fn started(rt: &impl Abort, alloc: Global, net: Network, cap: u32, room: u32) ->
     Session::start(alloc, net, cap, room).expect(rt, "memory")
 }
 
-// A constraint between these time-points is added, or refused, with this answer.
+// Adding a constraint between these time-points gives this answer.
 fn adds(
     rt: &impl Abort,
     session: &mut Session,
@@ -78,7 +78,7 @@ fn judges(rt: &impl Abort, session: &mut Session, outcome: Outcome) {
     assert!(rt; session.verdict() == outcome);
 }
 
-// The refutation after a no has this load and so many steps.
+// The verdict is no, and its refutation has this load and number of steps.
 fn is_refuted(rt: &impl Abort, alloc: Global, session: &mut Session, load: u32, steps: usize) {
     let outcome = session.verdict();
     let Verdict::No { load: _ } = outcome.verdict else {
@@ -155,8 +155,8 @@ fn a_constraint_is_refused(rt: HostRuntime) {
     drop(session);
 }
 
-// The branch with this cap and room: its outcomes before and after a constraint is added with this answer, and how long
-// the kept list is then.
+// A session on `branch` with this cap and room: its first outcome, the answer to an added constraint, the outcome after
+// that, and the length of the kept list then.
 fn grows(
     rt: &impl Abort,
     alloc: Global,
@@ -188,7 +188,7 @@ fn caps_and_rooms(rt: HostRuntime) {
     grows(&rt, alloc, 100, 2, yes(5), no_room, yes(5), 5);
 }
 
-// No more than so many rules were tried since then.
+// At most `most` rules were tried since the count was `before`.
 fn tried(rt: &impl Abort, session: &Session, before: u64, most: u64) {
     assert!(rt; session.tries().saturating_sub(before) <= most);
 }
@@ -218,7 +218,7 @@ fn what_was_taken_out_is_not_tried_again(rt: HostRuntime) {
     drop(session);
 }
 
-// The constraint 0 gets its value so many times.
+// Constraint 0 is given the value that it already has, `times` times.
 fn changes_often(rt: &impl Abort, session: &mut Session, times: u32) {
     for _ in 0..times {
         changes(rt, session, 0, -10, Ok(()));

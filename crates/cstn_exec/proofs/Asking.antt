@@ -1,4 +1,4 @@
--- What bounds ask for, one after another, by what is known.
+-- The moments that bounds ask for by what is known, when one bound after another is read.
 use Rattle.std.proofs.Common.{ℕ, ◌≡◌, ◌+◌, max, Bool, true, false, cond, ◌&&◌, List, [], ◌∷◌, ◌++◌, Some, map, take, arith, refl, sym, ap, ◌∙◌}
 use Rattle.std.specs.Prelude.{◌==◌, slice_get}
 use Rattle.std.proofs.Math.Path.{fun_ext}
@@ -33,7 +33,7 @@ greatest_push test (x ∷ xs) b =
     ap (λ n. cond (test x) (max (moment_of x.least) n) n) (greatest_push test xs b)
     ∙ swapped (test x) (test b) (moment_of x.least) (greatest test xs) (moment_of b.least)
 
--- one more bound is asked
+-- the greatest moment that the first k + 1 bounds ask for, from that of the first k
 pub greatest_more : (test : Bound → Bool) (bounds : List ProgramBound) (k : ℕ) (b : ProgramBound) (before now : ℕ) → slice_get bounds k ≡ Some b →
     before ≡ greatest test (the_bounds (take k bounds)) → now ≡ cond (test (the_bound b)) (max before (moment_of b.least)) before →
     now ≡ greatest test (the_bounds (take (k + 1) bounds))
@@ -46,7 +46,7 @@ greatest_more test bounds k b before now at old new =
     new ∙ ap (λ n. cond (test (the_bound b)) (max n (moment_of b.least)) n) old
     ∙ sym (ap (greatest test) more ∙ greatest_push test (the_bounds (take k bounds)) (the_bound b))
 
--- what is asked by words that have the values that are known
+-- bounds ask for the same moment by the words k, where these hold exactly the values that are known before u
 pub earliest_by : (net : Network) (bounds : List Bound) (run : Run) (u x : ℕ) (k : Known) →
     ((p : ℕ) → value_in k p ≡ known net run u p) →
     greatest (λ b. (b.node == x) && is_possible (value_in k) b.label) bounds ≡ earliest net bounds run u x

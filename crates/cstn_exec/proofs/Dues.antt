@@ -52,7 +52,7 @@ some_none (Some m ∷ ms) h =
     let later = some_none ms h in
     (suc later.0, let inside = later.1 in omega arith, later.2)
 
--- somebody isn't executed where not all is
+-- where not all is executed, some time-point isn't
 pub someone_waits : (net : Network) (run : Run) → length run.moments ≡ count net → is_done run ≡ false →
     (x : ℕ) × (x < count net) × (executed_at run x ≡ None)
 someone_waits net run size h =
@@ -78,7 +78,7 @@ limit_upto net (suc x) = omega arith
 
 module _ (net : Network) (bounds : List Bound) (table : Table) (wf : IsWellFormed net) (plan : IsEarliest net bounds table)
     (run : Run) (right : IsRight net run) where
-  -- somebody who waits keeps the run from being quiet past the deadline
+  -- where a time-point isn't executed and it is quiet up to t, t is at most the deadline
   pub upto_deadline : (x : ℕ) → x < count net → executed_at run x ≡ None → (t : ℕ) → next run ≤ t → IsQuiet net bounds run t → t ≤ net.deadline
   upto_deadline x here waiting t from quiet =
       let s = seen_scenario run in
@@ -124,7 +124,7 @@ module _ (net : Network) (bounds : List Bound) (table : Table) (wf : IsWellForme
       let upto = first.upto in
       (record { from = from; work = work_is t from quiet first.passes; first = idle_before t quiet }, omega arith)
 
-  -- some moment is due where somebody waits
+  -- where not all is executed, there is a first moment with work
   pub some_first : is_done run ≡ false → (t : ℕ) × IsFirstWork net bounds run t
   some_first waits = elim (cases_option (first_work net bounds run)) [
     | inr some ↦ (some.0, find_first (has_work net bounds run) (next run) (moments_left net run) some.0 some.1)
@@ -185,7 +185,7 @@ module _ (net : Network) (bounds : List Bound) (table : Table) (wf : IsWellForme
         omega (arith, ints);
   }
 
--- where the moment is accepted, it is quiet up to it, and it isn't past the deadline
+-- where t is accepted, it is quiet up to t, and t is at most the deadline
 pub accepted_quiet : (net : Network) (bounds : List Bound) (table : Table) → IsWellFormed net → IsEarliest net bounds table →
     (run : Run) → IsRight net run → (t : ℕ) → IsAccepted net bounds run t → IsQuiet net bounds run t × (t ≤ net.deadline)
 accepted_quiet net bounds table wf plan run right t ok = elim (cases_option (due net bounds run)) [

@@ -1,4 +1,4 @@
--- Lists of one value again and again.
+-- Lists that repeat one value.
 use Rattle.std.proofs.Common.{ℕ, ◌≡◌, inl, inr, List, [], ◌++◌, Option, None, ◌-◌, take, arith, ap, ◌∙◌}
 use Rattle.std.specs.Prelude.{replicate, slice_index_or}
 use Rattle.std.proofs.lemmas.Bool.{cases_lt}

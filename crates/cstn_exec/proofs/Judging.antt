@@ -14,7 +14,7 @@ pub record IsAccepted (net : Network) (bounds : List Bound) (run : Run) (t : ℕ
   pub none_awaited : awaited net run (t + 1) ≡ None
   pub upto : (u : ℕ) → due net bounds run ≡ Some u → t ≤ u
 
--- what is so where a moment is accepted, or refused for this
+-- what holds where a moment is accepted (None), or refused for the given reason
 abbrev pub Tells : Network → List Bound → Run → ℕ → Option Refusal → Type 0
 Tells net bounds run t None = IsAccepted net bounds run t
 Tells net bounds run t (Some Done) = is_done run ≡ true

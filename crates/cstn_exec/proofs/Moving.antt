@@ -102,7 +102,7 @@ executed_fails net bounds run t x m e = elim (cases_Bool (is_free net bounds run
 module _ (net : Network) (bounds : List Bound) (table : Table) (wf : IsWellFormed net) (plan : IsEarliest net bounds table)
     (run : Run) (right : IsRight net run) (t : ℕ) (from : next run ≤ t) (quiet : IsQuiet net bounds run t)
     (none : (p : ℕ) → is_awaited net run (t + 1) p ≡ true → ⊥) where
-  -- who is executed after the moment was executed before, or is free at it
+  -- a time-point that is executed in the run after t was executed before it, or is free at t
   was : (x m : ℕ) → x < count net → executed_at (moved net bounds run t) x ≡ Some m →
       (executed_at run x ≡ Some m) ⊎ ((executed_at run x ≡ None) × (earliest net bounds run (t + 1) x ≤ t) × (m ≡ t))
   was x m here e =
@@ -119,7 +119,7 @@ module _ (net : Network) (bounds : List Bound) (table : Table) (wf : IsWellForme
   kept : (x m : ℕ) → executed_at run x ≡ Some m → executed_at (moved net bounds run t) x ≡ Some m
   kept x m e = executed_failing (is_free net bounds run t) t 0 (count net) run.moments x (executed_fails net bounds run t x m e) ∙ e
 
-  -- who isn't executed after the moment was held back at it
+  -- a time-point that isn't executed in the run after t is held back at t
   still : (x : ℕ) → x < count net → executed_at (moved net bounds run t) x ≡ None →
       (executed_at run x ≡ None) × (t < earliest net bounds run (t + 1) x)
   still x here e =
@@ -133,7 +133,7 @@ module _ (net : Network) (bounds : List Bound) (table : Table) (wf : IsWellForme
             (before, held_unless_free net bounds run wf t x held before)
       ]
 
-  -- nothing that was executed at t is ready before t + 1
+  -- what is ready before t + 1 was so before t was accepted: an observer that is executed at t reacts later
   ready_before : (p : ℕ) → Ready net wf.network (moved net bounds run t) (t + 1) p → Ready net wf.network run (t + 1) p
   ready_before p r =
       let here = observer_within net r.observer p r.observes in
@@ -195,7 +195,7 @@ module _ (net : Network) (bounds : List Bound) (table : Table) (wf : IsWellForme
         (table s x, omega arith, plan.least s x here);
   }
 
-  -- who is free is called, and who is called is free
+  -- exactly the free time-points are called
   pub free_called : (x : ℕ) → x < count net → is_free net bounds run t x ≡ true → IsCalled net run t x
   free_called x here free =
       let parts = free_parts net bounds run t x free in

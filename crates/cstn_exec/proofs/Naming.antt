@@ -1,4 +1,4 @@
--- The numbers of a range that pass a test, the moments once they are executed, and who is named.
+-- The numbers of a range that pass a test, the moments once these are executed, and which time-points are named.
 use Rattle.std.proofs.Common.{ℕ, zero, suc, ◌≡◌, ◌≢◌, inl, inr, ◌+◌, ◌<◌, ◌≤◌, Bool, true, false, List, [], ◌∷◌, Option, Some, None, length, map, take, cond, ◌++◌, ◌&&◌, not, arith, refl, sym, subst, ap, ◌∙◌, get_or-set_other, get_or-set_same}
 use Rattle.std.specs.Prelude.{is_none, nat_lt, slice_index_or, slice_set}
 use Rattle.std.specs.List.{All, Contains, filter, range_with_len}
@@ -29,7 +29,7 @@ in_range a n = λ k d inside.
     let at = get_or-range_with_len a n k d (omega arith) in
     (omega arith, omega arith)
 
--- what is named passes, and is in the range
+-- each number of `passing` passes, and is in the range
 pub from_passing : (test : ℕ → Bool) (a n x : ℕ) → Contains (passing test a n) x → (a ≤ x) × (x < a + n) × (test x ≡ true)
 from_passing test a n x c =
     let within = All-contains (λ x. (a ≤ x) × (x < a + n)) (passing test a n) x
@@ -92,7 +92,7 @@ filter_same f g a (suc n) same =
     ap (λ b. cond b (a ∷ filter f (range_with_len (a + 1) n)) (filter f (range_with_len (a + 1) n))) here
     ∙ ap (λ l. cond (g a) (a ∷ l) l) more
 
--- ---- the moments after those of the list are executed
+-- ---- the moments after the time-points of the list are executed
 
 pub executed_size : (t : ℕ) (xs : List ℕ) (ms : List (Option ℕ)) → length (executed t xs ms) ≡ length ms
 executed_size t [] ms = refl
@@ -108,7 +108,7 @@ executed_kept t (y ∷ ys) ms x inside e =
       | inr other ↦ get_or-set_other ms y x (Some t) None other ∙ e
     ])
 
--- who passes is executed at t
+-- a number that passes is executed at t
 pub executed_passing : (test : ℕ → Bool) (t a n : ℕ) (ms : List (Option ℕ)) (x : ℕ) → x < length ms → a ≤ x → x < a + n → test x ≡ true →
     slice_index_or (executed t (passing test a n) ms) x None ≡ Some t
 executed_passing test t a zero ms x inside from upto h = absurd (omega arith)
@@ -126,7 +126,7 @@ executed_passing test t a (suc n) ms x inside from upto h = elim (cases_Bool (te
       (executed_passing test t (a + 1) n ms x inside (omega arith) (omega arith) h)
 ]
 
--- who fails stays as it was
+-- a number that fails keeps the moment that it had
 pub executed_failing : (test : ℕ → Bool) (t a n : ℕ) (ms : List (Option ℕ)) (x : ℕ) → test x ≡ false →
     slice_index_or (executed t (passing test a n) ms) x None ≡ slice_index_or ms x None
 executed_failing test t a zero ms x h = refl
@@ -150,9 +150,9 @@ executed_more t xs i d ms inside =
     ap (λ l. executed t l ms) (ap (map (λ x. x.0)) (take_more xs i d inside) ∙ map-append (λ x. x.0) (take i xs) (slice_index_or xs i d ∷ []))
     ∙ executed_push t (map (λ x. x.0) (take i xs)) (slice_index_or xs i d).0 ms
 
--- ---- who is named
+-- ---- which time-points are named
 
--- what is free by the moments that are asked for
+-- the named time-points are those that are free by the moments that the bounds ask for
 pub named_by : (net : Network) (bounds : List Bound) (run : Run) (t : ℕ) (after : List ℕ) → count net ≤ 1024 → length run.moments ≡ count net →
     AreAskedAt net bounds run t after →
     filter (is_free_by run.moments after t) (range_with_len 0 (length run.moments)) ≡ named net bounds run t
@@ -161,7 +161,7 @@ named_by net bounds run t after few size same =
     ∙ filter_same (is_free_by run.moments after t) (is_free net bounds run t) 0 (count net)
     (λ x from inside. ap (λ m. is_none (executed_at run x) && not (nat_lt t m)) (same x (omega arith)))
 
--- the named are time-points
+-- each named number is one of a time-point
 pub named_within : (xs : List NodeId) (test : ℕ → Bool) (n : ℕ) → map (λ x. x.0) xs ≡ filter test (range_with_len 0 n) → All (λ x. x.0 < n) xs
 named_within xs test n e = λ k d inside.
     let at = get_or-map (λ x. x.0) xs k d d.0 inside in

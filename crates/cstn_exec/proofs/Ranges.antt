@@ -75,7 +75,7 @@ not_found test a n fails = go (find test (range_with_len a n)) refl
         let f = find_first test a n j e in
         absurd (both_ways (test j) (fails j f.from f.upto) f.passes)
 
--- all pass exactly where each does
+-- `list_all` is true exactly where each number of the range passes
 pub each_passes : (test : ℕ → Bool) (a n : ℕ) → list_all test (range_with_len a n) ≡ true → (k : ℕ) → a ≤ k → k < a + n → test k ≡ true
 each_passes test a zero e k from upto = absurd (omega arith)
 each_passes test a (suc n) e k from upto =
@@ -91,7 +91,7 @@ all_pass test a (suc n) h =
     and_from (test a) (list_all test (range_with_len (a + 1) n)) (h a (omega arith) (omega arith))
     (all_pass test (a + 1) n (λ k from upto. h k (omega arith) (omega arith)))
 
--- none passes exactly where each fails
+-- `list_any` is false exactly where each number of the range fails
 pub each_fails : (test : ℕ → Bool) (a n : ℕ) → list_any test (range_with_len a n) ≡ false → (k : ℕ) → a ≤ k → k < a + n → test k ≡ false
 each_fails test a zero e k from upto = absurd (omega arith)
 each_fails test a (suc n) e k from upto =
@@ -107,7 +107,7 @@ none_passes test a (suc n) h =
     or_from (test a) (list_any test (range_with_len (a + 1) n)) (h a (omega arith) (omega arith))
     (none_passes test (a + 1) n (λ k from upto. h k (omega arith) (omega arith)))
 
--- one of them passes
+-- `list_any` is true exactly where some number of the range passes
 pub some_passes : (test : ℕ → Bool) (a n : ℕ) → list_any test (range_with_len a n) ≡ true → (k : ℕ) × (a ≤ k) × (k < a + n) × (test k ≡ true)
 some_passes test a zero e = absurd (false≢true e)
 some_passes test a (suc n) e = elim (or_cases (test a) (list_any test (range_with_len (a + 1) n)) e) [

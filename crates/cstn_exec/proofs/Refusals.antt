@@ -1,4 +1,4 @@
--- What refusals tell, and who is named.
+-- What refusals tell, and which time-points are named.
 use Rattle.std.proofs.Common.{ℕ, ◌≡◌, inl, inr, ◌+◌, ◌<◌, ◌≤◌, Bool, List, [], Some, None, arith, subst}
 use Rattle.std.specs.Prelude.{◌↔◌, is_some}
 use Rattle.std.specs.List.{Contains, list_any, range_with_len}
@@ -39,7 +39,7 @@ seen_right net run p wf right ok letter v = elim (cases_option (observed_at net 
       ]
 ]
 
--- ---- who is named
+-- ---- which time-points are named
 
 pub named_called : (net : Network) (bounds : List Bound) (table : Table) (run : Run) (t : ℕ) → IsWellFormed net → IsEarliest net bounds table →
     IsRight net run → moment_refusal net bounds run t ≡ None → (x : ℕ) → Contains (named net bounds run t) x ↔ IsCalled net run t x

@@ -46,7 +46,7 @@ module _ (net : Network) (bounds : List Bound) (run : Run) (wf : IsWellFormed ne
     | inr held ↦ ltb-true t (earliest net bounds run (t + 1) x) (not-false (nat_lt t (earliest net bounds run (t + 1) x)) held)
   ]
 
-  -- nobody is awaited at t, and everybody who isn't executed is held back
+  -- nothing is awaited at t, and every time-point that isn't executed is held back
   pub record Idle (t : ℕ) : Type 0 where
     pub none_awaited : (p : ℕ) → is_awaited net run (t + 1) p ≡ true → ⊥
     pub held : (x : ℕ) → x < count net → executed_at run x ≡ None → t < earliest net bounds run (t + 1) x
@@ -60,7 +60,7 @@ module _ (net : Network) (bounds : List Bound) (run : Run) (wf : IsWellFormed ne
             (each_fails (is_free net bounds run t) 0 (count net) parts.1 x (omega arith) (omega arith)) none;
       }
 
--- from the next moment up to t there is nothing to be done
+-- from the next moment on, there is nothing to be done before t
 abbrev pub IsQuiet : Network → List Bound → Run → ℕ → Type 0
 IsQuiet net bounds run t = (u : ℕ) → next run ≤ u → u < t → has_work net bounds run u ≡ false
 
@@ -83,7 +83,8 @@ module _ (net : Network) (bounds : List Bound) (table : Table) (wf : IsWellForme
     agrees_now : AgreesKnown net run (next run) s
     agrees_now = agrees_before net run (next run) (t + 1) s wf.network (omega arith) agrees
 
-    -- what is known in the table at t is known of the run, if nothing is awaited and nobody else comes before t
+    -- what is known at t by the table is known at t in the run, if nothing is awaited and each time-point that isn't executed
+    -- comes at t or later
     told : ((y : ℕ) → y < count net → executed_at run y ≡ None → t ≤ table s y) →
         ((p : ℕ) → is_awaited net run (t + 1) p ≡ true → ⊥) → (p : ℕ) → IsKnown net (table s) t p →
         (v : Bool) × (known net run (t + 1) p ≡ Some v)
@@ -108,7 +109,7 @@ module _ (net : Network) (bounds : List Bound) (table : Table) (wf : IsWellForme
               ]
         ]
 
-    -- who is held back comes later
+    -- under the same conditions, a time-point that is held back at t comes later
     held_later : ((y : ℕ) → y < count net → executed_at run y ≡ None → t ≤ table s y) →
         ((p : ℕ) → is_awaited net run (t + 1) p ≡ true → ⊥) → (x : ℕ) → x < count net →
         t < earliest net bounds run (t + 1) x → t < table s x
@@ -146,7 +147,7 @@ module _ (net : Network) (bounds : List Bound) (table : Table) (wf : IsWellForme
         let above = held.later in
         omega (arith, ints)
 
-  -- who isn't executed comes at t or later, where it is quiet up to t
+  -- where there is nothing to be done before t, a time-point that isn't executed comes at t or later
   pub quiet_later : (s : Scenario) (t : ℕ) → next run ≤ t → IsQuiet net bounds run t → AgreesKnown net run t s →
       (x : ℕ) → x < count net → executed_at run x ≡ None → t ≤ table s x
   quiet_later s zero from quiet agrees x here none = omega arith
@@ -164,7 +165,7 @@ module _ (net : Network) (bounds : List Bound) (table : Table) (wf : IsWellForme
         omega arith
   ]
 
-  -- at such a moment, who isn't held back comes then, and who is held back comes later
+  -- where moreover nothing is awaited at t, a time-point that isn't held back comes at t, and one that is held back later
   pub at_moment : (s : Scenario) (t : ℕ) → next run ≤ t → IsQuiet net bounds run t →
       ((p : ℕ) → is_awaited net run (t + 1) p ≡ true → ⊥) → AgreesKnown net run (t + 1) s → (x : ℕ) → x < count net →
       executed_at run x ≡ None →

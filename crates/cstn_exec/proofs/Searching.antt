@@ -18,9 +18,10 @@ use Rattle.cstn_exec.proofs.Running.{IsQuiet}
 use Rattle.cstn_exec.proofs.Moving.{free_parts, free_from}
 use Rattle.cstn_exec.proofs.Dues.{moments_left, first_work, someone_waits, upto_deadline}
 
--- ---- the least of the moments of those who wait
+-- ---- the least moment of the time-points that aren't executed
 
--- of the first n time-points, each that isn't executed has a moment of `least` or later, and one has it, if there is one
+-- `least` is the least moment from t on at which `after` leaves one of the first n time-points free that aren't executed; where
+-- all of the first n are executed, it is at least the greatest number of 32 bits
 pub record IsLeastFrom (moments : List (Option ℕ)) (after : List ℕ) (t n least : ℕ) : Type 0 where
   pub from : t ≤ least
   pub held : (x u : ℕ) → x < n → slice_index_or moments x None ≡ None → t ≤ u → u < least → u < slice_index after x
@@ -118,7 +119,7 @@ module _ (net : Network) (bounds : List Bound) (run : Run) (wf : IsWellFormed ne
   unfolding awaited
   awaited_same = ap (λ (r : ℕ → Bool). find (λ p. r p && is_none (outcome_of run p)) (range_with_len 0 52)) ready_same
 
-  -- there is nothing to be done at w, if nothing is awaited and all who wait are held back
+  -- there is nothing to be done at w, if nothing is awaited and all time-points that aren't executed are held back
   pub still_idle : awaited net run (t + 1) ≡ None →
       ((x : ℕ) → x < count net → executed_at run x ≡ None → w < earliest net bounds run (t + 1) x) → has_work net bounds run w ≡ false
   still_idle none held =
@@ -133,14 +134,14 @@ module _ (net : Network) (bounds : List Bound) (run : Run) (wf : IsWellFormed ne
           let early = parts.1 in
           omega arith)
 
-  -- and there is something, if one of them isn't
+  -- there is something to be done at w, if a time-point that isn't executed isn't held back
   pub work_then : (x : ℕ) → x < count net → executed_at run x ≡ None → earliest net bounds run (t + 1) x ≤ w → has_work net bounds run w ≡ true
   work_then x here waiting free =
       or_right (is_some (awaited net run (w + 1))) (list_any (is_free net bounds run w) (range_with_len 0 (count net)))
       (passing_at (is_free net bounds run w) 0 (count net) x (omega arith) (omega arith)
       (free_from net bounds run w x waiting (let moved = earliest_same x in omega arith)))
 
--- it stays quiet while nothing becomes known or awaited and all who wait are held back
+-- it stays quiet while nothing becomes known or awaited and all time-points that aren't executed are held back
 pub quiet_on : (net : Network) (bounds : List Bound) (run : Run) → IsWellFormed net → (t u : ℕ) → IsQuiet net bounds run t →
     awaited net run (t + 1) ≡ None →
     ((w p : ℕ) → t ≤ w → w < u → is_ready net run (w + 1) p ≡ true → is_ready net run (t + 1) p ≡ true) →

@@ -66,7 +66,7 @@ pub possible_is : MarksEnd → (k : Known) (a : Label) (r : Bool) → (IsTrue r 
     r ≡ is_possible (value_in k) (marks a)
 possible_is end k a r h = same_from_decides r (is_possible (value_in k) (marks a)) (h.0, h.1) (values_fit end k a, fit_values k a)
 
--- the values below index are those that are known, and no other is there
+-- k holds the given values of the propositions below index, and none of another proposition
 pub record KnownBelow (values : ℕ → Option Bool) (k : Known) (index : ℕ) : Type 0 where
   pub below : (q : ℕ) → q < index → value_in k q ≡ values q
   pub above : (q : ℕ) → index ≤ q → value_in k q ≡ None

@@ -8,13 +8,14 @@ use Rattle.cstn_net.specs.Networks.{Network}
 use Rattle.cstn_exec.specs.Runs.{Run, start, due, named}
 use Rattle.cstn_exec.specs.Moves.{Refusal, Done, Past, Late, Awaiting, NotExecuted, Known, moment_refusal, moved, outcome_refusal, handed}
 
--- what comes: a moment, an outcome, or the question for the due moment
+-- an event: a moment, an outcome, or the question for the due moment
 pub data Event : Type 0 where
   Moment : (t : ℕ) → Event
   See : (p : ℕ) → (v : Bool) → Event
   AskDue : Event
 
--- what is answered: the time-points that are named, that an outcome is kept, why an event is refused, or the due moment
+-- the answer to an event: the time-points that are named, that the outcome is kept, why the event is refused, or the due
+-- moment
 pub data Answer : Type 0 where
   Names : (xs : List ℕ) → Answer
   Kept : Answer
@@ -61,7 +62,7 @@ only m (suc p) = Absent
 abbrev pub from : ℕ → ℕ → Label → Bound
 from x least label = record { node = x; least = pos least; label = label }
 
--- a network of which the constraints are left out, as a run doesn't ask for them
+-- a network with one reaction for all propositions; its constraints are left out, since a run doesn't read them
 abbrev pub observing : ℕ → List (Option ℕ) → ℕ → Network
 observing deadline observes reaction = record { deadline = deadline; observes = observes; reaction = λ p. reaction; constraints = [] }
 
@@ -72,7 +73,7 @@ branch = observing 10 (None ∷ (Some 0 ∷ (None ∷ []))) 1
 abbrev pub branch_plan : List Bound
 branch_plan = from 0 0 empty ∷ (from 1 0 empty ∷ (from 2 10 (only Yes) ∷ (from 2 1 empty ∷ [])))
 
--- the same, where p is known 3 ticks after P
+-- the branch network with p known 3 ticks after P
 abbrev pub slow_branch : Network
 slow_branch = observing 10 (None ∷ (Some 0 ∷ (None ∷ []))) 3
 
@@ -90,7 +91,7 @@ crossed = observing 5 (None ∷ (Some 0 ∷ (Some 1 ∷ []))) 1
 abbrev pub crossed_plan : List Bound
 crossed_plan = from 0 0 empty ∷ (from 2 5 empty ∷ (from 1 5 empty ∷ []))
 
--- a process from S to E, in which T takes longer where p is false
+-- Z, S, P, which observes p, T and E: a process from S to E in which T and E are later where p is false
 abbrev pub process : Network
 process = observing 40 (None ∷ (None ∷ (Some 0 ∷ (None ∷ (None ∷ []))))) 1
 
@@ -120,7 +121,7 @@ abbrev pub true_branch_answers : List Answer
 true_branch_answers =
     Names (0 ∷ (1 ∷ [])) ∷ (Kept ∷ (DueAt (Some 10) ∷ (Names (2 ∷ []) ∷ [])))
 
--- events where P is executed at the last tick, and their answers
+-- events where P is executed at 2 and p is false, and their answers
 abbrev pub last_tick_events : List Event
 last_tick_events =
     Moment 0 ∷ (Moment 2 ∷ (See 0 false ∷ (Moment 3 ∷ [])))
@@ -129,7 +130,7 @@ abbrev pub last_tick_answers : List Answer
 last_tick_answers =
     Names (0 ∷ []) ∷ (Names (1 ∷ []) ∷ (Kept ∷ (Names (2 ∷ []) ∷ [])))
 
--- events where an outcome is seen before it is known, and their answers
+-- events where an outcome is handed in before its reaction has passed, and their answers
 abbrev pub slow_events : List Event
 slow_events =
     Moment 0 ∷ (See 0 false ∷ (Moment 1 ∷ (AskDue ∷ (Moment 3 ∷ []))))

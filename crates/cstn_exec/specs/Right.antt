@@ -32,7 +32,7 @@ pub record IsCalled (net : Network) (run : Run) (t x : ℕ) : Type 0 where
 abbrev pub HasWork : Network → Run → ℕ → Type 0
 HasWork net run t = ((p : ℕ) × (is_awaited net run (t + 1) p ≡ true)) ⊎ ((x : ℕ) × IsCalled net run t x)
 
--- t is the first moment above `now`, from 0 where there is none, at which there is something to be done
+-- t is the first moment above `now` (or from 0 on, before a moment is accepted) at which there is something to be done
 pub record IsDue (net : Network) (run : Run) (t : ℕ) : Type 0 where
   pub from : next run ≤ t
   pub work : HasWork net run t

@@ -16,7 +16,7 @@ pub record Run : Type 0 where
   pub moments : List (Option ℕ)
   pub outcomes : List (Option Bool)
 
--- nothing is executed or seen of n time-points and 52 propositions
+-- the state of a run in which none of n time-points is executed and no outcome of the 52 propositions was seen
 abbrev pub start : ℕ → Run
 start n = record { now = None; moments = replicate n None; outcomes = replicate 52 None }
 
@@ -79,7 +79,7 @@ fits_known (Some v) m = fits v m
 unfoldable pub is_possible : (ℕ → Option Bool) → Label → Bool
 is_possible values a = list_all (λ p. fits_known (values p) (a p)) (range_with_len 0 52)
 
--- the greatest moment that the bounds on x ask for whose labels are possible by what is known before u
+-- the greatest moment that a bound on x asks for whose label is possible by what is known before u, or 0
 abbrev pub earliest : Network → List Bound → Run → ℕ → ℕ → ℕ
 earliest net bounds run u x = greatest (λ b. (b.node == x) && is_possible (known net run u) b.label) bounds
 
@@ -87,7 +87,7 @@ earliest net bounds run u x = greatest (λ b. (b.node == x) && is_possible (know
 abbrev pub AreAskedAt : Network → List Bound → Run → ℕ → List ℕ → Type 0
 AreAskedAt net bounds run t moments = (x : ℕ) → x < 1024 → slice_index moments x ≡ earliest net bounds run (t + 1) x
 
--- the same where there are moments, and else a proposition is awaited at t
+-- given moments are those that the bounds ask for by what is known at t; without moments a proposition is awaited at t
 abbrev pub AreAskedUnlessAwaited : Network → List Bound → Run → ℕ → Option (List ℕ) → Type 0
 AreAskedUnlessAwaited net bounds run t None = is_some (awaited net run (t + 1)) ≡ true
 AreAskedUnlessAwaited net bounds run t (Some moments) = AreAskedAt net bounds run t moments
@@ -96,7 +96,7 @@ AreAskedUnlessAwaited net bounds run t (Some moments) = AreAskedAt net bounds ru
 abbrev pub is_free : Network → List Bound → Run → ℕ → ℕ → Bool
 is_free net bounds run t x = is_none (executed_at run x) && not (nat_lt t (earliest net bounds run (t + 1) x))
 
--- the same, of the moments of the executed and those that are asked for
+-- x has no moment in `moments`, and its moment in `after` is at most t
 abbrev pub is_free_by : List (Option ℕ) → List ℕ → ℕ → ℕ → Bool
 is_free_by moments after t x = is_none (slice_index_or moments x None) && not (nat_lt t (slice_index after x))
 

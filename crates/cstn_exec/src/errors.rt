@@ -1,7 +1,7 @@
 use cstn_label::Prop;
 use thiserror::Error;
 
-/// Why a moment or an outcome is refused.
+/// Why a moment or an outcome is refused. E1 to E6 are the codes that the commands `run` and `host` answer after `refused`.
 #[derive(Clone, Copy, Debug, PartialEq, Eq, Error)]
 pub enum ExecError {
     /// E1: the moment isn't above the last accepted one.
@@ -10,7 +10,7 @@ pub enum ExecError {
     /// E2: the moment is above the due one.
     #[error("the moment {due} is due before")]
     Late { due: u32 },
-    /// E3: an outcome is awaited at the moment; the least proposition.
+    /// E3: at the moment an outcome is awaited; `prop` is the least proposition whose outcome is.
     #[error("the outcome of the proposition {} is awaited", prop.index)]
     Awaiting { prop: Prop },
     /// E4: nothing observes the proposition, or its observer isn't executed.

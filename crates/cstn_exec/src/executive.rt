@@ -54,8 +54,8 @@ impl Model for Executive {
 }
 
 impl Executive {
-    /// An executive of the plan, of which nothing is executed. All room is taken here, also for the longest answer. Fails for
-    /// want of memory alone, and drops the plan then.
+    /// An executive of the plan, with nothing executed yet. All memory is taken here, also for an answer that names every
+    /// time-point. Fails only where memory is refused, and drops the plan then.
     pub fn start(alloc: Global, plan: SoundPlan) -> Result<Executive, AllocError>
         ensures start { IfOk result (λ e. e ≡ record { net = plan.net; bounds = plan.bounds; run = start (count (the_network plan.net)); named = [] }) }
     {
@@ -83,7 +83,8 @@ impl Executive {
         self.named.clear();
     }
 
-    /// The network. By the bounds of the plan one strategy has each time-point at its least moment in every scenario.
+    /// The network. The bounds of the plan determine a strategy that executes each time-point at its least moment in every
+    /// scenario.
     pub fn network(&self) -> &Network
         ensures network { result.now ≡ self.now.net }
         ensures right { IsRight (the_network self.now.net) self.now.run }
@@ -101,8 +102,8 @@ impl Executive {
     }
 
     /// The first moment, in ticks, at which an outcome is awaited or a time-point is to be executed; none where all is executed.
-    /// Takes at most one pass over the plan's bounds, and another for each moment after the next one, up to the due one, at which
-    /// more becomes known. Where each reaction is 1 there is no such moment.
+    /// Takes at most one pass over the plan's bounds for the first moment that may be accepted, and one for each later moment,
+    /// up to the due one, at which another outcome becomes known. Where each reaction is 1 there is no such later moment.
     pub fn due(&self) -> Option<u32>
         ensures due { result ≡ due (the_network self.now.net) (the_bounds self.now.bounds) self.now.run }
         ensures none { IsNone result ↔ IsDone (the_network self.now.net) self.now.run }
@@ -118,7 +119,7 @@ impl Executive {
         }
     }
 
-    /// Why the moment would be refused; none exactly where it would be accepted.
+    /// Why `moment` would refuse t, in ticks; none exactly where it would accept t.
     pub fn can(&self, t: u32) -> Option<ExecError>
         ensures { option_map the_refusal result ≡ moment_refusal (the_network self.now.net) (the_bounds self.now.bounds) self.now.run t }
     {
@@ -128,9 +129,9 @@ impl Executive {
         }
     }
 
-    /// Accepts a moment, in ticks, and executes the time-points whose least moment it is, which `named` lends. Refused with the
-    /// first that applies of `Done`, `Past`, `Awaiting` and `Late`. Takes at most as many passes over the plan's bounds
-    /// as `due`.
+    /// Accepts a moment, in ticks, and executes the time-points whose least moment it is; `named` then returns them. Refused
+    /// with the first that applies of `Done`, `Past`, `Awaiting` and `Late`. Takes at most as many passes over the plan's
+    /// bounds as `due`.
     pub fn moment(&mut self, t: u32) -> Result<(), ExecError>
         ensures refused { refusal_of result ≡ moment_refusal (the_network self.old.net) (the_bounds self.old.bounds) self.old.run t }
         ensures moved { OnOk result (self.new ≡ record self.old { run = moved (the_network self.old.net) (the_bounds self.old.bounds) self.old.run t; named = named (the_network self.old.net) (the_bounds self.old.bounds) self.old.run t }) }
@@ -150,8 +151,8 @@ impl Executive {
         Ok(())
     }
 
-    /// Keeps the outcome of a proposition, which is used from its reaction after its observer on. Refused with the first that
-    /// applies of `NotExecuted` and `Known`.
+    /// Keeps the outcome of a proposition. It is known once the reaction of the proposition has passed after its observer was
+    /// executed. Refused with the first that applies of `NotExecuted` and `Known`.
     pub fn see(&mut self, p: Prop, value: bool) -> Result<(), ExecError>
         ensures refused { refusal_of result ≡ outcome_refusal (the_network self.old.net) self.old.run p.index }
         ensures handed { OnOk result (self.new ≡ record self.old { run = handed self.old.run p.index value }) }

@@ -25,9 +25,9 @@ pub fn the_named_are_called()
     ensures ascending { (net : Network) (bounds : List Bound) (run : Run) (t : ℕ) → IsStrictlyIncreasing (named net bounds run t) }
 {}
 
-/// The due moment is the first above `now` at which a proposition is awaited or a time-point has its least moment, at most the
-/// deadline; there is none exactly where all is executed. A moment above `now` and below it is accepted and names nothing, and
-/// the due moment itself is refused only where an outcome is awaited.
+/// The due moment is the first above `now` at which a proposition is awaited or a time-point has its least moment, and is at
+/// most the deadline; there is none exactly where all is executed. A moment between `now` and the due moment is accepted and
+/// names nothing. The due moment itself is refused only where an outcome is awaited.
 pub fn due_is_exact()
     ensures due { (net : Network) (bounds : List Bound) (table : Table) (run : Run) (t : ℕ) → IsWellFormed net → IsEarliest net bounds table → IsRight net run → due net bounds run ≡ Some t → IsDue net run t × (t ≤ net.deadline) }
     ensures none { (net : Network) (bounds : List Bound) (table : Table) (run : Run) → IsWellFormed net → IsEarliest net bounds table → IsRight net run → (due net bounds run ≡ None ↔ IsDone net run) }
@@ -36,7 +36,7 @@ pub fn due_is_exact()
     ensures end { (net : Network) (bounds : List Bound) (table : Table) (run : Run) → IsWellFormed net → IsEarliest net bounds table → IsRight net run → IsDone net run → IsFulfilled net run }
 {}
 
-/// What each refusal of a moment tells. An outcome that is awaited is accepted.
+/// What each refusal of a moment tells. The outcome of a proposition that is awaited is accepted.
 pub fn refusals_are_right()
     ensures done { (net : Network) (bounds : List Bound) (run : Run) (t : ℕ) → IsRight net run → (moment_refusal net bounds run t ≡ Some Done ↔ IsDone net run) }
     ensures past { (net : Network) (bounds : List Bound) (run : Run) (t now : ℕ) → moment_refusal net bounds run t ≡ Some (Past now) → (run.now ≡ Some now) × (t ≤ now) }

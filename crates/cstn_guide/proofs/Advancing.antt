@@ -49,7 +49,7 @@ module _ (m : Labelled) (bounds : List Bound) (table : Table) (wf : IsWellFormed
 
 -- ---- moments
 
--- those who are executed at an accepted moment are fresh
+-- the time-points that are executed at an accepted moment are fresh
 pub named_fresh : (net : Network) (bounds : List Bound) → IsWellFormed net → (run : Run) → IsRight net run → (t : ℕ) →
     AreFresh net (moved net bounds run t) (named net bounds run t)
 named_fresh net bounds wf run right t = record {
@@ -87,7 +87,7 @@ module _ (m : Labelled) (bounds : List Bound) (table : Table) (good : IsLabelled
   out_still : (u x : ℕ) → IsRuledOut (known net g.run u) (completed_label m x) → IsRuledOut (known net after.run u) (completed_label m x)
   out_still u x = ruled_out_on (known net g.run u) (known net after.run u) (completed_label m x) (more u)
 
-  -- whoever is executed was executed before, or is to be at t
+  -- a time-point that is executed in the new state was executed before, or is executed at t
   was : (x u : ℕ) → executed_at after.run x ≡ Some u → (x < count m.base) × ((executed_at g.run x ≡ Some u) ⊎ (Contains (named net bounds g.run t) x × (u ≡ t)))
   was x u e =
       let e_moved = sym (all_executed net out moved_run x) ∙ e in
@@ -96,7 +96,7 @@ module _ (m : Labelled) (bounds : List Bound) (table : Table) (good : IsLabelled
       let here : x < count m.base = omega arith in
       (here, moved_was net bounds wf g.run right.right t x u here e_moved)
 
-  -- whoever was left out before isn't executed at t
+  -- a time-point that was left out before isn't executed at t
   not_again : (x : ℕ) → Contains (named net bounds g.run t) x → is_left g x ≡ true → ⊥
   not_again x c h =
       let e = right.executed x h in
@@ -141,7 +141,7 @@ module _ (m : Labelled) (bounds : List Bound) (table : Table) (good : IsLabelled
         ]
       ]
 
-  -- whoever is left out now was left out before, or is at t
+  -- a time-point that is left out in the new state was left out before, or is left out at t
   left_when : (x : ℕ) → is_left after x ≡ true → (is_left g x ≡ true) ⊎ Contains out x
   left_when x gone = elim (contains_or_not out x) [
     | inl there ↦ inr there

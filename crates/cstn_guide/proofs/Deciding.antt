@@ -41,7 +41,7 @@ ruled_out values a h =
     let wrong = misfit (values fails.0) (a fails.0) fails.1 in
     (fails.0, wrong.0, wrong.1, wrong.2)
 
--- in a right run, what is known in the table of least moments when somebody was executed is known of the run
+-- in a right run, what is known by the table of least moments at a moment that has passed is known in the run
 module _ (net : Network) (bounds : List Bound) (table : Table) (wf : IsWellFormed net) (plan : IsEarliest net bounds table) (run : Run) (right : IsRight net run) where
   abbrev seen : Scenario
   seen = seen_scenario run

@@ -1,4 +1,4 @@
--- Runs in which the outcome false is kept of what some time-points observe, and the marks of those who are left out.
+-- Runs in which the outcome false is kept of what some time-points observe, and the marks of time-points that are left out.
 use Rattle.std.proofs.Common.{ℕ, zero, suc, ◌≡◌, ◌⊎◌, inl, inr, ◌<◌, Bool, true, false, List, [], ◌∷◌, ◌++◌, Option, Some, None, length, take, arith, refl, sym, subst, ap, ◌∙◌, get_or-set_other, get_or-set_same}
 use Rattle.std.specs.Prelude.{slice_index_or, slice_set}
 use Rattle.std.specs.List.{All, Contains, filter}
@@ -56,7 +56,7 @@ taken_before xs k y c =
     let inside = c.1 in
     (c.0, omega arith, sym (get_or-take k xs c.0 y (omega arith)) ∙ c.2)
 
--- ---- what denying leaves
+-- ---- what keeping the outcome false leaves unchanged
 
 denied_moments : (o : Option ℕ) (run : Run) → (denied o run).moments ≡ run.moments
 denied_moments None run = refl
@@ -169,7 +169,7 @@ module _ (net : Network) (wf : IsWellFormed net) where
       let done = f.executed 0 x (omega arith) in
       all_right xs (denied o run) (denied_right run x o refl right done.0 done.1 (λ p. f.unseen x p (contains_head x xs))) (fresh_next run x xs f)
 
-  -- what is known stays so
+  -- what is known stays known
   pub known_on : (xs : List ℕ) (run : Run) → AreFresh net run xs → (u p : ℕ) (v : Bool) → known net run u p ≡ Some v →
       known net (all_denied net xs run) u p ≡ Some v
   known_on xs run f u p v k =
@@ -183,7 +183,7 @@ module _ (net : Network) (wf : IsWellFormed net) where
         passed = r.passed;
       }) (outcome_elsewhere net xs run p (λ y c sees. some_or_none (outcome_of run p) v from.1 (f.unseen y p c sees)) ∙ from.1)
 
-  -- the outcome of what the next one observes isn't refused
+  -- the outcome of the proposition that the next time-point of the list observes isn't refused
   pub next_open : (test : ℕ → Bool) (run : Run) (xs : List ℕ) (k : ℕ) (x : ℕ) → AreFresh net run xs → k < length xs → slice_index_or xs k x ≡ x →
       (p : ℕ) → Observes net x p → outcome_refusal net (all_denied net (filter test (take k xs)) run) p ≡ None
   next_open test run xs k x f inside at p sees =
@@ -200,7 +200,7 @@ module _ (net : Network) (wf : IsWellFormed net) where
       omega arith) ∙ f.unseen x p (k, inside, at) sees in
       ap (λ o. unless_unseen p o (unless_known p (outcome_of after p))) there ∙ ap (unless_known p) missing
 
--- ---- the marks of those who are left out
+-- ---- the marks of the time-points that are left out
 
 pub left_size : (xs : List ℕ) (left : List Bool) → length (with_left xs left) ≡ length left
 left_size [] left = refl

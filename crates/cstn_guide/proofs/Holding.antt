@@ -1,4 +1,4 @@
--- What holds by what is known, as a test and as a fact.
+-- Labels that hold by what is known: the test `holds_by` and the type `HoldsBy`.
 use Rattle.std.proofs.Common.{ℕ, ◌≡◌, inl, inr, ◌<◌, ◌≤◌, Bool, true, false, Option, Some, None, arith, refl, sym, subst}
 use Rattle.std.specs.Prelude.{◌↔◌}
 use Rattle.std.specs.List.{list_all, range_with_len}
@@ -16,7 +16,7 @@ use Rattle.cstn_exec.proofs.Ranges.{each_passes, all_pass}
 use Rattle.cstn_guide.specs.Guides.{fits_surely, holds_by}
 use Rattle.cstn_guide.specs.Sound.{HoldsBy, IsRuledOut}
 
--- a value that is known, and fits the mark
+-- the value is known, and fits the mark
 abbrev pub KnownToFit : Option Bool → Mark → Type 0
 KnownToFit o a = (v : Bool) × (o ≡ Some v) × MarkFits v a
 
@@ -63,7 +63,7 @@ pub holds_is : (m : Labelled) (values : ℕ → Option Bool) (x : ℕ) → IsLab
     (holds_by values (completed_label m x) ≡ true ↔ HoldsBy values (completed_label m x))
 holds_is m values x good = (holds_from values (completed_label m x) (full_above m good x), holds_to values (completed_label m x))
 
--- what holds isn't ruled out
+-- a label that holds isn't ruled out
 pub not_both : (values : ℕ → Option Bool) (a : Label) → HoldsBy values a → IsRuledOut values a → ⊥
 not_both values a holds out = elim (absent_or_not (a out.0)) [
   | inl none ↦ out.3 (fits_absent out.1 (a out.0) none)
@@ -75,14 +75,14 @@ not_both values a holds out = elim (absent_or_not (a out.0)) [
       out.3 (subst (λ v. MarkFits v (a out.0)) same k.2)
 ]
 
--- more that is known keeps what holds, and what is ruled out
+-- when more becomes known, a label that holds still holds, and one that is ruled out still is
 pub holds_on : (old new : ℕ → Option Bool) (a : Label) → ((p : ℕ) (v : Bool) → old p ≡ Some v → new p ≡ Some v) → HoldsBy old a → HoldsBy new a
 holds_on old new a more h p marked = let k = h p marked in (k.0, more p k.0 k.1, k.2)
 
 pub ruled_out_on : (old new : ℕ → Option Bool) (a : Label) → ((p : ℕ) (v : Bool) → old p ≡ Some v → new p ≡ Some v) → IsRuledOut old a → IsRuledOut new a
 ruled_out_on old new a more out = (out.0, out.1, more out.0 out.1 out.2, out.3)
 
--- one mark that doesn't surely fit decides
+-- a label with a mark that doesn't surely fit doesn't hold
 pub fails_at : (values : ℕ → Option Bool) (a : Label) (p : ℕ) → p < 52 → fits_surely (values p) (a p) ≡ false → holds_by values a ≡ false
 unfolding holds_by
 fails_at values a p inside h =

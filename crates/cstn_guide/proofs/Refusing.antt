@@ -1,4 +1,4 @@
--- Whose outcomes are refused.
+-- Which outcomes are refused.
 use Rattle.std.proofs.Common.{ℕ, ◌≡◌, inl, inr, Bool, false, Option, Some, None, refl, sym, ap, ◌∙◌}
 use Rattle.std.specs.Prelude.{◌↔◌, option_and_then}
 use Rattle.std.proofs.lemmas.Bool.{cases_Bool, cond-true, cond-false}
@@ -13,7 +13,7 @@ known_already : (p : ℕ) (o : Option Bool) → unless_known p o ≡ Some (NotEx
 known_already p None e = let f : ⊥ = cc in f
 known_already p (Some v) e = let f : ⊥ = cc in f
 
--- where the observer of a proposition is the one that observes it
+-- for a network in which `observer_of` finds exactly the time-point that observes a proposition
 module _ (m : Labelled) (found : (x p : ℕ) → Observes (lowered m) x p → observer_of (lowered m) p ≡ Some x)
     (only : (x p : ℕ) → observer_of (lowered m) p ≡ Some x → Observes (lowered m) x p) (g : Guided) (p : ℕ) where
   marked_so : (x : ℕ) → Observes (lowered m) x p → is_denied (lowered m) g p ≡ is_left g x
@@ -30,7 +30,7 @@ module _ (m : Labelled) (found : (x p : ℕ) → Observes (lowered m) x p → ob
   observed_from None t is e = absurd (cc)
   observed_from (Some x) t is e = (x, only x p is, e)
 
-  -- an outcome whose observer wasn't left out is refused as not observed where that isn't executed
+  -- an outcome whose observer wasn't left out is refused as not observed exactly where the observer isn't executed
   refused_kept : is_denied (lowered m) g p ≡ false → (seen : Option ℕ) → observed_at (lowered m) g.run p ≡ seen →
       see_refusal m g p ≡ Some (NotExecuted p) ↔ ((x : ℕ) → Observes (lowered m) x p → named_at g x ≡ None)
   refused_kept kept None none =
@@ -48,7 +48,7 @@ module _ (m : Labelled) (found : (x p : ℕ) → Observes (lowered m) x p → ob
             absurd (cc)),
       )
 
-  -- an outcome is refused as not observed where nobody who was named observes it
+  -- an outcome is refused as not observed exactly where no named time-point observes it
   pub refused_unnamed : see_refusal m g p ≡ Some (NotExecuted p) ↔ ((x : ℕ) → Observes (lowered m) x p → named_at g x ≡ None)
   refused_unnamed = elim (cases_Bool (is_denied (lowered m) g p)) [
     | inl gone ↦ (

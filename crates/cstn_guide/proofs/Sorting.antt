@@ -1,4 +1,4 @@
--- A list that is gone through, some of it named and the rest left out.
+-- Going through a list of time-points, some of which are named and the rest left out.
 use Rattle.std.proofs.Common.{ℕ, zero, suc, ◌≡◌, ◌+◌, ◌<◌, ◌≤◌, Bool, true, false, cond, List, [], ◌∷◌, ◌++◌, length, map, take, arith, refl, sym, ap, ◌∙◌}
 use Rattle.std.specs.Prelude.{slice_index_or}
 use Rattle.std.specs.List.{AllPairs, filter}
@@ -12,7 +12,7 @@ any_default [] k d e inside = absurd (omega arith)
 any_default (x ∷ xs) zero d e inside = refl
 any_default (x ∷ xs) (suc k) d e inside = any_default xs k d e (omega arith)
 
--- a name at a place, and the number there
+-- the name at place k has the number at place k
 pub name_at : (ns : List NodeId) (xs : List ℕ) (k : ℕ) (d : NodeId) → map (λ n. n.0) ns ≡ xs → k < length xs →
     (k < length ns) × (slice_index_or xs k (slice_index_or ns k d).0 ≡ (slice_index_or ns k d).0)
 name_at ns xs k d same inside =
@@ -24,7 +24,7 @@ name_at ns xs k d same inside =
           ∙ ap (λ l. slice_index_or l k d.0) (sym same) ∙ get_or-map (λ n. n.0) ns k d d.0 here,
     )
 
--- the numbers of a list that rises are no lower than their places
+-- each number of an ascending list is at least its place
 pub place_below : (xs : List ℕ) → AllPairs (λ x y. x < y) xs → (k d : ℕ) → k < length xs → k ≤ slice_index_or xs k d
 place_below xs rises zero d inside = omega arith
 place_below xs rises (suc k) d inside =

@@ -26,7 +26,7 @@ same_parts labels a b g h xs ys bounds state names =
     ap (λ (l : List ProgramBound). parts labels l g xs) bounds ∙ ap (λ (s : Guided). parts labels b s xs) state
     ∙ ap (λ (l : List ℕ). parts labels b h l) names
 
--- the state after those who are to be executed at t were gone through
+-- the state after `sort_out` went through the time-points to be executed at t
 pub sorted_state : (m : Labelled) (bounds : List Bound) (g : Guided) (t : ℕ) (values : ℕ → Option Bool) (net : Network) (run after : Run)
     (names : List ℕ) (left : List Bool) → values ≡ known (lowered m) g.run (t + 1) → net ≡ lowered m → run ≡ moved (lowered m) bounds g.run t →
     names ≡ named (lowered m) bounds g.run t →

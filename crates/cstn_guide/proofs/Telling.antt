@@ -1,4 +1,4 @@
--- The run after an accepted moment, who is named at it, and who is left out.
+-- The run after an accepted moment, and which time-points are named and left out at the moment.
 use Rattle.std.proofs.Common.{ℕ, ◌≡◌, ◌⊎◌, inl, inr, ◌+◌, ◌<◌, Bool, true, false, cond, ◌&&◌, not, List, [], ◌∷◌, Some, None, arith, refl, sym, subst, ap, ◌∙◌}
 use Rattle.std.specs.Prelude.{◌↔◌}
 use Rattle.std.specs.List.{Contains, filter, range_with_len}
@@ -79,7 +79,7 @@ module _ (net : Network) (bounds : List Bound) (wf : IsWellFormed net) (run : Ru
             inr (in_passing (is_free net bounds run t) 0 (count net) x (omega arith) (omega arith) free, same)
       ]
 
-  -- who is named waited before, and is executed at t
+  -- a named time-point wasn't executed before, and is executed at t
   pub named_waits : (x : ℕ) → Contains (named net bounds run t) x → executed_at run x ≡ None
   named_waits x c = let parts = from_passing (is_free net bounds run t) 0 (count net) x c in (free_parts net bounds run t x parts.2).0
 
@@ -93,7 +93,7 @@ module _ (net : Network) (bounds : List Bound) (wf : IsWellFormed net) (run : Ru
       let upto = parts.1 in
       executed_passing (is_free net bounds run t) t 0 (count net) run.moments x (omega arith) (omega arith) (omega arith) parts.2
 
-  -- nothing was seen of what the named observe
+  -- no outcome was seen of a proposition that a named time-point observes
   pub named_unseen : (x p : ℕ) → Contains (named net bounds run t) x → Observes net x p → outcome_of run p ≡ None
   named_unseen x p c o = elim (cases_option (outcome_of run p)) [
     | inl none ↦ none
@@ -114,7 +114,7 @@ module _ (net : Network) (bounds : List Bound) (wf : IsWellFormed net) (run : Ru
         passed = r.passed;
       }) from.1
 
-  -- nobody who is executed at t tells anything by then
+  -- executing observers at t makes nothing more known at t
   pub known_back : (p : ℕ) (v : Bool) → known net (moved net bounds run t) (t + 1) p ≡ Some v → known net run (t + 1) p ≡ Some v
   known_back p v k =
       let from = known_from net wf.network (moved net bounds run t) (t + 1) p v k in
@@ -132,7 +132,7 @@ module _ (net : Network) (bounds : List Bound) (wf : IsWellFormed net) (run : Ru
         }) from.1
       ]
 
--- ---- who is named and who is left out
+-- ---- which time-points are named and which are left out
 
 module _ (m : Labelled) (bounds : List Bound) (run : Run) (t : ℕ) where
   pub told_parts : (x : ℕ) → Contains (told m bounds run t) x → Contains (named (lowered m) bounds run t) x × (holds_at m run t x ≡ true)
@@ -155,7 +155,7 @@ module _ (m : Labelled) (bounds : List Bound) (run : Run) (t : ℕ) where
 
 module _ (m : Labelled) (bounds : List Bound) (table : Table) (run : Run) (t : ℕ) (good : IsLabelled m) (wf : IsWellFormed (lowered m))
     (plan : IsEarliest (lowered m) bounds table) (right : IsRight (lowered m) run) (ok : moment_refusal (lowered m) bounds run t ≡ None) where
-  -- whose completed label doesn't hold has one that is ruled out
+  -- the completed label of a time-point to be executed at t is ruled out where it doesn't hold
   pub not_holding : (x : ℕ) → Contains (named (lowered m) bounds run t) x → holds_at m run t x ≡ false →
       IsRuledOut (known (lowered m) run (t + 1)) (completed_label m x)
   not_holding x c h =

@@ -1,4 +1,4 @@
--- Whoever is named is executed in every scenario that agrees with what was handed in, at its least moment there.
+-- A named time-point is executed in every scenario that agrees with what was handed in, at its least moment there.
 use Rattle.std.proofs.Common.{ℕ, zero, suc, ◌≡◌, inl, inr, ◌+◌, ◌<◌, Bool, true, false, List, Option, Some, None, arith, sym, subst, ap, ◌∙◌}
 use Rattle.std.specs.Prelude.{if◌then◌else◌}
 use Rattle.std.proofs.lemmas.Int.{ints}
@@ -40,7 +40,7 @@ one_labelled_least m s x t u here there =
     let at_u = there.reached.2 in
     omega arith
 
--- when somebody was named, it was executed and not left out
+-- a time-point that was named at t was executed at t and not left out
 named_parts : (g : Guided) (x t : ℕ) → named_at g x ≡ Some t → (is_left g x ≡ false) × (executed_at g.run x ≡ Some t)
 named_parts g x t e = elim (cases_Bool (is_left g x)) [
   | inl left ↦ absurd (some_or_none (named_at g x) t e (cond-true (is_left g x) None (executed_at g.run x) left))
@@ -57,18 +57,19 @@ module _ (m : Labelled) (good : IsLabelled m) (wf : IsWellFormed (lowered m)) (g
   above : (j p : ℕ) → Observes m.base j p → Observes net j p
   above j p o = record { what = o.what }
 
-  -- the observer of p is left out where it is marked so
+  -- `is_denied` says of p what `is_left` says of its observer j
   pub denied_where : (j p : ℕ) → Observes net j p → is_denied net g p ≡ is_left g j
   denied_where j p o = ap (is_among g.left) (observer_found net wf.network j p o)
 
-  -- what was known after t is known now
+  -- what was known when x was executed is still known
   known_now : (x t p : ℕ) (v : Bool) → executed_at g.run x ≡ Some t → known net g.run (t + 1) p ≡ Some v → known net g.run (next g.run) p ≡ Some v
   known_now x t p v done k =
       let early = right.right.early x t done in
       known_later net wf.network g.run (t + 1) (next g.run) p v (omega arith) k
 
   module _ (s : Scenario) (agrees : AgreesHanded m g s) where
-    -- a proposition that rules out the completed label of somebody who is executed in s has an observer who is, and who was left out
+    -- where x was left out but is executed in s, some proposition rules out its completed label; the observer of that
+    -- proposition is executed in s as well, and was left out
     told_wrong : (x t : ℕ) → executed_at g.run x ≡ Some t → IsExecuted m s x → is_left g x ≡ true →
         (k p : ℕ) × (u : ℕ) × Observes m.base k p × (executed_at g.run k ≡ Some u) × IsMarked (completed_label m x) p × IsExecuted m s k × (is_left g k ≡ false → ⊥)
     told_wrong x t done h left =
@@ -88,7 +89,7 @@ module _ (m : Labelled) (good : IsLabelled m) (wf : IsWellFormed (lowered m)) (g
               out.3 (subst (λ v. MarkFits v (completed_label m x out.0)) value (h out.0)),
         )
 
-    -- whoever is executed in such a scenario was named: first observers, by what their labels mark
+    -- a time-point of the run that is executed in s was named: first for observers, by induction on their rank
     observer_named : (n j q t : ℕ) → rank m good j < n → Observes m.base j q → executed_at g.run j ≡ Some t → IsExecuted m s j → is_left g j ≡ false
     observer_named zero j q t lt o done h = absurd (omega arith)
     observer_named (suc n) j q t lt o done h = elim (cases_Bool (is_left g j)) [
@@ -107,7 +108,7 @@ module _ (m : Labelled) (good : IsLabelled m) (wf : IsWellFormed (lowered m)) (g
           absurd (w.7 (observer_named (suc (rank m good w.0)) w.0 w.1 w.2 (omega arith) w.3 w.4 w.6))
     ]
 
-    -- the observers of what the completed label of a named one marks were named
+    -- the observers of the propositions that the completed label of a named time-point marks were named
     marks_named : (x t j p u : ℕ) → executed_at g.run x ≡ Some t → is_left g x ≡ false → IsMarked (completed_label m x) p → Observes m.base j p →
         executed_at g.run j ≡ Some u → is_left g j ≡ false
     marks_named x t j p u done kept marked o done_j = elim (cases_Bool (is_left g j)) [
@@ -135,7 +136,7 @@ module _ (m : Labelled) (good : IsLabelled m) (wf : IsWellFormed (lowered m)) (g
           subst (λ v. MarkFits v (completed_label m x p)) (sym value) held.2
     ]
 
-    -- the scenario with the outcome false of what those observe who were left out agrees with all that is known
+    -- s, with false for each proposition whose observer was left out: it agrees with all that is known
     abbrev other : Scenario
     other = λ p. if is_denied net g p then false else s p
 

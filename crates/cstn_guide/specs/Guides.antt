@@ -1,4 +1,4 @@
--- Guides: runs of a lowered network in which those are left out whose completed labels don't hold when their moments come.
+-- Guides: runs of a lowered network in which a time-point is left out if its completed label doesn't hold at its moment.
 use Rattle.std.specs.Prelude.{ℕ, ◌+◌, Bool, true, false, not, List, [], ◌∷◌, Option, Some, None, replicate, slice_index_or, slice_set, if◌then◌else◌}
 use Rattle.std.specs.List.{filter, list_all, range_with_len}
 use Rattle.cstn_label.specs.declared.marks.Mark.{Mark}
@@ -17,7 +17,7 @@ pub record Guided : Type 0 where
   pub run : Run
   pub left : List Bool
 
--- nothing is executed or seen of n time-points
+-- the state of a guide in which none of n time-points is executed or left out, and nothing was seen
 abbrev pub begun : ℕ → Guided
 begun n = record { run = start n; left = replicate n false }
 
@@ -46,15 +46,15 @@ holds_at m run t x = holds_by (known (lowered m) run (t + 1)) (completed_label m
 
 -- ---- moments
 
--- who is named at t: of those to be executed then, each whose completed label holds by what is known
+-- the time-points that are named at t: of those to be executed at t, each whose completed label holds by what is known
 abbrev pub told : Labelled → List Bound → Run → ℕ → List ℕ
 told m bounds run t = filter (holds_at m run t) (named (lowered m) bounds run t)
 
--- who is left out at t: the rest of them
+-- the time-points that are left out at t: the rest of those to be executed at t
 abbrev pub left_out : Labelled → List Bound → Run → ℕ → List ℕ
 left_out m bounds run t = filter (λ x. not (holds_at m run t x)) (named (lowered m) bounds run t)
 
--- the run with the outcome false of what is observed, if anything is
+-- the run with the outcome false of the given proposition, if there is one
 abbrev pub denied : Option ℕ → Run → Run
 denied None run = run
 denied (Some p) run = handed run p false
@@ -64,13 +64,13 @@ abbrev pub all_denied : Network → List ℕ → Run → Run
 all_denied net [] run = run
 all_denied net (x ∷ xs) run = all_denied net xs (denied (slice_index_or net.observes x None) run)
 
--- with each of the time-points left out
+-- the marks `left`, with each of the time-points marked as left out
 abbrev pub with_left : List ℕ → List Bool → List Bool
 with_left [] left = left
 with_left (x ∷ xs) left = with_left xs (slice_set left x true)
 
--- The state after the accepted moment t: the run has moved, and those who are left out are marked so, with the outcome false
--- of what they observe.
+-- The state after the accepted moment t: the run has moved, the time-points that are left out are marked so, and the outcome
+-- of what they observe is false.
 abbrev pub advanced : Labelled → List Bound → Guided → ℕ → Guided
 advanced m bounds g t = record {
   run = all_denied (lowered m) (left_out m bounds g.run t) (moved (lowered m) bounds g.run t);

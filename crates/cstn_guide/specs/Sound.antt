@@ -1,4 +1,4 @@
--- When the state of a guide is right, and what its moments are worth.
+-- When the state of a guide is right, and what is so of the moments that it names.
 use Rattle.std.specs.Prelude.{ℕ, ◌≡◌, ◌+◌, ◌<◌, Bool, true, false, Option, Some, None, length, pos, ◌-ℤ◌, ◌≤ℤ◌}
 use Rattle.std.specs.List.{Contains}
 use Rattle.cstn_label.specs.Labels.{Label, Scenario, IsMarked, MarkFits}
@@ -20,19 +20,19 @@ HoldsBy values a = (p : ℕ) → IsMarked a p → (v : Bool) × (values p ≡ So
 abbrev pub IsRuledOut : (ℕ → Option Bool) → Label → Type 0
 IsRuledOut values a = (p : ℕ) × (v : Bool) × (values p ≡ Some v) × (MarkFits v (a p) → ⊥)
 
--- x isn't executed, t is its least moment in the lowered network by what is known at t, and by that its completed label holds
+-- x isn't executed; by what is known at t, t is its least moment in the lowered network and its completed label holds
 pub record IsToldAt (m : Labelled) (run : Run) (t x : ℕ) : Type 0 where
   pub called : IsCalled (lowered m) run t x
   pub holds : HoldsBy (known (lowered m) run (t + 1)) (completed_label m x)
 
--- the same, but by what is known its completed label is ruled out
+-- x isn't executed; by what is known at t, t is its least moment in the lowered network and its completed label is ruled out
 pub record IsLeftAt (m : Labelled) (run : Run) (t x : ℕ) : Type 0 where
   pub called : IsCalled (lowered m) run t x
   pub ruled_out : IsRuledOut (known (lowered m) run (t + 1)) (completed_label m x)
 
--- The run is right for the lowered network. Whoever is executed was named where its completed label held by what was known at
--- that moment, and left out where it was ruled out; there is no other case. Who is left out is executed in the run, and the
--- outcome of what it observes is false.
+-- The run is right for the lowered network. An executed time-point was named if its completed label held by what was known at
+-- its moment, and left out if the label was ruled out; there is no other case. A time-point that was left out is executed in
+-- the run, and the outcome of what it observes is false.
 pub record IsGuided (m : Labelled) (g : Guided) : Type 0 where
   pub right : IsRight (lowered m) g.run
   pub size : length g.left ≡ count m.base
@@ -46,12 +46,13 @@ abbrev pub AgreesHanded : Labelled → Guided → Scenario → Type 0
 AgreesHanded m g s = (p : ℕ) (v : Bool) → is_denied (lowered m) g p ≡ false → known (lowered m) g.run (next g.run) p ≡ Some v → s p ≡ v
 
 -- in each scenario that agrees with what was handed in and is known, each named time-point is executed, and its moment is its
--- least one; and who was left out isn't executed
+-- least one; a time-point that was left out isn't executed
 pub record IsOnTime (m : Labelled) (g : Guided) : Type 0 where
   pub named : (s : Scenario) (x t : ℕ) → AgreesHanded m g s → named_at g x ≡ Some t → IsExecuted m s x × IsLabelledLeast m s x t
   pub left : (s : Scenario) (x : ℕ) → AgreesHanded m g s → is_left g x ≡ true → IsExecuted m s x → ⊥
 
--- in each such scenario, the named moments are those of one labelled strategy, and meet each constraint that is in force
+-- in each scenario that agrees with what was handed in and is known, the named moments are those of one labelled strategy,
+-- and meet each constraint that is in force
 pub record IsLed (m : Labelled) (g : Guided) : Type 0 where
   pub table : Table
   pub strategy : IsLabelledStrategy m table

@@ -27,9 +27,9 @@ use sorting::{Names, sort_out};
 use std::alloc::{AllocError, Global};
 use std::marker::Model;
 
-/// Carries out the plan of a lowered network: takes moments and outcomes one at a time, and names at each moment the time-points
-/// whose least moment it is and whose completed labels hold. The others whose moment it is are left out, and the outcome of
-/// what they observe is false.
+/// Carries out the plan of a lowered network: takes moments and outcomes one at a time, and names at each moment the
+/// time-points whose least moment it is and whose completed labels hold. The other time-points whose least moment it is are
+/// left out, and the outcome of what they observe is false.
 ///
 /// All memory is taken by [`Guide::start`].
 #[derive(Drop)]
@@ -52,8 +52,8 @@ impl Model for Guide {
 }
 
 impl Guide {
-    /// A guide by the plan, with nothing executed. All room is taken here, also for the longest answer. Fails for want of memory
-    /// alone, and drops the plan and the labels then.
+    /// A guide by the plan, with nothing executed. All memory is taken here, also for an answer that names every time-point.
+    /// Fails only where memory is refused, and drops the plan and the labels then.
     pub fn start(alloc: Global, plan: SoundPlan, labels: Labels) -> Result<Guide, AllocError>
         requires lowered { the_network plan.net ≡ lowered (the_labelled labels) }
         ensures start { IfOk result (λ g. g ≡ record { labelled = labels; bounds = plan.bounds; state = begun (count (the_labelled labels).base); named = [] }) }
@@ -79,8 +79,8 @@ impl Guide {
         self.named.as_slice()
     }
 
-    /// The labels of the time-points. What the state promises, and that the plan has a strategy with all least moments, is told
-    /// here for laws.
+    /// The labels of the time-points. For the use of proofs, the contract also says that the state is right, and that the plan
+    /// has a strategy with all least moments.
     pub fn labels(&self) -> &Labels
         ensures labels { result.now ≡ self.now.labelled }
         ensures guided { IsGuided (the_labelled self.now.labelled) self.now.state }
@@ -92,8 +92,9 @@ impl Guide {
         &self.labels
     }
 
-    /// The first moment, in ticks, at which an outcome is awaited or a time-point is to be executed or left out; none where this
-    /// is done with all. Nothing may be named then.
+    /// The first moment, in ticks, at which an outcome is awaited or a time-point is to be executed or left out; none where
+    /// each time-point has been executed or left out. The due moment names nothing if all time-points whose least moment it
+    /// is are left out.
     pub fn due(&self) -> Option<u32>
         ensures due { result ≡ due (lowered (the_labelled self.now.labelled)) (the_bounds self.now.bounds) self.now.state.run }
         ensures none { IsNone result ↔ IsDone (lowered (the_labelled self.now.labelled)) self.now.state.run }
@@ -108,8 +109,8 @@ impl Guide {
     }
 
     /// Accepts a moment, in ticks: of the time-points whose least moment it is, those whose completed labels hold by what is
-    /// known are named, which `named` lends, and the others are left out. Refused as [`Executive::moment`] is, with the
-    /// first that applies of `Done`, `Past`, `Awaiting` and `Late`.
+    /// known are named, and the others are left out; `named` then returns the named ones. Refused as [`Executive::moment`] is,
+    /// with the first that applies of `Done`, `Past`, `Awaiting` and `Late`.
     pub fn moment(&mut self, t: u32) -> Result<(), ExecError>
         ensures refused { refusal_of result ≡ moment_refusal (lowered (the_labelled self.old.labelled)) (the_bounds self.old.bounds) self.old.state.run t }
         ensures advanced { OnOk result (self.new ≡ record self.old { state = advanced (the_labelled self.old.labelled) (the_bounds self.old.bounds) self.old.state t; named = told (the_labelled self.old.labelled) (the_bounds self.old.bounds) self.old.state.run t }) }
@@ -162,7 +163,7 @@ impl Guide {
         }
     }
 
-    // The state is right, and the plan has its strategy.
+    // Does nothing: its contract says that the state is right, and that the plan has a strategy of least moments.
     fn is_guided(&self)
         ensures guided { IsGuided (the_labelled self.now.labelled) self.now.state }
         ensures labelled { IsLabelled (the_labelled self.now.labelled) }

@@ -27,36 +27,37 @@ pub fn guides_stay_right()
     ensures noted { (m : Labelled) (g : Guided) (p : ℕ) (v : Bool) → IsLabelled m → IsWellFormed (lowered m) → IsGuided m g → see_refusal m g p ≡ None → p < 52 → IsGuided m (noted g p v) }
 {}
 
-/// What was known when a time-point was executed in a right run of the lowered network decides its completed label: it holds by
-/// it, or is ruled out.
+/// What was known when a time-point was executed in a right run of the lowered network decides the completed label of the
+/// time-point: the label holds, or is ruled out. `holds_by` tests exactly whether it holds.
 pub fn holding_is_decided()
     ensures decided { (m : Labelled) (bounds : List Bound) (table : Table) (run : Run) (x t : ℕ) → IsLabelled m → IsWellFormed (lowered m) → IsEarliest (lowered m) bounds table → IsRight (lowered m) run → executed_at run x ≡ Some t → HoldsBy (known (lowered m) run (t + 1)) (completed_label m x) ⊎ IsRuledOut (known (lowered m) run (t + 1)) (completed_label m x) }
     ensures holds { (m : Labelled) (values : ℕ → Option Bool) (x : ℕ) → IsLabelled m → (holds_by values (completed_label m x) ≡ true ↔ HoldsBy values (completed_label m x)) }
 {}
 
-/// An accepted moment names exactly the time-points whose least moment it is by what is known and whose completed labels hold by
-/// it, and leaves out exactly those of them whose completed labels are ruled out; each once, in ascending number.
+/// Of the time-points whose least moment it is by what is known, an accepted moment names exactly those whose completed labels
+/// hold, each once and in ascending number, and leaves out exactly those whose completed labels are ruled out.
 pub fn the_told_are_called()
     ensures told { (m : Labelled) (bounds : List Bound) (table : Table) (g : Guided) (t : ℕ) → IsLabelled m → IsWellFormed (lowered m) → IsEarliest (lowered m) bounds table → IsGuided m g → moment_refusal (lowered m) bounds g.run t ≡ None → (x : ℕ) → Contains (told m bounds g.run t) x ↔ IsToldAt m g.run t x }
     ensures left { (m : Labelled) (bounds : List Bound) (table : Table) (g : Guided) (t : ℕ) → IsLabelled m → IsWellFormed (lowered m) → IsEarliest (lowered m) bounds table → IsGuided m g → moment_refusal (lowered m) bounds g.run t ≡ None → (x : ℕ) → Contains (left_out m bounds g.run t) x ↔ IsLeftAt m g.run t x }
     ensures ascending { (m : Labelled) (bounds : List Bound) (run : Run) (t : ℕ) → IsStrictlyIncreasing (told m bounds run t) }
 {}
 
-/// Each named time-point is at its least moment in every scenario that agrees with the outcomes that were handed in and are
-/// known, and whoever was left out isn't executed in any. Once all is done, the named moments are those of one labelled strategy.
+/// In every scenario that agrees with the outcomes that were handed in and are known, each named time-point is at its least
+/// moment, and none that was left out is executed. Once all is done, the named moments are those of one labelled strategy.
 pub fn guides_are_on_time()
     ensures on_time { (m : Labelled) (bounds : List Bound) (table : Table) (g : Guided) → IsLabelled m → IsWellFormed (lowered m) → IsEarliest (lowered m) bounds table → IsGuided m g → IsOnTime m g }
     ensures led { (m : Labelled) (bounds : List Bound) (table : Table) (g : Guided) → IsLabelled m → IsWellFormed (lowered m) → IsEarliest (lowered m) bounds table → IsGuided m g → IsDone (lowered m) g.run → IsLed m g }
 {}
 
-/// An outcome is refused as not observed exactly where nobody who was named observes the proposition.
+/// An outcome is refused as not observed exactly where no named time-point observes the proposition.
 pub fn outcomes_are_of_the_named()
     ensures refused { (m : Labelled) (g : Guided) (p : ℕ) → IsWellFormed (lowered m) → (see_refusal m g p ≡ Some (NotExecuted p) ↔ ((x : ℕ) → Observes (lowered m) x p → named_at g x ≡ None)) }
 {
     observers_are_found();
 }
 
-/// Where no time-point has a label, a guide names everybody, leaves nobody out, and refuses what the executive refuses.
+/// Where no time-point has a label, a guide names what the executive names, leaves out none, and refuses what the executive
+/// refuses.
 pub fn unlabelled_guides_are_executives()
     ensures told { (m : Labelled) (bounds : List Bound) (run : Run) (t : ℕ) → IsLabelled m → ((x : ℕ) → x < count m.base → label_of m x ≡ empty) → told m bounds run t ≡ named (lowered m) bounds run t }
     ensures advanced { (m : Labelled) (bounds : List Bound) (g : Guided) (t : ℕ) → IsLabelled m → ((x : ℕ) → x < count m.base → label_of m x ≡ empty) → advanced m bounds g t ≡ record { run = moved (lowered m) bounds g.run t; left = g.left } }

@@ -52,7 +52,7 @@ fn treatment(rt: &impl Abort, alloc: Global) -> Guide {
     guide(rt, alloc, net.close().expect(rt, "a network"), labels, 100)
 }
 
-// The moment is accepted, and names these.
+// Asserts that the moment t is accepted and names exactly `names`.
 fn named(rt: &impl Abort, guide: &mut Guide, t: u32, names: &[NodeId]) {
     assert_eq!(rt; guide.moment(t), Ok(()));
     assert_eq!(rt; guide.named(), names);

@@ -1,4 +1,4 @@
--- What is seen of a host's cases.
+-- What contracts see of a host's cases.
 use Rattle.std.proofs.Common.{◌≡◌, ◌<◌, ◌≤◌, ℕ, List, [], length, replicate, refl, ap, sym, subst, ◌∙◌, arith, true, false}
 use Rattle.std.specs.Prelude.{Option, Some, None, is_some, nat_lt, slice_index_or, slice_set, IfSome}
 use Rattle.std.specs.Option.{option_map}
@@ -15,11 +15,11 @@ use Rattle.cstn_host.specs.Hosts.{HostParts, Opened, plan_of_file}
 use Rattle.cstn_host.specs.Calls.{Call, Open, Close, answer_at, answer_on, case_after, host_after}
 use Rattle.cstn_host.specs.Read.{the_opened, the_cases, IsOver, IsHost}
 
--- what is seen of a place
+-- what is seen of the case at a place
 pub case_read : (cases : List (Option Case)) (k : ℕ) → slice_index_or (the_cases cases) k None ≡ option_map the_opened (slice_index_or cases k None)
 case_read cases k = get_or-map (option_map the_opened) cases k None
 
--- one place is replaced by a case over the plans, or by none
+-- a host stays one when a place gets a case over one of the plans, or none
 pub kept : (plans : List PlanParts) (cases : List (Option Case)) (k : ℕ) (v : Option Case) → IsHost plans cases → IfSome v (IsOver plans) → IsHost plans (slice_set cases k v)
 kept plans cases k v is over = record {
   some = is.some;
@@ -28,7 +28,7 @@ kept plans cases k v is over = record {
   over = All-set (λ c. IfSome c (IsOver plans)) cases k v over is.over;
 }
 
--- no place is open
+-- 64 places of which none is open are the cases of a host
 pub closed_host : (plans : List PlanParts) (cases : List (Option Case)) → cases ≡ replicate 64 None → 1 ≤ length plans → length plans ≤ 8 → IsHost plans cases
 closed_host plans cases is some few = subst (IsHost plans) (sym is) (record {
   some = some;
@@ -43,7 +43,7 @@ host_of plans cases = record { plans = plans; cases = the_cases cases }
 is_below : (a b : ℕ) → a < b → nat_lt a b ≡ true
 is_below a b small = grind arith
 
--- the id is in the range, and d is what stands in its place
+-- the id is below 64, and d is what its place holds
 pub record IsAt (cases : List (Option Case)) (id place : ℕ) (d : Option Case) : Type 0 where
   pub is_place : place ≡ id
   pub is_small : id < 64
@@ -61,11 +61,11 @@ over_at plans cases id place d is here =
     let small = here.is_small in
     subst (λ c. IfSome c (IsOver plans)) (at_id plans cases id place d is here) (is.over id None (omega arith))
 
--- the answer to a call on an id of the range is that of its place
+-- the answer to a call on such an id is that by the case at its place
 pub answered_at : (plans : List PlanParts) (cases : List (Option Case)) (id place : ℕ) (d : Option Case) (call : Call) → IsHost plans cases → IsAt cases id place d → answer_on (host_of plans cases) id call ≡ answer_at plans id (option_map the_opened d) call
 answered_at plans cases id place d call is here = rw (is_below id 64 here.is_small, case_read cases id, at_id plans cases id place d is here) refl
 
--- the host after a call that puts this into the place
+-- the host after a call that puts v into the id's place
 pub after_put : (plans : List PlanParts) (cases : List (Option Case)) (id place : ℕ) (d v : Option Case) (call : Call) → IsHost plans cases → IsAt cases id place d → option_map the_opened v ≡ case_after plans (option_map the_opened d) call → host_of plans (slice_set cases place v) ≡ host_after (host_of plans cases) id call
 after_put plans cases id place d v call is here puts = rw (here.is_place, is_below id 64 here.is_small, case_read cases id, at_id plans cases id place d is here, ← puts, map-set (option_map the_opened) cases id v) refl
 
@@ -81,7 +81,7 @@ pub closed_after : (plans : List PlanParts) (o : Option Opened) → None ≡ cas
 closed_after plans None = refl
 closed_after plans (Some c) = refl
 
--- an executive that was started on a copy of the file's plan
+-- `open` puts in a case with an executive that was started on a copy of the file's plan
 pub opened_on : (plans : List PlanParts) (file : ℕ) (d : Option Case) (e : ExecParts) → d ≡ None → file < length plans
     → e ≡ record { net = record (plan_of_file plans file).net { spare = 0 }; bounds = (plan_of_file plans file).bounds; run = start (count (the_network (plan_of_file plans file).net)); named = [] }
     → Some (the_opened (record { file = file; executive = e })) ≡ case_after plans (option_map the_opened d) (Open file false)

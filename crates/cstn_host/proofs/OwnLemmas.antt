@@ -1,4 +1,4 @@
--- The answers of a host are those to each id's own calls.
+-- The answer of a host to a call on an id depends only on the plans and on the id's own calls.
 use Rattle.std.proofs.Common.{◌≡◌, ◌≢◌, ℕ, ◌<◌, List, [], ◌∷◌, ◌++◌, length, refl, ap, sym, subst, ◌∙◌, arith, Bool, true, false, not}
 use Rattle.std.specs.Prelude.{Option, Some, None, nat_lt, ◌==◌, ◌&&◌, if◌then◌else◌, slice_index_or, slice_set}
 use Rattle.std.specs.Option.{option_map}
@@ -30,7 +30,7 @@ last_told : (net : Network) (bounds : List Bound) (es : List Event) (e : Event) 
 last_told net bounds [] e run a = refl
 last_told net bounds (f ∷ es) e run a = last_told net bounds es e (run_after net bounds run f) (answer_to net bounds run f)
 
--- the time-points that one answer names
+-- the time-points that were named last after one more event
 named_told : (net : Network) (bounds : List Bound) (e : Event) (run : Run) (before : List ℕ) → named_from before (answer_to net bounds run e ∷ []) ≡ named_after net bounds run before e
 named_told net bounds (Moment t) run before = at (moment_refusal net bounds run t)
   where
@@ -129,7 +129,7 @@ other_is a b is = grind arith
 is_other : (a b : ℕ) → b ≢ a → (a == b) ≡ false
 is_other a b other = grind arith
 
--- a call on an id leaves what another one is open over
+-- a call on an id leaves unchanged what another id is open over
 pub leaves_case : (host : HostParts) (id other : ℕ) (call : Call) → other ≢ id → case_at (host_after host id call) other ≡ case_at host other
 leaves_case host id other call apart = at (nat_lt id 64)
   where
@@ -137,11 +137,11 @@ leaves_case host id other call apart = at (nat_lt id 64)
     at true = get_or-set_other host.cases id other (case_after host.plans (case_at host id) call) None apart
     at false = refl
 
--- and changes what it is open over itself
+-- a call on an id changes what that id is open over as `case_after` says
 changes_case : (host : HostParts) (id : ℕ) (call : Call) → length host.cases ≡ 64 → id < 64 → case_at (host_after host id call) id ≡ case_after host.plans (case_at host id) call
 changes_case host id call size small = rw (is_below id 64 small) (get_or-set_same host.cases id (case_after host.plans (case_at host id) call) None (omega arith))
 
--- there stay as many ids
+-- a call leaves the number of ids as it is
 as_many : (host : HostParts) (id : ℕ) (call : Call) → length (host_after host id call).cases ≡ length host.cases
 as_many host id call = at (nat_lt id 64)
   where
@@ -153,7 +153,7 @@ plans_stay : (host : HostParts) (calls : List CallOn) → (host_after_all host c
 plans_stay host [] = refl
 plans_stay host (c ∷ cs) = plans_stay (host_after host c.id c.call) cs
 
--- what an id is open over follows its own calls
+-- after any list of calls, what an id is open over is what its own calls determine
 follows : (host : HostParts) (own : Option Own) (calls : List CallOn) (id : ℕ) → length host.cases ≡ 64 → id < 64 → case_at host id ≡ option_map (case_by host.plans) own → case_at (host_after_all host calls) id ≡ option_map (case_by host.plans) (own_calls_from (length host.plans) own calls id)
 follows host own [] id size small is = is
 follows host own (c ∷ cs) id size small is =
@@ -185,7 +185,7 @@ own_append : (files : ℕ) (own : Option Own) (xs ys : List CallOn) (id : ℕ) �
 own_append files own [] ys id = refl
 own_append files own (c ∷ cs) ys id = own_append files (if is_on id c then own_with files own c.call else own) cs ys id
 
--- a call on an id is none of another one's own
+-- a call on an id adds nothing to the own calls of another id
 pub leaves_own : (files : ℕ) (calls : List CallOn) (id other : ℕ) (call : Call) → other ≢ id → own_calls files (calls ++ on id call ∷ []) other ≡ own_calls files calls other
 leaves_own files calls id other call apart = at (nat_lt other 64)
   where
@@ -236,7 +236,7 @@ apart plans calls others id call same = answered plans calls id call ∙ ap (λ 
 
 -- ---- all answers to an id
 
--- two hosts that are the same to an id
+-- two hosts that have the same plans, and the id open over the same
 record Agree (h g : HostParts) (id : ℕ) : Type 0 where
   same_plans : h.plans ≡ g.plans
   same_case : case_at h id ≡ case_at g id
@@ -267,7 +267,7 @@ same_after h g id call agree = record {
         ∙ sym (get_or-set_same g.cases id (case_after g.plans (case_at g id) call) None (omega arith))
     at false is = agree.same_case
 
--- a call on another id makes no difference
+-- a call on another id leaves two such hosts the same for the id
 same_still : (h g : HostParts) (id other : ℕ) (call : Call) → id ≢ other → Agree h g id → Agree (host_after h other call) g id
 same_still h g id other call apart agree = record {
   same_plans = agree.same_plans;
@@ -276,7 +276,7 @@ same_still h g id other call apart agree = record {
   also = agree.also;
 }
 
--- the answers to an id are those to its calls alone
+-- the answers to the calls on an id are the same where these are the only calls
 to_its_calls : (h g : HostParts) (calls : List CallOn) (id : ℕ) → Agree h g id → answers_to id h calls ≡ answers_to id g (calls_on id calls)
 to_its_calls h g [] id agree = refl
 to_its_calls h g (c ∷ cs) id agree = at (c.id == id) refl (λ k l same. to_its_calls k l cs id same)

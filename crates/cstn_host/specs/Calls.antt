@@ -8,8 +8,8 @@ use Rattle.cstn_exec.specs.Moves.{Refusal, moment_refusal}
 use Rattle.cstn_exec.specs.Examples.{Event, Moment, See, AskDue, Answer, Names, answer_to, run_after}
 use Rattle.cstn_host.specs.Hosts.{HostParts, Opened, net_at, bounds_at, case_at, opened_anew}
 
--- a call on an id: it is opened over a file, where there is want of memory or not; the question for its file, or for the
--- time-points that were named last; what is passed to its executive; or it is closed
+-- a call on an id: `open` over a file, and whether it fails for want of memory; the question for the file, or for the
+-- time-points that were named last; an event that is passed to the executive; or `close`
 pub data Call : Type 0 where
   Open : (file : ℕ) → (want : Bool) → Call
   AskFile : Call
@@ -22,7 +22,7 @@ pub record CallOn : Type 0 where
   pub id : ℕ
   pub call : Call
 
--- why a call never comes to an executive
+-- why a call is denied before it reaches an executive
 pub data Denial : Type 0 where
   InUse : (id : ℕ) → Denial
   NotOpen : (id : ℕ) → Denial
@@ -37,7 +37,7 @@ pub data HostAnswer : Type 0 where
   Told : (answer : Answer) → HostAnswer
   Denied : (why : Denial) → HostAnswer
 
--- an id that isn't open is opened over a file
+-- the answer to `open` over a file, on an id that isn't open
 abbrev pub opening_answer : List PlanParts → ℕ → Bool → HostAnswer
 opening_answer plans file want =
     if nat_lt file (length plans) then (if want then Denied NoMemory else Agreed) else Denied (NotAFile file)
@@ -45,7 +45,7 @@ opening_answer plans file want =
 abbrev pub opening : List PlanParts → ℕ → Bool → Option Opened
 opening plans file want = if nat_lt file (length plans) then (if want then None else Some (opened_anew plans file)) else None
 
--- what is answered to a call on an id of the range
+-- what is answered to a call on an id up to 63, by what it is open over
 abbrev pub answer_at : List PlanParts → ℕ → Option Opened → Call → HostAnswer
 answer_at plans id None (Open file want) = opening_answer plans file want
 answer_at plans id None AskFile = Denied (NotOpen id)
@@ -68,7 +68,7 @@ named_after net bounds run before (Moment t) = unless_refused before (named net 
 named_after net bounds run before (See p v) = before
 named_after net bounds run before AskDue = before
 
--- what the id is open over after something was passed to its executive
+-- what the id is open over after an event was passed to its executive
 abbrev pub passed : List PlanParts → Opened → Event → Opened
 passed plans c e = record {
   file = c.file;
@@ -114,7 +114,7 @@ abbrev pub put_if : Bool → HostAnswer → List HostAnswer → List HostAnswer
 put_if true a more = a ∷ more
 put_if false a more = more
 
--- what is answered to the calls on one id, of a list of calls on any
+-- what is answered to the calls on one id, in a list of calls on any ids
 abbrev pub answers_to : ℕ → HostParts → List CallOn → List HostAnswer
 answers_to id host [] = []
 answers_to id host (c ∷ cs) = put_if (c.id == id) (answer_on host c.id c.call) (answers_to id (host_after host c.id c.call) cs)

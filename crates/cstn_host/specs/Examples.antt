@@ -24,7 +24,7 @@ if_p = record { yes = 1; no = 0; yes_in_range = lit< tt; no_in_range = lit< tt }
 abbrev pub from : ℕ → ℕ → Label → Bound
 from x least label = record { node = record { 0 = x }; least = pos least; label = label }
 
--- Z, P, which observes p, and X, which is at 10 where p is true, up to the deadline 10
+-- Z, P, which observes p, and X, which is at 10 where p is true; the deadline is 10
 abbrev pub branch : PlanParts
 branch = record {
   net = record {
@@ -39,7 +39,7 @@ branch = record {
 abbrev pub on : ℕ → Call → CallOn
 on id call = record { id = id; call = call }
 
--- calls on two ids, one after the other, with every refusal, and their answers
+-- calls on the ids 0 and 7 in turn and on some that aren't open, with every refusal of a host, and their answers
 abbrev pub branch_calls : List CallOn
 branch_calls =
     on 0 (Open 0 false) ∷ (on 7 (Open 0 false) ∷ (on 0 (Pass (Moment 0)) ∷ (on 7 (Pass (Moment 0)) ∷ (on 0 (Pass (See 0 false)) ∷

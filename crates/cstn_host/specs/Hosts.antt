@@ -22,7 +22,7 @@ pub record HostParts : Type 0 where
 abbrev pub nothing_open : List PlanParts → HostParts
 nothing_open plans = record { plans = plans; cases = replicate 64 None }
 
--- what stands for the plan of a file that isn't there
+-- a default for the plan of a file that doesn't exist
 abbrev pub no_plan : PlanParts
 no_plan = record { net = record { deadline = 0; points = []; constraints = []; spare = 0 }; bounds = [] }
 
@@ -48,6 +48,6 @@ named_in (Some c) = c.named
 abbrev pub named_at : HostParts → ℕ → List ℕ
 named_at host id = named_in (case_at host id)
 
--- the file is open, and nothing of its plan is executed or seen
+-- what an id is open over when it has just been opened over the file: nothing of the plan is executed or seen
 abbrev pub opened_anew : List PlanParts → ℕ → Opened
 opened_anew plans file = record { file = file; run = start (count (net_at plans file)); named = [] }

@@ -12,7 +12,7 @@ pub record Own : Type 0 where
   pub file : ℕ
   pub events : List Event
 
--- an id's own calls after one more call on it, of so many files
+-- an id's own calls after one more call on it, where the number of plans is `files`
 abbrev pub own_with : ℕ → Option Own → Call → Option Own
 own_with files None (Open file want) = if nat_lt file files && not want then Some (record { file = file; events = [] }) else None
 own_with files None AskFile = None
@@ -34,8 +34,8 @@ abbrev pub own_calls_from : ℕ → Option Own → List CallOn → ℕ → Optio
 own_calls_from files own [] id = own
 own_calls_from files own (c ∷ cs) id = own_calls_from files (if is_on id c then own_with files own c.call else own) cs id
 
--- an id's own calls, of a list of calls of a host with so many files: the file of its last accepted `open` and what was passed
--- to its executive since, or nothing where it isn't open. Only the ids up to 63 can be open
+-- an id's own calls in a list of calls of a host with `files` plans: the file of its last accepted `open` and what was passed
+-- to its executive since, or None where the id isn't open. Only the ids up to 63 can be open
 abbrev pub own_calls : ℕ → List CallOn → ℕ → Option Own
 own_calls files calls id = if nat_lt id 64 then own_calls_from files None calls id else None
 
@@ -47,12 +47,12 @@ calls_on id calls = filter (is_on id) calls
 abbrev pub alone : PlanParts → List Event → List Answer
 alone plan events = answers (the_network plan.net) (the_bounds plan.bounds) events
 
--- the last of some answers, or the one before them
+-- the last answer of the list, or a where the list is empty
 abbrev pub last_from : Answer → List Answer → Answer
 last_from a [] = a
 last_from a (b ∷ bs) = last_from b bs
 
--- the time-points that some answers named last, or those before them
+-- the time-points that the answers named last, or `before` where they named none
 abbrev pub named_from : List ℕ → List Answer → List ℕ
 named_from before [] = before
 named_from before (Names xs ∷ more) = named_from xs more
@@ -60,8 +60,8 @@ named_from before (Kept ∷ more) = named_from before more
 named_from before (Refused why ∷ more) = named_from before more
 named_from before (DueAt t ∷ more) = named_from before more
 
--- what is answered to a call on an id of the range, by the plans and the id's own calls before: where a call comes to its
--- executive, what one that is alone would answer last
+-- what is answered to a call on an id up to 63, by the plans and the id's own calls before it: where the call reaches the
+-- executive, the last answer of an executive that gets only the id's own calls
 abbrev pub answer_by_own : List PlanParts → ℕ → Option Own → Call → HostAnswer
 answer_by_own plans id None (Open file want) = opening_answer plans file want
 answer_by_own plans id None AskFile = Denied (NotOpen id)

@@ -13,7 +13,7 @@ use Rattle.cstn_host.specs.declared.errors.HostError.TheVariants.{IdInUse, NoSuc
 use Rattle.cstn_host.specs.Hosts.{Opened, plan_of_file}
 use Rattle.cstn_host.specs.Calls.{HostAnswer, Told, Denied, InUse, NotOpen, OutOfRange, NotAFile, NoMemory}
 
--- what is seen of a case
+-- what contracts see of a case
 abbrev pub the_opened : Case → Opened
 the_opened c = record { file = c.file; run = c.executive.run; named = c.executive.named }
 
@@ -46,7 +46,7 @@ the_denial (NoFile file) = Denied (NotAFile file)
 the_denial (Exec e) = Told (Refused (the_refusal e))
 the_denial (Memory e) = Denied NoMemory
 
--- what a result tells, by what is told of an accepted call
+-- the answer that a result stands for: `told` of the value where the call was accepted, and else what the error tells
 abbrev pub answer_of : {X : Type 0} → (X → HostAnswer) → Result X HostError → HostAnswer
 answer_of told (Ok x) = told x
 answer_of told (Err e) = the_denial e
@@ -59,7 +59,7 @@ is_memory (NoFile file) = false
 is_memory (Exec e) = false
 is_memory (Memory e) = true
 
--- a call wanted memory
+-- the call failed for want of memory
 abbrev pub in_want : {X : Type 0} → Result X HostError → Bool
 in_want (Ok x) = false
 in_want (Err e) = is_memory e

@@ -1,4 +1,4 @@
-// What an id is open over.
+// What an open id holds.
 ghost use Rattle.std.specs.Prelude.{◌≡◌, List, IfSome, OnErr};
 ghost use Rattle.std.specs.Option.{option_map};
 ghost use Rattle.cstn_log.specs.Plans.{PlanParts};
@@ -11,7 +11,7 @@ use crate::errors::HostError;
 use cstn_exec::Executive;
 use cstn_label::Prop;
 
-/// The number of a plan, and the executive that has a copy of it.
+/// What an open id holds: the number of its plan, and the executive that has a copy of the plan.
 #[derive(Drop)]
 pub struct Case {
     pub file: u32,
@@ -46,7 +46,7 @@ impl Case {
     }
 }
 
-/// Passes a moment to the executive of an id, if the id is open.
+/// Passes a moment, in ticks, to the executive of an id. Refused with `NoSuchPlan` where the id isn't open.
 pub fn pass_moment(case: &mut Option<Case>, id: u32, t: u32) -> Result<(), HostError>
     ensures answer { (plans : List PlanParts) → IfSome case.old (IsOver plans) → answer_of (λ _. Told (Names (named_in (option_map the_opened case.new)))) result ≡ answer_at plans id (option_map the_opened case.old) (Pass (Moment t)) }
     ensures after { (plans : List PlanParts) → IfSome case.old (IsOver plans) → option_map the_opened case.new ≡ case_after plans (option_map the_opened case.old) (Pass (Moment t)) }
@@ -59,7 +59,7 @@ pub fn pass_moment(case: &mut Option<Case>, id: u32, t: u32) -> Result<(), HostE
     }
 }
 
-/// Passes an outcome to the executive of an id, if the id is open.
+/// Passes an outcome to the executive of an id. Refused with `NoSuchPlan` where the id isn't open.
 pub fn pass_outcome(case: &mut Option<Case>, id: u32, p: Prop, value: bool) -> Result<(), HostError>
     ensures answer { (plans : List PlanParts) → IfSome case.old (IsOver plans) → answer_of (λ _. Told Kept) result ≡ answer_at plans id (option_map the_opened case.old) (Pass (See p.index value)) }
     ensures after { (plans : List PlanParts) → IfSome case.old (IsOver plans) → option_map the_opened case.new ≡ case_after plans (option_map the_opened case.old) (Pass (See p.index value)) }

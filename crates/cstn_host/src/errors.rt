@@ -3,7 +3,7 @@ use std::alloc::AllocError;
 use thiserror::Error;
 
 /// Why a call of a host is refused: the first that applies, in the order `IdRange`, `IdInUse` or `NoSuchPlan`, `NoFile`, and
-/// then `Exec` or `Memory`.
+/// then `Exec` or `Memory`. H1 to H4 are the codes that the command `host` answers after `refused`.
 #[derive(Clone, Copy, Debug, PartialEq, Eq, Error)]
 pub enum HostError {
     /// H1: the id is open already.
@@ -18,10 +18,10 @@ pub enum HostError {
     /// H4: the file is none of the plans, which are numbered from 0.
     #[error("there is no file {file}: take the number of a plan, from 0")]
     NoFile { file: u32 },
-    /// The executive of the id refuses.
+    /// The executive of the id refuses the moment or the outcome.
     #[error("{0}")]
     Exec(ExecError),
-    /// There wasn't the memory that an open id takes.
+    /// The memory that an open id takes was refused.
     #[error("out of memory: close an id, and try again")]
     Memory(AllocError),
 }

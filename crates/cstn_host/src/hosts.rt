@@ -18,10 +18,11 @@ use std::marker::Model;
 /// How many ids there are, from 0.
 const IDS: u32 = 64;
 
-/// Carries out plans under up to 64 ids at once, by interleaved calls. Each id is answered as an executive that is alone.
+/// Carries out up to 64 runs of plans at once, each under an id, by interleaved calls. The calls on an id are answered as by
+/// an executive that gets no others.
 ///
-/// The plans are numbered from 0, and their numbers are called files. An id that is opened takes a copy of its file's plan;
-/// one that isn't open holds none. But for the start and [`Host::open`] no call takes memory.
+/// The plans are numbered from 0, and their numbers are called files. An open id holds a copy of its file's plan, and one that
+/// isn't open holds none. Only [`Host::start`] and [`Host::open`] take memory.
 #[derive(Drop)]
 pub struct Host {
     alloc: Global,
@@ -115,8 +116,9 @@ impl Host {
         }
     }
 
-    /// Accepts a moment of the id's plan, in ticks, and executes the time-points whose least moment it is, which
-    /// [`Host::named`] lends. Refused with the first that applies of `IdRange`, `NoSuchPlan` and the executive's own.
+    /// Accepts a moment of the id's plan, in ticks, and executes the time-points whose least moment it is; [`Host::named`] then
+    /// returns them. Refused with the first that applies of `IdRange`, `NoSuchPlan`, and `Exec` with the reason of
+    /// [`Executive::moment`].
     pub fn moment(&mut self, id: u32, t: u32) -> Result<(), HostError>
         ensures answer { answer_of (λ _. Told (Names (named_at self.new id))) result ≡ answer_on self.old id (Pass (Moment t)) }
         ensures after { self.new ≡ host_after self.old id (Pass (Moment t)) }
@@ -127,8 +129,8 @@ impl Host {
         pass_moment(&mut self.cases[place], id, t)
     }
 
-    /// Keeps the outcome of a proposition of the id's plan. Refused with the first that applies of `IdRange`, `NoSuchPlan`
-    /// and the executive's own.
+    /// Keeps the outcome of a proposition of the id's plan. Refused with the first that applies of `IdRange`, `NoSuchPlan`, and
+    /// `Exec` with the reason of [`Executive::see`].
     pub fn see(&mut self, id: u32, p: Prop, value: bool) -> Result<(), HostError>
         ensures answer { answer_of (λ _. Told Kept) result ≡ answer_on self.old id (Pass (See p.index value)) }
         ensures after { self.new ≡ host_after self.old id (Pass (See p.index value)) }
@@ -139,7 +141,7 @@ impl Host {
         pass_outcome(&mut self.cases[place], id, p, value)
     }
 
-    /// Closes an id, and drops what it was open over. Refused with the first that applies of `IdRange` and `NoSuchPlan`.
+    /// Closes an id, and drops its executive. Refused with the first that applies of `IdRange` and `NoSuchPlan`.
     pub fn close(&mut self, id: u32) -> Result<(), HostError>
         ensures answer { answer_of (λ _. Agreed) result ≡ answer_on self.old id Close }
         ensures after { self.new ≡ host_after self.old id Close }
@@ -155,7 +157,7 @@ impl Host {
     }
 }
 
-// The place of an id.
+// The place of an id in `cases`. Refused with `IdRange` where the id is above 63.
 fn place_of(id: u32) -> Result<usize, HostError>
     ensures place { IfOk result (λ place. (place ≡ id) × (id < 64)) }
     ensures refused { IfErr result (λ e. (e ≡ HostError.IdRange id) × (64 ≤ id)) }
@@ -174,7 +176,7 @@ fn start_copy(alloc: Global, plan: &SoundPlan) -> Result<Executive, AllocError>
     Executive::start(alloc, plan.copy(alloc)?)
 }
 
-// One for each id, of which none is open.
+// A place for each id, with none of the ids open.
 fn closed_cases(alloc: Global) -> Result<Vec<Option<Case>>, AllocError>
     ensures { IfOk result (λ cases. cases.items ≡ replicate 64 None) }
 {

@@ -1,4 +1,4 @@
-//! A host: up to 64 ids are open at once, each over one of a few plans, and each is answered as if it were alone.
+//! A host: up to 64 ids are open at once, each over one of up to 8 plans, and calls on an id are answered as if it were alone.
 #![tactic(auto)]
 
 mod cases;

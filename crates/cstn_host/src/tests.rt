@@ -91,7 +91,7 @@ fn refusals_in_their_order(rt: HostRuntime) -> Result<(), AllocError> {
     Ok(())
 }
 
-// The id is opened and does what an executive that is alone would do.
+// Opens the id, and asserts that it answers as an executive that is alone.
 fn expect_alone(rt: &impl Abort, host: &mut Host, id: u32) {
     assert_eq!(rt; host.open(id, 0), Ok(()));
     assert_eq!(rt; host.due(id), Ok(Some(0)));

@@ -22,7 +22,8 @@ pub record IsRefuted (cap : ℕ) (net : Network) (h : ℕ) : Type 0 where
   pub never : IsConsistent (at_deadline net h) → ⊥
   pub within : load_of (at_deadline net h) ≤ cap
 
--- the network is consistent at the high end, and not just below the low one, and no load there is above the cap
+-- the network is consistent at the high end, and isn't at one tick less than the low end, unless that is 0; the loads at both
+-- deadlines are at most the cap
 pub record IsBracket (cap : ℕ) (net : Network) (r : Range) : Type 0 where
   pub ordered : r.low ≤ r.high
   pub upto : r.high ≤ net.deadline
@@ -86,7 +87,7 @@ module _ (cap : ℕ) (net : Network) (good : IsWellFormed net) where
     least = elim f.below [ inl none ↦ inl none | inr refuted ↦ inr refuted.never ];
   }
 
-  -- a deadline that isn't 0 is refuted a tick before
+  -- where the deadline that is found isn't 0, the network isn't consistent at one tick less
   pub found_before : (h : ℕ) → IsFound h → 0 < h → IsRefuted cap net (h - 1)
   found_before h f some = elim f.below [ inl none ↦ absurd (omega arith) | inr refuted ↦ refuted ]
 
@@ -108,7 +109,7 @@ module _ (cap : ℕ) (net : Network) (good : IsWellFormed net) where
   pub not_full : IsConsistent net → load_of net ≤ cap → is_any_above cap net ≡ false → is_tight_full cap net ≡ false
   not_full consistent fits none = or_from (is_above cap net net.deadline) _ (le-ltb cap (load_of net) fits) (others consistent ∙ none)
 
--- what a first check tells, of a copy
+-- what the first check, that of a copy of the network, tells
 module _ (cap : ℕ) (net copy : NetworkParts) (v : Verdict) (copied : copy ≡ record net { spare = 0 }) (told : IsVerdictOn cap (the_network copy) v) where
   first : IsVerdictOn cap (the_network net) v
   first = subst (λ (n : NetworkParts). IsVerdictOn cap (the_network n) v) copied told
@@ -122,14 +123,14 @@ module _ (cap : ℕ) (net copy : NetworkParts) (v : Verdict) (copied : copy ≡ 
   pub first_no : (load : ℕ) → v ≡ No load → (load_of (the_network net) ≤ cap) × ¬ IsConsistent (the_network net)
   first_no load e = let is = subst (IsVerdictOn cap (the_network net)) e first in (is.1, is.2)
 
-  -- what is found where it said yes
+  -- what the search finds where the first check said yes
   pub searched : (good : IsWellFormed (the_network net)) (load : ℕ) → v ≡ Yes load → (h : ℕ) → h ≡ least_deadline (the_network net) →
       is_any_above cap (the_network net) ≡ false → IsFound cap (the_network net) good h
   searched good load said h least none =
       let yes_is = first_yes load said in
       subst (IsFound cap (the_network net) good) (sym least) (found cap (the_network net) good yes_is.1 yes_is.0 none)
 
--- an error that is handed on
+-- the error of a result that fails only with x is x
 pub handed_on : {X E : Type 0} (r : Result X E) (x e : E) → IsErrAnd r (λ y. y ≡ x) → IsErrOf r e → x ≡ e
 handed_on (Ok v) x e is told = absurd is
 handed_on (Err y) x e is told = sym is ∙ (let same : y ≡ e = cc in same)

@@ -32,7 +32,7 @@ use Rattle.cstn_closed.specs.Faults.{IsFaultless}
 use Rattle.cstn_closed.specs.Written.{IsNamed}
 use Rattle.cstn_tight.specs.Evidence.{IsClosedOf}
 
--- an entry whose bound this is
+-- an entry of the list with the bound b
 record IsFrom (list : List Entry) (b : Bound) : Type 0 where
   pub place : ℕ
   pub entry : Entry
@@ -78,7 +78,7 @@ limit_in_time net good zero = omega arith
 limit_in_time net good (suc x) = good.in_time
 
 module _ (net : Network) (good : IsWellFormed net) where
-  -- each is of the network and in range
+  -- each live bound is at a time-point of the network, and in range
   live_fits : (b : Bound) → Contains (live_bounds (log_of net)) b → IsBoundOf net b
   live_fits b has =
       let from = live_from (log_of net) b has in
@@ -87,7 +87,7 @@ module _ (net : Network) (good : IsWellFormed net) where
       subst (IsBoundOf net) from.bound
       (record { node = (good_at net (log_of net) from.place from.entry kept.good from.there).node; low = range.low; high = range.high })
 
-  -- and they are closed where the network is consistent
+  -- the live bounds are closed where the network is consistent
   live_closed : IsConsistent net → IsClosed net (live_bounds (log_of net))
   live_closed consistent = log_closed net good.network good.letters ((log_decides net good.network good.letters).0 consistent)
 
@@ -138,15 +138,15 @@ module _ (cap : ℕ) (net : Network) (parts : NetworkParts) (check new : CheckPa
   verdict : new.verdict ≡ Some v
   verdict = ap (λ (c : CheckParts). c.verdict) answered
 
-  -- it has said yes
+  -- the verdict is yes
   pub yes_kept : (load : ℕ) × (new.verdict ≡ Some (Yes load))
   yes_kept = (load_of net, verdict ∙ ap Some said)
 
-  -- of the network
+  -- the network of the check is the given one
   pub same_checked : the_network new.net ≡ net
   same_checked = ap (λ (c : CheckParts). the_network c.net) answered ∙ ap (λ (c : CheckParts). the_network c.net) is ∙ same
 
-  -- and the length of its log is the load
+  -- the number of entries of the check's log is the load
   pub kept_load : (entries : List DeclaredEntry) (load : ℕ) → ((w : Verdict) → new.verdict ≡ Some w → (w ≡ Full → ⊥) → the_entries entries ≡ log_of (the_network new.net)) →
       load ≡ length entries → load ≡ load_of net
   kept_load entries load whole len =

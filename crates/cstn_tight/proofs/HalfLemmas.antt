@@ -11,7 +11,7 @@ use Rattle.cstn_tight.specs.Deadlines.{at_deadline}
 use Rattle.cstn_tight.specs.Bisection.{middle, halved, next, narrowed, tried_from, whole, least_deadline, is_above, is_any_above}
 use Rattle.cstn_tight.proofs.LeastLemmas.{load_upto}
 
--- the middle is in the range, and not its end
+-- the middle is in the range, and below its high end
 pub middle_low : (r : Range) → r.low < r.high → r.low ≤ middle r
 middle_low r wide = omega arith
 
@@ -49,20 +49,20 @@ module _ (net : Network) where
       ap (λ hs. hs ++ tried_from net n (next net r)) (cond-false (ltb r.low r.high) (middle r ∷ []) [] (le-ltb r.low r.high done))
       ∙ ap (tried_from net n) (next_done r done) ∙ tried_done n r done
 
-  -- a range that is ordered stays so, and its ends stay under the old ones
+  -- the half of a range is ordered, and its high end isn't above that of the range
   pub half_ordered : (r : Range) → r.low < r.high → (halved net r).low ≤ (halved net r).high
   half_ordered r wide = half_cases r (λ h. h.low ≤ h.high) (λ t. middle_low r wide) (λ f. (let less = middle_high r wide in omega arith))
 
   pub half_upto : (r : Range) → r.low < r.high → (halved net r).high ≤ r.high
   half_upto r wide = half_cases r (λ h. h.high ≤ r.high) (λ t. (let less = middle_high r wide in omega arith)) (λ f. omega arith)
 
-  -- the half of a range of fewer than 2^(n + 1) deadlines has fewer than 2^n
+  -- the half of a range of at most 2^(n + 1) deadlines has at most 2^n
   pub half_short : (n : ℕ) (r : Range) → r.low < r.high → r.high < r.low + 2 ^ suc n → (halved net r).high < (halved net r).low + 2 ^ n
   half_short n r wide short =
       let twice : 2 ^ suc n ≡ 2 ^ n * 2 = pow-suc 2 n in
       half_cases r (λ h. h.high < h.low + 2 ^ n) (λ t. omega arith) (λ f. omega arith)
 
-  -- so enough tries leave one deadline
+  -- so n tries leave one deadline of a range of at most 2^n
   pub narrowed_to_one : (n : ℕ) (r : Range) → r.low ≤ r.high → r.high < r.low + 2 ^ n → (narrowed net n r).low ≡ (narrowed net n r).high
   narrowed_to_one zero r ordered short = omega arith
   narrowed_to_one (suc n) r ordered short = elim (cases_lt r.low r.high) [
@@ -72,7 +72,7 @@ module _ (net : Network) where
     | inr done ↦ subst (λ (h : Range). h.low ≡ h.high) (sym (narrowed_done (suc n) r done)) (omega arith)
   ]
 
--- no load of a tried deadline is above what the network's own allows
+-- where the load at a tried deadline is above the cap, so is the greatest number of entries at the network's own deadline
 pub any_bounded : (cap : ℕ) (net : Network) → IsWellFormed net → (n : ℕ) (r : Range) → r.high ≤ net.deadline →
     list_any (is_above cap net) (tried_from net n r) ≡ true → cap < most_entries net
 any_bounded cap net good zero r upto above = absurd (both_ways false refl above)
@@ -89,7 +89,7 @@ any_bounded cap net good (suc n) r upto above = elim (cases_lt r.low r.high) [
   | inr done ↦ absurd (both_ways false refl (sym (ap (list_any (is_above cap net)) (tried_done net (suc n) r done)) ∙ above))
 ]
 
--- where the search has come: some tries are left, and lead where all of them lead
+-- how far the search has come: the tries that are left lead from the range r to the range that all 20 tries lead to
 pub record Narrows (cap : ℕ) (net : Network) (r : Range) : Type 0 where
   pub tries : ℕ
   pub short : r.high < r.low + 2 ^ tries
@@ -108,7 +108,7 @@ narrows_start cap net h is in_time = subst (λ k. Narrows cap net (record { low 
   tried = refl;
 })
 
--- one try more
+-- the same where r has more than one deadline: there is a next try, and `tries` are left after it
 pub record Wide (cap : ℕ) (net : Network) (r : Range) : Type 0 where
   pub tries : ℕ
   pub short : r.high < r.low + 2 ^ suc tries

@@ -17,7 +17,7 @@ use Rattle.cstn_tight.specs.Deadlines.{at_deadline, IsLeastDeadline}
 pub consistent_later : (net : Network) (h k : ℕ) → h ≤ k → IsConsistent (at_deadline net h) → IsConsistent (at_deadline net k)
 consistent_later net h k upto consistent = (consistent.0, later_deadline (at_deadline net h) consistent.0 k upto consistent.1)
 
--- and at no earlier one than the least
+-- a network is consistent at no deadline before the least one
 pub least_upto : (net : Network) (h k : ℕ) → IsLeastDeadline net h → IsConsistent (at_deadline net k) → h ≤ k
 least_upto net h k least consistent = elim (cases_lt k h) [
   | inr upto ↦ upto
@@ -40,7 +40,7 @@ module _ (net : Network) (good : IsWellFormed net) where
   pub decided_at : (h : ℕ) → h ≤ 1000000 → (is_consistent (at_deadline net h) ≡ true) ↔ IsConsistent (at_deadline net h)
   decided_at h upto = decided (at_deadline net h) (good_at_deadline h upto)
 
-  -- an earlier deadline allows no more entries
+  -- the log at an earlier deadline has no more entries than a log at the network's own deadline may have
   pub load_upto : (h : ℕ) → h ≤ net.deadline → load_of (at_deadline net h) ≤ most_entries net
   load_upto h upto =
       let in_time = good.in_time in

@@ -7,25 +7,25 @@ use Rattle.cstn_conflict.specs.Sets.{is_consistent}
 use Rattle.cstn_tight.specs.declared.ranges.Range.{Range}
 use Rattle.cstn_tight.specs.Deadlines.{at_deadline}
 
--- the deadline between the ends of a range
+-- the deadline in the middle of a range, rounded down
 abbrev pub middle : Range → ℕ
 middle r = (r.low + r.high) / 2
 
--- the half that is left once the network was tried there: up to it after a yes, above it after a no
+-- the half that is left once the middle was tried: up to the middle where the network is consistent there, and else above it
 abbrev pub halved : Network → Range → Range
 halved net r =
     if is_consistent (at_deadline net (middle r)) then record { low = r.low; high = middle r } else record { low = middle r + 1; high = r.high }
 
--- the range is halved while it has more than one deadline
+-- the range after one more try: halved where it has more than one deadline, and else as it is
 abbrev pub next : Network → Range → Range
 next net r = if nat_lt r.low r.high then halved net r else r
 
--- the range after so many tries
+-- the range after n more tries
 abbrev pub narrowed : Network → ℕ → Range → Range
 narrowed net zero r = r
 narrowed net (suc n) r = narrowed net n (next net r)
 
--- the deadlines that are tried
+-- the deadlines that are tried in n more tries
 abbrev pub tried_from : Network → ℕ → Range → List ℕ
 tried_from net zero r = []
 tried_from net (suc n) r = (if nat_lt r.low r.high then middle r ∷ [] else []) ++ tried_from net n (next net r)
@@ -34,7 +34,7 @@ tried_from net (suc n) r = (if nat_lt r.low r.high then middle r ∷ [] else [])
 abbrev pub whole : Network → Range
 whole net = record { low = 0; high = net.deadline }
 
--- the least deadline of a consistent network, where a range of fewer than 2^20 was halved 20 times
+-- the least deadline of a consistent network: 20 tries leave one deadline of a range of fewer than 2^20
 abbrev pub least_deadline : Network → ℕ
 least_deadline net = (narrowed net 20 (whole net)).high
 
@@ -50,6 +50,6 @@ is_above cap net h = nat_lt cap (load_of (at_deadline net h))
 abbrev pub is_tight_full : ℕ → Network → Bool
 is_tight_full cap net = list_any (is_above cap net) (tried_deadlines net)
 
--- some deadline that is tried after the network's own has
+-- some deadline that is tried after the network's own has a load above the cap
 abbrev pub is_any_above : ℕ → Network → Bool
 is_any_above cap net = list_any (is_above cap net) (tried_from net 20 (whole net))

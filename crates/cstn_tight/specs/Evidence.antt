@@ -1,4 +1,4 @@
--- What a yes at a deadline leaves.
+-- The list of bounds that a yes rests on.
 use Rattle.std.specs.Prelude.{ℕ, ◌≡◌, List, length}
 use Rattle.std.specs.List.{All}
 use Rattle.cstn_net.specs.Networks.{Network, count}
@@ -7,7 +7,8 @@ use Rattle.cstn_closed.specs.Closed.{ClosedParts, the_bounds}
 use Rattle.cstn_closed.specs.Faults.{IsFaultless}
 use Rattle.cstn_closed.specs.Written.{FitsText, IsNamed}
 
--- the bounds of the live entries of the network's log and its load: the list has no fault, and can be printed
+-- the list has the bounds of the live entries of the network's log, and the load of the network; it has no fault, and can be
+-- printed
 pub record IsClosedOf (net : Network) (closed : ClosedParts) : Type 0 where
   pub bounds : the_bounds closed ≡ live_bounds (log_of net)
   pub load : closed.load ≡ load_of net

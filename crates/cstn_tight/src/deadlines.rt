@@ -14,7 +14,8 @@ use cstn_conflict::verdict_on;
 use cstn_net::Network;
 use std::alloc::{AllocError, Global};
 
-/// The least deadline of a network that is consistent at its own.
+/// The least deadline, in ticks, of a network that is consistent at its own. Fails with `Full` where the load at a tried
+/// deadline is above the cap.
 pub(crate) fn least_deadline(alloc: Global, net: &Network, cap: u32) -> Result<u32, TightError>
     requires cap { (1 ≤ cap) × (cap ≤ 4194304) }
     ensures never { (r : RefutationParts) → IsErrOf result (TightError.No r) → ⊥ }

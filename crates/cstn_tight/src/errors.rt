@@ -5,13 +5,13 @@ use thiserror::Error;
 /// Why there is no least deadline up to the network's own.
 #[derive(Debug, Drop, Error)]
 pub enum TightError {
-    /// The network isn't consistent at its own deadline; what refutes it.
+    /// The network isn't consistent at its own deadline; the refutation is that of its check.
     #[error("the network isn't consistent")]
     No(Refutation),
-    /// The log of the network at a deadline that was tried has more entries than it may have.
+    /// The log of the network at a deadline that was tried has more than `cap` entries.
     #[error("a log that is full")]
     Full,
-    /// There wasn't the memory that it takes.
+    /// Memory for the search was refused.
     #[error("out of memory")]
     Memory(AllocError),
 }

@@ -1,5 +1,5 @@
-//! Least deadlines: the least one at which a network has a strategy, with what stands for the yes and what refutes it one
-//! tick below.
+//! Least deadlines: the least deadline at which a network has a strategy, with the list of bounds that its yes rests on, and a
+//! refutation of the network at one tick less.
 #![tactic(auto)]
 
 mod deadlines;

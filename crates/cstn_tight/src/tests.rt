@@ -14,8 +14,8 @@ fn p(mark: Mark) -> Label {
     Label::empty().with(P, mark)
 }
 
-// Z, P, which observes p, and X: X is at 10 or later where p is true, and at 3 or earlier where it is false. Where it is
-// late, P is at 3 or later.
+// Z, P, which observes p, and X: X is at 10 or later where p is true, and at 3 or earlier where p is false. With `late`, P is
+// at 3 or later.
 fn branch(alloc: Global, deadline: u32, late: bool) -> Result<Builder, AllocError> {
     let mut net = Builder::new(alloc, deadline);
     net.node(None)?;
@@ -73,7 +73,7 @@ fn tight(rt: &impl Abort, alloc: Global, net: Builder, cap: u32) -> Result<Tight
     least(alloc, net, cap)
 }
 
-// The load and the steps of a refutation are these.
+// Asserts that the refutation has this load and these steps.
 fn refuted_by(
     rt: &impl Abort,
     refutation: &Refutation,

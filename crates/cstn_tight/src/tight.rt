@@ -23,8 +23,8 @@ use cstn_net::Network;
 use cstn_refute::Refutation;
 use std::alloc::{AllocError, Global};
 
-/// A least deadline in ticks, the list of bounds that stands for the yes at it, and what refutes the network one tick below;
-/// none where the deadline is 0.
+/// A least deadline, in ticks, the list of bounds that the yes at this deadline rests on, and the refutation of the network at
+/// one tick less, which is none where the deadline is 0.
 #[derive(Debug, Drop)]
 pub struct Tight {
     pub deadline: u32,
@@ -32,15 +32,15 @@ pub struct Tight {
     pub refutation: Option<Refutation>,
 }
 
-/// The least deadline, up to the network's own, at which it has a strategy. It is found by halves: the network's own deadline
-/// is tried first, and then the middle of what is left, rounded down. Each is tried by a check whose log may have `cap`
-/// entries. The list of bounds is that of the check at the least deadline, and the refutation that of the check one tick below
-/// it. The network is dropped, also where there is none.
+/// The least deadline, up to the network's own, at which the network has a strategy. It is found by bisection: the network's
+/// own deadline is tried first, and then, while more than one deadline is left, the one in the middle, rounded down. Each is
+/// tried by a check whose log may have `cap` entries. The list of bounds is that of the check at the least deadline, and the
+/// refutation that of the check at one tick less. The network is dropped, also on failure.
 pub fn least(alloc: Global, net: Network, cap: u32) -> Result<Tight, TightError>
     requires some { 1 ≤ cap }
     requires most { cap ≤ 4194304 }
 
-    // It is refused exactly where the network isn't consistent or a log is full, but for want of memory.
+    // But for want of memory, it fails exactly where the network isn't consistent or a log is full.
     ensures no { (r : RefutationParts) → IsErrOf result (TightError.No r) → (load_of (the_network net) ≤ cap) × (IsConsistent (the_network net) → ⊥) × IsRefutationOf (the_network net) r }
     ensures full { IsErrOf result TightError.Full → is_tight_full cap (the_network net) ≡ true }
     ensures bounded { IsErrOf result TightError.Full → cap < most_entries (the_network net) }
@@ -77,7 +77,7 @@ pub fn least(alloc: Global, net: Network, cap: u32) -> Result<Tight, TightError>
     }
 }
 
-// What refutes the network a tick before the deadline.
+// The refutation of the network at one tick less than the deadline; none where the deadline is 0.
 fn refuted_before(
     alloc: Global,
     net: &Network,
@@ -98,7 +98,7 @@ fn refuted_before(
     Ok(Some(refutation))
 }
 
-// The bounds of the plan of the network at the deadline, with its load.
+// The list of the bounds of the network's plan at the deadline, with the load there.
 fn closed_at(alloc: Global, net: Network, deadline: u32, cap: u32) -> Result<Closed, AllocError>
     requires cap { (1 ≤ cap) × (cap ≤ 4194304) }
     requires deadline { deadline ≤ 1000000 }
@@ -117,7 +117,7 @@ fn closed_at(alloc: Global, net: Network, deadline: u32, cap: u32) -> Result<Clo
     Closed::of(alloc, &plan, load)
 }
 
-// Every network is well-formed.
+// Does nothing: its contract says that every network is well-formed.
 fn is_well_formed(net: &Network)
     ensures { IsWellFormed (the_network net.now) }
 {

@@ -1,4 +1,4 @@
--- What is printed of a tree is read again.
+-- The printed text of a tree is read back as that tree.
 use Rattle.std.proofs.Common.{ℕ, ◌≡◌, ◌≢◌, ◌+◌, ◌<◌, ◌≤◌, ◌^◌, true, List, [], ◌∷◌, ◌++◌, length, map, get_or, arith, refl, sym, subst, ap, ◌∙◌, append_assoc, append-nil}
 use Rattle.std.specs.Prelude.{◌&&◌, nat_lt, nat_le, if◌then◌else◌, bytes_eq, flat_map, slice_index_or, Option, Some, None, codes}
 use Rattle.std.specs.List.{All, list_all}
@@ -46,7 +46,7 @@ part_free byte text low is = All-weaker (λ b. 32 < b) (λ b. b ≢ byte) (λ b 
 part_back : (text rest : List ℕ) → IsOnePart text → first_part (text ++ 32 ∷ rest) ≡ Some (text, rest)
 part_back text rest is = cut_back 32 text rest (part_free 32 text (omega arith) is)
 
--- a text without such a byte has no part that ends with it
+-- a text without the byte `end` has no part that ends with it
 parts_whole : (end : ℕ) (text : List ℕ) → All (λ b. b ≢ end) text → parts_at end text ≡ ([], text)
 unfolding parts_at
 parts_whole end [] free = refl
@@ -76,7 +76,7 @@ all_right : {X : Type 0} (P : X → Type 0) (xs ys : List X) → All P (xs ++ ys
 all_right P [] ys all = all
 all_right P (x ∷ xs) ys all = all_right P xs ys (All-tail P x (xs ++ ys) all)
 
--- no LF
+-- the text has no LF
 abbrev IsFree : List ℕ → Type 0
 IsFree text = All (λ b. b ≢ 10) text
 
@@ -219,7 +219,7 @@ module _ (names : List (List ℕ)) (are : AreNames names) where
       ap (λ ts. told_after names (1 ∷ []) [] ts []) (sym (append-nil (map (printed_line names) (lines_of tree))))
       ∙ tree_told tree 1 [] [] [] [] (omega arith) some each
 
--- what is shown of a load and a tree is said
+-- the printed text of a load and a tree says the lines of the tree
 pub shown_back : (names : List (List ℕ)) (load : ℕ) (tree : Tree) → AreNames names → AreWritten names load tree →
     told names (shown names load (lines_of tree)) ≡ tells (lines_of tree)
 shown_back names load tree are is =
@@ -231,7 +231,7 @@ shown_back names load tree are is =
     ∙ ap {A = Parts} (λ p. told_after names (1 ∷ []) [] p.0 p.1) (lines_parts names are (lines_of tree) is.each)
     ∙ lines_told names are tree is.fits.short is.fits.named is.each
 
--- the text of a load and the lines of a tree says them
+-- the printed text of a load and lines says these lines, where they are the lines of a tree
 pub said_back : (names : List (List ℕ)) (load : ℕ) (lines : List Line) (text : List ℕ) → AreNames names → 1 ≤ load → load ≤ 4194304 →
     lines ≡ lines_of (the_tree lines) → FitsText (the_tree lines) → All (IsPrintableLine names) lines → text ≡ shown names load lines → told names text ≡ tells lines
 said_back names load lines text are low high whole fits each e =

@@ -1,4 +1,4 @@
--- What the program keeps of a branch, as the branch.
+-- The branch that the program keeps stands for the branch of the definition, through each of its calls.
 use Rattle.std.proofs.Common.{ℕ, suc, ◌≡◌, inl, inr, ◌+◌, ◌<◌, ◌≤◌, Bool, true, false, ◌&&◌, ◌||◌, not, List, [], ◌∷◌, Option, Some, None, length, drop, get_or, arith, drop-cons, add-one, le-leb, refl, sym, subst, ap, ◌∙◌, get_or-set_other, get_or-set_same}
 use Rattle.std.specs.Prelude.{◌==◌, is_none, is_some, nat_le, slice_set, if◌then◌else◌}
 use Rattle.std.specs.List.{position, list_all, range_with_len}
@@ -31,7 +31,7 @@ observed_by_none net wf b p nowhere = go (position (is_prop p) net.observes) ref
     go None e = ap (option_and_then b.placed) e
     go (Some x) e = absurd (nowhere x (at_observer net wf x p e))
 
--- ---- all are named
+-- ---- each time-point is named
 
 pub all_some : (moments : List (Option ℕ)) (n : ℕ) → length moments ≡ n →
     list_all is_some moments ≡ list_all (λ x. is_some (the_placed moments x)) (range_with_len 0 n)
@@ -58,7 +58,7 @@ all_some moments n size = elim (cases_Bool (list_all is_some moments)) [
       | inr h ↦ h
     ]
 
--- ---- one more is named
+-- ---- one more time-point is named
 
 abbrev pub with_one : (ℕ → Option ℕ) → ℕ → ℕ → ℕ → Option ℕ
 with_one placed t x = λ y. if y == x then Some t else placed y
@@ -97,7 +97,7 @@ new_with placed t x (y ∷ ys) = elim (cases_eq y x) [
       ∙ sym (ap (λ b. not (b || is_named x ys) && are_new placed (y ∷ ys)) there)
 ]
 
--- whether those left may be named
+-- whether these time-points may be named at t
 abbrev pub may_name : Network → (ℕ → Option ℕ) → ℕ → List ℕ → Bool
 may_name net placed t xs = are_new placed xs && are_in_time net t xs
 
@@ -132,7 +132,7 @@ placed_next placed t x xs = fun_ext (λ y. go (y == x) (is_named y xs) y)
     go false true y = refl
     go false false y = refl
 
--- the branch after one more is named
+-- the program's branch after one more time-point is named has a place for each of the n, and no moment above a million
 pub branch_with : (n : ℕ) (b new : ProgramBranch) (x t : ℕ) → IsBranchOf n b → t ≤ 1000000 → new.moments.items ≡ slice_set b.moments.items x (Some t) →
     IsBranchOf n new
 branch_with n b new x t is soon items = record {

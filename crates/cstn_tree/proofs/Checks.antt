@@ -20,7 +20,7 @@ pub finds : (net : Network) (o : Option ℕ) (ls tree : List Line) → o ≡ fir
 finds net o ls tree e same whole =
     e ∙ ap (λ l. first_broken_in net (start ∷ []) l 2) (same ∙ whole) ∙ walk_finds net (the_tree tree)
 
--- an answer that names the first line that breaks
+-- an answer that names the first line that breaks, if any, accepts exactly where no line breaks
 pub accepts : (net : Network) (tree : Tree) (a : TreeAnswer) → the_answer a ≡ first_broken net tree → (a ≡ Accepted) ↔ IsUnbroken net tree
 accepts net tree Accepted e = ((λ h. sym e), (λ h. refl))
 accepts net tree (Rejected line) e = ((λ h. let f : ⊥ = cc in absurd f), (λ h. let f : ⊥ = cc in absurd f))
@@ -29,7 +29,7 @@ pub accepted_strategy : (net : Network) (tree : Tree) (a : TreeAnswer) → IsWel
     IsStrategy net (table_of tree)
 accepted_strategy net tree a wf e h = good_is_strategy net tree wf.network ((accepts net tree a e).0 h)
 
--- one more line is walked
+-- the lines from the place k on are the one at k and those from k + 1 on
 pub lines_next : (lines : List ProgramLine) (k : ℕ) (l : ProgramLine) → k < length lines → l ≡ get_or lines k l →
     map the_line (drop k lines) ≡ the_line l ∷ map the_line (drop (k + 1) lines)
 lines_next lines k l inside at =

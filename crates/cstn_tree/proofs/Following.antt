@@ -52,7 +52,7 @@ pub each_of : {X : Type 0} (test : X → Bool) (xs : List X) → ((x : X) → Co
 each_of test [] h = refl
 each_of test (x ∷ xs) h = and_from (test x) (list_all test xs) (h x (0, omega arith, refl)) (each_of test xs (λ y c. h y (contains_later x y xs c)))
 
--- who passes is named once
+-- the time-points that pass a test are new on the branch, where none of them is named there
 passing_new : (placed : ℕ → Option ℕ) (test : ℕ → Bool) (a n : ℕ) → ((x : ℕ) → test x ≡ true → placed x ≡ None) → are_new placed (passing test a n) ≡ true
 passing_new placed test a zero free = refl
 passing_new placed test a (suc n) free = elim (cases_Bool (test a)) [
@@ -79,7 +79,7 @@ pub record Follows (net : Network) (bounds : List Bound) (run : Run) (b : Branch
   pub from : next run ≤ b.from
   pub quiet : IsQuiet net bounds run b.from
 
--- the value that was seen, or one that the mark holds by
+-- the outcome that was seen, or else one with which the mark holds
 abbrev value_or : Option Bool → Mark → Bool
 value_or (Some v) m = v
 value_or None Yes = true
@@ -107,7 +107,7 @@ module _ (net : Network) (bounds : List Bound) (table : Table) (wf : IsWellForme
     pub of_agrees : (s : Scenario) → AreOf s b.asked → (u : ℕ) → AgreesKnown net run u s
     of_agrees s of u p v k = of p v (f.asked p ∙ (known_from net wf.network run u p v k).1)
 
-    -- who is placed has its moment in the table
+    -- a time-point that the branch names has its moment in the table
     pub placed_is : (s : Scenario) → AreOf s b.asked → (x m : ℕ) → b.placed x ≡ Some m → table s x ≡ m
     placed_is s of x m e = executed_is net bounds table wf plan run f.right s x m (of_agrees s of (next run)) (sym (f.placed x) ∙ e)
 
@@ -152,7 +152,7 @@ module _ (net : Network) (bounds : List Bound) (table : Table) (wf : IsWellForme
             ap (λ o. is_within c.most o (b.placed c.to)) from ∙ ap (is_within c.most (Some m)) to
             ∙ within_true c.most m n (subst (λ k. (pos n -ℤ pos k) ≤ℤ c.most) one (subst (λ k. (pos k -ℤ pos (table (holding c.label) c.from)) ≤ℤ c.most) two met))
 
-    -- the due moment may follow
+    -- the next `at` may have the due moment
     pub due_may_follow : (t : ℕ) → due net bounds run ≡ Some t → b.from ≤ t
     due_may_follow t is = elim (cases_lt t b.from) [
       | inr upto ↦ upto
@@ -226,7 +226,7 @@ module _ (net : Network) (bounds : List Bound) (table : Table) (wf : IsWellForme
           let within = plan.strategy.within s x inside in
           le-leb t (limit net x) (omega arith)
 
-      -- somebody is named
+      -- at least one time-point is named
       pub some_named : 1 ≤ length new
       some_named =
           let first = (due_first net bounds table wf plan run f.right t is).1 in
@@ -239,7 +239,7 @@ module _ (net : Network) (bounds : List Bound) (table : Table) (wf : IsWellForme
 
 module _ (net : Network) (bounds : List Bound) (table : Table) (wf : IsWellFormed net) (plan : IsEarliest net bounds table)
     (run : Run) (b : Branch) (f : Follows net bounds run b) (t : ℕ) (is : due net bounds run ≡ Some t) where
-  -- the line of the due moment doesn't break
+  -- the `at` of the due moment doesn't break
   pub at_fits : moment_refusal net bounds run t ≡ None → fits_at net b t (named net bounds run t) ≡ true
   at_fits accepted =
       let new = named net bounds run t in
@@ -272,11 +272,11 @@ module _ (net : Network) (bounds : List Bound) (table : Table) (wf : IsWellForme
     observed_is : observed_on net b p ≡ Some ready.moment
     observed_is = observed_by net wf.network b ready.observer p ready.observes ∙ f.placed ready.observer ∙ ready.executed
 
-    -- the line of what is awaited doesn't break
+    -- the `ask` of the awaited proposition doesn't break
     pub ask_fits : fits_ask net b p ≡ true
     ask_fits = and_from (is_some (observed_on net b p)) (is_none (b.asked p)) (ap is_some observed_is) (ap is_none (f.asked p ∙ missing))
 
-    -- before the moment from which p is known its outcome changes nothing
+    -- the outcome of p doesn't change whether there is something to do at a moment before p is known
     abbrev work_by : (ℕ → Option Bool) → (ℕ → Bool) → ℕ → Bool
     work_by values awaits u =
         is_some (find awaits (range_with_len 0 52))

@@ -30,9 +30,9 @@ use Rattle.cstn_tree.proofs.Following.{Follows, follows_start, placed_is, follow
 abbrev NamesBelow : ℕ → Line → Type 0
 NamesBelow n l = All (λ x. x < n) (names_on l)
 
--- ---- how many are left
+-- ---- how many values are missing
 
--- how many have no value yet
+-- how many of the options have no value
 abbrev pub left : {X : Type 0} → List (Option X) → ℕ
 left [] = 0
 left (None ∷ os) = suc (left os)
@@ -43,7 +43,7 @@ left_upto [] = omega arith
 left_upto (None ∷ os) = let more = left_upto os in omega arith
 left_upto (Some x ∷ os) = let more = left_upto os in omega arith
 
--- one more has a value
+-- a value that is put in leaves no more options without one
 left_fewer : {X : Type 0} (os : List (Option X)) (k : ℕ) (x : X) → left (slice_set os k (Some x)) ≤ left os
 left_fewer [] k x = omega arith
 left_fewer (None ∷ os) zero x = omega arith

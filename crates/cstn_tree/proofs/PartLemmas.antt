@@ -31,7 +31,7 @@ open_parts end (b ∷ bs) none =
     rw (none 0 (omega arith), more) refl
 
 module _ (end : ℕ) (bytes : List ℕ) where
-  -- a text that is cut at its first such byte
+  -- the parts of a text that is cut at its first byte `end` are the one before it and those of the rest
   pub parts_cut : (part rest : List ℕ) → cut_at end bytes ≡ Some (part, rest) →
       parts_at end bytes ≡ (part ∷ (parts_at end rest).0, (parts_at end rest).1)
   parts_cut part rest is = at (position (λ b. b == end) bytes) refl is
@@ -48,7 +48,7 @@ module _ (end : ℕ) (bytes : List ℕ) where
           subst (λ (parts : List ℕ × List ℕ). parts_at end bytes ≡ (parts.0 ∷ (parts_at end parts.1).0, (parts_at end parts.1).1)) (pair _ _ e)
           (cut_parts end bytes i its.0 its.1 its.2)
 
-  -- a text without such a byte
+  -- a text without the byte `end` has no part that ends with it
   pub parts_open : cut_at end bytes ≡ None → parts_at end bytes ≡ ([], bytes)
   parts_open is = at (position (λ b. b == end) bytes) refl is
     where

@@ -14,7 +14,7 @@ use Rattle.cstn_tree.specs.Read.{the_line}
 flat_more : {X : Type 0} (f : X → List ℕ) (xs : List X) (x : X) → flat_map f (xs ++ x ∷ []) ≡ flat_map f xs ++ f x
 flat_more f xs x = flat_map-append f xs (x ∷ []) ∙ ap (λ l. flat_map f xs ++ l) (append-nil (f x))
 
--- one more is printed
+-- the text after one more element of the list is printed
 pub printed_more : {X Y : Type 0} (g : Y → X) (f : X → List ℕ) (ys : List Y) (k : ℕ) (d : Y) (first old new more : List ℕ) → k < length ys →
     old ≡ first ++ flat_map f (map g (take k ys)) → new ≡ old ++ more → more ≡ f (g (get_or ys k d)) → new ≡ first ++ flat_map f (map g (take (k + 1) ys))
 printed_more g f ys k d first old new more inside before pushed is =
@@ -25,14 +25,14 @@ printed_more g f ys k d first old new more inside before pushed is =
 pub pushed_twice : (old middle new one other : List ℕ) → middle ≡ old ++ one → new ≡ middle ++ other → new ≡ old ++ (one ++ other)
 pushed_twice old middle new one other first second = second ∙ ap (λ l. l ++ other) first ∙ append_assoc old one other
 
--- all is printed
+-- the text after the last line is printed is the whole one
 pub shown_whole : (names : List (List ℕ)) (load : ℕ) (lines : List ProgramLine) (k : ℕ) (text : List ℕ) → length lines ≤ k →
     text ≡ (codes "yes " ++ printed_number load ++ 10 ∷ []) ++ printed_lines names (map the_line (take k lines)) → text ≡ shown names load (map the_line lines)
 shown_whole names load lines k text past is =
     is ∙ ap (λ l. (codes "yes " ++ printed_number load ++ 10 ∷ []) ++ printed_lines names (map the_line l)) (take_all k lines past)
     ∙ append_assoc (codes "yes " ++ printed_number load) (10 ∷ []) (printed_lines names (map the_line lines))
 
--- one more can be said by a text
+-- the first k + 1 lines can be printed, where the first k and the next one can
 pub more_written : (names : List (List ℕ)) (lines : List ProgramLine) (k : ℕ) (l : ProgramLine) → k < length lines → l ≡ get_or lines k l →
     All (IsPrintableLine names) (map the_line (take k lines)) → IsPrintableLine names (the_line l) → All (IsPrintableLine names) (map the_line (take (k + 1) lines))
 more_written names lines k l inside at before is =

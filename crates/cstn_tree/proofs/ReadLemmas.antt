@@ -93,7 +93,7 @@ first_wrong names bytes line rest is read =
 pub none_wrong : (names : List (List ℕ)) (bytes : List ℕ) → cut_at 10 bytes ≡ None → told names bytes ≡ wrong 1
 none_wrong names bytes is = ap {A = Parts} (λ p. told_lines names p.0 p.1) (parts_open 10 bytes is)
 
--- where none is to come and nothing is left, the lines are the tree's
+-- where no tree is still to come and no byte is left, the text says these lines
 pub end_tells : (ahead : List ℕ) (lines : List Line) (left : List ℕ) → ahead ≡ [] → left ≡ [] → at_end ahead lines left ≡ tells lines
 end_tells ahead lines left none over = ap (λ a. at_end a lines left) none ∙ ap (λ l. at_end [] lines l) over
 

@@ -16,7 +16,7 @@ use Rattle.cstn_tree.specs.Trees.{Tree, is_named, lines_of}
 use Rattle.cstn_tree.specs.Trees.Tree.{at, ask, done}
 use Rattle.cstn_tree.specs.Good.{Branch, placed_with, below_at, are_new, are_in_time, is_within, is_met, fits_at, observed_on, known_from, below_ask, fits_ask, is_complete, or_else, first_broken_from}
 
--- the branch has the observer of p at m
+-- the branch names p's observer at the moment m
 pub record IsPlaced (net : Network) (b : Branch) (p m : ℕ) : Type 0 where
   pub observer : ℕ
   pub observes : Observes net observer p
@@ -45,7 +45,7 @@ Stands net b (at t xs next) = FitsAt net b t xs × Stands net (below_at b t xs) 
 Stands net b (ask p one other) = FitsAsk net b p × (Stands net (below_ask net b p true) one × Stands net (below_ask net b p false) other)
 Stands net b done = IsComplete net b
 
--- ---- by the tests
+-- ---- what the tests of a line mean
 
 new_is_none : (placed : ℕ → Option ℕ) (xs : List ℕ) → are_new placed xs ≡ true → (x : ℕ) → is_named x xs ≡ true → placed x ≡ None
 new_is_none placed [] h x named = absurd (false≢true named)
@@ -128,7 +128,7 @@ complete_from net b h = record {
   all = λ x inside. is_some-true (b.placed x) (each_passes (λ x. is_some (b.placed x)) 0 (count net) h x (omega arith) (omega arith));
 }
 
--- what the first line that breaks tells where there is none
+-- where no line is found to break, the test of the line passes, and no line of the rest breaks
 here_fits : (test : Bool) (rest : Option ℕ) (line : ℕ) → (if test then rest else Some line) ≡ None → test ≡ true
 here_fits true rest line e = refl
 here_fits false rest line e = let f : ⊥ = cc in absurd f

@@ -20,7 +20,7 @@ use Rattle.cstn_tree.proofs.Following.{each_of, has_named}
 
 -- ---- links
 
--- nothing is linked
+-- tables without any place are the links from the end of the list on
 pub none_linked : (cs : List Constraint) (wide long : ℕ) → AreLinkedFrom (length cs) (starts cs) (replicate wide None) (replicate long None)
 none_linked cs wide long =
     let size = length-map cs (end_of From) in
@@ -50,7 +50,7 @@ module _ (xs : List ℕ) (low y : ℕ) (firsts nexts : List (Option ℕ)) (here 
     ];
   }
 
-  -- one more place is linked
+  -- the links from the place `low` on, from those that begin one place later
   pub one_linked : AreLinkedFrom low xs (set firsts y (Some low)) (set nexts low (get_or firsts y None))
   one_linked = record {
     first = λ x within. elim (cases_eq x y) [
@@ -76,12 +76,13 @@ abbrev pub StandsAt : List ℕ → ℕ → Option ℕ → Type 0
 StandsAt xs x None = Unit {0}
 StandsAt xs x (Some p) = (p < length xs) × (get_or xs p 0 ≡ x)
 
--- how many places are left
+-- how many of n places are left from this one on
 abbrev pub places_left : ℕ → Option ℕ → ℕ
 places_left n None = 0
 places_left n (Some p) = n - p
 
--- a walk along the constraints that have this end at x has come to a place, and those before pass the test
+-- a walk along the constraints that have this end at x has come to the place `at`, or to their end, and the constraints before
+-- it pass the test
 pub record IsWalked (test : TheConstraint → Bool) (end : End) (cs : List Constraint) (x : ℕ) (at : Option ℕ) : Type 0 where
   pub stands : StandsAt (standing end cs) x at
   pub done : (k : ℕ) (c : Constraint) → IsBefore k at → k < length cs → get_or cs k c ≡ c → end_of end c ≡ x → test (the_constraint c) ≡ true
@@ -98,7 +99,7 @@ module _ (test : TheConstraint → Bool) (end : End) (cs : List Constraint) (x :
   size : length (standing end cs) ≡ length cs
   size = length-map cs (end_of end)
 
-  -- the next place, after some that are done
+  -- a walk has come to the next place from `low` on, where the constraints before `low` pass the test
   on_from : (low : ℕ) (at : Option ℕ) → IsNextPlace x low (standing end cs) at →
       ((k : ℕ) (c : Constraint) → k < low → k < length cs → get_or cs k c ≡ c → end_of end c ≡ x → test (the_constraint c) ≡ true) → IsWalked test end cs x at
   on_from low None next done = record {
@@ -151,7 +152,7 @@ module _ (placed : ℕ → Option ℕ) (asked : ℕ → Option Bool) (named : Li
   abbrev kept : TheConstraint → Bool
   kept = is_kept placed asked
 
-  -- one that has an end among the named isn't kept
+  -- the test of the line fails where a constraint with an end among the named time-points isn't kept
   pub not_met : (end : End) (x : ℕ) → is_named x named ≡ true → SomeFails kept end cs x → list_all (is_met placed asked named) (map the_constraint cs) ≡ false
   not_met end x there f =
       list_all-map (is_met placed asked named) the_constraint cs
@@ -169,7 +170,7 @@ module _ (placed : ℕ → Option ℕ) (asked : ℕ → Option Bool) (named : Li
           touched (is_named f.constraint.from.0 named) (is_named f.constraint.to.0 named) (kept (the_constraint f.constraint))
           (or_right (is_named f.constraint.from.0 named) (is_named f.constraint.to.0 named) (subst (λ y. is_named y named ≡ true) (sym at) there)) f.fails
 
-  -- all that have an end among the named are kept
+  -- the test of the line passes where all constraints with an end among the named time-points are kept
   pub all_met : ((end : End) (x : ℕ) → is_named x named ≡ true → AllPass kept end cs x) → list_all (is_met placed asked named) (map the_constraint cs) ≡ true
   all_met pass =
       list_all-map (is_met placed asked named) the_constraint cs
@@ -196,7 +197,7 @@ named_push y (x ∷ xs) z = ap (λ b. (y == x) || b) (named_push y xs z) ∙ sym
     or_assoc true b c = refl
     or_assoc false b c = refl
 
--- what holds of those named so far, and of the next one
+-- what holds of the first k named time-points and of the next one holds of the first k + 1
 pub named_more : (P : ℕ → Type 0) (named : List NodeId) (k : ℕ) (d : NodeId) → k < length named →
     ((y : ℕ) → is_named y (numbers (take k named)) ≡ true → P y) → P (get_or named k d).0 →
     (y : ℕ) → is_named y (numbers (take (k + 1) named)) ≡ true → P y

@@ -40,7 +40,7 @@ asked_of s asked p v here of q w e = elim (cases_Bool (q == p)) [
   | inr other ↦ of q w (sym (cond-false (q == p) (Some v) (asked q) other) ∙ e)
 ]
 
--- each time-point stands somewhere
+-- each time-point is named on the branch of each scenario
 all_placed : (net : Network) (b : Branch) (tree : Tree) (s : Scenario) → Stands net b tree → (x : ℕ) → x < count net →
     (m : ℕ) × (full b tree s x ≡ Some m)
 all_placed net b (at u xs next) s good x inside =
@@ -71,7 +71,7 @@ walk_within net b (ask p one other) s x t good e = elim (cases_Bool (s p)) [
 ]
 walk_within net b done s x t good e = let f : ⊥ = cc in absurd f
 
--- who is placed below a line and not above it stands on it
+-- a time-point that is placed below an `at` and not above it is named on it
 newly : (b : Branch) (u : ℕ) (xs : List ℕ) (x m : ℕ) → b.placed x ≡ None → placed_with b.placed u xs x ≡ Some m → is_named x xs ≡ true
 newly b u xs x m none e = elim (cases_Bool (is_named x xs)) [
   | inl named ↦ named

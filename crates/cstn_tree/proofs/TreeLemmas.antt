@@ -15,7 +15,7 @@ use Rattle.cstn_tree.specs.Trees.Tree.{at, ask, done}
 use Rattle.cstn_tree.specs.Trees.Line.{AtLine, AskLine, DoneLine}
 use Rattle.cstn_tree.specs.Read.{trees_of, with_line, the_tree, first_or_done, AreWhole}
 
--- the trees of the lines of one, and of others
+-- the lines of a tree and further ones are read back as this tree and the trees of the further ones
 pub trees_back : (tree : Tree) (ls : List Line) → trees_of (lines_of tree ++ ls) ≡ tree ∷ trees_of ls
 unfolding trees_of
 trees_back (at t xs next) ls = ap (with_line (AtLine t xs)) (trees_back next ls)
@@ -31,7 +31,7 @@ tree_back tree =
 pub whole_back : (ls : List Line) → AreWhole ls → ls ≡ lines_of (the_tree ls)
 whole_back ls whole = whole.1 ∙ ap lines_of (sym (ap the_tree whole.1 ∙ tree_back whole.0))
 
--- where all trees are walked, no line is left
+-- where no branch is left, no line is found to break
 pub none_left : (net : Network) (ls : List Line) (k : ℕ) → first_broken_in net [] ls k ≡ None
 none_left net [] k = refl
 none_left net (l ∷ ls) k = refl
@@ -59,7 +59,7 @@ or_is : (one : Option ℕ) (net : Network) (branches : List Branch) (ls : List L
 or_is None net branches ls k = refl
 or_is (Some line) net branches ls k = refl
 
--- a walk along the lines of a tree, and on
+-- a walk along the lines of a tree finds the first of them that breaks, or goes on along the further lines
 walk_tree : (net : Network) (b : Branch) (branches : List Branch) (tree : Tree) (ls : List Line) (line : ℕ) →
     first_broken_in net (b ∷ branches) (lines_of tree ++ ls) line
     ≡ or_nothing (first_broken_from net b tree line) net branches ls (line + length (lines_of tree))

@@ -1,4 +1,4 @@
--- Whoever agrees with what is known when x is named goes to the same line.
+-- Two scenarios that agree on what is known when x is named have x named on the same line.
 use Rattle.std.proofs.Common.{ℕ, ◌≡◌, inl, inr, ◌+◌, ◌≤◌, true, false, Option, Some, None, List, arith, refl, sym, ap, ◌∙◌}
 use Rattle.std.proofs.lemmas.Bool.{cases_Bool, cond-true, cond-false}
 use Rattle.cstn_label.specs.Labels.{Scenario}
@@ -8,7 +8,7 @@ use Rattle.cstn_tree.specs.Trees.Tree.{at, ask, done}
 use Rattle.cstn_tree.specs.Good.{Branch, below_at, below_ask, or_else}
 use Rattle.cstn_tree.proofs.Standing.{Stands}
 
--- the moments of the whole branch: above this line and below it
+-- the moment of x on the whole branch of s: above this line, or else on it or below
 abbrev pub full : Branch → Tree → Scenario → ℕ → Option ℕ
 full b tree s x = or_else (b.placed x) (walk tree s x)
 
@@ -30,7 +30,7 @@ true_walk p one other s x h = cond-true (s p) (walk one s x) (walk other s x) h
 pub false_walk : (p : ℕ) (one other : Tree) (s : Scenario) (x : ℕ) → s p ≡ false → walk (ask p one other) s x ≡ walk other s x
 false_walk p one other s x h = cond-false (s p) (walk one s x) (walk other s x) h
 
--- the moments below a line come at its first moment or later
+-- each moment that a tree has is at least the branch's first moment that may follow
 pub walk_from : (net : Network) (b : Branch) (tree : Tree) (s : Scenario) (x t : ℕ) → Stands net b tree →
     walk tree s x ≡ Some t → b.from ≤ t
 walk_from net b (at u xs next) s x t good e = elim (cases_Bool (is_named x xs)) [
@@ -55,7 +55,7 @@ walk_from net b (ask p one other) s x t good e = elim (cases_Bool (s p)) [
 ]
 walk_from net b done s x t good e = let f : ⊥ = cc in absurd f
 
--- the branch of s is the same, read from a line or from the line below it
+-- the moment of x on the branch of s is the same, read from a line or from the line below it
 pub full_at : (b : Branch) (u : ℕ) (xs : List ℕ) (next : Tree) (s : Scenario) (x : ℕ) →
     ((y : ℕ) → is_named y xs ≡ true → b.placed y ≡ None) → full (below_at b u xs) next s x ≡ full b (at u xs next) s x
 full_at b u xs next s x none = elim (cases_Bool (is_named x xs)) [

@@ -14,7 +14,7 @@ use Rattle.cstn_tree.specs.Walks.{Step as TheStep, Broken as SpecBroken, On as S
 abbrev pub numbers : List NodeId → List ℕ
 numbers named = map (λ x. x.0) named
 
--- the moments by their time-points
+-- the moment of each time-point, which stands at its place in the list
 abbrev pub the_placed : List (Option ℕ) → ℕ → Option ℕ
 the_placed moments x = slice_index_or moments x None
 
@@ -35,7 +35,7 @@ pub record IsWalkOf (n : ℕ) (w : Walk) : Type 0 where
   pub here : IsBranchOf n w.here
   pub pending : All (IsBranchOf n) w.pending.items
 
--- what a program's step says
+-- the step of the definition that a program's step stands for
 abbrev pub the_step : Step → TheStep
 the_step Broken = SpecBroken
 the_step On = SpecOn

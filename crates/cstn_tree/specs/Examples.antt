@@ -7,7 +7,7 @@ use Rattle.cstn_net.specs.Examples.{branch, only}
 use Rattle.cstn_tree.specs.Trees.{Tree}
 use Rattle.cstn_tree.specs.Trees.Tree.{at, ask, done}
 
--- P at once, and X by what it observes, at these moments
+-- Z and P at 0, and X at `late` where p is true and at `early` where it is false
 abbrev pub branch_tree : ℕ → ℕ → Tree
 branch_tree late early = at 0 (0 ∷ 1 ∷ []) (ask 0 (at late (2 ∷ []) done) (at early (2 ∷ []) done))
 
@@ -30,12 +30,12 @@ slow_branch = record branch { reaction = λ p. 2 }
 abbrev pub before : ℕ → ℕ → ℕ → ℤ → Label → Constraint
 before id from to most label = record { id = id; from = from; to = to; most = most; label = label }
 
--- q is true
+-- the label by which q is true
 abbrev pub second : Label
 second zero = Absent
 second (suc p) = only Yes p
 
--- P and Q, each of which waits for the other where that one is true
+-- P is at 5 or later where q is true, and Q is at 5 or later where p is true
 abbrev pub crossed : Network
 crossed = record {
   deadline = 5;

@@ -9,8 +9,8 @@ use Rattle.cstn_exec.specs.Runs.{is_possible}
 use Rattle.cstn_tree.specs.Trees.{Tree, is_named, lines_of}
 use Rattle.cstn_tree.specs.Trees.Tree.{at, ask, done}
 
--- what the branch of a line says: the moment of each time-point that it names, the outcome of each proposition that it asks, and
--- the first moment that may follow. That one is above the last `at`, and each outcome that was asked since is known at it.
+-- what the branch of a line says: the moment of each time-point that it names, the outcome of each proposition that it asks,
+-- and the least moment that its next `at` may have, which is above its last `at` and at which each outcome asked since is known
 pub record Branch : Type 0 where
   pub placed : ℕ → Option ℕ
   pub asked : ℕ → Option Bool
@@ -29,7 +29,7 @@ placed_with placed t xs = λ x. if is_named x xs then Some t else placed x
 abbrev pub below_at : Branch → ℕ → List ℕ → Branch
 below_at b t xs = record { placed = placed_with b.placed t xs; asked = b.asked; from = t + 1 }
 
--- each is named once on the line, and not on its branch
+-- each time-point is named once on the line, and not above it
 abbrev pub are_new : (ℕ → Option ℕ) → List ℕ → Bool
 are_new placed [] = true
 are_new placed (x ∷ xs) = is_none (placed x) && (not (is_named x xs) && are_new placed xs)
@@ -37,7 +37,7 @@ are_new placed (x ∷ xs) = is_none (placed x) && (not (is_named x xs) && are_ne
 abbrev pub are_in_time : Network → ℕ → List ℕ → Bool
 are_in_time net t xs = list_all (λ x. nat_le t (limit net x)) xs
 
--- the difference of two moments is at most this, where both are there
+-- `to` is at most `most` ticks after `from`, where both moments are there
 abbrev pub is_within : ℤ → Option ℕ → Option ℕ → Bool
 is_within most None to = true
 is_within most (Some from) None = true
@@ -47,12 +47,12 @@ is_within most (Some from) (Some to) = le_z (pos to -ℤ pos from) most
 abbrev pub is_kept : (ℕ → Option ℕ) → (ℕ → Option Bool) → Constraint → Bool
 is_kept placed asked c = not (is_possible asked c.label) || is_within c.most (placed c.from) (placed c.to)
 
--- the same of a constraint that has an end among xs
+-- the constraint is kept, or has no end among xs
 abbrev pub is_met : (ℕ → Option ℕ) → (ℕ → Option Bool) → List ℕ → Constraint → Bool
 is_met placed asked xs c = not (is_named c.from xs || is_named c.to xs) || is_kept placed asked c
 
--- an `at` doesn't break: its moment may follow; its time-points are named for the first time, and not above their limits; and the
--- constraints that have an end on this line, and the other here or above, are met
+-- an `at` doesn't break: its moment may follow; its time-points are named for the first time, and not above their limits; and
+-- the constraints that have one end on this line, and the other here or above, are met
 abbrev pub fits_at : Network → Branch → ℕ → List ℕ → Bool
 fits_at net b t xs =
     nat_le b.from t && (are_new b.placed xs && (are_in_time net t xs &&
@@ -60,11 +60,11 @@ fits_at net b t xs =
 
 -- ---- `ask`
 
--- the moment at which the branch has the observer of p
+-- the moment at which the branch names p's observer, if it does
 abbrev pub observed_on : Network → Branch → ℕ → Option ℕ
 observed_on net b p = option_and_then b.placed (position (is_prop p) net.observes)
 
--- the moment from which an outcome is known, by that of its observer
+-- the moment from which an outcome is known, by its reaction and its observer's moment; 0 where the observer has none
 abbrev pub known_from : ℕ → Option ℕ → ℕ
 known_from reaction None = 0
 known_from reaction (Some m) = m + reaction

@@ -9,8 +9,8 @@ use Rattle.cstn_tree.specs.Trees.{Tree, Line, lines_of}
 use Rattle.cstn_tree.specs.Trees.Tree.{at, ask, done}
 use Rattle.cstn_tree.specs.Whole.{all_lines}
 
--- the tree from a run on. Where no moment is due, it is done. Where the due moment has to wait for an outcome, the least proposition
--- that is awaited is asked. Else the time-points that are executed at the due moment are named.
+-- the tree from a run on. Where no moment is due, it is `done`. Where the due moment has to wait for an outcome, the least
+-- proposition that is awaited is asked. Else the time-points that are executed at the due moment are named.
 pub data IsTreeFrom (net : Network) (bounds : List Bound) : Run → Tree → Type 0 where
   ends : (run : Run) → due net bounds run ≡ None → IsTreeFrom net bounds run done
   asks : (run : Run) (t p : ℕ) (one other : Tree) → due net bounds run ≡ Some t → moment_refusal net bounds run t ≡ Some (Awaiting p) →
@@ -19,7 +19,7 @@ pub data IsTreeFrom (net : Network) (bounds : List Bound) : Run → Tree → Typ
   names : (run : Run) (t : ℕ) (next : Tree) → due net bounds run ≡ Some t → moment_refusal net bounds run t ≡ None →
       IsTreeFrom net bounds (moved net bounds run t) next → IsTreeFrom net bounds run (at t (named net bounds run t) next)
 
--- the tree from the run of which nothing is executed
+-- the tree from the run in which nothing is executed yet
 abbrev pub IsTreeOf : Network → List Bound → Tree → Type 0
 IsTreeOf net bounds tree = IsTreeFrom net bounds (start (count net)) tree
 
@@ -30,7 +30,7 @@ AreTreesFrom net bounds [] (tree ∷ trees) = ⊥
 AreTreesFrom net bounds (run ∷ runs) [] = ⊥
 AreTreesFrom net bounds (run ∷ runs) (tree ∷ trees) = IsTreeFrom net bounds run tree × AreTreesFrom net bounds runs trees
 
--- with the trees from these runs, the lines are those of the tree of the network
+-- the lines, followed by those of the trees from these runs, are the lines of the tree of the network
 pub record IsGrown (net : Network) (bounds : List Bound) (ls : List Line) (runs : List Run) : Type 0 where
   pub grown : (trees : List Tree) → AreTreesFrom net bounds runs trees → (tree : Tree) × (ls ++ all_lines trees ≡ lines_of tree) × IsTreeOf net bounds tree
 

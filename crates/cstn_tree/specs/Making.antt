@@ -26,8 +26,8 @@ run_by net bounds steps = run_along net bounds (start (count net)) (the_events s
 abbrev pub the_pending : Network → List Bound → Making → List Run
 the_pending net bounds m = map (λ (p : Path). run_by net bounds p.steps.items) (reverse m.pending.items)
 
--- with the trees from the run of the executive and from those that are pending, the lines are those of the tree; and the path
--- leads to the executive's run
+-- the lines, followed by those of the trees from the executive's run and from the pending runs, are the lines of the tree of
+-- the network; and the path leads to the executive's run
 pub record IsMaking (net : Network) (bounds : List Bound) (run : Run) (m : Making) : Type 0 where
   pub grown : IsGrown net bounds (map the_line m.lines.items) (run ∷ the_pending net bounds m)
   pub path : run ≡ run_by net bounds m.path.items

@@ -37,7 +37,7 @@ abbrev pub first_or_done : List Tree → Tree
 first_or_done [] = done
 first_or_done (tree ∷ trees) = tree
 
--- the tree of its lines
+-- the tree that these lines stand for
 abbrev pub the_tree : List TheLine → Tree
 the_tree ls = first_or_done (trees_of ls)
 

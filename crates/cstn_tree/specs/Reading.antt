@@ -9,20 +9,20 @@ use Rattle.cstn_tree.specs.Texts.{Told, wrong}
 use Rattle.cstn_tree.specs.Read.{the_line}
 use Rattle.cstn_tree.specs.Whole.{IsBegun}
 
--- the trees that are still to come, the next one first
+-- the depth of the first line of each tree that is still to come, the next tree's first
 abbrev pub the_ahead : Reader → List ℕ
 the_ahead r = reverse r.ahead.items
 
 abbrev pub the_lines : Reader → List Line
 the_lines r = map the_line r.lines.items
 
--- a line is the first wrong one; want of memory says nothing
+-- an error with a line names the first wrong one of the text; want of memory says nothing of the text
 abbrev pub IsWrong : Told → TreeError → Type 0
 IsWrong t (WrongLine line) = t ≡ wrong line
 IsWrong t (Memory e) = Unit {0}
 
--- what a reader keeps: with the trees that are still to come its lines are those of one tree, and they name time-points
--- below n
+-- what a reader keeps: its lines, followed by those of the trees that are still to come, are the lines of one tree, and they
+-- name time-points below n
 pub record IsReader (n : ℕ) (r : Reader) : Type 0 where
   pub begun : IsBegun (the_lines r) (length (the_ahead r))
   pub named : All (λ l. All (λ x. x < n) (names_on l)) (the_lines r)

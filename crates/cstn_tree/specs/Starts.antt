@@ -20,18 +20,19 @@ standing end cs = map (end_of end) cs
 abbrev pub starts : List Constraint → List ℕ
 starts cs = standing From cs
 
--- the places from `low` on: the first one of each time-point, and after each place the next one of the same
+-- from the place `low` on, `firsts` has the first place of each time-point, and `nexts` has for each place the next one of the
+-- same time-point
 pub record AreLinkedFrom (low : ℕ) (xs : List ℕ) (firsts nexts : List (Option ℕ)) : Type 0 where
   pub first : (x : ℕ) → x < length firsts → IsNextPlace x low xs (slice_index_or firsts x None)
   pub next : (k : ℕ) → low ≤ k → k < length xs → IsNextPlace (slice_index_or xs k 0) (k + 1) xs (slice_index_or nexts k None)
 
--- each of n time-points has the places of the constraints that start there
+-- the tables link the places of the constraints that start at each of n time-points
 pub record AreStarts (n : ℕ) (cs : List Constraint) (s : Starts) : Type 0 where
   pub wide : length s.firsts.items ≡ n
   pub long : length s.nexts.items ≡ length cs
   pub linked : AreLinkedFrom 0 (starts cs) s.firsts.items s.nexts.items
 
--- what a test says of the constraint at a place
+-- r is what the test says of the constraint at the place k
 abbrev pub TellsAt : (TheConstraint → Bool) → List Constraint → ℕ → Bool → Type 0
 TellsAt test cs k r = (c : Constraint) → slice_index_or cs k c ≡ c → r ≡ test (the_constraint c)
 
@@ -39,7 +40,7 @@ TellsAt test cs k r = (c : Constraint) → slice_index_or cs k c ≡ c → r ≡
 abbrev pub AllPass : (TheConstraint → Bool) → End → List Constraint → ℕ → Type 0
 AllPass test end cs x = (c : Constraint) → Contains cs c → end_of end c ≡ x → test (the_constraint c) ≡ true
 
--- one of them fails it
+-- a constraint that has this end at x fails the test
 pub record SomeFails (test : TheConstraint → Bool) (end : End) (cs : List Constraint) (x : ℕ) : Type 0 where
   pub constraint : Constraint
   pub in_list : Contains cs constraint

@@ -27,11 +27,11 @@ shown names load lines = codes "yes " ++ printed_number load ++ 10 ∷ printed_l
 
 -- ---- parts
 
--- the parts of a text that end with this byte, without it, and what stands after the last one
+-- a text split at a byte: the parts that end with it, without it, and what stands after the last one
 abbrev pub Parts : Type 0
 Parts = List (List ℕ) × List ℕ
 
--- another byte begins the first part
+-- the split text with one more byte at the front of its first part
 abbrev pub begun : ℕ → List (List ℕ) → List ℕ → Parts
 begun b [] tail = ([], b ∷ tail)
 begun b (part ∷ parts) tail = ((b ∷ part) ∷ parts, tail)
@@ -49,28 +49,28 @@ parts_at end (b ∷ bytes) = with_byte end b (parts_at end bytes)
 abbrev pub first_part : List ℕ → Option (List ℕ × List ℕ)
 first_part bytes = cut_at 32 bytes
 
--- the printed form of a name of the list
+-- the place in the list of the name that the text prints, if it prints one of them
 abbrev pub node_read : List (List ℕ) → List ℕ → Option ℕ
 node_read names text = option_and_then (number_of names) (name_read text)
 
 abbrev pub put_first : ℕ → Option (List ℕ) → Option (List ℕ)
 put_first x others = option_map (λ xs. x ∷ xs) others
 
--- a name for each part, and one after the last space
+-- the time-points that the parts name, and the one that the text after the last space names
 abbrev pub nodes_read : List (List ℕ) → List (List ℕ) → List ℕ → Option (List ℕ)
 nodes_read names [] tail = option_map (λ x. x ∷ []) (node_read names tail)
 nodes_read names (part ∷ parts) tail = option_and_then (λ x. put_first x (nodes_read names parts tail)) (node_read names part)
 
--- one name or more, with a space between
+-- the time-points of one name or more, with a space between names
 abbrev pub names_read : List (List ℕ) → List ℕ → Option (List ℕ)
 names_read names bytes = nodes_read names (parts_at 32 bytes).0 (parts_at 32 bytes).1
 
--- a moment below 2^32, a space, and names
+-- the `at` of a text that is a moment below 2^32, a space, and names
 abbrev pub at_read : List (List ℕ) → List ℕ → Option Line
 at_read names bytes =
     option_and_then (λ found. option_and_then (λ t. option_map (AtLine t) (names_read names found.1)) (number_within 0 4294967295 found.0)) (first_part bytes)
 
--- a letter
+-- the `ask` of a text that is a letter
 abbrev pub ask_read : List ℕ → Option Line
 ask_read [] = None
 ask_read (b ∷ []) = option_map AskLine (prop_of b)
@@ -86,11 +86,12 @@ line_read names bytes =
     if bytes_eq bytes (codes "done") then Some DoneLine
     else option_and_then (λ found. word_read names found.0 found.1) (first_part bytes)
 
--- the same, where the line and those of its branch are at most 2,100
+-- the line of a tree that a text is, where its branch has at most 2,100 lines down to it
 abbrev pub line_within : List (List ℕ) → ℕ → List ℕ → Option Line
 line_within names depth bytes = if nat_le depth 2100 then line_read names bytes else None
 
--- the trees still to come, each by how many lines its first line and its branch are, once this line was read
+-- the trees still to come once this line was read, each as the depth of its first line: how many lines its branch has down to
+-- that line, which is counted as well
 abbrev pub ahead_after : ℕ → List ℕ → Line → List ℕ
 ahead_after depth ahead (AtLine t xs) = (depth + 1) ∷ ahead
 ahead_after depth ahead (AskLine p) = (depth + 1) ∷ ((depth + 1) ∷ ahead)
@@ -112,7 +113,7 @@ abbrev pub or_wrong : {A : Type 0} → Option A → ℕ → (A → Told) → Tol
 or_wrong None line next = wrong line
 or_wrong (Some x) line next = next x
 
--- what the lines say after some lines of the tree, where these trees are still to come
+-- what a text says after `lines` were read of it, where the trees of `ahead` are still to come and these parts are left
 unfoldable pub told_after : List (List ℕ) → List ℕ → List Line → List (List ℕ) → List ℕ → Told
 told_after names ahead lines [] tail = at_end ahead lines tail
 told_after names [] lines (text ∷ texts) tail = wrong (length lines + 2)

@@ -1,10 +1,11 @@
--- Trees of what a network's executive may do, as lines in their order, and the tables that they stand for.
+-- Trees that say when each time-point is executed, by the outcomes that are seen: their lines, and the tables they stand for.
 use Rattle.std.specs.Prelude.{ℕ, ◌<◌, ◌||◌, ◌==◌, Bool, false, if◌then◌else◌, List, [], ◌∷◌, ◌++◌, Option, Some, None}
 use Rattle.std.specs.List.{All}
 use Rattle.cstn_label.specs.Labels.{Scenario}
 use Rattle.cstn_net.specs.Strategies.{Table}
 
--- a tree: time-points are named at a moment; or an outcome is asked, and there is a tree for true and one for false; or all is done
+-- a tree: time-points are named at a moment; or an outcome is asked, and there is a tree for true and one for false; or each
+-- time-point is executed
 pub data Tree : Type 0 where
   at : (moment : ℕ) → (named : List ℕ) → (next : Tree) → Tree
   ask : (prop : ℕ) → (one : Tree) → (other : Tree) → Tree
@@ -37,7 +38,7 @@ abbrev pub moment_or_zero : Option ℕ → ℕ
 moment_or_zero None = 0
 moment_or_zero (Some m) = m
 
--- the table that sends each scenario down its own outcomes
+-- the table that has in each scenario the moments on the branch of its outcomes, and 0 for a time-point not named there
 abbrev pub table_of : Tree → Table
 table_of tree s x = moment_or_zero (walk tree s x)
 

@@ -5,7 +5,7 @@ use Rattle.cstn_tree.specs.Trees.{Line}
 use Rattle.cstn_tree.specs.Trees.Line.{AtLine, AskLine, DoneLine}
 use Rattle.cstn_tree.specs.Good.{Branch, fits_at, fits_ask, is_complete, below_at, below_ask}
 
--- the first line that breaks of those left; the branches are that of the next line and those of the trees that follow its tree
+-- the first of the lines left that breaks; `branches` has the branch of the next line and those of the trees after its tree
 abbrev pub first_broken_in : Network → List Branch → List Line → ℕ → Option ℕ
 first_broken_in net branches [] line = None
 first_broken_in net [] (l ∷ ls) line = None
@@ -16,7 +16,7 @@ first_broken_in net (b ∷ bs) (AskLine p ∷ ls) line =
 first_broken_in net (b ∷ bs) (DoneLine ∷ ls) line =
     if is_complete net b then first_broken_in net bs ls (line + 1) else Some line
 
--- what a step of the walk comes to: its line breaks, there are more lines, or the last one was found whole
+-- what a step of the walk comes to: its line breaks; it doesn't, and there are more lines; or it doesn't, and is the last one
 pub data Step : Type 0 where
   Broken : Step
   On : Step

@@ -8,6 +8,6 @@ abbrev pub all_lines : List Tree → List Line
 all_lines [] = []
 all_lines (tree ∷ trees) = lines_of tree ++ all_lines trees
 
--- with any trees that are still to come, so many of them, the lines are those of one tree
+-- the lines, followed by those of any n trees, are the lines of one tree
 pub record IsBegun (ls : List Line) (n : ℕ) : Type 0 where
   pub whole : (trees : List Tree) → length trees ≡ n → AreWhole (ls ++ all_lines trees)

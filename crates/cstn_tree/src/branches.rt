@@ -1,4 +1,4 @@
-// What the branch of a line says.
+// The branch of a line: what the lines above it name and ask.
 ghost use Rattle.std.specs.Prelude.{ℕ, ◌≡◌, ◌<◌, ◌≤◌, ◌&&◌, true, false, Some, length, map, IfOk, IfSome, is_some, is_none};
 ghost use Rattle.std.specs.List.{All, list_all};
 ghost use Rattle.std.specs.Option.{option_map};
@@ -15,7 +15,8 @@ use cstn_label::{Known, NodeId, Prop};
 use cstn_net::{Constraint, Network};
 use std::alloc::{AllocError, Global};
 
-/// The moments of the time-points that the branch names, the outcomes that it asks, and the first moment that may follow.
+/// The moment of each time-point that the branch names, in ticks, the outcomes that it asks, and the least moment that its
+/// next `at` may have.
 #[derive(Drop)]
 pub struct Branch {
     pub moments: Vec<Option<u32>>,
@@ -24,7 +25,7 @@ pub struct Branch {
 }
 
 impl Branch {
-    /// The branch of the first line.
+    /// The branch of the first line, which names and asks nothing.
     pub fn start(alloc: Global, net: &Network) -> Result<Branch, AllocError>
         ensures start { IfOk result (λ b. the_branch b ≡ start) }
         ensures branch { IfOk result (IsBranchOf (count (the_network net.now))) }
@@ -38,7 +39,7 @@ impl Branch {
         })
     }
 
-    /// The branch again.
+    /// A copy of the branch.
     pub fn copy(&self, alloc: Global) -> Result<Branch, AllocError>
         ensures same { IfOk result (λ b. the_branch b ≡ the_branch self.now) }
         ensures branch { IfOk result (λ b. (n : ℕ) → IsBranchOf n self.now → IsBranchOf n b) }
@@ -73,7 +74,7 @@ impl Branch {
         self.moment(x).is_some()
     }
 
-    // The moment of p's observer.
+    // The moment at which the branch names p's observer, if it does.
     fn observed(&self, net: &Network, p: Prop) -> Option<u32>
         requires branch { IsBranchOf (count (the_network net.now)) self.now }
         ensures observed { result ≡ observed_on (the_network net.now) (the_branch self.now) p.index }
@@ -94,7 +95,7 @@ impl Branch {
         self.observed(net, p).is_some() && self.asked.value(p).is_none()
     }
 
-    /// Goes on below an `ask` of p, where the outcome is this one.
+    /// Becomes the branch of the line below an `ask` of p, where the outcome is `value`.
     pub fn ask(&mut self, net: &Network, p: Prop, value: bool)
         requires branch { IsBranchOf (count (the_network net.now)) self.old }
         ensures below { the_branch self.new ≡ below_ask (the_network net.now) (the_branch self.old) p.index value }
@@ -117,7 +118,8 @@ impl Branch {
         }
     }
 
-    /// Goes on below an `at` of a moment, in ticks, and time-points; false where the line breaks.
+    /// Becomes the branch of the line below an `at` that names these time-points at the moment `t`, in ticks. False where the
+    /// `at` breaks; what is left then is no branch of a line.
     pub fn place(&mut self, net: &Network, starts: &Starts, t: u32, named: &[NodeId]) -> bool
         requires branch { IsBranchOf (count (the_network net.now)) self.old }
         requires starts { AreStarts (count (the_network net.now)) net.now.constraints starts.now }
@@ -155,7 +157,7 @@ impl Branch {
         true
     }
 
-    // Whether the constraints are met that have an end among the time-points, and the other named.
+    // Whether each constraint with an end among these time-points is met, as far as its ends are named.
     fn meets(&self, net: &Network, starts: &Starts, named: &[NodeId]) -> bool
         requires branch { IsBranchOf (count (the_network net.now)) self.now }
         requires starts { AreStarts (count (the_network net.now)) net.now.constraints starts.now }

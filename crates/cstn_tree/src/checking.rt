@@ -21,14 +21,14 @@ use std::alloc::{AllocError, Global};
 pub enum TreeAnswer {
     /// No line breaks.
     Accepted,
-    /// The first line of the tree's text that breaks, counted from 1, which is the line of the load.
+    /// The first line of the tree's text that breaks. Lines are counted from 1, and line 1 is that of the load.
     Rejected { line: u32 },
 }
 
 /// Whether the tree is good for the network. A tree that is accepted stands for a strategy. Fails for want of memory alone.
 ///
 /// Takes time in proportion to the constraints at the time-points that are named on each `at`, and to the time-points for each
-/// `ask` and `done`. Beside it, each constraint is looked at once.
+/// `ask` and `done`. Before that, each constraint is looked at once.
 pub fn check(alloc: Global, net: &Network, tree: &Tree) -> Result<TreeAnswer, AllocError>
     requires among { IsAmong (count (the_network net.now)) (the_tree tree.now) }
     requires few { length tree.now + 1 < 2 ^ 32 }
@@ -51,7 +51,7 @@ fn answer(broken: Option<u32>) -> TreeAnswer
     }
 }
 
-// The first line that breaks of lines in preorder, which are counted from 2.
+// The first line that breaks among lines in preorder. They are counted from 2, since the line of the load is 1.
 fn first_broken(alloc: Global, net: &Network, lines: &[Line]) -> Result<Option<u32>, AllocError>
     requires among { All (λ l. All (λ x. x < count (the_network net.now)) (names_on l)) (map the_line lines.now) }
     requires few { length lines.now + 1 < 2 ^ 32 }

@@ -22,8 +22,8 @@ pub fn good_trees_are_strategies()
     ensures consistent { (net : Network) (tree : Tree) → IsNetwork net → IsUnbroken net tree → IsConsistent net }
 {}
 
-/// The tree of a network, by bounds that have an earliest-first strategy: no line of it breaks, its table has each time-point at
-/// its least moment, and it can be said by a text.
+/// The tree of a network, by bounds that have a strategy with each time-point at the least moment that they leave it: no line
+/// of it breaks, its table has each time-point at its least moment, and a text can say it.
 pub fn made_trees_are_good()
     ensures good { (net : Network) (bounds : List Bound) (table : Table) → IsWellFormed net → IsEarliest net bounds table → (tree : Tree) → IsTreeOf net bounds tree → IsUnbroken net tree }
     ensures least { (net : Network) (bounds : List Bound) (table : Table) → IsWellFormed net → IsEarliest net bounds table → (tree : Tree) → IsTreeOf net bounds tree → (s : Scenario) (x : ℕ) → x < count net → IsLeast net s x (table_of tree s x) }
@@ -37,13 +37,13 @@ pub fn tree_texts_are_read_back()
     ensures back { (names : List (List ℕ)) (load : ℕ) (tree : Tree) → AreNames names → AreWritten names load tree → told names (shown names load (lines_of tree)) ≡ tells (lines_of tree) }
 {}
 
-/// A tree is known by its lines.
+/// The lines of a tree are read back as the same tree, so different trees have different lines.
 #[tactic(auto, using(crate::proofs::TreeLemmas::tree_back))]
 pub fn trees_are_their_lines()
     ensures back { (tree : Tree) → the_tree (lines_of tree) ≡ tree }
 {}
 
-/// The first lines that break of small trees.
+/// Which line of some small trees is the first that breaks, if any does.
 pub fn broken_lines_are_known()
     ensures branch { first_broken branch (branch_tree 10 1) ≡ None }
     ensures early { first_broken branch (branch_tree 9 1) ≡ Some 4 }

@@ -1,4 +1,4 @@
-//! Strategies as trees that a person can read, their text, and a check of them that knows no rule.
+//! Strategies as trees that a person can read, their text, and a check of them that uses no derivation rule.
 #![tactic(auto)]
 
 mod branches;

@@ -23,10 +23,10 @@ use cstn_label::Prop;
 use std::alloc::{AllocError, Global};
 
 /// The tree of the executive's network. No line of it breaks, it has each time-point at its least moment, and its text is read
-/// back as the same tree. The executive is left restarted, also when refused.
+/// back as the same tree. Fails for want of memory alone. The executive is left restarted, also when this fails.
 ///
-/// Takes as many steps as the tree has lines, and for each second tree of an `ask` those of its branch. Where k propositions are
-/// observed a tree can have 2^k branches.
+/// Takes a step for each line of the tree, and before the second tree of each `ask` one more for each line above that tree.
+/// Where k propositions are observed a tree can have 2^k branches.
 pub fn make(alloc: Global, exec: &mut Executive) -> Result<Tree, AllocError>
     ensures tree { IfOk result (λ t. IsTreeOf (the_network exec.old.net) (the_bounds exec.old.bounds) (the_tree t)) }
     ensures restarted { exec.new ≡ record exec.old { run = start (count (the_network exec.old.net)); named = [] } }
@@ -36,7 +36,7 @@ pub fn make(alloc: Global, exec: &mut Executive) -> Result<Tree, AllocError>
     ensures among { IfOk result (λ t. IsAmong (count (the_network exec.old.net)) (the_tree t)) }
     ensures fits { IfOk result (λ t. FitsText (the_tree t)) }
 {
-    // Its plan has a strategy with each time-point at its least moment.
+    // This call tells the proof that the executive's plan has a strategy with each time-point at its least moment.
     exec.network();
     exec.restart();
     let made = grow(alloc, exec);
@@ -67,7 +67,7 @@ fn grow(alloc: Global, exec: &mut Executive) -> Result<Tree, AllocError>
     Err(AllocError)
 }
 
-// What an executive is told.
+// What an executive is told: a moment, or an outcome.
 #[derive(Clone, Copy)]
 enum Step {
     Moment { t: u32 },
@@ -80,7 +80,8 @@ struct Path {
     steps: Vec<Step>,
 }
 
-// The lines so far, what the executive was told, and what it is to be told for each tree that is still to come, the next one's last.
+// The lines so far, what the executive was told since its start, and what it is to be told from its start on to get to each
+// tree that is still to come, the next one's last.
 #[derive(Drop)]
 struct Making {
     lines: Vec<Line>,
@@ -187,7 +188,7 @@ fn awaited_by(refusal: ExecError) -> Option<Prop>
     }
 }
 
-// Tells the executive one thing after the other.
+// Tells the executive these moments and outcomes, one after the other.
 fn follow(exec: &mut Executive, steps: &[Step])
     ensures run { exec.new.run ≡ run_along (the_network exec.old.net) (the_bounds exec.old.bounds) exec.old.run (the_events steps.now) }
     ensures same { exec.new ≡ record exec.old { run = exec.new.run; named = exec.new.named } }

@@ -11,7 +11,7 @@ use cstn_label::{NodeId, Prop};
 use cstn_text::{Names, cut_at, read_number_within};
 use std::alloc::{AllocError, Global};
 
-/// What stands before the first space, and what stands after it.
+/// What stands before the first space, and what stands after it; none where there is no space.
 pub fn first_part(bytes: &[u8]) -> Option<(&[u8], &[u8])>
     ensures part { option_map (λ parts. (parts.0.now, parts.1.now)) result ≡ first_part bytes.now }
 {
@@ -27,7 +27,7 @@ fn read_node(names: &Names, bytes: &[u8]) -> Option<NodeId>
     Some(NodeId(number as u16))
 }
 
-// One name or more, with a space between.
+// The time-points of one name or more, with a space between names; none where the text isn't of that form.
 fn read_names(alloc: Global, names: &Names, bytes: &[u8]) -> Result<Option<Named>, AllocError>
     requires few { length names.now ≤ 65536 }
     ensures read { IfOk result (λ named. option_map (λ n. n) named ≡ names_read names.now bytes.now) }
@@ -98,7 +98,7 @@ fn read_word(
     Ok(None)
 }
 
-/// The line of a tree that a text is, if it is one.
+/// The line of a tree that a text is, if it is one. Fails for want of memory alone.
 pub fn read_line(alloc: Global, names: &Names, bytes: &[u8]) -> Result<Option<Line>, AllocError>
     requires few { length names.now ≤ 65536 }
     ensures read { IfOk result (λ line. option_map the_line line ≡ line_read names.now bytes.now) }

@@ -21,7 +21,7 @@ const USUAL_LINE: usize = 16;
 /// The text of a tree: a line for the load, and one for each line of the tree.
 ///
 /// Where each `at` names a time-point and no branch has more than 2,100 lines, the text is read again as the same tree.
-/// Beside the text it takes memory for a name at a time.
+/// Beside the text it takes memory for one name at a time. Fails for want of memory alone.
 pub fn print(alloc: Global, tree: &Tree, load: u32, names: &Names) -> Result<String, AllocError>
     requires named { IsAmong (length names.now) (the_tree tree.now) }
     requires load { (1 ≤ load) × (load ≤ 4194304) }
@@ -40,7 +40,7 @@ pub fn print(alloc: Global, tree: &Tree, load: u32, names: &Names) -> Result<Str
     Ok(text)
 }
 
-// Appends the first line.
+// Appends the line of the load, with its LF.
 fn push_load(text: &mut String, load: u32) -> Result<(), AllocError>
     ensures pushed { OnOk result (string_bytes text.new ≡ string_bytes text.old ++ (codes "yes " ++ printed_number load ++ 10 ∷ [])) }
 {
@@ -49,7 +49,7 @@ fn push_load(text: &mut String, load: u32) -> Result<(), AllocError>
     text.push('\n')
 }
 
-// Appends a line of the tree, without its end.
+// Appends a line of the tree, without its LF.
 fn push_line(alloc: Global, text: &mut String, names: &Names, line: &Line) -> Result<(), AllocError>
     requires named { All (λ x. x < length names.now) (names_on (the_line line.now)) }
     ensures pushed { OnOk result (string_bytes text.new ≡ string_bytes text.old ++ printed_line names.now (the_line line.now)) }

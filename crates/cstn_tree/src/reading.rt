@@ -19,8 +19,8 @@ const MOST_LOAD: u32 = 4_194_304;
 /// How many lines there may be on a branch, with its last one.
 const MOST_DEPTH: u16 = 2100;
 
-/// The tree that a text is. `Line` with the first line that isn't of the form, counted from 1: also the line that is missing
-/// or cut where the text ends within the tree, the one after the tree, and one that stands below 2,100 others of the tree.
+/// Reads a tree from its text. Refuses with the first line that isn't of the form, counted from 1: also with the missing or
+/// cut line where the text ends within the tree, with a line after the tree, and with the 2,101st line of a branch.
 pub fn read(alloc: Global, names: &Names, bytes: &[u8]) -> Result<Tree, TreeError>
     requires few { length names.now ≤ 65536 }
     requires short { length bytes.now < 2 ^ 32 }
@@ -49,7 +49,7 @@ fn read_load(line: &[u8]) -> Option<u32>
     read_number_within(1, MOST_LOAD, rest)
 }
 
-// The tree of its lines.
+// The tree of the lines that follow the line of the load.
 fn read_lines(alloc: Global, names: &Names, bytes: &[u8]) -> Result<Tree, TreeError>
     requires few { length names.now ≤ 65536 }
     requires short { length bytes.now + 2 < 2 ^ 32 }
@@ -72,8 +72,8 @@ fn read_lines(alloc: Global, names: &Names, bytes: &[u8]) -> Result<Tree, TreeEr
     reader.finish(left)
 }
 
-// The lines that were read, and for each tree that is still to come how many lines its first line and its branch are, the next
-// tree's last.
+// The lines that were read, and for each tree that is still to come the depth of its first line, the next tree's last. The
+// depth of a line is how many lines its branch has down to it, which is counted as well.
 #[derive(Drop)]
 struct Reader {
     lines: Vec<Line>,
@@ -95,7 +95,7 @@ impl Reader {
         })
     }
 
-    // Takes a line.
+    // Reads the next line of the tree. Refuses where no tree is still to come, or the line isn't of the form or too deep.
     fn take(&mut self, alloc: Global, names: &Names, text: &[u8]) -> Result<(), TreeError>
         requires few { length names.now ≤ 65536 }
         requires reader { IsReader (length names.now) self.old }
@@ -122,7 +122,7 @@ impl Reader {
         }
     }
 
-    // Puts a line behind the others, of which the first tree to come began with it.
+    // Puts a line of this depth, with which the next tree begins, behind the others.
     fn put(&mut self, depth: u16, line: Line) -> Result<(), AllocError>
         requires { depth ≤ 2100 }
         ensures ahead { OnOk result (the_ahead self.new ≡ ahead_after depth (the_ahead self.old) (the_line line)) }
@@ -153,7 +153,7 @@ impl Reader {
         }
     }
 
-    // The tree of the lines, where none is to come and the text ends after them with LF.
+    // The tree of the lines, where no tree is still to come and no text is left after the last LF.
     fn finish(self, left: &[u8]) -> Result<Tree, TreeError>
         requires reader { (n : ℕ) × IsReader n self }
         requires short { length self.lines.items + 2 < 2 ^ 32 }
@@ -170,7 +170,7 @@ impl Reader {
     }
 }
 
-// The line of a tree that a text is, if it is one that may stand so deep.
+// The line of a tree that a text is; none where it isn't of the form or its depth is above 2,100.
 fn read_within(
     alloc: Global,
     names: &Names,

@@ -26,7 +26,7 @@ pub struct Starts {
 }
 
 impl Starts {
-    /// The constraints of a network.
+    /// The places of the constraints of a network. Fails for want of memory alone.
     pub fn of(alloc: Global, net: &Network) -> Result<Starts, AllocError>
         ensures starts { IfOk result (AreStarts (count (the_network net.now)) net.now.constraints) }
     {

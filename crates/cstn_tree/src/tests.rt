@@ -36,7 +36,7 @@ fn branch(rt: &impl Abort, alloc: Global) -> Result<Network, Fail> {
     Ok(net.close().expect(rt, "a network"))
 }
 
-// The text is read as a tree, which is printed as the text, and the check of it answers so.
+// The text is read as a tree, whose check gives this answer, and which is printed as the same text.
 fn checked(rt: &impl Abort, alloc: Global, text: &str, answer: TreeAnswer) -> Result<(), Fail> {
     let names = names(rt, alloc);
     let net = branch(rt, alloc)?;
@@ -108,7 +108,7 @@ fn trees_are_read_checked_and_printed(rt: HostRuntime) -> Result<(), Fail> {
     Ok(())
 }
 
-// The text of a tree with one branch, of so many lines.
+// The text of a tree that has one branch, with this number of lines.
 fn deep(alloc: Global, lines: u32) -> Result<String, AllocError> {
     let mut text = String::from_str(alloc, "yes 5\n")?;
     for _ in 1..lines {

@@ -25,14 +25,14 @@ pub struct Walk {
     pub pending: Vec<Branch>,
 }
 
-/// What a step comes to.
+/// What a step along a line finds.
 #[derive(Clone, Copy)]
 pub enum Step {
     /// The line breaks.
     Broken,
-    /// It doesn't, and there are more lines.
+    /// The line doesn't break, and there are more lines.
     On,
-    /// It doesn't, and it was the last one.
+    /// The line doesn't break, and it was the last one.
     End,
 }
 
@@ -48,7 +48,7 @@ impl Walk {
         })
     }
 
-    /// Goes along a line.
+    /// Tests the next line, and goes on to the one after it. Fails for want of memory alone.
     pub fn step(
         &mut self,
         alloc: Global,

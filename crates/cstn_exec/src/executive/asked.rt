@@ -12,7 +12,7 @@ use cstn_log::SoundPlan;
 /// A moment for each of the 1,024 time-points that there may be.
 pub type Moments = [u32; 1024];
 
-// For each time-point the greatest moment that its bounds ask for whose labels are possible.
+// For each time-point the greatest moment that a bound on it with a possible label asks for, or 0 if there is none.
 pub fn asked(plan: &SoundPlan, known: &Known) -> Moments
     ensures { (x : ℕ) → x < 1024 → slice_index result x ≡ greatest (λ b. (b.node == x) && is_possible (value_in known.now) b.label) (the_bounds plan.now.bounds) }
 {
@@ -41,7 +41,7 @@ fn note(after: &mut Moments, bound: Bound, known: &Known)
     }
 }
 
-/// Whether what is known rules out no mark of the label.
+/// Whether the label may still hold: what is known rules out none of its marks.
 pub fn is_possible(label: Label, known: &Known) -> bool
     ensures possible { result ≡ is_possible (value_in known.now) (marks label) }
 {

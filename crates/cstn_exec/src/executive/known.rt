@@ -71,8 +71,8 @@ impl Executive {
         }
     }
 
-    /// The values that are known at the moment t, in ticks: the outcomes that were seen of the propositions whose observers were
-    /// executed, and whose reactions have passed by then.
+    /// The values that are known at the moment t, in ticks: the outcomes that were seen of the propositions whose reactions
+    /// have passed by then, each counted from the moment of the observer.
     pub fn known(&self, t: u32) -> Known
         ensures known { (p : ℕ) → value_in result p ≡ known (the_network self.now.net) self.now.run (t + 1) p }
     {

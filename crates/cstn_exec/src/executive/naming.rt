@@ -1,4 +1,4 @@
-// Who is executed at a moment.
+// Which time-points are executed at a moment.
 ghost use Rattle.std.specs.Prelude.{◌≡◌, ◌<◌, ◌≤◌, ◌&&◌, not, nat_lt, is_none, Some, None, length, map};
 ghost use Rattle.std.specs.List.{All, filter, range_with_len};
 ghost use Rattle.cstn_net.specs.Read.{the_network};
@@ -12,7 +12,7 @@ use super::search::Due;
 use cstn_label::NodeId;
 use smallvec::SmallVec;
 
-/// How many names stand in the executive itself; the room for more is taken when it starts.
+/// How many named time-points the executive holds in place. For a network with more, `start` allocates the memory.
 const NAMES_IN_PLACE: usize = 8;
 
 /// The time-points that are named at one moment.
@@ -34,7 +34,7 @@ impl Executive {
     }
 }
 
-// The time-points that aren't executed and whose moment is t at most, in ascending number.
+// Names the time-points that aren't executed and whose moment in `after` is t at most, in ascending number.
 fn collect(named: &mut Names, moments: &[Option<u32>], after: &Moments, t: u32)
     requires few { length moments.now ≤ 1024 }
     requires room { length moments.now ≤ named.old.capacity }
@@ -55,7 +55,7 @@ fn is_free(moment: Option<u32>, after: u32, t: u32) -> bool
     moment.is_none() && after <= t
 }
 
-// Puts t in for each of the time-points.
+// Notes t as the moment of each named time-point.
 pub fn execute(moments: &mut Vec<Option<u32>>, named: &[NodeId], t: u32)
     requires { All (λ x. x.0 < length moments.old.items) named.now }
     ensures { moments.new.items ≡ executed t (map (λ x. x.0) named.now) moments.old.items }

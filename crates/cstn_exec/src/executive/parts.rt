@@ -1,4 +1,4 @@
-// What an executive holds, as its run.
+// The parts of an executive, as contracts about its run describe them.
 ghost use Rattle.std.specs.Prelude.{ℕ, ◌≡◌, ◌<◌, ◌≤◌, ◌+◌, MatchOption};
 ghost use Rattle.cstn_net.specs.Networks.{Observes, IsWellFormed, count};
 ghost use Rattle.cstn_net.specs.Strategies.{Table};
@@ -11,7 +11,7 @@ use super::Executive;
 use cstn_label::{NodeId, Prop};
 
 impl Executive {
-    // The run is right, and the plan has its strategy.
+    // Does nothing: its contract says that the run is right, and that the plan has a strategy of least moments.
     pub(super) fn is_right(&self)
         ensures right { IsRight (the_network self.now.net) self.now.run }
         ensures in_time { next self.now.run ≤ self.now.net.deadline + 1 }
@@ -41,7 +41,7 @@ impl Executive {
         self.moments[x.index()]
     }
 
-    // What was seen of p.
+    // The outcome of p that was seen, if any was.
     pub(super) fn outcome(&self, p: Prop) -> Option<bool>
         ensures { result ≡ outcome_of self.now.run p.index }
     {

@@ -10,8 +10,8 @@ use super::Executive;
 use super::asked::{Moments, asked};
 use cstn_label::Prop;
 
-/// The due moment, and for each time-point the moment that its bounds ask for by what is known then; none where an outcome is
-/// awaited then.
+/// The due moment, and for each time-point the moment that its bounds ask for by what is known at the due moment. `asked` is
+/// none where an outcome is awaited at the due moment.
 #[derive(Drop)]
 pub struct Due {
     pub moment: u32,
@@ -27,7 +27,7 @@ impl Executive {
         asked(&self.plan, &known)
     }
 
-    // The first moment after t at which more is known or awaited, as far as is executed.
+    // The first moment after t at which the outcome of an executed observer becomes known or awaited; else u32::MAX.
     fn next_ready(&self, t: u32) -> u32
         requires { t ≤ 1000000 }
         ensures later { t < result }
@@ -41,7 +41,7 @@ impl Executive {
         next
     }
 
-    // The first moment from t on at which somebody who isn't executed is free, by what is known at t.
+    // The first moment from t on at which a time-point that isn't executed is free, by what is known at t.
     fn first_free(&self, t: u32, asked: &Moments) -> u32
         requires waits { is_done self.now.run ≡ false }
         requires asked { AreAskedAt (the_network self.now.net) (the_bounds self.now.bounds) self.now.run t asked.now }
@@ -53,7 +53,7 @@ impl Executive {
         least_from(&self.moments, asked, t)
     }
 
-    // The due moment, where somebody isn't executed.
+    // The due moment, where some time-point isn't executed.
     pub(super) fn first_due(&self) -> Due
         requires { is_done self.now.run ≡ false }
         ensures due { due (the_network self.now.net) (the_bounds self.now.bounds) self.now.run ≡ Some result.moment }
@@ -82,7 +82,7 @@ impl Executive {
     }
 }
 
-// The moment, if it is after t, and else none that is ever reached.
+// The moment, if it is after t, and else u32::MAX, which is past every deadline.
 fn after(t: u32, moment: Option<u32>) -> u32
     requires { t ≤ 1000000 }
     ensures later { t < result }
@@ -94,7 +94,7 @@ fn after(t: u32, moment: Option<u32>) -> u32
     }
 }
 
-// The least of the moments of those who aren't executed, each t at least.
+// The least of the moments in `after` of the time-points that aren't executed, each raised to t where it is below.
 fn least_from(moments: &[Option<u32>], after: &Moments, t: u32) -> u32
     requires few { length moments.now ≤ 1024 }
     requires waits { list_all is_some moments.now ≡ false }

@@ -1,4 +1,4 @@
-// Who of those to be executed at a moment is named, and who is left out.
+// Which of the time-points to be executed at a moment are named, and which are left out.
 ghost use Rattle.std.specs.Prelude.{ℕ, ◌≡◌, ◌<◌, ◌≤◌, None, not, length, map, slice_index_or, slice_set, true};
 ghost use Rattle.std.specs.List.{filter};
 ghost use Rattle.cstn_label.specs.Read.{marks};
@@ -16,13 +16,14 @@ use cstn_label::{Known, Label, Mark, NodeId, Prop};
 use cstn_lift::Labels;
 use smallvec::SmallVec;
 
-/// How many names stand in the guide itself; the room for more is taken when it starts.
+/// How many named time-points the guide holds in place. For a network with more, `Guide::start` allocates the memory.
 const NAMES_IN_PLACE: usize = 8;
 
 /// The time-points that are named at one moment.
 pub type Names = SmallVec<NodeId, NAMES_IN_PLACE>;
 
-// Of those who were executed just now, names each whose completed label holds by what is known, and leaves out the others.
+// Of the time-points that the executive named last, names each whose completed label holds by what is known, and leaves out
+// the others.
 pub fn sort_out(
     executive: &mut Executive,
     left: &mut Vec<bool>,
@@ -51,7 +52,7 @@ pub fn sort_out(
     }
 }
 
-// Marks a time-point as left out, and keeps the outcome false of what it observes.
+// Marks a time-point as left out, and keeps the outcome false of the proposition that it observes, if any.
 fn leave_out(executive: &mut Executive, left: &mut Vec<bool>, x: NodeId)
     requires inside { x.0 < count (the_network executive.old.net) }
     requires size { length left.old.items ≡ count (the_network executive.old.net) }

@@ -52,7 +52,7 @@ sort_out-requires-clause-fresh c =
     (named_fresh (the_network old.net) (the_bounds old.bounds) (subst IsWellFormed (sym c.self.invariant.lowered) wf) old.run
     (subst (λ (n : Network). IsRight n old.run) (sym c.self.invariant.lowered) c.self.invariant.guided.right) c.args.t)
 
--- what is so once those who are to be executed were gone through
+-- what holds after `sort_out` went through the time-points to be executed
 record Sorted (m : Labelled) (old : ExecParts) (left : List Bool) (t : ℕ) (after : Run) (marks : List Bool) (called : List ℕ) : Type 0 where
   pub ok : moment_refusal (lowered m) (the_bounds old.bounds) old.run t ≡ None
   pub wf : IsWellFormed (lowered m)
