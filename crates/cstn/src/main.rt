@@ -1,4 +1,4 @@
-// Checks conditional simple temporal networks.
+//! Checks conditional simple temporal networks.
 #![tactic(auto)]
 
 use cstn_io::{FileShelf, InputSource, OutputSink};
@@ -7,10 +7,10 @@ use std::alloc::{AllocError, Global};
 use std::process::ExitCode;
 use std::{env, io};
 
-// Memory was refused before a request was read.
+// The exit status where memory was refused before a request was read: that of `Status::Memory`.
 const NO_MEMORY: u8 = 7;
 
-// The system refused the words. No status has this number.
+// The exit status where the system refused the words. No `Status` has this number.
 const NO_WORDS: u8 = 11;
 
 fn main(rt: HostRuntime) -> ExitCode {

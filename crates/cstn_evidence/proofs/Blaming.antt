@@ -58,7 +58,7 @@ yes_blamed cap load names net (Ok said) good whole decided tells is =
     ∙ sym (ap (λ (b : Bool). if b then full else if is_consistent net then yes' else no) (within_cap cap net whole tells.1 consistent)
     ∙ ap (λ (b : Bool). if b then yes' else no) consistent)
 
--- and where it isn't
+-- what is said where the network isn't consistent
 pub no_blamed : {E : Type 0} (cap load : ℕ) (names : List (List ℕ)) (net : Network) (ids : List ℕ) (steps : List Entry) (r : Result SaidText E) → IsWellFormed net → Whole → Decided → (IsConsistent net → ⊥) × (is_conflict_full cap net ≡ false) → ids ≡ conflict_set net → steps ≡ part (log_of (with_ids net (conflict_set net))) → load ≡ load_of (with_ids net (conflict_set net)) → IfOk r (λ said. the_said said ≡ record { outcome = Bad; text = ids_line ids ++ shown names load steps }) → IfOk r (λ said. says (the_said said) ≡ blamed cap names net)
 no_blamed cap load names net ids steps (Err e) good whole decided tells ids_are steps_are load_is is = tt
 no_blamed cap load names net ids steps (Ok said) good whole decided tells ids_are steps_are load_is is =

@@ -31,7 +31,7 @@ use Rattle.cstn_graphml.specs.Document.Part.{a_datum, a_node, an_edge, another}
 use Rattle.cstn_graphml.proofs.DrawnGraphLaws.{bind_ok}
 use Rattle.cstn_graphml.proofs.FreshNames.{fresh}
 
--- tags whose names and values are UTF-8, all through a content
+-- the names and values of a tag are UTF-8, or those of all tags of a content
 abbrev IsClearTag : Tag → Type 0
 IsClearTag tag = AllByRecursion IsUtf8 (attribute_spans tag.attributes)
 
@@ -146,7 +146,7 @@ read_keeps r P Q ends runs elements (element tag inside after) s a clear p h =
 blank_keeps : {S : Type 0} (P : S → Type 0) (s t : S) (at : ℕ) (raw : List ℕ) → P s → (blank at raw >>= λ same. Ok s) ≡ Ok t → P t
 blank_keeps P s t at raw p h = let b = bind_ok (blank at raw) (λ same. Ok s) t h in subst P (ok_is s t b.2) p
 
--- the names of a graph
+-- the names of a graph are different texts of 1 to 64 bytes
 record IsNamedGraph (d : DrawnGraph) : Type 0 where
   pub each : All IsName d.names
   pub different : AllPairs (λ (a b : List ℕ). a ≢ b) d.names
@@ -266,7 +266,7 @@ document_graph_named : (whole : Content) (d : DrawnGraph) → IsClear whole → 
 document_graph_named whole d clear k = read_keeps document_reading Seen IsNamedGraph (λ s at a h e. ended s at a h e) (λ s t at raw h e. blank_keeps Seen s t at raw h e)
     (λ s t tag content clear' within h e. whole_keeps s t tag content within h e) whole None d clear tt k
 
--- fewer than 2^32 of them
+-- the names of a document, where they are fewer than 2^32
 pub document_names : (bytes : List ℕ) (deadline : Option ℕ) (parts : Parts) → document bytes deadline ≡ Ok parts → length parts.names < 2 ^ 32 → AreNames parts.names
 document_names bytes deadline parts is few =
     let text = bind_ok (is_text bytes) _ parts is in

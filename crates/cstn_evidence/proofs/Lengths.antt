@@ -50,14 +50,14 @@ value_short (negsuc n) low high = absurd (omega (arith, ints))
 name_short : (names : List (List ℕ)) (x : ℕ) → AreNames names → x < length names → length (printed_name (get_or names x [])) ≤ 192
 name_short names x are inside = omega (arith, (are.each x [] inside).few, (name_length (get_or names x [])).1)
 
--- the length of texts with a byte between
+-- the length of texts with a byte between them
 two_parts : (xs ys : List ℕ) (n : ℕ) → length (xs ++ n ∷ ys) ≡ length xs + length ys + 1
 two_parts xs ys n = omega (arith, length-append xs (n ∷ ys))
 
 three_parts : (xs ys zs : List ℕ) (n m : ℕ) → length (xs ++ n ∷ ys ++ m ∷ zs) ≡ length xs + length ys + length zs + 2
 three_parts xs ys zs n m = omega (arith, two_parts (xs ++ n ∷ ys) zs m, two_parts xs ys n)
 
--- and with a front
+-- the length of a front and two texts with a byte between them
 front_part : (front xs ys : List ℕ) (n : ℕ) → length (front ++ xs ++ n ∷ ys) ≡ length front + length xs + length ys + 1
 front_part front xs ys n = omega (arith, two_parts (front ++ xs) ys n, length-append front xs)
 
@@ -81,7 +81,7 @@ bounds_short names (b ∷ bounds) are all =
     within : (whole l r n : ℕ) → whole ≡ 6 + l + r + 1 → l ≤ 305 → r ≤ 312 * n → whole ≤ 312 * suc n
     within whole l r n is a b = omega arith
 
--- a text of bounds
+-- a text of bounds isn't too long
 pub bounds_text_short : (names : List (List ℕ)) (load : ℕ) (bounds : List Bound) → AreNames names → AreWrittenBounds names load bounds → length (shown_bounds names load bounds) ≤ 1476395008
 bounds_text_short names load bounds are written =
     within (length (shown_bounds names load bounds)) (length (printed_number load)) (length (printed_bounds names bounds)) (length bounds)
@@ -125,7 +125,7 @@ steps_short names k (e ∷ steps) are all few =
     within : (whole line p w b r n : ℕ) → whole ≡ line + r + 1 → line ≡ p + w + b + 2 → p ≤ 7 → w ≤ 27 → b ≤ 305 → r ≤ 342 * n → whole ≤ 342 * suc n
     within whole line p w b r n is parts one two three rest = omega arith
 
--- a text of steps
+-- a text of steps isn't too long
 pub steps_text_short : (names : List (List ℕ)) (load : ℕ) (steps : List Entry) → AreNames names → AreWrittenSteps names load steps → length (shown_steps names load steps) ≤ 1476395008
 steps_text_short names load steps are written =
     within (length (shown_steps names load steps)) (length (printed_number load)) (length (printed_steps names 0 steps)) (length steps)

@@ -8,7 +8,7 @@ use Rattle.std.proofs.lemmas.List.{flat_map_more}
 abbrev pub spaced : ℕ → List ℕ
 spaced id = 32 ∷ decimal id
 
--- one more id after those before it
+-- the first i ids, and then the next one, are the first i + 1
 pub ids_more : (text now new ids : List ℕ) (i d : ℕ) → now ≡ text ++ flat_map spaced (take i ids) → i < length ids → new ≡ now ++ spaced (get_or ids i d) → new ≡ text ++ flat_map spaced (take (i + 1) ids)
 ids_more text now new ids i d before inside is =
     let next : take (i + 1) ids ≡ take i ids ++ get_or ids i d ∷ [] = ap (λ (n : ℕ). take n ids) (plus_one i) ∙ take-suc ids i d inside in

@@ -44,7 +44,7 @@ use Rattle.cstn_evidence.proofs.Listing.{limit_in_time}
 use Rattle.cstn_evidence.specs.Accepted.{IsAccepted, IsYesText, IsNoText, HasIds}
 use Rattle.cstn_evidence.proofs.Lengths.{bounds_text_short, steps_text_short}
 
--- the ids of the constraints of a document
+-- the ids of the constraints of a document are numbers of 32 bits
 pub numbered_ids : (k : ℕ) (cs : List DrawnConstraint) → k + length (numbered k cs) ≤ 16384 → All (λ (c : Constraint). c.id < 2 ^ 32) (numbered k cs)
 numbered_ids k [] few = All-nil (λ (c : Constraint). c.id < 2 ^ 32)
 numbered_ids k (c ∷ cs) few =
@@ -84,7 +84,7 @@ module _ (names : List (List ℕ)) (net : Network) (good : IsWellFormed net) (na
     each = λ k d inside. bound_written closed (get_or (live_bounds (log_of net)) k d) (Contains-get_or (live_bounds (log_of net)) k d inside);
   }
 
-  -- and so can the steps of a no
+  -- the steps of a no can be written
   places_small : HasIds net → (steps : List Entry) (k : ℕ) (why : Why) (r : Bound) → k < 2 ^ 32 → Follows net steps k why r → ArePlaces why
   places_small ids steps k Base r below follows = tt
   places_small ids steps k (Chain id i) r below follows =
@@ -138,7 +138,7 @@ pub listed_faultless : (net : Network) → IsWellFormed net → IsConsistent net
 listed_faultless net good consistent =
     closed_faultless net (live_bounds (log_of net)) (log_closed net good.network good.letters ((log_decides net good.network good.letters).0 consistent)) (live_in_range net good)
 
--- the steps of a no refute
+-- the steps of a no refute the network
 pub refuted_by_log : (net : Network) → IsWellFormed net → (IsConsistent net → ⊥) → IsRefutation net (part (log_of net))
 refuted_by_log net good never =
     part_refutes net (log_of net) (part (log_of net)) (log_refutation net good (log_refutes_last net good (is_true (is_refuted net (log_of net)) refl))) refl
@@ -152,7 +152,7 @@ pub no_refutation : (net : Network) (steps : List Entry) (k : ℕ) → IsFirstWr
 no_refutation net steps k (inl first) refutation = first.wrong (λ e there. refutation.derivation k e there)
 no_refutation net steps k (inr vain) refutation = vain.vain refutation
 
--- a text that is short enough
+-- a text that is short enough isn't refused for its length
 short_text : (speaks : List ℕ → Answer) (text : List ℕ) (names : List (List ℕ)) (net : Network) → length text ≤ 1476395008 → by_text speaks text names net ≡ speaks text names net
 short_text speaks text names net short = within 1476395008 (length text) (says (say Script (codes "script long"))) (speaks text names net) short
   where

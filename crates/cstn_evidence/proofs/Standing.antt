@@ -30,13 +30,13 @@ use Rattle.cstn_evidence.specs.Accepted.{IsYesText, IsNoText, IsTightText, IsCon
 use Rattle.cstn_evidence.specs.Blame.{blame_text, blamed}
 use Rattle.cstn_evidence.specs.Tight.{refuted_text, tight_text, tightened}
 
--- a network with another deadline, up to its own
+-- a network with a deadline up to its own is well-formed
 at_well : (net : Network) (h : ℕ) → IsWellFormed net → h ≤ net.deadline → IsWellFormed (at_deadline net h)
 at_well net h good below =
     let soon = good.in_time in
     good_at_deadline net good h (omega (arith, soon, below))
 
--- the network of a document, the names of its time-points, and the ids of its constraints
+-- a network as a document has it: it is well-formed, its time-points have names, and its ids are numbers of 32 bits
 pub record IsOfDocument (names : List (List ℕ)) (net : Network) : Type 0 where
   pub good : IsWellFormed net
   pub named : length names ≡ count net
@@ -84,7 +84,7 @@ abbrev pub NoAccepted : Type 0
 NoAccepted = (names : List (List ℕ)) (net : Network) → IsWellFormed net → AreNames names → length names ≡ count net → HasIds net → load_of net ≤ 4194304 → (IsConsistent net → ⊥) → IsNoText names net (shown_steps names (load_of net) (part (log_of net)))
 
 module _ (yes_text : YesAccepted) (no_text : NoAccepted) where
-  -- after a verdict
+  -- what is said of a verdict stands for it
   pub verdict_stands : (cap : ℕ) (names : List (List ℕ)) (net : Network) (text live : List ℕ) (said : Said) (after_yes : List ℕ → Type 0) → IsOfDocument names net → cap ≤ 4194304 → (load_of net ≤ cap → IsConsistent net → after_yes text) →
       IsOutput (on_verdict cap names net (says (record { outcome = Good; text = text })) (verdict cap net)) live said → StandsFor after_yes (IsNoText names net) said
   verdict_stands cap names net text live said after_yes is capped yes' output = by_tests (nat_lt cap (load_of net)) (is_refuted net (log_of net)) refl refl output
@@ -101,7 +101,7 @@ module _ (yes_text : YesAccepted) (no_text : NoAccepted) where
       by_tests false false over no' same =
           subst (StandsFor after_yes (IsNoText names net)) (sym same) (yes' (not_above cap (load_of net) over) ((log_decides net good.network good.letters).1 no'))
 
-  -- after a search for a least deadline
+  -- what is said of a least deadline stands for it
   pub tight_stands : (cap : ℕ) (names : List (List ℕ)) (net : Network) (live : List ℕ) (said : Said) → IsOfDocument names net → cap ≤ 4194304 →
       IsOutput (tightened cap names net) live said → StandsFor (IsTightText names net) (IsNoText names net) said
   tight_stands cap names net live said is capped output = by_tests (is_tight_full cap net) (is_consistent net) refl refl output
@@ -140,7 +140,7 @@ module _ (yes_text : YesAccepted) (no_text : NoAccepted) where
           subst (StandsFor (IsTightText names net) (IsNoText names net)) (sym same)
           (no_text names net good is.are is.named is.ids (omega (arith, not_above cap (load_of net) first.0, capped)) (λ consistent. let yes' : is_consistent net ≡ true = (decided net good).1 consistent in let f : ⊥ = cc in f))
 
-  -- after a search for a conflict set
+  -- what is said of a conflict set stands for it
   pub conflict_stands : (cap : ℕ) (names : List (List ℕ)) (net : Network) (live : List ℕ) (said : Said) → IsOfDocument names net → cap ≤ 4194304 →
       IsOutput (blamed cap names net) live said → StandsFor (λ text. Unit {0}) (IsConflictText names net) said
   conflict_stands cap names net live said is capped output = by_tests (is_blame_full cap net) (is_consistent net) refl refl output

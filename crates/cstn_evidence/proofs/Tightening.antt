@@ -71,7 +71,7 @@ before_is names net deadline h (Some r) same none some =
     zero_of : (n : ℕ) → nat_eq n 0 ≡ true → n ≡ 0
     zero_of n is = grind arith
 
--- what is said where it is
+-- what is said where the network is consistent
 pub yes_tightened : {E : Type 0} (cap : ℕ) (names : List (List ℕ)) (net : Network) (deadline : ℕ) (closed : ClosedParts) (o : Option RefutationParts) (res : Result SaidText E) → IsWellFormed net → Whole → Decided → IsConsistent net × (is_tight_full cap net ≡ false) → deadline ≡ least_deadline net → the_bounds closed ≡ live_bounds (log_of (at_deadline net (least_deadline net))) → closed.load ≡ load_of (at_deadline net (least_deadline net)) → (IsNone o ↔ (deadline ≡ 0)) → IfSome o (IsRefutationOf (at_deadline net (least_deadline net - 1))) → IfOk res (λ said. the_said said ≡ record { outcome = Good; text = line (codes "least " ++ decimal deadline) ++ shown_bounds names closed.load (the_bounds closed) ++ told_before names o }) → IfOk res (λ said. says (the_said said) ≡ tightened cap names net)
 yes_tightened cap names net deadline closed o (Err e) good whole' decided tells deadline_is bounds_are load_is none some is = tt
 yes_tightened cap names net deadline closed o (Ok said) good whole' decided tells deadline_is bounds_are load_is none some is =
@@ -89,7 +89,7 @@ yes_tightened cap names net deadline closed o (Ok said) good whole' decided tell
     ∙ sym (ap (λ (b : Bool). if b then full else if is_consistent net then yes' else no) tells.1
     ∙ ap (λ (b : Bool). if b then yes' else no) consistent)
 
--- the steps have names
+-- the steps of a refutation are at time-points that have names
 pub steps_named : (names : List (List ℕ)) (net : Network) (o : Option RefutationParts) → length names ≡ count net → IfSome o (IsRefutationOf net) → AreStepsNamed names o
 steps_named names net None named some = tt
 steps_named names net (Some r) named some = subst (λ (n : ℕ). All (λ (e : DeclaredEntry). e.bound.node.0 < n) r.steps) (sym named) some.named

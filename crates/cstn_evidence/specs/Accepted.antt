@@ -23,7 +23,8 @@ IsYesText names net text = IsAccepted (by_text certified text names net)
 abbrev pub IsNoText : List (List ℕ) → Network → List ℕ → Type 0
 IsNoText names net text = IsAccepted (by_text replayed text names net)
 
--- a least deadline, a text that is accepted at it, and one that refutes the network one tick below
+-- a least deadline, a text of bounds that is accepted at it, and a text that refutes the network one tick below, unless the
+-- deadline is 0
 pub record IsTightText (names : List (List ℕ)) (net : Network) (text : List ℕ) : Type 0 where
   pub deadline : ℕ
   pub at : List ℕ
@@ -33,8 +34,8 @@ pub record IsTightText (names : List (List ℕ)) (net : Network) (text : List �
   pub yes_at : IsYesText names (at_deadline net deadline) at
   pub no_below : ((deadline ≡ 0) × (below ≡ [])) ⊎ IsNoText names (at_deadline net (deadline - 1)) below
 
--- the ids of a conflict set, and a text that refutes the network with these constraints alone, which is consistent with any one
--- of them less
+-- the ids of a conflict set, and a text that refutes the network with these constraints alone, which is consistent without any
+-- one of them
 pub record IsConflictText (names : List (List ℕ)) (net : Network) (text : List ℕ) : Type 0 where
   pub ids : List ℕ
   pub steps : List ℕ

@@ -13,18 +13,18 @@ use Rattle.cstn_reply.specs.Plans.{says}
 use Rattle.cstn_reply.specs.declared.output.Outcome.TheVariants.{Good, Bad, Full}
 use Rattle.cstn_verdict.specs.Documents.{Answer}
 
--- the refutation of a network
+-- the text of the refutation of a network
 abbrev pub refuted_text : List (List ℕ) → Network → List ℕ
 refuted_text names net = shown names (load_of net) (part (log_of net))
 
--- the deadline, the bounds of the network at it, and the refutation of the network one tick below, where there is such
+-- the deadline, the bounds of the network at it, and the refutation of the network one tick below, unless the deadline is 0
 abbrev pub tight_text : List (List ℕ) → Network → ℕ → List ℕ
 tight_text names net h =
     line (codes "least " ++ decimal h) ++ shown_bounds names (load_of (at_deadline net h)) (live_bounds (log_of (at_deadline net h)))
     ++ (if nat_eq h 0 then [] else refuted_text names (at_deadline net (h - 1)))
 
 -- what `tight` says of a network: the cap where a log exceeds it, its refutation where it isn't consistent, and else the
--- least deadline up to its own at which it is
+-- least deadline at which it is consistent
 abbrev pub tightened : ℕ → Answer
 tightened cap names net =
     if is_tight_full cap net then says (record { outcome = Full; text = full_line cap })

@@ -6,7 +6,7 @@ ghost use Rattle.cstn_reply.specs.Read.{the_said};
 use cstn_reply::{Outcome, Refused, Said};
 use std::alloc::Global;
 
-/// What is said of a text that is accepted.
+/// What is said of a text that is accepted. Fails for want of memory alone.
 pub fn accepted(alloc: Global) -> Result<Said, Refused>
     ensures said { IfOk result (λ said. the_said said ≡ say Outcome.Good (codes "accepted")) }
     ensures fault { IsErrOf result Refused.ReadFault → ⊥ }
@@ -20,7 +20,7 @@ pub fn accepted(alloc: Global) -> Result<Said, Refused>
     })
 }
 
-/// What is said of a text with a line that is of no grammar.
+/// What is said of a text whose first line of no grammar has this number, counted from 1. Fails for want of memory alone.
 pub fn wrong_line(alloc: Global, line: u32) -> Result<Said, Refused>
     ensures said { IfOk result (λ said. the_said said ≡ say Outcome.Script (codes "script " ++ decimal line)) }
     ensures fault { IsErrOf result Refused.ReadFault → ⊥ }

@@ -16,8 +16,8 @@ use cstn_reply::{Outcome, Refused, Said};
 use cstn_text::{Names, print_name};
 use std::alloc::Global;
 
-/// Says whether the bounds of a text are closed for the network, or what their first fault is; of another text, which line is
-/// wrong.
+/// Says that the bounds of a text are closed for the network, or what their first fault is; of a text that isn't of the form,
+/// the first line that is wrong. Fails for want of memory alone.
 pub fn check_text(
     alloc: Global,
     network: &Network,

@@ -18,7 +18,9 @@ use cstn_verdict::{full, yes_line};
 use itoa::Buffer;
 use std::alloc::{AllocError, Global};
 
-/// Says the conflict set of a network that isn't consistent, with what refutes it; each log may have `cap` entries.
+/// Says the conflict set of a network that isn't consistent, with what refutes the network of these constraints alone, or the
+/// load of a network that is. Each log may have `cap` entries: where one has more, the cap is said. Fails for want of memory
+/// alone.
 pub fn blame(alloc: Global, network: Network, names: &Names, cap: u32) -> Result<Said, Refused>
     requires some { 1 ≤ cap }
     requires most { cap ≤ 4194304 }
@@ -67,7 +69,7 @@ fn conflict_said(alloc: Global, conflict: &Conflict, names: &Names) -> Result<Sa
     })
 }
 
-// The line of the ids.
+// The line `conflict`, with each id after a space.
 fn ids_line(alloc: Global, ids: &[u32]) -> Result<Vec<u8>, AllocError>
     ensures line { IfOk result (λ text. text.items ≡ ids_line ids.now) }
 {

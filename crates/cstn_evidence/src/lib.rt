@@ -1,4 +1,4 @@
-// What stands for an answer: the bounds of a yes, the constraints to blame for a no, and the texts that tell them.
+//! What stands for an answer: the bounds of a yes, the constraints to blame for a no, and the texts that tell them.
 #![tactic(auto)]
 
 mod answers;

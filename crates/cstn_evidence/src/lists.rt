@@ -17,7 +17,8 @@ use cstn_text::Names;
 use cstn_verdict::{Decided, decide};
 use std::alloc::Global;
 
-/// Says the bounds of the live entries of a network's log, which may have `cap` entries; after no what refutes the network.
+/// Says the bounds of the live entries of a network's log, after no what refutes the network, or the cap where the log has more
+/// than `cap` entries. Fails for want of memory alone.
 pub fn list_bounds(
     alloc: Global,
     network: Network,

@@ -14,7 +14,8 @@ use cstn_reply::{Outcome, Refused, Said};
 use cstn_text::Names;
 use std::alloc::Global;
 
-/// Says whether the steps of a text refute the network, or which of them is wrong; of another text, which line is wrong.
+/// Says that the steps of a text refute the network, or which of them is the first wrong one; of a text that isn't of the form,
+/// the first line that is wrong. Fails for want of memory alone.
 pub fn replay_text(
     alloc: Global,
     network: &Network,

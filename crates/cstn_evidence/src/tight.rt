@@ -23,8 +23,9 @@ use cstn_tight::{Tight, TightError, least};
 use cstn_verdict::full;
 use std::alloc::{AllocError, Global};
 
-/// Says the least deadline, up to its own, at which a network is consistent, with the bounds that make it so and with what
-/// refutes it one tick below; where it isn't, what refutes it. Each log may have `cap` entries.
+/// Says the least deadline at which a network is consistent, with the bounds that make it so and with what refutes it one tick
+/// below; of a network that isn't consistent at its own deadline, what refutes it. Each log may have `cap` entries: where one
+/// has more, the cap is said. Fails for want of memory alone.
 pub fn tighten(alloc: Global, network: Network, names: &Names, cap: u32) -> Result<Said, Refused>
     requires some { 1 ≤ cap }
     requires most { cap ≤ 4194304 }
@@ -80,7 +81,7 @@ fn tight_said(alloc: Global, tight: &Tight, names: &Names) -> Result<Said, Refus
     })
 }
 
-// Puts what refutes the network one tick below, if there is such.
+// Puts the refutation one tick below the least deadline, if there is one.
 fn push_before(
     alloc: Global,
     text: &mut String,

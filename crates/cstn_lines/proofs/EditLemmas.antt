@@ -1,4 +1,4 @@
--- What is printed of an edit line is read again, and nothing else is read but for the order of a label's marks.
+-- The text of an edit line is read back as that line, and no other text is, but for the order of a label's marks.
 use Rattle.std.proofs.Common.{◌≡◌, ℕ, suc, ◌<◌, ◌≤◌, ◌^◌, List, [], ◌∷◌, ◌++◌, refl, ap, sym, subst, ◌∙◌, arith, Bool, true, false, not}
 use Rattle.std.specs.Prelude.{◌==◌, nat_lt, ℤ, FitsSigned, Option, Some, None, All, if◌then◌else◌, codes, bytes_eq}
 use Rattle.std.specs.List.{list_all}
@@ -82,14 +82,14 @@ edit_back (removed id) small = word_back (codes "remove") (printed_number id) re
 edit_back (changed id most) is = word_back (codes "change") (printed_number id ++ 32 ∷ printed_value most) refl refl ∙ change_back id most is.0 is.1
 edit_back asked is = refl
 
--- a line and its text
+-- the text says the line, which is one that a text can say
 abbrev IsWritten : Edit → List ℕ → Type 0
 IsWritten line text = IsTextOf line text × IsEdit line
 
 same_line : (a b : Edit) (text : List ℕ) → a ≡ b → IsWritten a text → IsWritten b text
 same_line a b text e is = subst (λ (line : Edit). IsWritten line text) e is
 
--- what a reading that goes on, or one that makes something of what was read, came from
+-- where `option_and_then` or `option_map` has a value, so has the option that it was made from
 pub binds : {A B : Type 0} (f : A → Option B) (o : Option A) (b : B) → option_and_then f o ≡ Some b → (a : A) × (o ≡ Some a) × (f a ≡ Some b)
 binds f None b is = absurd (cc)
 binds f (Some a) b is = (a, refl, is)
@@ -101,7 +101,7 @@ maps f (Some a) b is = (a, refl, just (f a) b is)
     just : {X : Type 0} (x y : X) → Some x ≡ Some y → x ≡ y
     just x y e = cc
 
--- a text in two parts, of which the first is printed and the second is known
+-- a text of two parts with a space between, where each part is equal to another text
 pub spaced : (text left right printed more : List ℕ) → text ≡ left ++ 32 ∷ right → printed ≡ left → right ≡ more → text ≡ printed ++ 32 ∷ more
 spaced text left right printed more parts first second = parts ∙ ap (λ bs. bs ++ 32 ∷ right) (sym first) ∙ ap (λ bs. printed ++ 32 ∷ bs) second
 

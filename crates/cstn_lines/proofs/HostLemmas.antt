@@ -1,4 +1,4 @@
--- What is printed of a host line is read again, and nothing else is read.
+-- The text of a host line is read back as that line, and no other text is.
 use Rattle.std.proofs.Common.{◌≡◌, ℕ, ◌<◌, ◌^◌, List, ◌∷◌, ◌++◌, refl, ap, sym, subst, ◌∙◌, arith, Bool, true, false}
 use Rattle.std.specs.Prelude.{Option, Some, None, if◌then◌else◌, codes, bytes_eq}
 use Rattle.std.specs.Option.{option_map, option_and_then}
@@ -39,7 +39,7 @@ host_back (opened id file) is = ap (option_and_then hosted_read) (joined_cut (co
 host_back (put_on id line) is = ap (option_and_then hosted_read) (joined_cut (codes "on") (printed_number id ++ 32 ∷ printed_live line) refl) ∙ put_on_back id line is.0 is.1
 host_back (closed id) small = ap (option_and_then hosted_read) (joined_cut (codes "close") (printed_number id) refl) ∙ ap (option_map closed) (id_back id small)
 
--- a line and its text
+-- the text is the one of the line, which is one that a text can say
 abbrev IsText : Hosted → List ℕ → Type 0
 IsText line text = (printed_hosted line ≡ text) × IsHosted line
 

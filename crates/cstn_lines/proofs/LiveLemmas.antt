@@ -1,4 +1,4 @@
--- What is printed of a live line is read again, and nothing else is read.
+-- The text of a live line is read back as that line, and no other text is.
 use Rattle.std.proofs.Common.{◌≡◌, ◌≢◌, ℕ, ◌<◌, ◌^◌, List, [], ◌∷◌, ◌++◌, get_or, refl, ap, sym, ◌∙◌, arith, subst, Bool, true, false, not}
 use Rattle.std.specs.Prelude.{◌==◌, nat_lt, Option, Some, None, if◌then◌else◌, codes, bytes_eq}
 use Rattle.std.specs.List.{All, list_all}
@@ -11,7 +11,7 @@ use Rattle.cstn_text.proofs.CutLemmas.{cut_back, cut_joined}
 use Rattle.cstn_text.proofs.NumberLemmas.{number_back, number_printed}
 use Rattle.cstn_lines.specs.LiveLines.{Live, moment_at, seen, due_now, cut_at_space, moment_read, prop_read, truth_read, seen_read, operands_read, live_read, IsLive, printed_truth, printed_live}
 
--- two parts with a space between are cut there
+-- a word without a space, then a space and more bytes, are cut at that space
 pub joined_cut : (word rest : List ℕ) → list_all (λ b. not (b == 32)) word ≡ true → cut_at_space (word ++ 32 ∷ rest) ≡ Some (word, rest)
 joined_cut word rest none = cut_back 32 word rest (no_space word none)
   where
@@ -54,7 +54,7 @@ live_back (moment_at t) small = word_back (codes "moment") (printed_number t) re
 live_back (seen p value) small = word_back (codes "see") (letter_of p ∷ 32 ∷ printed_truth value) refl refl ∙ seen_back p value small
 live_back due_now is = refl
 
--- a line and its text
+-- the text is the one of the line, which is one that a text can say
 abbrev IsText : Live → List ℕ → Type 0
 IsText line text = (printed_live line ≡ text) × IsLive line
 

@@ -32,7 +32,7 @@ hand_cut kept bytes start stop i count n after cut is short below line rest coun
       short = not_past n after.line (omega arith) (rw its (omega (arith, cut.inside, length-take i kept)));
     }
 
--- a line that is refused is refused by what is kept of it
+-- where a first line is too long or too late whatever follows, and stays kept, the step found it wrong and would do so again
 refused : (kept : List ℕ) (count n : ℕ) (after : LinesState) → n ≡ count + 1 → ((rest : List ℕ) → (line : List ℕ) × (lines : List (List ℕ)) × (lines_of (kept ++ rest) ≡ line ∷ lines) × (is_past n line ≡ true)) → after.kept ≡ kept → after.count ≡ count → HasWrongLine kept count after n
 refused kept count n after number next stays same =
     let now = next [] in
@@ -53,7 +53,7 @@ pub refuse_long : (kept : List ℕ) (count n : ℕ) (after : LinesState) → Has
 refuse_long kept count n after none long number stays counts =
     refused kept count n after number (λ r. let found = long_line kept r none (omega arith) in (kept ++ found.0, found.1, found.2, past_long n (kept ++ found.0) (omega (arith, length-append kept found.0)))) stays counts
 
--- the first line is one line
+-- bytes have one first line, which can't both fit and be too long or too late
 one_first : (kept line other : List ℕ) (lines others : List (List ℕ)) (n : ℕ) → lines_of kept ≡ line ∷ lines → lines_of kept ≡ other ∷ others → is_past n other ≡ false → is_past n line ≡ true → ⊥
 one_first kept line other lines others n is its fits past =
     let same : line ≡ other = heads line other lines others (sym is ∙ its) in
@@ -62,20 +62,20 @@ one_first kept line other lines others n is its fits past =
     heads : (x y : List ℕ) (xs ys : List (List ℕ)) → x ∷ xs ≡ y ∷ ys → x ≡ y
     heads x y xs ys e = cc
 
--- a line that is whole and short enough isn't past what a grammar has
+-- a next line that is kept whole is neither too long nor too late, where few bytes are kept and few lines came before it
 pub whole_not_past : (state : LinesState) (i : ℕ) → IsCut state.kept i → length state.kept ≤ 4097 → state.count < 2 ^ 24 → IsPast state → ⊥
 whole_not_past state i cut short few past =
     let first : lines_of state.kept ≡ take i state.kept ∷ lines_of (drop (i + 1) state.kept ++ []) = ap lines_of (sym (append-nil state.kept)) ∙ cut_lines state.kept [] i cut in
     one_first state.kept past.0 (take i state.kept) past.1 _ (state.count + 1) past.2 first (not_past (state.count + 1) (take i state.kept) (omega arith) (omega (arith, cut.inside, length-take i state.kept))) past.3
 
--- nor is one that is short enough so far
+-- a next line that is kept without its LF is neither too long nor too late, where few bytes are kept and few lines came before
 pub open_not_past : (state : LinesState) (kept : List ℕ) → kept ≡ state.kept → HasNoEnd kept → length kept ≤ 4096 → state.count < 2 ^ 24 → IsPast state → ⊥
 open_not_past state [] same none short few past = absurd (let e : lines_of [] ≡ past.0 ∷ past.1 = ap lines_of same ∙ past.2 in cc)
 open_not_past state (b ∷ bs) same none short few past =
     let first : lines_of state.kept ≡ (b ∷ bs) ∷ [] = ap lines_of (sym same) ∙ last_line b bs none in
     one_first state.kept past.0 (b ∷ bs) past.1 [] (state.count + 1) past.2 first (not_past (state.count + 1) (b ∷ bs) (omega arith) short) past.3
 
--- the last line, which has no end
+-- the last line is handed out, which lacks its LF
 pub hand_last : (kept bytes : List ℕ) (stop count n : ℕ) (after : LinesState) → 0 < length kept → HasNoEnd kept → length kept ≤ 4096 → (0 < length kept → count < 2 ^ 24) → after.line ≡ kept → after.kept ≡ between stop stop bytes → after.count ≡ count + 1 → n ≡ count + 1 → after.ended ≡ true → HandsOut kept count after n
 hand_last kept bytes stop count n after some none short below its rest counts number ended =
     let few : count < 2 ^ 24 = below some in
@@ -100,7 +100,7 @@ more_bytes : (told mid now : Option (List ℕ)) (before taken : List ℕ) → to
 more_bytes told mid None before taken is then = rw (is, then) refl
 more_bytes told mid (Some xs) before taken is then = rw (is, then, append_assoc) refl
 
--- bytes were taken, and then more
+-- bytes that were taken, and then more, were taken together
 pub more_taken : (bytes kept after taken more : List ℕ) (told mid now : Option (List ℕ)) → kept ≡ bytes ++ taken → told ≡ after_bytes taken mid → after ≡ kept ++ more → mid ≡ after_bytes more now → (after ≡ bytes ++ (taken ++ more)) × (told ≡ after_bytes (taken ++ more) now)
 more_taken bytes kept after taken more told mid now is read goes reads = (goes ∙ ap (λ x. x ++ more) is ∙ append_assoc bytes taken more, more_bytes told mid now taken more read reads)
 
@@ -118,7 +118,7 @@ reads_on bytes kept first last count n before mid after is none short early same
       few = omega (arith, few, one);
     }
 
--- what a read took into the bytes behind those that are kept
+-- the bytes that a read took stand behind those that were kept
 pub filled : (kept xs piece post rest : List ℕ) (told now : Option (List ℕ)) (f n len : ℕ) → f ≤ length xs → n ≤ length piece → f + n ≤ len → take f xs ≡ kept → told ≡ after_bytes (take n piece) now → (taken : List ℕ) × (between 0 (f + n) (take len ((take f xs ++ (piece ++ post)) ++ rest)) ≡ kept ++ taken) × (told ≡ after_bytes taken now) × (n ≡ length taken)
 filled kept xs piece post rest told now f n len inside some fits is step =
     let front : length (take f xs) ≡ f = omega (arith, length-take f xs) in
@@ -137,11 +137,11 @@ filled kept xs piece post rest told now f n len inside some fits is step =
 pub steps_from : (bytes kept : List ℕ) (count n : ℕ) (after : LinesState) (next : Next) → kept ≡ bytes → n ≡ count → Steps kept n after next → Steps bytes count after next
 steps_from bytes kept count n after next is at steps = subst (λ (x : List ℕ). Steps x count after next) is (subst (λ (k : ℕ). Steps kept k after next) at steps)
 
--- a step over what was kept alone
+-- a step that took no byte is one over what was kept
 pub steps_kept : (kept : List ℕ) (count : ℕ) (after : LinesState) (next : Next) → Steps kept count after next → Steps (kept ++ []) count after next
 steps_kept kept count after next steps = subst (λ (x : List ℕ). Steps x count after next) (sym (append-nil kept)) steps
 
--- a failed read takes nothing, and what is kept has no end
+-- a failed read takes nothing, and what is kept has no LF
 pub broken : (bytes kept more all : List ℕ) (count n : ℕ) (after : LinesState) → HasNoEnd kept → after.kept ≡ kept ++ more → more ≡ [] → after.kept ≡ bytes ++ all → n ≡ count → after.count ≡ n → after.ended ≡ false → IsBroken (bytes ++ all) count after
 broken bytes kept more all count n after none goes empty is at same going =
     let e : kept ≡ after.kept = sym (goes ∙ ap (λ m. kept ++ m) empty ∙ append-nil kept) in

@@ -13,8 +13,8 @@ use Rattle.cstn_lines.specs.LiveLines.{cut_at_space}
 use Rattle.cstn_lines.specs.declared.edits.EditLine.{EditLine}
 use Rattle.cstn_lines.specs.declared.edits.EditLine.TheVariants.{Add, Remove, Change, Check}
 
--- what an edit line says: a constraint between the time-points of two names, a constraint's id, that and a new value, or the
--- question for the verdict
+-- what an edit line says: to add a constraint between the time-points of two names, to remove the constraint of an id, to give
+-- it another value, or to check
 pub data Edit : Type 0 where
   added : List ℕ → List ℕ → ℤ → Label → Edit
   removed : ℕ → Edit
@@ -35,7 +35,7 @@ id_read text = option_and_then (λ n. if nat_lt n (2 ^ 32) then Some n else None
 abbrev pub change_read : List ℕ → Option Edit
 change_read text = option_and_then (λ parts. option_and_then (λ id. option_map (changed id) (value_read parts.1)) (id_read parts.0)) (cut_at_space text)
 
--- two printed names
+-- the addition whose names these two texts print, with this value and label
 abbrev pub ends_read : List ℕ → List ℕ → ℤ → Label → Option Edit
 ends_read from to most label = option_and_then (λ f. option_map (λ t. added f t most label) (name_read to)) (name_read from)
 
@@ -47,7 +47,7 @@ limit_read from to parts = option_and_then (λ most. option_and_then (ends_read 
 abbrev pub add_read : List ℕ → Option Edit
 add_read text = option_and_then (λ one. option_and_then (λ two. option_and_then (limit_read one.0 two.0) (cut_at_space two.1)) (cut_at_space one.1)) (cut_at_space text)
 
--- what follows the word of a line
+-- the edit that the word of a line and what follows it say
 abbrev pub edited_read : List ℕ × List ℕ → Option Edit
 edited_read parts =
     if bytes_eq parts.0 (codes "add") then add_read parts.1
@@ -59,7 +59,7 @@ edited_read parts =
 abbrev pub edit_read : List ℕ → Option Edit
 edit_read bytes = if bytes_eq bytes (codes "check") then Some asked else option_and_then edited_read (cut_at_space bytes)
 
--- names, an id below 2^32, a value of 32 bits, and a label of letters
+-- the names are names, the id is below 2^32, the value fits 32 bits, and the label has marks at the 52 propositions alone
 abbrev pub IsEdit : Edit → Type 0
 IsEdit (added from to most label) = IsName from × IsName to × FitsSigned w32 most × ((p : ℕ) → 52 ≤ p → label p ≡ Absent)
 IsEdit (removed id) = id < 2 ^ 32

@@ -26,7 +26,7 @@ opened_read text = option_and_then (λ parts. option_and_then (λ id. option_map
 abbrev pub put_on_read : List ℕ → Option Hosted
 put_on_read text = option_and_then (λ parts. option_and_then (λ id. option_map (put_on id) (live_read parts.1)) (id_read parts.0)) (cut_at_space text)
 
--- what follows the word of a line
+-- the host line that the word of a line and what follows it say
 abbrev pub hosted_read : List ℕ × List ℕ → Option Hosted
 hosted_read parts =
     if bytes_eq parts.0 (codes "open") then opened_read parts.1
@@ -38,7 +38,7 @@ hosted_read parts =
 abbrev pub host_read : List ℕ → Option Hosted
 host_read bytes = option_and_then hosted_read (cut_at_space bytes)
 
--- numbers below 2^32, and a live line
+-- the numbers are below 2^32, and the live line is one that a text can say
 abbrev pub IsHosted : Hosted → Type 0
 IsHosted (opened id file) = (id < 2 ^ 32) × (file < 2 ^ 32)
 IsHosted (put_on id line) = (id < 2 ^ 32) × IsLive line

@@ -7,7 +7,7 @@ use Rattle.cstn_text.specs.Numbers.{number_read, printed_number}
 use Rattle.cstn_lines.specs.declared.live.LiveLine.{LiveLine}
 use Rattle.cstn_lines.specs.declared.live.LiveLine.TheVariants.{Moment, See, Due}
 
--- what a live line says: the time, what an observation shows, or the question what is due
+-- what a live line says: which moment it is, what an observation shows, or the question what is due
 pub data Live : Type 0 where
   moment_at : ℕ → Live
   seen : ℕ → Bool → Live
@@ -22,7 +22,7 @@ the_live Due = due_now
 abbrev pub cut_at_space : List ℕ → Option (List ℕ × List ℕ)
 cut_at_space = cut_at 32
 
--- a time is a number below 2^32
+-- a moment is a number below 2^32
 abbrev pub moment_read : List ℕ → Option Live
 moment_read text = option_and_then (λ t. if nat_lt t (2 ^ 32) then Some (moment_at t) else None) (number_read text)
 
@@ -39,7 +39,7 @@ truth_read text = if bytes_eq text (codes "true") then Some true else if bytes_e
 abbrev pub seen_read : List ℕ → Option Live
 seen_read text = option_and_then (λ parts. option_and_then (λ p. option_map (seen p) (truth_read parts.1)) (prop_read parts.0)) (cut_at_space text)
 
--- what follows the word of a line
+-- the live line that the word of a line and what follows it say
 abbrev pub operands_read : List ℕ × List ℕ → Option Live
 operands_read parts = if bytes_eq parts.0 (codes "moment") then moment_read parts.1 else if bytes_eq parts.0 (codes "see") then seen_read parts.1 else None
 
@@ -47,7 +47,7 @@ operands_read parts = if bytes_eq parts.0 (codes "moment") then moment_read part
 abbrev pub live_read : List ℕ → Option Live
 live_read bytes = if bytes_eq bytes (codes "due") then Some due_now else option_and_then operands_read (cut_at_space bytes)
 
--- a number below 2^32, or a proposition's number
+-- the moment is below 2^32, and the proposition is one of the 52
 abbrev pub IsLive : Live → Type 0
 IsLive (moment_at t) = t < 2 ^ 32
 IsLive (seen p value) = p < 52

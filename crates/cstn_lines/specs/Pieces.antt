@@ -1,11 +1,11 @@
 -- Bytes as lines.
 use Rattle.std.specs.Prelude.{◌≡◌, ◌≢◌, ℕ, ◌<◌, ◌-◌, ◌^◌, take, drop, Bool, nat_lt, ◌||◌, ◌==◌, if◌then◌else◌, List, [], ◌∷◌, ◌++◌, length, get_or}
 
--- the bytes from a place to another
+-- the bytes from the place `start` to the place `end`, without the one at `end`
 abbrev pub between : ℕ → ℕ → List ℕ → List ℕ
 between start end bytes = take (end - start) (drop start bytes)
 
--- the byte begins the first line
+-- the lines with this byte at the front of the first one, or alone on one where there is none
 abbrev pub onto : ℕ → List (List ℕ) → List (List ℕ)
 onto b [] = (b ∷ []) ∷ []
 onto b (line ∷ lines) = (b ∷ line) ∷ lines
@@ -20,17 +20,17 @@ abbrev pub joined : List (List ℕ) → List ℕ
 joined [] = []
 joined (line ∷ lines) = line ++ 10 ∷ joined lines
 
--- the byte begins the first line, if there is one
+-- the lines with this byte at the front of the first one; no lines stay no lines
 abbrev pub onto_some : ℕ → List (List ℕ) → List (List ℕ)
 onto_some b [] = []
 onto_some b (line ∷ lines) = (b ∷ line) ∷ lines
 
--- the lines of some bytes that end with LF
+-- the lines of some bytes, without a last one that lacks its LF
 abbrev pub whole_lines : List ℕ → List (List ℕ)
 whole_lines [] = []
 whole_lines (b ∷ bs) = if b == 10 then [] ∷ whole_lines bs else onto_some b (whole_lines bs)
 
--- the bytes are cut at i, by the first LF
+-- the first LF of the bytes stands at the place i
 pub record IsCut (bs : List ℕ) (i : ℕ) : Type 0 where
   pub inside : i < length bs
   pub ends : get_or bs i 0 ≡ 10
@@ -44,6 +44,6 @@ HasEnd bs = (k : ℕ) × (k < length bs) × (get_or bs k 0 ≡ 10)
 abbrev pub HasNoEnd : List ℕ → Type 0
 HasNoEnd bs = (k : ℕ) → k < length bs → get_or bs k 0 ≢ 10
 
--- a line of that number is of no grammar: it is too long, or comes too late
+-- a line of this number is wrong in every grammar: it is too long, with more than 4,096 bytes, or too late, above number 2^24
 abbrev pub is_past : ℕ → List ℕ → Bool
 is_past number line = nat_lt 4096 (length line) || nat_lt (2 ^ 24) number

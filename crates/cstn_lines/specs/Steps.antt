@@ -4,14 +4,15 @@ use Rattle.cstn_lines.specs.Pieces.{lines_of, whole_lines, is_past, HasNoEnd}
 use Rattle.cstn_lines.specs.declared.lines.Next.{Next}
 use Rattle.cstn_lines.specs.declared.lines.Next.TheVariants.{Line, End, Wrong, Fault}
 
--- the line that a step has just handed out, what was taken and not handed out, how many lines were, and whether the source has ended
+-- the line that the last step handed out, the bytes that were taken and not handed out yet, how many lines were handed out, and
+-- whether the source has ended
 pub record LinesState : Type 0 where
   pub line : List ℕ
   pub kept : List ℕ
   pub count : ℕ
   pub ended : Bool
 
--- the first line of these bytes, after so many lines, was handed out, whatever follows
+-- the step handed out the first line of these bytes, which comes after `count` lines, whatever bytes follow
 pub record HandsOut (bytes : List ℕ) (count : ℕ) (after : LinesState) (number : ℕ) : Type 0 where
   pub is_number : number ≡ count + 1
   pub counts : after.count ≡ count + 1
@@ -19,11 +20,11 @@ pub record HandsOut (bytes : List ℕ) (count : ℕ) (after : LinesState) (numbe
   pub whole : (rest : List ℕ) → after.ended ≡ false → whole_lines (bytes ++ rest) ≡ after.line ∷ whole_lines (after.kept ++ rest)
   pub short : is_past number after.line ≡ false
 
--- the next line is of no grammar, whatever follows what is kept of it
+-- the next line, as far as it is kept, is already too long or too late
 abbrev pub IsPast : LinesState → Type 0
 IsPast state = (line : List ℕ) × (lines : List (List ℕ)) × (lines_of state.kept ≡ line ∷ lines) × (is_past (state.count + 1) line ≡ true)
 
--- what is said of such a line
+-- the answer of a step at a line of this number that is too long or too late
 abbrev pub wrong_at : ℕ → Next
 wrong_at number = Wrong number
 
@@ -34,7 +35,7 @@ pub record IsOver (bytes : List ℕ) (count : ℕ) (after : LinesState) : Type 0
   pub counts : after.count ≡ count
   pub ended : after.ended ≡ true
 
--- the first line of these bytes is of no grammar, whatever follows
+-- the first line of these bytes is too long or too late, whatever bytes follow
 pub record HasWrongLine (bytes : List ℕ) (count : ℕ) (after : LinesState) (number : ℕ) : Type 0 where
   pub is_number : number ≡ count + 1
   pub next : (rest : List ℕ) → (line : List ℕ) × (lines : List (List ℕ)) × (lines_of (bytes ++ rest) ≡ line ∷ lines) × (is_past number line ≡ true)
@@ -42,22 +43,23 @@ pub record HasWrongLine (bytes : List ℕ) (count : ℕ) (after : LinesState) (n
   pub counts : after.count ≡ count
   pub stays : IsPast after
 
--- the source failed in the first line of these bytes
+-- a read failed before the first line of these bytes was whole
 pub record IsBroken (bytes : List ℕ) (count : ℕ) (after : LinesState) : Type 0 where
   pub kept : after.kept ≡ bytes
   pub none : whole_lines bytes ≡ []
   pub counts : after.count ≡ count
   pub ended : after.ended ≡ false
 
--- what a step says of these bytes, after so many lines
+-- what the answer of a step means for these bytes, which come after `count` lines
 abbrev pub Steps : List ℕ → ℕ → LinesState → Next → Type 0
 Steps bytes count after (Line number) = HandsOut bytes count after number
 Steps bytes count after End = IsOver bytes count after
 Steps bytes count after (Wrong number) = HasWrongLine bytes count after number
 Steps bytes count after Fault = IsBroken bytes count after
 
--- The reads of a step that reads. Each but the last took a byte, and before the last the line that was kept had no end, was
--- short enough and not too late. So none comes after one that took nothing, failed or brought the line.
+-- The reads of a step that reads; `before` and `after` count those of the source. Each but the last took a byte or more, and
+-- before the last one the kept line had no LF and was neither too long nor too late. So no read comes after one that took
+-- nothing, failed or brought the end of the line.
 pub record ReadsOn (kept : List ℕ) (count : ℕ) (taken : List ℕ) (before after : ℕ) : Type 0 where
   pub first : List ℕ
   pub last : List ℕ

@@ -47,7 +47,7 @@ pub enum EditLine {
     Remove {
         id: u32,
     },
-    /// `change ID W`: such a number, and a value in ticks.
+    /// `change ID W`: an id of at most 4,294,967,295, and a value in ticks.
     Change {
         id: u32,
         most: i32,
@@ -57,7 +57,8 @@ pub enum EditLine {
 }
 
 /// The edit line that these bytes are, without its LF: exactly a form of `EditLine`, with one space between the
-/// parts and no other. None where they are no edit line. Only a line that begins with `add` may want memory.
+/// parts and no other. None where they are no edit line. Fails for want of memory alone, and only at a line that
+/// begins with `add`.
 pub fn read_edit(alloc: Global, bytes: &[u8]) -> Result<Option<EditLine>, AllocError>
     ensures read { IfOk result (λ line. option_map the_edit line ≡ edit_read bytes.now) }
     ensures memory { OnErr result (IsAdding bytes.now) }
@@ -88,7 +89,7 @@ fn read_id_line(word: &[u8], operands: &[u8]) -> Option<EditLine>
     None
 }
 
-// A number of at most 4,294,967,295.
+// The number of at most 4,294,967,295 that a text is; none where it isn't one.
 pub fn read_id(bytes: &[u8]) -> Option<u32>
     ensures { result ≡ id_read bytes.now }
 {

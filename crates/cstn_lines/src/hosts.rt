@@ -11,9 +11,9 @@ use crate::live::{LiveLine, cut_at_space, read_live};
 pub enum HostLine {
     /// `open ID K`, two numbers of at most 4,294,967,295: the id, and the file's place, from 0.
     Open { id: u32, file: u32 },
-    /// `on ID LIVE`, such a number and a live line.
+    /// `on ID LIVE`, an id of at most 4,294,967,295 and a live line.
     On { id: u32, line: LiveLine },
-    /// `close ID`, such a number.
+    /// `close ID`, an id of at most 4,294,967,295.
     Close { id: u32 },
 }
 

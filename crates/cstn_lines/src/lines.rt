@@ -28,13 +28,13 @@ pub enum Next {
     End,
     /// The next line has more than 4,096 bytes, or would be line 16,777,217.
     Wrong { number: u32 },
-    /// A read failed, and was counted. What was taken of the line is kept.
+    /// A read failed, and the source counted the fault. The bytes taken of the line are kept.
     Fault,
 }
 
 /// Cuts a source into lines. Each ends with LF, but the last may lack it.
-// The line handed out stands from `first` to `last`, and what is kept from `start` to `end`, of which no byte
-// before `searched` is LF.
+// `bytes` has the line handed out from `first` to `last`, and what is kept from `start` to `end`. No byte of the
+// latter before `searched` is LF.
 #[derive(Drop)]
 pub struct Lines {
     bytes: Vec<u8>,
@@ -60,7 +60,8 @@ impl Model for Lines {
 }
 
 impl Lines {
-    /// Takes the room for a line, and none later.
+    /// The state before the first line of a source. Takes memory for the longest line, and none later. Fails for
+    /// want of memory alone.
     pub fn start(alloc: Global) -> Result<Lines, AllocError>
         ensures { IfOk result (λ s. s ≡ record { line = []; kept = []; count = 0; ended = false }) }
     {
@@ -108,7 +109,8 @@ impl Lines {
         }
     }
 
-    // The next line of what is kept, where it is whole or past what a grammar has.
+    // What a step answers from the bytes that are kept: their first line where that is whole, `Wrong` where it is
+    // too long or too late, and none where more bytes are wanted.
     fn cut(&mut self) -> Option<Next>
         ensures past { IsPast self.old → (result ≡ Some (wrong_at (self.old.count + 1))) × (self.new ≡ self.old) }
         ensures steps { IfSome result (Steps self.old.kept self.old.count self.new) }
@@ -136,7 +138,7 @@ impl Lines {
         }
     }
 
-    // The line that ends so many bytes into what is kept.
+    // Hands out the first line of what is kept, which has `len` bytes and then its LF.
     fn hand_out(&mut self, len: usize) -> Next
         requires cut { IsCut self.old.kept len }
         requires count { self.old.count < 2 ^ 24 }
@@ -152,7 +154,7 @@ impl Lines {
         Next::Line { number: self.count }
     }
 
-    // The last line, which has no end.
+    // Hands out what is kept as the last line, which lacks its LF; `End` where nothing is kept.
     fn finish(&mut self) -> Next
         requires none { HasNoEnd self.old.kept }
         requires short { length self.old.kept ≤ 4096 }
@@ -206,7 +208,7 @@ impl Lines {
         }
     }
 
-    // Reads until the next line is whole, or past what a grammar has, or the last.
+    // Reads until the next line is whole, too long or too late, the source ends, or a read fails.
     fn read_on<S: Source>(&mut self, source: &mut S) -> Next
         requires none { HasNoEnd self.old.kept }
         requires short { length self.old.kept ≤ 4096 }
@@ -229,9 +231,9 @@ impl Lines {
         }
     }
 
-    /// The next line. Nothing is read where it is kept whole or is already too long, or where the source has
-    /// ended; else reads go on until one brings the end of the line, makes it too long, answers 0 or fails.
-    /// After `End` and `Wrong` each step says the same again.
+    /// The next line. Nothing is read where it is kept whole, is already `Wrong`, or where the source has ended;
+    /// else reads go on until one brings the end of the line, makes it `Wrong`, answers 0 or fails. After `End` and
+    /// `Wrong` each step says the same again.
     pub fn step<S: Source>(&mut self, source: &mut S) -> Next
         ensures steps { (taken : List ℕ) × (S.left source.old ≡ after_bytes taken (S.left source.new)) × (self.old.ended ≡ true → taken ≡ []) × Steps (self.old.kept ++ taken) self.old.count self.new result }
 
@@ -269,7 +271,7 @@ fn move_to_front(bytes: &mut [u8], start: usize, end: usize)
     }
 }
 
-// Where the first line ends.
+// The place of the first LF; none where there is none.
 #[tactic(auto, using(crate::proofs::PieceLemmas::cut_if, crate::proofs::PieceLemmas::open_if))]
 fn first_end(bytes: &[u8]) -> Option<usize>
     ensures cut { IfSome result (IsCut bytes.now) }

@@ -7,10 +7,10 @@ use crate::places::first_place;
 use cstn_label::Prop;
 use cstn_text::read_number;
 
-/// What a live line says: the time, the value that an observation shows, or the question what is due.
+/// What a live line says: which moment it is, the value that an observation shows, or the question what is due.
 #[derive(Clone, Copy, Debug, PartialEq, Eq)]
 pub enum LiveLine {
-    /// `moment T`, with T a number of at most 4,294,967,295.
+    /// `moment T`, with T in ticks, a number of at most 4,294,967,295.
     Moment { t: u32 },
     /// `see P true` or `see P false`, with P an ASCII letter.
     See { prop: Prop, value: bool },
@@ -36,7 +36,7 @@ pub fn read_live(bytes: &[u8]) -> Option<LiveLine>
     None
 }
 
-// What stands before the first space, and what stands after it.
+// What stands before the first space, and what stands after it; none where there is no space.
 pub fn cut_at_space(bytes: &[u8]) -> Option<(&[u8], &[u8])>
     ensures { option_map (λ parts. (parts.0.now, parts.1.now)) result ≡ cut_at_space bytes.now }
 {

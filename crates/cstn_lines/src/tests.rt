@@ -7,7 +7,7 @@ use cstn_label::{Label, Mark, Prop};
 use std::alloc::Global;
 use std::process::Abort;
 
-// A source of these bytes, of which these calls fail.
+// A source of these bytes that hands out at most `most` a call, and whose calls numbered in `failing`, from 0, fail.
 fn source_of(
     rt: &impl Abort,
     alloc: Global,
@@ -26,7 +26,7 @@ fn started(rt: &impl Abort, alloc: Global) -> Lines {
     Lines::start(alloc).expect(rt, "memory")
 }
 
-// The next step answers so.
+// The next step answers `next`.
 fn expect_step(rt: &impl Abort, lines: &mut Lines, source: &mut MemorySource, next: Next) {
     assert_eq!(rt; lines.step(source), next);
 }
@@ -51,7 +51,7 @@ fn expect_end(rt: &impl Abort, mut lines: Lines, mut source: MemorySource) {
     drop(source);
 }
 
-// Three lines are read from a source that hands out so many bytes a call at most.
+// Three lines are read from a source that hands out at most `most` bytes a call.
 fn reads_three(rt: &impl Abort, alloc: Global, most: usize)
     requires { 0 < most }
 {
@@ -81,7 +81,7 @@ fn lines_of_little(rt: HostRuntime) {
     expect_end(&rt, lines, source);
 }
 
-// So many bytes `x`, which a line may or may not have.
+// As many bytes `x` as `len` says.
 fn long(rt: &impl Abort, alloc: Global, len: usize) -> Vec<u8> {
     vec![in alloc; b'x'; len].expect(rt, "memory")
 }

@@ -6,7 +6,7 @@ use Rattle.std.proofs.lemmas.List.{length-replicate}
 use Rattle.cstn_io.specs.Contents.{after_bytes, IsAllOf, IsAtEnd, IsFile, IsLongFile}
 use Rattle.cstn_reply.specs.Files.{file_at, bytes_or_none, IsContent, AreContents, AreThere}
 
--- what is left, or nothing where that isn't told
+-- the bytes that are told, or none where they aren't told
 pub given : Option (List ℕ) → List ℕ
 given None = []
 given (Some xs) = xs
@@ -29,7 +29,7 @@ pub more_taken : (told mid now : Option (List ℕ)) (before taken : List ℕ) �
 more_taken told mid None before taken is later = rw (is, later) refl
 more_taken told mid (Some xs) before taken is later = rw (is, later, append_assoc) refl
 
--- a file that was read
+-- the bytes that were read of a file are its content
 pub is_content : (told : Option (List ℕ → Option (List ℕ))) (name bytes : List ℕ) → IsFile told name bytes → IsContent told name bytes
 is_content None name bytes is = λ files e. absurd (cc)
 is_content (Some known) name bytes is = λ files e. told_bytes known files name bytes (cc) is
@@ -40,7 +40,7 @@ is_content (Some known) name bytes is = λ files e. told_bytes known files name 
 some_long : (n : ℕ) → (bytes : List ℕ) × (n < length bytes)
 some_long n = (replicate (n + 1) 0, omega (arith, length-replicate {A = ℕ} (n + 1) 0))
 
--- a file that is too long
+-- a file above the limit has a content of more bytes than the limit
 pub long_content : (told : Option (List ℕ → Option (List ℕ))) (name : List ℕ) (limit : ℕ) → IsLongFile told name limit → (bytes : List ℕ) × IsContent told name bytes × (limit < length bytes)
 long_content None name limit long = let w = some_long limit in (w.0, (λ files e. absurd (cc)), w.1)
 long_content (Some known) name limit long = (file_at known name, (λ files e. let same : known ≡ files = cc in ap (λ (f : List ℕ → Option (List ℕ)). file_at f name) same), longer (known name) limit long)
@@ -49,21 +49,21 @@ long_content (Some known) name limit long = (file_at known name, (λ files e. le
     longer None limit h = absurd h
     longer (Some bs) limit h = h
 
--- some contents agree with what is told
+-- there are contents that agree with what is told of the files
 pub some_contents : (told : Option (List ℕ → Option (List ℕ))) (names : List (List ℕ)) → (contents : List (List ℕ)) × AreContents told names contents
 some_contents None names = ([], (λ files e. absurd (cc)))
 some_contents (Some known) names = (map (file_at known) names, (λ files e. let same : known ≡ files = cc in ap (λ (f : List ℕ → Option (List ℕ)). map (file_at f) names) same))
 
--- the content of one file
+-- a list of one content, from the content of the file
 pub one_content : (told : Option (List ℕ → Option (List ℕ))) (name bytes : List ℕ) → IsContent told name bytes → AreContents told (name ∷ []) (bytes ∷ [])
 one_content told name bytes content = λ files e. ap (λ (bs : List ℕ). bs ∷ []) (content files e)
 
--- some bytes agree with what is told of a file
+-- there are bytes that agree with what is told of a file
 pub some_content : (told : Option (List ℕ → Option (List ℕ))) (name : List ℕ) → (bytes : List ℕ) × IsContent told name bytes
 some_content None name = ([], (λ files e. absurd (cc)))
 some_content (Some known) name = (file_at known name, (λ files e. let same : known ≡ files = cc in ap (λ (f : List ℕ → Option (List ℕ)). file_at f name) same))
 
--- the contents of two files
+-- a list of two contents, from the contents of the two files
 pub two_contents : (told : Option (List ℕ → Option (List ℕ))) (name other bytes text : List ℕ) → IsContent told name bytes → IsContent told other text → AreContents told (name ∷ other ∷ []) (bytes ∷ text ∷ [])
 two_contents told name other bytes text content second = λ files e. let one = content files e in let two = second files e in cc
 
@@ -88,11 +88,11 @@ long_is_there (Some known) name limit long = λ files e.
     some_there None limit h = absurd h
     some_there (Some bytes) limit h = refl
 
--- no file
+-- the files of an empty list are there
 pub none_there : (told : Option (List ℕ → Option (List ℕ))) → AreThere told []
 none_there told = λ files e. refl
 
--- two files
+-- two files are there where each of them is
 pub two_there : (told : Option (List ℕ → Option (List ℕ))) (name other : List ℕ) → AreThere told (name ∷ []) → AreThere told (other ∷ []) → AreThere told (name ∷ other ∷ [])
 two_there told name other one two = λ files e. both (is_some (files name)) (is_some (files other)) (one files e) (two files e)
   where

@@ -25,24 +25,24 @@ take_past n (x ∷ xs) ys = let e : suc (length xs + n) ≡ length (x ∷ xs) + 
 with_more_cut : (old mid new : Option (List ℕ)) (xs ys : List ℕ) (n : ℕ) → mid ≡ with_bytes old xs → new ≡ with_bytes mid (take n ys) → new ≡ with_bytes old (take (length xs + n) (xs ++ ys))
 with_more_cut old mid new xs ys n is later = with_more old mid new xs (take n ys) is later ∙ ap (with_bytes old) (take_past n xs ys)
 
--- the first bytes of a front
+-- the first n bytes of a text are first bytes of the text with more behind it
 shorter : (n : ℕ) (xs rest : List ℕ) → take n xs ≡ take (min n (length xs)) (xs ++ rest)
 shorter n xs rest = sym (take_min n xs) ∙ sym (take-append-le (min n (length xs)) xs rest (omega arith))
 
--- a text that is another one was written
+-- a text that is equal to a written one was written
 pub shown : (old new : Option (List ℕ)) (text other : List ℕ) (status result : Status) → IsWritten old new text status result → text ≡ other → IsWritten old new other status result
 shown old new text other status result written same = subst (λ (xs : List ℕ). IsWritten old new xs status result) same written
 
--- the last text was written, after what was written before
+-- how a session ends where the last text was written, whole or in part, after what was written before
 pub finishes : (plan : Plan) (before after : LiveState) (old mid new : Option (List ℕ)) (said text : List ℕ) (status result : Status) → IsText plan before after status (said ++ text) → mid ≡ with_bytes old said → IsWritten mid new text status result → Ends plan before after old new result
 finishes plan before after old mid new said text status result is was (inl (same, wrote)) = (status, said ++ text, is, inl (same, with_more old mid new said text was wrote))
 finishes plan before after old mid new said text status result is was (inr (fault, (n, wrote))) = (status, said ++ text, is, inr (fault, (length said + n, with_more_cut old mid new said text n was wrote)))
 
--- no memory was found before anything was written
+-- how a session ends where memory is refused before anything is written
 pub no_memory : (plan : Plan) (before after : LiveState) (old new : Option (List ℕ)) (result : Status) → IsWritten old new (line (codes "memory")) Memory result → Ends plan before after old new result
 no_memory plan before after old new result wrote = (Memory, line (codes "memory"), is_memory [] (inl refl), wrote)
 
--- the sink failed in an answer
+-- how a session ends where the sink fails in an answer
 pub cut_short : {S : Type 0} (turn : S → List ℕ → Turn S) (ending : S → Said) (opening : List ℕ) (start : S) (before : LiveState) (now : Option (List ℕ)) (faults : ℕ) (lines : LinesState) (state : S) (taken said : List ℕ) (old new : Option (List ℕ)) (n : ℕ) → Progress turn ending start before.left now lines state taken said → (lines.ended ≡ true → IsAtEnd now) → new ≡ with_bytes old (take n (opening ++ said)) → Ends (session turn ending opening start) before (record { left = now; faults = faults }) old new WriteFault
 cut_short turn ending opening start before now faults lines state taken said old new n so_far at_end is =
     let live : List ℕ = taken ++ given now in
@@ -56,7 +56,7 @@ cut_short turn ending opening start before now faults lines state taken said old
       inr (refl, (cut, is ∙ ap (with_bytes old) (shorter n (opening ++ said) rest.text ∙ ap (λ (s : Said). take cut s.text) (sym whole)))),
     )
 
--- the sink failed in the opening
+-- how a session ends where the sink fails in the opening
 pub cut_opening : {S : Type 0} (turn : S → List ℕ → Turn S) (ending : S → Said) (opening : List ℕ) (start : S) (before after : LiveState) (old new : Option (List ℕ)) (n : ℕ) → new ≡ with_bytes old (take n opening) → Ends (session turn ending opening start) before after old new WriteFault
 cut_opening turn ending opening start before after old new n is =
     let live : List ℕ = given before.left in
@@ -67,12 +67,12 @@ cut_opening turn ending opening start before after old new n is =
       inr (refl, (min n (length opening), is ∙ ap (with_bytes old) (shorter n opening (play turn ending start 0 (lines_of live)).text))),
     )
 
--- an answer was written
+-- what is written after one more answer was written
 pub regroup : (old mid new : Option (List ℕ)) (opening said shown text : List ℕ) → mid ≡ with_bytes old (opening ++ said) → new ≡ with_bytes mid shown → shown ≡ text → new ≡ with_bytes old (opening ++ (said ++ text))
 regroup old mid new opening said shown text was wrote is =
     with_more old mid new (opening ++ said) shown was wrote ∙ ap (λ (ys : List ℕ). with_bytes old ((opening ++ said) ++ ys)) is ∙ ap (with_bytes old) (append_assoc opening said text)
 
--- it was written in part
+-- what is written after one more answer was written in part
 pub regroup_cut : (old mid new : Option (List ℕ)) (opening said shown text : List ℕ) (n : ℕ) → mid ≡ with_bytes old (opening ++ said) → new ≡ with_bytes mid (take n shown) → shown ≡ text → new ≡ with_bytes old (take (length (opening ++ said) + n) (opening ++ (said ++ text)))
 regroup_cut old mid new opening said shown text n was wrote is =
     with_more_cut old mid new (opening ++ said) shown n was wrote

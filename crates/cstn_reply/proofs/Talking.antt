@@ -27,7 +27,7 @@ join_lines xs ys first (inr (front, is)) = inr (xs ++ front, ap (λ y. xs ++ y) 
 pub after_both : (xs ys : List ℕ) (said : Said) → after_text xs (after_text ys said) ≡ after_text (xs ++ ys) said
 after_both xs ys said = rw append_assoc refl
 
--- the texts of a session's answers
+-- the answer of a session to a line, by its state
 abbrev Turning : Type 0 → Type 0
 Turning S = S → List ℕ → Turn S
 
@@ -46,11 +46,11 @@ play_past turn ending state count first lines past = rw past refl
 answers_more : {S : Type 0} (turn : Turning S) (state next : S) (count : ℕ) (first text : List ℕ) (lines : List (List ℕ)) → is_past (count + 1) first ≡ false → turn state first ≡ more text next → answers turn state count (first ∷ lines) ≡ text ++ answers turn next (count + 1) lines
 answers_more turn state next count first text lines short is = rw (short, is) refl
 
--- what a call answered to a line
+-- the answer to a line, from what was answered to an equal line
 pub turned : {S : Type 0} (turn : Turning S) (state next : S) (shown first text : List ℕ) (a b : Answer) → turn state shown ≡ the_turn a next text → shown ≡ first → a ≡ b → turn state first ≡ the_turn b next text
 turned turn state next shown first text a b is same at = ap (turn state) (sym same) ∙ is ∙ ap (λ (x : Answer). the_turn x next text) at
 
--- a session at its start
+-- the progress of a session at its start
 pub starts : {S : Type 0} (turn : Turning S) (ending : S → Said) (start : S) (told : Option (List ℕ)) (lines : LinesState) → lines.kept ≡ [] → lines.count ≡ 0 → Progress turn ending start told told lines start [] []
 starts turn ending start told lines kept count = record {
   read = no_taken told;
@@ -59,7 +59,7 @@ starts turn ending start told lines kept count = record {
   lines_end = inl refl;
 }
 
--- a session that has come so far steps on by these bytes
+-- a session of this progress takes these bytes in a step through its lines
 pub record Stepped {S : Type 0} (turn : Turning S) (ending : S → Said) (start : S) (told mid now : Option (List ℕ)) (lines after : LinesState) (state : S) (taken said bytes : List ℕ) : Type 0 where
   pub so_far : Progress turn ending start told mid lines state taken said
   pub reads : mid ≡ after_bytes bytes now
@@ -71,13 +71,13 @@ was_going : (a b : Bool) → (a ≡ true → b ≡ true) → b ≡ false → a �
 was_going true b stays going = absurd (let e : b ≡ true = stays refl in cc)
 was_going false b stays going = refl
 
--- what the whole output is, from here on
+-- what a session says of all lines, from the bytes that this step took on
 goes_on : {S : Type 0} (turn : Turning S) (ending : S → Said) (start : S) (told mid now : Option (List ℕ)) (lines after : LinesState) (state : S) (taken said bytes : List ℕ) → Stepped turn ending start told mid now lines after state taken said bytes → (rest : List ℕ) → (after.ended ≡ true → rest ≡ []) → play turn ending start 0 (lines_of ((taken ++ bytes) ++ rest)) ≡ after_text said (play turn ending state lines.count (lines_of ((lines.kept ++ bytes) ++ rest)))
 goes_on turn ending start told mid now lines after state taken said bytes stepped rest end =
     let empty : lines.ended ≡ true → bytes ++ rest ≡ [] = λ h. ap (λ m. m ++ rest) (stepped.idle h) ∙ end (stepped.stays h) in
     rw (append_assoc taken bytes rest, append_assoc lines.kept bytes rest) (stepped.so_far.whole (bytes ++ rest) empty)
 
--- a line and its answer
+-- the progress after one more line and its answer
 pub one_more : {S : Type 0} (turn : Turning S) (ending : S → Said) (start : S) (told mid now : Option (List ℕ)) (lines after : LinesState) (state next : S) (taken said bytes text : List ℕ) (number : ℕ) → Stepped turn ending start told mid now lines after state taken said bytes → HandsOut (lines.kept ++ bytes) lines.count after number → turn state after.line ≡ more text next → EndsLine text → Progress turn ending start told now after next (taken ++ bytes) (said ++ text)
 one_more {S} turn ending start told mid now lines after state next taken said bytes text number stepped out is whole =
     let short : is_past (lines.count + 1) after.line ≡ false = subst (λ (n : ℕ). is_past n after.line ≡ false) out.is_number out.short in
@@ -100,14 +100,14 @@ one_more {S} turn ending start told mid now lines after state next taken said by
       lines_end = join_lines said text stepped.so_far.lines_end whole;
     }
 
--- the whole output ends here
+-- what was said, and a last text after it, are the whole output
 ends_here : {S : Type 0} (turn : Turning S) (ending : S → Said) (opening : List ℕ) (start : S) (before after : LiveState) (live said text : List ℕ) (outcome : Outcome) (status : Status) → IsAllOf before.left live → play turn ending start 0 (lines_of live) ≡ after_text said (record { outcome = outcome; text = text }) → status ≡ status_of outcome → IsText (session turn ending opening start) before after status ((opening ++ said) ++ text)
 ends_here turn ending opening start before after live said text outcome status all is at =
     let whole : Said = record { outcome = outcome; text = (opening ++ said) ++ text } in
     let output : whole ≡ after_text opening (play turn ending start 0 (lines_of live)) = sym (ap (after_text opening) is ∙ after_both opening said (record { outcome = outcome; text = text })) in
     subst (λ (s : Status). IsText (session turn ending opening start) before after s ((opening ++ said) ++ text)) (sym at) (is_output live whole all output)
 
--- what is said of the rest of the lines, where it ends the session
+-- what was said is followed by a last text in the whole output, where that text is what is said of the rest of the bytes
 rest_ends : {S : Type 0} (turn : Turning S) (ending : S → Said) (opening : List ℕ) (start : S) (before : LiveState) (mid now : Option (List ℕ)) (faults : ℕ) (lines after : LinesState) (state : S) (taken said bytes text : List ℕ) (outcome : Outcome) (status : Status) → Stepped turn ending start before.left mid now lines after state taken said bytes → ((after.ended ≡ true → given now ≡ []) → play turn ending state lines.count (lines_of ((lines.kept ++ bytes) ++ given now)) ≡ record { outcome = outcome; text = text }) → status ≡ status_of outcome → IsText (session turn ending opening start) before (record { left = now; faults = faults }) status ((opening ++ said) ++ text)
 rest_ends turn ending opening start before mid now faults lines after state taken said bytes text outcome status stepped ends at =
     let end : after.ended ≡ true → given now ≡ [] = λ h. given_end now (stepped.at_end h) in
@@ -116,7 +116,7 @@ rest_ends turn ending opening start before mid now faults lines after state take
     (goes_on turn ending start before.left mid now lines after state taken said bytes stepped (given now) end ∙ ap (after_text said) (ends end))
     at
 
--- a last answer
+-- the whole output, where the answer to a line is the last one
 pub last_line : {S : Type 0} (turn : Turning S) (ending : S → Said) (opening : List ℕ) (start : S) (before : LiveState) (mid now : Option (List ℕ)) (faults : ℕ) (lines after : LinesState) (state : S) (taken said bytes text : List ℕ) (number : ℕ) (outcome : Outcome) (status : Status) → Stepped turn ending start before.left mid now lines after state taken said bytes → HandsOut (lines.kept ++ bytes) lines.count after number → turn state after.line ≡ last (record { outcome = outcome; text = text }) → status ≡ status_of outcome → IsText (session turn ending opening start) before (record { left = now; faults = faults }) status ((opening ++ said) ++ text)
 last_line turn ending opening start before mid now faults lines after state taken said bytes text number outcome status stepped out is at =
     let short : is_past (lines.count + 1) after.line ≡ false = subst (λ (n : ℕ). is_past n after.line ≡ false) out.is_number out.short in
@@ -128,7 +128,7 @@ last_line turn ending opening start before mid now faults lines after state take
 scripts : (n m : ℕ) (text : List ℕ) → n ≡ m → text ≡ (script m).text → script n ≡ record { outcome = Script; text = text }
 scripts n m text same is = rw (same, is) refl
 
--- a line of no grammar
+-- the whole output, where a line is of no grammar
 pub wrong_line : {S : Type 0} (turn : Turning S) (ending : S → Said) (opening : List ℕ) (start : S) (before : LiveState) (mid now : Option (List ℕ)) (faults : ℕ) (lines after : LinesState) (state : S) (taken said bytes text : List ℕ) (number : ℕ) (status : Status) → Stepped turn ending start before.left mid now lines after state taken said bytes → HandsOut (lines.kept ++ bytes) lines.count after number → turn state after.line ≡ wrong → text ≡ (script number).text → status ≡ status_of Script → IsText (session turn ending opening start) before (record { left = now; faults = faults }) status ((opening ++ said) ++ text)
 wrong_line turn ending opening start before mid now faults lines after state taken said bytes text number status stepped out is text_is at =
     let short : is_past (lines.count + 1) after.line ≡ false = subst (λ (n : ℕ). is_past n after.line ≡ false) out.is_number out.short in
@@ -138,7 +138,7 @@ wrong_line turn ending opening start before mid now faults lines after state tak
     ∙ scripts (lines.count + 1) number text (sym out.is_number) text_is)
     at
 
--- a line that is too long or too late
+-- the whole output, where a line is too long or too late
 pub past_line : {S : Type 0} (turn : Turning S) (ending : S → Said) (opening : List ℕ) (start : S) (before : LiveState) (mid now : Option (List ℕ)) (faults : ℕ) (lines after : LinesState) (state : S) (taken said bytes text : List ℕ) (number : ℕ) (status : Status) → Stepped turn ending start before.left mid now lines after state taken said bytes → HasWrongLine (lines.kept ++ bytes) lines.count after number → text ≡ (script number).text → status ≡ status_of Script → IsText (session turn ending opening start) before (record { left = now; faults = faults }) status ((opening ++ said) ++ text)
 past_line turn ending opening start before mid now faults lines after state taken said bytes text number status stepped out text_is at =
     let found = out.next (given now) in
@@ -149,14 +149,14 @@ past_line turn ending opening start before mid now faults lines after state take
     ∙ scripts (lines.count + 1) number text (sym out.is_number) text_is)
     at
 
--- no line
+-- the whole output, where no line is left
 pub no_line : {S : Type 0} (turn : Turning S) (ending : S → Said) (opening : List ℕ) (start : S) (before : LiveState) (mid now : Option (List ℕ)) (faults : ℕ) (lines after : LinesState) (state : S) (taken said bytes text : List ℕ) (outcome : Outcome) (status : Status) → Stepped turn ending start before.left mid now lines after state taken said bytes → IsOver (lines.kept ++ bytes) lines.count after → ending state ≡ record { outcome = outcome; text = text } → status ≡ status_of outcome → IsText (session turn ending opening start) before (record { left = now; faults = faults }) status ((opening ++ said) ++ text)
 no_line turn ending opening start before mid now faults lines after state taken said bytes text outcome status stepped out is at =
     rest_ends turn ending opening start before mid now faults lines after state taken said bytes text outcome status stepped
     (λ end. ap (λ (bs : List ℕ). play turn ending state lines.count (lines_of bs)) (ap (λ (xs : List ℕ). xs ++ given now) out.none ∙ end out.ended) ∙ is)
     at
 
--- the live source failed
+-- what is written where the live source fails
 pub fault_line : {S : Type 0} (turn : Turning S) (ending : S → Said) (opening : List ℕ) (start : S) (before : LiveState) (mid now : Option (List ℕ)) (old faults : ℕ) (lines after : LinesState) (state : S) (taken said bytes text : List ℕ) (status : Status) → Stepped turn ending start before.left mid now lines after state taken said bytes → IsBroken (lines.kept ++ bytes) lines.count after → before.faults ≤ old → Rose old faults → text ≡ line (codes "read fault") → status ≡ ReadFault → IsText (session turn ending opening start) before (record { left = now; faults = faults }) status ((opening ++ said) ++ text)
 fault_line turn ending opening start before mid now old faults lines after state taken said bytes text status stepped out earlier rose text_is at =
     let said_is : answers turn start 0 (whole_lines (taken ++ bytes)) ≡ said =
@@ -173,7 +173,7 @@ fault_line turn ending opening start before mid now old faults lines after state
     later : (a b c : ℕ) → a ≤ b → Rose b c → Rose a c
     later a b c h r = omega (arith, r)
 
--- no memory was found for an answer
+-- what is written where memory for an answer is refused
 pub memory_line : {S : Type 0} (turn : Turning S) (ending : S → Said) (opening : List ℕ) (start : S) (before : LiveState) (mid now : Option (List ℕ)) (faults : ℕ) (lines after : LinesState) (state : S) (taken said bytes text : List ℕ) (status : Status) → Stepped turn ending start before.left mid now lines after state taken said bytes → EndsLine opening → text ≡ line (codes "memory") → status ≡ Memory → IsText (session turn ending opening start) before (record { left = now; faults = faults }) status ((opening ++ said) ++ text)
 memory_line turn ending opening start before mid now faults lines after state taken said bytes text status stepped opens text_is at =
     let end : after.ended ≡ true → given now ≡ [] = λ h. given_end now (stepped.at_end h) in

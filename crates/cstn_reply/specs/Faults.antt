@@ -3,7 +3,7 @@ use Rattle.std.specs.Prelude.{ℕ, List, ◌∷◌, ◌++◌, codes, decimal}
 use Rattle.cstn_closed.specs.Faults.{Fault, bad, no_base, no_chain, no_wait}
 use Rattle.cstn_reply.specs.Refusals.{printed}
 
--- a fault, by places from 0, the name of a time-point, or the id of a constraint
+-- the text of a fault, with the places of bounds counted from 0, the name of a time-point, or the id of a constraint
 abbrev pub fault_words : List (List ℕ) → Fault → List ℕ
 fault_words names (bad i) = codes "bound " ++ decimal i
 fault_words names (no_base x) = codes "base " ++ printed names x

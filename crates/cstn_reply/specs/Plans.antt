@@ -35,21 +35,23 @@ pub record Said : Type 0 where
   pub outcome : Outcome
   pub text : List ℕ
 
--- a line, and how the request ends
+-- a text as a line, and how the request ends
 abbrev pub say : Outcome → List ℕ → Said
 say outcome text = record { outcome = outcome; text = line text }
 
--- after a text
+-- this text, and then what is said
 abbrev pub after_text : List ℕ → Said → Said
 after_text text said = record { outcome = said.outcome; text = text ++ said.text }
 
--- what the replay of steps says: they refute the network, or the first wrong one is told, the last where all of them follow
+-- what the replay of steps says: accepted where they refute the network; else rejected with the place of the first step that
+-- doesn't follow by its rule, or of the last step where all follow
 abbrev pub IsReplay : List Entry → Network → Said → Type 0
 IsReplay steps net said =
     (IsRefutation net steps × (said ≡ say Good (codes "accepted")))
     ⊎ ((k : ℕ) × (IsFirstWrong net steps k ⊎ EndsInVain net steps k) × (said ≡ say Bad (codes "rejected " ++ decimal k)))
 
--- what the check of a list of bounds says: it has no fault for the network, so that it is closed, or its first fault is told
+-- what the check of a list of bounds says: accepted where it has no fault for the network, so that it is closed; else rejected
+-- with its first fault
 abbrev pub IsCertificate : List (List ℕ) → List Bound → Network → Said → Type 0
 IsCertificate names bounds net said =
     (IsFaultless net bounds × IsClosed net bounds × (said ≡ say Good (codes "accepted")))
@@ -63,8 +65,8 @@ AreEmpty labels = (x : ℕ) → x < length labels → label_in labels x ≡ empt
 abbrev pub AreUnlabelled : Parts → Type 0
 AreUnlabelled parts = IsFit parts × AreEmpty parts.labels
 
--- What is said of a yes as a tree: the load, and the tree of what the network's executive does by these bounds. No line of it breaks,
--- it has each time-point at its least moment, and its text says it.
+-- What is said of a yes as a tree: the load, and the tree of what the network's executive does by these bounds. No line of it
+-- breaks, it has each time-point at its least moment, and its text is read back as it.
 pub record IsTreeText (names : List (List ℕ)) (load : ℕ) (bounds : List Bound) (net : Network) (said : Said) : Type 0 where
   pub tree : Tree
   pub made : IsTreeOf net bounds tree
@@ -73,11 +75,10 @@ pub record IsTreeText (names : List (List ℕ)) (load : ℕ) (bounds : List Boun
   pub back : told names (shown names load (tree_lines tree)) ≡ tells (tree_lines tree)
   pub said_is : said ≡ record { outcome = Good; text = shown names load (tree_lines tree) }
 
--- What a request says: a text and no more; or what the replay of steps on a network says; or what the check of a list of bounds
--- says, under the names of the time-points; or the tree of a network, by a load and bounds; or an opening and then a session over
--- the lines of the live source, of which is told what it says of all lines, and what it answers to some of them alone; or what
--- is said of the labelled network of a document's parts, where they make one; or what is said where the labels of the
--- time-points are empty.
+-- What a request says: a text and no more; what the replay of steps on a network says; what the check of a list of bounds says,
+-- under the names of the time-points; the tree of a network, by a load and bounds; an opening and then a session over the lines
+-- of the live source, by what it says of all lines and what it answers to some of them alone; what another plan says, where the
+-- parts of a document make a labelled network; or what another plan says, where the labels of the time-points are empty.
 pub data Plan : Type 0 where
   says : Said → Plan
   replays : List Entry → Network → Plan
@@ -112,7 +113,7 @@ before_fault (talks opening whole heard) taken = opening ++ heard (whole_lines t
 before_fault (judges parts plan) taken = before_fault plan taken
 before_fault (unlabelled labels plan) taken = before_fault plan taken
 
--- a session is held
+-- the plan may come to a session
 abbrev pub MayTalk : Plan → Type 0
 MayTalk (says said) = ⊥
 MayTalk (replays steps net) = ⊥
@@ -122,11 +123,11 @@ MayTalk (talks opening whole heard) = Unit {0}
 MayTalk (judges parts plan) = IsFit parts × MayTalk plan
 MayTalk (unlabelled labels plan) = AreEmpty labels × MayTalk plan
 
--- the live source stands as it was, but for a session
+-- the live source is as it was before, unless the plan may come to a session
 abbrev pub Untouched : {S : Type 0} → Plan → S → S → Type 0
 Untouched plan before after = MayTalk plan ⊎ (after ≡ before)
 
--- what a plan says is what another one says
+-- the plan says whatever the other plan says, and where that one may come to a session, it comes to the same
 pub record ComesTo (plan other : Plan) : Type 0 where
   pub output : (live : List ℕ) (said : Said) → IsOutput other live said → IsOutput plan live said
   pub talks : MayTalk other → MayTalk plan

@@ -2,6 +2,6 @@
 use Rattle.cstn_reply.specs.Plans.{Said}
 use Rattle.cstn_reply.specs.declared.output.Said.{Said as SaidText}
 
--- what is said
+-- the text that ends a request, and how the request ends
 abbrev pub the_said : SaidText → Said
 the_said said = record { outcome = said.outcome; text = said.text.items }

@@ -14,24 +14,24 @@ pub data Turn (State : Type 0) : Type 0 where
   last : Said → Turn State
   wrong : Turn State
 
--- what follows from an answer
+-- one of three values, by whether the answer goes on, is the last one, or refuses the line
 abbrev pub on_turn : {S R : Type 0} → Turn S → (List ℕ → S → R) → (Said → R) → R → R
 on_turn (more text state) going ended refused = going text state
 on_turn (last said) going ended refused = ended said
 on_turn wrong going ended refused = refused
 
--- what is said of a line that is of no grammar
+-- what is said where the line of this number is of no grammar
 abbrev pub script : ℕ → Said
 script number = say Script (codes "script " ++ decimal number)
 
--- what a session says from a state on, after so many lines: its answers to these lines, and then how it ends
+-- what a session says from a state on, after `count` lines: its answers to these lines, and then how it ends
 abbrev pub play : {S : Type 0} → (S → List ℕ → Turn S) → (S → Said) → S → ℕ → List (List ℕ) → Said
 play turn ending state count [] = ending state
 play turn ending state count (first ∷ lines) =
     if is_past (count + 1) first then script (count + 1) else
     on_turn (turn state first) (λ text next. after_text text (play turn ending next (count + 1) lines)) (λ said. said) (script (count + 1))
 
--- its answers to these lines alone
+-- the answers of a session to these lines alone, from a state on, after `count` lines
 abbrev pub answers : {S : Type 0} → (S → List ℕ → Turn S) → S → ℕ → List (List ℕ) → List ℕ
 answers turn state count [] = []
 answers turn state count (first ∷ lines) =
@@ -48,7 +48,8 @@ the_turn More state text = more text state
 the_turn (Last outcome) state text = last (record { outcome = outcome; text = text })
 the_turn Wrong state text = wrong
 
--- How far a session has come: what was taken and said so far, and what goes on from here.
+-- How far a session has come: the bytes that it took and the answers that it said, after which what it says of the whole is
+-- what it says from its state on of the bytes kept and those to come.
 pub record Progress {S : Type 0} (turn : S → List ℕ → Turn S) (ending : S → Said) (start : S) (told now : Option (List ℕ)) (lines : LinesState) (state : S) (taken said : List ℕ) : Type 0 where
   pub read : told ≡ after_bytes taken now
   pub whole : (rest : List ℕ) → (lines.ended ≡ true → rest ≡ []) → play turn ending start 0 (lines_of (taken ++ rest)) ≡ after_text said (play turn ending state lines.count (lines_of (lines.kept ++ rest)))

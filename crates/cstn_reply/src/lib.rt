@@ -1,4 +1,4 @@
-// What is said for a request, and how it is written: texts, statuses, and sessions over lines.
+//! What is said for a request, and how it is written: texts, statuses, and sessions over lines.
 #![tactic(auto)]
 
 mod output;

@@ -12,17 +12,26 @@ use cstn_io::{Failed, Sink, put_all};
 /// How the output ends, where nothing failed.
 #[derive(Clone, Copy, Debug, PartialEq, Eq)]
 pub enum Outcome {
+    /// Yes, carried out, saved, accepted or drilled.
     Good,
+    /// No, or rejected.
     Bad,
+    /// The words are no request.
     Words,
+    /// The document is refused.
     Document,
+    /// A log has more entries than it may.
     Full,
+    /// The lines of a run ended before it was carried out.
     Unfinished,
+    /// A line, or a text that was handed in, is not of its form.
     Script,
+    /// More propositions are observed than a tree is made for.
     Wide,
 }
 
 impl Outcome {
+    /// The status of the same name.
     pub fn status(self) -> Status
         ensures status { result ≡ status_of self }
         ensures read { result ≢ Status.ReadFault }
@@ -42,7 +51,7 @@ impl Outcome {
     }
 }
 
-/// A text, and how it ends a request.
+/// The text that ends a request, and how the request ends.
 #[derive(Drop)]
 pub struct Said {
     pub outcome: Outcome,
@@ -58,7 +67,7 @@ pub enum Refused {
     Memory,
 }
 
-/// Writes a text and flushes it.
+/// Writes a text and flushes it. Fails where the sink does; then a prefix of the text is written.
 pub(crate) fn send<K: Sink>(out: &mut K, text: &[u8]) -> Result<(), Failed>
     ensures whole { OnOk result (K.written out.new ≡ with_bytes (K.written out.old) text.now) }
     ensures flushed { OnOk result (K.flushed out.new ≡ option_map length (K.written out.new)) }
@@ -70,7 +79,7 @@ pub(crate) fn send<K: Sink>(out: &mut K, text: &[u8]) -> Result<(), Failed>
     out.flush()
 }
 
-/// Writes the last text and flushes it. The status is the given one, where nothing fails.
+/// Writes the last text and flushes it. Returns the given status, or `WriteFault` where the sink fails.
 pub fn finish<K: Sink>(out: &mut K, text: &[u8], status: Status) -> Status
     ensures written { IsWritten (K.written out.old) (K.written out.new) text.now status result }
     ensures status { (result ≡ status) ⊎ (result ≡ Status.WriteFault) }

@@ -15,11 +15,14 @@ use cstn_lines::{Lines, Next};
 use itoa::Buffer;
 use std::alloc::{AllocError, Global};
 
-/// How a session goes on after a line.
+/// How a session goes on after a line: more lines are read, the answer is the last one, or the line is of no grammar.
 #[derive(Clone, Copy, Debug, PartialEq, Eq)]
 pub enum Answer {
+    /// More lines are read.
     More,
+    /// The answer is the last one, and this is the outcome.
     Last(Outcome),
+    /// The line is of no grammar.
     Wrong,
 }
 
@@ -28,7 +31,7 @@ pub trait Talk: Drop {
     /// The states of a session.
     ghost State: { Type 0 };
 
-    /// The state that it is in.
+    /// The state that the session is in.
     ghost state: { Self → State };
 
     /// The answer to a line.
@@ -43,9 +46,11 @@ pub trait Talk: Drop {
     /// Whether an answer may want memory.
     ghost may_stop: { Bool };
 
+    /// How many bytes an answer may have, and what is said where the lines end.
     fn room(&self) -> usize
         ensures { result ≡ room self.now };
 
+    /// Answers a line: its answer stands in `text` then. Fails where memory is refused.
     fn answer(&mut self, line: &[u8], text: &mut Vec<u8>) -> Result<Answer, AllocError>
         requires empty { text.old.items ≡ [] }
         requires room { room self.old ≤ vec_capacity text.old }
@@ -55,13 +60,14 @@ pub trait Talk: Drop {
         ensures capacity { vec_capacity text.old ≤ vec_capacity text.new }
         ensures memory { OnErr result (IsTrue may_stop) };
 
+    /// What is said where the lines end stands in `text` then, and the outcome is returned.
     fn ending(&self, text: &mut Vec<u8>) -> Outcome
         requires empty { text.old.items ≡ [] }
         requires room { room self.now ≤ vec_capacity text.old }
         ensures { ending (state self.now) ≡ record { outcome = result; text = text.new.items } };
 }
 
-// How much room each text of a session itself wants, in bytes.
+// Room for each text that a session says by itself, as `script N` or `read fault`, in bytes.
 const ROOM: usize = 40;
 
 // Puts a text in place of what was there.
@@ -74,7 +80,7 @@ fn put(text: &mut Vec<u8>, bytes: &[u8])
     text.extend_from_slice(bytes).unwrap();
 }
 
-// Says that a line is of no grammar.
+// Puts `script N` in place of what was there: the line of this number is of no grammar.
 fn put_script(text: &mut Vec<u8>, number: u32)
     requires { 40 ≤ vec_capacity text.old }
     ensures items { text.new.items ≡ (script number).text }
@@ -87,7 +93,8 @@ fn put_script(text: &mut Vec<u8>, number: u32)
     text.extend_from_slice(b"\n").unwrap();
 }
 
-// Takes a line and puts the answer to it, or what is said at the end with the status of it.
+// Takes the next line and puts the answer to it into `text`. None where the session goes on; at its end `text` is the last
+// text, and the status is returned.
 fn next<T: Talk, S: Source>(
     talk: &mut T,
     lines: &mut Lines,
@@ -134,7 +141,8 @@ fn next<T: Talk, S: Source>(
     }
 }
 
-/// Says the opening, and answers the lines of the live source.
+/// Writes the opening and then the answer to each line of the live source, and flushes each of them. Returns how the
+/// session ended.
 pub fn converse<T: Talk, S: Source, K: Sink>(
     alloc: Global,
     mut talk: T,

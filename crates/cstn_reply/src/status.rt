@@ -1,19 +1,19 @@
-// How a request ended.
+// Statuses of requests.
 ghost use Rattle.std.specs.Prelude.{◌≡◌};
 ghost use Rattle.cstn_reply.specs.Statuses.{number_of};
 
 /// How a request ended.
 #[derive(Clone, Copy, Debug, PartialEq, Eq)]
 pub enum Status {
-    /// Yes.
+    /// Yes, or done as asked: saved, accepted or drilled.
     Good,
-    /// No.
+    /// No, or rejected.
     Bad,
     /// The words are no request.
     Words,
     /// The document is refused.
     Document,
-    /// The log has more entries than it may.
+    /// A log has more entries than its cap.
     Full,
     /// A file or the live source couldn't be read.
     ReadFault,
@@ -23,7 +23,7 @@ pub enum Status {
     Memory,
     /// The live source ended before all was executed.
     Unfinished,
-    /// A line is of no grammar.
+    /// A line of the live source is of no grammar, too long or too late.
     Script,
     /// More propositions are observed than a tree is made for.
     Wide,

@@ -64,7 +64,7 @@ yes_said cap names net load live (Ok said) narrow decided same is =
     by_verdict cap names net (Yes (load_of net)) live (the_said said) narrow decided
     (subst (λ (n : ℕ). IsTreeText names n (live_bounds (log_of net)) net (the_said said)) same is)
 
--- after no the refutation, and past the cap the cap
+-- after no the refutation is said, and the cap where the log has more entries
 pub other_said : (cap : ℕ) (names : List (List ℕ)) (net : Network) (live : List ℕ) (said : Said) → observed net ≤ 10 → ((after_yes : Plan) → on_verdict cap names net after_yes (verdict cap net) ≡ says said) → IsOutput (unfolded cap names net) live said
 other_said cap names net live said narrow is =
     by_verdict cap names net (verdict cap net) live said narrow refl

@@ -9,7 +9,7 @@ use Rattle.cstn_reply.specs.declared.output.Outcome.TheVariants.{Good, Bad}
 use Rattle.cstn_verdict.specs.Documents.{Answer}
 use Rattle.cstn_evidence.specs.Texts.{wrong_line}
 
--- no line breaks, or this is the first that does
+-- what is said of a tree: that it is accepted where no line breaks, or the first line that does
 abbrev pub told_of_line : Option ℕ → Said
 told_of_line None = say Good (codes "accepted")
 told_of_line (Some line) = say Bad (codes "rejected " ++ decimal line)

@@ -12,8 +12,8 @@ use Rattle.cstn_verdict.specs.Verdicts.{verdict, on_verdict}
 abbrev pub observed : Network → ℕ
 observed net = count_by is_some net.observes
 
--- what `tree` says of a network: how many propositions are observed, where they are more than 10; and else after yes the load, and
--- the tree of what the executive does by the bounds of the live entries of the log
+-- what `tree` says of a network: how many propositions are observed, where they are more than 10; and else after yes the load,
+-- and the tree of what the executive does by the bounds of the live entries of the log
 abbrev pub unfolded : ℕ → Answer
 unfolded cap names net =
     if nat_lt 10 (observed net) then says (say Wide (codes "wide " ++ decimal (observed net)))

@@ -16,7 +16,8 @@ use cstn_text::Names;
 use cstn_tree::{Tree, TreeAnswer, TreeError, check, read};
 use std::alloc::Global;
 
-/// Says whether the tree of a text is good for the network, or which line of it breaks first; of another text, which line is wrong.
+/// Says that the tree of a text is good for the network, or which line of it breaks first; of a text that isn't of the form,
+/// the first line that is wrong. Fails for want of memory alone.
 pub fn check_tree(
     alloc: Global,
     network: &Network,

@@ -1,4 +1,4 @@
-// A yes as a tree that a person can read, and what is said of the text of one.
+//! A yes as a tree that a person can read, and what is said of the text of one.
 #![tactic(auto)]
 
 mod checks;

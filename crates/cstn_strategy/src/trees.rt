@@ -21,8 +21,9 @@ use std::alloc::Global;
 // A tree is made for no more observed propositions: with each one it may have twice as many branches.
 const MOST_OBSERVED: u16 = 10;
 
-/// Says what the executive of a network does, as a tree, where the network's log, which may have `cap` entries, answers yes; after
-/// no what refutes the network. Where more than 10 propositions are observed it says how many, and decides nothing.
+/// Says after yes what the executive of a network does, as a tree, after no what refutes the network, or the cap where its log
+/// has more than `cap` entries. Where more than 10 propositions are observed it says how many, and decides nothing. Fails for
+/// want of memory alone.
 pub fn unfold(alloc: Global, network: Network, names: &Names, cap: u32) -> Result<Said, Refused>
     requires some { 1 ≤ cap }
     requires most { cap ≤ 4194304 }

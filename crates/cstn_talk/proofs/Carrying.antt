@@ -26,7 +26,7 @@ use Rattle.cstn_talk.specs.Meanings.{state_after, IsPlanned, GuidesTo, NamesLeas
 use Rattle.cstn_talk.proofs.Sessions.{first_leads, Begins, says_next, same_state}
 use Rattle.cstn_talk.proofs.Moments.{after_guided, named_now}
 
--- what the last answer tells of the line that it is to: a moment is accepted, after which all is executed or left out
+-- what the last answer tells of its line: it hands in a moment that is accepted, and after which all is executed or left out
 pub record LastAt (m : Labelled) (bounds : List Bound) (g : Guided) (o : Option Live) (said : Said) : Type 0 where
   pub at : ℕ
   pub moment : o ≡ Some (moment_at at)
@@ -40,7 +40,7 @@ pub data Follows (m : Labelled) (bounds : List Bound) (g : Guided) (o : Option L
   follows_outcome : (p : ℕ) (v : Bool) → o ≡ Some (seen p v) → see_refusal m g p ≡ None → next ≡ noted g p v → Follows m bounds g o next
   follows_same : next ≡ g → Follows m bounds g o next
 
--- what an answer tells of the line that it is to
+-- what an answer tells of its line
 abbrev Tells : Labelled → List Bound → Guided → Option Live → Turn Guided → Type 0
 Tells m bounds g o (more text next) = Follows m bounds g o next
 Tells m bounds g o (last said) = LastAt m bounds g o said

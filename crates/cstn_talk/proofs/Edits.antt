@@ -23,7 +23,7 @@ use Rattle.cstn_talk.specs.Editing.{Editing, EditingParts, the_editing, refused_
 abbrev pub seen_with : SessionParts → List (List ℕ) → Option Verdict → EditingParts
 seen_with s names verdict = record { session = s; names = names; verdict = verdict }
 
--- by its definition
+-- an edit session as the definitions have it
 abbrev pub state_with : ℕ → List (List ℕ) → Option Verdict → Session → Editing
 state_with cap names verdict s = record { cap = cap; names = names; session = s; verdict = verdict }
 
@@ -41,7 +41,7 @@ module _ (old : EditingParts) (s new : SessionParts) (names : List (List ℕ)) (
       ∙ ap (λ (x : Session). more said (state_with s.cap names verdict x)) (sym next_is)
       ∙ ap (λ (cap : ℕ). more said (state_with cap names verdict (the_session new))) (sym cap_is))
 
-  -- a refused one
+  -- a refused edit
   pub refused : (refusal : Session → Option Refusal) (why : Refusal) (text : SessionParts → List ℕ) (next : Session → Session)
       (said : List ℕ) → Some why ≡ refusal (the_session s) → said ≡ line (refused_edit why) → new ≡ s →
       answered_edit (the_editing old) (refusal (the_session old.session)) (text old.session) (next (the_session old.session))
@@ -73,7 +73,7 @@ verdict_ends cap names kept (No load) =
     (ends_after (printed_number load) (10 ∷ printed_steps names 0 (part kept)) (steps_end names 0 (part kept)))
 verdict_ends cap names kept Full = (codes "full " ++ decimal cap, refl)
 
--- what a turn says before it goes on
+-- the text of an answer after which the session goes on
 abbrev said_of : {S : Type 0} → Turn S → List ℕ
 said_of (more text state) = text
 said_of (last said) = []

@@ -35,7 +35,7 @@ not_script o script' other = let f : ⊥ = cc in f
 not_good : (o : Outcome) → o ≡ Good → o ≡ Unfinished → ⊥
 not_good o good other = let f : ⊥ = cc in f
 
--- some line of these accepts the moment t, from a state on and after so many lines, and x is told there
+-- one of these lines, which follow the state s and n lines, hands in the moment t, it is accepted, and x is told there
 record IsNamedIn (names : List (List ℕ)) (m : Labelled) (bounds : List Bound) (s : Guided) (n : ℕ) (lines : List (List ℕ)) (x t : ℕ) : Type 0 where
   before : List (List ℕ)
   next : List ℕ
@@ -118,7 +118,7 @@ module _ (names : List (List ℕ)) (m : Labelled) (bounds : List Bound) (plan : 
       by_first (goes_past past) rest =
           absurd (no_such (play turn ending s n (first ∷ lines)).outcome (ap (λ (x : Said). x.outcome) (play_past turn s n first lines past ending)) good)
 
-  -- ---- who is named in the end was named by the answers
+  -- ---- a time-point that is named in the end was named by an answer
 
   still_named : (s : Guided) (first : List ℕ) (next : Guided) (x t : ℕ) → IsGuided m s → Follows m bounds s (live_read first) next → named_at s x ≡ Some t → named_at next x ≡ Some t
   still_named s first next x t right (follows_moment u at ok is) e = subst (λ (g : Guided). named_at g x ≡ Some t) (sym is) (named_still m bounds plan s right u ok x t e)
@@ -140,7 +140,7 @@ module _ (names : List (List ℕ)) (m : Labelled) (bounds : List Bound) (plan : 
       by_first (goes_wrong short is) rest = subst (λ (g : Guided). named_at g x ≡ Some t) (sym (ended_wrong turn s n first lines short leading is)) e
       by_first (goes_past past) rest = subst (λ (g : Guided). named_at g x ≡ Some t) (sym (ended_past turn s n first lines past leading)) e
 
-  -- who is told by a line is named after it, and in the end
+  -- a time-point that is told by a line is named after it, and in the end
   accepted_turn : (g : Guided) (next : List ℕ) (t : ℕ) → live_read next ≡ Some (moment_at t) → moment_refusal (lowered m) bounds g.run t ≡ None → guide_turn names m bounds g next ≡ executing (moment_line names t (told m bounds g.run t)) (advanced m bounds g t) (due (lowered m) bounds (advanced m bounds g t).run)
   accepted_turn g next t at ok = ap (answer_turn names m bounds g) at ∙ ap (told_turn names m bounds g t) ok
 
@@ -157,7 +157,7 @@ module _ (names : List (List ℕ)) (m : Labelled) (bounds : List Bound) (plan : 
           subst (λ (h : Guided). named_at h x ≡ Some t) (sym (ended_more turn g n next later short leading _ (advanced m bounds g t) is))
           (keeps_named (advanced m bounds g t) (n + 1) later x t (after_guided m bounds plan g right t ok) now)
 
-  -- whoever is named in the end was named at the start, or by a line
+  -- a time-point that is named in the end was named at the start, or by a line
   from_moment : (s : Guided) (n : ℕ) (first : List ℕ) (lines : List (List ℕ)) (x t u : ℕ) → IsGuided m s → is_past (n + 1) first ≡ false → live_read first ≡ Some (moment_at u) → moment_refusal (lowered m) bounds s.run u ≡ None → named_at (advanced m bounds s u) x ≡ Some t → (named_at s x ≡ Some t) ⊎ IsNamedIn names m bounds s n (first ∷ lines) x t
   from_moment s n first lines x t u right short at ok e = elim (named_back m bounds plan s right u ok x t e) [
     | inl before ↦ inl before
@@ -180,7 +180,7 @@ module _ (names : List (List ℕ)) (m : Labelled) (bounds : List Bound) (plan : 
   from_next s n first lines next x t right short (follows_outcome p v at ok is) e = inl (subst (λ (g : Guided). named_at g x ≡ Some t) is e)
   from_next s n first lines next x t right short (follows_same is) e = inl (subst (λ (g : Guided). named_at g x ≡ Some t) is e)
 
-  -- a line of the later ones is one of all
+  -- a time-point that is named by one of the later lines is named by one of all lines
   named_later : (s : Guided) (n : ℕ) (first : List ℕ) (lines : List (List ℕ)) (text : List ℕ) (next : Guided) (x t : ℕ) → is_past (n + 1) first ≡ false → guide_turn names m bounds s first ≡ more text next → IsNamedIn names m bounds next (n + 1) lines x t → IsNamedIn names m bounds s n (first ∷ lines) x t
   named_later s n first lines text next x t short is r = record {
     before = first ∷ r.before;
@@ -265,7 +265,7 @@ module _ (names : List (List ℕ)) (m : Labelled) (bounds : List Bound) (plan : 
         led = led m plan.labelled plan.well_formed (end_of names m bounds lines) right bounds plan.table plan.earliest done;
       }
 
-  -- what is told where the lines end before
+  -- what is told where the lines end while something is due
   record IsUnfinished (s : Guided) (n : ℕ) (lines : List (List ℕ)) : Type 0 where
     at : ℕ
     due_at : due (lowered m) bounds (ended turn leading s n lines).run ≡ Some at

@@ -1,4 +1,4 @@
--- Who is named after a moment that a guide accepts.
+-- Which time-points are named after a moment that a guide accepts.
 use Rattle.std.proofs.Common.{ℕ, ◌≡◌, ◌⊎◌, inl, inr, ◌<◌, false, List, length, Some, None, arith, sym, ◌∙◌}
 use Rattle.std.specs.List.{Contains}
 use Rattle.std.proofs.lemmas.Bool.{cases_Bool, cond-true, cond-false, both_ways}
@@ -19,7 +19,7 @@ use Rattle.cstn_guide.proofs.Denying.{all_executed, left_kept, left_in, left_not
 use Rattle.cstn_guide.proofs.Advancing.{advanced_guided}
 use Rattle.cstn_talk.specs.Meanings.{IsPlanned}
 
--- whoever was named was executed and not left out
+-- a time-point that was named was executed and not left out
 pub named_parts : (g : Guided) (x t : ℕ) → named_at g x ≡ Some t → (is_left g x ≡ false) × (executed_at g.run x ≡ Some t)
 named_parts g x t e = elim (cases_Bool (is_left g x)) [
   | inl left ↦ absurd (some_or_none (named_at g x) t e (cond-true (is_left g x) None (executed_at g.run x) left))
@@ -29,7 +29,7 @@ named_parts g x t e = elim (cases_Bool (is_left g x)) [
 named_from : (g : Guided) (x t : ℕ) → is_left g x ≡ false → executed_at g.run x ≡ Some t → named_at g x ≡ Some t
 named_from g x t kept e = cond-false (is_left g x) None (executed_at g.run x) kept ∙ e
 
--- nobody is named at the beginning
+-- no time-point is named at the beginning
 pub nobody_named : (n x t : ℕ) → named_at (begun n) x ≡ Some t → ⊥
 nobody_named n x t e = some_or_none (executed_at (start n) x) t (named_parts (begun n) x t e).1 (default_of n x None)
 
@@ -47,7 +47,7 @@ module _ (m : Labelled) (bounds : List Bound) (plan : IsPlanned m bounds) (g : G
   pub after_guided : IsGuided m (advanced m bounds g t)
   after_guided = advanced_guided m bounds plan.table plan.labelled plan.well_formed plan.earliest g right t ok
 
-  -- who waits isn't left out
+  -- a time-point whose moment it is wasn't left out before
   waits_kept : (x : ℕ) → Contains (named net bounds g.run t) x → is_left g x ≡ false
   waits_kept x c = elim (cases_Bool (is_left g x)) [
     | inr kept ↦ kept
@@ -56,7 +56,7 @@ module _ (m : Labelled) (bounds : List Bound) (plan : IsPlanned m bounds) (g : G
         absurd (some_or_none (executed_at g.run x) e.0 e.1 (named_waits net bounds plan.well_formed g.run right.right t x c))
   ]
 
-  -- the told are named at the moment
+  -- a time-point that is told is named at this moment
   pub named_now : (x : ℕ) → Contains (told m bounds g.run t) x → named_at (advanced m bounds g t) x ≡ Some t
   named_now x c =
       let parts = told_parts m bounds g.run t x c in
@@ -64,7 +64,7 @@ module _ (m : Labelled) (bounds : List Bound) (plan : IsPlanned m bounds) (g : G
       named_from after x t (stays ∙ waits_kept x parts.0)
       (all_executed net out (moved net bounds g.run t) x ∙ named_executed net bounds plan.well_formed g.run right.right t x parts.0)
 
-  -- who was named before still is
+  -- a time-point that was named before still is
   pub named_still : (x u : ℕ) → named_at g x ≡ Some u → named_at (advanced m bounds g t) x ≡ Some u
   named_still x u e =
       let parts = named_parts g x u e in
@@ -73,7 +73,7 @@ module _ (m : Labelled) (bounds : List Bound) (plan : IsPlanned m bounds) (g : G
       named_from after x u (stays ∙ parts.0)
       (all_executed net out (moved net bounds g.run t) x ∙ moved_kept net bounds plan.well_formed g.run right.right t x u parts.1)
 
-  -- and whoever is named was named before, or is told
+  -- a time-point that is named after the moment was named before, or is told at it
   pub named_back : (x u : ℕ) → named_at (advanced m bounds g t) x ≡ Some u → (named_at g x ≡ Some u) ⊎ (Contains (told m bounds g.run t) x × (u ≡ t))
   named_back x u e =
       let parts = named_parts after x u e in

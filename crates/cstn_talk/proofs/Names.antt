@@ -28,7 +28,7 @@ spaced_name names x = 32 ∷ get_or names x.0 []
 spaced_by : (names : List (List ℕ)) (xs : List NodeId) → spaced names (the_nodes xs) ≡ flat_map (spaced_name names) xs
 spaced_by names xs = flat_map-map (λ (x : ℕ). 32 ∷ get_or names x []) (λ (x : NodeId). x.0) xs
 
--- the names of one more time-point
+-- the names of the first i + 1 time-points are those of the first i, and the next name
 pub spaced_more : (names : List (List ℕ)) (xs : List NodeId) (i : ℕ) (d : NodeId) → i < length xs → spaced names (the_nodes (take (i + 1) xs)) ≡ spaced names (the_nodes (take i xs)) ++ 32 ∷ get_or names (get_or xs i d).0 []
 spaced_more names xs i d inside =
     let next : take (i + 1) xs ≡ take i xs ++ get_or xs i d ∷ [] = ap (λ (n : ℕ). take n xs) (plus_one i) ∙ take-suc xs i d inside in
@@ -61,21 +61,21 @@ range_below n = λ k d inside.
     let within : k < n = subst (λ (m : ℕ). k < m) (length-range_with_len 0 n) inside in
     subst (λ (x : ℕ). x < n) (sym (get_or-range_with_len 0 n k d within)) (omega (arith, within))
 
--- who is named is a time-point
+-- each number that is named at a moment is a time-point
 pub named_inside : (net : Network) (bounds : List Bound) (run : Run) (t : ℕ) (xs : List NodeId) (n : ℕ) → the_nodes xs ≡ named net bounds run t → n ≡ count net → All (λ (x : NodeId). x.0 < n) xs
 named_inside net bounds run t xs n is size = λ k d inside.
     let within : k < length (the_nodes xs) = subst (λ (m : ℕ). k < m) (sym (length-map xs (λ (x : NodeId). x.0))) inside in
     let all : All (λ (x : ℕ). x < count net) (the_nodes xs) = subst (λ (ys : List ℕ). All (λ (x : ℕ). x < count net) ys) (sym is) (All-filter (is_free net bounds run t) (λ x. x < count net) (range_with_len 0 (count net)) (range_below (count net))) in
     subst (λ (m : ℕ). (get_or xs k d).0 < m) (sym size) (subst (λ (x : ℕ). x < count net) (get_or-map (λ (x : NodeId). x.0) xs k d 0 inside) (all k 0 within))
 
--- so are those of them who are told
+-- so is each number that a guide tells at a moment
 pub told_inside : (m : Labelled) (bounds : List Bound) (run : Run) (t : ℕ) (xs : List NodeId) (n : ℕ) → the_nodes xs ≡ told m bounds run t → n ≡ count m.base → All (λ (x : NodeId). x.0 < n) xs
 told_inside m bounds run t xs n is size = λ k d inside.
     let within : k < length (the_nodes xs) = subst (λ (m : ℕ). k < m) (sym (length-map xs (λ (x : NodeId). x.0))) inside in
     let all : All (λ (x : ℕ). x < count m.base) (the_nodes xs) = subst (λ (ys : List ℕ). All (λ (x : ℕ). x < count m.base) ys) (sym is) (All-filter (holds_at m run t) (λ x. x < count m.base) (named (lowered m) bounds run t) (All-filter (is_free (lowered m) bounds run t) (λ x. x < count m.base) (range_with_len 0 (count m.base)) (range_below (count m.base)))) in
     subst (λ (m : ℕ). (get_or xs k d).0 < m) (sym size) (subst (λ (x : ℕ). x < count m.base) (get_or-map (λ (x : NodeId). x.0) xs k d 0 inside) (all k 0 within))
 
--- no more than all are named
+-- at a moment, at most as many time-points are named as the network has
 pub named_few : (net : Network) (bounds : List Bound) (run : Run) (t : ℕ) (xs : List NodeId) → the_nodes xs ≡ named net bounds run t → length xs ≤ count net
 named_few net bounds run t xs is =
     let size : length (the_nodes xs) ≡ length xs = length-map xs (λ (x : NodeId). x.0) in
@@ -85,7 +85,7 @@ named_few net bounds run t xs is =
     let all : length (range_with_len 0 (count net)) ≡ count net = length-range_with_len 0 (count net) in
     omega (arith, size, same, few, most, all)
 
--- nor told
+-- at a moment, a guide tells at most as many time-points as the network has
 pub told_few : (m : Labelled) (bounds : List Bound) (run : Run) (t : ℕ) (xs : List NodeId) → the_nodes xs ≡ told m bounds run t → length xs ≤ count m.base
 told_few m bounds run t xs is =
     let size : length (the_nodes xs) ≡ length xs = length-map xs (λ (x : NodeId). x.0) in
@@ -104,19 +104,19 @@ name_at names named' k i name shown i_is name_is inside shown_is =
     ∙ sym (get_or-map string_bytes names i name [] (subst (λ (j : ℕ). j < length names) (sym i_is) inside))
     ∙ ap (λ (j : ℕ). get_or (map string_bytes names) j []) i_is
 
--- and it is short
+-- the name that is put has at most 192 bytes
 pub shown_short : (names : List (String Global)) (j : ℕ) (shown : List ℕ) → All (λ name. length name ≤ 192) (map string_bytes names) → j < length names → shown ≡ get_or (map string_bytes names) j [] → length shown ≤ 192
 shown_short names j shown short inside is =
     subst (λ (text : List ℕ). length text ≤ 192) (sym is) (short j [] (subst (λ (n : ℕ). j < n) (sym (length-map names string_bytes)) inside))
 
--- the names so far, and the next one
+-- a text with the names of the first k time-points, and then the next name, has the names of the first k + 1
 pub next_name : (names : List (List ℕ)) (named' : List NodeId) (k : ℕ) (old now new shown : List ℕ) → now ≡ old ++ spaced names (the_nodes (take k named')) → new ≡ now ++ 32 ∷ shown → k < length named' → shown ≡ get_or names (get_or named' k (record { 0 = 0 })).0 [] → new ≡ old ++ spaced names (the_nodes (take (k + 1) named'))
 next_name names named' k old now new shown now_is new_is inside shown_is =
     new_is ∙ ap (λ (xs : List ℕ). xs ++ 32 ∷ shown) now_is
     ∙ append_assoc old (spaced names (the_nodes (take k named'))) (32 ∷ shown)
     ∙ ap (λ (xs : List ℕ). old ++ xs) (ap (λ (xs : List ℕ). spaced names (the_nodes (take k named')) ++ 32 ∷ xs) shown_is ∙ sym (spaced_more names named' k (record { 0 = 0 }) inside))
 
--- one more printed name
+-- the printed names of the first k, and the next printed name, are those of the first k + 1
 pub printed_more : (names : List (List ℕ)) (k : ℕ) (texts new : List (String Global)) (text : String Global) (name : List ℕ) → map string_bytes texts ≡ map printed_name (take k names) → new ≡ texts ++ text ∷ [] → string_bytes text ≡ printed_name name → slice_get names k ≡ Some name → map string_bytes new ≡ map printed_name (take (k + 1) names)
 printed_more names k texts new text name so_far new_is printed there =
     let inside : k < length names = slice_get_within names k name there in

@@ -51,7 +51,7 @@ module _ (names : List (List ℕ)) (m : Labelled) (bounds : List Bound) (plan : 
   same_turn : (g : Guided) (first : List ℕ) → IsGuided m g → guide_turn names m bounds g first ≡ turn_with (with_run g) (run_turn names (lowered m) bounds g.run first)
   same_turn g first right = same_live g (live_read first) right
 
-  -- ---- all of them
+  -- ---- all answers
 
   next_right : (g : Guided) (first text : List ℕ) (run : Run) → IsGuided m g → turn_with (with_run g) (run_turn names (lowered m) bounds g.run first) ≡ more text (with_run g run) → IsGuided m (with_run g run)
   next_right g first text run right is =

@@ -20,7 +20,7 @@ not_full load v full yes' = let f : ⊥ = cc in f
 not_no : (load other : ℕ) (v : Verdict) → v ≡ No other → v ≡ Yes load → ⊥
 not_no load other v no' yes' = let f : ⊥ = cc in f
 
--- after yes no entry of the log refutes
+-- after yes no entry of the log refutes the network
 stands : (cap load : ℕ) (net : Network) → verdict cap net ≡ Yes load → is_refuted net (log_of net) ≡ false
 stands cap load net yes' = by_load (nat_lt cap (load_of net)) (is_refuted net (log_of net)) refl yes'
   where

@@ -1,4 +1,4 @@
--- A guided session as the program holds it is one of its labelled network.
+-- The program's guided session says what the definitions say of its labelled network.
 use Rattle.std.proofs.Common.{◌≡◌, ℕ, ◌+◌, List, [], ◌∷◌, ◌++◌, refl, ap, sym, subst, inr, ◌∙◌, Bool, true, false, String, Global, string_bytes}
 use Rattle.std.specs.Prelude.{if◌then◌else◌, map, Option, None, Some, codes}
 use Rattle.cstn_label.specs.Bounds.{Bound}
@@ -67,7 +67,7 @@ comes_guided opening r = record {
   fault = λ may taken. ap (λ (xs : List ℕ). opening ++ xs) (answers_as r 0 (whole_lines taken));
 }
 
--- what the session of a plan that was prepared says after yes
+-- after yes, a session from the beginning on, by the bounds of the log, says what is said of the labelled network
 pub comes_begun : (cap : ℕ) (names : List (List ℕ)) (m : Labelled) (opening : List ℕ) (r : GuidingParts) → verdict cap (lowered m) ≡ Yes (load_of (lowered m)) → opening ≡ yes_line (load_of (lowered m)) → the_labelled r.labelled ≡ m → the_bounds r.bounds ≡ live_bounds (log_of (lowered m)) → r.state ≡ begun_guide (count m.base) → r.names ≡ map printed_name names → ComesTo (carried_out cap names m) (session guided_turn guided_ending opening r)
 comes_begun cap names m opening r yes' opening_is m_is bounds_is state_is names_are =
     let talk : List ℕ → List (List ℕ) → Labelled → List Bound → Guided → Plan = λ o ns l bs g. session (guide_turn ns l bs) (guide_ending l bs) o g in
@@ -80,7 +80,7 @@ comes_begun cap names m opening r yes' opening_is m_is bounds_is state_is names_
     ∙ sym (ap (on_verdict cap names (lowered m) (talk (yes_line (load_of (lowered m))) (map printed_name names) m (live_bounds (log_of (lowered m))) (begun_guide (count m.base)))) yes') in
     subst (λ (p : Plan). ComesTo p (session guided_turn guided_ending opening r)) same (comes_guided opening r)
 
--- the same by the parts that were made one from another
+-- likewise where the session was started with a guide, and the guide with a plan of the log
 pub begun : (cap : ℕ) (names : List (List ℕ)) (labels : LabelledParts) (opening : List ℕ) (plan : PlanParts) (guide : GuideParts) (r : GuidingParts) → verdict cap (lowered (the_labelled labels)) ≡ Yes (load_of (lowered (the_labelled labels))) → opening ≡ yes_line (load_of (lowered (the_labelled labels))) → the_bounds plan.bounds ≡ live_bounds (log_of (lowered (the_labelled labels))) → guide ≡ record { labelled = labels; bounds = plan.bounds; state = begun_guide (count (the_labelled labels).base); named = [] } → r ≡ record { labelled = guide.labelled; bounds = guide.bounds; state = guide.state; names = map printed_name names } → ComesTo (carried_out cap names (the_labelled labels)) (session guided_turn guided_ending opening r)
 begun cap names labels opening plan guide r yes' opening_is live guide_is r_is =
     comes_begun cap names (the_labelled labels) opening r yes' opening_is
@@ -100,7 +100,7 @@ moment_accepted r t o is due_is =
     ap (λ (x : Option Refusal). turn_with (with_state r) (told_turn r.names (the_labelled r.labelled) (the_bounds r.bounds) r.state t x)) (sym is)
     ∙ ap (λ (x : Option ℕ). turn_with (with_state r) (executing (moment_line r.names t (told (the_labelled r.labelled) (the_bounds r.bounds) r.state.run t)) (advanced (the_labelled r.labelled) (the_bounds r.bounds) r.state t) x)) due_is
 
--- a guide and printed names
+-- the session of a guide under printed names
 abbrev seen_with : GuideParts → List (List ℕ) → GuidingParts
 seen_with e names = record { labelled = e.labelled; bounds = e.bounds; state = e.state; names = names }
 
@@ -124,14 +124,14 @@ moment_goes_on old e new names t u text view is new_is due_is text_is =
     ∙ ap (λ (x : GuideParts). more (moment_line names t (told (the_labelled e.labelled) (the_bounds e.bounds) e.state.run t)) (seen_with x names)) (sym new_is)
     ∙ ap (λ (xs : List ℕ). more xs (seen_with new names)) (sym text_is))
 
--- the last moment
+-- a moment after which nothing is due
 pub moment_ends : (old : GuidingParts) (e new : GuideParts) (names : List (List ℕ)) (t : ℕ) (text all : List ℕ) → seen_with e names ≡ old → None ≡ moment_refusal (lowered (the_labelled e.labelled)) (the_bounds e.bounds) e.state.run t → new ≡ moved_on e t → None ≡ due (lowered (the_labelled new.labelled)) (the_bounds new.bounds) new.state.run → text ≡ moment_line names t (told (the_labelled e.labelled) (the_bounds e.bounds) e.state.run t) → all ≡ text ++ line (codes "done") → told_by old t ≡ last (record { outcome = Good; text = all })
 moment_ends old e new names t text all view is new_is due_is text_is all_is =
     subst (λ (r : GuidingParts). told_by r t ≡ last (record { outcome = Good; text = all })) view
     (moment_accepted (seen_with e names) t None is (sym (due_is ∙ ap (λ (x : GuideParts). due (lowered (the_labelled x.labelled)) (the_bounds x.bounds) x.state.run) new_is))
     ∙ ap (λ (xs : List ℕ). last (record { outcome = Good; text = xs })) (sym (all_is ∙ ap (λ (xs : List ℕ). xs ++ line (codes "done")) text_is)))
 
--- the line of a moment, by the names that were lent
+-- the line of a moment, which was put from borrowed names and time-points
 pub moment_text : (names lent : List (String Global)) (t : ℕ) (xs : List NodeId) (named' text : List ℕ) → text ≡ moment_line (map string_bytes lent) t (the_nodes xs) → lent ≡ names → the_nodes xs ≡ named' → text ≡ moment_line (map string_bytes names) t named'
 moment_text names lent t xs named' text is same named_is =
     is ∙ ap (λ (ns : List (String Global)). moment_line (map string_bytes ns) t (the_nodes xs)) same ∙ ap (λ (ys : List ℕ). moment_line (map string_bytes names) t ys) named_is
@@ -140,7 +140,7 @@ moment_text names lent t xs named' text is same named_is =
 pub answered : (old new : GuidingParts) (bytes : List ℕ) (o : Option Live) (a : Answer) (text : List ℕ) → o ≡ live_read bytes → turn_with (with_state old) (answer_turn old.names (the_labelled old.labelled) (the_bounds old.bounds) old.state o) ≡ the_turn a new text → guided_turn old bytes ≡ the_turn a new text
 answered old new bytes o a text is turned = ap (λ (x : Option Live). turn_with (with_state old) (answer_turn old.names (the_labelled old.labelled) (the_bounds old.bounds) old.state x)) (sym is) ∙ turned
 
--- what is due is answered
+-- the answer to `due`
 pub due_answered : (old : GuidingParts) (text : List ℕ) → text ≡ line (due_text (due (lowered (the_labelled old.labelled)) (the_bounds old.bounds) old.state.run)) → turn_with (with_state old) (answer_turn old.names (the_labelled old.labelled) (the_bounds old.bounds) old.state (Some due_now)) ≡ more text old
 due_answered old text is = ap (λ (xs : List ℕ). more xs old) (sym is)
 

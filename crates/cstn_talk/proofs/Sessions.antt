@@ -1,4 +1,4 @@
--- What a session says to lines in two parts.
+-- What a session says to lines, and then to further lines.
 use Rattle.std.proofs.Common.{◌≡◌, ℕ, ◌+◌, List, [], ◌∷◌, ◌++◌, suc, length, refl, ap, sym, ◌∙◌, subst, arith, append_assoc, Bool, true, false}
 use Rattle.std.specs.Prelude.{Option, Some, None}
 use Rattle.cstn_lines.specs.Pieces.{is_past}
@@ -7,7 +7,7 @@ use Rattle.cstn_reply.specs.Sessions.{Turn, more, last, wrong, script, play, ans
 use Rattle.cstn_reply.proofs.Talking.{after_both}
 use Rattle.cstn_talk.specs.Meanings.{state_after, ended, LeadsTo, Says}
 
--- no state isn't some state
+-- an option isn't both none and some state
 pub no_state : {S : Type 0} (o : Option S) (s : S) → o ≡ None → o ≡ Some s → ⊥
 no_state o s none some = let f : ⊥ = cc in f
 

@@ -24,7 +24,7 @@ use Rattle.cstn_reply.specs.declared.output.Outcome.TheVariants.{Good, Bad, Full
 use Rattle.cstn_verdict.specs.Documents.{Answer}
 use Rattle.cstn_reply.specs.Sessions.{session}
 
--- an edit session under the names of its time-points, whose lists may have `cap` entries, and the verdict of the last check,
+-- an edit session, whose kept list may have `cap` entries, the names of its time-points, and the verdict of the last check,
 -- if there was one
 pub record Editing : Type 0 where
   pub cap : ℕ
@@ -35,7 +35,7 @@ pub record Editing : Type 0 where
 abbrev pub begun_editing : ℕ → List (List ℕ) → Network → Editing
 begun_editing cap names net = record { cap = cap; names = names; session = begun net; verdict = None }
 
--- a refused edit
+-- what is said of a refused edit
 abbrev pub refused_edit : Refusal → List ℕ
 refused_edit (NoRoom room) = codes "refused S1 " ++ decimal room
 refused_edit (NoSuch id) = codes "refused S2 " ++ decimal id
@@ -44,7 +44,7 @@ refused_edit NotPlain = codes "refused S4"
 refused_edit (NotObserved p) = codes "refused S5 " ++ letter_of p ∷ []
 refused_edit EditLimit = codes "refused S6"
 
--- an edit of a time-point that isn't there
+-- what is said of an edit that names a time-point which the network doesn't have
 abbrev pub unknown_name : List ℕ → List ℕ
 unknown_name name = codes "refused S7 " ++ printed_name name
 
@@ -53,14 +53,14 @@ abbrev pub answered_edit : Editing → Option Refusal → List ℕ → Session �
 answered_edit e None text next = more (line text) (record e { session = next })
 answered_edit e (Some refusal) text next = more (line (refused_edit refusal)) e
 
--- the answer to an added constraint, by the numbers of its ends
+-- the answer to an added constraint, by the numbers of its ends, each `None` where no time-point has the name
 abbrev pub answered_add : Editing → List ℕ → List ℕ → ℤ → Label → Option ℕ → Option ℕ → Turn Editing
 answered_add e from to most a None y = more (line (unknown_name from)) e
 answered_add e from to most a (Some x) None = more (line (unknown_name to)) e
 answered_add e from to most a (Some x) (Some y) =
     answered_edit e (add_refusal 16384 e.session most a) (codes "added " ++ decimal (next_id e.session.highest)) (with_added e.session x y most a)
 
--- what is said of an outcome by the kept list: that it was grown afresh, and the verdict
+-- what is said of a verdict: its load, after a no with the steps of the kept list that refute, or that the list is full
 abbrev pub verdict_text : ℕ → List (List ℕ) → List Entry → Verdict → List ℕ
 verdict_text cap names kept (Yes load) = yes_line load
 verdict_text cap names kept (No load) = shown names load (part kept)
@@ -88,7 +88,7 @@ answered e (Some asked) = answered_check e (outcome_at e.cap e.session) (with_ve
 abbrev pub edit_turn : Editing → List ℕ → Turn Editing
 edit_turn e text = answered e (edit_read text)
 
--- the end by a verdict
+-- how the session ends, by the verdict of its last check
 abbrev pub ending_by : Option Verdict → Outcome
 ending_by None = Good
 ending_by (Some (Yes load)) = Good

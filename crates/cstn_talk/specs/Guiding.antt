@@ -20,7 +20,7 @@ use Rattle.cstn_verdict.specs.Documents.{LabelledAnswer}
 use Rattle.cstn_verdict.specs.Verdicts.{verdict, on_verdict}
 use Rattle.cstn_talk.specs.Running.{moment_line, refused_text, seen_text, due_text, executing, unfinished, turn_with}
 
--- the answer to a moment: those are named whose moment it is and whose completed labels hold
+-- the answer to a moment: it names the time-points whose moment it is and whose completed labels hold
 abbrev pub told_turn : List (List ℕ) → Labelled → List Bound → Guided → ℕ → Option Refusal → Turn Guided
 told_turn names m bounds g t None = executing (moment_line names t (told m bounds g.run t)) (advanced m bounds g t) (due (lowered m) bounds (advanced m bounds g t).run)
 told_turn names m bounds g t (Some refusal) = more (line (refused_text refusal)) g

@@ -25,21 +25,22 @@ use Rattle.cstn_talk.specs.Guiding.{guide_turn, guide_ending}
 
 -- ---- sessions
 
--- the state after lines, from a state on and after so many lines; none where one of them is the last or is of no grammar
+-- The state to which these lines lead from the given state, before which there were `count` lines. There is none where one of
+-- the lines has the last answer, is of no grammar, is too long or comes too late.
 abbrev pub state_after : {S : Type 0} → (S → List ℕ → Turn S) → S → ℕ → List (List ℕ) → Option S
 state_after turn state count [] = Some state
 state_after turn state count (first ∷ lines) =
     if is_past (count + 1) first then None else
     on_turn (turn state first) (λ text next. state_after turn next (count + 1) lines) (λ said. None) None
 
--- the state in which a session ends over these lines, given the state that a last line leads to
+-- the state in which a session over these lines ends, where `led` gives the state after a line that has the last answer
 abbrev pub ended : {S : Type 0} → (S → List ℕ → Turn S) → (S → List ℕ → S) → S → ℕ → List (List ℕ) → S
 ended turn led state count [] = state
 ended turn led state count (first ∷ lines) =
     if is_past (count + 1) first then state else
     on_turn (turn state first) (λ text next. ended turn led next (count + 1) lines) (λ said. led state first) state
 
--- the lines lead to a state, in which the next one is answered
+-- the lines lead to this state, and the next line is neither too long nor too late
 pub record LeadsTo {S : Type 0} (turn : S → List ℕ → Turn S) (start : S) (lines : List (List ℕ)) (next : List ℕ) (reached : S) : Type 0 where
   pub state : state_after turn start 0 lines ≡ Some reached
   pub within : is_past (length lines + 1) next ≡ false
@@ -58,7 +59,7 @@ pub record IsPlanned (m : Labelled) (bounds : List Bound) : Type 0 where
   pub table : Table
   pub earliest : IsEarliest (lowered m) bounds table
 
--- the lines of a guided session lead from the beginning to a state, in which the next one is answered
+-- the lines lead a guided session from its beginning to this state, and the next line is neither too long nor too late
 abbrev pub GuidesTo : List (List ℕ) → Labelled → List Bound → List (List ℕ) → List ℕ → Guided → Type 0
 GuidesTo names m bounds before next g = LeadsTo (guide_turn names m bounds) (begun (count m.base)) before next g
 
@@ -66,9 +67,9 @@ GuidesTo names m bounds before next g = LeadsTo (guide_turn names m bounds) (beg
 abbrev pub GuideSays : List (List ℕ) → Labelled → List Bound → List (List ℕ) → List ℕ → List ℕ → Type 0
 GuideSays names m bounds before next text = Says (guide_turn names m bounds) (guide_ending m bounds) (begun (count m.base)) before next text
 
--- The answer to a moment that is accepted: exactly those are named who aren't executed yet, whose least moment it is by what is
--- known, and whose completed labels hold by that, in ascending number. In each scenario that agrees with what was handed in and
--- is known, each of them is executed, and at its least moment.
+-- The answer to a moment that is accepted names, in ascending number, exactly the time-points that aren't executed yet, whose
+-- least moment it is by what is known, and whose completed labels hold by that. In each scenario that agrees with the outcomes
+-- that were handed in and are known, each of them is executed, and at its least moment.
 pub record NamesLeast (names : List (List ℕ)) (m : Labelled) (bounds : List Bound) (before : List (List ℕ)) (next : List ℕ) (g : Guided) (t : ℕ) : Type 0 where
   pub named : List ℕ
   pub says : GuideSays names m bounds before next (moment_line names t named)
@@ -76,18 +77,18 @@ pub record NamesLeast (names : List (List ℕ)) (m : Labelled) (bounds : List Bo
   pub exactly : (x : ℕ) → Contains named x ↔ IsToldAt m g.run t x
   pub least : (s : Scenario) (x : ℕ) → AgreesHanded m (advanced m bounds g t) s → Contains named x → IsExecuted m s x × IsLabelledLeast m s x t
 
--- nothing is due where each time-point is executed or left out, and else the due moment
+-- what is due: nothing where each time-point is executed or left out, and else the due moment, which is within the deadline
 abbrev pub IsDueMoment : Labelled → Guided → Option ℕ → Type 0
 IsDueMoment m g None = IsDone (lowered m) g.run
 IsDueMoment m g (Some t) = IsDue (lowered m) g.run t × (t ≤ m.base.deadline)
 
--- what is due is answered
+-- the answer to `due` is the due moment, or that all is done
 pub record TellsDue (names : List (List ℕ)) (m : Labelled) (bounds : List Bound) (before : List (List ℕ)) (next : List ℕ) (g : Guided) : Type 0 where
   pub due : Option ℕ
   pub says : GuideSays names m bounds before next (line (due_text due))
   pub right : IsDueMoment m g due
 
--- the state that a live line leads to where its answer is the last, which only that to a moment can be
+-- the state after a live line that has the last answer, which only a moment can have
 abbrev pub led_by : Labelled → List Bound → Guided → Option Live → Guided
 led_by m bounds g None = g
 led_by m bounds g (Some (moment_at t)) = advanced m bounds g t
@@ -105,7 +106,7 @@ end_of names m bounds lines = ended (guide_turn names m bounds) (led_to m bounds
 abbrev pub said_to : List (List ℕ) → Labelled → List Bound → List (List ℕ) → Said
 said_to names m bounds lines = play (guide_turn names m bounds) (guide_ending m bounds) (begun (count m.base)) 0 lines
 
--- x was named at t: some line accepts that moment, and x is among those who are named there
+-- x was named at t: one of the lines hands in this moment, it is accepted, and the answer names x
 pub record WasNamed (names : List (List ℕ)) (m : Labelled) (bounds : List Bound) (lines : List (List ℕ)) (x t : ℕ) : Type 0 where
   pub before : List (List ℕ)
   pub next : List ℕ
@@ -117,20 +118,21 @@ pub record WasNamed (names : List (List ℕ)) (m : Labelled) (bounds : List Boun
   pub accepted : moment_refusal (lowered m) bounds state.run t ≡ None
   pub told : IsToldAt m state.run t x
 
--- Who was named when by the answers is who is named in the state in which the session ends. In each scenario that agrees with what
--- was handed in, each of them is executed, at its least moment, and whoever was left out isn't executed.
+-- In the state in which the session ends, a time-point is named at a moment exactly if an answer named it at that moment. In
+-- each scenario that agrees with the outcomes that were handed in and are known, each named time-point is executed, at its
+-- least moment, and no time-point that was left out is executed.
 pub record IsTimely (names : List (List ℕ)) (m : Labelled) (bounds : List Bound) (lines : List (List ℕ)) : Type 0 where
   pub named : (x t : ℕ) → named_at (end_of names m bounds lines) x ≡ Some t ↔ WasNamed names m bounds lines x t
   pub on_time : IsOnTime m (end_of names m bounds lines)
 
--- and each time-point is executed or left out, and those moments are of one labelled strategy, in each such scenario, and meet each
--- constraint that is in force there
+-- The session is timely, and each time-point is executed or left out. In each scenario that agrees with the outcomes that were
+-- handed in and are known, the named moments are those of one labelled strategy, and meet each constraint that is in force.
 pub record IsCarriedThrough (names : List (List ℕ)) (m : Labelled) (bounds : List Bound) (lines : List (List ℕ)) : Type 0 where
   pub done : IsDone (lowered m) (end_of names m bounds lines).run
   pub timely : IsTimely names m bounds lines
   pub led : IsLed m (end_of names m bounds lines)
 
--- the lines end before, and the due moment is told
+-- the lines end while something is due, and the due moment, which is within the deadline, is told
 pub record EndsUnfinished (names : List (List ℕ)) (m : Labelled) (bounds : List Bound) (lines : List (List ℕ)) : Type 0 where
   pub due : ℕ
   pub right : IsDue (lowered m) (end_of names m bounds lines).run due

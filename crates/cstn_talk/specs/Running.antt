@@ -18,7 +18,7 @@ use Rattle.cstn_reply.specs.declared.output.Outcome.TheVariants.{Good, Unfinishe
 abbrev pub spaced : List (List ℕ) → List ℕ → List ℕ
 spaced names xs = flat_map (λ x. 32 ∷ get_or names x []) xs
 
--- the time-points that are named at a moment, which may be none
+-- the line that names the time-points of a moment, perhaps none
 abbrev pub moment_line : List (List ℕ) → ℕ → List ℕ → List ℕ
 moment_line names t xs = line (codes "at " ++ decimal t ++ spaced names xs)
 
@@ -26,7 +26,7 @@ moment_line names t xs = line (codes "at " ++ decimal t ++ spaced names xs)
 abbrev pub letter : ℕ → List ℕ
 letter p = letter_of p ∷ []
 
--- a refused moment or outcome
+-- what is said of a refused moment or outcome
 abbrev pub refused_text : Refusal → List ℕ
 refused_text Done = codes "refused E6"
 refused_text (Past now) = codes "refused E1 " ++ decimal now
@@ -35,7 +35,7 @@ refused_text (Awaiting p) = codes "refused E3 " ++ letter p
 refused_text (NotExecuted p) = codes "refused E4 " ++ letter p
 refused_text (Known p value) = codes "refused E5 " ++ letter p ++ 32 ∷ printed_truth value
 
--- an outcome that was handed in
+-- what is said of an accepted outcome
 abbrev pub seen_text : ℕ → Bool → List ℕ
 seen_text p value = codes "seen " ++ letter p ++ 32 ∷ printed_truth value
 
@@ -76,7 +76,7 @@ unfinished (Some t) = say Unfinished (codes "unfinished " ++ decimal t)
 abbrev pub run_ending : Network → List Bound → Run → Said
 run_ending net bounds run = unfinished (due net bounds run)
 
--- an answer with another state
+-- the answer, with `f` applied to the state after it
 abbrev pub turn_with : {S R : Type 0} → (S → R) → Turn S → Turn R
 turn_with f (more text state) = more text (f state)
 turn_with f (last said) = last said
@@ -88,6 +88,6 @@ pub record AreShort (net : NetworkParts) (names : List (List ℕ)) : Type 0 wher
   pub few : count (the_network net) ≤ 1024
   pub each : All (λ name. length name ≤ 192) names
 
--- time-points by their numbers
+-- the numbers of these time-points
 abbrev pub the_nodes : List NodeId → List ℕ
 the_nodes xs = map (λ (x : NodeId). x.0) xs

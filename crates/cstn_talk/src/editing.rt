@@ -26,7 +26,7 @@ use cstn_text::{Names, print_name};
 use std::alloc::{AllocError, Global};
 use std::marker::Model;
 
-// How much room an answer wants, in bytes, but for the text of a refutation and a name.
+// How many bytes an answer has at most, unless it holds a refutation or a name.
 const ROOM: usize = 64;
 
 // How many constraints a session may have.
@@ -54,7 +54,7 @@ impl Model for Editing {
 }
 
 impl Editing {
-    /// A session on a network, of which nothing is edited.
+    /// A session on a network without any edit yet, whose kept list may have `cap` entries. Fails for want of memory alone.
     pub fn start(
         alloc: Global,
         network: Network,
@@ -176,7 +176,7 @@ impl Editing {
         }
     }
 
-    // Puts the text of what refutes the network.
+    // Puts the text of the refutation after a no.
     fn put_refutation(&self, text: &mut Vec<u8>) -> Result<(), AllocError>
         requires no { (o : Answered) × (load : ℕ) × (self.now.session.last ≡ Some o) × (o.verdict ≡ Verdict.No load) }
         ensures items { OnOk result (text.new.items ≡ text.old.items ++ shown self.now.names (length (kept_of self.now.session)) (part (kept_of self.now.session))) }
@@ -239,7 +239,7 @@ impl Talk for Editing {
     }
 }
 
-// The end by the verdict of the last check, if there was one.
+// How the session ends, by the verdict of the last check, if there was one.
 fn ending_by(verdict: Option<Verdict>) -> Outcome
     ensures { result ≡ ending_by verdict }
 {
@@ -284,7 +284,7 @@ fn put_refusal(text: &mut Vec<u8>, error: EditError)
     }
 }
 
-// Puts that the verdict was grown afresh, if it was.
+// Puts the line `afresh` where the check grew its kept list afresh.
 fn put_afresh(text: &mut Vec<u8>, afresh: bool)
     requires empty { text.old.items ≡ [] }
     requires room { ROOM ≤ vec_capacity text.old }

@@ -24,8 +24,9 @@ pub fn yes_is_planned()
 {}
 
 /// After any lines, the answer to a moment that is accepted names exactly the time-points that aren't executed yet, whose
-/// completed labels hold by what is known, and whose least moment it is, each in every scenario that agrees with what was handed
-/// in. So is, over any lines, each moment of those who were named by an answer. The answer to `due` is the due moment.
+/// completed labels hold by what is known, and whose least moment it is, each in every scenario that agrees with what was
+/// handed in. Over any lines, the moment at which an answer names a time-point is its least one in every such scenario. The
+/// answer to `due` is the due moment, or `done` where there is none.
 pub fn guided_answers_are_least()
     ensures least { (names : List (List ℕ)) (m : Labelled) (bounds : List Bound) (before : List (List ℕ)) (next : List ℕ) (g : Guided) (t : ℕ) → IsPlanned m bounds → GuidesTo names m bounds before next g → live_read next ≡ Some (moment_at t) → moment_refusal (lowered m) bounds g.run t ≡ None → NamesLeast names m bounds before next g t }
     ensures timely { (names : List (List ℕ)) (m : Labelled) (bounds : List Bound) (lines : List (List ℕ)) → IsPlanned m bounds → IsTimely names m bounds lines }
@@ -33,7 +34,7 @@ pub fn guided_answers_are_least()
 {}
 
 /// Where a session ends well, the moments that its answers named are those of one labelled strategy, and meet each constraint
-/// that is in force, in every scenario that agrees with what was handed in. Where the lines end before, the due moment is told.
+/// that is in force, in every scenario that agrees with what was handed in. Where it ends unfinished, the due moment is told.
 pub fn good_sessions_are_carried_out()
     ensures carried_out { (names : List (List ℕ)) (m : Labelled) (bounds : List Bound) (lines : List (List ℕ)) → IsPlanned m bounds → (said_to names m bounds lines).outcome ≡ Good → IsCarriedThrough names m bounds lines }
     ensures unfinished { (names : List (List ℕ)) (m : Labelled) (bounds : List Bound) (lines : List (List ℕ)) → IsPlanned m bounds → (said_to names m bounds lines).outcome ≡ Unfinished → EndsUnfinished names m bounds lines }

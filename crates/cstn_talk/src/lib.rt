@@ -1,4 +1,4 @@
-// The answers to lines: of a guided session, and of an edit session.
+//! The answers to lines: of a guided session, and of an edit session.
 #![tactic(auto)]
 
 mod editing;

@@ -139,7 +139,7 @@ fn put_name(text: &mut Vec<u8>, name: &str)
     text.extend_from_slice(name.as_bytes()).unwrap();
 }
 
-/// The printed names of all time-points.
+/// The printed names of all time-points, each of at most 192 bytes. Fails for want of memory alone.
 pub fn print_names(alloc: Global, names: &Names) -> Result<Vec<String>, AllocError>
     requires few { length names.now ≤ 1024 }
     ensures printed { IfOk result (λ printed. map string_bytes printed.items ≡ map printed_name names.now) }

@@ -110,7 +110,7 @@ host_stands no_text cap deadline contents said Unfinished capped tells' = tt
 host_stands no_text cap deadline contents said Script capped tells' = tt
 host_stands no_text cap deadline contents said Wide capped tells' = tt
 
--- how many entries the log of a request may have, where its text is told
+-- the cap of a request that writes evidence is at most 4,194,304
 abbrev pub IsRanged : Request → Type 0
 IsRanged (check asked cap) = cap ≤ 4194304
 IsRanged (run asked cap) = cap ≤ 4194304
@@ -258,7 +258,7 @@ output_evidence yes_text no_text (drill number) contents live said capped output
 output_evidence yes_text no_text (host files deadline cap) contents live said capped output =
     host_shown files deadline cap contents said.outcome said.text (host_stands no_text cap deadline contents said said.outcome capped (host_tells cap deadline contents live said output))
 
--- what was written of an output, unless the call was stopped
+-- an output of the plan was written whole, with its status
 abbrev pub WroteOutput : Plan → LiveState → Option (List ℕ) → Option (List ℕ) → Status → Type 0
 WroteOutput plan before old new status = (live : List ℕ) × IsAllOf before.left live × ((said : Said) × IsOutput plan live said × (status ≡ status_of said.outcome) × (new ≡ with_bytes old said.text))
 

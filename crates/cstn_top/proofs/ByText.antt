@@ -1,4 +1,4 @@
--- What is said by a text.
+-- What is said of a network by the text of a file.
 use Rattle.std.proofs.Common.{◌≡◌, ℕ, ◌≤◌, ◌<◌, List, [], ◌∷◌, length, refl, ap, sym, subst, arith}
 use Rattle.std.specs.Prelude.{nat_lt, if◌then◌else◌, Option, Result, Ok, Err, IfOk, codes}
 use Rattle.cstn_io.specs.Contents.{IsLongFile}
@@ -29,7 +29,7 @@ use Rattle.cstn_top.specs.Meanings.{files_read}
 use Rattle.cstn_top.specs.Prepared.{Planned}
 use Rattle.cstn_top.specs.declared.commands.texts.TextRead.TheVariants.{Told as ToldText}
 
--- both files were read, whatever the status
+-- where two files are there, those of them that were read are, whatever the status
 two_read : (told : Option (List ℕ → Option (List ℕ))) (name other : List ℕ) (status : Status) → AreThere told (name ∷ []) → AreThere told (other ∷ []) → AreThere told (files_read status (name ∷ other ∷ []))
 two_read told name other IsGood one two = two_there told name other one two
 two_read told name other IsBad one two = two_there told name other one two
@@ -64,7 +64,7 @@ two_planned request asked proof answers told bytes text said two content other c
       (subst (λ (o : Outcome). AreThere told (files_read (status_of o) (asked.file ∷ proof ∷ []))) (sym (ap (λ (s : Said). s.outcome) output)) there);
 }
 
--- where the document was refused, the text wasn't read
+-- where the document was refused, only its file was read
 refused_read : (told : Option (List ℕ → Option (List ℕ))) (name other : List ℕ) (outcome : Outcome) → outcome ≡ Document → AreThere told (name ∷ []) → AreThere told (files_read (status_of outcome) (name ∷ other ∷ []))
 refused_read told name other outcome is there = subst (λ (o : Outcome). AreThere told (files_read (status_of o) (name ∷ other ∷ []))) (sym is) there
 
@@ -77,7 +77,7 @@ two_accepted request asked proof speaks told net names (Ok said) two opened is =
     (comes_to_text (by_text speaks is.text names (the_network net)) (the_said said) is.answer))
     (two_read told asked.file proof (status_of (the_said said).outcome) opened.there is.there)
 
--- the plan where it was refused
+-- the plan where the document was refused
 pub two_told : (request : Request) (asked : Asked) (proof : List ℕ) (speaks : List ℕ → Answer) (told : Option (List ℕ → Option (List ℕ))) (said : SaidText) → IsOfTwo request asked proof (λ text. of_plain (by_text speaks text)) → IsOpened told asked (Told said) → Planned request told (says (the_said said))
 two_told request asked proof speaks told said two opened =
     let text = some_content told proof in
@@ -85,7 +85,7 @@ two_told request asked proof speaks told said two opened =
     (told_comes (by_text speaks text.0) opened.bytes asked.deadline said opened.opens)
     (refused_read told asked.file proof (the_said said).outcome opened.opens.1 opened.there)
 
--- the plan where its labelled network was accepted, by the network that it is lowered to
+-- the plan where a labelled network was accepted, by the network that it is lowered to
 pub two_lowered : {E : Type 0} (request : Request) (asked : Asked) (proof : List ℕ) (speaks : List ℕ → Answer) (told : Option (List ℕ → Option (List ℕ))) (l : LabelledParts) (net : NetworkParts) (names : List (List ℕ)) (r : Result SaidText E) → IsOfTwo request asked proof (λ text. of_lowered (by_text speaks text)) → IsOpenedWithLabels told asked (LabelledOne l names) → the_network net ≡ lowered (the_labelled l) → IfOk r (λ said. IsSaidBy told proof speaks names (the_network net) (the_said said)) → IfOk r (λ said. Planned request told (says (the_said said)))
 two_lowered request asked proof speaks told l net names (Err e) two opened same is = tt
 two_lowered request asked proof speaks told l net names (Ok said) two opened same is =
@@ -94,7 +94,7 @@ two_lowered request asked proof speaks told l net names (Ok said) two opened sam
     (subst (λ (n : Network). ComesTo (by_text speaks is.text names n) (says (the_said said))) same (comes_to_text (by_text speaks is.text names (the_network net)) (the_said said) is.answer)))
     (two_read told asked.file proof (status_of (the_said said).outcome) opened.there is.there)
 
--- and where it was refused
+-- the plan where the document was refused, and labels are taken
 pub two_refused : (request : Request) (asked : Asked) (proof : List ℕ) (answers : List ℕ → LabelledAnswer) (told : Option (List ℕ → Option (List ℕ))) (said : SaidText) → IsOfTwo request asked proof answers → IsOpenedWithLabels told asked (RefusedOne said) → Planned request told (says (the_said said))
 two_refused request asked proof answers told said two opened =
     let text = some_content told proof in

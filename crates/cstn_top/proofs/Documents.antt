@@ -33,7 +33,7 @@ labelled_says answer bytes deadline live said output = by_length (nat_lt 8388608
     by_length true above is = inl (ap (λ (s : Said). s.outcome) is, inl (grind arith))
     by_length false above is = by_told (by_parts (document bytes deadline) is)
 
--- where no labels are taken, this is said of its network
+-- what is said of a document where no labels are taken: it is refused, or this is said of its network
 pub document_says : (answer : Answer) (bytes : List ℕ) (deadline : Option ℕ) (live : List ℕ) (said : Said) → IsOutput (on_document answer bytes deadline) live said → ((said.outcome ≡ Document) × IsRefused bytes deadline) ⊎ HasNetwork bytes deadline (λ names net. IsOutput (answer names net) live said)
 document_says answer bytes deadline live said output = by_said (labelled_says (of_plain answer) bytes deadline live said output)
   where
@@ -70,7 +70,7 @@ labelled_talks answer bytes deadline may = by_length (nat_lt 8388608 (length byt
     by_length true is = absurd is
     by_length false is = by_parts (document bytes deadline) is
 
--- and where no labels are taken, for its network
+-- where no labels are taken, a session is held over a document only for its network
 pub document_talks : (answer : Answer) (bytes : List ℕ) (deadline : Option ℕ) → MayTalk (on_document answer bytes deadline) → HasNetwork bytes deadline (λ names net. MayTalk (answer names net))
 document_talks answer bytes deadline may = by_found (parts_of (document bytes deadline)) (labelled_talks (of_plain answer) bytes deadline may)
   where
@@ -78,7 +78,7 @@ document_talks answer bytes deadline may = by_found (parts_of (document bytes de
     by_found None has = has
     by_found (Some parts) has = ((has.0, has.1.0), has.1.1)
 
--- what follows of its network, whose time-points have names
+-- what follows of the network of a document, whose time-points have names
 pub document_then : (bytes : List ℕ) (deadline : Option ℕ) (one other : List (List ℕ) → Network → Type 0) → HasNetwork bytes deadline one → ((names : List (List ℕ)) (net : Network) → IsOfDocument names net → one names net → other names net) → HasNetwork bytes deadline other
 document_then bytes deadline one other has follows = by_result (document bytes deadline) refl has
   where

@@ -41,7 +41,7 @@ small_good number i = subst IsWellFormed (small_is number i) (well_formed ((numb
 pub large_good : (number : ℕ) → IsWellFormed (large number)
 large_good number = subst IsWellFormed (large_is number) (well_formed number 48 (omega arith) (omega arith))
 
--- a small network has at most 10,752 entries, and three propositions
+-- the log of a small network has at most 10,752 entries, and the network three propositions
 small_entries : (number : ℕ) → most_entries (generated number 6) ≡ 10752
 small_entries number = refl
 

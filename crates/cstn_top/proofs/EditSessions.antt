@@ -54,7 +54,7 @@ record Follows (e next : Editing) (now : EditedNetwork) : Type 0 where
   same_names : next.names ≡ e.names
   network : seen next.session ≡ now
 
--- and so it does after an answer
+-- the session goes on so after an answer, unless the line is of no grammar
 abbrev FollowsAfter : Editing → EditedNetwork → Turn Editing → Type 0
 FollowsAfter e now (more text next) = Follows e next now
 FollowsAfter e now (last said) = ⊥
@@ -191,7 +191,7 @@ record Keeps (e : Editing) : Type 0 where
   sound : IsSound e.session
   last_by : IsLastBy e.cap e.session e.session.last
 
--- and so it is after an answer
+-- the session stays so after an answer, unless the line is of no grammar
 abbrev KeepsAfter : Turn Editing → Type 0
 KeepsAfter (more text next) = Keeps next
 KeepsAfter (last said) = ⊥

@@ -43,7 +43,7 @@ record TookFew (e : EditedNetwork) : Type 0 where
   few : e.edits ≤ 1000000
   small : next_id e.highest ≤ 2 ^ 31 + e.edits
 
--- and so it is after an edit that is made where it may be
+-- this stays so after an edit that is made only where fewer than 1,000,000 were made before
 if_made : (e next : EditedNetwork) (rest : Bool) → TookFew e → (e.edits < 1000000 → TookFew next) → TookFew (if nat_lt e.edits 1000000 && rest then next else e)
 if_made e next rest took made = by_test (nat_lt e.edits 1000000) rest refl
   where
@@ -71,7 +71,7 @@ lines_took : (names : List (List ℕ)) (e : EditedNetwork) (lines : List (List �
 lines_took names e [] took = took
 lines_took names e (first ∷ lines) took = lines_took names (after_edit names e (edit_read first)) lines (edit_took names e (edit_read first) took)
 
--- the id of the next constraint, after any lines
+-- after any lines, the id of the next constraint is at most 2 ^ 32
 pub next_small : (names : List (List ℕ)) (net : Network) (lines : List (List ℕ)) → All (λ (c : Constraint). c.id < 2 ^ 31) net.constraints → next_id (after_lines names (unedited net) lines).highest ≤ 2 ^ 32
 next_small names net lines small =
     let begins : TookFew (unedited net) = record { few = omega arith; small = let s = highest_small (2 ^ 31) None net.constraints (omega arith) small in omega (arith, s) } in
@@ -92,7 +92,7 @@ absent Unknown never = absurd (never (λ e. cc))
 letters_alone : (net : Network) (a : Label) → IsWellFormed net → IsOnObserved net a → (p : ℕ) → 52 ≤ p → a p ≡ Absent
 letters_alone net a good on p above = absent (a p) (λ named. let seen = on p named in let below = good.letters seen.0 p seen.1 in omega (arith, above, below))
 
--- a text that is short enough
+-- a text that is short enough isn't refused for its length
 short_text : (speaks : List ℕ → Answer) (text : List ℕ) (names : List (List ℕ)) (net : Network) → length text ≤ 1476395008 → by_text speaks text names net ≡ speaks text names net
 short_text speaks text names net short = within 1476395008 (length text) _ (speaks text names net) short
   where

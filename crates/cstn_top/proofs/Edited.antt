@@ -83,7 +83,7 @@ change_other text =
     if_then IsOther (λ (parts : List ℕ × List ℕ). option_and_then (λ id. option_map (changed id) (value_read parts.1)) (id_read parts.0)) (cut_at_space text)
     (λ parts cut. if_then IsOther (λ id. option_map (changed id) (value_read parts.1)) (id_read parts.0) (λ id is. if_mapped IsOther (changed id) (value_read parts.1) (λ most. tt)))
 
--- what follows a word says no check
+-- a line of a word and what follows it is never read as a check
 read_other : (parts : List ℕ × List ℕ) → IfSome (edited_read parts) IsOther
 read_other parts = by_word (bytes_eq parts.0 (codes "add")) (bytes_eq parts.0 (codes "remove")) (bytes_eq parts.0 (codes "change"))
   where
@@ -100,7 +100,7 @@ IsTrueVerdict cap checked (Some (Yes load)) = IsSomeAnd checked IsConsistent
 IsTrueVerdict cap checked (Some (No load)) = IsSomeAnd checked (λ net. IsConsistent net → ⊥)
 IsTrueVerdict cap checked (Some IsFullVerdict) = IsSomeAnd checked (λ net. cap < load_of net)
 
--- where the last outcome is full, the log of the network has more entries than it may
+-- where the last outcome is full, the log of the network has more than `cap` entries
 abbrev IsFullTrue : ℕ → Session → Type 0
 IsFullTrue cap s = (o : Answered) → s.last ≡ Some o → o.verdict ≡ IsFullVerdict → cap < load_of s.net
 
@@ -119,7 +119,7 @@ record Holds (cap : ℕ) (e : Editing) (checked : Option Network) : Type 0 where
   full : IsFullTrue cap e.session
   true_verdict : IsTrueVerdict cap checked e.verdict
 
--- and so it is after an answer
+-- the session stays so after an answer, unless the line is of no grammar
 abbrev HoldsAfter : ℕ → Option Network → Turn Editing → Type 0
 HoldsAfter cap checked (more text next) = Holds cap next checked
 HoldsAfter cap checked (last said) = ⊥

@@ -25,7 +25,7 @@ use Rattle.cstn_reply.proofs.Contents.{given, all_given, no_taken, some_contents
 use Rattle.cstn_top.proofs.Meanings.{IsRight, output_right, output_complete, talks_live, edits_stop}
 use Rattle.cstn_top.proofs.Meanings.{hosts_stop}
 
--- how a call ends, for the files that were read
+-- how a call ends, for contents of the files that its words name
 abbrev pub Answered : {S : Type 0} → Option Request → Option (List ℕ → Option (List ℕ)) → S → S → LiveState → LiveState → Option (List ℕ) → Option (List ℕ) → Status → Type 0
 Answered words told source now before after old new result = (contents : List (List ℕ)) × AreContents told (names_of words) contents × Ends (plan_of words contents) before after old new result × Untouched (plan_of words contents) source now
 
@@ -70,7 +70,7 @@ says_end words r told source said text seen old new status result there planned 
     let ends : Ends plan seen seen old new result = (status_of said.outcome, said.text, says_text plan said seen (λ live. planned.comes.output live said refl), text_written said text old new status result same at written) in
     subst (λ (w : Option Request). Answered w told source source seen seen old new result) there (planned.contents, planned.are, ends, inr refl)
 
--- a text of what a plan comes to
+-- where a plan comes to another one, each text of the other is one of it
 carried : (plan other : Plan) (before after : LiveState) (status : Status) (text : List ℕ) → ComesTo plan other → MayTalk other → IsText other before after status text → IsText plan before after status text
 carried plan other before after status text comes may (is_output live said all output) = is_output live said all (comes.output live said output)
 carried plan other before after status text comes may (is_file_fault same) = is_file_fault same
@@ -80,14 +80,14 @@ carried plan other before after status text comes may (is_memory first (inl none
 carried plan other before after status text comes may (is_memory first (inr lines)) =
     is_memory first (inr (record { live = lines.live; said = lines.said; rest = lines.rest; all = lines.all; output = comes.output lines.live lines.said lines.output; first = lines.first; lines = lines.lines }))
 
--- what was prepared is this
+-- a value that equals what was prepared is planned likewise
 pub prepared_as : (r : Request) (told : Option (List ℕ → Option (List ℕ))) (p q : Prepared) → Planned r told (the_plan p) → p ≡ q → Planned r told (the_plan q)
 prepared_as r told p q planned same = subst (λ (x : Prepared). Planned r told (the_plan x)) same planned
 
 pub fits_as : (r : Request) (p q : Prepared) → FitsRequest r p → p ≡ q → FitsRequest r q
 fits_as r p q fits same = subst (FitsRequest r) same fits
 
--- a session with an opening that is another one
+-- a session with an equal opening is planned likewise
 pub opened_as : (r : Request) (told : Option (List ℕ → Option (List ℕ))) (guiding : GuidingParts) (opening : List ℕ) → {other : List ℕ} → Planned r told (session guided_turn guided_ending opening guiding) → opening ≡ other → Planned r told (session guided_turn guided_ending other guiding)
 opened_as r told guiding opening planned same = subst (λ (o : List ℕ). Planned r told (session guided_turn guided_ending o guiding)) same planned
 
@@ -139,7 +139,7 @@ request_tells r told source now before after old new result outcome answered is 
         subst (λ (o : Outcome). IsRight before.left o r answered.0) (status_alone said.outcome outcome (sym at ∙ is)) (output_right before.left r answered.0 live said all output)
     by_status (inr stopped) = absurd (not_stopped outcome (subst IsStopped is stopped))
 
--- no request has only the status Words
+-- where the words are no request, an outcome is Words
 pub none_tells : {S : Type 0} (told : Option (List ℕ → Option (List ℕ))) (source now : S) (before after : LiveState) (old new : Option (List ℕ)) (result : Status) (outcome : Outcome) → Answered None told source now before after old new result → result ≡ status_of outcome → outcome ≡ Words
 none_tells told source now before after old new result outcome answered is = by_status (end_status (plan_of None answered.0) before after old new result answered.2)
   where
@@ -180,7 +180,7 @@ complete_at r told source now before after old new result answered = by_status (
     by_status (inl (live, all, (said, output, at))) = inr (subst (λ (s : Status). IsComplete s r answered.0) (sym at) (output_complete r answered.0 live said output))
     by_status (inr stopped) = inl stopped
 
--- a call is stopped, or the words are none, or this holds of the contents
+-- a call is stopped, or the words are no request, or this holds of the request and the contents
 pub held_at : {S : Type 0} (r : Request) (told : Option (List ℕ → Option (List ℕ))) (source now : S) (before after : LiveState) (old new : Option (List ℕ)) (result : Status) (holds : Request → List (List ℕ) → Type 0) (answered : Answered (Some r) told source now before after old new result) → IsStopped result ⊎ holds r answered.0 → IsStopped result ⊎ (IsNone (Some r) ⊎ HoldsOf (Some r) told holds)
 held_at r told source now before after old new result holds answered (inl stopped) = inl stopped
 held_at r told source now before after old new result holds answered (inr has) = inr (inr (answered.0, answered.1, has))
@@ -200,7 +200,7 @@ pub may_stop : (words : Option Request) (r : Request) (told : Option (List ℕ �
 may_stop words r told plan there planned asks may =
     subst (λ (w : Option Request). HoldsOf w told MayStop) there (planned.contents, planned.are, edits_stop r planned.contents asks (planned.comes.talks may))
 
--- and a host only where one is
+-- a host was carried out only where one is asked for
 pub may_stop_host : (words : Option Request) (r : Request) (told : Option (List ℕ → Option (List ℕ))) (plan : Plan) → Some r ≡ words → Planned r told plan → AsksHost r → MayTalk plan → HoldsOf words told MayStop
 may_stop_host words r told plan there planned asks may =
     subst (λ (w : Option Request). HoldsOf w told MayStop) there (planned.contents, planned.are, hosts_stop r planned.contents asks (planned.comes.talks may))
@@ -224,6 +224,6 @@ all_true : (names : List (List ℕ)) → list_all (λ name. true) names ≡ true
 all_true [] = refl
 all_true (name ∷ names) = all_true names
 
--- a shelf that may be asked for every name
+-- a shelf that may be asked for every name may be asked for those of the words
 pub may_ask_all : (words : Option Request) → IsTrue (list_all (λ name. true) (names_of words))
 may_ask_all words = all_true (names_of words)

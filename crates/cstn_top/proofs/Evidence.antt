@@ -16,21 +16,21 @@ use Rattle.cstn_tight.proofs.LeastLemmas.{good_at_deadline}
 use Rattle.cstn_tight.proofs.BracketLemmas.{IsRefuted, IsFound, found, found_least}
 use Rattle.cstn_top.specs.Meanings.{IsListed, IsRefutedByLog, IsTight, IsConflict}
 
--- the bounds of a yes
+-- the bounds of a yes have no fault
 pub listed_well : (net : Network) → IsWellFormed net → IsConsistent net → IsListed net
 listed_well = listed_faultless
 
--- what refutes a network
+-- the log of a network that isn't consistent has a refutation
 pub refuted_well : (net : Network) → IsWellFormed net → (IsConsistent net → ⊥) → IsRefutedByLog net
 refuted_well = refuted_by_log
 
--- a network with another deadline, up to its own
+-- a network with a deadline up to its own is well-formed
 at_well : (net : Network) (h : ℕ) → IsWellFormed net → h ≤ net.deadline → IsWellFormed (at_deadline net h)
 at_well net h good below =
     let soon = good.in_time in
     good_at_deadline net good h (omega (arith, soon, below))
 
--- the least deadline
+-- the least deadline that `tight` tells is right
 pub tight_well : (cap : ℕ) (net : Network) → IsWellFormed net → is_tight_full cap net ≡ false → IsConsistent net → IsTight net (least_deadline net)
 tight_well cap net good fits consistent =
     let parts = both_false (is_above cap net net.deadline) _ fits in
@@ -53,7 +53,7 @@ tight_well cap net good fits consistent =
     before h upto (inl zero) = inl zero
     before h upto (inr refuted) = inr (refuted_well (at_deadline net (h - 1)) (at_well net (h - 1) good (omega (arith, upto))) refuted.never)
 
--- the conflict set
+-- the conflict set that `conflict` tells is right
 pub conflict_well : (net : Network) → IsWellFormed net → (IsConsistent net → ⊥) → IsConflict net (conflict_set net)
 conflict_well net good never =
     let gone = inconsistent net good never in

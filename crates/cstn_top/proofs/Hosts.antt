@@ -47,7 +47,7 @@ AreNetworks [] deadline (n ∷ ns) = ⊥
 AreNetworks (bytes ∷ rest) deadline [] = ⊥
 AreNetworks (bytes ∷ rest) deadline (n ∷ ns) = HasNetwork bytes deadline (λ names net. (names ≡ n.names) × (net ≡ n.net)) × IsNamedNetwork n.names n.net × AreNetworks rest deadline ns
 
--- they were read, and this holds of their networks
+-- the documents with these contents have networks of which this holds
 record Read (contents : List (List ℕ)) (deadline : Option ℕ) (holds : List Named → Type 0) : Type 0 where
   all : List Named
   are : AreNetworks contents deadline all
@@ -105,7 +105,7 @@ documents_say answer deadline live said before (bytes ∷ rest) output =
 abbrev pub IsToldNo : ℕ → Said → List (List ℕ) → Network → Type 0
 IsToldNo cap said names net = IsNamedNetwork names net × IsNo cap net × (said.text ≡ shown names (load_of net) (part (log_of net)))
 
--- what is told of the first network is what follows of it
+-- where `other` follows from `one` of each network, `FirstHas` with `other` follows from `FirstHas` with `one`
 pub first_then : (contents : List (List ℕ)) (deadline : Option ℕ) (cap : ℕ) (one other : List (List ℕ) → Network → Type 0) → ((names : List (List ℕ)) (net : Network) → one names net → other names net) → FirstHas contents deadline cap one → FirstHas contents deadline cap other
 first_then [] deadline cap one other follows first = absurd first
 first_then (bytes ∷ rest) deadline cap one other follows (inl has) = inl (by_found (parts_of (document bytes deadline)) has)
@@ -115,7 +115,7 @@ first_then (bytes ∷ rest) deadline cap one other follows (inl has) = inl (by_f
     by_found (Some parts) h = (h.0, follows parts.names (network_of parts) h.1)
 first_then (bytes ∷ rest) deadline cap one other follows (inr (yes', first)) = inr (yes', first_then rest deadline cap one other follows first)
 
--- the load that a no tells
+-- the load that a no tells is that of the network
 load_told : (cap load : ℕ) (net : Network) → verdict cap net ≡ No load → load ≡ load_of net
 load_told cap load net is = by_tests (nat_lt cap (load_of net)) (is_refuted net (log_of net)) is
   where
@@ -124,7 +124,7 @@ load_told cap load net is = by_tests (nat_lt cap (load_of net)) (is_refuted net 
     by_tests false true same = cc
     by_tests false false same = let f : ⊥ = cc in absurd f
 
--- what is said of networks that are checked: each has a strategy, or the first that has none, or is too large, is told
+-- what is said of networks that are checked: each has a strategy, or the first that has none, or too long a log, is told
 verdicts_say : (cap : ℕ) (after_yes : Plan) (deadline : Option ℕ) (live : List ℕ) (said : Said) (contents : List (List ℕ)) (ns : List Named) → AreNetworks contents deadline ns → IsOutput (on_verdicts cap after_yes ns) live said → (EachHas contents deadline (IsYes cap) × IsOutput after_yes live said) ⊎ (((said.outcome ≡ Bad) × FirstHas contents deadline cap (IsToldNo cap said)) ⊎ ((said.outcome ≡ Full) × FirstHas contents deadline cap (λ names net. cap < load_of net)))
 verdicts_say cap after_yes deadline live said [] [] are output = inl (tt, output)
 verdicts_say cap after_yes deadline live said [] (n ∷ ns) are output = absurd are
@@ -233,7 +233,7 @@ files_all told names IsUnfinished there first = there
 files_all told names IsScript there first = there
 files_all told names IsWideStatus there first = there
 
--- what was prepared of the files of a host is its plan
+-- what was prepared for the files of a host says what their contents call for
 pub planned_host : (told : Option (List ℕ → Option (List ℕ))) (cap : ℕ) (deadline : Option ℕ) (files : List (List ℕ)) (hosting : Hosting) → IsHosting told cap deadline files hosting → Planned (host files deadline cap) told (the_hosting hosting)
 planned_host told cap deadline files hosting is = record {
   contents = is.contents;

@@ -23,7 +23,7 @@ use Rattle.cstn_evidence.proofs.Standing.{IsOfDocument}
 use Rattle.cstn_top.proofs.Documents.{labelled_says, labelled_talks}
 use Rattle.cstn_top.proofs.Edited.{document_named}
 
--- the ids of the constraints of a lowered network
+-- the ids of the constraints of a lowered network are numbers of 32 bits
 small_ids : (k : ℕ) (cs : List Constraint) → k + length (numbered k cs) ≤ 16384 → All (λ (c : Constraint). c.id < 2 ^ 32) (numbered k cs)
 small_ids k [] few = All-nil (λ (c : Constraint). c.id < 2 ^ 32)
 small_ids k (c ∷ cs) few = All-cons (λ (c : Constraint). c.id < 2 ^ 32) (record c { id = k }) (numbered (k + 1) cs) (omega (arith, few)) (small_ids (k + 1) cs (omega (arith, few)))
@@ -52,7 +52,7 @@ of_parts bytes deadline parts is fit =
     within : (n : ℕ) → (16384 < n → ⊥) → n ≤ 16384
     within n never = omega (arith, never)
 
--- what follows of it
+-- what follows of the labelled network of a document
 pub labelled_then : (bytes : List ℕ) (deadline : Option ℕ) (one other : List (List ℕ) → Labelled → Type 0) → HasLabelled bytes deadline one → ((names : List (List ℕ)) (m : Labelled) → IsOfLabelled names m → one names m → other names m) → HasLabelled bytes deadline other
 labelled_then bytes deadline one other has follows = by_result (document bytes deadline) refl has
   where
@@ -60,7 +60,7 @@ labelled_then bytes deadline one other has follows = by_result (document bytes d
     by_result (Err refusal) is h = h
     by_result (Ok parts) is h = (h.0, follows parts.names (labelled_of parts) (of_parts bytes deadline parts is h.0) h.1)
 
--- no document has an impossible labelled network
+-- no document has a labelled network of which a falsehood holds
 pub none_labelled : (bytes : List ℕ) (deadline : Option ℕ) → HasLabelled bytes deadline (λ names m. ⊥) → ⊥
 none_labelled bytes deadline has = by_found (parts_of (document bytes deadline)) has
   where
@@ -77,10 +77,10 @@ on_labels answer bytes deadline live said told Right refused each so output = by
     by_said (inl is) = refused is.0 is.1
     by_said (inr has) = so (labelled_then bytes deadline (λ names m. IsOutput (answer names m) live said) told has each)
 
--- a session is held over a document, of whose labelled network this then holds
+-- where a session is held over a document, this holds of its labelled network
 pub talks_labelled : (answer : LabelledAnswer) (bytes : List ℕ) (deadline : Option ℕ) (told : List (List ℕ) → Labelled → Type 0) → ((names : List (List ℕ)) (m : Labelled) → IsOfLabelled names m → MayTalk (answer names m) → told names m) → MayTalk (on_labelled answer bytes deadline) → HasLabelled bytes deadline told
 talks_labelled answer bytes deadline told each may = labelled_then bytes deadline (λ names m. MayTalk (answer names m)) told (labelled_talks answer bytes deadline may) each
 
--- no session is held over it
+-- where no session is held over any labelled network, none is held over a document
 pub labels_silent : (answer : LabelledAnswer) (bytes : List ℕ) (deadline : Option ℕ) → ((names : List (List ℕ)) (m : Labelled) → MayTalk (answer names m) → ⊥) → MayTalk (on_labelled answer bytes deadline) → ⊥
 labels_silent answer bytes deadline never may = none_labelled bytes deadline (talks_labelled answer bytes deadline (λ names m. ⊥) (λ names m is talks. never names m talks) may)

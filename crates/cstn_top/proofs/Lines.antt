@@ -169,7 +169,7 @@ answer_is e (Some (removed id)) = edit_is e (remove_refusal e.session id) _ (wit
 answer_is e (Some (changed id most)) = edit_is e (change_refusal e.session id most) _ (with_changed e.session id most) (Some (changed id most) ≡ None)
 answer_is e (Some check_asked) = tt
 
--- the end of an edit session without a line of no grammar
+-- the end of an edit session that answers all its lines
 verdict_on : (cap : ℕ) (names : List (List ℕ)) (net : Network) (live : List ℕ) (o : Outcome) (v : Option Verdict) → o ≡ ending_by v → EditTells (Some live) cap o names net → IsVerdictOn cap (status_of o) (last_checked (begun_editing cap names net) None (lines_of live))
 verdict_on cap names net live o v is tells = by_verdict v is
   where
@@ -265,7 +265,7 @@ run_least (treecheck asked proof) contents = tt
 run_least (drill number) contents = tt
 run_least (host files deadline cap) contents = tt
 
--- how Good and Unfinished come
+-- a run that ends with Good was carried out, and one that ends with Unfinished was left unfinished
 well_ended : (told old new : Option (List ℕ)) (request : Request) (contents : List (List ℕ)) → IsEnded IsGoodStatus told old new request contents → IsCarriedOut told old new request contents
 well_ended told old new (run asked cap) contents (inl is) = absurd (let never : ⊥ = by_status is.0 in never)
   where
@@ -377,7 +377,7 @@ pub carried_is : {S : Type 0} (words : Option Request) (told : Option (List ℕ 
 carried_is None told source now before after old new result answered is = good_is None told source now before after old new result answered is
 carried_is (Some r) told source now before after old new result answered is = (answered.0, answered.1, carried_at r told source now before after old new result answered is)
 
--- what Unfinished tells of it
+-- what Unfinished tells of a run
 pub left_at : {S : Type 0} (r : Request) (told : Option (List ℕ → Option (List ℕ))) (source now : S) (before after : LiveState) (old new : Option (List ℕ)) (result : Status) (answered : Answered (Some r) told source now before after old new result) → result ≡ IsUnfinishedStatus → IsLeftUnfinished before.left old new r answered.0
 left_at r told source now before after old new result answered is =
     of_ended result IsUnfinishedStatus (λ s. IsEnded s before.left old new r answered.0) (IsLeftUnfinished before.left old new r answered.0) is never_unfinished (left_ended before.left old new r answered.0)

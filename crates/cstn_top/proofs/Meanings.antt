@@ -91,7 +91,7 @@ verdict_says cap names net text live said good output = by_verdict (verdict cap 
     by_verdict (No load) tells' is = subst (λ (o : Outcome). Verdicts cap net o) (sym (ap (λ (s : Said). s.outcome) is)) tells'
     by_verdict IsFullVerdict tells' is = subst (λ (o : Outcome). Verdicts cap net o) (sym (ap (λ (s : Said). s.outcome) is)) tells'
 
--- and of a labelled network, where the one that it is lowered to is checked
+-- what the outcome of a check tells of a labelled network, where the network that it is lowered to is checked
 abbrev VerdictsLabelled : ℕ → Labelled → Outcome → Type 0
 VerdictsLabelled cap m Good = IsLabelledYes cap m
 VerdictsLabelled cap m Bad = IsLabelledNo cap m
@@ -112,7 +112,7 @@ verdicts_labelled cap m Unfinished same is = is
 verdicts_labelled cap m Script same is = is
 verdicts_labelled cap m Wide same is = is
 
--- what the outcome of a search over several logs tells of a network, of which one may be too long
+-- what the outcome of a search over several logs tells of a network, where `full` tells whether one of the logs was too long
 abbrev Finds : Bool → Network → Outcome → Type 0
 Finds full net Good = IsConsistent net × (full ≡ false)
 Finds full net Bad = IsConsistent net → ⊥
@@ -167,7 +167,7 @@ replay_tells text names net live said good is = by_length (nat_lt 1476395008 (le
     by_length true over is' = subst (λ (o : Outcome). Replays text (told_by names text) net o) (sym (ap (λ (s : Said). s.outcome) is')) (long_off text (told_by names text) (above 1476395008 (length text) over))
     by_length false over is' = steps_tell text (told_by names text) net live said (below 1476395008 (length text) over) good is'
 
--- and of the labelled network that is lowered to it
+-- what the outcome of a replay on the network that a labelled one is lowered to tells of the labelled one
 abbrev ReplaysLabelled : List ℕ → ToldText → Labelled → Outcome → Type 0
 ReplaysLabelled text told m Good = (length text ≤ 1476395008) × IsRefutedBy told (lowered m) × (IsLabelledConsistent m → ⊥)
 ReplaysLabelled text told m Bad = (length text ≤ 1476395008) × IsNoRefutation told (lowered m)
@@ -232,7 +232,7 @@ on_network answer bytes deadline live said told right refused each so output = b
     by_said (inl is) = subst right (sym is.0) (refused is.1)
     by_said (inr has) = so said.outcome (network_then bytes deadline (λ names net. IsOutput (answer names net) live said) (told said.outcome) has each)
 
--- no document has an impossible network
+-- no document has a network of which a falsehood holds
 none_such : (o : Option Parts) → IsSomeAnd o (λ parts. AreUnlabelled parts × ⊥) → ⊥
 none_such None h = h
 none_such (Some parts) h = h.1
@@ -390,7 +390,7 @@ lists cap net Unfinished good is = is
 lists cap net Script good is = is
 lists cap net Wide good is = is
 
--- of `tight`
+-- what the outcome of `tight` tells
 abbrev Tightens : ℕ → Network → Outcome → Type 0
 Tightens cap net Good = IsConsistent net × IsTight net (least_deadline net)
 Tightens cap net Bad = (IsConsistent net → ⊥) × IsRefutedByLog net
@@ -411,7 +411,7 @@ tightens cap net Unfinished good is = is
 tightens cap net Script good is = is
 tightens cap net Wide good is = is
 
--- and of `conflict`
+-- what the outcome of `conflict` tells
 abbrev Blames : ℕ → Network → Outcome → Type 0
 Blames cap net Good = IsConsistent net
 Blames cap net Bad = (IsConsistent net → ⊥) × IsConflict net (conflict_set net)
@@ -618,7 +618,7 @@ output_complete (save asked) contents live said output = tt
 output_complete (host files deadline cap) contents live said output = tt
 output_complete (drill number) contents live said output = ap (λ (s : Said). status_of s.outcome) output
 
--- a network of which no session is held
+-- where no session is held over any network, none is held over a document
 never_talks : (answer : Answer) (bytes : List ℕ) (deadline : Option ℕ) → ((names : List (List ℕ)) (net : Network) → MayTalk (answer names net) → ⊥) → MayTalk (on_document answer bytes deadline) → ⊥
 never_talks answer bytes deadline never may =
     none_such (parts_of (document bytes deadline))
@@ -702,7 +702,7 @@ edits_stop (replay asked proof) contents asks may = asks
 edits_stop (drill number) contents asks may = asks
 edits_stop (host files deadline cap) contents asks may = absurd asks
 
--- and where a host opens an id
+-- an answer may want memory where a host opens an id
 pub hosts_stop : (request : Request) (contents : List (List ℕ)) → AsksHost request → MayTalk (plan_at request contents) → MayStop request contents
 hosts_stop request contents asks may =
     subst (λ (r : Request). MayStop r contents) (sym asks.is)

@@ -29,7 +29,7 @@ use Rattle.cstn_top.specs.Outputs.{saved, plan_at}
 use Rattle.cstn_top.specs.Meanings.{files_read}
 use Rattle.cstn_top.specs.Prepared.{Planned}
 
--- a file that is there was read, whatever the status
+-- where a file is there, so is what was read of it, whatever the status
 pub one_read : (told : Option (List ℕ → Option (List ℕ))) (name : List ℕ) (status : Status) → AreThere told (name ∷ []) → AreThere told (files_read status (name ∷ []))
 one_read told name IsGood there = there
 one_read told name IsBad there = there
@@ -112,12 +112,12 @@ labelled_accepted request asked answer told l names (Ok said) one opened is =
     one_planned request asked answer told opened.bytes (says (the_said said)) one opened.content opened.there
     (labelled_comes answer opened.bytes asked.deadline l names (says (the_said said)) opened.opens (comes_same (answer names (the_labelled l)) (says (the_said said)) is))
 
--- and by the network that it is lowered to
+-- the plan of a document whose labelled network was accepted, by the network that it is lowered to
 pub lowered_accepted : {E : Type 0} (request : Request) (asked : Asked) (answer : Answer) (told : Option (List ℕ → Option (List ℕ))) (l : LabelledParts) (net : NetworkParts) (names : List (List ℕ)) (r : Result SaidText E) → IsOfOne request asked (of_lowered answer) → IsOpenedWithLabels told asked (LabelledOne l names) → the_network net ≡ lowered (the_labelled l) → IfOk r (λ said. says (the_said said) ≡ answer names (the_network net)) → IfOk r (λ said. Planned request told (says (the_said said)))
 lowered_accepted request asked answer told l net names r one opened same is =
     labelled_accepted request asked (of_lowered answer) told l names r one opened (subst (λ (n : Network). IfOk r (λ said. says (the_said said) ≡ answer names n)) same is)
 
--- the plan of one that was refused
+-- the plan of a document that was refused, where labels are taken
 pub labelled_told : (request : Request) (asked : Asked) (answer : LabelledAnswer) (told : Option (List ℕ → Option (List ℕ))) (said : SaidText) → IsOfOne request asked answer → IsOpenedWithLabels told asked (RefusedOne said) → Planned request told (says (the_said said))
 labelled_told request asked answer told said one opened =
     one_planned request asked answer told opened.bytes (says (the_said said)) one opened.content opened.there (refused_comes answer opened.bytes asked.deadline said opened.opens)

@@ -17,7 +17,7 @@ TurnIs Unread Ends (more text state) = Unit {0}
 TurnIs Unread Ends (last said) = Ends said.outcome
 TurnIs Unread Ends wrong = Unread
 
--- a line stops a session, from a state on and after so many lines
+-- one of these lines, which follow the state s and n lines, stops the session
 pub record StopsFrom {S : Type 0} (turn : S → List ℕ → Turn S) (s : S) (n : ℕ) (IsUnread : List ℕ → Type 0) (lines : List (List ℕ)) (text : List ℕ) : Type 0 where
   pub before : List (List ℕ)
   pub next : List ℕ

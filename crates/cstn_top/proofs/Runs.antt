@@ -13,7 +13,7 @@ use Rattle.cstn_reply.specs.Sessions.{session}
 use Rattle.cstn_verdict.specs.Verdicts.{verdict, on_verdict}
 use Rattle.cstn_talk.specs.Guiding.{guide_turn, guide_ending, carried_out}
 
--- the verdict on the network that a labelled one is lowered to
+-- a yes on a network is a yes on an equal network
 pub verdict_for : (cap : ℕ) (net other : Network) → net ≡ other → verdict cap net ≡ Yes (load_of net) → verdict cap other ≡ Yes (load_of other)
 verdict_for cap net other same is = subst (λ (n : Network). verdict cap n ≡ Yes (load_of n)) same is
 

@@ -90,7 +90,7 @@ unfolds cap names net live said good output = by_width (nat_lt 10 (observed net)
         no_more : (n : ℕ) → nat_lt 10 n ≡ false → n ≤ 10
         no_more n below = grind arith
 
--- and decides
+-- what the outcome of `tree` tells decides the network
 pub tree_decides : (cap : ℕ) (names : List (List ℕ)) (net : Network) (o : Outcome) → Unfolds cap names net o → IsDecidedTree cap net (status_of o)
 tree_decides cap names net Good (narrow, yes', told) = inr (narrow, λ below. inl (refl, yes'.0))
 tree_decides cap names net Bad (narrow, no') = inr (narrow, λ below. inr (refl, no'.0))

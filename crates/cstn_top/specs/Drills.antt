@@ -9,7 +9,7 @@ use Rattle.cstn_gen.specs.Generated.{generated}
 use Rattle.cstn_reply.specs.Texts.{line}
 use Rattle.cstn_top.specs.declared.commands.drill.Counts.{Counts}
 
--- the i-th small network from a number on; after 2 ^ 64 - 1 comes 0
+-- the small network of a drill that is i after its number, where 0 comes after 2 ^ 64 - 1
 unfoldable pub small : ℕ → ℕ → Network
 small number i = generated ((number + i) % 2 ^ 64) 6
 
@@ -26,7 +26,7 @@ abbrev pub unrefuted : ℕ → ℕ → ℕ
 unrefuted number zero = 0
 unrefuted number (suc n) = unrefuted number n + (if is_unrefuted (small number n) then 1 else 0)
 
--- the counts of the first n small networks, in which the table agrees with the check
+-- the counts of the first n small networks, on each of which the table agrees with the check
 abbrev pub counts_of : ℕ → ℕ → Counts
 counts_of number n = record { yes = unrefuted number n; no = n - unrefuted number n; differ = 0 }
 
@@ -35,7 +35,7 @@ abbrev pub small_line : Counts → List ℕ
 small_line counts =
     line (codes "small 64 yes " ++ decimal counts.yes ++ codes " no " ++ decimal counts.no ++ codes " differ " ++ decimal counts.differ)
 
--- a verdict by a log that may have so many entries
+-- the text of a verdict, where the log may have `cap` entries
 abbrev pub verdict_text : ℕ → Verdict → List ℕ
 verdict_text cap (Yes load) = codes "yes " ++ decimal load
 verdict_text cap (No load) = codes "no " ++ decimal load
@@ -45,7 +45,7 @@ verdict_text cap Full = codes "full " ++ decimal cap
 abbrev pub large_line : Verdict → List ℕ
 large_line v = line (codes "large 48 " ++ verdict_text 16384 v)
 
--- Of the first n small networks so many are consistent.
+-- `AreConsistent number n k`: of the first n small networks from the number on, k are consistent.
 pub data AreConsistent (number : ℕ) : ℕ → ℕ → Type 0 where
   none : AreConsistent number 0 0
   one_more : (n k : ℕ) → AreConsistent number n k → IsConsistent (small number n) → AreConsistent number (suc n) (k + 1)

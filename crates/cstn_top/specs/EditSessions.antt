@@ -31,8 +31,8 @@ pub record EditedNetwork : Type 0 where
 abbrev pub unedited : Network → EditedNetwork
 unedited net = record { net = net; highest = highest_of None net.constraints; edits = 0 }
 
--- a constraint with this value and label may be added: there were fewer than 1,000,000 edits, there is room for it, its value is
--- in range, and its label is plain and names no proposition that nothing observes
+-- a constraint with this value and label may be added: there were fewer than 1,000,000 edits, there is room for it, its value
+-- is in range, and its label is plain and names observed propositions alone
 abbrev pub may_add : EditedNetwork → ℤ → Label → Bool
 may_add e most a =
     nat_lt e.edits 1000000 && (nat_lt (length e.net.constraints) 16384 && (is_value most && (is_plain a && is_none (unobserved e.net a))))
@@ -41,7 +41,7 @@ may_add e most a =
 abbrev pub may_remove : EditedNetwork → ℕ → Bool
 may_remove e id = nat_lt e.edits 1000000 && has_constraint e.net id
 
--- its value may become another one
+-- the constraint of this id may get this value
 abbrev pub may_change : EditedNetwork → ℕ → ℤ → Bool
 may_change e id most = nat_lt e.edits 1000000 && (has_constraint e.net id && is_value most)
 
@@ -63,7 +63,7 @@ after_adding e from to most a =
 abbrev pub after_removing : EditedNetwork → ℕ → EditedNetwork
 after_removing e id = edited_to e (without id e.net.constraints) e.highest
 
--- its value is changed
+-- the constraint of this id gets this value
 abbrev pub after_changing : EditedNetwork → ℕ → ℤ → EditedNetwork
 after_changing e id most = edited_to e (map (with_value id most) e.net.constraints) e.highest
 
@@ -92,7 +92,7 @@ network_after names net lines = (after_lines names (unedited net) lines).net
 
 -- ---- what is answered to `check`
 
--- the text says yes, with a load that is allowed, and the network is consistent
+-- the text says yes, with a load of at most `cap`, and the network is consistent
 pub record SaysYes (cap : ℕ) (net : Network) (text : List ℕ) : Type 0 where
   pub load : ℕ
   pub within : load ≤ cap
@@ -110,13 +110,13 @@ pub record SaysNo (cap : ℕ) (names : List (List ℕ)) (net : Network) (text : 
   pub inconsistent : IsConsistent net → ⊥
   pub accepted : AreNames names → HasIds net → cap ≤ 4194304 → IsNoText names net text
 
--- the text says that the log is full, and the log of the network has more entries than it may
+-- the text says that the log is full, and the log of the network has more than `cap` entries
 pub record SaysFull (cap : ℕ) (net : Network) (text : List ℕ) : Type 0 where
   pub text_is : text ≡ full_line cap
   pub long : cap < load_of net
 
--- The answer to `check` after lines that were answered: perhaps that the list was grown afresh, and a verdict that is true of the
--- network as edited by these lines.
+-- The answer to `check` after lines that were answered: perhaps that the list was grown afresh, and a verdict that is true of
+-- the network as edited by these lines.
 pub record AnswersCheck (cap : ℕ) (names : List (List ℕ)) (net : Network) (before : List (List ℕ)) : Type 0 where
   pub first : List ℕ
   pub text : List ℕ
@@ -132,7 +132,7 @@ pub record AnswersCheck (cap : ℕ) (names : List (List ℕ)) (net : Network) (b
 abbrev pub IsNoCheck : List ℕ → Type 0
 IsNoCheck text = text ≡ codes "check" → ⊥
 
--- the network as edited by the lines before the last `check`, or none where no line is that
+-- the network as edited by the lines before the last `check`, or none where no line is `check`
 abbrev pub IsAtLastCheck : List (List ℕ) → Network → List (List ℕ) → Option Network → Type 0
 IsAtLastCheck names net lines None = All IsNoCheck lines
 IsAtLastCheck names net lines (Some checked) =

@@ -9,8 +9,8 @@ use Rattle.cstn_verdict.specs.Documents.{HasLabelled, HasNetwork}
 use Rattle.cstn_evidence.specs.Accepted.{IsYesText, IsNoText, IsTightText, IsConflictText}
 use Rattle.cstn_top.specs.Several.{FirstHas}
 
--- the text stands for the answer: after yes what `closed` and `tight` write, and after no what every command writes that checks
--- the networks of documents as they are handed in
+-- the text is evidence for the answer: after yes what `closed` and `tight` write, and after no what `check`, `run`, `closed`,
+-- `tight`, `conflict`, `tree` and `host` write
 abbrev pub IsEvidence : Request → Status → List ℕ → List (List ℕ) → Type 0
 IsEvidence (check asked cap) Bad text contents = HasLabelled (get_or contents 0 []) asked.deadline (λ names m. IsNoText names (lowered m) text)
 IsEvidence (run asked cap) Bad text contents = HasLabelled (get_or contents 0 []) asked.deadline (λ names m. IsNoText names (lowered m) text)
@@ -23,6 +23,6 @@ IsEvidence (tree asked cap) Bad text contents = HasNetwork (get_or contents 0 []
 IsEvidence (host files deadline cap) Bad text contents = FirstHas contents deadline cap (λ names net. IsNoText names net text)
 IsEvidence request status text contents = Unit {0}
 
--- what was written behind what the sink had is evidence
+-- the text that was written after what the sink had before is evidence
 abbrev pub WroteEvidence : Option (List ℕ) → Option (List ℕ) → Status → Request → List (List ℕ) → Type 0
 WroteEvidence old new status request contents = (text : List ℕ) × (new ≡ with_bytes old text) × IsEvidence request status text contents

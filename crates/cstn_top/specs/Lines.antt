@@ -44,12 +44,13 @@ pub record StopsAtLine {S : Type 0} (turn : S → List ℕ → Turn S) (start : 
 
 -- ---- a run
 
--- the bounds by which a labelled network is carried out: those of the live entries of the log of the network that it is lowered to
+-- the bounds by which a labelled network is carried out: those of the live entries of the log of the lowered network
 abbrev pub run_bounds : Labelled → List Bound
 run_bounds m = live_bounds (log_of (lowered m))
 
--- After any lines, a moment that is accepted is answered by exactly the time-points whose least moment it is, and `due` by the
--- due moment. Over any lines, each moment of those who were named is their least.
+-- After any lines, a moment that is accepted is answered with exactly the time-points that aren't executed yet, whose completed
+-- labels hold, and whose least moment it is, and `due` with the due moment. Over any lines, each time-point that an answer
+-- names is named at its least moment.
 pub record AnswersLeast (names : List (List ℕ)) (m : Labelled) (bounds : List Bound) : Type 0 where
   pub moments : (before : List (List ℕ)) (next : List ℕ) (g : Guided) (t : ℕ) → GuidesTo names m bounds before next g → live_read next ≡ Some (moment_at t) → moment_refusal (lowered m) bounds g.run t ≡ None → NamesLeast names m bounds before next g t
   pub timely : (lines : List (List ℕ)) → IsTimely names m bounds lines
@@ -65,7 +66,8 @@ IsLeastRun (run asked cap) contents =
     IfLabelled (get_or contents 0 []) asked.deadline (λ names m. IsLabelledYes cap m → AnswersLeast (map printed_name names) m (run_bounds m))
 IsLeastRun request contents = Unit {0}
 
--- After yes this was written: the line of yes, and what is said to the lines of the live source, of which this holds.
+-- After yes this was written: the line that says yes, and what is said to the lines of the live source. `OfLines` holds of
+-- these lines.
 pub record WroteRun (told old new : Option (List ℕ)) (names : List (List ℕ)) (m : Labelled) (bounds : List Bound) (OfLines : List (List ℕ) → Type 0) : Type 0 where
   pub live : List ℕ
   pub all : IsAllOf told live
@@ -79,14 +81,15 @@ IsCarriedOut told old new (run asked cap) contents =
     (λ names m. IsLabelledYes cap m × WroteRun told old new (map printed_name names) m (run_bounds m) (IsCarriedThrough (map printed_name names) m (run_bounds m)))
 IsCarriedOut told old new request contents = Unit {0}
 
--- what Unfinished tells of it: its lines end before, and the due moment is told
+-- what Unfinished tells of a run: its lines end while something is due, and the due moment is told
 abbrev pub IsLeftUnfinished : Option (List ℕ) → Option (List ℕ) → Option (List ℕ) → Request → List (List ℕ) → Type 0
 IsLeftUnfinished told old new (run asked cap) contents =
     HasLabelled (get_or contents 0 []) asked.deadline
     (λ names m. IsLabelledYes cap m × WroteRun told old new (map printed_name names) m (run_bounds m) (EndsUnfinished (map printed_name names) m (run_bounds m)))
 IsLeftUnfinished told old new request contents = Unit {0}
 
--- how a run ends over its lines: they carry it to its end, or end before, or one of them is of no grammar
+-- how a run ends over its lines: they carry it to its end, or end before that, or one of them is of no grammar, too long or too
+-- late
 abbrev pub RunEnds : Status → List (List ℕ) → Labelled → List Bound → List (List ℕ) → Type 0
 RunEnds status names m bounds lines =
     ((status ≡ Good) × IsCarriedThrough names m bounds lines)
@@ -109,7 +112,8 @@ IsVerdictOn cap status checked =
     ⊎ (((status ≡ Bad) × IsSomeAnd checked (λ net. IsConsistent net → ⊥))
     ⊎ ((status ≡ Full) × IsSomeAnd checked (λ net. cap < load_of net)))
 
--- how an edit session ends over its lines: by the verdict of the last check, or one of them is of no grammar
+-- how an edit session ends over its lines: by the verdict of the last check, or at a line that is of no grammar, too long or
+-- too late
 abbrev pub EditEnds : ℕ → Status → List (List ℕ) → Network → List (List ℕ) → Type 0
 EditEnds cap status names net lines =
     (AreAnswered edit_turn (begun_editing cap names net) lines × IsVerdictOn cap status (last_checked (begun_editing cap names net) None lines))

@@ -37,17 +37,17 @@ abbrev pub HoldsOf : Option Request → Option (List ℕ → Option (List ℕ)) 
 HoldsOf None told holds = ⊥
 HoldsOf (Some request) told holds = (contents : List (List ℕ)) × AreContents told (files_of request) contents × holds request contents
 
--- the text is a refutation's, and its steps are one of the network
+-- the text is one of steps, and they are a refutation of the network
 abbrev pub IsRefutedBy : Told → Network → Type 0
 IsRefutedBy (tells load steps) net = IsRefutation net steps
 IsRefutedBy (wrong at) net = ⊥
 
--- or they are none of it
+-- the text is one of steps, and they are no refutation of the network
 abbrev pub IsNoRefutation : Told → Network → Type 0
 IsNoRefutation (tells load steps) net = IsRefutation net steps → ⊥
 IsNoRefutation (wrong at) net = ⊥
 
--- the text is that of bounds, and they have a fault for the network
+-- the text is one of bounds, and they have a fault for the network
 abbrev pub AreFaulty : ToldBounds → Network → Type 0
 AreFaulty (tells_bounds load bounds) net = (f : Fault) × IsFirstFault net bounds f
 AreFaulty (wrong_bound at) net = ⊥
@@ -56,30 +56,33 @@ AreFaulty (wrong_bound at) net = ⊥
 abbrev pub IsListed : Network → Type 0
 IsListed net = IsFaultless net (live_bounds (log_of net))
 
--- what refutes the network by its log is a refutation
+-- the last entry of the network's log, with the entries that it follows from, is a refutation
 abbrev pub IsRefutedByLog : Network → Type 0
 IsRefutedByLog net = IsRefutation net (part (log_of net))
 
--- h is the least deadline of the network: the bounds at it have no fault, and what refutes it one tick below is a refutation
+-- h is the least deadline of the network: the bounds at h have no fault, and unless h is 0, the log one tick below has a
+-- refutation
 pub record IsTight (net : Network) (h : ℕ) : Type 0 where
   pub least : IsLeastDeadline net h
   pub bounds : IsListed (at_deadline net h)
   pub refuted : (h ≡ 0) ⊎ IsRefutedByLog (at_deadline net (h - 1))
 
--- the constraints of these ids can't be met together, and are refuted; with any one of them less they can
+-- the constraints of these ids can't be met together, and their log has a refutation; without any one of them they can be met
 pub record IsConflict (net : Network) (ids : List ℕ) : Type 0 where
   pub inconsistent : IsConsistent (with_ids net ids) → ⊥
   pub refuted : IsRefutedByLog (with_ids net ids)
   pub needed : (id : ℕ) → Contains ids id → IsConsistent (with_ids net (less id ids))
 
--- this holds of the network as edited at the last check of the edit lines, if there is one, where the live source has these bytes
+-- this holds of the network as edited at the last check of the edit lines, if there is one, where these are the bytes of the
+-- live source
 abbrev pub AtLastCheck : Option (List ℕ) → ℕ → List (List ℕ) → Network → (Option Network → Type 0) → Type 0
 AtLastCheck told cap names net holds =
     (live : List ℕ) × IsAllOf told live × holds (last_checked (begun_editing cap names net) None (lines_of live))
 
--- what the status Good tells of a request, by what is told of the live source: its document has a network, one that was checked
--- is consistent, and one of which a refutation was replayed isn't; the bounds that were written have no fault, the deadline
--- is the least, and the tree is good; of a drill, that as many small networks are consistent as are counted
+-- What the status Good tells of a request: its document has a network. One that was checked is consistent, in an edit session
+-- the network as edited at the last check, by what is told of the live source; one of which a refutation was replayed isn't.
+-- The bounds that were written have no fault, the deadline is the least, and the tree is good. In a drill, as many small
+-- networks are consistent as are counted.
 abbrev pub IsGood : Option (List ℕ) → Request → List (List ℕ) → Type 0
 IsGood told (check asked cap) contents = HasLabelled (get_or contents 0 []) asked.deadline (λ names m. IsLabelledYes cap m)
 IsGood told (run asked cap) contents = HasLabelled (get_or contents 0 []) asked.deadline (λ names m. IsLabelledYes cap m)
@@ -98,8 +101,9 @@ IsGood told (treecheck asked proof) contents =
 IsGood told (drill number) contents = AreConsistent number 64 (unrefuted number 64)
 IsGood told (host files deadline cap) contents = EachHas contents deadline (IsYes cap)
 
--- what the status Bad tells of it: its document has a network that isn't consistent, or of which the text is no refutation, or its
--- list has a fault; what was written refutes the network, or that of a conflict set
+-- What the status Bad tells of a request: its document has a network. One that was checked isn't consistent, of a host the
+-- first of which the verdict isn't yes. A text that was handed in is no refutation, a list of bounds with a fault, or a tree of
+-- which a line breaks. After `tight` the log of the network has a refutation, and after `conflict` that of its conflict set.
 abbrev pub IsBad : Option (List ℕ) → Request → List (List ℕ) → Type 0
 IsBad told (check asked cap) contents = HasLabelled (get_or contents 0 []) asked.deadline (λ names m. IsLabelledNo cap m)
 IsBad told (run asked cap) contents = HasLabelled (get_or contents 0 []) asked.deadline (λ names m. IsLabelledNo cap m)
@@ -120,7 +124,7 @@ IsBad told (treecheck asked proof) contents =
 IsBad told (drill number) contents = ⊥
 IsBad told (host files deadline cap) contents = FirstHas contents deadline cap (λ names net. IsNo cap net)
 
--- what the status Full tells of it: the log of its network has more entries than it may
+-- what the status Full tells of a request: the log of its network, or one that was tried, has more than `cap` entries
 abbrev pub IsFull : Option (List ℕ) → Request → List (List ℕ) → Type 0
 IsFull told (check asked cap) contents = HasLabelled (get_or contents 0 []) asked.deadline (λ names m. cap < load_of (lowered m))
 IsFull told (run asked cap) contents = HasLabelled (get_or contents 0 []) asked.deadline (λ names m. cap < load_of (lowered m))
@@ -133,37 +137,38 @@ IsFull told (tree asked cap) contents = HasNetwork (get_or contents 0 []) asked.
 IsFull told (host files deadline cap) contents = FirstHas contents deadline cap (λ names net. cap < load_of net)
 IsFull told request contents = ⊥
 
--- what the status Wide tells of it: more than 10 propositions are observed
+-- what the status Wide tells of a request: more than 10 propositions are observed
 abbrev pub IsWide : Request → List (List ℕ) → Type 0
 IsWide (tree asked cap) contents = HasNetwork (get_or contents 0 []) asked.deadline (λ names net. 10 < observed net)
 IsWide request contents = ⊥
 
--- a network whose log has no more entries than it may is decided: Good where it is consistent, and Bad where it isn't
+-- a network whose log has at most `cap` entries is decided: Good where it is consistent, and Bad where it isn't
 abbrev pub IsDecided : ℕ → Network → Status → Type 0
 IsDecided cap net status = load_of net ≤ cap → ((status ≡ Good) × IsConsistent net) ⊎ ((status ≡ Bad) × (IsConsistent net → ⊥))
 
--- and so is a labelled network, by the log of the network that it is lowered to
+-- a labelled network is decided, where the log of the network that it is lowered to has at most `cap` entries
 abbrev pub IsLabelledDecided : ℕ → Labelled → Status → Type 0
 IsLabelledDecided cap m status =
     load_of (lowered m) ≤ cap → ((status ≡ Good) × IsLabelledConsistent m) ⊎ ((status ≡ Bad) × (IsLabelledConsistent m → ⊥))
 
--- the text has more bytes than one may have, or a line that is of no grammar
+-- the text has more than 1,476,395,008 bytes, or a line that is of no grammar
 abbrev pub IsOffGrammar : List ℕ → Told → Type 0
 IsOffGrammar text (tells load steps) = 1476395008 < length text
 IsOffGrammar text (wrong at) = Unit {0}
 
--- a text is replayed on a network: Good where its steps are a refutation, and Bad where they are none
+-- a text is replayed on a network: Good where its steps are a refutation, Bad where they are none, and Script where the text is
+-- too long or has a line of no grammar
 abbrev pub IsReplayed : List ℕ → Told → Network → Status → Type 0
 IsReplayed text told net status =
     ((status ≡ Script) × IsOffGrammar text told)
     ⊎ ((length text ≤ 1476395008) × (((status ≡ Good) × IsRefutedBy told net) ⊎ ((status ≡ Bad) × IsNoRefutation told net)))
 
--- the tree of a network is told, if no more than 10 propositions are observed and its log has no more entries than it may
+-- `tree` ends with Wide where more than 10 propositions are observed, and else the network is decided
 abbrev pub IsDecidedTree : ℕ → Network → Status → Type 0
 IsDecidedTree cap net status = ((status ≡ Wide) × (10 < observed net)) ⊎ (IsNarrow net × IsDecided cap net status)
 
--- a check or a replay is complete: the network of a document is decided, or a text is replayed on it, or the document is refused;
--- a drill is Good
+-- a check or a replay is complete: the network of a document is decided, or a text is replayed on it, or the document is
+-- refused; a drill is Good
 abbrev pub IsComplete : Status → Request → List (List ℕ) → Type 0
 IsComplete status (check asked cap) contents =
     ((status ≡ Document) × IsNoDocument (get_or contents 0 []) asked.deadline)

@@ -43,7 +43,7 @@ plan_at (treecheck asked proof) contents = on_document (by_text tree_checked (ge
 plan_at (drill number) contents = says (drilled number)
 plan_at (host files deadline cap) contents = hosted_plan cap deadline contents
 
--- the plan of words
+-- the plan of the words of a call, which may be no request
 abbrev pub plan_of : Option Request → List (List ℕ) → Plan
 plan_of None contents = says (say Words (codes "words"))
 plan_of (Some request) contents = plan_at request contents

@@ -31,7 +31,7 @@ FitsRequest request (Runs opening guiding) = EndsLine opening.items
 FitsRequest request (Edits editing) = AsksEdit request
 FitsRequest request (Hosts opening ward) = EndsLine opening.items × AsksHost request
 
--- a plan was made for the request, with the contents of its files, of which those that were read are there
+-- the plan says what the request says of the contents of its files, and the files that were read are there
 pub record Planned (request : Request) (told : Option (List ℕ → Option (List ℕ))) (plan : Plan) : Type 0 where
   pub contents : List (List ℕ)
   pub are : AreContents told (files_of request) contents

@@ -9,7 +9,7 @@ use Rattle.cstn_top.specs.Meanings.{IsGood, IsBad, IsFull, IsWide, IsComplete, I
 use Rattle.cstn_top.specs.Evidence.{WroteEvidence}
 use Rattle.cstn_top.specs.Lines.{IsLeastRun, IsCarriedOut, IsLeftUnfinished, IsEnded}
 
--- what the clauses of the same names say, each of these contents
+-- what the clauses of `run` with these names say, each of the same contents
 pub record IsAllTold (before after : LiveState) (old new : Option (List ℕ)) (status : Status) (request : Request) (contents : List (List ℕ)) : Type 0 where
   pub output : Ends (plan_at request contents) before after old new status
   pub good : status ≡ Good → IsGood before.left request contents

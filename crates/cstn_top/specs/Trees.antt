@@ -26,7 +26,7 @@ abbrev pub IsBrokenTree : Told → Network → Type 0
 IsBrokenTree (tells lines) net = (line : ℕ) × (first_broken net (the_tree lines) ≡ Some line)
 IsBrokenTree (wrong at) net = ⊥
 
--- the tree that is said of a yes, by the bounds of the live entries of the log, and that its text is accepted
+-- a tree is said of a yes, by the bounds of the live entries of the log, and `treecheck` accepts its text
 pub record HasTree (names : List (List ℕ)) (net : Network) : Type 0 where
   pub said : Said
   pub told : IsTreeText names (load_of net) (live_bounds (log_of net)) net said

@@ -46,15 +46,15 @@ use treecheck::treecheck_file;
 pub(crate) enum Prepared {
     /// A text and no more.
     Says(Said),
-    /// The first line, and then the answers to the live lines.
+    /// The line that says yes, and then the answers to the live lines.
     Runs { opening: Vec<u8>, guiding: Guiding },
     /// The answers to the edit lines.
     Edits(Editing),
-    /// The lines after yes, and then the answers to the host lines.
+    /// The lines that say yes, and then the answers to the host lines.
     Hosts { opening: Vec<u8>, ward: Ward },
 }
 
-/// Reads the files of a request, and prepares what is said for it.
+/// Reads the files of a request, and prepares what is said for it. Fails where a file can't be read, and for want of memory.
 pub(crate) fn prepare<F: Shelf>(
     alloc: Global,
     request: Request<'_>,

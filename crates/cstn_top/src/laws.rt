@@ -12,9 +12,9 @@ ghost use Rattle.cstn_top.specs.EditSessions.{network_after, AnswersCheck, IsAtL
 use cstn_refute::texts_are_read_back;
 
 /// After any edit lines that are answered, the session's network is the network as edited by them, which is well-formed. The
-/// answer to `check` after them is true of that network: yes is said where it is consistent, no where it isn't, with steps that
-/// refute it, and that the log is full only where its log has more entries than it may. What the last check was of is the network
-/// as edited by the lines before it.
+/// answer to `check` after them is true of that network: yes is said only where it is consistent, no only where it isn't, with
+/// steps that refute it, and that the log is full only where its log has more than `cap` entries. The network of the last check
+/// is the network as edited by the lines before that check.
 pub fn edit_sessions_are_true()
     ensures edited { (cap : ℕ) (names : List (List ℕ)) (net : Network) (lines : List (List ℕ)) (e : Editing) → state_after edit_turn (begun_editing cap names net) 0 lines ≡ Some e → e.session.net ≡ network_after names net lines }
     ensures well_formed { (cap : ℕ) (names : List (List ℕ)) (net : Network) (lines : List (List ℕ)) → IsWellFormed net → length names ≡ count net → AreAnswered edit_turn (begun_editing cap names net) lines → IsWellFormed (network_after names net lines) }

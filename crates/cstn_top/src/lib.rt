@@ -1,4 +1,4 @@
-// One request: its words, its files, and what is written for it.
+//! One request: its words, its files, and what is written for it.
 #![tactic(auto)]
 
 mod commands;

@@ -209,7 +209,7 @@ fn expect_replay(
     expect(rt, alloc, &words, setting, status, text)
 }
 
-// A run of this document with these live lines answers and writes this, whatever a call takes.
+// A run of this document with these live lines answers and writes this, however many bytes a call takes.
 fn expect_run<'a>(
     rt: &impl Abort,
     alloc: Global,
@@ -232,7 +232,7 @@ fn expect_refused(rt: &impl Abort, alloc: Global, document: &[u8], text: &str) -
     expect(rt, alloc, &words, quiet(document), Status::Document, text)
 }
 
-// So many of the first bytes of `PAIR` are refused with this.
+// The first `len` bytes of `PAIR` are refused with this.
 fn expect_cut(rt: &impl Abort, alloc: Global, len: usize, text: &str) -> Result<(), Fail> {
     let bytes = PAIR.as_bytes();
     expect_refused(rt, alloc, &bytes[..bytes.len().min(len)], text)

@@ -46,7 +46,7 @@ within n m plan other le = grind arith
 beyond : (n m : ℕ) (plan other : Plan) → n < m → (if nat_lt n m then plan else other) ≡ plan
 beyond n m plan other lt = grind arith
 
--- a document that isn't too long
+-- what is said of a document that isn't too long
 short_document : (answer : LabelledAnswer) (bytes : List ℕ) (deadline : Option ℕ) → length bytes ≤ 8388608 → on_labelled answer bytes deadline ≡ judged answer (document bytes deadline)
 short_document answer bytes deadline short = within 8388608 (length bytes) (says (say Document (codes "document long"))) (judged answer (document bytes deadline)) short
 
@@ -167,7 +167,7 @@ plainly_opened told asked l names (Ok opened) is taken = record { bytes = is.byt
 pub plainly_refused : (told : Option (List ℕ → Option (List ℕ))) (asked : Asked) (said : SaidText) → IsOpenedWithLabels told asked (RefusedOne said) → IsOpened told asked (Told said)
 plainly_refused told asked said is = record { bytes = is.bytes; content = is.content; there = is.there; opens = ((λ answer live. is.opens.0 (of_plain answer) live), is.opens.1) }
 
--- a label that can't differ from the empty one
+-- a label that can't differ from the empty one is empty
 empty_unless : (a : Label) → (a ≢ empty → ⊥) → a ≡ empty
 empty_unless a never = fun_ext (λ p. elim (absent_or_not (a p)) [
   | inl is ↦ is
@@ -178,7 +178,7 @@ empty_unless a never = fun_ext (λ p. elim (absent_or_not (a p)) [
 pub empties_from : (l : LabelledParts) → IsLabelled (the_labelled l) → ((x : ℕ) → x < count (the_network l.base) → label_in (the_labelled l).labels x ≢ empty → ⊥) → AreEmpty (the_labelled l).labels
 empties_from l good none = λ x inside. empty_unless (label_in (the_labelled l).labels x) (none x (omega (arith, inside, good.one_each)))
 
--- and aren't where one does
+-- where a label differs from the empty one, not all labels are empty, and it is told that the document has labels
 pub labels_told : {E : Type 0} (l : LabelledParts) (names : List (List ℕ)) (r : Result Opened E) → IsLabelled (the_labelled l) → (x : ℕ) → x < count (the_network l.base) → label_in (the_labelled l).labels x ≢ empty → IfOk r IsLabelsTold → IfOk r (IsTakenOf l names)
 labels_told l names (Err e) good x inside there told = tt
 labels_told l names (Ok (Accepted net others)) good x inside there told = absurd told
@@ -202,7 +202,7 @@ comes_itself plan = record { output = λ live said is. is; talks = λ may. may; 
 pub comes_same : (plan other : Plan) → other ≡ plan → ComesTo plan other
 comes_same plan other is = subst (ComesTo plan) (sym is) (comes_itself plan)
 
--- a plan that says a text
+-- a plan whose output is always one text comes to that text
 pub comes_to_text : (plan : Plan) (said : Said) → ((live : List ℕ) → IsOutput plan live said) → ComesTo plan (says said)
 comes_to_text plan said output = record {
   output = λ live other is. subst (λ (s : Said). IsOutput plan live s) (sym is) (output live);

@@ -18,25 +18,25 @@ Answer = List (List ℕ) → Network → Plan
 abbrev pub LabelledAnswer : Type 0
 LabelledAnswer = List (List ℕ) → Labelled → Plan
 
--- given what is said of networks, what is said of a labelled network: of its network, where no time-point has a label
+-- what is said of a labelled network where labels are refused: `answer` of its network, or that a time-point has a label
 abbrev pub of_plain : Answer → LabelledAnswer
 of_plain answer names m = unlabelled m.labels (answer names m.base)
 
--- or of the plain network that it is lowered to, which is equivalent to it
+-- what is said of a labelled network where labels are taken: `answer` of the network that it is lowered to
 abbrev pub of_lowered : Answer → LabelledAnswer
 of_lowered answer names m = answer names (lowered m)
 
--- the document of a file, given what is said of its labelled network
+-- what is said of a document: why it is refused, or `answer` of its labelled network
 abbrev pub judged : LabelledAnswer → Result Parts Refusal → Plan
 judged answer (Err refusal) = says (say Document (refusal_text refusal))
 judged answer (Ok parts) = judges parts (answer parts.names (labelled_of parts))
 
--- the document of a file with these bytes, which is refused where they are more than 8,388,608
+-- what is said of a file with these bytes: that it is too long, where they are more than 8,388,608, or else of its document
 abbrev pub on_labelled : LabelledAnswer → List ℕ → Option ℕ → Plan
 on_labelled answer bytes deadline =
     if nat_lt 8388608 (length bytes) then says (say Document (codes "document long")) else judged answer (document bytes deadline)
 
--- and given what is said of its network where no time-point has a label
+-- likewise where labels are refused, with `answer` of a network without labels
 abbrev pub on_document : Answer → List ℕ → Option ℕ → Plan
 on_document answer bytes deadline = on_labelled (of_plain answer) bytes deadline
 
@@ -49,7 +49,7 @@ parts_of (Err refusal) = None
 abbrev pub HasLabelled : List ℕ → Option ℕ → (List (List ℕ) → Labelled → Type 0) → Type 0
 HasLabelled bytes deadline holds = IsSomeAnd (parts_of (document bytes deadline)) (λ parts. IsFit parts × holds parts.names (labelled_of parts))
 
--- the document of the bytes has a network, no time-point of which has a label, and of which this holds under the names of its time-points
+-- the document of the bytes has a network without labels on time-points, of which this holds under the names of its time-points
 abbrev pub HasNetwork : List ℕ → Option ℕ → (List (List ℕ) → Network → Type 0) → Type 0
 HasNetwork bytes deadline holds = IsSomeAnd (parts_of (document bytes deadline)) (λ parts. AreUnlabelled parts × holds parts.names (network_of parts))
 

@@ -40,7 +40,7 @@ IsToldBy (Net error names) said = said ≡ say Document (fault_text names error)
 IsToldBy (Lift error names) said = said ≡ say Document (label_fault_text names error)
 IsToldBy (Memory e) said = ⊥
 
--- this is said of the document, whatever is asked of its labelled network
+-- this is said of the document where labels are taken, whatever would be said of a labelled network
 abbrev pub IsSaidOf : List ℕ → Option ℕ → Said → Type 0
 IsSaidOf bytes deadline said = (answer : LabelledAnswer) (live : List ℕ) → IsOutput (on_labelled answer bytes deadline) live said
 
@@ -52,13 +52,13 @@ pub record IsPlainDocument (told : Result Parts Refusal) (network : NetworkParts
   pub network_is : the_network network ≡ network_of parts
   pub names_are : names ≡ parts.names
 
--- of a labelled network, the plain one was taken where no time-point has a label, or its labels are told
+-- the network of a labelled one was taken, since no time-point has a label, or it is told that one has
 abbrev pub IsTakenOf : LabelledParts → List (List ℕ) → Opened → Type 0
 IsTakenOf l names (Accepted network others) =
     AreEmpty (the_labelled l).labels × IsLabelled (the_labelled l) × (the_network network ≡ lowered (the_labelled l)) × IsWellFormed (the_network network) × (others ≡ names)
 IsTakenOf l names (Told said) = (AreEmpty (the_labelled l).labels → ⊥) × (the_said said ≡ say Document (codes "document labels"))
 
--- a document with labels is told
+-- it is told that the document has labels
 abbrev pub IsLabelsTold : Opened → Type 0
 IsLabelsTold (Accepted network names) = ⊥
 IsLabelsTold (Told said) = the_said said ≡ say Document (codes "document labels")
@@ -68,7 +68,7 @@ abbrev pub OpensWithLabels : List ℕ → Option ℕ → WithLabels → Type 0
 OpensWithLabels bytes deadline (Labelled labelled names) = (length bytes ≤ 8388608) × IsDocument (document bytes deadline) labelled names
 OpensWithLabels bytes deadline (Refused said) = IsSaidOf bytes deadline (the_said said) × (said.outcome ≡ Document)
 
--- and where it has labels, they are told
+-- this is said of the document where labels are refused, whatever would be said of a network
 abbrev pub IsSaidPlainly : List ℕ → Option ℕ → Said → Type 0
 IsSaidPlainly bytes deadline said = (answer : Answer) (live : List ℕ) → IsOutput (on_document answer bytes deadline) live said
 
@@ -77,7 +77,7 @@ OpensAs bytes deadline (Accepted network names) =
     (length bytes ≤ 8388608) × IsPlainDocument (document bytes deadline) network names × IsWellFormed (the_network network)
 OpensAs bytes deadline (Told said) = IsSaidPlainly bytes deadline (the_said said) × (said.outcome ≡ Document)
 
--- a document is under these names, of which the first is the origin's
+-- an accepted document has a name for each time-point, and the first is the name of the origin
 abbrev pub HasNames : Opened → Type 0
 HasNames (Accepted network names) = (length names ≡ count (the_network network)) × ((later : List (List ℕ)) × (names ≡ origin_name ∷ later))
 HasNames (Told said) = Unit {0}
@@ -86,7 +86,7 @@ abbrev pub IsNamedLabelled : WithLabels → Type 0
 IsNamedLabelled (Labelled labelled names) = (length names ≡ count (the_network labelled.base)) × ((later : List (List ℕ)) × (names ≡ origin_name ∷ later))
 IsNamedLabelled (Refused said) = Unit {0}
 
--- a file that is too long is told
+-- it is told that the file is too long
 abbrev pub IsTooLong : WithLabels → Type 0
 IsTooLong (Labelled labelled names) = ⊥
 IsTooLong (Refused said) = the_said said ≡ say Document (codes "document long")

@@ -19,12 +19,12 @@ use Rattle.cstn_verdict.specs.Documents.{Answer}
 use Rattle.cstn_verdict.specs.declared.verdicts.Decided.{Decided}
 use Rattle.cstn_verdict.specs.declared.verdicts.Decided.TheVariants.{Yes as SaysYes, Told}
 
--- the verdict on a network by a log that may have so many entries
+-- the verdict on a network, whose log may have `cap` entries
 abbrev pub verdict : ℕ → Network → Verdict
 verdict cap net =
     if nat_lt cap (load_of net) then IsFull else if is_refuted net (log_of net) then No (load_of net) else Yes (load_of net)
 
--- what is said of a verdict on a network, given what follows after yes: the cap where it is exceeded, after no the refutation
+-- what is said of a verdict on a network: `after_yes`, the refutation after no, or the cap where the log has more entries
 abbrev pub on_verdict : ℕ → List (List ℕ) → Network → Plan → Verdict → Plan
 on_verdict cap names net after_yes (Yes load) = after_yes
 on_verdict cap names net after_yes (No load) = says (record { outcome = Bad; text = shown names load (part (log_of net)) })
@@ -34,19 +34,19 @@ on_verdict cap names net after_yes IsFull = says (record { outcome = Full; text 
 abbrev pub checked : ℕ → Answer
 checked cap names net = on_verdict cap names net (says (record { outcome = Good; text = yes_line (load_of net) })) (verdict cap net)
 
--- the network has a strategy, and no more than so many entries in its log
+-- the network has a strategy, and its log has at most `cap` entries
 abbrev pub IsYes : ℕ → Network → Type 0
 IsYes cap net = IsConsistent net × (load_of net ≤ cap)
 
--- it has none
+-- the network has no strategy, and its log has at most `cap` entries
 abbrev pub IsNo : ℕ → Network → Type 0
 IsNo cap net = (IsConsistent net → ⊥) × (load_of net ≤ cap)
 
--- the labelled network has a labelled strategy, and no more than so many entries are in the log of the network that it is lowered to
+-- the labelled network has a labelled strategy, and the log of the network that it is lowered to has at most `cap` entries
 abbrev pub IsLabelledYes : ℕ → Labelled → Type 0
 IsLabelledYes cap m = IsLabelledConsistent m × (load_of (lowered m) ≤ cap)
 
--- it has none
+-- the labelled network has no labelled strategy, and the log of the network that it is lowered to has at most `cap` entries
 abbrev pub IsLabelledNo : ℕ → Labelled → Type 0
 IsLabelledNo cap m = (IsLabelledConsistent m → ⊥) × (load_of (lowered m) ≤ cap)
 

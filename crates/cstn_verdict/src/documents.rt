@@ -37,7 +37,8 @@ pub enum WithLabels {
     Told(Said),
 }
 
-/// Reads the document of a file, which is refused where a time-point has a label.
+/// Reads the document of a file, which is refused where a time-point has a label. Fails where the file can't be read, and for
+/// want of memory.
 pub fn open<F: Shelf>(alloc: Global, asked: Asked<'_>, shelf: &mut F) -> Result<Opened, Refused>
     requires may_ask { IsTrue (F.may_ask shelf.old asked.file.now) }
     ensures opened { IfOk result (IsOpened (F.files shelf.old) (the_asked asked.entry)) }
@@ -54,7 +55,7 @@ pub fn open<F: Shelf>(alloc: Global, asked: Asked<'_>, shelf: &mut F) -> Result<
     }
 }
 
-/// Reads the document of a file.
+/// Reads the document of a file, whose time-points may have labels. Fails where the file can't be read, and for want of memory.
 pub fn open_labelled<F: Shelf>(
     alloc: Global,
     asked: Asked<'_>,
@@ -93,7 +94,7 @@ fn open_bytes(alloc: Global, bytes: &[u8], deadline: Option<u32>) -> Result<With
     }
 }
 
-// The plain network of a labelled one, where no time-point has a label.
+// The network of a labelled one, or what is said where a time-point has a label.
 fn take_plain(alloc: Global, labelled: Labelled, names: Names) -> Result<Opened, Refused>
     requires named { length names ≡ count (the_network labelled.base) }
     requires origin { (later : List (List ℕ)) × (names ≡ origin_name ∷ later) }

@@ -1,4 +1,4 @@
-// What is said of a document and of the verdict on its network.
+//! What is said of a document and of the verdict on its network.
 #![tactic(auto)]
 
 mod documents;

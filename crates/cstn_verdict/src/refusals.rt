@@ -16,7 +16,7 @@ use cstn_reply::{Outcome, Said};
 use cstn_text::{Names, print_name};
 use std::alloc::{AllocError, Global};
 
-/// What is said of an error.
+/// What is said of a document that is refused with this error. Fails for want of memory alone, also where that is the error.
 pub(crate) fn refuse(alloc: Global, error: DocError) -> Result<Said, AllocError>
     ensures told { IfOk result (λ said. IsToldBy error (the_said said)) }
 {
@@ -61,7 +61,7 @@ fn at_place(alloc: Global, kind: u8, at: usize) -> Result<Said, AllocError>
     Ok(refused(text.into_bytes()))
 }
 
-// The line of a network that is refused.
+// The line that says why a network is refused.
 fn fault_line(alloc: Global, error: NetError, names: &Names) -> Result<Vec<u8>, AllocError>
     ensures line { IfOk result (λ text. text.items ≡ line (fault_text names.now error)) }
 {
@@ -127,7 +127,7 @@ fn with_name(alloc: Global, front: &[u8], name: &str) -> Result<Vec<u8>, AllocEr
     Ok(text)
 }
 
-// The line of labels that are refused.
+// The line that says why labels are refused.
 fn label_fault_line(alloc: Global, error: LiftError, names: &Names) -> Result<Vec<u8>, AllocError>
     ensures line { IfOk result (λ text. text.items ≡ line (label_fault_text names.now error)) }
 {
@@ -157,7 +157,7 @@ fn unseen(alloc: Global, name: &str, prop: Prop) -> Result<Vec<u8>, AllocError>
     Ok(text)
 }
 
-// The name of a time-point, and none where it has none.
+// The name of a time-point, or the empty text where there is no such time-point.
 fn name_of(names: &Names, x: NodeId) -> &str
     ensures name { result.now ≡ slice_index_or names.now x.0 [] }
 {

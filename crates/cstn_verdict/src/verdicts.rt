@@ -20,13 +20,13 @@ use std::alloc::Global;
 /// The verdict on a network.
 #[derive(Drop)]
 pub enum Decided {
-    /// Yes, with the load of the check.
+    /// Yes, with the load, and the check that said so.
     Yes { load: u32, check: Check },
     /// What is said after no, or where the log is full.
     Told(Said),
 }
 
-/// Checks a network, whose log may have `cap` entries.
+/// Checks a network, whose log may have `cap` entries. Fails for want of memory alone.
 pub fn decide(alloc: Global, network: Network, names: &Names, cap: u32) -> Result<Decided, Refused>
     requires some { 1 ≤ cap }
     requires most { cap ≤ 4194304 }
@@ -51,7 +51,7 @@ pub fn decide(alloc: Global, network: Network, names: &Names, cap: u32) -> Resul
     }
 }
 
-/// The line after yes.
+/// The line that says yes, with the load. Fails for want of memory alone.
 pub fn yes_line(alloc: Global, load: u32) -> Result<Vec<u8>, Refused>
     ensures line { IfOk result (λ line. line.items ≡ yes_line load) }
     ensures fault { IsErrOf result Refused.ReadFault → ⊥ }
@@ -81,7 +81,7 @@ fn refuted(alloc: Global, check: &Check, names: &Names) -> Result<Said, Refused>
     })
 }
 
-/// What is said where a log has more entries than it may.
+/// What is said where a log has more than `cap` entries. Fails for want of memory alone.
 pub fn full(alloc: Global, cap: u32) -> Result<Said, Refused>
     ensures said { IfOk result (λ said. the_said said ≡ record { outcome = Outcome.Full; text = full_line cap }) }
     ensures fault { IsErrOf result Refused.ReadFault → ⊥ }

@@ -17,7 +17,7 @@ use Rattle.cstn_ward.specs.Read.{the_names, IsWard}
 use Rattle.cstn_ward.proofs.Moments.{Moved, after_moment, moved_by, named_then, run_then, file_is, named_is}
 use Rattle.cstn_ward.proofs.PutLines.{first_line}
 
--- what a host has answered to a moment, of the host that follows
+-- the time-points that the answer to a moment names, as the host after the moment has them
 pub told_after : (host new : HostParts) (id t : ℕ) → new ≡ after_moment host id t → Told (Names (named_at new id)) ≡ answer_on host id (Pass (Moment t)) → Told (Names (named_at (after_moment host id t) id)) ≡ answer_on host id (Pass (Moment t))
 told_after host new id t is told = ap (λ (h : HostParts). Told (Names (named_at h id))) (sym is) ∙ told
 
@@ -38,7 +38,7 @@ texts_at names k one texts one_is texts_are inside =
     ∙ ap (λ (v : Vec (String Global) Global). map string_bytes v.items) one_is
     ∙ sym (get_or-map (λ (v : Vec (String Global) Global). map string_bytes v.items) names k one [] inside)
 
--- a file that is open has texts
+-- a file of the host has printed names
 pub file_within : (host new : HostParts) (names : List (Vec (String Global) Global)) (file : ℕ) → length (the_names names) ≡ length host.plans → new.plans ≡ host.plans → file < length new.plans → file < length names
 file_within host new names file many same inside =
     let plans : length new.plans ≡ length host.plans = ap length same in
@@ -53,7 +53,7 @@ done_then host new id t m b after each =
     ∙ ap (λ (h : HostParts). is_none (due (net_at h.plans file) (bounds_at h.plans file) (passed host.plans m.before (Moment t)).run)) after
     ∙ ap (λ (r : Option Refusal). is_none (due (net_at host.plans file) (bounds_at host.plans file) (run_unless m.before.run (run_then host id t m) r))) m.accepted
 
--- what is put of an accepted moment: the file's texts, and who was named
+-- what is put for an accepted moment: the printed names of the file's time-points that were named
 module _ (host : HostParts) (id t : ℕ) (m : Moved host id t) (names : List (Vec (String Global) Global)) (ward : IsWard host.plans (the_names names)) (file : ℕ) (same : file ≡ m.before.file) (inside : file < length names) (texts : List (String Global)) (texts_are : map string_bytes texts ≡ slice_index_or (the_names names) file []) (xs : List NodeId) (nodes_are : the_nodes xs ≡ named_then host id t m) where
   short : AreShort (plan_of_file host.plans file).net (slice_index_or (the_names names) file [])
   short = let many = ward.as_many in let size = length-map names (λ (v : Vec (String Global) Global). map string_bytes v.items) in ward.short file (omega (arith, inside, many, size))

@@ -14,7 +14,7 @@ use Rattle.cstn_ward.specs.Read.{WardParts, the_ward, error_text}
 use Rattle.cstn_ward.proofs.Same.{the_call, after_same, said_error, said_agreed}
 use Rattle.cstn_ward.proofs.Moments.{Moved, after_moment, named_then, due_then, goes_on, ends, kept_said, due_said}
 
--- where there is a result, what follows from what it tells
+-- if `two` follows from `one`, and `one` holds where the result is `Ok`, so does `two`
 pub on_ok : {X E : Type 0} (r : Result X E) (one two : Type 0) → (one → two) → OnOk r one → OnOk r two
 on_ok (Ok x) one two follows is = follows is
 on_ok (Err e) one two follows is = tt
@@ -23,7 +23,7 @@ pub on_both : {X E : Type 0} (r : Result X E) (one two three : Type 0) → (one 
 on_both (Ok x) one two three follows is also = follows is also
 on_both (Err e) one two three follows is also = tt
 
--- a result that is another one
+-- what holds where a result is `Ok` also holds for an equal result and an equal text
 pub on_same : {X E : Type 0} (r s : Result X E) (x t u : List ℕ) → r ≡ s → t ≡ u → OnOk s (x ≡ u) → OnOk r (x ≡ t)
 on_same {X = X} {E = E} r s x t u same texts is = subst (λ (q : Result X E). OnOk q (x ≡ t)) (sym same) (subst (λ (v : List ℕ). OnOk s (x ≡ v)) (sym texts) is)
 
@@ -47,7 +47,7 @@ module _ (old : WardParts) (host : HostParts) (names : List (List (List ℕ))) (
   pub error_said : (h : Hosted) (e : HostError) (text : List ℕ) → the_denial e ≡ answer_on host (id_of h) (the_call h) → text ≡ error_text (id_of h) (the_denial e) → said (the_ward old) h ≡ text
   error_said h e text is text_is = subst (λ (w : WardParts). said (the_ward w) h ≡ text) view (said_error (seen_with host names) as_many h e is ∙ sym text_is)
 
-  -- the ward that follows
+  -- the ward after a host line is that of the host after the call
   pub after_is : (h : Hosted) (new : HostParts) → new ≡ host_after host (id_of h) (the_call h) → ward_after (the_ward old) h ≡ the_ward (seen_with new names)
   after_is h new is =
       subst (λ (w : WardParts). ward_after (the_ward w) h ≡ the_ward (seen_with new names)) view

@@ -1,4 +1,4 @@
--- The answers to an id are those of a run that is alone.
+-- The answers to an id are those of a run of its file's plan alone.
 use Rattle.std.proofs.Common.{◌≡◌, ◌≢◌, ℕ, ◌<◌, List, [], ◌∷◌, ◌++◌, length, map, refl, ap, sym, subst, ◌∙◌, arith, Bool, true, false}
 use Rattle.std.specs.Prelude.{Option, Some, None, nat_lt, ◌==◌, if◌then◌else◌, slice_index_or, slice_set, flat_map, codes}
 use Rattle.std.proofs.lemmas.List.{get_or-set_same, get_or-set_other, get_or-replicate, length-set, length-replicate}
@@ -28,7 +28,7 @@ other_is a b is = grind arith
 
 -- ---- one line
 
--- a line leaves every other id
+-- a line leaves what every other id is open over as it is
 leaves : (ward : Ward) (h : Hosted) (other : ℕ) → other ≢ id_of h → case_of (ward_after ward h) other ≡ case_of ward other
 leaves ward h other apart = at (nat_lt (id_of h) 64)
   where
@@ -36,7 +36,7 @@ leaves ward h other apart = at (nat_lt (id_of h) 64)
     at true = get_or-set_other ward.cases (id_of h) other (case_next ward.files (case_of ward (id_of h)) h) None apart
     at false = refl
 
--- there stay as many ids
+-- after a line there are as many ids as before
 as_many : (ward : Ward) (h : Hosted) → length (ward_after ward h).cases ≡ length ward.cases
 as_many ward h = at (nat_lt (id_of h) 64)
   where
@@ -52,7 +52,7 @@ changes ward h size below =
 
 -- ---- all lines
 
--- two wards that are the same to an id
+-- two wards have the same files, and the id is open over the same in both
 record Agree (w v : Ward) (id : ℕ) : Type 0 where
   same_files : w.files ≡ v.files
   same_case : case_of w id ≡ case_of v id
@@ -124,7 +124,7 @@ each_apart files lines others id same =
 
 -- ---- an id that is open
 
--- its live lines
+-- the live lines on an open id are answered as by a run alone
 passes_on : (w : Ward) (id : ℕ) (c : Case) (lives : List Live) → id < 64 → length w.cases ≡ 64 → case_of w id ≡ Some c → said_to id w (map (put_on id) lives) ≡ alone_said id (file_at w.files c.file) c.run lives
 passes_on w id c [] below size is = refl
 passes_on w id c (live ∷ lives) below size is =
@@ -139,7 +139,7 @@ passes_on w id c (live ∷ lives) below size is =
         ap (λ (b : Bool). if b then said_in w.files (case_of w id) (put_on id live) else line (denied_text (OutOfRange id))) (is_below id 64 below)
         ∙ ap (λ (o : Option Case). said_in w.files o (put_on id live)) is
 
--- from where it was opened
+-- the live lines after the line that opens an id are answered as by a run alone
 pub alone : (files : List File) (lines : List Hosted) (id file : ℕ) (lives : List Live) → id < 64 → file < length files → lines_on id lines ≡ opened id file ∷ map (put_on id) lives → said_to id (begun files) lines ≡ agreed_text (opened id file) ∷ alone_said id (file_at files file) (fresh files file).run lives
 alone files lines id file lives below inside is =
     to_its_lines first first lines id (begun_agree files id)
@@ -164,9 +164,9 @@ alone files lines id file lives below inside is =
         ∙ ap (λ (o : Option Case). said_in files o (opened id file)) none
         ∙ ap (λ (b : Bool). answer_text [] (due_in files (if b then Some (fresh files file) else None)) (opened id file) (if b then Agreed else Denied (NotAFile file))) (is_below file (length files) inside)
 
--- ---- a run that is alone
+-- ---- a run alone
 
--- the text of its answers
+-- its answers have the text of those of `run`
 pub alone_text : (file : File) (run : Run) (live : Live) (bytes : List ℕ) → live_read bytes ≡ Some live → turn_text (run_turn file.names file.net file.bounds run bytes) ≡ flat_map line (alone_lines file run live)
 alone_text file run live bytes is = ap (λ (o : Option Live). turn_text (live_turn file.names file.net file.bounds run o)) is ∙ by_live live
   where
@@ -187,7 +187,7 @@ alone_text file run live bytes is = ap (λ (o : Option Live). turn_text (live_tu
     by_live (seen p v) = by_outcome p v (due file.net file.bounds (run_unless run (handed run p v) (outcome_refusal file.net run p))) (outcome_refusal file.net run p)
     by_live due_now = sym (nothing_after (line (due_text (due file.net file.bounds run))))
 
--- how it goes on
+-- it goes on as `run` does
 pub alone_leads : (file : File) (run : Run) (live : Live) (bytes : List ℕ) → live_read bytes ≡ Some live → LeadsTo file (alone_after file run live) (run_turn file.names file.net file.bounds run bytes)
 alone_leads file run live bytes is =
     subst (λ (o : Option Live). LeadsTo file (alone_after file run live) (live_turn file.names file.net file.bounds run o)) (sym is) (by_live live)

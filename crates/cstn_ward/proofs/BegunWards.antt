@@ -38,7 +38,7 @@ files_more [] (n ∷ ns) plan texts same = absurd (omega (arith, same))
 files_more (p ∷ ps) [] plan texts same = absurd (omega (arith, same))
 files_more (p ∷ ps) (n ∷ ns) plan texts same = ap (λ (fs : List File). the_planned p n ∷ fs) (files_more ps ns plan texts (omega (arith, same)))
 
--- one more plan with printed names
+-- plans with printed names, and one more plan with its printed names
 ward_more : (plans : List PlanParts) (names : List (List (List ℕ))) (plan : PlanParts) (texts : List (List ℕ)) → IsWard plans names → AreShort plan.net texts → IsWard (plans ++ plan ∷ []) (names ++ texts ∷ [])
 ward_more plans names plan texts is short =
     let many = is.as_many in
@@ -113,19 +113,19 @@ begun_more cap all old new net check_net names load plan so_far yes' load_is sam
 nothing_more : {A : Type 0} (xs : List A) → xs ++ [] ≡ xs
 nothing_more xs = grind (arith, common_steps)
 
--- what is left of documents, where nothing is
+-- where no document is left, all were taken
 pub all_taken : (all front left : List Document) → all ≡ front ++ left → length left ≡ 0 → all ≡ front
 all_taken all front [] is none = is ∙ nothing_more front
 all_taken all front (d ∷ ds) is none = absurd (omega (arith, none))
 
--- a document of which all are sound
+-- where all documents are sound, each is
 pub sound_at : (all front later : List Document) (document : Document) → All IsSound all → all ≡ front ++ document ∷ later → IsSound document
 sound_at all front later document sound is =
     let more = length-append front (document ∷ later) in
     subst IsSound (ap (λ (ds : List Document). slice_index_or ds (length front) document) is ∙ get_or-append_seam front document later document)
     (sound (length front) document (omega (arith, more, ap length is)))
 
--- the session after all networks
+-- the session after yes of all networks
 abbrev pub attending : List Named → Plan
 attending all = session ward_turn ward_ending (yes_lines all) (begun_ward (map the_file all))
 
@@ -152,7 +152,7 @@ all_begun cap all front begun (Ok (Begins opening ward)) all_is so_far is =
     ∙ ap (λ (w : Ward). session ward_turn ward_ending opening.items w) (sym (is.1 ∙ ap begun_ward so_far.files)) in
     subst (λ (p : Plan). ComesTo p (session ward_turn ward_ending opening.items (the_ward ward))) (sym same) (record { output = λ live s is. is; talks = λ may. may; fault = λ may taken. refl })
 
--- the lines after yes are whole lines
+-- the lines that say yes are whole lines
 yes_ends : (all : List Named) → EndsLine (yes_lines all)
 yes_ends [] = inl refl
 yes_ends (first ∷ rest) = at (yes_ends rest)

@@ -16,7 +16,7 @@ use Rattle.cstn_ward.proofs.Moments.{never_due}
 is_below : (a b : ℕ) → a < b → nat_lt a b ≡ true
 is_below a b small = grind arith
 
--- one more id
+-- the least id from `id` on is `id`, where something is due there, or the least from the next id on
 step : (ward : Ward) (id : ℕ) → id < 64 → due_from ward id (64 - id) ≡ or_later (option_map (λ t. (id, t)) (due_in ward.files (case_of ward id))) (due_from ward (id + 1) (64 - (id + 1)))
 step ward id below = ap (due_from ward id) count
   where
@@ -27,15 +27,15 @@ pub begins : (ward : Ward) → unfinished ward ≡ due_from ward 0 64
 unfolding unfinished
 begins ward = refl
 
--- nothing is due of an id
+-- where nothing is due at an id, the search goes on with the next id
 pub passes : (ward : Ward) (id : ℕ) → id < 64 → unfinished ward ≡ due_from ward id (64 - id) → due_in ward.files (case_of ward id) ≡ None → unfinished ward ≡ due_from ward (id + 1) (64 - (id + 1))
 passes ward id below so_far none = so_far ∙ step ward id below ∙ ap (λ (o : Option ℕ). or_later (option_map (λ t. (id, t)) o) (due_from ward (id + 1) (64 - (id + 1)))) none
 
--- something is
+-- where something is due at an id, the search ends with it
 pub stops : (ward : Ward) (id t : ℕ) → id < 64 → unfinished ward ≡ due_from ward id (64 - id) → due_in ward.files (case_of ward id) ≡ Some t → Some (id, t) ≡ unfinished ward
 stops ward id t below so_far found = sym (so_far ∙ step ward id below ∙ ap (λ (o : Option ℕ). or_later (option_map (λ u. (id, u)) o) (due_from ward (id + 1) (64 - (id + 1)))) found)
 
--- no id is left
+-- after the last id, the search ends with none
 pub none_left : (ward : Ward) (id : ℕ) → 64 ≤ id → unfinished ward ≡ due_from ward id (64 - id) → None ≡ unfinished ward
 none_left ward id above so_far = sym (so_far ∙ ap (due_from ward id) count)
   where
@@ -43,7 +43,7 @@ none_left ward id above so_far = sym (so_far ∙ ap (due_from ward id) count)
     count = omega (arith, above)
 
 module _ (w : WardParts) (as_many : length w.names ≡ length w.host.plans) where
-  -- what is due by a host
+  -- what is due at an id, by what it is open over in the host
   abbrev due_of : Option Opened → Option ℕ
   due_of None = None
   due_of (Some c) = due (net_at w.host.plans c.file) (bounds_at w.host.plans c.file) c.run
@@ -58,7 +58,7 @@ module _ (w : WardParts) (as_many : length w.names ≡ length w.host.plans) wher
   asked : (id : ℕ) → id < 64 → answer_on w.host id (Pass AskDue) ≡ answer_at w.host.plans id (case_at w.host id) (Pass AskDue)
   asked id below = ap (λ (b : Bool). if b then answer_at w.host.plans id (case_at w.host id) (Pass AskDue) else Denied (OutOfRange id)) (is_below id 64 below)
 
-  -- what a host has answered is due
+  -- what the host answers to `due` is what is due
   pub due_told : (id : ℕ) (t : Option ℕ) → id < 64 → Told (DueAt t) ≡ answer_on w.host id (Pass AskDue) → due_in (the_files w.host.plans w.names) (case_of (the_ward w) id) ≡ t
   due_told id t below is = due_same id ∙ at (case_at w.host id) (is ∙ asked id below)
     where
@@ -66,7 +66,7 @@ module _ (w : WardParts) (as_many : length w.names ≡ length w.host.plans) wher
       at None told = absurd (cc)
       at (Some c) told = cc
 
-  -- where it refuses, nothing is
+  -- where the host refuses to say what is due, nothing is due
   pub due_denied : (id : ℕ) (e : HostError) → id < 64 → the_denial e ≡ answer_on w.host id (Pass AskDue) → due_in (the_files w.host.plans w.names) (case_of (the_ward w) id) ≡ None
   due_denied id e below is = due_same id ∙ at (case_at w.host id) (is ∙ asked id below)
     where

@@ -31,7 +31,7 @@ all_hosted told cap deadline files documents (Ok hosting) read comes opening = r
   opening = opening;
 }
 
--- one was refused
+-- a document was refused
 pub told_hosted : (told : Option (List ℕ → Option (List ℕ))) (cap : ℕ) (deadline : Option ℕ) (files : List (List ℕ)) (said : SaidText) → IsRefusedAt told deadline files (says (the_said said)) → said.outcome ≡ Document → IsHosting told cap deadline files (ToldAll said)
 told_hosted told cap deadline files said refused outcome = record {
   contents = refused.contents;

@@ -43,7 +43,7 @@ never_due (NoFile f) t is = cc
 never_due (Exec e) t is = cc
 never_due (Memory e) t is = cc
 
--- an id that is open is one of the cases
+-- an id that is open is below the number of cases
 inside : (cases : List (Option Opened)) (id : ℕ) (c : Opened) → slice_index_or cases id None ≡ Some c → id < length cases
 inside [] id c is = absurd (cc)
 inside (o ∷ os) zero c is = omega arith
@@ -61,7 +61,7 @@ pub record Moved (host : HostParts) (id t : ℕ) : Type 0 where
   pub accepted : moment_refusal (net_at host.plans before.file) (bounds_at host.plans before.file) before.run t ≡ None
   pub now : case_at (after_moment host id t) id ≡ Some (passed host.plans before (Moment t))
 
--- an accepted moment
+-- where the answer to a moment names time-points, the moment was accepted
 pub moved_by : (host : HostParts) (id t : ℕ) (xs : List ℕ) → Told (Names xs) ≡ answer_on host id (Pass (Moment t)) → Moved host id t
 moved_by host id t xs is = at (nat_lt id 64) refl (case_at host id) refl is
   where
@@ -84,7 +84,7 @@ moved_by host id t xs is = at (nat_lt id 64) refl (case_at host id) refl is
     at false above o was told = absurd (cc)
 
 module _ (host : HostParts) (id t : ℕ) (m : Moved host id t) where
-  -- the run after it
+  -- the run after the moment
   abbrev pub run_then : Run
   run_then = moved (net_at host.plans m.before.file) (bounds_at host.plans m.before.file) m.before.run t
 
@@ -150,7 +150,7 @@ module _ (w : WardParts) (as_many : length w.names ≡ length w.host.plans) wher
         ∙ ap (λ (due : Option ℕ). told_text names_then due (put_on id (moment_at t)) (Names (named_at (after_moment w.host id t) id))) due_is
         ∙ ap (λ (xs : List ℕ). told_text names_then due_then (put_on id (moment_at t)) (Names xs)) (named_now w.host id t m)
 
-    -- something is due
+    -- what is said of the moment where something is due after it
     pub goes_on : Told (Names (named_at (after_moment w.host id t) id)) ≡ answer_on w.host id (Pass (Moment t)) → false ≡ is_none due_then → said (the_ward w) (put_on id (moment_at t)) ≡ with_id id (codes "at " ++ decimal t ++ spaced names_then (named_then w.host id t m))
     goes_on is more = moment_said is ∙ by_due due_then more
       where
@@ -158,7 +158,7 @@ module _ (w : WardParts) (as_many : length w.names ≡ length w.host.plans) wher
         by_due None is' = absurd (cc)
         by_due (Some u) is' = nothing_after (with_id id (codes "at " ++ decimal t ++ spaced names_then (named_then w.host id t m)))
 
-    -- all is executed
+    -- what is said of the moment where all is executed after it
     pub ends : Told (Names (named_at (after_moment w.host id t) id)) ≡ answer_on w.host id (Pass (Moment t)) → true ≡ is_none due_then → said (the_ward w) (put_on id (moment_at t)) ≡ with_id id (codes "at " ++ decimal t ++ spaced names_then (named_then w.host id t m)) ++ with_id id (codes "done")
     ends is all = moment_said is ∙ by_due due_then all
       where

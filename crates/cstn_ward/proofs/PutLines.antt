@@ -15,7 +15,7 @@ more_line text with_it new id x id_is is =
     ∙ append_assoc text (decimal id ++ 32 ∷ []) (line x)
     ∙ ap (λ (xs : List ℕ). text ++ xs) (append_assoc (decimal id) (32 ∷ []) (line x) ∙ sym (append_assoc (decimal id) (32 ∷ x) (10 ∷ [])))
 
--- and where none does
+-- a line after an id, where the text before it is empty
 pub first_line : (text with_it new : List ℕ) (id : ℕ) (x : List ℕ) → text ≡ [] → with_it ≡ text ++ (decimal id ++ 32 ∷ []) → new ≡ with_it ++ line x → new ≡ with_id id x
 first_line text with_it new id x empty id_is is =
     more_line text with_it new id x id_is is ∙ ap (λ (xs : List ℕ). xs ++ with_id id x) empty

@@ -21,7 +21,7 @@ use Rattle.cstn_ward.specs.Hosting.{Named, on_documents}
 use Rattle.std.specs.List.{All}
 use Rattle.cstn_ward.specs.Begun.{the_named, HasRead, IsRefusedAt, IsSound}
 
--- what a plan comes to comes to another one
+-- where one plan comes to a second one, and that to a third, the first comes to the third
 pub comes_through : (one two three : Plan) → ComesTo one two → ComesTo two three → ComesTo one three
 comes_through one two three first later = record {
   output = λ live said is. first.output live said (later.output live said is);
@@ -29,11 +29,11 @@ comes_through one two three first later = record {
   fault = λ may taken. later.fault may taken ∙ first.fault (later.talks may) taken;
 }
 
--- one more sound document
+-- where all documents are sound, and one more is, they are sound together
 pub sound_more : (old new : List Document) (document : Document) → new ≡ old ++ document ∷ [] → All IsSound old → IsSound document → All IsSound new
 sound_more old new document is all one = subst (λ (ds : List Document). All IsSound ds) (sym is) (All-append IsSound old (document ∷ []) all (All-cons IsSound document [] one (All-nil IsSound)))
 
--- the contents of more files
+-- the contents of some files, and those of further files, are the contents of all
 pub contents_more : (told : Option (List ℕ → Option (List ℕ))) (names more contents later : List (List ℕ)) → AreContents told names contents → AreContents told more later → AreContents told (names ++ more) (contents ++ later)
 contents_more told names more contents later one two = λ files e.
     ap (λ (xs : List (List ℕ)). xs ++ later) (one files e) ∙ ap (λ (xs : List (List ℕ)). map (file_at files) names ++ xs) (two files e) ∙ sym (map-append (file_at files) names more)
@@ -47,19 +47,19 @@ first_of : (a b : Bool) → (a && b) ≡ true → a ≡ true
 first_of true b is = refl
 first_of false b is = absurd (cc)
 
--- more files that are there
+-- where some files are there, and further files are, all are
 pub there_more : (told : Option (List ℕ → Option (List ℕ))) (names more : List (List ℕ)) → AreThere told names → AreThere told more → AreThere told (names ++ more)
 there_more told names more one two = λ files e.
     list_all-append (λ name. is_some (files name)) names more
     ∙ both (list_all (λ name. is_some (files name)) names) (list_all (λ name. is_some (files name)) more) (one files e) (two files e)
 
--- the first of them
+-- where all files are there, the first is
 pub first_there : (told : Option (List ℕ → Option (List ℕ))) (names : List (List ℕ)) → AreThere told names → AreThere told (take 1 names)
 first_there told [] there = none_there told
 first_there told (name ∷ names) there = λ files e.
     both (is_some (files name)) true (first_of (is_some (files name)) (list_all (λ name. is_some (files name)) names) (there files e)) refl
 
--- a file
+-- a file, and the deadline with which its document is read
 abbrev pub asked_for : List ℕ → Option ℕ → Asked
 asked_for file deadline = record { file = file; deadline = deadline }
 
@@ -67,12 +67,12 @@ asked_for file deadline = record { file = file; deadline = deadline }
 pub read_none : (told : Option (List ℕ → Option (List ℕ))) (deadline : Option ℕ) → HasRead told deadline [] []
 read_none told deadline = record { contents = []; are = λ files e. refl; there = none_there told; comes = λ answer rest. comes_itself (on_documents answer deadline [] rest) }
 
--- what is said where the next document comes
+-- what is said of the next document, where it is accepted: what is said of the rest after it
 abbrev next_answer : (List Named → Plan) → Option ℕ → List Named → List (List ℕ) → Answer
 next_answer answer deadline before rest = λ names net. on_documents answer deadline (before ++ record { names = names; net = net } ∷ []) rest
 
 module _ (told : Option (List ℕ → Option (List ℕ))) (deadline : Option ℕ) (files : List (List ℕ)) (documents : List Document) (so_far : HasRead told deadline files documents) (file : List ℕ) where
-  -- the contents so far, and then this
+  -- what is said of the contents so far and then these bytes is what is said of these bytes after the documents so far
   comes_next : (answer : List Named → Plan) (bytes : List ℕ) (rest : List (List ℕ)) → ComesTo (on_documents answer deadline [] ((so_far.contents ++ bytes ∷ []) ++ rest)) (on_documents answer deadline (map the_named documents) (bytes ∷ rest))
   comes_next answer bytes rest =
       subst (λ (all : List (List ℕ)). ComesTo (on_documents answer deadline [] all) (on_documents answer deadline (map the_named documents) (bytes ∷ rest))) (sym (append_assoc so_far.contents (bytes ∷ []) rest))
@@ -93,7 +93,7 @@ module _ (told : Option (List ℕ → Option (List ℕ))) (deadline : Option ℕ
         (accepted_comes (next_answer answer deadline (map the_named documents) rest) opened.bytes deadline net names (on_documents answer deadline now rest) opened.opens (comes_itself (on_documents answer deadline now rest))));
   }
 
-  -- or it is refused
+  -- the next document is refused
   pub read_refused : (all rest : List (List ℕ)) (said : SaidText) → files ++ file ∷ rest ≡ all → IsOpened told (asked_for file deadline) (Told said) → IsRefusedAt told deadline all (says (the_said said))
   read_refused all rest said is opened =
       subst (λ (names : List (List ℕ)). IsRefusedAt told deadline names (says (the_said said))) is (record {

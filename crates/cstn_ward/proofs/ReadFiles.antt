@@ -19,13 +19,13 @@ ask_at asked now files i file name all same inside item is =
     at (f ∷ fs) zero within is' = (both (asked (string_bytes f)) (list_all asked (map string_bytes fs)) is').0
     at (f ∷ fs) (suc k) within is' = at fs k (omega (arith, within)) (both (asked (string_bytes f)) (list_all asked (map string_bytes fs)) is').1
 
--- the names before a file, it, and those after it
+-- the names before a file, its own, and those after it are the names of all files
 pub files_at : (files : List (String Global)) (i : ℕ) (file : String Global) (name : List ℕ) → i < length files → file ≡ get_or files i file → name ≡ string_bytes file → map string_bytes (take i files) ++ name ∷ map string_bytes (drop (suc i) files) ≡ map string_bytes files
 files_at [] i file name inside item is = absurd (omega (arith, inside))
 files_at (f ∷ fs) zero file name inside item is = ap (λ (n : List ℕ). n ∷ map string_bytes fs) (is ∙ ap string_bytes item)
 files_at (f ∷ fs) (suc k) file name inside item is = ap (λ (ns : List (List ℕ)). string_bytes f ∷ ns) (files_at fs k file name (omega (arith, inside)) item is)
 
--- the names up to a file
+-- the names of the first i files, and the name of the next one, are those of the first i + 1
 pub next_file : (files : List (String Global)) (i : ℕ) (file : String Global) (name : List ℕ) → i < length files → file ≡ get_or files i file → name ≡ string_bytes file → map string_bytes (take i files) ++ name ∷ [] ≡ map string_bytes (take (i + 1) files)
 next_file files i file name inside item is =
     ap (λ (n : List ℕ). map string_bytes (take i files) ++ n ∷ []) (is ∙ ap string_bytes item)

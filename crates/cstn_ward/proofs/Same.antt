@@ -113,7 +113,7 @@ module _ (w : WardParts) (as_many : length w.names ≡ length w.host.plans) wher
           ap (λ (b : Bool). if b then said_in files (case_of (the_ward w) (id_of h)) h else line (denied_text (OutOfRange (id_of h)))) above
           ∙ ap (error_text (id_of h)) (sym (is ∙ ap (λ (b : Bool). if b then answer_at w.host.plans (id_of h) (case_at w.host (id_of h)) (the_call h) else Denied (OutOfRange (id_of h))) above))
 
-  -- a call that a host answers otherwise has an id of the range
+  -- a call to which the answer isn't that the id is out of range has an id in range
   in_range_by : (h : Hosted) (a : HostAnswer) → (a ≡ Denied (OutOfRange (id_of h)) → ⊥) → a ≡ answer_on w.host (id_of h) (the_call h) → nat_lt (id_of h) 64 ≡ true
   in_range_by h a other is = at (nat_lt (id_of h) 64) refl
     where

@@ -1,4 +1,4 @@
--- What is answered to one id, and what a run that is alone answers.
+-- What is answered on one id, and what a run of a file's plan alone answers.
 use Rattle.std.specs.Prelude.{◌≡◌, ℕ, Bool, true, false, ◌==◌, List, [], ◌∷◌, flat_map, None}
 use Rattle.std.specs.List.{filter}
 use Rattle.cstn_exec.specs.Runs.{Run, due}
@@ -20,7 +20,7 @@ abbrev pub put_if : Bool → List ℕ → List (List ℕ) → List (List ℕ)
 put_if true text later = text ∷ later
 put_if false text later = later
 
--- what is said to the lines on one id, of host lines on any
+-- what a ward says to the lines on one id, where it answers these host lines on any ids in turn
 abbrev pub said_to : ℕ → Ward → List Hosted → List (List ℕ)
 said_to id ward [] = []
 said_to id ward (first ∷ lines) = put_if (is_on id first) (said ward first) (said_to id (ward_after ward first) lines)
@@ -29,12 +29,12 @@ said_to id ward (first ∷ lines) = put_if (is_on id first) (said ward first) (s
 abbrev pub alone_after : File → Run → Live → Run
 alone_after file run live = run_after file.net file.bounds run (the_event live)
 
--- the lines that a run of a file's plan that is alone answers to a live line
+-- the lines that a run of a file's plan alone answers to a live line
 abbrev pub alone_lines : File → Run → Live → List (List ℕ)
 alone_lines file run live =
     answer_lines file.names (due file.net file.bounds (alone_after file run live)) live (answer_to file.net file.bounds run (the_event live))
 
--- the same for live lines in their order, each line after an id
+-- what a run of a file's plan alone answers to live lines in turn, each line of its answers after the id
 abbrev pub alone_said : ℕ → File → Run → List Live → List (List ℕ)
 alone_said id file run [] = []
 alone_said id file run (first ∷ lives) = flat_map (with_id id) (alone_lines file run first) ∷ alone_said id file (alone_after file run first) lives

@@ -27,15 +27,15 @@ pub record IsSound (document : ReadDocument) : Type 0 where
   pub well_formed : IsWellFormed (the_network document.network)
   pub named : length document.names ≡ count (the_network document.network)
 
--- The documents of files were accepted, one after another: whatever is to be said of all networks and of further files, is
--- what is said after these.
+-- The documents of these files were accepted, one after another. Whatever is said of all networks, what is said of these files
+-- and then others is what is said of the others after these documents.
 pub record HasRead (told : Option (List ℕ → Option (List ℕ))) (deadline : Option ℕ) (files : List (List ℕ)) (documents : List ReadDocument) : Type 0 where
   pub contents : List (List ℕ)
   pub are : AreContents told files contents
   pub there : AreThere told files
   pub comes : (answer : List Named → Plan) (rest : List (List ℕ)) → ComesTo (on_documents answer deadline [] (contents ++ rest)) (on_documents answer deadline (map the_named documents) rest)
 
--- the first that is refused is told, whatever is to be said of the networks
+-- a document of these files is refused, and this plan says why, whatever would be said of all networks
 pub record IsRefusedAt (told : Option (List ℕ → Option (List ℕ))) (deadline : Option ℕ) (files : List (List ℕ)) (plan : Plan) : Type 0 where
   pub contents : List (List ℕ)
   pub are : AreContents told files contents
@@ -52,7 +52,7 @@ abbrev pub AreSound : AllRead → Type 0
 AreSound (Accepted documents) = All IsSound documents.items
 AreSound (Told said) = Unit {0}
 
--- what is carried out for the files of a host
+-- what a host says of its files: the lines that say yes and then a session, or a text and no more
 abbrev pub the_hosting : Hosting → Plan
 the_hosting (Begins opening ward) = session ward_turn ward_ending opening.items (the_ward ward)
 the_hosting (ToldAll said) = says (the_said said)
@@ -62,12 +62,12 @@ abbrev pub IsOpening : Hosting → Type 0
 IsOpening (Begins opening ward) = EndsLine opening.items
 IsOpening (ToldAll said) = Unit {0}
 
--- what is carried out is the ward of the plans, of which no id is open, after the lines
+-- the session begins after the lines that say yes, with the ward of the plans in which no id is open
 abbrev pub IsBegin : Begun → Hosting → Type 0
 IsBegin begun (Begins opening ward) = (opening ≡ begun.opening) × (the_ward ward ≡ begun_ward (the_files begun.plans.items (the_names begun.names.items)))
 IsBegin begun (ToldAll said) = ⊥
 
--- The networks were checked one after another, and each verdict was yes: here are the lines after yes, the plans, and the
+-- The networks were checked one after another, and each verdict was yes. `begun` has the lines that say so, the plans, and the
 -- printed names.
 pub record HasBegun (cap : ℕ) (all : List Named) (begun : Begun) : Type 0 where
   pub opening : begun.opening.items ≡ yes_lines all
@@ -81,8 +81,8 @@ abbrev pub IsOfDocument : Hosting → Type 0
 IsOfDocument (Begins opening ward) = ⊥
 IsOfDocument (ToldAll said) = said.outcome ≡ Document
 
--- A plan was made for the files of a host, with their contents. The first is there, and each of them where no document was
--- refused.
+-- What is carried out for the files of a host is what `host` says of their contents. The first file is there, and so is each
+-- file unless a document was refused.
 pub record IsHosting (told : Option (List ℕ → Option (List ℕ))) (cap : ℕ) (deadline : Option ℕ) (files : List (List ℕ)) (hosting : Hosting) : Type 0 where
   pub contents : List (List ℕ)
   pub are : AreContents told files contents

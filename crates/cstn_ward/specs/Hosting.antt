@@ -15,26 +15,27 @@ pub record Named : Type 0 where
   pub names : List (List ℕ)
   pub net : Network
 
--- the documents of files, read one after another, given what is said of all their networks; the first that is refused is told
+-- what is said of files with these contents, whose documents are read one after another: the refusal of the first document that
+-- is refused, or `answer` of all networks
 abbrev pub on_documents : (List Named → Plan) → Option ℕ → List Named → List (List ℕ) → Plan
 on_documents answer deadline before [] = answer before
 on_documents answer deadline before (bytes ∷ rest) =
     on_document (λ names net. on_documents answer deadline (before ++ record { names = names; net = net } ∷ []) rest) bytes deadline
 
--- the networks, checked one after another, given what follows where each verdict is yes; the first that isn't yes is told
+-- what is said of networks that are checked one after another: the first verdict that isn't yes, or `after_yes`
 abbrev pub on_verdicts : ℕ → Plan → List Named → Plan
 on_verdicts cap after_yes [] = after_yes
 on_verdicts cap after_yes (named ∷ rest) = on_verdict cap named.names named.net (on_verdicts cap after_yes rest) (verdict cap named.net)
 
--- the plan of a network: the bounds of the live entries of its log
+-- the file of a network, whose plan has the bounds of the live entries of the network's log
 abbrev pub the_file : Named → File
 the_file named = record { names = map printed_name named.names; net = named.net; bounds = live_bounds (log_of named.net) }
 
--- the lines after yes
+-- the lines that say yes, one for each network, with its load
 abbrev pub yes_lines : List Named → List ℕ
 yes_lines all = flat_map (λ (named : Named). yes_line (load_of named.net)) all
 
--- what is said of networks: after yes of each the answers to the host lines
+-- what is said of networks: where each verdict is yes, these lines and then the answers to the host lines
 abbrev pub attended : ℕ → List Named → Plan
 attended cap all = on_verdicts cap (session ward_turn ward_ending (yes_lines all) (begun (map the_file all))) all
 

@@ -27,7 +27,7 @@ pub record Case : Type 0 where
   pub file : ℕ
   pub run : Run
 
--- a ward: the files, and for each id from 0 to 63 what it is open over, if it is
+-- a ward: the files, and for each id from 0 to 63 what it is open over, if it is open
 pub record Ward : Type 0 where
   pub files : List File
   pub cases : List (Option Case)
@@ -43,11 +43,11 @@ no_file = record { names = []; net = the_network no_plan.net; bounds = [] }
 abbrev pub file_at : List File → ℕ → File
 file_at files k = slice_index_or files k no_file
 
--- what the id is open over, if it is
+-- what the id is open over, if it is open
 abbrev pub case_of : Ward → ℕ → Option Case
 case_of ward id = slice_index_or ward.cases id None
 
--- the run of a file's plan of which nothing is executed or seen
+-- what an id is open over when it was just opened: a run of the file's plan in which nothing is executed or seen
 abbrev pub fresh : List File → ℕ → Case
 fresh files file = record { file = file; run = start (count (file_at files file).net) }
 
@@ -118,7 +118,7 @@ answer_lines names due live Kept = seen_lines live
 answer_lines names due live (Refused why) = refused_text why ∷ []
 answer_lines names due live (DueAt t) = due_text t ∷ []
 
--- the live line of a host line; the others have none, and no executive answers them
+-- the live line of a host line; one that opens or closes an id has none, and `due` stands for it, which no executive answers
 abbrev pub live_of : Hosted → Live
 live_of (opened id file) = due_now
 live_of (put_on id live) = live
@@ -132,7 +132,7 @@ agreed_text (opened id file) = line (codes "opened " ++ decimal id)
 agreed_text (put_on id live) = []
 agreed_text (closed id) = line (codes "closed " ++ decimal id)
 
--- why a line never comes to an executive
+-- why a host refuses a line that comes to no executive
 abbrev pub denied_text : Denial → List ℕ
 denied_text (InUse id) = codes "refused H1 " ++ decimal id
 denied_text (NotOpen id) = codes "refused H2 " ++ decimal id
@@ -183,12 +183,12 @@ hosted_turn ward (Some hosted) = more (said ward hosted) (ward_after ward hosted
 abbrev pub ward_turn : Ward → List ℕ → Turn Ward
 ward_turn ward text = hosted_turn ward (host_read text)
 
--- the first of two
+-- the first of two, or the second where there is no first
 abbrev pub or_later : Option (ℕ × ℕ) → Option (ℕ × ℕ) → Option (ℕ × ℕ)
 or_later (Some found) later = Some found
 or_later None later = later
 
--- the least of so many ids from `id` on that is open and has something due, and the moment
+-- of n ids from `id` on, the least that is open and has something due, and the moment that is due there
 abbrev pub due_from : Ward → ℕ → ℕ → Option (ℕ × ℕ)
 due_from ward id zero = None
 due_from ward id (suc n) = or_later (option_map (λ t. (id, t)) (due_in ward.files (case_of ward id))) (due_from ward (id + 1) n)

@@ -21,8 +21,8 @@ pub fn ids_are_answered_alone()
     ensures alone { (files : List File) (lines : List Hosted) (id file : ℕ) (lives : List Live) → id < 64 → file < length files → lines_on id lines ≡ opened id file ∷ map (put_on id) lives → said_to id (begun files) lines ≡ agreed_text (opened id file) ∷ alone_said id (file_at files file) (fresh files file).run lives }
 {}
 
-/// A run that is alone is one of `run`: up to the moment that executes the last time-point, it answers the same lines, and goes
-/// on in the same way.
+/// A run of a file's plan alone answers as the command `run` does: up to the moment that executes the last time-point, it says
+/// the same lines, and goes on in the same way.
 #[tactic(auto, using(crate::proofs::Apart::alone_text, crate::proofs::Apart::alone_leads))]
 pub fn runs_answer_alone()
     ensures text { (file : File) (run : Run) (live : Live) (bytes : List ℕ) → live_read bytes ≡ Some live → turn_text (run_turn file.names file.net file.bounds run bytes) ≡ flat_map line (alone_lines file run live) }

@@ -25,13 +25,13 @@ use std::alloc::Global;
 /// What is carried out for the files of a host.
 #[derive(Drop)]
 pub enum Hosting {
-    /// The lines after yes, and then the answers to the host lines.
+    /// The lines that say yes, and then the answers to the host lines.
     Begins { opening: Vec<u8>, ward: Ward },
     /// A text and no more.
     Told(Said),
 }
 
-// The lines after yes, the plans and the printed names of the networks that were checked so far.
+// The lines that say yes, the plans and the printed names of the networks that were checked so far.
 #[derive(Drop)]
 struct Begun {
     opening: Vec<u8>,
@@ -40,7 +40,7 @@ struct Begun {
 }
 
 impl Begun {
-    // One more plan.
+    // Adds the plan of a network whose verdict is yes, the line that says so, and the printed names.
     fn add(
         &mut self,
         alloc: Global,
@@ -74,7 +74,8 @@ impl Begun {
 }
 
 /// Reads the documents of 1 to 8 files, and then checks their networks, each log with at most `cap` entries: the first that is
-/// refused or isn't yes is told, and else the host lines are to be answered.
+/// refused or isn't yes is told, and else the host lines are to be answered. Fails where a file can't be read, and for want of
+/// memory.
 pub fn host_files<F: Shelf>(
     alloc: Global,
     files: &[String],
@@ -129,7 +130,7 @@ fn check_all(alloc: Global, documents: Vec<Document>, cap: u32) -> Result<Hostin
     begin(alloc, begun)
 }
 
-// The ward of the plans. All memory for the answers but for what is opened is taken here.
+// The ward of the plans, with no id open, after the lines that say yes.
 fn begin(alloc: Global, begun: Begun) -> Result<Hosting, Refused>
     requires some { 1 ≤ length begun.plans.items }
     requires few { length begun.plans.items ≤ 8 }

@@ -42,7 +42,8 @@ impl Model for Ward {
 }
 
 impl Ward {
-    /// A ward of 1 to 8 plans, each with the printed names of its time-points, in which no id is open.
+    /// A ward of 1 to 8 plans, each with the printed names of its time-points, in which no id is open. Fails for want of memory
+    /// alone.
     pub fn start(
         alloc: Global,
         plans: Vec<SoundPlan>,

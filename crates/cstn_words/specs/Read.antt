@@ -8,15 +8,15 @@ use Rattle.cstn_words.specs.declared.words.Request.{Request as RequestWords}
 use Rattle.cstn_words.specs.declared.words.Request.TheVariants.{Check, Run, Edit, Closed, Tight, Conflict, Tree, Save, Replay, Closedcheck, Treecheck, Drill}
 use Rattle.cstn_words.specs.declared.words.Request.TheVariants.{Host}
 
--- what is asked
+-- the file and the deadline that are asked for
 abbrev pub the_asked : AskedWords → Asked
 the_asked asked = record { file = asked.file.now; deadline = asked.deadline }
 
--- and how many entries the log may have
+-- the file and the deadline that are asked for, and how many entries the log may have
 abbrev pub the_capped : AskedWords × ℕ → Asked × ℕ
 the_capped capped = (the_asked capped.0, capped.1)
 
--- an option that was taken
+-- the number of an option, if it is there, and the words after it
 abbrev pub the_taken : TakenWords → Taken
 the_taken taken = record { value = taken.value; rest = map string_bytes taken.rest.now }
 
@@ -35,7 +35,7 @@ the_request (Treecheck asked proof) = treecheck (the_asked asked) proof.now
 the_request (Drill number) = drill number
 the_request (Host files deadline cap) = host (map string_bytes files.now) deadline cap
 
--- the request that the words are, if they are one
+-- the request that the words are; none where they are no request
 abbrev pub request_in : {Z : Type 0} → List (String Z) → Option Request
 request_in words = request_of (map string_bytes words)
 

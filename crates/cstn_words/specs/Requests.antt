@@ -4,17 +4,18 @@ use Rattle.std.specs.Option.{option_map, option_and_then, unwrap_or}
 use Rattle.std.specs.Cmp.Lexicographic.{pointwise}
 use Rattle.cstn_text.specs.Numbers.{number_read}
 
--- the two texts are one
+-- the two texts are the same
 abbrev pub is_same : List ℕ → List ℕ → Bool
 is_same xs ys = pointwise nat_eq xs ys
 
--- `FILE [--deadline N]`
+-- `FILE [--deadline N]`: the file of a document, and the deadline that is to hold, if one is named
 pub record Asked : Type 0 where
   pub file : List ℕ
   pub deadline : Option ℕ
 
--- A request: the file of a document with the deadline that is to hold, and what its command asks for beside; or the number of a
--- drill; or the files of a host, with the deadline that is to hold for each and how many entries the log of each may have.
+-- A request: a command with the file of a document and the deadline that is to hold, and, by the command, how many entries a
+-- log may have, the file of a text that is to be checked, or no more; or the number of a drill; or the files of a host, with
+-- the deadline that is to hold for each and how many entries the log of each may have.
 pub data Request : Type 0 where
   check : Asked → ℕ → Request
   run : Asked → ℕ → Request
@@ -39,12 +40,12 @@ pub record Taken : Type 0 where
   pub value : Option ℕ
   pub rest : List (List ℕ)
 
--- the number after an option's name
+-- the number from least to most that the words begin with, and the words after it
 abbrev pub value_at : ℕ → ℕ → List (List ℕ) → Option Taken
 value_at least most [] = None
 value_at least most (word ∷ rest) = option_map (λ n. record { value = Some n; rest = rest }) (number_within least most word)
 
--- an option that the words may begin with
+-- the number of the option of this name, if the words begin with it, and the words after it
 abbrev pub option_at : List ℕ → ℕ → ℕ → List (List ℕ) → Option Taken
 option_at name least most [] = Some (record { value = None; rest = [] })
 option_at name least most (word ∷ rest) =
@@ -81,13 +82,13 @@ capped_of [] = None
 capped_of (file ∷ rest) =
     option_and_then (λ (taken : Taken). option_map (λ cap. (record { file = file; deadline = taken.value }, cap)) (cap_of taken.rest)) (deadline_at rest)
 
--- a file, the file of a text that speaks of its network, and the deadline of the first
+-- a file with its deadline, and the file of the text that is to be checked against it
 abbrev pub checked_of : List (List ℕ) → Option (Asked × List ℕ)
 checked_of (file ∷ proof ∷ rest) =
     option_map (λ deadline. (record { file = file; deadline = deadline }, proof)) (deadline_of rest)
 checked_of words = None
 
--- a number below 2 ^ 64
+-- the request of a drill by its number, which is below 2 ^ 64
 abbrev pub drill_of : List (List ℕ) → Option Request
 drill_of (number ∷ []) = option_map drill (number_read number)
 drill_of words = None
@@ -102,7 +103,7 @@ abbrev pub host_of : List (List ℕ) → Option Request
 host_of words =
     option_and_then (λ (deadline : Taken). option_and_then (hosted_of deadline.value) (option_at (codes "--cap") 1 65536 deadline.rest)) (deadline_at words)
 
--- the request of a command that asks for a file and says how many entries a log may have
+-- the request of a command with this file and this many entries that a log may have
 abbrev pub capped_at : List ℕ → Asked × ℕ → Option Request
 capped_at command found =
     if is_same command (codes "check") then Some (check found.0 found.1)
@@ -124,7 +125,7 @@ request_at command rest =
     else if is_same command (codes "host") then host_of rest
     else option_and_then (capped_at command) (capped_of rest)
 
--- the request that the words are, if they are one
+-- the request that the words are; none where they are no request
 abbrev pub request_of : List (List ℕ) → Option Request
 request_of [] = None
 request_of (command ∷ rest) = request_at command rest

@@ -1,4 +1,4 @@
-// The words of a request.
+//! The words of a request.
 #![tactic(auto)]
 
 mod words;

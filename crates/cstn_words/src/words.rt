@@ -7,14 +7,14 @@ ghost use Rattle.cstn_words.specs.Read.{the_asked, the_capped, the_taken, the_re
 
 use cstn_text::read_number;
 
-/// `FILE [--deadline N]`
+/// `FILE [--deadline N]`: the file of a document, and the deadline in ticks that is to hold, if one is named.
 #[derive(Clone, Copy)]
 pub struct Asked<'a> {
     pub file: &'a str,
     pub deadline: Option<u32>,
 }
 
-/// What the words ask for.
+/// What the words ask for: a command with its files and options.
 #[derive(Clone, Copy)]
 pub enum Request<'a> {
     Check {
@@ -83,7 +83,7 @@ const MAX_HOST_CAP: u64 = 65_536;
 
 const MAX_FILES: usize = 8;
 
-/// The request that the words are, if they are one.
+/// The request that the words are; none where they are no request.
 pub fn parse(words: &[String]) -> Option<Request<'_>>
     ensures request { option_map the_request result ≡ request_in words.now }
     ensures capped { IfSome result IsCapped }
@@ -119,7 +119,7 @@ fn request_at<'a>(command: &str, rest: &'a [String]) -> Option<Request<'a>>
     }
 }
 
-// The request of a command with these words after it that say a file and how many entries a log may have.
+// The request of a command that takes a file and a cap, by the words after it. A cap is how many entries a log may have.
 fn capped_request<'a>(command: &str, words: &'a [String]) -> Option<Request<'a>>
     ensures request { option_map the_request result ≡ option_and_then (capped_at command.now) (capped_of (map string_bytes words.now)) }
     ensures capped { IfSome result IsCapped }
@@ -128,7 +128,7 @@ fn capped_request<'a>(command: &str, words: &'a [String]) -> Option<Request<'a>>
     capped_at(command, asked, cap)
 }
 
-// The request of a command that asks for a file and says how many entries a log may have.
+// The request of a command with this file and cap; none where the command takes no cap.
 fn capped_at<'a>(command: &str, asked: Asked<'a>, cap: u32) -> Option<Request<'a>>
     requires some { 1 ≤ cap }
     requires most { cap ≤ MAX_CAP }
@@ -147,7 +147,7 @@ fn capped_at<'a>(command: &str, asked: Asked<'a>, cap: u32) -> Option<Request<'a
     }
 }
 
-// A file with its deadline, and the file of a text that speaks of its network.
+// A file with its deadline, and the file of the text that is to be checked against it.
 fn checked_of(words: &[String]) -> Option<(Asked<'_>, &str)>
     ensures checked { option_map (λ found. (the_asked found.0, found.1.now)) result ≡ checked_of (map string_bytes words.now) }
 {
@@ -172,7 +172,7 @@ fn drill_of(words: &[String]) -> Option<Request<'_>>
     Some(Request::Drill(read_number(number.as_bytes())?))
 }
 
-// The files of a host, after its options.
+// The request of a host, by its options and the files after them.
 fn host_of(words: &[String]) -> Option<Request<'_>>
     ensures request { option_map the_request result ≡ host_of (map string_bytes words.now) }
     ensures capped { IfSome result IsCapped }
@@ -182,7 +182,7 @@ fn host_of(words: &[String]) -> Option<Request<'_>>
     hosted_of(deadline, taken)
 }
 
-// The request of a host with the files that stand after its options.
+// The request of a host with the files that stand after its options; none where they aren't 1 to 8.
 fn hosted_of<'a>(deadline: Option<u32>, taken: Taken<'a>) -> Option<Request<'a>>
     requires least { IfSome taken.value (λ n. 1 ≤ n) }
     requires most { IfSome taken.value (λ n. n ≤ MAX_HOST_CAP) }
@@ -238,7 +238,7 @@ fn capped_of(words: &[String]) -> Option<(Asked<'_>, u32)>
     Some((asked, cap))
 }
 
-// The deadline that the words give, perhaps none.
+// The deadline of words that are `[--deadline N]` and no more: `Some(None)` where it isn't there, none for other words.
 fn deadline_of(words: &[String]) -> Option<Option<u32>>
     ensures deadline { result ≡ deadline_of (map string_bytes words.now) }
 {
@@ -249,7 +249,7 @@ fn deadline_of(words: &[String]) -> Option<Option<u32>>
     Some(deadline)
 }
 
-// The deadline that words begin with, perhaps none, and the words after it.
+// The deadline that the words begin with, if it is there, and the words after it; none where `--deadline` has no number.
 fn deadline_at(words: &[String]) -> Option<(Option<u32>, &[String])>
     ensures taken { option_map (λ t. record { value = t.0; rest = map string_bytes t.1.now }) result ≡ deadline_at (map string_bytes words.now) }
 {
@@ -260,7 +260,7 @@ fn deadline_at(words: &[String]) -> Option<(Option<u32>, &[String])>
     }
 }
 
-// How many entries the log may have by the words.
+// The cap of words that are `[--cap CAP]` and no more, 65,536 where it isn't there; none for other words.
 fn cap_of(words: &[String]) -> Option<u32>
     ensures cap { result ≡ cap_of (map string_bytes words.now) }
     ensures some { IfSome result (λ cap. 1 ≤ cap) }
@@ -276,7 +276,8 @@ fn cap_of(words: &[String]) -> Option<u32>
     }
 }
 
-// An option that the words may begin with.
+// The number of an option, if the words begin with its name, and the words after it; none where the name stands there without
+// a number from `least` to `most`.
 fn option_at<'a>(words: &'a [String], name: &str, least: u64, most: u64) -> Option<Taken<'a>>
     ensures taken { option_map the_taken result ≡ option_at name.now least most (map string_bytes words.now) }
     ensures least { IfSome result (λ taken. IfSome taken.value (λ n. least ≤ n)) }
@@ -297,7 +298,7 @@ fn option_at<'a>(words: &'a [String], name: &str, least: u64, most: u64) -> Opti
     value_at(rest, least, most)
 }
 
-// The number after an option's name.
+// The number from `least` to `most` that the words begin with, and the words after it; none where they begin otherwise.
 fn value_at(words: &[String], least: u64, most: u64) -> Option<Taken<'_>>
     ensures taken { option_map the_taken result ≡ value_at least most (map string_bytes words.now) }
     ensures least { IfSome result (λ taken. IfSome taken.value (λ n. least ≤ n)) }

@@ -4,7 +4,7 @@ use Rattle.std.specs.List.{list_all}
 use Rattle.cstn_words.specs.Requests.{names_of, request_of}
 use Rattle.cstn.proofs.main.Goals as goal
 
--- a shelf that may be asked for every name may be asked for all of these
+-- a shelf that may be asked for every name may be asked for each of these
 all_asked : (names : List (List ℕ)) → IsTrue (list_all (λ (name : List ℕ). true) names)
 all_asked [] = refl
 all_asked (name ∷ names) = all_asked names

@@ -26,7 +26,7 @@ const LARGE_SIZE: u32 = 48;
 
 const LARGE_CAP: u32 = 16_384;
 
-/// Of some networks how many are consistent and how many aren't, by their checks, and of how many the table says otherwise.
+/// How many networks are consistent and how many aren't, by their checks, and on how many the table says otherwise.
 #[derive(Clone, Copy)]
 pub(crate) struct Counts {
     pub(crate) yes: u32,

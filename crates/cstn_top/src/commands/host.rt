@@ -11,7 +11,7 @@ use cstn_reply::Refused;
 use cstn_ward::{Hosting, host_files};
 use std::alloc::Global;
 
-/// The verdicts on the networks of the files, and after yes of each the host of their plans.
+/// The verdicts on the networks of the files, and where each is yes, the host of their plans.
 pub(crate) fn host_all<F: Shelf>(
     alloc: Global,
     files: &[String],

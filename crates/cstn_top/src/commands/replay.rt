@@ -21,8 +21,8 @@ use cstn_verdict::{WithLabels, open_labelled};
 use cstn_words::Asked;
 use std::alloc::Global;
 
-/// The replay of a refutation's text on the network that the labelled one of a file is lowered to. The text isn't read where the
-/// document is refused.
+/// The replay of a refutation's text on the network that the labelled one of a file is lowered to. The text isn't read where
+/// the document is refused.
 pub(crate) fn replay_file<F: Shelf>(
     alloc: Global,
     asked: Asked<'_>,

@@ -67,7 +67,7 @@ fn prepare(alloc: Global, labelled: Labelled, names: &Names, cap: u32) -> Result
     }
 }
 
-// The session of the plan that a yes leaves. All memory for the answers is taken here.
+// The session of the plan that a yes leaves. All memory that its answers want, but for the room for their text, is taken here.
 fn begin(
     alloc: Global,
     load: u32,

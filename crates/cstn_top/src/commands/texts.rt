@@ -1,4 +1,4 @@
-// The texts of files that speak of a network.
+// The texts of files that hold a refutation, a list of bounds or a tree.
 ghost use Rattle.std.specs.Prelude.{◌≡◌, ◌≤◌, length, IfOk, IsTrue, IsErrOf, codes};
 ghost use Rattle.cstn_io.specs.Causes.{Rose};
 ghost use Rattle.cstn_reply.specs.Plans.{say};

@@ -12,7 +12,7 @@ pub(super) const ORIGIN: &str = "<graphml><graph><node id=\"Z\"/></graph></graph
 pub(super) const BRANCH: &str =
     "<graphml><graph><node id=\"Z\"/><node id=\"P\"><data key=\"Obs\">p</data></node><node id=\"X\"/><edge source=\"X\" target=\"Z\"><data key=\"LabeledValues\">{(-10, p)}</data></edge><edge source=\"Z\" target=\"X\"><data key=\"LabeledValues\">{(3, !p)}</data></edge></graph></graphml>";
 
-// The branch where P is at 2 or later, at the last tick.
+// The branch where P is at 2 or later, the latest moment of P with which there is a strategy.
 pub(super) const LAST: &str =
     "<graphml><graph><node id=\"Z\"/><node id=\"P\"><data key=\"Obs\">p</data></node><node id=\"X\"/><edge source=\"X\" target=\"Z\"><data key=\"LabeledValues\">{(-10, p)}</data></edge><edge source=\"Z\" target=\"X\"><data key=\"LabeledValues\">{(3, !p)}</data></edge><edge source=\"P\" target=\"Z\"><data key=\"LabeledValues\">{(-2, ⊡)}</data></edge></graph></graphml>";
 
@@ -20,7 +20,7 @@ pub(super) const LAST: &str =
 pub(super) const LATE: &str =
     "<graphml><graph><node id=\"Z\"/><node id=\"P\"><data key=\"Obs\">p</data></node><node id=\"X\"/><edge source=\"X\" target=\"Z\"><data key=\"LabeledValues\">{(-10, p)}</data></edge><edge source=\"Z\" target=\"X\"><data key=\"LabeledValues\">{(3, !p)}</data></edge><edge source=\"P\" target=\"Z\"><data key=\"LabeledValues\">{(-3, ⊡)}</data></edge></graph></graphml>";
 
-// The branch at the last tick, where the outcome of p is known two ticks after P.
+// `LAST`, where the outcome of p is known two ticks after P.
 pub(super) const SLOW_LAST: &str =
     "<graphml><graph><node id=\"Z\"/><node id=\"P\"><data key=\"Obs\">p</data><data key=\"Reaction\">2</data></node><node id=\"X\"/><edge source=\"X\" target=\"Z\"><data key=\"LabeledValues\">{(-10, p)}</data></edge><edge source=\"Z\" target=\"X\"><data key=\"LabeledValues\">{(3, !p)}</data></edge><edge source=\"P\" target=\"Z\"><data key=\"LabeledValues\">{(-2, ⊡)}</data></edge></graph></graphml>";
 
@@ -39,7 +39,7 @@ pub(super) const AT_ONCE: &str =
 pub(super) const CROSSED: &str =
     "<graphml><graph><node id=\"Z\"/><node id=\"P\"><data key=\"Obs\">p</data></node><node id=\"Q\"><data key=\"Obs\">q</data></node><edge source=\"P\" target=\"Z\"><data key=\"LabeledValues\">{(-5, q)}</data></edge><edge source=\"Q\" target=\"Z\"><data key=\"LabeledValues\">{(-5, p)}</data></edge></graph></graphml>";
 
-// The same, and P is at 4 or earlier where q is false.
+// `CROSSED`, and P is at 4 or earlier where q is false.
 pub(super) const BROKEN: &str =
     "<graphml><graph><node id=\"Z\"/><node id=\"P\"><data key=\"Obs\">p</data></node><node id=\"Q\"><data key=\"Obs\">q</data></node><edge source=\"P\" target=\"Z\"><data key=\"LabeledValues\">{(-5, q)}</data></edge><edge source=\"Q\" target=\"Z\"><data key=\"LabeledValues\">{(-5, p)}</data></edge><edge source=\"Z\" target=\"P\"><data key=\"LabeledValues\">{(4, !q)}</data></edge></graph></graphml>";
 
@@ -87,11 +87,11 @@ pub(super) const CIRCLE: &str =
 pub(super) const UNSEEN: &str =
     "<graphml><graph><node id=\"Z\"/><node id=\"X\"><data key=\"Label\">q</data></node></graph></graphml>";
 
-// Where q is known, p is true.
+// Q, which observes q, is executed only where p is true, so the label q!p of X never holds.
 pub(super) const NEVER: &str =
     "<graphml><graph><node id=\"Z\"/><node id=\"P\"><data key=\"Obs\">p</data></node><node id=\"Q\"><data key=\"Obs\">q</data><data key=\"Label\">p</data></node><node id=\"X\"><data key=\"Label\">q!p</data></node></graph></graphml>";
 
-// The label of an origin that stands last.
+// The origin stands last, and has a label.
 pub(super) const LATE_ORIGIN: &str =
     "<graphml><graph><node id=\"P\"><data key=\"Obs\">p</data></node><node id=\"Z\"><data key=\"Label\">p</data></node></graph></graphml>";
 
@@ -109,7 +109,7 @@ pub(super) const SAVED: &str = "<?xml version=\"1.0\" encoding=\"UTF-8\"?>
 </graphml>
 ";
 
-// The canonical document of the one with a label.
+// The canonical document of `LABELLED`.
 pub(super) const SAVED_LABELLED: &str = "<?xml version=\"1.0\" encoding=\"UTF-8\"?>
 <graphml>
 <graph edgedefault=\"directed\">

@@ -18,7 +18,7 @@ const REFUSED_ANSWERS: &str =
 
 const ADDED: &str = "check\nadd P Z -2 -\ncheck\ncheck\n";
 
-// An edit session on this document with these lines answers and writes this, whatever a call takes.
+// An edit session on this document with these lines answers and writes this, however many bytes a call takes.
 fn expect_edit<'a>(
     rt: &impl Abort,
     alloc: Global,

@@ -54,7 +54,7 @@ fn with_faults<'a>(
     }
 }
 
-// With no failing call the case gives its answer, whatever a call takes.
+// With no failing call the case gives its answer, however many bytes a call takes.
 fn expect_answer(rt: &impl Abort, alloc: Global, case: Case<'_>, most: usize) -> Result<(), Fail> {
     let setting = with_faults(case.document, case.proof, case.live, &[], &[], &[], most);
     let (status, text, _) = outcome(alloc, case.words, setting)?;

@@ -24,7 +24,7 @@ fn two_files<'a>(document: &'a str, other: &'a str, live: &'a str) -> Setting<'a
     setting
 }
 
-// A host of the file `pair` with these lines answers and writes this after others, whatever a call takes.
+// A host of the file `pair` with these lines ends so and writes `answers` and then `more`, however many bytes a call takes.
 fn expect_host<'a>(
     rt: &impl Abort,
     alloc: Global,

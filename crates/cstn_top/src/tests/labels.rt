@@ -7,7 +7,7 @@ use std::alloc::Global;
 use std::process::Abort;
 use std::test::Fail;
 
-// X is executed where p is true, a tick after P, which is at the last tick.
+// P is at 3 or later, and X is executed where p is true, a tick after P or later: with the deadline 3 that is too late.
 const LABELLED_LATE: &str =
     "<graphml><graph><node id=\"Z\"/><node id=\"P\"><data key=\"Obs\">p</data></node><node id=\"X\"><data key=\"Label\">p</data></node><edge source=\"P\" target=\"Z\"><data key=\"LabeledValues\">{(-3, ⊡)}</data></edge></graph></graphml>";
 
@@ -16,7 +16,7 @@ const LABELLED_PROOF: &str = "no 5\n0 base Z 0 -\n1 chain 0 0 P 3 -\n2 chain 1 1
 // The last step isn't under the label of X.
 const UNLABELLED_PROOF: &str = "no 5\n0 base Z 0 -\n1 chain 0 0 P 3 -\n2 chain 1 1 X 4 -\n";
 
-// Where q is seen, X isn't executed, and so no constraint holds it under q.
+// X is at 11 or later where q is true. An outcome of q is seen only where p is true, and there X isn't executed.
 const NEVER_IN_FORCE: &str =
     "<graphml><graph><node id=\"Z\"/><node id=\"P\"><data key=\"Obs\">p</data></node><node id=\"Q\"><data key=\"Obs\">q</data><data key=\"Label\">p</data></node><node id=\"X\"><data key=\"Label\">!p</data></node><edge source=\"X\" target=\"Z\"><data key=\"LabeledValues\">{(-11, q)}</data></edge></graph></graphml>";
 

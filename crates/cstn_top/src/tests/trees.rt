@@ -19,7 +19,7 @@ const SLOW_TREE: &str = "yes 5\nat 0 Z P\nask p\nat 10 X\ndone\nat 3 X\ndone\n";
 const WIDE: &str =
     "<graphml><graph><node id=\"Z\"/><node id=\"A\"><data key=\"Obs\">a</data></node><node id=\"B\"><data key=\"Obs\">b</data></node><node id=\"C\"><data key=\"Obs\">c</data></node><node id=\"D\"><data key=\"Obs\">d</data></node><node id=\"E\"><data key=\"Obs\">e</data></node><node id=\"F\"><data key=\"Obs\">f</data></node><node id=\"G\"><data key=\"Obs\">g</data></node><node id=\"H\"><data key=\"Obs\">h</data></node><node id=\"I\"><data key=\"Obs\">i</data></node><node id=\"J\"><data key=\"Obs\">j</data></node><node id=\"K\"><data key=\"Obs\">k</data></node></graph></graphml>";
 
-// Ten do.
+// Ten time-points observe a proposition each.
 const NARROW: &str =
     "<graphml><graph><node id=\"Z\"/><node id=\"A\"><data key=\"Obs\">a</data></node><node id=\"B\"><data key=\"Obs\">b</data></node><node id=\"C\"><data key=\"Obs\">c</data></node><node id=\"D\"><data key=\"Obs\">d</data></node><node id=\"E\"><data key=\"Obs\">e</data></node><node id=\"F\"><data key=\"Obs\">f</data></node><node id=\"G\"><data key=\"Obs\">g</data></node><node id=\"H\"><data key=\"Obs\">h</data></node><node id=\"I\"><data key=\"Obs\">i</data></node><node id=\"J\"><data key=\"Obs\">j</data></node></graph></graphml>";
 
