@@ -7,8 +7,8 @@ ghost use Rattle.cstn_data.specs.LabelTexts.{said_by, after_byte, with_literal, 
 ghost use Rattle.cstn_data.specs.LabelTexts.Expects.{literal};
 ghost use Rattle.cstn_data.specs.TextsSeen.{maybe_literal, expects_of};
 
-use crate::white_space::is_white;
 use cstn_label::{Label, Mark, Prop};
+use cstn_markup::is_white;
 
 /// What may follow in a label text.
 #[derive(Clone, Copy)]

@@ -8,8 +8,9 @@ ghost use Rattle.cstn_data.specs.PairsLeft.{first_seen, pairs_left, IsShorter};
 
 use crate::label_texts::label_of;
 use crate::number_texts::integer_text;
-use crate::white_space::{is_white, trimmed};
+use crate::white_space::trimmed;
 use cstn_label::Label;
+use cstn_markup::is_white;
 use std::marker::Model;
 
 /// A pair of a text of values: its integer, and its label, which is None where its text isn't a label text.
