@@ -116,11 +116,17 @@ def walked(path):
     """The reader of a document, as far as it could be walked."""
     reader = Reader()
     with open(path, "rb") as file:
-        try:
-            reader.parser.ParseFile(file)
-        except xml.parsers.expat.ExpatError as error:
-            reader.error = str(error)
+        text = file.read()
+    try:
+        reader.parser.Parse(re.sub(rb"(?s)(?<=<!--)(.*?)(?=-->)", without_dashes, text), True)
+    except xml.parsers.expat.ExpatError as error:
+        reader.error = str(error)
     return reader
+
+
+def without_dashes(comment):
+    """What stands in a comment, as XML wants it: the checker takes two dashes in it, and one at its end."""
+    return re.sub(rb"-(?=-|$)", b"_", comment[1])
 
 
 def tell_passed_over(reader, refused):
