@@ -37,11 +37,11 @@ def check(name, found, wanted):
 
 
 def compact(nodes, edges, more=""):
-    """The document of nodes, as `P:p` or `P:p:3` with a reaction, and edges, as `X->Z -5 p`, in one line."""
+    """The document of nodes, as `P:p`, `P:p:3` with a reaction or `X:::p` with a label, and edges, as `X->Z -5 p`, in one line."""
     text = ["<graphml><graph>"]
     for node in nodes:
         name, *data = node.split(":")
-        keys = [f'<data key="{key}">{value}</data>' for key, value in zip(("Obs", "Reaction"), data)]
+        keys = [f'<data key="{key}">{value}</data>' for key, value in zip(("Obs", "Reaction", "Label"), data) if value]
         text.append(f'<node id="{name}">{"".join(keys)}</node>' if keys else f'<node id="{name}"/>')
     for edge in edges:
         ends, value, *label = edge.split(" ")

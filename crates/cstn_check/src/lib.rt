@@ -17,6 +17,3 @@ pub use laws::{
     live_bounds_are_in_range, loads_are_known, logs_are_known, spent_instances_stay_spent,
 };
 pub use verdicts::Verdict;
-
-#[cfg(test)]
-mod tests;

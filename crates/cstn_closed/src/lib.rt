@@ -22,6 +22,3 @@ pub use laws::{
     closed_lists_are_accepted, closed_texts_are_read_back, closed_texts_are_the_shown_ones,
 };
 pub use lists::Closed;
-
-#[cfg(test)]
-mod tests;

@@ -12,6 +12,3 @@ pub use errors::ConflictError;
 pub use ids::Ids;
 pub use laws::sets_are_decided;
 pub use trials::{refuted, verdict_on};
-
-#[cfg(test)]
-mod tests;

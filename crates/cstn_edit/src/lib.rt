@@ -13,6 +13,3 @@ pub use errors::EditError;
 pub use laws::{sessions_stay_sound, verdicts_are_true};
 pub use outcomes::Outcome;
 pub use sessions::Session;
-
-#[cfg(test)]
-mod tests;

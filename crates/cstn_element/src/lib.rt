@@ -21,6 +21,3 @@ pub use laws::{
 };
 pub use node_and_edge_data::read_element_data;
 pub use passing::pass_element;
-
-#[cfg(test)]
-mod tests;

@@ -10,6 +10,3 @@ pub use executive::{Executive, is_possible};
 pub use laws::{
     answers_are_known, due_is_exact, refusals_are_right, runs_stay_right, the_named_are_called,
 };
-
-#[cfg(test)]
-mod tests;

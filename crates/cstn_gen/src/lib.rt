@@ -6,6 +6,3 @@ mod draws;
 mod generated;
 
 pub use generated::network;
-
-#[cfg(test)]
-mod tests;

@@ -17,6 +17,3 @@ mod root;
 pub use cstn_element::DocError;
 pub use laws::documents_past_the_limit_are_refused;
 pub use reading::read;
-
-#[cfg(test)]
-mod tests;

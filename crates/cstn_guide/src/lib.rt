@@ -10,6 +10,3 @@ pub use laws::{
     guide_answers_are_known, guides_are_on_time, guides_stay_right, holding_is_decided,
     outcomes_are_of_the_named, the_told_are_called, unlabelled_guides_are_executives,
 };
-
-#[cfg(test)]
-mod tests;

@@ -12,6 +12,3 @@ pub use laws::{
     answers_are_known, answers_follow_own_calls, calls_leave_other_ids, hosts_keep_ids_apart,
     reopened_ids_start_anew,
 };
-
-#[cfg(test)]
-mod tests;

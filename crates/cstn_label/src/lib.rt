@@ -23,6 +23,3 @@ pub use marks::Mark;
 pub use nodes::NodeId;
 pub use props::Prop;
 pub use scenarios::Scenario;
-
-#[cfg(test)]
-mod tests;

@@ -16,6 +16,3 @@ pub use laws::{
 };
 pub use lines::{Lines, Next};
 pub use live::{LiveLine, read_live};
-
-#[cfg(test)]
-mod tests;

@@ -471,6 +471,3 @@ fn base_entry(node: NodeId) -> Entry
         why: Why::Base,
     }
 }
-
-#[cfg(test)]
-mod tests;

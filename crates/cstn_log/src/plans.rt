@@ -153,6 +153,3 @@ impl SoundPlan {
         self.plan.bound(k)
     }
 }
-
-#[cfg(test)]
-mod tests;

@@ -298,6 +298,3 @@ fn is_before(birth: u64, id: Option<SlotId>) -> bool
         None => true,
     }
 }
-
-#[cfg(test)]
-mod tests;

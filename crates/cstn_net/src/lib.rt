@@ -29,6 +29,3 @@ pub use laws::{
 pub use limits::{MAX_CONSTRAINTS, MAX_DEADLINE, MAX_MOST, MAX_NODES, MAX_REACTION, is_value};
 pub use networks::Network;
 pub use walks::walk_visits_each;
-
-#[cfg(test)]
-mod tests;

@@ -12,6 +12,3 @@ mod refutations;
 pub use errors::RefuteError;
 pub use laws::{texts_are_read_back, texts_are_the_shown_ones};
 pub use refutations::Refutation;
-
-#[cfg(test)]
-mod tests;

@@ -7,6 +7,3 @@ mod steps;
 
 pub use answers::Answer;
 pub use replays::replay;
-
-#[cfg(test)]
-mod tests;

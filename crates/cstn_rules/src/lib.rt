@@ -13,6 +13,3 @@ pub use laws::{
     rules_have_one_conclusion, waits_are_at_observers,
 };
 pub use rules::{chain, refutes, wait};
-
-#[cfg(test)]
-mod tests;

@@ -11,6 +11,3 @@ pub use laws::{
     canonical_texts_tell_networks_apart, documents_are_read_back, names_are_read_back,
     numbers_are_read_back, values_are_read_back,
 };
-
-#[cfg(test)]
-mod tests;

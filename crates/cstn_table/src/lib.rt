@@ -12,6 +12,3 @@ mod tables;
 pub use decisions::decide;
 pub use errors::TableError;
 pub use tables::Table;
-
-#[cfg(test)]
-mod tests;

@@ -19,6 +19,3 @@ pub use names::{NameError, Names};
 pub use numbers::{push_number, push_value, read_number, read_number_within, read_value};
 pub use printed_labels::{print_label, push_label, read_label};
 pub use printed_names::{print_name, read_name};
-
-#[cfg(test)]
-mod tests;

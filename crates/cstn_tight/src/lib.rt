@@ -11,6 +11,3 @@ mod tight;
 pub use errors::TightError;
 pub use laws::{consistency_is_kept_from_the_least, least_deadlines_are_one};
 pub use tight::{Tight, least};
-
-#[cfg(test)]
-mod tests;

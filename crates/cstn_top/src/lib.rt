@@ -6,8 +6,5 @@ mod laws;
 mod top;
 
 pub use cstn_reply::Status;
-pub use laws::edit_sessions_are_true;
+pub use laws::{edit_sessions_are_true, least_deadlines_are_lowered};
 pub use top::run;
-
-#[cfg(test)]
-mod tests;

@@ -23,6 +23,3 @@ pub use making::make;
 pub use printing::print;
 pub use reading::read;
 pub use trees::{Line, Named, Tree};
-
-#[cfg(test)]
-mod tests;

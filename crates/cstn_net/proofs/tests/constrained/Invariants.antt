@@ -1,5 +1,0 @@
-use Rattle.std.proofs.Common.{◌≡◌, length}
-use Rattle.cstn_net.proofs.tests.constrained.Given as goal
-
-abbrev pub invariant-loop : goal.invariant-loop
-invariant-loop g l = record { points : length l.builder.points ≡ 1024; drafts : length l.builder.drafts ≡ l.counter }
