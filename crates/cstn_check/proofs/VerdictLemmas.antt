@@ -69,9 +69,9 @@ held net log o v e is = subst (λ x. HasAnswered net log x) e is
 
 -- what holds of the fields of a check holds of the value that contracts see
 pub seen_so : (n : NetworkParts) (cap : ℕ) (list : List Entry) (v : Verdict) (parts : CheckParts) → n ≡ parts.net → cap ≡ parts.cap →
-    IsWellFormed (the_network n) → IsVerdict (the_network n) cap list v →
-    IsWellFormed (the_network parts.net) × IsVerdict (the_network parts.net) parts.cap list v
-seen_so n cap list v parts e f good is = (
-  subst (λ (m : NetworkParts). IsWellFormed (the_network m)) e good,
-  subst (λ k. IsVerdict (the_network parts.net) k list v) f (subst (λ (m : NetworkParts). IsVerdict (the_network m) cap list v) e is),
-)
+    IsVerdict (the_network n) cap list v → IsVerdict (the_network parts.net) parts.cap list v
+seen_so n cap list v parts e f is =
+    subst (λ k. IsVerdict (the_network parts.net) k list v) f (subst (λ (m : NetworkParts). IsVerdict (the_network m) cap list v) e is)
+
+pub seen_good : (n : NetworkParts) (parts : CheckParts) → n ≡ parts.net → IsWellFormed (the_network n) → IsWellFormed (the_network parts.net)
+seen_good n parts e good = subst (λ (m : NetworkParts). IsWellFormed (the_network m)) e good

@@ -1,9 +1,9 @@
-ghost use Rattle.std.specs.Prelude.{ℕ, ◌≡◌, ◌<◌, ◌≤◌, ◌↔◌, IfOk, Some, None, []};
+ghost use Rattle.std.specs.Prelude.{ℕ, ◌≡◌, ◌<◌, ◌≤◌, ◌↔◌, IfOk, Some, None, List, []};
 ghost use Rattle.std.specs.List.{All};
 ghost use Rattle.cstn_net.specs.Networks.{count};
 ghost use Rattle.cstn_net.specs.Strategies.{IsConsistent};
 ghost use Rattle.cstn_net.specs.Read.{the_network};
-ghost use Rattle.cstn_rules.specs.Derivations.{IsRefutation};
+ghost use Rattle.cstn_rules.specs.Derivations.{Entry, IsRefutation};
 ghost use Rattle.cstn_log.specs.Cuts.{part};
 ghost use Rattle.cstn_log.specs.Entries.{the_entries};
 ghost use Rattle.cstn_log.specs.Plans.{the_bounds};
@@ -85,6 +85,17 @@ impl Check {
         ensures most_tried { (result ≡ Verdict.Full → ⊥) → self.new.tries ≤ most_tried (the_network self.old.net) (log_of (the_network self.old.net)) }
     {
         is_well_formed(&self.net);
+        self.judge()
+    }
+
+    // The verdict, which is found once and kept.
+    fn judge(&mut self) -> Verdict
+        ensures verdict { (list : List Entry) × IsVerdict (the_network self.old.net) self.old.cap list result }
+        ensures answered { self.new ≡ record self.old { verdict = Some result; tries = self.new.tries } }
+        ensures again { (v : Verdict) → self.old.verdict ≡ Some v → (result ≡ v) × (self.new ≡ self.old) }
+        ensures tries { self.old.tries ≤ self.new.tries }
+        ensures most_tried { (result ≡ Verdict.Full → ⊥) → self.new.tries ≤ most_tried (the_network self.old.net) (log_of (the_network self.old.net)) }
+    {
         if let Some(verdict) = self.verdict {
             return verdict;
         }

@@ -74,7 +74,7 @@ module _ (m : Labelled) (good : IsLabelled m) where
   pub full_closed : (c : Constraint) → IsCompleteLabel m (full_label m c)
   full_closed c = completed_complete m (joined c.label (joined (label_of m c.from) (label_of m c.to)))
 
-  full_from : (c : Constraint) → IsWithin (completed_label m c.from) (full_label m c)
+  pub full_from : (c : Constraint) → IsWithin (completed_label m c.from) (full_label m c)
   full_from c =
       let ends = joined (label_of m c.from) (label_of m c.to) in
       let a = joined c.label ends in
@@ -82,7 +82,7 @@ module _ (m : Labelled) (good : IsLabelled m) where
       (within_through (label_of m c.from) ends (full_label m c) (within_left (label_of m c.from) (label_of m c.to))
       (within_through ends a (full_label m c) (within_right c.label ends) (completed_contains m a))) (full_closed c)
 
-  full_to : (c : Constraint) → IsWithin (completed_label m c.to) (full_label m c)
+  pub full_to : (c : Constraint) → IsWithin (completed_label m c.to) (full_label m c)
   full_to c =
       let ends = joined (label_of m c.from) (label_of m c.to) in
       let a = joined c.label ends in

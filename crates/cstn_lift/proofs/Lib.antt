@@ -14,4 +14,6 @@ pub mod WellFormed
 pub mod Taken
 pub mod FaultLemmas
 pub mod Twins
+pub mod Observed
+pub mod Kept
 pub mod Unlabelled

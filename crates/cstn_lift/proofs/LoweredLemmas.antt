@@ -108,7 +108,7 @@ module _ (m : Labelled) (good : IsLabelled m) where
       let there = numbered_contains 0 (full_constraints m ++ guards m) (record c { label = full_label m c }) among in
       (record c { id = there.0; label = full_label m c }, there.1, record { from = refl; to = refl; value = refl; marks = refl })
 
-  guard_is : (x j p : ℕ) (a : Label) → Observes m.base j p → IsMarked a p →
+  pub guard_is : (x j p : ℕ) (a : Label) → Observes m.base j p → IsMarked a p →
       guard m.base x a p ≡ Some (record { id = 0; from = x; to = j; most = pos 0 -ℤ pos (m.base.reaction p); label = a })
   guard_is x j p a o marked = rw (marked_true (a p) marked, observer_found m.base good.base.network j p o) refl
 

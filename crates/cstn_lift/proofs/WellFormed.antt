@@ -20,7 +20,7 @@ use Rattle.cstn_lift.proofs.Equivalent.{full_observed}
 
 module _ (m : Labelled) (good : IsLabelled m) where
   -- a label that names only observed propositions marks none with a number above 51
-  above : (a : Label) → IsOnObserved m.base a → (p : ℕ) → 52 ≤ p → a p ≡ Absent
+  pub above : (a : Label) → IsOnObserved m.base a → (p : ℕ) → 52 ≤ p → a p ≡ Absent
   above a on p past = elim (absent_or_not (a p)) [
     | inl gone ↦ gone
     | inr marked ↦ let o = on p marked in let letter = good.base.letters o.0 p o.1 in absurd (omega arith)

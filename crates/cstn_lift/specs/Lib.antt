@@ -3,6 +3,8 @@ pub mod Completion
 pub mod WellFormed
 pub mod Lowered
 pub mod Strategies
+pub mod Scenarios
+pub mod Kept
 pub mod Faults
 pub mod Read
 pub mod Handed

@@ -1,14 +1,16 @@
 // Laws of labelled networks.
-ghost use Rattle.std.specs.Prelude.{ℕ, ◌≡◌, ◌<◌, ◌≤◌, ◌+◌, ◌⊎◌, ◌↔◌, List, length, slice_index_or, Some, None};
+ghost use Rattle.std.specs.Prelude.{ℕ, ◌≡◌, ◌<◌, ◌≤◌, ◌+◌, ◌⊎◌, ◌↔◌, List, length, slice_index_or, Some, None, IsTrue};
 ghost use Rattle.std.specs.List.{Contains};
 ghost use Rattle.cstn_label.specs.Labels.{Label, Scenario, IsMarked, IsPlain, IsPossible, IsWithin, empty};
 ghost use Rattle.cstn_net.specs.Networks.{Network, Constraint, Observes, IsNetwork, IsOnObserved, IsWellFormed, count};
 ghost use Rattle.cstn_net.specs.Strategies.{Table, IsKnown, IsStrategy, IsLeast};
 ghost use Rattle.cstn_lift.specs.Labelled.{Labelled, label_of};
-ghost use Rattle.cstn_lift.specs.Completion.{IsCompleteLabel, completed, completed_label};
+ghost use Rattle.cstn_lift.specs.Completion.{IsCompleteLabel, completed, completed_label, full_label};
 ghost use Rattle.cstn_lift.specs.WellFormed.{IsLabelled};
-ghost use Rattle.cstn_lift.specs.Lowered.{lowered, numbered, observer_of};
-ghost use Rattle.cstn_lift.specs.Strategies.{IsExecuted, IsLabelledStrategy, IsLabelledLeast, IsEquivalent, IsDefaulted, AreTwins};
+ghost use Rattle.cstn_lift.specs.Lowered.{lowered, numbered, observer_of, is_plain, full_constraints, waits, guards};
+ghost use Rattle.cstn_lift.specs.Kept.{IsConstraintOf, IsKept, IsLowered, IsFull, IsWait};
+ghost use Rattle.cstn_lift.specs.Strategies.{IsExecuted, IsLabelledStrategy, IsLabelledConsistent, IsLabelledLeast, IsEquivalent, IsDefaulted, AreTwins};
+ghost use Rattle.cstn_lift.specs.Scenarios.{IsOwn, own, IsLabelledStrategyOnObserved, IsLabelledLeastOnObserved, AreAlike};
 
 /// The completed label of a label is the least complete label that the label is within. Completing it again changes nothing.
 /// Where a label is within another, its completed label is within the completed label of the other.
@@ -81,4 +83,39 @@ pub fn defaults_give_a_labelled_strategy()
     ensures twins { (m : Labelled) (d : Scenario) → IsLabelled m → (twin : Scenario → Scenario) × ((s : Scenario) → IsDefaulted m d s (twin s)) }
     ensures strategy { (m : Labelled) (table : Table) (d : Scenario) (twin : Scenario → Scenario) → IsLabelled m → ((s : Scenario) → IsDefaulted m d s (twin s)) → IsStrategy (lowered m) table → IsLabelledStrategy m (λ s. table (twin s)) }
     ensures least { (m : Labelled) (table : Table) (d : Scenario) (twin : Scenario → Scenario) → IsLabelled m → ((s : Scenario) → IsDefaulted m d s (twin s)) → ((s : Scenario) (x : ℕ) → x < count m.base → IsLeast (lowered m) s x (table s x)) → (s : Scenario) (x : ℕ) → x < count m.base → IsExecuted m s x → IsLabelledLeast m s x (table (twin s) x) }
+{}
+
+/// It makes no difference that scenarios give values to propositions that nothing observes. A labelled network is consistent
+/// exactly where it has a labelled strategy on its own scenarios, those in which only observed propositions are true, and its
+/// least moments in them are the least over such strategies. In any scenario, the same time-points are executed as in the own
+/// scenario with the same observed values, at the same least moments. Nor does it make a difference that tables say something
+/// of time-points that aren't executed: a table with the same moments of the executed ones as a labelled strategy is one too.
+pub fn labelled_scenarios_decide()
+    ensures consistent { (m : Labelled) → IsLabelled m → (IsLabelledConsistent m ↔ ((table : Table) × IsLabelledStrategyOnObserved m table)) }
+    ensures least { (m : Labelled) (s : Scenario) (x t : ℕ) → IsLabelled m → IsOwn m s → (IsLabelledLeast m s x t ↔ IsLabelledLeastOnObserved m s x t) }
+    ensures values { (m : Labelled) (s : Scenario) → IsOwn m (own m s) × ((x p : ℕ) → Observes m.base x p → own m s p ≡ s p) }
+    ensures executed { (m : Labelled) (s : Scenario) (x : ℕ) → IsLabelled m → (IsExecuted m s x ↔ IsExecuted m (own m s) x) }
+    ensures any { (m : Labelled) (s : Scenario) (x t : ℕ) → x < count m.base → IsExecuted m s x → (IsLabelledLeast m s x t ↔ IsLabelledLeast m (own m s) x t) }
+    ensures alike { (m : Labelled) (a b : Table) → IsLabelled m → AreAlike m a b → IsLabelledStrategyOnObserved m a → IsLabelledStrategyOnObserved m b }
+{}
+
+/// A time-point has at most one least moment in each scenario.
+pub fn labelled_least_moment_is_one()
+    ensures { (m : Labelled) (s : Scenario) (x t u : ℕ) → IsLabelledLeast m s x t → IsLabelledLeast m s x u → t ≡ u }
+{}
+
+/// A full label is plain at the 52 propositions that are looked at exactly where it is plain at all propositions. A constraint
+/// is kept, and so in the lowered network, exactly where its full label is plain. What is kept has its full label.
+pub fn plain_constraints_are_kept()
+    ensures plain { (m : Labelled) (c : Constraint) → IsLabelled m → IsConstraintOf m c → (IsTrue (is_plain (full_label m c)) ↔ IsPlain (full_label m c)) }
+    ensures kept { (m : Labelled) (c : Constraint) → IsLabelled m → IsConstraintOf m c → (IsKept m c ↔ IsPlain (full_label m c)) }
+    ensures lowered { (m : Labelled) (c : Constraint) → IsLabelled m → IsConstraintOf m c → (IsLowered m c ↔ IsPlain (full_label m c)) }
+    ensures full { (m : Labelled) (d : Constraint) → IsLabelled m → (Contains (full_constraints m) d ↔ IsFull m d) }
+{}
+
+/// A time-point waits for each proposition that its completed label marks, among all propositions and not only the 52 that are
+/// looked at, and for no other. The guards, which are numbered after what is kept, are these constraints of all time-points.
+pub fn marked_propositions_are_awaited()
+    ensures waits { (m : Labelled) (x : ℕ) (d : Constraint) → IsLabelled m → (Contains (waits m.base x (completed_label m x)) d ↔ IsWait m x d) }
+    ensures guards { (m : Labelled) (d : Constraint) → IsLabelled m → (Contains (guards m) d ↔ ((x : ℕ) × (x < count m.base) × IsWait m x d)) }
 {}
