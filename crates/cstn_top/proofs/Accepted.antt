@@ -1,6 +1,6 @@
 -- The text of each output stands for its answer.
 use Rattle.std.proofs.Common.{◌≡◌, ℕ, ◌≤◌, Bool, true, false, List, [], ◌++◌, map, refl, sym, subst, inl, inr, arith}
-use Rattle.std.specs.Prelude.{◌⊎◌, nat_lt, if◌then◌else◌, get_or, Option, Some, IsNone, codes, decimal}
+use Rattle.std.specs.Prelude.{◌⊎◌, nat_lt, if◌then◌else◌, get_or, Option, Some, None, IsNone, IfSome, codes, decimal}
 use Rattle.cstn_io.specs.Contents.{IsAllOf, with_bytes}
 use Rattle.cstn_net.specs.Networks.{Network, IsWellFormed, count}
 use Rattle.cstn_net.specs.Strategies.{IsConsistent}
@@ -10,6 +10,7 @@ use Rattle.cstn_check.proofs.Decides.{log_decides}
 use Rattle.cstn_closed.specs.Texts.{shown as shown_bounds}
 use Rattle.cstn_words.specs.Requests.{Asked, Request, check, run, edit, closed, tight, conflict, tree, save, replay, closedcheck, treecheck, drill, host}
 use Rattle.cstn_words.specs.Read.{IsCapped, the_request}
+use Rattle.cstn_top.specs.Prepared.{IsRanged}
 use Rattle.cstn_words.specs.declared.words.Request.{Request as RequestWords}
 use Rattle.cstn_words.specs.declared.words.Request.TheVariants.{Check, Run, Edit, Closed, Tight, Conflict, Tree, Save, Replay, Closedcheck, Treecheck, Drill, Host}
 use Rattle.cstn_reply.specs.Plans.{Said, say, Plan, says, branches, IsOutput, LiveState, IsText, is_output, is_file_fault, is_live_fault, is_memory, IsWritten}
@@ -110,18 +111,8 @@ host_stands no_text cap deadline contents said Unfinished capped tells' = tt
 host_stands no_text cap deadline contents said Script capped tells' = tt
 host_stands no_text cap deadline contents said Wide capped tells' = tt
 
--- the cap of a request that writes evidence is at most 4,194,304
-abbrev pub IsRanged : Request → Type 0
-IsRanged (check asked cap) = cap ≤ 4194304
-IsRanged (run asked cap) = cap ≤ 4194304
-IsRanged (closed asked cap) = cap ≤ 4194304
-IsRanged (tight asked cap) = cap ≤ 4194304
-IsRanged (conflict asked cap) = cap ≤ 4194304
-IsRanged (tree asked cap) = cap ≤ 4194304
-IsRanged (host files deadline cap) = cap ≤ 4194304
-IsRanged request = Unit {0}
-
-pub capped_ranged : (r : RequestWords) → IsCapped r → IsRanged (the_request r)
+-- a request that the words give has its cap in range
+capped_ranged : (r : RequestWords) → IsCapped r → IsRanged (the_request r)
 capped_ranged (Check asked cap) capped = capped.1
 capped_ranged (Run asked cap) capped = capped.1
 capped_ranged (Closed asked cap) capped = capped.1
@@ -135,6 +126,9 @@ capped_ranged (Closedcheck asked proof) capped = tt
 capped_ranged (Treecheck asked proof) capped = tt
 capped_ranged (Drill number) capped = tt
 capped_ranged (Host files deadline cap) capped = omega (arith, capped.1)
+
+pub ranged_as : (words : Option Request) (r : RequestWords) → Some (the_request r) ≡ words → IsCapped r → IfSome words IsRanged
+ranged_as words r is capped = subst (λ (w : Option Request). IfSome w IsRanged) is (capped_ranged r capped)
 
 -- what is said of a document stands for it
 on_network : (answer : Answer) (bytes : List ℕ) (deadline : Option ℕ) (live : List ℕ) (said : Said) (shown : List (List ℕ) → Network → Said → Type 0) (right : Said → Type 0) →
@@ -166,7 +160,7 @@ run_shown asked cap contents Unfinished text has = tt
 run_shown asked cap contents Script text has = tt
 run_shown asked cap contents Wide text has = tt
 
-closed_shown : (asked : Asked) (cap : ℕ) (contents : List (List ℕ)) (o : Outcome) (text : List ℕ) → HasNetwork (get_or contents 0 []) asked.deadline (λ names net. Stands o (IsYesText names net text) (IsNoText names net text)) → IsEvidence (closed asked cap) (status_of o) text contents
+closed_shown : (asked : Asked) (cap : ℕ) (contents : List (List ℕ)) (o : Outcome) (text : List ℕ) → HasLabelled (get_or contents 0 []) asked.deadline (λ names m. Stands o (IsYesText names (lowered m) text) (IsNoText names (lowered m) text)) → IsEvidence (closed asked cap) (status_of o) text contents
 closed_shown asked cap contents Good text has = has
 closed_shown asked cap contents Bad text has = has
 closed_shown asked cap contents Words text has = tt
@@ -176,7 +170,7 @@ closed_shown asked cap contents Unfinished text has = tt
 closed_shown asked cap contents Script text has = tt
 closed_shown asked cap contents Wide text has = tt
 
-tight_shown : (asked : Asked) (cap : ℕ) (contents : List (List ℕ)) (o : Outcome) (text : List ℕ) → HasNetwork (get_or contents 0 []) asked.deadline (λ names net. Stands o (IsTightText names net text) (IsNoText names net text)) → IsEvidence (tight asked cap) (status_of o) text contents
+tight_shown : (asked : Asked) (cap : ℕ) (contents : List (List ℕ)) (o : Outcome) (text : List ℕ) → HasLabelled (get_or contents 0 []) asked.deadline (λ names m. Stands o (IsTightText names (lowered m) text) (IsNoText names (lowered m) text)) → IsEvidence (tight asked cap) (status_of o) text contents
 tight_shown asked cap contents Good text has = has
 tight_shown asked cap contents Bad text has = has
 tight_shown asked cap contents Words text has = tt
@@ -229,15 +223,15 @@ output_evidence yes_text no_text (run asked cap) contents live said capped outpu
     (λ names m of out. run_stands no_text cap names m live said of capped out)
     (run_shown asked cap contents said.outcome said.text) output
 output_evidence yes_text no_text (closed asked cap) contents live said capped output =
-    on_network (listed cap) (get_or contents 0 []) asked.deadline live said (λ names net s. StandsFor (IsYesText names net) (IsNoText names net) s) (λ s. IsEvidence (closed asked cap) (status_of s.outcome) s.text contents)
-    (λ is. subst (λ (o : Outcome). IsEvidence (closed asked cap) (status_of o) said.text contents) (sym is) tt)
-    (λ names net is out. verdict_stands yes_text no_text cap names net (shown_bounds names (load_of net) (live_bounds (log_of net))) live said (IsYesText names net) is capped
-    (λ below consistent. yes_text names net is.good is.are is.named (omega (arith, below, capped)) consistent) out)
+    on_labels (of_lowered (listed cap)) (get_or contents 0 []) asked.deadline live said (λ names m. StandsFor (IsYesText names (lowered m)) (IsNoText names (lowered m)) said) (IsEvidence (closed asked cap) (status_of said.outcome) said.text contents)
+    (λ is refused. subst (λ (o : Outcome). IsEvidence (closed asked cap) (status_of o) said.text contents) (sym is) tt)
+    (λ names m of out. verdict_stands yes_text no_text cap names (lowered m) (shown_bounds names (load_of (lowered m)) (live_bounds (log_of (lowered m)))) live said (IsYesText names (lowered m)) of.plain capped
+    (λ below consistent. yes_text names (lowered m) of.plain.good of.plain.are of.plain.named (omega (arith, below, capped)) consistent) out)
     (closed_shown asked cap contents said.outcome said.text) output
 output_evidence yes_text no_text (tight asked cap) contents live said capped output =
-    on_network (tightened cap) (get_or contents 0 []) asked.deadline live said (λ names net s. StandsFor (IsTightText names net) (IsNoText names net) s) (λ s. IsEvidence (tight asked cap) (status_of s.outcome) s.text contents)
-    (λ is. subst (λ (o : Outcome). IsEvidence (tight asked cap) (status_of o) said.text contents) (sym is) tt)
-    (λ names net is out. tight_stands yes_text no_text cap names net live said is capped out)
+    on_labels (of_lowered (tightened cap)) (get_or contents 0 []) asked.deadline live said (λ names m. StandsFor (IsTightText names (lowered m)) (IsNoText names (lowered m)) said) (IsEvidence (tight asked cap) (status_of said.outcome) said.text contents)
+    (λ is refused. subst (λ (o : Outcome). IsEvidence (tight asked cap) (status_of o) said.text contents) (sym is) tt)
+    (λ names m of out. tight_stands yes_text no_text cap names (lowered m) live said of.plain capped out)
     (tight_shown asked cap contents said.outcome said.text) output
 output_evidence yes_text no_text (conflict asked cap) contents live said capped output =
     on_network (blamed cap) (get_or contents 0 []) asked.deadline live said (λ names net s. StandsFor (λ text. Unit {0}) (IsConflictText names net) s) (λ s. IsEvidence (conflict asked cap) (status_of s.outcome) s.text contents)
@@ -279,9 +273,8 @@ evidence_at yes_text no_text r told source now before after old new result range
         inr (said.text, wrote, subst (λ (s : Status). IsEvidence r s said.text answered.0) (sym at) (output_evidence yes_text no_text r answered.0 live said ranged output))
     by_end (inr stopped) = inl stopped
 
-pub evidence_is : {S : Type 0} → YesAccepted → NoAccepted → (words : Option Request) (r : Request) (told : Option (List ℕ → Option (List ℕ))) (source now : S) (before after : LiveState) (old new : Option (List ℕ)) (result : Status) → Some r ≡ words → IsRanged r → Answered words told source now before after old new result →
+pub evidence_is : {S : Type 0} → YesAccepted → NoAccepted → (words : Option Request) (told : Option (List ℕ → Option (List ℕ))) (source now : S) (before after : LiveState) (old new : Option (List ℕ)) (result : Status) → IfSome words IsRanged → Answered words told source now before after old new result →
     IsStopped result ⊎ (IsNone words ⊎ HoldsOf words told (WroteEvidence old new result))
-evidence_is {S} yes_text no_text words r told source now before after old new result there ranged answered =
-    let ended = subst (λ (w : Option Request). Answered w told source now before after old new result) (sym there) answered in
-    subst (λ (w : Option Request). IsStopped result ⊎ (IsNone w ⊎ HoldsOf w told (WroteEvidence old new result))) there
-    (held_at r told source now before after old new result (WroteEvidence old new result) ended (evidence_at yes_text no_text r told source now before after old new result ranged ended))
+evidence_is yes_text no_text None told source now before after old new result ranged answered = inr (inl refl)
+evidence_is yes_text no_text (Some r) told source now before after old new result ranged answered =
+    held_at r told source now before after old new result (WroteEvidence old new result) answered (evidence_at yes_text no_text r told source now before after old new result ranged answered)

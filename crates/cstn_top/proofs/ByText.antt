@@ -51,7 +51,7 @@ pub record IsOfTwo (request : Request) (asked : Asked) (proof : List ℕ) (answe
 pub of_replay : (asked : Asked) (proof : List ℕ) → IsOfTwo (replay asked proof) asked proof (λ text. of_lowered (by_text replayed text))
 of_replay asked proof = record { files = refl; plan = λ bytes text. refl }
 
-pub of_closedcheck : (asked : Asked) (proof : List ℕ) → IsOfTwo (closedcheck asked proof) asked proof (λ text. of_plain (by_text certified text))
+pub of_closedcheck : (asked : Asked) (proof : List ℕ) → IsOfTwo (closedcheck asked proof) asked proof (λ text. of_lowered (by_text certified text))
 of_closedcheck asked proof = record { files = refl; plan = λ bytes text. refl }
 
 -- the plan of a document and a text with these bytes

@@ -7,20 +7,23 @@ use Rattle.cstn_reply.specs.Texts.{line}
 use Rattle.cstn_words.specs.Requests.{Request, files_of, names_of, AsksEdit}
 use Rattle.cstn_reply.specs.Files.{AreContents, AreThere}
 use Rattle.cstn_reply.specs.Plans.{Said, say, Plan, says, IsOutput, MayTalk, LiveState, IsText, is_output, is_file_fault, is_live_fault, is_memory, IsWritten, Ends, ComesTo, Untouched}
-use Rattle.cstn_reply.specs.Sessions.{session}
+use Rattle.cstn_reply.specs.Sessions.{Turn, session}
 use Rattle.cstn_talk.specs.Guiding.{GuidingParts, guided_turn, guided_ending}
-use Rattle.cstn_words.specs.Requests.{AsksHost}
+use Rattle.cstn_words.specs.Requests.{AsksHost, host}
 use Rattle.cstn_ward.specs.Wards.{ward_turn, ward_ending}
 use Rattle.cstn_ward.specs.Read.{WardParts, the_ward}
 use Rattle.cstn_top.specs.Outputs.{plan_of, plan_at}
-use Rattle.cstn_top.specs.Prepared.{the_plan, Planned, FitsRequest}
-use Rattle.cstn_top.specs.Meanings.{HoldsOf, IsGood, IsBad, IsFull, IsWide, IsComplete, IsStopped, files_read, ReadsLive, MayStop}
+use Rattle.cstn_top.specs.Prepared.{the_plan, Planned, FitsRequest, TellsRefused}
+use Rattle.cstn_top.specs.Meanings.{HoldsOf, IsGood, IsBad, IsFull, IsWide, IsComplete, IsStopped, files_read, RefusedIsThere, ReadsLive, MayStop}
 use Rattle.cstn_reply.specs.Statuses.{status_of}
 use Rattle.cstn_top.specs.declared.commands.Prepared.{Prepared}
+use Rattle.cstn_top.specs.declared.commands.Prepared.TheVariants.{Says, Runs, Edits, Hosts}
+use Rattle.cstn_lines.specs.Pieces.{lines_of}
+use Rattle.cstn_ward.proofs.Plays.{IsEnd, plays}
 use Rattle.cstn_reply.specs.declared.status.Status.{Status}
-use Rattle.cstn_reply.specs.declared.status.Status.TheVariants.{Good as IsYesStatus, Bad as IsNoStatus, Words as IsWords, Full as IsFullStatus, ReadFault, Memory, Wide as IsWideStatus}
+use Rattle.cstn_reply.specs.declared.status.Status.TheVariants.{Good as IsYesStatus, Bad as IsNoStatus, Words as IsWords, Document as IsRefusedStatus, Full as IsFullStatus, ReadFault, Memory, Wide as IsWideStatus}
 use Rattle.cstn_reply.specs.declared.output.Outcome.{Outcome}
-use Rattle.cstn_reply.specs.declared.output.Outcome.TheVariants.{Good, Bad, Words, Full, Wide}
+use Rattle.cstn_reply.specs.declared.output.Outcome.TheVariants.{Good, Bad, Words, Document, Full, Wide}
 use Rattle.cstn_reply.proofs.Contents.{given, all_given, no_taken, some_contents, none_there}
 use Rattle.cstn_top.proofs.Meanings.{IsRight, output_right, output_complete, talks_live, edits_stop}
 use Rattle.cstn_top.proofs.Meanings.{hosts_stop}
@@ -93,6 +96,10 @@ opened_as r told guiding opening planned same = subst (λ (o : List ℕ). Planne
 
 pub opened_ward : (r : Request) (told : Option (List ℕ → Option (List ℕ))) (ward : WardParts) (opening : List ℕ) → {other : List ℕ} → Planned r told (session ward_turn ward_ending opening (the_ward ward)) → opening ≡ other → Planned r told (session ward_turn ward_ending other (the_ward ward))
 opened_ward r told ward opening planned same = subst (λ (o : List ℕ). Planned r told (session ward_turn ward_ending o (the_ward ward))) same planned
+
+-- and a session that began with it ends likewise
+pub opened_ends : {S : Type 0} (turn : S → List ℕ → Turn S) (ending : S → Said) (state : S) (opening other : List ℕ) (before after : LiveState) (old new : Option (List ℕ)) (result : Status) → other ≡ opening → Ends (session turn ending other state) before after old new result → Ends (session turn ending opening state) before after old new result
+opened_ends turn ending state opening other before after old new result same ends = subst (λ (o : List ℕ). Ends (session turn ending o state) before after old new result) same ends
 
 -- a session was held
 pub talks_end : {S : Type 0} (words : Option Request) (r : Request) (told : Option (List ℕ → Option (List ℕ))) (source now : S) (plan : Plan) (before after : LiveState) (old new : Option (List ℕ)) (result : Status) → Some r ≡ words → Planned r told plan → MayTalk plan → Ends plan before after old new result → Answered words told source now before after old new result
@@ -219,6 +226,28 @@ there_is words r told plan before after old new result there planned ends =
     by_status : EndsAs plan before result ⊎ IsStopped result → AreThere told (files_read result (files_of r))
     by_status (inl (live, all, (said, output, at))) = subst (λ (s : Status). AreThere told (files_read s (files_of r))) (sym at) (planned.there live said output)
     by_status (inr stopped) = stopped_there told (files_of r) result stopped
+
+pub refused_as : (r : Request) (told : Option (List ℕ → Option (List ℕ))) (p q : Prepared) → TellsRefused told r p → p ≡ q → TellsRefused told r q
+refused_as r told p q tells same = subst (λ (x : Prepared). TellsRefused told r x) same tells
+
+-- a call that ends with Document tells of a document that is there
+pub refused_is : (words : Option Request) (r : Request) (told : Option (List ℕ → Option (List ℕ))) (p : Prepared) (before after : LiveState) (old new : Option (List ℕ)) (result : Status) → Some r ≡ words → Planned r told (the_plan p) → TellsRefused told r p → Ends (the_plan p) before after old new result →
+    result ≡ IsRefusedStatus → HoldsOf words told (RefusedIsThere told)
+refused_is words r told p before after old new result there planned tells ends is =
+    subst (λ (w : Option Request). HoldsOf w told (RefusedIsThere told)) there (by_request r p planned tells (by_status (end_status (the_plan p) before after old new result ends)))
+  where
+    by_status : EndsAs (the_plan p) before result ⊎ IsStopped result → (live : List ℕ) × ((said : Said) × IsOutput (the_plan p) live said × (said.outcome ≡ Document))
+    by_status (inl (live, all, (said, output, at))) = (live, (said, output, status_alone said.outcome Document (sym at ∙ is)))
+    by_status (inr stopped) = absurd (not_stopped Document (subst IsStopped is stopped))
+
+    by_request : (r : Request) (p : Prepared) → Planned r told (the_plan p) → TellsRefused told r p → (live : List ℕ) × ((said : Said) × IsOutput (the_plan p) live said × (said.outcome ≡ Document)) → HoldsOf (Some r) told (RefusedIsThere told)
+    by_request (host files deadline cap) (Says text) planned tells (live, (said, output, same)) = tells (sym (ap (λ (s : Said). s.outcome) output) ∙ same)
+    by_request (host files deadline cap) (Runs opening guiding) planned tells output = absurd tells
+    by_request (host files deadline cap) (Edits editing) planned tells output = absurd tells
+    by_request (host files deadline cap) (Hosts opening ward) planned tells (live, (said, output, same)) =
+        absurd (subst IsEnd (sym (ap (λ (s : Said). s.outcome) output) ∙ same) (plays (the_ward ward) 0 (lines_of live)))
+    by_request r p planned tells (live, (said, output, same)) =
+        (planned.contents, planned.are, subst (λ (o : Outcome). AreThere told (files_read (status_of o) (files_of r))) same (planned.there live said output))
 
 all_true : (names : List (List ℕ)) → list_all (λ name. true) names ≡ true
 all_true [] = refl

@@ -1,6 +1,8 @@
 -- What is told of the files of a host.
-use Rattle.std.proofs.Common.{◌≡◌, ℕ, ◌<◌, Bool, true, false, List, [], ◌∷◌, ◌++◌, take, refl, ap, sym, ◌∙◌, subst, inl, inr, arith, append_assoc}
-use Rattle.std.specs.Prelude.{◌⊎◌, nat_lt, if◌then◌else◌, Option, None, Some, IsSomeAnd, map}
+use Rattle.std.proofs.Common.{◌≡◌, ℕ, zero, suc, ◌<◌, Bool, true, false, List, [], ◌∷◌, ◌++◌, take, get_or, refl, ap, sym, ◌∙◌, subst, inl, inr, arith, append_assoc}
+use Rattle.std.specs.Prelude.{◌⊎◌, ◌&&◌, nat_lt, if◌then◌else◌, Option, None, Some, IsSomeAnd, is_some, map}
+use Rattle.std.specs.List.{list_all}
+use Rattle.std.proofs.Math.Seq.{take-nil}
 use Rattle.std.proofs.lemmas.Grind.{common_steps}
 use Rattle.cstn_net.specs.Networks.{Network}
 use Rattle.cstn_graphml.specs.Document.{Parts, document}
@@ -11,8 +13,10 @@ use Rattle.cstn_check.specs.Growth.{is_refuted, log_of, load_of}
 use Rattle.cstn_check.specs.declared.verdicts.Verdict.{Verdict}
 use Rattle.cstn_check.specs.declared.verdicts.Verdict.TheVariants.{Yes, No, Full as IsFullVerdict}
 use Rattle.cstn_words.specs.Requests.{host}
-use Rattle.cstn_reply.specs.Files.{AreThere}
-use Rattle.cstn_reply.specs.Plans.{Said, Plan, IsOutput, MayTalk, AreUnlabelled}
+use Rattle.cstn_reply.specs.Files.{AreContents, AreThere}
+use Rattle.cstn_reply.specs.Read.{the_said}
+use Rattle.cstn_reply.specs.declared.output.Said.{Said as SaidText}
+use Rattle.cstn_reply.specs.Plans.{Said, say, Plan, says, IsOutput, MayTalk, AreUnlabelled}
 use Rattle.cstn_reply.specs.Statuses.{status_of}
 use Rattle.cstn_reply.specs.declared.status.Status.{Status}
 use Rattle.cstn_reply.specs.declared.status.Status.TheVariants.{Good as IsGood, Bad as IsBad, Words as IsWords, Document as IsRefusedStatus, Full as IsFullStatus, ReadFault, WriteFault, Memory as NoMemory, Unfinished as IsUnfinished, Script as IsScript, Wide as IsWideStatus}
@@ -21,6 +25,7 @@ use Rattle.cstn_reply.specs.declared.output.Outcome.TheVariants.{Good, Bad, Word
 use Rattle.cstn_reply.proofs.Contents.{none_there}
 use Rattle.cstn_lines.specs.Pieces.{lines_of}
 use Rattle.cstn_verdict.specs.Documents.{Answer, parts_of, HasNetwork, IsRefused}
+use Rattle.cstn_verdict.specs.Opened.{IsSaidPlainly}
 use Rattle.cstn_verdict.specs.Verdicts.{verdict, on_verdict, IsYes, IsNo}
 use Rattle.cstn_verdict.proofs.Deciding.{Tells, verdict_tells}
 use Rattle.cstn_reply.specs.Sessions.{session}
@@ -31,7 +36,7 @@ use Rattle.cstn_ward.specs.declared.starting.Hosting.{Hosting}
 use Rattle.cstn_ward.specs.declared.starting.Hosting.TheVariants.{Begins, Told}
 use Rattle.cstn_ward.proofs.Plays.{IsEnd, plays}
 use Rattle.cstn_top.specs.Several.{EachHas, FirstHas}
-use Rattle.cstn_top.specs.Meanings.{files_read}
+use Rattle.cstn_top.specs.Meanings.{files_read, RefusedIsThere}
 use Rattle.cstn_top.specs.Prepared.{Planned}
 use Rattle.cstn_evidence.proofs.Standing.{IsOfDocument as IsNamedNetwork}
 use Rattle.cstn_top.proofs.Documents.{document_says, document_talks, document_then}
@@ -77,8 +82,12 @@ under_names bytes deadline holds has = document_then bytes deadline holds (λ na
 no_more : (ns : List Named) → ns ++ [] ≡ ns
 no_more ns = grind (arith, common_steps)
 
+-- one of the documents with these contents is refused
+abbrev HasRefused : Option ℕ → List (List ℕ) → Type 0
+HasRefused deadline contents = (place : ℕ) × IsRefused (get_or contents place []) deadline
+
 -- what is said of documents: one is refused, or this is said of their networks
-documents_say : (answer : List Named → Plan) (deadline : Option ℕ) (live : List ℕ) (said : Said) (before : List Named) (contents : List (List ℕ)) → IsOutput (on_documents answer deadline before contents) live said → (said.outcome ≡ Document) ⊎ Read contents deadline (λ ns. IsOutput (answer (before ++ ns)) live said)
+documents_say : (answer : List Named → Plan) (deadline : Option ℕ) (live : List ℕ) (said : Said) (before : List Named) (contents : List (List ℕ)) → IsOutput (on_documents answer deadline before contents) live said → ((said.outcome ≡ Document) × HasRefused deadline contents) ⊎ Read contents deadline (λ ns. IsOutput (answer (before ++ ns)) live said)
 documents_say answer deadline live said before [] output =
     inr (record { all = []; are = tt; held = subst (λ (ns : List Named). IsOutput (answer ns) live said) (sym (no_more before)) output })
 documents_say answer deadline live said before (bytes ∷ rest) output =
@@ -87,16 +96,16 @@ documents_say answer deadline live said before (bytes ∷ rest) output =
     next : Answer
     next = λ names net. on_documents answer deadline (before ++ record { names = names; net = net } ∷ []) rest
 
-    by_rest : (t : Taken (parts_of (document bytes deadline)) (λ names net. IsOutput (next names net) live said)) → (said.outcome ≡ Document) ⊎ Read rest deadline (λ ns. IsOutput (answer ((before ++ t.this ∷ []) ++ ns)) live said) → (said.outcome ≡ Document) ⊎ Read (bytes ∷ rest) deadline (λ ns. IsOutput (answer (before ++ ns)) live said)
-    by_rest t (inl refused) = inl refused
+    by_rest : (t : Taken (parts_of (document bytes deadline)) (λ names net. IsOutput (next names net) live said)) → ((said.outcome ≡ Document) × HasRefused deadline rest) ⊎ Read rest deadline (λ ns. IsOutput (answer ((before ++ t.this ∷ []) ++ ns)) live said) → ((said.outcome ≡ Document) × HasRefused deadline (bytes ∷ rest)) ⊎ Read (bytes ∷ rest) deadline (λ ns. IsOutput (answer (before ++ ns)) live said)
+    by_rest t (inl (same, (place, refused))) = inl (same, (suc place, refused))
     by_rest t (inr read) = inr (record {
       all = t.this ∷ read.all;
       are = (t.same, t.of, read.are);
       held = subst (λ (ns : List Named). IsOutput (answer ns) live said) (append_assoc before (t.this ∷ []) read.all) read.held;
     })
 
-    by_document : ((t : Taken (parts_of (document bytes deadline)) (λ names net. IsOutput (next names net) live said)) → (said.outcome ≡ Document) ⊎ Read rest deadline (λ ns. IsOutput (answer ((before ++ t.this ∷ []) ++ ns)) live said)) → ((said.outcome ≡ Document) × IsRefused bytes deadline) ⊎ HasNetwork bytes deadline (λ names net. IsOutput (next names net) live said) → (said.outcome ≡ Document) ⊎ Read (bytes ∷ rest) deadline (λ ns. IsOutput (answer (before ++ ns)) live said)
-    by_document later (inl refused) = inl refused.0
+    by_document : ((t : Taken (parts_of (document bytes deadline)) (λ names net. IsOutput (next names net) live said)) → ((said.outcome ≡ Document) × HasRefused deadline rest) ⊎ Read rest deadline (λ ns. IsOutput (answer ((before ++ t.this ∷ []) ++ ns)) live said)) → ((said.outcome ≡ Document) × IsRefused bytes deadline) ⊎ HasNetwork bytes deadline (λ names net. IsOutput (next names net) live said) → ((said.outcome ≡ Document) × HasRefused deadline (bytes ∷ rest)) ⊎ Read (bytes ∷ rest) deadline (λ ns. IsOutput (answer (before ++ ns)) live said)
+    by_document later (inl (same, refused)) = inl (same, (0, refused))
     by_document later (inr has) =
         let t = taken (parts_of (document bytes deadline)) (λ names net. IsOutput (next names net) live said) (under_names bytes deadline (λ names net. IsOutput (next names net) live said) has) in
         by_rest t (later t)
@@ -157,7 +166,7 @@ HostTells cap deadline contents said Good = EachHas contents deadline (IsYes cap
 HostTells cap deadline contents said Bad = FirstHas contents deadline cap (IsToldNo cap said)
 HostTells cap deadline contents said Full = FirstHas contents deadline cap (λ names net. cap < load_of net)
 HostTells cap deadline contents said Words = ⊥
-HostTells cap deadline contents said Document = Unit {0}
+HostTells cap deadline contents said Document = HasRefused deadline contents
 HostTells cap deadline contents said Unfinished = Unit {0}
 HostTells cap deadline contents said Script = Unit {0}
 HostTells cap deadline contents said Wide = ⊥
@@ -167,7 +176,7 @@ end_tells cap deadline contents said Good end each = each
 end_tells cap deadline contents said Bad end each = absurd end
 end_tells cap deadline contents said Full end each = absurd end
 end_tells cap deadline contents said Words end each = end
-end_tells cap deadline contents said Document end each = tt
+end_tells cap deadline contents said Document end each = absurd end
 end_tells cap deadline contents said Unfinished end each = tt
 end_tells cap deadline contents said Script end each = tt
 end_tells cap deadline contents said Wide end each = end
@@ -182,8 +191,8 @@ host_tells cap deadline contents live said output = by_documents (documents_say 
     by_verdicts all (inr (inl (bad, first))) = subst (HostTells cap deadline contents said) (sym bad) first
     by_verdicts all (inr (inr (full, first))) = subst (HostTells cap deadline contents said) (sym full) first
 
-    by_documents : (said.outcome ≡ Document) ⊎ Read contents deadline (λ ns. IsOutput (attended cap ns) live said) → HostTells cap deadline contents said said.outcome
-    by_documents (inl refused) = subst (HostTells cap deadline contents said) (sym refused) tt
+    by_documents : ((said.outcome ≡ Document) × HasRefused deadline contents) ⊎ Read contents deadline (λ ns. IsOutput (attended cap ns) live said) → HostTells cap deadline contents said said.outcome
+    by_documents (inl (same, refused)) = subst (HostTells cap deadline contents said) (sym same) refused
     by_documents (inr read) = by_verdicts read.all (verdicts_say cap (session_of cap read.all) deadline live said contents read.all read.are read.held)
 
 -- a session is held over documents only for their networks
@@ -220,6 +229,19 @@ host_talks cap deadline contents may =
 
 -- ---- the files that were read
 
+-- where all files are there, so are the first of them
+all_of_first : (is_there : List ℕ → Bool) (names : List (List ℕ)) (n : ℕ) → list_all is_there names ≡ true → list_all is_there (take n names) ≡ true
+all_of_first is_there [] n all = rw (take-nil n) refl
+all_of_first is_there (name ∷ names) zero all = refl
+all_of_first is_there (name ∷ names) (suc n) all = by_first (is_there name) (list_all is_there names) all (all_of_first is_there names n)
+  where
+    by_first : (here later : Bool) → (here && later) ≡ true → (later ≡ true → list_all is_there (take n names) ≡ true) → (here && list_all is_there (take n names)) ≡ true
+    by_first true later all follows = follows all
+    by_first false later all follows = absurd (cc)
+
+first_there : (told : Option (List ℕ → Option (List ℕ))) (names : List (List ℕ)) (n : ℕ) → AreThere told names → AreThere told (take n names)
+first_there told names n there = λ files e. all_of_first (λ name. is_some (files name)) names n (there files e)
+
 files_all : (told : Option (List ℕ → Option (List ℕ))) (names : List (List ℕ)) (status : Status) → AreThere told names → AreThere told (take 1 names) → AreThere told (files_read status names)
 files_all told names IsGood there first = there
 files_all told names IsBad there first = there
@@ -233,6 +255,18 @@ files_all told names IsUnfinished there first = there
 files_all told names IsScript there first = there
 files_all told names IsWideStatus there first = there
 
+first_of_them : (is_there : List ℕ → Bool) (place : ℕ) (names : List (List ℕ)) → list_all is_there (take (suc place) names) ≡ true → list_all is_there (take 1 names) ≡ true
+first_of_them is_there place [] all = refl
+first_of_them is_there place (name ∷ names) all = by_both (is_there name) (list_all is_there (take place names)) all
+  where
+    by_both : (here later : Bool) → (here && later) ≡ true → (here && true) ≡ true
+    by_both true later all = refl
+    by_both false later all = absurd (cc)
+
+-- where as many files as stand up to a place are there, so is the first
+first_of_more : (told : Option (List ℕ → Option (List ℕ))) (names : List (List ℕ)) (place : ℕ) → AreThere told (take (suc place) names) → AreThere told (take 1 names)
+first_of_more told names place there = λ files e. first_of_them (λ name. is_some (files name)) place names (there files e)
+
 -- what was prepared for the files of a host says what their contents call for
 pub planned_host : (told : Option (List ℕ → Option (List ℕ))) (cap : ℕ) (deadline : Option ℕ) (files : List (List ℕ)) (hosting : Hosting) → IsHosting told cap deadline files hosting → Planned (host files deadline cap) told (the_hosting hosting)
 planned_host told cap deadline files hosting is = record {
@@ -242,8 +276,37 @@ planned_host told cap deadline files hosting is = record {
   there = λ live said output. by_there hosting said live output is.there;
 }
   where
-    by_there : (h : Hosting) (said : Said) (live : List ℕ) → IsOutput (the_hosting h) live said → IsOfDocument h ⊎ AreThere told files → AreThere told (files_read (status_of said.outcome) files)
-    by_there h said live output (inr there) = files_all told files (status_of said.outcome) there is.first
+    by_there : (h : Hosting) (said : Said) (live : List ℕ) → IsOutput (the_hosting h) live said → IsOfDocument told deadline files is.contents h ⊎ AreThere told files → AreThere told (files_read (status_of said.outcome) files)
+    by_there h said live output (inr there) = files_all told files (status_of said.outcome) there (first_there told files 1 there)
     by_there (Begins opening ward) said live output (inl never) = absurd never
-    by_there (Told text) said live output (inl refused) =
-        subst (λ (o : Outcome). AreThere told (files_read (status_of o) files)) (sym (ap (λ (s : Said). s.outcome) output ∙ refused)) is.first
+    by_there (Told text) said live output (inl (refused, file)) =
+        subst (λ (o : Outcome). AreThere told (files_read (status_of o) files)) (sym (ap (λ (s : Said). s.outcome) output ∙ refused)) (first_of_more told files file.place file.there)
+
+-- what is said of a document, whatever would be said of its network, says that it is refused
+plainly_refused : (bytes : List ℕ) (deadline : Option ℕ) (said : Said) → IsSaidPlainly bytes deadline said → said.outcome ≡ Document → IsRefused bytes deadline
+plainly_refused bytes deadline said plainly outcome = by_said (document_says yes bytes deadline [] said (plainly yes []))
+  where
+    yes : Answer
+    yes = λ names net. says (say Good [])
+
+    accepted : (found : Option Parts) → IsSomeAnd found (λ parts. AreUnlabelled parts × (said ≡ say Good [])) → said ≡ say Good []
+    accepted None has = absurd has
+    accepted (Some parts) has = has.1
+
+    by_said : ((said.outcome ≡ Document) × IsRefused bytes deadline) ⊎ HasNetwork bytes deadline (λ names net. said ≡ say Good []) → IsRefused bytes deadline
+    by_said (inl (same, refused)) = refused
+    by_said (inr has) =
+        let other : said.outcome ≡ Good = ap (λ (s : Said). s.outcome) (accepted (parts_of (document bytes deadline)) has) in
+        let never : Document ≡ Good = sym outcome ∙ other in absurd (cc)
+
+-- where a document of a host is refused, it is there, and so is each file before it
+pub host_refused : (told : Option (List ℕ → Option (List ℕ))) (cap : ℕ) (deadline : Option ℕ) (files : List (List ℕ)) (said : SaidText) → IsHosting told cap deadline files (Told said) → said.outcome ≡ Document →
+    (contents : List (List ℕ)) × AreContents told files contents × RefusedIsThere told (host files deadline cap) contents
+host_refused told cap deadline files said is outcome = (is.contents, is.are, by_there is.there)
+  where
+    tells : HasRefused deadline is.contents
+    tells = subst (HostTells cap deadline is.contents (the_said said)) outcome (host_tells cap deadline is.contents [] (the_said said) (is.comes.output [] (the_said said) refl))
+
+    by_there : IsOfDocument told deadline files is.contents (Told said) ⊎ AreThere told files → RefusedIsThere told (host files deadline cap) is.contents
+    by_there (inl (same, file)) = (file.place, plainly_refused (get_or is.contents file.place []) deadline (the_said said) file.is same, file.there)
+    by_there (inr there) = (tells.0, tells.1, first_there told files (suc tells.0) there)

@@ -16,3 +16,4 @@ pub mod Lines
 pub mod Told
 pub mod EditTexts
 pub mod EditSessions
+pub mod LabelledDeadlines

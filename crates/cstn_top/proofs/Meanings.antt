@@ -213,6 +213,27 @@ certificate_tells text names net live said good is = by_length (nat_lt 147639500
     by_length true is = subst (λ (o : Outcome). Certifies (told_bounds names text) net o) (sym (ap (λ (s : Said). s.outcome) is)) tt
     by_length false is = bounds_tell names (told_bounds names text) net live said good is
 
+-- what the outcome of a check of bounds on the network that a labelled one is lowered to tells of the labelled one
+abbrev CertifiesLabelled : ToldBounds → Labelled → Outcome → Type 0
+CertifiesLabelled told m Good = IsLabelledConsistent m
+CertifiesLabelled told m Bad = AreFaulty told (lowered m)
+CertifiesLabelled told m Script = Unit {0}
+CertifiesLabelled told m Words = ⊥
+CertifiesLabelled told m Document = ⊥
+CertifiesLabelled told m Full = ⊥
+CertifiesLabelled told m Unfinished = ⊥
+CertifiesLabelled told m Wide = ⊥
+
+certifies_labelled : (told : ToldBounds) (m : Labelled) (o : Outcome) → IsEquivalent m (lowered m) → Certifies told (lowered m) o → CertifiesLabelled told m o
+certifies_labelled told m Good same is = same.consistent.1 is
+certifies_labelled told m Bad same is = is
+certifies_labelled told m Script same is = is
+certifies_labelled told m Words same is = is
+certifies_labelled told m Document same is = is
+certifies_labelled told m Full same is = is
+certifies_labelled told m Unfinished same is = is
+certifies_labelled told m Wide same is = is
+
 -- what an outcome tells of a request, by what is told of the live source
 abbrev pub IsRight : Option (List ℕ) → Outcome → Request → List (List ℕ) → Type 0
 IsRight told Good request contents = IsGood told request contents
@@ -370,46 +391,46 @@ replay_right live asked proof contents Script has = tt
 replay_right live asked proof contents Wide has = none_labelled (get_or contents 0 []) asked.deadline has
 
 -- what the outcome of `closed` tells
-abbrev Lists : ℕ → Network → Outcome → Type 0
-Lists cap net Good = IsYes cap net × IsListed net
-Lists cap net Bad = IsNo cap net
-Lists cap net Full = cap < load_of net
-Lists cap net Words = ⊥
-Lists cap net Document = ⊥
-Lists cap net Unfinished = ⊥
-Lists cap net Script = ⊥
-Lists cap net Wide = ⊥
+abbrev Lists : ℕ → Labelled → Outcome → Type 0
+Lists cap m Good = IsLabelledYes cap m × IsListed (lowered m)
+Lists cap m Bad = IsLabelledNo cap m
+Lists cap m Full = cap < load_of (lowered m)
+Lists cap m Words = ⊥
+Lists cap m Document = ⊥
+Lists cap m Unfinished = ⊥
+Lists cap m Script = ⊥
+Lists cap m Wide = ⊥
 
-lists : (cap : ℕ) (net : Network) (o : Outcome) → IsWellFormed net → Verdicts cap net o → Lists cap net o
-lists cap net Good good is = (is, listed_well net good is.0)
-lists cap net Bad good is = is
-lists cap net Full good is = is
-lists cap net Words good is = is
-lists cap net Document good is = is
-lists cap net Unfinished good is = is
-lists cap net Script good is = is
-lists cap net Wide good is = is
+lists : (cap : ℕ) (m : Labelled) (o : Outcome) → IsWellFormed (lowered m) → IsEquivalent m (lowered m) → Verdicts cap (lowered m) o → Lists cap m o
+lists cap m Good good same is = (verdicts_labelled cap m Good same is, listed_well (lowered m) good is.0)
+lists cap m Bad good same is = verdicts_labelled cap m Bad same is
+lists cap m Full good same is = is
+lists cap m Words good same is = is
+lists cap m Document good same is = is
+lists cap m Unfinished good same is = is
+lists cap m Script good same is = is
+lists cap m Wide good same is = is
 
 -- what the outcome of `tight` tells
-abbrev Tightens : ℕ → Network → Outcome → Type 0
-Tightens cap net Good = IsConsistent net × IsTight net (least_deadline net)
-Tightens cap net Bad = (IsConsistent net → ⊥) × IsRefutedByLog net
-Tightens cap net Full = is_tight_full cap net ≡ true
-Tightens cap net Words = ⊥
-Tightens cap net Document = ⊥
-Tightens cap net Unfinished = ⊥
-Tightens cap net Script = ⊥
-Tightens cap net Wide = ⊥
+abbrev Tightens : ℕ → Labelled → Outcome → Type 0
+Tightens cap m Good = IsLabelledConsistent m × IsTight (lowered m) (least_deadline (lowered m))
+Tightens cap m Bad = (IsLabelledConsistent m → ⊥) × IsRefutedByLog (lowered m)
+Tightens cap m Full = is_tight_full cap (lowered m) ≡ true
+Tightens cap m Words = ⊥
+Tightens cap m Document = ⊥
+Tightens cap m Unfinished = ⊥
+Tightens cap m Script = ⊥
+Tightens cap m Wide = ⊥
 
-tightens : (cap : ℕ) (net : Network) (o : Outcome) → IsWellFormed net → Finds (is_tight_full cap net) net o → Tightens cap net o
-tightens cap net Good good is = (is.0, tight_well cap net good is.1 is.0)
-tightens cap net Bad good is = (is, refuted_well net good is)
-tightens cap net Full good is = is
-tightens cap net Words good is = is
-tightens cap net Document good is = is
-tightens cap net Unfinished good is = is
-tightens cap net Script good is = is
-tightens cap net Wide good is = is
+tightens : (cap : ℕ) (m : Labelled) (o : Outcome) → IsWellFormed (lowered m) → IsEquivalent m (lowered m) → Finds (is_tight_full cap (lowered m)) (lowered m) o → Tightens cap m o
+tightens cap m Good good same is = (same.consistent.1 is.0, tight_well cap (lowered m) good is.1 is.0)
+tightens cap m Bad good same is = (λ has. is (same.consistent.0 has), refuted_well (lowered m) good is)
+tightens cap m Full good same is = is
+tightens cap m Words good same is = is
+tightens cap m Document good same is = is
+tightens cap m Unfinished good same is = is
+tightens cap m Script good same is = is
+tightens cap m Wide good same is = is
 
 -- what the outcome of `conflict` tells
 abbrev Blames : ℕ → Network → Outcome → Type 0
@@ -432,25 +453,25 @@ blames cap net Unfinished good is = is
 blames cap net Script good is = is
 blames cap net Wide good is = is
 
-closed_right : (live : Option (List ℕ)) (asked : Asked) (cap : ℕ) (contents : List (List ℕ)) (o : Outcome) → HasNetwork (get_or contents 0 []) asked.deadline (λ names net. Lists cap net o) → IsRight live o (closed asked cap) contents
+closed_right : (live : Option (List ℕ)) (asked : Asked) (cap : ℕ) (contents : List (List ℕ)) (o : Outcome) → HasLabelled (get_or contents 0 []) asked.deadline (λ names m. Lists cap m o) → IsRight live o (closed asked cap) contents
 closed_right live asked cap contents Good has = has
 closed_right live asked cap contents Bad has = has
 closed_right live asked cap contents Full has = has
-closed_right live asked cap contents Words has = none_such (parts_of (document (get_or contents 0 []) asked.deadline)) has
+closed_right live asked cap contents Words has = none_labelled (get_or contents 0 []) asked.deadline has
 closed_right live asked cap contents Document has = tt
 closed_right live asked cap contents Unfinished has = tt
 closed_right live asked cap contents Script has = tt
-closed_right live asked cap contents Wide has = none_such (parts_of (document (get_or contents 0 []) asked.deadline)) has
+closed_right live asked cap contents Wide has = none_labelled (get_or contents 0 []) asked.deadline has
 
-tight_right : (live : Option (List ℕ)) (asked : Asked) (cap : ℕ) (contents : List (List ℕ)) (o : Outcome) → HasNetwork (get_or contents 0 []) asked.deadline (λ names net. Tightens cap net o) → IsRight live o (tight asked cap) contents
+tight_right : (live : Option (List ℕ)) (asked : Asked) (cap : ℕ) (contents : List (List ℕ)) (o : Outcome) → HasLabelled (get_or contents 0 []) asked.deadline (λ names m. Tightens cap m o) → IsRight live o (tight asked cap) contents
 tight_right live asked cap contents Good has = has
 tight_right live asked cap contents Bad has = has
 tight_right live asked cap contents Full has = has
-tight_right live asked cap contents Words has = none_such (parts_of (document (get_or contents 0 []) asked.deadline)) has
+tight_right live asked cap contents Words has = none_labelled (get_or contents 0 []) asked.deadline has
 tight_right live asked cap contents Document has = tt
 tight_right live asked cap contents Unfinished has = tt
 tight_right live asked cap contents Script has = tt
-tight_right live asked cap contents Wide has = none_such (parts_of (document (get_or contents 0 []) asked.deadline)) has
+tight_right live asked cap contents Wide has = none_labelled (get_or contents 0 []) asked.deadline has
 
 conflict_right : (live : Option (List ℕ)) (asked : Asked) (cap : ℕ) (contents : List (List ℕ)) (o : Outcome) → HasNetwork (get_or contents 0 []) asked.deadline (λ names net. Blames cap net o) → IsRight live o (conflict asked cap) contents
 conflict_right live asked cap contents Good has = has
@@ -462,15 +483,15 @@ conflict_right live asked cap contents Unfinished has = tt
 conflict_right live asked cap contents Script has = tt
 conflict_right live asked cap contents Wide has = none_such (parts_of (document (get_or contents 0 []) asked.deadline)) has
 
-closedcheck_right : (live : Option (List ℕ)) (asked : Asked) (proof : List ℕ) (contents : List (List ℕ)) (o : Outcome) → HasNetwork (get_or contents 0 []) asked.deadline (λ names net. Certifies (told_bounds names (get_or contents 1 [])) net o) → IsRight live o (closedcheck asked proof) contents
+closedcheck_right : (live : Option (List ℕ)) (asked : Asked) (proof : List ℕ) (contents : List (List ℕ)) (o : Outcome) → HasLabelled (get_or contents 0 []) asked.deadline (λ names m. CertifiesLabelled (told_bounds names (get_or contents 1 [])) m o) → IsRight live o (closedcheck asked proof) contents
 closedcheck_right live asked proof contents Good has = has
 closedcheck_right live asked proof contents Bad has = has
-closedcheck_right live asked proof contents Full has = none_such (parts_of (document (get_or contents 0 []) asked.deadline)) has
-closedcheck_right live asked proof contents Words has = none_such (parts_of (document (get_or contents 0 []) asked.deadline)) has
+closedcheck_right live asked proof contents Full has = none_labelled (get_or contents 0 []) asked.deadline has
+closedcheck_right live asked proof contents Words has = none_labelled (get_or contents 0 []) asked.deadline has
 closedcheck_right live asked proof contents Document has = tt
 closedcheck_right live asked proof contents Unfinished has = tt
 closedcheck_right live asked proof contents Script has = tt
-closedcheck_right live asked proof contents Wide has = none_such (parts_of (document (get_or contents 0 []) asked.deadline)) has
+closedcheck_right live asked proof contents Wide has = none_labelled (get_or contents 0 []) asked.deadline has
 
 tree_right : (live : Option (List ℕ)) (asked : Asked) (cap : ℕ) (contents : List (List ℕ)) (o : Outcome) → HasNetwork (get_or contents 0 []) asked.deadline (λ names net. Unfolds cap names net o) → IsRight live o (tree asked cap) contents
 tree_right live asked cap contents Good has = has
@@ -519,6 +540,18 @@ check_tells cap live said names m of is = verdicts_labelled cap m said.outcome o
 text_tells : (text live : List ℕ) (said : Said) (names : List (List ℕ)) (m : Labelled) → IsOfLabelled names m → IsOutput (by_text replayed text names (lowered m)) live said → ReplaysLabelled text (told_by names text) m said.outcome
 text_tells text live said names m of is = replays_labelled text (told_by names text) m said.outcome of.same (replay_tells text names (lowered m) live said of.plain.good is)
 
+closed_tells : (cap : ℕ) (live : List ℕ) (said : Said) (names : List (List ℕ)) (m : Labelled) → IsOfLabelled names m → IsOutput (listed cap names (lowered m)) live said → Lists cap m said.outcome
+closed_tells cap live said names m of is =
+    lists cap m said.outcome of.plain.good of.same (verdict_says cap names (lowered m) (shown_bounds names (load_of (lowered m)) (live_bounds (log_of (lowered m)))) live said of.plain.good is)
+
+tight_tells : (cap : ℕ) (live : List ℕ) (said : Said) (names : List (List ℕ)) (m : Labelled) → IsOfLabelled names m → IsOutput (tightened cap names (lowered m)) live said → Tightens cap m said.outcome
+tight_tells cap live said names m of is =
+    tightens cap m said.outcome of.plain.good of.same
+    (search_says (is_tight_full cap (lowered m)) (is_consistent (lowered m)) (lowered m) (full_line cap) (tight_text names (lowered m) (least_deadline (lowered m))) (refuted_text names (lowered m)) live said of.plain.good refl is)
+
+bounds_text_tells : (text live : List ℕ) (said : Said) (names : List (List ℕ)) (m : Labelled) → IsOfLabelled names m → IsOutput (by_text certified text names (lowered m)) live said → CertifiesLabelled (told_bounds names text) m said.outcome
+bounds_text_tells text live said names m of is = certifies_labelled (told_bounds names text) m said.outcome of.same (certificate_tells text names (lowered m) live said of.plain.good is)
+
 -- the outcome of each output is right
 pub output_right : (told : Option (List ℕ)) (request : Request) (contents : List (List ℕ)) (live : List ℕ) (said : Said) → IsAllOf told live → IsOutput (plan_at request contents) live said → IsRight told said.outcome request contents
 output_right told (check asked cap) contents live said all output =
@@ -531,11 +564,11 @@ output_right told (edit asked cap) contents live said all output =
     on_network (edited cap) (get_or contents 0 []) asked.deadline live said (EditTells told cap) (λ o. IsRight told o (edit asked cap) contents) (λ refused. tt)
     (λ names net good named is. edit_tells told cap names net live said good named all is) (edit_right told asked cap contents) output
 output_right told (closed asked cap) contents live said all output =
-    on_network (listed cap) (get_or contents 0 []) asked.deadline live said (λ o names net. Lists cap net o) (λ o. IsRight told o (closed asked cap) contents) (λ refused. tt)
-    (λ names net good named is. lists cap net said.outcome good (verdict_says cap names net (shown_bounds names (load_of net) (live_bounds (log_of net))) live said good is)) (closed_right told asked cap contents) output
+    on_labels (of_lowered (listed cap)) (get_or contents 0 []) asked.deadline live said (λ names m. Lists cap m said.outcome) (IsRight told said.outcome (closed asked cap) contents)
+    (λ is refused. subst (λ (o : Outcome). IsRight told o (closed asked cap) contents) (sym is) tt) (closed_tells cap live said) (closed_right told asked cap contents said.outcome) output
 output_right told (tight asked cap) contents live said all output =
-    on_network (tightened cap) (get_or contents 0 []) asked.deadline live said (λ o names net. Tightens cap net o) (λ o. IsRight told o (tight asked cap) contents) (λ refused. tt)
-    (λ names net good named is. tightens cap net said.outcome good (search_says (is_tight_full cap net) (is_consistent net) net (full_line cap) (tight_text names net (least_deadline net)) (refuted_text names net) live said good refl is)) (tight_right told asked cap contents) output
+    on_labels (of_lowered (tightened cap)) (get_or contents 0 []) asked.deadline live said (λ names m. Tightens cap m said.outcome) (IsRight told said.outcome (tight asked cap) contents)
+    (λ is refused. subst (λ (o : Outcome). IsRight told o (tight asked cap) contents) (sym is) tt) (tight_tells cap live said) (tight_right told asked cap contents said.outcome) output
 output_right told (conflict asked cap) contents live said all output =
     on_network (blamed cap) (get_or contents 0 []) asked.deadline live said (λ o names net. Blames cap net o) (λ o. IsRight told o (conflict asked cap) contents) (λ refused. tt)
     (λ names net good named is. blames cap net said.outcome good (search_says (is_blame_full cap net) (is_consistent net) net (full_line cap) (yes_line (load_of net)) (blame_text names net (conflict_set net)) live said good refl is)) (conflict_right told asked cap contents) output
@@ -552,8 +585,8 @@ output_right told (replay asked proof) contents live said all output =
     on_labels (of_lowered (by_text replayed (get_or contents 1 []))) (get_or contents 0 []) asked.deadline live said (λ names m. ReplaysLabelled (get_or contents 1 []) (told_by names (get_or contents 1 [])) m said.outcome) (IsRight told said.outcome (replay asked proof) contents)
     (λ is refused. subst (λ (o : Outcome). IsRight told o (replay asked proof) contents) (sym is) tt) (text_tells (get_or contents 1 []) live said) (replay_right told asked proof contents said.outcome) output
 output_right told (closedcheck asked proof) contents live said all output =
-    on_network (by_text certified (get_or contents 1 [])) (get_or contents 0 []) asked.deadline live said (λ o names net. Certifies (told_bounds names (get_or contents 1 [])) net o) (λ o. IsRight told o (closedcheck asked proof) contents) (λ refused. tt)
-    (λ names net good named is. certificate_tells (get_or contents 1 []) names net live said good is) (closedcheck_right told asked proof contents) output
+    on_labels (of_lowered (by_text certified (get_or contents 1 []))) (get_or contents 0 []) asked.deadline live said (λ names m. CertifiesLabelled (told_bounds names (get_or contents 1 [])) m said.outcome) (IsRight told said.outcome (closedcheck asked proof) contents)
+    (λ is refused. subst (λ (o : Outcome). IsRight told o (closedcheck asked proof) contents) (sym is) tt) (bounds_text_tells (get_or contents 1 []) live said) (closedcheck_right told asked proof contents said.outcome) output
 output_right told (drill number) contents live said all output =
     subst (λ (o : Outcome). IsRight told o (drill number) contents) (sym (ap (λ (s : Said). s.outcome) output)) (counts_right number 64)
 output_right told (host files deadline cap) contents live said all output = host_right told files deadline cap contents said said.outcome (host_tells cap deadline contents live said output)
@@ -601,9 +634,10 @@ output_complete (replay asked proof) contents live said output =
     (λ is refused. inl (ap status_of is, refused))
     (λ names m of is. decides_text (get_or contents 1 []) (told_by names (get_or contents 1 [])) m said.outcome (text_tells (get_or contents 1 []) live said names m of is)) (λ has. inr has) output
 output_complete (closed asked cap) contents live said output =
-    on_network (listed cap) (get_or contents 0 []) asked.deadline live said (λ o names net. Verdicts cap net o) (λ o. IsComplete (status_of o) (closed asked cap) contents) (λ refused. inl (refl, refused))
-    (λ names net good named is. verdict_says cap names net (shown_bounds names (load_of net) (live_bounds (log_of net))) live said good is)
-    (λ o has. inr (network_then (get_or contents 0 []) asked.deadline (λ names net. Verdicts cap net o) (λ names net. IsDecided cap net (status_of o)) has (λ names net good named told. decides cap net o told))) output
+    on_labels (of_lowered (listed cap)) (get_or contents 0 []) asked.deadline live said (λ names m. IsLabelledDecided cap m (status_of said.outcome)) (IsComplete (status_of said.outcome) (closed asked cap) contents)
+    (λ is refused. inl (ap status_of is, refused))
+    (λ names m of is. decides_labelled cap m said.outcome (verdicts_labelled cap m said.outcome of.same
+    (verdict_says cap names (lowered m) (shown_bounds names (load_of (lowered m)) (live_bounds (log_of (lowered m)))) live said of.plain.good is))) (λ has. inr has) output
 output_complete (tree asked cap) contents live said output =
     on_network (unfolded cap) (get_or contents 0 []) asked.deadline live said (λ o names net. Unfolds cap names net o) (λ o. IsComplete (status_of o) (tree asked cap) contents) (λ refused. inl (refl, refused))
     (λ names net good named is. unfolds cap names net live said good is)
@@ -669,9 +703,10 @@ talks_live (edit asked cap) contents may =
     network_then (get_or contents 0 []) asked.deadline (λ names net. MayTalk (edited cap names net)) (λ names net. Unit {0})
     (document_talks (edited cap) (get_or contents 0 []) asked.deadline may) (λ names net good named is. tt)
 talks_live (closed asked cap) contents may =
-    never_talks (listed cap) (get_or contents 0 []) asked.deadline (λ names net. verdict_silent cap names net (shown_bounds names (load_of net) (live_bounds (log_of net)))) may
+    labels_silent (of_lowered (listed cap)) (get_or contents 0 []) asked.deadline (λ names m. verdict_silent cap names (lowered m) (shown_bounds names (load_of (lowered m)) (live_bounds (log_of (lowered m))))) may
 talks_live (tight asked cap) contents may =
-    never_talks (tightened cap) (get_or contents 0 []) asked.deadline (λ names net. search_silent (is_tight_full cap net) (is_consistent net) (full_line cap) (tight_text names net (least_deadline net)) (refuted_text names net)) may
+    labels_silent (of_lowered (tightened cap)) (get_or contents 0 []) asked.deadline
+    (λ names m. search_silent (is_tight_full cap (lowered m)) (is_consistent (lowered m)) (full_line cap) (tight_text names (lowered m) (least_deadline (lowered m))) (refuted_text names (lowered m))) may
 talks_live (conflict asked cap) contents may =
     never_talks (blamed cap) (get_or contents 0 []) asked.deadline (λ names net. search_silent (is_blame_full cap net) (is_consistent net) (full_line cap) (yes_line (load_of net)) (blame_text names net (conflict_set net))) may
 talks_live (tree asked cap) contents may = never_talks (unfolded cap) (get_or contents 0 []) asked.deadline (λ names net. tree_silent cap names net) may
@@ -682,7 +717,8 @@ talks_live (replay asked proof) contents may =
     labels_silent (of_lowered (by_text replayed (get_or contents 1 []))) (get_or contents 0 []) asked.deadline
     (λ names m. text_silent replayed (get_or contents 1 []) names (lowered m) (steps_silent (told_by names (get_or contents 1 [])) (lowered m))) may
 talks_live (closedcheck asked proof) contents may =
-    never_talks (by_text certified (get_or contents 1 [])) (get_or contents 0 []) asked.deadline (λ names net. text_silent certified (get_or contents 1 []) names net (bounds_silent names (told_bounds names (get_or contents 1 [])) net)) may
+    labels_silent (of_lowered (by_text certified (get_or contents 1 []))) (get_or contents 0 []) asked.deadline
+    (λ names m. text_silent certified (get_or contents 1 []) names (lowered m) (bounds_silent names (told_bounds names (get_or contents 1 [])) (lowered m))) may
 talks_live (drill number) contents may = may
 talks_live (host files deadline cap) contents may = host_talks cap deadline contents may
 

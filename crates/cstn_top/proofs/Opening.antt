@@ -57,10 +57,10 @@ of_run asked cap = record { files = refl; plan = λ bytes. refl }
 pub of_edit : (asked : Asked) (cap : ℕ) → IsOfOne (edit asked cap) asked (of_plain (edited cap))
 of_edit asked cap = record { files = refl; plan = λ bytes. refl }
 
-pub of_closed : (asked : Asked) (cap : ℕ) → IsOfOne (closed asked cap) asked (of_plain (listed cap))
+pub of_closed : (asked : Asked) (cap : ℕ) → IsOfOne (closed asked cap) asked (of_lowered (listed cap))
 of_closed asked cap = record { files = refl; plan = λ bytes. refl }
 
-pub of_tight : (asked : Asked) (cap : ℕ) → IsOfOne (tight asked cap) asked (of_plain (tightened cap))
+pub of_tight : (asked : Asked) (cap : ℕ) → IsOfOne (tight asked cap) asked (of_lowered (tightened cap))
 of_tight asked cap = record { files = refl; plan = λ bytes. refl }
 
 pub of_conflict : (asked : Asked) (cap : ℕ) → IsOfOne (conflict asked cap) asked (of_plain (blamed cap))

@@ -7,8 +7,9 @@ pub mod Meanings
 pub mod Evidence
 pub mod Lines
 pub mod Told
--- What the law of edit sessions cites.
+-- What the laws cite.
 pub mod EditSessions
+pub mod LabelledDeadlines
 -- What the proofs use beside.
 pub mod Opened
 pub mod Prepared

@@ -1,5 +1,5 @@
 -- What the status of a request tells.
-use Rattle.std.specs.Prelude.{◌≡◌, ◌≤◌, ◌<◌, ◌⊎◌, ◌-◌, ℕ, true, List, [], length, take, get_or, Option, None, Some, IfSome, IsSomeAnd}
+use Rattle.std.specs.Prelude.{◌≡◌, ◌≤◌, ◌<◌, ◌⊎◌, ◌-◌, ℕ, suc, true, List, [], length, take, get_or, Option, None, Some, IfSome, IsSomeAnd}
 use Rattle.cstn_io.specs.Contents.{IsAllOf}
 use Rattle.cstn_net.specs.Networks.{Network}
 use Rattle.cstn_net.specs.Strategies.{IsConsistent}
@@ -12,7 +12,7 @@ use Rattle.cstn_lines.specs.Pieces.{lines_of}
 use Rattle.cstn_refute.specs.Texts.{Told, tells, wrong, told as told_by}
 use Rattle.cstn_words.specs.Requests.{Request, check, run, edit, closed, tight, conflict, tree, save, replay, closedcheck, treecheck, drill, files_of}
 use Rattle.cstn_words.specs.Requests.{host}
-use Rattle.cstn_reply.specs.Files.{AreContents}
+use Rattle.cstn_reply.specs.Files.{AreContents, AreThere}
 use Rattle.cstn_reply.specs.declared.status.Status.{Status}
 use Rattle.cstn_reply.specs.declared.status.Status.TheVariants.{Good, Bad, Words, Document, Full, ReadFault, WriteFault, Memory, Unfinished, Script, Wide}
 use Rattle.std.specs.List.{Contains}
@@ -88,14 +88,15 @@ IsGood told (check asked cap) contents = HasLabelled (get_or contents 0 []) aske
 IsGood told (run asked cap) contents = HasLabelled (get_or contents 0 []) asked.deadline (λ names m. IsLabelledYes cap m)
 IsGood told (edit asked cap) contents =
     HasNetwork (get_or contents 0 []) asked.deadline (λ names net. AtLastCheck told cap names net (λ last. IfSome last IsConsistent))
-IsGood told (closed asked cap) contents = HasNetwork (get_or contents 0 []) asked.deadline (λ names net. IsYes cap net × IsListed net)
-IsGood told (tight asked cap) contents = HasNetwork (get_or contents 0 []) asked.deadline (λ names net. IsConsistent net × IsTight net (least_deadline net))
+IsGood told (closed asked cap) contents = HasLabelled (get_or contents 0 []) asked.deadline (λ names m. IsLabelledYes cap m × IsListed (lowered m))
+IsGood told (tight asked cap) contents =
+    HasLabelled (get_or contents 0 []) asked.deadline (λ names m. IsLabelledConsistent m × IsTight (lowered m) (least_deadline (lowered m)))
 IsGood told (conflict asked cap) contents = HasNetwork (get_or contents 0 []) asked.deadline (λ names net. IsConsistent net)
 IsGood told (tree asked cap) contents = HasNetwork (get_or contents 0 []) asked.deadline (λ names net. IsNarrow net × IsYes cap net × HasTree names net)
 IsGood told (save asked) contents = HasLabelled (get_or contents 0 []) asked.deadline (λ names m. Unit {0})
 IsGood told (replay asked proof) contents =
     HasLabelled (get_or contents 0 []) asked.deadline (λ names m. IsRefutedBy (told_by names (get_or contents 1 [])) (lowered m) × (IsLabelledConsistent m → ⊥))
-IsGood told (closedcheck asked proof) contents = HasNetwork (get_or contents 0 []) asked.deadline (λ names net. IsConsistent net)
+IsGood told (closedcheck asked proof) contents = HasLabelled (get_or contents 0 []) asked.deadline (λ names m. IsLabelledConsistent m)
 IsGood told (treecheck asked proof) contents =
     HasNetwork (get_or contents 0 []) asked.deadline (λ names net. IsGoodTree (told_tree names (get_or contents 1 [])) net)
 IsGood told (drill number) contents = AreConsistent number 64 (unrefuted number 64)
@@ -109,8 +110,8 @@ IsBad told (check asked cap) contents = HasLabelled (get_or contents 0 []) asked
 IsBad told (run asked cap) contents = HasLabelled (get_or contents 0 []) asked.deadline (λ names m. IsLabelledNo cap m)
 IsBad told (edit asked cap) contents =
     HasNetwork (get_or contents 0 []) asked.deadline (λ names net. AtLastCheck told cap names net (λ last. IsSomeAnd last (λ edited. IsConsistent edited → ⊥)))
-IsBad told (closed asked cap) contents = HasNetwork (get_or contents 0 []) asked.deadline (λ names net. IsNo cap net)
-IsBad told (tight asked cap) contents = HasNetwork (get_or contents 0 []) asked.deadline (λ names net. (IsConsistent net → ⊥) × IsRefutedByLog net)
+IsBad told (closed asked cap) contents = HasLabelled (get_or contents 0 []) asked.deadline (λ names m. IsLabelledNo cap m)
+IsBad told (tight asked cap) contents = HasLabelled (get_or contents 0 []) asked.deadline (λ names m. (IsLabelledConsistent m → ⊥) × IsRefutedByLog (lowered m))
 IsBad told (conflict asked cap) contents =
     HasNetwork (get_or contents 0 []) asked.deadline (λ names net. (IsConsistent net → ⊥) × IsConflict net (conflict_set net))
 IsBad told (tree asked cap) contents = HasNetwork (get_or contents 0 []) asked.deadline (λ names net. IsNarrow net × IsNo cap net)
@@ -118,7 +119,7 @@ IsBad told (save asked) contents = ⊥
 IsBad told (replay asked proof) contents =
     HasLabelled (get_or contents 0 []) asked.deadline (λ names m. IsNoRefutation (told_by names (get_or contents 1 [])) (lowered m))
 IsBad told (closedcheck asked proof) contents =
-    HasNetwork (get_or contents 0 []) asked.deadline (λ names net. AreFaulty (told_bounds names (get_or contents 1 [])) net)
+    HasLabelled (get_or contents 0 []) asked.deadline (λ names m. AreFaulty (told_bounds names (get_or contents 1 [])) (lowered m))
 IsBad told (treecheck asked proof) contents =
     HasNetwork (get_or contents 0 []) asked.deadline (λ names net. IsBrokenTree (told_tree names (get_or contents 1 [])) net)
 IsBad told (drill number) contents = ⊥
@@ -130,8 +131,8 @@ IsFull told (check asked cap) contents = HasLabelled (get_or contents 0 []) aske
 IsFull told (run asked cap) contents = HasLabelled (get_or contents 0 []) asked.deadline (λ names m. cap < load_of (lowered m))
 IsFull told (edit asked cap) contents =
     HasNetwork (get_or contents 0 []) asked.deadline (λ names net. AtLastCheck told cap names net (λ last. IsSomeAnd last (λ edited. cap < load_of edited)))
-IsFull told (closed asked cap) contents = HasNetwork (get_or contents 0 []) asked.deadline (λ names net. cap < load_of net)
-IsFull told (tight asked cap) contents = HasNetwork (get_or contents 0 []) asked.deadline (λ names net. is_tight_full cap net ≡ true)
+IsFull told (closed asked cap) contents = HasLabelled (get_or contents 0 []) asked.deadline (λ names m. cap < load_of (lowered m))
+IsFull told (tight asked cap) contents = HasLabelled (get_or contents 0 []) asked.deadline (λ names m. is_tight_full cap (lowered m) ≡ true)
 IsFull told (conflict asked cap) contents = HasNetwork (get_or contents 0 []) asked.deadline (λ names net. is_blame_full cap net ≡ true)
 IsFull told (tree asked cap) contents = HasNetwork (get_or contents 0 []) asked.deadline (λ names net. IsNarrow net × (cap < load_of net))
 IsFull told (host files deadline cap) contents = FirstHas contents deadline cap (λ names net. cap < load_of net)
@@ -178,8 +179,8 @@ IsComplete status (replay asked proof) contents =
     ⊎ HasLabelled (get_or contents 0 []) asked.deadline
     (λ names m. IsReplayed (get_or contents 1 []) (told_by names (get_or contents 1 [])) (lowered m) status)
 IsComplete status (closed asked cap) contents =
-    ((status ≡ Document) × IsRefused (get_or contents 0 []) asked.deadline)
-    ⊎ HasNetwork (get_or contents 0 []) asked.deadline (λ names net. IsDecided cap net status)
+    ((status ≡ Document) × IsNoDocument (get_or contents 0 []) asked.deadline)
+    ⊎ HasLabelled (get_or contents 0 []) asked.deadline (λ names m. IsLabelledDecided cap m status)
 IsComplete status (tree asked cap) contents =
     ((status ≡ Document) × IsRefused (get_or contents 0 []) asked.deadline)
     ⊎ HasNetwork (get_or contents 0 []) asked.deadline (λ names net. IsDecidedTree cap net status)
@@ -203,6 +204,12 @@ files_read Memory names = []
 files_read Unfinished names = names
 files_read Script names = names
 files_read Wide names = names
+
+-- A document that is refused is there: the first that the words name, or one of a host, and then each file before it is there
+-- too.
+abbrev pub RefusedIsThere : Option (List ℕ → Option (List ℕ)) → Request → List (List ℕ) → Type 0
+RefusedIsThere told (host files deadline cap) contents = (place : ℕ) × IsRefused (get_or contents place []) deadline × AreThere told (take (suc place) files)
+RefusedIsThere told request contents = AreThere told (take 1 (files_of request))
 
 -- the request reads the live source: a run of a network that has a strategy, an edit session, or a host of networks of which
 -- each has a strategy

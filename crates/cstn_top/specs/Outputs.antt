@@ -32,13 +32,13 @@ abbrev pub plan_at : Request → List (List ℕ) → Plan
 plan_at (check asked cap) contents = on_labelled (of_lowered (checked cap)) (get_or contents 0 []) asked.deadline
 plan_at (run asked cap) contents = on_labelled (carried_out cap) (get_or contents 0 []) asked.deadline
 plan_at (edit asked cap) contents = on_document (edited cap) (get_or contents 0 []) asked.deadline
-plan_at (closed asked cap) contents = on_document (listed cap) (get_or contents 0 []) asked.deadline
-plan_at (tight asked cap) contents = on_document (tightened cap) (get_or contents 0 []) asked.deadline
+plan_at (closed asked cap) contents = on_labelled (of_lowered (listed cap)) (get_or contents 0 []) asked.deadline
+plan_at (tight asked cap) contents = on_labelled (of_lowered (tightened cap)) (get_or contents 0 []) asked.deadline
 plan_at (conflict asked cap) contents = on_document (blamed cap) (get_or contents 0 []) asked.deadline
 plan_at (tree asked cap) contents = on_document (unfolded cap) (get_or contents 0 []) asked.deadline
 plan_at (save asked) contents = on_labelled saved (get_or contents 0 []) asked.deadline
 plan_at (replay asked proof) contents = on_labelled (of_lowered (by_text replayed (get_or contents 1 []))) (get_or contents 0 []) asked.deadline
-plan_at (closedcheck asked proof) contents = on_document (by_text certified (get_or contents 1 [])) (get_or contents 0 []) asked.deadline
+plan_at (closedcheck asked proof) contents = on_labelled (of_lowered (by_text certified (get_or contents 1 []))) (get_or contents 0 []) asked.deadline
 plan_at (treecheck asked proof) contents = on_document (by_text tree_checked (get_or contents 1 [])) (get_or contents 0 []) asked.deadline
 plan_at (drill number) contents = says (drilled number)
 plan_at (host files deadline cap) contents = hosted_plan cap deadline contents

@@ -1,7 +1,6 @@
 -- What is prepared for a request.
-use Rattle.std.specs.Prelude.{ℕ, List, [], Option}
-use Rattle.cstn_words.specs.Requests.{Request, files_of, AsksEdit}
-use Rattle.cstn_words.specs.Requests.{AsksHost}
+use Rattle.std.specs.Prelude.{◌≡◌, ℕ, ◌≤◌, List, [], Option, Some}
+use Rattle.cstn_words.specs.Requests.{Request, check, run, closed, tight, conflict, tree, host, files_of, AsksEdit, AsksHost}
 use Rattle.cstn_reply.specs.Files.{AreContents, AreThere}
 use Rattle.cstn_reply.specs.Plans.{Said, Plan, says, EndsLine, ComesTo, IsOutput}
 use Rattle.cstn_reply.specs.Sessions.{session}
@@ -11,7 +10,8 @@ use Rattle.cstn_ward.specs.Wards.{ward_turn, ward_ending}
 use Rattle.cstn_ward.specs.Read.{the_ward}
 use Rattle.cstn_reply.specs.Statuses.{status_of}
 use Rattle.cstn_top.specs.Outputs.{plan_at}
-use Rattle.cstn_top.specs.Meanings.{files_read}
+use Rattle.cstn_top.specs.Meanings.{HoldsOf, files_read, RefusedIsThere}
+use Rattle.cstn_reply.specs.declared.output.Outcome.TheVariants.{Document}
 use Rattle.cstn_reply.specs.Read.{the_said}
 use Rattle.cstn_top.specs.declared.commands.Prepared.{Prepared}
 use Rattle.cstn_top.specs.declared.commands.Prepared.TheVariants.{Says, Runs, Edits}
@@ -31,9 +31,29 @@ FitsRequest request (Runs opening guiding) = EndsLine opening.items
 FitsRequest request (Edits editing) = AsksEdit request
 FitsRequest request (Hosts opening ward) = EndsLine opening.items × AsksHost request
 
+-- Where it is told that a document of a host is refused, that document is there, and so is each file before it. A run or an edit
+-- session is prepared for no host.
+abbrev pub TellsRefused : Option (List ℕ → Option (List ℕ)) → Request → Prepared → Type 0
+TellsRefused told (host files deadline cap) (Says said) = said.outcome ≡ Document → HoldsOf (Some (host files deadline cap)) told (RefusedIsThere told)
+TellsRefused told (host files deadline cap) (Runs opening guiding) = ⊥
+TellsRefused told (host files deadline cap) (Edits editing) = ⊥
+TellsRefused told (host files deadline cap) (Hosts opening ward) = Unit {0}
+TellsRefused told request prepared = Unit {0}
+
 -- the plan says what the request says of the contents of its files, and the files that were read are there
 pub record Planned (request : Request) (told : Option (List ℕ → Option (List ℕ))) (plan : Plan) : Type 0 where
   pub contents : List (List ℕ)
   pub are : AreContents told (files_of request) contents
   pub comes : ComesTo (plan_at request contents) plan
   pub there : (live : List ℕ) (said : Said) → IsOutput plan live said → AreThere told (files_read (status_of said.outcome) (files_of request))
+
+-- the cap of a request that writes evidence is at most 4,194,304
+abbrev pub IsRanged : Request → Type 0
+IsRanged (check asked cap) = cap ≤ 4194304
+IsRanged (run asked cap) = cap ≤ 4194304
+IsRanged (closed asked cap) = cap ≤ 4194304
+IsRanged (tight asked cap) = cap ≤ 4194304
+IsRanged (conflict asked cap) = cap ≤ 4194304
+IsRanged (tree asked cap) = cap ≤ 4194304
+IsRanged (host files deadline cap) = cap ≤ 4194304
+IsRanged request = Unit {0}

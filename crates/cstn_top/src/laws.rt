@@ -1,5 +1,5 @@
-// Laws of edit sessions. The call does nothing: its contract is the laws.
-ghost use Rattle.std.specs.Prelude.{ℕ, ◌≡◌, ◌<◌, ◌+◌, ◌^◌, List, length, None, Some, codes, false};
+// Laws of edit sessions, and of the least deadlines of labelled networks. The calls do nothing: their contracts are the laws.
+ghost use Rattle.std.specs.Prelude.{ℕ, ◌≡◌, ◌<◌, ◌≤◌, ◌↔◌, ◌+◌, ◌^◌, List, length, None, Some, codes, false};
 ghost use Rattle.std.specs.List.{All};
 ghost use Rattle.cstn_net.specs.Networks.{Network, Constraint, IsWellFormed, count};
 ghost use Rattle.cstn_lines.specs.Pieces.{is_past};
@@ -7,6 +7,11 @@ ghost use Rattle.cstn_talk.specs.Editing.{Editing, begun_editing, edit_turn, las
 ghost use Rattle.cstn_talk.specs.Meanings.{state_after};
 ghost use Rattle.cstn_evidence.specs.Accepted.{HasIds};
 ghost use Rattle.cstn_top.specs.Lines.{AreAnswered};
+ghost use Rattle.cstn_lift.specs.Labelled.{Labelled};
+ghost use Rattle.cstn_lift.specs.Lowered.{lowered};
+ghost use Rattle.cstn_lift.specs.WellFormed.{IsLabelled};
+ghost use Rattle.cstn_tight.specs.Deadlines.{at_deadline, IsLeastDeadline};
+ghost use Rattle.cstn_top.specs.LabelledDeadlines.{labelled_at, IsLabelledLeastDeadline};
 ghost use Rattle.cstn_top.specs.EditSessions.{network_after, AnswersCheck, IsAtLastCheck};
 
 use cstn_refute::texts_are_read_back;
@@ -24,3 +29,10 @@ pub fn edit_sessions_are_true()
 {
     texts_are_read_back();
 }
+
+/// A labelled network with another deadline is lowered to its lowered network with that deadline. So the least deadline of a
+/// labelled network is that of the network it is lowered to.
+pub fn least_deadlines_are_lowered()
+    ensures lowered { (m : Labelled) (h : ℕ) → lowered (labelled_at m h) ≡ at_deadline (lowered m) h }
+    ensures least { (m : Labelled) (h : ℕ) → IsLabelled m → h ≤ m.base.deadline → (IsLabelledLeastDeadline m h ↔ IsLeastDeadline (lowered m) h) }
+{}

@@ -11,8 +11,9 @@ ghost use Rattle.cstn_reply.specs.Plans.{LiveState, Ends, Untouched};
 ghost use Rattle.cstn_top.specs.Evidence.{WroteEvidence};
 ghost use Rattle.cstn_top.specs.Lines.{IsLeastRun, IsCarriedOut, IsLeftUnfinished, IsEnded};
 ghost use Rattle.cstn_top.specs.Outputs.{plan_of};
+ghost use Rattle.cstn_top.specs.Prepared.{IsRanged};
 ghost use Rattle.cstn_top.specs.Told.{IsAllTold};
-ghost use Rattle.cstn_top.specs.Meanings.{HoldsOf, IsGood, IsBad, IsFull, IsWide, IsComplete, IsStopped, files_read, ReadsLive, MayStop};
+ghost use Rattle.cstn_top.specs.Meanings.{HoldsOf, IsGood, IsBad, IsFull, IsWide, IsComplete, IsStopped, files_read, RefusedIsThere, ReadsLive, MayStop};
 
 use crate::commands::{Prepared, prepare};
 use cstn_evidence::evidence_is_accepted;
@@ -50,6 +51,7 @@ pub fn run<F: Shelf, S: Source, K: Sink>(
         let after : LiveState = record { left = S.left live.new; faults = S.faults live.new } in
         IsNone (request_in words.now) ⊎ HoldsOf (request_in words.now) (F.files shelf.old) (IsAllTold before after (K.written out.old) (K.written out.new) result) }
     ensures there { AreThere (F.files shelf.old) (files_read result (named_files words.now)) }
+    ensures refused { result ≡ Status.Document → HoldsOf (request_in words.now) (F.files shelf.old) (RefusedIsThere (F.files shelf.old)) }
 
     ensures flushed { result ≢ Status.WriteFault → K.flushed out.new ≡ option_map length (K.written out.new) }
     ensures read_fault { result ≡ Status.ReadFault → Rose (F.faults shelf.old) (F.faults shelf.new) ⊎ (HoldsOf (request_in words.now) (F.files shelf.old) ReadsLive × Rose (S.faults live.old) (S.faults live.new)) }
@@ -65,6 +67,38 @@ pub fn run<F: Shelf, S: Source, K: Sink>(
     ensures drill_stands { named_files words.now ≡ [] → shelf.new ≡ shelf.old }
 {
     evidence_is_accepted();
+    respond(alloc, words, shelf, live, out)
+}
+
+// Prepares what is said for the words, and says it.
+fn respond<F: Shelf, S: Source, K: Sink>(
+    alloc: Global,
+    words: &[String],
+    shelf: &mut F,
+    live: &mut S,
+    out: &mut K,
+) -> Status
+    requires may_ask { IsTrue (list_all (F.may_ask shelf.old) (named_files words.now)) }
+    ensures output { let before : LiveState = record { left = S.left live.old; faults = S.faults live.old } in
+        let after : LiveState = record { left = S.left live.new; faults = S.faults live.new } in
+        (contents : List (List ℕ)) × AreContents (F.files shelf.old) (named_files words.now) contents ×
+        Ends (plan_of (request_in words.now) contents) before after (K.written out.old) (K.written out.new) result ×
+        Untouched (plan_of (request_in words.now) contents) live.old live.new }
+    ensures ranged { IfSome (request_in words.now) IsRanged }
+    ensures there { AreThere (F.files shelf.old) (files_read result (named_files words.now)) }
+    ensures refused { result ≡ Status.Document → HoldsOf (request_in words.now) (F.files shelf.old) (RefusedIsThere (F.files shelf.old)) }
+    ensures flushed { result ≢ Status.WriteFault → K.flushed out.new ≡ option_map length (K.written out.new) }
+    ensures read_fault { result ≡ Status.ReadFault → Rose (F.faults shelf.old) (F.faults shelf.new) ⊎ (HoldsOf (request_in words.now) (F.files shelf.old) ReadsLive × Rose (S.faults live.old) (S.faults live.new)) }
+    ensures write_fault { result ≡ Status.WriteFault → Rose (K.faults out.old) (K.faults out.new) }
+    ensures live { HoldsOf (request_in words.now) (F.files shelf.old) ReadsLive ⊎ (live.new ≡ live.old) }
+    ensures memory { result ≡ Status.Memory → HoldsOf (request_in words.now) (F.files shelf.old) MayStop ⊎ ((K.written out.new ≡ with_bytes (K.written out.old) (line (codes "memory"))) × (live.new ≡ live.old)) }
+    ensures words { IsNone (request_in words.now) → (result ≡ Status.Words) ⊎ (result ≡ Status.WriteFault) }
+    ensures words_stand { IsNone (request_in words.now) → shelf.new ≡ shelf.old }
+    ensures names { F.may_ask shelf.new ≡ F.may_ask shelf.old }
+    ensures files { F.files shelf.new ≡ F.files shelf.old }
+    ensures later { (F.faults shelf.old ≤ F.faults shelf.new) × (S.faults live.old ≤ S.faults live.new) × (K.faults out.old ≤ K.faults out.new) }
+    ensures drill_stands { named_files words.now ≡ [] → shelf.new ≡ shelf.old }
+{
     let Some(request) = parse(words) else {
         return finish(out, b"words\n", Status::Words);
     };

@@ -11,7 +11,7 @@ use Rattle.cstn_ward.specs.Begun.{the_named, the_hosting, HasRead, IsRefusedAt, 
 use Rattle.cstn_ward.specs.declared.reading.Document.{Document as ReadDocument}
 use Rattle.cstn_ward.specs.declared.starting.Hosting.{Hosting}
 use Rattle.cstn_ward.specs.declared.starting.Hosting.TheVariants.{Told as ToldAll}
-use Rattle.cstn_ward.proofs.ReadAll.{comes_through, first_there}
+use Rattle.cstn_ward.proofs.ReadAll.{comes_through}
 
 nothing_more : (xs : List (List ℕ)) → xs ++ [] ≡ xs
 nothing_more xs = grind (arith, common_steps)
@@ -26,18 +26,16 @@ all_hosted told cap deadline files documents (Ok hosting) read comes opening = r
       comes_through (hosted_plan cap deadline read.contents) (attended cap (map the_named documents)) (the_hosting hosting)
       (subst (λ (contents : List (List ℕ)). ComesTo (on_documents (attended cap) deadline [] contents) (attended cap (map the_named documents))) (nothing_more read.contents) (read.comes (attended cap) []))
       comes;
-  first = first_there told files read.there;
   there = inr read.there;
   opening = opening;
 }
 
 -- a document was refused
-pub told_hosted : (told : Option (List ℕ → Option (List ℕ))) (cap : ℕ) (deadline : Option ℕ) (files : List (List ℕ)) (said : SaidText) → IsRefusedAt told deadline files (says (the_said said)) → said.outcome ≡ Document → IsHosting told cap deadline files (ToldAll said)
+pub told_hosted : (told : Option (List ℕ → Option (List ℕ))) (cap : ℕ) (deadline : Option ℕ) (files : List (List ℕ)) (said : SaidText) → IsRefusedAt told deadline files (the_said said) → said.outcome ≡ Document → IsHosting told cap deadline files (ToldAll said)
 told_hosted told cap deadline files said refused outcome = record {
   contents = refused.contents;
   are = refused.are;
   comes = refused.comes (attended cap);
-  first = refused.first;
-  there = inl outcome;
+  there = inl (outcome, refused.file);
   opening = tt;
 }

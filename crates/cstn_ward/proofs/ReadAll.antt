@@ -1,8 +1,9 @@
 -- Documents that were read one after another.
-use Rattle.std.proofs.Common.{◌≡◌, ℕ, Bool, true, false, List, [], ◌∷◌, ◌++◌, map, take, refl, ap, sym, subst, ◌∙◌, append_assoc}
+use Rattle.std.proofs.Common.{◌≡◌, ℕ, suc, Bool, true, false, List, [], ◌∷◌, ◌++◌, length, map, take, get_or, refl, ap, sym, subst, ◌∙◌, append_assoc}
 use Rattle.std.specs.Prelude.{Option, is_some, ◌&&◌}
 use Rattle.std.specs.List.{list_all}
-use Rattle.std.proofs.lemmas.List.{map-append}
+use Rattle.std.proofs.lemmas.List.{length-map, map-append}
+use Rattle.std.proofs.Math.Seq.{get_or-append_seam}
 use Rattle.std.proofs.lemmas.List.Folds.{list_all-append}
 use Rattle.std.proofs.lemmas.List.Elements.{All-append, All-cons, All-nil}
 use Rattle.cstn_net.specs.Read.{NetworkParts, the_network}
@@ -13,7 +14,7 @@ use Rattle.cstn_reply.specs.Read.{the_said}
 use Rattle.cstn_reply.specs.declared.output.Said.{Said as SaidText}
 use Rattle.cstn_reply.proofs.Contents.{some_contents, one_content, none_there}
 use Rattle.cstn_verdict.specs.Documents.{Answer}
-use Rattle.cstn_verdict.specs.Opened.{IsOpened}
+use Rattle.cstn_verdict.specs.Opened.{IsOpened, IsSaidPlainly}
 use Rattle.cstn_verdict.specs.declared.documents.Opened.TheVariants.{Accepted, Told}
 use Rattle.cstn_verdict.proofs.Opening.{comes_itself, accepted_comes, told_comes}
 use Rattle.cstn_ward.specs.declared.reading.Document.{Document}
@@ -43,21 +44,16 @@ both true true x y = refl
 both true false x y = absurd (cc)
 both false b x y = absurd (cc)
 
-first_of : (a b : Bool) → (a && b) ≡ true → a ≡ true
-first_of true b is = refl
-first_of false b is = absurd (cc)
-
 -- where some files are there, and further files are, all are
 pub there_more : (told : Option (List ℕ → Option (List ℕ))) (names more : List (List ℕ)) → AreThere told names → AreThere told more → AreThere told (names ++ more)
 there_more told names more one two = λ files e.
     list_all-append (λ name. is_some (files name)) names more
     ∙ both (list_all (λ name. is_some (files name)) names) (list_all (λ name. is_some (files name)) more) (one files e) (two files e)
 
--- where all files are there, the first is
-pub first_there : (told : Option (List ℕ → Option (List ℕ))) (names : List (List ℕ)) → AreThere told names → AreThere told (take 1 names)
-first_there told [] there = none_there told
-first_there told (name ∷ names) there = λ files e.
-    both (is_some (files name)) true (first_of (is_some (files name)) (list_all (λ name. is_some (files name)) names) (there files e)) refl
+-- as many names as stand before one, and that one, are those names and that one
+take_past : (names : List (List ℕ)) (name : List ℕ) (rest : List (List ℕ)) → take (suc (length names)) (names ++ name ∷ rest) ≡ names ++ name ∷ []
+take_past [] name rest = refl
+take_past (first ∷ names) name rest = ap (λ (xs : List (List ℕ)). first ∷ xs) (take_past names name rest)
 
 -- a file, and the deadline with which its document is read
 abbrev pub asked_for : List ℕ → Option ℕ → Asked
@@ -94,12 +90,12 @@ module _ (told : Option (List ℕ → Option (List ℕ))) (deadline : Option ℕ
   }
 
   -- the next document is refused
-  pub read_refused : (all rest : List (List ℕ)) (said : SaidText) → files ++ file ∷ rest ≡ all → IsOpened told (asked_for file deadline) (Told said) → IsRefusedAt told deadline all (says (the_said said))
+  pub read_refused : (all rest : List (List ℕ)) (said : SaidText) → files ++ file ∷ rest ≡ all → IsOpened told (asked_for file deadline) (Told said) → IsRefusedAt told deadline all (the_said said)
   read_refused all rest said is opened =
-      subst (λ (names : List (List ℕ)). IsRefusedAt told deadline names (says (the_said said))) is (record {
+      subst (λ (names : List (List ℕ)). IsRefusedAt told deadline names (the_said said)) is (record {
         contents = (so_far.contents ++ opened.bytes ∷ []) ++ later.0;
         are = contents_all;
-        first = first_is files so_far.there;
+        file = record { place = length so_far.contents; is = at_place; there = up_to_place };
         comes = λ answer.
             comes_through (on_documents answer deadline [] ((so_far.contents ++ opened.bytes ∷ []) ++ later.0)) (on_documents answer deadline (map the_named documents) (opened.bytes ∷ later.0)) (says (the_said said))
             (comes_next answer opened.bytes later.0)
@@ -115,6 +111,16 @@ module _ (told : Option (List ℕ → Option (List ℕ))) (deadline : Option ℕ
           (contents_more told (files ++ file ∷ []) rest (so_far.contents ++ opened.bytes ∷ []) later.0
           (contents_more told files (file ∷ []) so_far.contents (opened.bytes ∷ []) so_far.are (one_content told file opened.bytes opened.content)) later.1)
 
-      first_is : (names : List (List ℕ)) → AreThere told names → AreThere told (take 1 (names ++ file ∷ rest))
-      first_is [] there = opened.there
-      first_is (name ∷ names) there = first_there told (name ∷ names) there
+      -- the refused bytes stand where as many contents as were read so far end
+      at_place : IsSaidPlainly (get_or ((so_far.contents ++ opened.bytes ∷ []) ++ later.0) (length so_far.contents) []) deadline (the_said said)
+      at_place =
+          subst (λ (bytes : List ℕ). IsSaidPlainly bytes deadline (the_said said))
+          (sym (ap (λ (all : List (List ℕ)). get_or all (length so_far.contents) []) (append_assoc so_far.contents (opened.bytes ∷ []) later.0) ∙ get_or-append_seam so_far.contents opened.bytes later.0 []))
+          opened.opens.0
+
+      up_to_place : AreThere told (take (suc (length so_far.contents)) (files ++ file ∷ rest))
+      up_to_place = λ known e.
+          let many : length so_far.contents ≡ length files = ap length (so_far.are known e) ∙ length-map files (file_at known) in
+          subst (λ (names : List (List ℕ)). list_all (λ name. is_some (known name)) names ≡ true)
+          (sym (ap (λ (n : ℕ). take (suc n) (files ++ file ∷ rest)) many ∙ take_past files file rest))
+          (there_more told files (file ∷ []) so_far.there opened.there known e)

@@ -1,10 +1,11 @@
 -- What was read and prepared of the files of a host.
-use Rattle.std.specs.Prelude.{◌≡◌, ◌⊎◌, ℕ, List, [], ◌++◌, length, map, take, Option}
+use Rattle.std.specs.Prelude.{◌≡◌, ◌⊎◌, ℕ, suc, List, [], ◌++◌, length, map, take, get_or, Option}
 use Rattle.std.specs.List.{All}
 use Rattle.cstn_net.specs.Networks.{IsWellFormed, count}
 use Rattle.cstn_net.specs.Read.{the_network}
 use Rattle.cstn_reply.specs.Files.{AreContents, AreThere}
-use Rattle.cstn_reply.specs.Plans.{Plan, says, EndsLine, ComesTo}
+use Rattle.cstn_reply.specs.Plans.{Said, Plan, says, EndsLine, ComesTo}
+use Rattle.cstn_verdict.specs.Opened.{IsSaidPlainly}
 use Rattle.cstn_reply.specs.Sessions.{session}
 use Rattle.cstn_reply.specs.Read.{the_said}
 use Rattle.cstn_reply.specs.declared.output.Outcome.TheVariants.{Document}
@@ -35,17 +36,23 @@ pub record HasRead (told : Option (List ℕ → Option (List ℕ))) (deadline : 
   pub there : AreThere told files
   pub comes : (answer : List Named → Plan) (rest : List (List ℕ)) → ComesTo (on_documents answer deadline [] (contents ++ rest)) (on_documents answer deadline (map the_named documents) rest)
 
--- a document of these files is refused, and this plan says why, whatever would be said of all networks
-pub record IsRefusedAt (told : Option (List ℕ → Option (List ℕ))) (deadline : Option ℕ) (files : List (List ℕ)) (plan : Plan) : Type 0 where
+-- the document of the file at this place is refused, and this is said of it; its file is there, and so is each before it
+pub record IsRefusedFile (told : Option (List ℕ → Option (List ℕ))) (deadline : Option ℕ) (files contents : List (List ℕ)) (said : Said) : Type 0 where
+  pub place : ℕ
+  pub is : IsSaidPlainly (get_or contents place []) deadline said
+  pub there : AreThere told (take (suc place) files)
+
+-- a document of these files is refused, and this is said of it, whatever would be said of all networks
+pub record IsRefusedAt (told : Option (List ℕ → Option (List ℕ))) (deadline : Option ℕ) (files : List (List ℕ)) (said : Said) : Type 0 where
   pub contents : List (List ℕ)
   pub are : AreContents told files contents
-  pub first : AreThere told (take 1 files)
-  pub comes : (answer : List Named → Plan) → ComesTo (on_documents answer deadline [] contents) plan
+  pub file : IsRefusedFile told deadline files contents said
+  pub comes : (answer : List Named → Plan) → ComesTo (on_documents answer deadline [] contents) (says said)
 
 -- the documents of all files were read, or one was refused
 abbrev pub AreRead : Option (List ℕ → Option (List ℕ)) → Option ℕ → List (List ℕ) → AllRead → Type 0
 AreRead told deadline files (Accepted documents) = HasRead told deadline files documents.items × (length documents.items ≡ length files)
-AreRead told deadline files (Told said) = IsRefusedAt told deadline files (says (the_said said)) × (said.outcome ≡ Document)
+AreRead told deadline files (Told said) = IsRefusedAt told deadline files (the_said said) × (said.outcome ≡ Document)
 
 -- each document that was read is sound
 abbrev pub AreSound : AllRead → Type 0
@@ -76,17 +83,16 @@ pub record HasBegun (cap : ℕ) (all : List Named) (begun : Begun) : Type 0 wher
   pub ward : IsWard begun.plans.items (the_names begun.names.items)
   pub verdicts : (after_yes : Plan) (rest : List Named) → on_verdicts cap after_yes (all ++ rest) ≡ on_verdicts cap after_yes rest
 
--- a document was refused
-abbrev pub IsOfDocument : Hosting → Type 0
-IsOfDocument (Begins opening ward) = ⊥
-IsOfDocument (ToldAll said) = said.outcome ≡ Document
+-- a document was refused, and that is told
+abbrev pub IsOfDocument : Option (List ℕ → Option (List ℕ)) → Option ℕ → List (List ℕ) → List (List ℕ) → Hosting → Type 0
+IsOfDocument told deadline files contents (Begins opening ward) = ⊥
+IsOfDocument told deadline files contents (ToldAll said) = (said.outcome ≡ Document) × IsRefusedFile told deadline files contents (the_said said)
 
--- What is carried out for the files of a host is what `host` says of their contents. The first file is there, and so is each
--- file unless a document was refused.
+-- What is carried out for the files of a host is what `host` says of their contents. Each file is there, up to the first of
+-- which the document is refused.
 pub record IsHosting (told : Option (List ℕ → Option (List ℕ))) (cap : ℕ) (deadline : Option ℕ) (files : List (List ℕ)) (hosting : Hosting) : Type 0 where
   pub contents : List (List ℕ)
   pub are : AreContents told files contents
   pub comes : ComesTo (hosted_plan cap deadline contents) (the_hosting hosting)
-  pub first : AreThere told (take 1 files)
-  pub there : IsOfDocument hosting ⊎ AreThere told files
+  pub there : IsOfDocument told deadline files contents hosting ⊎ AreThere told files
   pub opening : IsOpening hosting

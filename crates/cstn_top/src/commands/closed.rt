@@ -10,11 +10,11 @@ ghost use Rattle.cstn_top.specs.Prepared.{Planned};
 use cstn_evidence::list_bounds;
 use cstn_io::Shelf;
 use cstn_reply::{Refused, Said};
-use cstn_verdict::{Opened, open};
+use cstn_verdict::{WithLabels, open_labelled};
 use cstn_words::Asked;
 use std::alloc::Global;
 
-/// The bounds that make the network of a file consistent; its log may have `cap` entries.
+/// The bounds that make the network that the labelled one of a file is lowered to consistent; its log may have `cap` entries.
 pub(crate) fn closed_file<F: Shelf>(
     alloc: Global,
     asked: Asked<'_>,
@@ -30,9 +30,12 @@ pub(crate) fn closed_file<F: Shelf>(
     ensures files { F.files shelf.new ≡ F.files shelf.old }
     ensures later { F.faults shelf.old ≤ F.faults shelf.new }
 {
-    match open(alloc, asked, shelf) {
-        Ok(Opened::Accepted { network, names }) => list_bounds(alloc, network, &names, cap),
-        Ok(Opened::Told(said)) => Ok(said),
+    match open_labelled(alloc, asked, shelf) {
+        Ok(WithLabels::Accepted { labelled, names }) => {
+            let (network, _) = labelled.split();
+            list_bounds(alloc, network, &names, cap)
+        }
+        Ok(WithLabels::Told(said)) => Ok(said),
         Err(refused) => Err(refused),
     }
 }

@@ -17,11 +17,12 @@ use cstn_io::Shelf;
 use cstn_net::Network;
 use cstn_reply::{Refused, Said};
 use cstn_text::Names;
-use cstn_verdict::{Opened, open};
+use cstn_verdict::{WithLabels, open_labelled};
 use cstn_words::Asked;
 use std::alloc::Global;
 
-/// The check of a text of bounds for the network of a file. The text isn't read where the document is refused.
+/// The check of a text of bounds for the network that the labelled one of a file is lowered to. The text isn't read where the
+/// document is refused.
 pub(crate) fn closedcheck_file<F: Shelf>(
     alloc: Global,
     asked: Asked<'_>,
@@ -36,11 +37,12 @@ pub(crate) fn closedcheck_file<F: Shelf>(
     ensures files { F.files shelf.new ≡ F.files shelf.old }
     ensures later { F.faults shelf.old ≤ F.faults shelf.new }
 {
-    match open(alloc, asked, shelf) {
-        Ok(Opened::Accepted { network, names }) => {
+    match open_labelled(alloc, asked, shelf) {
+        Ok(WithLabels::Accepted { labelled, names }) => {
+            let (network, _) = labelled.split();
             check_on(alloc, &network, &names, proof, shelf)
         }
-        Ok(Opened::Told(said)) => Ok(said),
+        Ok(WithLabels::Told(said)) => Ok(said),
         Err(refused) => Err(refused),
     }
 }

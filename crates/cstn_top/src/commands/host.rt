@@ -3,7 +3,7 @@ ghost use Rattle.std.specs.Prelude.{◌≡◌, ◌≤◌, length, map, string_by
 ghost use Rattle.std.specs.List.{list_all};
 ghost use Rattle.cstn_io.specs.Causes.{Rose};
 ghost use Rattle.cstn_words.specs.Requests.{host};
-ghost use Rattle.cstn_top.specs.Prepared.{the_plan, Planned, FitsRequest};
+ghost use Rattle.cstn_top.specs.Prepared.{the_plan, Planned, FitsRequest, TellsRefused};
 
 use super::Prepared;
 use cstn_io::Shelf;
@@ -26,6 +26,7 @@ pub(crate) fn host_all<F: Shelf>(
     requires most { cap ≤ 65536 }
     ensures plan { IfOk result (λ prepared. Planned (host (map string_bytes files.now) deadline cap) (F.files shelf.old) (the_plan prepared)) }
     ensures fits { IfOk result (FitsRequest (host (map string_bytes files.now) deadline cap)) }
+    ensures refused { IfOk result (TellsRefused (F.files shelf.old) (host (map string_bytes files.now) deadline cap)) }
     ensures names { F.may_ask shelf.new ≡ F.may_ask shelf.old }
     ensures files { F.files shelf.new ≡ F.files shelf.old }
     ensures later { F.faults shelf.old ≤ F.faults shelf.new }

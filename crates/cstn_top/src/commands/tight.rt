@@ -10,11 +10,11 @@ ghost use Rattle.cstn_top.specs.Prepared.{Planned};
 use cstn_evidence::tighten;
 use cstn_io::Shelf;
 use cstn_reply::{Refused, Said};
-use cstn_verdict::{Opened, open};
+use cstn_verdict::{WithLabels, open_labelled};
 use cstn_words::Asked;
 use std::alloc::Global;
 
-/// The least deadline of the network of a file; each log may have `cap` entries.
+/// The least deadline of the labelled network of a file, which is that of the network it is lowered to; each log may have `cap` entries.
 pub(crate) fn tight_file<F: Shelf>(
     alloc: Global,
     asked: Asked<'_>,
@@ -30,9 +30,12 @@ pub(crate) fn tight_file<F: Shelf>(
     ensures files { F.files shelf.new ≡ F.files shelf.old }
     ensures later { F.faults shelf.old ≤ F.faults shelf.new }
 {
-    match open(alloc, asked, shelf) {
-        Ok(Opened::Accepted { network, names }) => tighten(alloc, network, &names, cap),
-        Ok(Opened::Told(said)) => Ok(said),
+    match open_labelled(alloc, asked, shelf) {
+        Ok(WithLabels::Accepted { labelled, names }) => {
+            let (network, _) = labelled.split();
+            tighten(alloc, network, &names, cap)
+        }
+        Ok(WithLabels::Told(said)) => Ok(said),
         Err(refused) => Err(refused),
     }
 }

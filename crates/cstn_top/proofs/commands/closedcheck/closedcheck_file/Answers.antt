@@ -4,20 +4,23 @@ use Rattle.cstn_net.specs.Read.{the_network}
 use Rattle.cstn_words.specs.Requests.{closedcheck}
 use Rattle.cstn_words.specs.Read.{the_asked}
 use Rattle.cstn_reply.specs.Read.{the_said}
-use Rattle.cstn_verdict.specs.Opened.{IsOpened}
-use Rattle.cstn_verdict.specs.declared.documents.Opened.{Opened}
-use Rattle.cstn_evidence.specs.Texts.{certified}
+use Rattle.cstn_verdict.specs.Documents.{of_lowered}
+use Rattle.cstn_verdict.specs.Opened.{IsOpenedWithLabels}
+use Rattle.cstn_verdict.specs.declared.documents.WithLabels.{WithLabels}
+use Rattle.cstn_evidence.specs.Texts.{by_text, certified}
 use Rattle.cstn_top.specs.Opened.{IsSaidBy}
-use Rattle.cstn_top.proofs.ByText.{two_accepted, two_told, of_closedcheck}
+use Rattle.cstn_top.proofs.ByText.{two_lowered, two_refused, of_closedcheck}
 use Rattle.cstn_top.proofs.commands.closedcheck.closedcheck_file.Goals as goal
 
 pub returns-in-Ok-Accepted-clause-plan : goal.returns-in-Ok-Accepted-clause-plan
 returns-in-Ok-Accepted-clause-plan g c =
-    two_accepted (closedcheck (the_asked c.args.asked) c.args.proof.now) (the_asked c.args.asked) c.args.proof.now certified (g.F.Shelf.files c.args.shelf.now) c.in-Ok-Accepted.network c.in-Ok-Accepted.names c.check_on.result (of_closedcheck (the_asked c.args.asked) c.args.proof.now)
-    (subst (λ (o : Opened). IsOpened (g.F.Shelf.files c.args.shelf.now) (the_asked c.args.asked) o) c.in-Ok-Accepted.field-0-is c.in-Ok-Accepted.ensures.opened)
-    (subst (λ (told : Option (List ℕ → Option (List ℕ))). IfOk c.check_on.result (λ said. IsSaidBy told c.args.proof.now certified c.in-Ok-Accepted.names (the_network c.in-Ok-Accepted.network) (the_said said))) c.in-Ok-Accepted.ensures.files c.check_on.ensures.said)
+    two_lowered (closedcheck (the_asked c.args.asked) c.args.proof.now) (the_asked c.args.asked) c.args.proof.now certified (g.F.Shelf.files c.args.shelf.now) c.in-Ok-Accepted.labelled c.split-network.result.0 c.in-Ok-Accepted.names
+    c.check_on.result (of_closedcheck (the_asked c.args.asked) c.args.proof.now)
+    (subst (λ (o : WithLabels). IsOpenedWithLabels (g.F.Shelf.files c.args.shelf.now) (the_asked c.args.asked) o) c.in-Ok-Accepted.field-0-is c.in-Ok-Accepted.ensures.opened)
+    c.split-network.ensures.lowered
+    (subst (λ (told : Option (List ℕ → Option (List ℕ))). IfOk c.check_on.result (λ said. IsSaidBy told c.args.proof.now certified c.in-Ok-Accepted.names (the_network c.split-network.result.0) (the_said said))) c.in-Ok-Accepted.ensures.files c.check_on.ensures.said)
 
 pub returns-in-Ok-Told-clause-plan : goal.returns-in-Ok-Told-clause-plan
 returns-in-Ok-Told-clause-plan g c =
-    two_told (closedcheck (the_asked c.args.asked) c.args.proof.now) (the_asked c.args.asked) c.args.proof.now certified (g.F.Shelf.files c.args.shelf.now) c.in-Ok-Told.said (of_closedcheck (the_asked c.args.asked) c.args.proof.now)
-    (subst (λ (o : Opened). IsOpened (g.F.Shelf.files c.args.shelf.now) (the_asked c.args.asked) o) c.in-Ok-Told.field-0-is c.in-Ok-Told.ensures.opened)
+    two_refused (closedcheck (the_asked c.args.asked) c.args.proof.now) (the_asked c.args.asked) c.args.proof.now (λ text. of_lowered (by_text certified text)) (g.F.Shelf.files c.args.shelf.now) c.in-Ok-Told.said (of_closedcheck (the_asked c.args.asked) c.args.proof.now)
+    (subst (λ (o : WithLabels). IsOpenedWithLabels (g.F.Shelf.files c.args.shelf.now) (the_asked c.args.asked) o) c.in-Ok-Told.field-0-is c.in-Ok-Told.ensures.opened)
