@@ -11,9 +11,10 @@ use Rattle.std.proofs.lemmas.List.FromFn.{get_or-map-range_with_len, length-map-
 use Rattle.cstn_label.specs.declared.marks.Mark.{Mark}
 use Rattle.cstn_label.specs.declared.marks.Mark.TheVariants.{Absent}
 use Rattle.cstn_label.specs.Labels.{Label, empty, IsPlain, IsMarkPlain, with_mark}
+use Rattle.cstn_label.specs.Marks.{is_absent}
 use Rattle.cstn_net.specs.Networks.{IsConstraint, IsOnObserved, IsWellFormed, IsValue, Observes, count}
 use Rattle.cstn_gen.specs.Draws.{after, drawn, number_below}
-use Rattle.cstn_gen.specs.Generated.{props_of, observed_by, is_absent, sign, with_literal, Literals, literals, letter_prop, span_of, span_at, literals_at, constraint_at, state_at, generated}
+use Rattle.cstn_gen.specs.Generated.{props_of, observed_by, sign, with_literal, Literals, literals, letter_prop, span_of, span_at, literals_at, constraint_at, state_at, generated}
 use Rattle.cstn_gen.specs.declared.constraints.Span.{Span}
 
 -- what is drawn below m is below m

@@ -2,7 +2,8 @@
 use Rattle.std.specs.Prelude.{ℕ, zero, suc, ◌+◌, ◌*◌, ◌/◌, Bool, ◌==◌, nat_lt, if◌then◌else◌, min, max, List, ◌∷◌, ◌++◌, map, Option, Some, None, pos, ◌-ℤ◌, true, false, codes, decimal}
 use Rattle.std.specs.List.{range_with_len}
 use Rattle.cstn_label.specs.declared.marks.Mark.{Mark}
-use Rattle.cstn_label.specs.declared.marks.Mark.TheVariants.{Absent, Yes, No, Unknown}
+use Rattle.cstn_label.specs.declared.marks.Mark.TheVariants.{Yes, No}
+use Rattle.cstn_label.specs.Marks.{is_absent}
 use Rattle.cstn_label.specs.Labels.{Label, empty, with_mark}
 use Rattle.cstn_net.specs.Networks.{Network, Constraint}
 use Rattle.cstn_gen.specs.Draws.{after, drawn}
@@ -25,13 +26,6 @@ observed_by k i = if nat_lt i k then Some (letter_prop i) else None
 pub record Literals : Type 0 where
   pub label : Label
   pub state : ℕ
-
--- whether there is no mark
-abbrev pub is_absent : Mark → Bool
-is_absent Absent = true
-is_absent Yes = false
-is_absent No = false
-is_absent Unknown = false
 
 -- the mark of a sign: 1 negates
 abbrev pub sign : ℕ → Mark

@@ -2,7 +2,7 @@ ghost use Rattle.std.specs.Prelude.{◌≡◌, ◌<◌, ◌≤◌, ◌+◌, ◌*
 ghost use Rattle.std.specs.Option.{option_map};
 ghost use Rattle.cstn_net.specs.Networks.{IsWellFormed};
 ghost use Rattle.cstn_net.specs.Read.{the_network};
-ghost use Rattle.cstn_net.specs.Drafts.{number};
+ghost use Rattle.cstn_net.specs.Drafts.{net_number};
 ghost use Rattle.cstn_gen.specs.Generated.{generated, generated_names, props_of, observed_by};
 ghost use Rattle.cstn_gen.specs.Made.{HasPoints, HasConstraints};
 
@@ -43,7 +43,7 @@ pub fn network(alloc: Global, number: u64, size: u32) -> Result<(Network, Names)
 
 // The refusal of memory that a builder's error stands for, which may be no other error.
 fn memory_of(error: NetError) -> AllocError
-    requires { number error ≡ 0 }
+    requires { net_number error ≡ 0 }
 {
     match error {
         NetError::Memory(e) => e,

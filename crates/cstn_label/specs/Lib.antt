@@ -1,3 +1,4 @@
+pub mod Marks
 pub mod Labels
 pub mod Bounds
 pub mod Letters

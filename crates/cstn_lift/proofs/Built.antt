@@ -14,12 +14,12 @@ use Rattle.cstn_label.specs.Read.{marks}
 use Rattle.cstn_net.specs.declared.constraints.Constraint.{Constraint}
 use Rattle.cstn_net.specs.declared.drafts.Draft.{Draft}
 use Rattle.cstn_net.specs.declared.points.TimePoint.{TimePoint}
-use Rattle.cstn_net.specs.Networks.{Network, Constraint as TheConstraint, count}
-use Rattle.cstn_net.specs.Read.{observed, reaction_of, is_prop, the_constraint}
+use Rattle.cstn_net.specs.Networks.{Network, Constraint as TheConstraint, count, is_prop}
+use Rattle.cstn_net.specs.Read.{observed, reaction_of, the_constraint}
 use Rattle.cstn_net.specs.Drafts.{constraint_of, constraints_from, with_reaction}
 use Rattle.cstn_lift.specs.Labelled.{Labelled}
 use Rattle.cstn_lift.specs.Completion.{full_label}
-use Rattle.cstn_lift.specs.Lowered.{is_plain, observer_of, with_full_label, guard, waits, numbered}
+use Rattle.cstn_lift.specs.Lowered.{is_plain, observer_of, with_full_label, guard, guards_of, numbered}
 use Rattle.cstn_lift.specs.Handed.{HasPoints, HasConstraints}
 use Rattle.cstn_lift.proofs.CompletionLemmas.{marked_true}
 use Rattle.cstn_lift.proofs.ListLemmas.{numbered_length, numbered_append}
@@ -122,8 +122,8 @@ guards_turn net x a cs from p upto none =
     ∙ ap (λ ds. cs ++ ds) (sym (filter_map-append h (range_with_len 0 p) (p ∷ [])) ∙ ap (filter_map h) (sym (range_more 0 p p (omega arith))))
 
 pub guards_end : (net : Network) (x : ℕ) (a : Label) (cs : List TheConstraint) (from : ℕ) → from ≤ 52 →
-    ((q : ℕ) → from ≤ q → a q ≡ Absent) → cs ++ filter_map (guard net x a) (range_with_len 0 from) ≡ cs ++ waits net x a
-unfolding waits
+    ((q : ℕ) → from ≤ q → a q ≡ Absent) → cs ++ filter_map (guard net x a) (range_with_len 0 from) ≡ cs ++ guards_of net x a
+unfolding guards_of
 guards_end net x a cs from upto none =
     let h = guard net x a in
     let e : from + (52 - from) ≡ 52 = omega arith in

@@ -6,11 +6,12 @@ use Rattle.cstn_label.specs.declared.marks.Mark.{Mark}
 use Rattle.cstn_label.specs.declared.marks.Mark.TheVariants.{Absent, Yes, No, Unknown}
 use Rattle.cstn_label.specs.Labels.{Label, IsMarked, IsMarkWithin, IsWithin, joined, joined_mark, empty}
 use Rattle.cstn_label.proofs.LabelLemmas.{within_itself, within_through, within_same, within_joined}
+use Rattle.cstn_label.specs.Marks.{is_marked}
 use Rattle.cstn_net.specs.Networks.{Network, Observes, count}
 use Rattle.cstn_net.proofs.Knowledge.{observer_within}
 use Rattle.cstn_lift.specs.Labelled.{Labelled, label_of}
-use Rattle.cstn_lift.specs.Faults.{IsSeenBy}
-use Rattle.cstn_lift.specs.Completion.{is_marked, is_observed_by, brought_by, joined_upto, rounds, completed, IsCompleteLabel, IsLabelOfObserver}
+use Rattle.cstn_lift.specs.Faults.{ObservesMark}
+use Rattle.cstn_lift.specs.Completion.{is_observed_by, brought_by, joined_upto, rounds, completed, IsCompleteLabel, IsLabelOfObserver}
 
 mark_within_left : (m n : Mark) → IsMarkWithin m (joined_mark m n)
 mark_within_left m n = grind arith
@@ -277,13 +278,13 @@ module _ (m : Labelled) (one : (x y p : ℕ) → Observes m.base x p → Observe
 
 -- the test whether a label marks what x observes
 pub seen_by : (net : Network) (a b : Label) (o : Option ℕ) (x : ℕ) → o ≡ slice_index_or net.observes x None → a ≡ b →
-    is_observed_by o a ≡ true → IsSeenBy net b x
+    is_observed_by o a ≡ true → ObservesMark net b x
 seen_by net a b None x at same e = absurd (cc)
 seen_by net a b (Some p) x at same e =
     (p, record { what = sym at }, subst (λ l. IsMarked l p) same (marked_back (a p) e))
 
 pub unseen_by : (net : Network) (a b : Label) (o : Option ℕ) (x : ℕ) → o ≡ slice_index_or net.observes x None → a ≡ b →
-    is_observed_by o a ≡ false → IsSeenBy net b x → ⊥
+    is_observed_by o a ≡ false → ObservesMark net b x → ⊥
 unseen_by net a b o x at same e seen =
     let set : is_observed_by o a ≡ true = ap (λ l. is_observed_by o l) same ∙ rw (at ∙ seen.1.what) (marked_true (b seen.0) seen.2) in
     cc

@@ -57,7 +57,7 @@ module _ (m : Labelled) (good : IsLabelled m) where
   pub mixed_defaulted : (d s : Scenario) → IsDefaulted m d s (mixed d s)
   unfolding mixed mixed_at
   mixed_defaulted d s = record {
-    executed = λ j p o h. ap (mixed_at d s p) (observer_found m.base good.base.network j p o) ∙ value_left (executed_or_not m good s j) (s p) (d p) h;
+    twins = λ j p o h. ap (mixed_at d s p) (observer_found m.base good.base.network j p o) ∙ value_left (executed_or_not m good s j) (s p) (d p) h;
     rest = λ j p o h. ap (mixed_at d s p) (observer_found m.base good.base.network j p o) ∙ value_right (executed_or_not m good s j) (s p) (d p) h;
   }
 
@@ -133,7 +133,7 @@ module _ (m : Labelled) (good : IsLabelled m) where
           | inr marked ↦
               let o = full_observed c has p marked in
               let seen = holds_within s (completed_label m o.0) full (full_within m good full (full_closed c) o.0 p o.1 marked) h in
-              subst (λ v. MarkFits v (full p)) (sym ((defaulted s).executed o.0 p o.1 seen)) (h p)
+              subst (λ v. MarkFits v (full p)) (sym ((defaulted s).twins o.0 p o.1 seen)) (h p)
         ] in
         let met = strategy.meets (twin s) f.0 f.1 (subst (λ a. Holds (twin s) a) (sym b.marks) there) in
         let value = b.value in
@@ -190,6 +190,7 @@ module _ (m : Labelled) (good : IsLabelled m) where
       let table = plain.0 in
       let made = to_labelled table s (mixed s) plain.1 (mixed_defaulted s) in
       record {
+        executed = h;
         reached = ((λ r. table (mixed s r)), made, own_moment table plain.1 s x here ∙ plain.2);
         least = λ labelled other.
             let below = least.least (fill labelled other) (to_plain labelled other) in
@@ -197,9 +198,10 @@ module _ (m : Labelled) (good : IsLabelled m) where
             omega arith;
       }
 
-  pub plain_least : (s : Scenario) (x t : ℕ) → x < count m.base → IsExecuted m s x → IsLabelledLeast m s x t → IsLeast (lowered m) s x t
-  plain_least s x t here h least =
+  pub plain_least : (s : Scenario) (x t : ℕ) → x < count m.base → IsLabelledLeast m s x t → IsLeast (lowered m) s x t
+  plain_least s x t here least =
       let reached = least.reached in
+      let h = least.executed in
       record {
         reached = (fill reached.0 reached.1, to_plain reached.0 reached.1, filled_at m good reached.0 reached.1 s x h ∙ reached.2);
         least = λ table strategy.
@@ -214,7 +216,7 @@ module _ (m : Labelled) (good : IsLabelled m) where
       (λ labelled. (fill labelled.0 labelled.1, to_plain labelled.0 labelled.1)),
       (λ plain. ((λ s. plain.0 (mixed (λ p. false) s)), to_labelled plain.0 (λ p. false) (mixed (λ p. false)) plain.1 (mixed_defaulted (λ p. false)))),
     );
-    least = λ s x t here h. (plain_least s x t here h, labelled_least s x t here h);
+    least = λ s x t here h. (plain_least s x t here, labelled_least s x t here h);
   }
 
 pub equivalent : (m : Labelled) → IsLabelled m → IsEquivalent m (lowered m)

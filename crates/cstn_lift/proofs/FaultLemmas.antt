@@ -6,13 +6,14 @@ use Rattle.cstn_label.specs.declared.marks.Mark.{Mark}
 use Rattle.cstn_label.specs.declared.marks.Mark.TheVariants.{Absent, Yes, No, Unknown}
 use Rattle.cstn_label.specs.Labels.{Label, IsPlain, empty}
 use Rattle.cstn_net.specs.Networks.{IsWellFormed, Observes, count}
+use Rattle.cstn_net.specs.Faults.{IsFirstBelow}
 use Rattle.cstn_lift.specs.declared.errors.LiftError.{LiftError}
 use Rattle.cstn_lift.specs.declared.errors.LiftError.TheVariants.{OriginLabel, NotPlain, NotObserved, Circle, Never, TooManyConstraints, Memory}
 use Rattle.cstn_lift.specs.Labelled.{Labelled, label_in}
 use Rattle.cstn_lift.specs.Completion.{completed, completed_label}
 use Rattle.cstn_lift.specs.WellFormed.{IsLabelled}
 use Rattle.cstn_lift.specs.Lowered.{lowered}
-use Rattle.cstn_lift.specs.Faults.{IsFirstBelow, IsSeenBy, HasFault, number, IsLowestFault, IsRefusal, HasGoodLabels}
+use Rattle.cstn_lift.specs.Faults.{ObservesMark, HasLiftFault, lift_number, IsLowestLiftFault, IsLiftRefusal, HasGoodLabels}
 
 -- the label at the place x of the completed labels is the completed label of x
 pub whole_at : (m : Labelled) → length m.labels ≡ count m.base → (whole : List Label) → whole ≡ map (completed m) m.labels →
@@ -35,7 +36,7 @@ absent_if No h = absurd (h (λ e. cc))
 absent_if Unknown h = absurd (h (λ e. cc))
 
 module _ (m : Labelled) (good : HasGoodLabels m) where
-  pub circle_lowest : (f : LiftError) → HasFault m f → 4 ≤ number f
+  pub circle_lowest : (f : LiftError) → HasLiftFault m f → 4 ≤ lift_number f
   circle_lowest OriginLabel h = absurd (h good.origin)
   circle_lowest (NotPlain node) h = absurd (h.here (good.plain node.0 h.inside))
   circle_lowest (NotObserved node prop) h =
@@ -47,7 +48,7 @@ module _ (m : Labelled) (good : HasGoodLabels m) where
   circle_lowest TooManyConstraints h = omega arith
   circle_lowest (Memory e) h = absurd h
 
-  pub never_lowest : ((x : ℕ) → x < count m.base → IsSeenBy m.base (completed_label m x) x → ⊥) → (f : LiftError) → HasFault m f → 5 ≤ number f
+  pub never_lowest : ((x : ℕ) → x < count m.base → ObservesMark m.base (completed_label m x) x → ⊥) → (f : LiftError) → HasLiftFault m f → 5 ≤ lift_number f
   never_lowest none (Circle node) h = absurd (none node.0 h.inside h.here)
   never_lowest none (Never node) h = omega arith
   never_lowest none TooManyConstraints h = omega arith
@@ -61,7 +62,7 @@ module _ (m : Labelled) (good : HasGoodLabels m) where
 
   -- labels without the faults of L1 to L5 make a labelled network, where each observer is a time-point
   pub labelled_from : ((x p : ℕ) → Observes m.base x p → x < count m.base) → IsWellFormed m.base → length m.labels ≡ count m.base →
-      ((x : ℕ) → x < count m.base → IsSeenBy m.base (completed_label m x) x → ⊥) → ((x : ℕ) → x < count m.base → IsPlain (completed_label m x)) →
+      ((x : ℕ) → x < count m.base → ObservesMark m.base (completed_label m x) x → ⊥) → ((x : ℕ) → x < count m.base → IsPlain (completed_label m x)) →
       IsLabelled m
   labelled_from within base one_each none plain = record {
     base = base;
@@ -70,14 +71,14 @@ module _ (m : Labelled) (good : HasGoodLabels m) where
     plain = good.plain;
     observed = good.observed;
     no_circle = λ x p o. absent_if (completed_label m x p) (λ marked. none x (within x p o) (p, o, marked));
-    possible = plain;
+    completed_plain = plain;
   }
 
 pub good_labels : (m : Labelled) → IsLabelled m → HasGoodLabels m
 good_labels m good = record { origin = good.origin; plain = good.plain; observed = good.observed }
 
-pub long_lowest : (m : Labelled) → IsLabelled m → (f : LiftError) → HasFault m f → 6 ≤ number f
-long_lowest m good (Never node) h = absurd (h.here (good.possible node.0 h.inside))
+pub long_lowest : (m : Labelled) → IsLabelled m → (f : LiftError) → HasLiftFault m f → 6 ≤ lift_number f
+long_lowest m good (Never node) h = absurd (h.here (good.completed_plain node.0 h.inside))
 long_lowest m good TooManyConstraints h = omega arith
 long_lowest m good (Memory e) h = absurd h
 long_lowest m good OriginLabel h = absurd (h good.origin)
@@ -87,7 +88,7 @@ long_lowest m good (Circle node) h =
     let seen = h.here in
     absurd (seen.2 (good.no_circle node.0 seen.0 seen.1))
 
-pub no_fault : (m : Labelled) → IsLabelled m → length (lowered m).constraints ≤ 16384 → (f : LiftError) → HasFault m f → ⊥
+pub no_fault : (m : Labelled) → IsLabelled m → length (lowered m).constraints ≤ 16384 → (f : LiftError) → HasLiftFault m f → ⊥
 no_fault m good few TooManyConstraints h = omega arith
 no_fault m good few (Memory e) h = h
 no_fault m good few OriginLabel h = let low = long_lowest m good OriginLabel h in omega (arith, low)
@@ -98,7 +99,7 @@ no_fault m good few (Never node) h = let low = long_lowest m good (Never node) h
 
 -- a labelled network that is refused has too many constraints
 pub refused_is : (m : Labelled) → IsLabelled m → (e : LiftError) →
-    (number e ≡ 0) ⊎ ((e ≡ TooManyConstraints) × (16384 < length (lowered m).constraints)) → IsRefusal m e
+    (lift_number e ≡ 0) ⊎ ((e ≡ TooManyConstraints) × (16384 < length (lowered m).constraints)) → IsLiftRefusal m e
 refused_is m good e (inl memory) = inl memory
 refused_is m good e (inr long) =
-    inr (subst (IsLowestFault m) (sym long.0) (record { has = long.1; lowest = long_lowest m good }))
+    inr (subst (IsLowestLiftFault m) (sym long.0) (record { has = long.1; lowest = long_lowest m good }))

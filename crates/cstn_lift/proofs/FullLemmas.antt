@@ -55,7 +55,7 @@ module _ (m : Labelled) (good : IsLabelled m) where
 
   pub full_plain : (x : ℕ) → IsPlain (completed_label m x)
   full_plain x = elim (cases_lt x (count m.base)) [
-    | inl inside ↦ good.possible x inside
+    | inl inside ↦ good.completed_plain x inside
     | inr past ↦ subst IsPlain (sym (ap (completed m) (past_empty x past) ∙ empty_complete)) (λ p. tt)
   ]
 

@@ -4,12 +4,13 @@ use Rattle.std.specs.Prelude.{◌↔◌, map, if◌then◌else◌, option_map, p
 use Rattle.std.specs.List.{All, Contains, filter_map, flat_map, range_with_len}
 use Rattle.std.proofs.lemmas.List.Elements.{All-contains, All-contains_itself, All-weaker, Contains-append_left}
 use Rattle.cstn_label.specs.Labels.{IsPlain}
+use Rattle.cstn_label.specs.Marks.{is_marked}
 use Rattle.cstn_net.specs.Networks.{Constraint, count}
 use Rattle.cstn_lift.specs.Labelled.{Labelled}
-use Rattle.cstn_lift.specs.Completion.{is_marked, completed, completed_label, full_label}
+use Rattle.cstn_lift.specs.Completion.{completed, completed_label, full_label}
 use Rattle.cstn_lift.specs.WellFormed.{IsLabelled}
-use Rattle.cstn_lift.specs.Lowered.{is_plain, observer_of, with_full_label, full_constraints, guard, waits, guards_with, guards}
-use Rattle.cstn_lift.specs.Kept.{IsConstraintOf, IsKept, IsLowered, IsFull, IsWait}
+use Rattle.cstn_lift.specs.Lowered.{is_plain, observer_of, with_full_label, full_constraints, guard, guards_of, guards_with, guards}
+use Rattle.cstn_lift.specs.Kept.{IsConstraintOf, IsKept, IsLowered, IsFull, IsGuard}
 use Rattle.cstn_lift.proofs.CompletionLemmas.{marked_back}
 use Rattle.cstn_lift.proofs.ListLemmas.{filter_map_contains, flat_map_contains, range_contains, numbered_contains, filter_map_all, flat_map_all, range_all}
 use Rattle.cstn_lift.proofs.LoweredLemmas.{plain_true, plain_back, only, completed_at, guard_is, observer_back}
@@ -93,7 +94,7 @@ module _ (m : Labelled) (good : IsLabelled m) where
   wait x p j = record { id = 0; from = x; to = j; most = pos 0 -ℤ pos (m.base.reaction p); label = completed_label m x }
 
   wait_of_given : (x p : ℕ) (d : Constraint) (b : Bool) → is_marked (completed_label m x p) ≡ b → (o : Option ℕ) →
-      observer_of m.base p ≡ o → (if b then option_map (wait x p) o else None) ≡ Some d → IsWait m x d
+      observer_of m.base p ≡ o → (if b then option_map (wait x p) o else None) ≡ Some d → IsGuard m x d
   wait_of_given x p d false e o f is = absurd (cc)
   wait_of_given x p d true e None f is = absurd (cc)
   wait_of_given x p d true e (Some j) f is =
@@ -106,15 +107,15 @@ module _ (m : Labelled) (good : IsLabelled m) where
         is = sym same;
       }
 
-  wait_from : (x : ℕ) (d : Constraint) → Contains (waits m.base x (completed_label m x)) d → IsWait m x d
-  unfolding waits
+  wait_from : (x : ℕ) (d : Constraint) → Contains (guards_of m.base x (completed_label m x)) d → IsGuard m x d
+  unfolding guards_of
   wait_from x d has =
       let a = completed_label m x in
       let from = filter_map_from (guard m.base x a) (range_with_len 0 52) d has in
       wait_of_given x from.0 d (is_marked (a from.0)) refl (observer_of m.base from.0) refl from.2
 
-  wait_there : (x : ℕ) (d : Constraint) → IsWait m x d → Contains (waits m.base x (completed_label m x)) d
-  unfolding waits
+  wait_there : (x : ℕ) (d : Constraint) → IsGuard m x d → Contains (guards_of m.base x (completed_label m x)) d
+  unfolding guards_of
   wait_there x d awaits =
       let a = completed_label m x in
       let p = awaits.prop in
@@ -123,26 +124,26 @@ module _ (m : Labelled) (good : IsLabelled m) where
       (guard_is m good x j p a awaits.observes awaits.marked ∙ ap (λ e. Some e) (sym awaits.is))
 
   -- a time-point waits for each proposition that its completed label marks, whatever the proposition's number
-  pub waits_both : (x : ℕ) (d : Constraint) → Contains (waits m.base x (completed_label m x)) d ↔ IsWait m x d
+  pub waits_both : (x : ℕ) (d : Constraint) → Contains (guards_of m.base x (completed_label m x)) d ↔ IsGuard m x d
   waits_both x d = (wait_from x d, wait_there x d)
 
   abbrev guards_at : ℕ → List Constraint
   guards_at = guards_with m.base (map (completed m) m.labels)
 
-  waits_at : (x : ℕ) → x < count m.base → guards_at x ≡ waits m.base x (completed_label m x)
-  waits_at x here = ap (waits m.base x) (completed_at m good x here)
+  waits_at : (x : ℕ) → x < count m.base → guards_at x ≡ guards_of m.base x (completed_label m x)
+  waits_at x here = ap (guards_of m.base x) (completed_at m good x here)
 
-  guard_from : (d : Constraint) → Contains (guards m) d → (x : ℕ) × (x < count m.base) × IsWait m x d
+  guard_from : (d : Constraint) → Contains (guards m) d → (x : ℕ) × (x < count m.base) × IsGuard m x d
   guard_from d has =
       let from = flat_map_from guards_at (range_with_len 0 (count m.base)) d has in
       let here = range_from (count m.base) from.0 from.1 in
       (from.0, here, wait_from from.0 d (subst (λ cs. Contains cs d) (waits_at from.0 here) from.2))
 
-  guard_there : (d : Constraint) → (x : ℕ) × (x < count m.base) × IsWait m x d → Contains (guards m) d
+  guard_there : (d : Constraint) → (x : ℕ) × (x < count m.base) × IsGuard m x d → Contains (guards m) d
   guard_there d (x, here, awaits) =
       flat_map_contains guards_at (range_with_len 0 (count m.base)) x d (range_contains (count m.base) x here)
       (subst (λ cs. Contains cs d) (sym (waits_at x here)) (wait_there x d awaits))
 
   -- the guards are the constraints by which some time-point waits
-  pub guards_both : (d : Constraint) → Contains (guards m) d ↔ ((x : ℕ) × (x < count m.base) × IsWait m x d)
+  pub guards_both : (d : Constraint) → Contains (guards m) d ↔ ((x : ℕ) × (x < count m.base) × IsGuard m x d)
   guards_both d = (guard_from d, guard_there d)

@@ -13,7 +13,9 @@ pub mod Built
 pub mod WellFormed
 pub mod Taken
 pub mod FaultLemmas
+pub mod OneFault
 pub mod Twins
 pub mod Observed
 pub mod Kept
 pub mod Unlabelled
+pub mod NoFault

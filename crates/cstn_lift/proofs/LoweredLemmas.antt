@@ -10,13 +10,13 @@ use Rattle.std.proofs.lemmas.List.Sums.{list_all-from_AllPass, AllPass-from_list
 use Rattle.cstn_label.specs.declared.marks.Mark.{Mark}
 use Rattle.cstn_label.specs.declared.marks.Mark.TheVariants.{Absent}
 use Rattle.cstn_label.specs.Labels.{Label, IsMarked, IsMarkPlain, IsPlain, empty}
-use Rattle.cstn_net.specs.Networks.{Network, IsNetwork, Constraint, Observes, count}
-use Rattle.cstn_net.specs.Read.{is_prop}
+use Rattle.cstn_label.specs.Marks.{is_marked, is_mark_plain}
+use Rattle.cstn_net.specs.Networks.{Network, IsNetwork, Constraint, Observes, count, is_prop}
 use Rattle.cstn_net.proofs.Knowledge.{observer_within}
 use Rattle.cstn_lift.specs.Labelled.{Labelled, label_in}
-use Rattle.cstn_lift.specs.Completion.{is_marked, completed, completed_label, full_label}
+use Rattle.cstn_lift.specs.Completion.{completed, completed_label, full_label}
 use Rattle.cstn_lift.specs.WellFormed.{IsLabelled}
-use Rattle.cstn_lift.specs.Lowered.{is_mark_plain, is_plain, observer_of, with_full_label, full_constraints, guard, waits, guards_with, guards, lowered}
+use Rattle.cstn_lift.specs.Lowered.{is_plain, observer_of, with_full_label, full_constraints, guard, guards_of, guards_with, guards, lowered}
 use Rattle.cstn_lift.proofs.CompletionLemmas.{marked_true, marked_back}
 use Rattle.cstn_lift.proofs.ListLemmas.{filter_map_contains, flat_map_contains, range_contains, numbered_contains, numbered_all, filter_map_all, flat_map_all, range_all, position_found}
 
@@ -114,7 +114,7 @@ module _ (m : Labelled) (good : IsLabelled m) where
 
   pub guarded : (x j p : ℕ) → x < count m.base → Observes m.base j p → IsMarked (completed_label m x) p →
       (d : Constraint) × Contains (lowered m).constraints d × IsGuard m d x j p
-  unfolding waits
+  unfolding guards_of
   guarded x j p here o marked =
       let a = label_in (map (completed m) m.labels) x in
       let same : a ≡ completed_label m x = completed_at x here in
@@ -161,7 +161,7 @@ module _ (m : Labelled) (good : IsLabelled m) where
       ))
 
   guards_only : All (λ d. (id : ℕ) → IsOfLowered m (record d { id = id })) (guards m)
-  unfolding waits
+  unfolding guards_of
   guards_only =
       let own = map (completed m) m.labels in
       let P : Constraint → Type 0 = λ d. (id : ℕ) → IsOfLowered m (record d { id = id }) in

@@ -17,7 +17,7 @@ use Rattle.cstn_lift.specs.Strategies.{IsExecuted, IsLabelledStrategy, IsLabelle
 use Rattle.cstn_lift.specs.Scenarios.{IsOwn, own, IsLabelledStrategyOnObserved, IsLabelledLeastOnObserved, AreAlike}
 use Rattle.cstn_lift.proofs.Executed.{twin_right}
 use Rattle.cstn_lift.proofs.Equivalent.{full_observed, full_from, full_to}
-use Rattle.cstn_lift.proofs.Twins.{twin_least}
+use Rattle.cstn_lift.proofs.Twins.{least_along}
 
 pub one_least : (m : Labelled) (s : Scenario) (x t u : ℕ) → IsLabelledLeast m s x t → IsLabelledLeast m s x u → t ≡ u
 one_least m s x t u here there =
@@ -31,10 +31,14 @@ one_least m s x t u here there =
 observed_twins : (m : Labelled) (s : Scenario) → AreTwins m s (own m s)
 observed_twins m s j p o h = kept_value m.base s j p o
 
+own_twins : (m : Labelled) (s : Scenario) → AreTwins m (own m s) s
+own_twins m s j p o h = sym (kept_value m.base s j p o)
+
 -- a least moment rests on the observed propositions alone
-pub least_on_observed : (m : Labelled) (s : Scenario) (x t : ℕ) → x < count m.base → IsExecuted m s x →
+pub least_on_observed : (m : Labelled) (s : Scenario) (x t : ℕ) → x < count m.base →
     IsLabelledLeast m s x t ↔ IsLabelledLeast m (own m s) x t
-least_on_observed m s x t here h = twin_least m s (own m s) x t (observed_twins m s) here h
+least_on_observed m s x t here =
+    (least_along m s (own m s) x t (observed_twins m s) here, least_along m (own m s) s x t (own_twins m s) here)
 
 -- a labelled strategy is also one on the network's scenarios alone
 pub restricted : (m : Labelled) (table : Table) → IsLabelledStrategy m table → IsLabelledStrategyOnObserved m table
@@ -53,7 +57,7 @@ module _ (m : Labelled) (good : IsLabelled m) where
   executed_own s x h = twin_right m good s (own m s) (observed_twins m s) x h
 
   executed_back : (s : Scenario) (x : ℕ) → IsExecuted m (own m s) x → IsExecuted m s x
-  executed_back s x h = twin_right m good (own m s) s (λ j p o _. sym (kept_value m.base s j p o)) x h
+  executed_back s x h = twin_right m good (own m s) s (own_twins m s) x h
 
   -- which time-points are executed rests on the observed propositions alone
   pub executed_on_observed : (s : Scenario) (x : ℕ) → IsExecuted m s x ↔ IsExecuted m (own m s) x
@@ -82,11 +86,13 @@ module _ (m : Labelled) (good : IsLabelled m) where
   pub same_least : (s : Scenario) (x t : ℕ) → IsOwn m s → IsLabelledLeast m s x t ↔ IsLabelledLeastOnObserved m s x t
   same_least s x t is_of = (
     (λ h. record {
+      executed = h.executed;
       reached = (h.reached.0, restricted m h.reached.0 h.reached.1, h.reached.2);
       least = λ table strategy.
           subst (λ r. t ≤ table r x) (own_same m.base s is_of) (h.least (spread m table) (spread_strategy table strategy));
     }),
     (λ h. record {
+      executed = h.executed;
       reached = (
         spread m h.reached.0,
         spread_strategy h.reached.0 h.reached.1,

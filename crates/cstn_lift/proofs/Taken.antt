@@ -9,7 +9,7 @@ use Rattle.cstn_net.specs.declared.errors.NetError.{NetError}
 use Rattle.cstn_net.specs.declared.errors.NetError.TheVariants.{TooManyConstraints}
 use Rattle.cstn_net.specs.Networks.{Network, IsWellFormed, count}
 use Rattle.cstn_net.specs.Read.{NetworkParts, the_network, observed, reaction_of, the_constraint}
-use Rattle.cstn_net.specs.Drafts.{BuilderParts, HasFault, IsRefusal, number, constraints_from}
+use Rattle.cstn_net.specs.Drafts.{BuilderParts, HasNetFault, IsNetRefusal, net_number, constraints_from}
 use Rattle.cstn_net.specs.Handed.{IsHanded}
 use Rattle.cstn_lift.specs.Labelled.{Labelled}
 use Rattle.cstn_lift.specs.WellFormed.{IsLabelled}
@@ -44,10 +44,10 @@ closed_is m net n b base has deadline constraints n_deadline n_points n_constrai
 
 -- A builder that was handed a well-formed network is refused only for want of memory. So one that was handed a lowered network
 -- and is refused otherwise has too many constraints.
-pub refused_long : ((b : BuilderParts) (net : Network) → IsWellFormed net → IsHanded b net → (e : NetError) → IsRefusal b e → number e ≡ 0) →
+pub refused_long : ((b : BuilderParts) (net : Network) → IsWellFormed net → IsHanded b net → (e : NetError) → IsNetRefusal b e → net_number e ≡ 0) →
     (m : Labelled) → IsLabelled m → (b : BuilderParts) → b.deadline ≡ m.base.deadline → map observed b.points ≡ m.base.observes →
     ((p : ℕ) → reaction_of b.points p ≡ m.base.reaction p) → map the_constraint (constraints_from 0 b.drafts) ≡ (lowered m).constraints →
-    (e : NetError) → IsRefusal b e → (number e ≡ 0 → ⊥) → 16384 < length (lowered m).constraints
+    (e : NetError) → IsNetRefusal b e → (net_number e ≡ 0 → ⊥) → 16384 < length (lowered m).constraints
 refused_long for_memory m good b deadline observes reaction constraints e refusal other = elim (cases_lt 16384 (length (lowered m).constraints)) [
   | inl long ↦ long
   | inr few ↦ absurd (other (for_memory b (lowered m) (lowered_well_formed m good few) (record {
@@ -60,7 +60,7 @@ refused_long for_memory m good b deadline observes reaction constraints e refusa
 
 -- a builder without a fault, which has a constraint for each draft, has at most 16,384 of them
 pub closed_few : (m : Labelled) (b : BuilderParts) → length (constraints_from 0 b.drafts) ≡ length b.drafts → map the_constraint (constraints_from 0 b.drafts) ≡ (lowered m).constraints →
-    ((e : NetError) → HasFault b e → ⊥) → length (lowered m).constraints ≤ 16384
+    ((e : NetError) → HasNetFault b e → ⊥) → length (lowered m).constraints ≤ 16384
 closed_few m b long constraints faultless = elim (cases_lt 16384 (length (lowered m).constraints)) [
   | inr few ↦ few
   | inl many ↦

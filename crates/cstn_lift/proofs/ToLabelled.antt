@@ -20,7 +20,7 @@ module _ (m : Labelled) (good : IsLabelled m) (table : Table) (d : Scenario) (tw
   full x = completed_label m x
 
   same : (s : Scenario) (j p : ℕ) → Observes m.base j p → IsExecuted m s j → twin s p ≡ s p
-  same s j p o h = (defaulted s).executed j p o h
+  same s j p o h = (defaulted s).twins j p o h
 
   -- a time-point that is executed in s, at t or earlier, is executed in r, which agrees with what is known at t in s
   onward : (s r : Scenario) (t : ℕ) → ((p : ℕ) → IsKnownExecuted m s (table (twin s)) t p → r p ≡ s p) → (y : ℕ) →

@@ -11,7 +11,7 @@ use Rattle.cstn_lift.specs.Lowered.{lowered}
 use Rattle.cstn_lift.specs.Strategies.{IsExecuted, IsLabelledStrategy, IsLabelledLeast, IsDefaulted, AreTwins}
 use Rattle.cstn_lift.proofs.CompletionLemmas.{completed_complete}
 use Rattle.cstn_lift.proofs.FullLemmas.{full_on}
-use Rattle.cstn_lift.proofs.Executed.{twin_right}
+use Rattle.cstn_lift.proofs.Executed.{twin_right, twin_left}
 use Rattle.cstn_lift.proofs.Dichotomy.{marks_seen, possible_executed}
 use Rattle.cstn_lift.proofs.LoweredLemmas.{IsOfLowered}
 use Rattle.cstn_lift.proofs.Equivalent.{full_closed, dynamic_base, guards_met, labelled_least}
@@ -20,24 +20,26 @@ pub twin_moment : (m : Labelled) (table : Table) (s r : Scenario) (x : ℕ) → 
     IsExecuted m s x → table r x ≡ table s x
 twin_moment m table s r x strategy same here h = (strategy.dynamic s r x here h (λ p k. same k.observer p k.observes k.executed)).1
 
-pub twin_least : (m : Labelled) (s r : Scenario) (x t : ℕ) → AreTwins m s r → x < count m.base → IsExecuted m s x →
+-- a least moment in s is one in each scenario that agrees with s on what is observed in s
+pub least_along : (m : Labelled) (s r : Scenario) (x t : ℕ) → AreTwins m s r → x < count m.base → IsLabelledLeast m s x t → IsLabelledLeast m r x t
+least_along m s r x t same here least =
+    let a = least.reached in
+    let h = least.executed in
+    record {
+      executed = (a.1.dynamic s r x here h (λ p k. same k.observer p k.observes k.executed)).0;
+      reached = (a.0, a.1, twin_moment m a.0 s r x a.1 same here h ∙ a.2);
+      least = λ table strategy.
+          let at = twin_moment m table s r x strategy same here h in
+          let below = least.least table strategy in
+          omega arith;
+    }
+
+pub twins_back : (m : Labelled) → IsLabelled m → (s r : Scenario) → AreTwins m s r → AreTwins m r s
+twins_back m good s r same j p o h = sym (same j p o (twin_left m good s r same j h))
+
+pub twin_least : (m : Labelled) → IsLabelled m → (s r : Scenario) (x t : ℕ) → AreTwins m s r → x < count m.base →
     (IsLabelledLeast m s x t ↔ IsLabelledLeast m r x t)
-twin_least m s r x t same here h = (
-  (λ least. let a = least.reached in record {
-    reached = (a.0, a.1, twin_moment m a.0 s r x a.1 same here h ∙ a.2);
-    least = λ table strategy.
-        let at = twin_moment m table s r x strategy same here h in
-        let below = least.least table strategy in
-        omega arith;
-  }),
-  (λ least. let a = least.reached in record {
-    reached = (a.0, a.1, sym (twin_moment m a.0 s r x a.1 same here h) ∙ a.2);
-    least = λ table strategy.
-        let at = twin_moment m table s r x strategy same here h in
-        let below = least.least table strategy in
-        omega arith;
-  }),
-)
+twin_least m good s r x t same here = (least_along m s r x t same here, least_along m r s x t (twins_back m good s r same) here)
 
 module _ (m : Labelled) (good : IsLabelled m) (table : Table) (strategy : IsStrategy (lowered m) table) (s : Scenario) (x : ℕ)
     (here : x < count m.base) (possible : IsPossible (IsKnown (lowered m) (table s) (table s x)) s (completed_label m x)) where
@@ -59,9 +61,9 @@ pub defaulted_least : (m : Labelled) (table : Table) (d : Scenario) (twin : Scen
     ((s : Scenario) → IsDefaulted m d s (twin s)) → ((s : Scenario) (x : ℕ) → x < count m.base → IsLeast (lowered m) s x (table s x)) →
     (s : Scenario) (x : ℕ) → x < count m.base → IsExecuted m s x → IsLabelledLeast m s x (table (twin s) x)
 defaulted_least m table d twin good defaulted least s x here h =
-    let same : AreTwins m s (twin s) = (defaulted s).executed in
+    let same = (defaulted s).twins in
     let there = twin_right m good s (twin s) same x h in
-    (twin_least m s (twin s) x (table (twin s) x) same here h).1
+    least_along m (twin s) s x (table (twin s) x) (twins_back m good s (twin s) same) here
     (labelled_least m good (twin s) x (table (twin s) x) here there (least (twin s) x here))
 
 -- each label of the lowered network is complete

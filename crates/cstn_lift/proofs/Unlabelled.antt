@@ -11,7 +11,7 @@ use Rattle.cstn_net.specs.Networks.{Constraint, IsConstraint, count}
 use Rattle.cstn_lift.specs.Labelled.{Labelled, label_in, label_of}
 use Rattle.cstn_lift.specs.Completion.{completed, full_label}
 use Rattle.cstn_lift.specs.WellFormed.{IsLabelled}
-use Rattle.cstn_lift.specs.Lowered.{with_full_label, full_constraints, guard, waits, guards_with, guards, numbered, lowered}
+use Rattle.cstn_lift.specs.Lowered.{with_full_label, full_constraints, guard, guards_of, guards_with, guards, numbered, lowered}
 use Rattle.cstn_lift.proofs.CompletionLemmas.{completed_contains, completed_least, empty_within}
 use Rattle.cstn_lift.proofs.FullLemmas.{past_empty}
 use Rattle.cstn_lift.proofs.ListLemmas.{range_all}
@@ -70,8 +70,8 @@ module _ (m : Labelled) (good : IsLabelled m) (none : (x : ℕ) → x < count m.
   full_whole = filter_map_whole (with_full_label m) m.base.constraints
       (All-weaker (IsConstraint m.base) (λ c. with_full_label m c ≡ Some c) (λ c h. with_full_same c h.plain) m.base.constraints good.base.network.constraints)
 
-  waits_none : (x : ℕ) (a : Label) → a ≡ empty → waits m.base x a ≡ []
-  unfolding waits
+  waits_none : (x : ℕ) (a : Label) → a ≡ empty → guards_of m.base x a ≡ []
+  unfolding guards_of
   waits_none x a is = filter_map_none (guard m.base x a) (range_with_len 0 52)
       (range_all (λ p. guard m.base x a p ≡ None) 0 52 (λ p low high. rw is refl))
 

@@ -1,17 +1,9 @@
 -- Completed labels: a label, joined again and again with the labels of the time-points that observe what it marks.
-use Rattle.std.specs.Prelude.{ℕ, zero, suc, ◌≡◌, ◌⊎◌, Bool, true, false, Option, None, Some, slice_index_or, if◌then◌else◌}
-use Rattle.cstn_label.specs.declared.marks.Mark.{Mark}
-use Rattle.cstn_label.specs.declared.marks.Mark.TheVariants.{Absent, Yes, No, Unknown}
-use Rattle.cstn_label.specs.Labels.{Label, IsMarked, IsWithin, empty, joined}
-use Rattle.cstn_net.specs.Networks.{Constraint, Observes, count}
+use Rattle.std.specs.Prelude.{ℕ, zero, suc, ◌≡◌, ◌⊎◌, Bool, false, Option, None, Some, slice_index_or, if◌then◌else◌}
+use Rattle.cstn_label.specs.Marks.{is_marked}
+use Rattle.cstn_label.specs.Labels.{Label, IsMarked, IsPlain, IsWithin, empty, joined}
+use Rattle.cstn_net.specs.Networks.{Constraint, IsOnObserved, Observes, count}
 use Rattle.cstn_lift.specs.Labelled.{Labelled, label_of}
-
--- the mark isn't absent
-abbrev pub is_marked : Mark → Bool
-is_marked Absent = false
-is_marked Yes = true
-is_marked No = true
-is_marked Unknown = true
 
 -- the label marks what is observed, if anything is
 abbrev pub is_observed_by : Option ℕ → Label → Bool
@@ -45,6 +37,10 @@ IsLabelOfObserver m p a =
 -- the label is complete: for each proposition that it marks, the label of the proposition's observer is within it
 abbrev pub IsCompleteLabel : Labelled → Label → Type 0
 IsCompleteLabel m a = (x p : ℕ) → Observes m.base x p → IsMarked a p → IsWithin (label_of m x) a
+
+-- the label is plain and complete, and names observed propositions alone
+abbrev pub IsPlainAndComplete : Labelled → Label → Type 0
+IsPlainAndComplete m a = IsPlain a × IsOnObserved m.base a × IsCompleteLabel m a
 
 -- the completed label of a time-point
 abbrev pub completed_label : Labelled → ℕ → Label

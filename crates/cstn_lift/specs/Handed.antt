@@ -1,5 +1,5 @@
 -- What a builder was handed on the way to the lowered network.
-use Rattle.std.specs.Prelude.{ℕ, ◌≡◌, List, Some, map, take}
+use Rattle.std.specs.Prelude.{ℕ, ◌≡◌, ◌++◌, List, Some, map, take}
 use Rattle.std.specs.List.{All}
 use Rattle.cstn_net.specs.declared.points.TimePoint.{TimePoint}
 use Rattle.cstn_net.specs.declared.drafts.Draft.{Draft}
@@ -16,3 +16,7 @@ pub record HasPoints (net : Network) (n : ℕ) (points : List TimePoint) : Type 
 -- these constraints, under ids from 0
 abbrev pub HasConstraints : List Constraint → List Draft → Type 0
 HasConstraints cs drafts = map the_constraint (constraints_from 0 drafts) ≡ numbered 0 cs
+
+-- these constraints come behind all that were handed in before
+abbrev pub AddsConstraints : List Draft → List Draft → List Constraint → Type 0
+AddsConstraints old new more = (cs : List Constraint) → HasConstraints cs old → HasConstraints (cs ++ more) new

@@ -23,8 +23,9 @@ pub record IsLabelledStrategyOnObserved (m : Labelled) (table : Table) : Type 0 
       ((p : ℕ) → IsKnownExecuted m s (table s) (table s x) p → r p ≡ s p) → IsExecuted m r x × (table r x ≡ table s x)
   pub meets : (s : Scenario) (c : Constraint) → IsOwn m s → Contains m.base.constraints c → IsInForce m s c → Meets (table s) c
 
--- t is the least moment of x in s, among the tables that are labelled strategies on the own scenarios
+-- t is the least moment of x in s, where x is executed, among the tables that are labelled strategies on the own scenarios
 pub record IsLabelledLeastOnObserved (m : Labelled) (s : Scenario) (x t : ℕ) : Type 0 where
+  pub executed : IsExecuted m s x
   pub reached : (table : Table) × IsLabelledStrategyOnObserved m table × (table s x ≡ t)
   pub least : (table : Table) → IsLabelledStrategyOnObserved m table → t ≤ table s x
 

@@ -44,11 +44,15 @@ pub record IsLabelledStrategy (m : Labelled) (table : Table) : Type 0 where
 abbrev pub IsLabelledConsistent : Labelled → Type 0
 IsLabelledConsistent m = (table : Table) × IsLabelledStrategy m table
 
--- t is the least moment in the scenario s of x, which is executed there: some labelled strategy has x at t, and none has x
--- earlier
+-- t is the least moment of x in the scenario s: x is executed there, some labelled strategy has x at t, and none has x earlier
 pub record IsLabelledLeast (m : Labelled) (s : Scenario) (x t : ℕ) : Type 0 where
+  pub executed : IsExecuted m s x
   pub reached : (table : Table) × IsLabelledStrategy m table × (table s x ≡ t)
   pub least : (table : Table) → IsLabelledStrategy m table → t ≤ table s x
+
+-- the table has each time-point that is executed at its least moment
+abbrev pub HasLabelledLeasts : Labelled → Table → Type 0
+HasLabelledLeasts m table = (s : Scenario) (x : ℕ) → x < count m.base → IsExecuted m s x → IsLabelledLeast m s x (table s x)
 
 -- a plain network is consistent exactly where the labelled one is, and a time-point that is executed in a scenario has the same
 -- least moments there in both
@@ -56,11 +60,15 @@ pub record IsEquivalent (m : Labelled) (net : Network) : Type 0 where
   pub consistent : IsLabelledConsistent m ↔ IsConsistent net
   pub least : (s : Scenario) (x t : ℕ) → x < count m.base → IsExecuted m s x → (IsLabelledLeast m s x t ↔ IsLeast net s x t)
 
--- the scenario r has the values of s for what is observed in s, and those of d for what isn't
-pub record IsDefaulted (m : Labelled) (d s r : Scenario) : Type 0 where
-  pub executed : (j p : ℕ) → Observes m.base j p → IsExecuted m s j → r p ≡ s p
-  pub rest : (j p : ℕ) → Observes m.base j p → (IsExecuted m s j → ⊥) → r p ≡ d p
-
 -- the scenario r agrees with s on what is observed in s
 abbrev pub AreTwins : Labelled → Scenario → Scenario → Type 0
 AreTwins m s r = (j p : ℕ) → Observes m.base j p → IsExecuted m s j → r p ≡ s p
+
+-- the scenario r has the values of s for what is observed in s, and those of d for what isn't
+pub record IsDefaulted (m : Labelled) (d s r : Scenario) : Type 0 where
+  pub twins : AreTwins m s r
+  pub rest : (j p : ℕ) → Observes m.base j p → (IsExecuted m s j → ⊥) → r p ≡ d p
+
+-- each scenario has such a twin
+abbrev pub AreDefaulted : Labelled → Scenario → (Scenario → Scenario) → Type 0
+AreDefaulted m d twin = (s : Scenario) → IsDefaulted m d s (twin s)

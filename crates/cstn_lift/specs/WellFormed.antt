@@ -15,4 +15,4 @@ pub record IsLabelled (m : Labelled) : Type 0 where
   pub plain : (x : ℕ) → x < count m.base → IsPlain (label_of m x)
   pub observed : (x : ℕ) → x < count m.base → IsOnObserved m.base (label_of m x)
   pub no_circle : (x p : ℕ) → Observes m.base x p → completed_label m x p ≡ Absent
-  pub possible : (x : ℕ) → x < count m.base → IsPlain (completed_label m x)
+  pub completed_plain : (x : ℕ) → x < count m.base → IsPlain (completed_label m x)

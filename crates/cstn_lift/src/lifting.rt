@@ -6,7 +6,7 @@ ghost use Rattle.cstn_net.specs.Read.{the_network};
 ghost use Rattle.cstn_lift.specs.declared.errors.LiftError.{LiftError};
 ghost use Rattle.cstn_lift.specs.Labelled.{label_in};
 ghost use Rattle.cstn_lift.specs.WellFormed.{IsLabelled};
-ghost use Rattle.cstn_lift.specs.Faults.{HasFault, IsLowestFault, IsRefusal, HasGoodLabels};
+ghost use Rattle.cstn_lift.specs.Faults.{HasLiftFault, IsLowestLiftFault, IsLiftRefusal, HasGoodLabels};
 ghost use Rattle.cstn_lift.specs.Read.{the_labelled, with_labels, AreCompleted};
 
 use crate::completion::completed_labels;
@@ -27,8 +27,8 @@ pub fn lift(alloc: Global, net: Network, labels: Vec<Label>) -> Result<Labelled,
     ensures labelled { IfOk result (λ l. IsLabelled (the_labelled l)) }
 
     // Unless memory is refused, it is refused exactly where there is a fault, and then by the lowest one.
-    ensures faultless { IfOk result (λ _. (e : LiftError) → HasFault (with_labels net labels.items) e → ⊥) }
-    ensures refused { IfErr result (IsRefusal (with_labels net labels.items)) }
+    ensures faultless { IfOk result (λ _. (e : LiftError) → HasLiftFault (with_labels net labels.items) e → ⊥) }
+    ensures refused { IfErr result (IsLiftRefusal (with_labels net labels.items)) }
 {
     if let Some(fault) = label_fault(&net, &labels) {
         return Err(fault);
@@ -49,7 +49,7 @@ pub fn lift(alloc: Global, net: Network, labels: Vec<Label>) -> Result<Labelled,
 // The lowest fault of the labels as they were handed in.
 fn label_fault(net: &Network, labels: &[Label]) -> Option<LiftError>
     requires one_each { length labels.now ≡ count (the_network net.now) }
-    ensures { MatchOption result (HasGoodLabels (with_labels net.now labels.now)) (IsLowestFault (with_labels net.now labels.now)) }
+    ensures { MatchOption result (HasGoodLabels (with_labels net.now labels.now)) (IsLowestLiftFault (with_labels net.now labels.now)) }
 {
     if is_origin_labelled(labels) {
         return Some(LiftError::OriginLabel);
@@ -68,7 +68,7 @@ fn completed_fault(net: &Network, labels: &[Label], whole: &[Label]) -> Option<L
     requires one_each { length labels.now ≡ count (the_network net.now) }
     requires good { HasGoodLabels (with_labels net.now labels.now) }
     requires completed { AreCompleted (with_labels net.now labels.now) whole.now }
-    ensures { MatchOption result (IsLabelled (with_labels net.now labels.now)) (IsLowestFault (with_labels net.now labels.now)) }
+    ensures { MatchOption result (IsLabelled (with_labels net.now labels.now)) (IsLowestLiftFault (with_labels net.now labels.now)) }
 {
     observers_are_time_points();
     if let Some(node) = first_in_circle(net, whole) {

@@ -1,17 +1,17 @@
-// The plain network that a labelled network is lowered to.
+// The plain network that a labelled network is lowered to. On the way the builder holds at most 16,384 constraints with their full
+// labels and 52 guards for each of 1,024 time-points, 69,632 in all. What a step requires of it is a round number above that.
 ghost use Rattle.std.specs.Prelude.{ℕ, ◌≡◌, ◌≢◌, ◌<◌, ◌≤◌, ◌+◌, ◌^◌, ◌-◌, ◌++◌, ◌∷◌, ◌⊎◌, [], List, length, map, IfOk, IfErr};
-ghost use Rattle.std.specs.List.{filter_map, flat_map, range_with_len};
 ghost use Rattle.cstn_label.specs.Labels.{IsMarked};
 ghost use Rattle.cstn_label.specs.Read.{marks};
-ghost use Rattle.cstn_net.specs.Networks.{Constraint as TheConstraint, IsWellFormed, count};
+ghost use Rattle.cstn_net.specs.Networks.{IsWellFormed, count};
 ghost use Rattle.cstn_net.specs.Read.{the_network, the_constraint, IsInRange};
-ghost use Rattle.cstn_net.specs.Drafts.{constraints_from, number as net_number};
+ghost use Rattle.cstn_net.specs.Drafts.{constraints_from, net_number};
 ghost use Rattle.cstn_lift.specs.Completion.{full_label};
 ghost use Rattle.cstn_lift.specs.WellFormed.{IsLabelled};
-ghost use Rattle.cstn_lift.specs.Lowered.{lowered, full_constraints, with_full_label, guard, guards_with, waits};
-ghost use Rattle.cstn_lift.specs.Faults.{number};
+ghost use Rattle.cstn_lift.specs.Lowered.{lowered, full_constraints, full_of, guards_for, all_guards, guards_of};
+ghost use Rattle.cstn_lift.specs.Faults.{IsTooMany, lift_number};
 ghost use Rattle.cstn_lift.specs.Read.{with_labels, AreCompleted};
-ghost use Rattle.cstn_lift.specs.Handed.{HasPoints, HasConstraints};
+ghost use Rattle.cstn_lift.specs.Handed.{HasPoints, HasConstraints, AddsConstraints};
 
 use crate::completion::completed;
 use crate::errors::LiftError;
@@ -34,7 +34,7 @@ pub fn lowered(
     ensures lowered { IfOk result (λ n. the_network n ≡ lowered (with_labels net.now labels.now)) }
     ensures few { IfOk result (λ _. length (lowered (with_labels net.now labels.now)).constraints ≤ 16384) }
     ensures well_formed { IfOk result (λ n. IsWellFormed (the_network n)) }
-    ensures refused { IfErr result (λ e. (number e ≡ 0) ⊎ ((e ≡ LiftError.TooManyConstraints) × (16384 < length (lowered (with_labels net.now labels.now)).constraints))) }
+    ensures refused { IfErr result (λ e. (lift_number e ≡ 0) ⊎ IsTooMany (with_labels net.now labels.now) e) }
 {
     drafts_are_numbered();
     handed_networks_are_closed();
@@ -51,7 +51,7 @@ pub fn lowered(
 // The refusal that a builder's error stands for. The lowered network is well-formed but for the number of its constraints, so
 // an error other than want of memory says that there are too many.
 fn error_of(error: NetError) -> LiftError
-    ensures memory { net_number error ≡ 0 → number result ≡ 0 }
+    ensures memory { net_number error ≡ 0 → lift_number result ≡ 0 }
     ensures constraints { net_number error ≢ 0 → result ≡ LiftError.TooManyConstraints }
 {
     match error {
@@ -133,7 +133,7 @@ fn add_one_full(
     requires points { length builder.old.points ≡ count (the_network net.now) }
     requires range { IsInRange (count (the_network net.now)) c.now }
     requires few { length builder.old.drafts ≤ 100000 }
-    ensures added { IfOk result (λ _. (cs : List TheConstraint) → HasConstraints cs builder.old.drafts → HasConstraints (cs ++ filter_map (with_full_label (with_labels net.now labels.now)) (the_constraint c.now ∷ [])) builder.new.drafts) }
+    ensures added { IfOk result (λ _. AddsConstraints builder.old.drafts builder.new.drafts (full_of (with_labels net.now labels.now) (the_constraint c.now ∷ []))) }
     ensures few { length builder.new.drafts ≤ length builder.old.drafts + 1 }
     ensures rest { (builder.new.deadline ≡ builder.old.deadline) × (builder.new.points ≡ builder.old.points) }
 {
@@ -163,7 +163,7 @@ fn add_guards(builder: &mut Builder, net: &Network, whole: &[Label]) -> Result<(
     requires one_each { length whole.now ≡ count (the_network net.now) }
     requires points { length builder.old.points ≡ count (the_network net.now) }
     requires few { length builder.old.drafts ≤ 16384 }
-    ensures added { IfOk result (λ _. (cs : List TheConstraint) → HasConstraints cs builder.old.drafts → HasConstraints (cs ++ flat_map (guards_with (the_network net.now) (map marks whole.now)) (range_with_len 0 (count (the_network net.now)))) builder.new.drafts) }
+    ensures added { IfOk result (λ _. AddsConstraints builder.old.drafts builder.new.drafts (all_guards (the_network net.now) (map marks whole.now))) }
     ensures rest { (builder.new.deadline ≡ builder.old.deadline) × (builder.new.points ≡ builder.old.points) }
 {
     for x in 0..net.count() {
@@ -184,7 +184,7 @@ fn add_guards_of(
     requires well_formed { IsWellFormed (the_network net.now) }
     requires points { length builder.old.points ≡ count (the_network net.now) }
     requires few { length builder.old.drafts ≤ 90000 }
-    ensures added { IfOk result (λ _. (cs : List TheConstraint) → HasConstraints cs builder.old.drafts → HasConstraints (cs ++ waits (the_network net.now) x.0 (marks label)) builder.new.drafts) }
+    ensures added { IfOk result (λ _. AddsConstraints builder.old.drafts builder.new.drafts (guards_of (the_network net.now) x.0 (marks label))) }
     ensures few { IfOk result (λ _. length builder.new.drafts ≤ length builder.old.drafts + 52) }
     ensures rest { (builder.new.deadline ≡ builder.old.deadline) × (builder.new.points ≡ builder.old.points) }
 {
@@ -209,7 +209,7 @@ fn add_guard(
     requires marked { IsMarked (marks label) p.index }
     requires points { length builder.old.points ≡ count (the_network net.now) }
     requires few { length builder.old.drafts ≤ 100000 }
-    ensures added { IfOk result (λ _. (cs : List TheConstraint) → HasConstraints cs builder.old.drafts → HasConstraints (cs ++ filter_map (guard (the_network net.now) x.0 (marks label)) (p.index ∷ [])) builder.new.drafts) }
+    ensures added { IfOk result (λ _. AddsConstraints builder.old.drafts builder.new.drafts (guards_for (the_network net.now) x.0 (marks label) (p.index ∷ []))) }
     ensures few { length builder.new.drafts ≤ length builder.old.drafts + 1 }
     ensures rest { (builder.new.deadline ≡ builder.old.deadline) × (builder.new.points ≡ builder.old.points) }
 {

@@ -1,13 +1,12 @@
 // The first time-point at which something is wrong.
 ghost use Rattle.std.specs.Prelude.{ℕ, ◌≡◌, ◌<◌, ◌↔◌, length, map, IsTrue, MatchOption};
 ghost use Rattle.std.specs.Option.{option_map};
-ghost use Rattle.cstn_label.specs.Labels.{IsPlain, empty};
+ghost use Rattle.cstn_label.specs.Labels.{empty};
 ghost use Rattle.cstn_label.specs.Read.{marks};
-ghost use Rattle.cstn_net.specs.Networks.{IsLeastUnobserved, IsOnObserved, IsWellFormed, count};
+ghost use Rattle.cstn_net.specs.Networks.{IsWellFormed, count};
 ghost use Rattle.cstn_net.specs.Read.{the_network};
-ghost use Rattle.cstn_lift.specs.Labelled.{label_in};
 ghost use Rattle.cstn_lift.specs.Completion.{is_observed_by};
-ghost use Rattle.cstn_lift.specs.Faults.{IsFirstBelow, NamesUnobserved, IsSeenBy};
+ghost use Rattle.cstn_lift.specs.Faults.{ArePlain, IsFirstUnplain, AreOnObserved, IsFirstUnobserved, AreInNoCircle, IsFirstInCircle};
 
 use cstn_label::{Label, Mark, NodeId, Prop, labels_are_their_marks};
 use cstn_net::Network;
@@ -15,7 +14,7 @@ use cstn_net::Network;
 /// The first time-point with a label that isn't plain.
 pub fn first_not_plain(net: &Network, labels: &[Label]) -> Option<NodeId>
     requires one_each { length labels.now ≡ count (the_network net.now) }
-    ensures first { MatchOption result ((x : ℕ) → x < count (the_network net.now) → IsPlain (label_in (map marks labels.now) x)) (λ x. IsFirstBelow (count (the_network net.now)) (λ y. IsPlain (label_in (map marks labels.now) y) → ⊥) x.0) }
+    ensures first { MatchOption result (ArePlain (the_network net.now) (map marks labels.now)) (λ x. IsFirstUnplain (the_network net.now) (map marks labels.now) x.0) }
     ensures well_formed { IsWellFormed (the_network net.now) }
 {
     for x in 0..net.count() {
@@ -30,7 +29,7 @@ pub fn first_not_plain(net: &Network, labels: &[Label]) -> Option<NodeId>
 /// The first time-point whose label names a proposition that nothing observes, and the least such proposition.
 pub fn first_unobserved(net: &Network, labels: &[Label]) -> Option<(NodeId, Prop)>
     requires one_each { length labels.now ≡ count (the_network net.now) }
-    ensures first { MatchOption result ((x : ℕ) → x < count (the_network net.now) → IsOnObserved (the_network net.now) (label_in (map marks labels.now) x)) (λ f. IsFirstBelow (count (the_network net.now)) (λ y. NamesUnobserved (the_network net.now) (label_in (map marks labels.now) y)) f.0.0 × IsLeastUnobserved (the_network net.now) (label_in (map marks labels.now) f.0.0) f.1.index) }
+    ensures first { MatchOption result (AreOnObserved (the_network net.now) (map marks labels.now)) (λ f. IsFirstUnobserved (the_network net.now) (map marks labels.now) f.0.0 f.1.index) }
 {
     for x in 0..net.count() {
         let node = NodeId(x);
@@ -44,7 +43,7 @@ pub fn first_unobserved(net: &Network, labels: &[Label]) -> Option<(NodeId, Prop
 /// The first time-point that observes what its label marks.
 pub fn first_in_circle(net: &Network, labels: &[Label]) -> Option<NodeId>
     requires one_each { length labels.now ≡ count (the_network net.now) }
-    ensures first { MatchOption result ((x : ℕ) → x < count (the_network net.now) → IsSeenBy (the_network net.now) (label_in (map marks labels.now) x) x → ⊥) (λ x. IsFirstBelow (count (the_network net.now)) (λ y. IsSeenBy (the_network net.now) (label_in (map marks labels.now) y) y) x.0) }
+    ensures first { MatchOption result (AreInNoCircle (the_network net.now) (map marks labels.now)) (λ x. IsFirstInCircle (the_network net.now) (map marks labels.now) x.0) }
 {
     for x in 0..net.count() {
         let node = NodeId(x);

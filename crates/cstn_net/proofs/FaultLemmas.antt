@@ -13,10 +13,11 @@ use Rattle.cstn_label.specs.declared.props.Prop.{Prop}
 use Rattle.cstn_net.specs.declared.points.TimePoint.{TimePoint}
 use Rattle.cstn_net.specs.declared.errors.NetError.{NetError}
 use Rattle.cstn_net.specs.declared.errors.NetError.TheVariants.{TooManyNodes, NoOrigin, TooManyConstraints, DeadlineRange, ValueRange, NotObserved, TwoObservers, NotPlain, ReactionRange, Memory}
-use Rattle.cstn_net.specs.Networks.{IsConstraint, IsValue, IsWellFormed}
-use Rattle.cstn_net.specs.Read.{observed, is_prop, reaction_of, the_constraint}
+use Rattle.cstn_net.specs.Networks.{IsConstraint, IsValue, IsWellFormed, is_prop}
+use Rattle.cstn_net.specs.Read.{observed, reaction_of, the_constraint}
 use Rattle.cstn_net.specs.Observers.{KnowsObservers, IsUnseen}
-use Rattle.cstn_net.specs.Drafts.{BuilderParts, LacksObserver, HasTwins, IsFirst, IsLeastOfFirst, IsDraftAmong, IsSized, IsSound, HasFault, HasReaction, number, observations, constraints_from}
+use Rattle.cstn_net.specs.Faults.{IsFirst}
+use Rattle.cstn_net.specs.Drafts.{BuilderParts, LacksObserver, HasTwins, IsLeastOfFirst, IsDraftAmong, IsSized, IsSound, HasNetFault, HasReaction, net_number, observations, constraints_from}
 use Rattle.cstn_net.proofs.ListLemmas.{pairs_map}
 use Rattle.cstn_net.proofs.ObserverLemmas.{prop_below, stands_within}
 use Rattle.cstn_net.proofs.ChangeLemmas.{net_of}
@@ -34,7 +35,7 @@ never_fails P xs k first all = no_first (λ x. P x → ⊥) xs k first (λ i d i
 -- each fault of a builder without the faults of N1 to N4 has number k or higher, where those from N5 to below k are ruled out
 pub lowest_from : (b : BuilderParts) (k : ℕ) → IsSized b → k ≤ 9 → (5 < k → All (λ d. IsValue d.most) b.drafts) →
     (6 < k → All (λ d. (q : ℕ) → LacksObserver (observations b) (marks d.label) q → ⊥) b.drafts) →
-    (7 < k → HasTwins (observations b) (length b.points) → ⊥) → (8 < k → All (λ d. IsPlain (marks d.label)) b.drafts) → (f : NetError) → HasFault b f → k ≤ number f
+    (7 < k → HasTwins (observations b) (length b.points) → ⊥) → (8 < k → All (λ d. IsPlain (marks d.label)) b.drafts) → (f : NetError) → HasNetFault b f → k ≤ net_number f
 lowest_from b k sized upto values named single plain TooManyNodes has = let few = sized.few_points in absurd (omega arith)
 lowest_from b k sized upto values named single plain NoOrigin has = let origin = sized.origin in absurd (omega arith)
 lowest_from b k sized upto values named single plain TooManyConstraints has =
@@ -46,7 +47,7 @@ lowest_from b k sized upto values named single plain (ValueRange constraint) has
   | inr below ↦ below
 ]
 lowest_from b k sized upto values named single plain (NotObserved prop) has = elim (cases_lt 6 k) [
-  | inl looked ↦ absurd (no_first _ b.drafts has.place has.first (λ i d inside h. named looked i d inside h.0 h.1))
+  | inl looked ↦ absurd (no_first (λ d. (q : ℕ) × LacksObserver (observations b) (marks d.label) q) b.drafts has.place has.first (λ i d inside h. named looked i d inside h.0 h.1))
   | inr below ↦ below
 ]
 lowest_from b k sized upto values named single plain (TwoObservers prop first second) has = elim (cases_lt 7 k) [
@@ -72,10 +73,10 @@ lowest_from b k sized upto values named single plain (ReactionRange node) has = 
 lowest_from b k sized upto values named single plain (Memory e) has = absurd has
 
 -- a builder that is sized and sound has no fault
-pub no_fault : (b : BuilderParts) → IsSized b → IsSound b → (f : NetError) → HasFault b f → ⊥
+pub no_fault : (b : BuilderParts) → IsSized b → IsSound b → (f : NetError) → HasNetFault b f → ⊥
 no_fault b sized sound f has = go f has (lowest_from b 9 sized (omega arith) (λ h. sound.values) (λ h. sound.observed) (λ h. sound.no_twins) (λ h. sound.plain) f has)
   where
-    go : (f : NetError) → HasFault b f → 9 ≤ number f → ⊥
+    go : (f : NetError) → HasNetFault b f → 9 ≤ net_number f → ⊥
     go (ReactionRange node) has at = never_fails HasReaction b.points node.0 has sound.timely
     go (NotPlain constraint) has at = omega arith
     go TooManyNodes has at = omega arith
@@ -118,7 +119,7 @@ least_alike P Q there back xs p h = record {
   first = record {
     inside = h.first.inside;
     here = λ d. let found = h.first.here d in (found.0, there found.0 _ found.1);
-    before = λ k d inside found. h.first.before k d inside (found.0, back found.0 _ found.1);
+    before = λ k before found. h.first.before k before (λ d. let one = found d in (one.0, back one.0 _ one.1));
   };
   has = λ d. there p _ (h.has d);
   least = λ q below d found. h.least q below d (back q _ found);

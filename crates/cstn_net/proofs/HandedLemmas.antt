@@ -13,7 +13,8 @@ use Rattle.cstn_net.specs.Networks.{Network, IsConstraint, IsOnObserved, IsValue
 use Rattle.cstn_net.specs.declared.points.TimePoint.{TimePoint}
 use Rattle.cstn_label.specs.declared.props.Prop.{Prop}
 use Rattle.cstn_net.specs.Read.{observed, the_constraint, reaction_of}
-use Rattle.cstn_net.specs.Drafts.{BuilderParts, HasFault, IsFirst, IsRefusal, HasReaction, LacksObserver, observations, number, constraints_from, constraint_of}
+use Rattle.cstn_net.specs.Drafts.{BuilderParts, HasNetFault, IsNetRefusal, HasReaction, LacksObserver, observations, net_number, constraints_from, constraint_of}
+use Rattle.cstn_net.specs.Faults.{IsFirst}
 use Rattle.cstn_net.specs.Handed.{IsHanded}
 use Rattle.cstn_net.proofs.DraftLemmas.{constraints_length}
 use Rattle.cstn_net.proofs.ObserverLemmas.{reaction_at, observed_at}
@@ -72,7 +73,7 @@ prompt_reaction (t ∷ ts) all p =
 pub prompt_is_timely : (points : List TimePoint) → All (λ t. t.reaction ≡ 1) points → All HasReaction points
 prompt_is_timely points all = All-weaker (λ t. t.reaction ≡ 1) HasReaction (λ t one some. (omega arith, omega arith)) points all
 
-pub no_fault : (b : BuilderParts) (net : Network) → IsWellFormed net → IsHanded b net → (e : NetError) → HasFault b e → ⊥
+pub no_fault : (b : BuilderParts) (net : Network) → IsWellFormed net → IsHanded b net → (e : NetError) → HasNetFault b e → ⊥
 no_fault b net good handed TooManyNodes f = let few = good.few_points in let len = ap length handed.observes in omega (arith, f, few, len, length-map b.points observed)
 no_fault b net good handed NoOrigin f = let some = good.network.origin in let len = ap length handed.observes in omega (arith, f, some, len, length-map b.points observed)
 no_fault b net good handed TooManyConstraints f =
@@ -105,6 +106,6 @@ no_fault b net good handed (ReactionRange node) f = untimely_nowhere b net good 
 no_fault b net good handed (Memory e) f = f
 
 -- a builder that was handed a well-formed network is refused for want of memory alone
-pub refused_for_memory : (b : BuilderParts) (net : Network) → IsWellFormed net → IsHanded b net → (e : NetError) → IsRefusal b e → number e ≡ 0
+pub refused_for_memory : (b : BuilderParts) (net : Network) → IsWellFormed net → IsHanded b net → (e : NetError) → IsNetRefusal b e → net_number e ≡ 0
 refused_for_memory b net good handed e (inl memory) = memory
 refused_for_memory b net good handed e (inr fault) = absurd (no_fault b net good handed e fault.has)

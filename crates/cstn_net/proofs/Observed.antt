@@ -8,18 +8,18 @@ use Rattle.std.proofs.lemmas.Bool.{eqb-true, eq-eqb, and_parts, cases_Bool}
 use Rattle.std.proofs.lemmas.List.Elements.{All-contains}
 use Rattle.cstn_label.specs.Labels.{Scenario, Label, Holds, MarkFits}
 use Rattle.cstn_label.proofs.MarkLemmas.{absent_or_not, fits_absent}
-use Rattle.cstn_net.specs.Networks.{Network, IsNetwork, IsConstraint, Observes, IsOnObserved, count}
+use Rattle.cstn_net.specs.Networks.{Network, IsNetwork, IsConstraint, Observes, IsOnObserved, count, is_prop}
 use Rattle.cstn_net.specs.Strategies.{Table, IsStrategy, IsConsistent, IsLeast}
-use Rattle.cstn_net.specs.Scenarios.{is_just, is_observed, IsScenarioOf, observed_alone, IsStrategyOnObserved, IsLeastOnObserved}
+use Rattle.cstn_net.specs.Scenarios.{is_observed, IsScenarioOf, observed_alone, IsStrategyOnObserved, IsLeastOnObserved}
 use Rattle.cstn_net.proofs.Dynamic.{same_moments}
 
-just_it : (p : ℕ) (o : Option ℕ) → is_just p o ≡ true → o ≡ Some p
+just_it : (p : ℕ) (o : Option ℕ) → is_prop p o ≡ true → o ≡ Some p
 just_it p None e = cc
 just_it p (Some q) e = ap (λ n. Some n) (eqb-true q p e)
 
-it_is : (p : ℕ) (o : Option ℕ) → o ≡ Some p → is_just p o ≡ true
+it_is : (p : ℕ) (o : Option ℕ) → o ≡ Some p → is_prop p o ≡ true
 it_is p None e = cc
-it_is p (Some q) e = subst (λ v. is_just p v ≡ true) (sym e) (eq-eqb p p refl)
+it_is p (Some q) e = subst (λ v. is_prop p v ≡ true) (sym e) (eq-eqb p p refl)
 
 or_first : (b c : Bool) → b ≡ true → (b || c) ≡ true
 or_first b c e = grind arith
@@ -31,19 +31,19 @@ or_rest : (b c : Bool) → b ≡ false → (b || c) ≡ true → c ≡ true
 or_rest b c n e = grind arith
 
 -- where a test on the list finds p, some place has it, and the other way round
-place_of : (os : List (Option ℕ)) (p : ℕ) → list_any (is_just p) os ≡ true → (x : ℕ) × (get_or os x None ≡ Some p)
+place_of : (os : List (Option ℕ)) (p : ℕ) → list_any (is_prop p) os ≡ true → (x : ℕ) × (get_or os x None ≡ Some p)
 place_of [] p e = cc
-place_of (o ∷ os) p e = elim (cases_Bool (is_just p o)) [
+place_of (o ∷ os) p e = elim (cases_Bool (is_prop p o)) [
   | inl here ↦ (zero, just_it p o here)
   | inr other ↦
-      let rest = place_of os p (or_rest (is_just p o) (list_any (is_just p) os) other e) in
+      let rest = place_of os p (or_rest (is_prop p o) (list_any (is_prop p) os) other e) in
       (suc rest.0, rest.1)
 ]
 
-found_at : (os : List (Option ℕ)) (p x : ℕ) → get_or os x None ≡ Some p → list_any (is_just p) os ≡ true
+found_at : (os : List (Option ℕ)) (p x : ℕ) → get_or os x None ≡ Some p → list_any (is_prop p) os ≡ true
 found_at [] p x e = cc
-found_at (o ∷ os) p zero e = or_first (is_just p o) (list_any (is_just p) os) (it_is p o e)
-found_at (o ∷ os) p (suc x) e = or_second (is_just p o) (list_any (is_just p) os) (found_at os p x e)
+found_at (o ∷ os) p zero e = or_first (is_prop p o) (list_any (is_prop p) os) (it_is p o e)
+found_at (o ∷ os) p (suc x) e = or_second (is_prop p o) (list_any (is_prop p) os) (found_at os p x e)
 
 module _ (net : Network) where
   -- an observed proposition keeps its value in `observed_alone`

@@ -3,16 +3,17 @@ use Rattle.std.proofs.Common.{ℕ, zero, suc, ◌≡◌, ◌≢◌, ◌⊎◌, i
 use Rattle.std.specs.Prelude.{is_some, MatchOption}
 use Rattle.cstn_label.specs.declared.marks.Mark.TheVariants.{Absent}
 use Rattle.cstn_label.specs.Labels.{Label}
-use Rattle.cstn_net.specs.Networks.{Network, Observes, IsOnObserved, IsLeastUnobserved}
+use Rattle.cstn_net.specs.Networks.{Network, Observes, IsOnObserved, IsLeastUnobserved, is_prop}
 use Rattle.std.specs.Option.{option_map}
 use Rattle.std.proofs.lemmas.Bool.{cases_lt, cases_eq, eq-eqb, ne_eqb}
 use Rattle.std.proofs.lemmas.List.{map_more, get_or-map, length-map, get_or_past, length-take-le, get_or-set_same, get_or-set_other, length-set}
 use Rattle.cstn_label.specs.declared.nodes.NodeId.{NodeId}
 use Rattle.cstn_label.specs.declared.props.Prop.{Prop}
 use Rattle.cstn_net.specs.declared.points.TimePoint.{TimePoint}
-use Rattle.cstn_net.specs.Read.{observed, is_prop, reaction_of}
+use Rattle.cstn_net.specs.Read.{observed, reaction_of}
 use Rattle.cstn_net.specs.Drafts.{HasTwins, AreFirstTwins}
 use Rattle.cstn_net.specs.Observers.{KnowsObservers, IsTwin, IsUnseen, noted}
+use Rattle.cstn_net.proofs.Same.{same_node}
 
 -- a proposition is below 52
 pub prop_below : (o : Option Prop) (q : ℕ) → option_map (λ p. p.index) o ≡ Some q → q < 52
@@ -124,7 +125,7 @@ module _ (observes : List (Option ℕ)) (table : List (Option NodeId)) (x : Node
   noted_more None below = noted_none
   noted_more (Some p) below = noted_some p (below p refl) (get_or table p None) refl
 
-noted_length : (table : List (Option NodeId)) (x : NodeId) (o : Option ℕ) → length (noted table x o) ≡ length table
+pub noted_length : (table : List (Option NodeId)) (x : NodeId) (o : Option ℕ) → length (noted table x o) ≡ length table
 noted_length table x None = refl
 noted_length table x (Some p) = elim (get_or table p None) as (λ o. length (cond (is_some o) table (set table p (Some x))) ≡ length table) [
   | Some z ↦ refl
@@ -184,9 +185,6 @@ pub observer_inside : (points : List TimePoint) (table : List (Option NodeId)) (
     KnowsObservers (map observed points) table → get_or table p None ≡ Some x → x.0 < length points
 observer_inside points table p x h there =
     subst (λ n. x.0 < n) (length-map points observed) (stands_within (map observed points) x.0 p (h.right p x there))
-
-same_node : (x y : NodeId) → x.0 ≡ y.0 → x ≡ y
-same_node x y e = ap {B = NodeId} (λ n. record { 0 = n }) e
 
 module _ (observes : List (Option ℕ)) (table : List (Option NodeId)) (h : KnowsObservers observes table) (x : NodeId) (o : Option ℕ) (at_x : get_or observes x.0 None ≡ o) where
   -- where no two earlier time-points observe one proposition, a time-point that isn't the first observer of its proposition

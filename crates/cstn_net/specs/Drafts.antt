@@ -1,5 +1,5 @@
 -- What a builder holds, and what keeps it from being a network.
-use Rattle.std.specs.Prelude.{ℕ, zero, suc, ◌≡◌, ◌≢◌, ◌<◌, ◌≤◌, ◌+◌, ◌⊎◌, List, [], ◌∷◌, length, map, take, Option, None, Some, IsSome, slice_index_or}
+use Rattle.std.specs.Prelude.{ℕ, zero, suc, ◌≡◌, ◌≢◌, ◌<◌, ◌≤◌, ◌+◌, List, [], ◌∷◌, length, map, Option, None, Some, IsSome, slice_index_or}
 use Rattle.std.specs.List.{All, HoldsAt}
 use Rattle.cstn_label.specs.declared.marks.Mark.TheVariants.{Absent}
 use Rattle.cstn_label.specs.Labels.{Label, IsPlain}
@@ -11,6 +11,9 @@ use Rattle.cstn_net.specs.declared.errors.NetError.{NetError}
 use Rattle.cstn_net.specs.declared.errors.NetError.TheVariants.{TooManyNodes, NoOrigin, TooManyConstraints, DeadlineRange, ValueRange, NotObserved, TwoObservers, NotPlain, ReactionRange, Memory}
 use Rattle.cstn_net.specs.Networks.{IsValue}
 use Rattle.cstn_net.specs.Read.{observed}
+use Rattle.cstn_label.specs.declared.nodes.NodeId.{NodeId}
+use Rattle.cstn_net.specs.Observers.{IsUnseen}
+use Rattle.cstn_net.specs.Faults.{IsFirst, IsLowestFault, IsRefusal}
 
 -- the deadline, the time-points and the constraints that were handed in
 pub record BuilderParts : Type 0 where
@@ -41,18 +44,16 @@ constraints_from k (d ∷ ds) = constraint_of k d ∷ constraints_from (k + 1) d
 abbrev pub IsDraftAmong : ℕ → Draft → Type 0
 IsDraftAmong n d = (d.from < n) × (d.to < n)
 
--- the fact holds at the place k, and at no earlier one
-pub record IsFirst {X : Type 0} (P : X → Type 0) (xs : List X) (k : ℕ) : Type 0 where
-  pub inside : k < length xs
-  pub here : HoldsAt P xs k
-  pub before : All (λ x. P x → ⊥) (take k xs)
-
 -- at the first element for which the fact holds of some number, p is the least such number
 pub record IsLeastOfFirst {X : Type 0} (P : ℕ → X → Type 0) (xs : List X) (p : ℕ) : Type 0 where
   pub place : ℕ
   pub first : IsFirst (λ x. (q : ℕ) × P q x) xs place
   pub has : HoldsAt (P p) xs place
   pub least : (q : ℕ) → q < p → HoldsAt (λ x. P q x → ⊥) xs place
+
+-- p is the least proposition for which the table has no observer, in the label of the first constraint that names one
+abbrev pub IsFirstUnseen : List (Option NodeId) → List Draft → ℕ → Type 0
+IsFirstUnseen table drafts p = IsLeastOfFirst (λ q d. IsUnseen table (marks d.label) q) drafts p
 
 -- the label names p, which no time-point observes
 pub record LacksObserver (observes : List (Option ℕ)) (a : Label) (p : ℕ) : Type 0 where
@@ -81,18 +82,18 @@ abbrev pub HasReaction : TimePoint → Type 0
 HasReaction t = IsSome t.observes → (0 < t.reaction) × (t.reaction ≤ 1000)
 
 -- the builder has the fault that the refusal names
-abbrev pub HasFault : BuilderParts → NetError → Type 0
-HasFault b TooManyNodes = 1024 < length b.points
-HasFault b NoOrigin = length b.points ≡ 0
-HasFault b TooManyConstraints = 16384 < length b.drafts
-HasFault b (DeadlineRange deadline) = (deadline ≡ b.deadline) × (1000000 < b.deadline)
-HasFault b (ValueRange constraint) = IsFirst (λ d. IsValue d.most → ⊥) b.drafts constraint
-HasFault b (NotObserved prop) =
+abbrev pub HasNetFault : BuilderParts → NetError → Type 0
+HasNetFault b TooManyNodes = 1024 < length b.points
+HasNetFault b NoOrigin = length b.points ≡ 0
+HasNetFault b TooManyConstraints = 16384 < length b.drafts
+HasNetFault b (DeadlineRange deadline) = (deadline ≡ b.deadline) × (1000000 < b.deadline)
+HasNetFault b (ValueRange constraint) = IsFirst (λ d. IsValue d.most → ⊥) b.drafts constraint
+HasNetFault b (NotObserved prop) =
     IsLeastOfFirst (λ q d. LacksObserver (observations b) (marks d.label) q) b.drafts prop.index
-HasFault b (TwoObservers prop first second) = AreFirstTwins (observations b) prop.index first.0 second.0
-HasFault b (NotPlain constraint) = IsFirst (λ d. IsPlain (marks d.label) → ⊥) b.drafts constraint
-HasFault b (ReactionRange node) = IsFirst (λ t. HasReaction t → ⊥) b.points node.0
-HasFault b (Memory e) = ⊥
+HasNetFault b (TwoObservers prop first second) = AreFirstTwins (observations b) prop.index first.0 second.0
+HasNetFault b (NotPlain constraint) = IsFirst (λ d. IsPlain (marks d.label) → ⊥) b.drafts constraint
+HasNetFault b (ReactionRange node) = IsFirst (λ t. HasReaction t → ⊥) b.points node.0
+HasNetFault b (Memory e) = ⊥
 
 -- a builder without the faults of N1 to N4
 pub record IsSized (b : BuilderParts) : Type 0 where
@@ -110,23 +111,22 @@ pub record IsSound (b : BuilderParts) : Type 0 where
   pub timely : All HasReaction b.points
 
 -- the number of a refusal, and 0 for want of memory
-abbrev pub number : NetError → ℕ
-number (Memory e) = 0
-number TooManyNodes = 1
-number NoOrigin = 2
-number TooManyConstraints = 3
-number (DeadlineRange deadline) = 4
-number (ValueRange constraint) = 5
-number (NotObserved prop) = 6
-number (TwoObservers prop first second) = 7
-number (NotPlain constraint) = 8
-number (ReactionRange node) = 9
+abbrev pub net_number : NetError → ℕ
+net_number (Memory e) = 0
+net_number TooManyNodes = 1
+net_number NoOrigin = 2
+net_number TooManyConstraints = 3
+net_number (DeadlineRange deadline) = 4
+net_number (ValueRange constraint) = 5
+net_number (NotObserved prop) = 6
+net_number (TwoObservers prop first second) = 7
+net_number (NotPlain constraint) = 8
+net_number (ReactionRange node) = 9
 
 -- the builder has this fault, and none with a lower number
-pub record IsLowestFault (b : BuilderParts) (e : NetError) : Type 0 where
-  pub has : HasFault b e
-  pub lowest : (f : NetError) → HasFault b f → number e ≤ number f
+abbrev pub IsLowestNetFault : BuilderParts → NetError → Type 0
+IsLowestNetFault b e = IsLowestFault (HasNetFault b) net_number e
 
--- want of memory, or the lowest fault
-abbrev pub IsRefusal : BuilderParts → NetError → Type 0
-IsRefusal b e = (number e ≡ 0) ⊎ IsLowestFault b e
+-- want of memory, or the builder's lowest fault
+abbrev pub IsNetRefusal : BuilderParts → NetError → Type 0
+IsNetRefusal b e = IsRefusal (HasNetFault b) net_number e

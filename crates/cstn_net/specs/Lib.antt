@@ -5,6 +5,7 @@ pub mod Bounds
 pub mod Read
 pub mod Observers
 pub mod Examples
+pub mod Faults
 pub mod Drafts
 pub mod Links
 pub mod Handed

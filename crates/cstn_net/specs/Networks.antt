@@ -1,6 +1,6 @@
 -- Networks: time-points, what they observe, and constraints between them.
-use Rattle.std.specs.Prelude.{ℕ, zero, suc, ◌≡◌, ◌≢◌, ◌<◌, ◌≤◌, List, Option, None, Some, length, slice_index_or, ℤ, pos, negsuc, ◌≤ℤ◌}
-use Rattle.std.specs.List.{All, AllPairs}
+use Rattle.std.specs.Prelude.{ℕ, zero, suc, ◌≡◌, ◌≢◌, ◌<◌, ◌≤◌, Bool, false, ◌==◌, List, Option, None, Some, length, slice_index_or, ℤ, pos, negsuc, ◌≤ℤ◌}
+use Rattle.std.specs.List.{All, AllPairs, Contains}
 use Rattle.cstn_label.specs.declared.marks.Mark.TheVariants.{Absent}
 use Rattle.cstn_label.specs.Labels.{Label, IsPlain}
 
@@ -28,6 +28,15 @@ count net = length net.observes
 pub record Observes (net : Network) (x p : ℕ) : Type 0 where
   pub what : slice_index_or net.observes x None ≡ Some p
 
+-- no time-point observes anything
+abbrev pub ObservesNothing : Network → Type 0
+ObservesNothing net = (x p : ℕ) → Observes net x p → ⊥
+
+-- what a time-point observes, if anything, is p
+abbrev pub is_prop : ℕ → Option ℕ → Bool
+is_prop p None = false
+is_prop p (Some q) = q == p
+
 -- the last moment at which a time-point may be executed: 0 for the origin, the deadline for every other
 abbrev pub limit : Network → ℕ → ℕ
 limit net zero = 0
@@ -52,6 +61,10 @@ pub record IsConstraint (net : Network) (c : Constraint) : Type 0 where
   pub plain : IsPlain c.label
   pub observed : IsOnObserved net c.label
 
+-- each of these is a constraint of the network
+abbrev pub AreConstraintsOf : Network → List Constraint → Type 0
+AreConstraintsOf net cs = (c : Constraint) → Contains cs c → Contains net.constraints c
+
 -- there is an origin, a proposition has at most one observer and a reaction of a tick or more, and each constraint has its
 -- ends and its propositions in the network
 pub record IsNetwork (net : Network) : Type 0 where
@@ -75,3 +88,10 @@ pub record IsWellFormed (net : Network) : Type 0 where
   pub ascending : AllPairs (λ b c. b.id < c.id) net.constraints
   pub values : All (λ c. IsValue c.most) net.constraints
   pub in_time : net.deadline ≤ 1000000
+
+-- these may be the constraints of a well-formed network that has the same time-points
+pub record AreConstraintsFor (net : Network) (cs : List Constraint) : Type 0 where
+  pub few : length cs ≤ 16384
+  pub each : All (IsConstraint net) cs
+  pub ascending : AllPairs (λ b c. b.id < c.id) cs
+  pub values : All (λ c. IsValue c.most) cs

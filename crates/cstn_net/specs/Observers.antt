@@ -1,5 +1,5 @@
 -- The table of observers, which has the first time-point that observes each proposition.
-use Rattle.std.specs.Prelude.{ℕ, ◌≡◌, ◌≢◌, ◌≤◌, List, Option, None, Some, is_some, length, slice_index_or, slice_set, map, if◌then◌else◌}
+use Rattle.std.specs.Prelude.{ℕ, ◌≡◌, ◌≢◌, ◌<◌, ◌≤◌, List, Option, None, Some, is_some, length, slice_index_or, slice_set, map, if◌then◌else◌}
 use Rattle.cstn_label.specs.declared.marks.Mark.TheVariants.{Absent}
 use Rattle.cstn_label.specs.declared.nodes.NodeId.{NodeId}
 use Rattle.cstn_label.specs.Labels.{Label}
@@ -26,11 +26,23 @@ pub record IsUnseen (table : List (Option NodeId)) (a : Label) (p : ℕ) : Type 
   pub named : a p ≢ Absent
   pub unseen : slice_index_or table p None ≡ None
 
+-- the table has an observer for each proposition that the label names
+abbrev pub SeesAll : List (Option NodeId) → Label → Type 0
+SeesAll table a = (q : ℕ) → IsUnseen table a q → ⊥
+
+-- p is the least proposition that the label names and for which the table has no observer
+abbrev pub IsLeastUnseen : List (Option NodeId) → Label → ℕ → Type 0
+IsLeastUnseen table a p = IsUnseen table a p × ((q : ℕ) → q < p → IsUnseen table a q → ⊥)
+
 -- the time-point x observes p, whose first observer y is another
 pub record IsTwin (table : List (Option NodeId)) (observes : Option ℕ) (x : NodeId) (p : ℕ) (y : NodeId) : Type 0 where
   pub observed : observes ≡ Some p
   pub first : slice_index_or table p None ≡ Some y
   pub other : y ≢ x
+
+-- no other time-point is the first observer of what x observes
+abbrev pub HasNoTwin : List (Option NodeId) → Option ℕ → NodeId → Type 0
+HasNoTwin table observes x = (p : ℕ) (y : NodeId) → IsTwin table observes x p y → ⊥
 
 -- what stays true of a network of the program: its table of observers is right, it is well-formed, and its links are right
 pub record IsKept (deadline : ℕ) (points : List TimePoint) (table : List (Option NodeId)) (constraints : List Constraint) (chains : List (Option Chain)) (nexts : List (Option ℕ)) : Type 0 where

@@ -1,10 +1,11 @@
 -- How the program's networks and constraints are read as those of the definitions.
-use Rattle.std.specs.Prelude.{ℕ, Bool, false, ◌==◌, ◌<◌, List, [], ◌∷◌, Option, Some, None, map, option_map, if◌then◌else◌, not, ℤ}
+use Rattle.std.specs.Prelude.{ℕ, Bool, ◌==◌, ◌<◌, List, [], ◌∷◌, Option, map, option_map, if◌then◌else◌, not, ℤ}
 use Rattle.std.specs.List.{filter}
 use Rattle.cstn_label.specs.Read.{marks}
+use Rattle.cstn_label.specs.declared.props.Prop.{Prop}
 use Rattle.cstn_net.specs.declared.constraints.Constraint.{Constraint}
 use Rattle.cstn_net.specs.declared.points.TimePoint.{TimePoint}
-use Rattle.cstn_net.specs.Networks.{Constraint as TheConstraint, Network, IsValue}
+use Rattle.cstn_net.specs.Networks.{Constraint as TheConstraint, Network, IsValue, is_prop}
 
 -- what a network holds; `spare` is how many constraints can still be put in without taking memory
 pub record NetworkParts : Type 0 where
@@ -17,14 +18,13 @@ pub record NetworkParts : Type 0 where
 abbrev pub the_constraint : Constraint → TheConstraint
 the_constraint c = record { id = c.id; from = c.from.0; to = c.to.0; most = c.most; label = marks c.label }
 
+-- the number of a proposition, if there is one
+abbrev pub prop_number : Option Prop → Option ℕ
+prop_number o = option_map (λ p. p.index) o
+
 -- the number of the proposition that a time-point observes
 abbrev pub observed : TimePoint → Option ℕ
-observed t = option_map (λ p. p.index) t.observes
-
--- the proposition is p
-abbrev pub is_prop : ℕ → Option ℕ → Bool
-is_prop p None = false
-is_prop p (Some q) = q == p
+observed t = prop_number t.observes
 
 -- the reaction of the first time-point that observes p, and 1 where none does
 abbrev pub reaction_of : List TimePoint → ℕ → ℕ

@@ -1,18 +1,13 @@
 -- Scenarios of the observed propositions alone. There are 2 ^ k of them where k propositions are observed.
-use Rattle.std.specs.Prelude.{ℕ, ◌≡◌, ◌<◌, ◌≤◌, Bool, true, false, ◌==◌, ◌&&◌, Option, Some, None}
+use Rattle.std.specs.Prelude.{ℕ, ◌≡◌, ◌<◌, ◌≤◌, Bool, true, ◌&&◌}
 use Rattle.std.specs.List.{list_any, Contains}
 use Rattle.cstn_label.specs.Labels.{Scenario, Holds}
-use Rattle.cstn_net.specs.Networks.{Network, Constraint, Observes, count, limit}
+use Rattle.cstn_net.specs.Networks.{Network, Constraint, Observes, count, limit, is_prop}
 use Rattle.cstn_net.specs.Strategies.{Table, Agrees, Meets}
-
--- what a time-point observes, if anything, is p
-abbrev pub is_just : ℕ → Option ℕ → Bool
-is_just p None = false
-is_just p (Some q) = q == p
 
 -- some time-point observes p
 abbrev pub is_observed : Network → ℕ → Bool
-is_observed net p = list_any (is_just p) net.observes
+is_observed net p = list_any (is_prop p) net.observes
 
 -- a scenario of the network: only observed propositions are true in it
 abbrev pub IsScenarioOf : Network → Scenario → Type 0

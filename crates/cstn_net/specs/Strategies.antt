@@ -1,7 +1,7 @@
 -- Tables of moments, what is known in them, and strategies.
-use Rattle.std.specs.Prelude.{ℕ, ◌≡◌, ◌+◌, ◌<◌, ◌≤◌, pos, ◌-ℤ◌, ◌≤ℤ◌}
+use Rattle.std.specs.Prelude.{ℕ, ◌≡◌, ◌+◌, ◌<◌, ◌≤◌, ◌⊎◌, pos, ◌-ℤ◌, ◌≤ℤ◌}
 use Rattle.std.specs.List.{Contains}
-use Rattle.cstn_label.specs.Labels.{Scenario, Holds}
+use Rattle.cstn_label.specs.Labels.{Label, Scenario, Holds, IsPossible}
 use Rattle.cstn_net.specs.Networks.{Network, Constraint, Observes, count, limit}
 
 -- a schedule has a moment, in ticks, for each time-point
@@ -25,6 +25,22 @@ pub record IsKnown (net : Network) (at : Schedule) (t p : ℕ) : Type 0 where
 -- the scenario r agrees with what is known at t in the scenario s
 abbrev pub Agrees : Network → Schedule → ℕ → Scenario → Scenario → Type 0
 Agrees net at t s r = (p : ℕ) → IsKnown net at t p → r p ≡ s p
+
+-- the label is possible in the scenario s by what is known there at t
+abbrev pub IsPossibleAt : Network → Schedule → ℕ → Scenario → Label → Type 0
+IsPossibleAt net at t s a = IsPossible (IsKnown net at t) s a
+
+-- the scenario r agrees with what is known at t in the table's row of s
+abbrev pub AgreesIn : Network → Table → ℕ → Scenario → Scenario → Type 0
+AgreesIn net table t s r = Agrees net (table s) t s r
+
+-- x has one moment in the table's rows of s and r, if it is at t or earlier in either
+abbrev pub HasOneMoment : Table → ℕ → Scenario → Scenario → ℕ → Type 0
+HasOneMoment table t s r x = (table s x ≤ t) ⊎ (table r x ≤ t) → table r x ≡ table s x
+
+-- the scenario r has the values of s for all that is observed
+abbrev pub AgreesOnObserved : Network → Scenario → Scenario → Type 0
+AgreesOnObserved net s r = (x p : ℕ) → Observes net x p → r p ≡ s p
 
 -- a table is dynamic where each moment depends only on what is known then: in every scenario that agrees with what is known
 -- when x is executed, x is executed at the same moment
@@ -56,7 +72,20 @@ pub record IsLeast (net : Network) (s : Scenario) (x t : ℕ) : Type 0 where
   pub reached : (table : Table) × IsStrategy net table × (table s x ≡ t)
   pub least : (table : Table) → IsStrategy net table → t ≤ table s x
 
+-- the table has each time-point at its least moment
+abbrev pub HasLeasts : Network → Table → Type 0
+HasLeasts net table = (s : Scenario) (x : ℕ) → x < count net → IsLeast net s x (table s x)
+
 -- a schedule that is within the limits and meets every constraint
 pub record IsSchedule (net : Network) (at : Schedule) : Type 0 where
   pub within : (x : ℕ) → x < count net → at x ≤ limit net x
   pub meets : (c : Constraint) → Contains net.constraints c → Meets at c
+
+-- each row of the table is such a schedule, and all rows are the same
+abbrev pub AreOneSchedule : Network → Table → Type 0
+AreOneSchedule net table =
+    ((s : Scenario) → IsSchedule net (table s)) × ((s r : Scenario) (x : ℕ) → x < count net → table r x ≡ table s x)
+
+-- some such schedule has x at t, and none has x earlier
+abbrev pub IsLeastInSchedules : Network → ℕ → ℕ → Type 0
+IsLeastInSchedules net x t = ((at : Schedule) × IsSchedule net at × (at x ≡ t)) × ((at : Schedule) → IsSchedule net at → t ≤ at x)

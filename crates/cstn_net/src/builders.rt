@@ -4,7 +4,7 @@ ghost use Rattle.cstn_net.specs.declared.errors.NetError.{NetError};
 ghost use Rattle.cstn_net.specs.Networks.{IsWellFormed};
 ghost use Rattle.cstn_net.specs.Read.{the_network, observed};
 ghost use Rattle.cstn_net.specs.Observers.{KnowsObservers};
-ghost use Rattle.cstn_net.specs.Drafts.{IsSized, IsSound, IsLowestFault, IsRefusal, HasFault, constraints_from, with_reaction};
+ghost use Rattle.cstn_net.specs.Drafts.{IsSized, IsSound, IsLowestNetFault, IsNetRefusal, HasNetFault, constraints_from, with_reaction};
 
 use crate::drafts::{Draft, constraints_of};
 use crate::errors::NetError;
@@ -114,8 +114,8 @@ impl Builder {
 
         // Unless memory is refused, a builder is refused exactly where it has a fault, and then for the one with the lowest
         // number.
-        ensures faultless { IfOk result (λ _. (e : NetError) → HasFault self e → ⊥) }
-        ensures refused { IfErr result (IsRefusal self) }
+        ensures faultless { IfOk result (λ _. (e : NetError) → HasNetFault self e → ⊥) }
+        ensures refused { IfErr result (IsNetRefusal self) }
     {
         if let Some(fault) = self.size_fault() {
             return Err(fault);
@@ -143,7 +143,7 @@ impl Builder {
 
     // The lowest fault among N1 to N4, of the counts and the deadline; none where the builder has none of these.
     fn size_fault(&self) -> Option<NetError>
-        ensures { MatchOption result (IsSized self.now) (IsLowestFault self.now) }
+        ensures { MatchOption result (IsSized self.now) (IsLowestNetFault self.now) }
     {
         if self.points.len() > MAX_NODES {
             return Some(NetError::TooManyNodes);
@@ -166,7 +166,7 @@ impl Builder {
     fn other_fault(&self, observers: &Observers) -> Option<NetError>
         requires sized { IsSized self.now }
         requires observers { KnowsObservers (map observed self.now.points) observers.now }
-        ensures { MatchOption result (IsSound self.now) (IsLowestFault self.now) }
+        ensures { MatchOption result (IsSound self.now) (IsLowestNetFault self.now) }
     {
         if let Some(constraint) = first_out_of_range(&self.drafts) {
             return Some(NetError::ValueRange { constraint });

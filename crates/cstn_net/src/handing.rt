@@ -6,13 +6,13 @@ ghost use Rattle.cstn_net.specs.declared.errors.NetError.{NetError};
 ghost use Rattle.cstn_net.specs.declared.points.TimePoint.{TimePoint};
 ghost use Rattle.cstn_net.specs.Networks.{Network, IsWellFormed};
 ghost use Rattle.cstn_net.specs.Read.{reaction_of};
-ghost use Rattle.cstn_net.specs.Drafts.{BuilderParts, HasFault, IsRefusal, HasReaction, number, constraint_of, constraints_from};
+ghost use Rattle.cstn_net.specs.Drafts.{BuilderParts, HasNetFault, IsNetRefusal, HasReaction, net_number, constraint_of, constraints_from};
 ghost use Rattle.cstn_net.specs.Handed.{IsHanded};
 
 /// A builder that was handed a well-formed network has no fault, so `close` refuses it for want of memory alone.
 pub fn handed_networks_are_closed()
-    ensures faultless { (b : BuilderParts) (net : Network) → IsWellFormed net → IsHanded b net → (e : NetError) → HasFault b e → ⊥ }
-    ensures memory { (b : BuilderParts) (net : Network) → IsWellFormed net → IsHanded b net → (e : NetError) → IsRefusal b e → number e ≡ 0 }
+    ensures faultless { (b : BuilderParts) (net : Network) → IsWellFormed net → IsHanded b net → (e : NetError) → HasNetFault b e → ⊥ }
+    ensures memory { (b : BuilderParts) (net : Network) → IsWellFormed net → IsHanded b net → (e : NetError) → IsNetRefusal b e → net_number e ≡ 0 }
 {}
 
 /// Where each time-point has a reaction of one tick, all reactions are in range, and each proposition has a reaction of one

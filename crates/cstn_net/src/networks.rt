@@ -252,3 +252,10 @@ fn place_in(constraints: &[Constraint], id: u32) -> Option<usize>
         Err(_) => None,
     }
 }
+
+/// Does nothing: its contract says that every network is well-formed, as that of each call that reads one does.
+pub fn network_is_well_formed(net: &Network)
+    ensures { IsWellFormed (the_network net.now) }
+{
+    let _ = net.count();
+}

@@ -1,10 +1,9 @@
 // Which time-point observes each proposition.
 ghost use Rattle.std.specs.Prelude.{ℕ, ◌≡◌, ◌<◌, ◌≤◌, ◌↔◌, length, map, None, Some, IsTrue, MatchOption, slice_index_or};
-ghost use Rattle.std.specs.Option.{option_map};
 ghost use Rattle.cstn_label.specs.Read.{marks};
-ghost use Rattle.cstn_net.specs.Read.{observed};
+ghost use Rattle.cstn_net.specs.Read.{prop_number, observed};
 ghost use Rattle.cstn_net.specs.Drafts.{HasTwins, AreFirstTwins};
-ghost use Rattle.cstn_net.specs.Observers.{KnowsObservers, IsUnseen, noted};
+ghost use Rattle.cstn_net.specs.Observers.{KnowsObservers, SeesAll, IsLeastUnseen, noted};
 
 use crate::points::TimePoint;
 use cstn_label::{Label, NodeId, Prop};
@@ -24,7 +23,7 @@ pub fn observers_of(points: &[TimePoint]) -> Observers
 }
 
 fn note(table: &mut Observers, x: NodeId, observes: Option<Prop>)
-    ensures { table.new ≡ noted table.old x (option_map (λ p. p.index) observes) }
+    ensures { table.new ≡ noted table.old x (prop_number observes) }
 {
     if let Some(p) = observes {
         if table[p.index as usize].is_none() {
@@ -36,7 +35,7 @@ fn note(table: &mut Observers, x: NodeId, observes: Option<Prop>)
 // The least proposition that the label names and nothing observes, found in at most one step for each mark; none where there
 // is none.
 pub fn unobserved(table: &Observers, label: Label) -> Option<Prop>
-    ensures { MatchOption result ((q : ℕ) → IsUnseen table.now (marks label) q → ⊥) (λ p. IsUnseen table.now (marks label) p.index × ((q : ℕ) → q < p.index → IsUnseen table.now (marks label) q → ⊥)) }
+    ensures { MatchOption result (SeesAll table.now (marks label)) (λ p. IsLeastUnseen table.now (marks label) p.index) }
 {
     let mut from = 0;
     while let Some(p) = label.first_marked_from(from) {

@@ -1,13 +1,13 @@
 // The first constraint or time-point at which something is wrong.
 ghost use Rattle.std.specs.Prelude.{ℕ, ◌≡◌, ◌<◌, ◌≤◌, ◌↔◌, length, map, None, IsTrue, MatchOption};
 ghost use Rattle.std.specs.List.{All};
-ghost use Rattle.std.specs.Option.{option_map};
 ghost use Rattle.cstn_label.specs.Labels.{IsPlain};
 ghost use Rattle.cstn_label.specs.Read.{marks};
 ghost use Rattle.cstn_net.specs.Networks.{IsValue};
-ghost use Rattle.cstn_net.specs.Read.{observed};
-ghost use Rattle.cstn_net.specs.Drafts.{IsFirst, IsLeastOfFirst, HasTwins, AreFirstTwins, HasReaction};
-ghost use Rattle.cstn_net.specs.Observers.{KnowsObservers, IsUnseen, IsTwin};
+ghost use Rattle.cstn_net.specs.Read.{prop_number, observed};
+ghost use Rattle.cstn_net.specs.Faults.{IsFirst};
+ghost use Rattle.cstn_net.specs.Drafts.{IsFirstUnseen, HasTwins, AreFirstTwins, HasReaction};
+ghost use Rattle.cstn_net.specs.Observers.{KnowsObservers, SeesAll, IsTwin, HasNoTwin};
 
 use crate::drafts::Draft;
 use crate::limits::{MAX_REACTION, is_value};
@@ -47,7 +47,7 @@ pub fn first_not_plain(drafts: &[Draft]) -> Option<u32>
 
 // The least unobserved proposition of the first constraint that names one.
 pub fn first_unobserved(table: &Observers, drafts: &[Draft]) -> Option<Prop>
-    ensures { MatchOption result (All (λ d. (q : ℕ) → IsUnseen table.now (marks d.label) q → ⊥) drafts.now) (λ p. IsLeastOfFirst (λ q d. IsUnseen table.now (marks d.label) q) drafts.now p.index) }
+    ensures { MatchOption result (All (λ d. SeesAll table.now (marks d.label)) drafts.now) (λ p. IsFirstUnseen table.now drafts.now p.index) }
 {
     for draft in drafts {
         if let Some(p) = unobserved(table, draft.label) {
@@ -59,7 +59,7 @@ pub fn first_unobserved(table: &Observers, drafts: &[Draft]) -> Option<Prop>
 
 // Where a time-point isn't the first to observe its proposition: the proposition, its first observer, and the time-point.
 fn twin(table: &Observers, x: NodeId, observes: Option<Prop>) -> Option<(Prop, NodeId, NodeId)>
-    ensures { MatchOption result ((p : ℕ) (y : NodeId) → IsTwin table.now (option_map (λ p. p.index) observes) x p y → ⊥) (λ t. IsTwin table.now (option_map (λ p. p.index) observes) x t.0.index t.1 × (t.2 ≡ x)) }
+    ensures { MatchOption result (HasNoTwin table.now (prop_number observes) x) (λ t. IsTwin table.now (prop_number observes) x t.0.index t.1 × (t.2 ≡ x)) }
 {
     let p = observes?;
     let first = table[p.index as usize]?;

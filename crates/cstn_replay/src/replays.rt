@@ -8,8 +8,8 @@ ghost use Rattle.cstn_refute.specs.Refutations.{AreSteps, the_steps};
 ghost use Rattle.cstn_replay.specs.Wrong.{IsFirstWrong, EndsInVain};
 
 use crate::answers::Answer;
-use crate::steps::{follows, is_well_formed, step_at};
-use cstn_net::Network;
+use crate::steps::{follows, step_at};
+use cstn_net::{Network, network_is_well_formed};
 use cstn_refute::Refutation;
 use cstn_rules::{Entry, conclusions_stay_within, derivations_are_sound, refutes};
 
@@ -23,7 +23,7 @@ pub fn replay(net: &Network, r: &Refutation) -> Answer
 {
     derivations_are_sound();
     let steps = r.steps();
-    is_well_formed(net);
+    network_is_well_formed(net);
     match first_wrong(net, steps) {
         Some(step) => Answer::Rejected { step },
         None => end(net, steps),
@@ -66,7 +66,7 @@ fn is_refuting(net: &Network, steps: &[Entry]) -> bool
     requires derivation { IsDerivation (the_network net.now) (map the_entry steps.now) }
     ensures refuting { IsTrue result ↔ IsRefutation (the_network net.now) (map the_entry steps.now) }
 {
-    is_well_formed(net);
+    network_is_well_formed(net);
     conclusions_stay_within();
     let last = step_at(steps, steps.len() - 1);
     refutes(net, &last.bound)

@@ -12,7 +12,7 @@ ghost use Rattle.cstn_refute.specs.Refutations.{AreSteps};
 ghost use Rattle.cstn_replay.specs.Wrong.{IsRight, AreRightBefore};
 
 use cstn_label::{Bound, Label, NodeId, labels_are_their_marks};
-use cstn_net::{Constraint, Network};
+use cstn_net::{Constraint, Network, network_is_well_formed};
 use cstn_rules::{
     Entry, Tries, Why, chain, conclusions_stay_within, rules_have_one_conclusion, wait,
 };
@@ -26,14 +26,6 @@ pub(crate) fn follows(net: &Network, steps: &[Entry], k: usize) -> bool
 {
     let step = step_at(steps, k);
     is_given(net, steps, k, step.why, step.bound)
-}
-
-/// Does nothing but tell the proof of its caller that every network is well-formed.
-pub(crate) fn is_well_formed(net: &Network)
-    ensures { IsWellFormed (the_network net.now) }
-{
-    // The contract of each call that reads a network says so.
-    let _ = net.count();
 }
 
 /// The step at a place.
@@ -86,7 +78,7 @@ fn is_chained(net: &Network, steps: &[Entry], k: usize, id: u32, i: u32, bound: 
     requires before { AreRightBefore (the_network net.now) (map the_entry steps.now) k }
     ensures chained { IsTrue result ↔ Follows (the_network net.now) (map the_entry steps.now) k (Chain id i) (the_bound bound) }
 {
-    is_well_formed(net);
+    network_is_well_formed(net);
     labels_are_their_marks();
     rules_have_one_conclusion();
     let Some(constraint) = constraint_of(net, id) else {
@@ -146,7 +138,7 @@ fn premise(net: &Network, steps: &[Entry], k: usize, i: u32) -> Option<Bound>
     ensures range { IfSome result (λ b. IsBoundOf (the_network net.now) (the_bound b)) }
     ensures none { IfNone result (i < k → ⊥) }
 {
-    is_well_formed(net);
+    network_is_well_formed(net);
     conclusions_stay_within();
     if i as usize >= k {
         return None;

@@ -11,7 +11,7 @@ ghost use Rattle.cstn_rules.specs.Rules.{without_own, finished, IsChain, IsWait,
 
 use crate::counters::Tries;
 use cstn_label::{Bound, Label, Mark, NodeId, Prop, joined_is_the_least_above};
-use cstn_net::{Constraint, Network};
+use cstn_net::{Constraint, Network, network_is_well_formed};
 
 /// The conclusion of chain from a constraint and a bound of the network, or None where there is none. Its least value may be
 /// below 0; base dominates it then. Counts one more try.
@@ -55,7 +55,7 @@ pub fn wait(net: &Network, seen: &Bound, b: &Bound, tries: &mut Tries) -> Option
     ensures sound { IfSome result (λ r. (table : Table) → HoldsIn (the_network net.now) table (the_bound seen.now) → HoldsIn (the_network net.now) table (the_bound b.now) → HoldsIn (the_network net.now) table (the_bound r)) }
 {
     tries.add();
-    is_well_formed(net);
+    network_is_well_formed(net);
     match net.observes(seen.node) {
         None => None,
         Some(p) => wait_for(net, p, seen, b),
@@ -82,7 +82,7 @@ fn wait_for(net: &Network, p: Prop, seen: &Bound, b: &Bound) -> Option<Bound>
     if b.label.mark(p) == Mark::Absent {
         return None;
     }
-    is_well_formed(net);
+    network_is_well_formed(net);
     let until = seen.least + reaction(net, p);
     let awaited = Bound {
         node: b.node,
@@ -98,7 +98,7 @@ fn reaction(net: &Network, p: Prop) -> i32
     ensures reaction { result ≡ pos ((the_network net.now).reaction p.index) }
     ensures range { result ≤ℤ pos 1000 }
 {
-    is_well_formed(net);
+    network_is_well_formed(net);
     net.reaction(p) as i32
 }
 
@@ -124,13 +124,6 @@ fn take_own_off(net: &Network, x: NodeId, label: Label) -> Label
         None => label,
         Some(p) => label.without(p),
     }
-}
-
-// Every network is well-formed.
-fn is_well_formed(net: &Network)
-    ensures { IsWellFormed (the_network net.now) }
-{
-    let _ = net.count();
 }
 
 // Each constraint of a network is between its time-points, with its value in range.

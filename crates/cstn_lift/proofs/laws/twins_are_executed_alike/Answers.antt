@@ -8,5 +8,5 @@ returns c = record {
   observers = λ m s x j p good. observers_executed m good s x j p;
   executed = λ m s r x good same. (twin_right m good s r same x, twin_left m good s r same x);
   moments = twin_moment;
-  least = λ m s r x t good. twin_least m s r x t;
+  least = λ m s r x t good. twin_least m good s r x t;
 }

@@ -7,7 +7,7 @@ use Rattle.cstn_net.specs.Networks.{count}
 use Rattle.cstn_net.specs.Read.{the_network}
 use Rattle.cstn_lift.specs.Labelled.{label_in}
 use Rattle.cstn_lift.specs.Completion.{completed, completed_label}
-use Rattle.cstn_lift.specs.Faults.{IsSeenBy}
+use Rattle.cstn_lift.specs.Faults.{ObservesMark}
 use Rattle.cstn_lift.specs.Read.{with_labels}
 use Rattle.cstn_lift.proofs.FaultLemmas.{whole_at, first_same, circle_lowest, never_lowest, labelled_from}
 use Rattle.cstn_lift.proofs.lifting.completed_fault.Goals as goal
@@ -20,8 +20,8 @@ returns-in-Some c =
     let one_each = length-map c.args.labels.now marks ∙ c.requires.one_each in
     let at = whole_at m one_each own c.requires.completed in
     record {
-      has = first_same (count net) (λ x. IsSeenBy net (label_in own x) x) (λ x. IsSeenBy net (completed_label m x) x) c.in-Some.node.0
-          (λ x inside seen. subst (λ a. IsSeenBy net a x) (at x inside) seen) (λ x inside seen. subst (λ a. IsSeenBy net a x) (sym (at x inside)) seen)
+      has = first_same (count net) (λ x. ObservesMark net (label_in own x) x) (λ x. ObservesMark net (completed_label m x) x) c.in-Some.node.0
+          (λ x inside seen. subst (λ a. ObservesMark net a x) (at x inside) seen) (λ x inside seen. subst (λ a. ObservesMark net a x) (sym (at x inside)) seen)
           c.in-Some.ensures.first;
       lowest = circle_lowest m c.requires.good;
     }
@@ -41,8 +41,8 @@ returns-in-Some-first_not_plain c =
     let own = map marks c.args.whole.now in
     let one_each = length-map c.args.labels.now marks ∙ c.requires.one_each in
     let at = whole_at m one_each own c.requires.completed in
-    let none : (x : ℕ) → x < count net → IsSeenBy net (completed_label m x) x → ⊥ = λ x inside seen.
-    c.in_default.ensures.first x inside (subst (λ a. IsSeenBy net a x) (sym (at x inside)) seen) in
+    let none : (x : ℕ) → x < count net → ObservesMark net (completed_label m x) x → ⊥ = λ x inside seen.
+    c.in_default.ensures.first x inside (subst (λ a. ObservesMark net a x) (sym (at x inside)) seen) in
     record {
       has = first_same (count net) (λ x. IsPlain (label_in own x) → ⊥) (λ x. IsPlain (completed_label m x) → ⊥) c.in-Some-first_not_plain.node.0
           (λ x inside unplain plain. unplain (subst IsPlain (sym (at x inside)) plain)) (λ x inside unplain plain. unplain (subst IsPlain (at x inside) plain))
@@ -57,7 +57,7 @@ returns c =
     let own = map marks c.args.whole.now in
     let one_each = length-map c.args.labels.now marks ∙ c.requires.one_each in
     let at = whole_at m one_each own c.requires.completed in
-    let none : (x : ℕ) → x < count net → IsSeenBy net (completed_label m x) x → ⊥ = λ x inside seen.
-    c.in_default.ensures.first x inside (subst (λ a. IsSeenBy net a x) (sym (at x inside)) seen) in
+    let none : (x : ℕ) → x < count net → ObservesMark net (completed_label m x) x → ⊥ = λ x inside seen.
+    c.in_default.ensures.first x inside (subst (λ a. ObservesMark net a x) (sym (at x inside)) seen) in
     labelled_from m c.requires.good (c.observers_are_time_points.ensures.within net) c.in_default-first_not_plain.ensures.well_formed one_each none
     (λ x inside. subst IsPlain (at x inside) (c.in_default-first_not_plain.ensures.first x inside))

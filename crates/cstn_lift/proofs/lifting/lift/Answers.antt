@@ -2,7 +2,7 @@ use Rattle.std.proofs.Common.{◌≡◌, ◌⊎◌, ◌<◌, ◌≤◌, sym, sub
 use Rattle.cstn_lift.specs.declared.errors.LiftError.TheVariants.{TooManyConstraints}
 use Rattle.cstn_lift.specs.WellFormed.{IsLabelled}
 use Rattle.cstn_lift.specs.Lowered.{lowered}
-use Rattle.cstn_lift.specs.Faults.{number}
+use Rattle.cstn_lift.specs.Faults.{lift_number}
 use Rattle.cstn_lift.specs.Read.{the_labelled, with_labels}
 use Rattle.cstn_lift.proofs.FaultLemmas.{no_fault, refused_is}
 use Rattle.cstn_lift.proofs.lifting.lift.Goals as goal
@@ -22,5 +22,5 @@ pub returns-in-Err-lowered-clause-refused : goal.returns-in-Err-lowered-clause-r
 returns-in-Err-lowered-clause-refused c =
     let good = subst (λ ls. IsLabelled (with_labels c.args.net ls)) c.deref-3.ensures.value c.in_default-completed_fault.ensures in
     refused_is (with_labels c.args.net c.args.labels.items) good c.in-Err-lowered.fault
-    (subst (λ ls. (number c.in-Err-lowered.fault ≡ 0) ⊎ ((c.in-Err-lowered.fault ≡ TooManyConstraints) × (16384 < length (lowered (with_labels c.args.net ls)).constraints)))
+    (subst (λ ls. (lift_number c.in-Err-lowered.fault ≡ 0) ⊎ ((c.in-Err-lowered.fault ≡ TooManyConstraints) × (16384 < length (lowered (with_labels c.args.net ls)).constraints)))
     c.deref-5.ensures.value c.in-Err-lowered.ensures.refused)

@@ -3,7 +3,7 @@ use Rattle.std.specs.Prelude.{map}
 use Rattle.std.specs.List.{flat_map, range_with_len}
 use Rattle.cstn_label.specs.Read.{marks}
 use Rattle.cstn_net.specs.Read.{the_network}
-use Rattle.cstn_lift.specs.Lowered.{waits, guards_with}
+use Rattle.cstn_lift.specs.Lowered.{guards_of, guards_with}
 use Rattle.cstn_lift.specs.Handed.{HasConstraints}
 use Rattle.cstn_lift.proofs.Built.{points_turn}
 use Rattle.cstn_lift.proofs.LabelLemmas.{label_there}
@@ -23,7 +23,7 @@ loop-x-preserved c =
       added = λ cs has.
           let before = cs ++ flat_map (guards_with net own) (range_with_len 0 x) in
           subst (λ es. HasConstraints es c.add_guards_of.new.builder.drafts) (points_turn (guards_with net own) cs x)
-          (subst (λ a. HasConstraints (before ++ waits net x a) c.add_guards_of.new.builder.drafts) is
+          (subst (λ a. HasConstraints (before ++ guards_of net x a) c.add_guards_of.new.builder.drafts) is
           (c.in_ok-add_guards_of.ensures.added before (loop.added cs has)));
       few = omega (arith, few, loop.few);
       deadline = c.in_ok-add_guards_of.ensures.rest.0 ∙ loop.deadline;

@@ -1,6 +1,6 @@
 use Rattle.std.proofs.Common.{refl, inl, inr}
 use Rattle.std.proofs.lemmas.Bool.{cases_eq}
-use Rattle.cstn_net.specs.Drafts.{number}
+use Rattle.cstn_net.specs.Drafts.{net_number}
 use Rattle.cstn_lift.specs.Read.{with_labels}
 use Rattle.cstn_lift.proofs.Taken.{closed_is, refused_long, closed_few, same_observes, same_reaction}
 use Rattle.cstn_lift.proofs.lowering.lowered.Goals as goal
@@ -21,7 +21,7 @@ returns-in-Err-close-clause-refused c =
     let b = c.in-Ok.builder in
     let given = c.in-Ok.ensures in
     let error = c.in-Err-close.error in
-    elim (cases_eq (number error) 0) [
+    elim (cases_eq (net_number error) 0) [
       | inl memory ↦ inl (c.error_of.ensures.memory memory)
       | inr other ↦ inr (
         c.error_of.ensures.constraints other,

@@ -12,7 +12,7 @@ refutes-requires c =
     let steps = map the_entry c.args.steps.now in
     let last = the_entry c.step_at-last.result in
     let there = last_image c.args.steps.now c.step_at-last.result c.step_at-last.ensures.step in
-    let within = all_within c.conclusions_stay_within.ensures.chain c.conclusions_stay_within.ensures.wait net steps (length steps) c.is_well_formed.ensures.network
+    let within = all_within c.conclusions_stay_within.ensures.chain c.conclusions_stay_within.ensures.wait net steps (length steps) c.network_is_well_formed.ensures.network
     (steps_low c.args.steps.now c.requires.form.each) (derivation_right net steps (length steps) c.requires.derivation) in
     record { node = (within (length steps - 1) last (slice_get_within steps (length steps - 1) last there) there).node }
 

@@ -8,7 +8,7 @@ use Rattle.cstn_replay.proofs.replays.replay.Goals as goal
 
 pub returns-in-None-clause-truth : goal.returns-in-None-clause-truth
 returns-in-None-clause-truth c e =
-    c.derivations_are_sound.ensures.refuted (the_network c.args.net.now) (map the_entry c.steps-steps.result.now) c.is_well_formed.ensures.network
+    c.derivations_are_sound.ensures.refuted (the_network c.args.net.now) (map the_entry c.steps-steps.result.now) c.network_is_well_formed.ensures.network
     (c.end.ensures.accepted.0 e)
 
 pub returns-in-None-clause-rejected : goal.returns-in-None-clause-rejected

@@ -28,7 +28,7 @@ returns c =
     let given = concluded {P = λ q. IsChain net (the_constraint constraint) b q} c.labels_are_their_marks.ensures.equal c.chain-given.result c.args.bound c.chain-given.ensures.chain
     c.chain-given.ensures.none (c.rules_have_one_conclusion.ensures.chain net (the_constraint constraint) b) in
     let follows = chain_follows net (map the_entry c.args.steps.now) c.args.k c.args.id c.args.i (the_constraint constraint) b (the_bound c.args.bound)
-    c.is_well_formed.ensures.ascending
+    c.network_is_well_formed.ensures.ascending
     (contains_image the_constraint c.args.net.now.constraints constraint c.in-Some.ensures.there) c.in-Some.ensures.id c.in-Some-premise.ensures.earlier in
     record {
       chained = (

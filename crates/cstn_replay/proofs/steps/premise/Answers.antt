@@ -14,6 +14,6 @@ pub returns-clause-range : goal.returns-clause-range
 returns-clause-range c =
     let inside = c.if-i-k.false in
     let before : c.args.i < c.args.k = omega arith in
-    all_within c.conclusions_stay_within.ensures.chain c.conclusions_stay_within.ensures.wait (the_network c.args.net.now) (map the_entry c.args.steps.now) c.args.k c.is_well_formed.ensures.network
+    all_within c.conclusions_stay_within.ensures.chain c.conclusions_stay_within.ensures.wait (the_network c.args.net.now) (map the_entry c.args.steps.now) c.args.k c.network_is_well_formed.ensures.network
     (steps_low c.args.steps.now c.requires.form.each) c.requires.before c.args.i (the_entry c.step_at-step.result) before
     (there_image c.args.steps.now c.args.i c.step_at-step.result c.step_at-step.ensures.step)

@@ -19,5 +19,5 @@ returns-in-Some-clause-sound c =
     HoldsIn (the_network c.args.net.now) table (the_bound r)}
     c.wait_for.result c.wait_for.ensures.wait
     (λ r w table seen_holds holds. wait_sound (the_network c.args.net.now) table
-    c.in-Some.p.index (the_bound c.args.seen.now) (the_bound c.args.b.now) (the_bound r) c.is_well_formed.ensures.network w
+    c.in-Some.p.index (the_bound c.args.seen.now) (the_bound c.args.b.now) (the_bound r) c.network_is_well_formed.ensures.network w
     seen_holds holds)

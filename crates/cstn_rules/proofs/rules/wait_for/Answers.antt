@@ -11,7 +11,7 @@ use Rattle.cstn_rules.proofs.rules.wait_for.Goals as goal
 
 pub overflow_add-until : goal.overflow_add-until
 overflow_add-until c =
-    let small = limit_small (the_network c.args.net.now) c.args.seen.now.node.0 c.is_well_formed.ensures in
+    let small = limit_small (the_network c.args.net.now) c.args.seen.now.node.0 c.network_is_well_formed.ensures in
     let low = c.requires.seen.low in
     let high = c.requires.seen.high in
     let ticks = c.reaction.ensures.range in
@@ -20,7 +20,7 @@ overflow_add-until c =
 
 pub returns-clause-wait : goal.returns-clause-wait
 returns-clause-wait c =
-    let small = limit_small (the_network c.args.net.now) c.args.seen.now.node.0 c.is_well_formed.ensures in
+    let small = limit_small (the_network c.args.net.now) c.args.seen.now.node.0 c.network_is_well_formed.ensures in
     let low = c.requires.seen.low in
     let high = c.requires.seen.high in
     let ticks = c.reaction.ensures.range in

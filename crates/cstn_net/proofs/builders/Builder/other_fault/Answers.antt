@@ -7,7 +7,8 @@ use Rattle.cstn_net.specs.Networks.{IsValue}
 use Rattle.cstn_net.specs.Read.{observed}
 use Rattle.cstn_label.specs.declared.nodes.NodeId.{NodeId}
 use Rattle.cstn_net.specs.Observers.{KnowsObservers, IsUnseen}
-use Rattle.cstn_net.specs.Drafts.{BuilderParts, LacksObserver, IsFirst, IsLeastOfFirst, HasTwins, AreFirstTwins, HasReaction, observations}
+use Rattle.cstn_net.specs.Faults.{IsFirst}
+use Rattle.cstn_net.specs.Drafts.{BuilderParts, LacksObserver, IsLeastOfFirst, HasTwins, AreFirstTwins, HasReaction, observations}
 use Rattle.cstn_net.proofs.FaultLemmas.{lowest_from, least_alike, unseen_lacks, lacks_unseen}
 use Rattle.cstn_net.proofs.builders.Builder.other_fault.Goals as goal
 
