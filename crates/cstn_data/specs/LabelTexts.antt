@@ -1,5 +1,6 @@
 -- Labels as texts.
 use Rattle.std.specs.Prelude.{ℕ, Bool, true, false, ◌||◌, ◌==◌, List, [], ◌∷◌, Option, Some, None, if◌then◌else◌}
+use Rattle.cstn_label.specs.Marks.{is_absent}
 use Rattle.cstn_label.specs.Labels.{Label, empty, with_mark}
 use Rattle.cstn_label.specs.Letters.{prop_of}
 use Rattle.cstn_label.specs.declared.marks.Mark.{Mark}
@@ -28,12 +29,6 @@ after_byte second_byte b = when (b == 172) (None, letter)
 after_byte letter b =
     if is_white b then Some (None, letter) else
     (prop_of b >>= λ p. Some (Some (record { prop = p; negated = true }), literal))
-
-abbrev pub is_absent : Mark → Bool
-is_absent Absent = true
-is_absent Yes = false
-is_absent No = false
-is_absent Unknown = false
 
 abbrev pub said_by : Bool → Mark
 said_by true = No

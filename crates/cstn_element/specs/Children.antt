@@ -1,11 +1,13 @@
 -- What stands next in an element that holds elements and white space alone.
-use Rattle.std.specs.Prelude.{◌≡◌, ◌<◌, ◌≤◌, ℕ, List, ◌∷◌, if◌then◌else◌}
+use Rattle.std.specs.Prelude.{◌≡◌, ◌<◌, ◌≤◌, ℕ, List, ◌∷◌, length, Result, if◌then◌else◌}
 use Rattle.std.specs.List.{list_all}
 use Rattle.cstn_markup.specs.Bytes.{is_white}
 use Rattle.cstn_markup.specs.Tokens.{Token}
+use Rattle.cstn_element.specs.Results.{Refusal}
 use Rattle.cstn_element.specs.Contents.{Tag, Content, contents, inner, outer}
 use Rattle.cstn_element.specs.Contents.Content.{done, cut, run, element}
-use Rattle.cstn_element.specs.Reads.{inside, behind}
+use Rattle.cstn_element.specs.Reads.{ReadsWhole, inside, behind}
+use Rattle.cstn_element.specs.declared.errors.DocError.{DocError}
 use Rattle.cstn_element.specs.declared.children.Start.{Start}
 use Rattle.cstn_element.specs.declared.children.Next.{Next}
 use Rattle.cstn_element.specs.declared.children.Next.TheVariants.{Child, End, Wrong}
@@ -20,6 +22,13 @@ past_blanks (element tag content after) = element tag content after
 -- a start tag that the program read, as the definitions have it
 abbrev pub tag_seen : Start → Tag
 tag_seen start = record { at = start.at; name = start.name.now; attributes = start.attributes }
+
+-- An element whose start tag was read, inside so many others, was read to its end: what was returned is what `meaning` tells of
+-- its tag and its content.
+abbrev pub ReadsChild : {A B : Type 0} → ℕ → (A → B) → (Tag → Content → Result B Refusal) → Start → List Token → List Token → Result A DocError → Type 0
+ReadsChild depth view meaning start before after result =
+    (names : List (List ℕ)) → length names ≡ depth
+    → ReadsWhole view (meaning (tag_seen start)) start.closed start.at start.name.now names before after result
 
 -- Inside open elements of these names, the innermost first, the tokens `before` begin with `found` behind white space. `around`
 -- is what is left of the elements around the innermost one.

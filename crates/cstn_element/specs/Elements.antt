@@ -84,9 +84,13 @@ abbrev pub with_datum : List Datum → Option Datum → List Datum
 with_datum found (Some d) = found ++ (d ∷ [])
 with_datum found None = found
 
+-- one of these data elements has the key
+abbrev pub has_key : List Datum → List ℕ → Bool
+has_key found key = list_any (λ d. is_same d.key key) found
+
 -- the data found, after an element in a node or an edge: a data element is read, and any other element is passed over
 abbrev pub child : Bool → List (List ℕ) → List Datum → Tag → Content → Result (List Datum) Refusal
-child true used found tag inside = datum used (λ key. list_any (λ d. is_same d.key key) found) tag inside >>= λ d. Ok (with_datum found d)
+child true used found tag inside = datum used (has_key found) tag inside >>= λ d. Ok (with_datum found d)
 child false used found tag inside = passed inside >>= λ same. Ok found
 
 -- the data of a node or an edge

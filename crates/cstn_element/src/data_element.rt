@@ -3,10 +3,9 @@
 ghost use Rattle.std.specs.Prelude.{◌≡◌, ℕ, List, ◌≤◌, ◌<◌, ◌+◌, length, map, IsSome};
 ghost use Rattle.std.specs.List.{list_any};
 ghost use Rattle.cstn_markup.specs.Bytes.{is_same, resolved};
-ghost use Rattle.cstn_element.specs.Elements.{datum, datum_of};
-ghost use Rattle.cstn_element.specs.Children.{tag_seen};
+ghost use Rattle.cstn_element.specs.Elements.{has_key, datum, datum_of};
+ghost use Rattle.cstn_element.specs.Children.{ReadsChild};
 ghost use Rattle.cstn_element.specs.DataElementSeen.{maybe_datum, datum_seen, lent_datum};
-ghost use Rattle.cstn_element.specs.Reads.{ReadsWhole};
 
 use crate::attributes::attribute;
 use crate::children::Start;
@@ -60,7 +59,7 @@ pub fn read_datum<'a>(
     depth: usize,
 ) -> Result<Option<Datum>, DocError>
     requires deep { depth < 32 }
-    ensures reads { (names : List (List ℕ)) → length names ≡ depth → ReadsWhole maybe_datum (datum (map (λ u. u.now) used.now) (λ key. list_any (λ d. is_same d.key key) (map datum_seen found.now)) (tag_seen start.now)) start.now.closed start.now.at start.now.name.now names scanner.old scanner.new result }
+    ensures reads { ReadsChild depth maybe_datum (datum (map (λ u. u.now) used.now) (has_key (map datum_seen found.now))) start.now scanner.old scanner.new result }
     ensures less { length scanner.new ≤ length scanner.old }
 {
     let at = start.at;

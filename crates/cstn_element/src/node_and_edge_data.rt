@@ -2,10 +2,10 @@
 
 ghost use Rattle.std.specs.Prelude.{◌≡◌, ℕ, List, ◌≤◌, length, map, codes};
 ghost use Rattle.cstn_markup.specs.Bytes.{is_same};
-ghost use Rattle.cstn_element.specs.Elements.{child, data_of};
-ghost use Rattle.cstn_element.specs.Children.{tag_seen};
+ghost use Rattle.cstn_element.specs.Elements.{data_reading, data_of};
+ghost use Rattle.cstn_element.specs.Children.{ReadsChild};
 ghost use Rattle.cstn_element.specs.DataElementSeen.{datum_seen};
-ghost use Rattle.cstn_element.specs.Reads.{Reads, ReadsWhole};
+ghost use Rattle.cstn_element.specs.Reads.{Reads};
 
 use crate::children::{Next, Start, next_child};
 use crate::data_element::{Datum, read_datum};
@@ -23,7 +23,7 @@ fn read_child<'a>(
     used: &[&[u8]],
     found: &mut Vec<Datum>,
 ) -> Result<(), DocError>
-    ensures reads { (names : List (List ℕ)) → length names ≡ 3 → ReadsWhole (λ u. map datum_seen found.new.items) (child (is_same start.now.name.now (codes "data")) (map (λ u. u.now) used.now) (map datum_seen found.old.items) (tag_seen start.now)) start.now.closed start.now.at start.now.name.now names scanner.old scanner.new result }
+    ensures reads { ReadsChild 3 (λ u. map datum_seen found.new.items) ((data_reading (map (λ u. u.now) used.now)).elements (map datum_seen found.old.items)) start.now scanner.old scanner.new result }
     ensures less { length scanner.new ≤ length scanner.old }
 {
     if start.name != b"data".as_slice() {
@@ -67,7 +67,7 @@ pub fn read_element_data(
     start: &Start,
     used: &[&[u8]],
 ) -> Result<Vec<Datum>, DocError>
-    ensures reads { (names : List (List ℕ)) → length names ≡ 2 → ReadsWhole (λ v. map datum_seen v.items) (data_of (map (λ u. u.now) used.now)) start.now.closed start.now.at start.now.name.now names scanner.old scanner.new result }
+    ensures reads { ReadsChild 2 (λ v. map datum_seen v.items) (λ tag. data_of (map (λ u. u.now) used.now)) start.now scanner.old scanner.new result }
     ensures less { length scanner.new ≤ length scanner.old }
 {
     if start.closed {

@@ -2,7 +2,8 @@
 
 ghost use Rattle.std.specs.Prelude.{◌≡◌, ℕ, List, ◌≤◌, ◌<◌, ◌+◌, length};
 ghost use Rattle.cstn_element.specs.Elements.{passed};
-ghost use Rattle.cstn_element.specs.Reads.{Reads, ReadsWhole, raised};
+ghost use Rattle.cstn_element.specs.Reads.{Reads, raised};
+ghost use Rattle.cstn_element.specs.Children.{ReadsChild};
 
 use crate::children::Start;
 use crate::errors::Fault;
@@ -53,7 +54,7 @@ pub fn pass_element<'a>(
     depth: usize,
 ) -> Result<(), Fault>
     requires { depth < 32 }
-    ensures reads { (names : List (List ℕ)) → length names ≡ depth → ReadsWhole (λ u. u) passed start.now.closed start.now.at start.now.name.now names scanner.old scanner.new (raised result) }
+    ensures reads { ReadsChild depth (λ u. u) (λ tag. passed) start.now scanner.old scanner.new (raised result) }
     ensures less { length scanner.new ≤ length scanner.old }
 {
     if start.closed {

@@ -2,14 +2,14 @@
 use Rattle.std.proofs.Common.{◌≡◌, ℕ, suc, ◌+◌, ◌<◌, List, [], ◌∷◌, ◌++◌, length, map, refl, ap, sym, ◌∙◌, Option, Some, None, subst, arith}
 use Rattle.std.specs.Prelude.{option_map, if◌then◌else◌}
 use Rattle.std.specs.List.{All}
-use Rattle.cstn_net.specs.Networks.{Network, Constraint}
+use Rattle.cstn_net.specs.Networks.{Network, Constraint, is_prop}
 use Rattle.std.proofs.lemmas.List.{append_assoc, append-nil, length-append, length-map}
 use Rattle.std.proofs.lemmas.List.Elements.{All-tail, All-head, All-cons}
 use Rattle.std.proofs.Math.Path.{fun_ext}
 use Rattle.cstn_net.specs.declared.points.TimePoint.{TimePoint}
 use Rattle.cstn_net.specs.Drafts.{BuilderParts, constraint_of, constraints_from, with_reaction}
 use Rattle.cstn_net.specs.declared.drafts.Draft.{Draft as LentDraft}
-use Rattle.cstn_net.specs.Read.{NetworkParts, the_network, the_constraint, observed, reaction_of, is_prop}
+use Rattle.cstn_net.specs.Read.{NetworkParts, the_network, the_constraint, observed, reaction_of}
 use Rattle.cstn_graphml.specs.declared.drawn_graph.Observation.{Observation as LentObservation}
 use Rattle.cstn_graphml.specs.declared.drawn_graph.DrawnConstraint.{DrawnConstraint as Lent}
 use Rattle.cstn_graphml.specs.declared.drawn_graph.DrawnGraph.{DrawnGraph as LentGraph}
@@ -18,7 +18,7 @@ use Rattle.cstn_graphml.specs.DrawnGraphLaws.{IsDrawnAmong}
 use Rattle.cstn_graphml.specs.DrawnGraph.{observation, DrawnConstraint}
 use Rattle.cstn_graphml.specs.Document.{Parts, or_nothing}
 use Rattle.cstn_graphml.specs.Labels.{labels_seen}
-use Rattle.cstn_graphml.specs.Networks.{with_points, with_drafts, point_of, draft_of, drawn_of, numbered, observed_prop, reaction_by, reaction_among, observation_of, builder_of, at_origin, HasParts, network_of, IsBuilt}
+use Rattle.cstn_graphml.specs.Networks.{with_points, with_drafts, point_of, draft_of, drawn_of, numbered_drawn, observed_prop, reaction_by, reaction_among, observation_of, builder_of, at_origin, HasParts, network_of, IsBuilt}
 
 -- the last element of one list may as well be the first of the next
 seam : {A : Type 0} (xs : List A) (x : A) (ys : List A) → (xs ++ (x ∷ [])) ++ ys ≡ xs ++ (x ∷ ys)
@@ -61,7 +61,7 @@ prop_kept : (prop : Option ℕ) (ticks : ℕ) → prop ≡ observed_prop (observ
 prop_kept (Some p) ticks = refl
 prop_kept None ticks = refl
 
-props_kept : (points : List TimePoint) → map observed points ≡ map observed_prop (map observation_of points)
+pub props_kept : (points : List TimePoint) → map observed points ≡ map observed_prop (map observation_of points)
 props_kept [] = refl
 props_kept (t ∷ points) = rw (sym (prop_kept (observed t) t.reaction), props_kept points) refl
 
@@ -69,7 +69,7 @@ reaction_kept : (prop : Option ℕ) (ticks p later : ℕ) → (if is_prop p prop
 reaction_kept (Some q) ticks p later = refl
 reaction_kept None ticks p later = refl
 
-reactions_kept : (points : List TimePoint) (p : ℕ) → reaction_of points p ≡ reaction_among (map observation_of points) p
+pub reactions_kept : (points : List TimePoint) (p : ℕ) → reaction_of points p ≡ reaction_among (map observation_of points) p
 reactions_kept [] p = refl
 reactions_kept (t ∷ points) p = ap (λ later. if is_prop p (observed t) then t.reaction else later) (reactions_kept points p) ∙ reaction_kept (observed t) t.reaction p (reaction_among (map observation_of points) p)
 
@@ -110,11 +110,11 @@ has_parts deadline d = record {
   constraints = ap (map drawn_of) (built_drafts deadline d) ∙ seen_drafts d.constraints.items;
 }
 
-pub made_constraints : (k : ℕ) (ds : List LentDraft) → map the_constraint (constraints_from k ds) ≡ numbered k (map drawn_of ds)
+pub made_constraints : (k : ℕ) (ds : List LentDraft) → map the_constraint (constraints_from k ds) ≡ numbered_drawn k (map drawn_of ds)
 made_constraints k [] = refl
 made_constraints k (d ∷ ds) = ap (λ cs. the_constraint (constraint_of k d) ∷ cs) (made_constraints (k + 1) ds)
 
-pub numbered_length : (k : ℕ) (cs : List DrawnConstraint) → length (numbered k cs) ≡ length cs
+pub numbered_length : (k : ℕ) (cs : List DrawnConstraint) → length (numbered_drawn k cs) ≡ length cs
 numbered_length k [] = refl
 numbered_length k (c ∷ cs) = ap suc (numbered_length (k + 1) cs)
 
@@ -129,7 +129,7 @@ made_network deadline d n h =
     let observed_is : map observation_of n.points ≡ (parts_with deadline d).observes = ap (map observation_of) h.points ∙ parts.observes in
     same_network (h.deadline ∙ parts.deadline) (props_kept n.points ∙ ap (map observed_prop) observed_is)
     (fun_ext (λ p. reactions_kept n.points p ∙ ap (λ os. reaction_among os p) observed_is))
-    (ap (map the_constraint) h.constraints ∙ made_constraints 0 (builder_of deadline d).drafts ∙ ap (numbered 0) parts.constraints)
+    (ap (map the_constraint) h.constraints ∙ made_constraints 0 (builder_of deadline d).drafts ∙ ap (numbered_drawn 0) parts.constraints)
 
 -- the network that was made has a time-point for each name of the graph
 pub made_count : (deadline : ℕ) (d : LentGraph) (n : NetworkParts) → IsBuilt (builder_of deadline d) n → length d.names ≡ length d.observes.items + 1 → length d.names ≡ length (the_network n).observes

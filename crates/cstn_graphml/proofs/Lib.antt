@@ -5,6 +5,9 @@ pub mod DrawnGraphLaws
 pub mod Built
 pub mod PastTheLimit
 pub mod HandedPoints
-pub mod Excluded
 pub mod LabelsRead
 pub mod Refusing
+pub mod Fits
+pub mod OneAnswer
+pub mod OfDocuments
+pub mod SomeAnswer

@@ -1,31 +1,32 @@
 -- What a document means, its parts or its refusal, by what was read of it.
-use Rattle.std.proofs.Common.{◌≡◌, ℕ, List, ◌∷◌, length, refl, ap, sym, ◌∙◌, subst, arith, Option, Some, None, Result, Ok, Err, inl, inr}
+use Rattle.std.proofs.Common.{◌≡◌, ◌≢◌, ℕ, List, refl, ap, sym, ◌∙◌, subst, arith, Option, Some, None, Result, Ok, Err, inl, inr}
 use Rattle.std.proofs.lemmas.Bool.{false_from_ne_true}
-use Rattle.std.specs.Prelude.{IfOk, IfErr}
+use Rattle.std.specs.Prelude.{IfOk}
 use Rattle.std.specs.Str.{IsUtf8, is_utf8}
 use Rattle.std.specs.Str.Lossy.{utf8_valid_len}
 use Rattle.std.proofs.lemmas.Str.{IsUtf8-from_is_utf8, is_utf8-from_IsUtf8}
+use Rattle.std.specs.declared.alloc.AllocError.{AllocError}
 use Rattle.cstn_markup.specs.Tokens.{tokens}
 use Rattle.cstn_net.specs.declared.errors.NetError.{NetError}
-use Rattle.cstn_net.specs.declared.errors.NetError.TheVariants.{TooManyNodes, NoOrigin, TooManyConstraints, DeadlineRange, ValueRange, NotObserved, TwoObservers, NotPlain, ReactionRange, Memory as NoMemory}
-use Rattle.cstn_net.specs.Drafts.{BuilderParts, IsRefusal, IsLowestFault, number}
-use Rattle.cstn_net.specs.Networks.{Network, IsWellFormed, count}
+use Rattle.cstn_net.specs.declared.errors.NetError.TheVariants.{Memory as NoMemory}
+use Rattle.cstn_net.specs.Drafts.{BuilderParts, IsNetRefusal, IsLowestNetFault, net_number}
+use Rattle.cstn_net.specs.Networks.{Network, IsWellFormed}
 use Rattle.cstn_net.specs.Read.{NetworkParts, the_network}
 use Rattle.cstn_lift.specs.declared.errors.LiftError.{LiftError}
 use Rattle.cstn_lift.specs.Labelled.{Labelled}
-use Rattle.cstn_lift.specs.Faults.{HasFault, IsLowestFault as IsLowestLabelFault}
+use Rattle.cstn_lift.specs.Faults.{HasLiftFault, IsLowestLiftFault}
 use Rattle.cstn_lift.specs.WellFormed.{IsLabelled}
 use Rattle.cstn_lift.specs.Read.{LabelledParts, the_labelled}
 use Rattle.cstn_element.specs.Results.{Refusal, ◌>>=◌, or_refused, demand}
 use Rattle.cstn_element.specs.Results.Refusal.{not_utf8, no_deadline}
 use Rattle.cstn_element.specs.Contents.{content_of}
-use Rattle.cstn_graphml.specs.DrawnGraph.{DrawnGraph, origin_name}
+use Rattle.cstn_graphml.specs.DrawnGraph.{DrawnGraph}
 use Rattle.cstn_graphml.specs.DrawnGraphSeen.{graph_seen}
 use Rattle.cstn_graphml.specs.DrawnGraphLaws.{IsDrawnGraph}
 use Rattle.cstn_graphml.specs.Document.{Parts, document, in_document, drawn_parts, first_of_two}
 use Rattle.cstn_graphml.specs.Networks.{IsBuilt, builder_of, labelled_of}
 use Rattle.cstn_graphml.specs.Labels.{labels_seen, with_labels_of}
-use Rattle.cstn_graphml.specs.Answers.{IsDocument, IsUnfitDocument, RefusesDocument, IsTold, IsLabelRefusal}
+use Rattle.cstn_graphml.specs.Answers.{IsDocument, RefusesDocument, IsNetTold, IsLabelRefusal}
 use Rattle.cstn_element.specs.Reads.{Fails}
 use Rattle.cstn_graphml.specs.declared.drawn_graph.DrawnGraph.{DrawnGraph as LentGraph}
 use Rattle.cstn_element.specs.declared.errors.DocError.{DocError}
@@ -84,16 +85,16 @@ module _ (told : Result Parts Refusal) (n : ℕ) (d : LentGraph) (network : Netw
   well_made = subst IsWellFormed (made_network n d network built)
 
   -- where its labels have no fault, the document is accepted
-  pub made_document : (labelled : LabelledParts) (names : List (List ℕ)) → the_labelled labelled ≡ with_labels_of network d → names ≡ d.names → IsLabelled (the_labelled labelled) → ((error : LiftError) → HasFault (with_labels_of network d) error → ⊥) → IsDocument told labelled names
+  pub made_document : (labelled : LabelledParts) (names : List (List ℕ)) → the_labelled labelled ≡ with_labels_of network d → names ≡ d.names → IsLabelled (the_labelled labelled) → ((error : LiftError) → HasLiftFault (with_labels_of network d) error → ⊥) → IsDocument told (the_labelled labelled) names
   made_document labelled names same named in_order none = record {
     parts = parts_with n d;
     told_are = is;
-    fit = record { labelled = subst IsLabelled (same ∙ labels_made) in_order; faultless = λ error fault. none error (subst (λ (m : Labelled). HasFault m error) (sym labels_made) fault) };
+    fit = record { labelled = subst IsLabelled (same ∙ labels_made) in_order; faultless = λ error fault. none error (subst (λ (m : Labelled). HasLiftFault m error) (sym labels_made) fault) };
     labelled_is = same ∙ labels_made;
     names_are = named;
   }
 
-  pub all_made : (r : Result (LabelledParts × List (List ℕ)) DocError) → IfOk r (λ x. the_labelled x.0 ≡ with_labels_of network d) → IfOk r (λ x. x.1 ≡ d.names) → IfOk r (λ x. IsLabelled (the_labelled x.0)) → IfOk r (λ x. (error : LiftError) → HasFault (with_labels_of network d) error → ⊥) → IfOk r (λ x. IsDocument told x.0 x.1)
+  pub all_made : (r : Result (LabelledParts × List (List ℕ)) DocError) → IfOk r (λ x. the_labelled x.0 ≡ with_labels_of network d) → IfOk r (λ x. x.1 ≡ d.names) → IfOk r (λ x. IsLabelled (the_labelled x.0)) → IfOk r (λ x. (error : LiftError) → HasLiftFault (with_labels_of network d) error → ⊥) → IfOk r (λ x. IsDocument told (the_labelled x.0) x.1)
   all_made (Ok x) same named in_order none = made_document x.0 x.1 same named in_order none
   all_made (Err e) same named in_order none = tt
 
@@ -102,7 +103,7 @@ module _ (told : Result Parts Refusal) (n : ℕ) (d : LentGraph) (network : Netw
   mislabelled_is_refused (Lift error names) h = record {
     parts = parts_with n d;
     told_are = is;
-    mislabelled = record { well_formed = well_made good; fault = subst (λ (m : Labelled). IsLowestLabelFault m error) labels_made h.0 };
+    mislabelled = record { well_formed = well_made good; fault = subst (λ (m : Labelled). IsLowestLiftFault m error) labels_made h.0 };
     names_are = h.1;
   }
   mislabelled_is_refused (Memory e) h = tt
@@ -117,44 +118,18 @@ module _ (told : Result Parts Refusal) (n : ℕ) (d : LentGraph) (network : Netw
   mislabelled_is_refused NoDeadline h = absurd h
   mislabelled_is_refused (Net error names) h = absurd h
 
--- what follows for each error follows for the error that was returned, if one was
-pub each_error : {A E : Type 0} (P Q : E → Type 0) (r : Result A E) → ((e : E) → P e → Q e) → IfErr r P → IfErr r Q
-each_error P Q (Ok x) h p = tt
-each_error P Q (Err e) h p = h e p
+zero_is_memory : (error : NetError) → net_number error ≡ 0 → (x : AllocError) × (error ≡ NoMemory x)
+zero_is_memory (NoMemory x) z = (x, refl)
+zero_is_memory error z = absurd (omega (arith, z))
 
--- what was read with labels has the network and the names of the graph
-well_labelled_by : (network : NetworkParts) (d : LentGraph) (l : LabelledParts) → IsWellFormed (the_network network) → the_labelled l ≡ with_labels_of network d → IsWellFormed (the_network l.base)
-well_labelled_by network d l good same = subst IsWellFormed (sym (ap (λ (m : Labelled). m.base) same)) good
-
-pub well_labelled : (network : NetworkParts) (d : LentGraph) → IsWellFormed (the_network network) → (r : Result (LabelledParts × List (List ℕ)) DocError) → IfOk r (λ x. the_labelled x.0 ≡ with_labels_of network d) → IfOk r (λ x. IsWellFormed (the_network x.0.base))
-well_labelled network d good (Ok x) same = well_labelled_by network d x.0 good same
-well_labelled network d good (Err e) same = tt
-
-pub one_name_each : (network : NetworkParts) (d : LentGraph) → length d.names ≡ count (the_network network) → (r : Result (LabelledParts × List (List ℕ)) DocError) → IfOk r (λ x. the_labelled x.0 ≡ with_labels_of network d) → IfOk r (λ x. x.1 ≡ d.names) → IfOk r (λ x. length x.1 ≡ count (the_network x.0.base))
-one_name_each network d each (Ok x) same named = ap length named ∙ each ∙ sym (ap (λ (m : Labelled). count m.base) same)
-one_name_each network d each (Err e) same named = tt
-
-pub origin_first : (d : LentGraph) → IsDrawnGraph (graph_seen d) → (r : Result (LabelledParts × List (List ℕ)) DocError) → IfOk r (λ x. x.1 ≡ d.names) → IfOk r (λ x. (later : List (List ℕ)) × (x.1 ≡ origin_name ∷ later))
-origin_first d h (Ok x) named = (h.later, named ∙ h.first)
-origin_first d h (Err e) named = tt
-
-lowest_of : (b : BuilderParts) (e : NetError) → IsRefusal b e → (number e ≡ 0 → ⊥) → IsLowestFault b e
-lowest_of b e (inl z) h = absurd (h z)
+lowest_of : (b : BuilderParts) (e : NetError) → IsNetRefusal b e → ((x : AllocError) → e ≢ NoMemory x) → IsLowestNetFault b e
+lowest_of b e (inl z) h = let memory = zero_is_memory e z in absurd (h memory.0 memory.1)
 lowest_of b e (inr l) h = l
 
--- Of a document that has its parts, and whose network was refused.
-module _ (told : Result Parts Refusal) (n : ℕ) (d : LentGraph) (names : List (List ℕ)) (e : DocError) (is : told ≡ Ok (parts_with n d)) (named : names ≡ d.names) where
-  unfit : (error : NetError) → IsRefusal (builder_of n d) error → (number error ≡ 0 → ⊥) → IsUnfitDocument told error names
-  unfit error h z = record { parts = parts_with n d; told_are = is; unfit = record { builder = builder_of n d; parts_are = has_parts n d; fault = lowest_of _ error h z }; names_are = named }
-
-  pub unfit_is_refused : (error : NetError) → IsRefusal (builder_of n d) error → IsTold error names e → RefusesDocument told e
-  unfit_is_refused (NoMemory x) h t = subst (RefusesDocument told) (sym t) tt
-  unfit_is_refused TooManyNodes h t = subst (RefusesDocument told) (sym t) (unfit _ h (λ z. omega (arith, z)))
-  unfit_is_refused NoOrigin h t = subst (RefusesDocument told) (sym t) (unfit _ h (λ z. omega (arith, z)))
-  unfit_is_refused TooManyConstraints h t = subst (RefusesDocument told) (sym t) (unfit _ h (λ z. omega (arith, z)))
-  unfit_is_refused (DeadlineRange deadline) h t = subst (RefusesDocument told) (sym t) (unfit _ h (λ z. omega (arith, z)))
-  unfit_is_refused (ValueRange constraint) h t = subst (RefusesDocument told) (sym t) (unfit _ h (λ z. omega (arith, z)))
-  unfit_is_refused (NotObserved prop) h t = subst (RefusesDocument told) (sym t) (unfit _ h (λ z. omega (arith, z)))
-  unfit_is_refused (TwoObservers prop first second) h t = subst (RefusesDocument told) (sym t) (unfit _ h (λ z. omega (arith, z)))
-  unfit_is_refused (NotPlain constraint) h t = subst (RefusesDocument told) (sym t) (unfit _ h (λ z. omega (arith, z)))
-  unfit_is_refused (ReactionRange node) h t = subst (RefusesDocument told) (sym t) (unfit _ h (λ z. omega (arith, z)))
+-- where the network of a document that has its parts is refused, so is the document
+pub unfit_is_refused : (told : Result Parts Refusal) (n : ℕ) (d : LentGraph) (names : List (List ℕ)) (e : DocError) → told ≡ Ok (parts_with n d) → names ≡ d.names → (error : NetError) → IsNetRefusal (builder_of n d) error → IsNetTold error names e
+    → RefusesDocument told e
+unfit_is_refused told n d names e is named error h (inl memory) = subst (RefusesDocument told) (sym memory.2) tt
+unfit_is_refused told n d names e is named error h (inr fault) =
+    subst (RefusesDocument told) (sym fault.1)
+    (record { parts = parts_with n d; told_are = is; unfit = record { builder = builder_of n d; parts_are = has_parts n d; fault = lowest_of _ error h fault.0 }; names_are = named })

@@ -1,6 +1,5 @@
 -- What a document means: its labelled network with names, or the first refusal.
 use Rattle.std.specs.Prelude.{ℕ, Bool, true, false, List, [], ◌∷◌, Option, Some, None, Result, Ok, Err, if◌then◌else◌, codes}
-use Rattle.std.specs.List.{list_any}
 use Rattle.std.specs.Str.{is_utf8}
 use Rattle.std.specs.Str.Lossy.{utf8_valid_len}
 use Rattle.cstn_label.specs.Labels.{Label}
@@ -9,7 +8,7 @@ use Rattle.cstn_markup.specs.Tokens.{tokens}
 use Rattle.cstn_element.specs.Results.{Refusal, ◌>>=◌, or_refused, demand}
 use Rattle.cstn_element.specs.Results.Refusal.{not_utf8, shape, no_deadline}
 use Rattle.cstn_element.specs.Contents.{Tag, Content, content_of}
-use Rattle.cstn_element.specs.Elements.{Reading, read_by, blank, passed, datum, data_of}
+use Rattle.cstn_element.specs.Elements.{Reading, read_by, blank, passed, datum, has_key, data_of}
 use Rattle.cstn_graphml.specs.DrawnGraph.{Observation, DrawnGraph, DrawnConstraint, empty_graph}
 use Rattle.cstn_graphml.specs.Judged.{judged_node, judged_edge, judged_deadline}
 
@@ -27,7 +26,7 @@ part_of name =
 
 -- the graph, once an element in it was read
 abbrev pub graph_child : Part → DrawnGraph → Tag → Content → Result DrawnGraph Refusal
-graph_child a_datum graph tag inside = datum (codes "Deadline" ∷ []) (λ key. list_any (λ d. is_same d.key key) graph.own) tag inside >>= judged_deadline graph
+graph_child a_datum graph tag inside = datum (codes "Deadline" ∷ []) (has_key graph.own) tag inside >>= judged_deadline graph
 graph_child a_node graph tag inside = data_of (codes "Obs" ∷ (codes "Reaction" ∷ (codes "Label" ∷ []))) inside >>= judged_node tag graph
 graph_child an_edge graph tag inside = data_of (codes "Type" ∷ (codes "LabeledValues" ∷ [])) inside >>= judged_edge tag graph
 graph_child another graph tag inside = passed inside >>= λ same. Ok graph

@@ -1,26 +1,31 @@
 -- The labelled network of a document, and what a builder is handed for its network.
-use Rattle.std.specs.Prelude.{◌≡◌, ℕ, ◌+◌, ◌==◌, List, [], ◌∷◌, ◌++◌, map, Option, Some, None, option_map, if◌then◌else◌}
+use Rattle.std.specs.Prelude.{◌≡◌, ℕ, ◌==◌, List, [], ◌∷◌, ◌++◌, map, Option, Some, None, option_map, if◌then◌else◌}
 use Rattle.cstn_net.specs.declared.points.TimePoint.{TimePoint}
 use Rattle.cstn_net.specs.declared.drafts.Draft.{Draft as LentDraft}
 use Rattle.cstn_net.specs.declared.errors.NetError.{NetError}
 use Rattle.cstn_net.specs.Networks.{Constraint, Network, IsWellFormed}
-use Rattle.cstn_net.specs.Drafts.{BuilderParts, constraints_from, IsLowestFault}
+use Rattle.cstn_net.specs.Drafts.{BuilderParts, constraints_from, IsLowestNetFault}
 use Rattle.cstn_net.specs.Read.{NetworkParts, observed}
+use Rattle.cstn_label.specs.declared.labels.Label.{Label}
 use Rattle.cstn_label.specs.Read.{marks}
 use Rattle.cstn_lift.specs.declared.errors.LiftError.{LiftError}
 use Rattle.cstn_lift.specs.Labelled.{Labelled}
 use Rattle.cstn_lift.specs.WellFormed.{IsLabelled}
-use Rattle.cstn_lift.specs.Faults.{HasFault, IsLowestFault as IsLowestLabelFault}
+use Rattle.cstn_lift.specs.Lowered.{numbered}
+use Rattle.cstn_lift.specs.Faults.{HasLiftFault, IsLowestLiftFault}
 use Rattle.cstn_graphml.specs.declared.drawn_graph.DrawnConstraint.{DrawnConstraint as Lent}
 use Rattle.cstn_graphml.specs.declared.drawn_graph.Observation.{Observation as LentObservation}
 use Rattle.cstn_graphml.specs.declared.drawn_graph.DrawnGraph.{DrawnGraph as LentGraph}
 use Rattle.cstn_graphml.specs.DrawnGraph.{Observation, observation, DrawnConstraint}
 use Rattle.cstn_graphml.specs.Document.{Parts}
 
--- the constraints, with ids from k on
-abbrev pub numbered : ℕ → List DrawnConstraint → List Constraint
-numbered k [] = []
-numbered k (c ∷ cs) = record { id = k; from = c.from; to = c.to; most = c.most; label = c.label } ∷ numbered (k + 1) cs
+-- the constraint that is drawn, under the id 0
+abbrev pub constraint_drawn : DrawnConstraint → Constraint
+constraint_drawn c = record { id = 0; from = c.from; to = c.to; most = c.most; label = c.label }
+
+-- the constraints that are drawn, with ids from k on
+abbrev pub numbered_drawn : ℕ → List DrawnConstraint → List Constraint
+numbered_drawn k cs = numbered k (map constraint_drawn cs)
 
 -- the proposition that is observed
 abbrev pub observed_prop : Option Observation → Option ℕ
@@ -41,7 +46,7 @@ network_of parts = record {
   deadline = parts.deadline;
   observes = map observed_prop parts.observes;
   reaction = reaction_among parts.observes;
-  constraints = numbered 0 parts.constraints;
+  constraints = numbered_drawn 0 parts.constraints;
 }
 
 -- the network of a document with the labels of its time-points
@@ -87,21 +92,28 @@ pub record HasParts (b : BuilderParts) (parts : Parts) : Type 0 where
   pub observes : map observation_of b.points ≡ parts.observes
   pub constraints : map drawn_of b.drafts ≡ parts.constraints
 
+-- values of the program hold exactly these parts
+pub record IsHeld (parts : Parts) : Type 0 where
+  pub builder : BuilderParts
+  pub parts_are : HasParts builder parts
+  pub labels : List Label
+  pub labels_are : map marks labels ≡ parts.labels
+
 -- the parts make no network, for this lowest fault
 pub record IsUnfit (parts : Parts) (error : NetError) : Type 0 where
   pub builder : BuilderParts
   pub parts_are : HasParts builder parts
-  pub fault : IsLowestFault builder error
+  pub fault : IsLowestNetFault builder error
 
 -- the parts make a network, but no labelled one, for this lowest fault of the labels
 pub record IsMislabelled (parts : Parts) (error : LiftError) : Type 0 where
   pub well_formed : IsWellFormed (network_of parts)
-  pub fault : IsLowestLabelFault (labelled_of parts) error
+  pub fault : IsLowestLiftFault (labelled_of parts) error
 
 -- the parts make a labelled network: its labels are in order, and it has no fault
 pub record IsFit (parts : Parts) : Type 0 where
   pub labelled : IsLabelled (labelled_of parts)
-  pub faultless : (error : LiftError) → HasFault (labelled_of parts) error → ⊥
+  pub faultless : (error : LiftError) → HasLiftFault (labelled_of parts) error → ⊥
 
 -- the network has what the builder was handed, and the ids of its constraints are their places
 pub record IsBuilt (b : BuilderParts) (n : NetworkParts) : Type 0 where

@@ -25,7 +25,8 @@ fn read_document_child(
     start: &Start,
     seen: &mut Option<DrawnGraph>,
 ) -> Result<(), DocError>
-    ensures reads { ReadsWhole (λ u. option_map graph_seen seen.new) (document_child (option_map graph_seen seen.old) (tag_seen start.now)) start.now.closed start.now.at start.now.name.now [] scanner.old scanner.new result }
+    ensures reads { ReadsWhole (λ u. option_map graph_seen seen.new) (document_child (option_map graph_seen seen.old) (tag_seen start.now))
+        start.now.closed start.now.at start.now.name.now [] scanner.old scanner.new result }
     ensures less { length scanner.new ≤ length scanner.old }
 {
     let at = start.at;

@@ -2,12 +2,12 @@
 
 ghost use Rattle.std.specs.Prelude.{◌≡◌, ℕ, List, ◌≤◌, length};
 ghost use Rattle.cstn_graphml.specs.DrawnGraph.{empty_graph};
-ghost use Rattle.cstn_graphml.specs.Document.{part_of, graph_child, in_graph};
+ghost use Rattle.cstn_graphml.specs.Document.{part_of, graph_child, graph_reading, in_graph};
 ghost use Rattle.cstn_graphml.specs.Document.Part.{a_datum, a_node, an_edge};
-ghost use Rattle.cstn_element.specs.Children.{tag_seen};
+ghost use Rattle.cstn_element.specs.Children.{ReadsChild};
 ghost use Rattle.cstn_graphml.specs.DrawnGraphSeen.{graph_seen};
 ghost use Rattle.cstn_graphml.specs.PartSeen.{part_seen};
-ghost use Rattle.cstn_element.specs.Reads.{Reads, ReadsWhole};
+ghost use Rattle.cstn_element.specs.Reads.{Reads};
 
 use crate::deadlines::judge_deadline;
 use crate::drawn_graph::{DrawnGraph, empty_graph};
@@ -53,7 +53,7 @@ fn read_graph_datum<'a>(
     start: &Start<'a>,
     graph: &mut DrawnGraph,
 ) -> Result<(), DocError>
-    ensures reads { (names : List (List ℕ)) → length names ≡ 2 → ReadsWhole (λ u. graph_seen graph.new) (graph_child a_datum (graph_seen graph.old) (tag_seen start.now)) start.now.closed start.now.at start.now.name.now names scanner.old scanner.new result }
+    ensures reads { ReadsChild 2 (λ u. graph_seen graph.new) (graph_child a_datum (graph_seen graph.old)) start.now scanner.old scanner.new result }
     ensures less { length scanner.new ≤ length scanner.old }
 {
     let used: [&[u8]; 1] = [b"Deadline"];
@@ -69,7 +69,7 @@ fn read_node(
     start: &Start,
     graph: &mut DrawnGraph,
 ) -> Result<(), DocError>
-    ensures reads { (names : List (List ℕ)) → length names ≡ 2 → ReadsWhole (λ u. graph_seen graph.new) (graph_child a_node (graph_seen graph.old) (tag_seen start.now)) start.now.closed start.now.at start.now.name.now names scanner.old scanner.new result }
+    ensures reads { ReadsChild 2 (λ u. graph_seen graph.new) (graph_child a_node (graph_seen graph.old)) start.now scanner.old scanner.new result }
     ensures less { length scanner.new ≤ length scanner.old }
 {
     let used: [&[u8]; 3] = [b"Obs", b"Reaction", b"Label"];
@@ -84,7 +84,7 @@ fn read_edge(
     start: &Start,
     graph: &mut DrawnGraph,
 ) -> Result<(), DocError>
-    ensures reads { (names : List (List ℕ)) → length names ≡ 2 → ReadsWhole (λ u. graph_seen graph.new) (graph_child an_edge (graph_seen graph.old) (tag_seen start.now)) start.now.closed start.now.at start.now.name.now names scanner.old scanner.new result }
+    ensures reads { ReadsChild 2 (λ u. graph_seen graph.new) (graph_child an_edge (graph_seen graph.old)) start.now scanner.old scanner.new result }
     ensures less { length scanner.new ≤ length scanner.old }
 {
     let used: [&[u8]; 2] = [b"Type", b"LabeledValues"];
@@ -99,7 +99,7 @@ fn read_graph_child<'a>(
     start: &Start<'a>,
     graph: &mut DrawnGraph,
 ) -> Result<(), DocError>
-    ensures reads { (names : List (List ℕ)) → length names ≡ 2 → ReadsWhole (λ u. graph_seen graph.new) (graph_child (part_of start.now.name.now) (graph_seen graph.old) (tag_seen start.now)) start.now.closed start.now.at start.now.name.now names scanner.old scanner.new result }
+    ensures reads { ReadsChild 2 (λ u. graph_seen graph.new) (graph_reading.elements (graph_seen graph.old)) start.now scanner.old scanner.new result }
     ensures less { length scanner.new ≤ length scanner.old }
 {
     elements_passed_over_leave_the_state::<GraphReading>();
@@ -143,7 +143,7 @@ pub fn read_whole_graph(
     scanner: &mut Scanner,
     start: &Start,
 ) -> Result<DrawnGraph, DocError>
-    ensures reads { (names : List (List ℕ)) → length names ≡ 1 → ReadsWhole graph_seen (in_graph empty_graph) start.now.closed start.now.at start.now.name.now names scanner.old scanner.new result }
+    ensures reads { ReadsChild 1 graph_seen (λ tag. in_graph empty_graph) start.now scanner.old scanner.new result }
     ensures less { length scanner.new ≤ length scanner.old }
 {
     if start.closed {

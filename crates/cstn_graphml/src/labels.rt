@@ -5,7 +5,7 @@ ghost use Rattle.cstn_label.specs.Read.{marks};
 ghost use Rattle.cstn_net.specs.Networks.{count};
 ghost use Rattle.cstn_net.specs.Read.{the_network};
 ghost use Rattle.cstn_lift.specs.declared.errors.LiftError.{LiftError};
-ghost use Rattle.cstn_lift.specs.Faults.{HasFault};
+ghost use Rattle.cstn_lift.specs.Faults.{HasLiftFault};
 ghost use Rattle.cstn_lift.specs.WellFormed.{IsLabelled};
 ghost use Rattle.cstn_lift.specs.Read.{the_labelled};
 ghost use Rattle.cstn_graphml.specs.Answers.{IsLabelRefusal, IsLiftTold};
@@ -42,17 +42,12 @@ fn refusal(error: LiftError, names: Names) -> DocError
 {
     match error {
         LiftError::Memory(e) => DocError::Memory(e),
-        LiftError::OriginLabel => DocError::Lift { error, names },
-        LiftError::NotPlain { node: _ } => DocError::Lift { error, names },
-        LiftError::NotObserved { node: _, prop: _ } => DocError::Lift { error, names },
-        LiftError::Circle { node: _ } => DocError::Lift { error, names },
-        LiftError::Never { node: _ } => DocError::Lift { error, names },
-        LiftError::TooManyConstraints => DocError::Lift { error, names },
+        _ => DocError::Lift { error, names },
     }
 }
 
 /// The network of a graph with the labels of its time-points, and their names. Refused with the lowest fault of the labels.
-pub fn labelled_of(
+pub fn label_network(
     alloc: Global,
     network: Network,
     graph: DrawnGraph,
@@ -61,7 +56,7 @@ pub fn labelled_of(
     ensures labelled { IfOk result (λ r. the_labelled r.0 ≡ with_labels_of network graph) }
     ensures names { IfOk result (λ r. r.1 ≡ graph.names) }
     ensures in_order { IfOk result (λ r. IsLabelled (the_labelled r.0)) }
-    ensures faultless { IfOk result (λ _. (e : LiftError) → HasFault (with_labels_of network graph) e → ⊥) }
+    ensures faultless { IfOk result (λ _. (e : LiftError) → HasLiftFault (with_labels_of network graph) e → ⊥) }
     ensures refused { IfErr result (IsLabelRefusal (with_labels_of network graph) graph.names) }
 {
     let labels = labels_of(alloc, &graph)?;

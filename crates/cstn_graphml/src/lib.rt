@@ -15,5 +15,6 @@ mod reading;
 mod root;
 
 pub use cstn_element::DocError;
-pub use laws::documents_past_the_limit_are_refused;
+pub use drawn_graph::Observation;
+pub use laws::{documents_have_one_answer, documents_past_the_limit_are_refused};
 pub use reading::read;

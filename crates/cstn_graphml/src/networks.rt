@@ -1,7 +1,7 @@
 //! The network of a graph.
 
 ghost use Rattle.std.specs.Prelude.{◌≡◌, ◌<◌, ◌+◌, ◌-◌, ◌^◌, ◌++◌, ◌∷◌, [], length, OnOk, IfOk, IfErr, All};
-ghost use Rattle.cstn_net.specs.Drafts.{IsRefusal};
+ghost use Rattle.cstn_net.specs.Drafts.{IsNetRefusal};
 ghost use Rattle.cstn_net.specs.Networks.{IsWellFormed};
 ghost use Rattle.cstn_net.specs.Read.{the_network};
 ghost use Rattle.cstn_graphml.specs.DrawnGraphSeen.{graph_seen};
@@ -88,11 +88,11 @@ fn builder_of(alloc: Global, deadline: u32, graph: &DrawnGraph) -> Result<Builde
 }
 
 /// The network of a graph with this deadline in ticks, or the fault for which the builder refuses it.
-pub fn network_of(alloc: Global, deadline: u32, graph: &DrawnGraph) -> Result<Network, NetError>
+pub fn build_network(alloc: Global, deadline: u32, graph: &DrawnGraph) -> Result<Network, NetError>
     requires { IsDrawnGraph (graph_seen graph.now) }
     ensures accepted { IfOk result (IsBuilt (builder_of deadline graph.now)) }
     ensures well_formed { IfOk result (λ n. IsWellFormed (the_network n)) }
-    ensures refused { IfErr result (IsRefusal (builder_of deadline graph.now)) }
+    ensures refused { IfErr result (IsNetRefusal (builder_of deadline graph.now)) }
 {
     match builder_of(alloc, deadline, graph) {
         Ok(builder) => builder.close(),

@@ -4,16 +4,17 @@ ghost use Rattle.std.specs.Prelude.{◌≡◌, ◌≢◌, ℕ, List, ◌∷◌, 
 ghost use Rattle.cstn_label.specs.declared.nodes.NodeId.{NodeId};
 ghost use Rattle.cstn_net.specs.Networks.{IsWellFormed, count};
 ghost use Rattle.cstn_net.specs.Read.{the_network};
+ghost use Rattle.cstn_lift.specs.Read.{the_labelled};
 ghost use Rattle.cstn_lift.specs.declared.errors.LiftError.TheVariants.{NotPlain as NotPlainLabel};
 ghost use Rattle.cstn_net.specs.declared.errors.NetError.TheVariants.{NoOrigin, NotPlain, ReactionRange};
 ghost use Rattle.cstn_element.specs.declared.errors.DocError.TheVariants.{Net, Lift};
 ghost use Rattle.cstn_graphml.specs.DrawnGraph.{origin_name};
 ghost use Rattle.cstn_graphml.specs.Document.{first_of_two, document};
-ghost use Rattle.cstn_graphml.specs.Answers.{IsDocument, RefusesDocument, IsTold};
+ghost use Rattle.cstn_graphml.specs.Answers.{IsDocument, RefusesDocument, IsNetTold};
 
 use crate::document::read_document;
-use crate::labels::{labelled_of, names_of};
-use crate::networks::network_of;
+use crate::labels::{label_network, names_of};
+use crate::networks::build_network;
 use cstn_element::DocError;
 use cstn_lift::Labelled;
 use cstn_markup::Scanner;
@@ -33,43 +34,18 @@ fn first_of_two(one: Option<u32>, other: Option<u32>) -> Option<u32>
 
 /// The refusal of a document for what the builder refused: want of memory by itself, any other fault with the names.
 fn refusal(error: NetError, names: Names) -> DocError
-    ensures { IsTold error names result }
+    ensures { IsNetTold error names result }
 {
     match error {
         NetError::Memory(e) => DocError::Memory(e),
-        NetError::TooManyNodes => DocError::Net { error, names },
-        NetError::NoOrigin => DocError::Net { error, names },
-        NetError::TooManyConstraints => DocError::Net { error, names },
-        NetError::DeadlineRange { deadline: _ } => DocError::Net { error, names },
-        NetError::ValueRange { constraint: _ } => DocError::Net { error, names },
-        NetError::NotObserved { prop: _ } => DocError::Net { error, names },
-        NetError::TwoObservers {
-            prop: _,
-            first: _,
-            second: _,
-        } => DocError::Net { error, names },
-        NetError::NotPlain { constraint: _ } => DocError::Net { error, names },
-        NetError::ReactionRange { node: _ } => DocError::Net { error, names },
+        _ => DocError::Net { error, names },
     }
 }
 
-/// Reads a document. Returns its labelled network and the names of its time-points by number, `Z` first, or the first refusal.
-/// A deadline in ticks that is handed in wins over the document's; with neither the document is refused.
-pub fn read(
-    alloc: Global,
-    bytes: &[u8],
-    deadline: Option<u32>,
-) -> Result<(Labelled, Names), DocError>
-    ensures accepted { IfOk result (λ r. IsDocument (document bytes.now deadline) r.0 r.1) }
-    ensures well_formed { IfOk result (λ r. IsWellFormed (the_network r.0.base)) }
-    ensures named { IfOk result (λ r. length r.1 ≡ count (the_network r.0.base)) }
-    ensures origin { IfOk result (λ r. (later : List (List ℕ)) × (r.1 ≡ origin_name ∷ later)) }
-
+/// The answer to a document: its labelled network with the names, or the first refusal.
+fn answer(alloc: Global, bytes: &[u8], deadline: Option<u32>) -> Result<(Labelled, Names), DocError>
+    ensures accepted { IfOk result (λ r. IsDocument (document bytes.now deadline) (the_labelled r.0) r.1) }
     ensures refused { IfErr result (RefusesDocument (document bytes.now deadline)) }
-    ensures has_origin { IfErr result (λ e. (names : List (List ℕ)) → e ≢ Net NoOrigin names) }
-    ensures has_plain_labels { IfErr result (λ e. (names : List (List ℕ)) (constraint : ℕ) → e ≢ Net (NotPlain constraint) names) }
-    ensures has_timely_reactions { IfErr result (λ e. (names : List (List ℕ)) (node : NodeId) → e ≢ Net (ReactionRange node) names) }
-    ensures has_plain_node_labels { IfErr result (λ e. (names : List (List ℕ)) (node : NodeId) → e ≢ Lift (NotPlainLabel node) names) }
 {
     if let Err(e) = str::from_utf8(bytes) {
         return Err(DocError::NotUtf8 {
@@ -81,8 +57,29 @@ pub fn read(
     let Some(deadline) = first_of_two(deadline, graph.deadline) else {
         return Err(DocError::NoDeadline);
     };
-    match network_of(alloc, deadline, &graph) {
-        Ok(network) => labelled_of(alloc, network, graph),
+    match build_network(alloc, deadline, &graph) {
+        Ok(network) => label_network(alloc, network, graph),
         Err(error) => Err(refusal(error, names_of(graph))),
     }
+}
+
+/// Reads a document. Returns its labelled network and the names of its time-points by number, `Z` first, or the first refusal.
+/// A deadline in ticks that is handed in wins over the document's; with neither the document is refused.
+pub fn read(
+    alloc: Global,
+    bytes: &[u8],
+    deadline: Option<u32>,
+) -> Result<(Labelled, Names), DocError>
+    ensures accepted { IfOk result (λ r. IsDocument (document bytes.now deadline) (the_labelled r.0) r.1) }
+    ensures well_formed { IfOk result (λ r. IsWellFormed (the_network r.0.base)) }
+    ensures named { IfOk result (λ r. length r.1 ≡ count (the_network r.0.base)) }
+    ensures origin { IfOk result (λ r. (later : List (List ℕ)) × (r.1 ≡ origin_name ∷ later)) }
+
+    ensures refused { IfErr result (RefusesDocument (document bytes.now deadline)) }
+    ensures has_origin { IfErr result (λ e. (names : List (List ℕ)) → e ≢ Net NoOrigin names) }
+    ensures has_plain_labels { IfErr result (λ e. (names : List (List ℕ)) (constraint : ℕ) → e ≢ Net (NotPlain constraint) names) }
+    ensures has_timely_reactions { IfErr result (λ e. (names : List (List ℕ)) (node : NodeId) → e ≢ Net (ReactionRange node) names) }
+    ensures has_plain_node_labels { IfErr result (λ e. (names : List (List ℕ)) (node : NodeId) → e ≢ Lift (NotPlainLabel node) names) }
+{
+    answer(alloc, bytes, deadline)
 }

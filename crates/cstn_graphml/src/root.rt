@@ -2,10 +2,10 @@
 
 ghost use Rattle.std.specs.Prelude.{◌≡◌, ℕ, List, ◌≤◌, length, option_map, codes};
 ghost use Rattle.cstn_markup.specs.Bytes.{is_same};
-ghost use Rattle.cstn_graphml.specs.Document.{root_child, in_root};
-ghost use Rattle.cstn_element.specs.Children.{tag_seen};
+ghost use Rattle.cstn_graphml.specs.Document.{root_reading, in_root};
+ghost use Rattle.cstn_element.specs.Children.{ReadsChild};
 ghost use Rattle.cstn_graphml.specs.DrawnGraphSeen.{graph_seen};
-ghost use Rattle.cstn_element.specs.Reads.{Reads, ReadsWhole};
+ghost use Rattle.cstn_element.specs.Reads.{Reads};
 
 use crate::drawn_graph::DrawnGraph;
 use crate::graph::read_whole_graph;
@@ -27,7 +27,8 @@ fn read_root_child<'a>(
     start: &Start<'a>,
     seen: &mut Option<DrawnGraph>,
 ) -> Result<(), DocError>
-    ensures reads { (names : List (List ℕ)) → length names ≡ 1 → ReadsWhole (λ u. option_map graph_seen seen.new) (root_child (is_same start.now.name.now (codes "graph")) (option_map graph_seen seen.old) (tag_seen start.now)) start.now.closed start.now.at start.now.name.now names scanner.old scanner.new result }
+    ensures reads { ReadsChild 1 (λ u. option_map graph_seen seen.new) (root_reading.elements (option_map graph_seen seen.old))
+        start.now scanner.old scanner.new result }
     ensures less { length scanner.new ≤ length scanner.old }
 {
     elements_passed_over_leave_the_state::<RootReading>();
@@ -77,7 +78,7 @@ pub fn read_whole_root(
     scanner: &mut Scanner,
     start: &Start,
 ) -> Result<DrawnGraph, DocError>
-    ensures reads { (names : List (List ℕ)) → length names ≡ 0 → ReadsWhole graph_seen in_root start.now.closed start.now.at start.now.name.now names scanner.old scanner.new result }
+    ensures reads { ReadsChild 0 graph_seen (λ tag. in_root) start.now scanner.old scanner.new result }
     ensures less { length scanner.new ≤ length scanner.old }
 {
     if start.closed {

@@ -1,4 +1,4 @@
--- The draft of all time-points has their names and observations, and finds each name at its number.
+-- The draft of all time-points has their names and timed_observations, and finds each name at its number.
 use Rattle.std.proofs.Common.{◌≡◌, ◌≢◌, ℕ, zero, suc, ◌+◌, ◌<◌, ◌≤◌, List, [], ◌∷◌, ◌++◌, length, take, refl, ap, sym, ◌∙◌, arith, Bool, true, false, append_assoc, append-nil, subst, map, length-take}
 use Rattle.std.specs.Prelude.{Option, Some, None, codes, nat_lt, nat_le, ◌&&◌, slice_index_or}
 use Rattle.std.specs.List.{AllPairs, position, position_or_len}

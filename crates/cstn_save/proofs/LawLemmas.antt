@@ -13,16 +13,16 @@ use Rattle.std.proofs.lemmas.Option.{get_or_from_slice_get}
 use Rattle.cstn_label.specs.declared.marks.Mark.{Mark}
 use Rattle.cstn_label.specs.declared.marks.Mark.TheVariants.{Absent, Yes, No, Unknown}
 use Rattle.cstn_label.specs.Labels.{Label}
+use Rattle.cstn_label.specs.Marks.{is_absent}
 use Rattle.cstn_net.specs.Networks.{Network, Constraint, count, IsWellFormed, IsOnObserved, IsValue}
 use Rattle.cstn_lift.specs.Labelled.{Labelled, label_of}
 use Rattle.cstn_lift.specs.WellFormed.{IsLabelled}
 use Rattle.cstn_markup.specs.Tokens.{tokens}
 use Rattle.cstn_element.specs.Results.{◌>>=◌}
-use Rattle.cstn_data.specs.LabelTexts.{is_absent}
 use Rattle.cstn_element.specs.Contents.{content_of}
 use Rattle.cstn_graphml.specs.DrawnGraph.{Observation, DrawnGraph, with_constraint}
 use Rattle.cstn_graphml.specs.Document.{in_document, drawn_parts, document}
-use Rattle.cstn_save.specs.Canonical.{canonical, observed_by, observations, head, nodes_below, edges, tail}
+use Rattle.cstn_save.specs.Canonical.{canonical, observed_by, timed_observations, head, nodes_below, edges, tail}
 use Rattle.cstn_save.specs.ReadBack.{drawn, parts, AreNamesOf}
 use Rattle.cstn_save.proofs.WholeLemmas.{drafted, IsNew, IsInReach}
 use Rattle.cstn_save.proofs.EdgeLemmas.{IsKnown, AreKnown}
@@ -42,13 +42,13 @@ reach_by : (net : Network) (i : ℕ) (o : Option ℕ) → IsWellFormed net → s
 reach_by net i None wf e = tt
 reach_by net i (Some p) wf e = (wf.letters i p (record { what = e }), wf.network.reacts i p (record { what = e }), wf.soon i p (record { what = e }))
 
-in_reach : (net : Network) (i : ℕ) → IsWellFormed net → IsInReach (slice_index_or (observations net) i None)
+in_reach : (net : Network) (i : ℕ) → IsWellFormed net → IsInReach (slice_index_or (timed_observations net) i None)
 in_reach net i wf = subst IsInReach (sym (observed_at net.reaction net.observes i)) (reach_by net i (slice_index_or net.observes i None) wf refl)
 
-observations_count : (net : Network) → length (observations net) ≡ count net
+observations_count : (net : Network) → length (timed_observations net) ≡ count net
 observations_count net = length-map net.observes (observed_by net.reaction)
 
-given_of : (m : Labelled) (names : List (List ℕ)) → IsLabelled m → AreNamesOf m.base names → AreGiven names (observations m.base) m.labels
+given_of : (m : Labelled) (names : List (List ℕ)) → IsLabelled m → AreNamesOf m.base names → AreGiven names (timed_observations m.base) m.labels
 given_of m names good is =
     let net : Network = m.base in
     record {
@@ -90,16 +90,16 @@ all_known names (c ∷ cs) d all = (
       (λ k x h. let known = all (suc k) x (omega (arith, h)) in record { fits = known.fits; plain = known.plain; letters = known.letters; from = known.from; to = known.to }),
 )
 
-parts_told : (m : Labelled) (names : List (List ℕ)) (n : ℕ) (d : DrawnGraph) → suc n ≡ length names → suc n ≡ count m.base → suc n ≡ length m.labels → IsShaped names (observations m.base) m.labels m.base.deadline n d
+parts_told : (m : Labelled) (names : List (List ℕ)) (n : ℕ) (d : DrawnGraph) → suc n ≡ length names → suc n ≡ count m.base → suc n ≡ length m.labels → IsShaped names (timed_observations m.base) m.labels m.base.deadline n d
     → drawn_parts None (record d { constraints = d.constraints ++ map drawn m.base.constraints }) ≡ Ok (parts m names)
 parts_told m names n d all count_is labels_are so =
-    rw (so.deadline_is, so.origin_is, so.names_are, take_all (suc n) names (omega (arith, all)), so.none, so.labels_are, take_all (suc n) m.labels (omega (arith, labels_are)), so.observes_are, take_all (suc n) (observations m.base) (omega (arith, count_is, observations_count m.base))) refl
+    rw (so.deadline_is, so.origin_is, so.names_are, take_all (suc n) names (omega (arith, all)), so.none, so.labels_are, take_all (suc n) m.labels (omega (arith, labels_are)), so.observes_are, take_all (suc n) (timed_observations m.base) (omega (arith, count_is, observations_count m.base))) refl
 
 -- the content of the canonical document has the parts of the labelled network
 pub content_back : (m : Labelled) (names : List (List ℕ)) → IsLabelled m → AreNamesOf m.base names → (in_document (content_of (tokens (canonical m names))) >>= drawn_parts None) ≡ Ok (parts m names)
 content_back m names good is =
     let net : Network = m.base in
-    let os : List (Option Observation) = observations net in
+    let os : List (Option Observation) = timed_observations net in
     let wf = good.base in
     let given = given_of m names good is in
     let n : ℕ = count net - 1 in
@@ -131,9 +131,9 @@ content_back m names good is =
 canonical_utf8 : (m : Labelled) (names : List (List ℕ)) → IsWellFormed m.base → AreNamesOf m.base names → is_utf8 (canonical m names) ≡ true
 canonical_utf8 m names wf is =
     let net : Network = m.base in
-    let text : List ℕ = nodes_below names (observations net) m.labels (count net) in
+    let text : List ℕ = nodes_below names (timed_observations net) m.labels (count net) in
     let name : (i : ℕ) → i < length names → IsUtf8 (slice_index_or names i []) = λ i h. IsUtf8-from_is_utf8 (slice_index_or names i []) (is.named.each i [] h).utf8 in
-    let nodes = nodes_utf8 names (observations net) m.labels (count net) (λ i h. (name i (omega (arith, h, is.each)), in_reach net i wf)) in
+    let nodes = nodes_utf8 names (timed_observations net) m.labels (count net) (λ i h. (name i (omega (arith, h, is.each)), in_reach net i wf)) in
     let lines = edges_utf8 names net.constraints (λ k x h. let c = wf.network.constraints k x h in let e = slice_index_or net.constraints k x in
     edge_utf8 (slice_index_or names e.from []) (slice_index_or names e.to []) e.most e.label (name e.from (omega (arith, c.from, is.each))) (name e.to (omega (arith, c.to, is.each))) (value_fits e.most (wf.values k x h))) in
     is_utf8-from_IsUtf8 (canonical m names)

@@ -15,3 +15,4 @@ pub mod LawLemmas
 pub mod SameLemmas
 pub mod TextLemmas
 pub mod UnlabelledLemmas
+pub mod FitLemmas

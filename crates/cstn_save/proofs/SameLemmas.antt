@@ -1,24 +1,22 @@
 -- The network that is read back is the one that was written, but for ids and the reactions of what nothing observes.
 use Rattle.std.proofs.Common.{◌≡◌, ℕ, zero, suc, ◌+◌, ◌<◌, ◌≤◌, List, [], ◌∷◌, length, refl, ap, sym, ◌∙◌, arith, Bool, true, false, subst, map, Ok, Result}
-use Rattle.std.specs.Prelude.{Option, Some, None, ◌==◌, slice_index_or, if◌then◌else◌}
+use Rattle.std.specs.Prelude.{Option, Some, None, ◌==◌, slice_index_or}
 use Rattle.std.specs.List.{All}
 use Rattle.std.proofs.Math.Path.{fun_ext}
 use Rattle.std.proofs.lemmas.Bool.{eqb-true}
 use Rattle.std.proofs.lemmas.List.{length-map}
 use Rattle.std.proofs.lemmas.List.Elements.{All-tail, All-head, All-cons, All-nil, All-weaker}
-use Rattle.cstn_net.specs.Networks.{Network, Constraint, count, Observes, IsConstraint, IsWellFormed, IsValue}
+use Rattle.cstn_net.specs.Networks.{Network, Constraint, count, Observes, IsConstraint, IsWellFormed, IsValue, is_prop}
 use Rattle.cstn_net.specs.declared.errors.NetError.{NetError}
-use Rattle.cstn_net.specs.declared.points.TimePoint.{TimePoint}
-use Rattle.cstn_net.specs.Read.{observed, reaction_of, is_prop}
-use Rattle.cstn_net.proofs.HandedLemmas.{no_fault}
-use Rattle.cstn_graphml.specs.DrawnGraph.{observation, DrawnConstraint}
+use Rattle.cstn_graphml.specs.DrawnGraph.{DrawnConstraint}
 use Rattle.cstn_graphml.specs.Document.{Parts, document}
 use Rattle.cstn_element.specs.Results.{Refusal}
-use Rattle.cstn_graphml.specs.Networks.{numbered, observed_prop, reaction_by, reaction_among, observation_of, network_of, labelled_of, IsUnfit}
+use Rattle.cstn_graphml.specs.Networks.{numbered_drawn, observed_prop, reaction_by, reaction_among, network_of, labelled_of, IsUnfit}
 use Rattle.cstn_lift.specs.Labelled.{Labelled}
 use Rattle.cstn_lift.specs.WellFormed.{IsLabelled}
-use Rattle.cstn_graphml.proofs.Built.{made_constraints, numbered_length}
-use Rattle.cstn_save.specs.Canonical.{canonical, observed_by, observations}
+use Rattle.cstn_graphml.proofs.Built.{numbered_length}
+use Rattle.cstn_graphml.proofs.Fits.{fits}
+use Rattle.cstn_save.specs.Canonical.{canonical, observed_by, timed_observations}
 use Rattle.cstn_save.specs.ReadBack.{drawn, parts, AreNamesOf, AreNumbered, AreSameButIds}
 use Rattle.cstn_save.proofs.LawLemmas.{document_back}
 
@@ -26,7 +24,7 @@ observed_back : (reaction : ℕ → ℕ) (o : Option ℕ) → observed_prop (obs
 observed_back reaction None = refl
 observed_back reaction (Some p) = refl
 
-props_back : (reaction : ℕ → ℕ) (os : List (Option ℕ)) → map observed_prop (map (observed_by reaction) os) ≡ os
+pub props_back : (reaction : ℕ → ℕ) (os : List (Option ℕ)) → map observed_prop (map (observed_by reaction) os) ≡ os
 props_back reaction [] = refl
 props_back reaction (o ∷ os) = rw (observed_back reaction o, props_back reaction os) refl
 
@@ -57,7 +55,7 @@ reaction_all reaction (Some q ∷ os) p tick =
     here_or_later reaction q p (reaction_among (map (observed_by reaction) os) p) (q == p) refl
     (λ other. reaction_all reaction os p (λ none. tick (nowhere (Some q) os p (differs q p other) none)))
 
-drawn_numbered : (j : ℕ) (ds : List DrawnConstraint) → map drawn (numbered j ds) ≡ ds
+drawn_numbered : (j : ℕ) (ds : List DrawnConstraint) → map drawn (numbered_drawn j ds) ≡ ds
 drawn_numbered j [] = refl
 drawn_numbered j (d ∷ ds) = ap (λ (es : List DrawnConstraint). d ∷ es) (drawn_numbered (j + 1) ds)
 
@@ -70,11 +68,11 @@ same_but_ids m names = let net : Network = m.base in record {
   constraints = drawn_numbered 0 (map drawn net.constraints);
 }
 
-renumbered : (j : ℕ) (cs : List Constraint) → ((k : ℕ) (d : Constraint) → k < length cs → (slice_index_or cs k d).id ≡ j + k) → numbered j (map drawn cs) ≡ cs
+renumbered : (j : ℕ) (cs : List Constraint) → ((k : ℕ) (d : Constraint) → k < length cs → (slice_index_or cs k d).id ≡ j + k) → numbered_drawn j (map drawn cs) ≡ cs
 renumbered j [] h = refl
 renumbered j (c ∷ cs) h =
     let here : j ≡ c.id = omega (arith, h 0 c (omega arith)) in
-    ap (λ i. record { id = i; from = c.from; to = c.to; most = c.most; label = c.label } ∷ numbered (j + 1) (map drawn cs)) here
+    ap (λ i. record { id = i; from = c.from; to = c.to; most = c.most; label = c.label } ∷ numbered_drawn (j + 1) (map drawn cs)) here
     ∙ ap (λ (ds : List Constraint). c ∷ ds) (renumbered (j + 1) cs (λ k d i. omega (arith, h (suc k) d (omega (arith, i)))))
 
 same_network : (h k : ℕ) (os ps : List (Option ℕ)) (r s : ℕ → ℕ) (cs ds : List Constraint) → h ≡ k → os ≡ ps → r ≡ s → cs ≡ ds
@@ -94,11 +92,11 @@ labelled_back m names ticks ids = ap (λ (n : Network). record m { base = n }) (
 
 -- what holds of constraints whatever their ids holds of them with other ids
 all_numbered : (P : Constraint → Type 0) → ((i : ℕ) (c : Constraint) → P c → P (record { id = i; from = c.from; to = c.to; most = c.most; label = c.label }))
-    → (j : ℕ) (cs : List Constraint) → All P cs → All P (numbered j (map drawn cs))
+    → (j : ℕ) (cs : List Constraint) → All P cs → All P (numbered_drawn j (map drawn cs))
 all_numbered P keeps j [] all = All-nil P
 all_numbered P keeps j (c ∷ cs) all = All-cons P _ _ (keeps j c (All-head P c cs all)) (all_numbered P keeps (j + 1) cs (All-tail P c cs all))
 
-numbered_id : (j : ℕ) (ds : List DrawnConstraint) (k : ℕ) (c : Constraint) → k < length (numbered j ds) → (slice_index_or (numbered j ds) k c).id ≡ j + k
+numbered_id : (j : ℕ) (ds : List DrawnConstraint) (k : ℕ) (c : Constraint) → k < length (numbered_drawn j ds) → (slice_index_or (numbered_drawn j ds) k c).id ≡ j + k
 numbered_id j [] k c h = absurd (omega arith)
 numbered_id j (d ∷ ds) zero c h = omega arith
 numbered_id j (d ∷ ds) (suc k) c h = omega (arith, numbered_id (j + 1) ds k c (omega arith))
@@ -132,35 +130,6 @@ well_formed_back m names wf =
       in_time = wf.in_time;
     }
 
-prop_kept : (prop : Option ℕ) (ticks : ℕ) → prop ≡ observed_prop (observation prop ticks)
-prop_kept (Some p) ticks = refl
-prop_kept None ticks = refl
-
-props_kept : (points : List TimePoint) → map observed points ≡ map observed_prop (map observation_of points)
-props_kept [] = refl
-props_kept (t ∷ points) = rw (sym (prop_kept (observed t) t.reaction), props_kept points) refl
-
-reaction_kept : (prop : Option ℕ) (ticks p later : ℕ) → (if is_prop p prop then ticks else later) ≡ reaction_by (observation prop ticks) p later
-reaction_kept (Some q) ticks p later = refl
-reaction_kept None ticks p later = refl
-
-reactions_kept : (points : List TimePoint) (p : ℕ) → reaction_of points p ≡ reaction_among (map observation_of points) p
-reactions_kept [] p = refl
-reactions_kept (t ∷ points) p =
-    ap (λ later. if is_prop p (observed t) then t.reaction else later) (reactions_kept points p) ∙ reaction_kept (observed t) t.reaction p (reaction_among (map observation_of points) p)
-
--- parts that make a well-formed network have no fault
-pub fits : (parts : Parts) (error : NetError) → IsWellFormed (network_of parts) → IsUnfit parts error → ⊥
-fits parts error good unfit =
-    no_fault unfit.builder (network_of parts) good
-    (record {
-      deadline = unfit.parts_are.deadline;
-      observes = props_kept unfit.builder.points ∙ ap (map observed_prop) unfit.parts_are.observes;
-      reaction = λ p. reactions_kept unfit.builder.points p ∙ ap (λ os. reaction_among os p) unfit.parts_are.observes;
-      constraints = made_constraints 0 unfit.builder.drafts ∙ ap (numbered 0) unfit.parts_are.constraints;
-    })
-    error unfit.fault.has
-
 -- the parts of a canonical document have no fault
 pub accepted : (m : Labelled) (names : List (List ℕ)) (error : NetError) → IsWellFormed m.base → IsUnfit (parts m names) error → ⊥
 accepted m names error wf unfit = fits (parts m names) error (well_formed_back m names wf) unfit
@@ -174,7 +143,7 @@ pub told_apart : (m other : Labelled) (names more : List (List ℕ)) → IsLabel
     → canonical m names ≡ canonical other more → (names ≡ more) × (m.labels ≡ other.labels) × AreSameButIds m.base other.base
 told_apart m other names more wf is good are same =
     let read : parts m names ≡ parts other more = parts_are _ _ (sym (document_back m names wf is) ∙ ap (λ text. document text None) same ∙ document_back other more good are) in
-    let seen : observations m.base ≡ observations other.base = ap (λ (p : Parts). p.observes) read in
+    let seen : timed_observations m.base ≡ timed_observations other.base = ap (λ (p : Parts). p.observes) read in
     let props : m.base.observes ≡ other.base.observes = sym (props_back m.base.reaction m.base.observes) ∙ ap (map observed_prop) seen ∙ props_back other.base.reaction other.base.observes in (
       ap (λ (p : Parts). p.names) read,
       ap (λ (p : Parts). p.labels) read,

@@ -1,5 +1,5 @@
 -- Labels that make no fault.
-use Rattle.std.proofs.Common.{◌≡◌, ℕ, zero, suc, ◌+◌, ◌<◌, Bool, true, false, List, [], ◌∷◌, length, refl, ap, sym, ◌∙◌, arith, subst}
+use Rattle.std.proofs.Common.{◌≡◌, ℕ, zero, suc, ◌+◌, Bool, true, false, List, [], ◌∷◌, length, refl, ap, sym, ◌∙◌, arith, subst}
 use Rattle.std.specs.Prelude.{if◌then◌else◌}
 use Rattle.std.proofs.lemmas.List.{length-map}
 use Rattle.cstn_label.specs.Labels.{Label, IsPlain, empty, joined}
@@ -8,13 +8,13 @@ use Rattle.cstn_net.specs.Networks.{Network, Constraint, IsWellFormed, count}
 use Rattle.cstn_lift.specs.declared.errors.LiftError.{LiftError}
 use Rattle.cstn_lift.specs.declared.errors.LiftError.TheVariants.{OriginLabel, NotPlain, NotObserved, Circle, Never, TooManyConstraints, Memory}
 use Rattle.cstn_lift.specs.Labelled.{Labelled, label_of}
-use Rattle.cstn_lift.specs.Completion.{is_observed_by, brought_by, joined_upto, rounds, completed_label}
+use Rattle.cstn_lift.specs.Completion.{joined_upto, rounds, completed_label}
 use Rattle.cstn_lift.specs.WellFormed.{IsLabelled}
-use Rattle.cstn_lift.specs.Lowered.{lowered, numbered}
-use Rattle.cstn_lift.specs.Faults.{HasFault}
+use Rattle.cstn_lift.specs.Lowered.{numbered}
+use Rattle.cstn_lift.specs.Faults.{HasLiftFault}
 use Rattle.cstn_lift.proofs.Unlabelled.{unlabelled_lowered}
 use Rattle.cstn_graphml.specs.Networks.{labelled_of, observed_prop, IsMislabelled}
-use Rattle.cstn_save.specs.Canonical.{observations, observed_by}
+use Rattle.cstn_save.specs.Canonical.{timed_observations, observed_by}
 use Rattle.cstn_save.specs.ReadBack.{parts}
 use Rattle.cstn_save.proofs.SameLemmas.{well_formed_back}
 
@@ -50,10 +50,10 @@ module _ (m : Labelled) (none : (x : ℕ) → label_of m x ≡ empty) where
     plain = λ x inside. plain_empty (label_of m x) (none x);
     observed = λ x inside p marked. absurd (marked (ap (λ (a : Label). a p) (none x)));
     no_circle = λ x p o. ap (λ (a : Label). a p) (completed_none x);
-    possible = λ x inside. plain_empty (completed_label m x) (completed_none x);
+    completed_plain = λ x inside. plain_empty (completed_label m x) (completed_none x);
   }
 
-  pub unlabelled_faultless : IsWellFormed m.base → length m.labels ≡ count m.base → (error : LiftError) → HasFault m error → ⊥
+  pub unlabelled_faultless : IsWellFormed m.base → length m.labels ≡ count m.base → (error : LiftError) → HasLiftFault m error → ⊥
   unlabelled_faultless base each OriginLabel h = h (none 0)
   unlabelled_faultless base each (NotPlain node) h = h.here (plain_empty (label_of m node.0) (none node.0))
   unlabelled_faultless base each (NotObserved node prop) h = let named = h.0.here in named.1.0 (ap (λ (a : Label). a named.0) (none node.0))
@@ -68,8 +68,8 @@ module _ (m : Labelled) (none : (x : ℕ) → label_of m x ≡ empty) where
 pub unlabelled_fit : (m : Labelled) (names : List (List ℕ)) (error : LiftError) → IsWellFormed m.base → length m.labels ≡ count m.base → ((x : ℕ) → label_of m x ≡ empty) → IsMislabelled (parts m names) error → ⊥
 unlabelled_fit m names error wf each none wrong =
     unlabelled_faultless (labelled_of (parts m names)) none (well_formed_back m names wf)
-    (each ∙ sym (length-map m.base.observes (observed_by m.base.reaction)) ∙ sym (length-map (observations m.base) observed_prop)) error wrong.fault.has
+    (each ∙ sym (length-map m.base.observes (observed_by m.base.reaction)) ∙ sym (length-map (timed_observations m.base) observed_prop)) error wrong.fault.has
 
 -- labels without a fault stay without one where the very same labelled network is read back
-pub labelled_fit : (m : Labelled) (names : List (List ℕ)) (error : LiftError) → ((e : LiftError) → HasFault m e → ⊥) → labelled_of (parts m names) ≡ m → IsMislabelled (parts m names) error → ⊥
-labelled_fit m names error none same wrong = none error (subst (λ (x : Labelled). HasFault x error) same wrong.fault.has)
+pub labelled_fit : (m : Labelled) (names : List (List ℕ)) (error : LiftError) → ((e : LiftError) → HasLiftFault m e → ⊥) → labelled_of (parts m names) ≡ m → IsMislabelled (parts m names) error → ⊥
+labelled_fit m names error none same wrong = none error (subst (λ (x : Labelled). HasLiftFault x error) same wrong.fault.has)

@@ -60,8 +60,8 @@ observed_by reaction (Some p) = Some (record { prop = p; reaction = reaction p }
 observed_by reaction None = None
 
 -- what each time-point observes, and its reaction
-abbrev pub observations : Network → List (Option Observation)
-observations net = map (observed_by net.reaction) net.observes
+abbrev pub timed_observations : Network → List (Option Observation)
+timed_observations net = map (observed_by net.reaction) net.observes
 
 -- the data element of a reaction, and nothing for a reaction of 1 tick
 abbrev pub reaction_data : ℕ → List ℕ
@@ -96,6 +96,10 @@ nodes_below names observes labels zero = []
 nodes_below names observes labels (suc n) =
     nodes_below names observes labels n ++ node_line (slice_index_or names n []) (slice_index_or observes n None) (label_in labels n)
 
+-- the lines of all time-points
+abbrev pub nodes : List (List ℕ) → Labelled → List ℕ
+nodes names m = nodes_below names (timed_observations m.base) m.labels (count m.base)
+
 -- the start tag of a constraint's edge
 abbrev pub edge_tag : List ℕ → List ℕ → List ℕ
 edge_tag source target = codes "<edge source=\"" ++ escaped_name source ++ codes "\" target=\"" ++ escaped_name target ++ codes "\">"
@@ -120,4 +124,4 @@ tail = codes "</graph>\n</graphml>\n"
 -- the canonical document: the deadline, the time-points by number, and the constraints by id
 abbrev pub canonical : Labelled → List (List ℕ) → List ℕ
 canonical m names =
-    head m.base.deadline ++ nodes_below names (observations m.base) m.labels (count m.base) ++ edges names m.base.constraints ++ tail
+    head m.base.deadline ++ nodes names m ++ edges names m.base.constraints ++ tail

@@ -1,15 +1,18 @@
 //! The canonical document.
 
-ghost use Rattle.std.specs.Prelude.{◌≡◌, ◌<◌, ◌++◌, OnOk, IfOk, Ok, Some, None, length, slice_get, slice_index_or, codes, map};
+ghost use Rattle.std.specs.Prelude.{◌≡◌, ◌<◌, ◌++◌, ℕ, List, OnOk, IfOk, Ok, Some, None, length, slice_get, slice_index_or, codes, map};
 ghost use Rattle.cstn_net.specs.Networks.{count};
 ghost use Rattle.cstn_net.specs.Read.{the_network, the_constraint};
 ghost use Rattle.cstn_lift.specs.Read.{the_labelled};
 ghost use Rattle.cstn_graphml.specs.Document.{document};
+ghost use Rattle.cstn_graphml.specs.DrawnGraphSeen.{observed_seen};
+ghost use Rattle.cstn_graphml.specs.Networks.{IsFit};
 ghost use Rattle.cstn_save.specs.ReadBack.{parts};
-ghost use Rattle.cstn_save.specs.Canonical.{canonical, observations, nodes_below, edges, edge_line};
-ghost use Rattle.cstn_save.specs.Seen.{observed_seen};
+ghost use Rattle.cstn_save.specs.Canonical.{canonical, timed_observations, nodes, edges, edge_line};
 
-use crate::lines::{Observation, push_edge_data, push_edge_tag, push_head, push_node};
+use crate::laws::documents_are_read_back;
+use crate::lines::{push_edge_data, push_edge_tag, push_head, push_node};
+use cstn_graphml::Observation;
 use cstn_label::NodeId;
 use cstn_lift::Labelled;
 use cstn_net::{Constraint, Network};
@@ -19,14 +22,16 @@ use std::alloc::{AllocError, Global};
 /// The canonical document of a labelled network under the names of its time-points, of which the first is `Z`.
 ///
 /// The lines are those of the deadline in ticks, of each time-point by number and of each constraint by id. Reading the
-/// document gives the same names, the same labels of time-points, and the same network with its constraints numbered from 0.
-/// Fails for want of memory alone.
+/// document gives the same names, the same labels of time-points, and the same network with its constraints numbered from 0,
+/// and is accepted. Fails for want of memory alone.
 pub fn write(alloc: Global, net: &Labelled, names: &Names) -> Result<Vec<u8>, AllocError>
     requires named { length names.now ≡ count (the_network net.now.base) }
     requires origin { slice_get names.now 0 ≡ Some (codes "Z") }
     ensures canonical { IfOk result (λ text. text.items ≡ canonical (the_labelled net.now) names.now) }
     ensures read_back { IfOk result (λ text. document text.items None ≡ Ok (parts (the_labelled net.now) names.now)) }
+    ensures accepted { IfOk result (λ _. IsFit (parts (the_labelled net.now) names.now)) }
 {
+    is_fit(net);
     let base = net.base();
     prove!(names.count() == base.count() as u32);
     let mut text = Vec::new(alloc);
@@ -44,7 +49,7 @@ fn push_nodes(
     names: &Names,
 ) -> Result<(), AllocError>
     requires { length names.now ≡ count (the_network net.now.base) }
-    ensures { OnOk result (text.new.items ≡ text.old.items ++ nodes_below names.now (observations (the_network net.now.base)) (the_labelled net.now).labels (count (the_network net.now.base))) }
+    ensures { OnOk result (text.new.items ≡ text.old.items ++ nodes names.now (the_labelled net.now)) }
 {
     let base = net.base();
     for x in 0..base.count() {
@@ -62,7 +67,7 @@ fn push_nodes(
 
 fn observation(net: &Network, x: NodeId) -> Option<Observation>
     requires { x.0 < count (the_network net.now) }
-    ensures { observed_seen result ≡ slice_index_or (observations (the_network net.now)) x.0 None }
+    ensures { observed_seen result ≡ slice_index_or (timed_observations (the_network net.now)) x.0 None }
 {
     let prop = net.observes(x)?;
     Some(Observation {
@@ -89,4 +94,13 @@ fn push_edge(text: &mut Vec<u8>, names: &Names, c: &Constraint) -> Result<(), Al
     push_edge_tag(text, names.name(c.from), names.name(c.to))?;
     push_edge_data(text, c.most, c.label)?;
     Ok(())
+}
+
+// Does nothing: its contract says that what is written of a labelled network is accepted.
+fn is_fit(net: &Labelled)
+    ensures { (names : List (List ℕ)) → IsFit (parts (the_labelled net.now) names) }
+{
+    documents_are_read_back();
+    net.base();
+    net.lowered();
 }

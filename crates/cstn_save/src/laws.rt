@@ -14,12 +14,15 @@ ghost use Rattle.cstn_graphml.specs.Document.{document};
 ghost use Rattle.cstn_net.specs.Networks.{IsWellFormed, Observes, count};
 ghost use Rattle.cstn_lift.specs.Labelled.{Labelled, label_of as label_of_point};
 ghost use Rattle.cstn_lift.specs.WellFormed.{IsLabelled};
-ghost use Rattle.cstn_lift.specs.Faults.{HasFault};
+ghost use Rattle.cstn_lift.specs.Faults.{HasLiftFault};
+ghost use Rattle.cstn_lift.specs.Lowered.{lowered};
 ghost use Rattle.cstn_net.specs.declared.errors.NetError.{NetError};
 ghost use Rattle.cstn_save.specs.Canonical.{canonical, escaped_name, document_label};
-ghost use Rattle.cstn_graphml.specs.Networks.{network_of, labelled_of, IsUnfit, IsMislabelled};
+ghost use Rattle.cstn_graphml.specs.Networks.{network_of, labelled_of, IsFit, IsUnfit, IsMislabelled};
 ghost use Rattle.cstn_lift.specs.declared.errors.LiftError.{LiftError};
 ghost use Rattle.cstn_save.specs.ReadBack.{parts, AreNamesOf, AreNumbered, AreSameButIds};
+
+use cstn_lift::labelled_networks_have_no_fault;
 
 /// An escaped name between quotes is a value of an attribute, and putting its references in gives the name back.
 #[tactic(auto, using(crate::proofs::EscapedNameLemmas::name_back, crate::proofs::EscapedNameLemmas::name_quoted))]
@@ -44,18 +47,25 @@ pub fn values_are_read_back()
 {}
 
 /// Reading the canonical document gives the same names, the same labels of time-points, and the same network with constraints
-/// numbered from 0, which isn't refused. It is the very same labelled network where the ids go from 0 up without a gap and each
-/// proposition that nothing observes has a reaction of 1 tick; then labels without a fault aren't refused either. Empty labels
-/// never are.
+/// numbered from 0, and is accepted, whatever gaps the ids have. Where only the base network is known to be well-formed, the
+/// network isn't refused, nor are labels that are all empty, nor labels without a fault of a network that is read back as it
+/// is. It is the very same labelled network where the ids go from 0 up without a gap and each proposition that nothing observes
+/// has a reaction of 1 tick.
 #[tactic(auto, using(crate::proofs::LawLemmas::document_back, crate::proofs::SameLemmas::same_but_ids))]
 pub fn documents_are_read_back()
     ensures back { (m : Labelled) (names : List (List ℕ)) → IsLabelled m → AreNamesOf m.base names → document (canonical m names) None ≡ Ok (parts m names) }
+    ensures fit { (m : Labelled) (names : List (List ℕ)) → IsLabelled m → IsWellFormed (lowered m) → IsFit (parts m names) }
     ensures accepted { (m : Labelled) (names : List (List ℕ)) (error : NetError) → IsWellFormed m.base → IsUnfit (parts m names) error → ⊥ }
-    ensures unlabelled { (m : Labelled) (names : List (List ℕ)) (error : LiftError) → IsWellFormed m.base → length m.labels ≡ count m.base → ((x : ℕ) → label_of_point m x ≡ empty) → IsMislabelled (parts m names) error → ⊥ }
-    ensures labelled { (m : Labelled) (names : List (List ℕ)) (error : LiftError) → ((e : LiftError) → HasFault m e → ⊥) → labelled_of (parts m names) ≡ m → IsMislabelled (parts m names) error → ⊥ }
+    ensures unlabelled { (m : Labelled) (names : List (List ℕ)) (error : LiftError) → IsWellFormed m.base → length m.labels ≡ count m.base
+        → ((x : ℕ) → label_of_point m x ≡ empty) → IsMislabelled (parts m names) error → ⊥ }
+    ensures labelled { (m : Labelled) (names : List (List ℕ)) (error : LiftError) → ((e : LiftError) → HasLiftFault m e → ⊥) → labelled_of (parts m names) ≡ m
+        → IsMislabelled (parts m names) error → ⊥ }
     ensures same_but_ids { (m : Labelled) (names : List (List ℕ)) → AreSameButIds (network_of (parts m names)) m.base }
-    ensures same { (m : Labelled) (names : List (List ℕ)) → ((p : ℕ) → ((x : ℕ) → Observes m.base x p → ⊥) → m.base.reaction p ≡ 1) → AreNumbered m.base.constraints → labelled_of (parts m names) ≡ m }
-{}
+    ensures same { (m : Labelled) (names : List (List ℕ)) → ((p : ℕ) → ((x : ℕ) → Observes m.base x p → ⊥) → m.base.reaction p ≡ 1)
+        → AreNumbered m.base.constraints → labelled_of (parts m names) ≡ m }
+{
+    labelled_networks_have_no_fault();
+}
 
 /// Equal canonical texts are of equal names, of equal labels, and of networks that differ at most in the ids of constraints and
 /// in the reactions of propositions that nothing observes.

@@ -3,10 +3,11 @@
 ghost use Rattle.std.specs.Prelude.{◌≡◌, ◌<◌, ◌++◌, ◌∷◌, [], OnOk, IfOk, Some};
 ghost use Rattle.cstn_label.specs.Read.{marks};
 ghost use Rattle.cstn_save.specs.Canonical.{head, node_line, node_data, node_end, observation_data, reaction_data, label_data, edge_tag, edge_data};
-ghost use Rattle.cstn_save.specs.Seen.{observed_seen};
+ghost use Rattle.cstn_graphml.specs.DrawnGraphSeen.{observed_seen};
 
 use crate::escapes::{push_label, push_literals, push_name, push_number, push_value};
-use cstn_label::{Label, Prop};
+use cstn_graphml::Observation;
+use cstn_label::Label;
 use std::alloc::{AllocError, Global};
 
 pub(crate) fn push_head(text: &mut Vec<u8>, deadline: u32) -> Result<(), AllocError>
@@ -18,13 +19,6 @@ pub(crate) fn push_head(text: &mut Vec<u8>, deadline: u32) -> Result<(), AllocEr
     push_number(text, deadline)?;
     text.extend_from_slice(b"</data>\n")?;
     Ok(())
-}
-
-/// The proposition that a time-point observes, and its reaction: after how many ticks the outcome is known.
-#[derive(Clone, Copy)]
-pub(crate) struct Observation {
-    pub prop: Prop,
-    pub reaction: u32,
 }
 
 pub(crate) fn push_node(
