@@ -9,8 +9,9 @@ use Rattle.cstn_label.specs.Labels.{Label, IsMarkPlain, IsMarkWithin, IsPlain, I
 use Rattle.cstn_label.specs.declared.marks.Mark.TheVariants.{Absent}
 use Rattle.cstn_net.specs.Networks.{Network, Constraint, Observes, count, limit}
 use Rattle.cstn_label.specs.Bounds.{Bound, Dominates}
+use Rattle.cstn_label.specs.Marks.{is_absent, is_mark_plain}
 use Rattle.cstn_rules.specs.Rules.{Refutes, finished, IsChain, IsWait}
-use Rattle.cstn_check.specs.Tests.{each_below, is_plain_mark, is_absent, is_mark_within, is_plain, is_within, dominates, refutes, chain_of, wait_for, wait_of}
+use Rattle.cstn_check.specs.Tests.{each_below, is_mark_within, is_plain, is_within, dominates, refutes, chain_of, wait_for, wait_of}
 
 -- each observed proposition is one of the 52 letters
 abbrev pub HasLetters : Network → Type 0
@@ -39,10 +40,10 @@ mark_within_true m n h = grind arith
 true_mark_within : (m n : Mark) → is_mark_within m n ≡ true → IsMarkWithin m n
 true_mark_within m n h = grind arith
 
-mark_plain_true : (m : Mark) → IsMarkPlain m → is_plain_mark m ≡ true
+mark_plain_true : (m : Mark) → IsMarkPlain m → is_mark_plain m ≡ true
 mark_plain_true m h = grind arith
 
-true_mark_plain : (m : Mark) → is_plain_mark m ≡ true → IsMarkPlain m
+true_mark_plain : (m : Mark) → is_mark_plain m ≡ true → IsMarkPlain m
 true_mark_plain m h = grind arith
 
 absent_within : (m n : Mark) → m ≡ Absent → IsMarkWithin m n
@@ -58,11 +59,11 @@ pub false_absent : (m : Mark) → is_absent m ≡ false → m ≡ Absent → ⊥
 false_absent m h e = grind arith
 
 pub plain_true : (a : Label) → IsPlain a → is_plain a ≡ true
-plain_true a h = each_from (λ p. is_plain_mark (a p)) 52 (λ p. mark_plain_true (a p) (h p))
+plain_true a h = each_from (λ p. is_mark_plain (a p)) 52 (λ p. mark_plain_true (a p) (h p))
 
 pub true_plain : (a : Label) → Small a → is_plain a ≡ true → IsPlain a
 true_plain a small e = λ p. elim (cases_lt p 52) [
-  | inl below ↦ true_mark_plain (a p) (each_at (λ q. is_plain_mark (a q)) 52 p below e)
+  | inl below ↦ true_mark_plain (a p) (each_at (λ q. is_mark_plain (a q)) 52 p below e)
   | inr above ↦ absent_plain (a p) (small p above)
 ]
 

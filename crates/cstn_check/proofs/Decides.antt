@@ -2,7 +2,7 @@
 use Rattle.std.proofs.Common.{ℕ, suc, ◌≡◌, ◌+◌, ◌-◌, inl, inr, ◌<◌, ◌≤◌, true, false, ◌&&◌, List, [], ◌∷◌, length, Some, ltb, arith, refl, subst}
 use Rattle.std.specs.Prelude.{ℤ, pos, ◌<ℤ◌, int_lt, slice_get, ◌↔◌}
 use Rattle.std.proofs.lemmas.Int.{ints}
-use Rattle.std.proofs.lemmas.Bool.{cases_Bool, cases_lt, false≢true, or_cases, and_parts, ltb-true}
+use Rattle.std.proofs.lemmas.Bool.{cases_Bool, cases_lt, false≢true, or_cases, and_parts, ltb-true, not-true, not_from_false, both_ways}
 use Rattle.std.proofs.lemmas.Option.{slice_get_within}
 use Rattle.cstn_label.specs.Labels.{Scenario}
 use Rattle.cstn_net.specs.Networks.{Network, IsNetwork, IsWellFormed, count, limit}
@@ -19,6 +19,7 @@ use Rattle.cstn_check.specs.Turns.{IsRefutedLast, LastRefutes}
 use Rattle.cstn_log.specs.Asked.{AllSound, asked}
 use Rattle.cstn_log.proofs.Strategies.{asked_strategy, asked_least}
 use Rattle.cstn_check.specs.Tests.{refutes, is_plain}
+use Rattle.cstn_check.specs.Verdicts.{is_consistent}
 use Rattle.cstn_check.specs.Growth.{is_refuted, live_bounds, log_of, load_of, grown, grow, most_entries}
 use Rattle.cstn_log.specs.Entries.{bases}
 use Rattle.cstn_check.proofs.Decided.{HasLetters, Small, true_plain}
@@ -158,6 +159,14 @@ module _ (net : Network) (start : List Entry) (wf : IsNetwork net) (letters : Ha
 
 pub log_decides : (net : Network) → IsNetwork net → HasLetters net → IsConsistent net ↔ (is_refuted net (log_of net) ≡ false)
 log_decides net wf letters = grown_decides net (bases (count net)) wf letters (bases_go_on net wf letters)
+
+pub decided : (net : Network) → IsWellFormed net → (is_consistent net ≡ true) ↔ IsConsistent net
+decided net good =
+    let decides = log_decides net good.network good.letters in
+    (λ t. decides.1 (not-true (is_refuted net (log_of net)) t), λ consistent. not_from_false (is_refuted net (log_of net)) (decides.0 consistent))
+
+pub not_consistent : (net : Network) → IsWellFormed net → is_consistent net ≡ false → IsConsistent net → ⊥
+not_consistent net good f consistent = both_ways (is_consistent net) f ((decided net good).1 consistent)
 
 pub least_exists : (net : Network) → IsNetwork net → HasLetters net → IsConsistent net →
     (table : Table) × IsStrategy net table × ((s : Scenario) (x : ℕ) → x < count net → IsLeast net s x (table s x))

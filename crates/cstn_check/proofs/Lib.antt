@@ -27,3 +27,5 @@ pub mod PartLemmas
 pub mod SpentLemmas
 pub mod CostLemmas
 pub mod TryLemmas
+pub mod DeadlineLemmas
+pub mod Idle

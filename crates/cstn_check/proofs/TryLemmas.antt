@@ -7,6 +7,7 @@ use Rattle.std.proofs.Math.Nat.{mul-suc, mul-le-mul_left}
 use Rattle.cstn_label.specs.declared.marks.Mark.TheVariants.{Absent}
 use Rattle.cstn_label.specs.Labels.{Label}
 use Rattle.cstn_label.specs.Bounds.{Bound}
+use Rattle.cstn_label.specs.Marks.{is_absent}
 use Rattle.cstn_net.specs.Networks.{Network}
 use Rattle.cstn_rules.specs.Rules.{without_own, finished, carried, awaited}
 use Rattle.cstn_rules.specs.Derivations.{Entry, Follows, IsDerivation}
@@ -14,7 +15,7 @@ use Rattle.cstn_rules.specs.declared.entries.Why.{Why}
 use Rattle.cstn_rules.specs.declared.entries.Why.TheVariants.{Base, Chain, Wait}
 use Rattle.cstn_rules.specs.Read.{the_entry}
 use Rattle.cstn_log.specs.Entries.{State, the_entries}
-use Rattle.cstn_check.specs.Tests.{is_absent, wait_for, wait_of}
+use Rattle.cstn_check.specs.Tests.{wait_for, wait_of}
 use Rattle.cstn_check.specs.Growth.{Instance, of_two, tried}
 use Rattle.cstn_check.specs.Growth.Instance.{wait_at}
 use Rattle.cstn_check.specs.Tries.{total, how_many, concludes, concluding_pairs, concludes_with, concludes_upto}

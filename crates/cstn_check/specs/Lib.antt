@@ -1,9 +1,12 @@
 pub mod Tests
 pub mod Growth
 pub mod Spent
+pub mod Givers
 pub mod Tries
 pub mod Examples
 pub mod Kept
 pub mod Turns
 pub mod Waits
 pub mod Checks
+pub mod Deadlines
+pub mod Verdicts

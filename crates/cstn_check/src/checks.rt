@@ -16,11 +16,10 @@ ghost use Rattle.cstn_check.specs.Checks.{IsStarted, IsVerdict, IsPrefix};
 
 use crate::growth::{Grown, grow};
 use crate::plans::live_bounds;
-use crate::turns::is_well_formed;
 use crate::verdicts::Verdict;
 use cstn_label::Bound;
 use cstn_log::{Log, SoundPlan};
-use cstn_net::Network;
+use cstn_net::{Network, network_is_well_formed};
 use cstn_refute::Refutation;
 use cstn_rules::Tries;
 use std::alloc::{AllocError, Global};
@@ -84,7 +83,7 @@ impl Check {
         ensures tries { self.old.tries ≤ self.new.tries }
         ensures most_tried { (result ≡ Verdict.Full → ⊥) → self.new.tries ≤ most_tried (the_network self.old.net) (log_of (the_network self.old.net)) }
     {
-        is_well_formed(&self.net);
+        network_is_well_formed(&self.net);
         self.judge()
     }
 
@@ -122,7 +121,7 @@ impl Check {
         ensures empty { self.now.cap < count (the_network self.now.net) → the_entries result.now.entries ≡ [] }
         ensures size { result.now.cap ≡ self.now.cap }
     {
-        is_well_formed(&self.net);
+        network_is_well_formed(&self.net);
         &self.log
     }
 
@@ -138,7 +137,7 @@ impl Check {
         ensures named { IfOk result (λ r. All (λ e. e.bound.node.0 < count (the_network self.now.net)) r.steps) }
         ensures text { IfOk result FitsText }
     {
-        is_well_formed(&self.net);
+        network_is_well_formed(&self.net);
         let load = self.log.len();
         let steps = self.log.part(alloc)?;
         Ok(Refutation::new(load, steps))
@@ -150,7 +149,7 @@ impl Check {
         ensures network { result.net ≡ self.net }
         ensures live { the_bounds result.bounds ≡ live_bounds (log_of (the_network self.net)) }
     {
-        is_well_formed(&self.net);
+        network_is_well_formed(&self.net);
         let room = self.bounds;
         let bounds = live_bounds(&self.log, room);
         SoundPlan::new(self.net, bounds)
@@ -173,7 +172,7 @@ fn answer(net: &Network, log: &mut Log, tries: &mut Tries) -> Verdict
     ensures size { log.new.cap ≡ log.old.cap }
     ensures tries { HasTried (the_network net.now) (Some result) tries.new.count }
 {
-    is_well_formed(net);
+    network_is_well_formed(net);
     if log.len() == 0 {
         return Verdict::Full;
     }

@@ -9,9 +9,9 @@ ghost use Rattle.cstn_check.specs.Kept.{IsKept};
 ghost use Rattle.cstn_check.specs.Tries.{most_tried};
 ghost use Rattle.cstn_check.specs.Turns.{IsOpen, IsTaken, IsCut, IsRefutedLast, LastRefutes};
 
-use crate::turns::{is_well_formed, take_turn};
+use crate::turns::take_turn;
 use cstn_log::Log;
-use cstn_net::Network;
+use cstn_net::{Network, network_is_well_formed};
 use cstn_rules::{Tries, derivations_move, refutes};
 
 /// What growth came to: no turn is left, an entry refutes the network, or the log is full.
@@ -44,7 +44,7 @@ pub fn grow(net: &Network, log: &mut Log, tries: &mut Tries) -> Grown
     ensures tries { tries.old.count ≤ tries.new.count }
     ensures most_tried { (result ≡ Grown.Full → ⊥) → tries.new.count ≤ tries.old.count + most_tried (the_network net.now) (the_entries log.new.entries) }
 {
-    is_well_formed(net);
+    network_is_well_formed(net);
     derivations_move();
     let _all_new = log.len();
     grow_kept(net, log, &[], 0, tries)
@@ -73,7 +73,7 @@ pub fn grow_on(net: &Network, log: &mut Log, fresh: &[u32], tries: &mut Tries) -
     ensures most_tried { (result ≡ Grown.Full → ⊥) → tries.new.count ≤ tries.old.count + most_tried (the_network net.now) (the_entries log.new.entries) }
     ensures most_tries { (result ≡ Grown.Full → ⊥) → tries.new.count ≤ tries.old.count + most_tries (length net.now.constraints) (fresh_count fresh.now (the_network net.now).constraints) (length log.old.entries) (length log.new.entries) }
 {
-    is_well_formed(net);
+    network_is_well_formed(net);
     derivations_move();
     let old = log.len();
     grow_kept(net, log, fresh, old, tries)
@@ -92,7 +92,7 @@ fn grow_open(net: &Network, log: &mut Log, fresh: &[u32], old: u32, tries: &mut 
     ensures most_tried { (result ≡ Grown.Full → ⊥) → tries.new.count ≤ tries.old.count + most_tried (the_network net.now) (the_entries log.new.entries) }
     ensures most_tries { (result ≡ Grown.Full → ⊥) → tries.new.count ≤ tries.old.count + most_tries (length net.now.constraints) (fresh_count fresh.now (the_network net.now).constraints) old (length log.new.entries) }
 {
-    is_well_formed(net);
+    network_is_well_formed(net);
     let mut j = 0;
     while j < log.len() {
         match take_turn(net, log, fresh, old, j, tries) {
@@ -121,7 +121,7 @@ fn grow_kept(net: &Network, log: &mut Log, fresh: &[u32], old: u32, tries: &mut 
     ensures most_tried { (result ≡ Grown.Full → ⊥) → tries.new.count ≤ tries.old.count + most_tried (the_network net.now) (the_entries log.new.entries) }
     ensures most_tries { (result ≡ Grown.Full → ⊥) → tries.new.count ≤ tries.old.count + most_tries (length net.now.constraints) (fresh_count fresh.now (the_network net.now).constraints) old (length log.new.entries) }
 {
-    is_well_formed(net);
+    network_is_well_formed(net);
     let count = log.len();
     if count == 0 {
         return grow_open(net, log, fresh, old, tries);

@@ -3,6 +3,8 @@
 #![tactic(auto)]
 
 mod checks;
+mod deadlines;
+mod givers;
 mod growth;
 mod laws;
 mod plans;
@@ -11,6 +13,8 @@ mod verdicts;
 mod walks;
 
 pub use checks::Check;
+pub use deadlines::logs_hold_lower_ones;
+pub use givers::logs_stay_without_idle_constraints;
 pub use growth::{Grown, grow, grow_on};
 pub use laws::{
     grown_lists_are_spent, growth_decides, growth_ends, growth_is_bounded,

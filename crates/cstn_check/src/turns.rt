@@ -18,7 +18,7 @@ ghost use Rattle.cstn_check.specs.Waits.{Waits};
 use crate::walks::{PROPS, next_waiting};
 use cstn_label::{Bound, Mark, NodeId};
 use cstn_log::Log;
-use cstn_net::{Constraint, Network};
+use cstn_net::{Constraint, Network, network_is_well_formed};
 use cstn_pool::Full;
 use cstn_rules::{Entry, Tries, Why, chain, refutes, wait};
 
@@ -82,7 +82,7 @@ fn try_wait(net: &Network, log: &mut Log, i: u32, j: u32, tries: &mut Tries) -> 
     ensures most { tries.new.count ≤ tries.old.count + 1 }
     ensures concluding { tries.new.count ≤ tries.old.count + concludes (the_network net.now) (the_entries log.old.entries) i j }
 {
-    is_well_formed(net);
+    network_is_well_formed(net);
     is_in_range(tries);
     let seen = log.entry(i).bound;
     let premise = log.entry(j).bound;
@@ -114,13 +114,6 @@ fn waits(net: &Network, seen: &Bound, b: &Bound) -> bool
         None => false,
         Some(p) => b.label.mark(p) != Mark::Absent,
     }
-}
-
-// Does nothing but tell the proof of its caller that every network is well-formed.
-pub(crate) fn is_well_formed(net: &Network)
-    ensures { IsWellFormed (the_network net.now) }
-{
-    let _ = net.count();
 }
 
 // Does nothing but tell the proof of its caller that a constraint of a network in memory stands for one of the network that the
@@ -193,7 +186,7 @@ fn try_chains(
     ensures most { tries.new.count ≤ tries.old.count + length net.now.constraints }
     ensures most_fresh { j < old → tries.new.count ≤ tries.old.count + fresh_count fresh.now (the_network net.now).constraints }
 {
-    is_well_formed(net);
+    network_is_well_formed(net);
     let x = log.entry(j).bound.node;
     let mut place = first_ending(net, x);
     while place < constraint_count(net) {
@@ -258,7 +251,7 @@ fn try_both(net: &Network, log: &mut Log, i: u32, j: u32, tries: &mut Tries) -> 
     ensures most { tries.new.count ≤ tries.old.count + 2 }
     ensures concluding { tries.new.count ≤ tries.old.count + concludes_with (the_network net.now) (the_entries log.old.entries) j i }
 {
-    is_well_formed(net);
+    network_is_well_formed(net);
     match try_wait(net, log, i, j, tries) {
         Ok(true) => Ok(true),
         Ok(false) => try_wait(net, log, j, i, tries),
@@ -278,7 +271,7 @@ fn try_waits(net: &Network, log: &mut Log, j: u32, tries: &mut Tries) -> Result<
     ensures most { tries.new.count ≤ tries.old.count + 2 * (j + 1) }
     ensures concluding { tries.new.count ≤ tries.old.count + concludes_upto (the_network net.now) (the_entries log.old.entries) j }
 {
-    is_well_formed(net);
+    network_is_well_formed(net);
     let _room = log.len();
     let mut sees = [0; PROPS];
     let mut marking = 0;
@@ -341,7 +334,7 @@ pub(crate) fn take_turn(
     ensures concluding { tries.new.count ≤ tries.old.count + (length net.now.constraints + concludes_upto (the_network net.now) (the_entries log.old.entries) j) }
     ensures most_fresh { j < old → tries.new.count ≤ tries.old.count + fresh_count fresh.now (the_network net.now).constraints }
 {
-    is_well_formed(net);
+    network_is_well_formed(net);
     match try_chains(net, log, fresh, old, j, tries) {
         Ok(true) => Ok(true),
         Ok(false) => try_new_waits(net, log, fresh, old, j, tries),

@@ -9,10 +9,9 @@ ghost use Rattle.cstn_log.specs.Chains.{IsMarkedAt, IsAtNode, IsFirstLive};
 ghost use Rattle.cstn_log.specs.Entries.{the_entries};
 ghost use Rattle.cstn_check.specs.Waits.{IsWaiting, NoneSees, NoneMarks, NoneSeesEach, ArePassed};
 
-use crate::turns::is_well_formed;
 use cstn_label::{Bound, NodeId, Prop};
 use cstn_log::Log;
-use cstn_net::Network;
+use cstn_net::{Network, network_is_well_formed};
 
 // How many propositions there may be.
 pub const PROPS: usize = 52;
@@ -152,7 +151,7 @@ fn first_at_observer(net: &Network, log: &mut Log, p: Prop, from: u32, j: u32, n
     ensures first { (x : ℕ) → Observes (the_network net.now) x p.index → IsFirstLive (IsAtNode log.old.entries x) log.old.entries j from result }
     ensures stays { log.new ≡ log.old }
 {
-    is_well_formed(net);
+    network_is_well_formed(net);
     match net.observer(p) {
         None => u32::MAX,
         Some(x) => log.first_at(x, from, near, j),

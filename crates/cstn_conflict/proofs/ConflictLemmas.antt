@@ -6,17 +6,14 @@ use Rattle.std.proofs.lemmas.Bool.{or_cases, or_left, or_right, or_from, lt-ltb,
 use Rattle.std.proofs.lemmas.List.Kept.{AllPairs-filter}
 use Rattle.cstn_net.specs.Networks.{Network, Constraint, IsWellFormed}
 use Rattle.cstn_net.specs.Strategies.{IsConsistent}
-use Rattle.cstn_net.specs.Read.{NetworkParts, the_network}
-use Rattle.cstn_net.proofs.ListLemmas.{pairs_map}
 use Rattle.cstn_check.specs.Growth.{load_of, most_entries}
 use Rattle.cstn_check.proofs.Decides.{load_bounded}
-use Rattle.cstn_check.specs.declared.verdicts.Verdict.{Verdict}
-use Rattle.cstn_check.specs.declared.verdicts.Verdict.TheVariants.{Yes, No, Full}
-use Rattle.cstn_conflict.specs.Sets.{ids_of, has, less, with_ids, is_consistent}
+use Rattle.cstn_check.specs.Verdicts.{is_consistent}
+use Rattle.cstn_conflict.specs.Sets.{ids_of, has, less, with_ids}
 use Rattle.cstn_conflict.specs.Conflicts.{left_out, left_of, tried_from, conflict_set, is_above, is_conflict_full}
-use Rattle.cstn_conflict.specs.Trials.{verdict_on, IsVerdictOn, is_any_above}
-use Rattle.cstn_conflict.proofs.TrialLemmas.{verdict_tells, copied}
-use Rattle.cstn_conflict.proofs.SetLemmas.{whole_is, set_well_formed, decided}
+use Rattle.cstn_conflict.specs.Trials.{is_any_above}
+use Rattle.cstn_check.proofs.Decides.{decided}
+use Rattle.cstn_conflict.proofs.SetLemmas.{whole_is, set_well_formed, ids_ascend}
 use Rattle.cstn_conflict.proofs.LeftLemmas.{out_cases, left_among, left_inconsistent, left_needed, left_within}
 
 -- what is left of an ascending set ascends
@@ -60,7 +57,7 @@ module _ (net : Network) (good : IsWellFormed net) where
       (whole_above cap ∙ lt-ltb cap (load_of net) above)
 
   pub ascends : AllPairs (λ a b. a < b) (conflict_set net)
-  ascends = left_ascends net (ids_of net) (ids_of net) (pairs_map (λ a b. a < b) (λ (c : Constraint). c.id) net.constraints good.ascending)
+  ascends = left_ascends net (ids_of net) (ids_of net) (ids_ascend net good)
 
   module _ (never : IsConsistent net → ⊥) where
     others : (cap : ℕ) → list_any (is_above cap net) (cond (is_consistent net) [] (tried_from net (ids_of net) (ids_of net))) ≡ is_any_above cap net
@@ -106,18 +103,3 @@ module _ (net : Network) (good : IsWellFormed net) where
 pub handed_on : {X E : Type 0} (r : Result X E) (x e : E) → IsErrAnd r (λ y. y ≡ x) → IsErrOf r e → x ≡ e
 handed_on (Ok v) x e is told = absurd is
 handed_on (Err y) x e is told = sym is ∙ (let same : y ≡ e = cc in same)
-
--- what the check of a copy of the whole network tells
-module _ (cap : ℕ) (net other : NetworkParts) (good : IsWellFormed (the_network net)) (v : Verdict) (copy : other ≡ record net { spare = 0 })
-    (is : v ≡ verdict_on cap (the_network other)) where
-  first : IsVerdictOn cap (the_network net) v
-  first = subst (IsVerdictOn cap (the_network net)) (sym (is ∙ ap (verdict_on cap) (copied net other copy))) (verdict_tells cap (the_network net) good)
-
-  pub first_full : v ≡ Full → cap < load_of (the_network net)
-  first_full e = subst (IsVerdictOn cap (the_network net)) e first
-
-  pub first_yes : (load : ℕ) → v ≡ Yes load → (load ≡ load_of (the_network net)) × (load_of (the_network net) ≤ cap) × IsConsistent (the_network net)
-  first_yes load e = subst (IsVerdictOn cap (the_network net)) e first
-
-  pub first_no : (load : ℕ) → v ≡ No load → (load ≡ load_of (the_network net)) × (load_of (the_network net) ≤ cap) × ¬ IsConsistent (the_network net)
-  first_no load e = subst (IsVerdictOn cap (the_network net)) e first

@@ -7,10 +7,13 @@ use Rattle.std.proofs.Math.Seq.{drop-cons}
 use Rattle.cstn_net.specs.Networks.{Network, IsWellFormed}
 use Rattle.cstn_net.specs.Strategies.{IsConsistent}
 use Rattle.cstn_check.specs.Growth.{load_of}
-use Rattle.cstn_conflict.specs.Sets.{ids_of, has, less, with_ids, is_consistent}
+use Rattle.cstn_check.specs.Verdicts.{is_consistent}
+use Rattle.cstn_conflict.specs.Sets.{ids_of, has, less, with_ids}
 use Rattle.cstn_conflict.specs.Conflicts.{left_out, left_of, tried_from, conflict_set, is_above}
-use Rattle.cstn_conflict.specs.Trials.{without, smaller, is_any_above}
-use Rattle.cstn_conflict.proofs.SetLemmas.{less_has, without_is, ids_without, whole_is, set_well_formed, fewer_ids, decided, not_consistent}
+use Rattle.cstn_check.specs.Givers.{without}
+use Rattle.cstn_conflict.specs.Trials.{smaller, is_any_above}
+use Rattle.cstn_check.proofs.Decides.{decided, not_consistent}
+use Rattle.cstn_conflict.proofs.SetLemmas.{less_has, without_is, ids_without, whole_is, set_well_formed, fewer_ids}
 
 -- `left_out` is the set itself, or the set without the id
 pub out_cases : (net : Network) (set : List ℕ) (id : ℕ) (P : List ℕ → Type 0) →

@@ -2,3 +2,5 @@ pub mod SetLemmas
 pub mod LeftLemmas
 pub mod TrialLemmas
 pub mod ConflictLemmas
+pub mod GiverLemmas
+pub mod SearchLemmas

@@ -1,7 +1,7 @@
 -- Networks with some of their constraints.
 use Rattle.std.proofs.Common.{ℕ, zero, suc, ◌≡◌, ◌<◌, Bool, true, false, not, cond, eqb, ◌&&◌, ◌||◌, inl, inr, List, [], ◌∷◌, length, get_or, map, arith, refl, sym, ap, ◌∙◌}
 use Rattle.std.specs.Prelude.{◌↔◌}
-use Rattle.std.specs.List.{Contains, filter}
+use Rattle.std.specs.List.{AllPairs, Contains, filter}
 use Rattle.std.proofs.lemmas.Bool.{cases_Bool, or_left, or_right, and_from, and_right, cond-true, cond-false, eqb-true, eq-eqb, not-true, not_from_true, not_from_false, both_ways}
 use Rattle.std.proofs.lemmas.List.Elements.{All-filter, filter_agree}
 use Rattle.std.proofs.lemmas.List.Filters.{length-filter_both}
@@ -10,12 +10,14 @@ use Rattle.cstn_net.specs.Networks.{Network, Constraint, IsConstraint, IsValue, 
 use Rattle.cstn_net.specs.declared.constraints.Constraint.{Constraint as DeclaredConstraint}
 use Rattle.cstn_net.specs.Read.{the_constraint}
 use Rattle.cstn_net.specs.Strategies.{IsConsistent}
+use Rattle.cstn_net.proofs.ListLemmas.{pairs_map}
 use Rattle.cstn_net.proofs.Kept.{fewer_constraints}
 use Rattle.cstn_net.proofs.WellFormed.{well_formed_with}
 use Rattle.cstn_check.specs.Growth.{is_refuted, log_of}
 use Rattle.cstn_check.proofs.Decides.{log_decides}
-use Rattle.cstn_conflict.specs.Sets.{ids_of, has, less, with_ids, is_consistent}
-use Rattle.cstn_conflict.specs.Trials.{without}
+use Rattle.cstn_check.specs.Verdicts.{is_consistent}
+use Rattle.cstn_check.specs.Givers.{without}
+use Rattle.cstn_conflict.specs.Sets.{ids_of, has, less, with_ids}
 
 -- the set without an id has the others
 pub less_has : (id x : ℕ) (set : List ℕ) → has (less id set) x ≡ (has set x && not (eqb x id))
@@ -121,6 +123,10 @@ contains_more p q more (y ∷ ys) x h = go (contains_more p q more ys x) (p y) r
     go rest true t g = contains_first p q y ys x rest (more y t) g.0 g.1 g.2
     go rest false f g = contains_behind y (filter q ys) (q y) x (rest g)
 
+-- the ids ascend
+pub ids_ascend : (net : Network) → IsWellFormed net → AllPairs (λ a b. a < b) (ids_of net)
+ids_ascend net good = pairs_map (λ a b. a < b) (λ (c : Constraint). c.id) net.constraints good.ascending
+
 -- a network is consistent with fewer of its constraints
 pub fewer_ids : (net : Network) (a b : List ℕ) → ((id : ℕ) → has a id ≡ true → has b id ≡ true) → IsConsistent (with_ids net b) →
     IsConsistent (with_ids net a)
@@ -131,14 +137,6 @@ fewer_ids net a b among consistent = (
 )
 
 -- the log decides whether a network is consistent
-pub decided : (net : Network) → IsWellFormed net → (is_consistent net ≡ true) ↔ IsConsistent net
-decided net good =
-    let decides = log_decides net good.network good.letters in
-    (λ t. decides.1 (not-true (is_refuted net (log_of net)) t), λ consistent. not_from_false (is_refuted net (log_of net)) (decides.0 consistent))
-
-pub not_consistent : (net : Network) → IsWellFormed net → is_consistent net ≡ false → IsConsistent net → ⊥
-not_consistent net good f consistent = both_ways (is_consistent net) f ((decided net good).1 consistent)
-
 -- the ids of the program's constraints
 pub the_ids : (cs : List DeclaredConstraint) → map (λ (c : Constraint). c.id) (map the_constraint cs) ≡ map (λ (c : DeclaredConstraint). c.id) cs
 the_ids [] = refl

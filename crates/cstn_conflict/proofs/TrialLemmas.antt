@@ -3,22 +3,23 @@ use Rattle.std.proofs.Common.{ℕ, ◌≡◌, ◌<◌, ◌≤◌, ◌≢◌, ◌
 use Rattle.std.specs.Prelude.{◌↔◌, nat_lt, IfOk, IsNone, IfNone, IfSome}
 use Rattle.std.specs.List.{All, filter}
 use Rattle.std.specs.declared.alloc.AllocError.{AllocError}
-use Rattle.std.proofs.lemmas.Bool.{cases_Bool, lt-ltb, le-ltb, ltb-true, ltb-false, cond-true, cond-false, false_from_ne_true}
+use Rattle.std.proofs.lemmas.List.Elements.{All-head, All-tail}
+use Rattle.std.proofs.lemmas.Bool.{ne_eqb, cases_Bool, lt-ltb, le-ltb, ltb-true, ltb-false, cond-true, cond-false, false_from_ne_true}
 use Rattle.cstn_net.specs.Networks.{Network, IsWellFormed, count}
 use Rattle.cstn_net.specs.Strategies.{IsConsistent}
 use Rattle.cstn_net.specs.Read.{NetworkParts, the_network, the_constraint, without_id}
 use Rattle.cstn_net.specs.declared.constraints.Constraint.{Constraint}
-use Rattle.cstn_net.proofs.ChangeLemmas.{none_taken}
 use Rattle.cstn_rules.specs.Derivations.{IsRefutation}
 use Rattle.cstn_log.specs.Cuts.{part}
 use Rattle.cstn_refute.specs.Refutations.{RefutationParts, FitsText, the_steps}
 use Rattle.cstn_check.specs.Growth.{log_of, load_of}
+use Rattle.cstn_check.specs.Givers.{without}
 use Rattle.cstn_check.specs.Checks.{CheckParts}
 use Rattle.cstn_check.specs.declared.verdicts.Verdict.{Verdict}
 use Rattle.cstn_check.specs.declared.verdicts.Verdict.TheVariants.{Yes, No, Full}
-use Rattle.cstn_conflict.specs.Sets.{is_consistent}
-use Rattle.cstn_conflict.specs.Trials.{verdict_on, IsVerdictOn, without, smaller, IsRefutationOf}
-use Rattle.cstn_conflict.proofs.SetLemmas.{without_well_formed, decided, not_consistent}
+use Rattle.cstn_check.specs.Verdicts.{is_consistent, IsRefutationOf}
+use Rattle.cstn_conflict.specs.Trials.{verdict_on, IsVerdictOn}
+use Rattle.cstn_check.proofs.Decides.{decided, not_consistent}
 
 -- what the clauses of a check say of its verdict
 abbrev pub IsAnswer : ℕ → Network → Verdict → Type 0
@@ -57,29 +58,18 @@ verdict_tells cap net good = by (nat_lt cap (load_of net)) (is_consistent net) r
     by false true is t = (refl, ltb-false cap (load_of net) is, (decided net good).0 t)
     by false false is f = (refl, ltb-false cap (load_of net) is, not_consistent net good f)
 
--- what the verdict on a network without a constraint tells
-module _ (cap id : ℕ) (net : Network) (v : Verdict) (well_formed : IsWellFormed net) (is : v ≡ verdict_on cap (without id net)) where
-  good : IsWellFormed (without id net)
-  good = without_well_formed id net well_formed
+-- what the verdict of a check that was just started tells
+pub started_tells : (cap : ℕ) (net : NetworkParts) (check : CheckParts) (v : Verdict) → IsWellFormed (the_network net) →
+    check ≡ record { net = net; cap = cap; verdict = None; tries = 0 } → IsAnswer check.cap (the_network check.net) v → IsVerdictOn cap (the_network net) v
+started_tells cap net check v good is answer =
+    subst (IsVerdictOn cap (the_network net)) (sym (started_verdict cap net check v good is answer)) (verdict_tells cap (the_network net) good)
 
-  told : IsVerdictOn cap (without id net) v
-  told = subst (IsVerdictOn cap (without id net)) (sym is) (verdict_tells cap (without id net) good)
-
-  pub trial_full : v ≡ Full → cap < load_of (without id net)
-  trial_full e = subst (IsVerdictOn cap (without id net)) e told
-
-  pub trial_yes : (load : ℕ) → v ≡ Yes load → (load_of (without id net) ≤ cap) × (net ≡ smaller id net)
-  trial_yes load e =
-      let t = subst (IsVerdictOn cap (without id net)) e told in
-      (t.1, sym (cond-true (is_consistent (without id net)) net (without id net) ((decided (without id net) good).1 t.2)))
-
-  pub trial_no : (load : ℕ) → v ≡ No load → (load_of (without id net) ≤ cap) × (without id net ≡ smaller id net)
-  trial_no load e =
-      let t = subst (IsVerdictOn cap (without id net)) e told in (
-        t.1,
-        sym (cond-false (is_consistent (without id net)) net (without id net)
-            (false_from_ne_true (is_consistent (without id net)) (λ e. t.2 ((decided (without id net) good).0 e)))),
-      )
+-- where no constraint has the id, none is taken out
+none_taken : (id : ℕ) (cs : List Constraint) → All (λ c. c.id ≢ id) cs → without_id id cs ≡ cs
+none_taken id [] others = refl
+none_taken id (c ∷ cs) others =
+    rw (ne_eqb c.id id (All-head (λ c. c.id ≢ id) c cs others))
+    (ap (λ ds. c ∷ ds) (none_taken id cs (All-tail (λ c. c.id ≢ id) c cs others)))
 
 map_without : (id : ℕ) (cs : List Constraint) → map the_constraint (without_id id cs) ≡ filter (λ c. not (eqb c.id id)) (map the_constraint cs)
 map_without id [] = refl
@@ -103,26 +93,7 @@ taken_out id old new (Some c) absent same gone =
 pub copied : (old new : NetworkParts) → new ≡ record old { spare = 0 } → the_network new ≡ the_network old
 copied old new is = ap the_network is
 
--- the verdict of a check of a network that isn't consistent
-pub refuted_verdict : (cap : ℕ) (net : NetworkParts) (check new : CheckParts) (v : Verdict) → check ≡ record { net = net; cap = cap; verdict = None; tries = 0 } →
-    new ≡ record check { verdict = Some v; tries = new.tries } →
-    ((load : ℕ) → (v ≡ No load ↔ ((load ≡ load_of (the_network check.net)) × (load_of (the_network check.net) ≤ check.cap) × ¬ IsConsistent (the_network check.net)))) →
-    load_of (the_network net) ≤ cap → ¬ IsConsistent (the_network net) → (load : ℕ) × (new.verdict ≡ Some (No load))
-refuted_verdict cap net check new v is answered exactly below never =
-    let said : v ≡ No (load_of (the_network check.net)) = (exactly (load_of (the_network check.net))).1 (
-      refl,
-      subst (λ (c : CheckParts). load_of (the_network c.net) ≤ c.cap) (sym is) below,
-      subst (λ (c : CheckParts). ¬ IsConsistent (the_network c.net)) (sym is) never,
-    ) in
-    (load_of (the_network check.net), ap (λ (c : CheckParts). c.verdict) answered ∙ ap Some said)
-
 -- the network of the check is the one that was handed in
 pub same_net : (cap : ℕ) (net : NetworkParts) (check new : CheckParts) (v : Verdict) → check ≡ record { net = net; cap = cap; verdict = None; tries = 0 } →
     new ≡ record check { verdict = Some v; tries = new.tries } → new.net ≡ net
 same_net cap net check new v is answered = ap (λ (c : CheckParts). c.net) answered ∙ ap (λ (c : CheckParts). c.net) is
-
--- the clauses of a refutation, in one record
-pub refutation_of : (net : Network) (r : Result RefutationParts AllocError) → IfOk r (λ r. the_steps r ≡ part (log_of net)) → IfOk r (λ r. r.load ≡ load_of net) →
-    IfOk r (λ r. IsRefutation net (the_steps r)) → IfOk r (λ r. All (λ e. e.bound.node.0 < count net) r.steps) → IfOk r FitsText → IfOk r (IsRefutationOf net)
-refutation_of net (Ok r) part load refutes named text = record { part = part; load = load; refutes = refutes; named = named; text = text }
-refutation_of net (Err e) part load refutes named text = tt

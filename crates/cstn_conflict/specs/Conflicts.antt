@@ -3,7 +3,8 @@ use Rattle.std.specs.Prelude.{ℕ, Bool, nat_lt, if◌then◌else◌, List, [], 
 use Rattle.std.specs.List.{list_any}
 use Rattle.cstn_net.specs.Networks.{Network}
 use Rattle.cstn_check.specs.Growth.{load_of}
-use Rattle.cstn_conflict.specs.Sets.{ids_of, less, with_ids, is_consistent}
+use Rattle.cstn_check.specs.Verdicts.{is_consistent}
+use Rattle.cstn_conflict.specs.Sets.{ids_of, less, with_ids}
 
 -- the set without the id where the network isn't consistent with that, and else the set as it is
 abbrev pub left_out : Network → List ℕ → ℕ → List ℕ

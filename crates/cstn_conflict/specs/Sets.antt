@@ -2,7 +2,6 @@
 use Rattle.std.specs.Prelude.{ℕ, Bool, not, ◌==◌, List, map}
 use Rattle.std.specs.List.{filter, list_any}
 use Rattle.cstn_net.specs.Networks.{Network}
-use Rattle.cstn_check.specs.Growth.{is_refuted, log_of}
 
 -- the ids of the constraints, in order
 abbrev pub ids_of : Network → List ℕ
@@ -19,7 +18,3 @@ less id set = filter (λ i. not (i == id)) set
 -- the network with exactly those of its constraints whose ids are in the set
 abbrev pub with_ids : Network → List ℕ → Network
 with_ids net set = record net { constraints = filter (λ c. has set c.id) net.constraints }
-
--- no entry of its log refutes the network: a well-formed one is consistent exactly then
-abbrev pub is_consistent : Network → Bool
-is_consistent net = not (is_refuted net (log_of net))

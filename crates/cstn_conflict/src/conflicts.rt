@@ -1,4 +1,4 @@
-// The conflict set of a network, by a fresh check of each set that is tried.
+// The conflict set of a network. A set is checked only where its log can differ from that of the last no.
 ghost use Rattle.std.specs.Prelude.{ℕ, ◌≡◌, ◌<◌, ◌≤◌, true, false, IfOk, IsOk, IsErrOf, length};
 ghost use Rattle.std.specs.List.{All, AllPairs, Contains};
 ghost use Rattle.cstn_net.specs.Networks.{count};
@@ -10,13 +10,13 @@ ghost use Rattle.cstn_check.specs.Growth.{log_of, load_of, most_entries};
 ghost use Rattle.cstn_refute.specs.Refutations.{FitsText, the_steps};
 ghost use Rattle.cstn_conflict.specs.Sets.{with_ids, less, ids_of};
 ghost use Rattle.cstn_conflict.specs.Conflicts.{conflict_set, is_conflict_full};
-ghost use Rattle.cstn_conflict.specs.Trials.{is_any_above};
+ghost use Rattle.cstn_check.specs.Verdicts.{IsRefutationOf};
+ghost use Rattle.cstn_conflict.specs.Trials.{IsNoOn, is_any_above};
 
 use crate::errors::ConflictError;
 use crate::ids::{Ids, ids_of};
-use crate::trials::{is_well_formed, leave_out, refuted, verdict_on};
-use cstn_check::Verdict;
-use cstn_net::Network;
+use crate::search::{No, leave_out, no_on};
+use cstn_net::{Network, network_is_well_formed};
 use cstn_refute::Refutation;
 use std::alloc::Global;
 
@@ -29,7 +29,8 @@ pub struct Conflict {
 
 /// The conflict set of a network that isn't consistent: the constraints are tried in ascending order of their ids, and each is
 /// left out for good where what is left isn't consistent without it. Each set is tried by a check whose log may have `cap`
-/// entries. The refutation is that of the check of the network with the conflict set. The network is dropped, also on failure.
+/// entries; a constraint that gave no entry of the last no's log is left out with no check, for the log without it is the same.
+/// The refutation is that of the check of the network with the conflict set. The network is dropped, also on failure.
 pub fn smallest(alloc: Global, net: Network, cap: u32) -> Result<Conflict, ConflictError>
     requires some { 1 ≤ cap }
     requires most { cap ≤ 4194304 }
@@ -53,32 +54,38 @@ pub fn smallest(alloc: Global, net: Network, cap: u32) -> Result<Conflict, Confl
     ensures named { IfOk result (λ conflict. All (λ e. e.bound.node.0 < count (the_network net)) conflict.refutation.steps) }
     ensures text { IfOk result (λ conflict. FitsText conflict.refutation) }
 {
-    is_well_formed(&net);
-    match verdict_on(alloc, net.copy(alloc)?, cap)? {
-        Verdict::Yes { load } => Err(ConflictError::Consistent { load }),
-        Verdict::Full => Err(ConflictError::Full),
-        Verdict::No { .. } => {
-            let net = least(alloc, net, cap)?;
-            let ids = ids_of(alloc, &net)?;
-            let refutation = refuted(alloc, net, cap)?;
-            Ok(Conflict { ids, refutation })
-        }
-    }
+    network_is_well_formed(&net);
+    let ids = ids_of(alloc, &net)?;
+    let first = no_on(alloc, net.copy(alloc)?, ids.as_slice(), cap)?;
+    let (net, refutation) = left_over(alloc, net, ids.as_slice(), first, cap)?;
+    let ids = ids_of(alloc, &net)?;
+    Ok(Conflict { ids, refutation })
 }
 
-// The network with the constraints that are left once each was tried.
-fn least(alloc: Global, net: Network, cap: u32) -> Result<Network, ConflictError>
-    requires cap { (1 ≤ cap) × (cap ≤ 4194304) }
+// The network with the constraints that are left once each was tried, and its refutation. `first` is the no on the whole network.
+fn left_over(
+    alloc: Global,
+    net: Network,
+    ids: &[u32],
+    first: No,
+    cap: u32,
+) -> Result<(Network, Refutation), ConflictError>
+    requires some { 1 ≤ cap }
+    requires most { cap ≤ 4194304 }
+    requires ids { ids.now ≡ ids_of (the_network net) }
+    requires ascending { AllPairs (λ a b. a < b) ids.now }
+    requires first { IsNoOn cap (the_network net) ids.now first.gave.items first.refutation }
     ensures never { (load : ℕ) → IsErrOf result (ConflictError.Consistent load) → ⊥ }
     ensures full { IsErrOf result ConflictError.Full → is_any_above cap (the_network net) ≡ true }
     ensures within { IsOk result → is_any_above cap (the_network net) ≡ false }
-    ensures left { IfOk result (λ left. the_network left ≡ with_ids (the_network net) (conflict_set (the_network net))) }
-    ensures ids { IfOk result (λ left. ids_of (the_network left) ≡ conflict_set (the_network net)) }
+    ensures left { IfOk result (λ left. the_network left.0 ≡ with_ids (the_network net) (conflict_set (the_network net))) }
+    ensures ids { IfOk result (λ left. ids_of (the_network left.0) ≡ conflict_set (the_network net)) }
+    ensures refutation { IfOk result (λ left. IsRefutationOf (the_network left.0) left.1) }
 {
     let mut net = net;
-    let ids = ids_of(alloc, &net)?;
-    for id in ids.as_slice() {
-        leave_out(alloc, &mut net, *id, cap)?;
+    let mut last = first;
+    for k in 0..ids.len() {
+        leave_out(alloc, &mut net, &mut last, ids, k, cap)?;
     }
-    Ok(net)
+    Ok((net, last.refutation))
 }

@@ -1,4 +1,5 @@
-ghost use Rattle.std.specs.Prelude.{◌≡◌, IfOk};
+ghost use Rattle.std.specs.Prelude.{◌≡◌, ◌<◌, IfOk};
+ghost use Rattle.std.specs.List.{AllPairs};
 ghost use Rattle.cstn_net.specs.Read.{the_network};
 ghost use Rattle.cstn_conflict.specs.Sets.{ids_of};
 
@@ -32,6 +33,7 @@ impl Ids {
 /// The ids of the constraints of a network, ascending.
 pub(crate) fn ids_of(alloc: Global, net: &Network) -> Result<Ids, AllocError>
     ensures ids { IfOk result (λ ids. ids ≡ ids_of (the_network net.now)) }
+    ensures ascending { IfOk result (λ ids. AllPairs (λ a b. a < b) ids) }
 {
     let constraints = net.constraints();
     let mut ids = Vec::with_capacity(alloc, constraints.len())?;

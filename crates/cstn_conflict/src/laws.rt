@@ -2,7 +2,8 @@
 ghost use Rattle.std.specs.Prelude.{ℕ, ◌≡◌, ◌↔◌, true, List};
 ghost use Rattle.cstn_net.specs.Networks.{Network, IsWellFormed};
 ghost use Rattle.cstn_net.specs.Strategies.{IsConsistent};
-ghost use Rattle.cstn_conflict.specs.Sets.{ids_of, has, with_ids, is_consistent};
+ghost use Rattle.cstn_check.specs.Verdicts.{is_consistent};
+ghost use Rattle.cstn_conflict.specs.Sets.{ids_of, has, with_ids};
 
 /// A well-formed network with some of its constraints is well-formed, and its log decides whether it is consistent. With all of
 /// its constraints it is the network itself. A network that is consistent stays so with fewer constraints.

@@ -3,12 +3,12 @@
 
 mod conflicts;
 mod errors;
+mod givers;
 mod ids;
 mod laws;
-mod trials;
+mod search;
 
 pub use conflicts::{Conflict, smallest};
 pub use errors::ConflictError;
 pub use ids::Ids;
 pub use laws::sets_are_decided;
-pub use trials::{refuted, verdict_on};

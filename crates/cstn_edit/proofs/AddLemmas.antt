@@ -9,14 +9,14 @@ use Rattle.std.proofs.lemmas.List.Elements.{All-push, All-weaker, Contains-appen
 use Rattle.cstn_label.specs.declared.props.Prop.{Prop}
 use Rattle.cstn_label.specs.Labels.{Label}
 use Rattle.cstn_net.specs.declared.constraints.Constraint.{Constraint}
-use Rattle.cstn_net.specs.Networks.{Network, Constraint as TheConstraint}
+use Rattle.cstn_net.specs.Networks.{Network, Constraint as TheConstraint, IsLeastUnobserved}
 use Rattle.cstn_net.specs.Read.{NetworkParts, the_network, the_constraint}
 use Rattle.cstn_label.specs.Bounds.{Bound}
 use Rattle.cstn_rules.specs.declared.entries.Why.TheVariants.{Chain}
 use Rattle.cstn_rules.specs.Derivations.{Entry, IsDerivation}
 use Rattle.cstn_log.specs.Entries.{State, the_entries}
 use Rattle.cstn_edit.specs.declared.outcomes.Outcome.{Outcome}
-use Rattle.cstn_edit.specs.Sessions.{next_id, most_births, IsLeastUnobserved, IsKeptLog, IsSession}
+use Rattle.cstn_edit.specs.Sessions.{next_id, most_births, IsKeptLog, IsSession}
 
 -- a derivation of a network is one of the network with other constraints too, if those that it uses are among them
 abbrev pub DeriveElsewhere : Type 0

@@ -14,20 +14,22 @@ use Rattle.cstn_label.specs.declared.marks.Mark.{Mark}
 use Rattle.cstn_label.specs.declared.marks.Mark.TheVariants.{Absent}
 use Rattle.cstn_label.specs.Labels.{Label, IsPlain}
 use Rattle.cstn_label.specs.Read.{marks}
+use Rattle.cstn_label.specs.Marks.{is_absent}
 use Rattle.cstn_net.specs.declared.constraints.Constraint.{Constraint}
-use Rattle.cstn_net.specs.Networks.{Network, Constraint as TheConstraint, IsOnObserved, IsValue, count}
-use Rattle.cstn_net.specs.Read.{NetworkParts, the_network, the_constraint, is_prop, has_id, without_id, with_most}
+use Rattle.cstn_net.specs.Networks.{Network, Constraint as TheConstraint, IsOnObserved, IsValue, count, is_prop, IsUnobserved, IsLeastUnobserved}
+use Rattle.cstn_net.specs.Read.{NetworkParts, the_network, the_constraint, has_id, without_id, with_most}
 use Rattle.cstn_net.proofs.ListLemmas.{none_passes}
+use Rattle.cstn_net.specs.Scenarios.{is_observed}
 use Rattle.cstn_text.proofs.CutLemmas.{position_at}
 use Rattle.cstn_rules.specs.Derivations.{Entry}
 use Rattle.cstn_log.specs.Entries.{State, the_entries}
 use Rattle.cstn_log.specs.Cuts.{dropped}
-use Rattle.cstn_check.specs.Tests.{is_absent, is_plain}
+use Rattle.cstn_check.specs.Tests.{is_plain}
 use Rattle.cstn_check.proofs.Decided.{Small, plain_true, true_plain}
 use Rattle.cstn_edit.specs.declared.outcomes.Outcome.{Outcome}
 use Rattle.cstn_edit.proofs.CutLemmas.{kept_dropped}
-use Rattle.cstn_edit.specs.Sessions.{SessionParts, kept_of, kept_list, IsUnobserved, IsLeastUnobserved, next_id}
-use Rattle.cstn_edit.specs.Edits.{Session, EditLimit, NoRoom, NoSuch, ValueRange, NotPlain, NotObserved, is_value, is_observed, unobserved, has_constraint, add_refusal, remove_refusal, change_refusal, without, with_value, with_added, with_others, the_session}
+use Rattle.cstn_edit.specs.Sessions.{SessionParts, kept_of, kept_list, next_id}
+use Rattle.cstn_edit.specs.Edits.{Session, EditLimit, NoRoom, NoSuch, ValueRange, NotPlain, NotObserved, is_value, unobserved, has_constraint, add_refusal, remove_refusal, change_refusal, without, with_value, with_added, with_others, the_session}
 
 -- the test of the value passes exactly where it is in range
 pub true_value : (most : ℤ) → is_value most ≡ true → IsValue most

@@ -1,17 +1,15 @@
 -- The fresh ids of a session through its edits.
-use Rattle.std.proofs.Common.{ℕ, ℤ, zero, suc, ◌≡◌, inl, inr, ◌+◌, ◌<◌, ◌≤◌, Bool, true, false, not, cond, ◌&&◌, ◌||◌, ◌==◌, List, [], ◌∷◌, ◌++◌, length, map, take, get_or, Some, arith, refl, sym, subst, ap, ◌∙◌, length-append}
-use Rattle.std.specs.Prelude.{slice_get, if◌then◌else◌, ◌↔◌}
+use Rattle.std.proofs.Common.{ℕ, ℤ, suc, ◌≡◌, inl, inr, ◌+◌, ◌<◌, ◌≤◌, Bool, true, false, not, ◌&&◌, ◌||◌, ◌==◌, List, [], ◌∷◌, ◌++◌, length, map, take, get_or, Some, arith, refl, sym, subst, ap, ◌∙◌}
+use Rattle.std.specs.Prelude.{slice_get, ◌↔◌}
 use Rattle.std.specs.List.{All, Contains, filter}
 use Rattle.std.proofs.lemmas.Bool.{cases_Bool, cond-true, cond-false, false≢true}
-use Rattle.std.proofs.lemmas.List.{length-map, map-append, append-nil}
+use Rattle.std.proofs.lemmas.List.{map-append, append-nil}
 use Rattle.std.proofs.lemmas.List.Elements.{All-filter, All-map, All-contains, All-contains_itself, All-cons, Contains-push_cases}
 use Rattle.cstn_net.specs.declared.constraints.Constraint.{Constraint as DeclaredConstraint}
 use Rattle.cstn_net.specs.Networks.{Network, Constraint}
 use Rattle.cstn_net.specs.Read.{NetworkParts, the_network, the_constraint}
-use Rattle.cstn_label.specs.Bounds.{Bound}
 use Rattle.cstn_rules.specs.Derivations.{Entry}
-use Rattle.cstn_check.specs.Growth.Instance.{chain_at, wait_at}
-use Rattle.cstn_check.specs.Spent.{IsSpent, AreSpent, is_fresh, fresh_count}
+use Rattle.cstn_check.specs.Spent.{AreSpent, is_fresh, fresh_count}
 use Rattle.cstn_edit.specs.Edits.{with_value, without}
 use Rattle.cstn_log.specs.Entries.{State, the_entries}
 use Rattle.cstn_log.proofs.ListLemmas.{take_step}

@@ -3,12 +3,14 @@ use Rattle.std.specs.Prelude.{ℕ, ℤ, pos, negsuc, int_le, ◌+◌, nat_le, �
 use Rattle.std.specs.List.{filter, list_any, range_with_len}
 use Rattle.std.specs.Option.{option_map, unwrap_or}
 use Rattle.cstn_label.specs.Labels.{Label}
+use Rattle.cstn_label.specs.Marks.{is_absent}
 use Rattle.cstn_net.specs.Networks.{Network, Constraint, count}
-use Rattle.cstn_net.specs.Read.{the_network, is_prop}
+use Rattle.cstn_net.specs.Scenarios.{is_observed}
+use Rattle.cstn_net.specs.Read.{the_network}
 use Rattle.cstn_rules.specs.Derivations.{Entry}
 use Rattle.cstn_log.specs.Entries.{bases}
 use Rattle.cstn_log.specs.Cuts.{dropped}
-use Rattle.cstn_check.specs.Tests.{is_absent, is_plain}
+use Rattle.cstn_check.specs.Tests.{is_plain}
 use Rattle.cstn_edit.specs.declared.errors.EditError.{EditError}
 use Rattle.cstn_edit.specs.declared.errors.EditError.TheVariants.{EditLimit as AtLimit, NoRoom as WithoutRoom, NoSuch as Missing, ValueRange as OutOfRange, NotPlain as Unplain, NotObserved as Unobserved}
 use Rattle.cstn_edit.specs.declared.outcomes.Outcome.{Outcome}
@@ -39,10 +41,6 @@ begun net = record { net = net; kept = bases (count net); edits = 0; highest = h
 -- the value is from -1,000,000,000 to 1,000,000,000 ticks
 abbrev pub is_value : ℤ → Bool
 is_value most = int_le (negsuc 999999999) most && int_le most (pos 1000000000)
-
--- some time-point observes the proposition
-abbrev pub is_observed : Network → ℕ → Bool
-is_observed net p = list_any (is_prop p) net.observes
 
 -- the least proposition that the label names and nothing observes
 unfoldable pub unobserved : Network → Label → Option ℕ

@@ -1,5 +1,5 @@
 -- The fresh ids of a session: those of the constraints that were added or changed since the last verdict.
-use Rattle.std.specs.Prelude.{ℕ, ◌≡◌, ◌<◌, ◌≤◌, ◌==◌, Bool, true, not, ◌||◌, List, length, map}
+use Rattle.std.specs.Prelude.{ℕ, ◌≡◌, ◌≤◌, ◌==◌, Bool, true, ◌||◌, List, length, map}
 use Rattle.std.specs.List.{filter}
 use Rattle.cstn_net.specs.declared.constraints.Constraint.{Constraint}
 use Rattle.cstn_net.specs.Read.{NetworkParts, the_network}

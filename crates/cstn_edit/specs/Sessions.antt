@@ -1,9 +1,7 @@
 -- Edit sessions: a network that is edited, with the list that is kept between its verdicts.
 use Rattle.std.specs.Prelude.{ℕ, suc, ◌≡◌, ◌+◌, ◌*◌, ◌^◌, ◌<◌, ◌≤◌, max, nat_lt, nat_le, Bool, ◌&&◌, if◌then◌else◌, List, [], ◌∷◌, ◌++◌, length, Option, Some, None}
 use Rattle.std.specs.List.{All}
-use Rattle.cstn_label.specs.declared.marks.Mark.TheVariants.{Absent}
-use Rattle.cstn_label.specs.Labels.{Label}
-use Rattle.cstn_net.specs.Networks.{Network, Constraint, Observes, count}
+use Rattle.cstn_net.specs.Networks.{Network, Constraint, count}
 use Rattle.cstn_net.specs.Read.{NetworkParts, the_network}
 use Rattle.cstn_net.specs.Strategies.{IsConsistent}
 use Rattle.cstn_rules.specs.declared.entries.Entry.{Entry as DeclaredEntry}
@@ -73,14 +71,6 @@ greater (Some known) id = max known id
 abbrev pub highest_of : Option ℕ → List Constraint → Option ℕ
 highest_of known [] = known
 highest_of known (c ∷ cs) = highest_of (Some (greater known c.id)) cs
-
--- the label names the proposition, which nothing observes
-abbrev pub IsUnobserved : Network → Label → ℕ → Type 0
-IsUnobserved net a p = (a p ≡ Absent → ⊥) × ((x : ℕ) → Observes net x p → ⊥)
-
--- the proposition is the least one that the label names and nothing observes
-abbrev pub IsLeastUnobserved : Network → Label → ℕ → Type 0
-IsLeastUnobserved net a p = IsUnobserved net a p × ((q : ℕ) → q < p → IsUnobserved net a q → ⊥)
 
 -- the most births that the log can have had: the start, each accepted edit and each new outcome add at most 2 ^ 24
 abbrev pub most_births : ℕ → Option Outcome → ℕ

@@ -15,7 +15,7 @@ ghost use Rattle.cstn_edit.specs.Sessions.{IsKeptLog, Refuted, Consistent, kept_
 use crate::outcomes::Outcome;
 use cstn_check::{Grown, Verdict, grow, grow_on};
 use cstn_log::Log;
-use cstn_net::Network;
+use cstn_net::{Network, network_is_well_formed};
 use cstn_rules::Tries;
 
 // Grows the kept list, or, where that gets longer than the cap, the log of the network, and answers the verdict by the grown
@@ -41,7 +41,7 @@ pub fn answer(
     ensures tries { tries.old.count ≤ tries.new.count }
     ensures most_tries { settled ≡ true → result.afresh ≡ false → tries.new.count ≤ tries.old.count + most_tries (length net.now.constraints) (fresh_count fresh.now (the_network net.now).constraints) (length log.old.entries) (length log.new.entries) }
 {
-    is_well_formed(net);
+    network_is_well_formed(net);
     if log.len() == 0 {
         return Outcome {
             afresh: true,
@@ -107,7 +107,7 @@ fn answer_afresh(net: &Network, log: &mut Log, tries: &mut Tries) -> Verdict
     ensures size { log.new.cap ≡ log.old.cap }
     ensures tries { tries.old.count ≤ tries.new.count }
 {
-    is_well_formed(net);
+    network_is_well_formed(net);
     log.restart(net);
     let grown = grow(net, log, tries);
     if grown == Grown::Full {
@@ -127,11 +127,4 @@ fn verdict_of(grown: Grown, load: u32) -> Verdict
         Grown::Refuted => Verdict::No { load },
         Grown::Full => Verdict::Full,
     }
-}
-
-// Every network is well-formed.
-pub fn is_well_formed(net: &Network)
-    ensures { IsWellFormed (the_network net.now) }
-{
-    let _ = net.count();
 }

@@ -1,9 +1,8 @@
 // Tests of the value and the label of a new constraint.
 ghost use Rattle.std.specs.Prelude.{ℕ, ◌≡◌, ◌<◌, ◌≤ℤ◌, IsTrue, ◌↔◌, IfNone, IfSome, MatchOption};
 ghost use Rattle.cstn_label.specs.Read.{marks};
-ghost use Rattle.cstn_net.specs.Networks.{IsOnObserved, IsValue};
+ghost use Rattle.cstn_net.specs.Networks.{IsOnObserved, IsValue, IsLeastUnobserved};
 ghost use Rattle.cstn_net.specs.Read.{the_network};
-ghost use Rattle.cstn_edit.specs.Sessions.{IsLeastUnobserved};
 
 use cstn_label::{Label, Mark, Prop, labels_are_their_marks};
 use cstn_net::Network;

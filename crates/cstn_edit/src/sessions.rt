@@ -3,7 +3,7 @@ ghost use Rattle.std.specs.List.{All, Contains};
 ghost use Rattle.cstn_label.specs.declared.props.Prop.{Prop as DeclaredProp};
 ghost use Rattle.cstn_label.specs.Labels.{IsPlain};
 ghost use Rattle.cstn_label.specs.Read.{marks};
-ghost use Rattle.cstn_net.specs.Networks.{IsValue, IsWellFormed, count};
+ghost use Rattle.cstn_net.specs.Networks.{IsValue, IsWellFormed, count, IsUnobserved, IsLeastUnobserved};
 ghost use Rattle.cstn_net.specs.Strategies.{IsConsistent};
 ghost use Rattle.cstn_net.specs.Read.{the_network, without_id, with_most};
 ghost use Rattle.cstn_rules.specs.Derivations.{Entry, IsDerivation, IsRefutation};
@@ -14,17 +14,17 @@ ghost use Rattle.cstn_check.specs.Growth.{grow, load_of};
 ghost use Rattle.cstn_refute.specs.Refutations.{the_steps};
 ghost use Rattle.cstn_check.specs.Spent.{most_tries};
 ghost use Rattle.cstn_edit.specs.Fresh.{fresh_with, ids_of};
-ghost use Rattle.cstn_edit.specs.Sessions.{kept_of, IsUnobserved, IsLeastUnobserved, next_id, highest_of, kept_after, outcome_of};
+ghost use Rattle.cstn_edit.specs.Sessions.{kept_of, next_id, highest_of, kept_after, outcome_of};
 ghost use Rattle.cstn_edit.specs.Edits.{the_session, refusal_of, begun, add_refusal, remove_refusal, change_refusal, with_added, with_removed, with_changed, outcome_at, with_verdict};
 
-use crate::answers::{answer, is_well_formed};
+use crate::answers::answer;
 use crate::errors::EditError;
 use crate::fresh::{freshen, is_yes, stays_settled};
 use crate::labels::{is_value, unobserved};
 use crate::outcomes::Outcome;
 use cstn_label::{Label, NodeId, labels_are_their_marks};
 use cstn_log::Log;
-use cstn_net::{Constraint, Network};
+use cstn_net::{Constraint, Network, network_is_well_formed};
 use cstn_refute::Refutation;
 use cstn_rules::{Tries, derivations_move};
 use std::alloc::{AllocError, Global};
@@ -173,7 +173,7 @@ impl Session {
         ensures refused { OnErr result (self.new ≡ self.old) }
     {
         self.check_limit()?;
-        is_well_formed(&self.net);
+        network_is_well_formed(&self.net);
         if self.net.take_out(id).is_none() {
             return Err(EditError::NoSuch { id });
         }
@@ -237,7 +237,7 @@ impl Session {
         ensures tries { self.old.tries ≤ self.new.tries }
         ensures most_tries { self.old.last ≡ None → self.old.settled ≡ true → result.afresh ≡ false → self.new.tries ≤ self.old.tries + most_tries (length self.old.net.constraints) (length self.old.fresh) (length self.old.entries) (length self.new.entries) }
     {
-        is_well_formed(&self.net);
+        network_is_well_formed(&self.net);
         if let Some(outcome) = self.last {
             return outcome;
         }
@@ -265,7 +265,7 @@ impl Session {
         // Each step is at a time-point of the network, so the refutation can be printed with their names.
         ensures named { IfOk result (λ r. All (λ e. e.bound.node.0 < count (the_network self.now.net)) r.steps) }
     {
-        is_well_formed(&self.net);
+        network_is_well_formed(&self.net);
         let load = self.log.len();
         let steps = self.log.part(alloc)?;
         Ok(Refutation::new(load, steps))
@@ -283,7 +283,7 @@ impl Session {
         ensures network { result.now ≡ self.now.net }
         ensures well_formed { IsWellFormed (the_network result.now) }
     {
-        is_well_formed(&self.net);
+        network_is_well_formed(&self.net);
         &self.net
     }
 

@@ -6,6 +6,20 @@ use Rattle.std.specs.List.{Contains}
 use Rattle.std.specs.Prelude.{Some, slice_get}
 use Rattle.std.proofs.lemmas.Option.{none-some, same_Some}
 
+-- the first entries stand at their places
+pub get_front : {X : Type 0} (xs : List X) (n k : ℕ) (x : X) → k < n → slice_get xs k ≡ Some x → slice_get (take n xs) k ≡ Some x
+get_front [] n k x here is = absurd (none-some x is)
+get_front (y ∷ ys) zero k x here is = absurd (omega arith)
+get_front (y ∷ ys) (suc n) zero x here is = is
+get_front (y ∷ ys) (suc n) (suc k) x here is = get_front ys n k x (omega arith) is
+
+pub same_front : {X : Type 0} (xs : List X) (n k : ℕ) → k < n → slice_get (take n xs) k ≡ slice_get xs k
+same_front [] zero k here = refl
+same_front [] (suc n) k here = refl
+same_front (y ∷ ys) zero k here = absurd (omega arith)
+same_front (y ∷ ys) (suc n) zero here = refl
+same_front (y ∷ ys) (suc n) (suc k) here = same_front ys n k (omega arith)
+
 pub get_left : {X : Type 0} (xs : List X) (y : X) (k : ℕ) (x : X) → slice_get xs k ≡ Some x → slice_get (xs ++ y ∷ []) k ≡ Some x
 get_left [] y k x is = absurd (none-some x is)
 get_left (z ∷ xs) y zero x is = is

@@ -1,8 +1,8 @@
 -- The steps of marking and cutting a list, one entry at a time.
-use Rattle.std.proofs.Common.{ℕ, zero, suc, ◌≡◌, inl, inr, ◌<◌, ◌≤◌, Bool, true, false, Option, Some, None, List, [], ◌∷◌, ◌++◌, length, get_or, drop, arith, refl, sym, ◌∙◌, ap, length-append, append_assoc}
+use Rattle.std.proofs.Common.{ℕ, zero, suc, ◌≡◌, inl, inr, ◌<◌, ◌≤◌, Bool, true, false, Option, Some, None, List, [], ◌∷◌, ◌++◌, length, get_or, take, drop, arith, refl, sym, ◌∙◌, ap, length-append, append_assoc}
 use Rattle.std.specs.Prelude.{slice_get}
 use Rattle.std.proofs.lemmas.Bool.{cases_eq}
-use Rattle.std.proofs.lemmas.List.{get_or_append_left, map-append}
+use Rattle.std.proofs.lemmas.List.{get_or_append_left, map-append, length-map, length-take-le, take-map}
 use Rattle.std.proofs.Math.Seq.{get_or-append_seam}
 use Rattle.std.proofs.lemmas.Option.{slice_get-map}
 use Rattle.cstn_rules.specs.declared.entries.Entry.{Entry}
@@ -11,8 +11,8 @@ use Rattle.cstn_rules.specs.declared.entries.Why.TheVariants.{Base, Chain, Wait}
 use Rattle.cstn_rules.specs.Derivations.{Entry as TheEntry}
 use Rattle.cstn_rules.specs.Read.{the_entry}
 use Rattle.cstn_log.specs.Entries.{the_entries}
-use Rattle.cstn_log.specs.Cuts.{PremisesBelow, is_marked, rank, renumbered, replaced, moved, cut_from, with_premises, with_premises_of, with_ancestors, stays, marked_staying}
-use Rattle.cstn_log.proofs.ListLemmas.{drop_step}
+use Rattle.cstn_log.specs.Cuts.{PremisesBelow, is_marked, rank, renumbered, replaced, moved, cut_from, cut, with_premises, with_premises_of, with_ancestors, last_marked, part, stays, marked_staying}
+use Rattle.cstn_log.proofs.ListLemmas.{drop_step, same_front}
 use Rattle.cstn_log.proofs.CutLemmas.{cut_marked, cut_unmarked}
 
 -- what an entry of the program's list stands for
@@ -80,3 +80,23 @@ cut_step_unmarked marks L steps k unmarked = ap (λ xs. the_entries steps ++ xs)
     here [] (suc n) = refl
     here (x ∷ xs) zero = cut_unmarked marks k x xs unmarked
     here (x ∷ xs) (suc n) = here xs n
+
+-- the marks of the first entries and of their ancestors don't depend on the other entries
+pub front_ancestors : (steps : List TheEntry) (n k : ℕ) (marks : List Bool) → k ≤ n →
+    with_ancestors steps k marks ≡ with_ancestors (take n steps) k marks
+front_ancestors steps n zero marks upto = refl
+front_ancestors steps n (suc k) marks upto =
+    let same : slice_get (take n steps) k ≡ slice_get steps k = same_front steps n k (omega arith) in
+    front_ancestors steps n k (with_premises_of (slice_get steps k) (is_marked marks k) marks) (omega arith)
+    ∙ ap (λ o. with_ancestors (take n steps) k (with_premises_of o (is_marked marks k) marks)) (sym same)
+
+-- the last of the first n entries and its ancestors are the part of the first n
+pub front_part : (L : List Entry) (n : ℕ) → n ≤ length L →
+    cut (with_ancestors (the_entries L) n (last_marked n)) (the_entries (take n L)) ≡ part (the_entries (take n L))
+front_part L n upto =
+    let all : length (the_entries L) ≡ length L = length-map L the_entry in
+    let front : the_entries (take n L) ≡ take n (the_entries L) = sym (take-map the_entry n L) in
+    let long : length (take n (the_entries L)) ≡ n = length-take-le n (the_entries L) (omega arith) in
+    ap (λ m. cut m (the_entries (take n L))) (front_ancestors (the_entries L) n n (last_marked n) (omega arith))
+    ∙ ap (cut (with_ancestors (take n (the_entries L)) n (last_marked n))) front
+    ∙ ap (λ k. cut (with_ancestors (take n (the_entries L)) k (last_marked k)) (take n (the_entries L))) (sym long) ∙ ap part (sym front)

@@ -1,17 +1,18 @@
 // Marks the entries of a list that are to be kept, and cuts the list to the marked ones.
-ghost use Rattle.std.specs.Prelude.{◌≡◌, ◌≤◌, [], length, vec_capacity};
+ghost use Rattle.std.specs.Prelude.{◌≡◌, ◌<◌, ◌≤◌, ◌^◌, [], length, take, vec_capacity};
 ghost use Rattle.cstn_log.specs.Entries.{the_entries};
 ghost use Rattle.cstn_log.specs.Cuts.{PremisesBelow, rank, with_premises, with_ancestors, stays, marked_staying, cut};
 
 use crate::list::{EntryList, placed};
 use cstn_rules::{Entry, Why};
 
-// Marks the ancestors of the marked entries.
+// Marks the ancestors of the marked entries, among the first ones, which the marks are of.
 pub fn mark_ancestors(list: &EntryList, marks: &mut [bool])
-    requires size { length marks.old ≡ length list.now.entries }
-    ensures marked { marks.new ≡ with_ancestors (the_entries list.now.entries) (length list.now.entries) marks.old }
+    requires size { length marks.old ≤ length list.now.entries }
+    ensures marked { marks.new ≡ with_ancestors (the_entries list.now.entries) (length marks.old) marks.old }
+    ensures size { length marks.new ≡ length marks.old }
 {
-    let mut k = list.len();
+    let mut k = marks.len();
     while 0 < k {
         k -= 1;
         if marks[k] {
@@ -65,14 +66,15 @@ fn is_staying(why: Why, constraint: u32, marks: &[bool]) -> bool
     }
 }
 
-// Appends the marked entries to `steps`, with their premises at the new places.
+// Appends the marked entries to `steps`, with their premises at the new places. The marks are of the first entries.
 pub fn cut(list: &EntryList, marks: &[bool], places: &mut Vec<u32>, steps: &mut Vec<Entry>)
-    requires size { length marks.now ≡ length list.now.entries }
+    requires size { length marks.now ≤ length list.now.entries }
+    requires few { length marks.now < 2 ^ 32 }
     requires empty { (places.old.items ≡ []) × (steps.old.items ≡ []) }
-    requires room { (length list.now.entries ≤ vec_capacity places.old) × (rank marks.now (length list.now.entries) ≤ vec_capacity steps.old) }
-    ensures cut { the_entries steps.new.items ≡ cut marks.now (the_entries list.now.entries) }
+    requires room { (length marks.now ≤ vec_capacity places.old) × (rank marks.now (length marks.now) ≤ vec_capacity steps.old) }
+    ensures cut { the_entries steps.new.items ≡ cut marks.now (the_entries (take (length marks.now) list.now.entries)) }
 {
-    for k in 0..list.len() {
+    for k in 0..marks.len() {
         places.push(steps.len() as u32).unwrap();
         if marks[k] {
             steps.push(placed(list.entry(k), places)).unwrap();

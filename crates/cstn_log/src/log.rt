@@ -1,4 +1,4 @@
-ghost use Rattle.std.specs.Prelude.{List, ◌≡◌, ◌⊎◌, ◌<◌, ◌≤◌, ◌+◌, ◌^◌, ◌++◌, ◌∷◌, [], ◌↔◌, ℕ, Some, None, false, length, IsTrue, IfNone, IfOk, IfSome, IsErr, IsOk, OnErr, slice_get, slice_index_or};
+ghost use Rattle.std.specs.Prelude.{List, ◌≡◌, ◌⊎◌, ◌<◌, ◌≤◌, ◌+◌, ◌^◌, ◌++◌, ◌∷◌, [], ◌↔◌, ℕ, Some, None, false, length, take, IsTrue, IfNone, IfOk, IfSome, IsErr, IsOk, OnErr, slice_get, slice_index_or};
 ghost use Rattle.cstn_label.specs.Read.{the_bound};
 ghost use Rattle.std.specs.List.{Contains};
 ghost use Rattle.cstn_net.specs.Networks.{Network as TheNetwork, Constraint, IsNetwork, count};
@@ -9,7 +9,7 @@ ghost use Rattle.cstn_rules.specs.Rules.{base};
 ghost use Rattle.cstn_rules.specs.Derivations.{Follows, IsDerivation, IsRefutation};
 ghost use Rattle.cstn_minset.specs.Sets.{IsPlaced};
 ghost use Rattle.cstn_log.specs.Entries.{State, HasId, the_entries, IsCoveredBy, IsLive, AllNew, bases, first_entries};
-ghost use Rattle.cstn_log.specs.Cuts.{PremisesBelow, is_marked as is_marked_at, chosen, marked_staying, part, dropped};
+ghost use Rattle.cstn_log.specs.Cuts.{PremisesBelow, is_marked as is_marked_at, chosen, marked_staying, with_ancestors, last_marked, cut, part, dropped};
 ghost use Rattle.cstn_log.specs.Kept.{IsIdAt};
 ghost use Rattle.cstn_log.specs.Chains.{IsFirstLive, IsNext, IsBehind, IsMarkedAt, IsAtNode};
 
@@ -189,14 +189,24 @@ impl Log {
         ensures derivation { (net : TheNetwork) → IsDerivation net (the_entries self.now.entries) → IfOk result (λ steps. IsDerivation net (the_entries steps.items)) }
         ensures refutation { (net : TheNetwork) → IsRefutation net (the_entries self.now.entries) → IfOk result (λ steps. IsRefutation net (the_entries steps.items)) }
     {
-        self.last_and_ancestors(alloc)
+        self.part_upto(alloc, self.len())
     }
 
-    fn last_and_ancestors(&self, alloc: Global) -> Result<Vec<Entry>, AllocError>
-        requires { 0 < length self.now.entries }
-        ensures { IfOk result (λ steps. the_entries steps.items ≡ part (the_entries self.now.entries)) }
+    /// The last of the first `count` entries and its ancestors, in order, with premises as places in the answer. Fails for want
+    /// of memory alone.
+    pub fn part_upto(&self, alloc: Global, count: u32) -> Result<Vec<Entry>, AllocError>
+        requires some { 0 < count }
+        requires upto { count ≤ length self.now.entries }
+        ensures part { IfOk result (λ steps. the_entries steps.items ≡ part (the_entries (take count self.now.entries))) }
     {
-        let count = self.list.len();
+        self.last_and_ancestors(alloc, count as usize)
+    }
+
+    fn last_and_ancestors(&self, alloc: Global, count: usize) -> Result<Vec<Entry>, AllocError>
+        requires some { 0 < count }
+        requires upto { count ≤ length self.now.entries }
+        ensures { IfOk result (λ steps. the_entries steps.items ≡ cut (with_ancestors (the_entries self.now.entries) count (last_marked count)) (the_entries (take count self.now.entries))) }
+    {
         let mut marks = vec![in alloc; false; count]?;
         marks[count - 1] = true;
         mark_ancestors(&self.list, &mut marks);

@@ -1,6 +1,6 @@
 -- The bounds of the live entries of a log.
-use Rattle.std.proofs.Common.{ℕ, zero, suc, ◌≡◌, ◌<◌, ◌≤◌, Bool, true, false, cond, inl, inr, Some, None, Result, Ok, Err, List, [], ◌∷◌, length, get_or, map, arith, refl, sym, subst, ap, ◌∙◌}
-use Rattle.std.specs.Prelude.{◌↔◌, slice_get, IfOk}
+use Rattle.std.proofs.Common.{ℕ, zero, suc, ◌≡◌, ◌<◌, ◌≤◌, Bool, true, false, cond, inl, inr, Some, Result, Ok, Err, List, [], ◌∷◌, length, get_or, map, arith, refl, sym, subst, ap}
+use Rattle.std.specs.Prelude.{slice_get, IfOk}
 use Rattle.std.specs.List.{All, Contains}
 use Rattle.std.specs.declared.alloc.AllocError.{AllocError}
 use Rattle.std.proofs.lemmas.Int.{ints}
@@ -11,18 +11,11 @@ use Rattle.cstn_label.specs.declared.bounds.Bound.{Bound as Declared}
 use Rattle.cstn_label.specs.Bounds.{Bound}
 use Rattle.cstn_label.specs.Read.{the_bound}
 use Rattle.cstn_net.specs.Networks.{Network, IsWellFormed, count, limit}
-use Rattle.cstn_net.specs.Read.{NetworkParts, the_network}
 use Rattle.cstn_net.specs.Strategies.{IsConsistent}
 use Rattle.cstn_rules.specs.Closed.{IsClosed}
-use Rattle.cstn_rules.specs.declared.entries.Entry.{Entry as DeclaredEntry}
-use Rattle.cstn_rules.specs.Read.{the_entry}
-use Rattle.cstn_log.specs.Entries.{the_entries}
 use Rattle.cstn_rules.specs.Derivations.{Entry}
 use Rattle.cstn_rules.specs.Rules.{IsBoundOf}
-use Rattle.cstn_check.specs.Checks.{CheckParts}
 use Rattle.cstn_check.specs.Growth.{is_covered, log_of, load_of, live_bounds}
-use Rattle.cstn_check.specs.declared.verdicts.Verdict.{Verdict}
-use Rattle.cstn_check.specs.declared.verdicts.Verdict.TheVariants.{Yes, Full}
 use Rattle.cstn_check.proofs.Bounded.{log_kept}
 use Rattle.cstn_check.proofs.Decides.{log_closed, log_decides}
 use Rattle.cstn_check.proofs.Ends.{load_above}
@@ -123,40 +116,3 @@ module _ (net : Network) (good : IsWellFormed net) where
         named = named_by bounds live;
         text = record { load_low = omega arith; load_high = few; some = omega arith; few = omega arith };
       })
-
--- a check of a network that is consistent, with its load within the cap, after its answer
-module _ (cap : ℕ) (net : Network) (parts : NetworkParts) (check new : CheckParts) (v : Verdict) (same : the_network parts ≡ net)
-    (is : check ≡ record { net = parts; cap = cap; verdict = None; tries = 0 }) (answered : new ≡ record check { verdict = Some v; tries = new.tries })
-    (consistent : IsConsistent net) (fits : load_of net ≤ cap)
-    (exactly : (load : ℕ) → (v ≡ Yes load ↔ ((load ≡ load_of (the_network check.net)) × (load_of (the_network check.net) ≤ check.cap) × IsConsistent (the_network check.net)))) where
-  said : v ≡ Yes (load_of net)
-  said =
-      (subst (λ (c : CheckParts). (load : ℕ) → (v ≡ Yes load ↔ ((load ≡ load_of (the_network c.net)) × (load_of (the_network c.net) ≤ c.cap) × IsConsistent (the_network c.net)))) is exactly
-      (load_of net)).1
-      (subst (λ n. (load_of net ≡ load_of n) × (load_of n ≤ cap) × IsConsistent n) (sym same) (refl, fits, consistent))
-
-  verdict : new.verdict ≡ Some v
-  verdict = ap (λ (c : CheckParts). c.verdict) answered
-
-  -- the verdict is yes
-  pub yes_kept : (load : ℕ) × (new.verdict ≡ Some (Yes load))
-  yes_kept = (load_of net, verdict ∙ ap Some said)
-
-  -- the network of the check is the given one
-  pub same_checked : the_network new.net ≡ net
-  same_checked = ap (λ (c : CheckParts). the_network c.net) answered ∙ ap (λ (c : CheckParts). the_network c.net) is ∙ same
-
-  -- the number of entries of the check's log is the load
-  pub kept_load : (entries : List DeclaredEntry) (load : ℕ) → ((w : Verdict) → new.verdict ≡ Some w → (w ≡ Full → ⊥) → the_entries entries ≡ log_of (the_network new.net)) →
-      load ≡ length entries → load ≡ load_of net
-  kept_load entries load whole len =
-      len ∙ sym (length-map entries the_entry) ∙ ap length (whole v verdict (λ full. never (sym said ∙ full))) ∙ ap load_of same_checked
-    where
-      never : Yes (load_of net) ≡ Full → ⊥
-      never e = cc
-
-pub some_load : (net : Network) → IsWellFormed net → (load : ℕ) → load ≡ load_of net → 1 ≤ load
-some_load net good load is =
-    let above = load_above net good in
-    let origin = good.network.origin in
-    omega arith

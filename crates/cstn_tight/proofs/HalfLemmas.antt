@@ -1,15 +1,14 @@
 -- Ranges that are halved.
-use Rattle.std.proofs.Common.{ℕ, zero, suc, ◌≡◌, ◌<◌, ◌≤◌, ◌+◌, ◌*◌, ◌^◌, ◌++◌, true, false, ltb, ◌||◌, inl, inr, [], ◌∷◌, arith, refl, sym, subst, ap, ◌∙◌}
+use Rattle.std.proofs.Common.{ℕ, zero, suc, ◌≡◌, ◌<◌, ◌≤◌, ◌+◌, ◌*◌, ◌^◌, ◌++◌, true, false, ltb, inl, inr, [], ◌∷◌, arith, refl, sym, subst, ap, ◌∙◌}
 use Rattle.std.specs.List.{list_any}
 use Rattle.std.proofs.Math.Nat.{pow-suc}
-use Rattle.std.proofs.lemmas.Bool.{cases_lt, cond-true, cond-false, cond_both, lt-ltb, le-ltb, ltb-true, or_cases, or_left, both_ways}
+use Rattle.std.proofs.lemmas.Bool.{cases_lt, cond-true, cond-false, cond_both, lt-ltb, le-ltb, or_from}
 use Rattle.cstn_net.specs.Networks.{Network, IsWellFormed}
-use Rattle.cstn_check.specs.Growth.{load_of, most_entries}
-use Rattle.cstn_conflict.specs.Sets.{is_consistent}
-use Rattle.cstn_tight.specs.declared.ranges.Range.{Range}
+use Rattle.cstn_check.specs.Growth.{load_of}
+use Rattle.cstn_check.specs.Verdicts.{is_consistent}
+use Rattle.cstn_check.proofs.DeadlineLemmas.{load_lower}
 use Rattle.cstn_tight.specs.Deadlines.{at_deadline}
-use Rattle.cstn_tight.specs.Bisection.{middle, halved, next, narrowed, tried_from, whole, least_deadline, is_above, is_any_above}
-use Rattle.cstn_tight.proofs.LeastLemmas.{load_upto}
+use Rattle.cstn_tight.specs.Bisection.{Range, middle, halved, next, narrowed, tried_from, is_above}
 
 -- the middle is in the range, and below its high end
 pub middle_low : (r : Range) → r.low < r.high → r.low ≤ middle r
@@ -72,83 +71,17 @@ module _ (net : Network) where
     | inr done ↦ subst (λ (h : Range). h.low ≡ h.high) (sym (narrowed_done (suc n) r done)) (omega arith)
   ]
 
--- where the load at a tried deadline is above the cap, so is the greatest number of entries at the network's own deadline
-pub any_bounded : (cap : ℕ) (net : Network) → IsWellFormed net → (n : ℕ) (r : Range) → r.high ≤ net.deadline →
-    list_any (is_above cap net) (tried_from net n r) ≡ true → cap < most_entries net
-any_bounded cap net good zero r upto above = absurd (both_ways false refl above)
-any_bounded cap net good (suc n) r upto above = elim (cases_lt r.low r.high) [
-  | inl wide ↦ elim (or_cases (is_above cap net (middle r)) (list_any (is_above cap net) (tried_from net n (halved net r)))
-      (sym (ap (list_any (is_above cap net)) (tried_wide net n r wide)) ∙ above)) [
-        | inl here ↦
-            let less = middle_high r wide in
-            let most = load_upto net good (middle r) (omega arith) in
-            let more = ltb-true cap (load_of (at_deadline net (middle r))) here in
-            omega arith
-        | inr later ↦ any_bounded cap net good n (halved net r) (let up = half_upto net r wide in omega arith) later
-      ]
-  | inr done ↦ absurd (both_ways false refl (sym (ap (list_any (is_above cap net)) (tried_done net (suc n) r done)) ∙ above))
+-- no tried deadline has a load above that of the network
+pub none_above : (cap : ℕ) (net : Network) → IsWellFormed net → load_of net ≤ cap → (n : ℕ) (r : Range) → r.high ≤ net.deadline →
+    list_any (is_above cap net) (tried_from net n r) ≡ false
+none_above cap net good within zero r upto = refl
+none_above cap net good within (suc n) r upto = elim (cases_lt r.low r.high) [
+  | inl wide ↦
+      let less = middle_high r wide in
+      let lower = load_lower net (middle r) good (omega arith) in
+      ap (list_any (is_above cap net)) (tried_wide net n r wide)
+      ∙ or_from (is_above cap net (middle r)) (list_any (is_above cap net) (tried_from net n (halved net r)))
+      (le-ltb cap (load_of (at_deadline net (middle r))) (omega arith))
+      (none_above cap net good within n (halved net r) (let up = half_upto net r wide in omega arith))
+  | inr done ↦ ap (list_any (is_above cap net)) (tried_done net (suc n) r done)
 ]
-
--- how far the search has come: the tries that are left lead from the range r to the range that all 20 tries lead to
-pub record Narrows (cap : ℕ) (net : Network) (r : Range) : Type 0 where
-  pub tries : ℕ
-  pub short : r.high < r.low + 2 ^ tries
-  pub ordered : r.low ≤ r.high
-  pub upto : r.high ≤ net.deadline
-  pub left : narrowed net tries r ≡ narrowed net 20 (whole net)
-  pub tried : list_any (is_above cap net) (tried_from net tries r) ≡ is_any_above cap net
-
-pub narrows_start : (cap : ℕ) (net : Network) (h : ℕ) → h ≡ net.deadline → h ≤ 1000000 → Narrows cap net (record { low = 0; high = h })
-narrows_start cap net h is in_time = subst (λ k. Narrows cap net (record { low = 0; high = k })) (sym is) (record {
-  tries = 20;
-  short = omega arith;
-  ordered = omega arith;
-  upto = omega arith;
-  left = refl;
-  tried = refl;
-})
-
--- the same where r has more than one deadline: there is a next try, and `tries` are left after it
-pub record Wide (cap : ℕ) (net : Network) (r : Range) : Type 0 where
-  pub tries : ℕ
-  pub short : r.high < r.low + 2 ^ suc tries
-  pub left : narrowed net tries (halved net r) ≡ narrowed net 20 (whole net)
-  pub tried : (is_above cap net (middle r) || list_any (is_above cap net) (tried_from net tries (halved net r))) ≡ is_any_above cap net
-
-widens : (cap : ℕ) (net : Network) (r : Range) → r.low < r.high → Narrows cap net r → Wide cap net r
-widens cap net r wide n = by n.tries n.short n.left n.tried
-  where
-    by : (tries : ℕ) → r.high < r.low + 2 ^ tries → narrowed net tries r ≡ narrowed net 20 (whole net) →
-        list_any (is_above cap net) (tried_from net tries r) ≡ is_any_above cap net → Wide cap net r
-    by zero short left tried = absurd (omega arith)
-    by (suc tries) short left tried = record {
-      tries = tries;
-      short = short;
-      left = sym (narrowed_wide net tries r wide) ∙ left;
-      tried = sym (ap (list_any (is_above cap net)) (tried_wide net tries r wide)) ∙ tried;
-    }
-
-pub narrows_full : (cap : ℕ) (net : Network) (r : Range) → r.low < r.high → Narrows cap net r → cap < load_of (at_deadline net (middle r)) → is_any_above cap net ≡ true
-narrows_full cap net r wide n above =
-    let w = widens cap net r wide n in
-    sym w.tried ∙ or_left (is_above cap net (middle r)) (list_any (is_above cap net) (tried_from net w.tries (halved net r)))
-    (lt-ltb cap (load_of (at_deadline net (middle r))) above)
-
-pub narrows_next : (cap : ℕ) (net : Network) (r : Range) → r.low < r.high → Narrows cap net r → load_of (at_deadline net (middle r)) ≤ cap → Narrows cap net (halved net r)
-narrows_next cap net r wide n below =
-    let w = widens cap net r wide n in
-    record {
-      tries = w.tries;
-      short = half_short net w.tries r wide w.short;
-      ordered = half_ordered net r wide;
-      upto = (let up = half_upto net r wide in let upto = n.upto in omega arith);
-      left = w.left;
-      tried = sym (ap (λ b. b || list_any (is_above cap net) (tried_from net w.tries (halved net r)))
-          (le-ltb cap (load_of (at_deadline net (middle r))) below)) ∙ w.tried;
-    }
-
-pub narrows_end : (cap : ℕ) (net : Network) (r : Range) → r.high ≤ r.low → Narrows cap net r → (r.high ≡ least_deadline net) × (is_any_above cap net ≡ false)
-narrows_end cap net r done n = (
-  ap (λ (h : Range). h.high) (sym (narrowed_done net n.tries r done) ∙ n.left),
-  sym n.tried ∙ ap (list_any (is_above cap net)) (tried_done net n.tries r done),
-)

@@ -1,16 +1,13 @@
 -- Networks at other deadlines, and their least deadline.
-use Rattle.std.proofs.Common.{ℕ, ◌≡◌, ◌≤◌, ◌+◌, ◌-◌, ◌^◌, true, inl, inr, arith}
+use Rattle.std.proofs.Common.{ℕ, ◌≡◌, ◌≤◌, ◌-◌, true, inl, inr, arith}
 use Rattle.std.specs.Prelude.{◌↔◌}
-use Rattle.std.proofs.Math.Nat.{mul-le-mul_left, mul-le-mul_right}
 use Rattle.std.proofs.lemmas.Bool.{cases_lt}
-use Rattle.cstn_net.specs.Networks.{Network, IsWellFormed, count}
+use Rattle.cstn_net.specs.Networks.{Network, IsWellFormed}
 use Rattle.cstn_net.specs.Strategies.{IsConsistent}
 use Rattle.cstn_net.proofs.Kept.{later_deadline}
 use Rattle.cstn_net.proofs.WellFormed.{well_formed_by}
-use Rattle.cstn_check.specs.Growth.{load_of, most_entries, observed}
-use Rattle.cstn_check.proofs.Decides.{load_bounded}
-use Rattle.cstn_conflict.specs.Sets.{is_consistent}
-use Rattle.cstn_conflict.proofs.SetLemmas.{decided}
+use Rattle.cstn_check.specs.Verdicts.{is_consistent}
+use Rattle.cstn_check.proofs.Decides.{decided}
 use Rattle.cstn_tight.specs.Deadlines.{at_deadline, IsLeastDeadline}
 
 -- a network that is consistent at a deadline is so at every later one
@@ -39,13 +36,3 @@ module _ (net : Network) (good : IsWellFormed net) where
 
   pub decided_at : (h : ℕ) → h ≤ 1000000 → (is_consistent (at_deadline net h) ≡ true) ↔ IsConsistent (at_deadline net h)
   decided_at h upto = decided (at_deadline net h) (good_at_deadline h upto)
-
-  -- the log at an earlier deadline has no more entries than a log at the network's own deadline may have
-  pub load_upto : (h : ℕ) → h ≤ net.deadline → load_of (at_deadline net h) ≤ most_entries net
-  load_upto h upto =
-      let in_time = good.in_time in
-      let short : load_of (at_deadline net h) ≤ most_entries (at_deadline net h) = load_bounded (at_deadline net h) (good_at_deadline h (omega arith)) in
-      let wider : h + 2 ≤ net.deadline + 2 = omega arith in
-      let more : most_entries (at_deadline net h) ≤ most_entries net =
-      mul-le-mul_right (4 ^ observed net.observes) (mul-le-mul_left (count net) wider) in
-      omega arith

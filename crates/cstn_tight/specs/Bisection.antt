@@ -3,9 +3,13 @@ use Rattle.std.specs.Prelude.{ℕ, zero, suc, ◌+◌, ◌/◌, ◌++◌, Bool, 
 use Rattle.std.specs.List.{list_any}
 use Rattle.cstn_net.specs.Networks.{Network}
 use Rattle.cstn_check.specs.Growth.{load_of}
-use Rattle.cstn_conflict.specs.Sets.{is_consistent}
-use Rattle.cstn_tight.specs.declared.ranges.Range.{Range}
+use Rattle.cstn_check.specs.Verdicts.{is_consistent}
 use Rattle.cstn_tight.specs.Deadlines.{at_deadline}
+
+-- the deadlines from `low` to `high`
+pub record Range : Type 0 where
+  pub low : ℕ
+  pub high : ℕ
 
 -- the deadline in the middle of a range, rounded down
 abbrev pub middle : Range → ℕ
@@ -49,7 +53,3 @@ is_above cap net h = nat_lt cap (load_of (at_deadline net h))
 -- some tried deadline has a load above the cap
 abbrev pub is_tight_full : ℕ → Network → Bool
 is_tight_full cap net = list_any (is_above cap net) (tried_deadlines net)
-
--- some deadline that is tried after the network's own has a load above the cap
-abbrev pub is_any_above : ℕ → Network → Bool
-is_any_above cap net = list_any (is_above cap net) (tried_from net 20 (whole net))

@@ -1,3 +1,4 @@
 pub mod Deadlines
+pub mod Greatest
 pub mod Bisection
 pub mod Evidence

@@ -8,7 +8,7 @@ pub enum TightError {
     /// The network isn't consistent at its own deadline; the refutation is that of its check.
     #[error("the network isn't consistent")]
     No(Refutation),
-    /// The log of the network at a deadline that was tried has more than `cap` entries.
+    /// The log of the network at its own deadline has more than `cap` entries.
     #[error("a log that is full")]
     Full,
     /// Memory for the search was refused.

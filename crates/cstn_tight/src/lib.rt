@@ -2,12 +2,14 @@
 //! refutation of the network at one tick less.
 #![tactic(auto)]
 
-mod deadlines;
 mod errors;
+mod greatest;
 mod laws;
-mod ranges;
 mod tight;
 
 pub use errors::TightError;
-pub use laws::{consistency_is_kept_from_the_least, least_deadlines_are_one};
+pub use laws::{
+    consistency_is_kept_from_the_least, least_deadlines_are_greatest_values,
+    least_deadlines_are_one,
+};
 pub use tight::{Tight, least};

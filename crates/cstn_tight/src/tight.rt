@@ -1,25 +1,26 @@
 // The least deadline of a network, with its evidence.
-ghost use Rattle.std.specs.Prelude.{ℕ, ◌≡◌, ◌<◌, ◌≤◌, ◌-◌, ◌↔◌, List, true, false, length, IfOk, IfSome, IsNone, IsOk, IsErrOf};
+ghost use Rattle.std.specs.Prelude.{ℕ, ◌≡◌, ◌<◌, ◌≤◌, ◌-◌, ◌+◌, ◌↔◌, List, true, false, Some, length, pos, ◌≤ℤ◌, IfOk, IfSome, IsNone, IsOk, IsErrOf};
 ghost use Rattle.std.specs.List.{All};
 ghost use Rattle.cstn_net.specs.Networks.{IsWellFormed, count};
 ghost use Rattle.cstn_net.specs.Strategies.{IsConsistent};
 ghost use Rattle.cstn_net.specs.Read.{the_network};
 ghost use Rattle.cstn_refute.specs.Refutations.{RefutationParts};
 ghost use Rattle.cstn_check.specs.Growth.{log_of, load_of, live_bounds, most_entries};
+ghost use Rattle.cstn_check.specs.Verdicts.{IsRefutationOf};
+ghost use Rattle.cstn_check.specs.declared.verdicts.Verdict.{Verdict};
 ghost use Rattle.cstn_closed.specs.Closed.{the_bounds};
 ghost use Rattle.cstn_closed.specs.Faults.{IsFaultless};
 ghost use Rattle.cstn_closed.specs.Written.{FitsText, IsNamed};
-ghost use Rattle.cstn_conflict.specs.Trials.{IsRefutationOf};
 ghost use Rattle.cstn_tight.specs.Deadlines.{at_deadline, IsLeastDeadline};
 ghost use Rattle.cstn_tight.specs.Bisection.{least_deadline, is_tight_full};
-ghost use Rattle.cstn_tight.specs.Evidence.{IsClosedOf};
+ghost use Rattle.cstn_tight.specs.Evidence.{IsTightOf};
+ghost use Rattle.cstn_tight.specs.Greatest.{IsFirstGreatest};
 
-use crate::deadlines::{copy_at, least_deadline};
 use crate::errors::TightError;
-use cstn_check::{Check, Verdict, growth_is_bounded};
+use crate::greatest::first_greatest;
+use cstn_check::{Check, Verdict};
 use cstn_closed::{Closed, closed_lists_are_accepted};
-use cstn_conflict::{refuted, verdict_on};
-use cstn_net::Network;
+use cstn_net::{Network, network_is_well_formed};
 use cstn_refute::Refutation;
 use std::alloc::{AllocError, Global};
 
@@ -32,10 +33,10 @@ pub struct Tight {
     pub refutation: Option<Refutation>,
 }
 
-/// The least deadline, up to the network's own, at which the network has a strategy. It is found by bisection: the network's
-/// own deadline is tried first, and then, while more than one deadline is left, the one in the middle, rounded down. Each is
-/// tried by a check whose log may have `cap` entries. The list of bounds is that of the check at the least deadline, and the
-/// refutation that of the check at one tick less. The network is dropped, also on failure.
+/// The least deadline, up to the network's own, at which the network has a strategy. One check at the network's own deadline, of
+/// a log that may have `cap` entries, tells all: this log holds those at all lower deadlines. The least deadline is the greatest
+/// least value in it, the list of bounds that of its live entries, and the refutation is that of the check at one tick less: the
+/// first entry with the greatest least value, and its ancestors. The network is dropped, also on failure.
 pub fn least(alloc: Global, net: Network, cap: u32) -> Result<Tight, TightError>
     requires some { 1 ≤ cap }
     requires most { cap ≤ 4194304 }
@@ -59,67 +60,64 @@ pub fn least(alloc: Global, net: Network, cap: u32) -> Result<Tight, TightError>
     ensures none { IfOk result (λ tight. IsNone tight.refutation ↔ (tight.deadline ≡ 0)) }
     ensures refutation { IfOk result (λ tight. IfSome tight.refutation (IsRefutationOf (at_deadline (the_network net) (least_deadline (the_network net) - 1)))) }
 {
-    growth_is_bounded();
-    is_well_formed(&net);
-    match verdict_on(alloc, net.copy(alloc)?, cap)? {
-        Verdict::Yes { .. } => {
-            let deadline = least_deadline(alloc, &net, cap)?;
-            let refutation = refuted_before(alloc, &net, deadline, cap)?;
-            let closed = closed_at(alloc, net, deadline, cap)?;
-            Ok(Tight {
-                deadline,
-                closed,
-                refutation,
-            })
-        }
-        Verdict::No { .. } => Err(TightError::No(refuted(alloc, net, cap)?)),
+    network_is_well_formed(&net);
+    let mut check = Check::start(alloc, net, cap)?;
+    match check.run() {
+        Verdict::Yes { .. } => Ok(tight_of(alloc, check)?),
+        Verdict::No { .. } => Err(TightError::No(check.refutation(alloc)?)),
         Verdict::Full => Err(TightError::Full),
     }
 }
 
-// The refutation of the network at one tick less than the deadline; none where the deadline is 0.
-fn refuted_before(
-    alloc: Global,
-    net: &Network,
-    deadline: u32,
-    cap: u32,
-) -> Result<Option<Refutation>, AllocError>
-    requires cap { (1 ≤ cap) × (cap ≤ 4194304) }
-    requires deadline { deadline ≤ 1000000 }
-    requires within { 0 < deadline → load_of (at_deadline (the_network net.now) (deadline - 1)) ≤ cap }
-    requires inconsistent { 0 < deadline → IsConsistent (at_deadline (the_network net.now) (deadline - 1)) → ⊥ }
-    ensures none { IfOk result (λ r. IsNone r ↔ (deadline ≡ 0)) }
-    ensures some { IfOk result (λ r. IfSome r (IsRefutationOf (at_deadline (the_network net.now) (deadline - 1)))) }
-{
-    let Some(before) = deadline.checked_sub(1) else {
-        return Ok(None);
-    };
-    let refutation = refuted(alloc, copy_at(alloc, net, before)?, cap)?;
-    Ok(Some(refutation))
-}
-
-// The list of the bounds of the network's plan at the deadline, with the load there.
-fn closed_at(alloc: Global, net: Network, deadline: u32, cap: u32) -> Result<Closed, AllocError>
-    requires cap { (1 ≤ cap) × (cap ≤ 4194304) }
-    requires deadline { deadline ≤ 1000000 }
-    requires within { load_of (at_deadline (the_network net) deadline) ≤ cap }
-    requires consistent { IsConsistent (at_deadline (the_network net) deadline) }
-    ensures closed { IfOk result (IsClosedOf (at_deadline (the_network net) deadline)) }
+// What a check that has answered yes says of the least deadline.
+fn tight_of(alloc: Global, check: Check) -> Result<Tight, AllocError>
+    requires yes { (load : ℕ) × (check.verdict ≡ Some (Verdict.Yes load)) }
+    requires consistent { IsConsistent (the_network check.net) }
+    ensures tight { IfOk result (IsTightOf (the_network check.net)) }
 {
     closed_lists_are_accepted();
-    let mut net = net;
-    net.set_deadline(deadline);
-    is_well_formed(&net);
-    let mut check = Check::start(alloc, net, cap)?;
-    check.run();
+    network_is_well_formed(check.network());
+    let place = first_greatest(check.kept());
+    let deadline = ticks(check.kept().entry(place).bound.least);
+    let refutation = refutation_before(alloc, &check, place, deadline)?;
     let load = check.kept().len();
     let plan = check.into_plan();
-    Closed::of(alloc, &plan, load)
+    let closed = Closed::of(alloc, &plan, load)?;
+    Ok(Tight {
+        deadline,
+        closed,
+        refutation,
+    })
 }
 
-// Does nothing: its contract says that every network is well-formed.
-fn is_well_formed(net: &Network)
-    ensures { IsWellFormed (the_network net.now) }
+// A least value that isn't below 0, in ticks.
+fn ticks(least: i32) -> u32
+    requires low { pos 0 ≤ℤ least }
+    ensures ticks { pos result ≡ least }
 {
-    let _ = net.count();
+    least as u32
+}
+
+// The refutation of the network at one tick less than the least deadline, which the first entry with the greatest least value
+// has; none where it is 0.
+fn refutation_before(
+    alloc: Global,
+    check: &Check,
+    place: u32,
+    deadline: u32,
+) -> Result<Option<Refutation>, AllocError>
+    requires yes { (load : ℕ) × (check.now.verdict ≡ Some (Verdict.Yes load)) }
+    requires consistent { IsConsistent (the_network check.now.net) }
+    requires few { place < 4194304 }
+    requires first { (f : IsFirstGreatest (log_of (the_network check.now.net)) (load_of (the_network check.now.net)) place) × (f.entry.bound.least ≡ pos deadline) }
+    ensures none { IfOk result (λ r. IsNone r ↔ (deadline ≡ 0)) }
+    ensures some { IfOk result (λ r. IfSome r (IsRefutationOf (at_deadline (the_network check.now.net) (deadline - 1)))) }
+{
+    if deadline == 0 {
+        return Ok(None);
+    }
+    network_is_well_formed(check.network());
+    let load = place + 1;
+    let steps = check.kept().part_upto(alloc, load)?;
+    Ok(Some(Refutation::new(load, steps)))
 }

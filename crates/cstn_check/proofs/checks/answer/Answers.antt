@@ -5,27 +5,27 @@ use Rattle.cstn_check.proofs.checks.answer.Goals as goal
 
 pub returns-then-len-eq0-clause-verdict : goal.returns-then-len-eq0-clause-verdict
 returns-then-len-eq0-clause-verdict c =
-    no_room (the_network c.args.net.now) c.args.log.now c.is_well_formed.ensures c.requires.started
+    no_room (the_network c.args.net.now) c.args.log.now c.network_is_well_formed.ensures c.requires.started
     (omega (arith, c.if-len-eq0.true, c.len.ensures.len))
 
 pub grow-grown-requires-clause-derivation : goal.grow-grown-requires-clause-derivation
 grow-grown-requires-clause-derivation c =
-    start_derived (the_network c.args.net.now) c.args.log.now c.is_well_formed.ensures c.requires.started
+    start_derived (the_network c.args.net.now) c.args.log.now c.network_is_well_formed.ensures c.requires.started
     (λ none. omega (arith, none, c.if-len-eq0.false, c.len.ensures.len))
 
 pub grow-grown-requires-clause-last : goal.grow-grown-requires-clause-last
 grow-grown-requires-clause-last c =
-    start_last (the_network c.args.net.now) c.args.log.now c.is_well_formed.ensures c.requires.started
+    start_last (the_network c.args.net.now) c.args.log.now c.network_is_well_formed.ensures c.requires.started
     (λ none. omega (arith, none, c.if-len-eq0.false, c.len.ensures.len))
 
 pub returns-clause-verdict : goal.returns-clause-verdict
 returns-clause-verdict c =
     verdict_from (the_network c.args.net.now) c.args.log.now c.grow-grown.new.log c.grow-grown.result c.verdict_of.result
-    c.len-load.result c.is_well_formed.ensures
-    (has_bases (the_network c.args.net.now) c.args.log.now c.is_well_formed.ensures c.requires.started
+    c.len-load.result c.network_is_well_formed.ensures
+    (has_bases (the_network c.args.net.now) c.args.log.now c.network_is_well_formed.ensures c.requires.started
     (λ none. omega (arith, none, c.if-len-eq0.false, c.len.ensures.len)))
     c.grow-grown.ensures.full c.grow-grown.ensures.cut c.grow-grown.ensures.grown c.grow-grown.ensures.refuted
     c.len-load.ensures.len (omega (arith, c.len-load.ensures.at_most, c.grow-grown.ensures.size.0))
-    (has_room (the_network c.args.net.now) c.args.log.now c.is_well_formed.ensures c.requires.started
+    (has_room (the_network c.args.net.now) c.args.log.now c.network_is_well_formed.ensures c.requires.started
     (λ none. omega (arith, none, c.if-len-eq0.false, c.len.ensures.len)))
     c.verdict_of.ensures.closed c.verdict_of.ensures.refuted c.verdict_of.ensures.full

@@ -7,7 +7,7 @@ use Rattle.cstn_check.proofs.growth.grow.Goals as goal
 
 pub grow_kept-requires-clause-kept : goal.grow_kept-requires-clause-kept
 grow_kept-requires-clause-kept c =
-    kept_from (the_network c.args.net.now) c.is_well_formed.ensures (the_entries c.args.log.now.entries) c.requires.derivation
+    kept_from (the_network c.args.net.now) c.network_is_well_formed.ensures (the_entries c.args.log.now.entries) c.requires.derivation
     (record { more = c.requires.bases.0; is = c.requires.bases.1 }) (apart_from c.args.log.now.entries c.len-all_new.ensures.all_new)
 
 pub grow_kept-requires-clause-spent : goal.grow_kept-requires-clause-spent
@@ -32,7 +32,7 @@ pub returns-clause-size : goal.returns-clause-size
 returns-clause-size c = let l = longer_of (the_network c.args.net.now) c.args.log.now c.grow_kept.new.log c.grow_kept.result (record { closed = c.grow_kept.ensures.closed; refuted = c.grow_kept.ensures.refuted; full = c.grow_kept.ensures.full }) in (l.cap, l.nodes)
 
 pub returns-clause-derivation : goal.returns-clause-derivation
-returns-clause-derivation c = derived_after c.derivations_move.ensures.first (the_network c.args.net.now) c.args.log.now c.grow_kept.new.log c.grow_kept.result c.is_well_formed.ensures c.requires.derivation
-    (kept_from (the_network c.args.net.now) c.is_well_formed.ensures (the_entries c.args.log.now.entries) c.requires.derivation
+returns-clause-derivation c = derived_after c.derivations_move.ensures.first (the_network c.args.net.now) c.args.log.now c.grow_kept.new.log c.grow_kept.result c.network_is_well_formed.ensures c.requires.derivation
+    (kept_from (the_network c.args.net.now) c.network_is_well_formed.ensures (the_entries c.args.log.now.entries) c.requires.derivation
     (record { more = c.requires.bases.0; is = c.requires.bases.1 }) (apart_from c.args.log.now.entries c.len-all_new.ensures.all_new))
     (record { closed = c.grow_kept.ensures.closed; refuted = c.grow_kept.ensures.refuted; full = c.grow_kept.ensures.full })

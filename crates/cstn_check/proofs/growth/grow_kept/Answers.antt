@@ -6,7 +6,7 @@ use Rattle.cstn_check.proofs.growth.grow_kept.Goals as goal
 
 pub returns-then-refutes-clause-refuted : goal.returns-then-refutes-clause-refuted
 returns-then-refutes-clause-refuted c = λ same.
-    refuted_itself (the_network c.args.net.now) c.args.log.now _ c.entry-last.result c.is_well_formed.ensures c.requires.kept
+    refuted_itself (the_network c.args.net.now) c.args.log.now _ c.entry-last.result c.network_is_well_formed.ensures c.requires.kept
     (omega (arith, c.len-count.ensures.len, c.len-count.ensures.at_most)) c.entry-last.ensures.entry
     (c.refutes.ensures.refutes.0 c.if-refutes.true)
 

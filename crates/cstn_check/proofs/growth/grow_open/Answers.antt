@@ -55,19 +55,19 @@ returns-clause-most_tries c = λ not.
 
 pub returns-in-Ok-true-clause-refuted : goal.returns-in-Ok-true-clause-refuted
 returns-in-Ok-true-clause-refuted c = λ same.
-    end_refuted (the_network c.args.net.now) c.args.log.now c.is_well_formed.ensures c.requires.ready c.take_turn.new.log
+    end_refuted (the_network c.args.net.now) c.args.log.now c.network_is_well_formed.ensures c.requires.ready c.take_turn.new.log
     (c.loop-j.j + 1)
     (turn_on (the_network c.args.net.now) c.args.log.now c.loop-j.log c.take_turn.new.log c.loop-j.j c.in-Ok-true.field-0 true
     c.loop-j.invariant.taken c.in-Ok-true.ensures.taken c.in-Ok-true.field-0-test)
 
 pub returns-in-Err-clause-full : goal.returns-in-Err-clause-full
 returns-in-Err-clause-full c = λ same.
-    end_cut (the_network c.args.net.now) c.args.log.now c.is_well_formed.ensures c.requires.ready c.loop-j.log c.take_turn.new.log
+    end_cut (the_network c.args.net.now) c.args.log.now c.network_is_well_formed.ensures c.requires.ready c.loop-j.log c.take_turn.new.log
     c.loop-j.j c.loop-j.invariant.taken (c.in-Err.ensures.cut refl)
 
 pub returns-clause-closed : goal.returns-clause-closed
 returns-clause-closed c = λ same.
-    end_closed (the_network c.args.net.now) c.args.log.now c.is_well_formed.ensures c.requires.ready c.loop-j.log c.loop-j.j
+    end_closed (the_network c.args.net.now) c.args.log.now c.network_is_well_formed.ensures c.requires.ready c.loop-j.log c.loop-j.j
     c.loop-j.invariant.taken (omega (arith, c.loop-j-test.false, c.len.ensures.len))
 
 pub returns-in-Ok-true-clause-most_tried : goal.returns-in-Ok-true-clause-most_tried

@@ -15,19 +15,19 @@ use Rattle.cstn_check.proofs.turns.try_wait.Goals as goal
 pub returns-then-not-live-clause-taken : goal.returns-then-not-live-clause-taken
 returns-then-not-live-clause-taken c =
     idle_dead (the_network c.args.net.now) c.args.log.now (wait_at c.args.i c.args.j) c.requires.ready
-    (dead_seen _ _ c.is_well_formed.ensures c.requires.ready c.args.i c.args.j
+    (dead_seen _ _ c.network_is_well_formed.ensures c.requires.ready c.args.i c.args.j
     (λ live. false≢true (c.if-not-live.ensures.live.1 live)))
 
 pub returns-then-not-live-2-clause-taken : goal.returns-then-not-live-2-clause-taken
 returns-then-not-live-2-clause-taken c =
     idle_dead (the_network c.args.net.now) c.args.log.now (wait_at c.args.i c.args.j) c.requires.ready
-    (dead_other _ _ c.is_well_formed.ensures c.requires.ready c.args.i c.args.j
+    (dead_other _ _ c.network_is_well_formed.ensures c.requires.ready c.args.i c.args.j
     (λ live. false≢true (c.if-not-live-2.ensures.live.1 live)))
 
 pub returns-then-not-waits-clause-taken : goal.returns-then-not-waits-clause-taken
 returns-then-not-waits-clause-taken c =
     idle_none (the_network c.args.net.now) c.args.log.now (wait_at c.args.i c.args.j) c.requires.ready
-    (wait_ends _ _ c.is_well_formed.ensures c.requires.ready c.args.i c.args.j c.entry.result c.entry-2.result
+    (wait_ends _ _ c.network_is_well_formed.ensures c.requires.ready c.args.i c.args.j c.entry.result c.entry-2.result
     c.entry.ensures.entry c.entry-2.ensures.entry
     (λ p r w. false≢true (c.if-not-waits.ensures.waits.1 (record { prop = p; observes = w.observes; marked = w.marked }))))
 
@@ -42,7 +42,7 @@ wait-requires-clause-bound c =
 pub returns-in_default-clause-taken : goal.returns-in_default-clause-taken
 returns-in_default-clause-taken c =
     idle_none (the_network c.args.net.now) c.args.log.now (wait_at c.args.i c.args.j) c.requires.ready
-    (wait_ends _ _ c.is_well_formed.ensures c.requires.ready c.args.i c.args.j c.entry.result c.entry-2.result
+    (wait_ends _ _ c.network_is_well_formed.ensures c.requires.ready c.args.i c.args.j c.entry.result c.entry-2.result
     c.entry.ensures.entry c.entry-2.ensures.entry c.in_default.ensures.none)
 
 pub returns-in_default-clause-tries : goal.returns-in_default-clause-tries
@@ -60,9 +60,9 @@ returns-clause-taken c =
     subst (λ l. IfOk c.put.result (λ r. IsTaken (the_network c.args.net.now) c.args.log.now c.put.new.log l r))
     (put_is_step (the_network c.args.net.now) c.args.log.now (wait_at c.args.i c.args.j)
     (the_bound c.in-Some.bound) c.requires.ready
-    (live_wait _ _ c.is_well_formed.ensures c.requires.ready c.args.i c.args.j c.requires.seen c.requires.place
+    (live_wait _ _ c.network_is_well_formed.ensures c.requires.ready c.args.i c.args.j c.requires.seen c.requires.place
     (c.live.ensures.live.0 c.if-not-live.false) (c.live-2.ensures.live.0 c.if-not-live-2.false))
-    (wait_concludes _ _ c.is_well_formed.ensures c.requires.ready c.args.i c.args.j c.entry.result c.entry-2.result w.0
+    (wait_concludes _ _ c.network_is_well_formed.ensures c.requires.ready c.args.i c.args.j c.entry.result c.entry-2.result w.0
     (the_bound c.in-Some.bound) c.entry.ensures.entry c.entry-2.ensures.entry w.1))
     c.put.ensures.taken
 
@@ -72,9 +72,9 @@ returns-clause-cut c =
     subst (λ l. IsErr c.put.result → IsCut c.args.log.now c.put.new.log l)
     (put_is_step (the_network c.args.net.now) c.args.log.now (wait_at c.args.i c.args.j)
     (the_bound c.in-Some.bound) c.requires.ready
-    (live_wait _ _ c.is_well_formed.ensures c.requires.ready c.args.i c.args.j c.requires.seen c.requires.place
+    (live_wait _ _ c.network_is_well_formed.ensures c.requires.ready c.args.i c.args.j c.requires.seen c.requires.place
     (c.live.ensures.live.0 c.if-not-live.false) (c.live-2.ensures.live.0 c.if-not-live-2.false))
-    (wait_concludes _ _ c.is_well_formed.ensures c.requires.ready c.args.i c.args.j c.entry.result c.entry-2.result w.0
+    (wait_concludes _ _ c.network_is_well_formed.ensures c.requires.ready c.args.i c.args.j c.entry.result c.entry-2.result w.0
     (the_bound c.in-Some.bound) c.entry.ensures.entry c.entry-2.ensures.entry w.1))
     c.put.ensures.cut
 
@@ -84,7 +84,7 @@ returns-clause-tries c = omega (arith, c.wait.ensures.counted, c.is_in_range.ens
 pub returns-clause-ready : goal.returns-clause-ready
 returns-clause-ready c =
     ready_then (the_network c.args.net.now) c.args.log.now c.put.new.log (wait_at c.args.i c.args.j ∷ [])
-    c.put.result c.is_well_formed.ensures (tt, tt) c.requires.ready (returns-clause-taken c)
+    c.put.result c.network_is_well_formed.ensures (tt, tt) c.requires.ready (returns-clause-taken c)
 
 pub returns-in_default-clause-most : goal.returns-in_default-clause-most
 returns-in_default-clause-most c = omega (arith, c.wait.ensures.counted)
@@ -101,6 +101,6 @@ pub returns-clause-concluding : goal.returns-clause-concluding
 returns-clause-concluding c =
     let w = c.in-Some.ensures.wait in
     let one : concludes (the_network c.args.net.now) (the_entries c.args.log.now.entries) c.args.i c.args.j ≡ 1 =
-    ap how_many (wait_concludes _ _ c.is_well_formed.ensures c.requires.ready c.args.i c.args.j c.entry.result c.entry-2.result w.0
+    ap how_many (wait_concludes _ _ c.network_is_well_formed.ensures c.requires.ready c.args.i c.args.j c.entry.result c.entry-2.result w.0
     (the_bound c.in-Some.bound) c.entry.ensures.entry c.entry-2.ensures.entry w.1) in
     omega (arith, one, c.wait.ensures.counted)

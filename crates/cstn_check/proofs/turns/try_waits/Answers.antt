@@ -15,7 +15,7 @@ use Rattle.cstn_check.proofs.turns.try_waits.Goals as goal
 
 pub loop-i-init : goal.loop-i-init
 loop-i-init c = record {
-  taken = rw c.next_waiting-i.ensures.stays (waits_to (the_network c.args.net.now) c.args.log.now c.args.log.now c.args.j 0 c.next_waiting-i.result c.is_well_formed.ensures
+  taken = rw c.next_waiting-i.ensures.stays (waits_to (the_network c.args.net.now) c.args.log.now c.args.log.now c.args.j 0 c.next_waiting-i.result c.network_is_well_formed.ensures
       c.requires.ready c.requires.place c.next_waiting-i.ensures.upto.1 c.next_waiting-i.ensures.upto.0
       c.next_waiting-i.ensures.none (idle (the_network c.args.net.now) c.args.log.now _ c.requires.ready refl));
   ready = rw c.next_waiting-i.ensures.stays c.requires.ready;
@@ -57,7 +57,7 @@ loop-i-preserved c =
     let next = c.next_waiting-i-in-Ok-false in
     record {
       taken = rw next.ensures.stays (waits_to (the_network c.args.net.now) c.args.log.now c.try_both.new.log c.args.j (c.loop-i.i + 1) next.result
-          c.is_well_formed.ensures ready
+          c.network_is_well_formed.ensures ready
           (omega (arith, c.requires.place, c.loop-i.invariant.taken.longer.longer, c.in-Ok-false.ensures.taken.longer.longer))
           next.ensures.upto.1 next.ensures.upto.0 next.ensures.none
           (go_on (the_network c.args.net.now) c.args.log.now c.loop-i.log c.try_both.new.log (waits_below c.loop-i.i c.args.j)

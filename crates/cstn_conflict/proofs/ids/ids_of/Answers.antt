@@ -1,7 +1,10 @@
-use Rattle.std.proofs.Common.{◌∷◌, ◌++◌, [], map, take, ap, sym, ◌∙◌}
+use Rattle.std.proofs.Common.{◌≡◌, ◌<◌, ◌∷◌, ◌++◌, [], map, take, ap, sym, subst, ◌∙◌}
+use Rattle.std.specs.List.{AllPairs}
 use Rattle.std.proofs.lemmas.List.{map_more, take_all}
 use Rattle.cstn_net.specs.declared.constraints.Constraint.{Constraint}
-use Rattle.cstn_conflict.proofs.SetLemmas.{the_ids}
+use Rattle.cstn_net.specs.Read.{the_network}
+use Rattle.cstn_conflict.specs.Sets.{ids_of}
+use Rattle.cstn_conflict.proofs.SetLemmas.{the_ids, ids_ascend}
 use Rattle.cstn_conflict.proofs.ids.ids_of.Goals as goal
 
 pub loop-constraint-init : goal.loop-constraint-init
@@ -18,9 +21,12 @@ loop-constraint-preserved c =
     ∙ sym (map_more f cs loop.constraint-index c.constraint-item.result c.loop-constraint-test.true)
 
 pub returns : goal.returns
-returns c = record {
-  ids = c.loop-constraint.invariant
-      ∙ ap (map (λ (d : Constraint). d.id)) (take_all c.loop-constraint.constraint-index c.constraints-constraints.result.now c.loop-constraint-test.false
-      ∙ c.constraints-constraints.ensures.constraints)
-      ∙ sym (the_ids c.args.net.now.constraints);
-}
+returns c =
+    let are : c.loop-constraint.ids.items ≡ ids_of (the_network c.args.net.now) = c.loop-constraint.invariant
+    ∙ ap (map (λ (d : Constraint). d.id)) (take_all c.loop-constraint.constraint-index c.constraints-constraints.result.now c.loop-constraint-test.false
+    ∙ c.constraints-constraints.ensures.constraints)
+    ∙ sym (the_ids c.args.net.now.constraints) in
+    record {
+      ids = are;
+      ascending = subst (AllPairs (λ a b. a < b)) (sym are) (ids_ascend (the_network c.args.net.now) c.constraints-constraints.ensures.well_formed);
+    }

@@ -1,4 +1,5 @@
-use Rattle.cstn_conflict.proofs.SetLemmas.{whole_is, set_well_formed, fewer_ids, decided}
+use Rattle.cstn_check.proofs.Decides.{decided}
+use Rattle.cstn_conflict.proofs.SetLemmas.{whole_is, set_well_formed, fewer_ids}
 use Rattle.cstn_conflict.specs.Sets.{with_ids}
 use Rattle.cstn_conflict.proofs.laws.sets_are_decided.Goals as goal
 

@@ -14,15 +14,15 @@ use Rattle.cstn_edit.proofs.answers.answer.Goals as goal
 pub returns-then-len-eq0-clause-outcome : goal.returns-then-len-eq0-clause-outcome
 returns-then-len-eq0-clause-outcome c =
     let net = the_network c.args.net.now in
-    small_outcome net c.args.log.now.cap c.is_well_formed.ensures
-    (small_where_empty net c.args.log.now c.is_well_formed.ensures c.requires.kept (omega (arith, c.len.ensures.len, c.if-len-eq0.true)))
+    small_outcome net c.args.log.now.cap c.network_is_well_formed.ensures
+    (small_where_empty net c.args.log.now c.network_is_well_formed.ensures c.requires.kept (omega (arith, c.len.ensures.len, c.if-len-eq0.true)))
     (the_entries c.args.log.now.entries)
 
 pub returns-then-len-eq0-clause-list : goal.returns-then-len-eq0-clause-list
 returns-then-len-eq0-clause-list c =
     let net = the_network c.args.net.now in
-    small_after net c.args.log.now.cap c.is_well_formed.ensures
-    (small_where_empty net c.args.log.now c.is_well_formed.ensures c.requires.kept (omega (arith, c.len.ensures.len, c.if-len-eq0.true)))
+    small_after net c.args.log.now.cap c.network_is_well_formed.ensures
+    (small_where_empty net c.args.log.now c.network_is_well_formed.ensures c.requires.kept (omega (arith, c.len.ensures.len, c.if-len-eq0.true)))
     (the_entries c.args.log.now.entries)
 
 room : (c : goal.After-verdict_of) → count (the_network c.args.net.now) ≤ c.args.log.now.cap
@@ -31,7 +31,7 @@ room c = room_where_not (the_network c.args.net.now) c.args.log.now c.requires.k
 
 on : (c : goal.After-verdict_of) → GoesOn (the_network c.args.net.now) (the_entries c.args.log.now.entries)
 on c =
-    log_on (the_network c.args.net.now) c.args.log.now c.is_well_formed.ensures c.requires.kept c.len.ensures.all_new (room c)
+    log_on (the_network c.args.net.now) c.args.log.now c.network_is_well_formed.ensures c.requires.kept c.len.ensures.all_new (room c)
 
 not_full : (c : goal.After-verdict_of) → c.grow_further-grown.result ≡ Full → ⊥
 not_full c = λ full. search (rules, full, c.if-eq.ensures)
@@ -42,7 +42,7 @@ list c = c.grow_further-grown.ensures.grown (not_full c)
 verdict : (c : goal.After-verdict_of) →
     c.verdict_of.result ≡ verdict_by (the_network c.args.net.now) (grow (the_network c.args.net.now) (the_entries c.args.log.now.entries))
 verdict c =
-    verdict_is (the_network c.args.net.now) c.is_well_formed.ensures (the_entries c.args.log.now.entries) (on c)
+    verdict_is (the_network c.args.net.now) c.network_is_well_formed.ensures (the_entries c.args.log.now.entries) (on c)
     (the_entries c.grow_further-grown.new.log.entries) c.grow_further-grown.result c.verdict_of.result c.len-2.result (not_full c) (list c)
     c.grow_further-grown.ensures.refuted (c.len-2.ensures.len ∙ sym (length-map c.grow_further-grown.new.log.entries the_entry))
     c.verdict_of.ensures.closed c.verdict_of.ensures.refuted
@@ -59,7 +59,7 @@ pub returns-clause-kept : goal.returns-clause-kept
 returns-clause-kept c =
     let net = the_network c.args.net.now in
     let based = c.requires.kept.based (room c) in
-    grown_log net (the_entries c.args.log.now.entries) c.grow_further-grown.new.log c.is_well_formed.ensures (on c)
+    grown_log net (the_entries c.args.log.now.entries) c.grow_further-grown.new.log c.network_is_well_formed.ensures (on c)
     (record { more = based.0; is = based.1 }) (list c)
     (c.grow_further-grown.ensures.size.1 ∙ c.requires.kept.nodes)
     (omega (arith, room c, c.grow_further-grown.ensures.size.0))
@@ -68,13 +68,13 @@ returns-clause-kept c =
 
 pub returns-clause-consistent : goal.returns-clause-consistent
 returns-clause-consistent c = λ load said.
-    yes_by (the_network c.args.net.now) c.is_well_formed.ensures (the_entries c.args.log.now.entries) (on c) load (sym (verdict c) ∙ said)
+    yes_by (the_network c.args.net.now) c.network_is_well_formed.ensures (the_entries c.args.log.now.entries) (on c) load (sym (verdict c) ∙ said)
 
 pub returns-clause-spent : goal.returns-clause-spent
 returns-clause-spent c = λ load said.
     let net = the_network c.args.net.now in
     let L = the_entries c.args.log.now.entries in
-    spent_entries net c.grow_further-grown.new.log.entries (grow net L) [] (list c) (yes_spent net c.is_well_formed.ensures L (on c) [] load (sym (verdict c) ∙ said))
+    spent_entries net c.grow_further-grown.new.log.entries (grow net L) [] (list c) (yes_spent net c.network_is_well_formed.ensures L (on c) [] load (sym (verdict c) ∙ said))
 
 pub returns-clause-most_tries : goal.returns-clause-most_tries
 returns-clause-most_tries c = λ settled afresh. c.grow_further-grown.ensures.most_tries settled (not_full c)

@@ -26,7 +26,7 @@ pub returns-clause-verdict : goal.returns-clause-verdict
 returns-clause-verdict c =
     let net = the_network c.args.net.now in
     afresh_verdict net c.args.log.now.cap (the_entries c.restart.new.self.entries) (the_entries c.grow-grown.new.log.entries)
-    c.grow-grown.result c.verdict_of.result c.len.result c.is_well_formed.ensures
+    c.grow-grown.result c.verdict_of.result c.len.result c.network_is_well_formed.ensures
     (c.restart.ensures.restart ∙ first_bases net c.args.log.now.cap c.requires.room)
     (rw c.restart.ensures.size.0 at c.grow-grown.ensures.full) c.grow-grown.ensures.grown c.grow-grown.ensures.refuted
     (λ not. elim c.if-eq.branch [
@@ -40,14 +40,14 @@ returns-clause-kept c =
     let net = the_network c.args.net.now in
     elim c.if-eq.branch [
       | then-eq w ↦ subst (λ (s : State). IsKeptLog net s) (sym w.log-is)
-          (bases_log net w.restart-then-eq.new.self c.is_well_formed.ensures
+          (bases_log net w.restart-then-eq.new.self c.network_is_well_formed.ensures
           (w.restart-then-eq.ensures.restart ∙ first_bases net c.grow-grown.new.log.cap (omega (arith, c.requires.room, c.restart.ensures.size.0, c.grow-grown.ensures.size.0)))
           (w.restart-then-eq.ensures.size.1 ∙ c.grow-grown.ensures.size.1 ∙ c.restart.ensures.size.1 ∙ c.requires.nodes)
           (omega (arith, c.requires.room, c.restart.ensures.size.0, c.grow-grown.ensures.size.0, w.restart-then-eq.ensures.size.0))
           (omega (arith, c.requires.size.0, c.restart.ensures.size.0, c.grow-grown.ensures.size.0, w.restart-then-eq.ensures.size.0))
           (omega (arith, c.requires.size.1, c.restart.ensures.size.0, c.grow-grown.ensures.size.0, w.restart-then-eq.ensures.size.0)))
       | else-eq w ↦ subst (λ (s : State). IsKeptLog net s) (sym w.log-is)
-          (grown_log net (bases (count net)) c.grow-grown.new.log c.is_well_formed.ensures (bases_go_on net c.is_well_formed.ensures.network c.is_well_formed.ensures.letters)
+          (grown_log net (bases (count net)) c.grow-grown.new.log c.network_is_well_formed.ensures (bases_go_on net c.network_is_well_formed.ensures.network c.network_is_well_formed.ensures.letters)
           (extends_itself (bases (count net)))
           (c.grow-grown.ensures.grown (λ full. search (rules, full, w.if-eq.ensures))
           ∙ ap (grow net) (c.restart.ensures.restart ∙ first_bases net c.args.log.now.cap c.requires.room))
@@ -59,7 +59,7 @@ returns-clause-kept c =
 
 pub returns-clause-yes : goal.returns-clause-yes
 returns-clause-yes c = λ load yes.
-    afresh_yes (the_network c.args.net.now) c.args.log.now.cap load c.verdict_of.result c.is_well_formed.ensures (returns-clause-verdict c) yes
+    afresh_yes (the_network c.args.net.now) c.args.log.now.cap load c.verdict_of.result c.network_is_well_formed.ensures (returns-clause-verdict c) yes
 
 pub returns-clause-spent : goal.returns-clause-spent
 returns-clause-spent c = λ load said.
@@ -73,5 +73,5 @@ returns-clause-spent c = λ load said.
           (spent_entries net c.grow-grown.new.log.entries (log_of net) []
           (c.grow-grown.ensures.grown (λ full. search (rules, full, w.if-eq.ensures))
           ∙ ap (grow net) (c.restart.ensures.restart ∙ first_bases net c.args.log.now.cap c.requires.room))
-          (afresh_spent net c.args.log.now.cap load c.verdict_of.result c.is_well_formed.ensures (returns-clause-verdict c) said))
+          (afresh_spent net c.args.log.now.cap load c.verdict_of.result c.network_is_well_formed.ensures (returns-clause-verdict c) said))
     ]

@@ -1,9 +1,8 @@
-use Rattle.std.proofs.Common.{ℕ, ◌≡◌, ◌+◌, ◌||◌, ◌==◌, true, false, ◌∷◌, ◌++◌, [], List, Some, get_or, length, take, arith, refl, sym, subst, ap, ◌∙◌, length-append}
+use Rattle.std.proofs.Common.{ℕ, ◌≡◌, ◌∷◌, ◌++◌, [], List, Some, get_or, arith, refl, sym, subst, ap, ◌∙◌, length-append}
 use Rattle.std.specs.Prelude.{slice_get}
 use Rattle.std.proofs.lemmas.List.{length-map, take_all}
 use Rattle.std.proofs.lemmas.Option.{slice_get-map, slice_get-get_or}
 use Rattle.cstn_net.specs.declared.constraints.Constraint.{Constraint}
-use Rattle.cstn_check.specs.Spent.{is_fresh}
 use Rattle.cstn_edit.specs.Fresh.{ids_of, fresh_with}
 use Rattle.cstn_edit.proofs.FreshLemmas.{picked_step}
 use Rattle.cstn_edit.proofs.fresh.pick_fresh.Goals.{then-is_picked, else-is_picked}

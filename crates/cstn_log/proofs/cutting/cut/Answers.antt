@@ -1,4 +1,4 @@
-use Rattle.std.proofs.Common.{suc, ◌≡◌, ◌+◌, ◌∷◌, [], Some, length, arith, ◌∙◌, ap, length-append}
+use Rattle.std.proofs.Common.{suc, ◌≡◌, ◌+◌, ◌∷◌, [], Some, length, take, arith, ◌∙◌, ap, length-append}
 use Rattle.std.specs.Prelude.{slice_get}
 use Rattle.cstn_label.specs.declared.bounds.Bound.{Bound as DeclaredBound}
 use Rattle.cstn_label.specs.Read.{the_bound}
@@ -7,6 +7,7 @@ use Rattle.cstn_rules.specs.Derivations.{Entry as TheEntry}
 use Rattle.cstn_rules.specs.Read.{the_entry}
 use Rattle.cstn_log.specs.Cuts.{rank, moved}
 use Rattle.cstn_log.proofs.ChoiceLemmas.{rank_marked, rank_unmarked, rank_grows}
+use Rattle.cstn_log.proofs.ListLemmas.{get_front}
 use Rattle.cstn_log.proofs.MarkLemmas.{below_more}
 use Rattle.cstn_log.proofs.StepLemmas.{ranks_step, placed_renumbered, cut_step_marked, cut_step_unmarked}
 use Rattle.cstn_log.proofs.cutting.cut.Goals.{then-marks-k, else-marks-k}
@@ -24,14 +25,14 @@ pub unwrap-requires-then-marks-k : goal.unwrap-requires-then-marks-k
 unwrap-requires-then-marks-k c =
     let marks = c.args.marks.now in
     let up = rank_marked marks c.loop-k.k c.if-marks-k.true in
-    let grows = rank_grows marks (suc c.loop-k.k) (length c.args.list.now.entries) (omega (arith, c.loop-k-test.true)) in
+    let grows = rank_grows marks (suc c.loop-k.k) (length marks) (omega (arith, c.loop-k-test.true)) in
     c.push-then-marks-k.ensures.succeeds (omega (arith, c.loop-k.invariant.size, c.loop-k.invariant.step_room, c.loop-k.steps.ok, c.requires.room.1, up, grows))
 
 pub loop-k-preserved : goal.loop-k-preserved
 loop-k-preserved c =
-    let L = c.args.list.now.entries in
     let k = c.loop-k.k in
     let marks = c.args.marks.now in
+    let L = take (length marks) c.args.list.now.entries in
     let was = c.loop-k.invariant in
     let pushed = rw c.unwrap.ensures at c.push.ensures.items in
     let next : k + 1 ≡ suc k = omega arith in
@@ -40,7 +41,7 @@ loop-k-preserved c =
     elim c.if-marks-k.branch [
       | then-marks-k w ↦
           let e = w.entry.result in
-          let there : slice_get L k ≡ Some e = w.entry.ensures.entry in
+          let there : slice_get L k ≡ Some e = get_front c.args.list.now.entries (length marks) k e (omega (arith, c.loop-k-test.true)) w.entry.ensures.entry in
           let low = w.entry.ensures.premises in
           let put = rw w.unwrap-then-marks-k.ensures at w.push-then-marks-k.ensures.items in
           let places = w.deref.ensures.value in

@@ -15,7 +15,7 @@ loop-k-preserved-then-marks-k c =
     let step = below_marked L k e marks c.entry.ensures.entry c.if-marks-k.true in
     let reached = subst (λ (n : ℕ). with_ancestors (the_entries L) k (with_premises e.why marks) ≡ with_ancestors (the_entries L) n marks) next step in
     rw c.mark_premises.ensures (record {
-      inside = omega (arith, c.loop-k.invariant.inside);
+      inside = omega (arith, length_premises e.why marks, c.loop-k.invariant.inside);
       size = length_premises e.why marks ∙ c.loop-k.invariant.size;
       reach = reached ∙ c.loop-k.invariant.reach;
     })

@@ -8,7 +8,7 @@ decreases-loop-k l = l.k
 
 abbrev pub invariant-loop-k : goal.invariant-loop-k
 invariant-loop-k l = record {
-  inside : l.k ≤ length l.list.entries;
-  size : length l.marks ≡ length l.list.entries;
-  reach : with_ancestors (the_entries l.list.entries) l.k l.marks ≡ with_ancestors (the_entries l.list.entries) (length l.list.entries) l.fn.marks;
+  inside : l.k ≤ length l.marks;
+  size : length l.marks ≡ length l.fn.marks;
+  reach : with_ancestors (the_entries l.list.entries) l.k l.marks ≡ with_ancestors (the_entries l.list.entries) (length l.fn.marks) l.fn.marks;
 }

@@ -1,101 +1,89 @@
-use Rattle.std.proofs.Common.{◌≡◌, Err, refl, subst, ap, ◌∙◌, arith}
-use Rattle.std.specs.Prelude.{IsErrAnd}
-use Rattle.cstn_net.specs.Read.{the_network}
-use Rattle.cstn_conflict.specs.Trials.{IsRefutationOf}
-use Rattle.cstn_tight.specs.declared.errors.TightError.TheVariants.{Full}
-use Rattle.cstn_tight.proofs.BracketLemmas.{first_full, first_yes, first_no, searched, found_least, found_before, full_bounded, whole_full, later_full, not_full, handed_on, not_ok}
+use Rattle.std.proofs.Common.{◌≡◌, sym, subst}
+use Rattle.cstn_net.specs.Read.{NetworkParts, the_network}
+use Rattle.cstn_net.specs.Strategies.{IsConsistent}
+use Rattle.cstn_check.specs.Verdicts.{IsRefutationOf}
+use Rattle.cstn_tight.specs.Evidence.{IsTightOf}
+use Rattle.cstn_tight.proofs.AnswerLemmas.{full_tells, yes_tells, no_tells, same_net, deadline_is, deadline_upto, bounds_are, load_is, refutation_is, not_ok}
+use Rattle.cstn_tight.proofs.BracketLemmas.{whole_full, not_full}
 use Rattle.cstn_tight.proofs.tight.least.Goals as goal
 
-pub returns-in_err-deadline-in-Yes-clause-full : goal.returns-in_err-deadline-in-Yes-clause-full
-returns-in_err-deadline-in-Yes-clause-full c full =
-    let told : IsErrAnd c.from_residual-in_err-deadline-in-Yes.result (λ e. e ≡ c.in_err-deadline-in-Yes.field-0.0) = c.from_residual-in_err-deadline-in-Yes.ensures.1 in
-    later_full c.args.cap (the_network c.args.net) c.is_well_formed.ensures (first_yes c.args.cap c.args.net c.in_ok-copy.field-0 c.in_ok-verdict_on.field-0 c.in_ok-copy.ensures.equal c.in_ok-verdict_on.ensures.tells c.in-Yes.load c.in-Yes.is).1
-    (c.least_deadline.ensures.full (c.in_err-deadline-in-Yes.was ∙ ap Err (handed_on c.from_residual-in_err-deadline-in-Yes.result c.in_err-deadline-in-Yes.field-0.0 Full told full)))
+pub tight_of-requires-clause-consistent : goal.tight_of-requires-clause-consistent
+tight_of-requires-clause-consistent c =
+    let yes_is = yes_tells c.args.cap c.args.net c.in_ok-check.check c.in_ok-check.ensures.start c.in-Yes.load ((c.run.ensures.exactly_yes c.in-Yes.load).0 c.in-Yes.is) in
+    subst (λ (n : NetworkParts). IsConsistent (the_network n))
+    (sym (same_net c.args.cap c.args.net c.in_ok-check.check c.in_ok-check.ensures.start c.run.new.self c.run.result c.run.ensures.answered)) yes_is.1
 
-pub returns-in_err-deadline-in-Yes-clause-bounded : goal.returns-in_err-deadline-in-Yes-clause-bounded
-returns-in_err-deadline-in-Yes-clause-bounded c full =
-    let told : IsErrAnd c.from_residual-in_err-deadline-in-Yes.result (λ e. e ≡ c.in_err-deadline-in-Yes.field-0.0) = c.from_residual-in_err-deadline-in-Yes.ensures.1 in
-    full_bounded c.args.cap (the_network c.args.net) c.is_well_formed.ensures
-    (c.least_deadline.ensures.full (c.in_err-deadline-in-Yes.was ∙ ap Err (handed_on c.from_residual-in_err-deadline-in-Yes.result c.in_err-deadline-in-Yes.field-0.0 Full told full)))
+pub returns-in_err-refutation-in-No-clause-refused : goal.returns-in_err-refutation-in-No-clause-refused
+returns-in_err-refutation-in-No-clause-refused c ok =
+    absurd (not_ok c.from_residual-in_err-refutation-in-No.result c.from_residual-in_err-refutation-in-No.ensures.0 ok)
 
-pub refuted_before-requires-clause-deadline : goal.refuted_before-requires-clause-deadline
-refuted_before-requires-clause-deadline c =
-    let found = searched c.args.cap c.args.net c.in_ok-copy.field-0 c.in_ok-verdict_on.field-0 c.in_ok-copy.ensures.equal c.in_ok-verdict_on.ensures.tells
-    c.is_well_formed.ensures c.in-Yes.load c.in-Yes.is c.in_ok-deadline-in-Yes.deadline c.in_ok-deadline-in-Yes.ensures.least (c.in_ok-deadline-in-Yes.ensures.within refl) in
-    let upto = found.upto in
-    let in_time = c.is_well_formed.ensures.in_time in
-    omega arith
+pub returns-in_ok-tight_of-in-Yes-clause-refused : goal.returns-in_ok-tight_of-in-Yes-clause-refused
+returns-in_ok-tight_of-in-Yes-clause-refused c ok =
+    let yes_is = yes_tells c.args.cap c.args.net c.in_ok-check.check c.in_ok-check.ensures.start c.in-Yes.load ((c.run.ensures.exactly_yes c.in-Yes.load).0 c.in-Yes.is) in
+    (yes_is.1, not_full (the_network c.args.net) c.network_is_well_formed.ensures c.args.cap yes_is.0)
 
-pub refuted_before-requires-clause-within : goal.refuted_before-requires-clause-within
-refuted_before-requires-clause-within c above =
-    (found_before c.args.cap (the_network c.args.net) c.is_well_formed.ensures c.in_ok-deadline-in-Yes.deadline
-    (searched c.args.cap c.args.net c.in_ok-copy.field-0 c.in_ok-verdict_on.field-0 c.in_ok-copy.ensures.equal c.in_ok-verdict_on.ensures.tells
-    c.is_well_formed.ensures c.in-Yes.load c.in-Yes.is c.in_ok-deadline-in-Yes.deadline c.in_ok-deadline-in-Yes.ensures.least (c.in_ok-deadline-in-Yes.ensures.within refl)) above).within
+pub returns-in_ok-tight_of-in-Yes-clause-deadline : goal.returns-in_ok-tight_of-in-Yes-clause-deadline
+returns-in_ok-tight_of-in-Yes-clause-deadline c =
+    let yes_is = yes_tells c.args.cap c.args.net c.in_ok-check.check c.in_ok-check.ensures.start c.in-Yes.load ((c.run.ensures.exactly_yes c.in-Yes.load).0 c.in-Yes.is) in
+    let tight = subst (λ (n : NetworkParts). IsTightOf (the_network n) c.in_ok-tight_of-in-Yes.field-0)
+    (same_net c.args.cap c.args.net c.in_ok-check.check c.in_ok-check.ensures.start c.run.new.self c.run.result c.run.ensures.answered) c.in_ok-tight_of-in-Yes.ensures.tight in
+    deadline_is (the_network c.args.net) c.network_is_well_formed.ensures yes_is.1 c.in_ok-tight_of-in-Yes.field-0 tight
 
-pub refuted_before-requires-clause-inconsistent : goal.refuted_before-requires-clause-inconsistent
-refuted_before-requires-clause-inconsistent c above =
-    (found_before c.args.cap (the_network c.args.net) c.is_well_formed.ensures c.in_ok-deadline-in-Yes.deadline
-    (searched c.args.cap c.args.net c.in_ok-copy.field-0 c.in_ok-verdict_on.field-0 c.in_ok-copy.ensures.equal c.in_ok-verdict_on.ensures.tells
-    c.is_well_formed.ensures c.in-Yes.load c.in-Yes.is c.in_ok-deadline-in-Yes.deadline c.in_ok-deadline-in-Yes.ensures.least (c.in_ok-deadline-in-Yes.ensures.within refl)) above).never
+pub returns-in_ok-tight_of-in-Yes-clause-upto : goal.returns-in_ok-tight_of-in-Yes-clause-upto
+returns-in_ok-tight_of-in-Yes-clause-upto c =
+    let yes_is = yes_tells c.args.cap c.args.net c.in_ok-check.check c.in_ok-check.ensures.start c.in-Yes.load ((c.run.ensures.exactly_yes c.in-Yes.load).0 c.in-Yes.is) in
+    let tight = subst (λ (n : NetworkParts). IsTightOf (the_network n) c.in_ok-tight_of-in-Yes.field-0)
+    (same_net c.args.cap c.args.net c.in_ok-check.check c.in_ok-check.ensures.start c.run.new.self c.run.result c.run.ensures.answered) c.in_ok-tight_of-in-Yes.ensures.tight in
+    deadline_upto (the_network c.args.net) c.network_is_well_formed.ensures yes_is.1 c.in_ok-tight_of-in-Yes.field-0 tight
 
-pub closed_at-requires-clause-deadline : goal.closed_at-requires-clause-deadline
-closed_at-requires-clause-deadline c =
-    let found = searched c.args.cap c.args.net c.in_ok-copy.field-0 c.in_ok-verdict_on.field-0 c.in_ok-copy.ensures.equal c.in_ok-verdict_on.ensures.tells
-    c.is_well_formed.ensures c.in-Yes.load c.in-Yes.is c.in_ok-deadline-in-Yes.deadline c.in_ok-deadline-in-Yes.ensures.least (c.in_ok-deadline-in-Yes.ensures.within refl) in
-    let upto = found.upto in
-    let in_time = c.is_well_formed.ensures.in_time in
-    omega arith
+pub returns-in_ok-tight_of-in-Yes-clause-bounds : goal.returns-in_ok-tight_of-in-Yes-clause-bounds
+returns-in_ok-tight_of-in-Yes-clause-bounds c =
+    let yes_is = yes_tells c.args.cap c.args.net c.in_ok-check.check c.in_ok-check.ensures.start c.in-Yes.load ((c.run.ensures.exactly_yes c.in-Yes.load).0 c.in-Yes.is) in
+    let tight = subst (λ (n : NetworkParts). IsTightOf (the_network n) c.in_ok-tight_of-in-Yes.field-0)
+    (same_net c.args.cap c.args.net c.in_ok-check.check c.in_ok-check.ensures.start c.run.new.self c.run.result c.run.ensures.answered) c.in_ok-tight_of-in-Yes.ensures.tight in
+    bounds_are (the_network c.args.net) c.network_is_well_formed.ensures yes_is.1 c.in_ok-tight_of-in-Yes.field-0 tight
 
-pub closed_at-requires-clause-within : goal.closed_at-requires-clause-within
-closed_at-requires-clause-within c =
-    (searched c.args.cap c.args.net c.in_ok-copy.field-0 c.in_ok-verdict_on.field-0 c.in_ok-copy.ensures.equal c.in_ok-verdict_on.ensures.tells
-    c.is_well_formed.ensures c.in-Yes.load c.in-Yes.is c.in_ok-deadline-in-Yes.deadline c.in_ok-deadline-in-Yes.ensures.least (c.in_ok-deadline-in-Yes.ensures.within refl)).within
+pub returns-in_ok-tight_of-in-Yes-clause-load : goal.returns-in_ok-tight_of-in-Yes-clause-load
+returns-in_ok-tight_of-in-Yes-clause-load c =
+    let yes_is = yes_tells c.args.cap c.args.net c.in_ok-check.check c.in_ok-check.ensures.start c.in-Yes.load ((c.run.ensures.exactly_yes c.in-Yes.load).0 c.in-Yes.is) in
+    let tight = subst (λ (n : NetworkParts). IsTightOf (the_network n) c.in_ok-tight_of-in-Yes.field-0)
+    (same_net c.args.cap c.args.net c.in_ok-check.check c.in_ok-check.ensures.start c.run.new.self c.run.result c.run.ensures.answered) c.in_ok-tight_of-in-Yes.ensures.tight in
+    load_is (the_network c.args.net) c.network_is_well_formed.ensures yes_is.1 c.in_ok-tight_of-in-Yes.field-0 tight
 
-pub closed_at-requires-clause-consistent : goal.closed_at-requires-clause-consistent
-closed_at-requires-clause-consistent c =
-    (searched c.args.cap c.args.net c.in_ok-copy.field-0 c.in_ok-verdict_on.field-0 c.in_ok-copy.ensures.equal c.in_ok-verdict_on.ensures.tells
-    c.is_well_formed.ensures c.in-Yes.load c.in-Yes.is c.in_ok-deadline-in-Yes.deadline c.in_ok-deadline-in-Yes.ensures.least (c.in_ok-deadline-in-Yes.ensures.within refl)).consistent
+pub returns-in_ok-tight_of-in-Yes-clause-refutation : goal.returns-in_ok-tight_of-in-Yes-clause-refutation
+returns-in_ok-tight_of-in-Yes-clause-refutation c =
+    let yes_is = yes_tells c.args.cap c.args.net c.in_ok-check.check c.in_ok-check.ensures.start c.in-Yes.load ((c.run.ensures.exactly_yes c.in-Yes.load).0 c.in-Yes.is) in
+    let tight = subst (λ (n : NetworkParts). IsTightOf (the_network n) c.in_ok-tight_of-in-Yes.field-0)
+    (same_net c.args.cap c.args.net c.in_ok-check.check c.in_ok-check.ensures.start c.run.new.self c.run.result c.run.ensures.answered) c.in_ok-tight_of-in-Yes.ensures.tight in
+    refutation_is (the_network c.args.net) c.network_is_well_formed.ensures yes_is.1 c.in_ok-tight_of-in-Yes.field-0 tight
 
-pub returns-in_err-closed-in-Yes-clause-refused : goal.returns-in_err-closed-in-Yes-clause-refused
-returns-in_err-closed-in-Yes-clause-refused c ok =
-    absurd (not_ok c.from_residual-in_err-closed-in-Yes.result c.from_residual-in_err-closed-in-Yes.ensures.0 ok)
+pub returns-in_ok-tight_of-in-Yes-clause-named : goal.returns-in_ok-tight_of-in-Yes-clause-named
+returns-in_ok-tight_of-in-Yes-clause-named c =
+    let tight = subst (λ (n : NetworkParts). IsTightOf (the_network n) c.in_ok-tight_of-in-Yes.field-0)
+    (same_net c.args.cap c.args.net c.in_ok-check.check c.in_ok-check.ensures.start c.run.new.self c.run.result c.run.ensures.answered) c.in_ok-tight_of-in-Yes.ensures.tight in
+    tight.closed.named
 
-pub refuted-requires-clause-within : goal.refuted-requires-clause-within
-refuted-requires-clause-within c =
-    (first_no c.args.cap c.args.net c.in_ok-copy.field-0 c.in_ok-verdict_on.field-0 c.in_ok-copy.ensures.equal c.in_ok-verdict_on.ensures.tells c.in-No.load c.in-No.is).0
+pub returns-in_ok-tight_of-in-Yes-clause-accepted : goal.returns-in_ok-tight_of-in-Yes-clause-accepted
+returns-in_ok-tight_of-in-Yes-clause-accepted c =
+    let tight = subst (λ (n : NetworkParts). IsTightOf (the_network n) c.in_ok-tight_of-in-Yes.field-0)
+    (same_net c.args.cap c.args.net c.in_ok-check.check c.in_ok-check.ensures.start c.run.new.self c.run.result c.run.ensures.answered) c.in_ok-tight_of-in-Yes.ensures.tight in
+    tight.closed.accepted
 
-pub refuted-requires-clause-inconsistent : goal.refuted-requires-clause-inconsistent
-refuted-requires-clause-inconsistent c =
-    (first_no c.args.cap c.args.net c.in_ok-copy.field-0 c.in_ok-verdict_on.field-0 c.in_ok-copy.ensures.equal c.in_ok-verdict_on.ensures.tells c.in-No.load c.in-No.is).1
-
-pub returns-in_ok-closed-in-Yes-clause-refused : goal.returns-in_ok-closed-in-Yes-clause-refused
-returns-in_ok-closed-in-Yes-clause-refused c ok =
-    let first = first_yes c.args.cap c.args.net c.in_ok-copy.field-0 c.in_ok-verdict_on.field-0 c.in_ok-copy.ensures.equal c.in_ok-verdict_on.ensures.tells c.in-Yes.load c.in-Yes.is in
-    (first.1, not_full c.args.cap (the_network c.args.net) c.is_well_formed.ensures first.1 first.0 (c.in_ok-deadline-in-Yes.ensures.within refl))
-
-pub returns-in_ok-closed-in-Yes-clause-least : goal.returns-in_ok-closed-in-Yes-clause-least
-returns-in_ok-closed-in-Yes-clause-least c =
-    found_least c.args.cap (the_network c.args.net) c.is_well_formed.ensures c.in_ok-deadline-in-Yes.deadline
-    (searched c.args.cap c.args.net c.in_ok-copy.field-0 c.in_ok-verdict_on.field-0 c.in_ok-copy.ensures.equal c.in_ok-verdict_on.ensures.tells
-    c.is_well_formed.ensures c.in-Yes.load c.in-Yes.is c.in_ok-deadline-in-Yes.deadline c.in_ok-deadline-in-Yes.ensures.least (c.in_ok-deadline-in-Yes.ensures.within refl))
-
-pub returns-in_ok-closed-in-Yes-clause-upto : goal.returns-in_ok-closed-in-Yes-clause-upto
-returns-in_ok-closed-in-Yes-clause-upto c =
-    (searched c.args.cap c.args.net c.in_ok-copy.field-0 c.in_ok-verdict_on.field-0 c.in_ok-copy.ensures.equal c.in_ok-verdict_on.ensures.tells
-    c.is_well_formed.ensures c.in-Yes.load c.in-Yes.is c.in_ok-deadline-in-Yes.deadline c.in_ok-deadline-in-Yes.ensures.least (c.in_ok-deadline-in-Yes.ensures.within refl)).upto
-
-pub returns-in_ok-refuted-in-No-clause-no : goal.returns-in_ok-refuted-in-No-clause-no
-returns-in_ok-refuted-in-No-clause-no c r told =
-    let first = first_no c.args.cap c.args.net c.in_ok-copy.field-0 c.in_ok-verdict_on.field-0 c.in_ok-copy.ensures.equal c.in_ok-verdict_on.ensures.tells c.in-No.load c.in-No.is in
-    let same : c.in_ok-refuted-in-No.field-0 ≡ r = cc in
-    (first.0, first.1, subst (IsRefutationOf (the_network c.args.net)) same c.in_ok-refuted-in-No.ensures.refutation)
+pub returns-in_ok-refutation-in-No-clause-no : goal.returns-in_ok-refutation-in-No-clause-no
+returns-in_ok-refutation-in-No-clause-no c r told =
+    let no_is = no_tells c.args.cap c.args.net c.in_ok-check.check c.in_ok-check.ensures.start c.in-No.load ((c.run.ensures.exactly_no c.in-No.load).0 c.in-No.is) in
+    let given = c.in_ok-refutation-in-No.ensures in
+    let refuted : IsRefutationOf (the_network c.run.new.self.net) c.in_ok-refutation-in-No.field-0 =
+    record { part = given.part; load = given.load; refutes = given.refutes; named = given.named; text = given.text } in
+    let same : c.in_ok-refutation-in-No.field-0 ≡ r = cc in (
+      no_is.0,
+      no_is.1,
+      subst (IsRefutationOf (the_network c.args.net)) same
+          (subst (λ (n : NetworkParts). IsRefutationOf (the_network n) c.in_ok-refutation-in-No.field-0)
+          (same_net c.args.cap c.args.net c.in_ok-check.check c.in_ok-check.ensures.start c.run.new.self c.run.result c.run.ensures.answered) refuted),
+    )
 
 pub returns-in-Full-clause-full : goal.returns-in-Full-clause-full
 returns-in-Full-clause-full c full =
-    whole_full c.args.cap (the_network c.args.net) c.is_well_formed.ensures (first_full c.args.cap c.args.net c.in_ok-copy.field-0 c.in_ok-verdict_on.field-0 c.in_ok-copy.ensures.equal c.in_ok-verdict_on.ensures.tells c.in-Full.is)
-
-pub returns-in-Full-clause-bounded : goal.returns-in-Full-clause-bounded
-returns-in-Full-clause-bounded c full =
-    let above = first_full c.args.cap c.args.net c.in_ok-copy.field-0 c.in_ok-verdict_on.field-0 c.in_ok-copy.ensures.equal c.in_ok-verdict_on.ensures.tells c.in-Full.is in
-    let most = c.growth_is_bounded.ensures.load (the_network c.args.net) c.is_well_formed.ensures in
-    omega (arith, above, most)
+    whole_full (the_network c.args.net) c.network_is_well_formed.ensures c.args.cap
+    (full_tells c.args.cap c.args.net c.in_ok-check.check c.in_ok-check.ensures.start (c.run.ensures.full.0 c.in-Full.is))

@@ -13,11 +13,11 @@ new-requires-clause-closed c =
     let yes_is = held (the_network c.self.inside.net) c.self.inside.log c.self.inside.verdict _
     (ap (λ (s : CheckParts). s.verdict) c.self.view_is ∙ c.requires.yes.1) c.self.invariant.answered in
     subst (λ l. IsClosed (the_network c.self.inside.net) l) (sym (c.live_bounds-bounds.ensures.bounds ∙ ap live_bounds yes_is.2))
-    (log_closed (the_network c.self.inside.net) c.is_well_formed.ensures.network c.is_well_formed.ensures.letters yes_is.3)
+    (log_closed (the_network c.self.inside.net) c.network_is_well_formed.ensures.network c.network_is_well_formed.ensures.letters yes_is.3)
 
 pub new-requires-clause-sound : goal.new-requires-clause-sound
 new-requires-clause-sound c =
     let yes_is = held (the_network c.self.inside.net) c.self.inside.log c.self.inside.verdict _
     (ap (λ (s : CheckParts). s.verdict) c.self.view_is ∙ c.requires.yes.1) c.self.invariant.answered in
     subst (λ l. AllSound (the_network c.self.inside.net) l) (sym (c.live_bounds-bounds.ensures.bounds ∙ ap live_bounds yes_is.2))
-    (log_sound (the_network c.self.inside.net) c.is_well_formed.ensures.network c.is_well_formed.ensures.letters)
+    (log_sound (the_network c.self.inside.net) c.network_is_well_formed.ensures.network c.network_is_well_formed.ensures.letters)

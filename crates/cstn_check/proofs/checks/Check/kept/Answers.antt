@@ -6,9 +6,9 @@ use Rattle.cstn_check.proofs.checks.Check.kept.Goals as goal
 pub returns-clause-front : goal.returns-clause-front
 returns-clause-front c =
     front_seen c.self.inside.net c.self.inside.log c.self.inside.verdict c.args.self.now (ap (λ (s : CheckParts). s.net) c.self.view_is)
-    c.is_well_formed.ensures c.self.invariant.answered
+    c.network_is_well_formed.ensures c.self.invariant.answered
 
 pub returns-clause-empty : goal.returns-clause-empty
 returns-clause-empty c =
     none_seen c.self.inside.net c.self.inside.log c.self.inside.verdict c.args.self.now (ap (λ (s : CheckParts). s.net) c.self.view_is)
-    (ap (λ (s : CheckParts). s.cap) c.self.view_is) c.is_well_formed.ensures c.self.invariant.answered
+    (ap (λ (s : CheckParts). s.cap) c.self.view_is) c.network_is_well_formed.ensures c.self.invariant.answered

@@ -18,7 +18,7 @@ use Rattle.cstn_check.proofs.checks.Check.refutation.Goals as goal
 pub new-requires : goal.new-requires
 new-requires c =
     let net = the_network c.self.inside.net in
-    let good = c.is_well_formed.ensures in
+    let good = c.network_is_well_formed.ensures in
     let no = held net c.self.inside.log c.self.inside.verdict _
     (ap (λ (s : CheckParts). s.verdict) c.self.view_is ∙ c.requires.no.1) c.self.invariant.answered in
     record {
@@ -29,7 +29,7 @@ new-requires c =
 pub returns-clause-refutes : goal.returns-clause-refutes
 returns-clause-refutes c =
     let net = the_network c.self.inside.net in
-    let good = c.is_well_formed.ensures in
+    let good = c.network_is_well_formed.ensures in
     let no = held net c.self.inside.log c.self.inside.verdict _
     (ap (λ (s : CheckParts). s.verdict) c.self.view_is ∙ c.requires.no.1) c.self.invariant.answered in
     subst (λ (m : NetworkParts). IsRefutation (the_network m) (the_steps c.new.result)) (ap (λ (s : CheckParts). s.net) c.self.view_is)
@@ -39,7 +39,7 @@ returns-clause-refutes c =
 pub returns-clause-named : goal.returns-clause-named
 returns-clause-named c =
     let net = the_network c.self.inside.net in
-    let good = c.is_well_formed.ensures in
+    let good = c.network_is_well_formed.ensures in
     let no = held net c.self.inside.log c.self.inside.verdict _
     (ap (λ (s : CheckParts). s.verdict) c.self.view_is ∙ c.requires.no.1) c.self.invariant.answered in
     subst (λ (m : NetworkParts). All (λ (e : Entry). e.bound.node.0 < count (the_network m)) c.new.result.steps)
@@ -50,7 +50,7 @@ returns-clause-named c =
 pub returns-clause-text : goal.returns-clause-text
 returns-clause-text c =
     let net = the_network c.self.inside.net in
-    let good = c.is_well_formed.ensures in
+    let good = c.network_is_well_formed.ensures in
     let no = held net c.self.inside.log c.self.inside.verdict _
     (ap (λ (s : CheckParts). s.verdict) c.self.view_is ∙ c.requires.no.1) c.self.invariant.answered in
     part_text net (log_of net) c.new.result (log_refutation net good no.3)

@@ -3,10 +3,10 @@ use Rattle.std.proofs.lemmas.Bool.{cases_lt, false≢true}
 use Rattle.std.proofs.lemmas.Int.{to_z-of_z}
 use Rattle.cstn_label.specs.declared.props.Prop.{Prop}
 use Rattle.cstn_label.specs.Read.{marks}
-use Rattle.cstn_net.specs.Networks.{IsValue, IsOnObserved}
+use Rattle.cstn_net.specs.Networks.{IsValue, IsOnObserved, IsLeastUnobserved}
 use Rattle.cstn_net.specs.Read.{the_network}
 use Rattle.cstn_edit.specs.declared.errors.EditError.TheVariants.{EditLimit, NotObserved}
-use Rattle.cstn_edit.specs.Sessions.{SessionParts, IsLeastUnobserved, next_id}
+use Rattle.cstn_edit.specs.Sessions.{SessionParts, next_id}
 use Rattle.cstn_edit.specs.Edits.{ValueRange, refusal_of, the_session, with_added}
 use Rattle.cstn_edit.proofs.EditLemmas.{add_at_limit, add_out_of_range, add_not_plain, add_by_observed, value_true, value_false, plain_seen, plain_false, least_first, none_first, room_seen, added_seen}
 use Rattle.std.proofs.lemmas.List.{length-map}

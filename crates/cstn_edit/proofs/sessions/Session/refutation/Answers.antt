@@ -14,7 +14,7 @@ new-requires c =
     let last = last_refutes net c.self.inside.log c.self.inside.last c.requires.no.0 c.requires.no.1
     (ap (λ (s : SessionParts). s.last) c.self.view_is ∙ c.requires.no.2) c.requires.no.3 c.self.invariant.0.refuted in
     record {
-      steps = kept_steps net c.self.inside.log c.in_ok-steps.steps.items c.is_well_formed.ensures c.self.invariant.0.kept last
+      steps = kept_steps net c.self.inside.log c.in_ok-steps.steps.items c.network_is_well_formed.ensures c.self.invariant.0.kept last
           c.len-load.ensures.all_new c.in_ok-steps.ensures.part (omega (arith, c.len-load.ensures.len, c.len-load.ensures.at_most, c.len-load.ensures.largest));
     }
 
@@ -24,5 +24,5 @@ returns-clause-named c =
     let last = last_refutes net c.self.inside.log c.self.inside.last c.requires.no.0 c.requires.no.1
     (ap (λ (s : SessionParts). s.last) c.self.view_is ∙ c.requires.no.2) c.requires.no.3 c.self.invariant.0.refuted in
     subst (λ (s : SessionParts). All (λ (e : Entry). e.bound.node.0 < count (the_network s.net)) c.new.result.steps) c.self.view_is
-    (kept_named net c.self.inside.log c.new.result.steps c.is_well_formed.ensures c.self.invariant.0.kept last c.len-load.ensures.all_new
+    (kept_named net c.self.inside.log c.new.result.steps c.network_is_well_formed.ensures c.self.invariant.0.kept last c.len-load.ensures.all_new
     (ap the_entries c.new.ensures.steps ∙ c.in_ok-steps.ensures.part))

@@ -34,7 +34,7 @@ invariant_of-self-2 c =
           (subst (λ (v : SessionParts). v.edits < 1000000) (sym c.self.view_is) (c.in_ok-check_limit.ensures.below.0 refl))
           (omega (arith, c.len-at_most.ensures.len, c.len-at_most.ensures.at_most)) refl
           (others_left c.args.id cs) size
-          (omega (arith, old.spare, without_many inside.net c.args.id c.is_well_formed.ensures))
+          (omega (arith, old.spare, without_many inside.net c.args.id c.network_is_well_formed.ensures))
           (All-filter (λ d. not (has_id c.args.id d)) (λ d. d.id < next_id inside.highest) cs old.below)
           c.retract-gone.ensures.dropped (omega (arith, c.retract-gone.ensures.births)) c.retract-gone.ensures.size.0 c.retract-gone.ensures.size.1,
       cut_freshened inside.net left inside.log c.retract-gone.new.self inside.room c.args.id c.retract-gone.result inside.fresh.items c.freshen.new.fresh.items inside.settled c.stays_settled-self-inside.result _ _ _ _

@@ -26,13 +26,13 @@ pub returns-in-Some-clause-no : goal.returns-in-Some-clause-no
 returns-in-Some-clause-no c = λ load said.
     let net = the_network c.self.inside.net in
     subst (λ (v : SessionParts). IsConsistent (the_network v.net) → ⊥) c.self.view_is
-    (no_true net c.self.inside.log c.in-Some.outcome load c.is_well_formed.ensures c.self.invariant.0.kept
+    (no_true net c.self.inside.log c.in-Some.outcome load c.network_is_well_formed.ensures c.self.invariant.0.kept
     (subst (λ o. Refuted net c.self.inside.log o) c.in-Some.is c.self.invariant.0.refuted) said)
 
 pub returns-clause-no : goal.returns-clause-no
 returns-clause-no c = λ load said.
     subst (λ (v : SessionParts). IsConsistent (the_network v.net) → ⊥) c.self.view_is
-    (no_true (the_network c.self.inside.net) c.answer-outcome.new.log c.answer-outcome.result load c.is_well_formed.ensures
+    (no_true (the_network c.self.inside.net) c.answer-outcome.new.log c.answer-outcome.result load c.network_is_well_formed.ensures
     c.answer-outcome.ensures.kept c.answer-outcome.ensures.refuted said)
 
 pub returns-clause-prefix : goal.returns-clause-prefix

@@ -1,0 +1,25 @@
+-- Which constraints gave entries of a list.
+use Rattle.std.specs.Prelude.{ℕ, Bool, false, not, ◌==◌, List}
+use Rattle.std.specs.List.{filter, list_any}
+use Rattle.cstn_net.specs.Networks.{Network}
+use Rattle.cstn_rules.specs.declared.entries.Why.{Why}
+use Rattle.cstn_rules.specs.declared.entries.Why.TheVariants.{Base, Chain, Wait}
+use Rattle.cstn_rules.specs.Derivations.{Entry}
+
+-- the rule is chain of the constraint with the id
+abbrev pub is_by : ℕ → Why → Bool
+is_by id Base = false
+is_by id (Chain c i) = c == id
+is_by id (Wait i j) = false
+
+-- the constraint with the id gave some entry of the list
+abbrev pub gave : ℕ → List Entry → Bool
+gave id list = list_any (λ e. is_by id e.why) list
+
+-- the network with those of its constraints whose ids pass a test
+abbrev pub with_some : Network → (ℕ → Bool) → Network
+with_some net test = record net { constraints = filter (λ c. test c.id) net.constraints }
+
+-- the network without the constraint of the id
+abbrev pub without : ℕ → Network → Network
+without id net = with_some net (λ i. not (i == id))

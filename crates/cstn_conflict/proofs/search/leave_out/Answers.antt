@@ -1,0 +1,48 @@
+use Rattle.std.proofs.Common.{get_or, rules, sym, subst, ◌∙◌}
+use Rattle.cstn_net.specs.Networks.{Network}
+use Rattle.cstn_net.specs.Read.{the_network}
+use Rattle.cstn_conflict.specs.Trials.{IsNoOn}
+use Rattle.cstn_conflict.proofs.TrialLemmas.{taken_out}
+use Rattle.cstn_conflict.proofs.SearchLemmas.{idle_at, skip_smaller, skip_no, out_smaller, in_smaller}
+use Rattle.cstn_conflict.proofs.search.leave_out.Goals as goal
+
+pub returns-then-not-index-clause-left : goal.returns-then-not-index-clause-left
+returns-then-not-index-clause-left c ok =
+    let net = the_network c.args.net.now in
+    let last = c.args.last.now in
+    let id = get_or c.args.ids.now c.args.k 0 in
+    let idle = idle_at c.args.cap net c.args.ids.now last.gave.items last.refutation c.args.k c.requires.last c.requires.inside (search rules) in
+    taken_out id c.args.net.now c.take_out.new.self c.take_out.result c.take_out.ensures.none c.take_out.ensures.same c.take_out.ensures.gone
+    ∙ skip_smaller c.args.cap net c.args.ids.now last.gave.items last.refutation id c.network_is_well_formed.ensures c.requires.last
+    (c.logs_stay_without_idle_constraints.ensures.one net id idle)
+
+pub returns-then-not-index-clause-last : goal.returns-then-not-index-clause-last
+returns-then-not-index-clause-last c ok =
+    let net = the_network c.args.net.now in
+    let last = c.args.last.now in
+    let id = get_or c.args.ids.now c.args.k 0 in
+    let idle = idle_at c.args.cap net c.args.ids.now last.gave.items last.refutation c.args.k c.requires.last c.requires.inside (search rules) in
+    subst (λ (n : Network). IsNoOn c.args.cap n c.args.ids.now last.gave.items last.refutation)
+    (sym (taken_out id c.args.net.now c.take_out.new.self c.take_out.result c.take_out.ensures.none c.take_out.ensures.same c.take_out.ensures.gone))
+    (skip_no c.args.cap net c.args.ids.now last.gave.items last.refutation id c.network_is_well_formed.ensures c.requires.last
+    (c.logs_stay_without_idle_constraints.ensures.one net id idle))
+
+pub returns-in-Ok-clause-left : goal.returns-in-Ok-clause-left
+returns-in-Ok-clause-left c ok =
+    let id = get_or c.args.ids.now c.args.k 0 in
+    let take_out = c.take_out-in-Ok in
+    taken_out id c.args.net.now take_out.new.self take_out.result take_out.ensures.none take_out.ensures.same take_out.ensures.gone
+    ∙ out_smaller c.args.cap id (the_network c.args.net.now) c.args.ids.now c.in-Ok.no.gave.items c.in-Ok.no.refutation c.in-Ok.ensures.no
+
+pub returns-in-Ok-clause-last : goal.returns-in-Ok-clause-last
+returns-in-Ok-clause-last c ok =
+    let id = get_or c.args.ids.now c.args.k 0 in
+    let take_out = c.take_out-in-Ok in
+    subst (λ (n : Network). IsNoOn c.args.cap n c.args.ids.now c.in-Ok.no.gave.items c.in-Ok.no.refutation)
+    (sym (taken_out id c.args.net.now take_out.new.self take_out.result take_out.ensures.none take_out.ensures.same take_out.ensures.gone))
+    c.in-Ok.ensures.no
+
+pub returns-in-Err-Consistent-clause-left : goal.returns-in-Err-Consistent-clause-left
+returns-in-Err-Consistent-clause-left c ok =
+    in_smaller (get_or c.args.ids.now c.args.k 0) (the_network c.args.net.now) c.network_is_well_formed.ensures
+    (c.no_without.ensures.consistent c.in-Err-Consistent.field-0-0 (search rules)).1
