@@ -1,5 +1,5 @@
 -- Chains of the constraints that end at a time-point, and waits.
-use Rattle.std.proofs.Common.{ℕ, ◌≡◌, ◌+◌, ◌≤◌, ◌<◌, List, Some, length, get_or, map, arith, inl, inr, refl, sym, subst, ap, ◌∙◌, zero, suc, [], ◌∷◌}
+use Rattle.std.proofs.Common.{ℕ, ◌≡◌, ◌≤◌, ◌<◌, List, Some, length, get_or, map, arith, inl, inr, refl, sym, subst, ap, ◌∙◌, zero, suc, [], ◌∷◌}
 use Rattle.std.specs.Prelude.{slice_get, option_map}
 use Rattle.std.specs.List.{AllPairs}
 use Rattle.std.proofs.lemmas.Bool.{cases_lt, cases_eq}
@@ -156,15 +156,6 @@ place_read bounds places p i d are inside =
     let at : get_or places i d ≡ get_or (marking p (map the_bound bounds)) i 0 =
     ap (λ (ps : List ℕ). get_or ps i d) are ∙ get_or_default (marking p (map the_bound bounds)) i d 0 within in
     omega (arith, at, below, length-map bounds the_bound)
-
--- what wait derives is covered for the first i + 1 bounds that mark p, where it is for the first i and for the next
-pub waits_more : (net : Network) (bounds : List Bound) (seen : Bound) (places : List ℕ) (i d : ℕ) → i < length places →
-    ((n : ℕ) → n < i → IsAwaitedAt net bounds seen (get_or places n 0)) → IsAwaitedAt net bounds seen (get_or places i d) →
-    (n : ℕ) → n < i + 1 → IsAwaitedAt net bounds seen (get_or places n 0)
-waits_more net bounds seen places i d inside done here n before = elim (cases_lt n i) [
-  | inl earlier ↦ done n earlier
-  | inr past ↦ subst (IsAwaitedAt net bounds seen) (get_or_default places i d 0 inside ∙ ap (λ m. get_or places m 0) (let e : i ≡ n = omega arith in e)) here
-]
 
 -- the first of these bounds from which wait derives what isn't covered gives the first fault of its kind at that place
 pub first_marked : (net : Network) (bounds : List Bound) (at p i d : ℕ) (places : List ℕ) (seen b : Bound) → places ≡ marking p bounds → i < length places →

@@ -1,6 +1,9 @@
 mod ListLemmas
+mod CoverLemmas
+mod RuleLemmas
+mod FreshLemmas
+mod KeepLemmas
 mod WalkLemmas
-mod PlaceLemmas
 mod MarkingLemmas
 pub mod FaultLemmas
 mod InstanceLemmas

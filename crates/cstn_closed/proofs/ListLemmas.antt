@@ -1,8 +1,9 @@
 -- What a list has, and where.
-use Rattle.std.proofs.Common.{ℕ, ◌≡◌, ◌+◌, ◌≤◌, List, Some, length, arith, inl, inr, ap, ◌∙◌, subst}
+use Rattle.std.proofs.Common.{ℕ, ◌≡◌, ◌+◌, ◌≤◌, ◌<◌, List, Some, length, get_or, arith, inl, inr, ap, ◌∙◌, subst}
 use Rattle.std.specs.Prelude.{slice_get, map, option_map}
 use Rattle.std.specs.List.{Contains}
 use Rattle.std.proofs.lemmas.Bool.{cases_lt}
+use Rattle.std.proofs.lemmas.List.{get_or_default}
 use Rattle.std.proofs.lemmas.Option.{slice_get-map, slice_get_within, slice_get-get_or, get_or_from_slice_get}
 use Rattle.cstn_label.specs.declared.bounds.Bound.{Bound as Declared}
 use Rattle.cstn_label.specs.Bounds.{Bound}
@@ -10,7 +11,7 @@ use Rattle.cstn_label.specs.Read.{the_bound}
 use Rattle.cstn_net.specs.Networks.{Network}
 use Rattle.cstn_log.proofs.ListLemmas.{one_there}
 use Rattle.cstn_closed.specs.Faults.{IsFit}
-use Rattle.cstn_closed.specs.Instances.{AreFit, IsSoBefore}
+use Rattle.cstn_closed.specs.Instances.{AreFit, IsSoBefore, IsSoAt}
 
 pub there_is : {X : Type 0} (xs : List X) (x : X) → Contains xs x → (k : ℕ) × (slice_get xs k ≡ Some x)
 there_is xs x has = (has.0, slice_get-get_or xs has.0 x has.1 ∙ ap Some has.2)
@@ -26,6 +27,14 @@ pub so_more : (P : Bound → Type 0) (bounds : List Bound) (i : ℕ) → IsSoBef
 so_more P bounds i before here j b h there = elim (cases_lt j i) [
   | inl earlier ↦ before j b earlier there
   | inr past ↦ let same : j ≡ i = omega arith in here b (subst (λ k. slice_get bounds k ≡ Some b) same there)
+]
+
+-- P holds of the bounds at the first n + 1 of some places, where it does at the first n and at the next
+pub so_next : (P : Bound → Type 0) (bounds : List Bound) (places : List ℕ) (n d : ℕ) → n < length places → ((m : ℕ) → m < n → IsSoAt P bounds (get_or places m 0)) →
+    IsSoAt P bounds (get_or places n d) → (m : ℕ) → m < n + 1 → IsSoAt P bounds (get_or places m 0)
+so_next P bounds places n d inside done here m before = elim (cases_lt m n) [
+  | inl earlier ↦ done m earlier
+  | inr past ↦ subst (IsSoAt P bounds) (get_or_default places n d 0 inside ∙ ap (λ k. get_or places k 0) (let e : n ≡ m = omega arith in e)) here
 ]
 
 pub so_all : (P : Bound → Type 0) (bounds : List Bound) (n : ℕ) → length bounds ≤ n → IsSoBefore P bounds n → (b : Bound) → Contains bounds b → P b

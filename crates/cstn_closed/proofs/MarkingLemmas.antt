@@ -1,5 +1,5 @@
 -- Places at which bounds mark a proposition.
-use Rattle.std.proofs.Common.{ℕ, zero, suc, add-one, ◌≡◌, ◌+◌, ◌≤◌, ◌<◌, Bool, true, false, List, [], ◌∷◌, ◌++◌, Some, length, get_or, map, take, arith, inl, inr, refl, sym, subst, ap, ◌∙◌}
+use Rattle.std.proofs.Common.{ℕ, zero, suc, ◌≡◌, ◌+◌, ◌≤◌, ◌<◌, Bool, true, false, List, [], ◌∷◌, ◌++◌, Some, length, get_or, map, take, arith, inl, inr, refl, sym, subst, ap, ◌∙◌}
 use Rattle.std.specs.Prelude.{slice_get, Vec}
 use Rattle.std.specs.List.{range_with_len}
 use Rattle.std.specs.declared.alloc.Global.{Global}
@@ -12,7 +12,8 @@ use Rattle.cstn_label.specs.declared.marks.Mark.TheVariants.{Absent, Yes, No, Un
 use Rattle.cstn_label.specs.Bounds.{Bound}
 use Rattle.cstn_label.specs.Labels.{IsMarked}
 use Rattle.cstn_label.specs.Read.{the_bound}
-use Rattle.cstn_closed.specs.Marking.{is_marked, put_if, marking_from, marking, markings, items}
+use Rattle.cstn_label.specs.Marks.{is_marked}
+use Rattle.cstn_closed.specs.Marking.{put_if, marking_from, marking, markings, items}
 
 put_append : (m : Bool) (k : ℕ) (xs ys : List ℕ) → put_if m k (xs ++ ys) ≡ put_if m k xs ++ ys
 put_append true k xs ys = refl

@@ -35,6 +35,17 @@ AreWaitsCovered net bounds seen = (b : Bound) → Contains bounds b → IsWaitCo
 abbrev pub IsSoBefore : (Bound → Type 0) → List Bound → ℕ → Type 0
 IsSoBefore P bounds i = (j : ℕ) (b : Bound) → j < i → slice_get bounds j ≡ Some b → P b
 
+-- P holds of the bound at the place k
+abbrev pub IsSoAt : (Bound → Type 0) → List Bound → ℕ → Type 0
+IsSoAt P bounds k = (b : Bound) → slice_get bounds k ≡ Some b → P b
+
+-- chain derives from the constraint and the bound, or wait from the two bounds, what the list doesn't cover
+abbrev pub HasUncoveredChain : Network → List Bound → Constraint → Bound → Type 0
+HasUncoveredChain net bounds c b = (r : Bound) × IsChain net c b r × (IsCovered bounds r → ⊥)
+
+abbrev pub HasUncoveredWait : Network → List Bound → Bound → Bound → Type 0
+HasUncoveredWait net bounds seen b = (p : ℕ) × (r : Bound) × IsWait net p seen b r × (IsCovered bounds r → ⊥)
+
 -- a fault of the list, before which it has none of the same kind
 pub record IsFirstOfKind (net : Network) (bounds : List Bound) (f : Fault) : Type 0 where
   pub fault : IsFault net bounds f

@@ -1,6 +1,7 @@
 pub mod Closed
 pub mod Places
 pub mod Marking
+pub mod Minimal
 pub mod Faults
 pub mod Instances
 pub mod Answers

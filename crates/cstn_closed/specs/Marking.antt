@@ -2,15 +2,8 @@
 use Rattle.std.specs.Prelude.{ℕ, ◌+◌, Bool, true, false, List, [], ◌∷◌, map, Vec}
 use Rattle.std.specs.List.{range_with_len}
 use Rattle.std.specs.declared.alloc.Global.{Global}
-use Rattle.cstn_label.specs.declared.marks.Mark.{Mark}
-use Rattle.cstn_label.specs.declared.marks.Mark.TheVariants.{Absent, Yes, No, Unknown}
+use Rattle.cstn_label.specs.Marks.{is_marked}
 use Rattle.cstn_label.specs.Bounds.{Bound}
-
-abbrev pub is_marked : Mark → Bool
-is_marked Absent = false
-is_marked Yes = true
-is_marked No = true
-is_marked Unknown = true
 
 -- the places with k put before them, if there is a mark
 abbrev pub put_if : Bool → ℕ → List ℕ → List ℕ

@@ -29,7 +29,7 @@ impl Closed {
         for k in 0..plan.count() {
             bounds.push(plan.bound(k))?;
         }
-        Closed::new(alloc, load, bounds)
+        Ok(Closed::new(load, bounds))
     }
 }
 

@@ -11,20 +11,20 @@ ghost use Rattle.cstn_closed.specs.Answers.{IsAnswer};
 ghost use Rattle.cstn_closed.specs.Instances.{AreFit, AreBasesCovered, AreChainsCovered, AreWaitsCovered, IsFirstOfKind};
 
 use crate::answers::ClosedAnswer;
-use crate::instances::{base, is_fit, is_well_formed, uncovered_chain, uncovered_wait};
-use crate::lists::Closed;
+use crate::index::Indexed;
+use crate::instances::{base, is_fit, uncovered_chain, uncovered_wait};
 use cstn_label::NodeId;
-use cstn_net::Network;
+use cstn_net::{Network, network_is_well_formed};
 
 /// `Accepted` where the list has no fault for the network, and else the first fault. A list without fault is closed, and the
 /// network then has a strategy. The load isn't looked at, and no memory is taken.
-pub fn check(net: &Network, closed: &Closed) -> ClosedAnswer
+pub fn check(net: &Network, closed: &Indexed) -> ClosedAnswer
     ensures answer { IsAnswer (the_network net.now) (the_bounds closed.now) result }
     ensures accepted { (result ≡ ClosedAnswer.Accepted) ↔ IsFaultless (the_network net.now) (the_bounds closed.now) }
     ensures closed { result ≡ ClosedAnswer.Accepted → IsClosed (the_network net.now) (the_bounds closed.now) }
     ensures consistent { result ≡ ClosedAnswer.Accepted → IsConsistent (the_network net.now) }
 {
-    is_well_formed(net);
+    network_is_well_formed(net);
     if let Some(at) = first_bad(net, closed) {
         return ClosedAnswer::Bad { at };
     }
@@ -41,7 +41,7 @@ pub fn check(net: &Network, closed: &Closed) -> ClosedAnswer
 }
 
 // The first bound that doesn't fit the network.
-fn first_bad(net: &Network, closed: &Closed) -> Option<u32>
+fn first_bad(net: &Network, closed: &Indexed) -> Option<u32>
     ensures some { IfSome result (λ i. IsFirstOfKind (the_network net.now) (the_bounds closed.now) (bad i)) }
     ensures none { IfNone result (AreFit (the_network net.now) (the_bounds closed.now)) }
 {
@@ -54,7 +54,7 @@ fn first_bad(net: &Network, closed: &Closed) -> Option<u32>
 }
 
 // The first time-point whose base bound isn't covered.
-fn first_without_base(net: &Network, closed: &Closed) -> Option<NodeId>
+fn first_without_base(net: &Network, closed: &Indexed) -> Option<NodeId>
     ensures some { IfSome result (λ x. IsFirstOfKind (the_network net.now) (the_bounds closed.now) (no_base x.0)) }
     ensures none { IfNone result (AreBasesCovered (the_network net.now) (the_bounds closed.now)) }
 {
@@ -69,14 +69,14 @@ fn first_without_base(net: &Network, closed: &Closed) -> Option<NodeId>
 
 // For the first bound from which chain derives a bound that isn't covered: the least id of a constraint with which it does,
 // and the bound's place.
-fn first_chain(net: &Network, closed: &Closed) -> Option<(u32, u32)>
+fn first_chain(net: &Network, closed: &Indexed) -> Option<(u32, u32)>
     requires fit { AreFit (the_network net.now) (the_bounds closed.now) }
     ensures some { IfSome result (λ f. IsFirstOfKind (the_network net.now) (the_bounds closed.now) (no_chain f.0 f.1)) }
     ensures none { IfNone result ((b : TheBound) → Contains (the_bounds closed.now) b → AreChainsCovered (the_network net.now) (the_bounds closed.now) b) }
 {
-    for at in 0..closed.count() {
-        if let Some(constraint) = uncovered_chain(net, closed, at) {
-            return Some((constraint, at));
+    for at in closed.fresh() {
+        if let Some(constraint) = uncovered_chain(net, closed, *at) {
+            return Some((constraint, *at));
         }
     }
     None
@@ -84,14 +84,14 @@ fn first_chain(net: &Network, closed: &Closed) -> Option<(u32, u32)>
 
 // For the first bound from which wait derives a bound that isn't covered: its place, and the first place of a bound with which
 // it does.
-fn first_wait(net: &Network, closed: &Closed) -> Option<(u32, u32)>
+fn first_wait(net: &Network, closed: &Indexed) -> Option<(u32, u32)>
     requires fit { AreFit (the_network net.now) (the_bounds closed.now) }
     ensures some { IfSome result (λ f. IsFirstOfKind (the_network net.now) (the_bounds closed.now) (no_wait f.0 f.1)) }
     ensures none { IfNone result ((b : TheBound) → Contains (the_bounds closed.now) b → AreWaitsCovered (the_network net.now) (the_bounds closed.now) b) }
 {
-    for seen in 0..closed.count() {
-        if let Some(at) = uncovered_wait(net, closed, seen) {
-            return Some((seen, at));
+    for seen in closed.fresh() {
+        if let Some(at) = uncovered_wait(net, closed, *seen) {
+            return Some((*seen, at));
         }
     }
     None

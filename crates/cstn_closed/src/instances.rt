@@ -10,21 +10,13 @@ ghost use Rattle.cstn_rules.specs.Rules.{IsBoundOf, IsChain, IsWait, base};
 ghost use Rattle.cstn_rules.specs.Closed.{IsCovered};
 ghost use Rattle.cstn_closed.specs.Closed.{the_bounds};
 ghost use Rattle.cstn_closed.specs.Faults.{IsFit, no_chain, no_wait};
-ghost use Rattle.cstn_closed.specs.Instances.{AreFit, AreChainsCovered, AreWaitsCovered, IsChainCovered, IsWaitCovered, IsFirstThere};
+ghost use Rattle.cstn_closed.specs.Instances.{AreFit, AreChainsCovered, AreWaitsCovered, IsChainCovered, IsWaitCovered, IsFirstThere, IsSoAt, HasUncoveredChain, HasUncoveredWait};
 ghost use Rattle.cstn_closed.specs.Places.{IsNext};
 
-use crate::lists::Closed;
+use crate::index::Indexed;
 use cstn_label::{Bound, Label, NodeId, Prop};
-use cstn_net::{Constraint, Network};
+use cstn_net::{Constraint, Network, network_is_well_formed};
 use cstn_rules::{Tries, chain, refutes, wait};
-
-/// Does nothing: its contract says that every network is well formed.
-pub(crate) fn is_well_formed(net: &Network)
-    ensures { IsWellFormed (the_network net.now) }
-{
-    // The contract of `count` says it.
-    let _ = net.count();
-}
 
 /// The base bound of a time-point.
 pub(crate) fn base(x: NodeId) -> Bound
@@ -58,13 +50,13 @@ fn is_in_range(net: &Network, b: &Bound) -> bool
 
 /// The least id of a constraint from which, with the bound at the place `at`, chain derives a bound that isn't covered; none
 /// where there is no such constraint.
-pub(crate) fn uncovered_chain(net: &Network, closed: &Closed, at: u32) -> Option<u32>
+pub(crate) fn uncovered_chain(net: &Network, closed: &Indexed, at: u32) -> Option<u32>
     requires fit { AreFit (the_network net.now) (the_bounds closed.now) }
     requires place { at < length closed.now.bounds }
     ensures some { IfSome result (λ id. IsFirstThere (the_network net.now) (the_bounds closed.now) (no_chain id at)) }
-    ensures none { IfNone result ((b : TheBound) → slice_get (the_bounds closed.now) at ≡ Some b → AreChainsCovered (the_network net.now) (the_bounds closed.now) b) }
+    ensures none { IfNone result (IsSoAt (AreChainsCovered (the_network net.now) (the_bounds closed.now)) (the_bounds closed.now) at) }
 {
-    is_well_formed(net);
+    network_is_well_formed(net);
     let b = closed.bound(at);
     let mut place = first_ending(net, b.node);
     while place < constraint_count(net) {
@@ -78,11 +70,11 @@ pub(crate) fn uncovered_chain(net: &Network, closed: &Closed, at: u32) -> Option
 }
 
 // Whether the list covers what chain derives from the constraint and the bound, if anything.
-fn is_chain_covered(net: &Network, closed: &Closed, c: &Constraint, b: &Bound) -> bool
+fn is_chain_covered(net: &Network, closed: &Indexed, c: &Constraint, b: &Bound) -> bool
     requires constraint { Contains net.now.constraints c.now }
     requires bound { IsBoundOf (the_network net.now) (the_bound b.now) }
     ensures covered { IsTrue result → IsChainCovered (the_network net.now) (the_bounds closed.now) (the_constraint c.now) (the_bound b.now) }
-    ensures uncovered { result ≡ false → (r : TheBound) × IsChain (the_network net.now) (the_constraint c.now) (the_bound b.now) r × (IsCovered (the_bounds closed.now) r → ⊥) }
+    ensures uncovered { result ≡ false → HasUncoveredChain (the_network net.now) (the_bounds closed.now) (the_constraint c.now) (the_bound b.now) }
 {
     let mut tries = Tries { count: 0 };
     match chain(net, c, b, &mut tries) {
@@ -94,18 +86,19 @@ fn is_chain_covered(net: &Network, closed: &Closed, c: &Constraint, b: &Bound) -
 /// The first place of a bound from which, with the bound at the place `seen`, wait derives a bound that isn't covered; none
 /// where there is no such place. Only the bounds that mark the proposition observed at the time-point of `seen` are looked at:
 /// from the others wait derives nothing.
-pub(crate) fn uncovered_wait(net: &Network, closed: &Closed, seen: u32) -> Option<u32>
+pub(crate) fn uncovered_wait(net: &Network, closed: &Indexed, seen: u32) -> Option<u32>
     requires fit { AreFit (the_network net.now) (the_bounds closed.now) }
     requires place { seen < length closed.now.bounds }
     ensures some { IfSome result (λ at. IsFirstThere (the_network net.now) (the_bounds closed.now) (no_wait seen at)) }
-    ensures none { IfNone result ((b : TheBound) → slice_get (the_bounds closed.now) seen ≡ Some b → AreWaitsCovered (the_network net.now) (the_bounds closed.now) b) }
+    ensures none { IfNone result (IsSoAt (AreWaitsCovered (the_network net.now) (the_bounds closed.now)) (the_bounds closed.now) seen) }
 {
     let first = closed.bound(seen);
     let Some(p) = observed(net, &first) else {
         return None;
     };
+    let mut hint = 0;
     for at in closed.marking(p) {
-        if !is_wait_covered(net, closed, &first, &closed.bound(*at)) {
+        if !is_wait_covered(net, closed, &first, &closed.bound(*at), &mut hint) {
             return Some(*at);
         }
     }
@@ -121,17 +114,24 @@ fn observed(net: &Network, b: &Bound) -> Option<Prop>
     net.observes(b.node)
 }
 
-// Whether the list covers what wait derives from the bound `seen`, at an observer, and the bound b, if anything.
-fn is_wait_covered(net: &Network, closed: &Closed, seen: &Bound, b: &Bound) -> bool
+// Whether the list covers what wait derives from the bound `seen`, at an observer, and the bound b, if anything. The bound that
+// `hint` tells is tried first.
+fn is_wait_covered(
+    net: &Network,
+    closed: &Indexed,
+    seen: &Bound,
+    b: &Bound,
+    hint: &mut usize,
+) -> bool
     requires seen { IsBoundOf (the_network net.now) (the_bound seen.now) }
     requires bound { IsBoundOf (the_network net.now) (the_bound b.now) }
     ensures covered { IsTrue result → IsWaitCovered (the_network net.now) (the_bounds closed.now) (the_bound seen.now) (the_bound b.now) }
-    ensures uncovered { result ≡ false → (p : ℕ) × (r : TheBound) × IsWait (the_network net.now) p (the_bound seen.now) (the_bound b.now) r × (IsCovered (the_bounds closed.now) r → ⊥) }
+    ensures uncovered { result ≡ false → HasUncoveredWait (the_network net.now) (the_bounds closed.now) (the_bound seen.now) (the_bound b.now) }
 {
     let mut tries = Tries { count: 0 };
     match wait(net, seen, b, &mut tries) {
         None => true,
-        Some(r) => closed.covers(&r),
+        Some(r) => closed.covers_near(&r, hint),
     }
 }
 

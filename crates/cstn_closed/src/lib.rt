@@ -5,12 +5,13 @@ mod adopting;
 mod answers;
 mod checks;
 mod errors;
+mod index;
 mod instances;
 mod laws;
 mod limits;
 mod lists;
 mod marks;
-mod places;
+mod minimal;
 mod printing;
 mod reading;
 
@@ -18,6 +19,7 @@ pub use adopting::adopt;
 pub use answers::ClosedAnswer;
 pub use checks::check;
 pub use errors::ClosedError;
+pub use index::Indexed;
 pub use laws::{
     closed_lists_are_accepted, closed_texts_are_read_back, closed_texts_are_the_shown_ones,
 };

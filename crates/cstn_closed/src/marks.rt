@@ -1,7 +1,8 @@
 // The bounds of a list by the propositions that they mark.
 ghost use Rattle.std.specs.Prelude.{◌≡◌, ◌<◌, ◌^◌, length, map, IfOk};
 ghost use Rattle.cstn_label.specs.Read.{the_bound, marks};
-ghost use Rattle.cstn_closed.specs.Marking.{is_marked, items, marking, markings};
+ghost use Rattle.cstn_label.specs.Marks.{is_marked};
+ghost use Rattle.cstn_closed.specs.Marking.{items, marking, markings};
 
 use cstn_label::{Bound, Mark, Prop};
 use std::alloc::{AllocError, Global};

@@ -85,7 +85,7 @@ fn read_bounds(alloc: Global, names: &Names, load: u32, bytes: &[u8]) -> Result<
             Err(e) => return Err(e),
         }
     }
-    finish(alloc, load, bounds, left)
+    finish(load, bounds, left)
 }
 
 // The bound at the place k, read from its line, or `Line` with the number of the line where that isn't of the form.
@@ -147,7 +147,7 @@ fn read_bound(node: NodeId, bytes: &[u8]) -> Option<Bound>
 }
 
 // The list of the load and the bounds, or `Line` with the cut line where the text doesn't end with LF.
-fn finish(alloc: Global, load: u32, bounds: Vec<Bound>, left: &[u8]) -> Result<Closed, ClosedError>
+fn finish(load: u32, bounds: Vec<Bound>, left: &[u8]) -> Result<Closed, ClosedError>
     requires few { length bounds.items ≤ 4194304 }
     ensures accepted { IfOk result (λ c. at_end load (map the_bound bounds.items) left.now ≡ at_end c.load (the_bounds c) []) }
     ensures line { IfErr result (IsWrong (at_end load (map the_bound bounds.items) left.now)) }
@@ -156,8 +156,5 @@ fn finish(alloc: Global, load: u32, bounds: Vec<Bound>, left: &[u8]) -> Result<C
         let line = bounds.len() as u32 + 2;
         return Err(ClosedError::Line { line });
     }
-    match Closed::new(alloc, load, bounds) {
-        Ok(closed) => Ok(closed),
-        Err(e) => Err(ClosedError::Memory(e)),
-    }
+    Ok(Closed::new(load, bounds))
 }

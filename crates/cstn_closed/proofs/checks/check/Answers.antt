@@ -64,4 +64,4 @@ pub returns-in-None-clause-consistent : goal.returns-in-None-clause-consistent
 returns-in-None-clause-consistent c e =
     let net = the_network c.args.net.now in
     let bounds = the_bounds c.args.closed.now in
-    (asked net bounds, asked_strategy net bounds c.is_well_formed.ensures.network (returns-in-None-clause-closed c e))
+    (asked net bounds, asked_strategy net bounds c.network_is_well_formed.ensures.network (returns-in-None-clause-closed c e))

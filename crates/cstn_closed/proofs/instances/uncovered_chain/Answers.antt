@@ -32,7 +32,7 @@ returns-then-not-is_chain_covered-clause-some c =
     let net = c.args.net.now in
     let bounds = the_bounds c.args.closed.now in
     let b = the_bound c.bound-b.result in
-    first_chained net bounds b c.args.at c.loop-place.place c.constraint_at-c.result.now c.is_well_formed.ensures c.loop-place.invariant
+    first_chained net bounds b c.args.at c.loop-place.place c.constraint_at-c.result.now c.network_is_well_formed.ensures c.loop-place.invariant
     (image_there c.args.closed.now.bounds c.args.at c.bound-b.result c.bound-b.ensures.bound) c.constraint_at-c.ensures.at
     (c.is_chain_covered.ensures.uncovered c.if-not-is_chain_covered.true)
 

@@ -3,8 +3,8 @@ use Rattle.cstn_label.specs.Read.{the_bound}
 use Rattle.cstn_net.specs.Read.{the_network}
 use Rattle.cstn_closed.specs.Closed.{the_bounds}
 use Rattle.cstn_closed.specs.Instances.{AreWaitsCovered, IsWaitCovered}
-use Rattle.cstn_closed.proofs.InstanceLemmas.{none_observed, place_read, waits_more, first_marked, all_marked}
-use Rattle.cstn_closed.proofs.ListLemmas.{fit_here, image_there, so_here}
+use Rattle.cstn_closed.proofs.InstanceLemmas.{none_observed, place_read, first_marked, all_marked}
+use Rattle.cstn_closed.proofs.ListLemmas.{fit_here, image_there, so_here, so_next}
 use Rattle.cstn_closed.proofs.instances.uncovered_wait.Goals as goal
 
 pub observed-requires : goal.observed-requires
@@ -46,7 +46,7 @@ loop-at-preserved c =
     let net = the_network c.args.net.now in
     let bounds = the_bounds c.args.closed.now in
     let first = the_bound c.bound-first.result in
-    waits_more net bounds first c.marking-at-items.result.now c.loop-at.at-index _ c.loop-at-test.true c.loop-at.invariant
+    so_next (IsWaitCovered net bounds first) bounds c.marking-at-items.result.now c.loop-at.at-index _ c.loop-at-test.true c.loop-at.invariant
     (so_here (IsWaitCovered net bounds first) c.args.closed.now.bounds _ c.bound.result c.bound.ensures.bound
     (c.is_wait_covered.ensures.covered c.if-not-is_wait_covered.false))
 

@@ -1,6 +1,5 @@
 use Rattle.std.proofs.Common.{◌≡◌, List, map, arith, subst, ◌++◌, ◌∷◌, [], take, sym, ap, ◌∙◌}
 use Rattle.std.proofs.Math.Seq.{take_all}
-use Rattle.std.proofs.lemmas.Result.{IfOk-weaker}
 use Rattle.cstn_label.specs.declared.bounds.Bound.{Bound}
 use Rattle.cstn_label.specs.Read.{the_bound}
 use Rattle.cstn_net.specs.Read.{the_network}
@@ -31,6 +30,4 @@ returns-clause-accepted c range =
     let none = closed_faultless net (map the_bound bounds) c.is_closed.ensures.closed range in
     let all : c.loop-k.bounds.items ≡ bounds = c.loop-k.invariant.taken
     ∙ take_all c.loop-k.k bounds (omega (arith, c.loop-k-test.false, c.count-k-end.ensures.count)) in
-    IfOk-weaker c.new.result (λ r. r ≡ record { load = c.args.load; bounds = c.loop-k.bounds.items }) (λ r. IsFaultless net (the_bounds r))
-    (λ r is. subst (λ v. IsFaultless net (the_bounds v)) (sym is) (subst (λ (bs : List Bound). IsFaultless net (map the_bound bs)) (sym all) none))
-    c.new.ensures.new
+    subst (λ v. IsFaultless net (the_bounds v)) (sym c.new.ensures.new) (subst (λ (bs : List Bound). IsFaultless net (map the_bound bs)) (sym all) none)

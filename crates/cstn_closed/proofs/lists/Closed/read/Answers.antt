@@ -1,8 +1,6 @@
 use Rattle.std.proofs.Common.{◌≡◌, ◌∙◌, length, sym, subst, ap, arith}
-use Rattle.std.specs.Prelude.{IfErr}
 use Rattle.cstn_closed.specs.Closed.{the_bounds}
 use Rattle.cstn_closed.specs.Read.{IsWrong}
-use Rattle.cstn_closed.specs.Texts.{told, tells}
 use Rattle.cstn_closed.proofs.LineLemmas.{told_first, first_wrong, none_wrong, ended_none, ended_some}
 use Rattle.cstn_closed.proofs.PrintLemmas.{are_named, fits_text}
 use Rattle.cstn_closed.proofs.SaidLemmas.{text_said}

@@ -3,7 +3,7 @@ use Rattle.std.proofs.lemmas.List.Elements.{All-more, All-weaker}
 use Rattle.std.proofs.Math.Seq.{take_all}
 use Rattle.std.specs.List.{All}
 use Rattle.cstn_label.specs.declared.bounds.Bound.{Bound}
-use Rattle.cstn_closed.proofs.places.width.Goals as goal
+use Rattle.cstn_closed.proofs.index.width.Goals as goal
 
 pub loop-b-preserved : goal.loop-b-preserved
 loop-b-preserved c =

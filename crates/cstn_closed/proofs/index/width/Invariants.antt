@@ -1,6 +1,6 @@
 use Rattle.std.proofs.Common.{◌<◌, ◌≤◌, take}
 use Rattle.std.specs.List.{All}
-use Rattle.cstn_closed.proofs.places.width.Given as goal
+use Rattle.cstn_closed.proofs.index.width.Given as goal
 
 abbrev pub invariant-loop-b : goal.invariant-loop-b
 invariant-loop-b l = record {
