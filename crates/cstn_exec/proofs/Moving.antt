@@ -10,7 +10,7 @@ use Rattle.cstn_net.specs.Strategies.{Table, IsLeast}
 use Rattle.cstn_net.proofs.Dynamic.{one_least}
 use Rattle.cstn_net.proofs.Knowledge.{observer_within}
 use Rattle.cstn_log.specs.Plans.{IsEarliest}
-use Rattle.cstn_exec.specs.Runs.{Run, start, next, executed_at, outcome_of, observed_at, is_awaited, earliest, is_free, named}
+use Rattle.cstn_exec.specs.Runs.{Run, start, next, executed_at, outcome_of, observed_at, is_awaited, earliest, is_free, called}
 use Rattle.cstn_exec.specs.Moves.{executed, moved, handed}
 use Rattle.cstn_exec.specs.Right.{AgreesKnown, IsRight, IsCalled}
 use Rattle.cstn_exec.proofs.Knowing.{Ready, some_within, known_from, known_to, awaited_from, awaited_to, observed_where, observed_from}
@@ -160,7 +160,7 @@ module _ (net : Network) (bounds : List Bound) (table : Table) (wf : IsWellForme
 
   pub moved_right : IsRight net (moved net bounds run t)
   moved_right = record {
-    moments = executed_size t (named net bounds run t) run.moments ∙ right.moments;
+    moments = executed_size t (called net bounds run t) run.moments ∙ right.moments;
     outcomes = right.outcomes;
     seen = λ p v e.
         let old = right.seen p v e in
@@ -171,16 +171,16 @@ module _ (net : Network) (bounds : List Bound) (table : Table) (wf : IsWellForme
         none p (awaited_to net wf.network run (t + 1) p (ready_before p from.0) from.1);
     early = λ x m e.
         let size = right.moments in
-        let size_new = executed_size t (named net bounds run t) run.moments in
-        let inside = some_within (executed t (named net bounds run t) run.moments) x m e in
+        let size_new = executed_size t (called net bounds run t) run.moments in
+        let inside = some_within (executed t (called net bounds run t) run.moments) x m e in
         elim (was x m (omega arith) e) [
           | inl before ↦ let soon = right.early x m before in omega arith
           | inr now ↦ let at = now.2 in omega arith
         ];
     executed = λ s x m agrees e.
         let size = right.moments in
-        let size_new = executed_size t (named net bounds run t) run.moments in
-        let inside = some_within (executed t (named net bounds run t) run.moments) x m e in
+        let size_new = executed_size t (called net bounds run t) run.moments in
+        let inside = some_within (executed t (called net bounds run t) run.moments) x m e in
         let here : x < count net = omega arith in
         let agrees_t = agrees_then s agrees in
         elim (was x m here e) [

@@ -1,4 +1,4 @@
--- The numbers of a range that pass a test, the moments once these are executed, and which time-points are named.
+-- The numbers of a range that pass a test, the moments once these are executed, and which time-points are called.
 use Rattle.std.proofs.Common.{ℕ, zero, suc, ◌≡◌, ◌≢◌, inl, inr, ◌+◌, ◌<◌, ◌≤◌, Bool, true, false, List, [], ◌∷◌, Option, Some, None, length, map, take, cond, ◌++◌, ◌&&◌, not, arith, refl, sym, subst, ap, ◌∙◌, get_or-set_other, get_or-set_same}
 use Rattle.std.specs.Prelude.{is_none, nat_lt, slice_index_or, slice_set}
 use Rattle.std.specs.List.{All, Contains, filter, range_with_len}
@@ -11,7 +11,7 @@ use Rattle.std.proofs.lemmas.List.Kept.{IsStrictlyIncreasing-filter}
 use Rattle.cstn_label.specs.declared.nodes.NodeId.{NodeId}
 use Rattle.cstn_label.specs.Bounds.{Bound}
 use Rattle.cstn_net.specs.Networks.{Network, count}
-use Rattle.cstn_exec.specs.Runs.{Run, executed_at, AreAskedAt, is_free, is_free_by, named}
+use Rattle.cstn_exec.specs.Runs.{Run, executed_at, AreAskedAt, is_free, is_free_by, called}
 use Rattle.cstn_exec.specs.Moves.{executed}
 
 abbrev pub passing : (ℕ → Bool) → ℕ → ℕ → List ℕ
@@ -150,13 +150,13 @@ executed_more t xs i d ms inside =
     ap (λ l. executed t l ms) (ap (map (λ x. x.0)) (take_more xs i d inside) ∙ map-append (λ x. x.0) (take i xs) (slice_index_or xs i d ∷ []))
     ∙ executed_push t (map (λ x. x.0) (take i xs)) (slice_index_or xs i d).0 ms
 
--- ---- which time-points are named
+-- ---- which time-points are called
 
--- the named time-points are those that are free by the moments that the bounds ask for
-pub named_by : (net : Network) (bounds : List Bound) (run : Run) (t : ℕ) (after : List ℕ) → count net ≤ 1024 → length run.moments ≡ count net →
+-- the called time-points are those that are free by the moments that the bounds ask for
+pub called_by : (net : Network) (bounds : List Bound) (run : Run) (t : ℕ) (after : List ℕ) → count net ≤ 1024 → length run.moments ≡ count net →
     AreAskedAt net bounds run t after →
-    filter (is_free_by run.moments after t) (range_with_len 0 (length run.moments)) ≡ named net bounds run t
-named_by net bounds run t after few size same =
+    filter (is_free_by run.moments after t) (range_with_len 0 (length run.moments)) ≡ called net bounds run t
+called_by net bounds run t after few size same =
     ap (λ n. filter (is_free_by run.moments after t) (range_with_len 0 n)) size
     ∙ filter_same (is_free_by run.moments after t) (is_free net bounds run t) 0 (count net)
     (λ x from inside. ap (λ m. is_none (executed_at run x) && not (nat_lt t m)) (same x (omega arith)))

@@ -1,4 +1,4 @@
--- What refusals tell, and which time-points are named.
+-- What refusals tell, and which time-points are called.
 use Rattle.std.proofs.Common.{ℕ, ◌≡◌, inl, inr, ◌+◌, ◌<◌, ◌≤◌, Bool, List, [], Some, None, arith, subst}
 use Rattle.std.specs.Prelude.{◌↔◌, is_some}
 use Rattle.std.specs.List.{Contains, list_any, range_with_len}
@@ -8,7 +8,7 @@ use Rattle.cstn_label.specs.Bounds.{Bound}
 use Rattle.cstn_net.specs.Networks.{Network, IsWellFormed, count}
 use Rattle.cstn_net.specs.Strategies.{Table}
 use Rattle.cstn_log.specs.Plans.{IsEarliest}
-use Rattle.cstn_exec.specs.Runs.{Run, observed_at, outcome_of, awaited, is_free, named, due}
+use Rattle.cstn_exec.specs.Runs.{Run, observed_at, outcome_of, awaited, is_free, called, due}
 use Rattle.cstn_exec.specs.Moves.{Done, Past, Late, Awaiting, moment_refusal, outcome_refusal, unless_unseen, unless_known, handed}
 use Rattle.cstn_exec.specs.Right.{IsRight, IsCalled, IsDue, IsDone, IsBetween, IsFirstAwaited}
 use Rattle.cstn_exec.proofs.Options.{cases_option, is_some-false}
@@ -39,25 +39,25 @@ seen_right net run p wf right ok letter v = elim (cases_option (observed_at net 
       ]
 ]
 
--- ---- which time-points are named
+-- ---- which time-points are called
 
-pub named_called : (net : Network) (bounds : List Bound) (table : Table) (run : Run) (t : ℕ) → IsWellFormed net → IsEarliest net bounds table →
-    IsRight net run → moment_refusal net bounds run t ≡ None → (x : ℕ) → Contains (named net bounds run t) x ↔ IsCalled net run t x
-named_called net bounds table run t wf plan right none x =
+pub called_exactly : (net : Network) (bounds : List Bound) (table : Table) (run : Run) (t : ℕ) → IsWellFormed net → IsEarliest net bounds table →
+    IsRight net run → moment_refusal net bounds run t ≡ None → (x : ℕ) → Contains (called net bounds run t) x ↔ IsCalled net run t x
+called_exactly net bounds table run t wf plan right none x =
     let ok = judged net bounds run t None none in
     let quiet = (accepted_quiet net bounds table wf plan run right t ok).0 in
     let nobody = awaits_none net bounds run wf (t + 1) ok.none_awaited in (
       (λ has.
           let in_range = from_passing (is_free net bounds run t) 0 (count net) x has in
           free_called net bounds table wf plan run right t ok.from quiet nobody x (let upto = in_range.1 in omega arith) in_range.2),
-      (λ called.
-          let here = called.inside in
+      (λ is.
+          let here = is.inside in
           in_passing (is_free net bounds run t) 0 (count net) x (omega arith) (omega arith)
-          (called_free net bounds table wf plan run right t ok.from quiet nobody (seen_scenario run) (seen_agrees net wf run (t + 1)) x called)),
+          (called_free net bounds table wf plan run right t ok.from quiet nobody (seen_scenario run) (seen_agrees net wf run (t + 1)) x is)),
     )
 
-pub named_ascend : (net : Network) (bounds : List Bound) (run : Run) (t : ℕ) → IsStrictlyIncreasing (named net bounds run t)
-named_ascend net bounds run t = passing_ascends (is_free net bounds run t) 0 (count net)
+pub called_ascend : (net : Network) (bounds : List Bound) (run : Run) (t : ℕ) → IsStrictlyIncreasing (called net bounds run t)
+called_ascend net bounds run t = passing_ascends (is_free net bounds run t) 0 (count net)
 
 -- ---- moments
 
@@ -86,7 +86,7 @@ refused_late net bounds table run t u wf plan right e =
 -- ---- before the due moment
 
 pub accepted_before : (net : Network) (bounds : List Bound) (table : Table) (run : Run) (t u : ℕ) → IsWellFormed net → IsEarliest net bounds table →
-    IsRight net run → due net bounds run ≡ Some t → IsBetween run u t → (moment_refusal net bounds run u ≡ None) × (named net bounds run u ≡ [])
+    IsRight net run → due net bounds run ≡ Some t → IsBetween run u t → (moment_refusal net bounds run u ≡ None) × (called net bounds run u ≡ [])
 accepted_before net bounds table run t u wf plan right e between =
     let first = due_first net bounds table wf plan run right t e in
     let idle = or_parts (is_some (awaited net run (u + 1))) (list_any (is_free net bounds run u) (range_with_len 0 (count net)))

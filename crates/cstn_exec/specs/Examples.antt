@@ -1,57 +1,12 @@
 -- Small plans, and what is answered while they are carried out. The propositions 0 and 1 are called p and q here.
-use Rattle.std.specs.Prelude.{ℕ, zero, suc, Bool, true, false, List, [], ◌∷◌, Option, Some, None, length, pos}
+use Rattle.std.specs.Prelude.{ℕ, zero, suc, true, false, List, [], ◌∷◌, Option, Some, None, pos}
 use Rattle.cstn_label.specs.declared.marks.Mark.{Mark}
 use Rattle.cstn_label.specs.declared.marks.Mark.TheVariants.{Absent, Yes, No}
 use Rattle.cstn_label.specs.Labels.{Label, empty}
 use Rattle.cstn_label.specs.Bounds.{Bound}
 use Rattle.cstn_net.specs.Networks.{Network}
-use Rattle.cstn_exec.specs.Runs.{Run, start, due, named}
-use Rattle.cstn_exec.specs.Moves.{Refusal, Done, Past, Late, Awaiting, NotExecuted, Known, moment_refusal, moved, outcome_refusal, handed}
-
--- an event: a moment, an outcome, or the question for the due moment
-pub data Event : Type 0 where
-  Moment : (t : ℕ) → Event
-  See : (p : ℕ) → (v : Bool) → Event
-  AskDue : Event
-
--- the answer to an event: the time-points that are named, that the outcome is kept, why the event is refused, or the due
--- moment
-pub data Answer : Type 0 where
-  Names : (xs : List ℕ) → Answer
-  Kept : Answer
-  Refused : (why : Refusal) → Answer
-  DueAt : (t : Option ℕ) → Answer
-
-abbrev pub moment_answer : Network → List Bound → Run → ℕ → Option Refusal → Answer
-moment_answer net bounds run t None = Names (named net bounds run t)
-moment_answer net bounds run t (Some why) = Refused why
-
-abbrev pub run_unless : Run → Run → Option Refusal → Run
-run_unless run other None = other
-run_unless run other (Some why) = run
-
-abbrev pub see_answer : Option Refusal → Answer
-see_answer None = Kept
-see_answer (Some why) = Refused why
-
-abbrev pub answer_to : Network → List Bound → Run → Event → Answer
-answer_to net bounds run (Moment t) = moment_answer net bounds run t (moment_refusal net bounds run t)
-answer_to net bounds run (See p v) = see_answer (outcome_refusal net run p)
-answer_to net bounds run AskDue = DueAt (due net bounds run)
-
-abbrev pub run_after : Network → List Bound → Run → Event → Run
-run_after net bounds run (Moment t) = run_unless run (moved net bounds run t) (moment_refusal net bounds run t)
-run_after net bounds run (See p v) = run_unless run (handed run p v) (outcome_refusal net run p)
-run_after net bounds run AskDue = run
-
--- the answers to events in their order
-abbrev pub answers_from : Network → List Bound → List Event → Run → List Answer
-answers_from net bounds [] run = []
-answers_from net bounds (e ∷ es) run = answer_to net bounds run e ∷ answers_from net bounds es (run_after net bounds run e)
-
--- the answers to events from the start on
-abbrev pub answers : Network → List Bound → List Event → List Answer
-answers net bounds events = answers_from net bounds events (start (length net.observes))
+use Rattle.cstn_exec.specs.Moves.{Done, Past, Late, Awaiting, NotExecuted, Known}
+use Rattle.cstn_exec.specs.Answers.{Event, Moment, See, AskDue, Answer, Names, Kept, Refused, DueAt}
 
 -- the label with this mark on p, and no other
 abbrev pub only : Mark → Label

@@ -2,7 +2,7 @@
 use Rattle.std.specs.Prelude.{ℕ, ◌+◌, Bool, nat_lt, List, [], ◌∷◌, Option, Some, None, slice_set, if◌then◌else◌}
 use Rattle.cstn_label.specs.Bounds.{Bound}
 use Rattle.cstn_net.specs.Networks.{Network}
-use Rattle.cstn_exec.specs.Runs.{Run, is_done, observed_at, outcome_of, awaited, named, due}
+use Rattle.cstn_exec.specs.Runs.{Run, is_done, observed_at, outcome_of, awaited, called, due}
 
 -- why a moment or an outcome is refused
 pub data Refusal : Type 0 where
@@ -41,7 +41,7 @@ executed t (x ∷ xs) moments = executed t xs (slice_set moments x (Some t))
 abbrev pub moved : Network → List Bound → Run → ℕ → Run
 moved net bounds run t = record {
   now = Some t;
-  moments = executed t (named net bounds run t) run.moments;
+  moments = executed t (called net bounds run t) run.moments;
   outcomes = run.outcomes;
 }
 

@@ -1,16 +1,14 @@
 -- How the values of the program are read.
-use Rattle.std.specs.Prelude.{ℕ, ◌+◌, ◌≤◌, Bool, if◌then◌else◌, List, Option, Some, None, Result, Ok, Err}
+use Rattle.std.specs.Prelude.{ℕ, ◌+◌, ◌≤◌, Bool, List, Option, Some, None, Result, Ok, Err}
 use Rattle.cstn_label.specs.declared.bounds.Bound.{Bound}
-use Rattle.cstn_label.specs.declared.knowledge.Known.{Known}
-use Rattle.cstn_label.specs.Read.{the_values}
-use Rattle.cstn_label.specs.Words.{has_bit}
-use Rattle.cstn_net.specs.Read.{NetworkParts}
+use Rattle.cstn_net.specs.Read.{NetworkParts, the_network}
+use Rattle.cstn_log.specs.Plans.{the_bounds}
 use Rattle.cstn_exec.specs.declared.errors.ExecError.{ExecError}
 use Rattle.cstn_exec.specs.declared.errors.ExecError.TheVariants.{Past, Late, Awaiting, NotExecuted, Known as AlreadyKnown, Done}
 use Rattle.cstn_net.specs.Networks.{Network, count}
-use Rattle.cstn_exec.specs.Runs.{Run, next}
+use Rattle.cstn_exec.specs.Runs.{Run, next, called}
 use Rattle.cstn_exec.specs.Right.{IsRight}
-use Rattle.cstn_exec.specs.Moves.{Refusal, Done as AllDone, Past as PastNow, Late as PastDue, Awaiting as StillAwaiting, NotExecuted as NotObserved, Known as KnownAlready}
+use Rattle.cstn_exec.specs.Moves.{Refusal, moved, Done as AllDone, Past as PastNow, Late as PastDue, Awaiting as StillAwaiting, NotExecuted as NotObserved, Known as KnownAlready}
 
 -- what contracts see of an executive: the network and the bounds of its plan, its run, and the time-points that were named at
 -- the last accepted moment
@@ -20,9 +18,16 @@ pub record ExecParts : Type 0 where
   pub run : Run
   pub named : List ℕ
 
--- the value of p, where it is known
-abbrev pub value_in : Known → ℕ → Option Bool
-value_in k p = if has_bit k.seen p then Some (the_values k p) else None
+-- the run of an executive with these parts
+abbrev pub run_of : Option ℕ → List (Option ℕ) → List (Option Bool) → Run
+run_of now moments outcomes = record { now = now; moments = moments; outcomes = outcomes }
+
+-- the executive after the accepted moment t
+abbrev pub moved_on : ExecParts → ℕ → ExecParts
+moved_on e t = record e {
+  run = moved (the_network e.net) (the_bounds e.bounds) e.run t;
+  named = called (the_network e.net) (the_bounds e.bounds) e.run t;
+}
 
 -- what an error tells
 abbrev pub the_refusal : ExecError → Refusal

@@ -1,10 +1,18 @@
 -- When the state of a run is right, and when a moment is due.
-use Rattle.std.specs.Prelude.{ℕ, ◌≡◌, ◌+◌, ◌<◌, ◌≤◌, ◌⊎◌, Bool, true, Some, None, length, pos, ◌-ℤ◌, ◌≤ℤ◌}
+use Rattle.std.specs.Prelude.{ℕ, ◌≡◌, ◌+◌, ◌<◌, ◌≤◌, ◌⊎◌, Bool, true, List, Some, None, length, pos, ◌-ℤ◌, ◌≤ℤ◌}
 use Rattle.std.specs.List.{Contains}
 use Rattle.cstn_label.specs.Labels.{Scenario, Holds}
-use Rattle.cstn_net.specs.Networks.{Network, Constraint, count}
+use Rattle.cstn_label.specs.Bounds.{Bound}
+use Rattle.cstn_net.specs.Networks.{Network, Constraint, IsWellFormed, count}
 use Rattle.cstn_net.specs.Strategies.{Table, IsStrategy, IsLeast}
+use Rattle.cstn_log.specs.Plans.{IsEarliest}
 use Rattle.cstn_exec.specs.Runs.{Run, next, executed_at, outcome_of, observed_at, known, is_awaited}
+
+-- the bounds are those of a plan of a network that has a strategy: they ask for the least moments
+pub record IsPlan (net : Network) (bounds : List Bound) : Type 0 where
+  pub well_formed : IsWellFormed net
+  pub table : Table
+  pub earliest : IsEarliest net bounds table
 
 -- the scenario agrees with what is known before u
 abbrev pub AgreesKnown : Network → Run → ℕ → Scenario → Type 0

@@ -5,8 +5,7 @@ use Rattle.std.specs.Option.{option_and_then, option_map}
 use Rattle.cstn_label.specs.declared.marks.Mark.{Mark}
 use Rattle.cstn_label.specs.Labels.{Label}
 use Rattle.cstn_label.specs.Bounds.{Bound}
-use Rattle.cstn_net.specs.Networks.{Network, count}
-use Rattle.cstn_net.specs.Read.{is_prop}
+use Rattle.cstn_net.specs.Networks.{Network, count, is_prop}
 use Rattle.cstn_log.specs.Asked.{fits, greatest}
 
 -- the state of a run: the last accepted moment, if any, the moment of each time-point that was executed, and the outcome of
@@ -100,9 +99,9 @@ is_free net bounds run t x = is_none (executed_at run x) && not (nat_lt t (earli
 abbrev pub is_free_by : List (Option ℕ) → List ℕ → ℕ → ℕ → Bool
 is_free_by moments after t x = is_none (slice_index_or moments x None) && not (nat_lt t (slice_index after x))
 
--- the time-points to be executed at t, in ascending number
-abbrev pub named : Network → List Bound → Run → ℕ → List ℕ
-named net bounds run t = filter (is_free net bounds run t) (range_with_len 0 (count net))
+-- the time-points that are called at t, in ascending number: those to be executed then
+abbrev pub called : Network → List Bound → Run → ℕ → List ℕ
+called net bounds run t = filter (is_free net bounds run t) (range_with_len 0 (count net))
 
 -- at t a proposition is awaited, or a time-point is to be executed
 abbrev pub has_work : Network → List Bound → Run → ℕ → Bool

@@ -6,10 +6,10 @@ ghost use Rattle.cstn_net.specs.Networks.{IsWellFormed, count};
 ghost use Rattle.cstn_net.specs.Strategies.{Table};
 ghost use Rattle.cstn_net.specs.Read.{the_network};
 ghost use Rattle.cstn_log.specs.Plans.{IsEarliest, the_bounds};
-ghost use Rattle.cstn_exec.specs.Runs.{start, due, named};
-ghost use Rattle.cstn_exec.specs.Moves.{moment_refusal, moved, outcome_refusal, handed};
+ghost use Rattle.cstn_exec.specs.Runs.{start, due};
+ghost use Rattle.cstn_exec.specs.Moves.{moment_refusal, outcome_refusal, handed};
 ghost use Rattle.cstn_exec.specs.Right.{IsRight, IsCalled, IsDue, IsDone, IsFulfilled};
-ghost use Rattle.cstn_exec.specs.Read.{refusal_of, the_refusal};
+ghost use Rattle.cstn_exec.specs.Read.{moved_on, refusal_of, the_refusal};
 
 mod accepting;
 mod asked;
@@ -44,13 +44,13 @@ pub struct Executive {
 impl Model for Executive {
     ghost use Rattle.std.specs.Prelude.{map};
     ghost use Rattle.cstn_net.specs.Read.{the_network};
-    ghost use Rattle.cstn_exec.specs.Read.{ExecParts, IsExecutive};
+    ghost use Rattle.cstn_exec.specs.Read.{ExecParts, run_of, IsExecutive};
 
     ghost Value = { ExecParts };
 
-    ghost view = { λ e. record { net = e.plan.net; bounds = e.plan.bounds; run = record { now = e.last; moments = e.moments.items; outcomes = e.outcomes }; named = map (λ x. x.0) e.named.items } };
+    ghost view = { λ e. record { net = e.plan.net; bounds = e.plan.bounds; run = run_of e.last e.moments.items e.outcomes; named = map (λ x. x.0) e.named.items } };
 
-    ghost invariant = { λ e. IsExecutive (the_network e.plan.net) (record { now = e.last; moments = e.moments.items; outcomes = e.outcomes }) e.named.capacity };
+    ghost invariant = { λ e. IsExecutive (the_network e.plan.net) (run_of e.last e.moments.items e.outcomes) e.named.capacity };
 }
 
 impl Executive {
@@ -134,7 +134,7 @@ impl Executive {
     /// bounds as `due`.
     pub fn moment(&mut self, t: u32) -> Result<(), ExecError>
         ensures refused { refusal_of result ≡ moment_refusal (the_network self.old.net) (the_bounds self.old.bounds) self.old.run t }
-        ensures moved { OnOk result (self.new ≡ record self.old { run = moved (the_network self.old.net) (the_bounds self.old.bounds) self.old.run t; named = named (the_network self.old.net) (the_bounds self.old.bounds) self.old.run t }) }
+        ensures moved { OnOk result (self.new ≡ moved_on self.old t) }
         ensures same { OnErr result (self.new ≡ self.old) }
 
         ensures named { OnOk result ((x : ℕ) → Contains self.new.named x ↔ IsCalled (the_network self.old.net) self.old.run t x) }

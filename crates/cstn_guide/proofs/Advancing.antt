@@ -12,7 +12,7 @@ use Rattle.cstn_lift.specs.Labelled.{Labelled}
 use Rattle.cstn_lift.specs.Completion.{completed_label}
 use Rattle.cstn_lift.specs.WellFormed.{IsLabelled}
 use Rattle.cstn_lift.specs.Lowered.{lowered}
-use Rattle.cstn_exec.specs.Runs.{Run, start, executed_at, outcome_of, observed_at, known, named}
+use Rattle.cstn_exec.specs.Runs.{Run, start, executed_at, outcome_of, observed_at, known, called}
 use Rattle.cstn_exec.specs.Moves.{moment_refusal, moved, handed, outcome_refusal, NotExecuted, unless_unseen, unless_known}
 use Rattle.cstn_exec.specs.Right.{IsRight}
 use Rattle.cstn_exec.proofs.Options.{cases_option, some_or_none}
@@ -20,12 +20,12 @@ use Rattle.cstn_exec.proofs.Filled.{default_of}
 use Rattle.cstn_exec.proofs.Knowing.{some_within, known_from, known_to}
 use Rattle.cstn_exec.proofs.Moving.{start_right}
 use Rattle.cstn_exec.proofs.Dues.{accepted_right}
-use Rattle.cstn_exec.proofs.Refusals.{seen_right, named_ascend}
+use Rattle.cstn_exec.proofs.Refusals.{seen_right, called_ascend}
 use Rattle.cstn_guide.specs.Guides.{Guided, begun, is_left, holds_at, left_out, advanced, is_denied, see_refusal, noted}
 use Rattle.cstn_guide.specs.Sound.{HoldsBy, IsRuledOut, IsGuided}
 use Rattle.cstn_guide.specs.Read.{AreFresh}
 use Rattle.cstn_guide.proofs.Holding.{holds_is, holds_on, ruled_out_on}
-use Rattle.cstn_guide.proofs.Telling.{moved_kept, moved_was, named_waits, named_inside, named_executed, named_unseen, known_more, left_parts, left_from, not_holding}
+use Rattle.cstn_guide.proofs.Naming.{moved_kept, moved_was, called_waits, called_inside, called_executed, called_unseen, known_more, left_parts, left_from, not_holding}
 use Rattle.cstn_guide.proofs.Denying.{contains_or_not, all_from, all_executed, outcome_kept, outcome_there, fresh_filter, all_right, known_on, left_size, left_kept, left_in, left_not}
 
 -- ---- the beginning
@@ -43,21 +43,21 @@ module _ (m : Labelled) (bounds : List Bound) (table : Table) (wf : IsWellFormed
     size = length-replicate {A = Bool} (count m.base) false;
     held = λ x t e. absurd (nothing x t e);
     ruled_out = λ x t e. absurd (nothing x t e);
-    executed = λ x h. absurd (nobody x h);
+    placed = λ x h. absurd (nobody x h);
     denied = λ x p o h. absurd (nobody x h);
   }
 
 -- ---- moments
 
--- the time-points that are executed at an accepted moment are fresh
-pub named_fresh : (net : Network) (bounds : List Bound) → IsWellFormed net → (run : Run) → IsRight net run → (t : ℕ) →
-    AreFresh net (moved net bounds run t) (named net bounds run t)
-named_fresh net bounds wf run right t = record {
-  ascending = AllPairs-from_increasing (named net bounds run t) (named_ascend net bounds run t);
-  inside = all_from (λ x. x < count net) (named net bounds run t) (named_inside net bounds wf run right t);
-  executed = all_from (λ x. (u : ℕ) × (executed_at (moved net bounds run t) x ≡ Some u)) (named net bounds run t)
-      (λ x c. (t, named_executed net bounds wf run right t x c));
-  unseen = named_unseen net bounds wf run right t;
+-- the time-points that are called at an accepted moment are fresh
+pub called_fresh : (net : Network) (bounds : List Bound) → IsWellFormed net → (run : Run) → IsRight net run → (t : ℕ) →
+    AreFresh net (moved net bounds run t) (called net bounds run t)
+called_fresh net bounds wf run right t = record {
+  ascending = AllPairs-from_increasing (called net bounds run t) (called_ascend net bounds run t);
+  inside = all_from (λ x. x < count net) (called net bounds run t) (called_inside net bounds wf run right t);
+  placed = all_from (λ x. (u : ℕ) × (executed_at (moved net bounds run t) x ≡ Some u)) (called net bounds run t)
+      (λ x c. (t, called_executed net bounds wf run right t x c));
+  unseen = called_unseen net bounds wf run right t;
 }
 
 module _ (m : Labelled) (bounds : List Bound) (table : Table) (good : IsLabelled m) (wf : IsWellFormed (lowered m))
@@ -76,7 +76,7 @@ module _ (m : Labelled) (bounds : List Bound) (table : Table) (good : IsLabelled
   after = advanced m bounds g t
 
   fresh : AreFresh net moved_run out
-  fresh = fresh_filter net wf (λ x. not (holds_at m g.run t x)) moved_run (named net bounds g.run t) (named_fresh net bounds wf g.run right.right t)
+  fresh = fresh_filter net wf (λ x. not (holds_at m g.run t x)) moved_run (called net bounds g.run t) (called_fresh net bounds wf g.run right.right t)
 
   more : (u p : ℕ) (v : Bool) → known net g.run u p ≡ Some v → known net after.run u p ≡ Some v
   more u p v k = known_on net wf out moved_run fresh u p v (known_more net bounds wf g.run right.right t u p v k)
@@ -87,8 +87,8 @@ module _ (m : Labelled) (bounds : List Bound) (table : Table) (good : IsLabelled
   out_still : (u x : ℕ) → IsRuledOut (known net g.run u) (completed_label m x) → IsRuledOut (known net after.run u) (completed_label m x)
   out_still u x = ruled_out_on (known net g.run u) (known net after.run u) (completed_label m x) (more u)
 
-  -- a time-point that is executed in the new state was executed before, or is executed at t
-  was : (x u : ℕ) → executed_at after.run x ≡ Some u → (x < count m.base) × ((executed_at g.run x ≡ Some u) ⊎ (Contains (named net bounds g.run t) x × (u ≡ t)))
+  -- a time-point that has a moment in the new run had it before, or is called at t
+  was : (x u : ℕ) → executed_at after.run x ≡ Some u → (x < count m.base) × ((executed_at g.run x ≡ Some u) ⊎ (Contains (called net bounds g.run t) x × (u ≡ t)))
   was x u e =
       let e_moved = sym (all_executed net out moved_run x) ∙ e in
       let inside = some_within moved_run.moments x u e_moved in
@@ -96,11 +96,11 @@ module _ (m : Labelled) (bounds : List Bound) (table : Table) (good : IsLabelled
       let here : x < count m.base = omega arith in
       (here, moved_was net bounds wf g.run right.right t x u here e_moved)
 
-  -- a time-point that was left out before isn't executed at t
-  not_again : (x : ℕ) → Contains (named net bounds g.run t) x → is_left g x ≡ true → ⊥
+  -- a time-point that was left out before isn't called at t
+  not_again : (x : ℕ) → Contains (called net bounds g.run t) x → is_left g x ≡ true → ⊥
   not_again x c h =
-      let e = right.executed x h in
-      some_or_none (executed_at g.run x) e.0 e.1 (named_waits net bounds wf g.run right.right t x c)
+      let e = right.placed x h in
+      some_or_none (executed_at g.run x) e.0 e.1 (called_waits net bounds wf g.run right.right t x c)
 
   left_inside : (x : ℕ) → x < count m.base → x < length g.left
   left_inside x here = let size = right.size in omega arith
@@ -129,7 +129,7 @@ module _ (m : Labelled) (bounds : List Bound) (table : Table) (good : IsLabelled
           | inl left ↦ out_still (u + 1) x (right.ruled_out x u before left)
           | inr kept ↦
               let same = left_not out g.left x (λ c.
-              some_or_none (executed_at g.run x) u before (named_waits net bounds wf g.run right.right t x (left_parts m bounds g.run t x c).0)) in
+              some_or_none (executed_at g.run x) u before (called_waits net bounds wf g.run right.right t x (left_parts m bounds g.run t x c).0)) in
               absurd (both_ways (is_left g x) kept (sym same ∙ gone))
         ]
         | inr now ↦ elim (cases_Bool (holds_at m g.run t x)) [
@@ -154,11 +154,11 @@ module _ (m : Labelled) (bounds : List Bound) (table : Table) (good : IsLabelled
     size = left_size out g.left ∙ right.size;
     held = advanced_held;
     ruled_out = advanced_out;
-    executed = λ x gone. elim (left_when x gone) [
+    placed = λ x gone. elim (left_when x gone) [
       | inl before ↦
-          let e = right.executed x before in
+          let e = right.placed x before in
           (e.0, all_executed net out moved_run x ∙ moved_kept net bounds wf g.run right.right t x e.0 e.1)
-      | inr now ↦ (t, all_executed net out moved_run x ∙ named_executed net bounds wf g.run right.right t x (left_parts m bounds g.run t x now).0)
+      | inr now ↦ (t, all_executed net out moved_run x ∙ called_executed net bounds wf g.run right.right t x (left_parts m bounds g.run t x now).0)
     ];
     denied = λ x p sees gone. elim (left_when x gone) [
       | inl before ↦ outcome_kept net out moved_run p (right.denied x p sees before)
@@ -233,6 +233,6 @@ module _ (m : Labelled) (wf : IsWellFormed (lowered m)) (g : Guided) (right : Is
     ruled_out = λ x t e left.
         ruled_out_on (known (lowered m) g.run (t + 1)) (known (lowered m) (handed g.run p v) (t + 1)) (completed_label m x) (known_still (t + 1))
         (right.ruled_out x t e left);
-    executed = right.executed;
+    placed = right.placed;
     denied = λ x q sees left. others q false (right.denied x q sees left);
   }

@@ -1,5 +1,5 @@
--- What was known when a time-point was executed decides its completed label.
-use Rattle.std.proofs.Common.{ℕ, zero, suc, ◌≡◌, ◌⊎◌, inl, inr, ◌+◌, ◌<◌, Bool, false, List, Option, Some, None, arith, refl, sym, subst, ◌∙◌}
+-- What was known at the moment of a time-point decides its completed label.
+use Rattle.std.proofs.Common.{ℕ, zero, suc, ◌≡◌, inl, inr, ◌+◌, ◌<◌, Bool, false, List, Option, Some, None, arith, refl, sym, subst, ◌∙◌}
 use Rattle.std.specs.List.{list_all, range_with_len}
 use Rattle.std.proofs.lemmas.Bool.{cases_Bool, and_cases, true≢false}
 use Rattle.cstn_label.specs.declared.marks.Mark.{Mark}
@@ -21,7 +21,7 @@ use Rattle.cstn_exec.proofs.Options.{cases_option}
 use Rattle.cstn_exec.proofs.Knowing.{Ready, known_to, awaited_to, possible_from, some_within}
 use Rattle.cstn_exec.proofs.Running.{agrees_before, executed_is, waits_from}
 use Rattle.cstn_exec.proofs.Dues.{seen_scenario, seen_agrees}
-use Rattle.cstn_guide.specs.Sound.{HoldsBy, IsRuledOut}
+use Rattle.cstn_guide.specs.Sound.{IsRuledOut, IsDecided}
 
 some_fails : (test : ℕ → Bool) (a n : ℕ) → list_all test (range_with_len a n) ≡ false → (k : ℕ) × (test k ≡ false)
 some_fails test a zero h = absurd (true≢false h)
@@ -75,8 +75,7 @@ module _ (m : Labelled) (bounds : List Bound) (table : Table) (good : IsLabelled
   abbrev net : Network
   net = lowered m
 
-  pub decided : (x t : ℕ) → executed_at run x ≡ Some t →
-      HoldsBy (known (lowered m) run (t + 1)) (completed_label m x) ⊎ IsRuledOut (known (lowered m) run (t + 1)) (completed_label m x)
+  pub decided : (x t : ℕ) → executed_at run x ≡ Some t → IsDecided (known (lowered m) run (t + 1)) (completed_label m x)
   decided x t done = elim (cases_Bool (is_possible (known net run (t + 1)) (completed_label m x))) [
     | inr out ↦ inr (ruled_out (known net run (t + 1)) (completed_label m x) out)
     | inl possible ↦

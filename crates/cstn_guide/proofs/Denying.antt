@@ -134,7 +134,7 @@ module _ (net : Network) (wf : IsWellFormed net) where
   fresh_filter test run xs f = record {
     ascending = AllPairs-filter (λ x y. x < y) test xs f.ascending;
     inside = All-filter test (λ x. x < count net) xs f.inside;
-    executed = All-filter test (λ x. (t : ℕ) × (executed_at run x ≡ Some t)) xs f.executed;
+    placed = All-filter test (λ x. (t : ℕ) × (executed_at run x ≡ Some t)) xs f.placed;
     unseen = λ x p c. f.unseen x p (filter_contained test xs x c);
   }
 
@@ -144,8 +144,8 @@ module _ (net : Network) (wf : IsWellFormed net) where
       record {
         ascending = λ i j d before inside. f.ascending (suc i) (suc j) d (omega arith) (omega arith);
         inside = λ k d inside. f.inside (suc k) d (omega arith);
-        executed = λ k d inside.
-            let e = f.executed (suc k) d (omega arith) in
+        placed = λ k d inside.
+            let e = f.placed (suc k) d (omega arith) in
             (e.0, ap (λ (ms : List (Option ℕ)). slice_index_or ms (slice_index_or xs k d) None) (denied_moments o run) ∙ e.1);
         unseen = λ y q c sees.
             let inside = c.1 in
@@ -166,7 +166,7 @@ module _ (net : Network) (wf : IsWellFormed net) where
   all_right [] run right f = right
   all_right (x ∷ xs) run right f =
       let o = slice_index_or net.observes x None in
-      let done = f.executed 0 x (omega arith) in
+      let done = f.placed 0 x (omega arith) in
       all_right xs (denied o run) (denied_right run x o refl right done.0 done.1 (λ p. f.unseen x p (contains_head x xs))) (fresh_next run x xs f)
 
   -- what is known stays known
@@ -189,7 +189,7 @@ module _ (net : Network) (wf : IsWellFormed net) where
   next_open test run xs k x f inside at p sees =
       let ys = filter test (take k xs) in
       let after = all_denied net ys run in
-      let done = All-contains (λ y. (t : ℕ) × (executed_at run y ≡ Some t)) xs x f.executed (k, inside, at) in
+      let done = All-contains (λ y. (t : ℕ) × (executed_at run y ≡ Some t)) xs x f.placed (k, inside, at) in
       let there : observed_at net after p ≡ Some done.0 = observed_where net wf.network after x p sees ∙ all_executed net ys run x ∙ done.1 in
       let missing : outcome_of after p ≡ None = outcome_elsewhere net ys run p (λ y c other.
       let before = taken_before xs k y (filter_contained test (take k xs) y c) in

@@ -1,6 +1,6 @@
 pub mod Holding
 pub mod Deciding
-pub mod Telling
+pub mod Naming
 pub mod Denying
 pub mod Sorting
 pub mod Advancing

@@ -30,7 +30,7 @@ module _ (m : Labelled) (found : (x p : ℕ) → Observes (lowered m) x p → ob
   observed_from None t is e = absurd (cc)
   observed_from (Some x) t is e = (x, only x p is, e)
 
-  -- an outcome whose observer wasn't left out is refused as not observed exactly where the observer isn't executed
+  -- an outcome whose observer wasn't left out is refused as not observed exactly where the observer has no moment yet
   refused_kept : is_denied (lowered m) g p ≡ false → (seen : Option ℕ) → observed_at (lowered m) g.run p ≡ seen →
       see_refusal m g p ≡ Some (NotExecuted p) ↔ ((x : ℕ) → Observes (lowered m) x p → named_at g x ≡ None)
   refused_kept kept None none =

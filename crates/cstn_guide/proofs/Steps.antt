@@ -7,18 +7,14 @@ use Rattle.cstn_label.specs.declared.bounds.Bound.{Bound as ProgramBound}
 use Rattle.cstn_label.specs.Bounds.{Bound}
 use Rattle.cstn_net.specs.Networks.{Network}
 use Rattle.cstn_lift.specs.Labelled.{Labelled}
-use Rattle.cstn_lift.specs.Completion.{completed_label}
 use Rattle.cstn_lift.specs.Lowered.{lowered}
 use Rattle.cstn_lift.specs.Read.{LabelledParts}
 use Rattle.cstn_exec.specs.declared.errors.ExecError.{ExecError}
-use Rattle.cstn_exec.specs.Runs.{Run, known, named}
+use Rattle.cstn_exec.specs.Runs.{Run, known, called}
 use Rattle.cstn_exec.specs.Moves.{moved}
 use Rattle.cstn_exec.specs.Read.{refusal_of}
-use Rattle.cstn_guide.specs.Guides.{Guided, holds_by, holds_at, told, left_out, advanced, all_denied, with_left}
-use Rattle.cstn_guide.specs.Read.{GuideParts}
-
-abbrev pub parts : LabelledParts → List ProgramBound → Guided → List ℕ → GuideParts
-parts labels bounds g names = record { labelled = labels; bounds = bounds; state = g; named = names }
+use Rattle.cstn_guide.specs.Guides.{Guided, holding, others, holds_at, named, left_out, advanced, all_denied, with_left}
+use Rattle.cstn_guide.specs.Read.{parts}
 
 pub same_parts : (labels : LabelledParts) (a b : List ProgramBound) (g h : Guided) (xs ys : List ℕ) → a ≡ b → g ≡ h → xs ≡ ys →
     parts labels a g xs ≡ parts labels b h ys
@@ -26,18 +22,18 @@ same_parts labels a b g h xs ys bounds state names =
     ap (λ (l : List ProgramBound). parts labels l g xs) bounds ∙ ap (λ (s : Guided). parts labels b s xs) state
     ∙ ap (λ (l : List ℕ). parts labels b h l) names
 
--- the state after `sort_out` went through the time-points to be executed at t
+-- the state after `sort_out` went through the time-points that are called at t
 pub sorted_state : (m : Labelled) (bounds : List Bound) (g : Guided) (t : ℕ) (values : ℕ → Option Bool) (net : Network) (run after : Run)
     (names : List ℕ) (left : List Bool) → values ≡ known (lowered m) g.run (t + 1) → net ≡ lowered m → run ≡ moved (lowered m) bounds g.run t →
-    names ≡ named (lowered m) bounds g.run t →
-    after ≡ all_denied net (filter (λ x. not (holds_by values (completed_label m x))) names) run →
-    left ≡ with_left (filter (λ x. not (holds_by values (completed_label m x))) names) g.left →
+    names ≡ called (lowered m) bounds g.run t →
+    after ≡ all_denied net (others m values names) run →
+    left ≡ with_left (others m values names) g.left →
     record { run = after; left = left } ≡ advanced m bounds g t
 sorted_state m bounds g t values net run after names left same_values same_net same_run same_names after_is left_is =
     let out = left_out m bounds g.run t in
-    let gone = filter (λ x. not (holds_by values (completed_label m x))) names in
+    let gone = others m values names in
     let same : gone ≡ out =
-    ap (λ (v : ℕ → Option Bool). filter (λ x. not (holds_by v (completed_label m x))) names) same_values
+    ap (λ (v : ℕ → Option Bool). others m v names) same_values
     ∙ ap (filter (λ x. not (holds_at m g.run t x))) same_names in
     let run_is : after ≡ all_denied (lowered m) out (moved (lowered m) bounds g.run t) =
     after_is ∙ ap (λ (n : Network). all_denied n gone run) same_net ∙ ap (λ (ys : List ℕ). all_denied (lowered m) ys run) same
@@ -47,10 +43,10 @@ sorted_state m bounds g t values net run after names left same_values same_net s
     ∙ ap (λ (l : List Bool). record { run = all_denied (lowered m) out (moved (lowered m) bounds g.run t); left = l }) marks_are
 
 pub sorted_names : (m : Labelled) (bounds : List Bound) (run : Run) (t : ℕ) (values : ℕ → Option Bool) (names after : List ℕ) →
-    values ≡ known (lowered m) run (t + 1) → names ≡ named (lowered m) bounds run t →
-    after ≡ filter (λ x. holds_by values (completed_label m x)) names → after ≡ told m bounds run t
+    values ≡ known (lowered m) run (t + 1) → names ≡ called (lowered m) bounds run t →
+    after ≡ holding m values names → after ≡ named m bounds run t
 sorted_names m bounds run t values names after same_values same_names after_is =
-    after_is ∙ ap (λ (v : ℕ → Option Bool). filter (λ x. holds_by v (completed_label m x)) names) same_values
+    after_is ∙ ap (λ (v : ℕ → Option Bool). holding m v names) same_values
     ∙ ap (filter (holds_at m run t)) same_names
 
 -- an outcome was accepted, or refused

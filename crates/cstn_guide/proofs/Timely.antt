@@ -18,6 +18,7 @@ use Rattle.cstn_lift.proofs.LoweredLemmas.{observer_found}
 use Rattle.cstn_lift.proofs.FullLemmas.{label_within, rank, rank_falls}
 use Rattle.cstn_lift.proofs.Executed.{observers_executed, twin_right}
 use Rattle.cstn_lift.proofs.Equivalent.{mixed, mixed_defaulted, to_labelled, labelled_least}
+use Rattle.cstn_lift.proofs.Observed.{one_least}
 use Rattle.cstn_lift.proofs.Twins.{twin_least, defaulted_least}
 use Rattle.cstn_exec.specs.Runs.{next, executed_at, outcome_of, known}
 use Rattle.cstn_exec.specs.Right.{AgreesKnown, IsDone}
@@ -32,15 +33,7 @@ same_value o v w h k = cc
 same_moment : (o : Option ℕ) (t u : ℕ) → o ≡ Some t → o ≡ Some u → t ≡ u
 same_moment o t u h k = cc
 
-one_labelled_least : (m : Labelled) (s : Scenario) (x t u : ℕ) → IsLabelledLeast m s x t → IsLabelledLeast m s x u → t ≡ u
-one_labelled_least m s x t u here there =
-    let upto = here.least there.reached.0 there.reached.1 in
-    let downto = there.least here.reached.0 here.reached.1 in
-    let at_t = here.reached.2 in
-    let at_u = there.reached.2 in
-    omega arith
-
--- a time-point that was named at t was executed at t and not left out
+-- a time-point that was named at t has this moment in the run, and was not left out
 named_parts : (g : Guided) (x t : ℕ) → named_at g x ≡ Some t → (is_left g x ≡ false) × (executed_at g.run x ≡ Some t)
 named_parts g x t e = elim (cases_Bool (is_left g x)) [
   | inl left ↦ absurd (some_or_none (named_at g x) t e (cond-true (is_left g x) None (executed_at g.run x) left))
@@ -61,7 +54,7 @@ module _ (m : Labelled) (good : IsLabelled m) (wf : IsWellFormed (lowered m)) (g
   pub denied_where : (j p : ℕ) → Observes net j p → is_denied net g p ≡ is_left g j
   denied_where j p o = ap (is_among g.left) (observer_found net wf.network j p o)
 
-  -- what was known when x was executed is still known
+  -- what was known at the moment of x is still known
   known_now : (x t p : ℕ) (v : Bool) → executed_at g.run x ≡ Some t → known net g.run (t + 1) p ≡ Some v → known net g.run (next g.run) p ≡ Some v
   known_now x t p v done k =
       let early = right.right.early x t done in
@@ -70,9 +63,9 @@ module _ (m : Labelled) (good : IsLabelled m) (wf : IsWellFormed (lowered m)) (g
   module _ (s : Scenario) (agrees : AgreesHanded m g s) where
     -- where x was left out but is executed in s, some proposition rules out its completed label; the observer of that
     -- proposition is executed in s as well, and was left out
-    told_wrong : (x t : ℕ) → executed_at g.run x ≡ Some t → IsExecuted m s x → is_left g x ≡ true →
+    left_wrong : (x t : ℕ) → executed_at g.run x ≡ Some t → IsExecuted m s x → is_left g x ≡ true →
         (k p : ℕ) × (u : ℕ) × Observes m.base k p × (executed_at g.run k ≡ Some u) × IsMarked (completed_label m x) p × IsExecuted m s k × (is_left g k ≡ false → ⊥)
-    told_wrong x t done h left =
+    left_wrong x t done h left =
         let out = right.ruled_out x t done left in
         let from = (known_from net wf.network g.run (t + 1) out.0 out.1 out.2).0 in
         let sees = below from.observer out.0 from.observes in
@@ -95,7 +88,7 @@ module _ (m : Labelled) (good : IsLabelled m) (wf : IsWellFormed (lowered m)) (g
     observer_named (suc n) j q t lt o done h = elim (cases_Bool (is_left g j)) [
       | inr kept ↦ kept
       | inl left ↦
-          let w = told_wrong j t done h left in
+          let w = left_wrong j t done h left in
           let lower = rank_falls m good j q w.0 w.1 o w.3 w.5 in
           absurd (w.7 (observer_named n w.0 w.1 w.2 (omega arith) w.3 w.4 w.6))
     ]
@@ -104,7 +97,7 @@ module _ (m : Labelled) (good : IsLabelled m) (wf : IsWellFormed (lowered m)) (g
     executed_named x t done h = elim (cases_Bool (is_left g x)) [
       | inr kept ↦ kept
       | inl left ↦
-          let w = told_wrong x t done h left in
+          let w = left_wrong x t done h left in
           absurd (w.7 (observer_named (suc (rank m good w.0)) w.0 w.1 w.2 (omega arith) w.3 w.4 w.6))
     ]
 
@@ -156,11 +149,11 @@ module _ (m : Labelled) (good : IsLabelled m) (wf : IsWellFormed (lowered m)) (g
       | inr kept ↦ cond-false (is_denied net g p) false (s p) kept
       | inl left ↦
           let there = sym (denied_where j p (above j p o)) ∙ left in
-          let done = right.executed j there in
+          let done = right.placed j there in
           absurd (both_ways (is_left g j) (executed_named j done.0 done.1 h) there)
     ]
 
-    pub named_least : (x t : ℕ) → named_at g x ≡ Some t → IsExecuted m s x × IsLabelledLeast m s x t
+    pub named_least : (x t : ℕ) → named_at g x ≡ Some t → IsLabelledLeast m s x t
     named_least x t e =
         let parts = named_parts g x t e in
         let size = right.right.moments in
@@ -169,13 +162,13 @@ module _ (m : Labelled) (good : IsLabelled m) (wf : IsWellFormed (lowered m)) (g
         let h = named_executed x t parts.1 parts.0 in
         let there = twin_right m good s other other_twin x h in
         let least = labelled_least m good other x t here there (right.right.executed other x t other_agrees parts.1) in
-        (h, (twin_least m s other x t other_twin here h).1 least)
+        (twin_least m good s other x t other_twin here).1 least
 
   pub on_time : IsOnTime m g
   on_time = record {
     named = λ s x t agrees e. named_least s agrees x t e;
     left = λ s x agrees left h.
-        let done = right.executed x left in
+        let done = right.placed x left in
         both_ways (is_left g x) (executed_named s agrees x done.0 done.1 h) left;
   }
 
@@ -186,8 +179,8 @@ module _ (m : Labelled) (good : IsLabelled m) (wf : IsWellFormed (lowered m)) (g
       let defaulted = mixed_defaulted m good none in
       let strategy = to_labelled m good table none twin plan.strategy defaulted in
       let at = λ (s : Scenario) (x t : ℕ) (agrees : AgreesHanded m g s) (here : x < count m.base) (e : named_at g x ≡ Some t).
-      one_labelled_least m s x t (table (twin s) x) (named_least s agrees x t e).1
-      (defaulted_least m table none twin good defaulted plan.least s x here (named_least s agrees x t e).0) in
+      one_least m s x t (table (twin s) x) (named_least s agrees x t e)
+      (defaulted_least m table none twin good defaulted plan.least s x here (named_least s agrees x t e).executed) in
       let inside : (x t : ℕ) → named_at g x ≡ Some t → x < count m.base = λ x t e.
       (let size = right.right.moments in let within = some_within g.run.moments x t (named_parts g x t e).1 in omega arith) in
       record {
@@ -200,7 +193,7 @@ module _ (m : Labelled) (good : IsLabelled m) (wf : IsWellFormed (lowered m)) (g
             e ∙ ap (λ t. Some t) (at s x done.0 agrees here e);
         others = λ s x agrees not_there. elim (cases_option (named_at g x)) [
           | inl nowhere ↦ nowhere
-          | inr named ↦ absurd (not_there (named_least s agrees x named.0 named.1).0)
+          | inr named ↦ absurd (not_there (named_least s agrees x named.0 named.1).executed)
         ];
         meets = λ s c from to agrees has force at_from at_to.
             let met = strategy.meets s c has force in

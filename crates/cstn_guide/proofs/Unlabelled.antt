@@ -13,9 +13,9 @@ use Rattle.cstn_lift.specs.WellFormed.{IsLabelled}
 use Rattle.cstn_lift.specs.Lowered.{lowered, observer_of}
 use Rattle.cstn_lift.proofs.CompletionLemmas.{completed_least, empty_within}
 use Rattle.cstn_lift.proofs.FullLemmas.{past_empty}
-use Rattle.cstn_exec.specs.Runs.{Run, known, named}
+use Rattle.cstn_exec.specs.Runs.{Run, known, called}
 use Rattle.cstn_exec.specs.Moves.{NotExecuted, moved, outcome_refusal}
-use Rattle.cstn_guide.specs.Guides.{Guided, is_left, holds_by, holds_at, told, left_out, advanced, all_denied, with_left, is_among, is_denied, see_refusal}
+use Rattle.cstn_guide.specs.Guides.{Guided, is_left, holds_by, holds_at, named, left_out, advanced, all_denied, with_left, is_among, is_denied, see_refusal}
 use Rattle.cstn_guide.specs.Sound.{IsGuided}
 use Rattle.cstn_guide.proofs.Holding.{holds_to}
 
@@ -44,13 +44,13 @@ module _ (m : Labelled) (good : IsLabelled m) (none : (x : ℕ) → x < count m.
   each_holds values x =
       holds_to values (completed_label m x) (λ p marked. absurd (marked (ap (λ (a : Label). a p) (none_marked x))))
 
-  pub all_told : (bounds : List Bound) (run : Run) (t : ℕ) → told m bounds run t ≡ named (lowered m) bounds run t
-  all_told bounds run t =
-      filter_whole (holds_at m run t) (named (lowered m) bounds run t) (each_holds (known (lowered m) run (t + 1)))
+  pub all_named : (bounds : List Bound) (run : Run) (t : ℕ) → named m bounds run t ≡ called (lowered m) bounds run t
+  all_named bounds run t =
+      filter_whole (holds_at m run t) (called (lowered m) bounds run t) (each_holds (known (lowered m) run (t + 1)))
 
   nobody_left : (bounds : List Bound) (run : Run) (t : ℕ) → left_out m bounds run t ≡ []
   nobody_left bounds run t =
-      filter_nothing (λ x. not (holds_at m run t x)) (named (lowered m) bounds run t) (λ x. ap not (each_holds (known (lowered m) run (t + 1)) x))
+      filter_nothing (λ x. not (holds_at m run t x)) (called (lowered m) bounds run t) (λ x. ap not (each_holds (known (lowered m) run (t + 1)) x))
 
   pub just_moved : (bounds : List Bound) (g : Guided) (t : ℕ) → advanced m bounds g t ≡ record { run = moved (lowered m) bounds g.run t; left = g.left }
   just_moved bounds g t =
@@ -61,7 +61,7 @@ module _ (m : Labelled) (good : IsLabelled m) (none : (x : ℕ) → x < count m.
   not_left g right x = elim (cases_Bool (is_left g x)) [
     | inr kept ↦ kept
     | inl left ↦
-        let done = right.executed x left in
+        let done = right.placed x left in
         let out = right.ruled_out x done.0 done.1 left in
         absurd (out.3 (fits_absent out.1 (completed_label m x out.0) (ap (λ (a : Label). a out.0) (none_marked x))))
   ]

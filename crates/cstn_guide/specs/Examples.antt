@@ -1,18 +1,20 @@
 -- What is answered while small plans of labelled networks are carried out. The propositions 0 and 1 are called p and q here.
-use Rattle.std.specs.Prelude.{ℕ, true, false, List, [], ◌∷◌, Option, Some, None}
-use Rattle.cstn_label.specs.declared.marks.Mark.TheVariants.{Yes}
-use Rattle.cstn_label.specs.Labels.{empty}
+use Rattle.std.specs.Prelude.{ℕ, zero, suc, true, false, List, [], ◌∷◌, Option, Some, None}
+use Rattle.cstn_label.specs.declared.marks.Mark.{Mark}
+use Rattle.cstn_label.specs.declared.marks.Mark.TheVariants.{Absent, Yes}
+use Rattle.cstn_label.specs.Labels.{Label, empty}
 use Rattle.cstn_label.specs.Bounds.{Bound}
 use Rattle.cstn_net.specs.Networks.{count}
 use Rattle.cstn_lift.specs.Labelled.{Labelled}
 use Rattle.cstn_lift.specs.Lowered.{lowered}
 use Rattle.cstn_exec.specs.Runs.{due}
 use Rattle.cstn_exec.specs.Moves.{Refusal, Awaiting, NotExecuted, Known, moment_refusal}
-use Rattle.cstn_exec.specs.Examples.{Event, Moment, See, AskDue, Answer, Names, Kept, Refused, DueAt, see_answer, only, from, observing}
-use Rattle.cstn_guide.specs.Guides.{Guided, begun, told, advanced, see_refusal, noted}
+use Rattle.cstn_exec.specs.Answers.{Event, Moment, See, AskDue, Answer, Names, Kept, Refused, DueAt, see_answer}
+use Rattle.cstn_exec.specs.Examples.{only, from, observing}
+use Rattle.cstn_guide.specs.Guides.{Guided, begun, named, advanced, see_refusal, noted}
 
 abbrev pub moment_answer : Labelled → List Bound → Guided → ℕ → Option Refusal → Answer
-moment_answer m bounds g t None = Names (told m bounds g.run t)
+moment_answer m bounds g t None = Names (named m bounds g.run t)
 moment_answer m bounds g t (Some why) = Refused why
 
 abbrev pub unless_refused : Guided → Guided → Option Refusal → Guided
@@ -88,3 +90,28 @@ abbrev pub second_test_answers : List Answer
 second_test_answers =
     Names (0 ∷ (1 ∷ [])) ∷ (Kept ∷ (Names (2 ∷ []) ∷ (Refused (Awaiting 1) ∷ (Kept ∷ (Refused (Known 1 true) ∷ (DueAt (Some 5) ∷
     (Names (3 ∷ []) ∷ [])))))))
+
+-- the label with this mark on q, and no other
+abbrev pub on_second : Mark → Label
+on_second m zero = Absent
+on_second m (suc p) = only m p
+
+-- the same time-points and labels, with outcomes known 3 ticks after their observers
+abbrev pub slow_second_test : Labelled
+slow_second_test = record {
+  base = observing 10 (None ∷ (Some 0 ∷ (Some 1 ∷ (None ∷ [])))) 3;
+  labels = empty ∷ (empty ∷ (only Yes ∷ (empty ∷ [])));
+}
+
+-- X is at 9 where q is true
+abbrev pub slow_second_test_plan : List Bound
+slow_second_test_plan = from 0 0 empty ∷ (from 1 0 empty ∷ (from 2 3 empty ∷ (from 3 9 (on_second Yes) ∷ (from 3 5 empty ∷ []))))
+
+-- where p is false, Q is left out at 3, and that q is false is known 3 ticks later
+abbrev pub slow_events : List Event
+slow_events = Moment 0 ∷ (See 0 false ∷ (Moment 3 ∷ (See 1 true ∷ (AskDue ∷ (Moment 5 ∷ (Moment 6 ∷ (AskDue ∷ [])))))))
+
+abbrev pub slow_answers : List Answer
+slow_answers =
+    Names (0 ∷ (1 ∷ [])) ∷ (Kept ∷ (Names [] ∷ (Refused (NotExecuted 1) ∷ (DueAt (Some 6) ∷ (Names [] ∷ (Names (3 ∷ []) ∷
+    (DueAt None ∷ [])))))))

@@ -1,15 +1,17 @@
--- Guides: runs of a lowered network in which a time-point is left out if its completed label doesn't hold at its moment.
+-- Guides: runs of a lowered network. A time-point that is called gets its moment in the run. Where its completed label holds
+-- at that moment it is named, and so executed; else it is left out.
 use Rattle.std.specs.Prelude.{ℕ, ◌+◌, Bool, true, false, not, List, [], ◌∷◌, Option, Some, None, replicate, slice_index_or, slice_set, if◌then◌else◌}
 use Rattle.std.specs.List.{filter, list_all, range_with_len}
 use Rattle.cstn_label.specs.declared.marks.Mark.{Mark}
 use Rattle.cstn_label.specs.Labels.{Label}
 use Rattle.cstn_label.specs.Bounds.{Bound}
+use Rattle.cstn_label.specs.Marks.{is_marked}
 use Rattle.cstn_net.specs.Networks.{Network}
 use Rattle.cstn_log.specs.Asked.{fits}
 use Rattle.cstn_lift.specs.Labelled.{Labelled}
-use Rattle.cstn_lift.specs.Completion.{is_marked, completed_label}
+use Rattle.cstn_lift.specs.Completion.{completed_label}
 use Rattle.cstn_lift.specs.Lowered.{lowered, observer_of}
-use Rattle.cstn_exec.specs.Runs.{Run, start, executed_at, known, named}
+use Rattle.cstn_exec.specs.Runs.{Run, start, executed_at, known, called}
 use Rattle.cstn_exec.specs.Moves.{Refusal, NotExecuted, moved, handed, outcome_refusal}
 
 -- the state of a guide: the run of the lowered network, and of each time-point whether it was left out
@@ -17,7 +19,7 @@ pub record Guided : Type 0 where
   pub run : Run
   pub left : List Bool
 
--- the state of a guide in which none of n time-points is executed or left out, and nothing was seen
+-- the state of a guide in which none of n time-points was named or left out, and nothing was seen
 abbrev pub begun : ℕ → Guided
 begun n = record { run = start n; left = replicate n false }
 
@@ -25,7 +27,7 @@ begun n = record { run = start n; left = replicate n false }
 abbrev pub is_left : Guided → ℕ → Bool
 is_left g x = slice_index_or g.left x false
 
--- the moment at which x was named, if it was: when it was executed, unless it was left out
+-- the moment at which x was named, if it was: its moment in the run, unless it was left out
 abbrev pub named_at : Guided → ℕ → Option ℕ
 named_at g x = if is_left g x then None else executed_at g.run x
 
@@ -46,13 +48,21 @@ holds_at m run t x = holds_by (known (lowered m) run (t + 1)) (completed_label m
 
 -- ---- moments
 
--- the time-points that are named at t: of those to be executed at t, each whose completed label holds by what is known
-abbrev pub told : Labelled → List Bound → Run → ℕ → List ℕ
-told m bounds run t = filter (holds_at m run t) (named (lowered m) bounds run t)
+-- of these time-points, those whose completed labels hold by the values
+abbrev pub holding : Labelled → (ℕ → Option Bool) → List ℕ → List ℕ
+holding m values xs = filter (λ x. holds_by values (completed_label m x)) xs
 
--- the time-points that are left out at t: the rest of those to be executed at t
+-- of these time-points, those whose completed labels don't hold by the values
+abbrev pub others : Labelled → (ℕ → Option Bool) → List ℕ → List ℕ
+others m values xs = filter (λ x. not (holds_by values (completed_label m x))) xs
+
+-- the time-points that are named at t: of those that are called, each whose completed label holds by what is known
+abbrev pub named : Labelled → List Bound → Run → ℕ → List ℕ
+named m bounds run t = holding m (known (lowered m) run (t + 1)) (called (lowered m) bounds run t)
+
+-- the time-points that are left out at t: the rest of those that are called
 abbrev pub left_out : Labelled → List Bound → Run → ℕ → List ℕ
-left_out m bounds run t = filter (λ x. not (holds_at m run t x)) (named (lowered m) bounds run t)
+left_out m bounds run t = others m (known (lowered m) run (t + 1)) (called (lowered m) bounds run t)
 
 -- the run with the outcome false of the given proposition, if there is one
 abbrev pub denied : Option ℕ → Run → Run
@@ -87,7 +97,7 @@ is_among left (Some x) = slice_index_or left x false
 abbrev pub is_denied : Network → Guided → ℕ → Bool
 is_denied net g p = is_among g.left (observer_of net p)
 
--- why an outcome of p is refused, if it is: its observer was left out or isn't executed, or an outcome is kept already
+-- why an outcome of p is refused, if it is: its observer was left out or has no moment yet, or an outcome is kept already
 abbrev pub see_refusal : Labelled → Guided → ℕ → Option Refusal
 see_refusal m g p = if is_denied (lowered m) g p then Some (NotExecuted p) else outcome_refusal (lowered m) g.run p
 

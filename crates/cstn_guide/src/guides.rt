@@ -1,19 +1,18 @@
 ghost use Rattle.std.specs.Prelude.{ℕ, ◌≡◌, ◌≤◌, ◌↔◌, map, None, Some, [], IsNone, IsTrue, IfOk, IfSome, IfNone, OnOk, OnErr};
 ghost use Rattle.std.specs.List.{Contains};
 ghost use Rattle.std.specs.List.Sorted.{IsStrictlyIncreasing};
-ghost use Rattle.cstn_net.specs.Networks.{IsWellFormed, count};
-ghost use Rattle.cstn_net.specs.Strategies.{Table};
+ghost use Rattle.cstn_net.specs.Networks.{count};
 ghost use Rattle.cstn_net.specs.Read.{the_network};
-ghost use Rattle.cstn_log.specs.Plans.{IsEarliest, the_bounds};
-ghost use Rattle.cstn_lift.specs.WellFormed.{IsLabelled};
+ghost use Rattle.cstn_log.specs.Plans.{the_bounds};
 ghost use Rattle.cstn_lift.specs.Lowered.{lowered};
 ghost use Rattle.cstn_lift.specs.Read.{the_labelled};
 ghost use Rattle.cstn_exec.specs.Runs.{due};
 ghost use Rattle.cstn_exec.specs.Moves.{moment_refusal};
 ghost use Rattle.cstn_exec.specs.Right.{IsDue, IsDone};
 ghost use Rattle.cstn_exec.specs.Read.{refusal_of};
-ghost use Rattle.cstn_guide.specs.Guides.{begun, is_left, told, advanced, is_denied, see_refusal, noted};
-ghost use Rattle.cstn_guide.specs.Sound.{IsToldAt, IsLeftAt, IsGuided, IsOnTime, IsLed};
+ghost use Rattle.cstn_guide.specs.Guides.{begun, is_left, is_denied, see_refusal, noted};
+ghost use Rattle.cstn_guide.specs.Sound.{IsPlanned, IsNamedAt, IsLeftAt, IsGuided, IsOnTime, IsLed};
+ghost use Rattle.cstn_guide.specs.Read.{parts, advanced_on};
 
 mod sorting;
 
@@ -42,27 +41,28 @@ pub struct Guide {
 
 impl Model for Guide {
     ghost use Rattle.std.specs.Prelude.{map};
-    ghost use Rattle.cstn_guide.specs.Read.{GuideParts, IsGuide};
+    ghost use Rattle.cstn_guide.specs.Read.{GuideParts, parts, IsGuide};
 
     ghost Value = { GuideParts };
 
-    ghost view = { λ g. record { labelled = g.labels; bounds = g.executive.bounds; state = record { run = g.executive.run; left = g.left.items }; named = map (λ x. x.0) g.named.items } };
+    ghost view = { λ g. parts g.labels g.executive.bounds (record { run = g.executive.run; left = g.left.items }) (map (λ x. x.0) g.named.items) };
 
     ghost invariant = { λ g. IsGuide g.executive.net g.labels (record { run = g.executive.run; left = g.left.items }) g.named.capacity };
 }
 
 impl Guide {
-    /// A guide by the plan, with nothing executed. All memory is taken here, also for an answer that names every time-point.
-    /// Fails only where memory is refused, and drops the plan and the labels then.
+    /// A guide by the plan, with nothing named or left out. All memory is taken here, also for an answer that names every
+    /// time-point. Fails only where memory is refused, and drops the plan and the labels then.
     pub fn start(alloc: Global, plan: SoundPlan, labels: Labels) -> Result<Guide, AllocError>
         requires lowered { the_network plan.net ≡ lowered (the_labelled labels) }
-        ensures start { IfOk result (λ g. g ≡ record { labelled = labels; bounds = plan.bounds; state = begun (count (the_labelled labels).base); named = [] }) }
+        ensures start { IfOk result (λ g. g ≡ parts labels plan.bounds (begun (count (the_labelled labels).base)) []) }
     {
         let count = labels.base().count() as usize;
         let mut left = Vec::with_capacity(alloc, count)?;
         left.resize(count, false)?;
         let named = SmallVec::with_capacity(alloc, count)?;
         let executive = Executive::start(alloc, plan)?;
+        // For its contract: the run is right, and the bounds of the plan are those of a strategy with all least moments.
         executive.network();
         Ok(Guide {
             executive,
@@ -79,14 +79,12 @@ impl Guide {
         self.named.as_slice()
     }
 
-    /// The labels of the time-points. For the use of proofs, the contract also says that the state is right, and that the plan
-    /// has a strategy with all least moments.
+    /// The labels of the time-points. For the use of proofs, the contract also says that the state is right, and that the bounds
+    /// are those of a plan.
     pub fn labels(&self) -> &Labels
         ensures labels { result.now ≡ self.now.labelled }
         ensures guided { IsGuided (the_labelled self.now.labelled) self.now.state }
-        ensures labelled { IsLabelled (the_labelled self.now.labelled) }
-        ensures well_formed { IsWellFormed (lowered (the_labelled self.now.labelled)) }
-        ensures earliest { (table : Table) × IsEarliest (lowered (the_labelled self.now.labelled)) (the_bounds self.now.bounds) table }
+        ensures planned { IsPlanned (the_labelled self.now.labelled) (the_bounds self.now.bounds) }
     {
         self.is_guided();
         &self.labels
@@ -113,10 +111,10 @@ impl Guide {
     /// with the first that applies of `Done`, `Past`, `Awaiting` and `Late`.
     pub fn moment(&mut self, t: u32) -> Result<(), ExecError>
         ensures refused { refusal_of result ≡ moment_refusal (lowered (the_labelled self.old.labelled)) (the_bounds self.old.bounds) self.old.state.run t }
-        ensures advanced { OnOk result (self.new ≡ record self.old { state = advanced (the_labelled self.old.labelled) (the_bounds self.old.bounds) self.old.state t; named = told (the_labelled self.old.labelled) (the_bounds self.old.bounds) self.old.state.run t }) }
+        ensures advanced { OnOk result (self.new ≡ advanced_on self.old t) }
         ensures same { OnErr result (self.new ≡ self.old) }
 
-        ensures named { OnOk result ((x : ℕ) → Contains self.new.named x ↔ IsToldAt (the_labelled self.old.labelled) self.old.state.run t x) }
+        ensures named { OnOk result ((x : ℕ) → Contains self.new.named x ↔ IsNamedAt (the_labelled self.old.labelled) self.old.state.run t x) }
         ensures ascending { OnOk result (IsStrictlyIncreasing self.new.named) }
         ensures left { OnOk result ((x : ℕ) → IsLeftAt (the_labelled self.old.labelled) self.old.state.run t x → IsTrue (is_left self.new.state x)) }
         ensures on_time { IsOnTime (the_labelled self.old.labelled) self.new.state }
@@ -163,12 +161,10 @@ impl Guide {
         }
     }
 
-    // Does nothing: its contract says that the state is right, and that the plan has a strategy of least moments.
+    // Does nothing: its contract says that the state is right, and that the bounds are those of a plan.
     fn is_guided(&self)
         ensures guided { IsGuided (the_labelled self.now.labelled) self.now.state }
-        ensures labelled { IsLabelled (the_labelled self.now.labelled) }
-        ensures well_formed { IsWellFormed (lowered (the_labelled self.now.labelled)) }
-        ensures earliest { (table : Table) × IsEarliest (lowered (the_labelled self.now.labelled)) (the_bounds self.now.bounds) table }
+        ensures planned { IsPlanned (the_labelled self.now.labelled) (the_bounds self.now.bounds) }
     {
         self.executive.network();
     }

@@ -8,5 +8,5 @@ mod laws;
 pub use guides::Guide;
 pub use laws::{
     guide_answers_are_known, guides_are_on_time, guides_stay_right, holding_is_decided,
-    outcomes_are_of_the_named, the_told_are_called, unlabelled_guides_are_executives,
+    outcomes_are_of_the_named, the_named_hold, unlabelled_guides_are_executives,
 };

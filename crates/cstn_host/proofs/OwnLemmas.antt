@@ -6,9 +6,9 @@ use Rattle.std.proofs.lemmas.List.{get_or-set_same, get_or-set_other, get_or-rep
 use Rattle.cstn_label.specs.Bounds.{Bound}
 use Rattle.cstn_net.specs.Networks.{Network, count}
 use Rattle.cstn_log.specs.Plans.{PlanParts}
-use Rattle.cstn_exec.specs.Runs.{Run, start, named}
+use Rattle.cstn_exec.specs.Runs.{Run, start, called}
 use Rattle.cstn_exec.specs.Moves.{Refusal, moment_refusal, outcome_refusal}
-use Rattle.cstn_exec.specs.Examples.{Event, Moment, See, AskDue, Answer, Names, Kept, Refused, DueAt, answer_to, moment_answer, see_answer, run_after, answers_from}
+use Rattle.cstn_exec.specs.Answers.{Event, Moment, See, AskDue, Answer, Names, Kept, Refused, DueAt, answer_to, moment_answer, see_answer, run_after, answers_from}
 use Rattle.cstn_host.specs.Hosts.{HostParts, Opened, nothing_open, plan_of_file, net_at, bounds_at, case_at, opened_anew}
 use Rattle.cstn_host.specs.Calls.{Call, CallOn, Open, AskFile, AskNamed, Pass, Close, Told, Denied, OutOfRange, answer_at, unless_refused, named_after, passed, case_after, answer_on, host_after, host_after_all, put_if, answers_to}
 use Rattle.cstn_host.specs.Own.{Own, own_with, is_on, own_calls_from, own_calls, calls_on, alone, last_from, named_from, answer_by_own, answer_by}
@@ -34,7 +34,7 @@ last_told net bounds (f ∷ es) e run a = last_told net bounds es e (run_after n
 named_told : (net : Network) (bounds : List Bound) (e : Event) (run : Run) (before : List ℕ) → named_from before (answer_to net bounds run e ∷ []) ≡ named_after net bounds run before e
 named_told net bounds (Moment t) run before = at (moment_refusal net bounds run t)
   where
-    at : (r : Option Refusal) → named_from before (moment_answer net bounds run t r ∷ []) ≡ unless_refused before (named net bounds run t) r
+    at : (r : Option Refusal) → named_from before (moment_answer net bounds run t r ∷ []) ≡ unless_refused before (called net bounds run t) r
     at None = refl
     at (Some why) = refl
 named_told net bounds (See p v) run before = at (outcome_refusal net run p)

@@ -3,9 +3,9 @@ use Rattle.std.specs.Prelude.{ℕ, Bool, true, false, ◌==◌, nat_lt, if◌the
 use Rattle.cstn_label.specs.Bounds.{Bound}
 use Rattle.cstn_net.specs.Networks.{Network}
 use Rattle.cstn_log.specs.Plans.{PlanParts}
-use Rattle.cstn_exec.specs.Runs.{Run, named}
+use Rattle.cstn_exec.specs.Runs.{Run, called}
 use Rattle.cstn_exec.specs.Moves.{Refusal, moment_refusal}
-use Rattle.cstn_exec.specs.Examples.{Event, Moment, See, AskDue, Answer, Names, answer_to, run_after}
+use Rattle.cstn_exec.specs.Answers.{Event, Moment, See, AskDue, Answer, Names, answer_to, run_after}
 use Rattle.cstn_host.specs.Hosts.{HostParts, Opened, net_at, bounds_at, case_at, opened_anew}
 
 -- a call on an id: `open` over a file, and whether it fails for want of memory; the question for the file, or for the
@@ -64,7 +64,7 @@ unless_refused before xs (Some why) = before
 
 -- the time-points that were named last, after an event
 abbrev pub named_after : Network → List Bound → Run → List ℕ → Event → List ℕ
-named_after net bounds run before (Moment t) = unless_refused before (named net bounds run t) (moment_refusal net bounds run t)
+named_after net bounds run before (Moment t) = unless_refused before (called net bounds run t) (moment_refusal net bounds run t)
 named_after net bounds run before (See p v) = before
 named_after net bounds run before AskDue = before
 

@@ -6,7 +6,7 @@ use Rattle.std.specs.Prelude.{IfSome}
 use Rattle.cstn_label.specs.declared.nodes.NodeId.{NodeId}
 use Rattle.cstn_log.specs.Plans.{PlanParts}
 use Rattle.cstn_exec.specs.Read.{the_refusal}
-use Rattle.cstn_exec.specs.Examples.{Refused}
+use Rattle.cstn_exec.specs.Answers.{Refused}
 use Rattle.cstn_host.specs.declared.cases.Case.{Case}
 use Rattle.cstn_host.specs.declared.errors.HostError.{HostError}
 use Rattle.cstn_host.specs.declared.errors.HostError.TheVariants.{IdInUse, NoSuchPlan, IdRange, NoFile, Exec, Memory}

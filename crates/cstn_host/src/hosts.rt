@@ -2,7 +2,7 @@ ghost use Rattle.std.specs.Prelude.{◌≡◌, ◌<◌, ◌≤◌, [], length, r
 ghost use Rattle.cstn_net.specs.Networks.{count};
 ghost use Rattle.cstn_net.specs.Read.{the_network};
 ghost use Rattle.cstn_exec.specs.Runs.{start};
-ghost use Rattle.cstn_exec.specs.Examples.{Moment, See, AskDue, Names, Kept, DueAt};
+ghost use Rattle.cstn_exec.specs.Answers.{Moment, See, AskDue, Names, Kept, DueAt};
 ghost use Rattle.cstn_host.specs.Hosts.{nothing_open, named_at};
 ghost use Rattle.cstn_host.specs.Calls.{Open, AskFile, AskNamed, Pass, Close, Agreed, FileIs, Told, answer_on, host_after};
 ghost use Rattle.cstn_host.specs.Read.{the_nodes, answer_of, in_want};

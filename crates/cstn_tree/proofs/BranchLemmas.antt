@@ -9,8 +9,7 @@ use Rattle.std.proofs.lemmas.Bool.Decides.{leb_tells}
 use Rattle.std.proofs.lemmas.List.{length-set, set_past, drop_all}
 use Rattle.std.proofs.lemmas.List.Folds.{list_all_at}
 use Rattle.cstn_label.specs.declared.nodes.NodeId.{NodeId}
-use Rattle.cstn_net.specs.Networks.{Network, IsNetwork, Observes, limit}
-use Rattle.cstn_net.specs.Read.{is_prop}
+use Rattle.cstn_net.specs.Networks.{Network, IsNetwork, Observes, limit, is_prop}
 use Rattle.cstn_exec.proofs.Knowing.{observer_at, at_observer}
 use Rattle.cstn_exec.proofs.Options.{is_some-false, is_some-true}
 use Rattle.cstn_exec.proofs.Ranges.{each_passes, all_pass}

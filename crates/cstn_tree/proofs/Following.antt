@@ -15,7 +15,7 @@ use Rattle.cstn_net.specs.Strategies.{Table}
 use Rattle.cstn_log.specs.Asked.{greatest}
 use Rattle.cstn_log.specs.Plans.{IsEarliest}
 use Rattle.cstn_log.proofs.AskedLemmas.{fits_true}
-use Rattle.cstn_exec.specs.Runs.{Run, start, next, executed_at, outcome_of, is_ready, known, is_awaited, awaited, is_possible, fits_known, is_free, has_work, named, due}
+use Rattle.cstn_exec.specs.Runs.{Run, start, next, executed_at, outcome_of, is_ready, known, is_awaited, awaited, is_possible, fits_known, is_free, has_work, called, due}
 use Rattle.cstn_exec.specs.Moves.{Awaiting, moment_refusal, moved, handed, executed}
 use Rattle.cstn_exec.specs.Right.{AgreesKnown, IsRight}
 use Rattle.cstn_exec.proofs.Filled.{default_of}
@@ -168,7 +168,7 @@ module _ (net : Network) (bounds : List Bound) (table : Table) (wf : IsWellForme
       free = is_free net bounds run t
 
       abbrev new : List ℕ
-      new = named net bounds run t
+      new = called net bounds run t
 
       quiet_at : IsQuiet net bounds run t
       quiet_at = (accepted_quiet net bounds table wf plan run f.right t (judged net bounds run t None accepted)).0
@@ -240,9 +240,9 @@ module _ (net : Network) (bounds : List Bound) (table : Table) (wf : IsWellForme
 module _ (net : Network) (bounds : List Bound) (table : Table) (wf : IsWellFormed net) (plan : IsEarliest net bounds table)
     (run : Run) (b : Branch) (f : Follows net bounds run b) (t : ℕ) (is : due net bounds run ≡ Some t) where
   -- the `at` of the due moment doesn't break
-  pub at_fits : moment_refusal net bounds run t ≡ None → fits_at net b t (named net bounds run t) ≡ true
+  pub at_fits : moment_refusal net bounds run t ≡ None → fits_at net b t (called net bounds run t) ≡ true
   at_fits accepted =
-      let new = named net bounds run t in
+      let new = called net bounds run t in
       let below = follows_at net bounds table wf plan run b f t is accepted in
       let kept : list_all (is_met (placed_with b.placed t new) b.asked new) net.constraints ≡ true =
       each_of (is_met (placed_with b.placed t new) b.asked new) net.constraints (λ c has.

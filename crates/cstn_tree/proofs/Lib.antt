@@ -11,5 +11,6 @@ mod MakeLemmas
 mod MakingLemmas
 mod Following
 mod MadeTrees
+mod OneTree
 mod BackLemmas
 mod StartLemmas

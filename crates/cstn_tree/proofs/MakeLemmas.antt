@@ -6,9 +6,9 @@ use Rattle.std.proofs.lemmas.Bool.{cases_Bool, cond-true, cond-false, lt-ltb}
 use Rattle.std.proofs.lemmas.List.{append-nil}
 use Rattle.cstn_label.specs.Bounds.{Bound}
 use Rattle.cstn_net.specs.Networks.{Network, count}
-use Rattle.cstn_exec.specs.Runs.{Run, start, after, next, is_done, due, named, has_work, awaited}
+use Rattle.cstn_exec.specs.Runs.{Run, start, after, next, is_done, due, called, has_work, awaited}
 use Rattle.cstn_exec.specs.Moves.{Refusal, Done, Past, Awaiting, moment_refusal, unless_past, unless_awaiting, unless_late, moved, handed}
-use Rattle.cstn_exec.specs.Examples.{Event, run_after}
+use Rattle.cstn_exec.specs.Answers.{Event, run_after}
 use Rattle.cstn_tree.specs.Trees.{Tree, Line, lines_of}
 use Rattle.cstn_tree.specs.Trees.Tree.{at, ask, done}
 use Rattle.cstn_tree.specs.Trees.Line.{AtLine, AskLine, DoneLine}
@@ -45,15 +45,15 @@ module _ (net : Network) (bounds : List Bound) where
           (whole.0, more ls DoneLine (all_lines trees) ∙ whole.1, whole.2)
 
   pub grown_at : (ls : List Line) (run : Run) (runs : List Run) (t : ℕ) → due net bounds run ≡ Some t → moment_refusal net bounds run t ≡ None →
-      IsGrown net bounds ls (run ∷ runs) → IsGrown net bounds (ls ++ AtLine t (named net bounds run t) ∷ []) (moved net bounds run t ∷ runs)
+      IsGrown net bounds ls (run ∷ runs) → IsGrown net bounds (ls ++ AtLine t (called net bounds run t) ∷ []) (moved net bounds run t ∷ runs)
   grown_at ls run runs t is accepted g = record { grown = go }
     where
       go : (trees : List Tree) → AreTreesFrom net bounds (moved net bounds run t ∷ runs) trees →
-          (tree : Tree) × ((ls ++ AtLine t (named net bounds run t) ∷ []) ++ all_lines trees ≡ lines_of tree) × IsTreeOf net bounds tree
+          (tree : Tree) × ((ls ++ AtLine t (called net bounds run t) ∷ []) ++ all_lines trees ≡ lines_of tree) × IsTreeOf net bounds tree
       go [] no_tree = absurd no_tree
       go (below ∷ trees) are =
-          let whole = g.grown (at t (named net bounds run t) below ∷ trees) (names run t below is accepted are.0, are.1) in
-          (whole.0, more ls (AtLine t (named net bounds run t)) (all_lines (below ∷ trees)) ∙ whole.1, whole.2)
+          let whole = g.grown (at t (called net bounds run t) below ∷ trees) (names run t below is accepted are.0, are.1) in
+          (whole.0, more ls (AtLine t (called net bounds run t)) (all_lines (below ∷ trees)) ∙ whole.1, whole.2)
 
   pub grown_ask : (ls : List Line) (run : Run) (runs : List Run) (t p : ℕ) → due net bounds run ≡ Some t → moment_refusal net bounds run t ≡ Some (Awaiting p) →
       IsGrown net bounds ls (run ∷ runs) → IsGrown net bounds (ls ++ AskLine p ∷ []) (handed run p true ∷ (handed run p false ∷ runs))

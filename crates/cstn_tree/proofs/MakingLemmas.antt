@@ -7,9 +7,9 @@ use Rattle.std.proofs.lemmas.List.{map-append, reverse-append}
 use Rattle.cstn_label.specs.declared.props.Prop.{Prop}
 use Rattle.cstn_label.specs.Bounds.{Bound}
 use Rattle.cstn_net.specs.Networks.{Network, count}
-use Rattle.cstn_exec.specs.Runs.{Run, start, due, named, is_awaited, is_ready, is_before, observed_at, outcome_of}
+use Rattle.cstn_exec.specs.Runs.{Run, start, due, called, is_awaited, is_ready, is_before, observed_at, outcome_of}
 use Rattle.cstn_exec.specs.Moves.{Refusal, Awaiting, moment_refusal, moved, handed, outcome_refusal, unless_unseen, unless_known}
-use Rattle.cstn_exec.specs.Examples.{run_after, run_unless, Moment as MomentEvent, See as SeeEvent}
+use Rattle.cstn_exec.specs.Answers.{run_after, run_unless, Moment as MomentEvent, See as SeeEvent}
 use Rattle.cstn_tree.specs.declared.making.Step.{Step}
 use Rattle.cstn_tree.specs.declared.making.Step.TheVariants.{Moment, See}
 use Rattle.cstn_tree.specs.declared.making.Path.{Path}
@@ -54,7 +54,7 @@ module _ (net : Network) (bounds : List Bound) where
       }
 
   pub making_at : (run after : Run) (m new : Making) (t : ℕ) (xs : List ℕ) → due net bounds run ≡ Some t → moment_refusal net bounds run t ≡ None →
-      IsMaking net bounds run m → xs ≡ named net bounds run t → new.pending.items ≡ m.pending.items →
+      IsMaking net bounds run m → xs ≡ called net bounds run t → new.pending.items ≡ m.pending.items →
       new.path.items ≡ m.path.items ++ Moment t ∷ [] → new.lines.items ≡ m.lines.items ++ At t xs ∷ [] →
       after ≡ run_after net bounds run (MomentEvent t) → IsMaking net bounds after new
   making_at run after m new t xs is accepted making names pending path lines told =

@@ -6,8 +6,7 @@ use Rattle.std.specs.Option.{option_and_then}
 use Rattle.std.proofs.lemmas.Bool.{cases_Bool, and_parts, false≢true, eqb-true, both_ways}
 use Rattle.std.proofs.lemmas.List.Elements.{All-contains}
 use Rattle.std.proofs.lemmas.List.Folds.{list_all_at}
-use Rattle.cstn_net.specs.Networks.{Network, IsNetwork, Constraint, Observes, count, limit}
-use Rattle.cstn_net.specs.Read.{is_prop}
+use Rattle.cstn_net.specs.Networks.{Network, IsNetwork, Constraint, Observes, count, limit, is_prop}
 use Rattle.cstn_exec.specs.Runs.{is_possible}
 use Rattle.cstn_exec.proofs.Knowing.{at_observer}
 use Rattle.cstn_exec.proofs.Options.{is_none-true, is_some-true}

@@ -3,8 +3,7 @@ use Rattle.std.specs.Prelude.{ℕ, ◌≡◌, ◌+◌, max, Bool, true, false, �
 use Rattle.std.specs.Int.Signed.{le_z}
 use Rattle.std.specs.List.{position, list_all, range_with_len}
 use Rattle.std.specs.Option.{option_and_then}
-use Rattle.cstn_net.specs.Networks.{Network, Constraint, count, limit}
-use Rattle.cstn_net.specs.Read.{is_prop}
+use Rattle.cstn_net.specs.Networks.{Network, Constraint, count, limit, is_prop}
 use Rattle.cstn_exec.specs.Runs.{is_possible}
 use Rattle.cstn_tree.specs.Trees.{Tree, is_named, lines_of}
 use Rattle.cstn_tree.specs.Trees.Tree.{at, ask, done}

@@ -2,9 +2,9 @@
 use Rattle.std.specs.Prelude.{ℕ, ◌≡◌, true, false, List, [], ◌∷◌, ◌++◌, Some, None}
 use Rattle.cstn_label.specs.Bounds.{Bound}
 use Rattle.cstn_net.specs.Networks.{Network, count}
-use Rattle.cstn_exec.specs.Runs.{Run, start, due, named}
+use Rattle.cstn_exec.specs.Runs.{Run, start, due, called}
 use Rattle.cstn_exec.specs.Moves.{Awaiting, moment_refusal, moved, handed}
-use Rattle.cstn_exec.specs.Examples.{Event, run_after}
+use Rattle.cstn_exec.specs.Answers.{Event, run_after}
 use Rattle.cstn_tree.specs.Trees.{Tree, Line, lines_of}
 use Rattle.cstn_tree.specs.Trees.Tree.{at, ask, done}
 use Rattle.cstn_tree.specs.Whole.{all_lines}
@@ -17,7 +17,7 @@ pub data IsTreeFrom (net : Network) (bounds : List Bound) : Run → Tree → Typ
       IsTreeFrom net bounds (handed run p true) one → IsTreeFrom net bounds (handed run p false) other →
       IsTreeFrom net bounds run (ask p one other)
   names : (run : Run) (t : ℕ) (next : Tree) → due net bounds run ≡ Some t → moment_refusal net bounds run t ≡ None →
-      IsTreeFrom net bounds (moved net bounds run t) next → IsTreeFrom net bounds run (at t (named net bounds run t) next)
+      IsTreeFrom net bounds (moved net bounds run t) next → IsTreeFrom net bounds run (at t (called net bounds run t) next)
 
 -- the tree from the run in which nothing is executed yet
 abbrev pub IsTreeOf : Network → List Bound → Tree → Type 0

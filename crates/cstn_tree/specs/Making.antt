@@ -3,7 +3,7 @@ use Rattle.std.specs.Prelude.{◌≡◌, List, ◌∷◌, map, reverse}
 use Rattle.cstn_label.specs.Bounds.{Bound}
 use Rattle.cstn_net.specs.Networks.{Network, count}
 use Rattle.cstn_exec.specs.Runs.{Run, start}
-use Rattle.cstn_exec.specs.Examples.{Event, Moment as MomentEvent, See as SeeEvent}
+use Rattle.cstn_exec.specs.Answers.{Event, Moment as MomentEvent, See as SeeEvent}
 use Rattle.cstn_tree.specs.declared.making.Step.{Step}
 use Rattle.cstn_tree.specs.declared.making.Step.TheVariants.{Moment, See}
 use Rattle.cstn_tree.specs.declared.making.Path.{Path}

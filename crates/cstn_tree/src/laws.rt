@@ -1,5 +1,5 @@
 // Laws of trees.
-ghost use Rattle.std.specs.Prelude.{ℕ, ◌≡◌, ◌<◌, [], ◌∷◌, List, None, Some};
+ghost use Rattle.std.specs.Prelude.{ℕ, ◌≡◌, ◌<◌, ◌≤◌, [], ◌∷◌, List, length, None, Some};
 ghost use Rattle.cstn_label.specs.Labels.{Scenario};
 ghost use Rattle.cstn_label.specs.Bounds.{Bound};
 ghost use Rattle.cstn_net.specs.Networks.{Network, IsNetwork, IsWellFormed, count};
@@ -15,6 +15,8 @@ ghost use Rattle.cstn_tree.specs.Written.{AreWritten, FitsText};
 ghost use Rattle.cstn_tree.specs.Read.{the_tree};
 ghost use Rattle.cstn_tree.specs.Examples.{branch_tree, asked_first, named_twice, left_out, slow_branch, crossed, crossed_tree, alone};
 
+use cstn_exec::due_is_exact;
+
 /// The table that a good tree stands for is a strategy, so a network that has a good tree is consistent.
 #[tactic(auto, using(crate::proofs::Strategies::good_is_strategy))]
 pub fn good_trees_are_strategies()
@@ -23,13 +25,24 @@ pub fn good_trees_are_strategies()
 {}
 
 /// The tree of a network, by bounds that have a strategy with each time-point at the least moment that they leave it: no line
-/// of it breaks, its table has each time-point at its least moment, and a text can say it.
+/// of it breaks, its table has each time-point at its least moment, and a text can say it with a load and names in their ranges.
 pub fn made_trees_are_good()
     ensures good { (net : Network) (bounds : List Bound) (table : Table) → IsWellFormed net → IsEarliest net bounds table → (tree : Tree) → IsTreeOf net bounds tree → IsUnbroken net tree }
     ensures least { (net : Network) (bounds : List Bound) (table : Table) → IsWellFormed net → IsEarliest net bounds table → (tree : Tree) → IsTreeOf net bounds tree → (s : Scenario) (x : ℕ) → x < count net → IsLeast net s x (table_of tree s x) }
     ensures among { (net : Network) (bounds : List Bound) (tree : Tree) → IsTreeOf net bounds tree → IsAmong (count net) tree }
     ensures fits { (net : Network) (bounds : List Bound) (table : Table) → IsWellFormed net → IsEarliest net bounds table → (tree : Tree) → IsTreeOf net bounds tree → FitsText tree }
+    ensures written { (names : List (List ℕ)) (load : ℕ) (net : Network) (bounds : List Bound) (table : Table) → IsWellFormed net → IsEarliest net bounds table
+        → length names ≡ count net → 1 ≤ load → load ≤ 4194304 → (tree : Tree) → IsTreeOf net bounds tree → AreWritten names load tree }
 {}
+
+/// A network has one tree by given bounds at most, and one by bounds that have a strategy with each time-point at the least moment
+/// that they leave it.
+pub fn networks_have_one_tree()
+    ensures one { (net : Network) (bounds : List Bound) (tree other : Tree) → IsTreeOf net bounds tree → IsTreeOf net bounds other → tree ≡ other }
+    ensures some { (net : Network) (bounds : List Bound) (table : Table) → IsWellFormed net → IsEarliest net bounds table → (tree : Tree) × IsTreeOf net bounds tree }
+{
+    due_is_exact();
+}
 
 /// The text of a load and a tree is read back as the tree, where each `at` names a time-point, no branch has more than 2,100
 /// lines, the time-points have names and the numbers are in their ranges.

@@ -7,9 +7,9 @@ ghost use Rattle.cstn_net.specs.Networks.{count};
 ghost use Rattle.cstn_net.specs.Strategies.{IsLeast};
 ghost use Rattle.cstn_net.specs.Read.{the_network};
 ghost use Rattle.cstn_log.specs.Plans.{the_bounds};
-ghost use Rattle.cstn_exec.specs.Runs.{start, due, named};
+ghost use Rattle.cstn_exec.specs.Runs.{start, due, called};
 ghost use Rattle.cstn_exec.specs.Moves.{Awaiting, moment_refusal};
-ghost use Rattle.cstn_exec.specs.Examples.{Moment, run_after};
+ghost use Rattle.cstn_exec.specs.Answers.{Moment, run_after};
 ghost use Rattle.cstn_tree.specs.Trees.{IsAmong, table_of};
 ghost use Rattle.cstn_tree.specs.Good.{IsUnbroken};
 ghost use Rattle.cstn_tree.specs.Made.{IsTreeOf, IsGrown, run_along};
@@ -201,7 +201,7 @@ fn follow(exec: &mut Executive, steps: &[Step])
 // Tells the executive a moment or an outcome. What it refuses changes nothing.
 fn tell(exec: &mut Executive, step: Step)
     ensures run { exec.new.run ≡ run_after (the_network exec.old.net) (the_bounds exec.old.bounds) exec.old.run (the_event step) }
-    ensures named { (t : ℕ) → the_event step ≡ Moment t → moment_refusal (the_network exec.old.net) (the_bounds exec.old.bounds) exec.old.run t ≡ None → exec.new.named ≡ named (the_network exec.old.net) (the_bounds exec.old.bounds) exec.old.run t }
+    ensures named { (t : ℕ) → the_event step ≡ Moment t → moment_refusal (the_network exec.old.net) (the_bounds exec.old.bounds) exec.old.run t ≡ None → exec.new.named ≡ called (the_network exec.old.net) (the_bounds exec.old.bounds) exec.old.run t }
     ensures same { exec.new ≡ record exec.old { run = exec.new.run; named = exec.new.named } }
 {
     match step {

@@ -1,10 +1,9 @@
 // The moments that the bounds of a plan ask for.
 ghost use Rattle.std.specs.Prelude.{ℕ, ◌≡◌, ◌<◌, ◌==◌, ◌&&◌, cond, max, slice_index};
-ghost use Rattle.cstn_label.specs.Read.{marks};
+ghost use Rattle.cstn_label.specs.Read.{marks, known_value};
 ghost use Rattle.cstn_log.specs.Asked.{moment_of, greatest};
 ghost use Rattle.cstn_log.specs.Plans.{the_bounds};
 ghost use Rattle.cstn_exec.specs.Runs.{is_possible};
-ghost use Rattle.cstn_exec.specs.Read.{value_in};
 
 use cstn_label::{Bound, Known, Label, labels_are_their_marks};
 use cstn_log::SoundPlan;
@@ -14,7 +13,8 @@ pub type Moments = [u32; 1024];
 
 // For each time-point the greatest moment that a bound on it with a possible label asks for, or 0 if there is none.
 pub fn asked(plan: &SoundPlan, known: &Known) -> Moments
-    ensures { (x : ℕ) → x < 1024 → slice_index result x ≡ greatest (λ b. (b.node == x) && is_possible (value_in known.now) b.label) (the_bounds plan.now.bounds) }
+    ensures { (x : ℕ) → x < 1024 → slice_index result x
+        ≡ greatest (λ b. (b.node == x) && is_possible (known_value known.now) b.label) (the_bounds plan.now.bounds) }
 {
     plan.network();
     let mut after = zeros();
@@ -32,7 +32,9 @@ fn zeros() -> Moments
 
 fn note(after: &mut Moments, bound: Bound, known: &Known)
     requires { bound.node.0 < 1024 }
-    ensures { (x : ℕ) → x < 1024 → slice_index after.new x ≡ cond ((bound.node.0 == x) && is_possible (value_in known.now) (marks bound.label)) (max (slice_index after.old x) (moment_of bound.least)) (slice_index after.old x) }
+    ensures { (x : ℕ) → x < 1024 → slice_index after.new x
+        ≡ cond ((bound.node.0 == x) && is_possible (known_value known.now) (marks bound.label))
+        (max (slice_index after.old x) (moment_of bound.least)) (slice_index after.old x) }
 {
     let x = bound.node.index();
     let moment = moment_of(bound.least);
@@ -43,7 +45,7 @@ fn note(after: &mut Moments, bound: Bound, known: &Known)
 
 /// Whether the label may still hold: what is known rules out none of its marks.
 pub fn is_possible(label: Label, known: &Known) -> bool
-    ensures possible { result ≡ is_possible (value_in known.now) (marks label) }
+    ensures possible { result ≡ is_possible (known_value known.now) (marks label) }
 {
     labels_are_their_marks();
     label.possible(*known)

@@ -1,9 +1,9 @@
 // What is known and awaited at a moment.
 ghost use Rattle.std.specs.Prelude.{ℕ, ◌≡◌, ◌<◌, ◌≤◌, ◌+◌, Some, None, IfSome};
 ghost use Rattle.std.specs.Option.{option_map};
+ghost use Rattle.cstn_label.specs.Read.{known_value};
 ghost use Rattle.cstn_net.specs.Read.{the_network};
 ghost use Rattle.cstn_exec.specs.Runs.{observed_at, ready_at, is_ready, known, is_awaited, awaited};
-ghost use Rattle.cstn_exec.specs.Read.{value_in};
 
 use super::Executive;
 use cstn_label::{Known, Prop};
@@ -74,7 +74,7 @@ impl Executive {
     /// The values that are known at the moment t, in ticks: the outcomes that were seen of the propositions whose reactions
     /// have passed by then, each counted from the moment of the observer.
     pub fn known(&self, t: u32) -> Known
-        ensures known { (p : ℕ) → value_in result p ≡ known (the_network self.now.net) self.now.run (t + 1) p }
+        ensures known { (p : ℕ) → known_value result p ≡ known (the_network self.now.net) self.now.run (t + 1) p }
     {
         self.is_right();
         let mut known = Known::nothing();

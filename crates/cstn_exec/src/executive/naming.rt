@@ -3,7 +3,7 @@ ghost use Rattle.std.specs.Prelude.{◌≡◌, ◌<◌, ◌≤◌, ◌&&◌, not
 ghost use Rattle.std.specs.List.{All, filter, range_with_len};
 ghost use Rattle.cstn_net.specs.Read.{the_network};
 ghost use Rattle.cstn_log.specs.Plans.{the_bounds};
-ghost use Rattle.cstn_exec.specs.Runs.{AreAskedUnlessAwaited, due, is_free_by, named};
+ghost use Rattle.cstn_exec.specs.Runs.{AreAskedUnlessAwaited, due, is_free_by, called};
 ghost use Rattle.cstn_exec.specs.Moves.{moment_refusal, executed};
 
 use super::Executive;
@@ -24,7 +24,7 @@ impl Executive {
         requires accepted { moment_refusal (the_network self.old.net) (the_bounds self.old.bounds) self.old.run t ≡ None }
         requires due { due (the_network self.old.net) (the_bounds self.old.bounds) self.old.run ≡ Some first.now.moment }
         requires asked { AreAskedUnlessAwaited (the_network self.old.net) (the_bounds self.old.bounds) self.old.run first.now.moment first.now.asked }
-        ensures { self.new ≡ record self.old { named = named (the_network self.old.net) (the_bounds self.old.bounds) self.old.run t } }
+        ensures { self.new ≡ record self.old { named = called (the_network self.old.net) (the_bounds self.old.bounds) self.old.run t } }
     {
         self.is_right();
         match &first.asked {

@@ -31,7 +31,8 @@ impl Executive {
     fn next_ready(&self, t: u32) -> u32
         requires { t ≤ 1000000 }
         ensures later { t < result }
-        ensures same { (w p : ℕ) → t ≤ w → w < result → is_ready (the_network self.now.net) self.now.run (w + 1) p ≡ true → is_ready (the_network self.now.net) self.now.run (t + 1) p ≡ true }
+        ensures same { (w p : ℕ) → t ≤ w → w < result → is_ready (the_network self.now.net) self.now.run (w + 1) p ≡ true
+            → is_ready (the_network self.now.net) self.now.run (t + 1) p ≡ true }
     {
         self.is_right();
         let mut next = u32::MAX;
@@ -46,8 +47,10 @@ impl Executive {
         requires waits { is_done self.now.run ≡ false }
         requires asked { AreAskedAt (the_network self.now.net) (the_bounds self.now.bounds) self.now.run t asked.now }
         ensures from { t ≤ result }
-        ensures held { (x u : ℕ) → x < count (the_network self.now.net) → slice_index_or self.now.run.moments x None ≡ None → t ≤ u → u < result → u < earliest (the_network self.now.net) (the_bounds self.now.bounds) self.now.run (t + 1) x }
-        ensures free { (x : ℕ) × (x < count (the_network self.now.net)) × (slice_index_or self.now.run.moments x None ≡ None) × (earliest (the_network self.now.net) (the_bounds self.now.bounds) self.now.run (t + 1) x ≤ result) }
+        ensures held { (x u : ℕ) → x < count (the_network self.now.net) → slice_index_or self.now.run.moments x None ≡ None → t ≤ u → u < result
+            → u < earliest (the_network self.now.net) (the_bounds self.now.bounds) self.now.run (t + 1) x }
+        ensures free { (x : ℕ) × (x < count (the_network self.now.net)) × (slice_index_or self.now.run.moments x None ≡ None)
+            × (earliest (the_network self.now.net) (the_bounds self.now.bounds) self.now.run (t + 1) x ≤ result) }
     {
         self.is_right();
         least_from(&self.moments, asked, t)

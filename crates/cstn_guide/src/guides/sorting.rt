@@ -1,14 +1,11 @@
-// Which of the time-points to be executed at a moment are named, and which are left out.
+// Which of the time-points that are called at a moment are named, and which are left out.
 ghost use Rattle.std.specs.Prelude.{ℕ, ◌≡◌, ◌<◌, ◌≤◌, None, not, length, map, slice_index_or, slice_set, true};
-ghost use Rattle.std.specs.List.{filter};
-ghost use Rattle.cstn_label.specs.Read.{marks};
+ghost use Rattle.cstn_label.specs.Read.{marks, known_value};
 ghost use Rattle.cstn_net.specs.Networks.{IsWellFormed, Observes, count};
 ghost use Rattle.cstn_net.specs.Read.{the_network};
-ghost use Rattle.cstn_lift.specs.Completion.{completed_label};
 ghost use Rattle.cstn_lift.specs.Read.{the_labelled};
 ghost use Rattle.cstn_exec.specs.Moves.{outcome_refusal};
-ghost use Rattle.cstn_exec.specs.Read.{value_in};
-ghost use Rattle.cstn_guide.specs.Guides.{fits_surely, holds_by, denied, all_denied, with_left};
+ghost use Rattle.cstn_guide.specs.Guides.{fits_surely, holds_by, holding, others, denied, all_denied, with_left};
 ghost use Rattle.cstn_guide.specs.Read.{AreFresh};
 
 use cstn_exec::Executive;
@@ -22,8 +19,8 @@ const NAMES_IN_PLACE: usize = 8;
 /// The time-points that are named at one moment.
 pub type Names = SmallVec<NodeId, NAMES_IN_PLACE>;
 
-// Of the time-points that the executive named last, names each whose completed label holds by what is known, and leaves out
-// the others.
+// Of the time-points that were called last, names each whose completed label holds by what is known, and leaves out the
+// others.
 pub fn sort_out(
     executive: &mut Executive,
     left: &mut Vec<bool>,
@@ -36,9 +33,12 @@ pub fn sort_out(
     requires room { count (the_network executive.old.net) ≤ named.old.capacity }
     requires well_formed { IsWellFormed (the_network executive.old.net) }
     requires fresh { AreFresh (the_network executive.old.net) executive.old.run executive.old.named }
-    ensures executive { executive.new ≡ record executive.old { run = all_denied (the_network executive.old.net) (filter (λ x. not (holds_by (value_in known.now) (completed_label (the_labelled labels.now) x))) executive.old.named) executive.old.run } }
-    ensures left { left.new.items ≡ with_left (filter (λ x. not (holds_by (value_in known.now) (completed_label (the_labelled labels.now) x))) executive.old.named) left.old.items }
-    ensures named { map (λ x. x.0) named.new.items ≡ filter (λ x. holds_by (value_in known.now) (completed_label (the_labelled labels.now) x)) executive.old.named }
+    ensures executive { executive.new ≡ record executive.old {
+      run = all_denied (the_network executive.old.net)
+          (others (the_labelled labels.now) (known_value known.now) executive.old.named) executive.old.run;
+    } }
+    ensures left { left.new.items ≡ with_left (others (the_labelled labels.now) (known_value known.now) executive.old.named) left.old.items }
+    ensures named { map (λ x. x.0) named.new.items ≡ holding (the_labelled labels.now) (known_value known.now) executive.old.named }
     ensures capacity { named.new.capacity ≡ named.old.capacity }
 {
     named.clear();
@@ -57,7 +57,8 @@ fn leave_out(executive: &mut Executive, left: &mut Vec<bool>, x: NodeId)
     requires inside { x.0 < count (the_network executive.old.net) }
     requires size { length left.old.items ≡ count (the_network executive.old.net) }
     requires unseen { (p : ℕ) → Observes (the_network executive.old.net) x.0 p → outcome_refusal (the_network executive.old.net) executive.old.run p ≡ None }
-    ensures executive { executive.new ≡ record executive.old { run = denied (slice_index_or (the_network executive.old.net).observes x.0 None) executive.old.run } }
+    ensures executive { executive.new
+        ≡ record executive.old { run = denied (slice_index_or (the_network executive.old.net).observes x.0 None) executive.old.run } }
     ensures left { left.new.items ≡ slice_set left.old.items x.0 true }
 {
     left[x.index()] = true;
@@ -68,7 +69,7 @@ fn leave_out(executive: &mut Executive, left: &mut Vec<bool>, x: NodeId)
 
 // Whether each proposition that the label marks is known, with a value that fits.
 fn holds_by(label: Label, known: &Known) -> bool
-    ensures { result ≡ holds_by (value_in known.now) (marks label) }
+    ensures { result ≡ holds_by (known_value known.now) (marks label) }
 {
     for index in 0..52 {
         let p = Prop { index };

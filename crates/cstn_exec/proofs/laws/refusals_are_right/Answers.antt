@@ -12,7 +12,7 @@ pub returns-clause-awaiting : goal.returns-clause-awaiting
 returns-clause-awaiting c = refused_awaiting
 
 pub returns-clause-late : goal.returns-clause-late
-returns-clause-late c = refused_late
+returns-clause-late c net bounds run t u plan = refused_late net bounds plan.table run t u plan.well_formed plan.earliest
 
 pub returns-clause-outcome : goal.returns-clause-outcome
 returns-clause-outcome c = awaited_free

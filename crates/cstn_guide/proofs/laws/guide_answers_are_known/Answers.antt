@@ -18,3 +18,7 @@ returns-clause-second_test c = refl
 pub returns-clause-no_second_test : goal.returns-clause-no_second_test
 unfolding awaited is_possible holds_by
 returns-clause-no_second_test c = refl
+
+pub returns-clause-slow_second_test : goal.returns-clause-slow_second_test
+unfolding awaited is_possible holds_by
+returns-clause-slow_second_test c = refl

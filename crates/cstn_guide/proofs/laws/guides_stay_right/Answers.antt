@@ -2,10 +2,10 @@ use Rattle.cstn_guide.proofs.Advancing.{begun_guided, advanced_guided, open_from
 use Rattle.cstn_guide.proofs.laws.guides_stay_right.Goals as goal
 
 pub returns-clause-begun : goal.returns-clause-begun
-returns-clause-begun c m bounds table good wf plan = begun_guided m bounds table wf plan
+returns-clause-begun c m bounds plan = begun_guided m bounds plan.table plan.well_formed plan.earliest
 
 pub returns-clause-advanced : goal.returns-clause-advanced
-returns-clause-advanced c m bounds table g t good wf plan right ok = advanced_guided m bounds table good wf plan g right t ok
+returns-clause-advanced c m bounds g t plan right ok = advanced_guided m bounds plan.table plan.labelled plan.well_formed plan.earliest g right t ok
 
 pub returns-clause-noted : goal.returns-clause-noted
 returns-clause-noted c m g p v good wf right ok letter = noted_guided m wf g right p v (open_from m g p ok) letter

@@ -4,7 +4,7 @@ use Rattle.cstn_net.specs.Read.{the_network}
 use Rattle.cstn_log.specs.Plans.{the_bounds}
 use Rattle.cstn_exec.specs.Runs.{Run}
 use Rattle.cstn_exec.specs.Read.{ExecParts}
-use Rattle.cstn_exec.specs.Examples.{run_after}
+use Rattle.cstn_exec.specs.Answers.{run_after}
 use Rattle.cstn_tree.specs.declared.making.Step.{Step}
 use Rattle.cstn_tree.specs.Made.{run_along}
 use Rattle.cstn_tree.specs.Making.{the_event, the_events}

@@ -11,7 +11,7 @@ use Rattle.cstn_exec.specs.Moves.{executed}
 use Rattle.cstn_exec.specs.Right.{IsRight, IsCalled}
 use Rattle.cstn_exec.specs.Read.{ExecParts, refusal_of}
 use Rattle.cstn_exec.proofs.Dues.{accepted_right}
-use Rattle.cstn_exec.proofs.Refusals.{named_called, named_ascend}
+use Rattle.cstn_exec.proofs.Refusals.{called_exactly, called_ascend}
 use Rattle.cstn_exec.proofs.Naming.{named_within}
 use Rattle.cstn_exec.proofs.executive.Executive.moment.Goals as goal
 
@@ -54,9 +54,9 @@ returns-clause-named c x =
     let none = sym c.due_if_accepted.ensures.refused ∙ ap refusal_of c.in-Ok.is in
     let names = ap (λ (e : ExecParts). e.named) (c.self.view_is ∙ c.name.ensures) in
     subst (λ (ns : List ℕ). Contains ns x ↔ IsCalled net c.args.self.now.run c.args.t x) (sym names)
-    (named_called net bounds known.earliest.0 c.args.self.now.run c.args.t known.well_formed known.earliest.1 known.right none x)
+    (called_exactly net bounds known.earliest.0 c.args.self.now.run c.args.t known.well_formed known.earliest.1 known.right none x)
 
 pub returns-clause-ascending : goal.returns-clause-ascending
 returns-clause-ascending c =
     subst (λ (ns : List ℕ). IsStrictlyIncreasing ns) (sym (ap (λ (e : ExecParts). e.named) (c.self.view_is ∙ c.name.ensures)))
-    (named_ascend (the_network c.args.self.now.net) (the_bounds c.args.self.now.bounds) c.args.self.now.run c.args.t)
+    (called_ascend (the_network c.args.self.now.net) (the_bounds c.args.self.now.bounds) c.args.self.now.run c.args.t)

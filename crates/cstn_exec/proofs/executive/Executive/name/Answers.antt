@@ -4,11 +4,11 @@ use Rattle.std.specs.List.{filter, range_with_len}
 use Rattle.std.proofs.lemmas.Bool.{cases_lt, true≢false}
 use Rattle.cstn_net.specs.Read.{the_network}
 use Rattle.cstn_log.specs.Plans.{the_bounds}
-use Rattle.cstn_exec.specs.Runs.{AreAskedUnlessAwaited, is_free_by, named}
+use Rattle.cstn_exec.specs.Runs.{AreAskedUnlessAwaited, is_free_by, called}
 use Rattle.cstn_exec.specs.Read.{ExecParts}
 use Rattle.cstn_exec.proofs.Judging.{judged}
 use Rattle.cstn_exec.proofs.Refusals.{accepted_before}
-use Rattle.cstn_exec.proofs.Naming.{named_by}
+use Rattle.cstn_exec.proofs.Naming.{called_by}
 use Rattle.cstn_exec.proofs.executive.Executive.name.Goals as goal
 use Rattle.cstn_exec.proofs.executive.Executive.name.Goals.{in_default-via-in-Some+else-first-t, in_default-via-in_default}
 
@@ -26,7 +26,7 @@ returns-in-Some c =
     (subst (AreAskedUnlessAwaited net bounds run first) c.in-Some.is c.requires.asked) in
     let is = c.collect.ensures.named
     ∙ ap (λ (ms : List (Option ℕ)). filter (is_free_by ms c.in-Some.asked c.args.t) (range_with_len 0 (length ms))) moments
-    ∙ named_by net bounds run c.args.t c.in-Some.asked c.is_right.ensures.well_formed.few_points c.is_right.ensures.right.moments asked in
+    ∙ called_by net bounds run c.args.t c.in-Some.asked c.is_right.ensures.well_formed.few_points c.is_right.ensures.right.moments asked in
     ap (λ (v : ExecParts). record v { named = map (λ x. x.0) c.collect.new.named.items }) c.self.view_is
     ∙ ap (λ (ns : List ℕ). record c.args.self.now { named = ns }) is
 
@@ -41,7 +41,7 @@ returns-in_default c =
     let from = ok.from in
     let before = λ (below : c.args.t < first). (accepted_before net bounds known.earliest.0 run first c.args.t known.well_formed known.earliest.1 known.right
     c.requires.due (record { from = from; below = below })).1 in
-    let nobody : named net bounds run c.args.t ≡ [] = elim c.in_default.branch [
+    let nobody : called net bounds run c.args.t ≡ [] = elim c.in_default.branch [
       | in_default-via-in-Some+else-first-t w ↦ before w.if-first-t.false
       | in_default-via-in_default w ↦ elim (cases_lt c.args.t first) [
         | inl below ↦ before below

@@ -1,11 +1,11 @@
 use Rattle.std.proofs.Common.{ℕ, ◌≡◌, ◌<◌, ◌&&◌, take}
 use Rattle.std.specs.Prelude.{slice_index, ◌==◌}
+use Rattle.cstn_label.specs.Read.{known_value}
 use Rattle.cstn_log.specs.Asked.{greatest}
 use Rattle.cstn_log.specs.Plans.{the_bounds}
 use Rattle.cstn_exec.specs.Runs.{is_possible}
-use Rattle.cstn_exec.specs.Read.{value_in}
 use Rattle.cstn_exec.proofs.executive.asked.asked.Given as goal
 
 abbrev pub invariant-loop-k : goal.invariant-loop-k
 invariant-loop-k l = (x : ℕ) → x < 1024 →
-    slice_index l.after x ≡ greatest (λ b. (b.node == x) && is_possible (value_in l.fn.known) b.label) (the_bounds (take l.k l.fn.plan.bounds))
+    slice_index l.after x ≡ greatest (λ b. (b.node == x) && is_possible (known_value l.fn.known) b.label) (the_bounds (take l.k l.fn.plan.bounds))

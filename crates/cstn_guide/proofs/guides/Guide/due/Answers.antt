@@ -30,12 +30,12 @@ returns-clause-first c =
 pub returns-clause-on_time : goal.returns-clause-on_time
 returns-clause-on_time c =
     let is = c.is_guided.ensures in
-    on_time (the_labelled c.args.self.now.labelled) is.labelled is.well_formed c.args.self.now.state is.guided
+    on_time (the_labelled c.args.self.now.labelled) is.planned.labelled is.planned.well_formed c.args.self.now.state is.guided
 
 pub returns-clause-led : goal.returns-clause-led
 returns-clause-led c =
     let is = c.is_guided.ensures in
     let m = the_labelled c.args.self.now.labelled in
     if_none c.due.result (IsLed m c.args.self.now.state) (λ none.
-    led m is.labelled is.well_formed c.args.self.now.state is.guided (the_bounds c.args.self.now.bounds) is.earliest.0 is.earliest.1
+    led m is.planned.labelled is.planned.well_formed c.args.self.now.state is.guided (the_bounds c.args.self.now.bounds) is.planned.table is.planned.earliest
     ((returns-clause-none c).0 none))

@@ -3,25 +3,25 @@ use Rattle.std.specs.Prelude.{◌↔◌, slice_index_or}
 use Rattle.std.specs.List.{Contains}
 use Rattle.std.specs.List.Sorted.{IsStrictlyIncreasing}
 use Rattle.std.proofs.Math.Path.{fun_ext}
+use Rattle.cstn_label.specs.Read.{known_value}
 use Rattle.cstn_net.specs.Networks.{Network, IsWellFormed}
-use Rattle.cstn_net.specs.Strategies.{Table}
 use Rattle.cstn_net.specs.Read.{the_network}
-use Rattle.cstn_log.specs.Plans.{IsEarliest, the_bounds}
+use Rattle.cstn_log.specs.Plans.{the_bounds}
 use Rattle.cstn_lift.specs.Labelled.{Labelled}
 use Rattle.cstn_lift.specs.Lowered.{lowered}
 use Rattle.cstn_lift.specs.Read.{the_labelled}
-use Rattle.cstn_exec.specs.Runs.{Run, known, named}
+use Rattle.cstn_exec.specs.Runs.{Run, known, called}
 use Rattle.cstn_exec.specs.Moves.{moment_refusal, moved}
 use Rattle.cstn_exec.specs.Right.{IsRight}
-use Rattle.cstn_exec.specs.Read.{ExecParts, value_in, the_refusal}
-use Rattle.cstn_guide.specs.Guides.{Guided, told, left_out, advanced}
-use Rattle.cstn_guide.specs.Sound.{IsToldAt, IsLeftAt, IsGuided, IsOnTime}
-use Rattle.cstn_guide.specs.Read.{GuideParts, AreFresh}
-use Rattle.cstn_guide.proofs.Telling.{told_called, left_called, told_ascend}
+use Rattle.cstn_exec.specs.Read.{ExecParts, the_refusal}
+use Rattle.cstn_guide.specs.Guides.{Guided, named, left_out, advanced}
+use Rattle.cstn_guide.specs.Sound.{IsPlanned, IsNamedAt, IsLeftAt, IsGuided, IsOnTime}
+use Rattle.cstn_guide.specs.Read.{GuideParts, parts, advanced_on, AreFresh}
+use Rattle.cstn_guide.proofs.Naming.{named_exactly, left_exactly, named_ascend}
 use Rattle.cstn_guide.proofs.Denying.{left_in}
-use Rattle.cstn_guide.proofs.Advancing.{named_fresh, advanced_guided}
+use Rattle.cstn_guide.proofs.Advancing.{called_fresh, advanced_guided}
 use Rattle.cstn_guide.proofs.Timely.{on_time}
-use Rattle.cstn_guide.proofs.Steps.{parts, same_parts, sorted_state, sorted_names}
+use Rattle.cstn_guide.proofs.Steps.{same_parts, sorted_state, sorted_names}
 use Rattle.cstn_guide.proofs.guides.Guide.moment.Goals as goal
 
 pub returns-in-Err-clause-refused : goal.returns-in-Err-clause-refused
@@ -35,31 +35,29 @@ pub returns-in-Err-clause-on_time : goal.returns-in-Err-clause-on_time
 returns-in-Err-clause-on_time c =
     let is = c.is_guided.ensures in
     let left = c.self.inside.left.items in
-    let before = on_time (the_labelled c.args.self.now.labelled) is.labelled is.well_formed c.args.self.now.state is.guided in
+    let before = on_time (the_labelled c.args.self.now.labelled) is.planned.labelled is.planned.well_formed c.args.self.now.state is.guided in
     subst (λ (e : ExecParts). IsOnTime (the_labelled c.args.self.now.labelled) (record { run = e.run; left = left })) (sym c.in-Err.ensures.same)
     (subst (λ (s : Guided). IsOnTime (the_labelled c.args.self.now.labelled) s) (sym (ap (λ (v : GuideParts). v.state) c.self.view_is)) before)
 
 pub sort_out-requires-clause-well_formed : goal.sort_out-requires-clause-well_formed
 sort_out-requires-clause-well_formed c =
-    let wf = subst (λ (v : GuideParts). IsWellFormed (lowered (the_labelled v.labelled))) (sym c.self.view_is) c.is_guided.ensures.well_formed in
+    let wf = subst (λ (v : GuideParts). IsWellFormed (lowered (the_labelled v.labelled))) (sym c.self.view_is) c.is_guided.ensures.planned.well_formed in
     subst (λ (e : ExecParts). IsWellFormed (the_network e.net)) (sym c.in_default.ensures.moved) (subst IsWellFormed (sym c.self.invariant.lowered) wf)
 
 pub sort_out-requires-clause-fresh : goal.sort_out-requires-clause-fresh
 sort_out-requires-clause-fresh c =
     let old = c.self.inside.executive in
-    let wf = subst (λ (v : GuideParts). IsWellFormed (lowered (the_labelled v.labelled))) (sym c.self.view_is) c.is_guided.ensures.well_formed in
+    let wf = subst (λ (v : GuideParts). IsWellFormed (lowered (the_labelled v.labelled))) (sym c.self.view_is) c.is_guided.ensures.planned.well_formed in
     subst (λ (e : ExecParts). AreFresh (the_network e.net) e.run e.named) (sym c.in_default.ensures.moved)
-    (named_fresh (the_network old.net) (the_bounds old.bounds) (subst IsWellFormed (sym c.self.invariant.lowered) wf) old.run
+    (called_fresh (the_network old.net) (the_bounds old.bounds) (subst IsWellFormed (sym c.self.invariant.lowered) wf) old.run
     (subst (λ (n : Network). IsRight n old.run) (sym c.self.invariant.lowered) c.self.invariant.guided.right) c.args.t)
 
--- what holds after `sort_out` went through the time-points to be executed
-record Sorted (m : Labelled) (old : ExecParts) (left : List Bool) (t : ℕ) (after : Run) (marks : List Bool) (called : List ℕ) : Type 0 where
+-- what holds after `sort_out` went through the time-points that are called
+record Sorted (m : Labelled) (old : ExecParts) (left : List Bool) (t : ℕ) (after : Run) (marks : List Bool) (names : List ℕ) : Type 0 where
   pub ok : moment_refusal (lowered m) (the_bounds old.bounds) old.run t ≡ None
-  pub wf : IsWellFormed (lowered m)
-  pub table : Table
-  pub plan : IsEarliest (lowered m) (the_bounds old.bounds) table
+  pub plan : IsPlanned m (the_bounds old.bounds)
   pub state : record { run = after; left = marks } ≡ advanced m (the_bounds old.bounds) (record { run = old.run; left = left }) t
-  pub names : called ≡ told m (the_bounds old.bounds) old.run t
+  pub names_are : names ≡ named m (the_bounds old.bounds) old.run t
 
 sorted : (c : goal.After-sort_out) →
     Sorted (the_labelled c.self.inside.labels) c.self.inside.executive c.self.inside.left.items c.args.t c.sort_out.new.executive.run
@@ -70,24 +68,21 @@ sorted c =
     let bounds = the_bounds old.bounds in
     let left = c.self.inside.left.items in
     let net = c.self.invariant.lowered in
-    let values = value_in c.known-known.result in
-    let plan = subst (λ (v : GuideParts). (table : Table) × IsEarliest (lowered (the_labelled v.labelled)) (the_bounds v.bounds) table) (sym c.self.view_is)
-    c.is_guided.ensures.earliest in
+    let values = known_value c.known-known.result in
+    let plan = subst (λ (v : GuideParts). IsPlanned (the_labelled v.labelled) (the_bounds v.bounds)) (sym c.self.view_is) c.is_guided.ensures.planned in
     let same_values : values ≡ known (lowered m) old.run (c.args.t + 1) =
     fun_ext c.known-known.ensures.known ∙ ap (λ (n : Network). known n old.run (c.args.t + 1)) net in
     let there = c.in_default.ensures.moved in
-    let names = ap (λ (e : ExecParts). e.named) there ∙ ap (λ (n : Network). named n bounds old.run c.args.t) net in
+    let names = ap (λ (e : ExecParts). e.named) there ∙ ap (λ (n : Network). called n bounds old.run c.args.t) net in
     let run = ap (λ (e : ExecParts). e.run) there ∙ ap (λ (n : Network). moved n bounds old.run c.args.t) net in
     let net_there = ap (λ (e : ExecParts). the_network e.net) there ∙ net in
     record {
       ok = subst (λ (n : Network). moment_refusal n bounds old.run c.args.t ≡ None) net (sym c.in_default.ensures.refused);
-      wf = subst (λ (v : GuideParts). IsWellFormed (lowered (the_labelled v.labelled))) (sym c.self.view_is) c.is_guided.ensures.well_formed;
-      table = plan.0;
-      plan = plan.1;
+      plan = plan;
       state = sorted_state m bounds (record { run = old.run; left = left }) c.args.t values (the_network c.moment.new.self.net) c.moment.new.self.run
           c.sort_out.new.executive.run c.moment.new.self.named c.sort_out.new.left.items same_values net_there run names
           (ap (λ (e : ExecParts). e.run) c.sort_out.ensures.executive) c.sort_out.ensures.left;
-      names = sorted_names m bounds old.run c.args.t values c.moment.new.self.named (map (λ x. x.0) c.sort_out.new.named.items) same_values names
+      names_are = sorted_names m bounds old.run c.args.t values c.moment.new.self.named (map (λ x. x.0) c.sort_out.new.named.items) same_values names
           c.sort_out.ensures.named;
     }
 
@@ -96,7 +91,7 @@ guided : (c : goal.After-sort_out) →
 guided c =
     let s = sorted c in
     subst (λ (g : Guided). IsGuided (the_labelled c.self.inside.labels) g) (sym s.state)
-    (advanced_guided (the_labelled c.self.inside.labels) (the_bounds c.self.inside.executive.bounds) s.table c.self.invariant.labelled s.wf s.plan
+    (advanced_guided (the_labelled c.self.inside.labels) (the_bounds c.self.inside.executive.bounds) s.plan.table c.self.invariant.labelled s.plan.well_formed s.plan.earliest
     (record { run = c.self.inside.executive.run; left = c.self.inside.left.items }) c.self.invariant.guided c.args.t s.ok)
 
 pub invariant_of-self-2 : goal.invariant_of-self-2
@@ -120,23 +115,23 @@ returns-clause-advanced c =
     let after : Guided = record { run = c.sort_out.new.executive.run; left = c.sort_out.new.left.items } in
     let bounds = ap (λ (e : ExecParts). e.bounds) c.sort_out.ensures.executive ∙ ap (λ (e : ExecParts). e.bounds) c.in_default.ensures.moved in
     subst (λ (v : GuideParts). parts c.self.inside.labels c.sort_out.new.executive.bounds after names
-    ≡ record v { state = advanced (the_labelled v.labelled) (the_bounds v.bounds) v.state c.args.t; named = told (the_labelled v.labelled) (the_bounds v.bounds) v.state.run c.args.t })
+    ≡ advanced_on v c.args.t)
     c.self.view_is
-    (same_parts c.self.inside.labels c.sort_out.new.executive.bounds c.self.inside.executive.bounds after _ names _ bounds s.state s.names)
+    (same_parts c.self.inside.labels c.sort_out.new.executive.bounds c.self.inside.executive.bounds after _ names _ bounds s.state s.names_are)
 
 pub returns-clause-named : goal.returns-clause-named
 returns-clause-named c x =
     let s = sorted c in
     let m = the_labelled c.self.inside.labels in
     let old = c.self.inside.executive in
-    subst (λ (v : GuideParts). Contains (map (λ x. x.0) c.sort_out.new.named.items) x ↔ IsToldAt (the_labelled v.labelled) v.state.run c.args.t x) c.self.view_is
-    (subst (λ (ns : List ℕ). Contains ns x ↔ IsToldAt m old.run c.args.t x) (sym s.names)
-    (told_called m (the_bounds old.bounds) s.table old.run c.args.t c.self.invariant.labelled s.wf s.plan c.self.invariant.guided.right s.ok x))
+    subst (λ (v : GuideParts). Contains (map (λ x. x.0) c.sort_out.new.named.items) x ↔ IsNamedAt (the_labelled v.labelled) v.state.run c.args.t x) c.self.view_is
+    (subst (λ (ns : List ℕ). Contains ns x ↔ IsNamedAt m old.run c.args.t x) (sym s.names_are)
+    (named_exactly m (the_bounds old.bounds) s.plan.table old.run c.args.t c.self.invariant.labelled s.plan.well_formed s.plan.earliest c.self.invariant.guided.right s.ok x))
 
 pub returns-clause-ascending : goal.returns-clause-ascending
 returns-clause-ascending c =
-    subst (λ (ns : List ℕ). IsStrictlyIncreasing ns) (sym (sorted c).names)
-    (told_ascend (the_labelled c.self.inside.labels) (the_bounds c.self.inside.executive.bounds) c.self.inside.executive.run c.args.t)
+    subst (λ (ns : List ℕ). IsStrictlyIncreasing ns) (sym (sorted c).names_are)
+    (named_ascend (the_labelled c.self.inside.labels) (the_bounds c.self.inside.executive.bounds) c.self.inside.executive.run c.args.t)
 
 pub returns-clause-left : goal.returns-clause-left
 returns-clause-left c x at =
@@ -145,7 +140,7 @@ returns-clause-left c x at =
     let old = c.self.inside.executive in
     let left = c.self.inside.left.items in
     let here = subst (λ (v : GuideParts). IsLeftAt (the_labelled v.labelled) v.state.run c.args.t x) (sym c.self.view_is) at in
-    let out = (left_called m (the_bounds old.bounds) s.table old.run c.args.t c.self.invariant.labelled s.wf s.plan c.self.invariant.guided.right s.ok x).1 here in
+    let out = (left_exactly m (the_bounds old.bounds) s.plan.table old.run c.args.t c.self.invariant.labelled s.plan.well_formed s.plan.earliest c.self.invariant.guided.right s.ok x).1 here in
     let inside = here.called.inside in
     let size = c.self.invariant.guided.size in
     subst (λ (g : Guided). slice_index_or g.left x false ≡ true) (sym s.state)
@@ -155,4 +150,4 @@ pub returns-clause-on_time : goal.returns-clause-on_time
 returns-clause-on_time c =
     let after : Guided = record { run = c.sort_out.new.executive.run; left = c.sort_out.new.left.items } in
     subst (λ (v : GuideParts). IsOnTime (the_labelled v.labelled) after) c.self.view_is
-    (on_time (the_labelled c.self.inside.labels) c.self.invariant.labelled (sorted c).wf after (guided c))
+    (on_time (the_labelled c.self.inside.labels) c.self.invariant.labelled (sorted c).plan.well_formed after (guided c))

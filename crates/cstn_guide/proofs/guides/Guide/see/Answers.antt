@@ -21,7 +21,7 @@ invariant_of-self c =
     let is = c.self.invariant in
     let kept = subst (λ (v : GuideParts). is_denied (lowered (the_labelled v.labelled)) v.state c.args.p.index ≡ false) (sym c.self.view_is)
     (sym c.is_denied.ensures ∙ c.if-is_denied.false) in
-    let wf = subst (λ (v : GuideParts). IsWellFormed (lowered (the_labelled v.labelled))) (sym c.self.view_is) c.is_guided.ensures.well_formed in
+    let wf = subst (λ (v : GuideParts). IsWellFormed (lowered (the_labelled v.labelled))) (sym c.self.view_is) c.is_guided.ensures.planned.well_formed in
     elim (see_cases c.see.result (c.see.new.self ≡ record old { run = handed old.run c.args.p.index c.args.value }) (c.see.new.self ≡ old)
     c.see.ensures.handed c.see.ensures.same) [
       | inr same ↦
@@ -38,11 +38,11 @@ invariant_of-self c =
 pub returns-then-is_denied-clause-on_time : goal.returns-then-is_denied-clause-on_time
 returns-then-is_denied-clause-on_time c =
     let is = c.is_guided.ensures in
-    on_time (the_labelled c.args.self.now.labelled) is.labelled is.well_formed c.args.self.now.state is.guided
+    on_time (the_labelled c.args.self.now.labelled) is.planned.labelled is.planned.well_formed c.args.self.now.state is.guided
 
 pub returns-clause-on_time : goal.returns-clause-on_time
 returns-clause-on_time c =
     let after : Guided = record { run = c.see.new.self.run; left = c.self.inside.left.items } in
-    let wf = subst (λ (v : GuideParts). IsWellFormed (lowered (the_labelled v.labelled))) (sym c.self.view_is) c.is_guided.ensures.well_formed in
+    let wf = subst (λ (v : GuideParts). IsWellFormed (lowered (the_labelled v.labelled))) (sym c.self.view_is) c.is_guided.ensures.planned.well_formed in
     subst (λ (v : GuideParts). IsOnTime (the_labelled v.labelled) after) c.self.view_is
     (on_time (the_labelled c.self.inside.labels) c.self.invariant.labelled wf after (invariant_of-self c).guided)

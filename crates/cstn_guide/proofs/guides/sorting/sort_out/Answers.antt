@@ -2,13 +2,14 @@ use Rattle.std.proofs.Common.{ℕ, ◌≡◌, ◌<◌, Bool, true, false, not, N
 use Rattle.std.specs.Prelude.{slice_index_or, slice_set}
 use Rattle.std.specs.List.{filter}
 use Rattle.std.proofs.lemmas.List.{length-map, map-append, take_all}
+use Rattle.cstn_label.specs.Read.{known_value}
 use Rattle.cstn_net.specs.Networks.{Observes, count}
 use Rattle.cstn_net.specs.Read.{the_network}
 use Rattle.cstn_lift.specs.Completion.{completed_label}
 use Rattle.cstn_lift.specs.Read.{the_labelled}
 use Rattle.cstn_exec.specs.Runs.{Run}
 use Rattle.cstn_exec.specs.Moves.{outcome_refusal}
-use Rattle.cstn_exec.specs.Read.{ExecParts, value_in}
+use Rattle.cstn_exec.specs.Read.{ExecParts}
 use Rattle.cstn_guide.specs.Guides.{holds_by, denied, all_denied, with_left}
 use Rattle.cstn_guide.proofs.Denying.{next_open, all_push, left_push, left_size}
 use Rattle.cstn_guide.proofs.Sorting.{name_at, place_below, filter_with, filter_without}
@@ -76,7 +77,7 @@ leave_out-requires-clause-inside c =
 pub leave_out-requires-clause-size : goal.leave_out-requires-clause-size
 leave_out-requires-clause-size c =
     let net = ap (λ (e : ExecParts). count (the_network e.net)) c.loop-k.invariant.executive in
-    let fails : ℕ → Bool = λ y. not (holds_by (value_in c.args.known.now) (completed_label (the_labelled c.args.labels.now) y)) in
+    let fails : ℕ → Bool = λ y. not (holds_by (known_value c.args.known.now) (completed_label (the_labelled c.args.labels.now) y)) in
     let same = ap length c.loop-k.invariant.left ∙ left_size (filter fails (take c.loop-k.k c.args.executive.now.named)) c.args.left.now.items in
     let size = c.requires.size in
     omega arith
@@ -93,7 +94,7 @@ leave_out-requires-clause-unseen c =
     (c.named.ensures.named ∙ ap (λ (e : ExecParts). e.named) c.loop-k.invariant.executive) here).1 in
     subst (λ (e : ExecParts). (p : ℕ) → Observes (the_network e.net) x p → outcome_refusal (the_network e.net) e.run p ≡ None) (sym c.loop-k.invariant.executive)
     (next_open (the_network c.args.executive.now.net) c.requires.well_formed
-    (λ y. not (holds_by (value_in c.args.known.now) (completed_label (the_labelled c.args.labels.now) y)))
+    (λ y. not (holds_by (known_value c.args.known.now) (completed_label (the_labelled c.args.labels.now) y)))
     c.args.executive.now.run names c.loop-k.k x c.requires.fresh here at)
 
 pub loop-k-preserved : goal.loop-k-preserved
@@ -103,8 +104,8 @@ loop-k-preserved c =
     let old = c.args.executive.now in
     let names = c.args.executive.now.named in
     let k = c.loop-k.k in
-    let test : ℕ → Bool = λ y. holds_by (value_in c.args.known.now) (completed_label m y) in
-    let fails : ℕ → Bool = λ y. not (holds_by (value_in c.args.known.now) (completed_label m y)) in
+    let test : ℕ → Bool = λ y. holds_by (known_value c.args.known.now) (completed_label m y) in
+    let fails : ℕ → Bool = λ y. not (holds_by (known_value c.args.known.now) (completed_label m y)) in
     let long_end = length-map c.named-k-end.result.now (λ x. x.0) in
     let size_end = ap length c.named-k-end.ensures.named in
     let inside = c.loop-k-test.true in
@@ -112,7 +113,7 @@ loop-k-preserved c =
     let x = slice_index_or c.named.result.now k (record { 0 = 0 }) in
     let at = (name_at c.named.result.now names k (record { 0 = 0 })
     (c.named.ensures.named ∙ ap (λ (e : ExecParts). e.named) c.loop-k.invariant.executive) here).1 in
-    let tested = sym (c.holds_by.ensures ∙ ap (holds_by (value_in c.args.known.now)) c.get.ensures.completed) in
+    let tested = sym (c.holds_by.ensures ∙ ap (holds_by (known_value c.args.known.now)) c.get.ensures.completed) in
     let before = c.loop-k.invariant.room in
     elim c.if-holds_by.branch [
       | then-holds_by w ↦
@@ -149,7 +150,7 @@ loop-k-preserved c =
 pub returns-clause-executive : goal.returns-clause-executive
 returns-clause-executive c =
     let old = c.args.executive.now in
-    let fails : ℕ → Bool = λ y. not (holds_by (value_in c.args.known.now) (completed_label (the_labelled c.args.labels.now) y)) in
+    let fails : ℕ → Bool = λ y. not (holds_by (known_value c.args.known.now) (completed_label (the_labelled c.args.labels.now) y)) in
     let long_end = length-map c.named-k-end.result.now (λ x. x.0) in
     let size_end = ap length c.named-k-end.ensures.named in
     let past = c.loop-k-test.false in
@@ -158,7 +159,7 @@ returns-clause-executive c =
 
 pub returns-clause-left : goal.returns-clause-left
 returns-clause-left c =
-    let fails : ℕ → Bool = λ y. not (holds_by (value_in c.args.known.now) (completed_label (the_labelled c.args.labels.now) y)) in
+    let fails : ℕ → Bool = λ y. not (holds_by (known_value c.args.known.now) (completed_label (the_labelled c.args.labels.now) y)) in
     let long_end = length-map c.named-k-end.result.now (λ x. x.0) in
     let size_end = ap length c.named-k-end.ensures.named in
     let past = c.loop-k-test.false in
@@ -167,7 +168,7 @@ returns-clause-left c =
 
 pub returns-clause-named : goal.returns-clause-named
 returns-clause-named c =
-    let test : ℕ → Bool = λ y. holds_by (value_in c.args.known.now) (completed_label (the_labelled c.args.labels.now) y) in
+    let test : ℕ → Bool = λ y. holds_by (known_value c.args.known.now) (completed_label (the_labelled c.args.labels.now) y) in
     let long_end = length-map c.named-k-end.result.now (λ x. x.0) in
     let size_end = ap length c.named-k-end.ensures.named in
     let past = c.loop-k-test.false in

@@ -1,5 +1,5 @@
 use Rattle.std.proofs.Common.{ap, sym, ◌∙◌}
-use Rattle.cstn_exec.specs.Examples.{Moment, Names}
+use Rattle.cstn_exec.specs.Answers.{Moment, Names}
 use Rattle.cstn_host.specs.Hosts.{HostParts, named_in}
 use Rattle.cstn_host.specs.Calls.{Pass, Told, answer_on, host_after}
 use Rattle.cstn_host.specs.Read.{answer_of}

@@ -1,5 +1,5 @@
 use Rattle.std.proofs.Common.{ap, ◌∙◌}
-use Rattle.cstn_exec.specs.Examples.{See}
+use Rattle.cstn_exec.specs.Answers.{See}
 use Rattle.cstn_host.specs.Hosts.{HostParts}
 use Rattle.cstn_host.specs.Calls.{Pass, host_after}
 use Rattle.cstn_host.proofs.CaseLemmas.{IsAt, over_at, after_put}
