@@ -8,7 +8,8 @@ use Rattle.cstn_rules.specs.Derivations.{Entry}
 use Rattle.cstn_log.specs.Cuts.{part}
 use Rattle.cstn_check.specs.Growth.{log_of, load_of}
 use Rattle.cstn_refute.specs.Texts.{shown}
-use Rattle.cstn_conflict.specs.Sets.{ids_of, with_ids, is_consistent}
+use Rattle.cstn_check.specs.Verdicts.{is_consistent}
+use Rattle.cstn_conflict.specs.Sets.{ids_of, with_ids}
 use Rattle.cstn_conflict.specs.Conflicts.{conflict_set, is_above, is_conflict_full, tried_from}
 use Rattle.cstn_reply.specs.Texts.{yes_line, full_line}
 use Rattle.cstn_reply.specs.Plans.{Said, Plan, says}

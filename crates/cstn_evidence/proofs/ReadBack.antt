@@ -34,7 +34,7 @@ use Rattle.cstn_closed.specs.Written.{IsPrintableBound as IsWrittenBound, AreWri
 use Rattle.cstn_closed.proofs.FaultLemmas.{closed_faultless}
 use Rattle.cstn_replay.specs.Wrong.{IsFirstWrong, EndsInVain}
 use Rattle.cstn_graphml.specs.DrawnGraph.{DrawnConstraint}
-use Rattle.cstn_graphml.specs.Networks.{numbered}
+use Rattle.cstn_graphml.specs.Networks.{numbered_drawn}
 use Rattle.cstn_reply.specs.Plans.{Said, say, Plan, says, replays, certifies, IsOutput}
 use Rattle.cstn_reply.specs.declared.output.Outcome.TheVariants.{Good, Script}
 use Rattle.cstn_tight.proofs.ClosedLemmas.{live_short, some_live}
@@ -45,10 +45,10 @@ use Rattle.cstn_evidence.specs.Accepted.{IsAccepted, IsYesText, IsNoText, HasIds
 use Rattle.cstn_evidence.proofs.Lengths.{bounds_text_short, steps_text_short}
 
 -- the ids of the constraints of a document are numbers of 32 bits
-pub numbered_ids : (k : ℕ) (cs : List DrawnConstraint) → k + length (numbered k cs) ≤ 16384 → All (λ (c : Constraint). c.id < 2 ^ 32) (numbered k cs)
+pub numbered_ids : (k : ℕ) (cs : List DrawnConstraint) → k + length (numbered_drawn k cs) ≤ 16384 → All (λ (c : Constraint). c.id < 2 ^ 32) (numbered_drawn k cs)
 numbered_ids k [] few = All-nil (λ (c : Constraint). c.id < 2 ^ 32)
 numbered_ids k (c ∷ cs) few =
-    All-cons (λ (c : Constraint). c.id < 2 ^ 32) (record { id = k; from = c.from; to = c.to; most = c.most; label = c.label }) (numbered (k + 1) cs)
+    All-cons (λ (c : Constraint). c.id < 2 ^ 32) (record { id = k; from = c.from; to = c.to; most = c.most; label = c.label }) (numbered_drawn (k + 1) cs)
     (omega arith) (numbered_ids (k + 1) cs (omega arith))
 
 absent : (m : Mark) → (m ≢ Absent → ⊥) → m ≡ Absent

@@ -12,14 +12,16 @@ use Rattle.cstn_check.proofs.Decides.{log_decides}
 use Rattle.cstn_log.specs.Cuts.{part}
 use Rattle.cstn_refute.specs.Texts.{shown as shown_steps}
 use Rattle.cstn_closed.specs.Texts.{shown as shown_bounds}
-use Rattle.cstn_conflict.specs.Sets.{ids_of, has, with_ids, is_consistent}
+use Rattle.cstn_check.specs.Verdicts.{is_consistent}
+use Rattle.cstn_conflict.specs.Sets.{ids_of, has, with_ids}
 use Rattle.cstn_conflict.specs.Conflicts.{conflict_set, is_above as is_blame_above, tried_from as sets_from, is_conflict_full as is_blame_full}
 use Rattle.cstn_conflict.specs.Trials.{is_any_above as is_any_set_above}
-use Rattle.cstn_conflict.proofs.SetLemmas.{whole_is, set_well_formed, decided}
+use Rattle.cstn_check.proofs.Decides.{decided}
+use Rattle.cstn_conflict.proofs.SetLemmas.{whole_is, set_well_formed}
 use Rattle.cstn_conflict.proofs.ConflictLemmas.{inconsistent, needed, within as set_within}
 use Rattle.cstn_tight.specs.Deadlines.{at_deadline}
-use Rattle.cstn_tight.specs.Bisection.{least_deadline, is_above, is_any_above, tried_from, whole, is_tight_full}
-use Rattle.cstn_tight.proofs.BracketLemmas.{IsRefuted, IsFound, found, found_least}
+use Rattle.cstn_tight.specs.Bisection.{least_deadline, is_above, is_tight_full}
+use Rattle.cstn_tight.proofs.BracketLemmas.{IsRefuted, IsFound, found}
 use Rattle.cstn_tight.proofs.LeastLemmas.{good_at_deadline}
 use Rattle.cstn_reply.specs.Plans.{Said, Plan, says, IsOutput}
 use Rattle.cstn_reply.specs.Texts.{yes_line, full_line}
@@ -124,14 +126,13 @@ module _ (yes_text : YesAccepted) (no_text : NoAccepted) where
           let h : ℕ = least_deadline net in
           let consistent = (decided net good).0 yes' in
           let first = both_false (is_above cap net net.deadline) _ over in
-          let later : is_any_above cap net ≡ false = sym (ap (λ (b : Bool). list_any (is_above cap net) (if b then tried_from net 20 (whole net) else [])) yes') ∙ first.1 in
-          let found' : IsFound cap net good h = found cap net good consistent (not_above cap (load_of net) first.0) later in
+          let found' : IsFound cap net h = found cap net good consistent (not_above cap (load_of net) first.0) in
           subst (StandsFor (IsTightText names net) (IsNoText names net)) (sym same) (record {
             deadline = h;
             at = shown_bounds names (load_of (at_deadline net h)) (live_bounds (log_of (at_deadline net h)));
             below = if nat_eq h 0 then [] else refuted_text names (at_deadline net (h - 1));
             parts = refl;
-            least = found_least cap net good h found';
+            least = found'.least;
             yes_at = yes_text names (at_deadline net h) (at_well net h good found'.upto) is.are is.named (omega (arith, found'.within, capped)) found'.consistent;
             no_below = below h found'.upto found'.below (nat_eq h 0) refl;
           })

@@ -13,8 +13,8 @@ use Rattle.cstn_refute.specs.Refutations.{RefutationParts, the_steps}
 use Rattle.cstn_refute.specs.Texts.{shown}
 use Rattle.cstn_closed.specs.Closed.{ClosedParts, the_bounds}
 use Rattle.cstn_closed.specs.Texts.{shown as shown_bounds}
-use Rattle.cstn_conflict.specs.Sets.{is_consistent}
-use Rattle.cstn_conflict.specs.Trials.{IsRefutationOf}
+use Rattle.cstn_check.specs.Verdicts.{is_consistent}
+use Rattle.cstn_check.specs.Verdicts.{IsRefutationOf}
 use Rattle.cstn_tight.specs.Deadlines.{at_deadline}
 use Rattle.cstn_tight.specs.Bisection.{least_deadline, is_above, is_tight_full, tried_from, whole}
 use Rattle.cstn_reply.specs.Texts.{line, full_line}

@@ -4,7 +4,8 @@ use Rattle.cstn_net.specs.Networks.{Network}
 use Rattle.cstn_log.specs.Cuts.{part}
 use Rattle.cstn_check.specs.Growth.{log_of, load_of}
 use Rattle.cstn_refute.specs.Texts.{shown}
-use Rattle.cstn_conflict.specs.Sets.{with_ids, is_consistent}
+use Rattle.cstn_check.specs.Verdicts.{is_consistent}
+use Rattle.cstn_conflict.specs.Sets.{with_ids}
 use Rattle.cstn_conflict.specs.Conflicts.{conflict_set, is_conflict_full}
 use Rattle.cstn_reply.specs.Texts.{line, yes_line, full_line}
 use Rattle.cstn_reply.specs.Plans.{says}

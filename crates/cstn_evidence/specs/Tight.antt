@@ -5,7 +5,7 @@ use Rattle.cstn_log.specs.Cuts.{part}
 use Rattle.cstn_check.specs.Growth.{log_of, load_of, live_bounds}
 use Rattle.cstn_refute.specs.Texts.{shown}
 use Rattle.cstn_closed.specs.Texts.{shown as shown_bounds}
-use Rattle.cstn_conflict.specs.Sets.{is_consistent}
+use Rattle.cstn_check.specs.Verdicts.{is_consistent}
 use Rattle.cstn_tight.specs.Deadlines.{at_deadline}
 use Rattle.cstn_tight.specs.Bisection.{least_deadline, is_tight_full}
 use Rattle.cstn_reply.specs.Texts.{line, full_line}

@@ -1,5 +1,5 @@
 // The check of a text of bounds.
-ghost use Rattle.std.specs.Prelude.{◌≡◌, ◌≤◌, ◌<◌, ◌++◌, ℕ, List, length, IfOk, IsErrOf, codes, decimal, ◌∷◌};
+ghost use Rattle.std.specs.Prelude.{◌≡◌, ◌≤◌, ◌<◌, ◌++◌, ℕ, List, length, IfOk, codes, decimal, ◌∷◌};
 ghost use Rattle.cstn_net.specs.Networks.{count};
 ghost use Rattle.cstn_net.specs.Read.{the_network};
 ghost use Rattle.cstn_closed.specs.Closed.{the_bounds};
@@ -9,12 +9,12 @@ ghost use Rattle.cstn_reply.specs.Read.{the_said};
 ghost use Rattle.cstn_evidence.specs.Texts.{certified};
 
 use crate::answers::{accepted, wrong_line};
-use cstn_closed::{Closed, ClosedAnswer, ClosedError, check};
+use cstn_closed::{Closed, ClosedAnswer, ClosedError, Indexed, check};
 use cstn_label::NodeId;
 use cstn_net::Network;
-use cstn_reply::{Outcome, Refused, Said};
+use cstn_reply::{Outcome, Said};
 use cstn_text::{Names, print_name};
-use std::alloc::Global;
+use std::alloc::{AllocError, Global};
 
 /// Says that the bounds of a text are closed for the network, or what their first fault is; of a text that isn't of the form,
 /// the first line that is wrong. Fails for want of memory alone.
@@ -23,17 +23,30 @@ pub fn check_text(
     network: &Network,
     names: &Names,
     text: &[u8],
-) -> Result<Said, Refused>
+) -> Result<Said, AllocError>
     requires named { length names.now ≡ count (the_network network.now) }
     requires few { length names.now ≤ 65536 }
     ensures said { (live : List ℕ) → IfOk result (λ said. IsOutput (certified text.now names.now (the_network network.now)) live (the_said said)) }
-    ensures fault { IsErrOf result Refused.ReadFault → ⊥ }
 {
     match Closed::read(alloc, names, text) {
-        Ok(closed) => check_bounds(alloc, network, names, &closed),
+        Ok(closed) => check_closed(alloc, network, names, closed),
         Err(ClosedError::Line { line }) => wrong_line(alloc, line),
-        Err(ClosedError::Memory(_)) => Err(Refused::Memory),
+        Err(ClosedError::Memory(error)) => Err(error),
     }
+}
+
+// The check of a list for a network.
+fn check_closed(
+    alloc: Global,
+    network: &Network,
+    names: &Names,
+    closed: Closed,
+) -> Result<Said, AllocError>
+    requires named { length names.now ≡ count (the_network network.now) }
+    ensures said { IfOk result (λ said. IsCertificate names.now (the_bounds closed) (the_network network.now) (the_said said)) }
+{
+    let indexed = Indexed::of(alloc, closed)?;
+    check_bounds(alloc, network, names, &indexed)
 }
 
 // The check of bounds for a network.
@@ -41,11 +54,10 @@ fn check_bounds(
     alloc: Global,
     network: &Network,
     names: &Names,
-    closed: &Closed,
-) -> Result<Said, Refused>
+    closed: &Indexed,
+) -> Result<Said, AllocError>
     requires named { length names.now ≡ count (the_network network.now) }
     ensures said { IfOk result (λ said. IsCertificate names.now (the_bounds closed.now) (the_network network.now) (the_said said)) }
-    ensures fault { IsErrOf result Refused.ReadFault → ⊥ }
 {
     match check(network, closed) {
         ClosedAnswer::Accepted => accepted(alloc),
@@ -56,56 +68,42 @@ fn check_bounds(
     }
 }
 
-fn bad_bound(alloc: Global, at: u32) -> Result<Said, Refused>
+fn bad_bound(alloc: Global, at: u32) -> Result<Said, AllocError>
     ensures said { IfOk result (λ said. the_said said ≡ say Outcome.Bad (codes "rejected bound " ++ decimal at)) }
-    ensures fault { IsErrOf result Refused.ReadFault → ⊥ }
 {
-    let Ok(text) = format!(in alloc; "rejected bound {at}\n") else {
-        return Err(Refused::Memory);
-    };
+    let text = format!(in alloc; "rejected bound {at}\n")?;
     Ok(Said {
         outcome: Outcome::Bad,
         text: text.into_bytes(),
     })
 }
 
-fn no_base(alloc: Global, node: NodeId, names: &Names) -> Result<Said, Refused>
+fn no_base(alloc: Global, node: NodeId, names: &Names) -> Result<Said, AllocError>
     requires node { node.0 < length names.now }
     ensures said { IfOk result (λ said. the_said said ≡ say Outcome.Bad (codes "rejected base " ++ printed names.now node.0)) }
-    ensures fault { IsErrOf result Refused.ReadFault → ⊥ }
 {
-    let Ok(name) = print_name(alloc, names.name(node)) else {
-        return Err(Refused::Memory);
-    };
-    let Ok(text) = format!(in alloc; "rejected base {name}\n") else {
-        return Err(Refused::Memory);
-    };
+    let name = print_name(alloc, names.name(node))?;
+    let text = format!(in alloc; "rejected base {name}\n")?;
     Ok(Said {
         outcome: Outcome::Bad,
         text: text.into_bytes(),
     })
 }
 
-fn no_chain(alloc: Global, constraint: u32, at: u32) -> Result<Said, Refused>
+fn no_chain(alloc: Global, constraint: u32, at: u32) -> Result<Said, AllocError>
     ensures said { IfOk result (λ said. the_said said ≡ say Outcome.Bad (codes "rejected chain " ++ decimal constraint ++ 32 ∷ decimal at)) }
-    ensures fault { IsErrOf result Refused.ReadFault → ⊥ }
 {
-    let Ok(text) = format!(in alloc; "rejected chain {constraint} {at}\n") else {
-        return Err(Refused::Memory);
-    };
+    let text = format!(in alloc; "rejected chain {constraint} {at}\n")?;
     Ok(Said {
         outcome: Outcome::Bad,
         text: text.into_bytes(),
     })
 }
 
-fn no_wait(alloc: Global, seen: u32, at: u32) -> Result<Said, Refused>
+fn no_wait(alloc: Global, seen: u32, at: u32) -> Result<Said, AllocError>
     ensures said { IfOk result (λ said. the_said said ≡ say Outcome.Bad (codes "rejected wait " ++ decimal seen ++ 32 ∷ decimal at)) }
-    ensures fault { IsErrOf result Refused.ReadFault → ⊥ }
 {
-    let Ok(text) = format!(in alloc; "rejected wait {seen} {at}\n") else {
-        return Err(Refused::Memory);
-    };
+    let text = format!(in alloc; "rejected wait {seen} {at}\n")?;
     Ok(Said {
         outcome: Outcome::Bad,
         text: text.into_bytes(),

@@ -1,5 +1,5 @@
 // The constraints to blame for a no.
-ghost use Rattle.std.specs.Prelude.{◌≡◌, ◌≤◌, ◌<◌, ◌++◌, ◌∷◌, IfOk, IsErrOf, length, flat_map, decimal, OnOk};
+ghost use Rattle.std.specs.Prelude.{◌≡◌, ◌≤◌, ◌<◌, ◌++◌, ◌∷◌, IfOk, length, flat_map, decimal, OnOk};
 ghost use Rattle.std.specs.List.{All};
 ghost use Rattle.cstn_net.specs.Networks.{IsWellFormed, count};
 ghost use Rattle.cstn_net.specs.Read.{the_network};
@@ -12,7 +12,7 @@ ghost use Rattle.cstn_evidence.specs.Blame.{ids_line, blamed};
 
 use cstn_conflict::{Conflict, ConflictError, sets_are_decided, smallest};
 use cstn_net::Network;
-use cstn_reply::{Outcome, Refused, Said};
+use cstn_reply::{Outcome, Said};
 use cstn_text::Names;
 use cstn_verdict::{full, yes_line};
 use itoa::Buffer;
@@ -21,26 +21,24 @@ use std::alloc::{AllocError, Global};
 /// Says the conflict set of a network that isn't consistent, with what refutes the network of these constraints alone, or the
 /// load of a network that is. Each log may have `cap` entries: where one has more, the cap is said. Fails for want of memory
 /// alone.
-pub fn blame(alloc: Global, network: Network, names: &Names, cap: u32) -> Result<Said, Refused>
+pub fn blame(alloc: Global, network: Network, names: &Names, cap: u32) -> Result<Said, AllocError>
     requires some { 1 ≤ cap }
     requires most { cap ≤ 4194304 }
     requires well_formed { IsWellFormed (the_network network) }
     requires named { length names.now ≡ count (the_network network) }
     ensures said { IfOk result (λ said. says (the_said said) ≡ blamed cap names.now (the_network network)) }
-    ensures fault { IsErrOf result Refused.ReadFault → ⊥ }
 {
     sets_are_decided();
     match smallest(alloc, network, cap) {
         Ok(conflict) => conflict_said(alloc, &conflict, names),
         Err(ConflictError::Consistent { load }) => consistent(alloc, load),
         Err(ConflictError::Full) => full(alloc, cap),
-        Err(ConflictError::Memory(_)) => Err(Refused::Memory),
+        Err(ConflictError::Memory(error)) => Err(error),
     }
 }
 
-fn consistent(alloc: Global, load: u32) -> Result<Said, Refused>
+fn consistent(alloc: Global, load: u32) -> Result<Said, AllocError>
     ensures said { IfOk result (λ said. the_said said ≡ record { outcome = Outcome.Good; text = yes_line load }) }
-    ensures fault { IsErrOf result Refused.ReadFault → ⊥ }
 {
     let text = yes_line(alloc, load)?;
     Ok(Said {
@@ -49,20 +47,13 @@ fn consistent(alloc: Global, load: u32) -> Result<Said, Refused>
     })
 }
 
-fn conflict_said(alloc: Global, conflict: &Conflict, names: &Names) -> Result<Said, Refused>
+fn conflict_said(alloc: Global, conflict: &Conflict, names: &Names) -> Result<Said, AllocError>
     requires named { All (λ e. e.bound.node.0 < length names.now) conflict.now.refutation.steps }
     ensures said { IfOk result (λ said. the_said said ≡ record { outcome = Outcome.Bad; text = ids_line conflict.now.ids ++ shown names.now conflict.now.refutation.load (the_steps conflict.now.refutation) }) }
-    ensures fault { IsErrOf result Refused.ReadFault → ⊥ }
 {
-    let Ok(refutation) = conflict.refutation.print(alloc, names) else {
-        return Err(Refused::Memory);
-    };
-    let Ok(mut text) = ids_line(alloc, conflict.ids.as_slice()) else {
-        return Err(Refused::Memory);
-    };
-    let Ok(()) = text.extend_from_slice(refutation.as_bytes()) else {
-        return Err(Refused::Memory);
-    };
+    let refutation = conflict.refutation.print(alloc, names)?;
+    let mut text = ids_line(alloc, conflict.ids.as_slice())?;
+    text.extend_from_slice(refutation.as_bytes())?;
     Ok(Said {
         outcome: Outcome::Bad,
         text,

@@ -1,5 +1,5 @@
 // The bounds that make a yes.
-ghost use Rattle.std.specs.Prelude.{ℕ, ◌≡◌, ◌≤◌, IfOk, IsErrOf, Some, length};
+ghost use Rattle.std.specs.Prelude.{ℕ, ◌≡◌, ◌≤◌, IfOk, Some, length};
 ghost use Rattle.cstn_net.specs.Networks.{IsWellFormed, count};
 ghost use Rattle.cstn_net.specs.Read.{the_network};
 ghost use Rattle.cstn_check.specs.Growth.{log_of, load_of, live_bounds};
@@ -12,10 +12,10 @@ ghost use Rattle.cstn_evidence.specs.Bounds.{listed};
 use cstn_check::{Check, growth_ends, live_bounds_are_in_range};
 use cstn_closed::Closed;
 use cstn_net::Network;
-use cstn_reply::{Outcome, Refused, Said};
+use cstn_reply::{Outcome, Said};
 use cstn_text::Names;
 use cstn_verdict::{Decided, decide};
-use std::alloc::Global;
+use std::alloc::{AllocError, Global};
 
 /// Says the bounds of the live entries of a network's log, after no what refutes the network, or the cap where the log has more
 /// than `cap` entries. Fails for want of memory alone.
@@ -24,24 +24,22 @@ pub fn list_bounds(
     network: Network,
     names: &Names,
     cap: u32,
-) -> Result<Said, Refused>
+) -> Result<Said, AllocError>
     requires some { 1 ≤ cap }
     requires most { cap ≤ 4194304 }
     requires well_formed { IsWellFormed (the_network network) }
     requires named { length names.now ≡ count (the_network network) }
     ensures said { IfOk result (λ said. says (the_said said) ≡ listed cap names.now (the_network network)) }
-    ensures fault { IsErrOf result Refused.ReadFault → ⊥ }
 {
     growth_ends();
-    match decide(alloc, network, names, cap) {
-        Ok(Decided::Yes { load, check }) => list(alloc, load, check, names),
-        Ok(Decided::Told(said)) => Ok(said),
-        Err(refused) => Err(refused),
+    match decide(alloc, network, names, cap)? {
+        Decided::Yes { load, check } => list(alloc, load, check, names),
+        Decided::Told(said) => Ok(said),
     }
 }
 
 // The bounds that a check leaves after yes.
-fn list(alloc: Global, load: u32, check: Check, names: &Names) -> Result<Said, Refused>
+fn list(alloc: Global, load: u32, check: Check, names: &Names) -> Result<Said, AllocError>
     requires yes { (l : ℕ) × (check.verdict ≡ Some (Yes l)) }
     requires low { 1 ≤ load }
     requires high { load ≤ 4194304 }
@@ -49,16 +47,11 @@ fn list(alloc: Global, load: u32, check: Check, names: &Names) -> Result<Said, R
     requires well_formed { IsWellFormed (the_network check.net) }
     requires named { length names.now ≡ count (the_network check.net) }
     ensures said { IfOk result (λ said. the_said said ≡ record { outcome = Outcome.Good; text = shown names.now (load_of (the_network check.net)) (live_bounds (log_of (the_network check.net))) }) }
-    ensures fault { IsErrOf result Refused.ReadFault → ⊥ }
 {
     let plan = check.into_plan();
     live_bounds_are_in_range();
-    let Ok(closed) = Closed::of(alloc, &plan, load) else {
-        return Err(Refused::Memory);
-    };
-    let Ok(text) = closed.print(alloc, names) else {
-        return Err(Refused::Memory);
-    };
+    let closed = Closed::of(alloc, &plan, load)?;
+    let text = closed.print(alloc, names)?;
     Ok(Said {
         outcome: Outcome::Good,
         text: text.into_bytes(),

@@ -1,5 +1,5 @@
 // The replay of a refutation's text.
-ghost use Rattle.std.specs.Prelude.{◌≡◌, ◌≤◌, ◌++◌, ℕ, List, length, IfOk, IsErrOf, codes, decimal};
+ghost use Rattle.std.specs.Prelude.{◌≡◌, ◌≤◌, ◌++◌, ℕ, List, length, IfOk, codes, decimal};
 ghost use Rattle.cstn_net.specs.Read.{the_network};
 ghost use Rattle.cstn_refute.specs.Refutations.{the_steps};
 ghost use Rattle.cstn_reply.specs.Plans.{say, IsReplay, IsOutput};
@@ -10,9 +10,9 @@ use crate::answers::{accepted, wrong_line};
 use cstn_net::Network;
 use cstn_refute::{Refutation, RefuteError};
 use cstn_replay::{Answer, replay};
-use cstn_reply::{Outcome, Refused, Said};
+use cstn_reply::{Outcome, Said};
 use cstn_text::Names;
-use std::alloc::Global;
+use std::alloc::{AllocError, Global};
 
 /// Says that the steps of a text refute the network, or which of them is the first wrong one; of a text that isn't of the form,
 /// the first line that is wrong. Fails for want of memory alone.
@@ -21,23 +21,25 @@ pub fn replay_text(
     network: &Network,
     names: &Names,
     text: &[u8],
-) -> Result<Said, Refused>
+) -> Result<Said, AllocError>
     requires few { length names.now ≤ 65536 }
     requires short { length text.now ≤ 1476395008 }
     ensures said { (live : List ℕ) → IfOk result (λ said. IsOutput (replayed text.now names.now (the_network network.now)) live (the_said said)) }
-    ensures fault { IsErrOf result Refused.ReadFault → ⊥ }
 {
     match Refutation::read(alloc, names, text) {
         Ok(refutation) => replay_steps(alloc, network, &refutation),
         Err(RefuteError::Line { line }) => wrong_line(alloc, line),
-        Err(RefuteError::Memory(_)) => Err(Refused::Memory),
+        Err(RefuteError::Memory(error)) => Err(error),
     }
 }
 
 // The replay of steps on a network.
-fn replay_steps(alloc: Global, network: &Network, refutation: &Refutation) -> Result<Said, Refused>
+fn replay_steps(
+    alloc: Global,
+    network: &Network,
+    refutation: &Refutation,
+) -> Result<Said, AllocError>
     ensures said { IfOk result (λ said. IsReplay (the_steps refutation.now) (the_network network.now) (the_said said)) }
-    ensures fault { IsErrOf result Refused.ReadFault → ⊥ }
 {
     match replay(network, refutation) {
         Answer::Accepted => accepted(alloc),
@@ -45,13 +47,10 @@ fn replay_steps(alloc: Global, network: &Network, refutation: &Refutation) -> Re
     }
 }
 
-fn rejected(alloc: Global, step: u32) -> Result<Said, Refused>
+fn rejected(alloc: Global, step: u32) -> Result<Said, AllocError>
     ensures said { IfOk result (λ said. the_said said ≡ say Outcome.Bad (codes "rejected " ++ decimal step)) }
-    ensures fault { IsErrOf result Refused.ReadFault → ⊥ }
 {
-    let Ok(text) = format!(in alloc; "rejected {step}\n") else {
-        return Err(Refused::Memory);
-    };
+    let text = format!(in alloc; "rejected {step}\n")?;
     Ok(Said {
         outcome: Outcome::Bad,
         text: text.into_bytes(),

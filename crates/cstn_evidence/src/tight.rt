@@ -1,5 +1,5 @@
 // The least deadline, and what stands for it.
-ghost use Rattle.std.specs.Prelude.{◌≡◌, ◌≤◌, ◌<◌, ◌++◌, ℕ, List, Option, IfOk, IfSome, IsErrOf, length, codes, decimal, OnOk, string_bytes};
+ghost use Rattle.std.specs.Prelude.{◌≡◌, ◌≤◌, ◌<◌, ◌++◌, ℕ, List, Option, IfOk, IfSome, length, codes, decimal, OnOk, string_bytes};
 ghost use Rattle.std.specs.List.{All};
 ghost use Rattle.cstn_net.specs.Networks.{IsWellFormed, count};
 ghost use Rattle.cstn_net.specs.Read.{the_network};
@@ -17,7 +17,7 @@ ghost use Rattle.cstn_evidence.specs.Told.{AreStepsNamed, told_before};
 use cstn_conflict::sets_are_decided;
 use cstn_net::Network;
 use cstn_refute::Refutation;
-use cstn_reply::{Outcome, Refused, Said};
+use cstn_reply::{Outcome, Said};
 use cstn_text::Names;
 use cstn_tight::{Tight, TightError, least};
 use cstn_verdict::full;
@@ -26,55 +26,42 @@ use std::alloc::{AllocError, Global};
 /// Says the least deadline at which a network is consistent, with the bounds that make it so and with what refutes it one tick
 /// below; of a network that isn't consistent at its own deadline, what refutes it. Each log may have `cap` entries: where one
 /// has more, the cap is said. Fails for want of memory alone.
-pub fn tighten(alloc: Global, network: Network, names: &Names, cap: u32) -> Result<Said, Refused>
+pub fn tighten(alloc: Global, network: Network, names: &Names, cap: u32) -> Result<Said, AllocError>
     requires some { 1 ≤ cap }
     requires most { cap ≤ 4194304 }
     requires well_formed { IsWellFormed (the_network network) }
     requires named { length names.now ≡ count (the_network network) }
     ensures said { IfOk result (λ said. says (the_said said) ≡ tightened cap names.now (the_network network)) }
-    ensures fault { IsErrOf result Refused.ReadFault → ⊥ }
 {
     sets_are_decided();
     match least(alloc, network, cap) {
         Ok(tight) => tight_said(alloc, &tight, names),
         Err(TightError::No(refutation)) => refuted(alloc, &refutation, names),
         Err(TightError::Full) => full(alloc, cap),
-        Err(TightError::Memory(_)) => Err(Refused::Memory),
+        Err(TightError::Memory(error)) => Err(error),
     }
 }
 
-fn refuted(alloc: Global, refutation: &Refutation, names: &Names) -> Result<Said, Refused>
+fn refuted(alloc: Global, refutation: &Refutation, names: &Names) -> Result<Said, AllocError>
     requires named { All (λ e. e.bound.node.0 < length names.now) refutation.now.steps }
     ensures said { IfOk result (λ said. the_said said ≡ record { outcome = Outcome.Bad; text = shown names.now refutation.now.load (the_steps refutation.now) }) }
-    ensures fault { IsErrOf result Refused.ReadFault → ⊥ }
 {
-    let Ok(text) = refutation.print(alloc, names) else {
-        return Err(Refused::Memory);
-    };
+    let text = refutation.print(alloc, names)?;
     Ok(Said {
         outcome: Outcome::Bad,
         text: text.into_bytes(),
     })
 }
 
-fn tight_said(alloc: Global, tight: &Tight, names: &Names) -> Result<Said, Refused>
+fn tight_said(alloc: Global, tight: &Tight, names: &Names) -> Result<Said, AllocError>
     requires named { All (IsNamed names.now) tight.now.closed.bounds }
     requires steps { AreStepsNamed names.now tight.now.refutation }
     ensures said { IfOk result (λ said. the_said said ≡ record { outcome = Outcome.Good; text = line (codes "least " ++ decimal tight.now.deadline) ++ shown_bounds names.now tight.now.closed.load (the_bounds tight.now.closed) ++ told_before names.now tight.now.refutation }) }
-    ensures fault { IsErrOf result Refused.ReadFault → ⊥ }
 {
-    let Ok(mut text) = format!(in alloc; "least {}\n", tight.deadline) else {
-        return Err(Refused::Memory);
-    };
-    let Ok(bounds) = tight.closed.print(alloc, names) else {
-        return Err(Refused::Memory);
-    };
-    let Ok(()) = text.push_str(&bounds) else {
-        return Err(Refused::Memory);
-    };
-    let Ok(()) = push_before(alloc, &mut text, &tight.refutation, names) else {
-        return Err(Refused::Memory);
-    };
+    let mut text = format!(in alloc; "least {}\n", tight.deadline)?;
+    let bounds = tight.closed.print(alloc, names)?;
+    text.push_str(&bounds)?;
+    push_before(alloc, &mut text, &tight.refutation, names)?;
     Ok(Said {
         outcome: Outcome::Good,
         text: text.into_bytes(),

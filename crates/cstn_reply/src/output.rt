@@ -8,6 +8,7 @@ ghost use Rattle.cstn_reply.specs.Plans.{IsWritten};
 
 use crate::Status;
 use cstn_io::{Failed, Sink, put_all};
+use std::alloc::AllocError;
 
 /// How the output ends, where nothing failed.
 #[derive(Clone, Copy, Debug, PartialEq, Eq)]
@@ -65,6 +66,16 @@ pub enum Refused {
     ReadFault,
     /// Memory was refused.
     Memory,
+}
+
+impl From<AllocError> for Refused {
+    ghost use Rattle.cstn_reply.specs.declared.output.Refused.TheVariants.{Memory};
+
+    ghost from_gives = { λ _ e. e ≡ Memory };
+
+    fn from(_: AllocError) -> Refused {
+        Refused::Memory
+    }
 }
 
 /// Writes a text and flushes it. Fails where the sink does; then a prefix of the text is written.

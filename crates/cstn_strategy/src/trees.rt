@@ -1,5 +1,5 @@
 // The tree of a yes.
-ghost use Rattle.std.specs.Prelude.{ℕ, ◌≡◌, ◌≤◌, ◌++◌, List, IfOk, IsErrOf, Some, length, codes, decimal};
+ghost use Rattle.std.specs.Prelude.{ℕ, ◌≡◌, ◌≤◌, ◌++◌, List, IfOk, Some, length, codes, decimal};
 ghost use Rattle.cstn_net.specs.Networks.{IsWellFormed, count};
 ghost use Rattle.cstn_net.specs.Read.{the_network};
 ghost use Rattle.cstn_check.specs.Growth.{log_of, load_of, live_bounds};
@@ -12,11 +12,11 @@ use cstn_check::{Check, growth_ends};
 use cstn_exec::Executive;
 use cstn_label::NodeId;
 use cstn_net::Network;
-use cstn_reply::{Outcome, Refused, Said};
+use cstn_reply::{Outcome, Said};
 use cstn_text::Names;
 use cstn_tree::{make, print};
 use cstn_verdict::{Decided, decide};
-use std::alloc::Global;
+use std::alloc::{AllocError, Global};
 
 // A tree is made for no more observed propositions: with each one it may have twice as many branches.
 const MOST_OBSERVED: u16 = 10;
@@ -24,23 +24,21 @@ const MOST_OBSERVED: u16 = 10;
 /// Says after yes what the executive of a network does, as a tree, after no what refutes the network, or the cap where its log
 /// has more than `cap` entries. Where more than 10 propositions are observed it says how many, and decides nothing. Fails for
 /// want of memory alone.
-pub fn unfold(alloc: Global, network: Network, names: &Names, cap: u32) -> Result<Said, Refused>
+pub fn unfold(alloc: Global, network: Network, names: &Names, cap: u32) -> Result<Said, AllocError>
     requires some { 1 ≤ cap }
     requires most { cap ≤ 4194304 }
     requires well_formed { IsWellFormed (the_network network) }
     requires named { length names.now ≡ count (the_network network) }
     ensures said { (live : List ℕ) → IfOk result (λ said. IsOutput (unfolded cap names.now (the_network network)) live (the_said said)) }
-    ensures fault { IsErrOf result Refused.ReadFault → ⊥ }
 {
     let observed = observed(&network);
     if observed > MOST_OBSERVED {
         return wide(alloc, observed);
     }
     growth_ends();
-    match decide(alloc, network, names, cap) {
-        Ok(Decided::Yes { load, check }) => tell(alloc, load, check, names),
-        Ok(Decided::Told(said)) => Ok(said),
-        Err(refused) => Err(refused),
+    match decide(alloc, network, names, cap)? {
+        Decided::Yes { load, check } => tell(alloc, load, check, names),
+        Decided::Told(said) => Ok(said),
     }
 }
 
@@ -57,13 +55,10 @@ fn observed(network: &Network) -> u16
     observed
 }
 
-fn wide(alloc: Global, observed: u16) -> Result<Said, Refused>
+fn wide(alloc: Global, observed: u16) -> Result<Said, AllocError>
     ensures said { IfOk result (λ said. the_said said ≡ say Outcome.Wide (codes "wide " ++ decimal observed)) }
-    ensures fault { IsErrOf result Refused.ReadFault → ⊥ }
 {
-    let Ok(text) = format!(in alloc; "wide {observed}\n") else {
-        return Err(Refused::Memory);
-    };
+    let text = format!(in alloc; "wide {observed}\n")?;
     Ok(Said {
         outcome: Outcome::Wide,
         text: text.into_bytes(),
@@ -71,24 +66,17 @@ fn wide(alloc: Global, observed: u16) -> Result<Said, Refused>
 }
 
 // The tree of what the executive does by the plan that a yes leaves.
-fn tell(alloc: Global, load: u32, check: Check, names: &Names) -> Result<Said, Refused>
+fn tell(alloc: Global, load: u32, check: Check, names: &Names) -> Result<Said, AllocError>
     requires yes { (l : ℕ) × (check.verdict ≡ Some (Yes l)) }
     requires low { 1 ≤ load }
     requires high { load ≤ 4194304 }
     requires named { length names.now ≡ count (the_network check.net) }
     ensures said { IfOk result (λ said. IsTreeText names.now load (live_bounds (log_of (the_network check.net))) (the_network check.net) (the_said said)) }
-    ensures fault { IsErrOf result Refused.ReadFault → ⊥ }
 {
-    let Ok(mut exec) = Executive::start(alloc, check.into_plan()) else {
-        return Err(Refused::Memory);
-    };
-    let Ok(tree) = make(alloc, &mut exec) else {
-        return Err(Refused::Memory);
-    };
+    let mut exec = Executive::start(alloc, check.into_plan())?;
+    let tree = make(alloc, &mut exec)?;
     tree.lines();
-    let Ok(text) = print(alloc, &tree, load, names) else {
-        return Err(Refused::Memory);
-    };
+    let text = print(alloc, &tree, load, names)?;
     Ok(Said {
         outcome: Outcome::Good,
         text: text.into_bytes(),

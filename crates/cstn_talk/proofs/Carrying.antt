@@ -11,20 +11,21 @@ use Rattle.cstn_exec.specs.Runs.{due}
 use Rattle.cstn_exec.specs.Moves.{Refusal, moment_refusal}
 use Rattle.cstn_exec.specs.Right.{IsDone}
 use Rattle.cstn_exec.proofs.Dues.{done_from, due_none, due_is_due}
-use Rattle.cstn_guide.specs.Guides.{Guided, begun, told, advanced, see_refusal, noted}
-use Rattle.cstn_guide.specs.Sound.{IsGuided}
-use Rattle.cstn_guide.proofs.Telling.{told_ascend, told_called}
+use Rattle.cstn_guide.specs.Guides.{Guided, begun, named, advanced, see_refusal, noted}
+use Rattle.cstn_guide.specs.Sound.{IsPlanned, IsGuided}
+use Rattle.cstn_guide.proofs.Naming.{named_ascend, named_exactly}
 use Rattle.cstn_guide.proofs.Advancing.{begun_guided, open_from, noted_guided}
 use Rattle.cstn_guide.proofs.Timely.{on_time}
 use Rattle.cstn_reply.specs.Texts.{line}
 use Rattle.cstn_reply.specs.Plans.{Said}
 use Rattle.cstn_reply.specs.Sessions.{Turn, more, last, wrong}
 use Rattle.cstn_reply.specs.declared.output.Outcome.TheVariants.{Good}
-use Rattle.cstn_talk.specs.Running.{moment_line, due_text, executing}
-use Rattle.cstn_talk.specs.Guiding.{told_turn, noted_turn, answer_turn, guide_turn, guide_ending}
-use Rattle.cstn_talk.specs.Meanings.{state_after, IsPlanned, GuidesTo, NamesLeast, IsDueMoment, TellsDue, led_by, led_to}
+use Rattle.cstn_talk.specs.Running.{moment_line, refused_text, due_text, executing}
+use Rattle.cstn_talk.specs.Guiding.{named_turn, noted_turn, answer_turn, guide_turn, guide_ending}
+use Rattle.cstn_talk.specs.Meanings.{state_after, GuidesTo, NamesLeast, IsDueMoment, TellsDue, AcceptsExactly, led_by, led_to}
 use Rattle.cstn_talk.proofs.Sessions.{first_leads, Begins, says_next, same_state}
 use Rattle.cstn_talk.proofs.Moments.{after_guided, named_now}
+use Rattle.cstn_talk.proofs.Accepting.{accepted_where, refused_where}
 
 -- what the last answer tells of its line: it hands in a moment that is accepted, and after which all is executed or left out
 pub record LastAt (m : Labelled) (bounds : List Bound) (g : Guided) (o : Option Live) (said : Said) : Type 0 where
@@ -46,14 +47,14 @@ Tells m bounds g o (more text next) = Follows m bounds g o next
 Tells m bounds g o (last said) = LastAt m bounds g o said
 Tells m bounds g o wrong = Unit {0}
 
-tells_moment : (names : List (List ℕ)) (m : Labelled) (bounds : List Bound) (g : Guided) (t : ℕ) → Tells m bounds g (Some (moment_at t)) (told_turn names m bounds g t (moment_refusal (lowered m) bounds g.run t))
+tells_moment : (names : List (List ℕ)) (m : Labelled) (bounds : List Bound) (g : Guided) (t : ℕ) → Tells m bounds g (Some (moment_at t)) (named_turn names m bounds g t (moment_refusal (lowered m) bounds g.run t))
 tells_moment names m bounds g t = by_refusal (moment_refusal (lowered m) bounds g.run t) refl
   where
-    by_due : moment_refusal (lowered m) bounds g.run t ≡ None → (o : Option ℕ) → due (lowered m) bounds (advanced m bounds g t).run ≡ o → Tells m bounds g (Some (moment_at t)) (executing (moment_line names t (told m bounds g.run t)) (advanced m bounds g t) o)
+    by_due : moment_refusal (lowered m) bounds g.run t ≡ None → (o : Option ℕ) → due (lowered m) bounds (advanced m bounds g t).run ≡ o → Tells m bounds g (Some (moment_at t)) (executing (moment_line names t (named m bounds g.run t)) (advanced m bounds g t) o)
     by_due ok None is = record { at = t; moment = refl; accepted = ok; good = refl; done = is }
     by_due ok (Some u) is = follows_moment t refl ok refl
 
-    by_refusal : (r : Option Refusal) → moment_refusal (lowered m) bounds g.run t ≡ r → Tells m bounds g (Some (moment_at t)) (told_turn names m bounds g t r)
+    by_refusal : (r : Option Refusal) → moment_refusal (lowered m) bounds g.run t ≡ r → Tells m bounds g (Some (moment_at t)) (named_turn names m bounds g t r)
     by_refusal None ok = by_due ok (due (lowered m) bounds (advanced m bounds g t).run) refl
     by_refusal (Some why) is = follows_same refl
 
@@ -122,32 +123,48 @@ module _ (names : List (List ℕ)) (m : Labelled) (bounds : List Bound) where
 
     -- ---- the answers
 
-    told_begins : (g : Guided) (next : List ℕ) (t : ℕ) → live_read next ≡ Some (moment_at t) → moment_refusal (lowered m) bounds g.run t ≡ None → Begins (guide_turn names m bounds g next) (moment_line names t (told m bounds g.run t))
-    told_begins g next t at ok =
-        subst (λ (o : Option Live). Begins (answer_turn names m bounds g o) (moment_line names t (told m bounds g.run t))) (sym at)
-        (subst (λ (r : Option Refusal). Begins (told_turn names m bounds g t r) (moment_line names t (told m bounds g.run t))) (sym ok)
+    named_begins : (g : Guided) (next : List ℕ) (t : ℕ) → live_read next ≡ Some (moment_at t) → moment_refusal (lowered m) bounds g.run t ≡ None → Begins (guide_turn names m bounds g next) (moment_line names t (named m bounds g.run t))
+    named_begins g next t at ok =
+        subst (λ (o : Option Live). Begins (answer_turn names m bounds g o) (moment_line names t (named m bounds g.run t))) (sym at)
+        (subst (λ (r : Option Refusal). Begins (named_turn names m bounds g t r) (moment_line names t (named m bounds g.run t))) (sym ok)
         (by_due (due (lowered m) bounds (advanced m bounds g t).run)))
       where
-        by_due : (o : Option ℕ) → Begins (executing (moment_line names t (told m bounds g.run t)) (advanced m bounds g t) o) (moment_line names t (told m bounds g.run t))
+        by_due : (o : Option ℕ) → Begins (executing (moment_line names t (named m bounds g.run t)) (advanced m bounds g t) o) (moment_line names t (named m bounds g.run t))
         by_due None = (line (codes "done"), refl)
         by_due (Some u) = refl
 
     pub names_least : (before : List (List ℕ)) (next : List ℕ) (g : Guided) (t : ℕ) → GuidesTo names m bounds before next g → live_read next ≡ Some (moment_at t) → moment_refusal (lowered m) bounds g.run t ≡ None → NamesLeast names m bounds before next g t
     names_least before next g t leads at ok =
         let right = reached_right before next g leads in
-        let called = told_called m bounds plan.table g.run t plan.labelled plan.well_formed plan.earliest right.right ok in
+        let called = named_exactly m bounds plan.table g.run t plan.labelled plan.well_formed plan.earliest right.right ok in
         record {
-          named = told m bounds g.run t;
-          says = says_next turn ending (begun (count m.base)) g before next (moment_line names t (told m bounds g.run t)) leads (told_begins g next t at ok);
-          ascending = told_ascend m bounds g.run t;
+          named = named m bounds g.run t;
+          says = says_next turn ending (begun (count m.base)) g before next (moment_line names t (named m bounds g.run t)) leads (named_begins g next t at ok);
+          ascending = named_ascend m bounds g.run t;
           exactly = called;
           least = λ s x agrees there.
               (on_time m plan.labelled plan.well_formed (advanced m bounds g t) (after_guided m bounds plan g right t ok)).named s x t agrees (named_now m bounds plan g right t ok x there);
         }
 
+    refused_begins : (g : Guided) (next : List ℕ) (t : ℕ) (why : Refusal) → live_read next ≡ Some (moment_at t) → moment_refusal (lowered m) bounds g.run t ≡ Some why → Begins (guide_turn names m bounds g next) (line (refused_text why))
+    refused_begins g next t why at is =
+        subst (λ (o : Option Live). Begins (answer_turn names m bounds g o) (line (refused_text why))) (sym at)
+        (subst (λ (r : Option Refusal). Begins (named_turn names m bounds g t r) (line (refused_text why))) (sym is) refl)
+
+    pub accepts_exactly : (before : List (List ℕ)) (next : List ℕ) (g : Guided) (t : ℕ) → GuidesTo names m bounds before next g → live_read next ≡ Some (moment_at t) → AcceptsExactly names m bounds before next g t
+    accepts_exactly before next g t leads at =
+        let right = reached_right before next g leads in
+        record {
+          accepted = accepted_where m bounds plan g right t;
+          refused = refused_where m bounds plan g right t;
+          says = λ why stands. says_next turn ending (begun (count m.base)) g before next (line (refused_text why)) leads
+              (refused_begins g next t why at ((refused_where m bounds plan g right t why).1 stands));
+        }
+
     pub tells_due : (before : List (List ℕ)) (next : List ℕ) (g : Guided) → GuidesTo names m bounds before next g → live_read next ≡ Some due_now → TellsDue names m bounds before next g
     tells_due before next g leads at = record {
       due = due (lowered m) bounds g.run;
+      due_is = refl;
       says = says_next turn ending (begun (count m.base)) g before next (line (due_text (due (lowered m) bounds g.run))) leads
           (subst (λ (o : Option Live). Begins (answer_turn names m bounds g o) (line (due_text (due (lowered m) bounds g.run)))) (sym at) refl);
       right = due_right g (reached_right before next g leads);

@@ -10,9 +10,9 @@ use Rattle.cstn_lines.specs.LiveLines.{moment_at, live_read}
 use Rattle.cstn_lines.specs.Pieces.{is_past}
 use Rattle.cstn_exec.specs.Runs.{due}
 use Rattle.cstn_exec.specs.Moves.{moment_refusal}
-use Rattle.cstn_guide.specs.Guides.{Guided, begun, named_at, told, advanced}
-use Rattle.cstn_guide.specs.Sound.{IsGuided}
-use Rattle.cstn_guide.proofs.Telling.{told_called}
+use Rattle.cstn_guide.specs.Guides.{Guided, begun, named_at, named, advanced}
+use Rattle.cstn_guide.specs.Sound.{IsPlanned, IsGuided}
+use Rattle.cstn_guide.proofs.Naming.{named_exactly}
 use Rattle.cstn_guide.proofs.Timely.{on_time, led}
 use Rattle.cstn_reply.specs.Texts.{line}
 use Rattle.cstn_reply.specs.Plans.{Said}
@@ -20,8 +20,8 @@ use Rattle.cstn_reply.specs.Sessions.{Turn, more, last, wrong, play, answers}
 use Rattle.cstn_reply.specs.declared.output.Outcome.{Outcome}
 use Rattle.cstn_reply.specs.declared.output.Outcome.TheVariants.{Good, Unfinished, Script}
 use Rattle.cstn_talk.specs.Running.{moment_line, executing, unfinished}
-use Rattle.cstn_talk.specs.Guiding.{told_turn, answer_turn, guide_turn, guide_ending}
-use Rattle.cstn_talk.specs.Meanings.{state_after, IsPlanned, IsDueMoment, led_by, led_to, ended, end_of, said_to, WasNamed, IsTimely, IsCarriedThrough, EndsUnfinished}
+use Rattle.cstn_talk.specs.Guiding.{named_turn, answer_turn, guide_turn, guide_ending}
+use Rattle.cstn_talk.specs.Meanings.{state_after, IsDueMoment, led_by, led_to, ended, end_of, said_to, WasNamed, IsTimely, IsCarriedThrough, EndsUnfinished}
 use Rattle.cstn_talk.proofs.Sessions.{play_more, answers_more, state_more, ended_more, play_last, ended_last, play_wrong, ended_wrong, play_past, ended_past, plus_none, zero_plus, one_more, ended_split}
 use Rattle.cstn_talk.proofs.Moments.{nobody_named, after_guided, named_now, named_still, named_back}
 use Rattle.cstn_talk.proofs.Carrying.{Follows, follows_moment, follows_outcome, follows_same, follows, last_at, last_leads, follows_right, stays_right, begins_right, due_right, done_where}
@@ -35,7 +35,7 @@ not_script o script' other = let f : ⊥ = cc in f
 not_good : (o : Outcome) → o ≡ Good → o ≡ Unfinished → ⊥
 not_good o good other = let f : ⊥ = cc in f
 
--- one of these lines, which follow the state s and n lines, hands in the moment t, it is accepted, and x is told there
+-- one of these lines, which follow the state s and n lines, hands in the moment t, it is accepted, and x is named there
 record IsNamedIn (names : List (List ℕ)) (m : Labelled) (bounds : List Bound) (s : Guided) (n : ℕ) (lines : List (List ℕ)) (x t : ℕ) : Type 0 where
   before : List (List ℕ)
   next : List ℕ
@@ -46,7 +46,7 @@ record IsNamedIn (names : List (List ℕ)) (m : Labelled) (bounds : List Bound) 
   within : is_past ((n + length before) + 1) next ≡ false
   moment : live_read next ≡ Some (moment_at t)
   accepted : moment_refusal (lowered m) bounds state.run t ≡ None
-  there : Contains (told m bounds state.run t) x
+  there : Contains (named m bounds state.run t) x
 
 -- how a session goes on after its first line
 data Goes (names : List (List ℕ)) (m : Labelled) (bounds : List Bound) (s : Guided) (n : ℕ) (first : List ℕ) : Type 0 where
@@ -140,17 +140,17 @@ module _ (names : List (List ℕ)) (m : Labelled) (bounds : List Bound) (plan : 
       by_first (goes_wrong short is) rest = subst (λ (g : Guided). named_at g x ≡ Some t) (sym (ended_wrong turn s n first lines short leading is)) e
       by_first (goes_past past) rest = subst (λ (g : Guided). named_at g x ≡ Some t) (sym (ended_past turn s n first lines past leading)) e
 
-  -- a time-point that is told by a line is named after it, and in the end
-  accepted_turn : (g : Guided) (next : List ℕ) (t : ℕ) → live_read next ≡ Some (moment_at t) → moment_refusal (lowered m) bounds g.run t ≡ None → guide_turn names m bounds g next ≡ executing (moment_line names t (told m bounds g.run t)) (advanced m bounds g t) (due (lowered m) bounds (advanced m bounds g t).run)
-  accepted_turn g next t at ok = ap (answer_turn names m bounds g) at ∙ ap (told_turn names m bounds g t) ok
+  -- a time-point that a line names is named after it, and in the end
+  accepted_turn : (g : Guided) (next : List ℕ) (t : ℕ) → live_read next ≡ Some (moment_at t) → moment_refusal (lowered m) bounds g.run t ≡ None → guide_turn names m bounds g next ≡ executing (moment_line names t (named m bounds g.run t)) (advanced m bounds g t) (due (lowered m) bounds (advanced m bounds g t).run)
+  accepted_turn g next t at ok = ap (answer_turn names m bounds g) at ∙ ap (named_turn names m bounds g t) ok
 
-  told_named : (g : Guided) (n : ℕ) (next : List ℕ) (later : List (List ℕ)) (x t : ℕ) → IsGuided m g → is_past (n + 1) next ≡ false → live_read next ≡ Some (moment_at t) → moment_refusal (lowered m) bounds g.run t ≡ None → Contains (told m bounds g.run t) x → named_at (ended turn leading g n (next ∷ later)) x ≡ Some t
-  told_named g n next later x t right short at ok there = by_due (due (lowered m) bounds (advanced m bounds g t).run) (accepted_turn g next t at ok)
+  named_after : (g : Guided) (n : ℕ) (next : List ℕ) (later : List (List ℕ)) (x t : ℕ) → IsGuided m g → is_past (n + 1) next ≡ false → live_read next ≡ Some (moment_at t) → moment_refusal (lowered m) bounds g.run t ≡ None → Contains (named m bounds g.run t) x → named_at (ended turn leading g n (next ∷ later)) x ≡ Some t
+  named_after g n next later x t right short at ok there = by_due (due (lowered m) bounds (advanced m bounds g t).run) (accepted_turn g next t at ok)
     where
       now : named_at (advanced m bounds g t) x ≡ Some t
       now = named_now m bounds plan g right t ok x there
 
-      by_due : (o : Option ℕ) → guide_turn names m bounds g next ≡ executing (moment_line names t (told m bounds g.run t)) (advanced m bounds g t) o → named_at (ended turn leading g n (next ∷ later)) x ≡ Some t
+      by_due : (o : Option ℕ) → guide_turn names m bounds g next ≡ executing (moment_line names t (named m bounds g.run t)) (advanced m bounds g t) o → named_at (ended turn leading g n (next ∷ later)) x ≡ Some t
       by_due None is =
           subst (λ (h : Guided). named_at h x ≡ Some t) (sym (ended_last turn g n next later short leading _ is ∙ ap (led_by m bounds g) at)) now
       by_due (Some u) is =
@@ -232,16 +232,16 @@ module _ (names : List (List ℕ)) (m : Labelled) (bounds : List Bound) (plan : 
         leads = record { state = r.leads; within = subst (λ (k : ℕ). is_past (k + 1) r.next ≡ false) (zero_plus (length r.before)) r.within };
         moment = r.moment;
         accepted = r.accepted;
-        told = (told_called m bounds plan.table r.state.run t plan.labelled plan.well_formed plan.earliest right.right r.accepted x).0 r.there;
+        named = (named_exactly m bounds plan.table r.state.run t plan.labelled plan.well_formed plan.earliest right.right r.accepted x).0 r.there;
       }
 
   named_where : (lines : List (List ℕ)) (x t : ℕ) → WasNamed names m bounds lines x t → named_at (end_of names m bounds lines) x ≡ Some t
   named_where lines x t w =
       let right = stays_right names m bounds plan (begun (count m.base)) w.state 0 w.before first_state w.leads.state in
-      let there = (told_called m bounds plan.table w.state.run t plan.labelled plan.well_formed plan.earliest right.right w.accepted x).1 w.told in
+      let there = (named_exactly m bounds plan.table w.state.run t plan.labelled plan.well_formed plan.earliest right.right w.accepted x).1 w.named in
       subst (λ (ls : List (List ℕ)). named_at (end_of names m bounds ls) x ≡ Some t) (sym w.lines_are)
       (subst (λ (g : Guided). named_at g x ≡ Some t) (sym (ended_split turn leading (begun (count m.base)) w.state 0 w.before (w.next ∷ w.later) w.leads.state))
-      (told_named w.state (0 + length w.before) w.next w.later x t right (subst (λ (k : ℕ). is_past (k + 1) w.next ≡ false) (sym (zero_plus (length w.before))) w.leads.within) w.moment w.accepted there))
+      (named_after w.state (0 + length w.before) w.next w.later x t right (subst (λ (k : ℕ). is_past (k + 1) w.next ≡ false) (sym (zero_plus (length w.before))) w.leads.within) w.moment w.accepted there))
 
   pub timely : (lines : List (List ℕ)) → IsTimely names m bounds lines
   timely lines = record {

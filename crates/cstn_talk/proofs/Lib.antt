@@ -2,6 +2,7 @@ pub mod Names
 pub mod Runs
 pub mod Sessions
 pub mod Moments
+pub mod Accepting
 pub mod Carrying
 pub mod Ending
 pub mod Plain

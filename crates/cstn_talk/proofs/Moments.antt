@@ -6,18 +6,17 @@ use Rattle.cstn_label.specs.Bounds.{Bound}
 use Rattle.cstn_net.specs.Networks.{Network, count}
 use Rattle.cstn_lift.specs.Labelled.{Labelled}
 use Rattle.cstn_lift.specs.Lowered.{lowered}
-use Rattle.cstn_exec.specs.Runs.{start, executed_at, named}
+use Rattle.cstn_exec.specs.Runs.{start, executed_at, called}
 use Rattle.cstn_exec.specs.Moves.{moment_refusal, moved}
 use Rattle.cstn_exec.proofs.Options.{some_or_none}
 use Rattle.cstn_exec.proofs.Filled.{default_of}
 use Rattle.cstn_exec.proofs.Knowing.{some_within}
 use Rattle.cstn_exec.proofs.Dues.{accepted_right}
-use Rattle.cstn_guide.specs.Guides.{Guided, begun, is_left, named_at, holds_at, told, left_out, advanced}
-use Rattle.cstn_guide.specs.Sound.{IsGuided}
-use Rattle.cstn_guide.proofs.Telling.{moved_kept, moved_was, named_waits, named_executed, told_parts, told_from, left_parts, left_from}
+use Rattle.cstn_guide.specs.Guides.{Guided, begun, is_left, named_at, holds_at, named, left_out, advanced}
+use Rattle.cstn_guide.specs.Sound.{IsPlanned, IsGuided}
+use Rattle.cstn_guide.proofs.Naming.{moved_kept, moved_was, called_waits, called_executed, named_holding, named_when, left_parts, left_from}
 use Rattle.cstn_guide.proofs.Denying.{all_executed, left_kept, left_in, left_not}
 use Rattle.cstn_guide.proofs.Advancing.{advanced_guided}
-use Rattle.cstn_talk.specs.Meanings.{IsPlanned}
 
 -- a time-point that was named was executed and not left out
 pub named_parts : (g : Guided) (x t : ℕ) → named_at g x ≡ Some t → (is_left g x ≡ false) × (executed_at g.run x ≡ Some t)
@@ -48,33 +47,33 @@ module _ (m : Labelled) (bounds : List Bound) (plan : IsPlanned m bounds) (g : G
   after_guided = advanced_guided m bounds plan.table plan.labelled plan.well_formed plan.earliest g right t ok
 
   -- a time-point whose moment it is wasn't left out before
-  waits_kept : (x : ℕ) → Contains (named net bounds g.run t) x → is_left g x ≡ false
+  waits_kept : (x : ℕ) → Contains (called net bounds g.run t) x → is_left g x ≡ false
   waits_kept x c = elim (cases_Bool (is_left g x)) [
     | inr kept ↦ kept
     | inl left ↦
-        let e = right.executed x left in
-        absurd (some_or_none (executed_at g.run x) e.0 e.1 (named_waits net bounds plan.well_formed g.run right.right t x c))
+        let e = right.placed x left in
+        absurd (some_or_none (executed_at g.run x) e.0 e.1 (called_waits net bounds plan.well_formed g.run right.right t x c))
   ]
 
-  -- a time-point that is told is named at this moment
-  pub named_now : (x : ℕ) → Contains (told m bounds g.run t) x → named_at (advanced m bounds g t) x ≡ Some t
+  -- a time-point that the answer names was named at this moment
+  pub named_now : (x : ℕ) → Contains (named m bounds g.run t) x → named_at (advanced m bounds g t) x ≡ Some t
   named_now x c =
-      let parts = told_parts m bounds g.run t x c in
+      let parts = named_holding m bounds g.run t x c in
       let stays = left_not out g.left x (λ there. both_ways (holds_at m g.run t x) (left_parts m bounds g.run t x there).1 parts.1) in
       named_from after x t (stays ∙ waits_kept x parts.0)
-      (all_executed net out (moved net bounds g.run t) x ∙ named_executed net bounds plan.well_formed g.run right.right t x parts.0)
+      (all_executed net out (moved net bounds g.run t) x ∙ called_executed net bounds plan.well_formed g.run right.right t x parts.0)
 
   -- a time-point that was named before still is
   pub named_still : (x u : ℕ) → named_at g x ≡ Some u → named_at (advanced m bounds g t) x ≡ Some u
   named_still x u e =
       let parts = named_parts g x u e in
       let stays = left_not out g.left x (λ there.
-      some_or_none (executed_at g.run x) u parts.1 (named_waits net bounds plan.well_formed g.run right.right t x (left_parts m bounds g.run t x there).0)) in
+      some_or_none (executed_at g.run x) u parts.1 (called_waits net bounds plan.well_formed g.run right.right t x (left_parts m bounds g.run t x there).0)) in
       named_from after x u (stays ∙ parts.0)
       (all_executed net out (moved net bounds g.run t) x ∙ moved_kept net bounds plan.well_formed g.run right.right t x u parts.1)
 
-  -- a time-point that is named after the moment was named before, or is told at it
-  pub named_back : (x u : ℕ) → named_at (advanced m bounds g t) x ≡ Some u → (named_at g x ≡ Some u) ⊎ (Contains (told m bounds g.run t) x × (u ≡ t))
+  -- a time-point that is named after the moment was named before, or by its answer
+  pub named_back : (x u : ℕ) → named_at (advanced m bounds g t) x ≡ Some u → (named_at g x ≡ Some u) ⊎ (Contains (named m bounds g.run t) x × (u ≡ t))
   named_back x u e =
       let parts = named_parts after x u e in
       let moved_run = moved net bounds g.run t in
@@ -90,7 +89,7 @@ module _ (m : Labelled) (bounds : List Bound) (plan : IsPlanned m bounds) (g : G
           | inr kept ↦ inl (named_from g x u kept before)
         ]
         | inr now ↦ elim (cases_Bool (holds_at m g.run t x)) [
-          | inl holds ↦ inr (told_from m bounds g.run t x now.0 holds, now.1)
+          | inl holds ↦ inr (named_when m bounds g.run t x now.0 holds, now.1)
           | inr fails ↦ absurd (both_ways (is_left after x) parts.0 (left_in out g.left x (left_from m bounds g.run t x now.0 fails) inside))
         ]
       ]

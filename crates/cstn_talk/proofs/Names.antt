@@ -15,8 +15,8 @@ use Rattle.cstn_label.specs.Bounds.{Bound}
 use Rattle.cstn_net.specs.Networks.{Network, count}
 use Rattle.cstn_lift.specs.Labelled.{Labelled}
 use Rattle.cstn_lift.specs.Lowered.{lowered}
-use Rattle.cstn_exec.specs.Runs.{Run, is_free, named}
-use Rattle.cstn_guide.specs.Guides.{holds_at, told}
+use Rattle.cstn_exec.specs.Runs.{Run, is_free, called}
+use Rattle.cstn_guide.specs.Guides.{holds_at, named}
 use Rattle.cstn_text.specs.Names.{AreNames}
 use Rattle.cstn_text.specs.PrintedNames.{printed_name}
 use Rattle.cstn_talk.specs.Running.{spaced, the_nodes}
@@ -62,37 +62,37 @@ range_below n = λ k d inside.
     subst (λ (x : ℕ). x < n) (sym (get_or-range_with_len 0 n k d within)) (omega (arith, within))
 
 -- each number that is named at a moment is a time-point
-pub named_inside : (net : Network) (bounds : List Bound) (run : Run) (t : ℕ) (xs : List NodeId) (n : ℕ) → the_nodes xs ≡ named net bounds run t → n ≡ count net → All (λ (x : NodeId). x.0 < n) xs
-named_inside net bounds run t xs n is size = λ k d inside.
+pub called_inside : (net : Network) (bounds : List Bound) (run : Run) (t : ℕ) (xs : List NodeId) (n : ℕ) → the_nodes xs ≡ called net bounds run t → n ≡ count net → All (λ (x : NodeId). x.0 < n) xs
+called_inside net bounds run t xs n is size = λ k d inside.
     let within : k < length (the_nodes xs) = subst (λ (m : ℕ). k < m) (sym (length-map xs (λ (x : NodeId). x.0))) inside in
     let all : All (λ (x : ℕ). x < count net) (the_nodes xs) = subst (λ (ys : List ℕ). All (λ (x : ℕ). x < count net) ys) (sym is) (All-filter (is_free net bounds run t) (λ x. x < count net) (range_with_len 0 (count net)) (range_below (count net))) in
     subst (λ (m : ℕ). (get_or xs k d).0 < m) (sym size) (subst (λ (x : ℕ). x < count net) (get_or-map (λ (x : NodeId). x.0) xs k d 0 inside) (all k 0 within))
 
 -- so is each number that a guide tells at a moment
-pub told_inside : (m : Labelled) (bounds : List Bound) (run : Run) (t : ℕ) (xs : List NodeId) (n : ℕ) → the_nodes xs ≡ told m bounds run t → n ≡ count m.base → All (λ (x : NodeId). x.0 < n) xs
-told_inside m bounds run t xs n is size = λ k d inside.
+pub named_inside : (m : Labelled) (bounds : List Bound) (run : Run) (t : ℕ) (xs : List NodeId) (n : ℕ) → the_nodes xs ≡ named m bounds run t → n ≡ count m.base → All (λ (x : NodeId). x.0 < n) xs
+named_inside m bounds run t xs n is size = λ k d inside.
     let within : k < length (the_nodes xs) = subst (λ (m : ℕ). k < m) (sym (length-map xs (λ (x : NodeId). x.0))) inside in
-    let all : All (λ (x : ℕ). x < count m.base) (the_nodes xs) = subst (λ (ys : List ℕ). All (λ (x : ℕ). x < count m.base) ys) (sym is) (All-filter (holds_at m run t) (λ x. x < count m.base) (named (lowered m) bounds run t) (All-filter (is_free (lowered m) bounds run t) (λ x. x < count m.base) (range_with_len 0 (count m.base)) (range_below (count m.base)))) in
+    let all : All (λ (x : ℕ). x < count m.base) (the_nodes xs) = subst (λ (ys : List ℕ). All (λ (x : ℕ). x < count m.base) ys) (sym is) (All-filter (holds_at m run t) (λ x. x < count m.base) (called (lowered m) bounds run t) (All-filter (is_free (lowered m) bounds run t) (λ x. x < count m.base) (range_with_len 0 (count m.base)) (range_below (count m.base)))) in
     subst (λ (m : ℕ). (get_or xs k d).0 < m) (sym size) (subst (λ (x : ℕ). x < count m.base) (get_or-map (λ (x : NodeId). x.0) xs k d 0 inside) (all k 0 within))
 
 -- at a moment, at most as many time-points are named as the network has
-pub named_few : (net : Network) (bounds : List Bound) (run : Run) (t : ℕ) (xs : List NodeId) → the_nodes xs ≡ named net bounds run t → length xs ≤ count net
-named_few net bounds run t xs is =
+pub called_few : (net : Network) (bounds : List Bound) (run : Run) (t : ℕ) (xs : List NodeId) → the_nodes xs ≡ called net bounds run t → length xs ≤ count net
+called_few net bounds run t xs is =
     let size : length (the_nodes xs) ≡ length xs = length-map xs (λ (x : NodeId). x.0) in
-    let same : length (the_nodes xs) ≡ length (named net bounds run t) = ap length is in
-    let few : length (named net bounds run t) ≡ count_by (is_free net bounds run t) (range_with_len 0 (count net)) = length-filter (is_free net bounds run t) (range_with_len 0 (count net)) in
+    let same : length (the_nodes xs) ≡ length (called net bounds run t) = ap length is in
+    let few : length (called net bounds run t) ≡ count_by (is_free net bounds run t) (range_with_len 0 (count net)) = length-filter (is_free net bounds run t) (range_with_len 0 (count net)) in
     let most = count_by-le-length (is_free net bounds run t) (range_with_len 0 (count net)) in
     let all : length (range_with_len 0 (count net)) ≡ count net = length-range_with_len 0 (count net) in
     omega (arith, size, same, few, most, all)
 
 -- at a moment, a guide tells at most as many time-points as the network has
-pub told_few : (m : Labelled) (bounds : List Bound) (run : Run) (t : ℕ) (xs : List NodeId) → the_nodes xs ≡ told m bounds run t → length xs ≤ count m.base
-told_few m bounds run t xs is =
+pub named_few : (m : Labelled) (bounds : List Bound) (run : Run) (t : ℕ) (xs : List NodeId) → the_nodes xs ≡ named m bounds run t → length xs ≤ count m.base
+named_few m bounds run t xs is =
     let size : length (the_nodes xs) ≡ length xs = length-map xs (λ (x : NodeId). x.0) in
-    let same : length (the_nodes xs) ≡ length (told m bounds run t) = ap length is in
-    let some : length (told m bounds run t) ≡ count_by (holds_at m run t) (named (lowered m) bounds run t) = length-filter (holds_at m run t) (named (lowered m) bounds run t) in
-    let most = count_by-le-length (holds_at m run t) (named (lowered m) bounds run t) in
-    let few : length (named (lowered m) bounds run t) ≡ count_by (is_free (lowered m) bounds run t) (range_with_len 0 (count m.base)) = length-filter (is_free (lowered m) bounds run t) (range_with_len 0 (count m.base)) in
+    let same : length (the_nodes xs) ≡ length (named m bounds run t) = ap length is in
+    let some : length (named m bounds run t) ≡ count_by (holds_at m run t) (called (lowered m) bounds run t) = length-filter (holds_at m run t) (called (lowered m) bounds run t) in
+    let most = count_by-le-length (holds_at m run t) (called (lowered m) bounds run t) in
+    let few : length (called (lowered m) bounds run t) ≡ count_by (is_free (lowered m) bounds run t) (range_with_len 0 (count m.base)) = length-filter (is_free (lowered m) bounds run t) (range_with_len 0 (count m.base)) in
     let all = count_by-le-length (is_free (lowered m) bounds run t) (range_with_len 0 (count m.base)) in
     let points : length (range_with_len 0 (count m.base)) ≡ count m.base = length-range_with_len 0 (count m.base) in
     omega (arith, size, same, some, most, few, all, points)

@@ -3,20 +3,20 @@ use Rattle.std.proofs.Common.{ℕ, ◌≡◌, ◌+◌, Bool, true, false, List, 
 use Rattle.std.specs.Prelude.{Option, Some, None, if◌then◌else◌}
 use Rattle.cstn_label.specs.Bounds.{Bound}
 use Rattle.cstn_net.specs.Networks.{count}
-use Rattle.cstn_lift.specs.Labelled.{Labelled}
+use Rattle.cstn_lift.specs.Labelled.{Labelled, HasNoLabels}
 use Rattle.cstn_lift.specs.Lowered.{lowered}
 use Rattle.cstn_lines.specs.LiveLines.{Live, moment_at, seen, due_now, live_read}
 use Rattle.cstn_lines.specs.Pieces.{is_past}
-use Rattle.cstn_exec.specs.Runs.{Run, start, named, due}
+use Rattle.cstn_exec.specs.Runs.{Run, start, called, due}
 use Rattle.cstn_exec.specs.Moves.{Refusal, moment_refusal, moved, outcome_refusal}
 use Rattle.cstn_guide.specs.Guides.{Guided, begun, advanced}
-use Rattle.cstn_guide.specs.Sound.{IsGuided}
-use Rattle.cstn_guide.proofs.Unlabelled.{all_told, just_moved, see_as_before}
+use Rattle.cstn_guide.specs.Sound.{IsPlanned, IsGuided}
+use Rattle.cstn_guide.proofs.Unlabelled.{all_named, just_moved, see_as_before}
 use Rattle.cstn_reply.specs.Plans.{after_text}
 use Rattle.cstn_reply.specs.Sessions.{Turn, more, last, wrong, on_turn, script, play, answers}
 use Rattle.cstn_talk.specs.Running.{moment_line, executing, moment_turn, seen_turn, live_turn, run_turn, run_ending, turn_with}
-use Rattle.cstn_talk.specs.Guiding.{told_turn, noted_turn, answer_turn, guide_turn, guide_ending}
-use Rattle.cstn_talk.specs.Meanings.{IsPlanned, HasNoLabels, said_to}
+use Rattle.cstn_talk.specs.Guiding.{named_turn, noted_turn, answer_turn, guide_turn, guide_ending}
+use Rattle.cstn_talk.specs.Meanings.{said_to}
 use Rattle.cstn_talk.proofs.Carrying.{follows, follows_right, begins_right}
 
 -- a state with another run
@@ -26,14 +26,14 @@ with_run g run = record { run = run; left = g.left }
 module _ (names : List (List ℕ)) (m : Labelled) (bounds : List Bound) (plan : IsPlanned m bounds) (none : HasNoLabels m) where
   -- ---- one answer
 
-  same_moment : (g : Guided) (t : ℕ) (r : Option Refusal) → told_turn names m bounds g t r ≡ turn_with (with_run g) (moment_turn names (lowered m) bounds g.run t r)
+  same_moment : (g : Guided) (t : ℕ) (r : Option Refusal) → named_turn names m bounds g t r ≡ turn_with (with_run g) (moment_turn names (lowered m) bounds g.run t r)
   same_moment g t (Some why) = refl
   same_moment g t None =
-      ap (λ (xs : List ℕ). executing (moment_line names t xs) (advanced m bounds g t) (due (lowered m) bounds (advanced m bounds g t).run)) (all_told m plan.labelled none bounds g.run t)
-      ∙ ap (λ (h : Guided). executing (moment_line names t (named (lowered m) bounds g.run t)) h (due (lowered m) bounds h.run)) (just_moved m plan.labelled none bounds g t)
+      ap (λ (xs : List ℕ). executing (moment_line names t xs) (advanced m bounds g t) (due (lowered m) bounds (advanced m bounds g t).run)) (all_named m plan.labelled none bounds g.run t)
+      ∙ ap (λ (h : Guided). executing (moment_line names t (called (lowered m) bounds g.run t)) h (due (lowered m) bounds h.run)) (just_moved m plan.labelled none bounds g t)
       ∙ by_due (due (lowered m) bounds (moved (lowered m) bounds g.run t))
     where
-      by_due : (o : Option ℕ) → executing (moment_line names t (named (lowered m) bounds g.run t)) (with_run g (moved (lowered m) bounds g.run t)) o ≡ turn_with (with_run g) (executing (moment_line names t (named (lowered m) bounds g.run t)) (moved (lowered m) bounds g.run t) o)
+      by_due : (o : Option ℕ) → executing (moment_line names t (called (lowered m) bounds g.run t)) (with_run g (moved (lowered m) bounds g.run t)) o ≡ turn_with (with_run g) (executing (moment_line names t (called (lowered m) bounds g.run t)) (moved (lowered m) bounds g.run t) o)
       by_due None = refl
       by_due (Some u) = refl
 

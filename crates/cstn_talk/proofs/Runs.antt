@@ -15,8 +15,8 @@ use Rattle.cstn_lines.specs.LiveLines.{Live, due_now, live_read}
 use Rattle.cstn_lines.specs.Pieces.{is_past, lines_of, whole_lines}
 use Rattle.cstn_exec.specs.Runs.{due}
 use Rattle.cstn_exec.specs.Moves.{Refusal, moment_refusal}
-use Rattle.cstn_guide.specs.Guides.{Guided, begun as begun_guide, told, advanced}
-use Rattle.cstn_guide.specs.Read.{GuideParts}
+use Rattle.cstn_guide.specs.Guides.{Guided, begun as begun_guide, named, advanced}
+use Rattle.cstn_guide.specs.Read.{GuideParts, advanced_on}
 use Rattle.cstn_reply.specs.Texts.{line, yes_line}
 use Rattle.cstn_reply.specs.Plans.{Said, after_text, Plan, EndsLine, ComesTo}
 use Rattle.cstn_reply.specs.Sessions.{Turn, more, last, wrong, on_turn, script, play, answers, session, the_turn}
@@ -24,7 +24,7 @@ use Rattle.cstn_reply.specs.declared.session.Answer.{Answer}
 use Rattle.cstn_reply.specs.declared.output.Outcome.TheVariants.{Good}
 use Rattle.cstn_verdict.specs.Verdicts.{on_verdict, verdict}
 use Rattle.cstn_talk.specs.Running.{the_nodes, moment_line, refused_text, executing, due_text, turn_with}
-use Rattle.cstn_talk.specs.Guiding.{carried_out, GuidingParts, told_turn, answer_turn, guide_turn, guide_ending, with_state, guided_turn, guided_ending}
+use Rattle.cstn_talk.specs.Guiding.{carried_out, GuidingParts, named_turn, answer_turn, guide_turn, guide_ending, with_state, guided_turn, guided_ending}
 
 -- the answers of the session, and how it ends
 abbrev turn_of : GuidingParts → Guided → List ℕ → Turn Guided
@@ -92,42 +92,38 @@ begun cap names labels opening plan guide r yes' opening_is live guide_is r_is =
 -- ---- the answers to live lines
 
 -- the answer to a moment, as the program has it
-abbrev told_by : GuidingParts → ℕ → Turn GuidingParts
-told_by r t = turn_with (with_state r) (told_turn r.names (the_labelled r.labelled) (the_bounds r.bounds) r.state t (moment_refusal (lowered (the_labelled r.labelled)) (the_bounds r.bounds) r.state.run t))
+abbrev named_by : GuidingParts → ℕ → Turn GuidingParts
+named_by r t = turn_with (with_state r) (named_turn r.names (the_labelled r.labelled) (the_bounds r.bounds) r.state t (moment_refusal (lowered (the_labelled r.labelled)) (the_bounds r.bounds) r.state.run t))
 
-moment_accepted : (r : GuidingParts) (t : ℕ) (o : Option ℕ) → None ≡ moment_refusal (lowered (the_labelled r.labelled)) (the_bounds r.bounds) r.state.run t → due (lowered (the_labelled r.labelled)) (the_bounds r.bounds) (advanced (the_labelled r.labelled) (the_bounds r.bounds) r.state t).run ≡ o → told_by r t ≡ turn_with (with_state r) (executing (moment_line r.names t (told (the_labelled r.labelled) (the_bounds r.bounds) r.state.run t)) (advanced (the_labelled r.labelled) (the_bounds r.bounds) r.state t) o)
+moment_accepted : (r : GuidingParts) (t : ℕ) (o : Option ℕ) → None ≡ moment_refusal (lowered (the_labelled r.labelled)) (the_bounds r.bounds) r.state.run t → due (lowered (the_labelled r.labelled)) (the_bounds r.bounds) (advanced (the_labelled r.labelled) (the_bounds r.bounds) r.state t).run ≡ o → named_by r t ≡ turn_with (with_state r) (executing (moment_line r.names t (named (the_labelled r.labelled) (the_bounds r.bounds) r.state.run t)) (advanced (the_labelled r.labelled) (the_bounds r.bounds) r.state t) o)
 moment_accepted r t o is due_is =
-    ap (λ (x : Option Refusal). turn_with (with_state r) (told_turn r.names (the_labelled r.labelled) (the_bounds r.bounds) r.state t x)) (sym is)
-    ∙ ap (λ (x : Option ℕ). turn_with (with_state r) (executing (moment_line r.names t (told (the_labelled r.labelled) (the_bounds r.bounds) r.state.run t)) (advanced (the_labelled r.labelled) (the_bounds r.bounds) r.state t) x)) due_is
+    ap (λ (x : Option Refusal). turn_with (with_state r) (named_turn r.names (the_labelled r.labelled) (the_bounds r.bounds) r.state t x)) (sym is)
+    ∙ ap (λ (x : Option ℕ). turn_with (with_state r) (executing (moment_line r.names t (named (the_labelled r.labelled) (the_bounds r.bounds) r.state.run t)) (advanced (the_labelled r.labelled) (the_bounds r.bounds) r.state t) x)) due_is
 
 -- the session of a guide under printed names
 abbrev seen_with : GuideParts → List (List ℕ) → GuidingParts
 seen_with e names = record { labelled = e.labelled; bounds = e.bounds; state = e.state; names = names }
 
--- the guide after an accepted moment
-abbrev pub moved_on : GuideParts → ℕ → GuideParts
-moved_on e t = record e { state = advanced (the_labelled e.labelled) (the_bounds e.bounds) e.state t; named = told (the_labelled e.labelled) (the_bounds e.bounds) e.state.run t }
-
 -- a moment that is refused
-pub moment_refused : (old : GuidingParts) (e new : GuideParts) (names : List (List ℕ)) (t : ℕ) (why : Refusal) (text : List ℕ) → seen_with e names ≡ old → Some why ≡ moment_refusal (lowered (the_labelled e.labelled)) (the_bounds e.bounds) e.state.run t → new ≡ e → text ≡ line (refused_text why) → told_by old t ≡ more text (seen_with new names)
+pub moment_refused : (old : GuidingParts) (e new : GuideParts) (names : List (List ℕ)) (t : ℕ) (why : Refusal) (text : List ℕ) → seen_with e names ≡ old → Some why ≡ moment_refusal (lowered (the_labelled e.labelled)) (the_bounds e.bounds) e.state.run t → new ≡ e → text ≡ line (refused_text why) → named_by old t ≡ more text (seen_with new names)
 moment_refused old e new names t why text view is same text_is =
-    subst (λ (r : GuidingParts). told_by r t ≡ more text (seen_with new names)) view
-    (ap (λ (x : Option Refusal). turn_with (with_state (seen_with e names)) (told_turn names (the_labelled e.labelled) (the_bounds e.bounds) e.state t x)) (sym is)
+    subst (λ (r : GuidingParts). named_by r t ≡ more text (seen_with new names)) view
+    (ap (λ (x : Option Refusal). turn_with (with_state (seen_with e names)) (named_turn names (the_labelled e.labelled) (the_bounds e.bounds) e.state t x)) (sym is)
     ∙ ap (λ (xs : List ℕ). more xs (seen_with e names)) (sym text_is)
     ∙ ap (λ (x : GuideParts). more text (seen_with x names)) (sym same))
 
 -- a moment after which something is due
-pub moment_goes_on : (old : GuidingParts) (e new : GuideParts) (names : List (List ℕ)) (t u : ℕ) (text : List ℕ) → seen_with e names ≡ old → None ≡ moment_refusal (lowered (the_labelled e.labelled)) (the_bounds e.bounds) e.state.run t → new ≡ moved_on e t → Some u ≡ due (lowered (the_labelled new.labelled)) (the_bounds new.bounds) new.state.run → text ≡ moment_line names t (told (the_labelled e.labelled) (the_bounds e.bounds) e.state.run t) → told_by old t ≡ more text (seen_with new names)
+pub moment_goes_on : (old : GuidingParts) (e new : GuideParts) (names : List (List ℕ)) (t u : ℕ) (text : List ℕ) → seen_with e names ≡ old → None ≡ moment_refusal (lowered (the_labelled e.labelled)) (the_bounds e.bounds) e.state.run t → new ≡ advanced_on e t → Some u ≡ due (lowered (the_labelled new.labelled)) (the_bounds new.bounds) new.state.run → text ≡ moment_line names t (named (the_labelled e.labelled) (the_bounds e.bounds) e.state.run t) → named_by old t ≡ more text (seen_with new names)
 moment_goes_on old e new names t u text view is new_is due_is text_is =
-    subst (λ (r : GuidingParts). told_by r t ≡ more text (seen_with new names)) view
+    subst (λ (r : GuidingParts). named_by r t ≡ more text (seen_with new names)) view
     (moment_accepted (seen_with e names) t (Some u) is (sym (due_is ∙ ap (λ (x : GuideParts). due (lowered (the_labelled x.labelled)) (the_bounds x.bounds) x.state.run) new_is))
-    ∙ ap (λ (x : GuideParts). more (moment_line names t (told (the_labelled e.labelled) (the_bounds e.bounds) e.state.run t)) (seen_with x names)) (sym new_is)
+    ∙ ap (λ (x : GuideParts). more (moment_line names t (named (the_labelled e.labelled) (the_bounds e.bounds) e.state.run t)) (seen_with x names)) (sym new_is)
     ∙ ap (λ (xs : List ℕ). more xs (seen_with new names)) (sym text_is))
 
 -- a moment after which nothing is due
-pub moment_ends : (old : GuidingParts) (e new : GuideParts) (names : List (List ℕ)) (t : ℕ) (text all : List ℕ) → seen_with e names ≡ old → None ≡ moment_refusal (lowered (the_labelled e.labelled)) (the_bounds e.bounds) e.state.run t → new ≡ moved_on e t → None ≡ due (lowered (the_labelled new.labelled)) (the_bounds new.bounds) new.state.run → text ≡ moment_line names t (told (the_labelled e.labelled) (the_bounds e.bounds) e.state.run t) → all ≡ text ++ line (codes "done") → told_by old t ≡ last (record { outcome = Good; text = all })
+pub moment_ends : (old : GuidingParts) (e new : GuideParts) (names : List (List ℕ)) (t : ℕ) (text all : List ℕ) → seen_with e names ≡ old → None ≡ moment_refusal (lowered (the_labelled e.labelled)) (the_bounds e.bounds) e.state.run t → new ≡ advanced_on e t → None ≡ due (lowered (the_labelled new.labelled)) (the_bounds new.bounds) new.state.run → text ≡ moment_line names t (named (the_labelled e.labelled) (the_bounds e.bounds) e.state.run t) → all ≡ text ++ line (codes "done") → named_by old t ≡ last (record { outcome = Good; text = all })
 moment_ends old e new names t text all view is new_is due_is text_is all_is =
-    subst (λ (r : GuidingParts). told_by r t ≡ last (record { outcome = Good; text = all })) view
+    subst (λ (r : GuidingParts). named_by r t ≡ last (record { outcome = Good; text = all })) view
     (moment_accepted (seen_with e names) t None is (sym (due_is ∙ ap (λ (x : GuideParts). due (lowered (the_labelled x.labelled)) (the_bounds x.bounds) x.state.run) new_is))
     ∙ ap (λ (xs : List ℕ). last (record { outcome = Good; text = xs })) (sym (all_is ∙ ap (λ (xs : List ℕ). xs ++ line (codes "done")) text_is)))
 

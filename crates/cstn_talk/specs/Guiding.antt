@@ -10,7 +10,7 @@ use Rattle.cstn_lift.specs.Read.{LabelledParts, the_labelled}
 use Rattle.cstn_check.specs.Growth.{log_of, load_of, live_bounds}
 use Rattle.cstn_exec.specs.Runs.{due}
 use Rattle.cstn_exec.specs.Moves.{Refusal, moment_refusal}
-use Rattle.cstn_guide.specs.Guides.{Guided, begun, told, advanced, see_refusal, noted}
+use Rattle.cstn_guide.specs.Guides.{Guided, begun, named, advanced, see_refusal, noted}
 use Rattle.cstn_text.specs.PrintedNames.{printed_name}
 use Rattle.cstn_lines.specs.LiveLines.{Live, moment_at, seen, due_now, live_read}
 use Rattle.cstn_reply.specs.Texts.{line, yes_line}
@@ -21,9 +21,9 @@ use Rattle.cstn_verdict.specs.Verdicts.{verdict, on_verdict}
 use Rattle.cstn_talk.specs.Running.{moment_line, refused_text, seen_text, due_text, executing, unfinished, turn_with}
 
 -- the answer to a moment: it names the time-points whose moment it is and whose completed labels hold
-abbrev pub told_turn : List (List ℕ) → Labelled → List Bound → Guided → ℕ → Option Refusal → Turn Guided
-told_turn names m bounds g t None = executing (moment_line names t (told m bounds g.run t)) (advanced m bounds g t) (due (lowered m) bounds (advanced m bounds g t).run)
-told_turn names m bounds g t (Some refusal) = more (line (refused_text refusal)) g
+abbrev pub named_turn : List (List ℕ) → Labelled → List Bound → Guided → ℕ → Option Refusal → Turn Guided
+named_turn names m bounds g t None = executing (moment_line names t (named m bounds g.run t)) (advanced m bounds g t) (due (lowered m) bounds (advanced m bounds g t).run)
+named_turn names m bounds g t (Some refusal) = more (line (refused_text refusal)) g
 
 -- the answer to an outcome
 abbrev pub noted_turn : Guided → ℕ → Bool → Option Refusal → Turn Guided
@@ -33,7 +33,7 @@ noted_turn g p value (Some refusal) = more (line (refused_text refusal)) g
 -- the answer to what a live line says
 abbrev pub answer_turn : List (List ℕ) → Labelled → List Bound → Guided → Option Live → Turn Guided
 answer_turn names m bounds g None = wrong
-answer_turn names m bounds g (Some (moment_at t)) = told_turn names m bounds g t (moment_refusal (lowered m) bounds g.run t)
+answer_turn names m bounds g (Some (moment_at t)) = named_turn names m bounds g t (moment_refusal (lowered m) bounds g.run t)
 answer_turn names m bounds g (Some (seen p value)) = noted_turn g p value (see_refusal m g p)
 answer_turn names m bounds g (Some due_now) = more (line (due_text (due (lowered m) bounds g.run))) g
 

@@ -7,7 +7,7 @@ use Rattle.cstn_label.specs.Letters.{letter_of}
 use Rattle.cstn_net.specs.Networks.{Network, count}
 use Rattle.cstn_net.specs.Read.{NetworkParts, the_network}
 use Rattle.cstn_lines.specs.LiveLines.{Live, moment_at, seen, due_now, live_read, printed_truth}
-use Rattle.cstn_exec.specs.Runs.{Run, named, due}
+use Rattle.cstn_exec.specs.Runs.{Run, called, due}
 use Rattle.cstn_exec.specs.Moves.{Refusal, Done, Past, Late, Awaiting, NotExecuted, Known, moment_refusal, moved, outcome_refusal, handed}
 use Rattle.cstn_reply.specs.Texts.{line}
 use Rattle.cstn_reply.specs.Plans.{Said, say}
@@ -50,7 +50,7 @@ executing text state None = last (record { outcome = Good; text = text ++ line (
 executing text state (Some t) = more text state
 
 abbrev pub moment_turn : List (List ℕ) → Network → List Bound → Run → ℕ → Option Refusal → Turn Run
-moment_turn names net bounds run t None = executing (moment_line names t (named net bounds run t)) (moved net bounds run t) (due net bounds (moved net bounds run t))
+moment_turn names net bounds run t None = executing (moment_line names t (called net bounds run t)) (moved net bounds run t) (due net bounds (moved net bounds run t))
 moment_turn names net bounds run t (Some refusal) = more (line (refused_text refusal)) run
 
 abbrev pub seen_turn : Run → ℕ → Bool → Option Refusal → Turn Run

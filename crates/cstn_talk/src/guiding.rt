@@ -12,7 +12,7 @@ ghost use Rattle.cstn_reply.specs.Texts.{line};
 ghost use Rattle.cstn_reply.specs.Plans.{EndsLine};
 ghost use Rattle.cstn_reply.specs.Sessions.{the_turn};
 ghost use Rattle.cstn_talk.specs.Running.{turn_with, due_text};
-ghost use Rattle.cstn_talk.specs.Guiding.{GuidingParts, with_state, told_turn, noted_turn, guided_turn, guided_ending};
+ghost use Rattle.cstn_talk.specs.Guiding.{GuidingParts, with_state, named_turn, noted_turn, guided_turn, guided_ending};
 
 use crate::lines::{print_names, put_moment, put_number, put_outcome, put_refusal, put_word};
 use cstn_guide::Guide;
@@ -60,7 +60,7 @@ impl Guiding {
     fn moment(&mut self, t: u32, text: &mut Vec<u8>) -> Answer
         requires empty { text.old.items ≡ [] }
         requires room { ROOM ≤ vec_capacity text.old }
-        ensures turn { turn_with (with_state self.old) (told_turn self.old.names (the_labelled self.old.labelled) (the_bounds self.old.bounds) self.old.state t (moment_refusal (lowered (the_labelled self.old.labelled)) (the_bounds self.old.bounds) self.old.state.run t)) ≡ the_turn result self.new text.new.items }
+        ensures turn { turn_with (with_state self.old) (named_turn self.old.names (the_labelled self.old.labelled) (the_bounds self.old.bounds) self.old.state t (moment_refusal (lowered (the_labelled self.old.labelled)) (the_bounds self.old.bounds) self.old.state.run t)) ≡ the_turn result self.new text.new.items }
         ensures lines { result ≡ Answer.More → EndsLine text.new.items }
         ensures capacity { vec_capacity text.old ≤ vec_capacity text.new }
     {

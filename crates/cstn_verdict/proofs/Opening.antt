@@ -14,7 +14,7 @@ use Rattle.cstn_element.specs.Results.Refusal.{not_utf8, shape, name_twice, unkn
 use Rattle.cstn_graphml.specs.Answers.{IsUnfitDocument, IsMislabelledDocument, RefusesDocument}
 use Rattle.cstn_graphml.specs.Document.{Parts, document}
 use Rattle.cstn_graphml.specs.DrawnGraph.{DrawnConstraint}
-use Rattle.cstn_graphml.specs.Networks.{numbered, network_of, labelled_of, IsFit}
+use Rattle.cstn_graphml.specs.Networks.{numbered_drawn, network_of, labelled_of, IsFit}
 use Rattle.cstn_label.specs.Labels.{Label, empty}
 use Rattle.cstn_label.proofs.MarkLemmas.{absent_or_not}
 use Rattle.cstn_lift.specs.declared.errors.LiftError.{LiftError}
@@ -118,13 +118,8 @@ long_opened told asked (Ok (RefusedOne said)) long is =
       opens = (said_of, ap (λ (s : Said). s.outcome) is);
     }
 
--- a file that was read
-pub file_opened : {E : Type 0} (told : Option (List ℕ → Option (List ℕ))) (asked : Asked) (bytes : List ℕ) (r : Result WithLabels E) → IsContent told asked.file bytes → AreThere told (asked.file ∷ []) → IfOk r (OpensWithLabels bytes asked.deadline) → IfOk r (IsOpenedWithLabels told asked)
-file_opened told asked bytes (Err e) content there opens = tt
-file_opened told asked bytes (Ok opened) content there opens = record { bytes = bytes; content = content; there = there; opens = opens }
-
 -- the ids of a document's constraints are their places
-numbered_id : (k : ℕ) (cs : List DrawnConstraint) (i : ℕ) (d : Constraint) → i < length (numbered k cs) → (get_or (numbered k cs) i d).id ≡ k + i
+numbered_id : (k : ℕ) (cs : List DrawnConstraint) (i : ℕ) (d : Constraint) → i < length (numbered_drawn k cs) → (get_or (numbered_drawn k cs) i d).id ≡ k + i
 numbered_id k [] i d inside = absurd (omega (arith, inside))
 numbered_id k (c ∷ cs) zero d inside = omega arith
 numbered_id k (c ∷ cs) (suc i) d inside = let later = numbered_id (k + 1) cs i d (omega (arith, inside)) in omega (arith, later)
@@ -133,7 +128,7 @@ numbered_id k (c ∷ cs) (suc i) d inside = let later = numbered_id (k + 1) cs i
 plain_network : (parts : Parts) → IsLabelled (labelled_of parts) → AreEmpty parts.labels → lowered (labelled_of parts) ≡ network_of parts
 plain_network parts good empties =
     unlabelled_lowered (labelled_of parts) good (λ x inside. empties x (omega (arith, inside, good.one_each)))
-    ∙ ap (λ (cs : List Constraint). record (network_of parts) { constraints = cs }) (numbered_same 0 (numbered 0 parts.constraints) (λ i d inside. numbered_id 0 parts.constraints i d inside))
+    ∙ ap (λ (cs : List Constraint). record (network_of parts) { constraints = cs }) (numbered_same 0 (numbered_drawn 0 parts.constraints) (λ i d inside. numbered_id 0 parts.constraints i d inside))
 
 -- a document with labels
 labels_output : (answer : Answer) (told : Result Parts Refusal) (parts : Parts) (live : List ℕ) (said : Said) → told ≡ Ok parts → IsFit parts → (AreEmpty parts.labels → ⊥) → said ≡ say Document (codes "document labels") → IsOutput (judged (of_plain answer) told) live said
@@ -189,7 +184,7 @@ document_ids told asked net names opened = λ i d inside.
     let is = opened.opens.1 in
     let few : length (the_network net).constraints ≤ 16384 = opened.opens.2.few_constraints in
     let long : length (the_network net).constraints ≡ length net.constraints = length-map net.constraints the_constraint in
-    let all : (the_network net).constraints ≡ numbered 0 is.parts.constraints = ap (λ (n : Network). n.constraints) is.network_is in
+    let all : (the_network net).constraints ≡ numbered_drawn 0 is.parts.constraints = ap (λ (n : Network). n.constraints) is.network_is in
     let place = numbered_id 0 is.parts.constraints i (the_constraint d) (omega (arith, inside, long, ap length all)) in
     let there = ap (λ (cs : List Constraint). (get_or cs i (the_constraint d)).id) all in
     let same = ap (λ (c : Constraint). c.id) (get_or-map the_constraint net.constraints i d (the_constraint d) inside) in

@@ -65,7 +65,7 @@ IsLabelsTold (Told said) = the_said said ≡ say Document (codes "document label
 
 -- the document of these bytes was accepted, or this is said of it
 abbrev pub OpensWithLabels : List ℕ → Option ℕ → WithLabels → Type 0
-OpensWithLabels bytes deadline (Labelled labelled names) = (length bytes ≤ 8388608) × IsDocument (document bytes deadline) labelled names
+OpensWithLabels bytes deadline (Labelled labelled names) = (length bytes ≤ 8388608) × IsDocument (document bytes deadline) (the_labelled labelled) names
 OpensWithLabels bytes deadline (Refused said) = IsSaidOf bytes deadline (the_said said) × (said.outcome ≡ Document)
 
 -- this is said of the document where labels are refused, whatever would be said of a network

@@ -15,7 +15,7 @@ use cstn_net::Network;
 use cstn_reply::{Outcome, Refused, Said};
 use cstn_text::Names;
 use cstn_words::Asked;
-use std::alloc::Global;
+use std::alloc::{AllocError, Global};
 
 const MAX_DOCUMENT: usize = 8_388_608;
 
@@ -48,10 +48,9 @@ pub fn open<F: Shelf>(alloc: Global, asked: Asked<'_>, shelf: &mut F) -> Result<
     ensures later { F.faults shelf.old ≤ F.faults shelf.new }
     ensures fault { IsErrOf result Refused.ReadFault → Rose (F.faults shelf.old) (F.faults shelf.new) }
 {
-    match open_labelled(alloc, asked, shelf) {
-        Ok(WithLabels::Accepted { labelled, names }) => take_plain(alloc, labelled, names),
-        Ok(WithLabels::Told(said)) => Ok(Opened::Told(said)),
-        Err(refused) => Err(refused),
+    match open_labelled(alloc, asked, shelf)? {
+        WithLabels::Accepted { labelled, names } => Ok(take_plain(alloc, labelled, names)?),
+        WithLabels::Told(said) => Ok(Opened::Told(said)),
     }
 }
 
@@ -71,36 +70,34 @@ pub fn open_labelled<F: Shelf>(
 {
     let bytes = match take_all(alloc, shelf, asked.file, MAX_DOCUMENT) {
         Ok(bytes) => bytes,
-        Err(TakeError::TooLong) => return too_long(alloc),
+        Err(TakeError::TooLong) => return Ok(too_long(alloc)?),
         Err(TakeError::ReadFault) => return Err(Refused::ReadFault),
-        Err(TakeError::Memory(_)) => return Err(Refused::Memory),
+        Err(TakeError::Memory(error)) => return Err(Refused::from(error)),
     };
-    open_bytes(alloc, &bytes, asked.deadline)
+    Ok(open_bytes(alloc, &bytes, asked.deadline)?)
 }
 
 // The document of these bytes.
-fn open_bytes(alloc: Global, bytes: &[u8], deadline: Option<u32>) -> Result<WithLabels, Refused>
+fn open_bytes(alloc: Global, bytes: &[u8], deadline: Option<u32>) -> Result<WithLabels, AllocError>
     requires few { length bytes.now ≤ MAX_DOCUMENT }
     ensures opens { IfOk result (OpensWithLabels bytes.now deadline) }
     ensures named { IfOk result IsNamedLabelled }
-    ensures fault { IsErrOf result Refused.ReadFault → ⊥ }
 {
     match read(alloc, bytes, deadline) {
         Ok((labelled, names)) => Ok(WithLabels::Accepted { labelled, names }),
-        Err(error) => match refuse(alloc, error) {
-            Ok(said) => Ok(WithLabels::Told(said)),
-            Err(_) => Err(Refused::Memory),
-        },
+        Err(error) => {
+            let said = refuse(alloc, error)?;
+            Ok(WithLabels::Told(said))
+        }
     }
 }
 
 // The network of a labelled one, or what is said where a time-point has a label.
-fn take_plain(alloc: Global, labelled: Labelled, names: Names) -> Result<Opened, Refused>
+fn take_plain(alloc: Global, labelled: Labelled, names: Names) -> Result<Opened, AllocError>
     requires named { length names ≡ count (the_network labelled.base) }
     requires origin { (later : List (List ℕ)) × (names ≡ origin_name ∷ later) }
     ensures taken { IfOk result (IsTakenOf labelled names) }
     ensures named { IfOk result HasNames }
-    ensures fault { IsErrOf result Refused.ReadFault → ⊥ }
 {
     let is_labelled = labelled.is_labelled();
     let (network, _) = labelled.split();
@@ -111,14 +108,11 @@ fn take_plain(alloc: Global, labelled: Labelled, names: Names) -> Result<Opened,
 }
 
 // What is said of a document with labels.
-fn has_labels(alloc: Global) -> Result<Opened, Refused>
+fn has_labels(alloc: Global) -> Result<Opened, AllocError>
     ensures told { IfOk result IsLabelsTold }
     ensures named { IfOk result HasNames }
-    ensures fault { IsErrOf result Refused.ReadFault → ⊥ }
 {
-    let Ok(text) = b"document labels\n".to_vec(alloc) else {
-        return Err(Refused::Memory);
-    };
+    let text = b"document labels\n".to_vec(alloc)?;
     Ok(Opened::Told(Said {
         outcome: Outcome::Document,
         text,
@@ -126,14 +120,11 @@ fn has_labels(alloc: Global) -> Result<Opened, Refused>
 }
 
 // What is said of a file that is too long.
-fn too_long(alloc: Global) -> Result<WithLabels, Refused>
+fn too_long(alloc: Global) -> Result<WithLabels, AllocError>
     ensures told { IfOk result IsTooLong }
     ensures named { IfOk result IsNamedLabelled }
-    ensures fault { IsErrOf result Refused.ReadFault → ⊥ }
 {
-    let Ok(text) = b"document long\n".to_vec(alloc) else {
-        return Err(Refused::Memory);
-    };
+    let text = b"document long\n".to_vec(alloc)?;
     Ok(WithLabels::Told(Said {
         outcome: Outcome::Document,
         text,

@@ -1,5 +1,5 @@
 // Verdicts on networks.
-ghost use Rattle.std.specs.Prelude.{ℕ, ◌≡◌, ◌≤◌, ◌++◌, IfOk, IsErrOf, Some, length, codes, decimal};
+ghost use Rattle.std.specs.Prelude.{ℕ, ◌≡◌, ◌≤◌, ◌++◌, IfOk, Some, length, codes, decimal};
 ghost use Rattle.cstn_net.specs.Networks.{IsWellFormed, count};
 ghost use Rattle.cstn_net.specs.Read.{the_network};
 ghost use Rattle.cstn_check.specs.Growth.{log_of, load_of};
@@ -13,9 +13,9 @@ ghost use Rattle.cstn_reply.specs.Read.{the_said};
 
 use cstn_check::{Check, Verdict};
 use cstn_net::Network;
-use cstn_reply::{Outcome, Refused, Said};
+use cstn_reply::{Outcome, Said};
 use cstn_text::Names;
-use std::alloc::Global;
+use std::alloc::{AllocError, Global};
 
 /// The verdict on a network.
 #[derive(Drop)]
@@ -27,17 +27,19 @@ pub enum Decided {
 }
 
 /// Checks a network, whose log may have `cap` entries. Fails for want of memory alone.
-pub fn decide(alloc: Global, network: Network, names: &Names, cap: u32) -> Result<Decided, Refused>
+pub fn decide(
+    alloc: Global,
+    network: Network,
+    names: &Names,
+    cap: u32,
+) -> Result<Decided, AllocError>
     requires some { 1 ≤ cap }
     requires most { cap ≤ 4194304 }
     requires well_formed { IsWellFormed (the_network network) }
     requires named { length names.now ≡ count (the_network network) }
     ensures decided { IfOk result (TellsVerdict cap names.now network) }
-    ensures fault { IsErrOf result Refused.ReadFault → ⊥ }
 {
-    let Ok(mut check) = Check::start(alloc, network, cap) else {
-        return Err(Refused::Memory);
-    };
+    let mut check = Check::start(alloc, network, cap)?;
     match check.run() {
         Verdict::Yes { load } => Ok(Decided::Yes { load, check }),
         Verdict::No { .. } => {
@@ -52,29 +54,21 @@ pub fn decide(alloc: Global, network: Network, names: &Names, cap: u32) -> Resul
 }
 
 /// The line that says yes, with the load. Fails for want of memory alone.
-pub fn yes_line(alloc: Global, load: u32) -> Result<Vec<u8>, Refused>
+pub fn yes_line(alloc: Global, load: u32) -> Result<Vec<u8>, AllocError>
     ensures line { IfOk result (λ line. line.items ≡ yes_line load) }
-    ensures fault { IsErrOf result Refused.ReadFault → ⊥ }
 {
-    let Ok(line) = format!(in alloc; "yes {load}\n") else {
-        return Err(Refused::Memory);
-    };
+    let line = format!(in alloc; "yes {load}\n")?;
     Ok(line.into_bytes())
 }
 
 // The text of the refutation that a check has found.
-fn refuted(alloc: Global, check: &Check, names: &Names) -> Result<Said, Refused>
+fn refuted(alloc: Global, check: &Check, names: &Names) -> Result<Said, AllocError>
     requires no { (load : ℕ) × (check.now.verdict ≡ Some (No load)) }
     requires named { length names.now ≡ count (the_network check.now.net) }
     ensures said { IfOk result (λ said. the_said said ≡ record { outcome = Outcome.Bad; text = shown names.now (load_of (the_network check.now.net)) (part (log_of (the_network check.now.net))) }) }
-    ensures fault { IsErrOf result Refused.ReadFault → ⊥ }
 {
-    let Ok(refutation) = check.refutation(alloc) else {
-        return Err(Refused::Memory);
-    };
-    let Ok(text) = refutation.print(alloc, names) else {
-        return Err(Refused::Memory);
-    };
+    let refutation = check.refutation(alloc)?;
+    let text = refutation.print(alloc, names)?;
     Ok(Said {
         outcome: Outcome::Bad,
         text: text.into_bytes(),
@@ -82,13 +76,10 @@ fn refuted(alloc: Global, check: &Check, names: &Names) -> Result<Said, Refused>
 }
 
 /// What is said where a log has more than `cap` entries. Fails for want of memory alone.
-pub fn full(alloc: Global, cap: u32) -> Result<Said, Refused>
+pub fn full(alloc: Global, cap: u32) -> Result<Said, AllocError>
     ensures said { IfOk result (λ said. the_said said ≡ record { outcome = Outcome.Full; text = full_line cap }) }
-    ensures fault { IsErrOf result Refused.ReadFault → ⊥ }
 {
-    let Ok(text) = format!(in alloc; "full {cap}\n") else {
-        return Err(Refused::Memory);
-    };
+    let text = format!(in alloc; "full {cap}\n")?;
     Ok(Said {
         outcome: Outcome::Full,
         text: text.into_bytes(),

@@ -7,11 +7,11 @@ use Rattle.cstn_label.specs.declared.nodes.NodeId.{NodeId}
 use Rattle.cstn_net.specs.Networks.{count}
 use Rattle.cstn_exec.specs.Runs.{due}
 use Rattle.cstn_exec.specs.Moves.{Refusal}
-use Rattle.cstn_exec.specs.Examples.{Moment, Names, run_unless}
+use Rattle.cstn_exec.specs.Answers.{Moment, Names, run_unless}
 use Rattle.cstn_host.specs.Hosts.{HostParts, Opened, plan_of_file, net_at, bounds_at, case_at, named_at}
 use Rattle.cstn_host.specs.Calls.{AskFile, AskNamed, Pass, FileIs, Told, answer_on, passed}
 use Rattle.cstn_talk.specs.Running.{AreShort, the_nodes, spaced, moment_line}
-use Rattle.cstn_talk.proofs.Names.{named_inside, named_few}
+use Rattle.cstn_talk.proofs.Names.{called_inside, called_few}
 use Rattle.cstn_ward.specs.Wards.{with_id}
 use Rattle.cstn_ward.specs.Read.{the_names, IsWard}
 use Rattle.cstn_ward.proofs.Moments.{Moved, after_moment, moved_by, named_then, run_then, file_is, named_is}
@@ -63,14 +63,14 @@ module _ (host : HostParts) (id t : ℕ) (m : Moved host id t) (names : List (Ve
 
   pub texts_inside : All (λ (x : NodeId). x.0 < length texts) xs
   texts_inside =
-      named_inside (net_at host.plans m.before.file) (bounds_at host.plans m.before.file) m.before.run t xs (length texts) nodes_are
+      called_inside (net_at host.plans m.before.file) (bounds_at host.plans m.before.file) m.before.run t xs (length texts) nodes_are
       (sym (length-map texts string_bytes) ∙ ap length texts_are ∙ short.all ∙ ap (λ (k : ℕ). count (net_at host.plans k)) same)
 
   pub texts_short : All (λ name. length name ≤ 192) (map string_bytes texts)
   texts_short = subst (λ (ts : List (List ℕ)). All (λ name. length name ≤ 192) ts) (sym texts_are) short.each
 
   pub few_named : length xs ≤ 1024
-  few_named = let most = few in let all = named_few (net_at host.plans m.before.file) (bounds_at host.plans m.before.file) m.before.run t xs nodes_are in omega (arith, most, all)
+  few_named = let most = few in let all = called_few (net_at host.plans m.before.file) (bounds_at host.plans m.before.file) m.before.run t xs nodes_are in omega (arith, most, all)
 
   -- the line of the moment
   pub line_is : (text with_it new : List ℕ) → text ≡ [] → with_it ≡ text ++ (decimal id ++ 32 ∷ []) → new ≡ with_it ++ moment_line (map string_bytes texts) t (the_nodes xs) → new ≡ with_id id (codes "at " ++ decimal t ++ spaced (slice_index_or (the_names names) m.before.file []) (named_then host id t m))

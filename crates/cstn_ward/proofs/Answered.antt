@@ -3,7 +3,7 @@ use Rattle.std.proofs.Common.{◌≡◌, ℕ, Bool, true, false, List, [], ◌++
 use Rattle.std.specs.Prelude.{Result, Ok, Err, OnOk, Option, is_none, slice_index_or, codes, decimal}
 use Rattle.cstn_lines.specs.LiveLines.{moment_at, seen, due_now}
 use Rattle.cstn_lines.specs.HostLines.{Hosted, opened, put_on}
-use Rattle.cstn_exec.specs.Examples.{Moment, See, AskDue, Names, Kept, DueAt}
+use Rattle.cstn_exec.specs.Answers.{Moment, See, AskDue, Names, Kept, DueAt}
 use Rattle.cstn_host.specs.declared.errors.HostError.{HostError}
 use Rattle.cstn_host.specs.Hosts.{HostParts, named_at}
 use Rattle.cstn_host.specs.Calls.{Open, Pass, Agreed, Told, answer_on, host_after}

@@ -1,35 +1,35 @@
 -- The answers to an id are those of a run of its file's plan alone.
 use Rattle.std.proofs.Common.{◌≡◌, ◌≢◌, ℕ, ◌<◌, List, [], ◌∷◌, ◌++◌, length, map, refl, ap, sym, subst, ◌∙◌, arith, Bool, true, false}
 use Rattle.std.specs.Prelude.{Option, Some, None, nat_lt, ◌==◌, if◌then◌else◌, slice_index_or, slice_set, flat_map, codes}
-use Rattle.std.proofs.lemmas.List.{get_or-set_same, get_or-set_other, get_or-replicate, length-set, length-replicate}
-use Rattle.cstn_exec.specs.Runs.{Run, due, named}
+use Rattle.std.proofs.lemmas.List.{get_or-set_same, get_or-set_other, length-set, length-replicate}
+use Rattle.cstn_exec.specs.Runs.{Run, due, called}
 use Rattle.cstn_exec.specs.Moves.{Refusal, moment_refusal, moved, outcome_refusal, handed}
-use Rattle.cstn_exec.specs.Examples.{moment_answer, see_answer, run_unless}
-use Rattle.cstn_host.specs.Calls.{OutOfRange, Agreed, Denied, NotAFile}
+use Rattle.cstn_exec.specs.Answers.{moment_answer, see_answer, run_unless}
+use Rattle.cstn_host.specs.Calls.{OutOfRange}
 use Rattle.cstn_lines.specs.LiveLines.{Live, moment_at, seen, due_now, live_read}
-use Rattle.cstn_lines.specs.HostLines.{Hosted, opened, put_on}
+use Rattle.cstn_lines.specs.HostLines.{Hosted, put_on}
 use Rattle.cstn_reply.specs.Texts.{line}
 use Rattle.cstn_talk.specs.Running.{moment_line, refused_text, seen_text, due_text, executing, moment_turn, seen_turn, live_turn, run_turn}
-use Rattle.cstn_ward.specs.Wards.{File, Case, Ward, begun, file_at, case_of, fresh, id_of, passed_on, case_next, with_id, answer_lines, agreed_text, denied_text, answer_text, due_in, said_in, said, ward_after}
+use Rattle.cstn_ward.specs.Wards.{File, Case, Ward, begun, file_at, case_of, id_of, passed_on, case_next, with_id, answer_lines, denied_text, said_in, said, ward_after}
 use Rattle.cstn_ward.specs.Alone.{lines_on, put_if, said_to, alone_after, alone_lines, alone_said, turn_text, LeadsTo}
 use Rattle.cstn_ward.proofs.PutLines.{nothing_after}
 
-is_below : (a b : ℕ) → a < b → nat_lt a b ≡ true
+pub is_below : (a b : ℕ) → a < b → nat_lt a b ≡ true
 is_below a b small = grind arith
 
-same_is : (a b : ℕ) → (a == b) ≡ true → a ≡ b
+pub same_is : (a b : ℕ) → (a == b) ≡ true → a ≡ b
 same_is a b is = grind arith
 
-is_same : (a : ℕ) → (a == a) ≡ true
+pub is_same : (a : ℕ) → (a == a) ≡ true
 is_same a = grind arith
 
-other_is : (a b : ℕ) → (a == b) ≡ false → b ≢ a
+pub other_is : (a b : ℕ) → (a == b) ≡ false → b ≢ a
 other_is a b is = grind arith
 
 -- ---- one line
 
 -- a line leaves what every other id is open over as it is
-leaves : (ward : Ward) (h : Hosted) (other : ℕ) → other ≢ id_of h → case_of (ward_after ward h) other ≡ case_of ward other
+pub leaves : (ward : Ward) (h : Hosted) (other : ℕ) → other ≢ id_of h → case_of (ward_after ward h) other ≡ case_of ward other
 leaves ward h other apart = at (nat_lt (id_of h) 64)
   where
     at : (b : Bool) → slice_index_or (if b then slice_set ward.cases (id_of h) (case_next ward.files (case_of ward (id_of h)) h) else ward.cases) other None ≡ slice_index_or ward.cases other None
@@ -37,7 +37,7 @@ leaves ward h other apart = at (nat_lt (id_of h) 64)
     at false = refl
 
 -- after a line there are as many ids as before
-as_many : (ward : Ward) (h : Hosted) → length (ward_after ward h).cases ≡ length ward.cases
+pub as_many : (ward : Ward) (h : Hosted) → length (ward_after ward h).cases ≡ length ward.cases
 as_many ward h = at (nat_lt (id_of h) 64)
   where
     at : (b : Bool) → length (if b then slice_set ward.cases (id_of h) (case_next ward.files (case_of ward (id_of h)) h) else ward.cases) ≡ length ward.cases
@@ -45,7 +45,7 @@ as_many ward h = at (nat_lt (id_of h) 64)
     at false = refl
 
 -- a line changes what its own id is open over
-changes : (ward : Ward) (h : Hosted) → length ward.cases ≡ 64 → id_of h < 64 → case_of (ward_after ward h) (id_of h) ≡ case_next ward.files (case_of ward (id_of h)) h
+pub changes : (ward : Ward) (h : Hosted) → length ward.cases ≡ 64 → id_of h < 64 → case_of (ward_after ward h) (id_of h) ≡ case_next ward.files (case_of ward (id_of h)) h
 changes ward h size below =
     ap (λ (b : Bool). slice_index_or (if b then slice_set ward.cases (id_of h) (case_next ward.files (case_of ward (id_of h)) h) else ward.cases) (id_of h) None) (is_below (id_of h) 64 below)
     ∙ get_or-set_same ward.cases (id_of h) (case_next ward.files (case_of ward (id_of h)) h) None (omega (arith, size, below))
@@ -53,18 +53,18 @@ changes ward h size below =
 -- ---- all lines
 
 -- two wards have the same files, and the id is open over the same in both
-record Agree (w v : Ward) (id : ℕ) : Type 0 where
-  same_files : w.files ≡ v.files
-  same_case : case_of w id ≡ case_of v id
-  size : length w.cases ≡ 64
-  also : length v.cases ≡ 64
+pub record Agree (w v : Ward) (id : ℕ) : Type 0 where
+  pub same_files : w.files ≡ v.files
+  pub same_case : case_of w id ≡ case_of v id
+  pub size : length w.cases ≡ 64
+  pub also : length v.cases ≡ 64
 
-same_said : (w v : Ward) (h : Hosted) → Agree w v (id_of h) → said w h ≡ said v h
+pub same_said : (w v : Ward) (h : Hosted) → Agree w v (id_of h) → said w h ≡ said v h
 same_said w v h agree =
     ap (λ (files : List File). if nat_lt (id_of h) 64 then said_in files (case_of w (id_of h)) h else line (denied_text (OutOfRange (id_of h)))) agree.same_files
     ∙ ap (λ (o : Option Case). if nat_lt (id_of h) 64 then said_in v.files o h else line (denied_text (OutOfRange (id_of h)))) agree.same_case
 
-same_after : (w v : Ward) (h : Hosted) → Agree w v (id_of h) → Agree (ward_after w h) (ward_after v h) (id_of h)
+pub same_after : (w v : Ward) (h : Hosted) → Agree w v (id_of h) → Agree (ward_after w h) (ward_after v h) (id_of h)
 same_after w v h agree = record {
   same_files = agree.same_files;
   same_case = at (nat_lt (id_of h) 64) refl;
@@ -93,7 +93,7 @@ same_still w v h id apart agree = record {
 }
 
 -- the answers to an id are those to its lines alone
-to_its_lines : (w v : Ward) (lines : List Hosted) (id : ℕ) → Agree w v id → said_to id w lines ≡ said_to id v (lines_on id lines)
+pub to_its_lines : (w v : Ward) (lines : List Hosted) (id : ℕ) → Agree w v id → said_to id w lines ≡ said_to id v (lines_on id lines)
 to_its_lines w v [] id agree = refl
 to_its_lines w v (h ∷ hs) id agree = at (id_of h == id) refl (λ x y same. to_its_lines x y hs id same)
   where
@@ -125,7 +125,7 @@ each_apart files lines others id same =
 -- ---- an id that is open
 
 -- the live lines on an open id are answered as by a run alone
-passes_on : (w : Ward) (id : ℕ) (c : Case) (lives : List Live) → id < 64 → length w.cases ≡ 64 → case_of w id ≡ Some c → said_to id w (map (put_on id) lives) ≡ alone_said id (file_at w.files c.file) c.run lives
+pub passes_on : (w : Ward) (id : ℕ) (c : Case) (lives : List Live) → id < 64 → length w.cases ≡ 64 → case_of w id ≡ Some c → said_to id w (map (put_on id) lives) ≡ alone_said id (file_at w.files c.file) c.run lives
 passes_on w id c [] below size is = refl
 passes_on w id c (live ∷ lives) below size is =
     ap (λ (b : Bool). put_if b (said w (put_on id live)) (said_to id (ward_after w (put_on id live)) (map (put_on id) lives))) (is_same id)
@@ -139,40 +139,15 @@ passes_on w id c (live ∷ lives) below size is =
         ap (λ (b : Bool). if b then said_in w.files (case_of w id) (put_on id live) else line (denied_text (OutOfRange id))) (is_below id 64 below)
         ∙ ap (λ (o : Option Case). said_in w.files o (put_on id live)) is
 
--- the live lines after the line that opens an id are answered as by a run alone
-pub alone : (files : List File) (lines : List Hosted) (id file : ℕ) (lives : List Live) → id < 64 → file < length files → lines_on id lines ≡ opened id file ∷ map (put_on id) lives → said_to id (begun files) lines ≡ agreed_text (opened id file) ∷ alone_said id (file_at files file) (fresh files file).run lives
-alone files lines id file lives below inside is =
-    to_its_lines first first lines id (begun_agree files id)
-    ∙ ap (said_to id first) is
-    ∙ ap (λ (b : Bool). put_if b (said first (opened id file)) (said_to id (ward_after first (opened id file)) (map (put_on id) lives))) (is_same id)
-    ∙ ap (λ (text : List ℕ). text ∷ said_to id (ward_after first (opened id file)) (map (put_on id) lives)) now
-    ∙ ap (λ (later : List (List ℕ)). agreed_text (opened id file) ∷ later)
-    (passes_on (ward_after first (opened id file)) id (fresh files file) lives below (as_many first (opened id file) ∙ size) (changes first (opened id file) size below ∙ ap (λ (o : Option Case). case_next files o (opened id file)) none ∙ ap (λ (b : Bool). if b then Some (fresh files file) else None) (is_below file (length files) inside)))
-  where
-    first : Ward
-    first = begun files
-
-    size : length (begun files).cases ≡ 64
-    size = length-replicate {A = Option Case} 64 None
-
-    none : case_of (begun files) id ≡ None
-    none = get_or-replicate {A = Option Case} 64 id None None below
-
-    now : said (begun files) (opened id file) ≡ agreed_text (opened id file)
-    now =
-        ap (λ (b : Bool). if b then said_in files (case_of (begun files) id) (opened id file) else line (denied_text (OutOfRange id))) (is_below id 64 below)
-        ∙ ap (λ (o : Option Case). said_in files o (opened id file)) none
-        ∙ ap (λ (b : Bool). answer_text [] (due_in files (if b then Some (fresh files file) else None)) (opened id file) (if b then Agreed else Denied (NotAFile file))) (is_below file (length files) inside)
-
 -- ---- a run alone
 
 -- its answers have the text of those of `run`
 pub alone_text : (file : File) (run : Run) (live : Live) (bytes : List ℕ) → live_read bytes ≡ Some live → turn_text (run_turn file.names file.net file.bounds run bytes) ≡ flat_map line (alone_lines file run live)
 alone_text file run live bytes is = ap (λ (o : Option Live). turn_text (live_turn file.names file.net file.bounds run o)) is ∙ by_live live
   where
-    by_due : (t : ℕ) (o : Option ℕ) → turn_text (executing (moment_line file.names t (named file.net file.bounds run t)) (moved file.net file.bounds run t) o) ≡ flat_map line (answer_lines file.names o (moment_at t) (moment_answer file.net file.bounds run t None))
-    by_due t None = ap (λ (xs : List ℕ). moment_line file.names t (named file.net file.bounds run t) ++ xs) (sym (nothing_after (line (codes "done"))))
-    by_due t (Some u) = sym (nothing_after (moment_line file.names t (named file.net file.bounds run t)))
+    by_due : (t : ℕ) (o : Option ℕ) → turn_text (executing (moment_line file.names t (called file.net file.bounds run t)) (moved file.net file.bounds run t) o) ≡ flat_map line (answer_lines file.names o (moment_at t) (moment_answer file.net file.bounds run t None))
+    by_due t None = ap (λ (xs : List ℕ). moment_line file.names t (called file.net file.bounds run t) ++ xs) (sym (nothing_after (line (codes "done"))))
+    by_due t (Some u) = sym (nothing_after (moment_line file.names t (called file.net file.bounds run t)))
 
     by_refusal : (t : ℕ) (r : Option Refusal) → turn_text (moment_turn file.names file.net file.bounds run t r) ≡ flat_map line (answer_lines file.names (due file.net file.bounds (run_unless run (moved file.net file.bounds run t) r)) (moment_at t) (moment_answer file.net file.bounds run t r))
     by_refusal t None = by_due t (due file.net file.bounds (moved file.net file.bounds run t))
@@ -192,7 +167,7 @@ pub alone_leads : (file : File) (run : Run) (live : Live) (bytes : List ℕ) →
 alone_leads file run live bytes is =
     subst (λ (o : Option Live). LeadsTo file (alone_after file run live) (live_turn file.names file.net file.bounds run o)) (sym is) (by_live live)
   where
-    by_due : (t : ℕ) (o : Option ℕ) → due file.net file.bounds (moved file.net file.bounds run t) ≡ o → LeadsTo file (moved file.net file.bounds run t) (executing (moment_line file.names t (named file.net file.bounds run t)) (moved file.net file.bounds run t) o)
+    by_due : (t : ℕ) (o : Option ℕ) → due file.net file.bounds (moved file.net file.bounds run t) ≡ o → LeadsTo file (moved file.net file.bounds run t) (executing (moment_line file.names t (called file.net file.bounds run t)) (moved file.net file.bounds run t) o)
     by_due t None none = none
     by_due t (Some u) some = refl
 

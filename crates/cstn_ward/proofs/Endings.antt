@@ -3,7 +3,7 @@ use Rattle.std.proofs.Common.{◌≡◌, ◌<◌, ◌≤◌, ◌+◌, ◌-◌, �
 use Rattle.std.specs.Prelude.{nat_lt, if◌then◌else◌, Option, Some, None}
 use Rattle.std.specs.Option.{option_map}
 use Rattle.cstn_exec.specs.Runs.{due}
-use Rattle.cstn_exec.specs.Examples.{AskDue, DueAt}
+use Rattle.cstn_exec.specs.Answers.{AskDue, DueAt}
 use Rattle.cstn_host.specs.declared.errors.HostError.{HostError}
 use Rattle.cstn_host.specs.Hosts.{Opened, net_at, bounds_at, case_at}
 use Rattle.cstn_host.specs.Calls.{Pass, Told, Denied, OutOfRange, answer_at, answer_on}

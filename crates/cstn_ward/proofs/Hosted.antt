@@ -2,7 +2,7 @@
 use Rattle.std.proofs.Common.{◌≡◌, ℕ, List, [], ◌++◌, map, subst, inl, inr, arith}
 use Rattle.std.specs.Prelude.{Option, Result, Ok, Err, IfOk}
 use Rattle.std.proofs.lemmas.Grind.{common_steps}
-use Rattle.cstn_reply.specs.Plans.{says, ComesTo}
+use Rattle.cstn_reply.specs.Plans.{ComesTo}
 use Rattle.cstn_reply.specs.Read.{the_said}
 use Rattle.cstn_reply.specs.declared.output.Said.{Said as SaidText}
 use Rattle.cstn_reply.specs.declared.output.Outcome.TheVariants.{Document}

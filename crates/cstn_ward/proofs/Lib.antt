@@ -7,6 +7,8 @@ pub mod Endings
 pub mod Whole
 pub mod ReadFiles
 pub mod Apart
+pub mod Own
+pub mod Least
 pub mod Plays
 pub mod ReadAll
 pub mod BegunWards

@@ -5,9 +5,9 @@ use Rattle.std.specs.Option.{option_map}
 use Rattle.std.proofs.lemmas.List.{get_or-set_same, set-get_or}
 use Rattle.cstn_lines.specs.LiveLines.{moment_at, seen, due_now}
 use Rattle.cstn_lines.specs.HostLines.{put_on}
-use Rattle.cstn_exec.specs.Runs.{Run, named, due}
+use Rattle.cstn_exec.specs.Runs.{Run, called, due}
 use Rattle.cstn_exec.specs.Moves.{Refusal, moment_refusal, moved}
-use Rattle.cstn_exec.specs.Examples.{Moment, See, AskDue, Names, Kept, DueAt, moment_answer, run_unless}
+use Rattle.cstn_exec.specs.Answers.{Moment, See, AskDue, Names, Kept, DueAt, moment_answer, run_unless}
 use Rattle.cstn_host.specs.declared.errors.HostError.{HostError}
 use Rattle.cstn_host.specs.declared.errors.HostError.TheVariants.{IdInUse, NoSuchPlan, IdRange, NoFile, Exec, Memory}
 use Rattle.cstn_host.specs.Hosts.{HostParts, Opened, net_at, bounds_at, case_at, named_in, named_at}
@@ -89,7 +89,7 @@ module _ (host : HostParts) (id t : ℕ) (m : Moved host id t) where
   run_then = moved (net_at host.plans m.before.file) (bounds_at host.plans m.before.file) m.before.run t
 
   abbrev pub named_then : List ℕ
-  named_then = named (net_at host.plans m.before.file) (bounds_at host.plans m.before.file) m.before.run t
+  named_then = called (net_at host.plans m.before.file) (bounds_at host.plans m.before.file) m.before.run t
 
   file_asked : answer_on (after_moment host id t) id AskFile ≡ FileIs m.before.file
   file_asked =

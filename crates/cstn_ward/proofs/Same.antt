@@ -8,7 +8,7 @@ use Rattle.cstn_net.specs.Networks.{count}
 use Rattle.cstn_log.specs.Plans.{PlanParts}
 use Rattle.cstn_lines.specs.HostLines.{Hosted, opened, put_on, closed}
 use Rattle.cstn_exec.specs.Runs.{start}
-use Rattle.cstn_exec.specs.Examples.{Answer, answer_to, run_after}
+use Rattle.cstn_exec.specs.Answers.{Answer, answer_to, run_after}
 use Rattle.cstn_exec.specs.Read.{the_refusal}
 use Rattle.cstn_host.specs.declared.errors.HostError.{HostError}
 use Rattle.cstn_host.specs.declared.errors.HostError.TheVariants.{IdInUse, NoSuchPlan, IdRange, NoFile, Exec, Memory}

@@ -7,7 +7,7 @@ use Rattle.cstn_net.specs.Read.{the_network}
 use Rattle.cstn_lines.specs.LiveLines.{Live, moment_at, seen, due_now}
 use Rattle.cstn_lines.specs.HostLines.{Hosted, opened, put_on, closed, host_read}
 use Rattle.cstn_exec.specs.Runs.{Run, start, due}
-use Rattle.cstn_exec.specs.Examples.{Event, Moment, See, AskDue, Answer, Names, Kept, Refused, DueAt, answer_to, run_after}
+use Rattle.cstn_exec.specs.Answers.{Event, Moment, See, AskDue, Answer, Names, Kept, Refused, DueAt, answer_to, run_after}
 use Rattle.cstn_host.specs.Hosts.{no_plan}
 use Rattle.cstn_host.specs.Calls.{Denial, InUse, NotOpen, OutOfRange, NotAFile, NoMemory, HostAnswer, Agreed, FileIs, Told, Denied}
 use Rattle.cstn_reply.specs.Texts.{line}

@@ -49,14 +49,13 @@ pub(crate) fn read_all<F: Shelf>(
             file: file.as_str(),
             deadline,
         };
-        match open(alloc, asked, shelf) {
-            Ok(Opened::Accepted { network, names }) => {
+        match open(alloc, asked, shelf)? {
+            Opened::Accepted { network, names } => {
                 let Ok(()) = documents.push(Document { network, names }) else {
                     return Err(Refused::Memory);
                 };
             }
-            Ok(Opened::Told(said)) => return Ok(AllRead::Told(said)),
-            Err(refused) => return Err(refused),
+            Opened::Told(said) => return Ok(AllRead::Told(said)),
         }
     }
     Ok(AllRead::Accepted(documents))

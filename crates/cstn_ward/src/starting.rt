@@ -20,7 +20,7 @@ use cstn_reply::{Refused, Said};
 use cstn_talk::print_names;
 use cstn_text::Names;
 use cstn_verdict::{Decided, decide, yes_line};
-use std::alloc::Global;
+use std::alloc::{AllocError, Global};
 
 /// What is carried out for the files of a host.
 #[derive(Drop)]
@@ -47,28 +47,19 @@ impl Begun {
         load: u32,
         plan: SoundPlan,
         names: &Names,
-    ) -> Result<(), Refused>
+    ) -> Result<(), AllocError>
         requires named { length names.now ≡ count (the_network plan.net) }
         requires few { count (the_network plan.net) ≤ 1024 }
         ensures opening { OnOk result (self.new.opening.items ≡ self.old.opening.items ++ yes_line load) }
         ensures plans { OnOk result (self.new.plans.items ≡ self.old.plans.items ++ plan ∷ []) }
         ensures names { OnOk result (the_names self.new.names.items ≡ the_names self.old.names.items ++ map printed_name names.now ∷ []) }
         ensures short { OnOk result (AreShort plan.net (map printed_name names.now)) }
-        ensures fault { IsErrOf result Refused.ReadFault → ⊥ }
     {
         let line = yes_line(alloc, load)?;
-        let Ok(printed) = print_names(alloc, names) else {
-            return Err(Refused::Memory);
-        };
-        let Ok(()) = self.opening.extend_from_slice(&line) else {
-            return Err(Refused::Memory);
-        };
-        let Ok(()) = self.plans.push(plan) else {
-            return Err(Refused::Memory);
-        };
-        let Ok(()) = self.names.push(printed) else {
-            return Err(Refused::Memory);
-        };
+        let printed = print_names(alloc, names)?;
+        self.opening.extend_from_slice(&line)?;
+        self.plans.push(plan)?;
+        self.names.push(printed)?;
         Ok(())
     }
 }
@@ -94,15 +85,14 @@ pub fn host_files<F: Shelf>(
     ensures later { F.faults shelf.old ≤ F.faults shelf.new }
     ensures fault { IsErrOf result Refused.ReadFault → Rose (F.faults shelf.old) (F.faults shelf.new) }
 {
-    match read_all(alloc, files, deadline, shelf) {
-        Ok(AllRead::Accepted(documents)) => check_all(alloc, documents, cap),
-        Ok(AllRead::Told(said)) => Ok(Hosting::Told(said)),
-        Err(refused) => Err(refused),
+    match read_all(alloc, files, deadline, shelf)? {
+        AllRead::Accepted(documents) => Ok(check_all(alloc, documents, cap)?),
+        AllRead::Told(said) => Ok(Hosting::Told(said)),
     }
 }
 
 // Checks the networks one after another, up to the first whose verdict isn't yes.
-fn check_all(alloc: Global, documents: Vec<Document>, cap: u32) -> Result<Hosting, Refused>
+fn check_all(alloc: Global, documents: Vec<Document>, cap: u32) -> Result<Hosting, AllocError>
     requires some_documents { 1 ≤ length documents.items }
     requires few_documents { length documents.items ≤ 8 }
     requires sound { All IsSound documents.items }
@@ -110,7 +100,6 @@ fn check_all(alloc: Global, documents: Vec<Document>, cap: u32) -> Result<Hostin
     requires most { cap ≤ 65536 }
     ensures comes { IfOk result (λ hosting. ComesTo (attended cap (map the_named documents.items)) (the_hosting hosting)) }
     ensures opening { IfOk result IsOpening }
-    ensures fault { IsErrOf result Refused.ReadFault → ⊥ }
 {
     let mut begun = Begun {
         opening: Vec::new(alloc),
@@ -119,28 +108,24 @@ fn check_all(alloc: Global, documents: Vec<Document>, cap: u32) -> Result<Hostin
     };
     for document in documents {
         let Document { network, names } = document;
-        match decide(alloc, network, &names, cap) {
-            Ok(Decided::Yes { load, check }) => {
+        match decide(alloc, network, &names, cap)? {
+            Decided::Yes { load, check } => {
                 begun.add(alloc, load, check.into_plan(), &names)?;
             }
-            Ok(Decided::Told(said)) => return Ok(Hosting::Told(said)),
-            Err(refused) => return Err(refused),
+            Decided::Told(said) => return Ok(Hosting::Told(said)),
         }
     }
     begin(alloc, begun)
 }
 
 // The ward of the plans, with no id open, after the lines that say yes.
-fn begin(alloc: Global, begun: Begun) -> Result<Hosting, Refused>
+fn begin(alloc: Global, begun: Begun) -> Result<Hosting, AllocError>
     requires some { 1 ≤ length begun.plans.items }
     requires few { length begun.plans.items ≤ 8 }
     requires named { IsWard begun.plans.items (the_names begun.names.items) }
     ensures begins { IfOk result (IsBegin begun) }
-    ensures fault { IsErrOf result Refused.ReadFault → ⊥ }
 {
-    let Ok(ward) = Ward::start(alloc, begun.plans, begun.names) else {
-        return Err(Refused::Memory);
-    };
+    let ward = Ward::start(alloc, begun.plans, begun.names)?;
     Ok(Hosting::Begins {
         opening: begun.opening,
         ward,

@@ -7,5 +7,8 @@ use Rattle.cstn_evidence.proofs.certificates.no_wait.Goals as goal
 abbrev said_text : List ℕ → Said
 said_text text = record { outcome = Bad; text = text }
 
-pub returns-clause-said : goal.returns-clause-said
-returns-clause-said c = ap said_text (ap (λ (v : Vec ℕ Global). v.items) c.into_bytes.ensures.value ∙ (c.in-Ok.ensures.ok ∙ two_numbers (codes "rejected wait ") c.args.seen c.args.at))
+pub returns : goal.returns
+returns c = record {
+  said =
+      ap said_text (ap (λ (v : Vec ℕ Global). v.items) c.into_bytes.ensures.value ∙ (c.in_ok-text.ensures.ok ∙ two_numbers (codes "rejected wait ") c.args.seen c.args.at));
+}

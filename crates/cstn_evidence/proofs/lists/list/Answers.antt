@@ -9,6 +9,6 @@ use Rattle.cstn_evidence.proofs.lists.list.Goals as goal
 
 pub print-requires : goal.print-requires
 print-requires c = record {
-  named = subst (λ (bs : List Bound). All (IsNamed c.args.names.now) bs) (sym (ap (λ (x : ClosedParts). x.bounds) c.in-Ok.ensures.of))
+  named = subst (λ (bs : List Bound). All (IsNamed c.args.names.now) bs) (sym (ap (λ (x : ClosedParts). x.bounds) c.in_ok-closed.ensures.of))
       (all_named c.args.names.now (the_network c.args.check.net) c.into_plan-plan.result.bounds c.requires.well_formed c.requires.named (c.live_bounds_are_in_range.ensures.ranged (the_network c.args.check.net) c.requires.well_formed) c.into_plan-plan.ensures.live);
 }

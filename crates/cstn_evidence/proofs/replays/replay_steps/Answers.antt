@@ -5,9 +5,11 @@ use Rattle.cstn_replay.specs.declared.answers.Answer.TheVariants.{Rejected}
 use Rattle.cstn_evidence.proofs.Replaying.{rejected_said}
 use Rattle.cstn_evidence.proofs.replays.replay_steps.Goals as goal
 
-pub returns-in-Rejected-clause-said : goal.returns-in-Rejected-clause-said
-returns-in-Rejected-clause-said c =
-    let is = c.in-Rejected.is in
-    let same : c.replay.result ≡ Rejected c.in-Rejected.step = cc in
-    rejected_said (the_network c.args.network.now) (the_steps c.args.refutation.now) c.in-Rejected.step c.rejected.result
-    ((c.replay.ensures.rejected c.in-Rejected.step).0 same) c.rejected.ensures.said
+pub returns-in-Rejected : goal.returns-in-Rejected
+returns-in-Rejected c = record {
+  said =
+      let is = c.in-Rejected.is in
+      let same : c.replay.result ≡ Rejected c.in-Rejected.step = cc in
+      rejected_said (the_network c.args.network.now) (the_steps c.args.refutation.now) c.in-Rejected.step c.rejected.result
+      ((c.replay.ensures.rejected c.in-Rejected.step).0 same) c.rejected.ensures.said;
+}

@@ -14,13 +14,16 @@ use Rattle.cstn_strategy.proofs.trees.unfold.Goals as goal
 
 pub tell-requires-clause-low : goal.tell-requires-clause-low
 tell-requires-clause-low c =
-    let decided : TellsVerdict c.args.cap c.args.names.now c.args.network (Yes c.in-Ok-Yes.load c.in-Ok-Yes.check) = subst (λ (d : Decided). TellsVerdict c.args.cap c.args.names.now c.args.network d) c.in-Ok-Yes.field-0-is c.in-Ok-Yes.ensures.decided in
+    let decided : TellsVerdict c.args.cap c.args.names.now c.args.network (Yes c.in-Yes.load c.in-Yes.check) = subst (λ (d : Decided). TellsVerdict c.args.cap c.args.names.now c.args.network d) c.in-Yes.is c.in_ok-load.ensures.decided in
     subst (λ (n : ℕ). 1 ≤ n) (sym decided.1) (some_entries (the_network c.args.network) c.requires.well_formed (c.growth_ends.ensures.goes_on (the_network c.args.network) 0 c.requires.well_formed))
 
-pub returns-in-Ok-Yes-clause-said : goal.returns-in-Ok-Yes-clause-said
-returns-in-Ok-Yes-clause-said c live =
-    let decided : TellsVerdict c.args.cap c.args.names.now c.args.network (Yes c.in-Ok-Yes.load c.in-Ok-Yes.check) = subst (λ (d : Decided). TellsVerdict c.args.cap c.args.names.now c.args.network d) c.in-Ok-Yes.field-0-is c.in-Ok-Yes.ensures.decided in
-    let counted = c.observed-observed.ensures in
-    let few = c.if-observed-gt-MOST_OBSERVED.false in
-    yes_said c.args.cap c.args.names.now (the_network c.args.network) c.in-Ok-Yes.load live c.tell.result (omega (arith, counted, few)) decided.0 decided.1
-    (subst (λ (n : NetworkParts). IfOk c.tell.result (λ said. IsTreeText c.args.names.now c.in-Ok-Yes.load (live_bounds (log_of (the_network n))) (the_network n) (the_said said))) decided.2 c.tell.ensures.said)
+pub returns-in-Yes : goal.returns-in-Yes
+returns-in-Yes c = record {
+  said =
+      λ live.
+      let decided : TellsVerdict c.args.cap c.args.names.now c.args.network (Yes c.in-Yes.load c.in-Yes.check) = subst (λ (d : Decided). TellsVerdict c.args.cap c.args.names.now c.args.network d) c.in-Yes.is c.in_ok-load.ensures.decided in
+      let counted = c.observed-observed.ensures in
+      let few = c.if-observed-gt-MOST_OBSERVED.false in
+      yes_said c.args.cap c.args.names.now (the_network c.args.network) c.in-Yes.load live c.tell.result (omega (arith, counted, few)) decided.0 decided.1
+      (subst (λ (n : NetworkParts). IfOk c.tell.result (λ said. IsTreeText c.args.names.now c.in-Yes.load (live_bounds (log_of (the_network n))) (the_network n) (the_said said))) decided.2 c.tell.ensures.said);
+}

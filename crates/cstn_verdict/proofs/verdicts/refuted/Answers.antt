@@ -4,4 +4,4 @@ use Rattle.cstn_rules.specs.declared.entries.Entry.{Entry}
 use Rattle.cstn_verdict.proofs.verdicts.refuted.Goals as goal
 
 pub print-requires : goal.print-requires
-print-requires c = record { named = subst (λ (n : ℕ). All (λ (e : Entry). e.bound.node.0 < n) c.in-Ok.refutation.steps) (sym c.requires.named) c.in-Ok.ensures.named }
+print-requires c = record { named = subst (λ (n : ℕ). All (λ (e : Entry). e.bound.node.0 < n) c.in_ok-refutation.refutation.steps) (sym c.requires.named) c.in_ok-refutation.ensures.named }

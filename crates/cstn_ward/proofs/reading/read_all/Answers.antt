@@ -13,14 +13,14 @@ use Rattle.cstn_ward.proofs.reading.read_all.Goals as goal
 pub open-requires : goal.open-requires
 open-requires g c = record { may_ask = ask_at (g.F.Shelf.may_ask c.args.shelf.now) (g.F.Shelf.may_ask c.loop-file.shelf) c.args.files.now c.loop-file.file-index c.file-item.result c.as_str.result.now c.requires.may_ask c.loop-file.invariant.ask c.loop-file-test.true c.file-item.is c.as_str.ensures.value }
 
-pub returns-in-Ok-Told-clause-read : goal.returns-in-Ok-Told-clause-read
-returns-in-Ok-Told-clause-read g c =
+pub returns-in-Told-clause-read : goal.returns-in-Told-clause-read
+returns-in-Told-clause-read g c =
     let asked = asked_for c.as_str.result.now c.args.deadline in
-    let opened : IsOpened (g.F.Shelf.files c.args.shelf.now) asked (Told c.in-Ok-Told.said) =
-    subst (λ (o : Opened). IsOpened (g.F.Shelf.files c.args.shelf.now) asked o) c.in-Ok-Told.field-0-is
-    (subst (λ (t : Option (List ℕ → Option (List ℕ))). IsOpened t asked c.in-Ok-Told.field-0) c.loop-file.invariant.files c.in-Ok-Told.ensures.opened) in (
+    let opened : IsOpened (g.F.Shelf.files c.args.shelf.now) asked (Told c.in-Told.said) =
+    subst (λ (o : Opened). IsOpened (g.F.Shelf.files c.args.shelf.now) asked o) c.in-Told.is
+    (subst (λ (t : Option (List ℕ → Option (List ℕ))). IsOpened t asked c.in_ok-network.field-0) c.loop-file.invariant.files c.in_ok-network.ensures.opened) in (
       read_refused (g.F.Shelf.files c.args.shelf.now) c.args.deadline (map string_bytes (take c.loop-file.file-index c.args.files.now)) c.loop-file.documents.items c.loop-file.invariant.read c.as_str.result.now
-          (map string_bytes c.args.files.now) (map string_bytes (drop (suc c.loop-file.file-index) c.args.files.now)) c.in-Ok-Told.said
+          (map string_bytes c.args.files.now) (map string_bytes (drop (suc c.loop-file.file-index) c.args.files.now)) c.in-Told.said
           (files_at c.args.files.now c.loop-file.file-index c.file-item.result c.as_str.result.now c.loop-file-test.true c.file-item.is c.as_str.ensures.value)
           opened,
       opened.opens.1,
@@ -30,12 +30,12 @@ pub loop-file-preserved : goal.loop-file-preserved
 loop-file-preserved g c =
     let told = g.F.Shelf.files c.args.shelf.now in
     let asked = asked_for c.as_str.result.now c.args.deadline in
-    let now = c.in-Ok-Accepted in
+    let now = c.in-Accepted in
     let inv = c.loop-file.invariant in
     let opened : IsOpened told asked (Accepted now.network now.names) =
-    subst (λ (o : Opened). IsOpened told asked o) now.field-0-is
-    (subst (λ (t : Option (List ℕ → Option (List ℕ))). IsOpened t asked now.field-0) inv.files now.ensures.opened) in
-    let named : HasNames (Accepted now.network now.names) = subst HasNames now.field-0-is now.ensures.named in
+    subst (λ (o : Opened). IsOpened told asked o) now.is
+    (subst (λ (t : Option (List ℕ → Option (List ℕ))). IsOpened t asked c.in_ok-network.field-0) inv.files c.in_ok-network.ensures.opened) in
+    let named : HasNames (Accepted now.network now.names) = subst HasNames now.is c.in_ok-network.ensures.named in
     let items = c.in-Ok.ensures.items in
     let one : Document = record { network = now.network; names = now.names } in
     let grown = length-append c.loop-file.documents.items (one ∷ []) in

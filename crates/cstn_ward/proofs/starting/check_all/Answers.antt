@@ -19,14 +19,14 @@ loop-document-init c =
       begun = begun_none c.args.cap _ c.new.ensures.items c.new-2.ensures.items c.new-3.ensures.items;
     }
 
-pub returns-in-Ok-Told-clause-comes : goal.returns-in-Ok-Told-clause-comes
-returns-in-Ok-Told-clause-comes c =
+pub returns-in-Told-clause-comes : goal.returns-in-Told-clause-comes
+returns-in-Told-clause-comes c =
     let inv = c.loop-document.invariant in
     let document = c.in-Some.document in
-    told_at c.args.cap c.args.documents.items c.loop-document.yielded (into_iter_items c.next.new.self) document c.loop-document.begun c.in-Ok-Told.said
+    told_at c.args.cap c.args.documents.items c.loop-document.yielded (into_iter_items c.next.new.self) document c.loop-document.begun c.in-Told.said
     (inv.documents ∙ ap (λ (ds : List Document). c.loop-document.yielded ++ ds) c.in-Some.ensures.steps.0)
     inv.begun
-    (subst (λ (d : Decided). TellsVerdict c.args.cap document.names document.network d) c.in-Ok-Told.field-0-is c.in-Ok-Told.ensures.decided)
+    (subst (λ (d : Decided). TellsVerdict c.args.cap document.names document.network d) c.in-Told.is c.in_ok-load.ensures.decided)
 
 pub loop-document-preserved : goal.loop-document-preserved
 loop-document-preserved c =
@@ -34,8 +34,8 @@ loop-document-preserved c =
     let document = c.in-Some.document in
     let steps = c.in-Some.ensures.steps in
     let front = c.loop-document.yielded in
-    let added = c.in_ok-add-in-Ok-Yes.ensures in
-    let decided : TellsVerdict c.args.cap document.names document.network (Yes c.in-Ok-Yes.load c.in-Ok-Yes.check) = subst (λ (d : Decided). TellsVerdict c.args.cap document.names document.network d) c.in-Ok-Yes.field-0-is c.in-Ok-Yes.ensures.decided in
+    let added = c.in_ok-add-in-Yes.ensures in
+    let decided : TellsVerdict c.args.cap document.names document.network (Yes c.in-Yes.load c.in-Yes.check) = subst (λ (d : Decided). TellsVerdict c.args.cap document.names document.network d) c.in-Yes.is c.in_ok-load.ensures.decided in
     record {
       documents =
           inv.documents ∙ ap (λ (ds : List Document). front ++ ds) steps.0
@@ -43,7 +43,7 @@ loop-document-preserved c =
       left = omega (arith, inv.left, ap length steps.0, steps.1);
       begun =
           subst (λ (ns : List Named). HasBegun c.args.cap ns c.add.new.self) (sym (map-append the_named front (document ∷ [])))
-          (begun_more c.args.cap (map the_named front) c.loop-document.begun c.add.new.self document.network c.in-Ok-Yes.check.net document.names c.in-Ok-Yes.load c.into_plan.result inv.begun decided.0 decided.1 decided.2 c.into_plan.ensures.network c.into_plan.ensures.live
+          (begun_more c.args.cap (map the_named front) c.loop-document.begun c.add.new.self document.network c.in-Yes.check.net document.names c.in-Yes.load c.into_plan.result inv.begun decided.0 decided.1 decided.2 c.into_plan.ensures.network c.into_plan.ensures.live
           added.opening added.plans added.names added.short);
     }
 

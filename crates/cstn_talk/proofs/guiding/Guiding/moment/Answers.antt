@@ -5,20 +5,20 @@ use Rattle.cstn_guide.specs.Read.{GuideParts}
 use Rattle.cstn_exec.specs.Read.{the_refusal}
 use Rattle.std.proofs.lemmas.List.{length-map}
 use Rattle.cstn_talk.specs.Running.{spaced, the_nodes}
-use Rattle.cstn_talk.proofs.Names.{told_inside, told_few}
+use Rattle.cstn_talk.proofs.Names.{named_inside, named_few}
 use Rattle.cstn_talk.proofs.Runs.{moment_refused, moment_goes_on, moment_ends, moment_text, line_ends, from_empty}
 use Rattle.cstn_talk.proofs.guiding.Guiding.moment.Goals as goal
 
 pub put_moment-requires-clause-inside : goal.put_moment-requires-clause-inside
 put_moment-requires-clause-inside c =
     let e = c.self.inside.guide in
-    told_inside (the_labelled e.labelled) (the_bounds e.bounds) e.state.run c.args.t c.named.result.now _ (c.named.ensures.named ∙ ap (λ (x : GuideParts). x.named) c.in_default.ensures.advanced)
+    named_inside (the_labelled e.labelled) (the_bounds e.bounds) e.state.run c.args.t c.named.result.now _ (c.named.ensures.named ∙ ap (λ (x : GuideParts). x.named) c.in_default.ensures.advanced)
     (ap length c.deref.ensures.value ∙ sym (length-map c.self.inside.names.items string_bytes) ∙ c.self.invariant.all)
 
 pub put_moment-requires-clause-room : goal.put_moment-requires-clause-room
 put_moment-requires-clause-room c =
     let e = c.self.inside.guide in
-    let few = told_few (the_labelled e.labelled) (the_bounds e.bounds) e.state.run c.args.t c.named.result.now (c.named.ensures.named ∙ ap (λ (x : GuideParts). x.named) c.in_default.ensures.advanced) in
+    let few = named_few (the_labelled e.labelled) (the_bounds e.bounds) e.state.run c.args.t c.named.result.now (c.named.ensures.named ∙ ap (λ (x : GuideParts). x.named) c.in_default.ensures.advanced) in
     omega (arith, few, c.self.invariant.few, c.requires.room, ap length c.requires.empty)
 
 pub returns-clause-turn : goal.returns-clause-turn
@@ -33,7 +33,7 @@ returns-clause-lines c = λ is. line_ends c.put_moment.new.text.items (codes "at
 pub put_word-requires : goal.put_word-requires
 put_word-requires c =
     let e = c.self.inside.guide in
-    let few = told_few (the_labelled e.labelled) (the_bounds e.bounds) e.state.run c.args.t c.named.result.now (c.named.ensures.named ∙ ap (λ (x : GuideParts). x.named) c.in_default.ensures.advanced) in
+    let few = named_few (the_labelled e.labelled) (the_bounds e.bounds) e.state.run c.args.t c.named.result.now (c.named.ensures.named ∙ ap (λ (x : GuideParts). x.named) c.in_default.ensures.advanced) in
     record { room = omega (arith, few, c.self.invariant.few, c.requires.room, c.put_moment.ensures.short, c.put_moment.ensures.capacity, ap length c.requires.empty) }
 
 pub returns-in_default-due-clause-turn : goal.returns-in_default-due-clause-turn

@@ -1,7 +1,7 @@
 use Rattle.std.proofs.Common.{◌≡◌, ℕ, subst}
 use Rattle.std.specs.Prelude.{Option, Some, None}
 use Rattle.cstn_ward.specs.Read.{the_names}
-use Rattle.cstn_exec.specs.Examples.{AskDue, DueAt}
+use Rattle.cstn_exec.specs.Answers.{AskDue, DueAt}
 use Rattle.cstn_host.specs.Calls.{Pass, Told, answer_on}
 use Rattle.cstn_ward.proofs.PutLines.{first_line}
 use Rattle.cstn_ward.proofs.Answered.{asked_said}
