@@ -1,6 +1,6 @@
 -- The text of each output stands for its answer.
-use Rattle.std.proofs.Common.{◌≡◌, ℕ, ◌≤◌, Bool, true, false, List, [], ◌++◌, map, refl, sym, subst, inl, inr, arith}
-use Rattle.std.specs.Prelude.{◌⊎◌, nat_lt, if◌then◌else◌, get_or, Option, Some, None, IsNone, IfSome, codes, decimal}
+use Rattle.std.proofs.Common.{◌≡◌, ℕ, ◌≤◌, Bool, true, false, List, [], ◌++◌, map, refl, sym, ap, subst, inl, inr, arith}
+use Rattle.std.specs.Prelude.{◌⊎◌, nat_lt, if◌then◌else◌, get_or, Option, Some, IfSome, codes, decimal}
 use Rattle.cstn_io.specs.Contents.{IsAllOf, with_bytes}
 use Rattle.cstn_net.specs.Networks.{Network, IsWellFormed, count}
 use Rattle.cstn_net.specs.Strategies.{IsConsistent}
@@ -34,29 +34,31 @@ use Rattle.cstn_evidence.specs.Blame.{blamed}
 use Rattle.cstn_evidence.specs.Tight.{tightened}
 use Rattle.cstn_strategy.specs.Unfolded.{observed, unfolded}
 use Rattle.cstn_top.specs.Outputs.{plan_at}
-use Rattle.cstn_top.specs.Meanings.{HoldsOf, IsStopped}
+use Rattle.cstn_top.specs.Meanings.{IsStopped}
 use Rattle.cstn_top.specs.Evidence.{IsEvidence, WroteEvidence}
 use Rattle.cstn_top.specs.Several.{FirstHas}
 use Rattle.cstn_evidence.proofs.Standing.{YesAccepted, NoAccepted, IsOfDocument, Stands, StandsFor, not_above, never_decided, verdict_stands, tight_stands, conflict_stands}
 use Rattle.cstn_top.proofs.Documents.{document_says, document_then}
+use Rattle.cstn_top.specs.Trees.{IsTreeProof}
+use Rattle.cstn_top.proofs.Trees.{tree_proof}
 use Rattle.cstn_top.proofs.Hosts.{IsToldNo, HostTells, host_tells, first_then}
 use Rattle.cstn_top.proofs.Labels.{IsOfLabelled, on_labels}
 use Rattle.cstn_top.proofs.Meanings.{RunTells, run_tells}
-use Rattle.cstn_top.proofs.Endings.{Answered, held_at}
+use Rattle.cstn_top.proofs.Endings.{Answered}
 
 -- what is said of a verdict stands for it, where what follows yes does
-plan_stands : NoAccepted → (cap : ℕ) (names : List (List ℕ)) (net : Network) (after_yes : Plan) (live : List ℕ) (said : Said) → IsOfDocument names net → cap ≤ 4194304 →
-    (IsConsistent net → IsOutput after_yes live said → StandsFor (λ text. Unit {0}) (IsNoText names net) said) → IsOutput (on_verdict cap names net after_yes (verdict cap net)) live said → StandsFor (λ text. Unit {0}) (IsNoText names net) said
-plan_stands no_text cap names net after_yes live said of capped yes' output = by_tests (nat_lt cap (load_of net)) (is_refuted net (log_of net)) refl refl output
+plan_stands : NoAccepted → (Shows : List ℕ → Type 0) (cap : ℕ) (names : List (List ℕ)) (net : Network) (after_yes : Plan) (live : List ℕ) (said : Said) → IsOfDocument names net → cap ≤ 4194304 →
+    (IsConsistent net → IsOutput after_yes live said → StandsFor Shows (IsNoText names net) said) → IsOutput (on_verdict cap names net after_yes (verdict cap net)) live said → StandsFor Shows (IsNoText names net) said
+plan_stands no_text Shows cap names net after_yes live said of capped yes' output = by_tests (nat_lt cap (load_of net)) (is_refuted net (log_of net)) refl refl output
   where
     good : IsWellFormed net
     good = of.good
 
     by_tests : (above refuted : Bool) → nat_lt cap (load_of net) ≡ above → is_refuted net (log_of net) ≡ refuted →
-        IsOutput (on_verdict cap names net after_yes (if above then IsFullVerdict else if refuted then No (load_of net) else Yes (load_of net))) live said → StandsFor (λ text. Unit {0}) (IsNoText names net) said
-    by_tests true refuted over no' same = subst (StandsFor (λ text. Unit {0}) (IsNoText names net)) (sym same) tt
+        IsOutput (on_verdict cap names net after_yes (if above then IsFullVerdict else if refuted then No (load_of net) else Yes (load_of net))) live said → StandsFor Shows (IsNoText names net) said
+    by_tests true refuted over no' same = subst (StandsFor Shows (IsNoText names net)) (sym same) tt
     by_tests false true over no' same =
-        subst (StandsFor (λ text. Unit {0}) (IsNoText names net)) (sym same)
+        subst (StandsFor Shows (IsNoText names net)) (sym same)
         (no_text names net good of.are of.named of.ids (omega (arith, not_above cap (load_of net) over, capped)) (never_decided net good no'))
     by_tests false false over no' same = yes' ((log_decides net good.network good.letters).1 no') same
 
@@ -74,7 +76,7 @@ run_yes cap m Wide X consistent told = tt
 run_stands : NoAccepted → (cap : ℕ) (names : List (List ℕ)) (m : Labelled) (live : List ℕ) (said : Said) → IsOfLabelled names m → cap ≤ 4194304 →
     IsOutput (carried_out cap names m) live said → StandsFor (λ text. Unit {0}) (IsNoText names (lowered m)) said
 run_stands no_text cap names m live said of capped output =
-    plan_stands no_text cap names (lowered m) after_yes live said of.plain capped
+    plan_stands no_text (λ text. Unit {0}) cap names (lowered m) after_yes live said of.plain capped
     (λ consistent out. run_yes cap m said.outcome (IsNoText names (lowered m) said.text) (of.same.consistent.1 consistent) (run_tells cap names m live said of output)) output
   where
     after_yes : Plan
@@ -83,16 +85,16 @@ run_stands no_text cap names m live said of capped output =
         (yes_line (load_of (lowered m))) (begun (count m.base))
 
 tree_stands : NoAccepted → (cap : ℕ) (names : List (List ℕ)) (net : Network) (live : List ℕ) (said : Said) → IsOfDocument names net → cap ≤ 4194304 →
-    IsOutput (unfolded cap names net) live said → StandsFor (λ text. Unit {0}) (IsNoText names net) said
+    IsOutput (unfolded cap names net) live said → StandsFor (IsTreeProof names net) (IsNoText names net) said
 tree_stands no_text cap names net live said of capped output = by_width (nat_lt 10 (observed net)) output
   where
     after_yes : Plan
     after_yes = branches names (load_of net) (live_bounds (log_of net)) net
 
-    by_width : (wide : Bool) → IsOutput (if wide then says (say Wide (codes "wide " ++ decimal (observed net))) else on_verdict cap names net after_yes (verdict cap net)) live said → StandsFor (λ text. Unit {0}) (IsNoText names net) said
-    by_width true is = subst (StandsFor (λ text. Unit {0}) (IsNoText names net)) (sym is) tt
+    by_width : (wide : Bool) → IsOutput (if wide then says (say Wide (codes "wide " ++ decimal (observed net))) else on_verdict cap names net after_yes (verdict cap net)) live said → StandsFor (IsTreeProof names net) (IsNoText names net) said
+    by_width true is = subst (StandsFor (IsTreeProof names net) (IsNoText names net)) (sym is) tt
     by_width false is =
-        plan_stands no_text cap names net after_yes live said of capped (λ consistent out. subst (StandsFor (λ text. Unit {0}) (IsNoText names net)) (sym out.said_is) tt) is
+        plan_stands no_text (IsTreeProof names net) cap names net after_yes live said of capped (λ consistent out. subst (StandsFor (IsTreeProof names net) (IsNoText names net)) (sym out.said_is) (subst (IsTreeProof names net) (ap (λ (s : Said). s.text) out.said_is) (tree_proof names net said out))) is
 
 host_stands : NoAccepted → (cap : ℕ) (deadline : Option ℕ) (contents : List (List ℕ)) (said : Said) (o : Outcome) → cap ≤ 4194304 → HostTells cap deadline contents said o →
     Stands o (Unit {0}) (FirstHas contents deadline cap (λ names net. IsNoText names net said.text))
@@ -190,8 +192,8 @@ conflict_shown asked cap contents Unfinished text has = tt
 conflict_shown asked cap contents Script text has = tt
 conflict_shown asked cap contents Wide text has = tt
 
-tree_shown : (asked : Asked) (cap : ℕ) (contents : List (List ℕ)) (o : Outcome) (text : List ℕ) → HasNetwork (get_or contents 0 []) asked.deadline (λ names net. Stands o (Unit {0}) (IsNoText names net text)) → IsEvidence (tree asked cap) (status_of o) text contents
-tree_shown asked cap contents Good text has = tt
+tree_shown : (asked : Asked) (cap : ℕ) (contents : List (List ℕ)) (o : Outcome) (text : List ℕ) → HasNetwork (get_or contents 0 []) asked.deadline (λ names net. Stands o (IsTreeProof names net text) (IsNoText names net text)) → IsEvidence (tree asked cap) (status_of o) text contents
+tree_shown asked cap contents Good text has = has
 tree_shown asked cap contents Bad text has = has
 tree_shown asked cap contents Words text has = tt
 tree_shown asked cap contents Document text has = tt
@@ -211,7 +213,7 @@ host_shown files deadline cap contents Script text first = tt
 host_shown files deadline cap contents Wide text first = tt
 
 -- each output is evidence
-output_evidence : YesAccepted → NoAccepted → (request : Request) (contents : List (List ℕ)) (live : List ℕ) (said : Said) → IsRanged request → IsOutput (plan_at request contents) live said → IsEvidence request (status_of said.outcome) said.text contents
+pub output_evidence : YesAccepted → NoAccepted → (request : Request) (contents : List (List ℕ)) (live : List ℕ) (said : Said) → IsRanged request → IsOutput (plan_at request contents) live said → IsEvidence request (status_of said.outcome) said.text contents
 output_evidence yes_text no_text (check asked cap) contents live said capped output =
     on_labels (of_lowered (checked cap)) (get_or contents 0 []) asked.deadline live said (λ names m. StandsFor (λ text. Unit {0}) (IsNoText names (lowered m)) said) (IsEvidence (check asked cap) (status_of said.outcome) said.text contents)
     (λ is refused. subst (λ (o : Outcome). IsEvidence (check asked cap) (status_of o) said.text contents) (sym is) tt)
@@ -240,7 +242,7 @@ output_evidence yes_text no_text (conflict asked cap) contents live said capped 
     (conflict_shown asked cap contents said.outcome said.text) output
 output_evidence yes_text no_text (edit asked cap) contents live said capped output = tt
 output_evidence yes_text no_text (tree asked cap) contents live said capped output =
-    on_network (unfolded cap) (get_or contents 0 []) asked.deadline live said (λ names net s. StandsFor (λ text. Unit {0}) (IsNoText names net) s) (λ s. IsEvidence (tree asked cap) (status_of s.outcome) s.text contents)
+    on_network (unfolded cap) (get_or contents 0 []) asked.deadline live said (λ names net s. StandsFor (IsTreeProof names net) (IsNoText names net) s) (λ s. IsEvidence (tree asked cap) (status_of s.outcome) s.text contents)
     (λ is. subst (λ (o : Outcome). IsEvidence (tree asked cap) (status_of o) said.text contents) (sym is) tt)
     (λ names net is out. tree_stands no_text cap names net live said is capped out)
     (tree_shown asked cap contents said.outcome said.text) output
@@ -272,9 +274,3 @@ evidence_at yes_text no_text r told source now before after old new result range
     by_end (inl (live, all, (said, output, at, wrote))) =
         inr (said.text, wrote, subst (λ (s : Status). IsEvidence r s said.text answered.0) (sym at) (output_evidence yes_text no_text r answered.0 live said ranged output))
     by_end (inr stopped) = inl stopped
-
-pub evidence_is : {S : Type 0} → YesAccepted → NoAccepted → (words : Option Request) (told : Option (List ℕ → Option (List ℕ))) (source now : S) (before after : LiveState) (old new : Option (List ℕ)) (result : Status) → IfSome words IsRanged → Answered words told source now before after old new result →
-    IsStopped result ⊎ (IsNone words ⊎ HoldsOf words told (WroteEvidence old new result))
-evidence_is yes_text no_text None told source now before after old new result ranged answered = inr (inl refl)
-evidence_is yes_text no_text (Some r) told source now before after old new result ranged answered =
-    held_at r told source now before after old new result (WroteEvidence old new result) answered (evidence_at yes_text no_text r told source now before after old new result ranged answered)

@@ -9,7 +9,7 @@ use Rattle.cstn_graphml.specs.Networks.{observed_prop, network_of, labelled_of, 
 use Rattle.cstn_reply.specs.Plans.{Said, say, says, unlabelled, IsOutput, MayTalk, AreUnlabelled}
 use Rattle.cstn_reply.specs.declared.output.Outcome.TheVariants.{Document}
 use Rattle.cstn_verdict.specs.Documents.{Answer, LabelledAnswer, of_plain, judged, on_labelled, on_document, parts_of, HasLabelled, HasNetwork, IsNoDocument, IsRefused}
-use Rattle.cstn_save.proofs.SameLemmas.{fits}
+use Rattle.cstn_graphml.proofs.Fits.{fits}
 use Rattle.cstn_evidence.proofs.DocumentNames.{document_names}
 use Rattle.cstn_evidence.proofs.ReadBack.{numbered_ids}
 use Rattle.cstn_evidence.proofs.Standing.{IsOfDocument}
@@ -78,22 +78,22 @@ document_talks answer bytes deadline may = by_found (parts_of (document bytes de
     by_found None has = has
     by_found (Some parts) has = ((has.0, has.1.0), has.1.1)
 
+-- the network of a document, under the names of its time-points
+pub of_network : (bytes : List ℕ) (deadline : Option ℕ) (parts : Parts) → document bytes deadline ≡ Ok parts → IsFit parts → IsOfDocument parts.names (network_of parts)
+of_network bytes deadline parts is fit =
+    let good : IsWellFormed (network_of parts) = fit.labelled.base in
+    let named : length parts.names ≡ count (network_of parts) = document_named bytes deadline parts is ∙ sym (length-map parts.observes observed_prop) in
+    record {
+      good = good;
+      named = named;
+      are = document_names bytes deadline parts is (omega (arith, good.few_points, named));
+      ids = numbered_ids 0 parts.constraints (omega (arith, good.few_constraints));
+    }
+
 -- what follows of the network of a document, whose time-points have names
 pub document_then : (bytes : List ℕ) (deadline : Option ℕ) (one other : List (List ℕ) → Network → Type 0) → HasNetwork bytes deadline one → ((names : List (List ℕ)) (net : Network) → IsOfDocument names net → one names net → other names net) → HasNetwork bytes deadline other
 document_then bytes deadline one other has follows = by_result (document bytes deadline) refl has
   where
     by_result : (told : Result Parts DocumentRefusal) → document bytes deadline ≡ told → IsSomeAnd (parts_of told) (λ parts. AreUnlabelled parts × one parts.names (network_of parts)) → IsSomeAnd (parts_of told) (λ parts. AreUnlabelled parts × other parts.names (network_of parts))
     by_result (Err refusal) is h = h
-    by_result (Ok parts) is h =
-        let good : IsWellFormed (network_of parts) = h.0.0.labelled.base in
-        let named : length parts.names ≡ count (network_of parts) = document_named bytes deadline parts is ∙ sym (length-map parts.observes observed_prop) in (
-          h.0,
-          follows parts.names (network_of parts)
-              (record {
-                good = good;
-                named = named;
-                are = document_names bytes deadline parts is (omega (arith, good.few_points, named));
-                ids = numbered_ids 0 parts.constraints (omega (arith, good.few_constraints));
-              })
-              h.1,
-        )
+    by_result (Ok parts) is h = (h.0, follows parts.names (network_of parts) (of_network bytes deadline parts is h.0.0) h.1)

@@ -1,19 +1,18 @@
 -- What is written as evidence stands for the answer.
-use Rattle.std.proofs.Common.{◌≡◌, ℕ, ◌-◌, ◌≤◌, ◌||◌, Bool, true, false, [], refl, sym, ap, ◌∙◌, inl, inr, arith}
-use Rattle.std.specs.Prelude.{◌⊎◌, nat_lt, if◌then◌else◌}
-use Rattle.std.specs.List.{list_any}
+use Rattle.std.proofs.Common.{◌≡◌, ℕ, ◌-◌, ◌≤◌, ◌||◌, Bool, true, false, refl, inl, inr, arith}
+use Rattle.std.specs.Prelude.{◌⊎◌, nat_lt}
 use Rattle.cstn_net.specs.Networks.{Network, IsWellFormed}
 use Rattle.cstn_net.specs.Strategies.{IsConsistent}
 use Rattle.cstn_check.specs.Growth.{load_of}
 use Rattle.cstn_evidence.proofs.ReadBack.{listed_faultless, refuted_by_log}
 use Rattle.cstn_conflict.specs.Sets.{with_ids}
 use Rattle.cstn_conflict.specs.Conflicts.{conflict_set}
-use Rattle.cstn_conflict.proofs.SetLemmas.{set_well_formed, decided}
+use Rattle.cstn_conflict.proofs.SetLemmas.{set_well_formed}
 use Rattle.cstn_conflict.proofs.ConflictLemmas.{inconsistent, needed}
 use Rattle.cstn_tight.specs.Deadlines.{at_deadline}
-use Rattle.cstn_tight.specs.Bisection.{least_deadline, is_above, is_any_above, is_tight_full, tried_from, whole}
+use Rattle.cstn_tight.specs.Bisection.{least_deadline, is_above, is_tight_full}
 use Rattle.cstn_tight.proofs.LeastLemmas.{good_at_deadline}
-use Rattle.cstn_tight.proofs.BracketLemmas.{IsRefuted, IsFound, found, found_least}
+use Rattle.cstn_tight.proofs.BracketLemmas.{IsRefuted, IsFound, found}
 use Rattle.cstn_top.specs.Meanings.{IsListed, IsRefutedByLog, IsTight, IsConflict}
 
 -- the bounds of a yes have no fault
@@ -34,10 +33,9 @@ at_well net h good below =
 pub tight_well : (cap : ℕ) (net : Network) → IsWellFormed net → is_tight_full cap net ≡ false → IsConsistent net → IsTight net (least_deadline net)
 tight_well cap net good fits consistent =
     let parts = both_false (is_above cap net net.deadline) _ fits in
-    let later : is_any_above cap net ≡ false = sym (ap (λ (b : Bool). list_any (is_above cap net) (if b then tried_from net 20 (whole net) else [])) ((decided net good).1 consistent)) ∙ parts.1 in
-    let is : IsFound cap net good (least_deadline net) = found cap net good consistent (not_above cap (load_of net) parts.0) later in
+    let is : IsFound cap net (least_deadline net) = found cap net good consistent (not_above cap (load_of net) parts.0) in
     record {
-      least = found_least cap net good (least_deadline net) is;
+      least = is.least;
       bounds = listed_well (at_deadline net (least_deadline net)) (at_well net (least_deadline net) good is.upto) is.consistent;
       refuted = before (least_deadline net) is.upto is.below;
     }

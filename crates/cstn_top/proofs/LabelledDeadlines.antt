@@ -4,16 +4,16 @@ use Rattle.std.specs.Prelude.{◌⊎◌, ◌↔◌}
 use Rattle.cstn_net.specs.Networks.{Network}
 use Rattle.cstn_net.specs.Strategies.{IsConsistent}
 use Rattle.cstn_lift.specs.Labelled.{Labelled}
-use Rattle.cstn_lift.specs.Lowered.{lowered, waits}
+use Rattle.cstn_lift.specs.Lowered.{lowered, guards_of}
 use Rattle.cstn_lift.specs.WellFormed.{IsLabelled}
-use Rattle.cstn_lift.specs.Strategies.{IsEquivalent, IsLabelledConsistent}
+use Rattle.cstn_lift.specs.Strategies.{IsLabelledConsistent}
 use Rattle.cstn_lift.proofs.Equivalent.{equivalent}
 use Rattle.cstn_tight.specs.Deadlines.{at_deadline, IsLeastDeadline}
 use Rattle.cstn_tight.proofs.LeastLemmas.{good_at_deadline}
 use Rattle.cstn_top.specs.LabelledDeadlines.{labelled_at, IsLabelledLeastDeadline}
 
 pub lowered_at : (m : Labelled) (h : ℕ) → lowered (labelled_at m h) ≡ at_deadline (lowered m) h
-unfolding waits
+unfolding guards_of
 lowered_at m h = refl
 
 module _ (m : Labelled) (good : IsLabelled m) where
@@ -27,7 +27,7 @@ module _ (m : Labelled) (good : IsLabelled m) where
         plain = good.plain;
         observed = λ x within p marked. let found = good.observed x within p marked in (found.0, record { what = found.1.what });
         no_circle = λ x p o. good.no_circle x p (record { what = o.what });
-        possible = good.possible;
+        completed_plain = good.completed_plain;
       }
 
   same_at : (h : ℕ) → h ≤ m.base.deadline → IsLabelledConsistent (labelled_at m h) ↔ IsConsistent (at_deadline (lowered m) h)

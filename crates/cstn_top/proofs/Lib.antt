@@ -17,3 +17,8 @@ pub mod Told
 pub mod EditTexts
 pub mod EditSessions
 pub mod LabelledDeadlines
+pub mod HeadlineLemmas
+pub mod OneOutput
+pub mod SomeFault
+pub mod SomeOutput
+pub mod Replayed

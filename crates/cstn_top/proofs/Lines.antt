@@ -1,6 +1,6 @@
 -- What is told of the lines of runs and of edit sessions.
 use Rattle.std.proofs.Common.{◌≡◌, ℕ, ◌<◌, ◌≤◌, List, [], length, map, refl, ap, sym, ◌∙◌, subst, inl, inr, arith}
-use Rattle.std.specs.Prelude.{◌⊎◌, get_or, Option, None, Some, IfSome, IsSomeAnd, IsNone}
+use Rattle.std.specs.Prelude.{◌⊎◌, get_or, Option, None, Some, IfSome, IsSomeAnd}
 use Rattle.std.proofs.lemmas.Option.{same_Some}
 use Rattle.cstn_io.specs.Contents.{IsAllOf, with_bytes}
 use Rattle.cstn_label.specs.Bounds.{Bound}
@@ -19,7 +19,8 @@ use Rattle.cstn_check.specs.declared.verdicts.Verdict.TheVariants.{Yes, No, Full
 use Rattle.cstn_exec.specs.Runs.{due}
 use Rattle.cstn_exec.specs.Moves.{Refusal, moment_refusal}
 use Rattle.cstn_edit.specs.Edits.{Session, Refusal as EditRefusal, add_refusal, remove_refusal, change_refusal, with_added, with_removed, with_changed}
-use Rattle.cstn_guide.specs.Guides.{Guided, begun, told, advanced, see_refusal}
+use Rattle.cstn_guide.specs.Guides.{Guided, begun, named, advanced, see_refusal}
+use Rattle.cstn_guide.specs.Sound.{IsPlanned}
 use Rattle.cstn_lines.specs.Pieces.{lines_of}
 use Rattle.cstn_lines.specs.LiveLines.{Live as LiveLine, moment_at, seen, due_now, live_read}
 use Rattle.cstn_lines.specs.EditLines.{Edit, added, removed, changed, asked as check_asked, edit_read}
@@ -32,25 +33,25 @@ use Rattle.cstn_reply.specs.Statuses.{status_of}
 use Rattle.cstn_reply.specs.declared.status.Status.{Status}
 use Rattle.cstn_reply.specs.declared.status.Status.TheVariants.{Good as IsGoodStatus, Document as IsDocumentStatus, Unfinished as IsUnfinishedStatus}
 use Rattle.cstn_reply.specs.declared.output.Outcome.{Outcome}
-use Rattle.cstn_reply.specs.declared.output.Outcome.TheVariants.{Good, Bad, Full, Document, Unfinished, Words}
+use Rattle.cstn_reply.specs.declared.output.Outcome.TheVariants.{Good, Bad, Full, Document}
 use Rattle.cstn_verdict.specs.Documents.{parts_of, HasLabelled, HasNetwork, IsNoDocument, IsRefused}
 use Rattle.cstn_verdict.specs.Verdicts.{verdict, on_verdict, IsLabelledYes}
 use Rattle.cstn_verdict.proofs.Deciding.{Tells, verdict_tells}
 use Rattle.cstn_talk.specs.Running.{moment_line, executing, unfinished}
-use Rattle.cstn_talk.specs.Guiding.{told_turn, noted_turn, answer_turn, guide_turn, guide_ending, carried_out}
+use Rattle.cstn_talk.specs.Guiding.{named_turn, noted_turn, answer_turn, guide_turn, guide_ending, carried_out}
 use Rattle.cstn_talk.specs.Editing.{Editing, begun_editing, answered_edit, answered_add, answered, edit_turn, edit_ending, ending_by, edited, last_checked}
-use Rattle.cstn_talk.specs.Meanings.{state_after, IsPlanned, said_to, IsCarriedThrough, EndsUnfinished}
+use Rattle.cstn_talk.specs.Meanings.{state_after, said_to, IsCarriedThrough, EndsUnfinished}
 use Rattle.cstn_talk.proofs.Planned.{planned}
-use Rattle.cstn_talk.proofs.Carrying.{names_least, tells_due}
+use Rattle.cstn_talk.proofs.Carrying.{names_least, accepts_exactly, tells_due}
 use Rattle.cstn_talk.proofs.Ending.{timely, carried_through, ends_unfinished}
 use Rattle.cstn_top.specs.Outputs.{plan_at}
-use Rattle.cstn_top.specs.Meanings.{HoldsOf, IsStopped}
+use Rattle.cstn_top.specs.Meanings.{IsStopped}
 use Rattle.cstn_top.specs.Lines.{StopsAtLine, run_bounds, AnswersLeast, IfLabelled, IsLeastRun, WroteRun, IsCarriedOut, IsLeftUnfinished, RunEnds, IsDecidedRun, IsVerdictOn, EditEnds, WroteEdits, IsEnded}
 use Rattle.cstn_top.proofs.Documents.{labelled_says, document_says}
 use Rattle.cstn_top.proofs.Labels.{IsOfLabelled, labelled_then}
 use Rattle.cstn_top.proofs.Edited.{EditTells, edit_tells}
 use Rattle.cstn_top.proofs.Meanings.{network_then}
-use Rattle.cstn_top.proofs.Endings.{Answered, held_at, good_is, none_tells}
+use Rattle.cstn_top.proofs.Endings.{Answered}
 use Rattle.cstn_top.proofs.Accepted.{WroteOutput, output_wrote}
 use Rattle.cstn_top.proofs.Played.{TurnIs, stops_at, Played, all_answered, one_last, one_stops, played}
 
@@ -89,7 +90,12 @@ yes_planned cap names m good of yes' = by_verdict (verdict cap (lowered m)) refl
         above n load over below = omega (arith, over, below)
 
 answers_least : (names : List (List ℕ)) (m : Labelled) (bounds : List Bound) → IsPlanned m bounds → AnswersLeast names m bounds
-answers_least names m bounds plan = record { moments = names_least names m bounds plan; timely = timely names m bounds plan; due = tells_due names m bounds plan }
+answers_least names m bounds plan = record {
+  moments = names_least names m bounds plan;
+  accepted = accepts_exactly names m bounds plan;
+  timely = timely names m bounds plan;
+  due = tells_due names m bounds plan;
+}
 
 executing_is : (text : List ℕ) (g : Guided) (o : Option ℕ) (Unread : Type 0) → TurnIs Unread (λ outcome. outcome ≡ Good) (executing text g o)
 executing_is text g None Unread = refl
@@ -99,8 +105,8 @@ live_is : (names : List (List ℕ)) (m : Labelled) (bounds : List Bound) (g : Gu
 live_is names m bounds g None = refl
 live_is names m bounds g (Some (moment_at t)) = by_refusal (moment_refusal (lowered m) bounds g.run t)
   where
-    by_refusal : (o : Option Refusal) → TurnIs (Some (moment_at t) ≡ None) (λ outcome. outcome ≡ Good) (told_turn names m bounds g t o)
-    by_refusal None = executing_is (moment_line names t (told m bounds g.run t)) (advanced m bounds g t) (due (lowered m) bounds (advanced m bounds g t).run) (Some (moment_at t) ≡ None)
+    by_refusal : (o : Option Refusal) → TurnIs (Some (moment_at t) ≡ None) (λ outcome. outcome ≡ Good) (named_turn names m bounds g t o)
+    by_refusal None = executing_is (moment_line names t (named m bounds g.run t)) (advanced m bounds g t) (due (lowered m) bounds (advanced m bounds g t).run) (Some (moment_at t) ≡ None)
     by_refusal (Some refusal) = tt
 live_is names m bounds g (Some (seen p value)) = by_refusal (see_refusal m g p)
   where
@@ -332,11 +338,6 @@ left_ended told old new (host files deadline cap) contents ended = tt
 
 -- ---- calls
 
--- after yes the answers of a run are least
-pub least_is : {S : Type 0} (words : Option Request) (told : Option (List ℕ → Option (List ℕ))) (source now : S) (before after : LiveState) (old new : Option (List ℕ)) (result : Status) → Answered words told source now before after old new result → IsNone words ⊎ HoldsOf words told IsLeastRun
-least_is None told source now before after old new result answered = inl refl
-least_is (Some r) told source now before after old new result answered = inr (answered.0, answered.1, run_least r answered.0)
-
 -- a call is stopped, or a run or an edit session ends by the network and the lines
 pub ended_at : {S : Type 0} (r : Request) (told : Option (List ℕ → Option (List ℕ))) (source now : S) (before after : LiveState) (old new : Option (List ℕ)) (result : Status) (answered : Answered (Some r) told source now before after old new result) → IsStopped result ⊎ IsEnded result before.left old new r answered.0
 ended_at r told source now before after old new result answered =
@@ -346,11 +347,6 @@ ended_at r told source now before after old new result answered =
     by_end (inl (live, all, (said, output, at, wrote))) =
         inr (subst (λ (s : Status). IsEnded s before.left old new r answered.0) (sym at) (output_ended before.left old new r answered.0 live said all wrote output))
     by_end (inr stopped) = inl stopped
-
-pub ended_is : {S : Type 0} (words : Option Request) (told : Option (List ℕ → Option (List ℕ))) (source now : S) (before after : LiveState) (old new : Option (List ℕ)) (result : Status) → Answered words told source now before after old new result → IsStopped result ⊎ (IsNone words ⊎ HoldsOf words told (IsEnded result before.left old new))
-ended_is None told source now before after old new result answered = inr (inl refl)
-ended_is (Some r) told source now before after old new result answered =
-    held_at r told source now before after old new result (IsEnded result before.left old new) answered (ended_at r told source now before after old new result answered)
 
 -- what follows where a call ended with this status
 of_ended : (result status : Status) (holds : Status → Type 0) (other : Type 0) → result ≡ status → (IsStopped status → ⊥) → (holds status → other) → IsStopped result ⊎ holds result → other
@@ -373,16 +369,8 @@ carried_at r told source now before after old new result answered is =
     of_ended result IsGoodStatus (λ s. IsEnded s before.left old new r answered.0) (IsCarriedOut before.left old new r answered.0) is never_good (well_ended before.left old new r answered.0)
     (ended_at r told source now before after old new result answered)
 
-pub carried_is : {S : Type 0} (words : Option Request) (told : Option (List ℕ → Option (List ℕ))) (source now : S) (before after : LiveState) (old new : Option (List ℕ)) (result : Status) → Answered words told source now before after old new result → result ≡ IsGoodStatus → HoldsOf words told (IsCarriedOut before.left old new)
-carried_is None told source now before after old new result answered is = good_is None told source now before after old new result answered is
-carried_is (Some r) told source now before after old new result answered is = (answered.0, answered.1, carried_at r told source now before after old new result answered is)
-
 -- what Unfinished tells of a run
 pub left_at : {S : Type 0} (r : Request) (told : Option (List ℕ → Option (List ℕ))) (source now : S) (before after : LiveState) (old new : Option (List ℕ)) (result : Status) (answered : Answered (Some r) told source now before after old new result) → result ≡ IsUnfinishedStatus → IsLeftUnfinished before.left old new r answered.0
 left_at r told source now before after old new result answered is =
     of_ended result IsUnfinishedStatus (λ s. IsEnded s before.left old new r answered.0) (IsLeftUnfinished before.left old new r answered.0) is never_unfinished (left_ended before.left old new r answered.0)
     (ended_at r told source now before after old new result answered)
-
-pub left_is : {S : Type 0} (words : Option Request) (told : Option (List ℕ → Option (List ℕ))) (source now : S) (before after : LiveState) (old new : Option (List ℕ)) (result : Status) → Answered words told source now before after old new result → result ≡ IsUnfinishedStatus → HoldsOf words told (IsLeftUnfinished before.left old new)
-left_is None told source now before after old new result answered is = absurd (let e : Unfinished ≡ Words = none_tells told source now before after old new result Unfinished answered is in cc)
-left_is (Some r) told source now before after old new result answered is = (answered.0, answered.1, left_at r told source now before after old new result answered is)

@@ -15,7 +15,7 @@ use Rattle.cstn_lines.specs.Pieces.{is_past, lines_of}
 use Rattle.cstn_lines.specs.LiveLines.{Live, moment_at, seen, due_now, live_read}
 use Rattle.cstn_exec.specs.Runs.{due}
 use Rattle.cstn_exec.specs.Moves.{Refusal, moment_refusal}
-use Rattle.cstn_guide.specs.Guides.{Guided, begun, told, advanced, see_refusal}
+use Rattle.cstn_guide.specs.Guides.{Guided, begun, named, advanced, see_refusal}
 use Rattle.cstn_check.specs.Growth.{log_of, load_of, live_bounds}
 use Rattle.cstn_check.specs.declared.verdicts.Verdict.{Verdict}
 use Rattle.cstn_check.specs.declared.verdicts.Verdict.TheVariants.{Yes, No, Full as IsFullVerdict}
@@ -24,7 +24,7 @@ use Rattle.cstn_words.specs.Requests.{Asked, Request, check, run, edit, closed, 
 use Rattle.cstn_reply.specs.Plans.{Said, say, after_text, says, IsOutput, MayTalk, AreUnlabelled}
 use Rattle.cstn_reply.specs.Sessions.{Turn, more, last, wrong, on_turn, script, play, session}
 use Rattle.cstn_talk.specs.Running.{moment_line, executing, unfinished}
-use Rattle.cstn_talk.specs.Guiding.{told_turn, noted_turn, answer_turn, guide_turn, guide_ending, carried_out}
+use Rattle.cstn_talk.specs.Guiding.{named_turn, noted_turn, answer_turn, guide_turn, guide_ending, carried_out}
 use Rattle.cstn_reply.specs.Texts.{yes_line, full_line}
 use Rattle.cstn_lift.specs.Labelled.{Labelled}
 use Rattle.cstn_lift.specs.Lowered.{lowered}
@@ -51,9 +51,9 @@ use Rattle.cstn_top.proofs.Edited.{document_named, EditTells, edit_tells}
 use Rattle.cstn_log.specs.Asked.{asked as table_of}
 use Rattle.cstn_log.proofs.Strategies.{asked_strategy}
 use Rattle.cstn_closed.specs.Texts.{Told as ToldBounds, tells as tells_bounds, wrong as wrong_bound, told as told_bounds, shown as shown_bounds}
-use Rattle.cstn_conflict.specs.Sets.{is_consistent}
+use Rattle.cstn_check.specs.Verdicts.{is_consistent}
 use Rattle.cstn_conflict.specs.Conflicts.{conflict_set, is_conflict_full as is_blame_full}
-use Rattle.cstn_conflict.proofs.SetLemmas.{decided}
+use Rattle.cstn_check.proofs.Decides.{decided}
 use Rattle.cstn_tight.specs.Bisection.{least_deadline, is_tight_full}
 use Rattle.cstn_evidence.specs.Bounds.{listed}
 use Rattle.cstn_evidence.specs.Blame.{blame_text, blamed}
@@ -92,7 +92,7 @@ verdict_says cap names net text live said good output = by_verdict (verdict cap 
     by_verdict IsFullVerdict tells' is = subst (λ (o : Outcome). Verdicts cap net o) (sym (ap (λ (s : Said). s.outcome) is)) tells'
 
 -- what the outcome of a check tells of a labelled network, where the network that it is lowered to is checked
-abbrev VerdictsLabelled : ℕ → Labelled → Outcome → Type 0
+abbrev pub VerdictsLabelled : ℕ → Labelled → Outcome → Type 0
 VerdictsLabelled cap m Good = IsLabelledYes cap m
 VerdictsLabelled cap m Bad = IsLabelledNo cap m
 VerdictsLabelled cap m Full = cap < load_of (lowered m)
@@ -318,8 +318,8 @@ live_ends : (names : List (List ℕ)) (m : Labelled) (bounds : List Bound) (g : 
 live_ends names m bounds g None = tt
 live_ends names m bounds g (Some (moment_at t)) = by_refusal (moment_refusal (lowered m) bounds g.run t)
   where
-    by_refusal : (o : Option Refusal) → TurnEnds (told_turn names m bounds g t o)
-    by_refusal None = executing_ends (moment_line names t (told m bounds g.run t)) (advanced m bounds g t) (due (lowered m) bounds (advanced m bounds g t).run)
+    by_refusal : (o : Option Refusal) → TurnEnds (named_turn names m bounds g t o)
+    by_refusal None = executing_ends (moment_line names t (named m bounds g.run t)) (advanced m bounds g t) (due (lowered m) bounds (advanced m bounds g t).run)
     by_refusal (Some refusal) = tt
 live_ends names m bounds g (Some (seen p value)) = by_refusal (see_refusal m g p)
   where
@@ -534,7 +534,7 @@ host_right live files deadline cap contents said Script tells' = tt
 host_right live files deadline cap contents said Wide tells' = tells'
 
 -- a check and a replay on the network that a labelled one is lowered to
-check_tells : (cap : ℕ) (live : List ℕ) (said : Said) (names : List (List ℕ)) (m : Labelled) → IsOfLabelled names m → IsOutput (checked cap names (lowered m)) live said → VerdictsLabelled cap m said.outcome
+pub check_tells : (cap : ℕ) (live : List ℕ) (said : Said) (names : List (List ℕ)) (m : Labelled) → IsOfLabelled names m → IsOutput (checked cap names (lowered m)) live said → VerdictsLabelled cap m said.outcome
 check_tells cap live said names m of is = verdicts_labelled cap m said.outcome of.same (verdict_says cap names (lowered m) (yes_line (load_of (lowered m))) live said of.plain.good is)
 
 text_tells : (text live : List ℕ) (said : Said) (names : List (List ℕ)) (m : Labelled) → IsOfLabelled names m → IsOutput (by_text replayed text names (lowered m)) live said → ReplaysLabelled text (told_by names text) m said.outcome

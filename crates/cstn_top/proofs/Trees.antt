@@ -25,10 +25,11 @@ use Rattle.cstn_verdict.specs.Opened.{IsOpened}
 use Rattle.cstn_verdict.specs.declared.documents.Opened.TheVariants.{Accepted}
 use Rattle.cstn_verdict.proofs.Deciding.{Tells, verdict_tells}
 use Rattle.cstn_verdict.proofs.Opening.{comes_to_text}
+use Rattle.cstn_evidence.specs.Accepted.{IsAccepted}
 use Rattle.cstn_evidence.specs.Texts.{by_text}
 use Rattle.cstn_strategy.specs.Unfolded.{observed, unfolded}
 use Rattle.cstn_strategy.specs.Checked.{told_of_line, checked_lines, tree_checked}
-use Rattle.cstn_top.specs.Trees.{IsNarrow, IsGoodTree, IsBrokenTree, HasTree}
+use Rattle.cstn_top.specs.Trees.{IsNarrow, IsGoodTree, IsBrokenTree, HasTree, IsTreeProof}
 use Rattle.cstn_top.specs.Meanings.{IsDecidedTree}
 use Rattle.cstn_top.specs.Prepared.{Planned}
 use Rattle.cstn_top.proofs.Opening.{IsOfOne, one_comes}
@@ -69,6 +70,17 @@ tree_accepted names net said is =
     let reads : told_tree names said.text ≡ tells (lines_of is.tree) = ap (told_tree names) text ∙ is.back in
     let whole : first_broken net (the_tree (lines_of is.tree)) ≡ None = ap (first_broken net) (tree_back is.tree) ∙ is.good in
     ap (λ (t : Told). checked_lines t net) reads ∙ ap (λ (o : Option ℕ). says (told_of_line o)) whole
+
+-- so is it where it is handed in again, if it isn't too long
+pub tree_proof : (names : List (List ℕ)) (net : Network) (said : Said) → IsTreeText names (load_of net) (live_bounds (log_of net)) net said → IsTreeProof names net said.text
+tree_proof names net said is short = by_length (nat_lt 1476395008 (length said.text)) refl
+  where
+    above : (n : ℕ) → nat_lt 1476395008 n ≡ true → n ≤ 1476395008 → ⊥
+    above n over below = grind arith
+
+    by_length : (long : Bool) → nat_lt 1476395008 (length said.text) ≡ long → IsAccepted (if long then says (say Script (codes "script long")) else tree_checked said.text names net)
+    by_length true over = absurd (above (length said.text) over short)
+    by_length false over = subst IsAccepted (sym (tree_accepted names net said is)) (λ live other. ((λ same. same), (λ same. same)))
 
 pub unfolds : (cap : ℕ) (names : List (List ℕ)) (net : Network) (live : List ℕ) (said : Said) → IsWellFormed net → IsOutput (unfolded cap names net) live said → Unfolds cap names net said.outcome
 unfolds cap names net live said good output = by_width (nat_lt 10 (observed net)) refl output

@@ -8,6 +8,8 @@ pub mod Evidence
 pub mod Lines
 pub mod Told
 -- What the laws cite.
+pub mod Headline
+pub mod Held
 pub mod EditSessions
 pub mod LabelledDeadlines
 -- What the proofs use beside.

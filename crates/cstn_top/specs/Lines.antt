@@ -15,7 +15,7 @@ use Rattle.cstn_guide.specs.Guides.{Guided, begun}
 use Rattle.cstn_lines.specs.Pieces.{lines_of, is_past}
 use Rattle.cstn_lines.specs.LiveLines.{moment_at, due_now, live_read}
 use Rattle.cstn_lines.specs.EditLines.{edit_read}
-use Rattle.cstn_words.specs.Requests.{Request, run, edit}
+use Rattle.cstn_words.specs.Requests.{Request, check, run, edit, closed, tight, conflict, tree, save, replay, closedcheck, treecheck, drill, host}
 use Rattle.cstn_reply.specs.Texts.{line, yes_line}
 use Rattle.cstn_reply.specs.Sessions.{Turn, play, answers}
 use Rattle.cstn_reply.specs.declared.status.Status.{Status}
@@ -24,7 +24,7 @@ use Rattle.cstn_verdict.specs.Documents.{parts_of, HasLabelled, HasNetwork, IsNo
 use Rattle.cstn_verdict.specs.Verdicts.{IsLabelledYes, IsLabelledNo}
 use Rattle.cstn_talk.specs.Guiding.{guide_turn}
 use Rattle.cstn_talk.specs.Editing.{begun_editing, edit_turn, edit_ending, last_checked}
-use Rattle.cstn_talk.specs.Meanings.{state_after, GuidesTo, NamesLeast, TellsDue, IsTimely, said_to, IsCarriedThrough, EndsUnfinished}
+use Rattle.cstn_talk.specs.Meanings.{state_after, GuidesTo, NamesLeast, TellsDue, AcceptsExactly, IsTimely, said_to, IsCarriedThrough, EndsUnfinished}
 
 -- ---- the lines of a session
 
@@ -49,10 +49,12 @@ abbrev pub run_bounds : Labelled → List Bound
 run_bounds m = live_bounds (log_of (lowered m))
 
 -- After any lines, a moment that is accepted is answered with exactly the time-points that aren't executed yet, whose completed
--- labels hold, and whose least moment it is, and `due` with the due moment. Over any lines, each time-point that an answer
--- names is named at its least moment.
+-- labels hold, and whose least moment it is, and `due` with the due moment. A moment is accepted exactly where something is left
+-- to do, it is above the last accepted one, no outcome is awaited at it, and it is at most the due moment. Over any lines, each
+-- time-point that an answer names is named at its least moment.
 pub record AnswersLeast (names : List (List ℕ)) (m : Labelled) (bounds : List Bound) : Type 0 where
   pub moments : (before : List (List ℕ)) (next : List ℕ) (g : Guided) (t : ℕ) → GuidesTo names m bounds before next g → live_read next ≡ Some (moment_at t) → moment_refusal (lowered m) bounds g.run t ≡ None → NamesLeast names m bounds before next g t
+  pub accepted : (before : List (List ℕ)) (next : List ℕ) (g : Guided) (t : ℕ) → GuidesTo names m bounds before next g → live_read next ≡ Some (moment_at t) → AcceptsExactly names m bounds before next g t
   pub timely : (lines : List (List ℕ)) → IsTimely names m bounds lines
   pub due : (before : List (List ℕ)) (next : List ℕ) (g : Guided) → GuidesTo names m bounds before next g → live_read next ≡ Some due_now → TellsDue names m bounds before next g
 
@@ -64,7 +66,18 @@ IfLabelled bytes deadline holds = IfSome (parts_of (document bytes deadline)) (�
 abbrev pub IsLeastRun : Request → List (List ℕ) → Type 0
 IsLeastRun (run asked cap) contents =
     IfLabelled (get_or contents 0 []) asked.deadline (λ names m. IsLabelledYes cap m → AnswersLeast (map printed_name names) m (run_bounds m))
-IsLeastRun request contents = Unit {0}
+IsLeastRun (edit asked cap) contents = Unit {0}
+IsLeastRun (check asked cap) contents = Unit {0}
+IsLeastRun (closed asked cap) contents = Unit {0}
+IsLeastRun (tight asked cap) contents = Unit {0}
+IsLeastRun (conflict asked cap) contents = Unit {0}
+IsLeastRun (tree asked cap) contents = Unit {0}
+IsLeastRun (save asked) contents = Unit {0}
+IsLeastRun (replay asked proof) contents = Unit {0}
+IsLeastRun (closedcheck asked proof) contents = Unit {0}
+IsLeastRun (treecheck asked proof) contents = Unit {0}
+IsLeastRun (drill number) contents = Unit {0}
+IsLeastRun (host files deadline cap) contents = Unit {0}
 
 -- After yes this was written: the line that says yes, and what is said to the lines of the live source. `OfLines` holds of
 -- these lines.
@@ -79,14 +92,36 @@ abbrev pub IsCarriedOut : Option (List ℕ) → Option (List ℕ) → Option (Li
 IsCarriedOut told old new (run asked cap) contents =
     HasLabelled (get_or contents 0 []) asked.deadline
     (λ names m. IsLabelledYes cap m × WroteRun told old new (map printed_name names) m (run_bounds m) (IsCarriedThrough (map printed_name names) m (run_bounds m)))
-IsCarriedOut told old new request contents = Unit {0}
+IsCarriedOut told old new (edit asked cap) contents = Unit {0}
+IsCarriedOut told old new (check asked cap) contents = Unit {0}
+IsCarriedOut told old new (closed asked cap) contents = Unit {0}
+IsCarriedOut told old new (tight asked cap) contents = Unit {0}
+IsCarriedOut told old new (conflict asked cap) contents = Unit {0}
+IsCarriedOut told old new (tree asked cap) contents = Unit {0}
+IsCarriedOut told old new (save asked) contents = Unit {0}
+IsCarriedOut told old new (replay asked proof) contents = Unit {0}
+IsCarriedOut told old new (closedcheck asked proof) contents = Unit {0}
+IsCarriedOut told old new (treecheck asked proof) contents = Unit {0}
+IsCarriedOut told old new (drill number) contents = Unit {0}
+IsCarriedOut told old new (host files deadline cap) contents = Unit {0}
 
 -- what Unfinished tells of a run: its lines end while something is due, and the due moment is told
 abbrev pub IsLeftUnfinished : Option (List ℕ) → Option (List ℕ) → Option (List ℕ) → Request → List (List ℕ) → Type 0
 IsLeftUnfinished told old new (run asked cap) contents =
     HasLabelled (get_or contents 0 []) asked.deadline
     (λ names m. IsLabelledYes cap m × WroteRun told old new (map printed_name names) m (run_bounds m) (EndsUnfinished (map printed_name names) m (run_bounds m)))
-IsLeftUnfinished told old new request contents = Unit {0}
+IsLeftUnfinished told old new (edit asked cap) contents = Unit {0}
+IsLeftUnfinished told old new (check asked cap) contents = Unit {0}
+IsLeftUnfinished told old new (closed asked cap) contents = Unit {0}
+IsLeftUnfinished told old new (tight asked cap) contents = Unit {0}
+IsLeftUnfinished told old new (conflict asked cap) contents = Unit {0}
+IsLeftUnfinished told old new (tree asked cap) contents = Unit {0}
+IsLeftUnfinished told old new (save asked) contents = Unit {0}
+IsLeftUnfinished told old new (replay asked proof) contents = Unit {0}
+IsLeftUnfinished told old new (closedcheck asked proof) contents = Unit {0}
+IsLeftUnfinished told old new (treecheck asked proof) contents = Unit {0}
+IsLeftUnfinished told old new (drill number) contents = Unit {0}
+IsLeftUnfinished told old new (host files deadline cap) contents = Unit {0}
 
 -- how a run ends over its lines: they carry it to its end, or end before that, or one of them is of no grammar, too long or too
 -- late
@@ -136,4 +171,14 @@ IsEnded status told old new (run asked cap) contents =
 IsEnded status told old new (edit asked cap) contents =
     ((status ≡ Document) × IsRefused (get_or contents 0 []) asked.deadline)
     ⊎ HasNetwork (get_or contents 0 []) asked.deadline (λ names net. WroteEdits cap told old new status names net)
-IsEnded status told old new request contents = Unit {0}
+IsEnded status told old new (check asked cap) contents = Unit {0}
+IsEnded status told old new (closed asked cap) contents = Unit {0}
+IsEnded status told old new (tight asked cap) contents = Unit {0}
+IsEnded status told old new (conflict asked cap) contents = Unit {0}
+IsEnded status told old new (tree asked cap) contents = Unit {0}
+IsEnded status told old new (save asked) contents = Unit {0}
+IsEnded status told old new (replay asked proof) contents = Unit {0}
+IsEnded status told old new (closedcheck asked proof) contents = Unit {0}
+IsEnded status told old new (treecheck asked proof) contents = Unit {0}
+IsEnded status told old new (drill number) contents = Unit {0}
+IsEnded status told old new (host files deadline cap) contents = Unit {0}

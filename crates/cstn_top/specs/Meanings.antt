@@ -185,7 +185,15 @@ IsComplete status (tree asked cap) contents =
     ((status ≡ Document) × IsRefused (get_or contents 0 []) asked.deadline)
     ⊎ HasNetwork (get_or contents 0 []) asked.deadline (λ names net. IsDecidedTree cap net status)
 IsComplete status (drill number) contents = status ≡ Good
-IsComplete status request contents = Unit {0}
+-- what is told of these when: of a run and an edit session by how they end, of the others by what Good, Bad and Full tell
+IsComplete status (run asked cap) contents = Unit {0}
+IsComplete status (edit asked cap) contents = Unit {0}
+IsComplete status (tight asked cap) contents = Unit {0}
+IsComplete status (conflict asked cap) contents = Unit {0}
+IsComplete status (save asked) contents = Unit {0}
+IsComplete status (closedcheck asked proof) contents = Unit {0}
+IsComplete status (treecheck asked proof) contents = Unit {0}
+IsComplete status (host files deadline cap) contents = Unit {0}
 
 -- a call was stopped by a fault or by want of memory
 abbrev pub IsStopped : Status → Type 0

@@ -1,6 +1,6 @@
 -- What is prepared for a request.
 use Rattle.std.specs.Prelude.{◌≡◌, ℕ, ◌≤◌, List, [], Option, Some}
-use Rattle.cstn_words.specs.Requests.{Request, check, run, closed, tight, conflict, tree, host, files_of, AsksEdit, AsksHost}
+use Rattle.cstn_words.specs.Requests.{Request, check, run, edit, closed, tight, conflict, tree, save, replay, closedcheck, treecheck, drill, host, files_of, AsksEdit, AsksHost}
 use Rattle.cstn_reply.specs.Files.{AreContents, AreThere}
 use Rattle.cstn_reply.specs.Plans.{Said, Plan, says, EndsLine, ComesTo, IsOutput}
 use Rattle.cstn_reply.specs.Sessions.{session}
@@ -24,6 +24,20 @@ the_plan (Runs opening guiding) = session guided_turn guided_ending opening.item
 the_plan (Edits editing) = session edit_turn edit_ending [] (the_editing editing)
 the_plan (Hosts opening ward) = session ward_turn ward_ending opening.items (the_ward ward)
 
+-- an opening is whole lines
+abbrev pub IsLined : Prepared → Type 0
+IsLined (Says said) = Unit {0}
+IsLined (Runs opening guiding) = EndsLine opening.items
+IsLined (Edits editing) = Unit {0}
+IsLined (Hosts opening ward) = EndsLine opening.items
+
+-- an answer to a line may want memory
+abbrev pub MayWant : Prepared → Type 0
+MayWant (Says said) = ⊥
+MayWant (Runs opening guiding) = ⊥
+MayWant (Edits editing) = Unit {0}
+MayWant (Hosts opening ward) = Unit {0}
+
 -- an opening is whole lines, and an edit session or a host is prepared only where one is asked for
 abbrev pub FitsRequest : Request → Prepared → Type 0
 FitsRequest request (Says said) = Unit {0}
@@ -32,13 +46,24 @@ FitsRequest request (Edits editing) = AsksEdit request
 FitsRequest request (Hosts opening ward) = EndsLine opening.items × AsksHost request
 
 -- Where it is told that a document of a host is refused, that document is there, and so is each file before it. A run or an edit
--- session is prepared for no host.
+-- session is prepared for no host. Of the other requests, which read one document, nothing is told beside.
 abbrev pub TellsRefused : Option (List ℕ → Option (List ℕ)) → Request → Prepared → Type 0
 TellsRefused told (host files deadline cap) (Says said) = said.outcome ≡ Document → HoldsOf (Some (host files deadline cap)) told (RefusedIsThere told)
 TellsRefused told (host files deadline cap) (Runs opening guiding) = ⊥
 TellsRefused told (host files deadline cap) (Edits editing) = ⊥
 TellsRefused told (host files deadline cap) (Hosts opening ward) = Unit {0}
-TellsRefused told request prepared = Unit {0}
+TellsRefused told (check asked cap) prepared = Unit {0}
+TellsRefused told (run asked cap) prepared = Unit {0}
+TellsRefused told (edit asked cap) prepared = Unit {0}
+TellsRefused told (closed asked cap) prepared = Unit {0}
+TellsRefused told (tight asked cap) prepared = Unit {0}
+TellsRefused told (conflict asked cap) prepared = Unit {0}
+TellsRefused told (tree asked cap) prepared = Unit {0}
+TellsRefused told (save asked) prepared = Unit {0}
+TellsRefused told (replay asked proof) prepared = Unit {0}
+TellsRefused told (closedcheck asked proof) prepared = Unit {0}
+TellsRefused told (treecheck asked proof) prepared = Unit {0}
+TellsRefused told (drill number) prepared = Unit {0}
 
 -- the plan says what the request says of the contents of its files, and the files that were read are there
 pub record Planned (request : Request) (told : Option (List ℕ → Option (List ℕ))) (plan : Plan) : Type 0 where
@@ -56,4 +81,10 @@ IsRanged (tight asked cap) = cap ≤ 4194304
 IsRanged (conflict asked cap) = cap ≤ 4194304
 IsRanged (tree asked cap) = cap ≤ 4194304
 IsRanged (host files deadline cap) = cap ≤ 4194304
-IsRanged request = Unit {0}
+-- an edit session writes none as a whole, and the others have no cap
+IsRanged (edit asked cap) = Unit {0}
+IsRanged (save asked) = Unit {0}
+IsRanged (replay asked proof) = Unit {0}
+IsRanged (closedcheck asked proof) = Unit {0}
+IsRanged (treecheck asked proof) = Unit {0}
+IsRanged (drill number) = Unit {0}

@@ -1,24 +1,78 @@
--- What is told of one request by all that `run` says, of the same contents of its files.
-use Rattle.std.specs.Prelude.{◌≡◌, ◌⊎◌, ℕ, List, Option}
-use Rattle.cstn_words.specs.Requests.{Request}
-use Rattle.cstn_reply.specs.Plans.{LiveState, Ends}
+-- What a call tells: all of it of the same contents of the files that its words name.
+use Rattle.std.specs.Prelude.{◌≡◌, ◌⊎◌, ℕ, List, Option, IfSome, String, codes}
+use Rattle.cstn_io.specs.Causes.{Rose}
+use Rattle.cstn_io.specs.Contents.{with_bytes}
+use Rattle.cstn_words.specs.Requests.{Request, names_of}
+use Rattle.cstn_words.specs.Read.{request_in}
+use Rattle.cstn_reply.specs.Texts.{line}
+use Rattle.cstn_reply.specs.Files.{AreContents}
+use Rattle.cstn_reply.specs.Plans.{LiveState, Ends, Untouched}
 use Rattle.cstn_reply.specs.declared.status.Status.{Status}
 use Rattle.cstn_reply.specs.declared.status.Status.TheVariants.{Good, Bad, Full, Unfinished, Wide}
-use Rattle.cstn_top.specs.Outputs.{plan_at}
-use Rattle.cstn_top.specs.Meanings.{IsGood, IsBad, IsFull, IsWide, IsComplete, IsStopped}
+use Rattle.cstn_top.specs.Outputs.{plan_of}
+use Rattle.cstn_top.specs.Meanings.{HoldsOf, ReadsLive, IsGood, IsBad, IsFull, IsWide, IsComplete, IsStopped}
 use Rattle.cstn_top.specs.Evidence.{WroteEvidence}
 use Rattle.cstn_top.specs.Lines.{IsLeastRun, IsCarriedOut, IsLeftUnfinished, IsEnded}
 
--- what the clauses of `run` with these names say, each of the same contents
-pub record IsAllTold (before after : LiveState) (old new : Option (List ℕ)) (status : Status) (request : Request) (contents : List (List ℕ)) : Type 0 where
-  pub output : Ends (plan_at request contents) before after old new status
+-- what is seen of a live source, by the bytes that it has left and its count of faults
+abbrev pub view : {S : Type 0} → (S → Option (List ℕ)) → (S → ℕ) → S → LiveState
+view left faults source = record { left = left source; faults = faults source }
+
+-- calls failed: the count of faults rose, or it stood at 2^64 - 1
+abbrev pub Failed : {A : Type 0} → (A → ℕ) → A → A → Type 0
+Failed faults old new = Rose (faults old) (faults new)
+
+-- the words are a request, of which this holds with the contents of its files
+abbrev pub TellsOf : {Z : Type 0} → List (String Z) → Option (List ℕ → Option (List ℕ)) → (Request → List (List ℕ) → Type 0) → Type 0
+TellsOf words files holds = HoldsOf (request_in words) files holds
+
+-- the words are a request that reads the live source
+abbrev pub Reads : {Z : Type 0} → List (String Z) → Option (List ℕ → Option (List ℕ)) → Type 0
+Reads words files = TellsOf words files ReadsLive
+
+-- the line `memory` was written, and nothing else
+abbrev pub WroteMemory : {K : Type 0} → (K → Option (List ℕ)) → K → K → Type 0
+WroteMemory written old new = written new ≡ with_bytes (written old) (line (codes "memory"))
+
+-- What is told of a request whose files have these contents. The live source was seen as `before`, and what was written goes
+-- from `old` to `new`.
+pub record IsToldOf (before : LiveState) (old new : Option (List ℕ)) (status : Status) (contents : List (List ℕ)) (request : Request) : Type 0 where
+  -- Good: the network has a strategy, or what was handed in or asked for is right
   pub good : status ≡ Good → IsGood before.left request contents
+  -- Bad: the network has no strategy, or what was handed in is wrong
   pub bad : status ≡ Bad → IsBad before.left request contents
+  -- Full: a log has more entries than the cap
   pub full : status ≡ Full → IsFull before.left request contents
+  -- Wide: more than 10 propositions are observed
   pub wide : status ≡ Wide → IsWide request contents
+  -- a network whose log isn't too long is decided, and a text is accepted or not; there is no third case but a document or a
+  -- text that isn't of its grammar
   pub complete : IsStopped status ⊎ IsComplete status request contents
+  -- what was written as evidence is accepted when it is handed in again
   pub evidence : IsStopped status ⊎ WroteEvidence old new status request contents
+  -- after yes, each answer of a run is of least moments
   pub least : IsLeastRun request contents
+  -- a run that ends with Good is carried through to its end, and meets each constraint that is in force
   pub carried_out : status ≡ Good → IsCarriedOut before.left old new request contents
+  -- a run that ends with Unfinished tells the due moment
   pub unfinished : status ≡ Unfinished → IsLeftUnfinished before.left old new request contents
+  -- a run and an edit session end by the network and by the lines of the live source
   pub ended : IsStopped status ⊎ IsEnded status before.left old new request contents
+
+-- what a call with these words wrote, for some contents of the files that they name, and whether it left the live source
+abbrev pub Answers : {S : Type 0} → Option Request → Option (List ℕ → Option (List ℕ)) → (S → LiveState) → S → S → Option (List ℕ) → Option (List ℕ) → Status → Type 0
+Answers words files seen source now old new status =
+    (contents : List (List ℕ)) × AreContents files (names_of words) contents
+    × Ends (plan_of words contents) (seen source) (seen now) old new status × Untouched (plan_of words contents) source now
+
+-- all that is told of a call with these words
+pub record IsTold {S : Type 0} (words : Option Request) (files : Option (List ℕ → Option (List ℕ))) (seen : S → LiveState) (source now : S) (old new : Option (List ℕ)) (status : Status) : Type 0 where
+  -- the contents of the files that the words name, in their order
+  pub contents : List (List ℕ)
+  pub are : AreContents files (names_of words) contents
+  -- what was written is the output, or what comes after a fault or want of memory; also where the words are no request
+  pub output : Ends (plan_of words contents) (seen source) (seen now) old new status
+  -- the live source is as it was, unless the plan comes to a session
+  pub untouched : Untouched (plan_of words contents) source now
+  -- where the words are a request, what is told of it
+  pub request : IfSome words (IsToldOf (seen source) old new status contents)

@@ -1,5 +1,5 @@
 -- What the answers of `tree` and `treecheck` tell of a network.
-use Rattle.std.specs.Prelude.{◌≡◌, ◌≤◌, ℕ, List, Some, codes}
+use Rattle.std.specs.Prelude.{◌≡◌, ◌≤◌, ℕ, List, length, Some, codes}
 use Rattle.cstn_net.specs.Networks.{Network}
 use Rattle.cstn_net.specs.Strategies.{IsStrategy}
 use Rattle.cstn_tree.specs.Trees.{table_of}
@@ -9,6 +9,8 @@ use Rattle.cstn_tree.specs.Texts.{Told, tells, wrong}
 use Rattle.cstn_check.specs.Growth.{log_of, load_of, live_bounds}
 use Rattle.cstn_reply.specs.Plans.{Said, say, says, IsTreeText}
 use Rattle.cstn_reply.specs.declared.output.Outcome.TheVariants.{Good}
+use Rattle.cstn_evidence.specs.Accepted.{IsAccepted}
+use Rattle.cstn_evidence.specs.Texts.{by_text}
 use Rattle.cstn_strategy.specs.Unfolded.{observed}
 use Rattle.cstn_strategy.specs.Checked.{tree_checked}
 
@@ -31,3 +33,7 @@ pub record HasTree (names : List (List ℕ)) (net : Network) : Type 0 where
   pub said : Said
   pub told : IsTreeText names (load_of net) (live_bounds (log_of net)) net said
   pub accepted : tree_checked said.text names net ≡ says (say Good (codes "accepted"))
+
+-- `treecheck` of the network accepts the text, unless it has more bytes than it takes
+abbrev pub IsTreeProof : List (List ℕ) → Network → List ℕ → Type 0
+IsTreeProof names net text = length text ≤ 1476395008 → IsAccepted (by_text tree_checked text names net)

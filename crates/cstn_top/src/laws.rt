@@ -1,12 +1,18 @@
-// Laws of edit sessions, and of the least deadlines of labelled networks. The calls do nothing: their contracts are the laws.
-ghost use Rattle.std.specs.Prelude.{ℕ, ◌≡◌, ◌<◌, ◌≤◌, ◌↔◌, ◌+◌, ◌^◌, List, length, None, Some, codes, false};
+// Laws of edit sessions, of the least deadlines of labelled networks, of outputs and of evidence. The calls do nothing: their contracts are the laws.
+ghost use Rattle.std.specs.Prelude.{ℕ, ◌≡◌, ◌<◌, ◌≤◌, ◌↔◌, ◌+◌, ◌^◌, List, [], ◌∷◌, length, None, Some, codes, false};
 ghost use Rattle.std.specs.List.{All};
 ghost use Rattle.cstn_net.specs.Networks.{Network, Constraint, IsWellFormed, count};
 ghost use Rattle.cstn_lines.specs.Pieces.{is_past};
 ghost use Rattle.cstn_talk.specs.Editing.{Editing, begun_editing, edit_turn, last_checked};
 ghost use Rattle.cstn_talk.specs.Meanings.{state_after};
-ghost use Rattle.cstn_evidence.specs.Accepted.{HasIds};
+ghost use Rattle.cstn_evidence.specs.Accepted.{HasIds, IsAccepted};
+ghost use Rattle.cstn_words.specs.Requests.{Asked, Request, check, run, closed, replay, closedcheck};
+ghost use Rattle.cstn_reply.specs.Plans.{Plan, Said, IsOutput};
+ghost use Rattle.cstn_reply.specs.declared.output.Outcome.TheVariants.{Good, Bad};
 ghost use Rattle.cstn_top.specs.Lines.{AreAnswered};
+ghost use Rattle.cstn_top.specs.Outputs.{plan_at};
+ghost use Rattle.cstn_top.specs.Prepared.{IsRanged};
+ghost use Rattle.cstn_top.specs.Held.{AreHeld};
 ghost use Rattle.cstn_lift.specs.Labelled.{Labelled};
 ghost use Rattle.cstn_lift.specs.Lowered.{lowered};
 ghost use Rattle.cstn_lift.specs.WellFormed.{IsLabelled};
@@ -14,7 +20,11 @@ ghost use Rattle.cstn_tight.specs.Deadlines.{at_deadline, IsLeastDeadline};
 ghost use Rattle.cstn_top.specs.LabelledDeadlines.{labelled_at, IsLabelledLeastDeadline};
 ghost use Rattle.cstn_top.specs.EditSessions.{network_after, AnswersCheck, IsAtLastCheck};
 
+use cstn_closed::{closed_lists_are_accepted, closed_texts_are_read_back};
+use cstn_evidence::evidence_is_accepted;
+use cstn_graphml::documents_have_one_answer;
 use cstn_refute::texts_are_read_back;
+use cstn_tree::{made_trees_are_good, networks_have_one_tree, tree_texts_are_read_back};
 
 /// After any edit lines that are answered, the session's network is the network as edited by them, which is well-formed. The
 /// answer to `check` after them is true of that network: yes is said only where it is consistent, no only where it isn't, with
@@ -36,3 +46,35 @@ pub fn least_deadlines_are_lowered()
     ensures lowered { (m : Labelled) (h : ℕ) → lowered (labelled_at m h) ≡ at_deadline (lowered m) h }
     ensures least { (m : Labelled) (h : ℕ) → IsLabelled m → h ≤ m.base.deadline → (IsLabelledLeastDeadline m h ↔ IsLeastDeadline (lowered m) h) }
 {}
+
+/// What a request says is determined by the contents of its files and the bytes of the live source: the outputs of a plan are one.
+/// And it can't be that a request has none, where values of the program can hold what its documents say, and its cap is in range.
+pub fn outputs_are_one()
+    ensures one { (plan : Plan) (live : List ℕ) (one other : Said) → IsOutput plan live one → IsOutput plan live other → one ≡ other }
+    ensures some { (request : Request) (contents : List (List ℕ)) (live : List ℕ) → IsRanged request → AreHeld request contents
+        → ((said : Said) → IsOutput (plan_at request contents) live said → ⊥) → ⊥ }
+{
+    documents_have_one_answer();
+    closed_lists_are_accepted();
+    closed_texts_are_read_back();
+    texts_are_read_back();
+    networks_have_one_tree();
+    made_trees_are_good();
+    tree_texts_are_read_back();
+}
+
+/// What `check`, `run` and `closed` write after no passes: `replay` of the same document with that text says `accepted`, and
+/// nothing else. So does `closedcheck` with what `closed` writes after yes.
+pub fn evidence_passes()
+    ensures no_of_check { (asked : Asked) (cap : ℕ) (file bytes live : List ℕ) (said : Said) → cap ≤ 4194304 → IsOutput (plan_at (check asked cap) (bytes ∷ [])) live said
+        → said.outcome ≡ Bad → IsAccepted (plan_at (replay asked file) (bytes ∷ said.text ∷ [])) }
+    ensures no_of_run { (asked : Asked) (cap : ℕ) (file bytes live : List ℕ) (said : Said) → cap ≤ 4194304 → IsOutput (plan_at (run asked cap) (bytes ∷ [])) live said
+        → said.outcome ≡ Bad → IsAccepted (plan_at (replay asked file) (bytes ∷ said.text ∷ [])) }
+    ensures no_of_closed { (asked : Asked) (cap : ℕ) (file bytes live : List ℕ) (said : Said) → cap ≤ 4194304 → IsOutput (plan_at (closed asked cap) (bytes ∷ [])) live said
+        → said.outcome ≡ Bad → IsAccepted (plan_at (replay asked file) (bytes ∷ said.text ∷ [])) }
+    ensures yes_of_closed { (asked : Asked) (cap : ℕ) (file bytes live : List ℕ) (said : Said) → cap ≤ 4194304 → IsOutput (plan_at (closed asked cap) (bytes ∷ [])) live said
+        → said.outcome ≡ Good → IsAccepted (plan_at (closedcheck asked file) (bytes ∷ said.text ∷ [])) }
+{
+    documents_have_one_answer();
+    evidence_is_accepted();
+}

@@ -2,9 +2,13 @@
 #![tactic(auto)]
 
 mod commands;
+mod headline;
 mod laws;
 mod top;
 
 pub use cstn_reply::Status;
-pub use laws::{edit_sessions_are_true, least_deadlines_are_lowered};
+pub use headline::the_headline;
+pub use laws::{
+    edit_sessions_are_true, evidence_passes, least_deadlines_are_lowered, outputs_are_one,
+};
 pub use top::run;

@@ -16,7 +16,7 @@ use cstn_reply::{Outcome, Refused, Said};
 use cstn_text::Names;
 use cstn_verdict::{Decided, WithLabels, decide, open_labelled, yes_line};
 use cstn_words::Asked;
-use std::alloc::Global;
+use std::alloc::{AllocError, Global};
 
 /// The verdict on the labelled network of a file: that on the network it is lowered to, whose log may have `cap` entries.
 pub(crate) fn check_file<F: Shelf>(
@@ -34,34 +34,31 @@ pub(crate) fn check_file<F: Shelf>(
     ensures files { F.files shelf.new ≡ F.files shelf.old }
     ensures later { F.faults shelf.old ≤ F.faults shelf.new }
 {
-    match open_labelled(alloc, asked, shelf) {
-        Ok(WithLabels::Accepted { labelled, names }) => {
+    match open_labelled(alloc, asked, shelf)? {
+        WithLabels::Accepted { labelled, names } => {
             let (network, _) = labelled.split();
-            judge(alloc, network, &names, cap)
+            Ok(judge(alloc, network, &names, cap)?)
         }
-        Ok(WithLabels::Told(said)) => Ok(said),
-        Err(refused) => Err(refused),
+        WithLabels::Told(said) => Ok(said),
     }
 }
 
 // What is said of a network.
-fn judge(alloc: Global, network: Network, names: &Names, cap: u32) -> Result<Said, Refused>
+fn judge(alloc: Global, network: Network, names: &Names, cap: u32) -> Result<Said, AllocError>
     requires some { 1 ≤ cap }
     requires most { cap ≤ 4194304 }
     requires well_formed { IsWellFormed (the_network network) }
     requires named { length names.now ≡ count (the_network network) }
     ensures said { IfOk result (λ said. says (the_said said) ≡ checked cap names.now (the_network network)) }
-    ensures fault { IsErrOf result Refused.ReadFault → ⊥ }
 {
-    match decide(alloc, network, names, cap) {
-        Ok(Decided::Yes { load, .. }) => {
+    match decide(alloc, network, names, cap)? {
+        Decided::Yes { load, .. } => {
             let text = yes_line(alloc, load)?;
             Ok(Said {
                 outcome: Outcome::Good,
                 text,
             })
         }
-        Ok(Decided::Told(said)) => Ok(said),
-        Err(refused) => Err(refused),
+        Decided::Told(said) => Ok(said),
     }
 }

@@ -30,9 +30,8 @@ pub(crate) fn conflict_file<F: Shelf>(
     ensures files { F.files shelf.new ≡ F.files shelf.old }
     ensures later { F.faults shelf.old ≤ F.faults shelf.new }
 {
-    match open(alloc, asked, shelf) {
-        Ok(Opened::Accepted { network, names }) => blame(alloc, network, &names, cap),
-        Ok(Opened::Told(said)) => Ok(said),
-        Err(refused) => Err(refused),
+    match open(alloc, asked, shelf)? {
+        Opened::Accepted { network, names } => Ok(blame(alloc, network, &names, cap)?),
+        Opened::Told(said) => Ok(said),
     }
 }

@@ -1,5 +1,5 @@
 // `drill NUMBER`
-ghost use Rattle.std.specs.Prelude.{◌≡◌, ◌≤◌, ◌<◌, ◌+◌, ◌-◌, ◌^◌, length, if◌then◌else◌, IfOk, IsErrOf};
+ghost use Rattle.std.specs.Prelude.{◌≡◌, ◌≤◌, ◌<◌, ◌+◌, ◌-◌, ◌^◌, length, if◌then◌else◌, IfOk};
 ghost use Rattle.cstn_net.specs.Networks.{IsWellFormed};
 ghost use Rattle.cstn_net.specs.Read.{the_network};
 ghost use Rattle.cstn_check.specs.Growth.{most_entries};
@@ -12,9 +12,9 @@ ghost use Rattle.cstn_reply.specs.Read.{the_said};
 use cstn_check::{Check, Verdict};
 use cstn_gen::network;
 use cstn_net::Network;
-use cstn_reply::{Outcome, Refused, Said};
+use cstn_reply::{Outcome, Said};
 use cstn_table::{TableError, decide};
-use std::alloc::Global;
+use std::alloc::{AllocError, Global};
 
 const SMALL_NETWORKS: u32 = 64;
 
@@ -35,17 +35,14 @@ pub(crate) struct Counts {
 }
 
 /// Checks the 64 small networks from a number on, which a table decides too, and the large network of the number.
-pub(crate) fn drill(alloc: Global, number: u64) -> Result<Said, Refused>
+pub(crate) fn drill(alloc: Global, number: u64) -> Result<Said, AllocError>
     ensures said { IfOk result (λ said. the_said said ≡ drilled number) }
-    ensures fault { IsErrOf result Refused.ReadFault → ⊥ }
 {
     let counts = small_counts(alloc, number, SMALL_NETWORKS)?;
     let verdict = large_verdict(alloc, number)?;
     let mut text = small_line(alloc, counts)?;
     let line = large_line(alloc, verdict)?;
-    let Ok(()) = text.extend_from_slice(&line) else {
-        return Err(Refused::Memory);
-    };
+    text.extend_from_slice(&line)?;
     Ok(Said {
         outcome: Outcome::Good,
         text,
@@ -53,9 +50,8 @@ pub(crate) fn drill(alloc: Global, number: u64) -> Result<Said, Refused>
 }
 
 // The counts of the first n small networks.
-fn small_counts(alloc: Global, number: u64, n: u32) -> Result<Counts, Refused>
+fn small_counts(alloc: Global, number: u64, n: u32) -> Result<Counts, AllocError>
     ensures counts { IfOk result (λ counts. counts ≡ counts_of number n) }
-    ensures fault { IsErrOf result Refused.ReadFault → ⊥ }
 {
     let mut counts = Counts {
         yes: 0,
@@ -88,44 +84,37 @@ fn counted(counts: Counts, by_check: bool, by_table: bool) -> Counts
 }
 
 // The i-th small network from a number on.
-fn small_network(alloc: Global, number: u64, i: u32) -> Result<Network, Refused>
+fn small_network(alloc: Global, number: u64, i: u32) -> Result<Network, AllocError>
     ensures network { IfOk result (λ net. the_network net ≡ small number i) }
     ensures well_formed { IfOk result (λ net. IsWellFormed (the_network net)) }
     ensures few_props { IfOk result (λ net. length (observed_props (the_network net).observes) ≤ 8) }
     ensures few_entries { IfOk result (λ net. most_entries (the_network net) ≤ SMALL_CAP) }
-    ensures fault { IsErrOf result Refused.ReadFault → ⊥ }
 {
-    let Ok((net, _)) = network(alloc, number.wrapping_add(i as u64), SMALL_SIZE) else {
-        return Err(Refused::Memory);
-    };
+    let (net, _) = network(alloc, number.wrapping_add(i as u64), SMALL_SIZE)?;
     Ok(net)
 }
 
 // Whether the network is consistent, by the table.
-fn is_decided(alloc: Global, net: &Network) -> Result<bool, Refused>
+fn is_decided(alloc: Global, net: &Network) -> Result<bool, AllocError>
     requires well_formed { IsWellFormed (the_network net.now) }
     requires few_props { length (observed_props (the_network net.now).observes) ≤ 8 }
     ensures consistent { IfOk result (λ is. is ≡ is_unrefuted (the_network net.now)) }
-    ensures fault { IsErrOf result Refused.ReadFault → ⊥ }
 {
     match decide(alloc, net) {
         Ok(Some(_)) => Ok(true),
         Ok(None) => Ok(false),
         Err(TableError::TooManyProps) => unreachable!(),
-        Err(TableError::Memory(_)) => Err(Refused::Memory),
+        Err(TableError::Memory(error)) => Err(error),
     }
 }
 
 // Whether the network is consistent, by its check.
-fn is_checked(alloc: Global, net: Network) -> Result<bool, Refused>
+fn is_checked(alloc: Global, net: Network) -> Result<bool, AllocError>
     requires well_formed { IsWellFormed (the_network net) }
     requires few_entries { most_entries (the_network net) ≤ SMALL_CAP }
     ensures consistent { IfOk result (λ is. is ≡ is_unrefuted (the_network net)) }
-    ensures fault { IsErrOf result Refused.ReadFault → ⊥ }
 {
-    let Ok(mut check) = Check::start(alloc, net, SMALL_CAP) else {
-        return Err(Refused::Memory);
-    };
+    let mut check = Check::start(alloc, net, SMALL_CAP)?;
     match check.run() {
         Verdict::Yes { .. } => Ok(true),
         Verdict::No { .. } => Ok(false),
@@ -134,51 +123,39 @@ fn is_checked(alloc: Global, net: Network) -> Result<bool, Refused>
 }
 
 // The verdict on the large network of a number.
-fn large_verdict(alloc: Global, number: u64) -> Result<Verdict, Refused>
+fn large_verdict(alloc: Global, number: u64) -> Result<Verdict, AllocError>
     ensures verdict { IfOk result (λ v. v ≡ verdict LARGE_CAP (large number)) }
-    ensures fault { IsErrOf result Refused.ReadFault → ⊥ }
 {
     let net = large_network(alloc, number)?;
-    let Ok(mut check) = Check::start(alloc, net, LARGE_CAP) else {
-        return Err(Refused::Memory);
-    };
+    let mut check = Check::start(alloc, net, LARGE_CAP)?;
     Ok(check.run())
 }
 
 // The large network of a number.
-fn large_network(alloc: Global, number: u64) -> Result<Network, Refused>
+fn large_network(alloc: Global, number: u64) -> Result<Network, AllocError>
     ensures network { IfOk result (λ net. the_network net ≡ large number) }
     ensures well_formed { IfOk result (λ net. IsWellFormed (the_network net)) }
-    ensures fault { IsErrOf result Refused.ReadFault → ⊥ }
 {
-    let Ok((net, _)) = network(alloc, number, LARGE_SIZE) else {
-        return Err(Refused::Memory);
-    };
+    let (net, _) = network(alloc, number, LARGE_SIZE)?;
     Ok(net)
 }
 
-fn small_line(alloc: Global, counts: Counts) -> Result<Vec<u8>, Refused>
+fn small_line(alloc: Global, counts: Counts) -> Result<Vec<u8>, AllocError>
     ensures line { IfOk result (λ line. line.items ≡ small_line counts) }
-    ensures fault { IsErrOf result Refused.ReadFault → ⊥ }
 {
     let Counts { yes, no, differ } = counts;
-    let Ok(line) = format!(in alloc; "small 64 yes {yes} no {no} differ {differ}\n") else {
-        return Err(Refused::Memory);
-    };
+    let line = format!(in alloc; "small 64 yes {yes} no {no} differ {differ}\n")?;
     Ok(line.into_bytes())
 }
 
-fn large_line(alloc: Global, verdict: Verdict) -> Result<Vec<u8>, Refused>
+fn large_line(alloc: Global, verdict: Verdict) -> Result<Vec<u8>, AllocError>
     ensures line { IfOk result (λ line. line.items ≡ large_line verdict) }
-    ensures fault { IsErrOf result Refused.ReadFault → ⊥ }
 {
     let line = match verdict {
         Verdict::Yes { load } => format!(in alloc; "large 48 yes {load}\n"),
         Verdict::No { load } => format!(in alloc; "large 48 no {load}\n"),
         Verdict::Full => format!(in alloc; "large 48 full {LARGE_CAP}\n"),
     };
-    let Ok(line) = line else {
-        return Err(Refused::Memory);
-    };
+    let line = line?;
     Ok(line.into_bytes())
 }

@@ -30,14 +30,11 @@ pub(crate) fn edit_file<F: Shelf>(
     ensures files { F.files shelf.new ≡ F.files shelf.old }
     ensures later { F.faults shelf.old ≤ F.faults shelf.new }
 {
-    match open(alloc, asked, shelf) {
-        Ok(Opened::Accepted { network, names }) => {
-            let Ok(editing) = Editing::start(alloc, network, names, cap) else {
-                return Err(Refused::Memory);
-            };
+    match open(alloc, asked, shelf)? {
+        Opened::Accepted { network, names } => {
+            let editing = Editing::start(alloc, network, names, cap)?;
             Ok(Prepared::Edits(editing))
         }
-        Ok(Opened::Told(said)) => Ok(Prepared::Says(said)),
-        Err(refused) => Err(refused),
+        Opened::Told(said) => Ok(Prepared::Says(said)),
     }
 }

@@ -32,9 +32,8 @@ pub(crate) fn host_all<F: Shelf>(
     ensures later { F.faults shelf.old ≤ F.faults shelf.new }
     ensures fault { IsErrOf result Refused.ReadFault → Rose (F.faults shelf.old) (F.faults shelf.new) }
 {
-    match host_files(alloc, files, deadline, cap, shelf) {
-        Ok(Hosting::Begins { opening, ward }) => Ok(Prepared::Hosts { opening, ward }),
-        Ok(Hosting::Told(said)) => Ok(Prepared::Says(said)),
-        Err(refused) => Err(refused),
+    match host_files(alloc, files, deadline, cap, shelf)? {
+        Hosting::Begins { opening, ward } => Ok(Prepared::Hosts { opening, ward }),
+        Hosting::Told(said) => Ok(Prepared::Says(said)),
     }
 }

@@ -37,13 +37,12 @@ pub(crate) fn replay_file<F: Shelf>(
     ensures files { F.files shelf.new ≡ F.files shelf.old }
     ensures later { F.faults shelf.old ≤ F.faults shelf.new }
 {
-    match open_labelled(alloc, asked, shelf) {
-        Ok(WithLabels::Accepted { labelled, names }) => {
+    match open_labelled(alloc, asked, shelf)? {
+        WithLabels::Accepted { labelled, names } => {
             let (network, _) = labelled.split();
             replay_on(alloc, &network, &names, proof, shelf)
         }
-        Ok(WithLabels::Told(said)) => Ok(said),
-        Err(refused) => Err(refused),
+        WithLabels::Told(said) => Ok(said),
     }
 }
 
@@ -64,9 +63,8 @@ fn replay_on<F: Shelf>(
     ensures files { F.files shelf.new ≡ F.files shelf.old }
     ensures later { F.faults shelf.old ≤ F.faults shelf.new }
 {
-    match read_text(alloc, proof, shelf) {
-        Ok(TextRead::Whole(text)) => replay_text(alloc, network, names, &text),
-        Ok(TextRead::Told(said)) => Ok(said),
-        Err(refused) => Err(refused),
+    match read_text(alloc, proof, shelf)? {
+        TextRead::Whole(text) => Ok(replay_text(alloc, network, names, &text)?),
+        TextRead::Told(said) => Ok(said),
     }
 }

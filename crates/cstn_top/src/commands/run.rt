@@ -24,7 +24,7 @@ use cstn_talk::Guiding;
 use cstn_text::Names;
 use cstn_verdict::{Decided, WithLabels, decide, open_labelled, yes_line};
 use cstn_words::Asked;
-use std::alloc::Global;
+use std::alloc::{AllocError, Global};
 
 /// The verdict on the labelled network of a file: that on the network it is lowered to. After yes its plan is carried out.
 pub(crate) fn run_file<F: Shelf>(
@@ -43,27 +43,29 @@ pub(crate) fn run_file<F: Shelf>(
     ensures files { F.files shelf.new ≡ F.files shelf.old }
     ensures later { F.faults shelf.old ≤ F.faults shelf.new }
 {
-    match open_labelled(alloc, asked, shelf) {
-        Ok(WithLabels::Accepted { labelled, names }) => prepare(alloc, labelled, &names, cap),
-        Ok(WithLabels::Told(said)) => Ok(Prepared::Says(said)),
-        Err(refused) => Err(refused),
+    match open_labelled(alloc, asked, shelf)? {
+        WithLabels::Accepted { labelled, names } => Ok(prepare(alloc, labelled, &names, cap)?),
+        WithLabels::Told(said) => Ok(Prepared::Says(said)),
     }
 }
 
 // What is said of a labelled network.
-fn prepare(alloc: Global, labelled: Labelled, names: &Names, cap: u32) -> Result<Prepared, Refused>
+fn prepare(
+    alloc: Global,
+    labelled: Labelled,
+    names: &Names,
+    cap: u32,
+) -> Result<Prepared, AllocError>
     requires some { 1 ≤ cap }
     requires most { cap ≤ 4194304 }
     requires named { length names.now ≡ count (the_network labelled.base) }
     ensures comes { IfOk result (λ prepared. ComesTo (carried_out cap names.now (the_labelled labelled)) (the_plan prepared)) }
     ensures fits { IfOk result (λ prepared. (request : Request) → FitsRequest request prepared) }
-    ensures fault { IsErrOf result Refused.ReadFault → ⊥ }
 {
     let (network, labels) = labelled.split();
-    match decide(alloc, network, names, cap) {
-        Ok(Decided::Yes { load, check }) => begin(alloc, load, check, labels, names, cap),
-        Ok(Decided::Told(said)) => Ok(Prepared::Says(said)),
-        Err(refused) => Err(refused),
+    match decide(alloc, network, names, cap)? {
+        Decided::Yes { load, check } => begin(alloc, load, check, labels, names, cap),
+        Decided::Told(said) => Ok(Prepared::Says(said)),
     }
 }
 
@@ -75,7 +77,7 @@ fn begin(
     labels: Labels,
     names: &Names,
     cap: u32,
-) -> Result<Prepared, Refused>
+) -> Result<Prepared, AllocError>
     requires yes { (load : ℕ) × (check.verdict ≡ Some (Yes load)) }
     requires lowered { the_network check.net ≡ lowered (the_labelled labels) }
     requires verdict { verdict cap (the_network check.net) ≡ Yes (load_of (the_network check.net)) }
@@ -84,14 +86,9 @@ fn begin(
     requires few { length names.now ≤ 1024 }
     ensures comes { IfOk result (λ prepared. ComesTo (carried_out cap names.now (the_labelled labels)) (the_plan prepared)) }
     ensures fits { IfOk result (λ prepared. (request : Request) → FitsRequest request prepared) }
-    ensures fault { IsErrOf result Refused.ReadFault → ⊥ }
 {
     let opening = yes_line(alloc, load)?;
-    let Ok(guide) = Guide::start(alloc, check.into_plan(), labels) else {
-        return Err(Refused::Memory);
-    };
-    let Ok(guiding) = Guiding::start(alloc, guide, names) else {
-        return Err(Refused::Memory);
-    };
+    let guide = Guide::start(alloc, check.into_plan(), labels)?;
+    let guiding = Guiding::start(alloc, guide, names)?;
     Ok(Prepared::Runs { opening, guiding })
 }

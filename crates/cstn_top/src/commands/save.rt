@@ -18,7 +18,7 @@ use cstn_save::write;
 use cstn_text::Names;
 use cstn_verdict::{WithLabels, open_labelled};
 use cstn_words::Asked;
-use std::alloc::Global;
+use std::alloc::{AllocError, Global};
 
 /// The canonical document of the labelled network of a file.
 pub(crate) fn save_file<F: Shelf>(
@@ -33,22 +33,18 @@ pub(crate) fn save_file<F: Shelf>(
     ensures files { F.files shelf.new ≡ F.files shelf.old }
     ensures later { F.faults shelf.old ≤ F.faults shelf.new }
 {
-    match open_labelled(alloc, asked, shelf) {
-        Ok(WithLabels::Accepted { labelled, names }) => canonical(alloc, &labelled, &names),
-        Ok(WithLabels::Told(said)) => Ok(said),
-        Err(refused) => Err(refused),
+    match open_labelled(alloc, asked, shelf)? {
+        WithLabels::Accepted { labelled, names } => Ok(canonical(alloc, &labelled, &names)?),
+        WithLabels::Told(said) => Ok(said),
     }
 }
 
-fn canonical(alloc: Global, labelled: &Labelled, names: &Names) -> Result<Said, Refused>
+fn canonical(alloc: Global, labelled: &Labelled, names: &Names) -> Result<Said, AllocError>
     requires named { length names.now ≡ count (the_network labelled.now.base) }
     requires origin { slice_get names.now 0 ≡ Some (codes "Z") }
     ensures said { IfOk result (λ said. says (the_said said) ≡ saved names.now (the_labelled labelled.now)) }
-    ensures fault { IsErrOf result Refused.ReadFault → ⊥ }
 {
-    let Ok(text) = write(alloc, labelled, names) else {
-        return Err(Refused::Memory);
-    };
+    let text = write(alloc, labelled, names)?;
     Ok(Said {
         outcome: Outcome::Good,
         text,

@@ -7,7 +7,7 @@ ghost use Rattle.cstn_top.specs.Opened.{IsTextOf};
 
 use cstn_io::{Shelf, TakeError, take_all};
 use cstn_reply::{Outcome, Refused, Said};
-use std::alloc::Global;
+use std::alloc::{AllocError, Global};
 
 const MAX_TEXT: usize = 1_476_395_008;
 
@@ -46,13 +46,10 @@ pub(crate) fn read_text<F: Shelf>(
 }
 
 // What is said of a text that is too long.
-fn too_long(alloc: Global) -> Result<Said, Refused>
+fn too_long(alloc: Global) -> Result<Said, AllocError>
     ensures said { IfOk result (λ said. the_said said ≡ say Outcome.Script (codes "script long")) }
-    ensures fault { IsErrOf result Refused.ReadFault → ⊥ }
 {
-    let Ok(text) = b"script long\n".to_vec(alloc) else {
-        return Err(Refused::Memory);
-    };
+    let text = b"script long\n".to_vec(alloc)?;
     Ok(Said {
         outcome: Outcome::Script,
         text,

@@ -30,12 +30,11 @@ pub(crate) fn tight_file<F: Shelf>(
     ensures files { F.files shelf.new ≡ F.files shelf.old }
     ensures later { F.faults shelf.old ≤ F.faults shelf.new }
 {
-    match open_labelled(alloc, asked, shelf) {
-        Ok(WithLabels::Accepted { labelled, names }) => {
+    match open_labelled(alloc, asked, shelf)? {
+        WithLabels::Accepted { labelled, names } => {
             let (network, _) = labelled.split();
-            tighten(alloc, network, &names, cap)
+            Ok(tighten(alloc, network, &names, cap)?)
         }
-        Ok(WithLabels::Told(said)) => Ok(said),
-        Err(refused) => Err(refused),
+        WithLabels::Told(said) => Ok(said),
     }
 }

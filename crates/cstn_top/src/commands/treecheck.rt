@@ -36,12 +36,9 @@ pub(crate) fn treecheck_file<F: Shelf>(
     ensures files { F.files shelf.new ≡ F.files shelf.old }
     ensures later { F.faults shelf.old ≤ F.faults shelf.new }
 {
-    match open(alloc, asked, shelf) {
-        Ok(Opened::Accepted { network, names }) => {
-            check_on(alloc, &network, &names, proof, shelf)
-        }
-        Ok(Opened::Told(said)) => Ok(said),
-        Err(refused) => Err(refused),
+    match open(alloc, asked, shelf)? {
+        Opened::Accepted { network, names } => { check_on(alloc, &network, &names, proof, shelf) }
+        Opened::Told(said) => Ok(said),
     }
 }
 
@@ -62,9 +59,8 @@ fn check_on<F: Shelf>(
     ensures files { F.files shelf.new ≡ F.files shelf.old }
     ensures later { F.faults shelf.old ≤ F.faults shelf.new }
 {
-    match read_text(alloc, proof, shelf) {
-        Ok(TextRead::Whole(text)) => check_tree(alloc, network, names, &text),
-        Ok(TextRead::Told(said)) => Ok(said),
-        Err(refused) => Err(refused),
+    match read_text(alloc, proof, shelf)? {
+        TextRead::Whole(text) => Ok(check_tree(alloc, network, names, &text)?),
+        TextRead::Told(said) => Ok(said),
     }
 }

@@ -1,10 +1,8 @@
 use Rattle.cstn_top.proofs.Drills.{yes_true, no_false}
 use Rattle.cstn_top.proofs.commands.drill.is_checked.Goals as goal
 
-pub returns-in-Yes-clause-consistent : goal.returns-in-Yes-clause-consistent
-returns-in-Yes-clause-consistent c =
-    yes_true c.args.net c.in-Ok.check 65536 c.in-Yes.load c.requires.well_formed c.in-Ok.ensures.start c.in-Yes.ensures.exactly_yes
+pub returns-in-Yes : goal.returns-in-Yes
+returns-in-Yes c = record { consistent = yes_true c.args.net c.in_ok-check.check 65536 c.in-Yes.load c.requires.well_formed c.in_ok-check.ensures.start c.in-Yes.ensures.exactly_yes }
 
-pub returns-in-No-clause-consistent : goal.returns-in-No-clause-consistent
-returns-in-No-clause-consistent c =
-    no_false c.args.net c.in-Ok.check 65536 c.in-No.load c.requires.well_formed c.in-Ok.ensures.start c.in-No.ensures.exactly_no
+pub returns-in-No : goal.returns-in-No
+returns-in-No c = record { consistent = no_false c.args.net c.in_ok-check.check 65536 c.in-No.load c.requires.well_formed c.in_ok-check.ensures.start c.in-No.ensures.exactly_no }

@@ -3,4 +3,4 @@ use Rattle.cstn_top.proofs.Drills.{large_is}
 use Rattle.cstn_top.proofs.commands.drill.large_network.Goals as goal
 
 pub returns-clause-network : goal.returns-clause-network
-returns-clause-network c = c.in-Ok.ensures.network ∙ large_is c.args.number
+returns-clause-network c = c.in_ok-net.ensures.network ∙ large_is c.args.number

@@ -12,17 +12,17 @@ use Rattle.cstn_top.proofs.commands.edit.edit_file.Goals as goal
 
 pub start-requires-clause-ids : goal.start-requires-clause-ids
 start-requires-clause-ids g c =
-    document_ids (g.F.Shelf.files c.args.shelf.now) (the_asked c.args.asked) c.in-Ok-Accepted.network c.in-Ok-Accepted.names
-    (subst (λ (o : Opened). IsOpened (g.F.Shelf.files c.args.shelf.now) (the_asked c.args.asked) o) c.in-Ok-Accepted.field-0-is c.in-Ok-Accepted.ensures.opened)
+    document_ids (g.F.Shelf.files c.args.shelf.now) (the_asked c.args.asked) c.in-Accepted.network c.in-Accepted.names
+    (subst (λ (o : Opened). IsOpened (g.F.Shelf.files c.args.shelf.now) (the_asked c.args.asked) o) c.in-Accepted.is c.in_ok-network.ensures.opened)
 
-pub returns-in-Ok-clause-plan : goal.returns-in-Ok-clause-plan
-returns-in-Ok-clause-plan g c =
-    one_said (edit (the_asked c.args.asked) c.args.cap) (the_asked c.args.asked) (edited c.args.cap) (g.F.Shelf.files c.args.shelf.now) c.in-Ok-Accepted.network c.in-Ok-Accepted.names
-    (session edit_turn edit_ending [] (the_editing c.in-Ok.editing)) (of_edit (the_asked c.args.asked) c.args.cap)
-    (subst (λ (o : Opened). IsOpened (g.F.Shelf.files c.args.shelf.now) (the_asked c.args.asked) o) c.in-Ok-Accepted.field-0-is c.in-Ok-Accepted.ensures.opened)
-    (ap (session edit_turn edit_ending []) c.in-Ok.ensures.start)
+pub returns-in_ok-editing-in-Accepted-clause-plan : goal.returns-in_ok-editing-in-Accepted-clause-plan
+returns-in_ok-editing-in-Accepted-clause-plan g c =
+    one_said (edit (the_asked c.args.asked) c.args.cap) (the_asked c.args.asked) (edited c.args.cap) (g.F.Shelf.files c.args.shelf.now) c.in-Accepted.network c.in-Accepted.names
+    (session edit_turn edit_ending [] (the_editing c.in_ok-editing-in-Accepted.editing)) (of_edit (the_asked c.args.asked) c.args.cap)
+    (subst (λ (o : Opened). IsOpened (g.F.Shelf.files c.args.shelf.now) (the_asked c.args.asked) o) c.in-Accepted.is c.in_ok-network.ensures.opened)
+    (ap (session edit_turn edit_ending []) c.in_ok-editing-in-Accepted.ensures.start)
 
-pub returns-in-Ok-Told-clause-plan : goal.returns-in-Ok-Told-clause-plan
-returns-in-Ok-Told-clause-plan g c =
-    one_told (edit (the_asked c.args.asked) c.args.cap) (the_asked c.args.asked) (edited c.args.cap) (g.F.Shelf.files c.args.shelf.now) c.in-Ok-Told.said (of_edit (the_asked c.args.asked) c.args.cap)
-    (subst (λ (o : Opened). IsOpened (g.F.Shelf.files c.args.shelf.now) (the_asked c.args.asked) o) c.in-Ok-Told.field-0-is c.in-Ok-Told.ensures.opened)
+pub returns-in-Told-clause-plan : goal.returns-in-Told-clause-plan
+returns-in-Told-clause-plan g c =
+    one_told (edit (the_asked c.args.asked) c.args.cap) (the_asked c.args.asked) (edited c.args.cap) (g.F.Shelf.files c.args.shelf.now) c.in-Told.said (of_edit (the_asked c.args.asked) c.args.cap)
+    (subst (λ (o : Opened). IsOpened (g.F.Shelf.files c.args.shelf.now) (the_asked c.args.asked) o) c.in-Told.is c.in_ok-network.ensures.opened)

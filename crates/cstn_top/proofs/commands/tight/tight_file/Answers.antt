@@ -1,4 +1,5 @@
-use Rattle.std.proofs.Common.{subst}
+use Rattle.std.proofs.Common.{ℕ, subst}
+use Rattle.std.specs.Prelude.{Ok}
 use Rattle.cstn_words.specs.Requests.{tight}
 use Rattle.cstn_words.specs.Read.{the_asked}
 use Rattle.cstn_verdict.specs.Documents.{of_lowered}
@@ -8,14 +9,14 @@ use Rattle.cstn_evidence.specs.Tight.{tightened}
 use Rattle.cstn_top.proofs.Opening.{lowered_accepted, labelled_told, of_tight}
 use Rattle.cstn_top.proofs.commands.tight.tight_file.Goals as goal
 
-pub returns-in-Ok-Accepted-clause-plan : goal.returns-in-Ok-Accepted-clause-plan
-returns-in-Ok-Accepted-clause-plan g c =
-    lowered_accepted (tight (the_asked c.args.asked) c.args.cap) (the_asked c.args.asked) (tightened c.args.cap) (g.F.Shelf.files c.args.shelf.now) c.in-Ok-Accepted.labelled c.split-network.result.0 c.in-Ok-Accepted.names
-    c.tighten.result (of_tight (the_asked c.args.asked) c.args.cap)
-    (subst (λ (o : WithLabels). IsOpenedWithLabels (g.F.Shelf.files c.args.shelf.now) (the_asked c.args.asked) o) c.in-Ok-Accepted.field-0-is c.in-Ok-Accepted.ensures.opened)
-    c.split-network.ensures.lowered c.tighten.ensures.said
+pub returns-in_ok-tighten-in-Accepted-clause-plan : goal.returns-in_ok-tighten-in-Accepted-clause-plan
+returns-in_ok-tighten-in-Accepted-clause-plan g c =
+    lowered_accepted {E = ℕ} (tight (the_asked c.args.asked) c.args.cap) (the_asked c.args.asked) (tightened c.args.cap) (g.F.Shelf.files c.args.shelf.now) c.in-Accepted.labelled c.split-network.result.0 c.in-Accepted.names
+    (Ok c.in_ok-tighten-in-Accepted.field-0) (of_tight (the_asked c.args.asked) c.args.cap)
+    (subst (λ (o : WithLabels). IsOpenedWithLabels (g.F.Shelf.files c.args.shelf.now) (the_asked c.args.asked) o) c.in-Accepted.is c.in_ok-labelled.ensures.opened)
+    c.split-network.ensures.lowered c.in_ok-tighten-in-Accepted.ensures.said
 
-pub returns-in-Ok-Told-clause-plan : goal.returns-in-Ok-Told-clause-plan
-returns-in-Ok-Told-clause-plan g c =
-    labelled_told (tight (the_asked c.args.asked) c.args.cap) (the_asked c.args.asked) (of_lowered (tightened c.args.cap)) (g.F.Shelf.files c.args.shelf.now) c.in-Ok-Told.said (of_tight (the_asked c.args.asked) c.args.cap)
-    (subst (λ (o : WithLabels). IsOpenedWithLabels (g.F.Shelf.files c.args.shelf.now) (the_asked c.args.asked) o) c.in-Ok-Told.field-0-is c.in-Ok-Told.ensures.opened)
+pub returns-in-Told-clause-plan : goal.returns-in-Told-clause-plan
+returns-in-Told-clause-plan g c =
+    labelled_told (tight (the_asked c.args.asked) c.args.cap) (the_asked c.args.asked) (of_lowered (tightened c.args.cap)) (g.F.Shelf.files c.args.shelf.now) c.in-Told.said (of_tight (the_asked c.args.asked) c.args.cap)
+    (subst (λ (o : WithLabels). IsOpenedWithLabels (g.F.Shelf.files c.args.shelf.now) (the_asked c.args.asked) o) c.in-Told.is c.in_ok-labelled.ensures.opened)

@@ -1,0 +1,14 @@
+use Rattle.cstn_top.proofs.OneOutput.{OneJudgement, one_output}
+use Rattle.cstn_top.proofs.SomeOutput.{TreesMade, some_output}
+use Rattle.cstn_top.proofs.laws.outputs_are_one.Goals as goal
+
+pub returns : goal.returns
+returns c =
+    let answer = c.documents_have_one_answer.ensures in
+    let trees = c.made_trees_are_good.ensures in
+    let judgement : OneJudgement = record { fit = answer.fit; labelled = answer.labelled; either = answer.either; unfit = answer.unfit; mislabelled = answer.mislabelled } in
+    let made : TreesMade = record { some = c.networks_have_one_tree.ensures.some; good = trees.good; least = trees.least; written = trees.written; back = c.tree_texts_are_read_back.ensures.back } in
+    record {
+      one = one_output judgement c.closed_lists_are_accepted.ensures.one c.networks_have_one_tree.ensures.one;
+      some = some_output answer.made made c.texts_are_read_back.ensures.ranges c.closed_texts_are_read_back.ensures.ranges;
+    }

@@ -1,0 +1,18 @@
+use Rattle.cstn_reply.specs.Plans.{LiveState}
+use Rattle.cstn_reply.specs.Read.{the_said}
+use Rattle.cstn_talk.specs.Guiding.{guided_turn, guided_ending}
+use Rattle.cstn_top.specs.declared.commands.Prepared.TheVariants.{Says, Runs}
+use Rattle.cstn_top.specs.Told.{view}
+use Rattle.cstn_top.proofs.Endings.{text_end, opened_ends, ends_as}
+use Rattle.cstn_top.proofs.top.speak.Goals as goal
+
+pub returns-in-Says-clause-ends : goal.returns-in-Says-clause-ends
+returns-in-Says-clause-ends g c =
+    let seen : LiveState = view g.S.Source.left g.S.Source.faults c.args.live.now in
+    ends_as _ (Says c.in-Says.said) seen seen _ _ _ c.in-Says.is
+    (text_end (the_said c.in-Says.said) c.deref.result.now seen _ _ c.status.result _ c.deref.ensures.value c.status.ensures.status c.finish.ensures.written)
+
+pub returns-in-Runs-clause-ends : goal.returns-in-Runs-clause-ends
+returns-in-Runs-clause-ends g c =
+    ends_as _ (Runs c.in-Runs.opening c.in-Runs.guiding) _ _ _ _ _ c.in-Runs.is
+    (opened_ends guided_turn guided_ending c.in-Runs.guiding _ _ _ _ _ _ _ c.deref-in-Runs.ensures.value c.converse.ensures.ends)

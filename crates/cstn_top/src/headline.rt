@@ -1,0 +1,23 @@
+// The headline, as one law. The call does nothing: its contract is the law.
+ghost use Rattle.std.specs.Prelude.{◌≡◌, ◌⊎◌, ◌≤◌, ◌<◌, ℕ, List};
+ghost use Rattle.cstn_lines.specs.Pieces.{lines_of};
+ghost use Rattle.cstn_reply.specs.declared.status.Status.TheVariants.{Good, Bad, Full};
+ghost use Rattle.cstn_top.specs.Lines.{AnswersLeast, run_bounds};
+ghost use Rattle.cstn_top.specs.Headline.{Document, network, printed_names, HasStrategy, load, edited, Checked, Ran, Replayed, Edited, Decides, IsEditedVerdict, IsExecutedOver};
+
+/// For every labelled network of a document, `check` ends with Good exactly where a dynamic strategy exists and with Bad exactly
+/// where none does, or with Full, where the log of the lowered network has more entries than the cap. After yes, over any lines,
+/// each moment that `run` accepts is answered with exactly the time-points whose label holds and whose least moment it is in any
+/// dynamic strategy; and where a run ends with Good, each time-point whose label holds was executed at its least moment, and
+/// every constraint whose label holds is met, in every scenario that agrees with the outcomes that were handed in. After no the
+/// written derivation passes `replay`, whose Good implies that no strategy exists. After any edit lines, none of which is off the
+/// grammar, the verdict of the last check is that of the network as edited by the lines before it, or Full, where its log has more
+/// entries than the cap.
+pub fn the_headline()
+    ensures check { (d : Document) (cap : ℕ) (c : Checked d cap) → ((c.status ≡ Full) × (cap < load d)) ⊎ (Decides c.status (HasStrategy d) × (load d ≤ cap)) }
+    ensures least { (d : Document) (cap : ℕ) → Ran d cap → HasStrategy d → load d ≤ cap → AnswersLeast (printed_names d) (network d) (run_bounds (network d)) }
+    ensures executed { (d : Document) (cap : ℕ) (c : Ran d cap) → c.status ≡ Good → IsExecutedOver (printed_names d) (network d) (lines_of c.live) }
+    ensures derivation { (d : Document) (cap : ℕ) (c : Checked d cap) → c.status ≡ Bad → (file : List ℕ) (r : Replayed d file c.text) → r.status ≡ Good }
+    ensures replay { (d : Document) (file text : List ℕ) (r : Replayed d file text) → r.status ≡ Good → HasStrategy d → ⊥ }
+    ensures edits { (d : Document) (cap : ℕ) (edits : List (List ℕ)) (e : Edited d cap edits) → IsEditedVerdict cap (edited d edits) e.call.status }
+{}
