@@ -45,34 +45,80 @@ fn expect_taken(
     drop(taken);
 }
 
-// Taking the file of this name has this answer, however few bytes a call reads.
-fn expect_file(
-    rt: &impl Abort,
-    alloc: Global,
-    name: &str,
+// A name, a limit, and what comes of taking the file.
+struct Case {
+    name: &'static str,
     limit: usize,
-    wanted: Result<&[u8], TakeError>,
-) {
+    wanted: Result<&'static [u8], TakeError>,
+}
+
+const FILES: [Case; 10] = [
+    Case {
+        name: "f",
+        limit: 8_388_608,
+        wanted: Ok(b"12345"),
+    },
+    Case {
+        name: "f",
+        limit: 5,
+        wanted: Ok(b"12345"),
+    },
+    Case {
+        name: "f",
+        limit: 6,
+        wanted: Ok(b"12345"),
+    },
+    Case {
+        name: "f",
+        limit: 4,
+        wanted: Err(TakeError::TooLong),
+    },
+    Case {
+        name: "f",
+        limit: 0,
+        wanted: Err(TakeError::TooLong),
+    },
+    Case {
+        name: "e",
+        limit: 0,
+        wanted: Ok(b""),
+    },
+    Case {
+        name: "d",
+        limit: 140,
+        wanted: Err(TakeError::TooLong),
+    },
+    Case {
+        name: "d",
+        limit: 141,
+        wanted: Ok(&DOCUMENT),
+    },
+    Case {
+        name: "d",
+        limit: 142,
+        wanted: Ok(&DOCUMENT),
+    },
+    Case {
+        name: "g",
+        limit: 5,
+        wanted: Err(TakeError::ReadFault),
+    },
+];
+
+// Taking the file has this answer, however few bytes a call reads.
+fn expect_file(rt: &impl Abort, alloc: Global, case: &Case) {
     for most in [1, 2, 100] {
         let mut shelf = shelf_of(rt, alloc, &[], most);
-        let taken = take_all(alloc, &mut shelf, name, limit);
-        expect_taken(rt, name, taken, wanted);
+        let taken = take_all(alloc, &mut shelf, case.name, case.limit);
+        expect_taken(rt, case.name, taken, case.wanted);
     }
 }
 
 #[test]
 fn files_and_limits(rt: HostRuntime) {
-    let alloc = rt.alloc();
-    expect_file(&rt, alloc, "f", 8_388_608, Ok(b"12345"));
-    expect_file(&rt, alloc, "f", 5, Ok(b"12345"));
-    expect_file(&rt, alloc, "f", 6, Ok(b"12345"));
-    expect_file(&rt, alloc, "f", 4, Err(TakeError::TooLong));
-    expect_file(&rt, alloc, "f", 0, Err(TakeError::TooLong));
-    expect_file(&rt, alloc, "e", 0, Ok(b""));
-    expect_file(&rt, alloc, "d", 140, Err(TakeError::TooLong));
-    expect_file(&rt, alloc, "d", 141, Ok(&DOCUMENT));
-    expect_file(&rt, alloc, "d", 142, Ok(&DOCUMENT));
-    expect_file(&rt, alloc, "g", 5, Err(TakeError::ReadFault));
+    for case in &FILES {
+        expect_file(&rt, rt.alloc(), case);
+    }
 }
 
 // A file that no single read gives whole.
@@ -113,51 +159,20 @@ fn failing_calls_of_a_shelf(rt: HostRuntime) {
     }
 }
 
-// Taking the file of this name of the system has this answer.
-fn expect_real(
-    rt: &impl Abort,
-    alloc: Global,
-    shelf: &mut FileShelf<HostRuntime>,
-    name: &str,
-    limit: usize,
-    wanted: Result<&[u8], TakeError>,
-) {
-    let taken = take_all(alloc, shelf, name, limit);
-    expect_taken(rt, name, taken, wanted);
-}
-
-// A file, and openings and reads that the system refuses: a name that isn't there, one below a file, one with a NUL byte, one
-// that is too long, and a directory, which is opened and then can't be read.
+// A file of the system, and openings and reads that the system refuses: a name with a NUL byte, and a directory, which is
+// opened and then can't be read.
 #[test]
 fn real_files(rt: HostRuntime) {
     let alloc = rt.alloc();
     std::fs::write(&rt, "five.txt", "12345").expect(&rt, "a file");
     std::fs::create_dir(&rt, "folder").expect(&rt, "a folder");
-    let long = [b'n'; 300];
-    let long = str::from_utf8(&long).expect(&rt, "a text");
     let mut shelf = FileShelf::new(rt.clone().expect(&rt, "a runtime"));
-    let shelf = &mut shelf;
-    expect_real(&rt, alloc, shelf, "five.txt", 5, Ok(b"12345"));
-    expect_real(&rt, alloc, shelf, "five.txt", 4, Err(TakeError::TooLong));
-    expect_real(&rt, alloc, shelf, "six.txt", 9, Err(TakeError::ReadFault));
-    expect_real(
-        &rt,
-        alloc,
-        shelf,
-        "five.txt/x",
-        9,
-        Err(TakeError::ReadFault),
-    );
-    expect_real(
-        &rt,
-        alloc,
-        shelf,
-        "five.txt\0",
-        9,
-        Err(TakeError::ReadFault),
-    );
-    expect_real(&rt, alloc, shelf, long, 9, Err(TakeError::ReadFault));
-    expect_real(&rt, alloc, shelf, "folder", 9, Err(TakeError::ReadFault));
+    let taken = take_all(alloc, &mut shelf, "five.txt", 5);
+    expect_taken(&rt, "five.txt", taken, Ok(b"12345"));
+    for name in ["five.txt\0", "folder"] {
+        let taken = take_all(alloc, &mut shelf, name, 9);
+        expect_taken(&rt, name, taken, Err(TakeError::ReadFault));
+    }
 }
 
 fn expect_put(rt: &impl Abort, sink: &mut impl Sink, bytes: &[u8], wanted: Result<(), Failed>) {

@@ -1,9 +1,9 @@
-//! The lines of a live source, and what they say.
+//! The lines of a source, and a line that edits.
 ghost use Rattle.std.specs.Prelude.{◌<◌};
 
 use cstn_io::MemorySource;
 use cstn_label::{Label, Mark, Prop};
-use cstn_lines::{EditLine, HostLine, Lines, LiveLine, Next, read_edit, read_host, read_live};
+use cstn_lines::{EditLine, Lines, Next, read_edit};
 use std::alloc::Global;
 use std::process::Abort;
 
@@ -65,25 +65,9 @@ fn expect_three(rt: &impl Abort, alloc: Global, most: usize)
 
 #[test]
 fn lines_in_any_pieces(rt: HostRuntime) {
-    let alloc = rt.alloc();
-    expect_three(&rt, alloc, 1);
-    expect_three(&rt, alloc, 3);
-    expect_three(&rt, alloc, 100);
-}
-
-#[test]
-fn no_line(rt: HostRuntime) {
-    let alloc = rt.alloc();
-    expect_end(&rt, started(&rt, alloc), source_of(&rt, alloc, b"", &[], 9));
-}
-
-#[test]
-fn empty_line(rt: HostRuntime) {
-    let alloc = rt.alloc();
-    let mut source = source_of(&rt, alloc, b"\n", &[], 9);
-    let mut lines = started(&rt, alloc);
-    expect_line(&rt, &mut lines, &mut source, 1, b"");
-    expect_end(&rt, lines, source);
+    for most in [1, 3, 100] {
+        expect_three(&rt, rt.alloc(), most);
+    }
 }
 
 const LONGEST: [u8; 4096] = [b'x'; 4096];
@@ -123,54 +107,6 @@ fn fault_in_a_line(rt: HostRuntime) {
     drop(source);
 }
 
-const LOWER_P: Prop = Prop { index: 41 };
-
-const UPPER_Z: Prop = Prop { index: 25 };
-
-const LAST_MOMENT: LiveLine = LiveLine::Moment { t: 4_294_967_295 };
-
-const NOT_P: LiveLine = LiveLine::See {
-    prop: LOWER_P,
-    value: false,
-};
-
-const Z: LiveLine = LiveLine::See {
-    prop: UPPER_Z,
-    value: true,
-};
-
-// These bytes are this live line, or none.
-fn expect_live(rt: &impl Abort, bytes: &[u8], line: Option<LiveLine>) {
-    assert!(rt; read_live(bytes) == line);
-}
-
-#[test]
-fn live_lines(rt: HostRuntime) {
-    expect_live(&rt, b"due", Some(LiveLine::Due));
-    expect_live(&rt, b"moment 4294967295", Some(LAST_MOMENT));
-    expect_live(&rt, b"see p false", Some(NOT_P));
-    expect_live(&rt, b"see Z true", Some(Z));
-}
-
-#[test]
-fn no_live_lines(rt: HostRuntime) {
-    for bytes in [
-        b"" as &[u8],
-        b"moment",
-        b"moment -1",
-        b"moment +5",
-        b"moment 00",
-        b"moment 4294967296",
-        b"moment 1 ",
-        b"see pp true",
-        b"see p yes",
-        b" due",
-        b"due\r",
-    ] {
-        expect_live(&rt, bytes, None);
-    }
-}
-
 // The bytes add a constraint between these names, with this value and label.
 fn expect_added(
     rt: &impl Abort,
@@ -198,91 +134,23 @@ fn expect_added(
     drop(from);
 }
 
-fn expect_removed(rt: &impl Abort, alloc: Global, bytes: &[u8], wanted: u32) {
-    let line = read_edit(alloc, bytes).expect(rt, "memory");
-    assert!(rt; matches!(&line, Some(EditLine::Remove { id }) if *id == wanted));
-    drop(line);
-}
-
-fn expect_changed(rt: &impl Abort, alloc: Global, bytes: &[u8], wanted: u32, value: i32) {
-    let line = read_edit(alloc, bytes).expect(rt, "memory");
-    assert!(rt;
-        matches!(&line, Some(EditLine::Change { id, most }) if *id == wanted && *most == value)
+// Names of 64 bytes, in as many bytes as they may take in a line.
+#[test]
+fn an_edit_line_with_the_longest_names(rt: HostRuntime) {
+    let alloc = rt.alloc();
+    let from = "%".repeat(alloc, 64).expect(&rt, "memory");
+    let printed = "%25".repeat(alloc, 64).expect(&rt, "memory");
+    let line = format!(in alloc; "add {printed} Z -3 ?p").expect(&rt, "memory");
+    let unknown = Label::empty().with(Prop { index: 41 }, Mark::Unknown);
+    expect_added(
+        &rt,
+        alloc,
+        line.as_bytes(),
+        [from.as_str(), "Z"],
+        -3,
+        unknown,
     );
     drop(line);
-}
-
-fn expect_check(rt: &impl Abort, alloc: Global, bytes: &[u8]) {
-    let line = read_edit(alloc, bytes).expect(rt, "memory");
-    assert!(rt; matches!(&line, Some(EditLine::Check)));
-    drop(line);
-}
-
-fn expect_no_edit(rt: &impl Abort, alloc: Global, bytes: &[u8]) {
-    let line = read_edit(alloc, bytes).expect(rt, "memory");
-    assert!(rt; line.is_none());
-    drop(line);
-}
-
-#[test]
-fn edit_lines(rt: HostRuntime) {
-    let alloc = rt.alloc();
-    let plain = Label::empty();
-    let unknown = plain.with(LOWER_P, Mark::Unknown);
-    let not_p = plain.with(LOWER_P, Mark::No);
-    expect_added(&rt, alloc, b"add P Z -3 -", ["P", "Z"], -3, plain);
-    expect_added(&rt, alloc, b"add P Z -3 ?p", ["P", "Z"], -3, unknown);
-    expect_added(&rt, alloc, b"add a%20b Z 0 !p", ["a b", "Z"], 0, not_p);
-    expect_removed(&rt, alloc, b"remove 3", 3);
-    expect_changed(&rt, alloc, b"change 2 -3", 2, -3);
-    expect_check(&rt, alloc, b"check");
-}
-
-#[test]
-fn no_edit_lines(rt: HostRuntime) {
-    for bytes in [
-        b"add P Z -0 -" as &[u8],
-        b"add P Z -3",
-        b"add P Z -2147483649 -",
-        b"add %41 Z -3 -",
-        b"add P Z +5 -",
-        b"remove 4294967296",
-        b"check ",
-    ] {
-        expect_no_edit(&rt, rt.alloc(), bytes);
-    }
-}
-
-// These bytes are this host line, or none.
-fn expect_host(rt: &impl Abort, bytes: &[u8], line: Option<HostLine>) {
-    assert!(rt; read_host(bytes) == line);
-}
-
-fn expect_on(rt: &impl Abort, bytes: &[u8], id: u32, line: LiveLine) {
-    expect_host(rt, bytes, Some(HostLine::On { id, line }));
-}
-
-#[test]
-fn host_lines(rt: HostRuntime) {
-    expect_host(&rt, b"open 0 0", Some(HostLine::Open { id: 0, file: 0 }));
-    expect_on(&rt, b"on 7 moment 0", 7, LiveLine::Moment { t: 0 });
-    expect_on(&rt, b"on 0 see p false", 0, NOT_P);
-    expect_on(&rt, b"on 7 due", 7, LiveLine::Due);
-    expect_host(&rt, b"close 7", Some(HostLine::Close { id: 7 }));
-}
-
-#[test]
-fn no_host_lines(rt: HostRuntime) {
-    for bytes in [
-        b"on 0 check" as &[u8],
-        b"on 3 open 1 1",
-        b"on 0 on 0 due",
-        b"open 0",
-        b"open 0 4294967296",
-        b"open 00 0",
-        b"close 7 ",
-        b"due",
-    ] {
-        expect_host(&rt, bytes, None);
-    }
+    drop(printed);
+    drop(from);
 }

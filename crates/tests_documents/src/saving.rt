@@ -1,4 +1,4 @@
-//! Canonical documents: what is written of a network that was read.
+//! The canonical document of a network that lost a constraint.
 
 use crate::fixtures::accepted;
 use cstn_label::{Label, Mark, NodeId, Prop};
@@ -15,63 +15,6 @@ fn saved(rt: &impl Abort, alloc: Global, net: &Labelled, names: &Names) -> Vec<u
     assert!(rt; names.count() > 0);
     assert!(rt; names.name(NodeId(0)) == "Z");
     write(alloc, net, names).expect(rt, "memory")
-}
-
-// The canonical document of what the text says is this one.
-fn expect_saved(rt: &impl Abort, alloc: Global, text: &str, deadline: Option<u32>, wanted: &str) {
-    let (net, names) = accepted(rt, alloc, text, deadline);
-    let found = saved(rt, alloc, &net, &names);
-    assert!(rt; found.as_slice() == wanted.as_bytes(), "{wanted}");
-    drop(found);
-    drop(names);
-    drop(net);
-}
-
-const BRANCH: &str = "<?xml version=\"1.0\" encoding=\"UTF-8\"?>
-<graphml>
-<graph edgedefault=\"directed\">
-<data key=\"Deadline\">10</data>
-<node id=\"Z\"/>
-<node id=\"P\"><data key=\"Obs\">p</data></node>
-<node id=\"X\"/>
-<edge source=\"X\" target=\"Z\"><data key=\"Type\">requirement</data><data key=\"LabeledValues\">{(-10, p)}</data></edge>
-<edge source=\"Z\" target=\"X\"><data key=\"Type\">requirement</data><data key=\"LabeledValues\">{(3, ¬p)}</data></edge>
-</graph>
-</graphml>
-";
-
-// The network of `BRANCH` in another document, without its deadline.
-const COMPACT: &str = concat!(
-    "<graphml><graph><node id=\"Z\"/><node id=\"P\"><data key=\"Obs\"> p</data></node><node id=\"X\"/>",
-    "<edge source=\"X\" target=\"Z\"><data key=\"LabeledValues\">{(p, -10)}</data></edge>",
-    "<edge source=\"Z\" target=\"X\"><data key=\"LabeledValues\">{( 3 , ! p )}</data></edge></graph></graphml>",
-);
-
-#[test]
-fn the_branch_network(rt: HostRuntime) {
-    assert!(rt; BRANCH.len() == 434);
-    expect_saved(&rt, rt.alloc(), COMPACT, Some(10), BRANCH);
-}
-
-const ESCAPED: &str = "<?xml version=\"1.0\" encoding=\"UTF-8\"?>
-<graphml>
-<graph edgedefault=\"directed\">
-<data key=\"Deadline\">0</data>
-<node id=\"Z\"/>
-<node id=\"a&amp;&lt;&gt;&quot;'&#10;&#9;&#127;\0é\"/>
-<edge source=\"Z\" target=\"a&amp;&lt;&gt;&quot;'&#10;&#9;&#127;\0é\"><data key=\"Type\">requirement</data><data key=\"LabeledValues\">{(-5, ⊡)}</data></edge>
-</graph>
-</graphml>
-";
-
-#[test]
-fn names_are_escaped(rt: HostRuntime) {
-    let alloc = rt.alloc();
-    let (net, names) = accepted(&rt, alloc, ESCAPED, None);
-    assert!(rt; names.find("a&<>\"'\n\t\u{7F}\0é") == Some(1));
-    drop(names);
-    drop(net);
-    expect_saved(&rt, alloc, ESCAPED, None, ESCAPED);
 }
 
 const THREE: &str = concat!(
@@ -128,59 +71,7 @@ const TREATED: &str = concat!(
 
 #[test]
 fn ids_are_closed_up(rt: HostRuntime) {
-    expect_closed_up(&rt, rt.alloc(), THREE, Label::empty());
-}
-
-#[test]
-fn ids_are_closed_up_under_labels(rt: HostRuntime) {
     let p = Label::empty().with(Prop { index: 41 }, Mark::Yes);
+    expect_closed_up(&rt, rt.alloc(), THREE, Label::empty());
     expect_closed_up(&rt, rt.alloc(), TREATED, p);
-}
-
-const REACTING: &str = "<?xml version=\"1.0\" encoding=\"UTF-8\"?>
-<graphml>
-<graph edgedefault=\"directed\">
-<data key=\"Deadline\">1000000</data>
-<node id=\"Z\"><data key=\"Obs\">z</data></node>
-<node id=\"P\"><data key=\"Obs\">b</data><data key=\"Reaction\">3</data></node>
-<node id=\"X\"><data key=\"Obs\">A</data><data key=\"Reaction\">1000</data></node>
-<edge source=\"Z\" target=\"X\"><data key=\"Type\">requirement</data><data key=\"LabeledValues\">{(0, A¬bz)}</data></edge>
-</graph>
-</graphml>
-";
-
-fn expect_reaction(rt: &impl Abort, net: &Network, letter: u8, ticks: u32) {
-    let prop = Prop::from_letter(letter).expect(rt, "a letter");
-    assert!(rt; net.reaction(prop) == ticks);
-}
-
-#[test]
-fn reactions_are_written_and_read_back(rt: HostRuntime) {
-    let alloc = rt.alloc();
-    let (net, names) = accepted(&rt, alloc, REACTING, None);
-    expect_reaction(&rt, net.base(), b'z', 1);
-    expect_reaction(&rt, net.base(), b'b', 3);
-    expect_reaction(&rt, net.base(), b'A', 1000);
-    drop(names);
-    drop(net);
-    expect_saved(&rt, alloc, REACTING, None, REACTING);
-}
-
-const LABELLED: &str = "<?xml version=\"1.0\" encoding=\"UTF-8\"?>
-<graphml>
-<graph edgedefault=\"directed\">
-<data key=\"Deadline\">10</data>
-<node id=\"Z\"/>
-<node id=\"P\"><data key=\"Obs\">p</data></node>
-<node id=\"Q\"><data key=\"Obs\">q</data><data key=\"Reaction\">3</data><data key=\"Label\">p</data></node>
-<node id=\"R\"><data key=\"Obs\">r</data><data key=\"Label\">¬p</data></node>
-<node id=\"X\"><data key=\"Label\">pq</data></node>
-<edge source=\"X\" target=\"Z\"><data key=\"Type\">requirement</data><data key=\"LabeledValues\">{(-5, ⊡)}</data></edge>
-</graph>
-</graphml>
-";
-
-#[test]
-fn labels_are_written_and_read_back(rt: HostRuntime) {
-    expect_saved(&rt, rt.alloc(), LABELLED, None, LABELLED);
 }

@@ -1,6 +1,6 @@
 // Lists of bounds.
 use crate::fixtures::{bound, branch, names, origin, p, plan, q, unconstrained};
-use cstn_closed::{Closed, ClosedAnswer, adopt, check};
+use cstn_closed::{Closed, ClosedAnswer, Indexed, adopt, check};
 use cstn_label::{Bound, Label, Mark, NodeId};
 use cstn_net::Network;
 use std::alloc::{AllocError, Global};
@@ -18,18 +18,18 @@ fn read(rt: &impl Abort, alloc: Global, text: &str) -> Closed {
     closed
 }
 
-#[test]
-fn texts_are_read_printed_and_checked(rt: HostRuntime) {
-    let net = branch(&rt, rt.alloc());
-    let closed = read(&rt, rt.alloc(), BOUNDS);
-    assert_eq!(rt; check(&net, &closed), ClosedAnswer::Accepted);
+// The list, made ready for its check.
+fn index(rt: &impl Abort, alloc: Global, closed: Closed) -> Indexed {
+    Indexed::of(alloc, closed).expect(rt, "memory")
 }
 
 #[test]
-fn dominated_bounds_are_covered(rt: HostRuntime) {
-    let closed = read(&rt, rt.alloc(), BOUNDS);
-    assert!(rt; closed.covers(&bound(2, 1, p(Mark::No))));
-    assert!(rt; !closed.covers(&bound(2, 2, p(Mark::No))));
+fn lists_are_read_and_adopted(rt: HostRuntime) {
+    let net = branch(&rt, rt.alloc());
+    let indexed = index(&rt, rt.alloc(), read(&rt, rt.alloc(), BOUNDS));
+    assert!(rt; indexed.covers(&bound(2, 1, p(Mark::No))));
+    assert!(rt; !indexed.covers(&bound(2, 2, p(Mark::No))));
+    assert_eq!(rt; adopted(net, indexed), Some(4));
 }
 
 // The answer to the list of these bounds, with the load 5.
@@ -41,16 +41,8 @@ fn answers(
     answer: ClosedAnswer,
 ) {
     assert!(rt; bounds.len() < 10_000);
-    let closed = Closed::new(alloc, 5, bounds).expect(rt, "memory");
-    assert_eq!(rt; check(net, &closed), answer);
-}
-
-#[test]
-fn empty_lists_are_answered(rt: HostRuntime) {
-    let alloc = rt.alloc();
-    let net = branch(&rt, alloc);
-    let no_base = ClosedAnswer::NoBase { node: NodeId(0) };
-    answers(&rt, alloc, &net, Vec::new(alloc), no_base);
+    let indexed = index(rt, alloc, Closed::new(5, bounds));
+    assert_eq!(rt; check(net, &indexed), answer);
 }
 
 // Bounds for Z and P at 0 or later, for X at `from` or later, for X at each of the moments 1 to 5,000 or later where p is true,
@@ -81,8 +73,11 @@ fn answers_five_thousand(
 }
 
 #[test]
-fn lists_of_five_thousand_are_answered(rt: HostRuntime) {
+fn lists_of_none_and_of_five_thousand_are_answered(rt: HostRuntime) {
     let alloc = rt.alloc();
+    let no_base = ClosedAnswer::NoBase { node: NodeId(0) };
+    let net = branch(&rt, alloc);
+    answers(&rt, alloc, &net, Vec::new(alloc), no_base);
     let unknown = p(Mark::Unknown);
     answers_five_thousand(&rt, alloc, 1, unknown, ClosedAnswer::Accepted);
     let no_wait = ClosedAnswer::NoWait { seen: 1, at: 3 };
@@ -92,18 +87,11 @@ fn lists_of_five_thousand_are_answered(rt: HostRuntime) {
 }
 
 // The number of bounds of the plan that adopts the list, if the list is accepted.
-fn adopted(net: Network, closed: Closed) -> Option<u32> {
-    match check(&net, &closed) {
-        ClosedAnswer::Accepted => Some(adopt(net, closed).count()),
+fn adopted(net: Network, indexed: Indexed) -> Option<u32> {
+    match check(&net, &indexed) {
+        ClosedAnswer::Accepted => Some(adopt(net, indexed.into_closed()).count()),
         _ => None,
     }
-}
-
-#[test]
-fn lists_are_adopted(rt: HostRuntime) {
-    let net = branch(&rt, rt.alloc());
-    let closed = read(&rt, rt.alloc(), BOUNDS);
-    assert_eq!(rt; adopted(net, closed), Some(4));
 }
 
 #[test]

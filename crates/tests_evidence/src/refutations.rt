@@ -4,21 +4,14 @@ use cstn_refute::Refutation;
 use std::alloc::{AllocError, Global};
 use std::process::Abort;
 
+const TEXT: &str = "no 7\n0 base Z 0 -\n1 chain 0 0 X%20Y 10 p\n2 wait 9 1 X%20Y 4 ?p!q\n";
+
 // The text is read, and what was read is printed as the other text.
 fn printed(rt: &impl Abort, alloc: Global, text: &str, expected: &str) {
     let names = names(rt, alloc, &["Z", "P", "X Y"]);
     let r = Refutation::read(alloc, &names, text.as_bytes()).expect(rt, text);
     let found = r.print(alloc, &names).expect(rt, "memory");
     assert_eq!(rt; found.as_str(), expected);
-}
-
-#[test]
-fn texts_are_read_and_printed(rt: HostRuntime) {
-    let alloc = rt.alloc();
-    let text = "no 7\n0 base Z 0 -\n1 chain 0 0 X%20Y 10 p\n2 wait 9 1 X%20Y 4 ?p!q\n";
-    printed(&rt, alloc, text, text);
-    let other_order = "no 1\n0 base P 0 q!p\n";
-    printed(&rt, alloc, other_order, "no 1\n0 base P 0 !pq\n");
 }
 
 fn two_thousand_steps(alloc: Global) -> Result<String, AllocError> {
@@ -31,8 +24,15 @@ fn two_thousand_steps(alloc: Global) -> Result<String, AllocError> {
 }
 
 #[test]
-fn thousands_of_steps_are_read_and_printed(rt: HostRuntime) {
+fn texts_are_read_and_printed(rt: HostRuntime) {
     let alloc = rt.alloc();
+    printed(&rt, alloc, TEXT, TEXT);
+    printed(
+        &rt,
+        alloc,
+        "no 1\n0 base P 0 q!p\n",
+        "no 1\n0 base P 0 !pq\n",
+    );
     let text = two_thousand_steps(alloc).expect(&rt, "memory");
     printed(&rt, alloc, &text, &text);
 }

@@ -28,26 +28,11 @@ fn answers(rt: &impl Abort, alloc: Global, net: &Network, text: &str, answer: An
 }
 
 #[test]
-fn proofs_are_accepted(rt: HostRuntime) {
-    let net = late(&rt, rt.alloc());
-    answers(&rt, rt.alloc(), &net, PROOF, Answer::Accepted);
-}
-
-#[test]
-fn time_points_past_the_last_are_rejected(rt: HostRuntime) {
-    let net = late(&rt, rt.alloc());
-    answers(
-        &rt,
-        rt.alloc(),
-        &net,
-        BASE_OF_Y,
-        Answer::Rejected { step: 0 },
-    );
-}
-
-#[test]
-fn constraints_are_found_by_id(rt: HostRuntime) {
-    let mut net = late(&rt, rt.alloc());
+fn proofs_are_answered(rt: HostRuntime) {
+    let alloc = rt.alloc();
+    let mut net = late(&rt, alloc);
+    answers(&rt, alloc, &net, PROOF, Answer::Accepted);
+    answers(&rt, alloc, &net, BASE_OF_Y, Answer::Rejected { step: 0 });
     assert!(rt; net.take_out(1).is_some());
-    answers(&rt, rt.alloc(), &net, PROOF, Answer::Rejected { step: 4 });
+    answers(&rt, alloc, &net, PROOF, Answer::Rejected { step: 4 });
 }

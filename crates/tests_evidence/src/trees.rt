@@ -9,7 +9,7 @@ const NAMES: [&str; 3] = ["Z", "P", "X"];
 
 const TREE: &str = "yes 5\nat 0 Z P\nask p\nat 10 X\ndone\nat 1 X\ndone\n";
 
-// The text is read as a tree, whose check for the network `branch` gives this answer.
+// The text is read as a tree that is printed as the same text, and whose check for the network `branch` gives this answer.
 fn checked(rt: &impl Abort, alloc: Global, text: &str, answer: TreeAnswer) {
     let names = names(rt, alloc, &NAMES);
     let net = branch(rt, alloc);
@@ -17,21 +17,8 @@ fn checked(rt: &impl Abort, alloc: Global, text: &str, answer: TreeAnswer) {
     assert!(rt; text.len() < 100_000);
     let tree = read(alloc, &names, text.as_bytes()).expect(rt, text);
     assert_eq!(rt; check(alloc, &net, &tree).expect(rt, "memory"), answer);
-}
-
-// The text is read as a tree that is printed as the same text.
-fn printed(rt: &impl Abort, alloc: Global, text: &str) {
-    let names = names(rt, alloc, &NAMES);
-    assert!(rt; text.len() < 100_000);
-    let tree = read(alloc, &names, text.as_bytes()).expect(rt, text);
     let printed = print(alloc, &tree, 5, &names).expect(rt, "memory");
     assert_eq!(rt; printed.as_str(), text);
-}
-
-#[test]
-fn texts_are_read_checked_and_printed(rt: HostRuntime) {
-    checked(&rt, rt.alloc(), TREE, TreeAnswer::Accepted);
-    printed(&rt, rt.alloc(), TREE);
 }
 
 // The text of a tree that has one branch, with this number of lines.
@@ -48,7 +35,6 @@ fn deep(alloc: Global, lines: u32) -> Result<String, AllocError> {
 fn branches_of_2100_lines_are_read(rt: HostRuntime) {
     let text = deep(rt.alloc(), 2100).expect(&rt, "memory");
     checked(&rt, rt.alloc(), &text, TreeAnswer::Rejected { line: 3 });
-    printed(&rt, rt.alloc(), &text);
 }
 
 fn executive(rt: &impl Abort, alloc: Global) -> Executive {

@@ -1,4 +1,4 @@
-use crate::fixtures::{P, branch, crossed, network, process, same};
+use crate::fixtures::{P, branch, network, same};
 use crate::plans::Step::{Due, Keeps, Names, Refuses, Rejects};
 use crate::plans::{NOTHING, Nodes, Step, is_named, planned};
 use cstn_exec::{ExecError, Executive};
@@ -82,51 +82,5 @@ fn the_branch_is_carried_out(rt: HostRuntime) {
         Refuses(2, ExecError::Done),
     ];
     let mut run = started(&rt, rt.alloc(), branch(&rt, rt.alloc(), 1));
-    play_all(&rt, &mut run, &steps);
-}
-
-#[test]
-fn an_outcome_is_used_after_its_reaction(rt: HostRuntime) {
-    let is_false = [
-        Names(0, Z_AND_NEXT),
-        Keeps(P, false),
-        Names(1, NOTHING),
-        Due(Some(3)),
-        Names(3, X),
-        Due(None),
-    ];
-    let is_true = [Names(0, Z_AND_NEXT), Keeps(P, true), Due(Some(10))];
-    let mut run = started(&rt, rt.alloc(), branch(&rt, rt.alloc(), 3));
-    play_all(&rt, &mut run, &is_false);
-    run.restart();
-    play_all(&rt, &mut run, &is_true);
-}
-
-#[test]
-fn observers_wait_on_each_other(rt: HostRuntime) {
-    let steps = [
-        Names(0, Z),
-        Due(Some(5)),
-        Rejects(P, true, ExecError::NotExecuted { prop: P }),
-        Refuses(6, ExecError::Late { due: 5 }),
-        Names(5, (1, 3)),
-    ];
-    let mut run = started(&rt, rt.alloc(), crossed(&rt, rt.alloc(), 5));
-    play_all(&rt, &mut run, &steps);
-}
-
-#[test]
-fn an_awaited_outcome_goes_before_a_late_moment(rt: HostRuntime) {
-    let steps = [
-        Names(0, Z_AND_NEXT),
-        Due(Some(5)),
-        Names(5, (2, 3)),
-        Refuses(6, ExecError::Awaiting { prop: P }),
-        Keeps(P, false),
-        Due(Some(13)),
-        Names(13, (3, 4)),
-        Names(16, (4, 5)),
-    ];
-    let mut run = started(&rt, rt.alloc(), process(&rt, rt.alloc()));
     play_all(&rt, &mut run, &steps);
 }

@@ -59,6 +59,18 @@ pub fn bound(node: u16, least: i32, text: &str) -> Bound {
     }
 }
 
+/// What a row says of a bound: its time-point, its least value and the text of its label.
+pub struct Asked {
+    pub node: u16,
+    pub least: i32,
+    pub text: &'static str,
+}
+
+/// The bound of a row.
+pub fn bound_of(row: &Asked) -> Bound {
+    bound(row.node, row.least, row.text)
+}
+
 /// A builder with time-points that observe `points` and with constraints, each by its ends, its value and its label.
 pub fn draft(
     rt: &impl Abort,

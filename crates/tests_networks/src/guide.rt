@@ -79,36 +79,6 @@ fn x_is_named_where_p_is_true(rt: HostRuntime) {
 }
 
 #[test]
-fn x_is_left_out_where_p_is_false(rt: HostRuntime) {
-    let steps = [
-        Names(0, Z_AND_P),
-        Keeps(P, false),
-        Due(Some(1)),
-        Refuses(2, ExecError::Late { due: 1 }),
-        Names(1, NOTHING),
-        Due(None),
-    ];
-    play_all(&rt, treatment(&rt, rt.alloc(), 1), &steps);
-}
-
-#[test]
-fn x_is_left_out_after_the_reaction(rt: HostRuntime) {
-    let steps = [
-        Names(0, Z_AND_P),
-        Due(Some(3)),
-        Refuses(4, ExecError::Awaiting { prop: P }),
-        Keeps(P, false),
-        Due(Some(3)),
-        Names(2, NOTHING),
-        Due(Some(3)),
-        Refuses(4, ExecError::Late { due: 3 }),
-        Names(3, NOTHING),
-        Due(None),
-    ];
-    play_all(&rt, treatment(&rt, rt.alloc(), 3), &steps);
-}
-
-#[test]
 fn nothing_waits_for_an_observer_that_is_left_out(rt: HostRuntime) {
     let unseen = ExecError::NotExecuted { prop: Q };
     let steps = [
@@ -124,59 +94,6 @@ fn nothing_waits_for_an_observer_that_is_left_out(rt: HostRuntime) {
         Rejects(Q, true, unseen),
     ];
     play_all(&rt, second_test(&rt, rt.alloc(), 1), &steps);
-}
-
-#[test]
-fn a_denied_outcome_is_not_awaited_after_its_reaction(rt: HostRuntime) {
-    let unseen = ExecError::NotExecuted { prop: Q };
-    let steps = [
-        Names(0, Z_AND_P),
-        Keeps(P, false),
-        Due(Some(1)),
-        Names(1, NOTHING),
-        Rejects(Q, true, unseen),
-        Due(Some(5)),
-        Names(3, NOTHING),
-        Names(4, NOTHING),
-        Names(5, (3, 4)),
-        Due(None),
-    ];
-    play_all(&rt, second_test(&rt, rt.alloc(), 3), &steps);
-}
-
-#[test]
-fn a_named_observer_is_waited_for(rt: HostRuntime) {
-    let known = ExecError::Known {
-        prop: Q,
-        value: true,
-    };
-    let steps = [
-        Names(0, Z_AND_P),
-        Keeps(P, true),
-        Names(1, (2, 3)),
-        Refuses(2, ExecError::Awaiting { prop: Q }),
-        Keeps(Q, true),
-        Rejects(Q, false, known),
-        Names(5, (3, 4)),
-    ];
-    play_all(&rt, second_test(&rt, rt.alloc(), 1), &steps);
-}
-
-#[test]
-fn a_named_observer_is_awaited_after_its_reaction(rt: HostRuntime) {
-    let steps = [
-        Names(0, Z_AND_P),
-        Keeps(P, true),
-        Due(Some(1)),
-        Names(1, (2, 3)),
-        Due(Some(4)),
-        Names(3, NOTHING),
-        Refuses(4, ExecError::Awaiting { prop: Q }),
-        Keeps(Q, true),
-        Due(Some(5)),
-        Names(5, (3, 4)),
-    ];
-    play_all(&rt, second_test(&rt, rt.alloc(), 3), &steps);
 }
 
 // As many time-points as there may be: the origin, one that observes p, and others with the label p.

@@ -1,117 +1,280 @@
-use crate::fixtures::{P, Q, bound, label, same};
-use cstn_label::{Bound, Known, Mark, NodeId, Prop, Scenario};
+use crate::fixtures::{Asked, P, Q, bound_of, label, same};
+use cstn_label::{Known, Label, Mark, NodeId, Prop, Scenario};
 use std::process::Abort;
 
 const Z: Prop = Prop { index: 51 };
 
 const NONE_TRUE: Scenario = Scenario { bits: 0 };
 
-fn joins(rt: &impl Abort, one: &str, other: &str, both: &str) {
-    same(rt, (one, other), label(one).join(label(other)), label(both));
+// Two labels, and the label that both make.
+const JOINS: [[&str; 3]; 6] = [
+    ["-", "p", "p"],
+    ["p", "p", "p"],
+    ["p", "!p", "?p"],
+    ["?p", "p", "?p"],
+    ["p", "q", "pq"],
+    ["z", "!z", "?z"],
+];
+
+fn joins(rt: &impl Abort, row: &[&str; 3]) {
+    same(rt, row[0], label(row[0]).join(label(row[1])), label(row[2]));
 }
 
 #[test]
 fn labels_are_joined_mark_by_mark(rt: HostRuntime) {
-    joins(&rt, "-", "p", "p");
-    joins(&rt, "p", "p", "p");
-    joins(&rt, "p", "!p", "?p");
-    joins(&rt, "?p", "p", "?p");
-    joins(&rt, "p", "q", "pq");
-    joins(&rt, "z", "!z", "?z");
-}
-
-fn marks(rt: &impl Abort, text: &str, p: Prop, mark: Mark) {
-    same(rt, (text, p), label(text).mark(p), mark);
-}
-
-fn is_without(rt: &impl Abort, text: &str, p: Prop, rest: &str) {
-    same(rt, (text, p), label(text).without(p), label(rest));
-}
-
-fn is_plain(rt: &impl Abort, text: &str, is_plain: bool) {
-    same(rt, text, label(text).is_plain(), is_plain);
+    for row in &JOINS {
+        joins(&rt, row);
+    }
 }
 
 #[test]
 fn marks_are_read_and_taken_off(rt: HostRuntime) {
-    marks(&rt, "pq", P, Mark::Yes);
-    marks(&rt, "pq", Q, Mark::Yes);
-    marks(&rt, "z", Z, Mark::Yes);
-    is_without(&rt, "pq", Q, "p");
-    is_without(&rt, "?z", Z, "-");
-    is_plain(&rt, "pq", true);
-    is_plain(&rt, "?p", false);
-    is_plain(&rt, "!z", true);
-    is_plain(&rt, "?z", false);
+    let both = label("pq");
+    assert!(rt; both.mark(P) == Mark::Yes && both.mark(Q) == Mark::Yes);
+    assert!(rt; label("z").mark(Z) == Mark::Yes);
+    assert!(rt; both.without(Q) == label("p") && label("?z").without(Z) == label("-"));
+    assert!(rt; both.is_plain() && label("!z").is_plain());
+    assert!(rt; !label("?p").is_plain() && !label("?z").is_plain());
 }
 
-fn is_within(rt: &impl Abort, one: &str, other: &str, is_within: bool) {
+const WITHIN: [[&str; 2]; 5] = [
+    ["-", "p"],
+    ["p", "?p"],
+    ["!p", "?p"],
+    ["p", "pq"],
+    ["!z", "?z"],
+];
+
+const NOT_WITHIN: [[&str; 2]; 4] = [["p", "-"], ["?p", "p"], ["p", "!p"], ["?z", "!z"]];
+
+fn is_within(rt: &impl Abort, row: &[&str; 2], is_within: bool) {
     same(
         rt,
-        (one, other),
-        label(one).is_within(label(other)),
+        row[0],
+        label(row[0]).is_within(label(row[1])),
         is_within,
     );
 }
 
 #[test]
 fn labels_are_within_what_marks_more(rt: HostRuntime) {
-    is_within(&rt, "-", "p", true);
-    is_within(&rt, "p", "-", false);
-    is_within(&rt, "p", "?p", true);
-    is_within(&rt, "!p", "?p", true);
-    is_within(&rt, "?p", "p", false);
-    is_within(&rt, "p", "!p", false);
-    is_within(&rt, "p", "pq", true);
-    is_within(&rt, "!z", "?z", true);
-    is_within(&rt, "?z", "!z", false);
+    for row in &WITHIN {
+        is_within(&rt, row, true);
+    }
+    for row in &NOT_WITHIN {
+        is_within(&rt, row, false);
+    }
 }
 
-fn dominates(rt: &impl Abort, one: Bound, other: Bound, dominates: bool) {
-    same(rt, (one, other), one.dominates(&other), dominates);
+// Two bounds, of which the first dominates the second or doesn't.
+struct Pair {
+    one: Asked,
+    other: Asked,
+    dominates: bool,
+}
+
+const PAIRS: [Pair; 13] = [
+    Pair {
+        one: Asked {
+            node: 1,
+            least: 7,
+            text: "-",
+        },
+        other: Asked {
+            node: 1,
+            least: 0,
+            text: "-",
+        },
+        dominates: true,
+    },
+    Pair {
+        one: Asked {
+            node: 2,
+            least: 7,
+            text: "-",
+        },
+        other: Asked {
+            node: 2,
+            least: 7,
+            text: "!p",
+        },
+        dominates: true,
+    },
+    Pair {
+        one: Asked {
+            node: 1,
+            least: 8,
+            text: "-",
+        },
+        other: Asked {
+            node: 1,
+            least: 8,
+            text: "q",
+        },
+        dominates: true,
+    },
+    Pair {
+        one: Asked {
+            node: 1,
+            least: 8,
+            text: "-",
+        },
+        other: Asked {
+            node: 1,
+            least: 1,
+            text: "p",
+        },
+        dominates: true,
+    },
+    Pair {
+        one: Asked {
+            node: 1,
+            least: 8,
+            text: "-",
+        },
+        other: Asked {
+            node: 1,
+            least: 8,
+            text: "-",
+        },
+        dominates: true,
+    },
+    Pair {
+        one: Asked {
+            node: 1,
+            least: 7,
+            text: "-",
+        },
+        other: Asked {
+            node: 1,
+            least: 8,
+            text: "-",
+        },
+        dominates: false,
+    },
+    Pair {
+        one: Asked {
+            node: 1,
+            least: 10,
+            text: "p",
+        },
+        other: Asked {
+            node: 1,
+            least: 1,
+            text: "-",
+        },
+        dominates: false,
+    },
+    Pair {
+        one: Asked {
+            node: 1,
+            least: 1,
+            text: "-",
+        },
+        other: Asked {
+            node: 1,
+            least: 10,
+            text: "p",
+        },
+        dominates: false,
+    },
+    Pair {
+        one: Asked {
+            node: 1,
+            least: 8,
+            text: "-",
+        },
+        other: Asked {
+            node: 1,
+            least: 8,
+            text: "?p",
+        },
+        dominates: true,
+    },
+    Pair {
+        one: Asked {
+            node: 1,
+            least: 8,
+            text: "?p",
+        },
+        other: Asked {
+            node: 1,
+            least: 8,
+            text: "p",
+        },
+        dominates: false,
+    },
+    Pair {
+        one: Asked {
+            node: 1,
+            least: 8,
+            text: "p",
+        },
+        other: Asked {
+            node: 1,
+            least: 8,
+            text: "?p",
+        },
+        dominates: true,
+    },
+    Pair {
+        one: Asked {
+            node: 1,
+            least: 5,
+            text: "-",
+        },
+        other: Asked {
+            node: 2,
+            least: 5,
+            text: "-",
+        },
+        dominates: false,
+    },
+    Pair {
+        one: Asked {
+            node: 1,
+            least: 5,
+            text: "z",
+        },
+        other: Asked {
+            node: 1,
+            least: 5,
+            text: "-",
+        },
+        dominates: false,
+    },
+];
+
+fn dominates(rt: &impl Abort, row: &Pair) {
+    let one = bound_of(&row.one);
+    same(rt, one, one.dominates(&bound_of(&row.other)), row.dominates);
 }
 
 #[test]
 fn bounds_dominate_what_asks_for_less(rt: HostRuntime) {
-    dominates(&rt, bound(1, 7, "-"), bound(1, 0, "-"), true);
-    dominates(&rt, bound(2, 7, "-"), bound(2, 7, "!p"), true);
-    dominates(&rt, bound(1, 8, "-"), bound(1, 8, "q"), true);
-    dominates(&rt, bound(1, 8, "-"), bound(1, 1, "p"), true);
-    dominates(&rt, bound(1, 8, "-"), bound(1, 8, "-"), true);
-    dominates(&rt, bound(1, 7, "-"), bound(1, 8, "-"), false);
-    dominates(&rt, bound(1, 10, "p"), bound(1, 1, "-"), false);
-    dominates(&rt, bound(1, 1, "-"), bound(1, 10, "p"), false);
-    dominates(&rt, bound(1, 8, "-"), bound(1, 8, "?p"), true);
-    dominates(&rt, bound(1, 8, "?p"), bound(1, 8, "p"), false);
-    dominates(&rt, bound(1, 8, "p"), bound(1, 8, "?p"), true);
-    dominates(&rt, bound(1, 5, "-"), bound(2, 5, "-"), false);
-    dominates(&rt, bound(1, 5, "z"), bound(1, 5, "-"), false);
+    for row in &PAIRS {
+        dominates(&rt, row);
+    }
 }
 
-fn is_possible(rt: &impl Abort, text: &str, known: Known, is_possible: bool) {
-    same(rt, (text, known), label(text).possible(known), is_possible);
+// With what is known the first labels are possible, and the others are not.
+fn are_possible(rt: &impl Abort, known: Known, possible: &[&str], ruled_out: &[&str]) {
+    for text in possible {
+        same(rt, *text, label(text).possible(known), true);
+    }
+    for text in ruled_out {
+        same(rt, *text, label(text).possible(known), false);
+    }
 }
 
 #[test]
 fn labels_are_ruled_out_by_what_is_known(rt: HostRuntime) {
-    let so = Known::nothing().with(P, true);
-    let not_so = Known::of(1 << 41, NONE_TRUE);
-    let told = Known::nothing().with(P, false);
-    let last = Known::nothing().with(Z, false);
-    is_possible(&rt, "?p", Known::nothing(), true);
-    is_possible(&rt, "p", so, true);
-    is_possible(&rt, "q", so, true);
-    is_possible(&rt, "!p", so, false);
-    is_possible(&rt, "?p", so, false);
-    is_possible(&rt, "!p", not_so, true);
-    is_possible(&rt, "p", not_so, false);
-    is_possible(&rt, "?p", not_so, false);
-    is_possible(&rt, "!p", told, true);
-    is_possible(&rt, "p", told, false);
-    is_possible(&rt, "?p", told, false);
-    is_possible(&rt, "!z", last, true);
-    is_possible(&rt, "z", last, false);
-    is_possible(&rt, "?z", last, false);
+    let nothing = Known::nothing();
+    are_possible(&rt, nothing, &["?p"], &[]);
+    are_possible(&rt, nothing.with(P, true), &["p", "q"], &["!p", "?p"]);
+    are_possible(&rt, Known::of(1 << 41, NONE_TRUE), &["!p"], &["p", "?p"]);
+    are_possible(&rt, nothing.with(P, false), &["!p"], &["p", "?p"]);
+    are_possible(&rt, nothing.with(Z, false), &["!z"], &["z", "?z"]);
 }
 
 fn knows(rt: &impl Abort, known: Known, p: Prop, value: Option<bool>) {
@@ -128,87 +291,61 @@ fn known_values_are_read(rt: HostRuntime) {
     knows(&rt, Known::nothing().with(Z, false), Z, Some(false));
 }
 
-fn is_true(rt: &impl Abort, s: Scenario, p: Prop, is_true: bool) {
-    same(rt, (s, p), s.is_true(p), is_true);
+// In the scenario the first labels hold, and the others do not.
+fn hold(rt: &impl Abort, s: Scenario, holding: &[&str], others: &[&str]) {
+    for text in holding {
+        holds(rt, s, text, true);
+    }
+    for text in others {
+        holds(rt, s, text, false);
+    }
 }
 
-fn holds(rt: &impl Abort, text: &str, s: Scenario, holds: bool) {
+fn holds(rt: &impl Abort, s: Scenario, text: &str, holds: bool) {
     let label = label(text);
     assert!(rt; label.is_plain());
-    same(rt, (text, s), label.holds(s), holds);
+    same(rt, text, label.holds(s), holds);
 }
 
 #[test]
 fn labels_hold_where_their_literals_are_true(rt: HostRuntime) {
     let p_alone = NONE_TRUE.with(P, true);
     let z_alone = NONE_TRUE.with(Z, true);
-    is_true(&rt, p_alone, P, true);
-    is_true(&rt, p_alone, Q, false);
-    is_true(&rt, z_alone, Z, true);
-    is_true(&rt, z_alone.with(Z, false), Z, false);
-    holds(&rt, "p!q", p_alone, true);
-    holds(&rt, "p!q", p_alone.with(Q, true), false);
-    holds(&rt, "-", p_alone, true);
-    holds(&rt, "z", p_alone, false);
-    holds(&rt, "z", z_alone, true);
-    holds(&rt, "!z", z_alone, false);
-}
-
-fn is_letter(rt: &impl Abort, letter: u8, p: Option<Prop>) {
-    same(rt, letter, Prop::from_letter(letter), p);
+    assert!(rt; p_alone.is_true(P) && !p_alone.is_true(Q));
+    assert!(rt; z_alone.is_true(Z) && !z_alone.with(Z, false).is_true(Z));
+    hold(&rt, p_alone, &["p!q", "-"], &["z"]);
+    hold(&rt, p_alone.with(Q, true), &[], &["p!q"]);
+    hold(&rt, z_alone, &["z"], &["!z"]);
 }
 
 #[test]
 fn there_are_52_letters(rt: HostRuntime) {
-    is_letter(&rt, b'p', Some(P));
-    is_letter(&rt, b'Z', Prop::new(25));
-    is_letter(&rt, b'[', None);
-    is_letter(&rt, b'z', Some(Z));
-    same(&rt, Z, Z.letter(), b'z');
-    same(&rt, 52, Prop::new(52), None);
+    assert!(rt; Prop::from_letter(b'p') == Some(P) && Prop::from_letter(b'z') == Some(Z));
+    assert!(rt; Prop::from_letter(b'Z') == Prop::new(25) && Prop::from_letter(b'[').is_none());
+    assert!(rt; Z.letter() == b'z' && Prop::new(52).is_none());
 }
 
 #[test]
 fn time_points_have_numbers(rt: HostRuntime) {
-    same(&rt, 65535, NodeId::from_number(65535), Some(NodeId(65535)));
-    same(&rt, 65536, NodeId::from_number(65536), None);
-    same(&rt, "number", NodeId(7).number(), 7);
-    same(&rt, "index", NodeId(7).index(), 7);
-}
-
-fn first_marked(rt: &impl Abort, text: &str, from: u8, p: Option<Prop>) {
-    same(rt, (text, from), label(text).first_marked_from(from), p);
+    assert!(rt; NodeId::from_number(65535) == Some(NodeId(65535)));
+    assert!(rt; NodeId::from_number(65536).is_none());
+    assert!(rt; NodeId(7).number() == 7 && NodeId(7).index() == 7);
 }
 
 #[test]
 fn labels_are_walked_mark_by_mark(rt: HostRuntime) {
-    first_marked(&rt, "!p?z", 0, Some(P));
-    first_marked(&rt, "!p?z", 41, Some(P));
-    first_marked(&rt, "!p?z", 42, Some(Z));
-    first_marked(&rt, "!p?z", 52, None);
-    first_marked(&rt, "-", 0, None);
+    let two = label("!p?z");
+    for (from, p) in [(0, Some(P)), (41, Some(P)), (42, Some(Z)), (52, None)] {
+        same(&rt, from, two.first_marked_from(from), p);
+    }
+    same(&rt, "-", Label::empty().first_marked_from(0), None);
 }
 
 #[test]
 fn bits_above_51_mean_nothing(rt: HostRuntime) {
     let above = 1 << 52;
-    same(&rt, "a true bit", Scenario { bits: above }, NONE_TRUE);
-    same(
-        &rt,
-        "a known bit",
-        Known::of(above, NONE_TRUE),
-        Known::nothing(),
-    );
-    same(
-        &rt,
-        "z is true",
-        NONE_TRUE.with(Z, true) == NONE_TRUE,
-        false,
-    );
-    same(
-        &rt,
-        "A is known",
-        Known::of(1, NONE_TRUE) == Known::nothing(),
-        false,
-    );
+    assert!(rt; Scenario { bits: above } == NONE_TRUE);
+    assert!(rt; Known::of(above, NONE_TRUE) == Known::nothing());
+    assert!(rt; NONE_TRUE.with(Z, true) != NONE_TRUE);
+    assert!(rt; Known::of(1, NONE_TRUE) != Known::nothing());
 }

@@ -1,13 +1,11 @@
 ghost use Rattle.std.specs.Prelude.{◌≡◌, ◌<◌, ◌≤◌, [], length};
 ghost use Rattle.std.specs.List.{All};
 
-use crate::fixtures::{P, Q, branch, constraint, draft, label, observes, reacts, same, says};
+use crate::fixtures::{P, Q, branch, constraint, draft, label, same, says};
 use cstn_label::{Label, NodeId, Prop};
 use cstn_net::{Builder, Constraint, NetError, Network};
 use std::alloc::Global;
 use std::process::Abort;
-
-const PLAIN: Option<Prop> = None;
 
 // Asserts that closing the builder is refused with this error, or not at all.
 fn closes(rt: &impl Abort, row: &str, builder: Builder, refused: Option<NetError>) {
@@ -40,293 +38,227 @@ fn constrained(rt: &impl Abort, alloc: Global, count: u32, most: i32) -> Builder
     builder
 }
 
+// 1,024 time-points and 16,384 constraints are the most.
 #[test]
-fn time_points_are_counted(rt: HostRuntime) {
+fn the_largest_network(rt: HostRuntime) {
     let alloc = rt.alloc();
-    let too_late = NetError::DeadlineRange {
-        deadline: 1_000_001,
-    };
+    let most = constrained(&rt, alloc, 16384, 1_000_000_000);
+    let more = constrained(&rt, alloc, 16385, 0);
+    closes(&rt, "most", most, None);
+    closes(&rt, "more", more, Some(NetError::TooManyConstraints));
     closes(
         &rt,
-        "no time-point",
+        "none",
         nodes(&rt, alloc, 5, 0),
         Some(NetError::NoOrigin),
     );
-    closes(&rt, "the origin", nodes(&rt, alloc, 0, 1), None);
-    closes(&rt, "many", nodes(&rt, alloc, 9, 1000), None);
-    closes(&rt, "most", nodes(&rt, alloc, 1_000_000, 1024), None);
-    closes(
-        &rt,
-        "one too many",
-        nodes(&rt, alloc, 5, 1025),
-        Some(NetError::TooManyNodes),
-    );
-    closes(
-        &rt,
-        "too late",
-        nodes(&rt, alloc, 1_000_001, 1),
-        Some(too_late),
-    );
 }
 
-#[test]
-fn constraints_are_counted(rt: HostRuntime) {
-    let alloc = rt.alloc();
-    let out_of_range = Some(NetError::ValueRange { constraint: 0 });
-    closes(
-        &rt,
-        "most",
-        constrained(&rt, alloc, 16384, 1_000_000_000),
-        None,
-    );
-    closes(
-        &rt,
-        "the least value",
-        constrained(&rt, alloc, 1, -1_000_000_000),
-        None,
-    );
-    closes(
-        &rt,
-        "one too many",
-        constrained(&rt, alloc, 16385, 0),
-        Some(NetError::TooManyConstraints),
-    );
-    closes(
-        &rt,
-        "above",
-        constrained(&rt, alloc, 2, 1_000_000_001),
-        out_of_range,
-    );
-    closes(
-        &rt,
-        "below",
-        constrained(&rt, alloc, 1, -1_000_000_001),
-        out_of_range,
-    );
+// What two time-points behind Z observe, the reaction of the first, the values and labels of two constraints, and why the
+// network is refused.
+struct Faulty {
+    name: &'static str,
+    observes: [Option<Prop>; 2],
+    reaction: u32,
+    values: [i32; 2],
+    labels: [&'static str; 2],
+    refused: Option<NetError>,
 }
 
-// A builder with Z, which observes `first`, a time-point that observes `second`, and a constraint from Z to it.
-fn labelled(
-    rt: &impl Abort,
-    alloc: Global,
-    first: Option<Prop>,
-    second: Option<Prop>,
-    most: i32,
-    text: &str,
-) -> Builder
-    ensures { length result.points ≡ 2 }
-{
-    draft(rt, alloc, 9, &[first, second], &[(0, 1, most, label(text))])
-}
+const TWINS: Option<NetError> = Some(NetError::TwoObservers {
+    prop: P,
+    first: NodeId(1),
+    second: NodeId(2),
+});
 
-#[test]
-fn labels_and_observers_are_judged(rt: HostRuntime) {
-    let alloc = rt.alloc();
-    let unobserved = Some(NetError::NotObserved { prop: P });
-    let not_plain = Some(NetError::NotPlain { constraint: 0 });
-    let out_of_range = Some(NetError::ValueRange { constraint: 0 });
-    let twins = Some(NetError::TwoObservers {
-        prop: P,
-        first: NodeId(0),
-        second: NodeId(1),
-    });
-    closes(
-        &rt,
-        "observed",
-        labelled(&rt, alloc, PLAIN, Some(P), 0, "!p"),
-        None,
-    );
-    closes(
-        &rt,
-        "not plain",
-        labelled(&rt, alloc, PLAIN, Some(P), 0, "?p"),
-        not_plain,
-    );
-    closes(
-        &rt,
-        "unobserved, not plain",
-        labelled(&rt, alloc, PLAIN, PLAIN, 0, "?p"),
-        unobserved,
-    );
-    closes(
-        &rt,
-        "unobserved",
-        labelled(&rt, alloc, PLAIN, PLAIN, -5, "p"),
-        unobserved,
-    );
-    closes(
-        &rt,
-        "twins, not plain",
-        labelled(&rt, alloc, Some(P), Some(P), 0, "?p"),
-        twins,
-    );
-    let all = labelled(&rt, alloc, Some(P), Some(P), 1_000_000_001, "?p");
-    closes(&rt, "out of range, twins, not plain", all, out_of_range);
-}
+const RANGE: Option<NetError> = Some(NetError::ValueRange { constraint: 1 });
 
-#[test]
-fn the_first_twins_are_named(rt: HostRuntime) {
-    let twins = Some(NetError::TwoObservers {
-        prop: P,
-        first: NodeId(1),
-        second: NodeId(2),
-    });
-    let builder = draft(&rt, rt.alloc(), 9, &[None, Some(P), Some(P)], &[]);
-    closes(&rt, "two twins", builder, twins);
-}
+const SECOND_RANGE: Option<NetError> = Some(NetError::ValueRange { constraint: 2 });
 
-// A builder with Z, a time-point that observes `observes` with a reaction of `ticks`, and a constraint from Z to it.
-fn reacting(
-    rt: &impl Abort,
-    alloc: Global,
-    observes: Option<Prop>,
-    ticks: u32,
-    text: &str,
-) -> Builder {
-    let mut builder = labelled(rt, alloc, None, observes, 0, text);
-    builder.react(1, ticks);
-    builder
-}
+const P_UNSEEN: Option<NetError> = Some(NetError::NotObserved { prop: P });
 
-#[test]
-fn reactions_are_judged(rt: HostRuntime) {
-    let alloc = rt.alloc();
-    let refused = Some(NetError::ReactionRange { node: NodeId(1) });
-    let not_plain = Some(NetError::NotPlain { constraint: 0 });
-    closes(&rt, "0", reacting(&rt, alloc, Some(P), 0, "-"), refused);
-    closes(
-        &rt,
-        "1001",
-        reacting(&rt, alloc, Some(P), 1001, "p"),
-        refused,
-    );
-    closes(&rt, "1", reacting(&rt, alloc, Some(P), 1, "p"), None);
-    closes(&rt, "1000", reacting(&rt, alloc, Some(P), 1000, "!p"), None);
-    closes(
-        &rt,
-        "0, no observer",
-        reacting(&rt, alloc, None, 0, "-"),
-        None,
-    );
-    closes(
-        &rt,
-        "1001, no observer",
-        reacting(&rt, alloc, None, 1001, "-"),
-        None,
-    );
-    closes(
-        &rt,
-        "0, not plain",
-        reacting(&rt, alloc, Some(P), 0, "?p"),
-        not_plain,
-    );
-}
+const Q_UNSEEN: Option<NetError> = Some(NetError::NotObserved { prop: Q });
 
-// A builder with Z, two time-points, which observe p and `second`, or nothing, a constraint without fault, and two
-// constraints with the values and labels of `one` and `other`.
-fn faulty(
-    rt: &impl Abort,
-    alloc: Global,
-    first: Option<Prop>,
-    second: Option<Prop>,
-    one: (i32, Label),
-    other: (i32, Label),
-) -> Builder {
+const NOT_PLAIN: Option<NetError> = Some(NetError::NotPlain { constraint: 1 });
+
+const REACTION: Option<NetError> = Some(NetError::ReactionRange { node: NodeId(1) });
+
+const FAULTY: [Faulty; 18] = [
+    Faulty {
+        name: "two values",
+        observes: [Some(P), Some(P)],
+        reaction: 1,
+        values: [1_000_000_001, 1_000_000_001],
+        labels: ["-", "-"],
+        refused: RANGE,
+    },
+    Faulty {
+        name: "p, a value",
+        observes: [None, None],
+        reaction: 1,
+        values: [0, 1_000_000_001],
+        labels: ["p!q", "-"],
+        refused: SECOND_RANGE,
+    },
+    Faulty {
+        name: "p, p",
+        observes: [None, None],
+        reaction: 1,
+        values: [0, 0],
+        labels: ["p!q", "p"],
+        refused: P_UNSEEN,
+    },
+    Faulty {
+        name: "twins, q",
+        observes: [Some(P), Some(P)],
+        reaction: 1,
+        values: [0, 0],
+        labels: ["p", "p!q"],
+        refused: Q_UNSEEN,
+    },
+    Faulty {
+        name: "twins",
+        observes: [Some(P), Some(P)],
+        reaction: 1,
+        values: [0, 0],
+        labels: ["p", "?p"],
+        refused: TWINS,
+    },
+    Faulty {
+        name: "two not plain",
+        observes: [Some(P), Some(Q)],
+        reaction: 1,
+        values: [0, 0],
+        labels: ["?p", "?p"],
+        refused: NOT_PLAIN,
+    },
+    Faulty {
+        name: "no fault",
+        observes: [Some(P), Some(Q)],
+        reaction: 1,
+        values: [0, 0],
+        labels: ["p!q", "p"],
+        refused: None,
+    },
+    Faulty {
+        name: "observed",
+        observes: [None, Some(P)],
+        reaction: 1,
+        values: [0, 0],
+        labels: ["!p", "-"],
+        refused: None,
+    },
+    Faulty {
+        name: "unobserved, not plain",
+        observes: [None, None],
+        reaction: 1,
+        values: [0, 0],
+        labels: ["?p", "-"],
+        refused: P_UNSEEN,
+    },
+    Faulty {
+        name: "unobserved",
+        observes: [None, None],
+        reaction: 1,
+        values: [-5, 0],
+        labels: ["p", "-"],
+        refused: P_UNSEEN,
+    },
+    Faulty {
+        name: "out of range, twins, not plain",
+        observes: [Some(P), Some(P)],
+        reaction: 1,
+        values: [1_000_000_001, 0],
+        labels: ["?p", "-"],
+        refused: RANGE,
+    },
+    Faulty {
+        name: "two twins",
+        observes: [Some(P), Some(P)],
+        reaction: 1,
+        values: [0, 0],
+        labels: ["-", "-"],
+        refused: TWINS,
+    },
+    Faulty {
+        name: "a reaction of 0",
+        observes: [Some(P), None],
+        reaction: 0,
+        values: [0, 0],
+        labels: ["-", "-"],
+        refused: REACTION,
+    },
+    Faulty {
+        name: "a reaction of 1001",
+        observes: [Some(P), None],
+        reaction: 1001,
+        values: [0, 0],
+        labels: ["p", "-"],
+        refused: REACTION,
+    },
+    Faulty {
+        name: "a reaction of 1000",
+        observes: [Some(P), None],
+        reaction: 1000,
+        values: [0, 0],
+        labels: ["!p", "-"],
+        refused: None,
+    },
+    Faulty {
+        name: "a reaction of 0, no observer",
+        observes: [None, None],
+        reaction: 0,
+        values: [0, 0],
+        labels: ["-", "-"],
+        refused: None,
+    },
+    Faulty {
+        name: "a reaction of 1001, no observer",
+        observes: [None, None],
+        reaction: 1001,
+        values: [0, 0],
+        labels: ["-", "-"],
+        refused: None,
+    },
+    Faulty {
+        name: "a reaction of 0, not plain",
+        observes: [Some(P), None],
+        reaction: 0,
+        values: [0, 0],
+        labels: ["?p", "-"],
+        refused: NOT_PLAIN,
+    },
+];
+
+// Behind a constraint without fault there are the two of the row.
+fn judges(rt: &impl Abort, alloc: Global, row: &Faulty) {
+    let points = [None, row.observes[0], row.observes[1]];
     let constraints = [
         (0, 1, 0, Label::empty()),
-        (0, 1, one.0, one.1),
-        (2, 1, other.0, other.1),
+        (0, 1, row.values[0], label(row.labels[0])),
+        (2, 1, row.values[1], label(row.labels[1])),
     ];
-    draft(rt, alloc, 9, &[None, first, second], &constraints)
+    let mut builder = draft(rt, alloc, 9, &points, &constraints);
+    builder.react(1, row.reaction);
+    closes(rt, row.name, builder, row.refused);
 }
 
 #[test]
 fn the_lowest_of_several_faults_is_named(rt: HostRuntime) {
-    let alloc = rt.alloc();
-    let (p, q) = (Some(P), Some(Q));
-    let bad = (1_000_000_001, Label::empty());
-    let of_p = (0, label("p"));
-    let of_both = (0, label("p!q"));
-    let strange = (0, label("?p"));
-    let twins = NetError::TwoObservers {
-        prop: P,
-        first: NodeId(1),
-        second: NodeId(2),
-    };
-    let range = NetError::ValueRange { constraint: 1 };
-    let second_range = NetError::ValueRange { constraint: 2 };
-    let p_unseen = NetError::NotObserved { prop: P };
-    let q_unseen = NetError::NotObserved { prop: Q };
-    let not_plain = NetError::NotPlain { constraint: 1 };
-    closes(
-        &rt,
-        "two values",
-        faulty(&rt, alloc, p, p, bad, bad),
-        Some(range),
-    );
-    closes(
-        &rt,
-        "p, a value",
-        faulty(&rt, alloc, None, None, of_both, bad),
-        Some(second_range),
-    );
-    closes(
-        &rt,
-        "p, p",
-        faulty(&rt, alloc, None, None, of_both, of_p),
-        Some(p_unseen),
-    );
-    closes(
-        &rt,
-        "twins, q",
-        faulty(&rt, alloc, p, p, of_p, of_both),
-        Some(q_unseen),
-    );
-    closes(
-        &rt,
-        "twins",
-        faulty(&rt, alloc, p, p, of_p, strange),
-        Some(twins),
-    );
-    closes(
-        &rt,
-        "two not plain",
-        faulty(&rt, alloc, p, q, strange, strange),
-        Some(not_plain),
-    );
-    closes(
-        &rt,
-        "no fault",
-        faulty(&rt, alloc, p, q, of_both, of_p),
-        None,
-    );
-}
-
-fn has_limit(rt: &impl Abort, net: &Network, x: u16, limit: i32) {
-    assert!(rt; x < net.count());
-    same(rt, x, net.limit(NodeId(x)), limit);
+    for row in &FAULTY {
+        judges(&rt, rt.alloc(), row);
+    }
 }
 
 #[test]
-fn time_points_are_read(rt: HostRuntime) {
+fn the_branch_is_read(rt: HostRuntime) {
     let net = branch(&rt, rt.alloc(), 7);
-    same(&rt, "count", net.count(), 3);
-    same(&rt, "deadline", net.deadline(), 10);
-    has_limit(&rt, &net, 0, 0);
-    has_limit(&rt, &net, 2, 10);
-    observes(&rt, &net, 0, None);
-    observes(&rt, &net, 1, Some(P));
-}
-
-#[test]
-fn propositions_are_looked_up(rt: HostRuntime) {
-    let net = branch(&rt, rt.alloc(), 7);
-    reacts(&rt, &net, P, 7);
-    reacts(&rt, &net, Q, 1);
-    same(&rt, P, net.observer(P), Some(NodeId(1)));
-    same(&rt, Q, net.observer(Q), None);
-    same(&rt, "?q", net.unobserved(label("?q")), Some(Q));
-    same(&rt, "p", net.unobserved(label("p")), None);
+    assert!(rt; net.count() == 3 && net.deadline() == 10);
+    assert!(rt; net.limit(NodeId(0)) == 0 && net.limit(NodeId(2)) == 10);
+    assert!(rt; net.observes(NodeId(0)).is_none() && net.observes(NodeId(1)) == Some(P));
+    assert!(rt; net.reaction(P) == 7 && net.reaction(Q) == 1);
+    assert!(rt; net.observer(P) == Some(NodeId(1)) && net.observer(Q).is_none());
+    assert!(rt; net.unobserved(label("?q")) == Some(Q) && net.unobserved(label("p")).is_none());
 }
 
 // Makes room for all constraints, and inserts one from P to Z of -3 with the id 2.
@@ -380,27 +312,42 @@ fn a_copy_is_apart(rt: HostRuntime) {
     same(&rt, "deadline", net.deadline(), 10);
 }
 
+// An error and its text.
+struct Told {
+    error: NetError,
+    text: &'static str,
+}
+
+const TOLD: [Told; 5] = [
+    Told {
+        error: NetError::TooManyNodes,
+        text: "more than 1024 time-points",
+    },
+    Told {
+        error: NetError::TooManyConstraints,
+        text: "more than 16384 constraints",
+    },
+    Told {
+        error: NetError::NotObserved { prop: P },
+        text: "nothing observes the proposition p",
+    },
+    Told {
+        error: NetError::TwoObservers {
+            prop: P,
+            first: NodeId(1),
+            second: NodeId(2),
+        },
+        text: "the time-points 1 and 2 observe the proposition p",
+    },
+    Told {
+        error: NetError::ReactionRange { node: NodeId(3) },
+        text: "the reaction of the time-point 3 is out of range",
+    },
+];
+
 #[test]
 fn errors_name_letters_and_numbers(rt: HostRuntime) {
-    let alloc = rt.alloc();
-    let twins = NetError::TwoObservers {
-        prop: P,
-        first: NodeId(1),
-        second: NodeId(2),
-    };
-    let unseen = NetError::NotObserved { prop: P };
-    let late = NetError::ReactionRange { node: NodeId(3) };
-    says(
-        &rt,
-        alloc,
-        &twins,
-        "the time-points 1 and 2 observe the proposition p",
-    );
-    says(&rt, alloc, &unseen, "nothing observes the proposition p");
-    says(
-        &rt,
-        alloc,
-        &late,
-        "the reaction of the time-point 3 is out of range",
-    );
+    for row in &TOLD {
+        says(&rt, rt.alloc(), &row.error, row.text);
+    }
 }

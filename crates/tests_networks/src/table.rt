@@ -1,9 +1,11 @@
-ghost use Rattle.std.specs.Prelude.{◌≤◌};
+ghost use Rattle.std.specs.Prelude.{◌≡◌, ◌≤◌};
+ghost use Rattle.cstn_net.specs.Networks.{count};
+ghost use Rattle.cstn_net.specs.Read.{the_network};
 
 use crate::fixtures::{P, branch, crossed, late_branch, pair, process, same, unknown_mark};
 use cstn_label::{NodeId, Prop, Scenario};
 use cstn_net::{Builder, Network};
-use cstn_table::{TableError, decide};
+use cstn_table::{Table, TableError, decide};
 use std::alloc::Global;
 use std::process::Abort;
 
@@ -14,6 +16,8 @@ const P_ALONE: Scenario = Scenario { bits: 1 << 41 };
 const Q_ALONE: Scenario = Scenario { bits: 1 << 42 };
 
 const BOTH: Scenario = Scenario { bits: 3 << 41 };
+
+const FIVE: [u32; 8] = [0, 5, 5, 0, 0, 0, 0, 0];
 
 // A network of `count` time-points, each of which observes a proposition of its own.
 fn observers(rt: &impl Abort, alloc: Global, count: u8) -> Network
@@ -26,17 +30,29 @@ fn observers(rt: &impl Abort, alloc: Global, count: u8) -> Network
     net.close().expect(rt, "a network")
 }
 
-// Asserts that the network has a table, with this row of moments in the scenario.
-fn has_row(rt: &impl Abort, alloc: Global, net: &Network, s: Scenario, row: &[u32]) {
+// A scenario, and the moments of the time-points in it.
+type Row = (Scenario, [u32; 8]);
+
+// Asserts that the network has a table with these rows.
+fn has_rows(rt: &impl Abort, alloc: Global, net: &Network, rows: &[Row]) {
     let table = decide(alloc, net)
         .expect(rt, "memory")
         .expect(rt, "a table");
+    for (s, moments) in rows {
+        has_row(rt, net, &table, *s, moments);
+    }
+    drop(table);
+}
+
+fn has_row(rt: &impl Abort, net: &Network, table: &Table, s: Scenario, moments: &[u32; 8])
+    requires { table.now.points ≡ count (the_network net.now) }
+{
     for x in 0..net.count() {
         same(
             rt,
             (s, x),
             Some(&table.moment(s, NodeId(x))),
-            row.get(x as usize),
+            moments.get(x as usize),
         );
     }
 }
@@ -54,48 +70,58 @@ fn has_none(rt: &impl Abort, alloc: Global, row: &str, net: &Network) {
 #[test]
 fn one_scenario_has_its_least_moments(rt: HostRuntime) {
     let alloc = rt.alloc();
-    has_row(&rt, alloc, &observers(&rt, alloc, 1), NEITHER, &[0]);
-    has_row(&rt, alloc, &pair(&rt, alloc, 5, 1, 0, -5), BOTH, &[0, 5]);
+    let rows = [(BOTH, [0, 5, 0, 0, 0, 0, 0, 0])];
+    has_rows(&rt, alloc, &pair(&rt, alloc, 5, 1, 0, -5), &rows);
     has_none(&rt, alloc, "pair", &pair(&rt, alloc, 4, 1, 0, -5));
 }
 
 #[test]
 fn an_outcome_is_waited_for(rt: HostRuntime) {
     let alloc = rt.alloc();
-    let net = late_branch(&rt, alloc, 0);
-    has_row(&rt, alloc, &net, P_ALONE, &[0, 0, 10]);
-    has_row(&rt, alloc, &net, NEITHER, &[0, 0, 1]);
-    let net = late_branch(&rt, alloc, -2);
-    has_row(&rt, alloc, &net, BOTH, &[0, 2, 10]);
-    has_row(&rt, alloc, &net, Q_ALONE, &[0, 2, 3]);
+    let early = [
+        (P_ALONE, [0, 0, 10, 0, 0, 0, 0, 0]),
+        (NEITHER, [0, 0, 1, 0, 0, 0, 0, 0]),
+    ];
+    let late = [
+        (BOTH, [0, 2, 10, 0, 0, 0, 0, 0]),
+        (Q_ALONE, [0, 2, 3, 0, 0, 0, 0, 0]),
+    ];
+    has_rows(&rt, alloc, &late_branch(&rt, alloc, 0), &early);
+    has_rows(&rt, alloc, &late_branch(&rt, alloc, -2), &late);
     has_none(&rt, alloc, "late", &late_branch(&rt, alloc, -3));
 }
 
 #[test]
 fn an_outcome_is_known_after_its_reaction(rt: HostRuntime) {
     let alloc = rt.alloc();
-    let net = branch(&rt, alloc, 3);
-    has_row(&rt, alloc, &net, P_ALONE, &[0, 0, 10]);
-    has_row(&rt, alloc, &net, NEITHER, &[0, 0, 3]);
+    let rows = [
+        (P_ALONE, [0, 0, 10, 0, 0, 0, 0, 0]),
+        (NEITHER, [0, 0, 3, 0, 0, 0, 0, 0]),
+    ];
+    has_rows(&rt, alloc, &branch(&rt, alloc, 3), &rows);
     has_none(&rt, alloc, "slow", &branch(&rt, alloc, 4));
 }
 
 #[test]
 fn each_outcome_has_its_moments(rt: HostRuntime) {
     let alloc = rt.alloc();
-    let net = process(&rt, alloc);
-    has_row(&rt, alloc, &net, P_ALONE, &[0, 0, 5, 7, 10]);
-    has_row(&rt, alloc, &net, NEITHER, &[0, 0, 5, 13, 16]);
+    let rows = [
+        (P_ALONE, [0, 0, 5, 7, 10, 0, 0, 0]),
+        (NEITHER, [0, 0, 5, 13, 16, 0, 0, 0]),
+    ];
+    has_rows(&rt, alloc, &process(&rt, alloc), &rows);
 }
 
 #[test]
 fn observers_wait_on_each_other(rt: HostRuntime) {
     let alloc = rt.alloc();
-    let net = crossed(&rt, alloc, 5);
-    has_row(&rt, alloc, &net, NEITHER, &[0, 5, 5]);
-    has_row(&rt, alloc, &net, P_ALONE, &[0, 5, 5]);
-    has_row(&rt, alloc, &net, Q_ALONE, &[0, 5, 5]);
-    has_row(&rt, alloc, &net, BOTH, &[0, 5, 5]);
+    let rows = [
+        (NEITHER, FIVE),
+        (P_ALONE, FIVE),
+        (Q_ALONE, FIVE),
+        (BOTH, FIVE),
+    ];
+    has_rows(&rt, alloc, &crossed(&rt, alloc, 5), &rows);
     has_none(&rt, alloc, "crossed", &crossed(&rt, alloc, 4));
     has_none(&rt, alloc, "unknown mark", &unknown_mark(&rt, alloc));
 }
@@ -103,7 +129,7 @@ fn observers_wait_on_each_other(rt: HostRuntime) {
 #[test]
 fn propositions_are_counted(rt: HostRuntime) {
     let alloc = rt.alloc();
-    has_row(&rt, alloc, &observers(&rt, alloc, 8), BOTH, &[0; 8]);
+    has_rows(&rt, alloc, &observers(&rt, alloc, 8), &[(BOTH, [0; 8])]);
     let refused = decide(alloc, &observers(&rt, alloc, 9)).err();
     same(
         &rt,

@@ -145,9 +145,8 @@ const CALLS: u64 = 14;
 
 // Where a call of the shelf fails nothing but the fault is told, or the call isn't made.
 fn expect_shelf(rt: &impl Abort, alloc: Global, row: &Row<'_>, call: u64) -> Result<(), Fail> {
-    let failing = [call];
     let faults = Faults {
-        shelf: &failing,
+        shelf: &[call],
         most: 200,
         ..WELL
     };
@@ -155,61 +154,46 @@ fn expect_shelf(rt: &impl Abort, alloc: Global, row: &Row<'_>, call: u64) -> Res
     if outcome.status != Status::ReadFault {
         return expect_whole(rt, row, &outcome);
     }
-    assert_eq!(rt;
-        outcome.text.as_str(),
-        "read fault\n",
-        "{}, call {call}",
-        row.name
-    );
+    assert_eq!(rt; outcome.text.as_str(), "read fault\n", "{}", row.name);
     Ok(())
 }
 
-// Where a read of live lines fails the fault is told after first lines of the answer, or the read isn't made.
-fn expect_live(rt: &impl Abort, alloc: Global, row: &Row<'_>, call: u64) -> Result<(), Fail> {
-    let failing = [call];
-    let faults = Faults {
-        live: &failing,
-        most: 9,
-        ..WELL
-    };
-    let outcome = outcome_of(alloc, row, &faults)?;
-    if outcome.status != Status::ReadFault {
+// Where a read of live lines or a call of the sink fails, the request ends with this status after a first part of the answer
+// and this text, or the call isn't made.
+fn expect_cut(
+    rt: &impl Abort,
+    alloc: Global,
+    row: &Row<'_>,
+    faults: &Faults<'_>,
+    status: Status,
+    told: &str,
+) -> Result<(), Fail> {
+    let outcome = outcome_of(alloc, row, faults)?;
+    if outcome.status != status {
         return expect_whole(rt, row, &outcome);
     }
-    let before = outcome
-        .text
-        .strip_suffix("read fault\n")
-        .ok_or("no fault is told")?;
-    assert!(rt; row.text.starts_with(before), "{}, call {call}", row.name);
-    Ok(())
-}
-
-// Where a call of the sink fails a first part of the answer is written, or the call isn't made.
-fn expect_out(rt: &impl Abort, alloc: Global, row: &Row<'_>, call: u64) -> Result<(), Fail> {
-    let failing = [call];
-    let faults = Faults {
-        out: &failing,
-        most: 9,
-        ..WELL
-    };
-    let outcome = outcome_of(alloc, row, &faults)?;
-    if outcome.status != Status::WriteFault {
-        return expect_whole(rt, row, &outcome);
-    }
-    assert!(rt;
-        row.text.starts_with(outcome.text.as_str()),
-        "{}, call {call}",
-        row.name
-    );
+    let before = outcome.text.strip_suffix(told).ok_or("no fault is told")?;
+    assert!(rt; row.text.starts_with(before), "{}", row.name);
     Ok(())
 }
 
 // Each of the first calls of the shelf, of the live source and of the sink fails in turn.
 fn expect_faults(rt: &impl Abort, alloc: Global, row: &Row<'_>) -> Result<(), Fail> {
     for call in 0..CALLS {
+        let failing = [call];
+        let live = Faults {
+            live: &failing,
+            most: 9,
+            ..WELL
+        };
+        let out = Faults {
+            out: &failing,
+            most: 9,
+            ..WELL
+        };
         expect_shelf(rt, alloc, row, call)?;
-        expect_live(rt, alloc, row, call)?;
-        expect_out(rt, alloc, row, call)?;
+        expect_cut(rt, alloc, row, &live, Status::ReadFault, "read fault\n")?;
+        expect_cut(rt, alloc, row, &out, Status::WriteFault, "")?;
     }
     Ok(())
 }

@@ -1,5 +1,5 @@
 use crate::documents::{BRANCH, LAST, LATE, PAIR, PROOF};
-use crate::requests::{Faults, Row, WELL, expect_ends};
+use crate::requests::{Faults, Row, expect_ends};
 use cstn_top::Status;
 use std::test::Fail;
 
@@ -375,121 +375,127 @@ const TWO_FILES: [Row<'static>; 2] = [
     },
 ];
 
-#[test]
-fn the_first_read_of_lines_fails(rt: HostRuntime) -> Result<(), Fail> {
-    let faults = Faults {
-        live: &[0],
-        most: 9,
-        ..WELL
-    };
-    expect_ends(&rt, rt.alloc(), &FIRST_READ, &faults)
+// Rows, and the calls that fail in each.
+struct Case {
+    rows: &'static [Row<'static>],
+    faults: Faults<'static>,
 }
 
-#[test]
-fn the_second_read_of_lines_fails(rt: HostRuntime) -> Result<(), Fail> {
-    let faults = Faults {
-        live: &[1],
-        most: 9,
-        ..WELL
-    };
-    expect_ends(&rt, rt.alloc(), &SECOND_READ, &faults)
-}
+const CASES: [Case; 12] = [
+    Case {
+        rows: &FIRST_READ,
+        faults: Faults {
+            shelf: &[],
+            live: &[0],
+            out: &[],
+            most: 9,
+        },
+    },
+    Case {
+        rows: &SECOND_READ,
+        faults: Faults {
+            shelf: &[],
+            live: &[1],
+            out: &[],
+            most: 9,
+        },
+    },
+    Case {
+        rows: &OPENING,
+        faults: Faults {
+            shelf: &[0],
+            live: &[],
+            out: &[],
+            most: 9,
+        },
+    },
+    Case {
+        rows: &FILE_READ,
+        faults: Faults {
+            shelf: &[3],
+            live: &[],
+            out: &[],
+            most: 9,
+        },
+    },
+    Case {
+        rows: &FIRST_WRITE,
+        faults: Faults {
+            shelf: &[],
+            live: &[],
+            out: &[0],
+            most: 9,
+        },
+    },
+    Case {
+        rows: &FIRST_FLUSH,
+        faults: Faults {
+            shelf: &[],
+            live: &[],
+            out: &[1],
+            most: 9,
+        },
+    },
+    Case {
+        rows: &SECOND_LINE,
+        faults: Faults {
+            shelf: &[],
+            live: &[],
+            out: &[2],
+            most: 9,
+        },
+    },
+    Case {
+        rows: &LONG_LINE,
+        faults: Faults {
+            shelf: &[],
+            live: &[],
+            out: &[4],
+            most: 9,
+        },
+    },
+    Case {
+        rows: &MISSING,
+        faults: Faults {
+            shelf: &[],
+            live: &[],
+            out: &[],
+            most: 400,
+        },
+    },
+    Case {
+        rows: &WITHOUT_FILES,
+        faults: Faults {
+            shelf: &[0],
+            live: &[0],
+            out: &[],
+            most: 400,
+        },
+    },
+    Case {
+        rows: &ONE_FILE,
+        faults: Faults {
+            shelf: &[3, 4],
+            live: &[0],
+            out: &[],
+            most: 400,
+        },
+    },
+    Case {
+        rows: &TWO_FILES,
+        faults: Faults {
+            shelf: &[6, 7],
+            live: &[0],
+            out: &[],
+            most: 400,
+        },
+    },
+];
 
 #[test]
-fn the_opening_of_a_file_fails(rt: HostRuntime) -> Result<(), Fail> {
-    let faults = Faults {
-        shelf: &[0],
-        most: 9,
-        ..WELL
-    };
-    expect_ends(&rt, rt.alloc(), &OPENING, &faults)
-}
-
-#[test]
-fn the_third_read_of_a_file_fails(rt: HostRuntime) -> Result<(), Fail> {
-    let faults = Faults {
-        shelf: &[3],
-        most: 9,
-        ..WELL
-    };
-    expect_ends(&rt, rt.alloc(), &FILE_READ, &faults)
-}
-
-#[test]
-fn the_first_write_fails(rt: HostRuntime) -> Result<(), Fail> {
-    let faults = Faults {
-        out: &[0],
-        most: 9,
-        ..WELL
-    };
-    expect_ends(&rt, rt.alloc(), &FIRST_WRITE, &faults)
-}
-
-#[test]
-fn the_first_flush_fails(rt: HostRuntime) -> Result<(), Fail> {
-    let faults = Faults {
-        out: &[1],
-        most: 9,
-        ..WELL
-    };
-    expect_ends(&rt, rt.alloc(), &FIRST_FLUSH, &faults)
-}
-
-#[test]
-fn the_write_of_the_second_line_fails(rt: HostRuntime) -> Result<(), Fail> {
-    let faults = Faults {
-        out: &[2],
-        most: 9,
-        ..WELL
-    };
-    expect_ends(&rt, rt.alloc(), &SECOND_LINE, &faults)
-}
-
-#[test]
-fn the_second_write_of_a_line_fails(rt: HostRuntime) -> Result<(), Fail> {
-    let faults = Faults {
-        out: &[4],
-        most: 9,
-        ..WELL
-    };
-    expect_ends(&rt, rt.alloc(), &LONG_LINE, &faults)
-}
-
-#[test]
-fn files_are_missing(rt: HostRuntime) -> Result<(), Fail> {
-    let faults = Faults { most: 400, ..WELL };
-    expect_ends(&rt, rt.alloc(), &MISSING, &faults)
-}
-
-#[test]
-fn nothing_is_asked_without_files(rt: HostRuntime) -> Result<(), Fail> {
-    let faults = Faults {
-        shelf: &[0],
-        live: &[0],
-        most: 400,
-        ..WELL
-    };
-    expect_ends(&rt, rt.alloc(), &WITHOUT_FILES, &faults)
-}
-
-#[test]
-fn one_file_is_read_once(rt: HostRuntime) -> Result<(), Fail> {
-    let faults = Faults {
-        shelf: &[3, 4],
-        live: &[0],
-        most: 400,
-        ..WELL
-    };
-    expect_ends(&rt, rt.alloc(), &ONE_FILE, &faults)
-}
-
-#[test]
-fn two_files_are_read_once(rt: HostRuntime) -> Result<(), Fail> {
-    let faults = Faults {
-        shelf: &[6, 7],
-        live: &[0],
-        most: 400,
-        ..WELL
-    };
-    expect_ends(&rt, rt.alloc(), &TWO_FILES, &faults)
+fn calls_fail(rt: HostRuntime) -> Result<(), Fail> {
+    for case in &CASES {
+        expect_ends(&rt, rt.alloc(), case.rows, &case.faults)?;
+    }
+    Ok(())
 }

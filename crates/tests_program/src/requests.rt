@@ -168,3 +168,15 @@ pub(crate) fn expect_by_bytes(rt: &impl Abort, alloc: Global, row: &Row<'_>) -> 
     };
     expect_end(rt, alloc, row, &faults)
 }
+
+/// The same of each of these rows.
+pub(crate) fn expect_all_by_bytes(
+    rt: &impl Abort,
+    alloc: Global,
+    rows: &[Row<'_>],
+) -> Result<(), Fail> {
+    for row in rows {
+        expect_by_bytes(rt, alloc, row)?;
+    }
+    Ok(())
+}

@@ -1,7 +1,7 @@
 use crate::documents::{
     BRANCH, CIRCLE, CROSSED, LABELLED, LABELLED_LATE, LAST, LATE, PAIR, PROCESS, PROOF, SLOW,
 };
-use crate::requests::{Row, expect_by_bytes};
+use crate::requests::{Row, expect_all_by_bytes};
 use cstn_top::Status;
 use std::test::Fail;
 
@@ -358,25 +358,10 @@ const HOSTS: [Row<'static>; 10] = [
 ];
 
 #[test]
-fn runs_read_byte_by_byte(rt: HostRuntime) -> Result<(), Fail> {
-    for row in &RUNS {
-        expect_by_bytes(&rt, rt.alloc(), row)?;
-    }
-    Ok(())
-}
-
-#[test]
-fn edits_read_byte_by_byte(rt: HostRuntime) -> Result<(), Fail> {
-    for row in &EDITS {
-        expect_by_bytes(&rt, rt.alloc(), row)?;
-    }
-    Ok(())
-}
-
-#[test]
-fn hosts_read_byte_by_byte(rt: HostRuntime) -> Result<(), Fail> {
-    for row in &HOSTS {
-        expect_by_bytes(&rt, rt.alloc(), row)?;
+fn sessions_are_read_byte_by_byte(rt: HostRuntime) -> Result<(), Fail> {
+    let sessions: [&[Row<'static>]; 3] = [&RUNS, &EDITS, &HOSTS];
+    for rows in sessions {
+        expect_all_by_bytes(&rt, rt.alloc(), rows)?;
     }
     Ok(())
 }
