@@ -6,9 +6,9 @@ use Rattle.std.proofs.lemmas.List.{take_min, take-append-le}
 use Rattle.cstn_io.specs.Contents.{with_bytes, IsAtEnd}
 use Rattle.cstn_lines.specs.Pieces.{lines_of}
 use Rattle.cstn_lines.specs.Steps.{LinesState}
-use Rattle.cstn_reply.specs.Texts.{line}
-use Rattle.cstn_reply.specs.Plans.{Said, after_text, Plan, LiveState, IsText, is_output, is_memory, IsWritten, Ends}
-use Rattle.cstn_reply.specs.Sessions.{Turn, play, session, Progress}
+use Rattle.cstn_reply.specs.Texts.{Said, after_text, line}
+use Rattle.cstn_reply.specs.Written.{LiveState, IsText, is_output, is_memory, IsWritten, Ends}
+use Rattle.cstn_reply.specs.Sessions.{Turn, play, session_says, session_heard, Progress}
 use Rattle.cstn_reply.specs.declared.status.Status.{Status}
 use Rattle.cstn_reply.specs.declared.status.Status.TheVariants.{WriteFault, Memory}
 use Rattle.cstn_reply.proofs.Contents.{given, all_given, given_end, no_taken}
@@ -34,16 +34,16 @@ pub shown : (old new : Option (List ℕ)) (text other : List ℕ) (status result
 shown old new text other status result written same = subst (λ (xs : List ℕ). IsWritten old new xs status result) same written
 
 -- how a session ends where the last text was written, whole or in part, after what was written before
-pub finishes : (plan : Plan) (before after : LiveState) (old mid new : Option (List ℕ)) (said text : List ℕ) (status result : Status) → IsText plan before after status (said ++ text) → mid ≡ with_bytes old said → IsWritten mid new text status result → Ends plan before after old new result
-finishes plan before after old mid new said text status result is was (inl (same, wrote)) = (status, said ++ text, is, inl (same, with_more old mid new said text was wrote))
-finishes plan before after old mid new said text status result is was (inr (fault, (n, wrote))) = (status, said ++ text, is, inr (fault, (length said + n, with_more_cut old mid new said text n was wrote)))
+pub finishes : (output : List ℕ → Said → Type 0) (heard : List ℕ → List ℕ) (before after : LiveState) (old mid new : Option (List ℕ)) (said text : List ℕ) (status result : Status) → IsText output heard before after status (said ++ text) → mid ≡ with_bytes old said → IsWritten mid new text status result → Ends output heard before after old new result
+finishes output heard before after old mid new said text status result is was (inl (same, wrote)) = (status, said ++ text, is, inl (same, with_more old mid new said text was wrote))
+finishes output heard before after old mid new said text status result is was (inr (fault, (n, wrote))) = (status, said ++ text, is, inr (fault, (length said + n, with_more_cut old mid new said text n was wrote)))
 
 -- how a session ends where memory is refused before anything is written
-pub no_memory : (plan : Plan) (before after : LiveState) (old new : Option (List ℕ)) (result : Status) → IsWritten old new (line (codes "memory")) Memory result → Ends plan before after old new result
-no_memory plan before after old new result wrote = (Memory, line (codes "memory"), is_memory [] (inl refl), wrote)
+pub no_memory : (output : List ℕ → Said → Type 0) (heard : List ℕ → List ℕ) (before after : LiveState) (old new : Option (List ℕ)) (result : Status) → IsWritten old new (line (codes "memory")) Memory result → Ends output heard before after old new result
+no_memory output heard before after old new result wrote = (Memory, line (codes "memory"), is_memory [] (inl refl), wrote)
 
 -- how a session ends where the sink fails in an answer
-pub cut_short : {S : Type 0} (turn : S → List ℕ → Turn S) (ending : S → Said) (opening : List ℕ) (start : S) (before : LiveState) (now : Option (List ℕ)) (faults : ℕ) (lines : LinesState) (state : S) (taken said : List ℕ) (old new : Option (List ℕ)) (n : ℕ) → Progress turn ending start before.left now lines state taken said → (lines.ended ≡ true → IsAtEnd now) → new ≡ with_bytes old (take n (opening ++ said)) → Ends (session turn ending opening start) before (record { left = now; faults = faults }) old new WriteFault
+pub cut_short : {S : Type 0} (turn : S → List ℕ → Turn S) (ending : S → Said) (opening : List ℕ) (start : S) (before : LiveState) (now : Option (List ℕ)) (faults : ℕ) (lines : LinesState) (state : S) (taken said : List ℕ) (old new : Option (List ℕ)) (n : ℕ) → Progress turn ending start before.left now lines state taken said → (lines.ended ≡ true → IsAtEnd now) → new ≡ with_bytes old (take n (opening ++ said)) → Ends (session_says turn ending opening start) (session_heard turn opening start) before (record { left = now; faults = faults }) old new WriteFault
 cut_short turn ending opening start before now faults lines state taken said old new n so_far at_end is =
     let live : List ℕ = taken ++ given now in
     let rest : Said = play turn ending state lines.count (lines_of (lines.kept ++ given now)) in
@@ -57,7 +57,7 @@ cut_short turn ending opening start before now faults lines state taken said old
     )
 
 -- how a session ends where the sink fails in the opening
-pub cut_opening : {S : Type 0} (turn : S → List ℕ → Turn S) (ending : S → Said) (opening : List ℕ) (start : S) (before after : LiveState) (old new : Option (List ℕ)) (n : ℕ) → new ≡ with_bytes old (take n opening) → Ends (session turn ending opening start) before after old new WriteFault
+pub cut_opening : {S : Type 0} (turn : S → List ℕ → Turn S) (ending : S → Said) (opening : List ℕ) (start : S) (before after : LiveState) (old new : Option (List ℕ)) (n : ℕ) → new ≡ with_bytes old (take n opening) → Ends (session_says turn ending opening start) (session_heard turn opening start) before after old new WriteFault
 cut_opening turn ending opening start before after old new n is =
     let live : List ℕ = given before.left in
     let all : Said = after_text opening (play turn ending start 0 (lines_of live)) in (

@@ -6,10 +6,10 @@ use Rattle.cstn_io.specs.Causes.{Rose}
 use Rattle.cstn_io.specs.Contents.{after_bytes, IsAllOf, IsAtEnd}
 use Rattle.cstn_lines.specs.Pieces.{lines_of, whole_lines, is_past}
 use Rattle.cstn_lines.specs.Steps.{LinesState, HandsOut, IsOver, HasWrongLine, IsBroken}
-use Rattle.cstn_reply.specs.Texts.{line}
+use Rattle.cstn_reply.specs.Texts.{Said, after_text, line}
 use Rattle.cstn_reply.specs.Statuses.{status_of}
-use Rattle.cstn_reply.specs.Plans.{Said, after_text, EndsLine, LiveState, IsText, is_output, is_live_fault, is_memory}
-use Rattle.cstn_reply.specs.Sessions.{Turn, more, last, wrong, script, play, answers, session, the_turn, Progress}
+use Rattle.cstn_reply.specs.Written.{EndsLine, LiveState, IsText, is_output, is_live_fault, is_memory}
+use Rattle.cstn_reply.specs.Sessions.{Turn, more, last, wrong, script, play, answers, session_says, session_heard, the_turn, Progress}
 use Rattle.cstn_reply.specs.declared.status.Status.{Status}
 use Rattle.cstn_reply.specs.declared.status.Status.TheVariants.{ReadFault, Memory}
 use Rattle.cstn_reply.specs.declared.output.Outcome.{Outcome}
@@ -101,14 +101,14 @@ one_more {S} turn ending start told mid now lines after state next taken said by
     }
 
 -- what was said, and a last text after it, are the whole output
-ends_here : {S : Type 0} (turn : Turning S) (ending : S → Said) (opening : List ℕ) (start : S) (before after : LiveState) (live said text : List ℕ) (outcome : Outcome) (status : Status) → IsAllOf before.left live → play turn ending start 0 (lines_of live) ≡ after_text said (record { outcome = outcome; text = text }) → status ≡ status_of outcome → IsText (session turn ending opening start) before after status ((opening ++ said) ++ text)
+ends_here : {S : Type 0} (turn : Turning S) (ending : S → Said) (opening : List ℕ) (start : S) (before after : LiveState) (live said text : List ℕ) (outcome : Outcome) (status : Status) → IsAllOf before.left live → play turn ending start 0 (lines_of live) ≡ after_text said (record { outcome = outcome; text = text }) → status ≡ status_of outcome → IsText (session_says turn ending opening start) (session_heard turn opening start) before after status ((opening ++ said) ++ text)
 ends_here turn ending opening start before after live said text outcome status all is at =
     let whole : Said = record { outcome = outcome; text = (opening ++ said) ++ text } in
     let output : whole ≡ after_text opening (play turn ending start 0 (lines_of live)) = sym (ap (after_text opening) is ∙ after_both opening said (record { outcome = outcome; text = text })) in
-    subst (λ (s : Status). IsText (session turn ending opening start) before after s ((opening ++ said) ++ text)) (sym at) (is_output live whole all output)
+    subst (λ (s : Status). IsText (session_says turn ending opening start) (session_heard turn opening start) before after s ((opening ++ said) ++ text)) (sym at) (is_output live whole all output)
 
 -- what was said is followed by a last text in the whole output, where that text is what is said of the rest of the bytes
-rest_ends : {S : Type 0} (turn : Turning S) (ending : S → Said) (opening : List ℕ) (start : S) (before : LiveState) (mid now : Option (List ℕ)) (faults : ℕ) (lines after : LinesState) (state : S) (taken said bytes text : List ℕ) (outcome : Outcome) (status : Status) → Stepped turn ending start before.left mid now lines after state taken said bytes → ((after.ended ≡ true → given now ≡ []) → play turn ending state lines.count (lines_of ((lines.kept ++ bytes) ++ given now)) ≡ record { outcome = outcome; text = text }) → status ≡ status_of outcome → IsText (session turn ending opening start) before (record { left = now; faults = faults }) status ((opening ++ said) ++ text)
+rest_ends : {S : Type 0} (turn : Turning S) (ending : S → Said) (opening : List ℕ) (start : S) (before : LiveState) (mid now : Option (List ℕ)) (faults : ℕ) (lines after : LinesState) (state : S) (taken said bytes text : List ℕ) (outcome : Outcome) (status : Status) → Stepped turn ending start before.left mid now lines after state taken said bytes → ((after.ended ≡ true → given now ≡ []) → play turn ending state lines.count (lines_of ((lines.kept ++ bytes) ++ given now)) ≡ record { outcome = outcome; text = text }) → status ≡ status_of outcome → IsText (session_says turn ending opening start) (session_heard turn opening start) before (record { left = now; faults = faults }) status ((opening ++ said) ++ text)
 rest_ends turn ending opening start before mid now faults lines after state taken said bytes text outcome status stepped ends at =
     let end : after.ended ≡ true → given now ≡ [] = λ h. given_end now (stepped.at_end h) in
     ends_here turn ending opening start before (record { left = now; faults = faults }) ((taken ++ bytes) ++ given now) said text outcome status
@@ -117,7 +117,7 @@ rest_ends turn ending opening start before mid now faults lines after state take
     at
 
 -- the whole output, where the answer to a line is the last one
-pub last_line : {S : Type 0} (turn : Turning S) (ending : S → Said) (opening : List ℕ) (start : S) (before : LiveState) (mid now : Option (List ℕ)) (faults : ℕ) (lines after : LinesState) (state : S) (taken said bytes text : List ℕ) (number : ℕ) (outcome : Outcome) (status : Status) → Stepped turn ending start before.left mid now lines after state taken said bytes → HandsOut (lines.kept ++ bytes) lines.count after number → turn state after.line ≡ last (record { outcome = outcome; text = text }) → status ≡ status_of outcome → IsText (session turn ending opening start) before (record { left = now; faults = faults }) status ((opening ++ said) ++ text)
+pub last_line : {S : Type 0} (turn : Turning S) (ending : S → Said) (opening : List ℕ) (start : S) (before : LiveState) (mid now : Option (List ℕ)) (faults : ℕ) (lines after : LinesState) (state : S) (taken said bytes text : List ℕ) (number : ℕ) (outcome : Outcome) (status : Status) → Stepped turn ending start before.left mid now lines after state taken said bytes → HandsOut (lines.kept ++ bytes) lines.count after number → turn state after.line ≡ last (record { outcome = outcome; text = text }) → status ≡ status_of outcome → IsText (session_says turn ending opening start) (session_heard turn opening start) before (record { left = now; faults = faults }) status ((opening ++ said) ++ text)
 last_line turn ending opening start before mid now faults lines after state taken said bytes text number outcome status stepped out is at =
     let short : is_past (lines.count + 1) after.line ≡ false = subst (λ (n : ℕ). is_past n after.line ≡ false) out.is_number out.short in
     rest_ends turn ending opening start before mid now faults lines after state taken said bytes text outcome status stepped
@@ -129,7 +129,7 @@ scripts : (n m : ℕ) (text : List ℕ) → n ≡ m → text ≡ (script m).text
 scripts n m text same is = rw (same, is) refl
 
 -- the whole output, where a line is of no grammar
-pub wrong_line : {S : Type 0} (turn : Turning S) (ending : S → Said) (opening : List ℕ) (start : S) (before : LiveState) (mid now : Option (List ℕ)) (faults : ℕ) (lines after : LinesState) (state : S) (taken said bytes text : List ℕ) (number : ℕ) (status : Status) → Stepped turn ending start before.left mid now lines after state taken said bytes → HandsOut (lines.kept ++ bytes) lines.count after number → turn state after.line ≡ wrong → text ≡ (script number).text → status ≡ status_of Script → IsText (session turn ending opening start) before (record { left = now; faults = faults }) status ((opening ++ said) ++ text)
+pub wrong_line : {S : Type 0} (turn : Turning S) (ending : S → Said) (opening : List ℕ) (start : S) (before : LiveState) (mid now : Option (List ℕ)) (faults : ℕ) (lines after : LinesState) (state : S) (taken said bytes text : List ℕ) (number : ℕ) (status : Status) → Stepped turn ending start before.left mid now lines after state taken said bytes → HandsOut (lines.kept ++ bytes) lines.count after number → turn state after.line ≡ wrong → text ≡ (script number).text → status ≡ status_of Script → IsText (session_says turn ending opening start) (session_heard turn opening start) before (record { left = now; faults = faults }) status ((opening ++ said) ++ text)
 wrong_line turn ending opening start before mid now faults lines after state taken said bytes text number status stepped out is text_is at =
     let short : is_past (lines.count + 1) after.line ≡ false = subst (λ (n : ℕ). is_past n after.line ≡ false) out.is_number out.short in
     rest_ends turn ending opening start before mid now faults lines after state taken said bytes text Script status stepped
@@ -139,7 +139,7 @@ wrong_line turn ending opening start before mid now faults lines after state tak
     at
 
 -- the whole output, where a line is too long or too late
-pub past_line : {S : Type 0} (turn : Turning S) (ending : S → Said) (opening : List ℕ) (start : S) (before : LiveState) (mid now : Option (List ℕ)) (faults : ℕ) (lines after : LinesState) (state : S) (taken said bytes text : List ℕ) (number : ℕ) (status : Status) → Stepped turn ending start before.left mid now lines after state taken said bytes → HasWrongLine (lines.kept ++ bytes) lines.count after number → text ≡ (script number).text → status ≡ status_of Script → IsText (session turn ending opening start) before (record { left = now; faults = faults }) status ((opening ++ said) ++ text)
+pub past_line : {S : Type 0} (turn : Turning S) (ending : S → Said) (opening : List ℕ) (start : S) (before : LiveState) (mid now : Option (List ℕ)) (faults : ℕ) (lines after : LinesState) (state : S) (taken said bytes text : List ℕ) (number : ℕ) (status : Status) → Stepped turn ending start before.left mid now lines after state taken said bytes → HasWrongLine (lines.kept ++ bytes) lines.count after number → text ≡ (script number).text → status ≡ status_of Script → IsText (session_says turn ending opening start) (session_heard turn opening start) before (record { left = now; faults = faults }) status ((opening ++ said) ++ text)
 past_line turn ending opening start before mid now faults lines after state taken said bytes text number status stepped out text_is at =
     let found = out.next (given now) in
     let past : is_past (lines.count + 1) found.0 ≡ true = subst (λ (n : ℕ). is_past n found.0 ≡ true) out.is_number found.3 in
@@ -150,14 +150,14 @@ past_line turn ending opening start before mid now faults lines after state take
     at
 
 -- the whole output, where no line is left
-pub no_line : {S : Type 0} (turn : Turning S) (ending : S → Said) (opening : List ℕ) (start : S) (before : LiveState) (mid now : Option (List ℕ)) (faults : ℕ) (lines after : LinesState) (state : S) (taken said bytes text : List ℕ) (outcome : Outcome) (status : Status) → Stepped turn ending start before.left mid now lines after state taken said bytes → IsOver (lines.kept ++ bytes) lines.count after → ending state ≡ record { outcome = outcome; text = text } → status ≡ status_of outcome → IsText (session turn ending opening start) before (record { left = now; faults = faults }) status ((opening ++ said) ++ text)
+pub no_line : {S : Type 0} (turn : Turning S) (ending : S → Said) (opening : List ℕ) (start : S) (before : LiveState) (mid now : Option (List ℕ)) (faults : ℕ) (lines after : LinesState) (state : S) (taken said bytes text : List ℕ) (outcome : Outcome) (status : Status) → Stepped turn ending start before.left mid now lines after state taken said bytes → IsOver (lines.kept ++ bytes) lines.count after → ending state ≡ record { outcome = outcome; text = text } → status ≡ status_of outcome → IsText (session_says turn ending opening start) (session_heard turn opening start) before (record { left = now; faults = faults }) status ((opening ++ said) ++ text)
 no_line turn ending opening start before mid now faults lines after state taken said bytes text outcome status stepped out is at =
     rest_ends turn ending opening start before mid now faults lines after state taken said bytes text outcome status stepped
     (λ end. ap (λ (bs : List ℕ). play turn ending state lines.count (lines_of bs)) (ap (λ (xs : List ℕ). xs ++ given now) out.none ∙ end out.ended) ∙ is)
     at
 
 -- what is written where the live source fails
-pub fault_line : {S : Type 0} (turn : Turning S) (ending : S → Said) (opening : List ℕ) (start : S) (before : LiveState) (mid now : Option (List ℕ)) (old faults : ℕ) (lines after : LinesState) (state : S) (taken said bytes text : List ℕ) (status : Status) → Stepped turn ending start before.left mid now lines after state taken said bytes → IsBroken (lines.kept ++ bytes) lines.count after → before.faults ≤ old → Rose old faults → text ≡ line (codes "read fault") → status ≡ ReadFault → IsText (session turn ending opening start) before (record { left = now; faults = faults }) status ((opening ++ said) ++ text)
+pub fault_line : {S : Type 0} (turn : Turning S) (ending : S → Said) (opening : List ℕ) (start : S) (before : LiveState) (mid now : Option (List ℕ)) (old faults : ℕ) (lines after : LinesState) (state : S) (taken said bytes text : List ℕ) (status : Status) → Stepped turn ending start before.left mid now lines after state taken said bytes → IsBroken (lines.kept ++ bytes) lines.count after → before.faults ≤ old → Rose old faults → text ≡ line (codes "read fault") → status ≡ ReadFault → IsText (session_says turn ending opening start) (session_heard turn opening start) before (record { left = now; faults = faults }) status ((opening ++ said) ++ text)
 fault_line turn ending opening start before mid now old faults lines after state taken said bytes text status stepped out earlier rose text_is at =
     let said_is : answers turn start 0 (whole_lines (taken ++ bytes)) ≡ said =
     stepped.so_far.heard bytes (was_going lines.ended after.ended stepped.stays out.ended)
@@ -166,15 +166,15 @@ fault_line turn ending opening start before mid now old faults lines after state
     let text_was : (opening ++ answers turn start 0 (whole_lines (taken ++ bytes))) ++ line (codes "read fault") ≡ (opening ++ said) ++ text =
     ap (λ (xs : List ℕ). (opening ++ xs) ++ line (codes "read fault")) said_is ∙ ap (λ (xs : List ℕ). (opening ++ said) ++ xs) (sym text_is) in
     let now_seen : LiveState = record { left = now; faults = faults } in
-    subst (λ (s : Status). IsText (session turn ending opening start) before now_seen s ((opening ++ said) ++ text)) (sym at)
-    (subst (λ (x : List ℕ). IsText (session turn ending opening start) before now_seen ReadFault x) text_was
+    subst (λ (s : Status). IsText (session_says turn ending opening start) (session_heard turn opening start) before now_seen s ((opening ++ said) ++ text)) (sym at)
+    (subst (λ (x : List ℕ). IsText (session_says turn ending opening start) (session_heard turn opening start) before now_seen ReadFault x) text_was
     (is_live_fault (taken ++ bytes) (more_taken before.left mid now taken bytes stepped.so_far.read stepped.reads) (later before.faults old faults earlier rose)))
   where
     later : (a b c : ℕ) → a ≤ b → Rose b c → Rose a c
     later a b c h r = omega (arith, r)
 
 -- what is written where memory for an answer is refused
-pub memory_line : {S : Type 0} (turn : Turning S) (ending : S → Said) (opening : List ℕ) (start : S) (before : LiveState) (mid now : Option (List ℕ)) (faults : ℕ) (lines after : LinesState) (state : S) (taken said bytes text : List ℕ) (status : Status) → Stepped turn ending start before.left mid now lines after state taken said bytes → EndsLine opening → text ≡ line (codes "memory") → status ≡ Memory → IsText (session turn ending opening start) before (record { left = now; faults = faults }) status ((opening ++ said) ++ text)
+pub memory_line : {S : Type 0} (turn : Turning S) (ending : S → Said) (opening : List ℕ) (start : S) (before : LiveState) (mid now : Option (List ℕ)) (faults : ℕ) (lines after : LinesState) (state : S) (taken said bytes text : List ℕ) (status : Status) → Stepped turn ending start before.left mid now lines after state taken said bytes → EndsLine opening → text ≡ line (codes "memory") → status ≡ Memory → IsText (session_says turn ending opening start) (session_heard turn opening start) before (record { left = now; faults = faults }) status ((opening ++ said) ++ text)
 memory_line turn ending opening start before mid now faults lines after state taken said bytes text status stepped opens text_is at =
     let end : after.ended ≡ true → given now ≡ [] = λ h. given_end now (stepped.at_end h) in
     let live : List ℕ = (taken ++ bytes) ++ given now in
@@ -183,14 +183,14 @@ memory_line turn ending opening start before mid now faults lines after state ta
     ap (after_text opening) (goes_on turn ending start before.left mid now lines after state taken said bytes stepped (given now) end)
     ∙ after_both opening said rest in
     let now_seen : LiveState = record { left = now; faults = faults } in
-    subst (λ (s : Status). IsText (session turn ending opening start) before now_seen s ((opening ++ said) ++ text)) (sym at)
-    (subst (λ (x : List ℕ). IsText (session turn ending opening start) before now_seen Memory ((opening ++ said) ++ x)) (sym text_is)
+    subst (λ (s : Status). IsText (session_says turn ending opening start) (session_heard turn opening start) before now_seen s ((opening ++ said) ++ text)) (sym at)
+    (subst (λ (x : List ℕ). IsText (session_says turn ending opening start) (session_heard turn opening start) before now_seen Memory ((opening ++ said) ++ x)) (sym text_is)
     (is_memory (opening ++ said) (inr (record {
       live = live;
       said = after_text opening (play turn ending start 0 (lines_of live));
       rest = rest.text;
       all = all_given before.left now (taken ++ bytes) (more_taken before.left mid now taken bytes stepped.so_far.read stepped.reads);
-      output = refl;
+      whole = refl;
       first = ap (λ (s : Said). s.text) whole;
       lines = join_lines opening said opens stepped.so_far.lines_end;
     }))))

@@ -1,8 +1,6 @@
 pub mod Texts
 pub mod Statuses
 pub mod Files
-pub mod Refusals
-pub mod Faults
-pub mod Plans
 pub mod Read
+pub mod Written
 pub mod Sessions

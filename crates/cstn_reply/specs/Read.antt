@@ -1,5 +1,5 @@
 -- How values of the program are read.
-use Rattle.cstn_reply.specs.Plans.{Said}
+use Rattle.cstn_reply.specs.Texts.{Said}
 use Rattle.cstn_reply.specs.declared.output.Said.{Said as SaidText}
 
 -- the text that ends a request, and how the request ends

@@ -3,7 +3,8 @@ use Rattle.std.specs.Prelude.{◌≡◌, ℕ, ◌+◌, true, false, if◌then◌
 use Rattle.cstn_io.specs.Contents.{after_bytes}
 use Rattle.cstn_lines.specs.Pieces.{lines_of, whole_lines, is_past}
 use Rattle.cstn_lines.specs.Steps.{LinesState}
-use Rattle.cstn_reply.specs.Plans.{Said, say, after_text, Plan, talks, EndsLine}
+use Rattle.cstn_reply.specs.Texts.{Said, say, after_text}
+use Rattle.cstn_reply.specs.Written.{EndsLine}
 use Rattle.cstn_reply.specs.declared.output.Outcome.TheVariants.{Script}
 use Rattle.cstn_reply.specs.declared.session.Answer.{Answer}
 use Rattle.cstn_reply.specs.declared.session.Answer.TheVariants.{More, Last, Wrong}
@@ -38,9 +39,13 @@ answers turn state count (first ∷ lines) =
     if is_past (count + 1) first then [] else
     on_turn (turn state first) (λ text next. text ++ answers turn next (count + 1) lines) (λ said. said.text) []
 
--- an opening, and then a session from a state on
-abbrev pub session : {S : Type 0} → (S → List ℕ → Turn S) → (S → Said) → List ℕ → S → Plan
-session turn ending opening state = talks opening (play turn ending state 0) (answers turn state 0)
+-- what is said by an opening and then a session from a state on, where the live source has these bytes
+abbrev pub session_says : {S : Type 0} → (S → List ℕ → Turn S) → (S → Said) → List ℕ → S → List ℕ → Said → Type 0
+session_says turn ending opening state live said = said ≡ after_text opening (play turn ending state 0 (lines_of live))
+
+-- what is said by an opening and then a session before a fault of the live source that has given these bytes
+abbrev pub session_heard : {S : Type 0} → (S → List ℕ → Turn S) → List ℕ → S → List ℕ → List ℕ
+session_heard turn opening state taken = opening ++ answers turn state 0 (whole_lines taken)
 
 -- an answer with the state and the text that it leaves
 abbrev pub the_turn : {S : Type 0} → Answer → S → List ℕ → Turn S

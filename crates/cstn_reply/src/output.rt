@@ -4,7 +4,7 @@ ghost use Rattle.std.specs.Option.{option_map};
 ghost use Rattle.cstn_io.specs.Causes.{Rose};
 ghost use Rattle.cstn_io.specs.Contents.{with_bytes};
 ghost use Rattle.cstn_reply.specs.Statuses.{status_of};
-ghost use Rattle.cstn_reply.specs.Plans.{IsWritten};
+ghost use Rattle.cstn_reply.specs.Written.{IsWritten};
 
 use crate::Status;
 use cstn_io::{Failed, Sink, put_all};

@@ -4,9 +4,9 @@ ghost use Rattle.std.specs.Option.{option_map};
 ghost use Rattle.cstn_io.specs.Causes.{Rose};
 ghost use Rattle.cstn_io.specs.Contents.{after_bytes, with_bytes, IsAtEnd};
 ghost use Rattle.cstn_lines.specs.Steps.{LinesState};
-ghost use Rattle.cstn_reply.specs.Texts.{line};
-ghost use Rattle.cstn_reply.specs.Plans.{Said, EndsLine, LiveState, IsText, Ends};
-ghost use Rattle.cstn_reply.specs.Sessions.{Turn, script, session, the_turn, Progress};
+ghost use Rattle.cstn_reply.specs.Texts.{Said, line};
+ghost use Rattle.cstn_reply.specs.Written.{EndsLine, LiveState, IsText, Ends};
+ghost use Rattle.cstn_reply.specs.Sessions.{Turn, script, session_says, session_heard, the_turn, Progress};
 
 use crate::Status;
 use crate::output::{Outcome, finish, send};
@@ -105,7 +105,7 @@ fn next<T: Talk, S: Source>(
     requires room { T.room talk.old ≤ vec_capacity text.old }
     requires script { 40 ≤ vec_capacity text.old }
     ensures goes_on { IfNone result ((start : T.State) (told : Option (List ℕ)) (taken said : List ℕ) → Progress T.turn T.ending start told (S.left live.old) lines.old (T.state talk.old) taken said → (bytes : List ℕ) × Progress T.turn T.ending start told (S.left live.new) lines.new (T.state talk.new) (taken ++ bytes) (said ++ text.new.items)) }
-    ensures ends { IfSome result (λ status. (start : T.State) (before : LiveState) (taken said opening : List ℕ) → Progress T.turn T.ending start before.left (S.left live.old) lines.old (T.state talk.old) taken said → before.faults ≤ S.faults live.old → EndsLine opening → IsText (session T.turn T.ending opening start) before (record { left = S.left live.new; faults = S.faults live.new }) status ((opening ++ said) ++ text.new.items)) }
+    ensures ends { IfSome result (λ status. (start : T.State) (before : LiveState) (taken said opening : List ℕ) → Progress T.turn T.ending start before.left (S.left live.old) lines.old (T.state talk.old) taken said → before.faults ≤ S.faults live.old → EndsLine opening → IsText (session_says T.turn T.ending opening start) (session_heard T.turn opening start) before (record { left = S.left live.new; faults = S.faults live.new }) status ((opening ++ said) ++ text.new.items)) }
     ensures at_end { lines.new.ended ≡ true → IsAtEnd (S.left live.new) }
     ensures count { IfNone result ((lines.new.count ≡ lines.old.count + 1) × (lines.new.count ≤ 16777216)) }
     ensures room { T.room talk.new ≡ T.room talk.old }
@@ -151,7 +151,7 @@ pub fn converse<T: Talk, S: Source, K: Sink>(
     out: &mut K,
 ) -> Status
     requires { EndsLine opening.now }
-    ensures ends { Ends (session T.turn T.ending opening.now (T.state talk)) (record { left = S.left live.old; faults = S.faults live.old }) (record { left = S.left live.new; faults = S.faults live.new }) (K.written out.old) (K.written out.new) result }
+    ensures ends { Ends (session_says T.turn T.ending opening.now (T.state talk)) (session_heard T.turn opening.now (T.state talk)) (record { left = S.left live.old; faults = S.faults live.old }) (record { left = S.left live.new; faults = S.faults live.new }) (K.written out.old) (K.written out.new) result }
     ensures flushed { result ≢ Status.WriteFault → K.flushed out.new ≡ option_map length (K.written out.new) }
     ensures read { result ≡ Status.ReadFault → Rose (S.faults live.old) (S.faults live.new) }
     ensures write { result ≡ Status.WriteFault → Rose (K.faults out.old) (K.faults out.new) }

@@ -1,20 +1,18 @@
 use Rattle.std.proofs.Common.{arith, ◌++◌}
-use Rattle.cstn_reply.specs.Plans.{LiveState, Plan}
-use Rattle.cstn_reply.specs.Sessions.{session}
+use Rattle.cstn_reply.specs.Written.{LiveState}
+use Rattle.cstn_reply.specs.Sessions.{session_says, session_heard}
 use Rattle.cstn_reply.proofs.SessionEnds.{no_memory, cut_opening, cut_short, finishes, regroup, regroup_cut, shown}
 use Rattle.cstn_reply.proofs.session.converse.Goals as goal
 
 pub returns-in_default-clause-ends : goal.returns-in_default-clause-ends
 returns-in_default-clause-ends g c =
     let seen : LiveState = record { left = g.S.Source.left c.args.live.now; faults = g.S.Source.faults c.args.live.now } in
-    let plan : Plan = session g.T.Talk.turn g.T.Talk.ending c.args.opening.now (g.T.Talk.state c.args.talk) in
-    no_memory plan seen seen _ _ _ c.finish.ensures.written
+    no_memory (session_says g.T.Talk.turn g.T.Talk.ending c.args.opening.now (g.T.Talk.state c.args.talk)) (session_heard g.T.Talk.turn c.args.opening.now (g.T.Talk.state c.args.talk)) seen seen _ _ _ c.finish.ensures.written
 
 pub returns-in_default-with_capacity-clause-ends : goal.returns-in_default-with_capacity-clause-ends
 returns-in_default-with_capacity-clause-ends g c =
     let seen : LiveState = record { left = g.S.Source.left c.args.live.now; faults = g.S.Source.faults c.args.live.now } in
-    let plan : Plan = session g.T.Talk.turn g.T.Talk.ending c.args.opening.now (g.T.Talk.state c.args.talk) in
-    no_memory plan seen seen _ _ _ c.finish-in_default-with_capacity.ensures.written
+    no_memory (session_says g.T.Talk.turn g.T.Talk.ending c.args.opening.now (g.T.Talk.state c.args.talk)) (session_heard g.T.Talk.turn c.args.opening.now (g.T.Talk.state c.args.talk)) seen seen _ _ _ c.finish-in_default-with_capacity.ensures.written
 
 pub returns-in_default-send-clause-ends : goal.returns-in_default-send-clause-ends
 returns-in_default-send-clause-ends g c =
@@ -48,6 +46,6 @@ pub returns-in-Some-clause-ends : goal.returns-in-Some-clause-ends
 returns-in-Some-clause-ends g c =
     let was = c.session.invariant.progress in
     let after : LiveState = record { left = g.S.Source.left c.next.new.live; faults = g.S.Source.faults c.next.new.live } in
-    finishes _ _ after _ _ _ (c.args.opening.now ++ was.1) _ _ _
+    finishes _ _ _ after _ _ _ (c.args.opening.now ++ was.1) _ _ _
     (c.in-Some.ensures.ends (g.T.Talk.state c.args.talk) _ was.0 was.1 c.args.opening.now was.2 c.session.invariant.live c.requires)
     was.3 (shown _ _ _ _ _ _ c.finish-in-Some.ensures.written c.deref-in-Some.ensures.value)
