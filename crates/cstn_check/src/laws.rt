@@ -15,8 +15,9 @@ ghost use Rattle.cstn_check.specs.Growth.{Instance, grown, grow, log_of, load_of
 ghost use Rattle.cstn_check.specs.Kept.{IsKept};
 ghost use Rattle.cstn_check.specs.Spent.{HasPremises, IsSpent, AreSpent};
 
-/// The load is at most n * 4^k * (H + 2): n time-points, k observed propositions, H the deadline.
+/// The load is at least n and at most n * 4^k * (H + 2): n time-points, k observed propositions, H the deadline.
 pub fn growth_is_bounded()
+    ensures bases { (net : Network) → IsWellFormed net → count net ≤ load_of net }
     ensures load { (net : Network) → IsWellFormed net → load_of net ≤ most_entries net }
 {}
 

@@ -9,7 +9,7 @@ ghost use Rattle.cstn_reply.specs.Texts.{say};
 ghost use Rattle.cstn_tree.specs.Unfolded.{observed, IsTreeText, IsUnfolded};
 
 use crate::{make, print};
-use cstn_check::{Check, Judged, growth_ends, judge};
+use cstn_check::{Check, Judged, growth_is_bounded, judge};
 use cstn_exec::Executive;
 use cstn_label::NodeId;
 use cstn_net::Network;
@@ -34,7 +34,7 @@ pub fn tree_text(alloc: Global, network: Network, names: &Names, cap: u32) -> Re
     if observed > MOST_OBSERVED {
         return wide(alloc, observed);
     }
-    growth_ends();
+    growth_is_bounded();
     match judge(alloc, network, names, cap)? {
         Judged::Yes { load, check } => tell(alloc, load, check, names),
         Judged::Told(said) => Ok(said),

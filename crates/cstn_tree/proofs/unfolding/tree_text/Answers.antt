@@ -6,7 +6,6 @@ use Rattle.cstn_reply.specs.Read.{the_said}
 use Rattle.cstn_check.specs.Decisions.{TellsVerdict}
 use Rattle.cstn_check.specs.declared.decisions.Judged.{Judged}
 use Rattle.cstn_check.specs.declared.decisions.Judged.TheVariants.{Yes}
-use Rattle.cstn_evidence.proofs.Listing.{some_entries}
 use Rattle.cstn_tree.specs.Unfolded.{observed, IsTreeText}
 use Rattle.cstn_tree.proofs.Unfolding.{yes_said}
 use Rattle.cstn_tree.proofs.unfolding.tree_text.Goals as goal
@@ -14,7 +13,7 @@ use Rattle.cstn_tree.proofs.unfolding.tree_text.Goals as goal
 pub tell-requires-clause-low : goal.tell-requires-clause-low
 tell-requires-clause-low c =
     let decided : TellsVerdict c.args.cap c.args.names.now c.args.network (Yes c.in-Yes.load c.in-Yes.check) = subst (λ (d : Judged). TellsVerdict c.args.cap c.args.names.now c.args.network d) c.in-Yes.is c.in_ok-load.ensures.judged in
-    subst (λ (n : ℕ). 1 ≤ n) (sym decided.1) (some_entries (the_network c.args.network) c.requires.well_formed (c.growth_ends.ensures.goes_on (the_network c.args.network) 0 c.requires.well_formed))
+    subst (λ (n : ℕ). 1 ≤ n) (sym decided.1) (omega (arith, c.requires.well_formed.network.origin, c.growth_is_bounded.ensures.bases (the_network c.args.network) c.requires.well_formed))
 
 pub returns-in-Yes : goal.returns-in-Yes
 returns-in-Yes c = record {
