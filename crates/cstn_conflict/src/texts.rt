@@ -20,7 +20,12 @@ use std::alloc::{AllocError, Global};
 /// Says the conflict set of a network that isn't consistent, with what refutes the network of these constraints alone, or the
 /// load of a network that is. Each log may have `cap` entries: where one has more, the cap is said. Fails for want of memory
 /// alone.
-pub fn conflict_text(alloc: Global, network: Network, names: &Names, cap: u32) -> Result<Said, AllocError>
+pub fn conflict_text(
+    alloc: Global,
+    network: Network,
+    names: &Names,
+    cap: u32,
+) -> Result<Said, AllocError>
     requires some { 1 ≤ cap }
     requires most { cap ≤ 4194304 }
     requires well_formed { IsWellFormed (the_network network) }

@@ -1,6 +1,5 @@
 pub mod Texts
 pub mod Statuses
-pub mod Files
 pub mod Read
 pub mod Written
 pub mod Sessions

@@ -24,7 +24,12 @@ use std::alloc::{AllocError, Global};
 /// Says the least deadline at which a network is consistent, with the bounds that make it so and with what refutes it one tick
 /// below; of a network that isn't consistent at its own deadline, what refutes it. Each log may have `cap` entries: where one
 /// has more, the cap is said. Fails for want of memory alone.
-pub fn tight_text(alloc: Global, network: Network, names: &Names, cap: u32) -> Result<Said, AllocError>
+pub fn tight_text(
+    alloc: Global,
+    network: Network,
+    names: &Names,
+    cap: u32,
+) -> Result<Said, AllocError>
     requires some { 1 ≤ cap }
     requires most { cap ≤ 4194304 }
     requires well_formed { IsWellFormed (the_network network) }

@@ -23,7 +23,12 @@ const MOST_OBSERVED: u16 = 10;
 /// Says after yes what the executive of a network does, as a tree, after no what refutes the network, or the cap where its log
 /// has more than `cap` entries. Where more than 10 propositions are observed it says how many, and decides nothing. Fails for
 /// want of memory alone.
-pub fn tree_text(alloc: Global, network: Network, names: &Names, cap: u32) -> Result<Said, AllocError>
+pub fn tree_text(
+    alloc: Global,
+    network: Network,
+    names: &Names,
+    cap: u32,
+) -> Result<Said, AllocError>
     requires some { 1 ≤ cap }
     requires most { cap ≤ 4194304 }
     requires well_formed { IsWellFormed (the_network network) }

@@ -1,10 +1,10 @@
 use Rattle.std.proofs.Common.{ℕ, subst}
 use Rattle.std.specs.Prelude.{Ok}
 use Rattle.cstn_words.specs.Read.{the_asked}
-use Rattle.cstn_verdict.specs.Opened.{IsOpenedWithLabels}
-use Rattle.cstn_verdict.specs.declared.documents.WithLabels.{WithLabels}
-use Rattle.cstn_verdict.proofs.Opening.{plainly_opened}
-use Rattle.cstn_verdict.proofs.documents.open.Goals as goal
+use Rattle.cstn_documents.specs.Opened.{IsOpenedWithLabels}
+use Rattle.cstn_documents.specs.declared.documents.WithLabels.{WithLabels}
+use Rattle.cstn_documents.proofs.Opening.{plainly_opened}
+use Rattle.cstn_documents.proofs.documents.open.Goals as goal
 
 pub returns-in_ok-take_plain-in-Accepted-clause-opened : goal.returns-in_ok-take_plain-in-Accepted-clause-opened
 returns-in_ok-take_plain-in-Accepted-clause-opened g c =

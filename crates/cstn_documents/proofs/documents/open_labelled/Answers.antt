@@ -1,8 +1,8 @@
 use Rattle.std.proofs.Common.{ap, ℕ}
 use Rattle.std.specs.Prelude.{Ok, Err}
 use Rattle.cstn_words.specs.Read.{the_asked}
-use Rattle.cstn_verdict.proofs.Opening.{long_opened}
-use Rattle.cstn_verdict.proofs.documents.open_labelled.Goals as goal
+use Rattle.cstn_documents.proofs.Opening.{long_opened}
+use Rattle.cstn_documents.proofs.documents.open_labelled.Goals as goal
 
 pub returns-in-Err-TooLong-clause-opened : goal.returns-in-Err-TooLong-clause-opened
 returns-in-Err-TooLong-clause-opened g c =

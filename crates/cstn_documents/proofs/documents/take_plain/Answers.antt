@@ -1,8 +1,8 @@
 use Rattle.std.proofs.Common.{sym, ap, ◌∙◌, refl}
 use Rattle.std.proofs.lemmas.Bool.{false≢true}
 use Rattle.cstn_net.specs.Networks.{count}
-use Rattle.cstn_verdict.proofs.Opening.{empties_from, labels_told}
-use Rattle.cstn_verdict.proofs.documents.take_plain.Goals as goal
+use Rattle.cstn_documents.proofs.Opening.{empties_from, labels_told}
+use Rattle.cstn_documents.proofs.documents.take_plain.Goals as goal
 
 pub returns-then-is_labelled-clause-taken : goal.returns-then-is_labelled-clause-taken
 returns-then-is_labelled-clause-taken c =

@@ -4,7 +4,7 @@ ghost use Rattle.cstn_net.specs.Networks.{count};
 ghost use Rattle.cstn_net.specs.Read.{the_network};
 ghost use Rattle.cstn_graphml.specs.DrawnGraph.{origin_name};
 ghost use Rattle.cstn_io.specs.Causes.{Rose};
-ghost use Rattle.cstn_verdict.specs.Opened.{IsOpened, IsOpenedWithLabels, HasNames, IsNamedLabelled, IsTooLong, OpensWithLabels, IsTakenOf, IsLabelsTold};
+ghost use Rattle.cstn_documents.specs.Opened.{IsOpened, IsOpenedWithLabels, HasNames, IsNamedLabelled, IsTooLong, OpensWithLabels, IsTakenOf, TellsLabels};
 ghost use Rattle.cstn_words.specs.Read.{the_asked};
 
 use crate::refusals::refuse;
@@ -109,7 +109,7 @@ fn take_plain(alloc: Global, labelled: Labelled, names: Names) -> Result<Opened,
 
 // What is said of a document with labels.
 fn has_labels(alloc: Global) -> Result<Opened, AllocError>
-    ensures told { IfOk result IsLabelsTold }
+    ensures told { IfOk result TellsLabels }
     ensures named { IfOk result HasNames }
 {
     let text = b"document labels\n".to_vec(alloc)?;

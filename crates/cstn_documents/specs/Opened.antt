@@ -14,15 +14,15 @@ use Rattle.cstn_lift.specs.Lowered.{lowered}
 use Rattle.cstn_lift.specs.Read.{LabelledParts, the_labelled}
 use Rattle.cstn_graphml.specs.DrawnGraph.{origin_name}
 use Rattle.cstn_reply.specs.declared.output.Outcome.TheVariants.{Document}
-use Rattle.cstn_verdict.specs.declared.documents.Opened.{Opened}
-use Rattle.cstn_verdict.specs.declared.documents.Opened.TheVariants.{Accepted, Told}
-use Rattle.cstn_verdict.specs.declared.documents.WithLabels.{WithLabels}
-use Rattle.cstn_verdict.specs.declared.documents.WithLabels.TheVariants.{Accepted as Labelled, Told as Refused}
-use Rattle.cstn_reply.specs.Files.{IsContent, AreThere}
-use Rattle.cstn_reply.specs.Refusals.{refusal_text, fault_text, label_fault_text}
+use Rattle.cstn_documents.specs.declared.documents.Opened.{Opened}
+use Rattle.cstn_documents.specs.declared.documents.Opened.TheVariants.{Accepted, Told}
+use Rattle.cstn_documents.specs.declared.documents.WithLabels.{WithLabels}
+use Rattle.cstn_documents.specs.declared.documents.WithLabels.TheVariants.{Accepted as Labelled, Told as Refused}
+use Rattle.cstn_documents.specs.Files.{IsContent, AreThere}
+use Rattle.cstn_documents.specs.Refusals.{refusal_text, fault_text, label_fault_text}
 use Rattle.cstn_words.specs.Requests.{Asked}
-use Rattle.cstn_reply.specs.Plans.{Said, say, IsOutput, AreEmpty, AreUnlabelled}
-use Rattle.cstn_verdict.specs.Documents.{Answer, LabelledAnswer, on_labelled, on_document}
+use Rattle.cstn_reply.specs.Texts.{Said, say}
+use Rattle.cstn_documents.specs.Documents.{AreEmpty, AreUnlabelled, IsSaidOf, IsSaidPlainly}
 use Rattle.cstn_reply.specs.Read.{the_said}
 
 -- what is said of an error; nothing is said for want of memory
@@ -40,10 +40,6 @@ IsToldBy (Net error names) said = said ≡ say Document (fault_text names error)
 IsToldBy (Lift error names) said = said ≡ say Document (label_fault_text names error)
 IsToldBy (Memory e) said = ⊥
 
--- this is said of the document where labels are taken, whatever would be said of a labelled network
-abbrev pub IsSaidOf : List ℕ → Option ℕ → Said → Type 0
-IsSaidOf bytes deadline said = (answer : LabelledAnswer) (live : List ℕ) → IsOutput (on_labelled answer bytes deadline) live said
-
 -- the document has these parts, without labels: this is their network, and these are the names of its time-points
 pub record IsPlainDocument (told : Result Parts Refusal) (network : NetworkParts) (names : List (List ℕ)) : Type 0 where
   pub parts : Parts
@@ -59,19 +55,16 @@ IsTakenOf l names (Accepted network others) =
 IsTakenOf l names (Told said) = (AreEmpty (the_labelled l).labels → ⊥) × (the_said said ≡ say Document (codes "document labels"))
 
 -- it is told that the document has labels
-abbrev pub IsLabelsTold : Opened → Type 0
-IsLabelsTold (Accepted network names) = ⊥
-IsLabelsTold (Told said) = the_said said ≡ say Document (codes "document labels")
+abbrev pub TellsLabels : Opened → Type 0
+TellsLabels (Accepted network names) = ⊥
+TellsLabels (Told said) = the_said said ≡ say Document (codes "document labels")
 
 -- the document of these bytes was accepted, or this is said of it
 abbrev pub OpensWithLabels : List ℕ → Option ℕ → WithLabels → Type 0
 OpensWithLabels bytes deadline (Labelled labelled names) = (length bytes ≤ 8388608) × IsDocument (document bytes deadline) (the_labelled labelled) names
 OpensWithLabels bytes deadline (Refused said) = IsSaidOf bytes deadline (the_said said) × (said.outcome ≡ Document)
 
--- this is said of the document where labels are refused, whatever would be said of a network
-abbrev pub IsSaidPlainly : List ℕ → Option ℕ → Said → Type 0
-IsSaidPlainly bytes deadline said = (answer : Answer) (live : List ℕ) → IsOutput (on_document answer bytes deadline) live said
-
+-- the document of these bytes was accepted, without labels, or this is said of it
 abbrev pub OpensAs : List ℕ → Option ℕ → Opened → Type 0
 OpensAs bytes deadline (Accepted network names) =
     (length bytes ≤ 8388608) × IsPlainDocument (document bytes deadline) network names × IsWellFormed (the_network network)

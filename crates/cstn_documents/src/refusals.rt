@@ -2,11 +2,10 @@
 ghost use Rattle.std.specs.Prelude.{◌≡◌, ◌++◌, ◌∷◌, [], IfOk, codes, slice_index_or};
 ghost use Rattle.cstn_label.specs.Letters.{letter_of};
 ghost use Rattle.cstn_text.specs.PrintedNames.{printed_name};
-ghost use Rattle.cstn_verdict.specs.Opened.{IsToldBy};
+ghost use Rattle.cstn_documents.specs.Opened.{IsToldBy};
 ghost use Rattle.cstn_reply.specs.Read.{the_said};
-ghost use Rattle.cstn_reply.specs.Refusals.{at_place, with_number, fault_text, label_fault_text};
-ghost use Rattle.cstn_reply.specs.Plans.{say};
-ghost use Rattle.cstn_reply.specs.Texts.{line};
+ghost use Rattle.cstn_documents.specs.Refusals.{at_place, with_number, fault_text, label_fault_text};
+ghost use Rattle.cstn_reply.specs.Texts.{say, line};
 
 use cstn_graphml::DocError;
 use cstn_label::{NodeId, Prop};

@@ -1,3 +1,4 @@
+pub mod Files
+pub mod Refusals
 pub mod Documents
-pub mod Verdicts
 pub mod Opened

@@ -1,0 +1,174 @@
+-- What is said of a document that was opened.
+use Rattle.std.proofs.Common.{◌≡◌, ◌≢◌, ℕ, zero, suc, ◌+◌, ◌^◌, get_or, ◌≤◌, ◌<◌, List, [], ◌∷◌, length, refl, ap, sym, ◌∙◌, subst, inl, inr, arith}
+use Rattle.std.specs.Prelude.{nat_lt, if◌then◌else◌, Option, Result, Ok, Err, IfOk, codes}
+use Rattle.cstn_io.specs.Contents.{IsLongFile}
+use Rattle.std.specs.List.{All}
+use Rattle.std.proofs.lemmas.List.{length-map, get_or-map}
+use Rattle.cstn_net.specs.declared.constraints.Constraint.{Constraint as LentConstraint}
+use Rattle.cstn_net.specs.Networks.{Network, Constraint, count}
+use Rattle.cstn_net.specs.Read.{NetworkParts, the_network, the_constraint}
+use Rattle.cstn_element.specs.declared.errors.DocError.{DocError}
+use Rattle.cstn_element.specs.declared.errors.DocError.TheVariants.{NotUtf8, Shape, NameTwice, UnknownNode, Value, LabelText, Contingent, EdgeType, NoDeadline, Net, Lift, Memory}
+use Rattle.cstn_element.specs.Results.{Refusal}
+use Rattle.cstn_element.specs.Results.Refusal.{not_utf8, shape, name_twice, unknown_node, bad_value, label_text, contingent, edge_type, no_deadline}
+use Rattle.cstn_graphml.specs.Answers.{IsUnfitDocument, IsMislabelledDocument, RefusesDocument}
+use Rattle.cstn_graphml.specs.Document.{Parts, document}
+use Rattle.cstn_graphml.specs.DrawnGraph.{DrawnConstraint}
+use Rattle.cstn_graphml.specs.Networks.{numbered_drawn, network_of, labelled_of, IsFit}
+use Rattle.cstn_label.specs.Labels.{Label, empty}
+use Rattle.cstn_label.proofs.MarkLemmas.{absent_or_not}
+use Rattle.cstn_lift.specs.declared.errors.LiftError.{LiftError}
+use Rattle.cstn_lift.specs.Labelled.{Labelled, label_in}
+use Rattle.cstn_lift.specs.WellFormed.{IsLabelled}
+use Rattle.cstn_lift.specs.Lowered.{lowered}
+use Rattle.cstn_lift.specs.Read.{LabelledParts, the_labelled}
+use Rattle.cstn_lift.proofs.Unlabelled.{unlabelled_lowered, numbered_same}
+use Rattle.std.proofs.Math.Path.{fun_ext}
+use Rattle.cstn_net.specs.declared.errors.NetError.{NetError}
+use Rattle.cstn_documents.specs.Files.{IsContent, AreThere}
+use Rattle.cstn_documents.specs.Refusals.{refusal_text, fault_text, label_fault_text}
+use Rattle.cstn_words.specs.Requests.{Asked}
+use Rattle.cstn_reply.specs.Texts.{Said, say}
+use Rattle.cstn_documents.specs.Documents.{AreEmpty, IsRefusalOf, IsLabelsTold}
+use Rattle.cstn_documents.specs.Opened.{IsToldBy, IsPlainDocument, OpensAs, OpensWithLabels, IsOpened, IsOpenedWithLabels, IsTooLong, IsTakenOf, TellsLabels}
+use Rattle.cstn_reply.specs.Read.{the_said}
+use Rattle.cstn_reply.specs.declared.output.Said.{Said as SaidText}
+use Rattle.cstn_reply.specs.declared.output.Outcome.TheVariants.{Document}
+use Rattle.cstn_documents.specs.declared.documents.Opened.{Opened}
+use Rattle.cstn_documents.specs.declared.documents.Opened.TheVariants.{Accepted, Told}
+use Rattle.cstn_documents.specs.declared.documents.WithLabels.{WithLabels}
+use Rattle.cstn_documents.specs.declared.documents.WithLabels.TheVariants.{Accepted as LabelledOne, Told as RefusedOne}
+use Rattle.cstn_documents.proofs.Contents.{long_content, long_is_there}
+
+-- a refusal by the grammar
+refused_said : (told : Result Parts Refusal) (refusal : Refusal) (said : Said) → told ≡ Err refusal → said ≡ say Document (refusal_text refusal) → IsRefusalOf told said
+refused_said told refusal said is same = subst (λ (r : Result Parts Refusal). IsRefusalOf r said) (sym is) same
+
+-- a refusal of the network
+unfit_said : (told : Result Parts Refusal) (error : NetError) (names : List (List ℕ)) (said : Said) → IsUnfitDocument told error names → said ≡ say Document (fault_text names error) → IsRefusalOf told said
+unfit_said told error names said unfit same =
+    subst (λ (r : Result Parts Refusal). IsRefusalOf r said) (sym unfit.told_are)
+    (inl (error, unfit.unfit, same ∙ ap (λ (ns : List (List ℕ)). say Document (fault_text ns error)) unfit.names_are))
+
+-- a refusal of its labels
+mislabelled_said : (told : Result Parts Refusal) (error : LiftError) (names : List (List ℕ)) (said : Said) → IsMislabelledDocument told error names → said ≡ say Document (label_fault_text names error) → IsRefusalOf told said
+mislabelled_said told error names said is same =
+    subst (λ (r : Result Parts Refusal). IsRefusalOf r said) (sym is.told_are)
+    (inr (error, is.mislabelled, same ∙ ap (λ (ns : List (List ℕ)). say Document (label_fault_text ns error)) is.names_are))
+
+error_said : (told : Result Parts Refusal) (error : DocError) (said : Said) → RefusesDocument told error → IsToldBy error said → IsRefusalOf told said
+error_said told (NotUtf8 at) said is same = refused_said told (not_utf8 at) said is same
+error_said told (Shape at) said is same = refused_said told (shape at) said is same
+error_said told (NameTwice at) said is same = refused_said told (name_twice at) said is same
+error_said told (UnknownNode at) said is same = refused_said told (unknown_node at) said is same
+error_said told (Value at) said is same = refused_said told (bad_value at) said is same
+error_said told (LabelText at) said is same = refused_said told (label_text at) said is same
+error_said told (Contingent at) said is same = refused_said told (contingent at) said is same
+error_said told (EdgeType at) said is same = refused_said told (edge_type at) said is same
+error_said told NoDeadline said is same = refused_said told no_deadline said is same
+error_said told (Net error names) said is same = unfit_said told error names said is same
+error_said told (Lift error names) said is same = mislabelled_said told error names said is same
+error_said told (Memory e) said is same = absurd same
+
+told_by : (error : DocError) (said : Said) → IsToldBy error said → said.outcome ≡ Document
+told_by (NotUtf8 at) said same = ap (λ (s : Said). s.outcome) same
+told_by (Shape at) said same = ap (λ (s : Said). s.outcome) same
+told_by (NameTwice at) said same = ap (λ (s : Said). s.outcome) same
+told_by (UnknownNode at) said same = ap (λ (s : Said). s.outcome) same
+told_by (Value at) said same = ap (λ (s : Said). s.outcome) same
+told_by (LabelText at) said same = ap (λ (s : Said). s.outcome) same
+told_by (Contingent at) said same = ap (λ (s : Said). s.outcome) same
+told_by (EdgeType at) said same = ap (λ (s : Said). s.outcome) same
+told_by NoDeadline said same = ap (λ (s : Said). s.outcome) same
+told_by (Net error names) said same = ap (λ (s : Said). s.outcome) same
+told_by (Lift error names) said same = ap (λ (s : Said). s.outcome) same
+told_by (Memory e) said same = absurd same
+
+-- a document that is refused
+pub refused_opens : (bytes : List ℕ) (deadline : Option ℕ) (error : DocError) (said : SaidText) → length bytes ≤ 8388608 → RefusesDocument (document bytes deadline) error → IsToldBy error (the_said said) → OpensWithLabels bytes deadline (RefusedOne said)
+refused_opens bytes deadline error said short is same =
+    (inr (short, error_said (document bytes deadline) error (the_said said) is same), told_by error (the_said said) same)
+
+-- a file that is too long
+pub long_opened : {E : Type 0} (told : Option (List ℕ → Option (List ℕ))) (asked : Asked) (r : Result WithLabels E) → IsLongFile told asked.file 8388608 → IfOk r IsTooLong → IfOk r (IsOpenedWithLabels told asked)
+long_opened told asked (Err e) long is = tt
+long_opened told asked (Ok (LabelledOne labelled names)) long is = absurd is
+long_opened told asked (Ok (RefusedOne said)) long is =
+    let found = long_content told asked.file 8388608 long in
+    record {
+      bytes = found.0;
+      content = found.1;
+      there = long_is_there told asked.file 8388608 long;
+      opens = (inl (found.2, is), ap (λ (s : Said). s.outcome) is);
+    }
+
+-- the ids of a document's constraints are their places
+numbered_id : (k : ℕ) (cs : List DrawnConstraint) (i : ℕ) (d : Constraint) → i < length (numbered_drawn k cs) → (get_or (numbered_drawn k cs) i d).id ≡ k + i
+numbered_id k [] i d inside = absurd (omega (arith, inside))
+numbered_id k (c ∷ cs) zero d inside = omega arith
+numbered_id k (c ∷ cs) (suc i) d inside = let later = numbered_id (k + 1) cs i d (omega (arith, inside)) in omega (arith, later)
+
+-- the lowered network of a document without labels is its network
+plain_network : (parts : Parts) → IsLabelled (labelled_of parts) → AreEmpty parts.labels → lowered (labelled_of parts) ≡ network_of parts
+plain_network parts good empties =
+    unlabelled_lowered (labelled_of parts) good (λ x inside. empties x (omega (arith, inside, good.one_each)))
+    ∙ ap (λ (cs : List Constraint). record (network_of parts) { constraints = cs }) (numbered_same 0 (numbered_drawn 0 parts.constraints) (λ i d inside. numbered_id 0 parts.constraints i d inside))
+
+-- a document with labels
+labels_said : (told : Result Parts Refusal) (parts : Parts) (said : Said) → told ≡ Ok parts → IsFit parts → (AreEmpty parts.labels → ⊥) → said ≡ say Document (codes "document labels") → IsLabelsTold told said
+labels_said told parts said is fit labelled same = subst (λ (r : Result Parts Refusal). IsLabelsTold r said) (sym is) (fit, labelled, same)
+
+-- a document whose labelled network was read
+plain_opens : (bytes : List ℕ) (deadline : Option ℕ) (l : LabelledParts) (names : List (List ℕ)) (opened : Opened) → OpensWithLabels bytes deadline (LabelledOne l names) → IsTakenOf l names opened → OpensAs bytes deadline opened
+plain_opens bytes deadline l names (Accepted net others) opens taken =
+    let is = opens.1 in
+    let empties : AreEmpty is.parts.labels = subst (λ (m : Labelled). AreEmpty m.labels) is.labelled_is taken.0 in
+    let parts_are : IsPlainDocument (document bytes deadline) net others = record {
+      parts = is.parts;
+      told_are = is.told_are;
+      unlabelled = (is.fit, empties);
+      network_is = taken.2 ∙ ap lowered is.labelled_is ∙ plain_network is.parts (subst IsLabelled is.labelled_is taken.1) empties;
+      names_are = taken.4 ∙ is.names_are;
+    } in
+    (opens.0, parts_are, taken.3)
+plain_opens bytes deadline l names (Told said) opens taken =
+    let is = opens.1 in (
+      inr (opens.0, labels_said (document bytes deadline) is.parts (the_said said) is.told_are is.fit (λ empties. taken.0 (subst (λ (m : Labelled). AreEmpty m.labels) (sym is.labelled_is) empties)) taken.1),
+      ap (λ (s : Said). s.outcome) taken.1,
+    )
+
+pub plainly_opened : {E : Type 0} (told : Option (List ℕ → Option (List ℕ))) (asked : Asked) (l : LabelledParts) (names : List (List ℕ)) (r : Result Opened E) → IsOpenedWithLabels told asked (LabelledOne l names) → IfOk r (IsTakenOf l names) → IfOk r (IsOpened told asked)
+plainly_opened told asked l names (Err e) is taken = tt
+plainly_opened told asked l names (Ok opened) is taken = record { bytes = is.bytes; content = is.content; there = is.there; opens = plain_opens is.bytes asked.deadline l names opened is.opens taken }
+
+-- a document that was refused, whether labels are taken or not
+pub plainly_refused : (told : Option (List ℕ → Option (List ℕ))) (asked : Asked) (said : SaidText) → IsOpenedWithLabels told asked (RefusedOne said) → IsOpened told asked (Told said)
+plainly_refused told asked said is = record { bytes = is.bytes; content = is.content; there = is.there; opens = (inl is.opens.0, is.opens.1) }
+
+-- a label that can't differ from the empty one is empty
+empty_unless : (a : Label) → (a ≢ empty → ⊥) → a ≡ empty
+empty_unless a never = fun_ext (λ p. elim (absent_or_not (a p)) [
+  | inl is ↦ is
+  | inr not ↦ absurd (never (λ same. not (ap (λ (b : Label). b p) same)))
+])
+
+-- the labels are empty where none differs from the empty one
+pub empties_from : (l : LabelledParts) → IsLabelled (the_labelled l) → ((x : ℕ) → x < count (the_network l.base) → label_in (the_labelled l).labels x ≢ empty → ⊥) → AreEmpty (the_labelled l).labels
+empties_from l good none = λ x inside. empty_unless (label_in (the_labelled l).labels x) (none x (omega (arith, inside, good.one_each)))
+
+-- where a label differs from the empty one, not all labels are empty, and it is told that the document has labels
+pub labels_told : {E : Type 0} (l : LabelledParts) (names : List (List ℕ)) (r : Result Opened E) → IsLabelled (the_labelled l) → (x : ℕ) → x < count (the_network l.base) → label_in (the_labelled l).labels x ≢ empty → IfOk r TellsLabels → IfOk r (IsTakenOf l names)
+labels_told l names (Err e) good x inside there told = tt
+labels_told l names (Ok (Accepted net others)) good x inside there told = absurd told
+labels_told l names (Ok (Told said)) good x inside there told = (λ empties. there (empties x (omega (arith, inside, good.one_each))), told)
+
+pub document_ids : (told : Option (List ℕ → Option (List ℕ))) (asked : Asked) (net : NetworkParts) (names : List (List ℕ)) → IsOpened told asked (Accepted net names) → All (λ (c : LentConstraint). c.id < 2 ^ 31) net.constraints
+document_ids told asked net names opened = λ i d inside.
+    let is = opened.opens.1 in
+    let few : length (the_network net).constraints ≤ 16384 = opened.opens.2.few_constraints in
+    let long : length (the_network net).constraints ≡ length net.constraints = length-map net.constraints the_constraint in
+    let all : (the_network net).constraints ≡ numbered_drawn 0 is.parts.constraints = ap (λ (n : Network). n.constraints) is.network_is in
+    let place = numbered_id 0 is.parts.constraints i (the_constraint d) (omega (arith, inside, long, ap length all)) in
+    let there = ap (λ (cs : List Constraint). (get_or cs i (the_constraint d)).id) all in
+    let same = ap (λ (c : Constraint). c.id) (get_or-map the_constraint net.constraints i d (the_constraint d) inside) in
+    omega (arith, inside, few, long, place, there, same)
