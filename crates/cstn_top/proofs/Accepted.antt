@@ -13,7 +13,9 @@ use Rattle.cstn_words.specs.Read.{IsCapped, the_request}
 use Rattle.cstn_top.specs.Prepared.{IsRanged}
 use Rattle.cstn_words.specs.declared.words.Request.{Request as RequestWords}
 use Rattle.cstn_words.specs.declared.words.Request.TheVariants.{Check, Run, Edit, Closed, Tight, Conflict, Tree, Save, Replay, Closedcheck, Treecheck, Drill, Host}
-use Rattle.cstn_reply.specs.Plans.{Said, say, Plan, says, branches, IsOutput, LiveState, IsText, is_output, is_file_fault, is_live_fault, is_memory, IsWritten}
+use Rattle.cstn_reply.specs.Texts.{Said, say}
+use Rattle.cstn_top.specs.Plans.{Plan, says, branches, IsOutput, IsText}
+use Rattle.cstn_reply.specs.Written.{LiveState, is_output, is_file_fault, is_live_fault, is_memory, IsWritten}
 use Rattle.cstn_reply.specs.Statuses.{status_of}
 use Rattle.cstn_reply.specs.Texts.{yes_line}
 use Rattle.cstn_reply.specs.declared.output.Outcome.{Outcome}
@@ -22,22 +24,25 @@ use Rattle.cstn_reply.specs.declared.status.Status.{Status}
 use Rattle.cstn_lift.specs.Labelled.{Labelled}
 use Rattle.cstn_lift.specs.Lowered.{lowered}
 use Rattle.cstn_lift.specs.Strategies.{IsLabelledConsistent}
-use Rattle.cstn_verdict.specs.Documents.{Answer, of_lowered, HasLabelled, HasNetwork, IsRefused, on_document}
-use Rattle.cstn_verdict.specs.Verdicts.{verdict, on_verdict, checked}
+use Rattle.cstn_top.specs.Answers.{Answer, of_lowered, on_document}
+use Rattle.cstn_documents.specs.Documents.{HasLabelled, HasNetwork, IsRefused}
+use Rattle.cstn_check.specs.Decisions.{verdict}
+use Rattle.cstn_top.specs.Answers.{on_verdict, checked}
 use Rattle.cstn_guide.specs.Guides.{begun}
 use Rattle.cstn_talk.specs.Guiding.{guide_turn, guide_ending, carried_out}
 use Rattle.cstn_text.specs.PrintedNames.{printed_name}
-use Rattle.cstn_reply.specs.Sessions.{session}
-use Rattle.cstn_evidence.specs.Accepted.{IsYesText, IsNoText, IsTightText, IsConflictText}
-use Rattle.cstn_evidence.specs.Bounds.{listed}
-use Rattle.cstn_evidence.specs.Blame.{blamed}
-use Rattle.cstn_evidence.specs.Tight.{tightened}
-use Rattle.cstn_strategy.specs.Unfolded.{observed, unfolded}
+use Rattle.cstn_top.specs.Plans.{session}
+use Rattle.cstn_top.specs.Accepted.{IsYesText, IsNoText, IsTightText, IsConflictText}
+use Rattle.cstn_top.specs.Answers.{listed}
+use Rattle.cstn_top.specs.Answers.{blamed}
+use Rattle.cstn_top.specs.Answers.{tightened}
+use Rattle.cstn_tree.specs.Unfolded.{observed}
+use Rattle.cstn_top.specs.Answers.{unfolded}
 use Rattle.cstn_top.specs.Outputs.{plan_at}
 use Rattle.cstn_top.specs.Meanings.{IsStopped}
 use Rattle.cstn_top.specs.Evidence.{IsEvidence, WroteEvidence}
 use Rattle.cstn_top.specs.Several.{FirstHas}
-use Rattle.cstn_evidence.proofs.Standing.{YesAccepted, NoAccepted, IsOfDocument, Stands, StandsFor, not_above, never_decided, verdict_stands, tight_stands, conflict_stands}
+use Rattle.cstn_top.proofs.Standing.{YesAccepted, NoAccepted, IsOfDocument, Stands, StandsFor, not_above, never_decided, verdict_stands, tight_stands, conflict_stands}
 use Rattle.cstn_top.proofs.Documents.{document_says, document_then}
 use Rattle.cstn_top.specs.Trees.{IsTreeProof}
 use Rattle.cstn_top.proofs.Trees.{tree_proof}

@@ -5,8 +5,9 @@ use Rattle.cstn_io.specs.Contents.{IsLongFile}
 use Rattle.cstn_net.specs.Networks.{Network}
 use Rattle.cstn_net.specs.Read.{NetworkParts, the_network}
 use Rattle.cstn_words.specs.Requests.{Asked, Request, replay, closedcheck, files_of}
-use Rattle.cstn_reply.specs.Files.{IsContent, AreContents, AreThere}
-use Rattle.cstn_reply.specs.Plans.{Said, say, Plan, says, IsOutput, ComesTo}
+use Rattle.cstn_documents.specs.Files.{IsContent, AreContents, AreThere}
+use Rattle.cstn_reply.specs.Texts.{Said, say}
+use Rattle.cstn_top.specs.Plans.{Plan, says, IsOutput, ComesTo}
 use Rattle.cstn_reply.specs.Statuses.{status_of}
 use Rattle.cstn_reply.specs.Read.{the_said}
 use Rattle.cstn_reply.specs.declared.output.Said.{Said as SaidText}
@@ -14,15 +15,15 @@ use Rattle.cstn_reply.specs.declared.status.Status.{Status}
 use Rattle.cstn_reply.specs.declared.status.Status.TheVariants.{Good as IsGood, Bad as IsBad, Words as IsWords, Document as IsDocument, Full as IsFull, ReadFault, WriteFault, Memory, Unfinished as IsUnfinished, Script as IsScript, Wide as IsWide}
 use Rattle.cstn_reply.specs.declared.output.Outcome.{Outcome}
 use Rattle.cstn_reply.specs.declared.output.Outcome.TheVariants.{Document, Script}
-use Rattle.cstn_reply.proofs.Contents.{some_content, two_contents, long_content, long_is_there, none_there, two_there}
+use Rattle.cstn_documents.proofs.Contents.{some_content, two_contents, long_content, long_is_there, none_there, two_there}
 use Rattle.cstn_lift.specs.Lowered.{lowered}
 use Rattle.cstn_lift.specs.Read.{LabelledParts, the_labelled}
-use Rattle.cstn_verdict.specs.Documents.{Answer, LabelledAnswer, of_plain, of_lowered, on_labelled}
-use Rattle.cstn_verdict.specs.Opened.{IsOpened, IsOpenedWithLabels}
-use Rattle.cstn_verdict.specs.declared.documents.Opened.TheVariants.{Accepted, Told}
-use Rattle.cstn_verdict.specs.declared.documents.WithLabels.TheVariants.{Accepted as LabelledOne, Told as RefusedOne}
-use Rattle.cstn_verdict.proofs.Opening.{accepted_comes, told_comes, labelled_comes, refused_comes, comes_to_text}
-use Rattle.cstn_evidence.specs.Texts.{by_text, replayed, certified}
+use Rattle.cstn_top.specs.Answers.{Answer, LabelledAnswer, of_plain, of_lowered, on_labelled}
+use Rattle.cstn_documents.specs.Opened.{IsOpened, IsOpenedWithLabels}
+use Rattle.cstn_documents.specs.declared.documents.Opened.TheVariants.{Accepted, Told}
+use Rattle.cstn_documents.specs.declared.documents.WithLabels.TheVariants.{Accepted as LabelledOne, Told as RefusedOne}
+use Rattle.cstn_top.proofs.Comes.{accepted_comes, told_comes, labelled_comes, refused_comes, comes_to_text}
+use Rattle.cstn_top.specs.Answers.{by_text, replayed, certified}
 use Rattle.cstn_top.specs.Opened.{IsSaidBy, IsTextOf}
 use Rattle.cstn_top.specs.Outputs.{plan_at}
 use Rattle.cstn_top.specs.Meanings.{files_read}

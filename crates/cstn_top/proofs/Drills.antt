@@ -14,17 +14,18 @@ use Rattle.cstn_table.specs.Tables.{observed_props}
 use Rattle.cstn_gen.specs.Generated.{generated}
 use Rattle.cstn_gen.proofs.WellFormed.{well_formed}
 use Rattle.cstn_words.specs.Requests.{drill}
-use Rattle.cstn_reply.specs.Files.{AreThere}
-use Rattle.cstn_reply.specs.Plans.{Said, says}
-use Rattle.cstn_verdict.specs.Verdicts.{verdict}
+use Rattle.cstn_documents.specs.Files.{AreThere}
+use Rattle.cstn_reply.specs.Texts.{Said}
+use Rattle.cstn_top.specs.Plans.{says}
+use Rattle.cstn_check.specs.Decisions.{verdict}
 use Rattle.cstn_top.specs.Outputs.{drilled}
 use Rattle.cstn_top.specs.Meanings.{files_read}
 use Rattle.cstn_top.specs.Prepared.{Planned}
 use Rattle.cstn_reply.specs.Statuses.{status_of}
 use Rattle.cstn_reply.specs.declared.status.Status.{Status}
 use Rattle.cstn_top.specs.Drills.{small, large, is_unrefuted, unrefuted, AreConsistent, none, one_more, no_more}
-use Rattle.cstn_reply.proofs.Contents.{none_there}
-use Rattle.cstn_verdict.proofs.Deciding.{verdict_full, verdict_no, verdict_yes}
+use Rattle.cstn_documents.proofs.Contents.{none_there}
+use Rattle.cstn_check.proofs.Deciding.{verdict_full, verdict_no, verdict_yes}
 
 pub small_is : (number i : ℕ) → generated ((number + i) % 2 ^ 64) 6 ≡ small number i
 unfolding small

@@ -36,8 +36,8 @@ use Rattle.cstn_reply.specs.Sessions.{Turn, more, last, wrong, on_turn}
 use Rattle.cstn_talk.specs.Editing.{Editing, begun_editing, answered_edit, answered_add, answered, edit_turn, edit_ending, verdict_text, outcome_text, last_checked}
 use Rattle.cstn_talk.specs.Meanings.{state_after}
 use Rattle.cstn_talk.proofs.Sessions.{first_leads, same_state, says_next}
-use Rattle.cstn_evidence.specs.Accepted.{IsNoText, HasIds}
-use Rattle.cstn_evidence.proofs.ReadBack.{StepsBack}
+use Rattle.cstn_top.specs.Accepted.{IsNoText, HasIds}
+use Rattle.cstn_top.proofs.ReadBack.{StepsBack}
 use Rattle.cstn_top.specs.Lines.{AreAnswered}
 use Rattle.cstn_top.proofs.EditTexts.{next_small, kept_text}
 use Rattle.cstn_top.specs.EditSessions.{EditedNetwork, unedited, may_add, may_remove, may_change, after_add, after_edit, after_lines, network_after, SaysYes, SaysNo, SaysFull, AnswersCheck, IsNoCheck, IsAtLastCheck}

@@ -24,16 +24,17 @@ use Rattle.cstn_text.specs.Names.{AreNames, number_of}
 use Rattle.cstn_refute.specs.Texts.{Told, tells, told, shown}
 use Rattle.cstn_refute.specs.Written.{ArePlaces, IsPrintableStep, AreWritten}
 use Rattle.cstn_lines.specs.EditLines.{Edit, added, removed, changed, asked, edit_read}
-use Rattle.cstn_reply.specs.Plans.{say, Plan, replays, IsOutput}
+use Rattle.cstn_reply.specs.Texts.{say}
+use Rattle.cstn_top.specs.Plans.{Plan, replays, IsOutput}
 use Rattle.cstn_reply.specs.declared.output.Outcome.TheVariants.{Good}
-use Rattle.cstn_verdict.specs.Documents.{Answer}
+use Rattle.cstn_top.specs.Answers.{Answer}
 use Rattle.cstn_edit.specs.Sessions.{next_id}
 use Rattle.cstn_edit.proofs.StartLemmas.{highest_small}
-use Rattle.cstn_evidence.specs.Texts.{by_text, replayed_steps, replayed}
-use Rattle.cstn_evidence.specs.Accepted.{IsAccepted, IsNoText, HasIds}
-use Rattle.cstn_evidence.proofs.Listing.{limit_in_time}
-use Rattle.cstn_evidence.proofs.Lengths.{steps_text_short}
-use Rattle.cstn_evidence.proofs.ReadBack.{StepsBack, no_refutation}
+use Rattle.cstn_top.specs.Answers.{by_text, replayed_steps, replayed}
+use Rattle.cstn_top.specs.Accepted.{IsAccepted, IsNoText, HasIds}
+use Rattle.cstn_top.proofs.Listing.{limit_in_time}
+use Rattle.cstn_top.proofs.Lengths.{steps_text_short}
+use Rattle.cstn_top.proofs.ReadBack.{StepsBack, no_refutation}
 use Rattle.cstn_top.specs.EditSessions.{EditedNetwork, unedited, after_adding, after_removing, after_changing, after_add, after_edit, after_lines}
 
 -- ---- ids stay numbers of 32 bits

@@ -29,7 +29,8 @@ use Rattle.cstn_edit.specs.Sessions.{next_id, outcome_of}
 use Rattle.cstn_edit.specs.Edits.{Session, Refusal, add_refusal, remove_refusal, change_refusal, with_added, with_removed, with_changed, outcome_at, with_verdict}
 use Rattle.cstn_edit.specs.Sound.{IsSound}
 use Rattle.cstn_edit.proofs.SessionLaws.{begun_is_sound, added_is_sound, removed_is_sound, changed_is_sound, verdict_is_sound, yes_is_true, no_is_true, full_is_exact}
-use Rattle.cstn_reply.specs.Plans.{Said, after_text, IsOutput}
+use Rattle.cstn_reply.specs.Texts.{Said, after_text}
+use Rattle.cstn_top.specs.Plans.{IsOutput}
 use Rattle.cstn_reply.specs.Sessions.{Turn, more, last, wrong, on_turn, script, play}
 use Rattle.cstn_talk.specs.Editing.{Editing, begun_editing, answered_edit, answered_add, answered_check, answered, edit_turn, edit_ending, ending_by, last_checked}
 use Rattle.cstn_talk.specs.Editing.{edited}

@@ -4,9 +4,12 @@ use Rattle.std.specs.Prelude.{◌⊎◌, IsNone, Option, None, Some, codes}
 use Rattle.cstn_io.specs.Contents.{IsAllOf}
 use Rattle.cstn_reply.specs.Texts.{line}
 use Rattle.cstn_words.specs.Requests.{Request, files_of, names_of, AsksEdit}
-use Rattle.cstn_reply.specs.Files.{AreContents, AreThere}
-use Rattle.cstn_reply.specs.Plans.{Said, say, Plan, says, IsOutput, MayTalk, LiveState, IsText, is_output, is_file_fault, is_live_fault, is_memory, IsWritten, Ends, ComesTo, Untouched}
-use Rattle.cstn_reply.specs.Sessions.{Turn, session}
+use Rattle.cstn_documents.specs.Files.{AreContents, AreThere}
+use Rattle.cstn_reply.specs.Texts.{Said, say}
+use Rattle.cstn_top.specs.Plans.{Plan, says, IsOutput, MayTalk, IsText, Ends, ComesTo, Untouched}
+use Rattle.cstn_reply.specs.Written.{LiveState, is_output, is_file_fault, is_live_fault, is_memory, IsWritten}
+use Rattle.cstn_reply.specs.Sessions.{Turn}
+use Rattle.cstn_top.specs.Plans.{session}
 use Rattle.cstn_words.specs.Requests.{AsksHost, host}
 use Rattle.cstn_ward.specs.Read.{the_ward}
 use Rattle.cstn_top.specs.Outputs.{plan_of, plan_at}
@@ -23,7 +26,8 @@ use Rattle.cstn_reply.specs.declared.status.Status.{Status}
 use Rattle.cstn_reply.specs.declared.status.Status.TheVariants.{Words as IsWords, Document as IsRefusedStatus, ReadFault, Memory}
 use Rattle.cstn_reply.specs.declared.output.Outcome.{Outcome}
 use Rattle.cstn_reply.specs.declared.output.Outcome.TheVariants.{Words, Document}
-use Rattle.cstn_reply.proofs.Contents.{given, all_given, no_taken, some_contents, none_there}
+use Rattle.cstn_reply.proofs.Contents.{given, all_given, no_taken}
+use Rattle.cstn_documents.proofs.Contents.{some_contents, none_there}
 use Rattle.cstn_top.proofs.Meanings.{IsRight, output_right, output_complete, talks_live, edits_stop}
 use Rattle.cstn_top.proofs.Meanings.{hosts_stop}
 

@@ -4,7 +4,7 @@ use Rattle.std.specs.Prelude.{◌⊎◌, nat_lt}
 use Rattle.cstn_net.specs.Networks.{Network, IsWellFormed}
 use Rattle.cstn_net.specs.Strategies.{IsConsistent}
 use Rattle.cstn_check.specs.Growth.{load_of}
-use Rattle.cstn_evidence.proofs.ReadBack.{listed_faultless, refuted_by_log}
+use Rattle.cstn_top.proofs.ReadBack.{listed_faultless, refuted_by_log}
 use Rattle.cstn_conflict.specs.Sets.{with_ids}
 use Rattle.cstn_conflict.specs.Conflicts.{conflict_set}
 use Rattle.cstn_conflict.proofs.SetLemmas.{set_well_formed}

@@ -18,16 +18,20 @@ use Rattle.cstn_lift.specs.Strategies.{IsLabelledConsistent}
 use Rattle.cstn_check.specs.Growth.{load_of}
 use Rattle.cstn_lines.specs.Pieces.{lines_of}
 use Rattle.cstn_words.specs.Requests.{Request, check, edit, replay}
-use Rattle.cstn_reply.specs.Plans.{Said, IsOutput, AreEmpty, AreUnlabelled}
+use Rattle.cstn_reply.specs.Texts.{Said}
+use Rattle.cstn_top.specs.Plans.{IsOutput}
+use Rattle.cstn_documents.specs.Documents.{AreEmpty, AreUnlabelled}
 use Rattle.cstn_reply.specs.Statuses.{status_of}
 use Rattle.cstn_reply.specs.declared.status.Status.{Status}
 use Rattle.cstn_reply.specs.declared.status.Status.TheVariants.{Good as IsYesStatus, Bad as IsNoStatus, Full as IsFullStatus}
 use Rattle.cstn_reply.specs.declared.output.Outcome.{Outcome}
 use Rattle.cstn_reply.specs.declared.output.Outcome.TheVariants.{Good, Bad, Words, Document as IsRefusedOutcome, Full, Unfinished, Script, Wide}
-use Rattle.cstn_verdict.specs.Documents.{LabelledAnswer, of_lowered, on_labelled, parts_of, HasLabelled, HasNetwork, IsNoDocument, IsRefused}
-use Rattle.cstn_verdict.specs.Verdicts.{checked, IsLabelledYes}
-use Rattle.cstn_evidence.specs.Accepted.{IsNoText}
-use Rattle.cstn_evidence.specs.Texts.{by_text, replayed}
+use Rattle.cstn_top.specs.Answers.{LabelledAnswer, of_lowered, on_labelled}
+use Rattle.cstn_documents.specs.Documents.{parts_of, HasLabelled, HasNetwork, IsNoDocument, IsRefused}
+use Rattle.cstn_top.specs.Answers.{checked}
+use Rattle.cstn_top.specs.Verdicts.{IsLabelledYes}
+use Rattle.cstn_top.specs.Accepted.{IsNoText}
+use Rattle.cstn_top.specs.Answers.{by_text, replayed}
 use Rattle.cstn_talk.specs.Editing.{begun_editing, last_checked}
 use Rattle.cstn_talk.specs.Meanings.{IsCarriedThrough}
 use Rattle.cstn_top.specs.Outputs.{plan_at}

@@ -13,22 +13,26 @@ use Rattle.cstn_check.specs.Growth.{is_refuted, log_of, load_of}
 use Rattle.cstn_check.specs.declared.verdicts.Verdict.{Verdict}
 use Rattle.cstn_check.specs.declared.verdicts.Verdict.TheVariants.{Yes, No, Full as IsFullVerdict}
 use Rattle.cstn_words.specs.Requests.{host}
-use Rattle.cstn_reply.specs.Files.{AreContents, AreThere}
+use Rattle.cstn_documents.specs.Files.{AreContents, AreThere}
 use Rattle.cstn_reply.specs.Read.{the_said}
 use Rattle.cstn_reply.specs.declared.output.Said.{Said as SaidText}
-use Rattle.cstn_reply.specs.Plans.{Said, say, Plan, says, IsOutput, MayTalk, AreUnlabelled}
+use Rattle.cstn_reply.specs.Texts.{Said, say}
+use Rattle.cstn_top.specs.Plans.{Plan, says, IsOutput, MayTalk}
+use Rattle.cstn_documents.specs.Documents.{AreUnlabelled}
 use Rattle.cstn_reply.specs.Statuses.{status_of}
 use Rattle.cstn_reply.specs.declared.status.Status.{Status}
 use Rattle.cstn_reply.specs.declared.status.Status.TheVariants.{Good as IsGood, Bad as IsBad, Words as IsWords, Document as IsRefusedStatus, Full as IsFullStatus, ReadFault, WriteFault, Memory as NoMemory, Unfinished as IsUnfinished, Script as IsScript, Wide as IsWideStatus}
 use Rattle.cstn_reply.specs.declared.output.Outcome.{Outcome}
 use Rattle.cstn_reply.specs.declared.output.Outcome.TheVariants.{Good, Bad, Words, Document, Full, Unfinished, Script, Wide}
-use Rattle.cstn_reply.proofs.Contents.{none_there}
+use Rattle.cstn_documents.proofs.Contents.{none_there}
 use Rattle.cstn_lines.specs.Pieces.{lines_of}
-use Rattle.cstn_verdict.specs.Documents.{Answer, parts_of, HasNetwork, IsRefused}
-use Rattle.cstn_verdict.specs.Opened.{IsSaidPlainly}
-use Rattle.cstn_verdict.specs.Verdicts.{verdict, on_verdict, IsYes, IsNo}
-use Rattle.cstn_verdict.proofs.Deciding.{Tells, verdict_tells}
-use Rattle.cstn_reply.specs.Sessions.{session}
+use Rattle.cstn_top.specs.Answers.{Answer}
+use Rattle.cstn_documents.specs.Documents.{parts_of, HasNetwork, IsRefused}
+use Rattle.cstn_documents.specs.Documents.{IsSaidPlainly}
+use Rattle.cstn_check.specs.Decisions.{verdict, IsYes, IsNo}
+use Rattle.cstn_top.specs.Answers.{on_verdict}
+use Rattle.cstn_check.proofs.Deciding.{Tells, verdict_tells}
+use Rattle.cstn_top.specs.Plans.{session}
 use Rattle.cstn_ward.specs.Wards.{begun, ward_turn, ward_ending}
 use Rattle.cstn_ward.specs.Hosting.{Named, on_documents, on_verdicts, the_file, yes_lines, attended, hosted_plan}
 use Rattle.cstn_ward.specs.Begun.{the_hosting, IsOfDocument, IsHosting}
@@ -38,7 +42,7 @@ use Rattle.cstn_ward.proofs.Plays.{IsEnd, plays}
 use Rattle.cstn_top.specs.Several.{EachHas, FirstHas}
 use Rattle.cstn_top.specs.Meanings.{files_read, RefusedIsThere}
 use Rattle.cstn_top.specs.Prepared.{Planned}
-use Rattle.cstn_evidence.proofs.Standing.{IsOfDocument as IsNamedNetwork}
+use Rattle.cstn_top.proofs.Standing.{IsOfDocument as IsNamedNetwork}
 use Rattle.cstn_top.proofs.Documents.{document_says, document_talks, document_then}
 
 -- what follows where the verdict on each network is yes

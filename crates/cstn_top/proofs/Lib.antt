@@ -22,3 +22,9 @@ pub mod OneOutput
 pub mod SomeFault
 pub mod SomeOutput
 pub mod Replayed
+pub mod Comes
+pub mod DocumentNames
+pub mod Lengths
+pub mod Listing
+pub mod ReadBack
+pub mod Standing

@@ -27,16 +27,21 @@ use Rattle.cstn_lines.specs.EditLines.{Edit, added, removed, changed, asked as c
 use Rattle.cstn_text.specs.Names.{number_of}
 use Rattle.cstn_words.specs.Requests.{Request, check, run, edit, closed, tight, conflict, tree, save, replay, closedcheck, treecheck, drill, host}
 use Rattle.cstn_reply.specs.Texts.{yes_line}
-use Rattle.cstn_reply.specs.Plans.{Said, IsOutput, LiveState}
-use Rattle.cstn_reply.specs.Sessions.{play, session}
+use Rattle.cstn_reply.specs.Texts.{Said}
+use Rattle.cstn_top.specs.Plans.{IsOutput}
+use Rattle.cstn_reply.specs.Written.{LiveState}
+use Rattle.cstn_reply.specs.Sessions.{play}
+use Rattle.cstn_top.specs.Plans.{session}
 use Rattle.cstn_reply.specs.Statuses.{status_of}
 use Rattle.cstn_reply.specs.declared.status.Status.{Status}
 use Rattle.cstn_reply.specs.declared.status.Status.TheVariants.{Good as IsGoodStatus, Document as IsDocumentStatus, Unfinished as IsUnfinishedStatus}
 use Rattle.cstn_reply.specs.declared.output.Outcome.{Outcome}
 use Rattle.cstn_reply.specs.declared.output.Outcome.TheVariants.{Good, Bad, Full, Document}
-use Rattle.cstn_verdict.specs.Documents.{parts_of, HasLabelled, HasNetwork, IsNoDocument, IsRefused}
-use Rattle.cstn_verdict.specs.Verdicts.{verdict, on_verdict, IsLabelledYes}
-use Rattle.cstn_verdict.proofs.Deciding.{Tells, verdict_tells}
+use Rattle.cstn_documents.specs.Documents.{parts_of, HasLabelled, HasNetwork, IsNoDocument, IsRefused}
+use Rattle.cstn_check.specs.Decisions.{verdict}
+use Rattle.cstn_top.specs.Answers.{on_verdict}
+use Rattle.cstn_top.specs.Verdicts.{IsLabelledYes}
+use Rattle.cstn_check.proofs.Deciding.{Tells, verdict_tells}
 use Rattle.cstn_talk.specs.Running.{moment_line, executing, unfinished}
 use Rattle.cstn_talk.specs.Guiding.{named_turn, noted_turn, answer_turn, guide_turn, guide_ending, carried_out}
 use Rattle.cstn_talk.specs.Editing.{Editing, begun_editing, answered_edit, answered_add, answered, edit_turn, edit_ending, ending_by, edited, last_checked}

@@ -21,27 +21,32 @@ use Rattle.cstn_check.specs.declared.verdicts.Verdict.{Verdict}
 use Rattle.cstn_check.specs.declared.verdicts.Verdict.TheVariants.{Yes, No, Full as IsFullVerdict}
 use Rattle.cstn_refute.specs.Texts.{Told as ToldText, tells, wrong as wrong_text, told as told_by}
 use Rattle.cstn_words.specs.Requests.{Asked, Request, check, run, edit, closed, tight, conflict, tree, save, replay, closedcheck, treecheck, drill, AsksEdit}
-use Rattle.cstn_reply.specs.Plans.{Said, say, after_text, says, IsOutput, MayTalk, AreUnlabelled}
-use Rattle.cstn_reply.specs.Sessions.{Turn, more, last, wrong, on_turn, script, play, session}
+use Rattle.cstn_reply.specs.Texts.{Said, say, after_text}
+use Rattle.cstn_top.specs.Plans.{says, IsOutput, MayTalk}
+use Rattle.cstn_documents.specs.Documents.{AreUnlabelled}
+use Rattle.cstn_reply.specs.Sessions.{Turn, more, last, wrong, on_turn, script, play}
+use Rattle.cstn_top.specs.Plans.{session}
 use Rattle.cstn_talk.specs.Running.{moment_line, executing, unfinished}
 use Rattle.cstn_talk.specs.Guiding.{named_turn, noted_turn, answer_turn, guide_turn, guide_ending, carried_out}
 use Rattle.cstn_reply.specs.Texts.{yes_line, full_line}
 use Rattle.cstn_lift.specs.Labelled.{Labelled}
 use Rattle.cstn_lift.specs.Lowered.{lowered}
 use Rattle.cstn_lift.specs.Strategies.{IsEquivalent, IsLabelledConsistent}
-use Rattle.cstn_verdict.specs.Documents.{Answer, of_lowered, on_document}
-use Rattle.cstn_verdict.specs.Verdicts.{verdict, on_verdict, checked}
+use Rattle.cstn_top.specs.Answers.{Answer, of_lowered, on_document}
+use Rattle.cstn_check.specs.Decisions.{verdict}
+use Rattle.cstn_top.specs.Answers.{on_verdict, checked}
 use Rattle.cstn_talk.specs.Editing.{edited}
 use Rattle.cstn_top.specs.Outputs.{saved, plan_at}
-use Rattle.cstn_verdict.specs.Documents.{parts_of, HasLabelled, HasNetwork, IsRefused}
-use Rattle.cstn_verdict.specs.Verdicts.{IsYes, IsNo, IsLabelledYes, IsLabelledNo}
-use Rattle.cstn_evidence.proofs.ReadBack.{no_refutation}
+use Rattle.cstn_documents.specs.Documents.{parts_of, HasLabelled, HasNetwork, IsRefused}
+use Rattle.cstn_check.specs.Decisions.{IsYes, IsNo}
+use Rattle.cstn_top.specs.Verdicts.{IsLabelledYes, IsLabelledNo}
+use Rattle.cstn_top.proofs.ReadBack.{no_refutation}
 use Rattle.cstn_top.proofs.Evidence.{listed_well, refuted_well, tight_well, conflict_well}
 use Rattle.cstn_top.specs.Meanings.{AreFaulty, IsListed, IsRefutedByLog, IsTight, IsConflict, IsRefutedBy, IsNoRefutation, IsGood, IsBad, IsFull, IsWide, IsDecided, IsDecidedTree, IsLabelledDecided, IsOffGrammar, IsReplayed, IsComplete, ReadsLive, MayStop}
 use Rattle.cstn_reply.specs.Statuses.{status_of}
 use Rattle.cstn_reply.specs.declared.output.Outcome.{Outcome}
 use Rattle.cstn_reply.specs.declared.output.Outcome.TheVariants.{Good, Bad, Words, Document, Full, Unfinished, Script, Wide}
-use Rattle.cstn_verdict.proofs.Deciding.{Tells, verdict_tells}
+use Rattle.cstn_check.proofs.Deciding.{Tells, verdict_tells}
 use Rattle.cstn_top.proofs.Drills.{counts_right}
 use Rattle.cstn_top.proofs.Documents.{document_says, document_talks}
 use Rattle.cstn_top.proofs.Labels.{IsOfLabelled, labelled_then, none_labelled, on_labels, talks_labelled, labels_silent}
@@ -55,13 +60,15 @@ use Rattle.cstn_check.specs.Verdicts.{is_consistent}
 use Rattle.cstn_conflict.specs.Conflicts.{conflict_set, is_conflict_full as is_blame_full}
 use Rattle.cstn_check.proofs.Decides.{decided}
 use Rattle.cstn_tight.specs.Bisection.{least_deadline, is_tight_full}
-use Rattle.cstn_evidence.specs.Bounds.{listed}
-use Rattle.cstn_evidence.specs.Blame.{blame_text, blamed}
-use Rattle.cstn_evidence.specs.Tight.{refuted_text, tight_text, tightened}
-use Rattle.cstn_evidence.specs.Texts.{by_text, replayed_steps, replayed, certified_bounds, certified}
+use Rattle.cstn_top.specs.Answers.{listed}
+use Rattle.cstn_conflict.specs.Texts.{blame_text}
+use Rattle.cstn_top.specs.Answers.{blamed}
+use Rattle.cstn_tight.specs.Texts.{refuted_text, tight_text}
+use Rattle.cstn_top.specs.Answers.{tightened}
+use Rattle.cstn_top.specs.Answers.{by_text, replayed_steps, replayed, certified_bounds, certified}
 use Rattle.cstn_tree.specs.Texts.{told as told_tree}
-use Rattle.cstn_strategy.specs.Unfolded.{unfolded}
-use Rattle.cstn_strategy.specs.Checked.{tree_checked}
+use Rattle.cstn_top.specs.Answers.{unfolded}
+use Rattle.cstn_top.specs.Answers.{tree_checked}
 use Rattle.cstn_top.proofs.Trees.{Unfolds, unfolds, tree_decides, tree_silent, ChecksTree, tree_tells, lines_silent}
 
 -- what follows of the network of a document, each of whose time-points has a name

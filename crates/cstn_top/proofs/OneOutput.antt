@@ -12,11 +12,15 @@ use Rattle.cstn_tree.specs.Made.{IsTreeOf}
 use Rattle.cstn_tree.specs.Texts.{shown}
 use Rattle.cstn_graphml.specs.Document.{Parts}
 use Rattle.cstn_graphml.specs.Networks.{IsFit, IsUnfit, IsMislabelled}
-use Rattle.cstn_reply.specs.Faults.{fault_words}
-use Rattle.cstn_reply.specs.Refusals.{fault_text, label_fault_text}
-use Rattle.cstn_reply.specs.Plans.{Said, say, Plan, says, replays, certifies, branches, talks, judges, unlabelled, IsReplay, IsCertificate, IsTreeText, IsOutput}
+use Rattle.cstn_closed.specs.Certificates.{fault_words}
+use Rattle.cstn_documents.specs.Refusals.{fault_text, label_fault_text}
+use Rattle.cstn_reply.specs.Texts.{Said, say}
+use Rattle.cstn_top.specs.Plans.{Plan, says, replays, certifies, branches, talks, judges, unlabelled, IsOutput}
+use Rattle.cstn_replay.specs.Texts.{IsReplay}
+use Rattle.cstn_closed.specs.Certificates.{IsCertificate}
+use Rattle.cstn_tree.specs.Unfolded.{IsTreeText}
 use Rattle.cstn_reply.specs.declared.output.Outcome.TheVariants.{Good, Bad, Document}
-use Rattle.cstn_evidence.proofs.ReadBack.{no_refutation}
+use Rattle.cstn_top.proofs.ReadBack.{no_refutation}
 
 same_number : (k j : ℕ) → (k < j → ⊥) → (j < k → ⊥) → k ≡ j
 same_number k j above below = omega (arith, above, below)

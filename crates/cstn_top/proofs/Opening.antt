@@ -4,25 +4,25 @@ use Rattle.std.specs.Prelude.{Option, Result, Ok, Err, IfOk, map}
 use Rattle.cstn_net.specs.Networks.{Network}
 use Rattle.cstn_net.specs.Read.{NetworkParts, the_network}
 use Rattle.cstn_words.specs.Requests.{Asked, Request, check, run, edit, closed, tight, conflict, save, files_of}
-use Rattle.cstn_reply.specs.Files.{file_at, IsContent, AreThere}
-use Rattle.cstn_reply.specs.Plans.{Plan, says, ComesTo}
+use Rattle.cstn_documents.specs.Files.{file_at, IsContent, AreThere}
+use Rattle.cstn_top.specs.Plans.{Plan, says, ComesTo}
 use Rattle.cstn_reply.specs.Statuses.{status_of}
 use Rattle.cstn_reply.specs.Read.{the_said}
 use Rattle.cstn_reply.specs.declared.output.Said.{Said as SaidText}
 use Rattle.cstn_reply.specs.declared.status.Status.{Status}
 use Rattle.cstn_reply.specs.declared.status.Status.TheVariants.{Good as IsGood, Bad as IsBad, Words as IsWords, Document as IsRefusedStatus, Full as IsFull, ReadFault, WriteFault, Memory as NoMemory, Unfinished as IsUnfinished, Script as IsScript, Wide as IsWide}
-use Rattle.cstn_reply.proofs.Contents.{one_content, none_there}
+use Rattle.cstn_documents.proofs.Contents.{one_content, none_there}
 use Rattle.cstn_lift.specs.Lowered.{lowered}
-use Rattle.cstn_verdict.specs.Documents.{Answer, LabelledAnswer, of_plain, of_lowered, on_labelled}
-use Rattle.cstn_verdict.specs.Verdicts.{checked}
+use Rattle.cstn_top.specs.Answers.{Answer, LabelledAnswer, of_plain, of_lowered, on_labelled}
+use Rattle.cstn_top.specs.Answers.{checked}
 use Rattle.cstn_lift.specs.Read.{LabelledParts, the_labelled}
-use Rattle.cstn_verdict.specs.Opened.{IsOpened, IsOpenedWithLabels}
-use Rattle.cstn_verdict.specs.declared.documents.WithLabels.TheVariants.{Accepted as LabelledOne, Told as RefusedOne}
-use Rattle.cstn_verdict.specs.declared.documents.Opened.TheVariants.{Accepted, Told}
-use Rattle.cstn_verdict.proofs.Opening.{comes_same, accepted_comes, told_comes, labelled_comes, refused_comes}
-use Rattle.cstn_evidence.specs.Bounds.{listed}
-use Rattle.cstn_evidence.specs.Blame.{blamed}
-use Rattle.cstn_evidence.specs.Tight.{tightened}
+use Rattle.cstn_documents.specs.Opened.{IsOpened, IsOpenedWithLabels}
+use Rattle.cstn_documents.specs.declared.documents.WithLabels.TheVariants.{Accepted as LabelledOne, Told as RefusedOne}
+use Rattle.cstn_documents.specs.declared.documents.Opened.TheVariants.{Accepted, Told}
+use Rattle.cstn_top.proofs.Comes.{comes_same, accepted_comes, told_comes, labelled_comes, refused_comes}
+use Rattle.cstn_top.specs.Answers.{listed}
+use Rattle.cstn_top.specs.Answers.{blamed}
+use Rattle.cstn_top.specs.Answers.{tightened}
 use Rattle.cstn_talk.specs.Guiding.{carried_out}
 use Rattle.cstn_talk.specs.Editing.{edited}
 use Rattle.cstn_top.specs.Outputs.{saved, plan_at}

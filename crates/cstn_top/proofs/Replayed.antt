@@ -5,16 +5,18 @@ use Rattle.cstn_element.specs.Results.{Refusal as DocumentRefusal}
 use Rattle.cstn_graphml.specs.Document.{Parts, document}
 use Rattle.cstn_graphml.specs.Networks.{labelled_of, IsFit}
 use Rattle.cstn_words.specs.Requests.{Asked, check, run, closed, replay, closedcheck}
-use Rattle.cstn_reply.specs.Plans.{Said, say, Plan, says, judges, IsOutput}
+use Rattle.cstn_reply.specs.Texts.{Said, say}
+use Rattle.cstn_top.specs.Plans.{Plan, says, judges, IsOutput}
 use Rattle.cstn_reply.specs.Statuses.{status_of}
 use Rattle.cstn_reply.specs.declared.output.Outcome.{Outcome}
 use Rattle.cstn_reply.specs.declared.output.Outcome.TheVariants.{Good, Bad, Document}
-use Rattle.cstn_verdict.specs.Documents.{LabelledAnswer, of_lowered, judged, on_labelled, parts_of, HasLabelled}
-use Rattle.cstn_verdict.specs.Verdicts.{checked}
-use Rattle.cstn_evidence.specs.Accepted.{IsAccepted}
-use Rattle.cstn_evidence.specs.Bounds.{listed}
-use Rattle.cstn_evidence.specs.Texts.{by_text, replayed, certified}
-use Rattle.cstn_evidence.proofs.Standing.{YesAccepted, NoAccepted}
+use Rattle.cstn_top.specs.Answers.{LabelledAnswer, of_lowered, judged, on_labelled}
+use Rattle.cstn_documents.specs.Documents.{parts_of, HasLabelled}
+use Rattle.cstn_top.specs.Answers.{checked}
+use Rattle.cstn_top.specs.Accepted.{IsAccepted}
+use Rattle.cstn_top.specs.Answers.{listed}
+use Rattle.cstn_top.specs.Answers.{by_text, replayed, certified}
+use Rattle.cstn_top.proofs.Standing.{YesAccepted, NoAccepted}
 use Rattle.cstn_talk.specs.Guiding.{carried_out}
 use Rattle.cstn_top.specs.Outputs.{plan_at}
 use Rattle.cstn_top.specs.Evidence.{IsEvidence}

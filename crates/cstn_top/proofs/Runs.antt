@@ -1,5 +1,6 @@
 -- A run that was prepared.
-use Rattle.std.proofs.Common.{◌≡◌, ℕ, List, map, refl, subst}
+use Rattle.std.proofs.Common.{◌≡◌, ℕ, List, map, refl, ap, subst}
+use Rattle.std.specs.Prelude.{Option, Some}
 use Rattle.cstn_net.specs.Networks.{Network, count}
 use Rattle.cstn_text.specs.PrintedNames.{printed_name}
 use Rattle.cstn_lift.specs.Labelled.{Labelled}
@@ -8,9 +9,11 @@ use Rattle.cstn_check.specs.Growth.{log_of, load_of, live_bounds}
 use Rattle.cstn_check.specs.declared.verdicts.Verdict.TheVariants.{Yes}
 use Rattle.cstn_guide.specs.Guides.{begun}
 use Rattle.cstn_reply.specs.Texts.{yes_line}
-use Rattle.cstn_reply.specs.Plans.{Said, Plan, says, ComesTo}
-use Rattle.cstn_reply.specs.Sessions.{session}
-use Rattle.cstn_verdict.specs.Verdicts.{verdict, on_verdict}
+use Rattle.cstn_reply.specs.Texts.{Said}
+use Rattle.cstn_top.specs.Plans.{Plan, says, ComesTo}
+use Rattle.cstn_top.specs.Plans.{session}
+use Rattle.cstn_check.specs.Decisions.{verdict, unless_yes}
+use Rattle.cstn_top.specs.Answers.{unless_said}
 use Rattle.cstn_talk.specs.Guiding.{guide_turn, guide_ending, carried_out}
 
 -- a yes on a network is a yes on an equal network
@@ -18,9 +21,9 @@ pub verdict_for : (cap : ℕ) (net other : Network) → net ≡ other → verdic
 verdict_for cap net other same is = subst (λ (n : Network). verdict cap n ≡ Yes (load_of n)) same is
 
 -- what is said after no, or where the log has more entries than it may
-pub told_for : (cap : ℕ) (names : List (List ℕ)) (net : Network) (m : Labelled) (said : Said) → net ≡ lowered m → ((after_yes : Plan) → on_verdict cap names net after_yes (verdict cap net) ≡ says said) → ComesTo (carried_out cap names m) (says said)
+pub told_for : (cap : ℕ) (names : List (List ℕ)) (net : Network) (m : Labelled) (said : Said) → net ≡ lowered m → unless_yes cap names net (verdict cap net) ≡ Some said → ComesTo (carried_out cap names m) (says said)
 told_for cap names net m said same told =
-    subst (ComesTo (carried_out cap names m)) (subst (λ (n : Network). on_verdict cap names n after_yes (verdict cap n) ≡ says said) same (told after_yes))
+    subst (ComesTo (carried_out cap names m)) (ap (λ (o : Option Said). unless_said o after_yes) (subst (λ (n : Network). unless_yes cap names n (verdict cap n) ≡ Some said) same told))
     (record { output = λ live s is. is; talks = λ may. may; fault = λ may taken. refl })
   where
     after_yes : Plan

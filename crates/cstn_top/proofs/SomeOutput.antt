@@ -41,20 +41,23 @@ use Rattle.cstn_tree.specs.Good.{IsUnbroken}
 use Rattle.cstn_tree.specs.Texts.{Told as ToldTree, tells as tells_tree, wrong as wrong_tree, told as told_tree, shown as shown_tree}
 use Rattle.cstn_tree.specs.Written.{AreWritten as IsWrittenTree}
 use Rattle.cstn_words.specs.Requests.{Request, check, run, edit, closed, tight, conflict, tree, save, replay, closedcheck, treecheck, drill, host}
-use Rattle.cstn_reply.specs.Plans.{Said, say, Plan, says, replays, branches, IsOutput}
-use Rattle.cstn_reply.specs.Sessions.{session}
+use Rattle.cstn_reply.specs.Texts.{Said, say}
+use Rattle.cstn_top.specs.Plans.{Plan, says, replays, branches, IsOutput}
+use Rattle.cstn_top.specs.Plans.{session}
 use Rattle.cstn_reply.specs.Texts.{yes_line}
 use Rattle.cstn_reply.specs.declared.output.Outcome.TheVariants.{Document, Script, Wide}
-use Rattle.cstn_verdict.specs.Documents.{Answer, LabelledAnswer, of_plain, of_lowered, judged, on_labelled, on_document}
-use Rattle.cstn_verdict.specs.Verdicts.{verdict, on_verdict, checked, IsYes}
-use Rattle.cstn_verdict.proofs.Deciding.{Tells, verdict_tells}
-use Rattle.cstn_evidence.specs.Texts.{by_text, replayed, certified, replayed_steps, certified_bounds}
-use Rattle.cstn_evidence.specs.Tight.{tightened}
-use Rattle.cstn_evidence.specs.Blame.{blamed}
-use Rattle.cstn_evidence.specs.Bounds.{listed}
-use Rattle.cstn_evidence.proofs.Standing.{IsOfDocument}
-use Rattle.cstn_strategy.specs.Unfolded.{observed, unfolded}
-use Rattle.cstn_strategy.specs.Checked.{checked_lines, tree_checked}
+use Rattle.cstn_top.specs.Answers.{Answer, LabelledAnswer, of_plain, of_lowered, judged, on_labelled, on_document}
+use Rattle.cstn_check.specs.Decisions.{verdict, IsYes}
+use Rattle.cstn_top.specs.Answers.{on_verdict, checked}
+use Rattle.cstn_check.proofs.Deciding.{Tells, verdict_tells}
+use Rattle.cstn_top.specs.Answers.{by_text, replayed, certified, replayed_steps, certified_bounds}
+use Rattle.cstn_top.specs.Answers.{tightened}
+use Rattle.cstn_top.specs.Answers.{blamed}
+use Rattle.cstn_top.specs.Answers.{listed}
+use Rattle.cstn_top.proofs.Standing.{IsOfDocument}
+use Rattle.cstn_tree.specs.Unfolded.{observed}
+use Rattle.cstn_top.specs.Answers.{unfolded}
+use Rattle.cstn_top.specs.Answers.{checked_lines, tree_checked}
 use Rattle.cstn_guide.specs.Guides.{begun}
 use Rattle.cstn_talk.specs.Guiding.{guide_turn, guide_ending, carried_out}
 use Rattle.cstn_talk.specs.Editing.{edited}

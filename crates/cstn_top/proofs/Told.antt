@@ -2,11 +2,11 @@
 use Rattle.std.proofs.Common.{ℕ, List}
 use Rattle.std.specs.Prelude.{IfSome, Option, Some, None}
 use Rattle.cstn_words.specs.Requests.{Request}
-use Rattle.cstn_reply.specs.Plans.{LiveState}
+use Rattle.cstn_reply.specs.Written.{LiveState}
 use Rattle.cstn_reply.specs.declared.status.Status.{Status}
 use Rattle.cstn_reply.specs.declared.output.Outcome.TheVariants.{Good, Bad, Full, Wide}
 use Rattle.cstn_top.specs.Told.{IsToldOf, Answers, IsTold}
-use Rattle.cstn_evidence.proofs.Standing.{YesAccepted, NoAccepted}
+use Rattle.cstn_top.proofs.Standing.{YesAccepted, NoAccepted}
 use Rattle.cstn_top.proofs.Endings.{Answered, request_tells, complete_at}
 use Rattle.cstn_top.proofs.Accepted.{evidence_at}
 use Rattle.cstn_top.specs.Prepared.{IsRanged}

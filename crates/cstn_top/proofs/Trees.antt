@@ -13,22 +13,27 @@ use Rattle.cstn_tree.specs.Trees.{lines_of}
 use Rattle.cstn_tree.proofs.TreeLemmas.{tree_back}
 use Rattle.cstn_tree.proofs.Strategies.{good_is_strategy}
 use Rattle.cstn_words.specs.Requests.{Asked, Request, tree, treecheck}
-use Rattle.cstn_reply.specs.Plans.{Said, say, says, branches, IsTreeText, IsOutput, MayTalk}
+use Rattle.cstn_reply.specs.Texts.{Said, say}
+use Rattle.cstn_top.specs.Plans.{says, branches, IsOutput, MayTalk}
+use Rattle.cstn_tree.specs.Unfolded.{IsTreeText}
 use Rattle.cstn_reply.specs.Read.{the_said}
 use Rattle.cstn_reply.specs.Statuses.{status_of}
 use Rattle.cstn_reply.specs.declared.output.Said.{Said as SaidText}
 use Rattle.cstn_reply.specs.declared.output.Outcome.{Outcome}
 use Rattle.cstn_reply.specs.declared.output.Outcome.TheVariants.{Good, Bad, Words, Document, Full, Unfinished, Script, Wide}
-use Rattle.cstn_verdict.specs.Documents.{Answer, of_plain}
-use Rattle.cstn_verdict.specs.Verdicts.{verdict, on_verdict, IsYes, IsNo}
-use Rattle.cstn_verdict.specs.Opened.{IsOpened}
-use Rattle.cstn_verdict.specs.declared.documents.Opened.TheVariants.{Accepted}
-use Rattle.cstn_verdict.proofs.Deciding.{Tells, verdict_tells}
-use Rattle.cstn_verdict.proofs.Opening.{comes_to_text}
-use Rattle.cstn_evidence.specs.Accepted.{IsAccepted}
-use Rattle.cstn_evidence.specs.Texts.{by_text}
-use Rattle.cstn_strategy.specs.Unfolded.{observed, unfolded}
-use Rattle.cstn_strategy.specs.Checked.{told_of_line, checked_lines, tree_checked}
+use Rattle.cstn_top.specs.Answers.{Answer, of_plain}
+use Rattle.cstn_check.specs.Decisions.{verdict, IsYes, IsNo}
+use Rattle.cstn_top.specs.Answers.{on_verdict}
+use Rattle.cstn_documents.specs.Opened.{IsOpened}
+use Rattle.cstn_documents.specs.declared.documents.Opened.TheVariants.{Accepted}
+use Rattle.cstn_check.proofs.Deciding.{Tells, verdict_tells}
+use Rattle.cstn_top.proofs.Comes.{comes_to_text}
+use Rattle.cstn_top.specs.Accepted.{IsAccepted}
+use Rattle.cstn_top.specs.Answers.{by_text}
+use Rattle.cstn_tree.specs.Unfolded.{observed}
+use Rattle.cstn_top.specs.Answers.{unfolded}
+use Rattle.cstn_tree.specs.Checked.{told_of_line}
+use Rattle.cstn_top.specs.Answers.{checked_lines, tree_checked}
 use Rattle.cstn_top.specs.Trees.{IsNarrow, IsGoodTree, IsBrokenTree, HasTree, IsTreeProof}
 use Rattle.cstn_top.specs.Meanings.{IsDecidedTree}
 use Rattle.cstn_top.specs.Prepared.{Planned}

@@ -11,7 +11,7 @@ use Rattle.cstn_log.specs.Cuts.{part}
 use Rattle.cstn_check.specs.Tests.{is_plain}
 use Rattle.cstn_check.specs.Growth.{load_of}
 use Rattle.cstn_refute.specs.Texts.{shown}
-use Rattle.cstn_evidence.specs.Accepted.{IsNoText, HasIds}
+use Rattle.cstn_top.specs.Accepted.{IsNoText, HasIds}
 use Rattle.cstn_edit.specs.Sessions.{next_id, highest_of}
 use Rattle.cstn_edit.specs.Edits.{is_value, unobserved, has_constraint, without, with_value}
 use Rattle.cstn_lines.specs.EditLines.{Edit, added, removed, changed, asked, edit_read}

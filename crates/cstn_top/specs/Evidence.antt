@@ -5,8 +5,8 @@ use Rattle.cstn_words.specs.Requests.{Request, check, run, edit, closed, tight, 
 use Rattle.cstn_reply.specs.declared.status.Status.{Status}
 use Rattle.cstn_reply.specs.declared.status.Status.TheVariants.{Good, Bad}
 use Rattle.cstn_lift.specs.Lowered.{lowered}
-use Rattle.cstn_verdict.specs.Documents.{HasLabelled, HasNetwork}
-use Rattle.cstn_evidence.specs.Accepted.{IsYesText, IsNoText, IsTightText, IsConflictText}
+use Rattle.cstn_documents.specs.Documents.{HasLabelled, HasNetwork}
+use Rattle.cstn_top.specs.Accepted.{IsYesText, IsNoText, IsTightText, IsConflictText}
 use Rattle.cstn_top.specs.Several.{FirstHas}
 use Rattle.cstn_top.specs.Trees.{IsTreeProof}
 

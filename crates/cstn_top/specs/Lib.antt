@@ -15,3 +15,7 @@ pub mod LabelledDeadlines
 -- What the proofs use beside.
 pub mod Opened
 pub mod Prepared
+pub mod Plans
+pub mod Verdicts
+pub mod Answers
+pub mod Accepted

@@ -20,8 +20,8 @@ use Rattle.cstn_reply.specs.Texts.{line, yes_line}
 use Rattle.cstn_reply.specs.Sessions.{Turn, play, answers}
 use Rattle.cstn_reply.specs.declared.status.Status.{Status}
 use Rattle.cstn_reply.specs.declared.status.Status.TheVariants.{Good, Bad, Document, Full, Unfinished, Script}
-use Rattle.cstn_verdict.specs.Documents.{parts_of, HasLabelled, HasNetwork, IsNoDocument, IsRefused}
-use Rattle.cstn_verdict.specs.Verdicts.{IsLabelledYes, IsLabelledNo}
+use Rattle.cstn_documents.specs.Documents.{parts_of, HasLabelled, HasNetwork, IsNoDocument, IsRefused}
+use Rattle.cstn_top.specs.Verdicts.{IsLabelledYes, IsLabelledNo}
 use Rattle.cstn_talk.specs.Guiding.{guide_turn}
 use Rattle.cstn_talk.specs.Editing.{begun_editing, edit_turn, edit_ending, last_checked}
 use Rattle.cstn_talk.specs.Meanings.{state_after, GuidesTo, NamesLeast, TellsDue, AcceptsExactly, IsTimely, said_to, IsCarriedThrough, EndsUnfinished}

@@ -12,7 +12,7 @@ use Rattle.cstn_lines.specs.Pieces.{lines_of}
 use Rattle.cstn_refute.specs.Texts.{Told, tells, wrong, told as told_by}
 use Rattle.cstn_words.specs.Requests.{Request, check, run, edit, closed, tight, conflict, tree, save, replay, closedcheck, treecheck, drill, files_of}
 use Rattle.cstn_words.specs.Requests.{host}
-use Rattle.cstn_reply.specs.Files.{AreContents, AreThere}
+use Rattle.cstn_documents.specs.Files.{AreContents, AreThere}
 use Rattle.cstn_reply.specs.declared.status.Status.{Status}
 use Rattle.cstn_reply.specs.declared.status.Status.TheVariants.{Good, Bad, Words, Document, Full, ReadFault, WriteFault, Memory, Unfinished, Script, Wide}
 use Rattle.std.specs.List.{Contains}
@@ -23,11 +23,12 @@ use Rattle.cstn_conflict.specs.Sets.{less, with_ids}
 use Rattle.cstn_conflict.specs.Conflicts.{conflict_set, is_conflict_full as is_blame_full}
 use Rattle.cstn_tight.specs.Deadlines.{at_deadline, IsLeastDeadline}
 use Rattle.cstn_tight.specs.Bisection.{least_deadline, is_tight_full}
-use Rattle.cstn_verdict.specs.Documents.{HasLabelled, HasNetwork, IsNoDocument, IsRefused}
-use Rattle.cstn_verdict.specs.Verdicts.{IsYes, IsNo, IsLabelledYes, IsLabelledNo}
+use Rattle.cstn_documents.specs.Documents.{HasLabelled, HasNetwork, IsNoDocument, IsRefused}
+use Rattle.cstn_check.specs.Decisions.{IsYes, IsNo}
+use Rattle.cstn_top.specs.Verdicts.{IsLabelledYes, IsLabelledNo}
 use Rattle.cstn_talk.specs.Editing.{begun_editing, last_checked}
 use Rattle.cstn_tree.specs.Texts.{told as told_tree}
-use Rattle.cstn_strategy.specs.Unfolded.{observed}
+use Rattle.cstn_tree.specs.Unfolded.{observed}
 use Rattle.cstn_top.specs.Drills.{unrefuted, AreConsistent}
 use Rattle.cstn_top.specs.Several.{EachHas, FirstHas}
 use Rattle.cstn_top.specs.Trees.{IsNarrow, IsGoodTree, IsBrokenTree, HasTree}

@@ -1,11 +1,12 @@
 -- What is said of a network by the text of a file.
 use Rattle.std.specs.Prelude.{◌≤◌, ℕ, List, [], ◌∷◌, length, Option}
 use Rattle.cstn_net.specs.Networks.{Network}
-use Rattle.cstn_reply.specs.Files.{IsContent, AreThere}
-use Rattle.cstn_reply.specs.Plans.{Said, IsOutput}
+use Rattle.cstn_documents.specs.Files.{IsContent, AreThere}
+use Rattle.cstn_reply.specs.Texts.{Said}
+use Rattle.cstn_top.specs.Plans.{IsOutput}
 use Rattle.cstn_reply.specs.Read.{the_said}
-use Rattle.cstn_verdict.specs.Documents.{Answer}
-use Rattle.cstn_evidence.specs.Texts.{by_text}
+use Rattle.cstn_top.specs.Answers.{Answer}
+use Rattle.cstn_top.specs.Answers.{by_text}
 use Rattle.cstn_top.specs.declared.commands.texts.TextRead.{TextRead}
 use Rattle.cstn_top.specs.declared.commands.texts.TextRead.TheVariants.{Whole, Told}
 

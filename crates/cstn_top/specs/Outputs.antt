@@ -3,16 +3,18 @@ use Rattle.std.specs.Prelude.{ℕ, List, [], ◌++◌, get_or, Option, None, Som
 use Rattle.cstn_save.specs.Canonical.{canonical}
 use Rattle.cstn_words.specs.Requests.{Request, check, run, edit, closed, tight, conflict, tree, save, replay, closedcheck, treecheck, drill}
 use Rattle.cstn_words.specs.Requests.{host}
-use Rattle.cstn_reply.specs.Plans.{Said, say, Plan, says}
+use Rattle.cstn_reply.specs.Texts.{Said, say}
+use Rattle.cstn_top.specs.Plans.{Plan, says}
 use Rattle.cstn_reply.specs.declared.output.Outcome.TheVariants.{Good, Words}
-use Rattle.cstn_verdict.specs.Documents.{LabelledAnswer, of_lowered, on_labelled, on_document}
-use Rattle.cstn_verdict.specs.Verdicts.{verdict, checked}
-use Rattle.cstn_evidence.specs.Bounds.{listed}
-use Rattle.cstn_evidence.specs.Blame.{blamed}
-use Rattle.cstn_evidence.specs.Tight.{tightened}
-use Rattle.cstn_evidence.specs.Texts.{by_text, replayed, certified}
-use Rattle.cstn_strategy.specs.Unfolded.{unfolded}
-use Rattle.cstn_strategy.specs.Checked.{tree_checked}
+use Rattle.cstn_top.specs.Answers.{LabelledAnswer, of_lowered, on_labelled, on_document}
+use Rattle.cstn_check.specs.Decisions.{verdict}
+use Rattle.cstn_top.specs.Answers.{checked}
+use Rattle.cstn_top.specs.Answers.{listed}
+use Rattle.cstn_top.specs.Answers.{blamed}
+use Rattle.cstn_top.specs.Answers.{tightened}
+use Rattle.cstn_top.specs.Answers.{by_text, replayed, certified}
+use Rattle.cstn_top.specs.Answers.{unfolded}
+use Rattle.cstn_top.specs.Answers.{tree_checked}
 use Rattle.cstn_talk.specs.Guiding.{carried_out}
 use Rattle.cstn_talk.specs.Editing.{edited}
 use Rattle.cstn_ward.specs.Hosting.{hosted_plan}

@@ -1,9 +1,11 @@
 -- What is prepared for a request.
 use Rattle.std.specs.Prelude.{◌≡◌, ℕ, ◌≤◌, List, [], Option, Some}
 use Rattle.cstn_words.specs.Requests.{Request, check, run, edit, closed, tight, conflict, tree, save, replay, closedcheck, treecheck, drill, host, files_of, AsksEdit, AsksHost}
-use Rattle.cstn_reply.specs.Files.{AreContents, AreThere}
-use Rattle.cstn_reply.specs.Plans.{Said, Plan, says, EndsLine, ComesTo, IsOutput}
-use Rattle.cstn_reply.specs.Sessions.{session}
+use Rattle.cstn_documents.specs.Files.{AreContents, AreThere}
+use Rattle.cstn_reply.specs.Texts.{Said}
+use Rattle.cstn_top.specs.Plans.{Plan, says, ComesTo, IsOutput}
+use Rattle.cstn_reply.specs.Written.{EndsLine}
+use Rattle.cstn_top.specs.Plans.{session}
 use Rattle.cstn_talk.specs.Guiding.{guided_turn, guided_ending}
 use Rattle.cstn_talk.specs.Editing.{the_editing, edit_turn, edit_ending}
 use Rattle.cstn_ward.specs.Wards.{ward_turn, ward_ending}

@@ -1,8 +1,8 @@
 -- What is told of the documents of several files.
 use Rattle.std.specs.Prelude.{◌⊎◌, ℕ, List, [], ◌∷◌, Option}
 use Rattle.cstn_net.specs.Networks.{Network}
-use Rattle.cstn_verdict.specs.Documents.{HasNetwork}
-use Rattle.cstn_verdict.specs.Verdicts.{IsYes}
+use Rattle.cstn_documents.specs.Documents.{HasNetwork}
+use Rattle.cstn_check.specs.Decisions.{IsYes}
 
 -- each document with these contents has a network of which this holds
 abbrev pub EachHas : List (List ℕ) → Option ℕ → (Network → Type 0) → Type 0

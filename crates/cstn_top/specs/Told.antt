@@ -5,8 +5,9 @@ use Rattle.cstn_io.specs.Contents.{with_bytes}
 use Rattle.cstn_words.specs.Requests.{Request, names_of}
 use Rattle.cstn_words.specs.Read.{request_in}
 use Rattle.cstn_reply.specs.Texts.{line}
-use Rattle.cstn_reply.specs.Files.{AreContents}
-use Rattle.cstn_reply.specs.Plans.{LiveState, Ends, Untouched}
+use Rattle.cstn_documents.specs.Files.{AreContents}
+use Rattle.cstn_reply.specs.Written.{LiveState}
+use Rattle.cstn_top.specs.Plans.{Ends, Untouched}
 use Rattle.cstn_reply.specs.declared.status.Status.{Status}
 use Rattle.cstn_reply.specs.declared.status.Status.TheVariants.{Good, Bad, Full, Unfinished, Wide}
 use Rattle.cstn_top.specs.Outputs.{plan_of}

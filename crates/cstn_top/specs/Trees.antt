@@ -7,12 +7,14 @@ use Rattle.cstn_tree.specs.Good.{first_broken, IsUnbroken}
 use Rattle.cstn_tree.specs.Read.{the_tree}
 use Rattle.cstn_tree.specs.Texts.{Told, tells, wrong}
 use Rattle.cstn_check.specs.Growth.{log_of, load_of, live_bounds}
-use Rattle.cstn_reply.specs.Plans.{Said, say, says, IsTreeText}
+use Rattle.cstn_reply.specs.Texts.{Said, say}
+use Rattle.cstn_top.specs.Plans.{says}
+use Rattle.cstn_tree.specs.Unfolded.{IsTreeText}
 use Rattle.cstn_reply.specs.declared.output.Outcome.TheVariants.{Good}
-use Rattle.cstn_evidence.specs.Accepted.{IsAccepted}
-use Rattle.cstn_evidence.specs.Texts.{by_text}
-use Rattle.cstn_strategy.specs.Unfolded.{observed}
-use Rattle.cstn_strategy.specs.Checked.{tree_checked}
+use Rattle.cstn_top.specs.Accepted.{IsAccepted}
+use Rattle.cstn_top.specs.Answers.{by_text}
+use Rattle.cstn_tree.specs.Unfolded.{observed}
+use Rattle.cstn_top.specs.Answers.{tree_checked}
 
 -- no more propositions are observed than a tree is made for
 abbrev pub IsNarrow : Network → Type 0

@@ -5,9 +5,10 @@ ghost use Rattle.cstn_net.specs.Networks.{Network, Constraint, IsWellFormed, cou
 ghost use Rattle.cstn_lines.specs.Pieces.{is_past};
 ghost use Rattle.cstn_talk.specs.Editing.{Editing, begun_editing, edit_turn, last_checked};
 ghost use Rattle.cstn_talk.specs.Meanings.{state_after};
-ghost use Rattle.cstn_evidence.specs.Accepted.{HasIds, IsAccepted};
+ghost use Rattle.cstn_top.specs.Accepted.{HasIds, IsAccepted};
 ghost use Rattle.cstn_words.specs.Requests.{Asked, Request, check, run, closed, replay, closedcheck};
-ghost use Rattle.cstn_reply.specs.Plans.{Plan, Said, IsOutput};
+ghost use Rattle.cstn_top.specs.Plans.{Plan, IsOutput};
+ghost use Rattle.cstn_reply.specs.Texts.{Said};
 ghost use Rattle.cstn_reply.specs.declared.output.Outcome.TheVariants.{Good, Bad};
 ghost use Rattle.cstn_top.specs.Lines.{AreAnswered};
 ghost use Rattle.cstn_top.specs.Outputs.{plan_at};
@@ -21,7 +22,7 @@ ghost use Rattle.cstn_top.specs.LabelledDeadlines.{labelled_at, IsLabelledLeastD
 ghost use Rattle.cstn_top.specs.EditSessions.{network_after, AnswersCheck, IsAtLastCheck};
 
 use cstn_closed::{closed_lists_are_accepted, closed_texts_are_read_back};
-use cstn_evidence::evidence_is_accepted;
+use crate::evidence::evidence_is_accepted;
 use cstn_graphml::documents_have_one_answer;
 use cstn_refute::texts_are_read_back;
 use cstn_tree::{made_trees_are_good, networks_have_one_tree, tree_texts_are_read_back};

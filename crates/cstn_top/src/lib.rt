@@ -2,11 +2,13 @@
 #![tactic(auto)]
 
 mod commands;
+mod evidence;
 mod headline;
 mod laws;
 mod top;
 
 pub use cstn_reply::Status;
+pub use evidence::evidence_is_accepted;
 pub use headline::the_headline;
 pub use laws::{
     edit_sessions_are_true, evidence_passes, least_deadlines_are_lowered, outputs_are_one,

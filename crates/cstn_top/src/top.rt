@@ -3,15 +3,15 @@ ghost use Rattle.std.specs.Prelude.{◌≡◌, ◌≢◌, ◌⊎◌, ◌≤◌, 
 ghost use Rattle.std.specs.Option.{option_map};
 ghost use Rattle.std.specs.List.{list_all};
 ghost use Rattle.cstn_words.specs.Read.{request_in, named_files};
-ghost use Rattle.cstn_reply.specs.Files.{AreThere};
-ghost use Rattle.cstn_reply.specs.Plans.{Ends, Untouched, MayTalk};
+ghost use Rattle.cstn_documents.specs.Files.{AreThere};
+ghost use Rattle.cstn_top.specs.Plans.{Ends, Untouched, MayTalk};
 ghost use Rattle.cstn_reply.specs.declared.status.Status.TheVariants.{Words, Document, ReadFault, WriteFault, Memory};
 ghost use Rattle.cstn_top.specs.Meanings.{files_read, RefusedIsThere, MayStop};
 ghost use Rattle.cstn_top.specs.Prepared.{the_plan, IsLined, MayWant, IsRanged};
 ghost use Rattle.cstn_top.specs.Told.{view, Failed, TellsOf, Reads, WroteMemory, Answers, IsTold};
 
 use crate::commands::{Prepared, prepare};
-use cstn_evidence::evidence_is_accepted;
+use crate::evidence::evidence_is_accepted;
 use cstn_io::{Shelf, Sink, Source};
 use cstn_reply::{Refused, Status, converse, finish};
 use cstn_words::parse;

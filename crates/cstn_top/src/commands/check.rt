@@ -4,19 +4,18 @@ ghost use Rattle.cstn_io.specs.Causes.{Rose};
 ghost use Rattle.cstn_net.specs.Networks.{IsWellFormed, count};
 ghost use Rattle.cstn_net.specs.Read.{the_network};
 ghost use Rattle.cstn_words.specs.Requests.{check};
-ghost use Rattle.cstn_reply.specs.Plans.{says};
-ghost use Rattle.cstn_verdict.specs.Verdicts.{checked};
+ghost use Rattle.cstn_top.specs.Plans.{says};
+ghost use Rattle.cstn_top.specs.Answers.{checked};
 ghost use Rattle.cstn_top.specs.Prepared.{Planned};
 ghost use Rattle.cstn_words.specs.Read.{the_asked};
 ghost use Rattle.cstn_reply.specs.Read.{the_said};
 
+use cstn_check::check_text;
+use cstn_documents::{WithLabels, open_labelled};
 use cstn_io::Shelf;
-use cstn_net::Network;
-use cstn_reply::{Outcome, Refused, Said};
-use cstn_text::Names;
-use cstn_verdict::{Decided, WithLabels, decide, open_labelled, yes_line};
+use cstn_reply::{Refused, Said};
 use cstn_words::Asked;
-use std::alloc::{AllocError, Global};
+use std::alloc::Global;
 
 /// The verdict on the labelled network of a file: that on the network it is lowered to, whose log may have `cap` entries.
 pub(crate) fn check_file<F: Shelf>(
@@ -37,28 +36,8 @@ pub(crate) fn check_file<F: Shelf>(
     match open_labelled(alloc, asked, shelf)? {
         WithLabels::Accepted { labelled, names } => {
             let (network, _) = labelled.split();
-            Ok(judge(alloc, network, &names, cap)?)
+            Ok(check_text(alloc, network, &names, cap)?)
         }
         WithLabels::Told(said) => Ok(said),
-    }
-}
-
-// What is said of a network.
-fn judge(alloc: Global, network: Network, names: &Names, cap: u32) -> Result<Said, AllocError>
-    requires some { 1 ≤ cap }
-    requires most { cap ≤ 4194304 }
-    requires well_formed { IsWellFormed (the_network network) }
-    requires named { length names.now ≡ count (the_network network) }
-    ensures said { IfOk result (λ said. says (the_said said) ≡ checked cap names.now (the_network network)) }
-{
-    match decide(alloc, network, names, cap)? {
-        Decided::Yes { load, .. } => {
-            let text = yes_line(alloc, load)?;
-            Ok(Said {
-                outcome: Outcome::Good,
-                text,
-            })
-        }
-        Decided::Told(said) => Ok(said),
     }
 }

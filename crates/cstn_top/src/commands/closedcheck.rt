@@ -6,18 +6,18 @@ ghost use Rattle.cstn_net.specs.Read.{the_network};
 ghost use Rattle.cstn_words.specs.Requests.{closedcheck};
 ghost use Rattle.cstn_words.specs.Read.{the_asked};
 ghost use Rattle.cstn_reply.specs.Read.{the_said};
-ghost use Rattle.cstn_reply.specs.Plans.{says};
-ghost use Rattle.cstn_evidence.specs.Texts.{certified};
+ghost use Rattle.cstn_top.specs.Plans.{says};
+ghost use Rattle.cstn_top.specs.Answers.{certified};
 ghost use Rattle.cstn_top.specs.Opened.{IsSaidBy};
 ghost use Rattle.cstn_top.specs.Prepared.{Planned};
 
 use super::texts::{TextRead, read_text};
-use cstn_evidence::check_text;
+use cstn_closed::closedcheck_text;
+use cstn_documents::{WithLabels, open_labelled};
 use cstn_io::Shelf;
 use cstn_net::Network;
 use cstn_reply::{Refused, Said};
 use cstn_text::Names;
-use cstn_verdict::{WithLabels, open_labelled};
 use cstn_words::Asked;
 use std::alloc::Global;
 
@@ -64,7 +64,7 @@ fn check_on<F: Shelf>(
     ensures later { F.faults shelf.old ≤ F.faults shelf.new }
 {
     match read_text(alloc, proof, shelf)? {
-        TextRead::Whole(text) => Ok(check_text(alloc, network, names, &text)?),
+        TextRead::Whole(text) => Ok(closedcheck_text(alloc, network, names, &text)?),
         TextRead::Told(said) => Ok(said),
     }
 }

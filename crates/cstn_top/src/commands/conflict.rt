@@ -3,14 +3,14 @@ ghost use Rattle.std.specs.Prelude.{◌≡◌, ◌≤◌, IfOk, IsTrue, IsErrOf}
 ghost use Rattle.cstn_io.specs.Causes.{Rose};
 ghost use Rattle.cstn_words.specs.Requests.{conflict};
 ghost use Rattle.cstn_words.specs.Read.{the_asked};
-ghost use Rattle.cstn_reply.specs.Plans.{says};
+ghost use Rattle.cstn_top.specs.Plans.{says};
 ghost use Rattle.cstn_reply.specs.Read.{the_said};
 ghost use Rattle.cstn_top.specs.Prepared.{Planned};
 
-use cstn_evidence::blame;
+use cstn_conflict::conflict_text;
+use cstn_documents::{Opened, open};
 use cstn_io::Shelf;
 use cstn_reply::{Refused, Said};
-use cstn_verdict::{Opened, open};
 use cstn_words::Asked;
 use std::alloc::Global;
 
@@ -31,7 +31,7 @@ pub(crate) fn conflict_file<F: Shelf>(
     ensures later { F.faults shelf.old ≤ F.faults shelf.new }
 {
     match open(alloc, asked, shelf)? {
-        Opened::Accepted { network, names } => Ok(blame(alloc, network, &names, cap)?),
+        Opened::Accepted { network, names } => Ok(conflict_text(alloc, network, &names, cap)?),
         Opened::Told(said) => Ok(said),
     }
 }

@@ -6,18 +6,18 @@ ghost use Rattle.cstn_net.specs.Read.{the_network};
 ghost use Rattle.cstn_words.specs.Requests.{replay};
 ghost use Rattle.cstn_words.specs.Read.{the_asked};
 ghost use Rattle.cstn_reply.specs.Read.{the_said};
-ghost use Rattle.cstn_reply.specs.Plans.{says};
-ghost use Rattle.cstn_evidence.specs.Texts.{replayed};
+ghost use Rattle.cstn_top.specs.Plans.{says};
+ghost use Rattle.cstn_top.specs.Answers.{replayed};
 ghost use Rattle.cstn_top.specs.Opened.{IsSaidBy};
 ghost use Rattle.cstn_top.specs.Prepared.{Planned};
 
 use super::texts::{TextRead, read_text};
-use cstn_evidence::replay_text;
+use cstn_documents::{WithLabels, open_labelled};
 use cstn_io::Shelf;
 use cstn_net::Network;
+use cstn_replay::replay_text;
 use cstn_reply::{Refused, Said};
 use cstn_text::Names;
-use cstn_verdict::{WithLabels, open_labelled};
 use cstn_words::Asked;
 use std::alloc::Global;
 

@@ -8,21 +8,21 @@ ghost use Rattle.cstn_lift.specs.Read.{the_labelled};
 ghost use Rattle.cstn_check.specs.Growth.{load_of};
 ghost use Rattle.cstn_check.specs.declared.verdicts.Verdict.TheVariants.{Yes};
 ghost use Rattle.cstn_words.specs.Requests.{Request, run};
-ghost use Rattle.cstn_reply.specs.Plans.{ComesTo};
+ghost use Rattle.cstn_top.specs.Plans.{ComesTo};
 ghost use Rattle.cstn_top.specs.Prepared.{the_plan, Planned, FitsRequest};
 ghost use Rattle.cstn_words.specs.Read.{the_asked};
 ghost use Rattle.cstn_talk.specs.Guiding.{carried_out};
-ghost use Rattle.cstn_verdict.specs.Verdicts.{verdict};
+ghost use Rattle.cstn_check.specs.Decisions.{verdict};
 
 use super::Prepared;
-use cstn_check::Check;
+use cstn_check::{Check, Judged, judge, yes_line};
+use cstn_documents::{WithLabels, open_labelled};
 use cstn_guide::Guide;
 use cstn_io::Shelf;
 use cstn_lift::{Labelled, Labels};
 use cstn_reply::Refused;
 use cstn_talk::Guiding;
 use cstn_text::Names;
-use cstn_verdict::{Decided, WithLabels, decide, open_labelled, yes_line};
 use cstn_words::Asked;
 use std::alloc::{AllocError, Global};
 
@@ -63,9 +63,9 @@ fn prepare(
     ensures fits { IfOk result (λ prepared. (request : Request) → FitsRequest request prepared) }
 {
     let (network, labels) = labelled.split();
-    match decide(alloc, network, names, cap)? {
-        Decided::Yes { load, check } => begin(alloc, load, check, labels, names, cap),
-        Decided::Told(said) => Ok(Prepared::Says(said)),
+    match judge(alloc, network, names, cap)? {
+        Judged::Yes { load, check } => begin(alloc, load, check, labels, names, cap),
+        Judged::Told(said) => Ok(Prepared::Says(said)),
     }
 }
 

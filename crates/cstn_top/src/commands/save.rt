@@ -5,18 +5,18 @@ ghost use Rattle.cstn_net.specs.Networks.{count};
 ghost use Rattle.cstn_net.specs.Read.{the_network};
 ghost use Rattle.cstn_lift.specs.Read.{the_labelled};
 ghost use Rattle.cstn_words.specs.Requests.{save};
-ghost use Rattle.cstn_reply.specs.Plans.{says};
+ghost use Rattle.cstn_top.specs.Plans.{says};
 ghost use Rattle.cstn_top.specs.Prepared.{Planned};
 ghost use Rattle.cstn_words.specs.Read.{the_asked};
 ghost use Rattle.cstn_reply.specs.Read.{the_said};
 ghost use Rattle.cstn_top.specs.Outputs.{saved};
 
+use cstn_documents::{WithLabels, open_labelled};
 use cstn_io::Shelf;
 use cstn_lift::Labelled;
 use cstn_reply::{Outcome, Refused, Said};
 use cstn_save::write;
 use cstn_text::Names;
-use cstn_verdict::{WithLabels, open_labelled};
 use cstn_words::Asked;
 use std::alloc::{AllocError, Global};
 

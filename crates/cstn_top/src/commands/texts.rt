@@ -1,7 +1,7 @@
 // The texts of files that hold a refutation, a list of bounds or a tree.
 ghost use Rattle.std.specs.Prelude.{◌≡◌, ◌≤◌, length, IfOk, IsTrue, IsErrOf, codes};
 ghost use Rattle.cstn_io.specs.Causes.{Rose};
-ghost use Rattle.cstn_reply.specs.Plans.{say};
+ghost use Rattle.cstn_reply.specs.Texts.{say};
 ghost use Rattle.cstn_reply.specs.Read.{the_said};
 ghost use Rattle.cstn_top.specs.Opened.{IsTextOf};
 

@@ -3,14 +3,14 @@ ghost use Rattle.std.specs.Prelude.{◌≡◌, ◌≤◌, IfOk, IsTrue, IsErrOf}
 ghost use Rattle.cstn_io.specs.Causes.{Rose};
 ghost use Rattle.cstn_words.specs.Requests.{tight};
 ghost use Rattle.cstn_words.specs.Read.{the_asked};
-ghost use Rattle.cstn_reply.specs.Plans.{says};
+ghost use Rattle.cstn_top.specs.Plans.{says};
 ghost use Rattle.cstn_reply.specs.Read.{the_said};
 ghost use Rattle.cstn_top.specs.Prepared.{Planned};
 
-use cstn_evidence::tighten;
+use cstn_documents::{WithLabels, open_labelled};
 use cstn_io::Shelf;
 use cstn_reply::{Refused, Said};
-use cstn_verdict::{WithLabels, open_labelled};
+use cstn_tight::tight_text;
 use cstn_words::Asked;
 use std::alloc::Global;
 
@@ -33,7 +33,7 @@ pub(crate) fn tight_file<F: Shelf>(
     match open_labelled(alloc, asked, shelf)? {
         WithLabels::Accepted { labelled, names } => {
             let (network, _) = labelled.split();
-            Ok(tighten(alloc, network, &names, cap)?)
+            Ok(tight_text(alloc, network, &names, cap)?)
         }
         WithLabels::Told(said) => Ok(said),
     }

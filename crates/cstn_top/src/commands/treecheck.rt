@@ -6,18 +6,18 @@ ghost use Rattle.cstn_net.specs.Read.{the_network};
 ghost use Rattle.cstn_words.specs.Requests.{treecheck};
 ghost use Rattle.cstn_words.specs.Read.{the_asked};
 ghost use Rattle.cstn_reply.specs.Read.{the_said};
-ghost use Rattle.cstn_reply.specs.Plans.{says};
-ghost use Rattle.cstn_strategy.specs.Checked.{tree_checked};
+ghost use Rattle.cstn_top.specs.Plans.{says};
+ghost use Rattle.cstn_top.specs.Answers.{tree_checked};
 ghost use Rattle.cstn_top.specs.Opened.{IsSaidBy};
 ghost use Rattle.cstn_top.specs.Prepared.{Planned};
 
 use super::texts::{TextRead, read_text};
+use cstn_documents::{Opened, open};
 use cstn_io::Shelf;
 use cstn_net::Network;
 use cstn_reply::{Refused, Said};
-use cstn_strategy::check_tree;
+use cstn_tree::treecheck_text;
 use cstn_text::Names;
-use cstn_verdict::{Opened, open};
 use cstn_words::Asked;
 use std::alloc::Global;
 
@@ -60,7 +60,7 @@ fn check_on<F: Shelf>(
     ensures later { F.faults shelf.old ≤ F.faults shelf.new }
 {
     match read_text(alloc, proof, shelf)? {
-        TextRead::Whole(text) => Ok(check_tree(alloc, network, names, &text)?),
+        TextRead::Whole(text) => Ok(treecheck_text(alloc, network, names, &text)?),
         TextRead::Told(said) => Ok(said),
     }
 }

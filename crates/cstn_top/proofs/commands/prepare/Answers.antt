@@ -1,5 +1,5 @@
 use Rattle.std.proofs.Common.{sym, subst}
-use Rattle.cstn_reply.specs.Plans.{says}
+use Rattle.cstn_top.specs.Plans.{says}
 use Rattle.cstn_words.specs.Read.{the_request}
 use Rattle.cstn_reply.specs.Read.{the_said}
 use Rattle.cstn_top.specs.Prepared.{Planned}

@@ -1,5 +1,5 @@
 use Rattle.std.proofs.Common.{inr}
-use Rattle.cstn_reply.specs.Plans.{LiveState}
+use Rattle.cstn_reply.specs.Written.{LiveState}
 use Rattle.cstn_words.specs.Read.{the_request}
 use Rattle.cstn_top.specs.Prepared.{the_plan}
 use Rattle.cstn_top.specs.Told.{view}

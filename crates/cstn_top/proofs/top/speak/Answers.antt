@@ -1,4 +1,4 @@
-use Rattle.cstn_reply.specs.Plans.{LiveState}
+use Rattle.cstn_reply.specs.Written.{LiveState}
 use Rattle.cstn_reply.specs.Read.{the_said}
 use Rattle.cstn_talk.specs.Guiding.{guided_turn, guided_ending}
 use Rattle.cstn_top.specs.declared.commands.Prepared.TheVariants.{Says, Runs}

@@ -2,10 +2,10 @@ use Rattle.std.proofs.Common.{ℕ, subst}
 use Rattle.std.specs.Prelude.{Ok}
 use Rattle.cstn_words.specs.Requests.{check}
 use Rattle.cstn_words.specs.Read.{the_asked}
-use Rattle.cstn_verdict.specs.Documents.{of_lowered}
-use Rattle.cstn_verdict.specs.Opened.{IsOpenedWithLabels}
-use Rattle.cstn_verdict.specs.declared.documents.WithLabels.{WithLabels}
-use Rattle.cstn_verdict.specs.Verdicts.{checked}
+use Rattle.cstn_top.specs.Answers.{of_lowered}
+use Rattle.cstn_documents.specs.Opened.{IsOpenedWithLabels}
+use Rattle.cstn_documents.specs.declared.documents.WithLabels.{WithLabels}
+use Rattle.cstn_top.specs.Answers.{checked}
 use Rattle.cstn_top.proofs.Opening.{lowered_accepted, labelled_told, of_check}
 use Rattle.cstn_top.proofs.commands.check.check_file.Goals as goal
 

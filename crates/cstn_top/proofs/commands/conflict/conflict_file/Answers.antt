@@ -2,11 +2,11 @@ use Rattle.std.proofs.Common.{ℕ, subst}
 use Rattle.std.specs.Prelude.{Ok}
 use Rattle.cstn_words.specs.Requests.{conflict}
 use Rattle.cstn_words.specs.Read.{the_asked}
-use Rattle.cstn_reply.specs.Plans.{says}
+use Rattle.cstn_top.specs.Plans.{says}
 use Rattle.cstn_reply.specs.Read.{the_said}
-use Rattle.cstn_verdict.specs.Opened.{IsOpened}
-use Rattle.cstn_verdict.specs.declared.documents.Opened.{Opened}
-use Rattle.cstn_evidence.specs.Blame.{blamed}
+use Rattle.cstn_documents.specs.Opened.{IsOpened}
+use Rattle.cstn_documents.specs.declared.documents.Opened.{Opened}
+use Rattle.cstn_top.specs.Answers.{blamed}
 use Rattle.cstn_top.proofs.Opening.{one_accepted, one_told, of_conflict}
 use Rattle.cstn_top.proofs.commands.conflict.conflict_file.Goals as goal
 

@@ -1,13 +1,13 @@
 use Rattle.std.proofs.Common.{[], ap, subst}
-use Rattle.cstn_verdict.specs.Opened.{IsOpened}
+use Rattle.cstn_documents.specs.Opened.{IsOpened}
 use Rattle.cstn_words.specs.Requests.{edit}
-use Rattle.cstn_reply.specs.Sessions.{session}
+use Rattle.cstn_top.specs.Plans.{session}
 use Rattle.cstn_talk.specs.Editing.{edit_turn, edit_ending, the_editing}
 use Rattle.cstn_talk.specs.Editing.{edited}
 use Rattle.cstn_words.specs.Read.{the_asked}
-use Rattle.cstn_verdict.specs.declared.documents.Opened.{Opened}
+use Rattle.cstn_documents.specs.declared.documents.Opened.{Opened}
 use Rattle.cstn_top.proofs.Opening.{one_said, one_told, of_edit}
-use Rattle.cstn_verdict.proofs.Opening.{document_ids}
+use Rattle.cstn_documents.proofs.Opening.{document_ids}
 use Rattle.cstn_top.proofs.commands.edit.edit_file.Goals as goal
 
 pub start-requires-clause-ids : goal.start-requires-clause-ids

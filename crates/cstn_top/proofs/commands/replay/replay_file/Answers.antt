@@ -4,10 +4,10 @@ use Rattle.cstn_net.specs.Read.{the_network}
 use Rattle.cstn_words.specs.Requests.{replay}
 use Rattle.cstn_words.specs.Read.{the_asked}
 use Rattle.cstn_reply.specs.Read.{the_said}
-use Rattle.cstn_verdict.specs.Documents.{of_lowered}
-use Rattle.cstn_verdict.specs.Opened.{IsOpenedWithLabels}
-use Rattle.cstn_verdict.specs.declared.documents.WithLabels.{WithLabels}
-use Rattle.cstn_evidence.specs.Texts.{by_text, replayed}
+use Rattle.cstn_top.specs.Answers.{of_lowered}
+use Rattle.cstn_documents.specs.Opened.{IsOpenedWithLabels}
+use Rattle.cstn_documents.specs.declared.documents.WithLabels.{WithLabels}
+use Rattle.cstn_top.specs.Answers.{by_text, replayed}
 use Rattle.cstn_top.specs.Opened.{IsSaidBy}
 use Rattle.cstn_top.proofs.ByText.{two_lowered, two_refused, of_replay}
 use Rattle.cstn_top.proofs.commands.replay.replay_file.Goals as goal

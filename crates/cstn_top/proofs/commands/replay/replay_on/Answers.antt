@@ -1,8 +1,8 @@
 use Rattle.std.proofs.Common.{subst, sym, List, ℕ, ◌≤◌, length}
 use Rattle.std.specs.Prelude.{Ok}
 use Rattle.cstn_net.specs.Read.{the_network}
-use Rattle.cstn_reply.specs.Files.{IsContent}
-use Rattle.cstn_evidence.specs.Texts.{replayed}
+use Rattle.cstn_documents.specs.Files.{IsContent}
+use Rattle.cstn_top.specs.Answers.{replayed}
 use Rattle.cstn_top.specs.Opened.{IsTextOf}
 use Rattle.cstn_top.specs.declared.commands.texts.TextRead.{TextRead}
 use Rattle.cstn_top.specs.declared.commands.texts.TextRead.TheVariants.{Whole, Told}

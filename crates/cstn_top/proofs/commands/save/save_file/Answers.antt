@@ -1,9 +1,9 @@
 use Rattle.std.proofs.Common.{ℕ, subst}
 use Rattle.std.specs.Prelude.{Ok}
-use Rattle.cstn_verdict.specs.Opened.{IsOpenedWithLabels}
+use Rattle.cstn_documents.specs.Opened.{IsOpenedWithLabels}
 use Rattle.cstn_words.specs.Requests.{save}
 use Rattle.cstn_words.specs.Read.{the_asked}
-use Rattle.cstn_verdict.specs.declared.documents.WithLabels.{WithLabels}
+use Rattle.cstn_documents.specs.declared.documents.WithLabels.{WithLabels}
 use Rattle.cstn_top.specs.Outputs.{saved}
 use Rattle.cstn_top.proofs.Opening.{labelled_accepted, labelled_told, of_save}
 use Rattle.cstn_top.proofs.commands.save.save_file.Goals as goal

@@ -2,9 +2,9 @@ use Rattle.std.proofs.Common.{ℕ, subst}
 use Rattle.std.specs.Prelude.{Ok}
 use Rattle.cstn_words.specs.Requests.{tree}
 use Rattle.cstn_words.specs.Read.{the_asked}
-use Rattle.cstn_verdict.specs.Opened.{IsOpened}
-use Rattle.cstn_verdict.specs.declared.documents.Opened.{Opened}
-use Rattle.cstn_strategy.specs.Unfolded.{unfolded}
+use Rattle.cstn_documents.specs.Opened.{IsOpened}
+use Rattle.cstn_documents.specs.declared.documents.Opened.{Opened}
+use Rattle.cstn_top.specs.Answers.{unfolded}
 use Rattle.cstn_top.proofs.Opening.{one_told}
 use Rattle.cstn_top.proofs.Trees.{of_tree, one_answers}
 use Rattle.cstn_top.proofs.commands.tree.tree_file.Goals as goal

@@ -4,9 +4,9 @@ use Rattle.cstn_net.specs.Read.{the_network}
 use Rattle.cstn_words.specs.Requests.{treecheck}
 use Rattle.cstn_words.specs.Read.{the_asked}
 use Rattle.cstn_reply.specs.Read.{the_said}
-use Rattle.cstn_verdict.specs.Opened.{IsOpened}
-use Rattle.cstn_verdict.specs.declared.documents.Opened.{Opened}
-use Rattle.cstn_strategy.specs.Checked.{tree_checked}
+use Rattle.cstn_documents.specs.Opened.{IsOpened}
+use Rattle.cstn_documents.specs.declared.documents.Opened.{Opened}
+use Rattle.cstn_top.specs.Answers.{tree_checked}
 use Rattle.cstn_top.specs.Opened.{IsSaidBy}
 use Rattle.cstn_top.proofs.ByText.{two_accepted, two_told}
 use Rattle.cstn_top.proofs.Trees.{of_treecheck}

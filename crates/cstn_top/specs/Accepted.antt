@@ -6,10 +6,11 @@ use Rattle.cstn_net.specs.Strategies.{IsConsistent}
 use Rattle.cstn_conflict.specs.Sets.{less, with_ids}
 use Rattle.cstn_tight.specs.Deadlines.{at_deadline, IsLeastDeadline}
 use Rattle.cstn_reply.specs.Texts.{line}
-use Rattle.cstn_reply.specs.Plans.{Said, say, Plan, IsOutput}
+use Rattle.cstn_reply.specs.Texts.{Said, say}
+use Rattle.cstn_top.specs.Plans.{Plan, IsOutput}
 use Rattle.cstn_reply.specs.declared.output.Outcome.TheVariants.{Good}
-use Rattle.cstn_evidence.specs.Blame.{ids_line}
-use Rattle.cstn_evidence.specs.Texts.{by_text, replayed, certified}
+use Rattle.cstn_conflict.specs.Texts.{ids_line}
+use Rattle.cstn_top.specs.Answers.{by_text, replayed, certified}
 
 -- `accepted` is said, and nothing else
 abbrev pub IsAccepted : Plan → Type 0

@@ -1,26 +1,16 @@
 -- The bounds of a yes, as lines.
-use Rattle.std.proofs.Common.{◌≡◌, ℕ, zero, suc, ◌+◌, ◌<◌, ◌≤◌, List, ◌++◌, length, map, get_or, sym, subst, ap, ◌∙◌, arith}
+use Rattle.std.proofs.Common.{◌≡◌, ℕ, zero, suc, ◌+◌, ◌<◌, ◌≤◌, List, length, map, get_or, sym, subst, ap, ◌∙◌, arith}
 use Rattle.std.specs.List.{All, Contains}
 use Rattle.std.proofs.lemmas.Int.{ints}
-use Rattle.std.proofs.lemmas.List.{length-map, length-append, get_or-map}
+use Rattle.std.proofs.lemmas.List.{length-map, get_or-map}
 use Rattle.std.proofs.lemmas.List.Elements.{Contains-get_or}
 use Rattle.cstn_label.specs.declared.bounds.Bound.{Bound as Declared}
 use Rattle.cstn_label.specs.Bounds.{Bound}
 use Rattle.cstn_label.specs.Read.{the_bound}
 use Rattle.cstn_net.specs.Networks.{Network, IsWellFormed, count, limit}
 use Rattle.cstn_rules.specs.Rules.{IsBoundOf}
-use Rattle.cstn_rules.specs.Derivations.{Entry}
-use Rattle.cstn_log.specs.Entries.{bases}
-use Rattle.cstn_log.proofs.DerivedLemmas.{length_bases}
-use Rattle.cstn_check.specs.Growth.{log_of, load_of, live_bounds}
+use Rattle.cstn_check.specs.Growth.{log_of, live_bounds}
 use Rattle.cstn_closed.specs.Written.{IsNamed}
-
--- a log has an entry
-pub some_entries : (net : Network) → IsWellFormed net → (more : List Entry) × (bases (count net) ++ more ≡ log_of net) → 1 ≤ load_of net
-some_entries net good (more, is) =
-    let long = length-append (bases (count net)) more in
-    let whole = ap length is in
-    omega (arith, good.network.origin, length_bases (count net), long, whole)
 
 pub limit_in_time : (net : Network) → IsWellFormed net → (x : ℕ) → limit net x ≤ 1000000
 limit_in_time net good zero = omega arith

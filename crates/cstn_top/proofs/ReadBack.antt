@@ -35,14 +35,15 @@ use Rattle.cstn_closed.proofs.FaultLemmas.{closed_faultless}
 use Rattle.cstn_replay.specs.Wrong.{IsFirstWrong, EndsInVain}
 use Rattle.cstn_graphml.specs.DrawnGraph.{DrawnConstraint}
 use Rattle.cstn_graphml.specs.Networks.{numbered_drawn}
-use Rattle.cstn_reply.specs.Plans.{Said, say, Plan, says, replays, certifies, IsOutput}
+use Rattle.cstn_reply.specs.Texts.{Said, say}
+use Rattle.cstn_top.specs.Plans.{Plan, says, replays, certifies, IsOutput}
 use Rattle.cstn_reply.specs.declared.output.Outcome.TheVariants.{Good, Script}
 use Rattle.cstn_tight.proofs.ClosedLemmas.{live_short, some_live}
-use Rattle.cstn_verdict.specs.Documents.{Answer}
-use Rattle.cstn_evidence.specs.Texts.{by_text, replayed_steps, replayed, certified_bounds, certified}
-use Rattle.cstn_evidence.proofs.Listing.{limit_in_time}
-use Rattle.cstn_evidence.specs.Accepted.{IsAccepted, IsYesText, IsNoText, HasIds}
-use Rattle.cstn_evidence.proofs.Lengths.{bounds_text_short, steps_text_short}
+use Rattle.cstn_top.specs.Answers.{Answer}
+use Rattle.cstn_top.specs.Answers.{by_text, replayed_steps, replayed, certified_bounds, certified}
+use Rattle.cstn_top.proofs.Listing.{limit_in_time}
+use Rattle.cstn_top.specs.Accepted.{IsAccepted, IsYesText, IsNoText, HasIds}
+use Rattle.cstn_top.proofs.Lengths.{bounds_text_short, steps_text_short}
 
 -- the ids of the constraints of a document are numbers of 32 bits
 pub numbered_ids : (k : ℕ) (cs : List DrawnConstraint) → k + length (numbered_drawn k cs) ≤ 16384 → All (λ (c : Constraint). c.id < 2 ^ 32) (numbered_drawn k cs)

@@ -1,5 +1,5 @@
-use Rattle.cstn_evidence.proofs.ReadBack.{yes_text, no_text}
-use Rattle.cstn_evidence.proofs.laws.evidence_is_accepted.Goals as goal
+use Rattle.cstn_top.proofs.ReadBack.{yes_text, no_text}
+use Rattle.cstn_top.proofs.evidence.evidence_is_accepted.Goals as goal
 
 pub returns-clause-bounds : goal.returns-clause-bounds
 returns-clause-bounds c = yes_text c.closed_texts_are_read_back.ensures.back

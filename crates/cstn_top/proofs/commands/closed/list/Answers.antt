@@ -4,8 +4,8 @@ use Rattle.cstn_label.specs.declared.bounds.Bound.{Bound}
 use Rattle.cstn_net.specs.Read.{NetworkParts, the_network}
 use Rattle.cstn_closed.specs.Closed.{ClosedParts}
 use Rattle.cstn_closed.specs.Written.{IsNamed}
-use Rattle.cstn_evidence.proofs.Listing.{all_named}
-use Rattle.cstn_evidence.proofs.lists.list.Goals as goal
+use Rattle.cstn_top.proofs.Listing.{all_named}
+use Rattle.cstn_top.proofs.commands.closed.list.Goals as goal
 
 pub print-requires : goal.print-requires
 print-requires c = record {

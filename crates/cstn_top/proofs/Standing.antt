@@ -23,14 +23,18 @@ use Rattle.cstn_tight.specs.Deadlines.{at_deadline}
 use Rattle.cstn_tight.specs.Bisection.{least_deadline, is_above, is_tight_full}
 use Rattle.cstn_tight.proofs.BracketLemmas.{IsRefuted, IsFound, found}
 use Rattle.cstn_tight.proofs.LeastLemmas.{good_at_deadline}
-use Rattle.cstn_reply.specs.Plans.{Said, Plan, says, IsOutput}
+use Rattle.cstn_reply.specs.Texts.{Said}
+use Rattle.cstn_top.specs.Plans.{Plan, says, IsOutput}
 use Rattle.cstn_reply.specs.Texts.{yes_line, full_line}
 use Rattle.cstn_reply.specs.declared.output.Outcome.{Outcome}
 use Rattle.cstn_reply.specs.declared.output.Outcome.TheVariants.{Good, Bad, Words, Document, Full, Unfinished, Script, Wide}
-use Rattle.cstn_verdict.specs.Verdicts.{verdict, on_verdict}
-use Rattle.cstn_evidence.specs.Accepted.{IsYesText, IsNoText, IsTightText, IsConflictText, HasIds}
-use Rattle.cstn_evidence.specs.Blame.{blame_text, blamed}
-use Rattle.cstn_evidence.specs.Tight.{refuted_text, tight_text, tightened}
+use Rattle.cstn_check.specs.Decisions.{verdict}
+use Rattle.cstn_top.specs.Answers.{on_verdict}
+use Rattle.cstn_top.specs.Accepted.{IsYesText, IsNoText, IsTightText, IsConflictText, HasIds}
+use Rattle.cstn_conflict.specs.Texts.{blame_text}
+use Rattle.cstn_top.specs.Answers.{blamed}
+use Rattle.cstn_tight.specs.Texts.{refuted_text, tight_text}
+use Rattle.cstn_top.specs.Answers.{tightened}
 
 -- a network with a deadline up to its own is well-formed
 at_well : (net : Network) (h : ℕ) → IsWellFormed net → h ≤ net.deadline → IsWellFormed (at_deadline net h)
@@ -119,7 +123,7 @@ module _ (yes_text : YesAccepted) (no_text : NoAccepted) where
           inr (no_text names (at_deadline net (h - 1)) (at_well net (h - 1) good (omega (arith, upto))) is.are is.named is.ids (omega (arith, refuted.within, capped)) refuted.never)
 
       by_tests : (full ok : Bool) → is_tight_full cap net ≡ full → is_consistent net ≡ ok →
-          IsOutput (if full then says (record { outcome = Full; text = full_line cap }) else if ok then says (record { outcome = Good; text = tight_text names net (least_deadline net) }) else says (record { outcome = Bad; text = refuted_text names net })) live said →
+          said ≡ (if full then record { outcome = Full; text = full_line cap } else if ok then record { outcome = Good; text = tight_text names net (least_deadline net) } else record { outcome = Bad; text = refuted_text names net }) →
           StandsFor (IsTightText names net) (IsNoText names net) said
       by_tests true ok over yes' same = subst (StandsFor (IsTightText names net) (IsNoText names net)) (sym same) tt
       by_tests false true over yes' same =
@@ -150,7 +154,7 @@ module _ (yes_text : YesAccepted) (no_text : NoAccepted) where
       good = is.good
 
       by_tests : (full ok : Bool) → is_blame_full cap net ≡ full → is_consistent net ≡ ok →
-          IsOutput (if full then says (record { outcome = Full; text = full_line cap }) else if ok then says (record { outcome = Good; text = yes_line (load_of net) }) else says (record { outcome = Bad; text = blame_text names net (conflict_set net) })) live said →
+          said ≡ (if full then record { outcome = Full; text = full_line cap } else if ok then record { outcome = Good; text = yes_line (load_of net) } else record { outcome = Bad; text = blame_text names net (conflict_set net) }) →
           StandsFor (λ text. Unit {0}) (IsConflictText names net) said
       by_tests true ok over yes' same = subst (StandsFor (λ text. Unit {0}) (IsConflictText names net)) (sym same) tt
       by_tests false true over yes' same = subst (StandsFor (λ text. Unit {0}) (IsConflictText names net)) (sym same) tt

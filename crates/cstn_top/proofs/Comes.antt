@@ -1,0 +1,115 @@
+-- What is said of a document that was opened, as a plan.
+use Rattle.std.proofs.Common.{◌≡◌, ℕ, ◌≤◌, ◌<◌, List, length, refl, ap, sym, ◌∙◌, subst, inl, inr, arith}
+use Rattle.std.specs.Prelude.{nat_lt, if◌then◌else◌, Option, Result, Ok, Err, codes}
+use Rattle.cstn_net.specs.Networks.{Network}
+use Rattle.cstn_net.specs.Read.{NetworkParts, the_network}
+use Rattle.cstn_lift.specs.Labelled.{Labelled}
+use Rattle.cstn_lift.specs.Read.{LabelledParts, the_labelled}
+use Rattle.cstn_element.specs.Results.{Refusal}
+use Rattle.cstn_graphml.specs.Document.{Parts, document}
+use Rattle.cstn_graphml.specs.Networks.{network_of, labelled_of, IsFit}
+use Rattle.cstn_reply.specs.Texts.{Said, say}
+use Rattle.cstn_reply.specs.Read.{the_said}
+use Rattle.cstn_reply.specs.declared.output.Said.{Said as SaidText}
+use Rattle.cstn_reply.specs.declared.output.Outcome.TheVariants.{Document}
+use Rattle.cstn_documents.specs.Documents.{AreUnlabelled, IsRefusalOf, IsSaidOf, IsLabelsTold, IsSaidPlainly}
+use Rattle.cstn_documents.specs.Opened.{OpensAs, OpensWithLabels}
+use Rattle.cstn_documents.specs.declared.documents.Opened.TheVariants.{Accepted, Told}
+use Rattle.cstn_documents.specs.declared.documents.WithLabels.TheVariants.{Accepted as LabelledOne, Told as RefusedOne}
+use Rattle.cstn_top.specs.Plans.{Plan, says, judges, unlabelled, IsOutput, ComesTo}
+use Rattle.cstn_top.specs.Answers.{Answer, LabelledAnswer, of_plain, judged, on_labelled, on_document}
+
+within : (n m : ℕ) (plan other : Plan) → m ≤ n → (if nat_lt n m then plan else other) ≡ other
+within n m plan other le = grind arith
+
+beyond : (n m : ℕ) (plan other : Plan) → n < m → (if nat_lt n m then plan else other) ≡ plan
+beyond n m plan other lt = grind arith
+
+-- what is said of a document that isn't too long
+short_document : (answer : LabelledAnswer) (bytes : List ℕ) (deadline : Option ℕ) → length bytes ≤ 8388608 → on_labelled answer bytes deadline ≡ judged answer (document bytes deadline)
+short_document answer bytes deadline short = within 8388608 (length bytes) (says (say Document (codes "document long"))) (judged answer (document bytes deadline)) short
+
+short_output : (answer : LabelledAnswer) (bytes : List ℕ) (deadline : Option ℕ) (live : List ℕ) (said : Said) → length bytes ≤ 8388608 → IsOutput (judged answer (document bytes deadline)) live said → IsOutput (on_labelled answer bytes deadline) live said
+short_output answer bytes deadline live said short output = subst (λ (plan : Plan). IsOutput plan live said) (sym (short_document answer bytes deadline short)) output
+
+judged_output : (answer : LabelledAnswer) (told : Result Parts Refusal) (live : List ℕ) (said : Said) → IsRefusalOf told said → IsOutput (judged answer told) live said
+judged_output answer (Err refusal) live said is = is
+judged_output answer (Ok parts) live said is = inr is
+
+labels_output : (answer : Answer) (told : Result Parts Refusal) (live : List ℕ) (said : Said) → IsLabelsTold told said → IsOutput (judged (of_plain answer) told) live said
+labels_output answer (Err refusal) live said is = absurd is
+labels_output answer (Ok parts) live said (fit, labelled, is) = inl (fit, inr (labelled, is))
+
+-- what is said of a file that is refused, whatever would be said of a labelled network
+pub refusal_output : (answer : LabelledAnswer) (bytes : List ℕ) (deadline : Option ℕ) (said : Said) → IsSaidOf bytes deadline said → (live : List ℕ) → IsOutput (on_labelled answer bytes deadline) live said
+refusal_output answer bytes deadline said (inl (long, is)) live =
+    subst (λ (plan : Plan). IsOutput plan live said) (sym (beyond 8388608 (length bytes) (says (say Document (codes "document long"))) (judged answer (document bytes deadline)) long)) is
+refusal_output answer bytes deadline said (inr (short, is)) live =
+    short_output answer bytes deadline live said short (judged_output answer (document bytes deadline) live said is)
+
+-- likewise where labels are refused, whatever would be said of a network
+pub plain_refusal_output : (answer : Answer) (bytes : List ℕ) (deadline : Option ℕ) (said : Said) → IsSaidPlainly bytes deadline said → (live : List ℕ) → IsOutput (on_document answer bytes deadline) live said
+plain_refusal_output answer bytes deadline said (inl is) live = refusal_output (of_plain answer) bytes deadline said is live
+plain_refusal_output answer bytes deadline said (inr (short, is)) live =
+    short_output (of_plain answer) bytes deadline live said short (labels_output answer (document bytes deadline) live said is)
+
+-- a plan says what it says itself
+pub comes_itself : (plan : Plan) → ComesTo plan plan
+comes_itself plan = record { output = λ live said is. is; talks = λ may. may; fault = λ may taken. refl }
+
+pub comes_same : (plan other : Plan) → other ≡ plan → ComesTo plan other
+comes_same plan other is = subst (ComesTo plan) (sym is) (comes_itself plan)
+
+-- a plan whose output is always one text comes to that text
+pub comes_to_text : (plan : Plan) (said : Said) → ((live : List ℕ) → IsOutput plan live said) → ComesTo plan (says said)
+comes_to_text plan said output = record {
+  output = λ live other is. subst (λ (s : Said). IsOutput plan live s) (sym is) (output live);
+  talks = λ may. absurd may;
+  fault = λ may taken. absurd may;
+}
+
+-- what is said of the parts of a document, where they make a network without labels
+judges_comes : (parts : Parts) (plan other : Plan) → AreUnlabelled parts → ComesTo plan other → ComesTo (judges parts (unlabelled parts.labels plan)) other
+judges_comes parts plan other good comes = record {
+  output = λ live said is. inl (good.0, inl (good.1, comes.output live said is));
+  talks = λ may. (good.0, (good.1, comes.talks may));
+  fault = λ may taken. comes.fault may taken;
+}
+
+-- what is said of a document that was accepted
+pub accepted_comes : (answer : Answer) (bytes : List ℕ) (deadline : Option ℕ) (net : NetworkParts) (names : List (List ℕ)) (plan : Plan) → OpensAs bytes deadline (Accepted net names) → ComesTo (answer names (the_network net)) plan → ComesTo (on_document answer bytes deadline) plan
+accepted_comes answer bytes deadline net names plan opens comes =
+    let is = opens.1 in
+    let parts : Parts = is.parts in
+    let same : on_document answer bytes deadline ≡ judges parts (unlabelled parts.labels (answer names (the_network net))) =
+    short_document (of_plain answer) bytes deadline opens.0
+    ∙ ap (judged (of_plain answer)) is.told_are
+    ∙ ap (λ (ns : List (List ℕ)). judges parts (unlabelled parts.labels (answer ns (network_of parts)))) (sym is.names_are)
+    ∙ ap (λ (n : Network). judges parts (unlabelled parts.labels (answer names n))) (sym is.network_is) in
+    subst (λ (p : Plan). ComesTo p plan) (sym same) (judges_comes parts (answer names (the_network net)) plan is.unlabelled comes)
+
+-- what is said of a document that was refused
+pub told_comes : (answer : Answer) (bytes : List ℕ) (deadline : Option ℕ) (said : SaidText) → OpensAs bytes deadline (Told said) → ComesTo (on_document answer bytes deadline) (says (the_said said))
+told_comes answer bytes deadline said opens = comes_to_text (on_document answer bytes deadline) (the_said said) (plain_refusal_output answer bytes deadline (the_said said) opens.0)
+
+-- what is said of the parts of a document, where they make a labelled network
+fit_comes : (parts : Parts) (plan other : Plan) → IsFit parts → ComesTo plan other → ComesTo (judges parts plan) other
+fit_comes parts plan other fit comes = record {
+  output = λ live said is. inl (fit, comes.output live said is);
+  talks = λ may. (fit, comes.talks may);
+  fault = λ may taken. comes.fault may taken;
+}
+
+-- what is said of a labelled network
+pub labelled_comes : (answer : LabelledAnswer) (bytes : List ℕ) (deadline : Option ℕ) (l : LabelledParts) (names : List (List ℕ)) (plan : Plan) → OpensWithLabels bytes deadline (LabelledOne l names) → ComesTo (answer names (the_labelled l)) plan → ComesTo (on_labelled answer bytes deadline) plan
+labelled_comes answer bytes deadline l names plan opens comes =
+    let is = opens.1 in
+    let same : on_labelled answer bytes deadline ≡ judges is.parts (answer names (the_labelled l)) =
+    short_document answer bytes deadline opens.0
+    ∙ ap (judged answer) is.told_are
+    ∙ ap (λ (ns : List (List ℕ)). judges is.parts (answer ns (labelled_of is.parts))) (sym is.names_are)
+    ∙ ap (λ (m : Labelled). judges is.parts (answer names m)) (sym is.labelled_is) in
+    subst (λ (p : Plan). ComesTo p plan) (sym same) (fit_comes is.parts (answer names (the_labelled l)) plan is.fit comes)
+
+pub refused_comes : (answer : LabelledAnswer) (bytes : List ℕ) (deadline : Option ℕ) (said : SaidText) → OpensWithLabels bytes deadline (RefusedOne said) → ComesTo (on_labelled answer bytes deadline) (says (the_said said))
+refused_comes answer bytes deadline said opens = comes_to_text (on_labelled answer bytes deadline) (the_said said) (refusal_output answer bytes deadline (the_said said) opens.0)
