@@ -4,9 +4,11 @@
 mod errors;
 mod executive;
 mod laws;
+mod lines;
 
 pub use errors::ExecError;
 pub use executive::{Executive, is_possible};
 pub use laws::{
     answers_are_known, due_is_exact, refusals_are_right, runs_stay_right, the_named_are_called,
 };
+pub use lines::{print_names, put_moment, put_refusal};

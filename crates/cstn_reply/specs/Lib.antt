@@ -4,3 +4,4 @@ pub mod Files
 pub mod Read
 pub mod Written
 pub mod Sessions
+pub mod Reached

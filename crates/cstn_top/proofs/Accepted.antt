@@ -25,7 +25,8 @@ use Rattle.cstn_lift.specs.Strategies.{IsLabelledConsistent}
 use Rattle.cstn_verdict.specs.Documents.{Answer, of_lowered, HasLabelled, HasNetwork, IsRefused, on_document}
 use Rattle.cstn_verdict.specs.Verdicts.{verdict, on_verdict, checked}
 use Rattle.cstn_guide.specs.Guides.{begun}
-use Rattle.cstn_talk.specs.Guiding.{guide_turn, guide_ending, carried_out}
+use Rattle.cstn_guide.specs.Guiding.{guide_turn, guide_ending}
+use Rattle.cstn_top.specs.Running.{carried_out}
 use Rattle.cstn_text.specs.PrintedNames.{printed_name}
 use Rattle.cstn_reply.specs.Sessions.{session}
 use Rattle.cstn_evidence.specs.Accepted.{IsYesText, IsNoText, IsTightText, IsConflictText}

@@ -28,8 +28,8 @@ use Rattle.cstn_verdict.specs.Documents.{LabelledAnswer, of_lowered, on_labelled
 use Rattle.cstn_verdict.specs.Verdicts.{checked, IsLabelledYes}
 use Rattle.cstn_evidence.specs.Accepted.{IsNoText}
 use Rattle.cstn_evidence.specs.Texts.{by_text, replayed}
-use Rattle.cstn_talk.specs.Editing.{begun_editing, last_checked}
-use Rattle.cstn_talk.specs.Meanings.{IsCarriedThrough}
+use Rattle.cstn_edit.specs.Editing.{begun_editing, last_checked}
+use Rattle.cstn_guide.specs.Meanings.{IsCarriedThrough}
 use Rattle.cstn_top.specs.Outputs.{plan_at}
 use Rattle.cstn_refute.specs.Texts.{told as told_by}
 use Rattle.cstn_top.specs.Meanings.{IsStopped, IsRefutedBy}

@@ -22,3 +22,8 @@ pub mod OneOutput
 pub mod SomeFault
 pub mod SomeOutput
 pub mod Replayed
+pub mod GuidedRuns
+pub mod ReadAll
+pub mod ReadFiles
+pub mod BegunHosts
+pub mod Hosted

@@ -23,15 +23,16 @@ use Rattle.cstn_refute.specs.Texts.{Told as ToldText, tells, wrong as wrong_text
 use Rattle.cstn_words.specs.Requests.{Asked, Request, check, run, edit, closed, tight, conflict, tree, save, replay, closedcheck, treecheck, drill, AsksEdit}
 use Rattle.cstn_reply.specs.Plans.{Said, say, after_text, says, IsOutput, MayTalk, AreUnlabelled}
 use Rattle.cstn_reply.specs.Sessions.{Turn, more, last, wrong, on_turn, script, play, session}
-use Rattle.cstn_talk.specs.Running.{moment_line, executing, unfinished}
-use Rattle.cstn_talk.specs.Guiding.{named_turn, noted_turn, answer_turn, guide_turn, guide_ending, carried_out}
+use Rattle.cstn_exec.specs.Running.{moment_line, executing, unfinished}
+use Rattle.cstn_guide.specs.Guiding.{named_turn, noted_turn, answer_turn, guide_turn, guide_ending}
+use Rattle.cstn_top.specs.Running.{carried_out}
 use Rattle.cstn_reply.specs.Texts.{yes_line, full_line}
 use Rattle.cstn_lift.specs.Labelled.{Labelled}
 use Rattle.cstn_lift.specs.Lowered.{lowered}
 use Rattle.cstn_lift.specs.Strategies.{IsEquivalent, IsLabelledConsistent}
 use Rattle.cstn_verdict.specs.Documents.{Answer, of_lowered, on_document}
 use Rattle.cstn_verdict.specs.Verdicts.{verdict, on_verdict, checked}
-use Rattle.cstn_talk.specs.Editing.{edited}
+use Rattle.cstn_top.specs.Editing.{edited}
 use Rattle.cstn_top.specs.Outputs.{saved, plan_at}
 use Rattle.cstn_verdict.specs.Documents.{parts_of, HasLabelled, HasNetwork, IsRefused}
 use Rattle.cstn_verdict.specs.Verdicts.{IsYes, IsNo, IsLabelledYes, IsLabelledNo}

@@ -23,8 +23,8 @@ use Rattle.cstn_verdict.proofs.Opening.{comes_same, accepted_comes, told_comes, 
 use Rattle.cstn_evidence.specs.Bounds.{listed}
 use Rattle.cstn_evidence.specs.Blame.{blamed}
 use Rattle.cstn_evidence.specs.Tight.{tightened}
-use Rattle.cstn_talk.specs.Guiding.{carried_out}
-use Rattle.cstn_talk.specs.Editing.{edited}
+use Rattle.cstn_top.specs.Running.{carried_out}
+use Rattle.cstn_top.specs.Editing.{edited}
 use Rattle.cstn_top.specs.Outputs.{saved, plan_at}
 use Rattle.cstn_top.specs.Meanings.{files_read}
 use Rattle.cstn_top.specs.Prepared.{Planned}

@@ -15,7 +15,7 @@ use Rattle.cstn_evidence.specs.Accepted.{IsAccepted}
 use Rattle.cstn_evidence.specs.Bounds.{listed}
 use Rattle.cstn_evidence.specs.Texts.{by_text, replayed, certified}
 use Rattle.cstn_evidence.proofs.Standing.{YesAccepted, NoAccepted}
-use Rattle.cstn_talk.specs.Guiding.{carried_out}
+use Rattle.cstn_top.specs.Running.{carried_out}
 use Rattle.cstn_top.specs.Outputs.{plan_at}
 use Rattle.cstn_top.specs.Evidence.{IsEvidence}
 use Rattle.cstn_top.proofs.Accepted.{output_evidence}

@@ -56,10 +56,12 @@ use Rattle.cstn_evidence.proofs.Standing.{IsOfDocument}
 use Rattle.cstn_strategy.specs.Unfolded.{observed, unfolded}
 use Rattle.cstn_strategy.specs.Checked.{checked_lines, tree_checked}
 use Rattle.cstn_guide.specs.Guides.{begun}
-use Rattle.cstn_talk.specs.Guiding.{guide_turn, guide_ending, carried_out}
-use Rattle.cstn_talk.specs.Editing.{edited}
-use Rattle.cstn_ward.specs.Wards.{begun as begun_host, ward_turn, ward_ending}
-use Rattle.cstn_ward.specs.Hosting.{Named, on_documents, on_verdicts, the_file, yes_lines, attended}
+use Rattle.cstn_guide.specs.Guiding.{guide_turn, guide_ending}
+use Rattle.cstn_top.specs.Running.{carried_out}
+use Rattle.cstn_top.specs.Editing.{edited}
+use Rattle.cstn_host.specs.Sessions.{begun as begun_host, host_turn, host_ending}
+use Rattle.cstn_host.specs.Files.{Named, the_file, yes_lines}
+use Rattle.cstn_top.specs.Hosting.{on_documents, on_verdicts, attended}
 use Rattle.cstn_top.specs.Held.{AreHeld}
 use Rattle.cstn_top.specs.Outputs.{saved, plan_at}
 use Rattle.cstn_top.specs.Prepared.{IsRanged}
@@ -239,7 +241,7 @@ verdicts_some cap after_yes live (named ∷ rest) some =
     verdict_any cap named.names named.net (on_verdicts cap after_yes rest) (verdict cap named.net) live (verdicts_some cap after_yes live rest some)
 
 attended_some : (cap : ℕ) (live : List ℕ) (all : List Named) → HasSome (attended cap all) live
-attended_some cap live all = verdicts_some cap (session ward_turn ward_ending (yes_lines all) (begun_host (map the_file all))) live all (λ none. none _ refl)
+attended_some cap live all = verdicts_some cap (session host_turn host_ending (yes_lines all) (begun_host (map the_file all))) live all (λ none. none _ refl)
 
 documents_some : PartsMade → (answer : List Named → Plan) (deadline : Option ℕ) (live : List ℕ) → ((all : List Named) → HasSome (answer all) live) → (before : List Named) (contents : List (List ℕ)) → All (λ bytes. CanBeHeld bytes deadline) contents → HasSome (on_documents answer deadline before contents) live
 documents_some made answer deadline live each before [] held = each before

@@ -17,7 +17,7 @@ use Rattle.cstn_words.specs.Requests.{Asked, Request, check, run, edit, replay}
 use Rattle.cstn_reply.specs.Plans.{LiveState, Ends, AreEmpty}
 use Rattle.cstn_reply.specs.declared.status.Status.{Status}
 use Rattle.cstn_reply.specs.declared.status.Status.TheVariants.{Good, Bad, Full, Script}
-use Rattle.cstn_talk.specs.Meanings.{end_of, WasNamed}
+use Rattle.cstn_guide.specs.Meanings.{end_of, WasNamed}
 use Rattle.cstn_top.specs.Outputs.{plan_at}
 use Rattle.cstn_top.specs.Meanings.{IsStopped}
 use Rattle.cstn_top.specs.EditSessions.{network_after, IsNoCheck}

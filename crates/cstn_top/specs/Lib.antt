@@ -15,3 +15,7 @@ pub mod LabelledDeadlines
 -- What the proofs use beside.
 pub mod Opened
 pub mod Prepared
+pub mod Running
+pub mod Editing
+pub mod Hosting
+pub mod Begun

@@ -8,7 +8,7 @@ ghost use Rattle.cstn_words.specs.Read.{the_asked};
 use super::Prepared;
 use cstn_io::Shelf;
 use cstn_reply::Refused;
-use cstn_talk::Editing;
+use cstn_edit::Editing;
 use cstn_verdict::{Opened, open};
 use cstn_words::Asked;
 use std::alloc::Global;

@@ -8,7 +8,7 @@ use Rattle.cstn_reply.specs.Plans.{ComesTo}
 use Rattle.cstn_verdict.specs.Verdicts.{TellsVerdict}
 use Rattle.cstn_verdict.specs.declared.verdicts.Decided.{Decided}
 use Rattle.cstn_verdict.specs.declared.verdicts.Decided.TheVariants.{Yes}
-use Rattle.cstn_talk.specs.Guiding.{carried_out}
+use Rattle.cstn_top.specs.Running.{carried_out}
 use Rattle.cstn_top.specs.Prepared.{the_plan}
 use Rattle.cstn_top.proofs.Runs.{told_for}
 use Rattle.cstn_top.proofs.commands.run.prepare.Goals as goal
