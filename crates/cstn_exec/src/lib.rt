@@ -1,4 +1,5 @@
-//! The executive: takes moments and outcomes one at a time, and names at each moment the time-points whose least moment it is.
+//! The executive: takes moments and outcomes one at a time, names at each moment the time-points whose least moment it is, and
+//! tells in lines what it answers.
 #![tactic(auto)]
 
 mod errors;
