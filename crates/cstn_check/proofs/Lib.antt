@@ -29,3 +29,4 @@ pub mod CostLemmas
 pub mod TryLemmas
 pub mod DeadlineLemmas
 pub mod Idle
+pub mod Deciding

@@ -10,3 +10,4 @@ pub mod Waits
 pub mod Checks
 pub mod Deadlines
 pub mod Verdicts
+pub mod Decisions

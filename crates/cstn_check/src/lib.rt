@@ -4,6 +4,7 @@
 
 mod checks;
 mod deadlines;
+mod decisions;
 mod givers;
 mod growth;
 mod laws;
@@ -14,6 +15,7 @@ mod walks;
 
 pub use checks::Check;
 pub use deadlines::logs_hold_lower_ones;
+pub use decisions::{Judged, check_text, full, judge, yes_line};
 pub use givers::logs_stay_without_idle_constraints;
 pub use growth::{Grown, grow, grow_on};
 pub use laws::{

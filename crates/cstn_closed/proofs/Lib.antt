@@ -11,3 +11,4 @@ mod LineLemmas
 mod BackLemmas
 mod SaidLemmas
 mod PrintLemmas
+mod Certifying

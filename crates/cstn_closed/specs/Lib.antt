@@ -9,3 +9,4 @@ pub mod Texts
 pub mod Orders
 pub mod Written
 pub mod Read
+pub mod Certificates

@@ -14,6 +14,7 @@ mod marks;
 mod minimal;
 mod printing;
 mod reading;
+mod texts;
 
 pub use adopting::adopt;
 pub use answers::ClosedAnswer;
@@ -24,3 +25,4 @@ pub use laws::{
     closed_lists_are_accepted, closed_texts_are_read_back, closed_texts_are_the_shown_ones,
 };
 pub use lists::Closed;
+pub use texts::closedcheck_text;

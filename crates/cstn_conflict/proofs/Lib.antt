@@ -4,3 +4,5 @@ pub mod TrialLemmas
 pub mod ConflictLemmas
 pub mod GiverLemmas
 pub mod SearchLemmas
+mod Saying
+pub mod IdLines

@@ -1,3 +1,4 @@
 pub mod Sets
 pub mod Conflicts
 pub mod Trials
+pub mod Texts

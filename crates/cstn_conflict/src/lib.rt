@@ -7,8 +7,10 @@ mod givers;
 mod ids;
 mod laws;
 mod search;
+mod texts;
 
 pub use conflicts::{Conflict, smallest};
 pub use errors::ConflictError;
 pub use ids::Ids;
 pub use laws::sets_are_decided;
+pub use texts::conflict_text;

@@ -12,7 +12,7 @@ use Rattle.cstn_check.specs.declared.verdicts.Verdict.{Verdict}
 use Rattle.cstn_check.specs.declared.verdicts.Verdict.TheVariants.{Yes, No, Full as IsFull}
 use Rattle.cstn_check.proofs.Decides.{log_closed, log_sound}
 use Rattle.cstn_guide.specs.Sound.{IsPlanned}
-use Rattle.cstn_verdict.specs.Verdicts.{verdict}
+use Rattle.cstn_check.specs.Decisions.{verdict}
 
 not_full : (load : ℕ) (v : Verdict) → v ≡ IsFull → v ≡ Yes load → ⊥
 not_full load v full yes' = let f : ⊥ = cc in f

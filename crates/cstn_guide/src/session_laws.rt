@@ -14,7 +14,7 @@ ghost use Rattle.cstn_guide.specs.Guides.{Guided, begun};
 ghost use Rattle.cstn_guide.specs.Sound.{IsPlanned};
 ghost use Rattle.cstn_reply.specs.Sessions.{play, answers};
 ghost use Rattle.cstn_reply.specs.declared.output.Outcome.TheVariants.{Good, Unfinished};
-ghost use Rattle.cstn_verdict.specs.Verdicts.{verdict};
+ghost use Rattle.cstn_check.specs.Decisions.{verdict};
 ghost use Rattle.cstn_exec.specs.Running.{run_turn, run_ending};
 ghost use Rattle.cstn_guide.specs.Guiding.{guide_turn, guide_ending};
 ghost use Rattle.cstn_guide.specs.Meanings.{GuidesTo, NamesLeast, AcceptsExactly, TellsDue, IsTimely, said_to, EndsUnfinished, IsCarriedThrough};

@@ -2,3 +2,4 @@ mod SameLemmas
 mod IdLemmas
 mod StepLemmas
 mod ReplayLemmas
+mod Saying

@@ -4,6 +4,8 @@
 mod answers;
 mod replays;
 mod steps;
+mod texts;
 
 pub use answers::Answer;
 pub use replays::replay;
+pub use texts::replay_text;

@@ -6,3 +6,4 @@ pub mod ClosedLemmas
 pub mod BelowLemmas
 pub mod TightLemmas
 pub mod AnswerLemmas
+mod Saying

@@ -2,3 +2,5 @@ pub mod Deadlines
 pub mod Greatest
 pub mod Bisection
 pub mod Evidence
+pub mod Told
+pub mod Texts

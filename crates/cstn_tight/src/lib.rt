@@ -5,6 +5,7 @@
 mod errors;
 mod greatest;
 mod laws;
+mod texts;
 mod tight;
 
 pub use errors::TightError;
@@ -12,4 +13,5 @@ pub use laws::{
     consistency_is_kept_from_the_least, least_deadlines_are_greatest_values,
     least_deadlines_are_one,
 };
+pub use texts::tight_text;
 pub use tight::{Tight, least};

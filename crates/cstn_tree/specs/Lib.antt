@@ -11,3 +11,5 @@ pub mod Whole
 pub mod Reading
 pub mod Made
 pub mod Making
+pub mod Checked
+pub mod Unfolded

@@ -10,7 +10,9 @@ mod parts;
 mod printing;
 mod reading;
 mod starts;
+mod texts;
 mod trees;
+mod unfolding;
 mod walks;
 
 pub use checking::{TreeAnswer, check};
@@ -22,4 +24,6 @@ pub use laws::{
 pub use making::make;
 pub use printing::print;
 pub use reading::read;
+pub use texts::treecheck_text;
 pub use trees::{Line, Named, Tree};
+pub use unfolding::tree_text;

@@ -1,5 +1,0 @@
-use Rattle.std.proofs.Common.{◌≡◌, ◌++◌, ◌∷◌, take, flat_map, decimal}
-use Rattle.cstn_evidence.proofs.conflicts.push_ids.Given as goal
-
-abbrev pub invariant-loop-id : goal.invariant-loop-id
-invariant-loop-id l = l.text.items ≡ l.fn.text.items ++ flat_map (λ id. 32 ∷ decimal id) (take l.id-index l.ids)
