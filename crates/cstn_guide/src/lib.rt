@@ -1,5 +1,5 @@
 //! The guide: carries out the plan of a lowered network by the labels of the time-points, and names at each moment those whose
-//! least moment it is and whose labels hold.
+//! least moment it is and whose labels hold. A guided session answers live lines so.
 #![tactic(auto)]
 
 mod guides;
