@@ -6,3 +6,4 @@ pub mod RefutationLemmas
 pub mod EditLemmas
 pub mod SessionLaws
 pub mod FreshLemmas
+pub mod Editing

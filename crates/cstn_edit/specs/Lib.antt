@@ -2,3 +2,4 @@ pub mod Sessions
 pub mod Edits
 pub mod Sound
 pub mod Fresh
+pub mod Editing

@@ -2,6 +2,7 @@
 #![tactic(auto)]
 
 mod answers;
+mod editing;
 mod errors;
 mod fresh;
 mod labels;
@@ -9,6 +10,7 @@ mod laws;
 mod outcomes;
 mod sessions;
 
+pub use editing::Editing;
 pub use errors::EditError;
 pub use laws::{sessions_stay_sound, verdicts_are_true};
 pub use outcomes::Outcome;

@@ -12,3 +12,4 @@ pub mod Dues
 pub mod Searching
 pub mod Refusals
 pub mod Waiting
+pub mod Names

@@ -4,3 +4,4 @@ pub mod Right
 pub mod Read
 pub mod Answers
 pub mod Examples
+pub mod Running

@@ -8,3 +8,11 @@ pub mod Timely
 pub mod Refusing
 pub mod Unlabelled
 pub mod Steps
+pub mod Names
+pub mod Runs
+pub mod Moments
+pub mod Accepting
+pub mod Carrying
+pub mod Ending
+pub mod Plain
+pub mod Planned

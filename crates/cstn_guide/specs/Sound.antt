@@ -1,12 +1,12 @@
 -- When the state of a guide is right, and what is so of the moments that it names.
 use Rattle.std.specs.Prelude.{ℕ, ◌≡◌, ◌⊎◌, ◌+◌, ◌<◌, Bool, List, true, false, Option, Some, None, length, pos, ◌-ℤ◌, ◌≤ℤ◌}
 use Rattle.std.specs.List.{Contains}
-use Rattle.cstn_label.specs.Labels.{Label, Scenario, IsMarked, MarkFits, empty}
+use Rattle.cstn_label.specs.Labels.{Label, Scenario, IsMarked, MarkFits}
 use Rattle.cstn_label.specs.Bounds.{Bound}
 use Rattle.cstn_net.specs.Networks.{Constraint, IsWellFormed, Observes, count}
 use Rattle.cstn_net.specs.Strategies.{Table}
 use Rattle.cstn_log.specs.Plans.{IsEarliest}
-use Rattle.cstn_lift.specs.Labelled.{Labelled, label_of}
+use Rattle.cstn_lift.specs.Labelled.{Labelled}
 use Rattle.cstn_lift.specs.Completion.{completed_label}
 use Rattle.cstn_lift.specs.WellFormed.{IsLabelled}
 use Rattle.cstn_lift.specs.Lowered.{lowered}

@@ -1,2 +1,13 @@
 pub mod CaseLemmas
 pub mod OwnLemmas
+pub mod PutLines
+pub mod Same
+pub mod Moments
+pub mod Answered
+pub mod Accepted
+pub mod Endings
+pub mod Whole
+pub mod Apart
+pub mod Own
+pub mod Least
+pub mod Plays

@@ -3,3 +3,8 @@ pub mod Calls
 pub mod Own
 pub mod Read
 pub mod Examples
+pub mod Sessions
+pub mod Alone
+pub mod Files
+pub mod Least
+pub mod SessionRead

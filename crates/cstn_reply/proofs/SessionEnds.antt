@@ -12,7 +12,7 @@ use Rattle.cstn_reply.specs.Sessions.{Turn, play, session_says, session_heard, P
 use Rattle.cstn_reply.specs.declared.status.Status.{Status}
 use Rattle.cstn_reply.specs.declared.status.Status.TheVariants.{WriteFault, Memory}
 use Rattle.cstn_reply.proofs.Contents.{given, all_given, given_end, no_taken}
-use Rattle.cstn_reply.proofs.Talking.{after_both}
+use Rattle.cstn_reply.proofs.Sessions.{after_both}
 
 with_more : (old mid new : Option (List ℕ)) (xs ys : List ℕ) → mid ≡ with_bytes old xs → new ≡ with_bytes mid ys → new ≡ with_bytes old (xs ++ ys)
 with_more None mid new xs ys is later = rw (later, is) refl

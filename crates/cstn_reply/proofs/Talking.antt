@@ -15,6 +15,7 @@ use Rattle.cstn_reply.specs.declared.status.Status.TheVariants.{ReadFault, Memor
 use Rattle.cstn_reply.specs.declared.output.Outcome.{Outcome}
 use Rattle.cstn_reply.specs.declared.output.Outcome.TheVariants.{Script}
 use Rattle.cstn_reply.specs.declared.session.Answer.{Answer}
+use Rattle.cstn_reply.proofs.Sessions.{after_both, play_more, answers_more, play_last, play_wrong, play_past}
 use Rattle.cstn_reply.proofs.Contents.{given, all_given, given_end, no_taken, more_taken}
 
 nothing_more : (xs : List ℕ) → xs ++ [] ≡ xs
@@ -24,27 +25,9 @@ join_lines : (xs ys : List ℕ) → EndsLine xs → EndsLine ys → EndsLine (xs
 join_lines xs ys first (inl none) = subst (λ (y : List ℕ). EndsLine (xs ++ y)) (sym none) (subst (λ (y : List ℕ). EndsLine y) (sym (nothing_more xs)) first)
 join_lines xs ys first (inr (front, is)) = inr (xs ++ front, ap (λ y. xs ++ y) is ∙ sym (append_assoc xs front (10 ∷ [])))
 
-pub after_both : (xs ys : List ℕ) (said : Said) → after_text xs (after_text ys said) ≡ after_text (xs ++ ys) said
-after_both xs ys said = rw append_assoc refl
-
 -- the answer of a session to a line, by its state
 abbrev Turning : Type 0 → Type 0
 Turning S = S → List ℕ → Turn S
-
-play_more : {S : Type 0} (turn : Turning S) (ending : S → Said) (state next : S) (count : ℕ) (first text : List ℕ) (lines : List (List ℕ)) → is_past (count + 1) first ≡ false → turn state first ≡ more text next → play turn ending state count (first ∷ lines) ≡ after_text text (play turn ending next (count + 1) lines)
-play_more turn ending state next count first text lines short is = rw (short, is) refl
-
-play_last : {S : Type 0} (turn : Turning S) (ending : S → Said) (state : S) (count : ℕ) (first : List ℕ) (said : Said) (lines : List (List ℕ)) → is_past (count + 1) first ≡ false → turn state first ≡ last said → play turn ending state count (first ∷ lines) ≡ said
-play_last turn ending state count first said lines short is = rw (short, is) refl
-
-play_wrong : {S : Type 0} (turn : Turning S) (ending : S → Said) (state : S) (count : ℕ) (first : List ℕ) (lines : List (List ℕ)) → is_past (count + 1) first ≡ false → turn state first ≡ wrong → play turn ending state count (first ∷ lines) ≡ script (count + 1)
-play_wrong turn ending state count first lines short is = rw (short, is) refl
-
-play_past : {S : Type 0} (turn : Turning S) (ending : S → Said) (state : S) (count : ℕ) (first : List ℕ) (lines : List (List ℕ)) → is_past (count + 1) first ≡ true → play turn ending state count (first ∷ lines) ≡ script (count + 1)
-play_past turn ending state count first lines past = rw past refl
-
-answers_more : {S : Type 0} (turn : Turning S) (state next : S) (count : ℕ) (first text : List ℕ) (lines : List (List ℕ)) → is_past (count + 1) first ≡ false → turn state first ≡ more text next → answers turn state count (first ∷ lines) ≡ text ++ answers turn next (count + 1) lines
-answers_more turn state next count first text lines short is = rw (short, is) refl
 
 -- the answer to a line, from what was answered to an equal line
 pub turned : {S : Type 0} (turn : Turning S) (state next : S) (shown first text : List ℕ) (a b : Answer) → turn state shown ≡ the_turn a next text → shown ≡ first → a ≡ b → turn state first ≡ the_turn b next text
@@ -86,7 +69,7 @@ one_more {S} turn ending start told mid now lines after state next taken said by
       whole = λ rest end.
           goes_on turn ending start told mid now lines after state taken said bytes stepped rest end
           ∙ ap (λ (ls : List (List ℕ)). after_text said (play turn ending state lines.count ls)) (out.lines rest end)
-          ∙ ap (after_text said) (play_more turn ending state next lines.count after.line text (lines_of (after.kept ++ rest)) short is)
+          ∙ ap (after_text said) (play_more turn state lines.count after.line (lines_of (after.kept ++ rest)) short ending text next is)
           ∙ after_both said text (play turn ending next (lines.count + 1) (lines_of (after.kept ++ rest)))
           ∙ ap (λ (n : ℕ). after_text (said ++ text) (play turn ending next n (lines_of (after.kept ++ rest)))) (sym out.counts);
       heard = λ rest going.
@@ -94,7 +77,7 @@ one_more {S} turn ending start told mid now lines after state next taken said by
           ∙ stepped.so_far.heard (bytes ++ rest) (was_going lines.ended after.ended stepped.stays going)
           ∙ ap (λ (bs : List ℕ). said ++ answers turn state lines.count (whole_lines bs)) (sym (append_assoc lines.kept bytes rest))
           ∙ ap (λ (ls : List (List ℕ)). said ++ answers turn state lines.count ls) (out.whole rest going)
-          ∙ ap (λ xs. said ++ xs) (answers_more turn state next lines.count after.line text (whole_lines (after.kept ++ rest)) short is)
+          ∙ ap (λ xs. said ++ xs) (answers_more turn state lines.count after.line (whole_lines (after.kept ++ rest)) short text next is)
           ∙ sym (append_assoc said text (answers turn next (lines.count + 1) (whole_lines (after.kept ++ rest))))
           ∙ ap (λ (n : ℕ). (said ++ text) ++ answers turn next n (whole_lines (after.kept ++ rest))) (sym out.counts);
       lines_end = join_lines said text stepped.so_far.lines_end whole;
@@ -122,7 +105,7 @@ last_line turn ending opening start before mid now faults lines after state take
     let short : is_past (lines.count + 1) after.line ≡ false = subst (λ (n : ℕ). is_past n after.line ≡ false) out.is_number out.short in
     rest_ends turn ending opening start before mid now faults lines after state taken said bytes text outcome status stepped
     (λ end. ap (λ (ls : List (List ℕ)). play turn ending state lines.count ls) (out.lines (given now) end)
-    ∙ play_last turn ending state lines.count after.line (record { outcome = outcome; text = text }) (lines_of (after.kept ++ given now)) short is)
+    ∙ play_last turn state lines.count after.line (lines_of (after.kept ++ given now)) short ending (record { outcome = outcome; text = text }) is)
     at
 
 scripts : (n m : ℕ) (text : List ℕ) → n ≡ m → text ≡ (script m).text → script n ≡ record { outcome = Script; text = text }
@@ -134,7 +117,7 @@ wrong_line turn ending opening start before mid now faults lines after state tak
     let short : is_past (lines.count + 1) after.line ≡ false = subst (λ (n : ℕ). is_past n after.line ≡ false) out.is_number out.short in
     rest_ends turn ending opening start before mid now faults lines after state taken said bytes text Script status stepped
     (λ end. ap (λ (ls : List (List ℕ)). play turn ending state lines.count ls) (out.lines (given now) end)
-    ∙ play_wrong turn ending state lines.count after.line (lines_of (after.kept ++ given now)) short is
+    ∙ play_wrong turn state lines.count after.line (lines_of (after.kept ++ given now)) short ending is
     ∙ scripts (lines.count + 1) number text (sym out.is_number) text_is)
     at
 
@@ -145,7 +128,7 @@ past_line turn ending opening start before mid now faults lines after state take
     let past : is_past (lines.count + 1) found.0 ≡ true = subst (λ (n : ℕ). is_past n found.0 ≡ true) out.is_number found.3 in
     rest_ends turn ending opening start before mid now faults lines after state taken said bytes text Script status stepped
     (λ end. ap (λ (ls : List (List ℕ)). play turn ending state lines.count ls) found.2
-    ∙ play_past turn ending state lines.count found.0 found.1 past
+    ∙ play_past turn state lines.count found.0 found.1 past ending
     ∙ scripts (lines.count + 1) number text (sym out.is_number) text_is)
     at
 

@@ -3,3 +3,4 @@ pub mod Statuses
 pub mod Read
 pub mod Written
 pub mod Sessions
+pub mod Reached

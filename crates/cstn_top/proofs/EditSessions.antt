@@ -33,9 +33,9 @@ use Rattle.cstn_edit.specs.Sound.{IsSound, IsTrueOf}
 use Rattle.cstn_edit.proofs.VerdictLemmas.{outcome_when, after_grown, after_log}
 use Rattle.cstn_edit.proofs.SessionLaws.{begun_is_sound, added_is_sound, removed_is_sound, changed_is_sound, verdict_is_sound, sound_goes_on, outcome_is_true}
 use Rattle.cstn_reply.specs.Sessions.{Turn, more, last, wrong, on_turn}
-use Rattle.cstn_talk.specs.Editing.{Editing, begun_editing, answered_edit, answered_add, answered, edit_turn, edit_ending, verdict_text, outcome_text, last_checked}
-use Rattle.cstn_talk.specs.Meanings.{state_after}
-use Rattle.cstn_talk.proofs.Sessions.{first_leads, same_state, says_next}
+use Rattle.cstn_edit.specs.Editing.{Editing, begun_editing, answered_edit, answered_add, answered, edit_turn, edit_ending, verdict_text, outcome_text, last_checked}
+use Rattle.cstn_reply.specs.Reached.{state_after}
+use Rattle.cstn_reply.proofs.Sessions.{first_leads, same_state, says_next}
 use Rattle.cstn_top.specs.Accepted.{IsNoText, HasIds}
 use Rattle.cstn_top.proofs.ReadBack.{StepsBack}
 use Rattle.cstn_top.specs.Lines.{AreAnswered}

@@ -32,8 +32,8 @@ use Rattle.cstn_edit.proofs.SessionLaws.{begun_is_sound, added_is_sound, removed
 use Rattle.cstn_reply.specs.Texts.{Said, after_text}
 use Rattle.cstn_top.specs.Plans.{IsOutput}
 use Rattle.cstn_reply.specs.Sessions.{Turn, more, last, wrong, on_turn, script, play}
-use Rattle.cstn_talk.specs.Editing.{Editing, begun_editing, answered_edit, answered_add, answered_check, answered, edit_turn, edit_ending, ending_by, last_checked}
-use Rattle.cstn_talk.specs.Editing.{edited}
+use Rattle.cstn_edit.specs.Editing.{Editing, begun_editing, answered_edit, answered_add, answered_check, answered, edit_turn, edit_ending, ending_by, last_checked}
+use Rattle.cstn_top.specs.Editing.{edited}
 use Rattle.cstn_top.specs.Meanings.{AtLastCheck}
 use Rattle.cstn_reply.specs.declared.output.Outcome.{Outcome}
 use Rattle.cstn_reply.specs.declared.output.Outcome.TheVariants.{Good, Bad, Words, Document, Full, Unfinished, Script, Wide}

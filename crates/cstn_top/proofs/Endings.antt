@@ -11,7 +11,7 @@ use Rattle.cstn_reply.specs.Written.{LiveState, is_output, is_file_fault, is_liv
 use Rattle.cstn_reply.specs.Sessions.{Turn}
 use Rattle.cstn_top.specs.Plans.{session}
 use Rattle.cstn_words.specs.Requests.{AsksHost, host}
-use Rattle.cstn_ward.specs.Read.{the_ward}
+use Rattle.cstn_host.specs.SessionRead.{the_host_session}
 use Rattle.cstn_top.specs.Outputs.{plan_of, plan_at}
 use Rattle.cstn_reply.specs.Read.{the_said}
 use Rattle.cstn_top.specs.Prepared.{the_plan, Planned, IsLined, MayWant, FitsRequest, TellsRefused}
@@ -21,7 +21,7 @@ use Rattle.cstn_reply.specs.Statuses.{status_of}
 use Rattle.cstn_top.specs.declared.commands.Prepared.{Prepared}
 use Rattle.cstn_top.specs.declared.commands.Prepared.TheVariants.{Says, Runs, Edits, Hosts}
 use Rattle.cstn_lines.specs.Pieces.{lines_of}
-use Rattle.cstn_ward.proofs.Plays.{IsEnd, plays}
+use Rattle.cstn_host.proofs.Plays.{IsEnd, plays}
 use Rattle.cstn_reply.specs.declared.status.Status.{Status}
 use Rattle.cstn_reply.specs.declared.status.Status.TheVariants.{Words as IsWords, Document as IsRefusedStatus, ReadFault, Memory}
 use Rattle.cstn_reply.specs.declared.output.Outcome.{Outcome}
@@ -232,6 +232,6 @@ refused_is words r told p before after old new result there planned tells ends i
     by_request (host files deadline cap) (Runs opening guiding) planned tells output = absurd tells
     by_request (host files deadline cap) (Edits editing) planned tells output = absurd tells
     by_request (host files deadline cap) (Hosts opening ward) planned tells (live, (said, output, same)) =
-        absurd (subst IsEnd (sym (ap (λ (s : Said). s.outcome) output) ∙ same) (plays (the_ward ward) 0 (lines_of live)))
+        absurd (subst IsEnd (sym (ap (λ (s : Said). s.outcome) output) ∙ same) (plays (the_host_session ward) 0 (lines_of live)))
     by_request r p planned tells (live, (said, output, same)) =
         (planned.contents, planned.are, subst (λ (o : Outcome). AreThere told (files_read (status_of o) (files_of r))) same (planned.there live said output))

@@ -33,12 +33,13 @@ use Rattle.cstn_check.specs.Decisions.{verdict, IsYes, IsNo}
 use Rattle.cstn_top.specs.Answers.{on_verdict}
 use Rattle.cstn_check.proofs.Deciding.{Tells, verdict_tells}
 use Rattle.cstn_top.specs.Plans.{session}
-use Rattle.cstn_ward.specs.Wards.{begun, ward_turn, ward_ending}
-use Rattle.cstn_ward.specs.Hosting.{Named, on_documents, on_verdicts, the_file, yes_lines, attended, hosted_plan}
-use Rattle.cstn_ward.specs.Begun.{the_hosting, IsOfDocument, IsHosting}
-use Rattle.cstn_ward.specs.declared.starting.Hosting.{Hosting}
-use Rattle.cstn_ward.specs.declared.starting.Hosting.TheVariants.{Begins, Told}
-use Rattle.cstn_ward.proofs.Plays.{IsEnd, plays}
+use Rattle.cstn_host.specs.Sessions.{begun, host_turn, host_ending}
+use Rattle.cstn_host.specs.Files.{Named, the_file, yes_lines}
+use Rattle.cstn_top.specs.Hosting.{on_documents, on_verdicts, attended, hosted_plan}
+use Rattle.cstn_top.specs.Begun.{the_hosting, IsOfDocument, IsHosting}
+use Rattle.cstn_top.specs.declared.commands.hosting.starting.Hosting.{Hosting}
+use Rattle.cstn_top.specs.declared.commands.hosting.starting.Hosting.TheVariants.{Begins, Told}
+use Rattle.cstn_host.proofs.Plays.{IsEnd, plays}
 use Rattle.cstn_top.specs.Several.{EachHas, FirstHas}
 use Rattle.cstn_top.specs.Meanings.{files_read, RefusedIsThere}
 use Rattle.cstn_top.specs.Prepared.{Planned}
@@ -47,7 +48,7 @@ use Rattle.cstn_top.proofs.Documents.{document_says, document_talks, document_th
 
 -- what follows where the verdict on each network is yes
 abbrev session_of : ℕ → List Named → Plan
-session_of cap all = session ward_turn ward_ending (yes_lines all) (begun (map the_file all))
+session_of cap all = session host_turn host_ending (yes_lines all) (begun (map the_file all))
 
 -- the documents with these contents have these networks under these names
 abbrev AreNetworks : List (List ℕ) → Option ℕ → List Named → Type 0

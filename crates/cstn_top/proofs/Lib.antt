@@ -28,3 +28,8 @@ pub mod Lengths
 pub mod Listing
 pub mod ReadBack
 pub mod Standing
+pub mod GuidedRuns
+pub mod ReadAll
+pub mod ReadFiles
+pub mod BegunHosts
+pub mod Hosted

@@ -42,13 +42,16 @@ use Rattle.cstn_check.specs.Decisions.{verdict}
 use Rattle.cstn_top.specs.Answers.{on_verdict}
 use Rattle.cstn_top.specs.Verdicts.{IsLabelledYes}
 use Rattle.cstn_check.proofs.Deciding.{Tells, verdict_tells}
-use Rattle.cstn_talk.specs.Running.{moment_line, executing, unfinished}
-use Rattle.cstn_talk.specs.Guiding.{named_turn, noted_turn, answer_turn, guide_turn, guide_ending, carried_out}
-use Rattle.cstn_talk.specs.Editing.{Editing, begun_editing, answered_edit, answered_add, answered, edit_turn, edit_ending, ending_by, edited, last_checked}
-use Rattle.cstn_talk.specs.Meanings.{state_after, said_to, IsCarriedThrough, EndsUnfinished}
-use Rattle.cstn_talk.proofs.Planned.{planned}
-use Rattle.cstn_talk.proofs.Carrying.{names_least, accepts_exactly, tells_due}
-use Rattle.cstn_talk.proofs.Ending.{timely, carried_through, ends_unfinished}
+use Rattle.cstn_exec.specs.Running.{moment_line, executing, unfinished}
+use Rattle.cstn_guide.specs.Guiding.{named_turn, noted_turn, answer_turn, guide_turn, guide_ending}
+use Rattle.cstn_top.specs.Running.{carried_out}
+use Rattle.cstn_edit.specs.Editing.{Editing, begun_editing, answered_edit, answered_add, answered, edit_turn, edit_ending, ending_by, last_checked}
+use Rattle.cstn_top.specs.Editing.{edited}
+use Rattle.cstn_reply.specs.Reached.{state_after}
+use Rattle.cstn_guide.specs.Meanings.{said_to, IsCarriedThrough, EndsUnfinished}
+use Rattle.cstn_guide.proofs.Planned.{planned}
+use Rattle.cstn_guide.proofs.Carrying.{names_least, accepts_exactly, tells_due}
+use Rattle.cstn_guide.proofs.Ending.{timely, carried_through, ends_unfinished}
 use Rattle.cstn_top.specs.Outputs.{plan_at}
 use Rattle.cstn_top.specs.Meanings.{IsStopped}
 use Rattle.cstn_top.specs.Lines.{StopsAtLine, run_bounds, AnswersLeast, IfLabelled, IsLeastRun, WroteRun, IsCarriedOut, IsLeftUnfinished, RunEnds, IsDecidedRun, IsVerdictOn, EditEnds, WroteEdits, IsEnded}

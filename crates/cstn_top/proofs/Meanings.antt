@@ -26,8 +26,9 @@ use Rattle.cstn_top.specs.Plans.{says, IsOutput, MayTalk}
 use Rattle.cstn_documents.specs.Documents.{AreUnlabelled}
 use Rattle.cstn_reply.specs.Sessions.{Turn, more, last, wrong, on_turn, script, play}
 use Rattle.cstn_top.specs.Plans.{session}
-use Rattle.cstn_talk.specs.Running.{moment_line, executing, unfinished}
-use Rattle.cstn_talk.specs.Guiding.{named_turn, noted_turn, answer_turn, guide_turn, guide_ending, carried_out}
+use Rattle.cstn_exec.specs.Running.{moment_line, executing, unfinished}
+use Rattle.cstn_guide.specs.Guiding.{named_turn, noted_turn, answer_turn, guide_turn, guide_ending}
+use Rattle.cstn_top.specs.Running.{carried_out}
 use Rattle.cstn_reply.specs.Texts.{yes_line, full_line}
 use Rattle.cstn_lift.specs.Labelled.{Labelled}
 use Rattle.cstn_lift.specs.Lowered.{lowered}
@@ -35,7 +36,7 @@ use Rattle.cstn_lift.specs.Strategies.{IsEquivalent, IsLabelledConsistent}
 use Rattle.cstn_top.specs.Answers.{Answer, of_lowered, on_document}
 use Rattle.cstn_check.specs.Decisions.{verdict}
 use Rattle.cstn_top.specs.Answers.{on_verdict, checked}
-use Rattle.cstn_talk.specs.Editing.{edited}
+use Rattle.cstn_top.specs.Editing.{edited}
 use Rattle.cstn_top.specs.Outputs.{saved, plan_at}
 use Rattle.cstn_documents.specs.Documents.{parts_of, HasLabelled, HasNetwork, IsRefused}
 use Rattle.cstn_check.specs.Decisions.{IsYes, IsNo}
@@ -130,7 +131,7 @@ Finds full net Unfinished = ⊥
 Finds full net Script = ⊥
 Finds full net Wide = ⊥
 
-search_says : (full ok : Bool) (net : Network) (one two three live : List ℕ) (said : Said) → IsWellFormed net → is_consistent net ≡ ok → IsOutput (if full then says (record { outcome = Full; text = one }) else if ok then says (record { outcome = Good; text = two }) else says (record { outcome = Bad; text = three })) live said → Finds full net said.outcome
+search_says : (full ok : Bool) (net : Network) (one two three live : List ℕ) (said : Said) → IsWellFormed net → is_consistent net ≡ ok → said ≡ (if full then record { outcome = Full; text = one } else if ok then record { outcome = Good; text = two } else record { outcome = Bad; text = three }) → Finds full net said.outcome
 search_says true ok net one two three live said good is output = subst (Finds true net) (sym (ap (λ (s : Said). s.outcome) output)) refl
 search_says false true net one two three live said good is output = subst (Finds false net) (sym (ap (λ (s : Said). s.outcome) output)) ((decided net good).0 is, refl)
 search_says false false net one two three live said good is output =
@@ -673,10 +674,6 @@ verdict_silent cap names net text may = by_verdict (verdict cap net) may
     by_verdict (No load) is = is
     by_verdict IsFullVerdict is = is
 
-search_silent : (full ok : Bool) (one two three : List ℕ) → MayTalk (if full then says (record { outcome = Full; text = one }) else if ok then says (record { outcome = Good; text = two }) else says (record { outcome = Bad; text = three })) → ⊥
-search_silent true ok one two three may = may
-search_silent false true one two three may = may
-search_silent false false one two three may = may
 
 text_silent : (speaks : List ℕ → Answer) (text : List ℕ) (names : List (List ℕ)) (net : Network) → (MayTalk (speaks text names net) → ⊥) → MayTalk (by_text speaks text names net) → ⊥
 text_silent speaks text names net never may = by_length (nat_lt 1476395008 (length text)) may
@@ -713,9 +710,9 @@ talks_live (closed asked cap) contents may =
     labels_silent (of_lowered (listed cap)) (get_or contents 0 []) asked.deadline (λ names m. verdict_silent cap names (lowered m) (shown_bounds names (load_of (lowered m)) (live_bounds (log_of (lowered m))))) may
 talks_live (tight asked cap) contents may =
     labels_silent (of_lowered (tightened cap)) (get_or contents 0 []) asked.deadline
-    (λ names m. search_silent (is_tight_full cap (lowered m)) (is_consistent (lowered m)) (full_line cap) (tight_text names (lowered m) (least_deadline (lowered m))) (refuted_text names (lowered m))) may
+    (λ names m may'. may') may
 talks_live (conflict asked cap) contents may =
-    never_talks (blamed cap) (get_or contents 0 []) asked.deadline (λ names net. search_silent (is_blame_full cap net) (is_consistent net) (full_line cap) (yes_line (load_of net)) (blame_text names net (conflict_set net))) may
+    never_talks (blamed cap) (get_or contents 0 []) asked.deadline (λ names net may'. may') may
 talks_live (tree asked cap) contents may = never_talks (unfolded cap) (get_or contents 0 []) asked.deadline (λ names net. tree_silent cap names net) may
 talks_live (treecheck asked proof) contents may =
     never_talks (by_text tree_checked (get_or contents 1 [])) (get_or contents 0 []) asked.deadline (λ names net. text_silent tree_checked (get_or contents 1 []) names net (lines_silent (told_tree names (get_or contents 1 [])) net)) may

@@ -23,8 +23,8 @@ use Rattle.cstn_top.proofs.Comes.{comes_same, accepted_comes, told_comes, labell
 use Rattle.cstn_top.specs.Answers.{listed}
 use Rattle.cstn_top.specs.Answers.{blamed}
 use Rattle.cstn_top.specs.Answers.{tightened}
-use Rattle.cstn_talk.specs.Guiding.{carried_out}
-use Rattle.cstn_talk.specs.Editing.{edited}
+use Rattle.cstn_top.specs.Running.{carried_out}
+use Rattle.cstn_top.specs.Editing.{edited}
 use Rattle.cstn_top.specs.Outputs.{saved, plan_at}
 use Rattle.cstn_top.specs.Meanings.{files_read}
 use Rattle.cstn_top.specs.Prepared.{Planned}

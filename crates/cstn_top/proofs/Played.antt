@@ -6,9 +6,9 @@ use Rattle.cstn_reply.specs.Texts.{Said, after_text}
 use Rattle.cstn_reply.specs.Sessions.{Turn, more, last, wrong, script, play, answers}
 use Rattle.cstn_reply.specs.declared.output.Outcome.{Outcome}
 use Rattle.cstn_reply.specs.declared.output.Outcome.TheVariants.{Script}
-use Rattle.cstn_reply.proofs.Talking.{after_both}
-use Rattle.cstn_talk.specs.Meanings.{state_after}
-use Rattle.cstn_talk.proofs.Sessions.{play_more, answers_more, state_more, play_last, play_wrong, play_past, plus_none, zero_plus, one_more}
+use Rattle.cstn_reply.proofs.Sessions.{after_both}
+use Rattle.cstn_reply.specs.Reached.{state_after}
+use Rattle.cstn_reply.proofs.Sessions.{play_more, answers_more, state_more, play_last, play_wrong, play_past, plus_none, zero_plus, one_more}
 use Rattle.cstn_top.specs.Lines.{StopsAtLine}
 
 -- what is known of an answer: where it is the last, of its outcome, and where there is none, of its cause

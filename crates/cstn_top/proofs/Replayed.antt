@@ -17,7 +17,7 @@ use Rattle.cstn_top.specs.Accepted.{IsAccepted}
 use Rattle.cstn_top.specs.Answers.{listed}
 use Rattle.cstn_top.specs.Answers.{by_text, replayed, certified}
 use Rattle.cstn_top.proofs.Standing.{YesAccepted, NoAccepted}
-use Rattle.cstn_talk.specs.Guiding.{carried_out}
+use Rattle.cstn_top.specs.Running.{carried_out}
 use Rattle.cstn_top.specs.Outputs.{plan_at}
 use Rattle.cstn_top.specs.Evidence.{IsEvidence}
 use Rattle.cstn_top.proofs.Accepted.{output_evidence}

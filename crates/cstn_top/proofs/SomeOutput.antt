@@ -59,10 +59,12 @@ use Rattle.cstn_tree.specs.Unfolded.{observed}
 use Rattle.cstn_top.specs.Answers.{unfolded}
 use Rattle.cstn_top.specs.Answers.{checked_lines, tree_checked}
 use Rattle.cstn_guide.specs.Guides.{begun}
-use Rattle.cstn_talk.specs.Guiding.{guide_turn, guide_ending, carried_out}
-use Rattle.cstn_talk.specs.Editing.{edited}
-use Rattle.cstn_ward.specs.Wards.{begun as begun_host, ward_turn, ward_ending}
-use Rattle.cstn_ward.specs.Hosting.{Named, on_documents, on_verdicts, the_file, yes_lines, attended}
+use Rattle.cstn_guide.specs.Guiding.{guide_turn, guide_ending}
+use Rattle.cstn_top.specs.Running.{carried_out}
+use Rattle.cstn_top.specs.Editing.{edited}
+use Rattle.cstn_host.specs.Sessions.{begun as begun_host, host_turn, host_ending}
+use Rattle.cstn_host.specs.Files.{Named, the_file, yes_lines}
+use Rattle.cstn_top.specs.Hosting.{on_documents, on_verdicts, attended}
 use Rattle.cstn_top.specs.Held.{AreHeld}
 use Rattle.cstn_top.specs.Outputs.{saved, plan_at}
 use Rattle.cstn_top.specs.Prepared.{IsRanged}
@@ -124,10 +126,6 @@ verdict_any cap names net after_yes (Yes load) live later = later
 verdict_any cap names net after_yes (No load) live later = said_some _ live
 verdict_any cap names net after_yes IsFullVerdict live later = said_some _ live
 
-search_some : (full ok : Bool) (one two three : Said) (live : List ℕ) → HasSome (if full then says one else if ok then says two else says three) live
-search_some true ok one two three live = said_some one live
-search_some false true one two three live = said_some two live
-search_some false false one two three live = said_some three live
 
 text_some : (speaks : List ℕ → Answer) (text : List ℕ) (names : List (List ℕ)) (net : Network) (live : List ℕ) → HasSome (speaks text names net) live → HasSome (by_text speaks text names net) live
 text_some speaks text names net live some = by_length (nat_lt 1476395008 (length text))
@@ -242,7 +240,7 @@ verdicts_some cap after_yes live (named ∷ rest) some =
     verdict_any cap named.names named.net (on_verdicts cap after_yes rest) (verdict cap named.net) live (verdicts_some cap after_yes live rest some)
 
 attended_some : (cap : ℕ) (live : List ℕ) (all : List Named) → HasSome (attended cap all) live
-attended_some cap live all = verdicts_some cap (session ward_turn ward_ending (yes_lines all) (begun_host (map the_file all))) live all (λ none. none _ refl)
+attended_some cap live all = verdicts_some cap (session host_turn host_ending (yes_lines all) (begun_host (map the_file all))) live all (λ none. none _ refl)
 
 documents_some : PartsMade → (answer : List Named → Plan) (deadline : Option ℕ) (live : List ℕ) → ((all : List Named) → HasSome (answer all) live) → (before : List Named) (contents : List (List ℕ)) → All (λ bytes. CanBeHeld bytes deadline) contents → HasSome (on_documents answer deadline before contents) live
 documents_some made answer deadline live each before [] held = each before
@@ -271,9 +269,9 @@ module _ (made : PartsMade) (trees : TreesMade) (steps : StepsWritten) (bounds :
       document_some made (of_lowered (listed cap)) (get_or contents 0 []) asked.deadline live held (λ parts is fit. checked_some cap parts.names (lowered (labelled_of parts)) _ live)
   some_output (tight asked cap) contents live ranged held =
       document_some made (of_lowered (tightened cap)) (get_or contents 0 []) asked.deadline live held
-      (λ parts is fit. let net = lowered (labelled_of parts) in search_some (is_tight_full cap net) (is_consistent net) _ _ _ live)
+      (λ parts is fit. said_some _ live)
   some_output (conflict asked cap) contents live ranged held =
-      plain_some made (blamed cap) (get_or contents 0 []) asked.deadline live held (λ names net of. search_some (is_conflict_full cap net) (is_consistent net) _ _ _ live)
+      plain_some made (blamed cap) (get_or contents 0 []) asked.deadline live held (λ names net of. said_some _ live)
   some_output (tree asked cap) contents live ranged held =
       plain_some made (unfolded cap) (get_or contents 0 []) asked.deadline live held (λ names net of. unfolded_some trees cap names net live of ranged)
   some_output (save asked) contents live ranged held = document_some made saved (get_or contents 0 []) asked.deadline live held (λ parts is fit. said_some _ live)

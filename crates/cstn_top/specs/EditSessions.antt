@@ -16,8 +16,8 @@ use Rattle.cstn_edit.specs.Sessions.{next_id, highest_of}
 use Rattle.cstn_edit.specs.Edits.{is_value, unobserved, has_constraint, without, with_value}
 use Rattle.cstn_lines.specs.EditLines.{Edit, added, removed, changed, asked, edit_read}
 use Rattle.cstn_reply.specs.Texts.{line, yes_line, full_line}
-use Rattle.cstn_talk.specs.Editing.{begun_editing, edit_turn, edit_ending}
-use Rattle.cstn_talk.specs.Meanings.{Says}
+use Rattle.cstn_edit.specs.Editing.{begun_editing, edit_turn, edit_ending}
+use Rattle.cstn_reply.specs.Reached.{Says}
 
 -- ---- the network as edited
 

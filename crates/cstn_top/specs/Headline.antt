@@ -19,7 +19,7 @@ use Rattle.cstn_top.specs.Plans.{Ends}
 use Rattle.cstn_documents.specs.Documents.{AreEmpty}
 use Rattle.cstn_reply.specs.declared.status.Status.{Status}
 use Rattle.cstn_reply.specs.declared.status.Status.TheVariants.{Good, Bad, Full, Script}
-use Rattle.cstn_talk.specs.Meanings.{end_of, WasNamed}
+use Rattle.cstn_guide.specs.Meanings.{end_of, WasNamed}
 use Rattle.cstn_top.specs.Outputs.{plan_at}
 use Rattle.cstn_top.specs.Meanings.{IsStopped}
 use Rattle.cstn_top.specs.EditSessions.{network_after, IsNoCheck}

@@ -19,3 +19,7 @@ pub mod Plans
 pub mod Verdicts
 pub mod Answers
 pub mod Accepted
+pub mod Running
+pub mod Editing
+pub mod Hosting
+pub mod Begun

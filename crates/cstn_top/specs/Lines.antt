@@ -22,9 +22,10 @@ use Rattle.cstn_reply.specs.declared.status.Status.{Status}
 use Rattle.cstn_reply.specs.declared.status.Status.TheVariants.{Good, Bad, Document, Full, Unfinished, Script}
 use Rattle.cstn_documents.specs.Documents.{parts_of, HasLabelled, HasNetwork, IsNoDocument, IsRefused}
 use Rattle.cstn_top.specs.Verdicts.{IsLabelledYes, IsLabelledNo}
-use Rattle.cstn_talk.specs.Guiding.{guide_turn}
-use Rattle.cstn_talk.specs.Editing.{begun_editing, edit_turn, edit_ending, last_checked}
-use Rattle.cstn_talk.specs.Meanings.{state_after, GuidesTo, NamesLeast, TellsDue, AcceptsExactly, IsTimely, said_to, IsCarriedThrough, EndsUnfinished}
+use Rattle.cstn_guide.specs.Guiding.{guide_turn}
+use Rattle.cstn_edit.specs.Editing.{begun_editing, edit_turn, edit_ending, last_checked}
+use Rattle.cstn_reply.specs.Reached.{state_after}
+use Rattle.cstn_guide.specs.Meanings.{GuidesTo, NamesLeast, TellsDue, AcceptsExactly, IsTimely, said_to, IsCarriedThrough, EndsUnfinished}
 
 -- ---- the lines of a session
 

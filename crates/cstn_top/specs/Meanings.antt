@@ -26,7 +26,7 @@ use Rattle.cstn_tight.specs.Bisection.{least_deadline, is_tight_full}
 use Rattle.cstn_documents.specs.Documents.{HasLabelled, HasNetwork, IsNoDocument, IsRefused}
 use Rattle.cstn_check.specs.Decisions.{IsYes, IsNo}
 use Rattle.cstn_top.specs.Verdicts.{IsLabelledYes, IsLabelledNo}
-use Rattle.cstn_talk.specs.Editing.{begun_editing, last_checked}
+use Rattle.cstn_edit.specs.Editing.{begun_editing, last_checked}
 use Rattle.cstn_tree.specs.Texts.{told as told_tree}
 use Rattle.cstn_tree.specs.Unfolded.{observed}
 use Rattle.cstn_top.specs.Drills.{unrefuted, AreConsistent}

@@ -15,9 +15,9 @@ use Rattle.cstn_top.specs.Answers.{tightened}
 use Rattle.cstn_top.specs.Answers.{by_text, replayed, certified}
 use Rattle.cstn_top.specs.Answers.{unfolded}
 use Rattle.cstn_top.specs.Answers.{tree_checked}
-use Rattle.cstn_talk.specs.Guiding.{carried_out}
-use Rattle.cstn_talk.specs.Editing.{edited}
-use Rattle.cstn_ward.specs.Hosting.{hosted_plan}
+use Rattle.cstn_top.specs.Running.{carried_out}
+use Rattle.cstn_top.specs.Editing.{edited}
+use Rattle.cstn_top.specs.Hosting.{hosted_plan}
 use Rattle.cstn_top.specs.Drills.{large, counts_of, small_line, large_line}
 
 -- what `save` says of a labelled network: its canonical document

@@ -6,10 +6,10 @@ use Rattle.cstn_reply.specs.Texts.{Said}
 use Rattle.cstn_top.specs.Plans.{Plan, says, ComesTo, IsOutput}
 use Rattle.cstn_reply.specs.Written.{EndsLine}
 use Rattle.cstn_top.specs.Plans.{session}
-use Rattle.cstn_talk.specs.Guiding.{guided_turn, guided_ending}
-use Rattle.cstn_talk.specs.Editing.{the_editing, edit_turn, edit_ending}
-use Rattle.cstn_ward.specs.Wards.{ward_turn, ward_ending}
-use Rattle.cstn_ward.specs.Read.{the_ward}
+use Rattle.cstn_guide.specs.Guiding.{guided_turn, guided_ending}
+use Rattle.cstn_edit.specs.Editing.{the_editing, edit_turn, edit_ending}
+use Rattle.cstn_host.specs.Sessions.{host_turn, host_ending}
+use Rattle.cstn_host.specs.SessionRead.{the_host_session}
 use Rattle.cstn_reply.specs.Statuses.{status_of}
 use Rattle.cstn_top.specs.Outputs.{plan_at}
 use Rattle.cstn_top.specs.Meanings.{HoldsOf, files_read, RefusedIsThere}
@@ -24,7 +24,7 @@ abbrev pub the_plan : Prepared → Plan
 the_plan (Says said) = says (the_said said)
 the_plan (Runs opening guiding) = session guided_turn guided_ending opening.items guiding
 the_plan (Edits editing) = session edit_turn edit_ending [] (the_editing editing)
-the_plan (Hosts opening ward) = session ward_turn ward_ending opening.items (the_ward ward)
+the_plan (Hosts opening ward) = session host_turn host_ending opening.items (the_host_session ward)
 
 -- an opening is whole lines
 abbrev pub IsLined : Prepared → Type 0

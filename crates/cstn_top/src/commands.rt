@@ -13,6 +13,7 @@ mod conflict;
 mod drill;
 mod edit;
 mod host;
+mod hosting;
 mod replay;
 mod run;
 mod save;
@@ -27,8 +28,9 @@ use closedcheck::closedcheck_file;
 use conflict::conflict_file;
 use cstn_io::Shelf;
 use cstn_reply::{Refused, Said};
-use cstn_talk::{Editing, Guiding};
-use cstn_ward::Ward;
+use cstn_edit::Editing;
+use cstn_guide::Guiding;
+use cstn_host::HostSession;
 use cstn_words::Request;
 use drill::drill;
 use edit::edit_file;
@@ -51,7 +53,7 @@ pub(crate) enum Prepared {
     /// The answers to the edit lines.
     Edits(Editing),
     /// The lines that say yes, and then the answers to the host lines.
-    Hosts { opening: Vec<u8>, ward: Ward },
+    Hosts { opening: Vec<u8>, ward: HostSession },
 }
 
 /// Reads the files of a request, and prepares what is said for it. Fails where a file can't be read, and for want of memory.

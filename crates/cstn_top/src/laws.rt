@@ -3,8 +3,8 @@ ghost use Rattle.std.specs.Prelude.{ℕ, ◌≡◌, ◌<◌, ◌≤◌, ◌↔�
 ghost use Rattle.std.specs.List.{All};
 ghost use Rattle.cstn_net.specs.Networks.{Network, Constraint, IsWellFormed, count};
 ghost use Rattle.cstn_lines.specs.Pieces.{is_past};
-ghost use Rattle.cstn_talk.specs.Editing.{Editing, begun_editing, edit_turn, last_checked};
-ghost use Rattle.cstn_talk.specs.Meanings.{state_after};
+ghost use Rattle.cstn_edit.specs.Editing.{Editing, begun_editing, edit_turn, last_checked};
+ghost use Rattle.cstn_reply.specs.Reached.{state_after};
 ghost use Rattle.cstn_top.specs.Accepted.{HasIds, IsAccepted};
 ghost use Rattle.cstn_words.specs.Requests.{Asked, Request, check, run, closed, replay, closedcheck};
 ghost use Rattle.cstn_top.specs.Plans.{Plan, IsOutput};

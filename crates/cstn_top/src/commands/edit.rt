@@ -9,7 +9,7 @@ use super::Prepared;
 use cstn_documents::{Opened, open};
 use cstn_io::Shelf;
 use cstn_reply::Refused;
-use cstn_talk::Editing;
+use cstn_edit::Editing;
 use cstn_words::Asked;
 use std::alloc::Global;
 

@@ -8,7 +8,7 @@ ghost use Rattle.cstn_top.specs.Prepared.{the_plan, Planned, FitsRequest, TellsR
 use super::Prepared;
 use cstn_io::Shelf;
 use cstn_reply::Refused;
-use cstn_ward::{Hosting, host_files};
+use crate::commands::hosting::{Hosting, host_files};
 use std::alloc::Global;
 
 /// The verdicts on the networks of the files, and where each is yes, the host of their plans.

@@ -11,7 +11,7 @@ ghost use Rattle.cstn_words.specs.Requests.{Request, run};
 ghost use Rattle.cstn_top.specs.Plans.{ComesTo};
 ghost use Rattle.cstn_top.specs.Prepared.{the_plan, Planned, FitsRequest};
 ghost use Rattle.cstn_words.specs.Read.{the_asked};
-ghost use Rattle.cstn_talk.specs.Guiding.{carried_out};
+ghost use Rattle.cstn_top.specs.Running.{carried_out};
 ghost use Rattle.cstn_check.specs.Decisions.{verdict};
 
 use super::Prepared;
@@ -21,7 +21,7 @@ use cstn_guide::Guide;
 use cstn_io::Shelf;
 use cstn_lift::{Labelled, Labels};
 use cstn_reply::Refused;
-use cstn_talk::Guiding;
+use cstn_guide::Guiding;
 use cstn_text::Names;
 use cstn_words::Asked;
 use std::alloc::{AllocError, Global};

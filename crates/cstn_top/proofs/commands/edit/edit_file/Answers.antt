@@ -2,8 +2,8 @@ use Rattle.std.proofs.Common.{[], ap, subst}
 use Rattle.cstn_documents.specs.Opened.{IsOpened}
 use Rattle.cstn_words.specs.Requests.{edit}
 use Rattle.cstn_top.specs.Plans.{session}
-use Rattle.cstn_talk.specs.Editing.{edit_turn, edit_ending, the_editing}
-use Rattle.cstn_talk.specs.Editing.{edited}
+use Rattle.cstn_edit.specs.Editing.{edit_turn, edit_ending, the_editing}
+use Rattle.cstn_top.specs.Editing.{edited}
 use Rattle.cstn_words.specs.Read.{the_asked}
 use Rattle.cstn_documents.specs.declared.documents.Opened.{Opened}
 use Rattle.cstn_top.proofs.Opening.{one_said, one_told, of_edit}

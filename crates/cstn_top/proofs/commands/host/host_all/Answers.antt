@@ -1,7 +1,7 @@
 use Rattle.std.proofs.Common.{map, string_bytes, refl, subst}
-use Rattle.cstn_ward.specs.Begun.{IsHosting}
-use Rattle.cstn_ward.specs.declared.starting.Hosting.{Hosting}
-use Rattle.cstn_ward.specs.declared.starting.Hosting.TheVariants.{Begins, Told}
+use Rattle.cstn_top.specs.Begun.{IsHosting}
+use Rattle.cstn_top.specs.declared.commands.hosting.starting.Hosting.{Hosting}
+use Rattle.cstn_top.specs.declared.commands.hosting.starting.Hosting.TheVariants.{Begins, Told}
 use Rattle.cstn_top.proofs.Hosts.{planned_host, host_refused}
 use Rattle.cstn_top.proofs.commands.host.host_all.Goals as goal
 

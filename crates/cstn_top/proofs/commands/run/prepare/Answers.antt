@@ -8,7 +8,7 @@ use Rattle.cstn_top.specs.Plans.{ComesTo}
 use Rattle.cstn_check.specs.Decisions.{TellsVerdict}
 use Rattle.cstn_check.specs.declared.decisions.Judged.{Judged}
 use Rattle.cstn_check.specs.declared.decisions.Judged.TheVariants.{Yes}
-use Rattle.cstn_talk.specs.Guiding.{carried_out}
+use Rattle.cstn_top.specs.Running.{carried_out}
 use Rattle.cstn_top.specs.Prepared.{the_plan}
 use Rattle.cstn_top.proofs.Runs.{told_for}
 use Rattle.cstn_top.proofs.commands.run.prepare.Goals as goal

@@ -4,7 +4,7 @@ use Rattle.cstn_words.specs.Requests.{run}
 use Rattle.cstn_words.specs.Read.{the_asked}
 use Rattle.cstn_documents.specs.Opened.{IsOpenedWithLabels}
 use Rattle.cstn_documents.specs.declared.documents.WithLabels.{WithLabels}
-use Rattle.cstn_talk.specs.Guiding.{carried_out}
+use Rattle.cstn_top.specs.Running.{carried_out}
 use Rattle.cstn_top.specs.Prepared.{the_plan}
 use Rattle.cstn_top.proofs.Opening.{labelled_planned, labelled_told, of_run}
 use Rattle.cstn_top.proofs.commands.run.run_file.Goals as goal

@@ -1,0 +1,297 @@
+// Edit sessions: edit lines are answered by a session.
+ghost use Rattle.std.specs.Prelude.{◌≡◌, ◌<◌, ◌≤◌, ◌^◌, ◌++◌, [], ℕ, true, length, vec_capacity, if◌then◌else◌, Some, IfOk, IfSome, OnOk, codes, decimal};
+ghost use Rattle.std.specs.List.{All};
+ghost use Rattle.std.specs.Option.{option_map};
+ghost use Rattle.cstn_label.specs.Read.{marks};
+ghost use Rattle.cstn_net.specs.Networks.{count};
+ghost use Rattle.cstn_net.specs.Read.{the_network};
+ghost use Rattle.cstn_text.specs.Names.{number_of};
+ghost use Rattle.cstn_refute.specs.Texts.{shown};
+ghost use Rattle.cstn_log.specs.Cuts.{part};
+ghost use Rattle.cstn_edit.specs.Sessions.{next_id, kept_of};
+ghost use Rattle.cstn_edit.specs.Edits.{the_refusal, the_session, add_refusal, remove_refusal, change_refusal, with_added, with_removed, with_changed, outcome_at, with_verdict};
+ghost use Rattle.cstn_edit.specs.declared.outcomes.Outcome.{Outcome as Answered};
+ghost use Rattle.cstn_reply.specs.Texts.{line};
+ghost use Rattle.cstn_reply.specs.Sessions.{more};
+ghost use Rattle.cstn_edit.specs.Editing.{Editing as State, begun_editing, edit_turn, edit_ending, refused_edit, unknown_name, answered_edit, answered_add, answered_check, ending_by, the_editing};
+
+use crate::{EditError, Session};
+use cstn_check::Verdict;
+use cstn_label::{Label, NodeId};
+use cstn_lines::{EditLine, read_edit};
+use cstn_net::Network;
+use cstn_reply::{Answer, Outcome, Talk, put_number, put_prop, put_value, put_word};
+use cstn_text::{Names, print_name};
+use std::alloc::{AllocError, Global};
+use std::marker::Model;
+
+// How many bytes an answer has at most, unless it holds a refutation or a name.
+const ROOM: usize = 64;
+
+// How many constraints a session may have.
+const MAX_CONSTRAINTS: u32 = 16_384;
+
+/// An edit session, the names of its time-points, and the verdict of the last check.
+#[derive(Drop)]
+pub struct Editing {
+    alloc: Global,
+    session: Session,
+    names: Names,
+    cap: u32,
+    verdict: Option<Verdict>,
+}
+
+impl Model for Editing {
+    ghost use Rattle.std.specs.Prelude.{◌≡◌};
+    ghost use Rattle.cstn_edit.specs.Editing.{EditingParts, IsEditing};
+
+    ghost Value = { EditingParts };
+
+    ghost view = { λ e. record { session = e.session; names = e.names; verdict = e.verdict } };
+
+    ghost invariant = { λ e. IsEditing (record { session = e.session; names = e.names; verdict = e.verdict }) × (e.cap ≡ e.session.cap) };
+}
+
+impl Editing {
+    /// A session on a network without any edit yet, whose kept list may have `cap` entries. Fails for want of memory alone.
+    pub fn start(
+        alloc: Global,
+        network: Network,
+        names: Names,
+        cap: u32,
+    ) -> Result<Editing, AllocError>
+        requires some { 1 ≤ cap }
+        requires most { cap ≤ 4194304 }
+        requires named { length names ≡ count (the_network network) }
+        requires few { length network.constraints ≤ 16384 }
+        requires ids { All (λ c. c.id < 2 ^ 31) network.constraints }
+        ensures start { IfOk result (λ e. the_editing e ≡ begun_editing cap names (the_network network)) }
+    {
+        has_few_points(&network);
+        let session = Session::start(alloc, network, cap, MAX_CONSTRAINTS)?;
+        Ok(Editing {
+            alloc,
+            session,
+            names,
+            cap,
+            verdict: None,
+        })
+    }
+
+    // Adds a constraint between the time-points of two names.
+    fn add(
+        &mut self,
+        from: &str,
+        to: &str,
+        most: i32,
+        label: Label,
+        text: &mut Vec<u8>,
+    ) -> Result<(), AllocError>
+        requires empty { text.old.items ≡ [] }
+        requires room { ROOM ≤ vec_capacity text.old }
+        ensures turn { OnOk result (answered_add (the_editing self.old) from.now to.now most (marks label) (number_of self.old.names from.now) (number_of self.old.names to.now) ≡ more text.new.items (the_editing self.new)) }
+        ensures capacity { vec_capacity text.old ≤ vec_capacity text.new }
+    {
+        let Some(x) = self.node(from) else {
+            return put_unknown(self.alloc, text, from);
+        };
+        let Some(y) = self.node(to) else {
+            return put_unknown(self.alloc, text, to);
+        };
+        self.add_between(x, y, most, label, text);
+        Ok(())
+    }
+
+    // The time-point of a name, if there is one.
+    fn node(&self, name: &str) -> Option<NodeId>
+        ensures node { option_map (λ x. x.0) result ≡ number_of self.now.names name.now }
+        ensures inside { IfSome result (λ x. x.0 < count (the_network self.now.session.net)) }
+    {
+        let number = self.names.find(name)?;
+        Some(NodeId(number as u16))
+    }
+
+    // Adds a constraint between two time-points.
+    fn add_between(&mut self, from: NodeId, to: NodeId, most: i32, label: Label, text: &mut Vec<u8>)
+        requires from { from.0 < count (the_network self.old.session.net) }
+        requires to { to.0 < count (the_network self.old.session.net) }
+        requires empty { text.old.items ≡ [] }
+        requires room { ROOM ≤ vec_capacity text.old }
+        ensures turn { answered_edit (the_editing self.old) (add_refusal 16384 (the_session self.old.session) most (marks label)) (codes "added " ++ decimal (next_id self.old.session.highest)) (with_added (the_session self.old.session) from.0 to.0 most (marks label)) ≡ more text.new.items (the_editing self.new) }
+        ensures capacity { vec_capacity text.old ≤ vec_capacity text.new }
+    {
+        match self.session.add(from, to, most, label) {
+            Ok(id) => put_number(text, b"added ", id),
+            Err(error) => put_refusal(text, error),
+        }
+    }
+
+    // Takes a constraint out.
+    fn remove(&mut self, id: u32, text: &mut Vec<u8>)
+        requires empty { text.old.items ≡ [] }
+        requires room { ROOM ≤ vec_capacity text.old }
+        ensures turn { answered_edit (the_editing self.old) (remove_refusal (the_session self.old.session) id) (codes "removed " ++ decimal id) (with_removed (the_session self.old.session) id) ≡ more text.new.items (the_editing self.new) }
+        ensures capacity { vec_capacity text.old ≤ vec_capacity text.new }
+    {
+        match self.session.remove(id) {
+            Ok(()) => put_number(text, b"removed ", id),
+            Err(error) => put_refusal(text, error),
+        }
+    }
+
+    // Gives a constraint another value.
+    fn change(&mut self, id: u32, most: i32, text: &mut Vec<u8>)
+        requires empty { text.old.items ≡ [] }
+        requires room { ROOM ≤ vec_capacity text.old }
+        ensures turn { answered_edit (the_editing self.old) (change_refusal (the_session self.old.session) id most) (codes "changed " ++ decimal id) (with_changed (the_session self.old.session) id most) ≡ more text.new.items (the_editing self.new) }
+        ensures capacity { vec_capacity text.old ≤ vec_capacity text.new }
+    {
+        match self.session.change(id, most) {
+            Ok(()) => put_number(text, b"changed ", id),
+            Err(error) => put_refusal(text, error),
+        }
+    }
+
+    // Answers with the verdict, which is kept for the end.
+    fn check(&mut self, text: &mut Vec<u8>) -> Result<(), AllocError>
+        requires empty { text.old.items ≡ [] }
+        requires room { ROOM ≤ vec_capacity text.old }
+        ensures turn { OnOk result (answered_check (the_editing self.old) (outcome_at self.old.session.cap (the_session self.old.session)) (with_verdict self.old.session.cap (the_session self.old.session)) ≡ more text.new.items (the_editing self.new)) }
+        ensures capacity { vec_capacity text.old ≤ vec_capacity text.new }
+    {
+        let outcome = self.session.verdict();
+        self.verdict = Some(outcome.verdict);
+        put_afresh(text, outcome.afresh);
+        match outcome.verdict {
+            Verdict::Yes { load } => {
+                put_number(text, b"yes ", load);
+                Ok(())
+            }
+            Verdict::No { .. } => self.put_refutation(text),
+            Verdict::Full => {
+                put_number(text, b"full ", self.cap);
+                Ok(())
+            }
+        }
+    }
+
+    // Puts the text of the refutation after a no.
+    fn put_refutation(&self, text: &mut Vec<u8>) -> Result<(), AllocError>
+        requires no { (o : Answered) × (load : ℕ) × (self.now.session.last ≡ Some o) × (o.verdict ≡ Verdict.No load) }
+        ensures items { OnOk result (text.new.items ≡ text.old.items ++ shown self.now.names (length (kept_of self.now.session)) (part (kept_of self.now.session))) }
+        ensures capacity { vec_capacity text.old ≤ vec_capacity text.new }
+    {
+        let refutation = self.session.refutation(self.alloc)?;
+        let printed = refutation.print(self.alloc, &self.names)?;
+        text.extend_from_slice(printed.as_bytes())
+    }
+}
+
+impl Talk for Editing {
+    ghost State = { State };
+
+    ghost state = { the_editing };
+
+    ghost turn = { edit_turn };
+
+    ghost ending = { edit_ending };
+
+    ghost room = { λ _. 64 };
+
+    ghost may_stop = { true };
+
+    fn room(&self) -> usize {
+        ROOM
+    }
+
+    fn answer(&mut self, line: &[u8], text: &mut Vec<u8>) -> Result<Answer, AllocError> {
+        match read_edit(self.alloc, line)? {
+            Some(
+                EditLine::Add {
+                    from,
+                    to,
+                    most,
+                    label,
+                },
+            ) => {
+                self.add(from.as_str(), to.as_str(), most, label, text)?;
+                Ok(Answer::More)
+            }
+            Some(EditLine::Remove { id }) => {
+                self.remove(id, text);
+                Ok(Answer::More)
+            }
+            Some(EditLine::Change { id, most }) => {
+                self.change(id, most, text);
+                Ok(Answer::More)
+            }
+            Some(EditLine::Check) => {
+                self.check(text)?;
+                Ok(Answer::More)
+            }
+            None => Ok(Answer::Wrong),
+        }
+    }
+
+    fn ending(&self, text: &mut Vec<u8>) -> Outcome {
+        ending_by(self.verdict)
+    }
+}
+
+// How the session ends, by the verdict of the last check, if there was one.
+fn ending_by(verdict: Option<Verdict>) -> Outcome
+    ensures { result ≡ ending_by verdict }
+{
+    match verdict {
+        None | Some(Verdict::Yes { .. }) => Outcome::Good,
+        Some(Verdict::No { .. }) => Outcome::Bad,
+        Some(Verdict::Full) => Outcome::Full,
+    }
+}
+
+// A network has at most 1,024 time-points.
+fn has_few_points(network: &Network)
+    ensures { count (the_network network.now) ≤ 1024 }
+{
+    let _ = network.count();
+}
+
+// Puts that no time-point has the name.
+fn put_unknown(alloc: Global, text: &mut Vec<u8>, name: &str) -> Result<(), AllocError>
+    requires empty { text.old.items ≡ [] }
+    ensures items { OnOk result (text.new.items ≡ line (unknown_name name.now)) }
+    ensures capacity { vec_capacity text.old ≤ vec_capacity text.new }
+{
+    let line = format!(in alloc; "refused S7 {}\n", print_name(alloc, name)?)?;
+    text.extend_from_slice(line.as_bytes())
+}
+
+// Puts why an edit is refused.
+fn put_refusal(text: &mut Vec<u8>, error: EditError)
+    requires empty { text.old.items ≡ [] }
+    requires room { ROOM ≤ vec_capacity text.old }
+    ensures items { text.new.items ≡ line (refused_edit (the_refusal error)) }
+    ensures capacity { vec_capacity text.old ≤ vec_capacity text.new }
+{
+    match error {
+        EditError::EditLimit => put_word(text, b"refused S6"),
+        EditError::NoRoom { room } => put_number(text, b"refused S1 ", room),
+        EditError::NoSuch { id } => put_number(text, b"refused S2 ", id),
+        EditError::ValueRange { most } => put_value(text, b"refused S3 ", most),
+        EditError::NotPlain => put_word(text, b"refused S4"),
+        EditError::NotObserved { prop } => put_prop(text, b"refused S5 ", prop),
+    }
+}
+
+// Puts the line `afresh` where the check grew its kept list afresh.
+fn put_afresh(text: &mut Vec<u8>, afresh: bool)
+    requires empty { text.old.items ≡ [] }
+    requires room { ROOM ≤ vec_capacity text.old }
+    ensures items { text.new.items ≡ (if afresh then line (codes "afresh") else []) }
+    ensures short { length text.new.items ≤ 7 }
+    ensures capacity { vec_capacity text.old ≤ vec_capacity text.new }
+{
+    if afresh {
+        put_word(text, b"afresh");
+    }
+}

@@ -1,0 +1,75 @@
+-- The least open id of which not all is executed.
+use Rattle.std.proofs.Common.{◌≡◌, ◌<◌, ◌≤◌, ◌+◌, ◌-◌, ℕ, suc, Bool, true, length, refl, ap, sym, ◌∙◌, arith}
+use Rattle.std.specs.Prelude.{nat_lt, if◌then◌else◌, Option, Some, None}
+use Rattle.std.specs.Option.{option_map}
+use Rattle.cstn_exec.specs.Runs.{due}
+use Rattle.cstn_exec.specs.Answers.{AskDue, DueAt}
+use Rattle.cstn_host.specs.declared.errors.HostError.{HostError}
+use Rattle.cstn_host.specs.Hosts.{Opened, net_at, bounds_at, case_at}
+use Rattle.cstn_host.specs.Calls.{Pass, Told, Denied, OutOfRange, answer_at, answer_on}
+use Rattle.cstn_host.specs.Read.{the_denial}
+use Rattle.cstn_host.specs.Sessions.{File, Case, HostSession, case_of, due_in, or_later, due_from, unfinished}
+use Rattle.cstn_host.specs.SessionRead.{HostSessionParts, the_files, the_case, the_host_session}
+use Rattle.cstn_host.proofs.Same.{case_same, file_same}
+use Rattle.cstn_host.proofs.Moments.{never_due}
+
+is_below : (a b : ℕ) → a < b → nat_lt a b ≡ true
+is_below a b small = grind arith
+
+-- the least id from `id` on is `id`, where something is due there, or the least from the next id on
+step : (ward : HostSession) (id : ℕ) → id < 64 → due_from ward id (64 - id) ≡ or_later (option_map (λ t. (id, t)) (due_in ward.files (case_of ward id))) (due_from ward (id + 1) (64 - (id + 1)))
+step ward id below = ap (due_from ward id) count
+  where
+    count : 64 - id ≡ suc (64 - (id + 1))
+    count = omega (arith, below)
+
+pub begins : (ward : HostSession) → unfinished ward ≡ due_from ward 0 64
+unfolding unfinished
+begins ward = refl
+
+-- where nothing is due at an id, the search goes on with the next id
+pub passes : (ward : HostSession) (id : ℕ) → id < 64 → unfinished ward ≡ due_from ward id (64 - id) → due_in ward.files (case_of ward id) ≡ None → unfinished ward ≡ due_from ward (id + 1) (64 - (id + 1))
+passes ward id below so_far none = so_far ∙ step ward id below ∙ ap (λ (o : Option ℕ). or_later (option_map (λ t. (id, t)) o) (due_from ward (id + 1) (64 - (id + 1)))) none
+
+-- where something is due at an id, the search ends with it
+pub stops : (ward : HostSession) (id t : ℕ) → id < 64 → unfinished ward ≡ due_from ward id (64 - id) → due_in ward.files (case_of ward id) ≡ Some t → Some (id, t) ≡ unfinished ward
+stops ward id t below so_far found = sym (so_far ∙ step ward id below ∙ ap (λ (o : Option ℕ). or_later (option_map (λ u. (id, u)) o) (due_from ward (id + 1) (64 - (id + 1)))) found)
+
+-- after the last id, the search ends with none
+pub none_left : (ward : HostSession) (id : ℕ) → 64 ≤ id → unfinished ward ≡ due_from ward id (64 - id) → None ≡ unfinished ward
+none_left ward id above so_far = sym (so_far ∙ ap (due_from ward id) count)
+  where
+    count : 64 - id ≡ 0
+    count = omega (arith, above)
+
+module _ (w : HostSessionParts) (as_many : length w.names ≡ length w.host.plans) where
+  -- what is due at an id, by what it is open over in the host
+  abbrev due_of : Option Opened → Option ℕ
+  due_of None = None
+  due_of (Some c) = due (net_at w.host.plans c.file) (bounds_at w.host.plans c.file) c.run
+
+  due_same : (id : ℕ) → due_in (the_files w.host.plans w.names) (case_of (the_host_session w) id) ≡ due_of (case_at w.host id)
+  due_same id = ap (λ (o : Option Case). due_in (the_files w.host.plans w.names) o) (case_same w as_many id) ∙ at (case_at w.host id)
+    where
+      at : (o : Option Opened) → due_in (the_files w.host.plans w.names) (option_map the_case o) ≡ due_of o
+      at None = refl
+      at (Some c) = ap (λ (f : File). due f.net f.bounds c.run) (file_same w.host.plans w.names c.file as_many)
+
+  asked : (id : ℕ) → id < 64 → answer_on w.host id (Pass AskDue) ≡ answer_at w.host.plans id (case_at w.host id) (Pass AskDue)
+  asked id below = ap (λ (b : Bool). if b then answer_at w.host.plans id (case_at w.host id) (Pass AskDue) else Denied (OutOfRange id)) (is_below id 64 below)
+
+  -- what the host answers to `due` is what is due
+  pub due_told : (id : ℕ) (t : Option ℕ) → id < 64 → Told (DueAt t) ≡ answer_on w.host id (Pass AskDue) → due_in (the_files w.host.plans w.names) (case_of (the_host_session w) id) ≡ t
+  due_told id t below is = due_same id ∙ at (case_at w.host id) (is ∙ asked id below)
+    where
+      at : (o : Option Opened) → Told (DueAt t) ≡ answer_at w.host.plans id o (Pass AskDue) → due_of o ≡ t
+      at None told = absurd (cc)
+      at (Some c) told = cc
+
+  -- where the host refuses to say what is due, nothing is due
+  pub due_denied : (id : ℕ) (e : HostError) → id < 64 → the_denial e ≡ answer_on w.host id (Pass AskDue) → due_in (the_files w.host.plans w.names) (case_of (the_host_session w) id) ≡ None
+  due_denied id e below is = due_same id ∙ at (case_at w.host id) (is ∙ asked id below)
+    where
+      at : (o : Option Opened) → the_denial e ≡ answer_at w.host.plans id o (Pass AskDue) → due_of o ≡ None
+      at None told = refl
+      at (Some c) told = absurd (never_due e (due (net_at w.host.plans c.file) (bounds_at w.host.plans c.file) c.run) told)

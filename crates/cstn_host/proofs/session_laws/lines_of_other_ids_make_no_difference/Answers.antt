@@ -1,0 +1,5 @@
+use Rattle.cstn_host.proofs.Apart.{each_apart}
+use Rattle.cstn_host.proofs.session_laws.lines_of_other_ids_make_no_difference.Goals as goal
+
+pub returns : goal.returns
+returns c = record { each = each_apart }

@@ -1,4 +1,0 @@
-pub mod Running
-pub mod Guiding
-pub mod Meanings
-pub mod Editing

@@ -1,0 +1,21 @@
+-- What `run` says of a labelled network.
+use Rattle.std.specs.Prelude.{ℕ, map}
+use Rattle.cstn_net.specs.Networks.{count}
+use Rattle.cstn_lift.specs.Lowered.{lowered}
+use Rattle.cstn_check.specs.Growth.{log_of, load_of, live_bounds}
+use Rattle.cstn_guide.specs.Guides.{begun}
+use Rattle.cstn_text.specs.PrintedNames.{printed_name}
+use Rattle.cstn_reply.specs.Texts.{yes_line}
+use Rattle.cstn_top.specs.Plans.{session}
+use Rattle.cstn_top.specs.Answers.{LabelledAnswer}
+use Rattle.cstn_check.specs.Decisions.{verdict}
+use Rattle.cstn_top.specs.Answers.{on_verdict}
+use Rattle.cstn_guide.specs.Guiding.{guide_turn, guide_ending}
+
+-- what `run` says of a labelled network: after yes the answers to the live lines, by the bounds of the live entries of its log
+abbrev pub carried_out : ℕ → LabelledAnswer
+carried_out cap names m =
+    on_verdict cap names (lowered m)
+    (session (guide_turn (map printed_name names) m (live_bounds (log_of (lowered m)))) (guide_ending m (live_bounds (log_of (lowered m))))
+    (yes_line (load_of (lowered m))) (begun (count m.base)))
+    (verdict cap (lowered m))
