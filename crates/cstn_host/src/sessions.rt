@@ -1,4 +1,4 @@
-// A ward: host lines are answered by a host, under the names of each file.
+// Sessions of a host: host lines are answered under the names of each file.
 ghost use Rattle.std.specs.Prelude.{◌≡◌, ◌≤◌, ◌<◌, [], true, length, vec_capacity, is_none, nat_lt, Some, IfOk, OnOk};
 ghost use Rattle.cstn_lines.specs.LiveLines.{moment_at, seen, due_now, the_live};
 ghost use Rattle.cstn_lines.specs.HostLines.{opened, put_on, closed};
@@ -41,7 +41,7 @@ impl Model for HostSession {
 }
 
 impl HostSession {
-    /// A ward of 1 to 8 plans, each with the printed names of its time-points, in which no id is open. Fails for want of memory
+    /// A session over 1 to 8 plans, each with the printed names of its time-points, in which no id is open. Fails for want of memory
     /// alone.
     pub fn start(
         alloc: Global,
