@@ -9,10 +9,10 @@ ghost use Rattle.cstn_host.specs.SessionRead.{the_files, the_host_session, the_n
 
 use crate::Host;
 use crate::texts::{put_error, put_id, put_unfinished};
+use cstn_exec::put_moment;
 use cstn_label::Prop;
 use cstn_lines::{HostLine, LiveLine, read_host};
 use cstn_log::SoundPlan;
-use cstn_exec::put_moment;
 use cstn_reply::{Answer, Outcome, Talk, put_number, put_outcome, put_word};
 use std::alloc::{AllocError, Global};
 use std::marker::Model;
