@@ -6,4 +6,4 @@ pub mod RefutationLemmas
 pub mod EditLemmas
 pub mod SessionLaws
 pub mod FreshLemmas
-pub mod Editing
+pub mod Edits

@@ -1,4 +1,5 @@
-//! Edit sessions: constraints are added, taken out and changed, and each verdict is grown from the list that was kept.
+//! Edit sessions: constraints are added, taken out and changed, and each verdict is grown from the list that was kept. Edit lines
+//! are answered so.
 #![tactic(auto)]
 
 mod answers;

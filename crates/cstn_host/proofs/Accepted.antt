@@ -54,9 +54,9 @@ done_then host new id t m b after each =
     ∙ ap (λ (r : Option Refusal). is_none (due (net_at host.plans file) (bounds_at host.plans file) (run_unless m.before.run (run_then host id t m) r))) m.accepted
 
 -- what is put for an accepted moment: the printed names of the file's time-points that were named
-module _ (host : HostParts) (id t : ℕ) (m : Moved host id t) (names : List (Vec (String Global) Global)) (ward : IsHostSession host.plans (the_names names)) (file : ℕ) (same : file ≡ m.before.file) (inside : file < length names) (texts : List (String Global)) (texts_are : map string_bytes texts ≡ slice_index_or (the_names names) file []) (xs : List NodeId) (nodes_are : the_nodes xs ≡ named_then host id t m) where
+module _ (host : HostParts) (id t : ℕ) (m : Moved host id t) (names : List (Vec (String Global) Global)) (session : IsHostSession host.plans (the_names names)) (file : ℕ) (same : file ≡ m.before.file) (inside : file < length names) (texts : List (String Global)) (texts_are : map string_bytes texts ≡ slice_index_or (the_names names) file []) (xs : List NodeId) (nodes_are : the_nodes xs ≡ named_then host id t m) where
   short : AreShort (plan_of_file host.plans file).net (slice_index_or (the_names names) file [])
-  short = let many = ward.as_many in let size = length-map names (λ (v : Vec (String Global) Global). map string_bytes v.items) in ward.short file (omega (arith, inside, many, size))
+  short = let many = session.as_many in let size = length-map names (λ (v : Vec (String Global) Global). map string_bytes v.items) in session.short file (omega (arith, inside, many, size))
 
   few : count (net_at host.plans m.before.file) ≤ 1024
   few = subst (λ (k : ℕ). count (net_at host.plans k) ≤ 1024) same short.few

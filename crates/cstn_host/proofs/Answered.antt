@@ -34,7 +34,7 @@ pub on_any : {X E : Type 0} (r : Result X E) (P : Type 0) → P → OnOk r P
 on_any (Ok x) P is = is
 on_any (Err e) P is = tt
 
--- what contracts see of a ward
+-- what contracts see of a session
 abbrev pub seen_with : HostParts → List (List (List ℕ)) → HostSessionParts
 seen_with host names = record { host = host; names = names }
 
@@ -47,7 +47,7 @@ module _ (old : HostSessionParts) (host : HostParts) (names : List (List (List �
   pub error_said : (h : Hosted) (e : HostError) (text : List ℕ) → the_denial e ≡ answer_on host (id_of h) (the_call h) → text ≡ error_text (id_of h) (the_denial e) → said (the_host_session old) h ≡ text
   error_said h e text is text_is = subst (λ (w : HostSessionParts). said (the_host_session w) h ≡ text) view (said_error (seen_with host names) as_many h e is ∙ sym text_is)
 
-  -- the ward after a host line is that of the host after the call
+  -- the session after a host line is that of the host after the call
   pub after_is : (h : Hosted) (new : HostParts) → new ≡ host_after host (id_of h) (the_call h) → session_after (the_host_session old) h ≡ the_host_session (seen_with new names)
   after_is h new is =
       subst (λ (w : HostSessionParts). session_after (the_host_session w) h ≡ the_host_session (seen_with new names)) view

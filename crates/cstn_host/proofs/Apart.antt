@@ -29,30 +29,30 @@ other_is a b is = grind arith
 -- ---- one line
 
 -- a line leaves what every other id is open over as it is
-pub leaves : (ward : HostSession) (h : Hosted) (other : ℕ) → other ≢ id_of h → case_of (session_after ward h) other ≡ case_of ward other
-leaves ward h other apart = at (nat_lt (id_of h) 64)
+pub leaves : (session : HostSession) (h : Hosted) (other : ℕ) → other ≢ id_of h → case_of (session_after session h) other ≡ case_of session other
+leaves session h other apart = at (nat_lt (id_of h) 64)
   where
-    at : (b : Bool) → slice_index_or (if b then slice_set ward.cases (id_of h) (case_next ward.files (case_of ward (id_of h)) h) else ward.cases) other None ≡ slice_index_or ward.cases other None
-    at true = get_or-set_other ward.cases (id_of h) other (case_next ward.files (case_of ward (id_of h)) h) None apart
+    at : (b : Bool) → slice_index_or (if b then slice_set session.cases (id_of h) (case_next session.files (case_of session (id_of h)) h) else session.cases) other None ≡ slice_index_or session.cases other None
+    at true = get_or-set_other session.cases (id_of h) other (case_next session.files (case_of session (id_of h)) h) None apart
     at false = refl
 
 -- after a line there are as many ids as before
-pub as_many : (ward : HostSession) (h : Hosted) → length (session_after ward h).cases ≡ length ward.cases
-as_many ward h = at (nat_lt (id_of h) 64)
+pub as_many : (session : HostSession) (h : Hosted) → length (session_after session h).cases ≡ length session.cases
+as_many session h = at (nat_lt (id_of h) 64)
   where
-    at : (b : Bool) → length (if b then slice_set ward.cases (id_of h) (case_next ward.files (case_of ward (id_of h)) h) else ward.cases) ≡ length ward.cases
-    at true = length-set ward.cases (id_of h) (case_next ward.files (case_of ward (id_of h)) h)
+    at : (b : Bool) → length (if b then slice_set session.cases (id_of h) (case_next session.files (case_of session (id_of h)) h) else session.cases) ≡ length session.cases
+    at true = length-set session.cases (id_of h) (case_next session.files (case_of session (id_of h)) h)
     at false = refl
 
 -- a line changes what its own id is open over
-pub changes : (ward : HostSession) (h : Hosted) → length ward.cases ≡ 64 → id_of h < 64 → case_of (session_after ward h) (id_of h) ≡ case_next ward.files (case_of ward (id_of h)) h
-changes ward h size below =
-    ap (λ (b : Bool). slice_index_or (if b then slice_set ward.cases (id_of h) (case_next ward.files (case_of ward (id_of h)) h) else ward.cases) (id_of h) None) (is_below (id_of h) 64 below)
-    ∙ get_or-set_same ward.cases (id_of h) (case_next ward.files (case_of ward (id_of h)) h) None (omega (arith, size, below))
+pub changes : (session : HostSession) (h : Hosted) → length session.cases ≡ 64 → id_of h < 64 → case_of (session_after session h) (id_of h) ≡ case_next session.files (case_of session (id_of h)) h
+changes session h size below =
+    ap (λ (b : Bool). slice_index_or (if b then slice_set session.cases (id_of h) (case_next session.files (case_of session (id_of h)) h) else session.cases) (id_of h) None) (is_below (id_of h) 64 below)
+    ∙ get_or-set_same session.cases (id_of h) (case_next session.files (case_of session (id_of h)) h) None (omega (arith, size, below))
 
 -- ---- all lines
 
--- two wards have the same files, and the id is open over the same in both
+-- two sessions have the same files, and the id is open over the same in both
 pub record Agree (w v : HostSession) (id : ℕ) : Type 0 where
   pub same_files : w.files ≡ v.files
   pub same_case : case_of w id ≡ case_of v id

@@ -17,27 +17,27 @@ is_below : (a b : ℕ) → a < b → nat_lt a b ≡ true
 is_below a b small = grind arith
 
 -- the least id from `id` on is `id`, where something is due there, or the least from the next id on
-step : (ward : HostSession) (id : ℕ) → id < 64 → due_from ward id (64 - id) ≡ or_later (option_map (λ t. (id, t)) (due_in ward.files (case_of ward id))) (due_from ward (id + 1) (64 - (id + 1)))
-step ward id below = ap (due_from ward id) count
+step : (session : HostSession) (id : ℕ) → id < 64 → due_from session id (64 - id) ≡ or_later (option_map (λ t. (id, t)) (due_in session.files (case_of session id))) (due_from session (id + 1) (64 - (id + 1)))
+step session id below = ap (due_from session id) count
   where
     count : 64 - id ≡ suc (64 - (id + 1))
     count = omega (arith, below)
 
-pub begins : (ward : HostSession) → unfinished ward ≡ due_from ward 0 64
+pub begins : (session : HostSession) → unfinished session ≡ due_from session 0 64
 unfolding unfinished
-begins ward = refl
+begins session = refl
 
 -- where nothing is due at an id, the search goes on with the next id
-pub passes : (ward : HostSession) (id : ℕ) → id < 64 → unfinished ward ≡ due_from ward id (64 - id) → due_in ward.files (case_of ward id) ≡ None → unfinished ward ≡ due_from ward (id + 1) (64 - (id + 1))
-passes ward id below so_far none = so_far ∙ step ward id below ∙ ap (λ (o : Option ℕ). or_later (option_map (λ t. (id, t)) o) (due_from ward (id + 1) (64 - (id + 1)))) none
+pub passes : (session : HostSession) (id : ℕ) → id < 64 → unfinished session ≡ due_from session id (64 - id) → due_in session.files (case_of session id) ≡ None → unfinished session ≡ due_from session (id + 1) (64 - (id + 1))
+passes session id below so_far none = so_far ∙ step session id below ∙ ap (λ (o : Option ℕ). or_later (option_map (λ t. (id, t)) o) (due_from session (id + 1) (64 - (id + 1)))) none
 
 -- where something is due at an id, the search ends with it
-pub stops : (ward : HostSession) (id t : ℕ) → id < 64 → unfinished ward ≡ due_from ward id (64 - id) → due_in ward.files (case_of ward id) ≡ Some t → Some (id, t) ≡ unfinished ward
-stops ward id t below so_far found = sym (so_far ∙ step ward id below ∙ ap (λ (o : Option ℕ). or_later (option_map (λ u. (id, u)) o) (due_from ward (id + 1) (64 - (id + 1)))) found)
+pub stops : (session : HostSession) (id t : ℕ) → id < 64 → unfinished session ≡ due_from session id (64 - id) → due_in session.files (case_of session id) ≡ Some t → Some (id, t) ≡ unfinished session
+stops session id t below so_far found = sym (so_far ∙ step session id below ∙ ap (λ (o : Option ℕ). or_later (option_map (λ u. (id, u)) o) (due_from session (id + 1) (64 - (id + 1)))) found)
 
 -- after the last id, the search ends with none
-pub none_left : (ward : HostSession) (id : ℕ) → 64 ≤ id → unfinished ward ≡ due_from ward id (64 - id) → None ≡ unfinished ward
-none_left ward id above so_far = sym (so_far ∙ ap (due_from ward id) count)
+pub none_left : (session : HostSession) (id : ℕ) → 64 ≤ id → unfinished session ≡ due_from session id (64 - id) → None ≡ unfinished session
+none_left session id above so_far = sym (so_far ∙ ap (due_from session id) count)
   where
     count : 64 - id ≡ 0
     count = omega (arith, above)

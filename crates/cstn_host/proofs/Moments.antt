@@ -175,13 +175,13 @@ module _ (w : HostSessionParts) (as_many : length w.names ≡ length w.host.plan
   due_said id t is = said_told w as_many (put_on id due_now) (DueAt t) is ∙ nothing_after (with_id id (due_text t))
 
 -- the question what is due changes nothing
-pub due_stays : (ward : HostSession) (id : ℕ) → session_after ward (put_on id due_now) ≡ ward
-due_stays ward id = ap (λ (cs : List (Option Case)). record { files = ward.files; cases = cs }) (at (nat_lt id 64))
+pub due_stays : (session : HostSession) (id : ℕ) → session_after session (put_on id due_now) ≡ session
+due_stays session id = ap (λ (cs : List (Option Case)). record { files = session.files; cases = cs }) (at (nat_lt id 64))
   where
-    same : (o : Option Case) → case_next ward.files o (put_on id due_now) ≡ o
+    same : (o : Option Case) → case_next session.files o (put_on id due_now) ≡ o
     same None = refl
     same (Some c) = refl
 
-    at : (b : Bool) → (if b then slice_set ward.cases id (case_next ward.files (case_of ward id) (put_on id due_now)) else ward.cases) ≡ ward.cases
-    at true = ap (λ (o : Option Case). slice_set ward.cases id o) (same (case_of ward id)) ∙ set-get_or ward.cases id None
+    at : (b : Bool) → (if b then slice_set session.cases id (case_next session.files (case_of session id) (put_on id due_now)) else session.cases) ≡ session.cases
+    at true = ap (λ (o : Option Case). slice_set session.cases id o) (same (case_of session id)) ∙ set-get_or session.cases id None
     at false = refl

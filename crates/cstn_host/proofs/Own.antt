@@ -238,7 +238,7 @@ some_lines o xs is = let f : ⊥ = cc in f
 same_next : (text other : List ℕ) (a b : HostSession) → more text a ≡ more other b → a ≡ b
 same_next text other a b is = cc
 
--- lines lead a session to the ward after what they say
+-- lines lead a session to the state after what they say
 reaches : (w g : HostSession) (n : ℕ) (texts : List (List ℕ)) (lines : List Hosted) → map host_read texts ≡ map Some lines → state_after host_turn w n texts ≡ Some g → g ≡ after_all w lines
 reaches w g n [] [] reads is = sym (same_state w g is)
 reaches w g n [] (h ∷ hs) reads is = absurd (no_lines (Some h) (map Some hs) reads)
@@ -250,8 +250,8 @@ reaches w g n (text ∷ texts) (h ∷ hs) reads is =
     reaches l.next g (n + 1) texts hs (same_rest (host_read text) (Some h) (map host_read texts) (map Some hs) reads) l.rest
     ∙ ap (λ (v : HostSession). after_all v hs) (sym (same_next (said w h) l.text (session_after w h) l.next turn))
 
-pub session_answered : (files : List File) (before : List (List ℕ)) (next : List ℕ) (lines : List Hosted) (hosted : Hosted) (ward : HostSession) → map host_read before ≡ map Some lines → host_read next ≡ Some hosted → LeadsTo host_turn (begun files) before next ward → Says host_turn host_ending (begun files) before next (said_by files lines hosted)
-session_answered files before next lines hosted ward reads is leads =
-    says_next host_turn host_ending (begun files) ward before next (said_by files lines hosted) leads
-    (subst (λ (o : Option Hosted). Begins (hosted_turn ward o) (said_by files lines hosted)) (sym is)
-    (ap (λ (w : HostSession). said w hosted) (reaches (begun files) ward 0 before lines reads leads.state) ∙ answered files lines hosted))
+pub session_answered : (files : List File) (before : List (List ℕ)) (next : List ℕ) (lines : List Hosted) (hosted : Hosted) (session : HostSession) → map host_read before ≡ map Some lines → host_read next ≡ Some hosted → LeadsTo host_turn (begun files) before next session → Says host_turn host_ending (begun files) before next (said_by files lines hosted)
+session_answered files before next lines hosted session reads is leads =
+    says_next host_turn host_ending (begun files) session before next (said_by files lines hosted) leads
+    (subst (λ (o : Option Hosted). Begins (hosted_turn session o) (said_by files lines hosted)) (sym is)
+    (ap (λ (w : HostSession). said w hosted) (reaches (begun files) session 0 before lines reads leads.state) ∙ answered files lines hosted))

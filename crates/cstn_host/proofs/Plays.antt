@@ -24,14 +24,14 @@ ending_is : (found : Option (ℕ × ℕ)) → IsEnd (ended found).outcome
 ending_is None = tt
 ending_is (Some found) = tt
 
-pub plays : (ward : HostSession) (count : ℕ) (lines : List (List ℕ)) → IsEnd (play host_turn host_ending ward count lines).outcome
-plays ward count [] = ending_is (unfinished ward)
-plays ward count (first ∷ lines) = by_past (λ next. plays next (count + 1) lines) (is_past (count + 1) first)
+pub plays : (session : HostSession) (count : ℕ) (lines : List (List ℕ)) → IsEnd (play host_turn host_ending session count lines).outcome
+plays session count [] = ending_is (unfinished session)
+plays session count (first ∷ lines) = by_past (λ next. plays next (count + 1) lines) (is_past (count + 1) first)
   where
-    by_turn : ((next : HostSession) → IsEnd (play host_turn host_ending next (count + 1) lines).outcome) → (o : Option Hosted) → IsEnd (on_turn (hosted_turn ward o) (λ text next. after_text text (play host_turn host_ending next (count + 1) lines)) (λ said. said) (script (count + 1))).outcome
+    by_turn : ((next : HostSession) → IsEnd (play host_turn host_ending next (count + 1) lines).outcome) → (o : Option Hosted) → IsEnd (on_turn (hosted_turn session o) (λ text next. after_text text (play host_turn host_ending next (count + 1) lines)) (λ said. said) (script (count + 1))).outcome
     by_turn rest None = tt
     by_turn rest (Some hosted) = rest _
 
-    by_past : ((next : HostSession) → IsEnd (play host_turn host_ending next (count + 1) lines).outcome) → (past : Bool) → IsEnd (if past then script (count + 1) else on_turn (host_turn ward first) (λ text next. after_text text (play host_turn host_ending next (count + 1) lines)) (λ said. said) (script (count + 1))).outcome
+    by_past : ((next : HostSession) → IsEnd (play host_turn host_ending next (count + 1) lines).outcome) → (past : Bool) → IsEnd (if past then script (count + 1) else on_turn (host_turn session first) (λ text next. after_text text (play host_turn host_ending next (count + 1) lines)) (λ said. said) (script (count + 1))).outcome
     by_past rest true = tt
     by_past rest false = by_turn rest (host_read first)

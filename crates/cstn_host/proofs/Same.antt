@@ -1,4 +1,4 @@
--- What a host answers is what its ward answers.
+-- What a host answers is what its session answers.
 use Rattle.std.proofs.Common.{◌≡◌, ℕ, zero, suc, Bool, true, false, List, [], ◌∷◌, length, map, refl, ap, sym, ◌∙◌, arith}
 use Rattle.std.specs.Prelude.{nat_lt, if◌then◌else◌, Option, Some, None, slice_index_or, slice_set}
 use Rattle.std.specs.Option.{option_map}
@@ -73,7 +73,7 @@ module _ (w : HostSessionParts) (as_many : length w.names ≡ length w.host.plan
   answer_same (Some c) (put_on id live) = ap (λ (f : File). Told (answer_to f.net f.bounds c.run (the_event live))) (sym (the_file c.file))
   answer_same (Some c) (closed id) = refl
 
-  -- the ward after a line is that of the host after the call
+  -- the session after a line is that of the host after the call
   pub after_same : (h : Hosted) → the_host_session (record { host = host_after w.host (id_of h) (the_call h); names = w.names }) ≡ session_after (the_host_session w) h
   after_same h = ap (λ (cs : List (Option Case)). record { files = files; cases = cs }) (at (nat_lt (id_of h) 64))
     where

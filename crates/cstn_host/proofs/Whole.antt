@@ -27,9 +27,9 @@ answer_ends names due h (FileIs file) = inl refl
 answer_ends names due h (Told a) = lines_end (id_of h) (answer_lines names due (live_of h) a)
 answer_ends names due h (Denied why) = inr (denied_text why, refl)
 
-pub text_ends : (ward : HostSession) (h : Hosted) (text : List ℕ) → said ward h ≡ text → EndsLine text
-text_ends ward h text is = subst EndsLine is (at (nat_lt (id_of h) 64))
+pub text_ends : (session : HostSession) (h : Hosted) (text : List ℕ) → said session h ≡ text → EndsLine text
+text_ends session h text is = subst EndsLine is (at (nat_lt (id_of h) 64))
   where
-    at : (b : Bool) → EndsLine (if b then said_in ward.files (case_of ward (id_of h)) h else line (denied_text (OutOfRange (id_of h))))
-    at true = answer_ends (names_in ward.files (case_of ward (id_of h))) (due_in ward.files (case_next ward.files (case_of ward (id_of h)) h)) h (answer_in ward.files (case_of ward (id_of h)) h)
+    at : (b : Bool) → EndsLine (if b then said_in session.files (case_of session (id_of h)) h else line (denied_text (OutOfRange (id_of h))))
+    at true = answer_ends (names_in session.files (case_of session (id_of h))) (due_in session.files (case_next session.files (case_of session (id_of h)) h)) h (answer_in session.files (case_of session (id_of h)) h)
     at false = inr (denied_text (OutOfRange (id_of h)), refl)

@@ -23,15 +23,15 @@ abbrev pub put_if : Bool → List ℕ → List (List ℕ) → List (List ℕ)
 put_if true text later = text ∷ later
 put_if false text later = later
 
--- what a ward says to the lines on one id, where it answers these host lines on any ids in turn
+-- what a session says to the lines on one id, where it answers these host lines on any ids in turn
 abbrev pub said_to : ℕ → HostSession → List Hosted → List (List ℕ)
-said_to id ward [] = []
-said_to id ward (first ∷ lines) = put_if (is_on id first) (said ward first) (said_to id (session_after ward first) lines)
+said_to id session [] = []
+said_to id session (first ∷ lines) = put_if (is_on id first) (said session first) (said_to id (session_after session first) lines)
 
--- the ward after host lines in turn
+-- the session after host lines in turn
 abbrev pub after_all : HostSession → List Hosted → HostSession
-after_all ward [] = ward
-after_all ward (first ∷ lines) = after_all (session_after ward first) lines
+after_all session [] = session
+after_all session (first ∷ lines) = after_all (session_after session first) lines
 
 -- what is said to a host line after others, where no id was open before them
 abbrev pub said_after : List File → List Hosted → Hosted → List ℕ

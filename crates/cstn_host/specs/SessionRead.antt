@@ -11,7 +11,7 @@ use Rattle.cstn_reply.specs.Texts.{line}
 use Rattle.cstn_exec.specs.Running.{refused_text, AreShort}
 use Rattle.cstn_host.specs.Sessions.{File, Case, HostSession, with_id, denied_text}
 
--- what contracts see of a ward: its host, and the printed names of the time-points of each file
+-- what contracts see of a session: its host, and the printed names of the time-points of each file
 pub record HostSessionParts : Type 0 where
   pub host : HostParts
   pub names : List (List (List ℕ))

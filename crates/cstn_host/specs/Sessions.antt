@@ -26,7 +26,7 @@ pub record Case : Type 0 where
   pub file : ℕ
   pub run : Run
 
--- a ward: the files, and for each id from 0 to 63 what it is open over, if it is open
+-- a session of a host: the files, and for each id from 0 to 63 what it is open over, if it is open
 pub record HostSession : Type 0 where
   pub files : List File
   pub cases : List (Option Case)
@@ -44,7 +44,7 @@ file_at files k = slice_index_or files k no_file
 
 -- what the id is open over, if it is open
 abbrev pub case_of : HostSession → ℕ → Option Case
-case_of ward id = slice_index_or ward.cases id None
+case_of session id = slice_index_or session.cases id None
 
 -- what an id is open over when it was just opened: a run of the file's plan in which nothing is executed or seen
 abbrev pub fresh : List File → ℕ → Case
@@ -159,28 +159,28 @@ due_in files (Some c) = due (file_at files c.file).net (file_at files c.file).bo
 abbrev pub said_in : List File → Option Case → Hosted → List ℕ
 said_in files case hosted = answer_text (names_in files case) (due_in files (case_next files case hosted)) hosted (answer_in files case hosted)
 
--- ---- the ward
+-- ---- the session
 
 -- what is said to a host line
 abbrev pub said : HostSession → Hosted → List ℕ
-said ward hosted =
-    if nat_lt (id_of hosted) 64 then said_in ward.files (case_of ward (id_of hosted)) hosted else line (denied_text (OutOfRange (id_of hosted)))
+said session hosted =
+    if nat_lt (id_of hosted) 64 then said_in session.files (case_of session (id_of hosted)) hosted else line (denied_text (OutOfRange (id_of hosted)))
 
--- the ward after a host line
+-- the session after a host line
 abbrev pub session_after : HostSession → Hosted → HostSession
-session_after ward hosted = record {
-  files = ward.files;
-  cases = if nat_lt (id_of hosted) 64 then slice_set ward.cases (id_of hosted) (case_next ward.files (case_of ward (id_of hosted)) hosted) else ward.cases;
+session_after session hosted = record {
+  files = session.files;
+  cases = if nat_lt (id_of hosted) 64 then slice_set session.cases (id_of hosted) (case_next session.files (case_of session (id_of hosted)) hosted) else session.cases;
 }
 
 -- the answer to what a host line says
 abbrev pub hosted_turn : HostSession → Option Hosted → Turn HostSession
-hosted_turn ward None = wrong
-hosted_turn ward (Some hosted) = more (said ward hosted) (session_after ward hosted)
+hosted_turn session None = wrong
+hosted_turn session (Some hosted) = more (said session hosted) (session_after session hosted)
 
 -- the answer to a host line
 abbrev pub host_turn : HostSession → List ℕ → Turn HostSession
-host_turn ward text = hosted_turn ward (host_read text)
+host_turn session text = hosted_turn session (host_read text)
 
 -- the first of two, or the second where there is no first
 abbrev pub or_later : Option (ℕ × ℕ) → Option (ℕ × ℕ) → Option (ℕ × ℕ)
@@ -189,12 +189,12 @@ or_later None later = later
 
 -- of n ids from `id` on, the least that is open and has something due, and the moment that is due there
 abbrev pub due_from : HostSession → ℕ → ℕ → Option (ℕ × ℕ)
-due_from ward id zero = None
-due_from ward id (suc n) = or_later (option_map (λ t. (id, t)) (due_in ward.files (case_of ward id))) (due_from ward (id + 1) n)
+due_from session id zero = None
+due_from session id (suc n) = or_later (option_map (λ t. (id, t)) (due_in session.files (case_of session id))) (due_from session (id + 1) n)
 
 -- the least open id of which not all is executed, and the moment that is due there
 unfoldable pub unfinished : HostSession → Option (ℕ × ℕ)
-unfinished ward = due_from ward 0 64
+unfinished session = due_from session 0 64
 
 abbrev pub ended : Option (ℕ × ℕ) → Said
 ended None = record { outcome = Good; text = [] }
@@ -202,4 +202,4 @@ ended (Some found) = say Unfinished (codes "unfinished " ++ decimal found.0 ++ 3
 
 -- what is said where the host lines end
 abbrev pub host_ending : HostSession → Said
-host_ending ward = ended (unfinished ward)
+host_ending session = ended (unfinished session)

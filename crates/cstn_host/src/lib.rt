@@ -1,4 +1,5 @@
 //! A host: up to 64 ids are open at once, each over one of up to 8 plans, and calls on an id are answered as if it were alone.
+//! So are host lines, by a session of the host.
 #![tactic(auto)]
 
 mod cases;

@@ -27,8 +27,8 @@ pub fn lines_of_other_ids_make_no_difference()
 /// next one.
 pub fn answers_follow_own_lines()
     ensures answer { (files : List File) (lines : List Hosted) (hosted : Hosted) → said_after files lines hosted ≡ said_by files lines hosted }
-    ensures text { (files : List File) (before : List (List ℕ)) (next : List ℕ) (lines : List Hosted) (hosted : Hosted) (ward : HostSession)
-        → map host_read before ≡ map Some lines → host_read next ≡ Some hosted → SessionLeadsTo host_turn (begun files) before next ward
+    ensures text { (files : List File) (before : List (List ℕ)) (next : List ℕ) (lines : List Hosted) (hosted : Hosted) (session : HostSession)
+        → map host_read before ≡ map Some lines → host_read next ≡ Some hosted → SessionLeadsTo host_turn (begun files) before next session
         → Says host_turn host_ending (begun files) before next (said_by files lines hosted) }
 {}
 

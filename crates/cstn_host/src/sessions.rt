@@ -1,4 +1,4 @@
-// A ward: host lines are answered by a host, under the names of each file.
+// Sessions of a host: host lines are answered under the names of each file.
 ghost use Rattle.std.specs.Prelude.{◌≡◌, ◌≤◌, ◌<◌, [], true, length, vec_capacity, is_none, nat_lt, Some, IfOk, OnOk};
 ghost use Rattle.cstn_lines.specs.LiveLines.{moment_at, seen, due_now, the_live};
 ghost use Rattle.cstn_lines.specs.HostLines.{opened, put_on, closed};
@@ -9,10 +9,10 @@ ghost use Rattle.cstn_host.specs.SessionRead.{the_files, the_host_session, the_n
 
 use crate::Host;
 use crate::texts::{put_error, put_id, put_unfinished};
+use cstn_exec::put_moment;
 use cstn_label::Prop;
 use cstn_lines::{HostLine, LiveLine, read_host};
 use cstn_log::SoundPlan;
-use cstn_exec::put_moment;
 use cstn_reply::{Answer, Outcome, Talk, put_number, put_outcome, put_word};
 use std::alloc::{AllocError, Global};
 use std::marker::Model;
@@ -41,7 +41,7 @@ impl Model for HostSession {
 }
 
 impl HostSession {
-    /// A ward of 1 to 8 plans, each with the printed names of its time-points, in which no id is open. Fails for want of memory
+    /// A session over 1 to 8 plans, each with the printed names of its time-points, in which no id is open. Fails for want of memory
     /// alone.
     pub fn start(
         alloc: Global,

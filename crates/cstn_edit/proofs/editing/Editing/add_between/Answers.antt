@@ -4,7 +4,7 @@ use Rattle.cstn_label.specs.Read.{marks}
 use Rattle.cstn_edit.specs.Sessions.{SessionParts, next_id}
 use Rattle.cstn_edit.specs.Edits.{Session, add_refusal, with_added, the_session, the_refusal}
 use Rattle.cstn_reply.specs.Texts.{line}
-use Rattle.cstn_edit.proofs.Editing.{accepted, refused}
+use Rattle.cstn_edit.proofs.Edits.{accepted, refused}
 use Rattle.cstn_edit.proofs.editing.Editing.add_between.Goals.{in-Ok, in-Err}
 use Rattle.cstn_edit.proofs.editing.Editing.add_between.Goals as goal
 

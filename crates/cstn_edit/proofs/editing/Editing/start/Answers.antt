@@ -1,6 +1,6 @@
 use Rattle.std.proofs.Common.{ℕ, ap, ◌∙◌, None}
 use Rattle.cstn_edit.specs.Edits.{Session, the_session}
-use Rattle.cstn_edit.proofs.Editing.{state_with}
+use Rattle.cstn_edit.proofs.Edits.{state_with}
 use Rattle.cstn_edit.proofs.editing.Editing.start.Goals as goal
 
 pub returns : goal.returns

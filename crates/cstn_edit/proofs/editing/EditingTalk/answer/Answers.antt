@@ -2,7 +2,7 @@ use Rattle.std.proofs.Common.{Some, w32, to_z, of_z}
 use Rattle.cstn_label.specs.Read.{marks}
 use Rattle.cstn_lines.specs.EditLines.{added, removed, changed, asked}
 use Rattle.cstn_edit.specs.Editing.{the_editing}
-use Rattle.cstn_edit.proofs.Editing.{answer_ends}
+use Rattle.cstn_edit.proofs.Edits.{answer_ends}
 use Rattle.cstn_edit.proofs.editing.EditingTalk.answer.Goals as goal
 
 pub returns-in_ok-add-in-Some-Add-clause-lines : goal.returns-in_ok-add-in-Some-Add-clause-lines
