@@ -14,4 +14,4 @@ mod MadeTrees
 mod OneTree
 mod BackLemmas
 mod StartLemmas
-mod Unfolding
+mod SayingTrees

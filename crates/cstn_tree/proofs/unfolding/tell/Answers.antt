@@ -7,7 +7,7 @@ use Rattle.cstn_check.specs.Growth.{log_of, live_bounds}
 use Rattle.cstn_exec.specs.Read.{ExecParts}
 use Rattle.cstn_tree.specs.Read.{the_tree}
 use Rattle.cstn_tree.specs.Texts.{told}
-use Rattle.cstn_tree.proofs.Unfolding.{IsMade, tree_said}
+use Rattle.cstn_tree.proofs.SayingTrees.{IsMade, tree_said}
 use Rattle.cstn_tree.proofs.unfolding.tell.Goals as goal
 
 pub returns : goal.returns

@@ -7,7 +7,7 @@ use Rattle.cstn_check.specs.Decisions.{TellsVerdict}
 use Rattle.cstn_check.specs.declared.decisions.Judged.{Judged}
 use Rattle.cstn_check.specs.declared.decisions.Judged.TheVariants.{Yes}
 use Rattle.cstn_tree.specs.Unfolded.{observed, IsTreeText}
-use Rattle.cstn_tree.proofs.Unfolding.{yes_said}
+use Rattle.cstn_tree.proofs.SayingTrees.{yes_said}
 use Rattle.cstn_tree.proofs.unfolding.tree_text.Goals as goal
 
 pub tell-requires-clause-low : goal.tell-requires-clause-low
