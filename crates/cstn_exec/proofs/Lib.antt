@@ -13,3 +13,13 @@ pub mod Searching
 pub mod Refusals
 pub mod Waiting
 pub mod Names
+pub mod Holding
+pub mod Deciding
+pub mod GuideNaming
+pub mod Denying
+pub mod Sorting
+pub mod Advancing
+pub mod Timely
+pub mod GuideRefusing
+pub mod Unlabelled
+pub mod GuideSteps

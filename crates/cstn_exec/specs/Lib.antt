@@ -5,3 +5,7 @@ pub mod Read
 pub mod Answers
 pub mod Examples
 pub mod Running
+pub mod Guides
+pub mod Sound
+pub mod GuideRead
+pub mod GuideExamples

@@ -28,8 +28,8 @@ use Rattle.cstn_top.specs.Answers.{Answer, of_lowered, on_document}
 use Rattle.cstn_documents.specs.Documents.{HasLabelled, HasNetwork, IsRefused}
 use Rattle.cstn_check.specs.Decisions.{verdict}
 use Rattle.cstn_top.specs.Answers.{on_verdict, checked}
-use Rattle.cstn_guide.specs.Guides.{begun}
-use Rattle.cstn_guide.specs.Guiding.{guide_turn, guide_ending}
+use Rattle.cstn_exec.specs.Guides.{begun}
+use Rattle.cstn_run.specs.Sessions.{guide_turn, guide_ending}
 use Rattle.cstn_top.specs.Running.{carried_out}
 use Rattle.cstn_text.specs.PrintedNames.{printed_name}
 use Rattle.cstn_top.specs.Plans.{session}

@@ -11,18 +11,18 @@ use Rattle.cstn_check.specs.Growth.{log_of, load_of, live_bounds}
 use Rattle.cstn_check.specs.declared.verdicts.Verdict.TheVariants.{Yes}
 use Rattle.cstn_text.specs.PrintedNames.{printed_name}
 use Rattle.cstn_lines.specs.Pieces.{lines_of, whole_lines}
-use Rattle.cstn_guide.specs.Guides.{Guided, begun as begun_guide, named}
-use Rattle.cstn_guide.specs.Read.{GuideParts}
+use Rattle.cstn_exec.specs.Guides.{Guided, begun as begun_guide, named}
+use Rattle.cstn_exec.specs.GuideRead.{GuideParts}
 use Rattle.cstn_reply.specs.Texts.{yes_line, after_text}
 use Rattle.cstn_top.specs.Plans.{Plan, ComesTo, session}
 use Rattle.cstn_top.specs.Answers.{on_verdict}
 use Rattle.cstn_check.specs.Decisions.{verdict}
 use Rattle.cstn_top.specs.Running.{carried_out}
-use Rattle.cstn_guide.specs.Guiding.{GuidingParts, guide_turn, guide_ending, guided_turn, guided_ending}
-use Rattle.cstn_guide.proofs.Runs.{turn_of, ending_of, play_as, answers_as}
+use Rattle.cstn_run.specs.Sessions.{RunSessionParts, guide_turn, guide_ending, guided_turn, guided_ending}
+use Rattle.cstn_run.proofs.Sessions.{turn_of, ending_of, play_as, answers_as}
 
 -- what the session of a labelled network says is what the program says
-pub comes_guided : (opening : List ℕ) (r : GuidingParts) → ComesTo (session (turn_of r) (ending_of r) opening r.state) (session guided_turn guided_ending opening r)
+pub comes_guided : (opening : List ℕ) (r : RunSessionParts) → ComesTo (session (turn_of r) (ending_of r) opening r.state) (session guided_turn guided_ending opening r)
 comes_guided opening r = record {
   output = λ live said is. is ∙ ap (after_text opening) (play_as r 0 (lines_of live));
   talks = λ may. tt;
@@ -30,7 +30,7 @@ comes_guided opening r = record {
 }
 
 -- after yes, a session from the beginning on, by the bounds of the log, says what is said of the labelled network
-pub comes_begun : (cap : ℕ) (names : List (List ℕ)) (m : Labelled) (opening : List ℕ) (r : GuidingParts) → verdict cap (lowered m) ≡ Yes (load_of (lowered m)) → opening ≡ yes_line (load_of (lowered m)) → the_labelled r.labelled ≡ m → the_bounds r.bounds ≡ live_bounds (log_of (lowered m)) → r.state ≡ begun_guide (count m.base) → r.names ≡ map printed_name names → ComesTo (carried_out cap names m) (session guided_turn guided_ending opening r)
+pub comes_begun : (cap : ℕ) (names : List (List ℕ)) (m : Labelled) (opening : List ℕ) (r : RunSessionParts) → verdict cap (lowered m) ≡ Yes (load_of (lowered m)) → opening ≡ yes_line (load_of (lowered m)) → the_labelled r.labelled ≡ m → the_bounds r.bounds ≡ live_bounds (log_of (lowered m)) → r.state ≡ begun_guide (count m.base) → r.names ≡ map printed_name names → ComesTo (carried_out cap names m) (session guided_turn guided_ending opening r)
 comes_begun cap names m opening r yes' opening_is m_is bounds_is state_is names_are =
     let talk : List ℕ → List (List ℕ) → Labelled → List Bound → Guided → Plan = λ o ns l bs g. session (guide_turn ns l bs) (guide_ending l bs) o g in
     let same : talk opening r.names (the_labelled r.labelled) (the_bounds r.bounds) r.state ≡ carried_out cap names m =
@@ -43,10 +43,10 @@ comes_begun cap names m opening r yes' opening_is m_is bounds_is state_is names_
     subst (λ (p : Plan). ComesTo p (session guided_turn guided_ending opening r)) same (comes_guided opening r)
 
 -- likewise where the session was started with a guide, and the guide with a plan of the log
-pub begun : (cap : ℕ) (names : List (List ℕ)) (labels : LabelledParts) (opening : List ℕ) (plan : PlanParts) (guide : GuideParts) (r : GuidingParts) → verdict cap (lowered (the_labelled labels)) ≡ Yes (load_of (lowered (the_labelled labels))) → opening ≡ yes_line (load_of (lowered (the_labelled labels))) → the_bounds plan.bounds ≡ live_bounds (log_of (lowered (the_labelled labels))) → guide ≡ record { labelled = labels; bounds = plan.bounds; state = begun_guide (count (the_labelled labels).base); named = [] } → r ≡ record { labelled = guide.labelled; bounds = guide.bounds; state = guide.state; names = map printed_name names } → ComesTo (carried_out cap names (the_labelled labels)) (session guided_turn guided_ending opening r)
+pub begun : (cap : ℕ) (names : List (List ℕ)) (labels : LabelledParts) (opening : List ℕ) (plan : PlanParts) (guide : GuideParts) (r : RunSessionParts) → verdict cap (lowered (the_labelled labels)) ≡ Yes (load_of (lowered (the_labelled labels))) → opening ≡ yes_line (load_of (lowered (the_labelled labels))) → the_bounds plan.bounds ≡ live_bounds (log_of (lowered (the_labelled labels))) → guide ≡ record { labelled = labels; bounds = plan.bounds; state = begun_guide (count (the_labelled labels).base); named = [] } → r ≡ record { labelled = guide.labelled; bounds = guide.bounds; state = guide.state; names = map printed_name names } → ComesTo (carried_out cap names (the_labelled labels)) (session guided_turn guided_ending opening r)
 begun cap names labels opening plan guide r yes' opening_is live guide_is r_is =
     comes_begun cap names (the_labelled labels) opening r yes' opening_is
-    (ap (λ (x : GuidingParts). the_labelled x.labelled) r_is ∙ ap (λ (x : GuideParts). the_labelled x.labelled) guide_is)
-    (ap (λ (x : GuidingParts). the_bounds x.bounds) r_is ∙ ap (λ (x : GuideParts). the_bounds x.bounds) guide_is ∙ live)
-    (ap (λ (x : GuidingParts). x.state) r_is ∙ ap (λ (x : GuideParts). x.state) guide_is)
-    (ap (λ (x : GuidingParts). x.names) r_is)
+    (ap (λ (x : RunSessionParts). the_labelled x.labelled) r_is ∙ ap (λ (x : GuideParts). the_labelled x.labelled) guide_is)
+    (ap (λ (x : RunSessionParts). the_bounds x.bounds) r_is ∙ ap (λ (x : GuideParts). the_bounds x.bounds) guide_is ∙ live)
+    (ap (λ (x : RunSessionParts). x.state) r_is ∙ ap (λ (x : GuideParts). x.state) guide_is)
+    (ap (λ (x : RunSessionParts). x.names) r_is)

@@ -33,7 +33,7 @@ use Rattle.cstn_top.specs.Verdicts.{IsLabelledYes}
 use Rattle.cstn_top.specs.Accepted.{IsNoText}
 use Rattle.cstn_top.specs.Answers.{by_text, replayed}
 use Rattle.cstn_edit.specs.Editing.{begun_editing, last_checked}
-use Rattle.cstn_guide.specs.Meanings.{IsCarriedThrough}
+use Rattle.cstn_run.specs.Meanings.{IsCarriedThrough}
 use Rattle.cstn_top.specs.Outputs.{plan_at}
 use Rattle.cstn_refute.specs.Texts.{told as told_by}
 use Rattle.cstn_top.specs.Meanings.{IsStopped, IsRefutedBy}

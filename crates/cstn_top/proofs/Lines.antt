@@ -19,8 +19,8 @@ use Rattle.cstn_check.specs.declared.verdicts.Verdict.TheVariants.{Yes, No, Full
 use Rattle.cstn_exec.specs.Runs.{due}
 use Rattle.cstn_exec.specs.Moves.{Refusal, moment_refusal}
 use Rattle.cstn_edit.specs.Edits.{Session, Refusal as EditRefusal, add_refusal, remove_refusal, change_refusal, with_added, with_removed, with_changed}
-use Rattle.cstn_guide.specs.Guides.{Guided, begun, named, advanced, see_refusal}
-use Rattle.cstn_guide.specs.Sound.{IsPlanned}
+use Rattle.cstn_exec.specs.Guides.{Guided, begun, named, advanced, see_refusal}
+use Rattle.cstn_exec.specs.Sound.{IsPlanned}
 use Rattle.cstn_lines.specs.Pieces.{lines_of}
 use Rattle.cstn_lines.specs.LiveLines.{Live as LiveLine, moment_at, seen, due_now, live_read}
 use Rattle.cstn_lines.specs.EditLines.{Edit, added, removed, changed, asked as check_asked, edit_read}
@@ -43,15 +43,15 @@ use Rattle.cstn_top.specs.Answers.{on_verdict}
 use Rattle.cstn_top.specs.Verdicts.{IsLabelledYes}
 use Rattle.cstn_check.proofs.Deciding.{Tells, verdict_tells}
 use Rattle.cstn_exec.specs.Running.{moment_line, executing, unfinished}
-use Rattle.cstn_guide.specs.Guiding.{named_turn, noted_turn, answer_turn, guide_turn, guide_ending}
+use Rattle.cstn_run.specs.Sessions.{named_turn, noted_turn, answer_turn, guide_turn, guide_ending}
 use Rattle.cstn_top.specs.Running.{carried_out}
 use Rattle.cstn_edit.specs.Editing.{Editing, begun_editing, answered_edit, answered_add, answered, edit_turn, edit_ending, ending_by, last_checked}
 use Rattle.cstn_top.specs.Editing.{edited}
 use Rattle.cstn_reply.specs.Reached.{state_after}
-use Rattle.cstn_guide.specs.Meanings.{said_to, IsCarriedThrough, EndsUnfinished}
-use Rattle.cstn_guide.proofs.Planned.{planned}
-use Rattle.cstn_guide.proofs.Carrying.{names_least, accepts_exactly, tells_due}
-use Rattle.cstn_guide.proofs.Ending.{timely, carried_through, ends_unfinished}
+use Rattle.cstn_run.specs.Meanings.{said_to, IsCarriedThrough, EndsUnfinished}
+use Rattle.cstn_run.proofs.Planned.{planned}
+use Rattle.cstn_run.proofs.Carrying.{names_least, accepts_exactly, tells_due}
+use Rattle.cstn_run.proofs.Ending.{timely, carried_through, ends_unfinished}
 use Rattle.cstn_top.specs.Outputs.{plan_at}
 use Rattle.cstn_top.specs.Meanings.{IsStopped}
 use Rattle.cstn_top.specs.Lines.{StopsAtLine, run_bounds, AnswersLeast, IfLabelled, IsLeastRun, WroteRun, IsCarriedOut, IsLeftUnfinished, RunEnds, IsDecidedRun, IsVerdictOn, EditEnds, WroteEdits, IsEnded}

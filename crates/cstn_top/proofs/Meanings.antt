@@ -15,7 +15,7 @@ use Rattle.cstn_lines.specs.Pieces.{is_past, lines_of}
 use Rattle.cstn_lines.specs.LiveLines.{Live, moment_at, seen, due_now, live_read}
 use Rattle.cstn_exec.specs.Runs.{due}
 use Rattle.cstn_exec.specs.Moves.{Refusal, moment_refusal}
-use Rattle.cstn_guide.specs.Guides.{Guided, begun, named, advanced, see_refusal}
+use Rattle.cstn_exec.specs.Guides.{Guided, begun, named, advanced, see_refusal}
 use Rattle.cstn_check.specs.Growth.{log_of, load_of, live_bounds}
 use Rattle.cstn_check.specs.declared.verdicts.Verdict.{Verdict}
 use Rattle.cstn_check.specs.declared.verdicts.Verdict.TheVariants.{Yes, No, Full as IsFullVerdict}
@@ -27,7 +27,7 @@ use Rattle.cstn_documents.specs.Documents.{AreUnlabelled}
 use Rattle.cstn_reply.specs.Sessions.{Turn, more, last, wrong, on_turn, script, play}
 use Rattle.cstn_top.specs.Plans.{session}
 use Rattle.cstn_exec.specs.Running.{moment_line, executing, unfinished}
-use Rattle.cstn_guide.specs.Guiding.{named_turn, noted_turn, answer_turn, guide_turn, guide_ending}
+use Rattle.cstn_run.specs.Sessions.{named_turn, noted_turn, answer_turn, guide_turn, guide_ending}
 use Rattle.cstn_top.specs.Running.{carried_out}
 use Rattle.cstn_reply.specs.Texts.{yes_line, full_line}
 use Rattle.cstn_lift.specs.Labelled.{Labelled}

@@ -58,8 +58,8 @@ use Rattle.cstn_top.proofs.Standing.{IsOfDocument}
 use Rattle.cstn_tree.specs.Unfolded.{observed}
 use Rattle.cstn_top.specs.Answers.{unfolded}
 use Rattle.cstn_top.specs.Answers.{checked_lines, tree_checked}
-use Rattle.cstn_guide.specs.Guides.{begun}
-use Rattle.cstn_guide.specs.Guiding.{guide_turn, guide_ending}
+use Rattle.cstn_exec.specs.Guides.{begun}
+use Rattle.cstn_run.specs.Sessions.{guide_turn, guide_ending}
 use Rattle.cstn_top.specs.Running.{carried_out}
 use Rattle.cstn_top.specs.Editing.{edited}
 use Rattle.cstn_host.specs.Sessions.{begun as begun_host, host_turn, host_ending}

@@ -12,14 +12,14 @@ use Rattle.cstn_lines.specs.Pieces.{lines_of}
 use Rattle.cstn_graphml.specs.Document.{Parts, document}
 use Rattle.cstn_graphml.specs.Networks.{labelled_of, IsFit}
 use Rattle.cstn_check.specs.Growth.{load_of}
-use Rattle.cstn_guide.specs.Sound.{AgreesHanded}
+use Rattle.cstn_exec.specs.Sound.{AgreesHanded}
 use Rattle.cstn_words.specs.Requests.{Asked, Request, check, run, edit, replay}
 use Rattle.cstn_reply.specs.Written.{LiveState}
 use Rattle.cstn_top.specs.Plans.{Ends}
 use Rattle.cstn_documents.specs.Documents.{AreEmpty}
 use Rattle.cstn_reply.specs.declared.status.Status.{Status}
 use Rattle.cstn_reply.specs.declared.status.Status.TheVariants.{Good, Bad, Full, Script}
-use Rattle.cstn_guide.specs.Meanings.{end_of, WasNamed}
+use Rattle.cstn_run.specs.Meanings.{end_of, WasNamed}
 use Rattle.cstn_top.specs.Outputs.{plan_at}
 use Rattle.cstn_top.specs.Meanings.{IsStopped}
 use Rattle.cstn_top.specs.EditSessions.{network_after, IsNoCheck}

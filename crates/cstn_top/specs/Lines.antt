@@ -11,7 +11,7 @@ use Rattle.cstn_lift.specs.Labelled.{Labelled}
 use Rattle.cstn_lift.specs.Lowered.{lowered}
 use Rattle.cstn_check.specs.Growth.{log_of, load_of, live_bounds}
 use Rattle.cstn_exec.specs.Moves.{moment_refusal}
-use Rattle.cstn_guide.specs.Guides.{Guided, begun}
+use Rattle.cstn_exec.specs.Guides.{Guided, begun}
 use Rattle.cstn_lines.specs.Pieces.{lines_of, is_past}
 use Rattle.cstn_lines.specs.LiveLines.{moment_at, due_now, live_read}
 use Rattle.cstn_lines.specs.EditLines.{edit_read}
@@ -22,10 +22,10 @@ use Rattle.cstn_reply.specs.declared.status.Status.{Status}
 use Rattle.cstn_reply.specs.declared.status.Status.TheVariants.{Good, Bad, Document, Full, Unfinished, Script}
 use Rattle.cstn_documents.specs.Documents.{parts_of, HasLabelled, HasNetwork, IsNoDocument, IsRefused}
 use Rattle.cstn_top.specs.Verdicts.{IsLabelledYes, IsLabelledNo}
-use Rattle.cstn_guide.specs.Guiding.{guide_turn}
+use Rattle.cstn_run.specs.Sessions.{guide_turn}
 use Rattle.cstn_edit.specs.Editing.{begun_editing, edit_turn, edit_ending, last_checked}
 use Rattle.cstn_reply.specs.Reached.{state_after}
-use Rattle.cstn_guide.specs.Meanings.{GuidesTo, NamesLeast, TellsDue, AcceptsExactly, IsTimely, said_to, IsCarriedThrough, EndsUnfinished}
+use Rattle.cstn_run.specs.Meanings.{GuidesTo, NamesLeast, TellsDue, AcceptsExactly, IsTimely, said_to, IsCarriedThrough, EndsUnfinished}
 
 -- ---- the lines of a session
 

@@ -6,7 +6,7 @@ use Rattle.cstn_reply.specs.Texts.{Said}
 use Rattle.cstn_top.specs.Plans.{Plan, says, ComesTo, IsOutput}
 use Rattle.cstn_reply.specs.Written.{EndsLine}
 use Rattle.cstn_top.specs.Plans.{session}
-use Rattle.cstn_guide.specs.Guiding.{guided_turn, guided_ending}
+use Rattle.cstn_run.specs.Sessions.{guided_turn, guided_ending}
 use Rattle.cstn_edit.specs.Editing.{the_editing, edit_turn, edit_ending}
 use Rattle.cstn_host.specs.Sessions.{host_turn, host_ending}
 use Rattle.cstn_host.specs.SessionRead.{the_host_session}

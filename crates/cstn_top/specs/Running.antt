@@ -3,14 +3,14 @@ use Rattle.std.specs.Prelude.{ℕ, map}
 use Rattle.cstn_net.specs.Networks.{count}
 use Rattle.cstn_lift.specs.Lowered.{lowered}
 use Rattle.cstn_check.specs.Growth.{log_of, load_of, live_bounds}
-use Rattle.cstn_guide.specs.Guides.{begun}
+use Rattle.cstn_exec.specs.Guides.{begun}
 use Rattle.cstn_text.specs.PrintedNames.{printed_name}
 use Rattle.cstn_reply.specs.Texts.{yes_line}
 use Rattle.cstn_top.specs.Plans.{session}
 use Rattle.cstn_top.specs.Answers.{LabelledAnswer}
 use Rattle.cstn_check.specs.Decisions.{verdict}
 use Rattle.cstn_top.specs.Answers.{on_verdict}
-use Rattle.cstn_guide.specs.Guiding.{guide_turn, guide_ending}
+use Rattle.cstn_run.specs.Sessions.{guide_turn, guide_ending}
 
 -- what `run` says of a labelled network: after yes the answers to the live lines, by the bounds of the live entries of its log
 abbrev pub carried_out : ℕ → LabelledAnswer

@@ -29,7 +29,7 @@ use conflict::conflict_file;
 use cstn_io::Shelf;
 use cstn_reply::{Refused, Said};
 use cstn_edit::Editing;
-use cstn_guide::Guiding;
+use cstn_run::RunSession;
 use cstn_host::HostSession;
 use cstn_words::Request;
 use drill::drill;
@@ -49,7 +49,7 @@ pub(crate) enum Prepared {
     /// A text and no more.
     Says(Said),
     /// The line that says yes, and then the answers to the live lines.
-    Runs { opening: Vec<u8>, guiding: Guiding },
+    Runs { opening: Vec<u8>, guiding: RunSession },
     /// The answers to the edit lines.
     Edits(Editing),
     /// The lines that say yes, and then the answers to the host lines.

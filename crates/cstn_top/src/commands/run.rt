@@ -17,11 +17,11 @@ ghost use Rattle.cstn_check.specs.Decisions.{verdict};
 use super::Prepared;
 use cstn_check::{Check, Judged, judge, yes_line};
 use cstn_documents::{WithLabels, open_labelled};
-use cstn_guide::Guide;
+use cstn_exec::Guide;
 use cstn_io::Shelf;
 use cstn_lift::{Labelled, Labels};
 use cstn_reply::Refused;
-use cstn_guide::Guiding;
+use cstn_run::RunSession;
 use cstn_text::Names;
 use cstn_words::Asked;
 use std::alloc::{AllocError, Global};
@@ -89,6 +89,6 @@ fn begin(
 {
     let opening = yes_line(alloc, load)?;
     let guide = Guide::start(alloc, check.into_plan(), labels)?;
-    let guiding = Guiding::start(alloc, guide, names)?;
+    let guiding = RunSession::start(alloc, guide, names)?;
     Ok(Prepared::Runs { opening, guiding })
 }

@@ -1,6 +1,6 @@
 use Rattle.cstn_reply.specs.Written.{LiveState}
 use Rattle.cstn_reply.specs.Read.{the_said}
-use Rattle.cstn_guide.specs.Guiding.{guided_turn, guided_ending}
+use Rattle.cstn_run.specs.Sessions.{guided_turn, guided_ending}
 use Rattle.cstn_top.specs.declared.commands.Prepared.TheVariants.{Says, Runs}
 use Rattle.cstn_top.specs.Told.{view}
 use Rattle.cstn_top.proofs.Endings.{text_end, opened_ends, ends_as}

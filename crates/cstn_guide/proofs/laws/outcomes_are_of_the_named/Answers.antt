@@ -1,9 +1,0 @@
-use Rattle.cstn_lift.specs.Lowered.{lowered}
-use Rattle.cstn_guide.proofs.Refusing.{refused_unnamed}
-use Rattle.cstn_guide.proofs.laws.outcomes_are_of_the_named.Goals as goal
-
-pub returns : goal.returns
-returns c = record {
-  refused = λ m g p wf. refused_unnamed m (λ x q o. c.observers_are_found.ensures.found (lowered m) x q wf.network o)
-      (c.observers_are_found.ensures.only (lowered m)) g p;
-}

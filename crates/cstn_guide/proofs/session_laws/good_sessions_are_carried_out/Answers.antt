@@ -1,8 +1,0 @@
-use Rattle.cstn_guide.proofs.Ending.{carried_through, ends_unfinished}
-use Rattle.cstn_guide.proofs.session_laws.good_sessions_are_carried_out.Goals as goal
-
-pub returns-clause-carried_out : goal.returns-clause-carried_out
-returns-clause-carried_out c names m bounds lines plan = carried_through names m bounds plan lines
-
-pub returns-clause-unfinished : goal.returns-clause-unfinished
-returns-clause-unfinished c names m bounds lines plan = ends_unfinished names m bounds plan lines

@@ -1,0 +1,8 @@
+pub mod Names
+pub mod Sessions
+pub mod Moments
+pub mod Accepting
+pub mod Carrying
+pub mod Ending
+pub mod Plain
+pub mod Planned
