@@ -1,5 +1,5 @@
 pub mod Names
-pub mod Sessions
+pub mod Runs
 pub mod Moments
 pub mod Accepting
 pub mod Carrying

@@ -19,7 +19,7 @@ use Rattle.cstn_top.specs.Answers.{on_verdict}
 use Rattle.cstn_check.specs.Decisions.{verdict}
 use Rattle.cstn_top.specs.Running.{carried_out}
 use Rattle.cstn_run.specs.Sessions.{RunSessionParts, guide_turn, guide_ending, guided_turn, guided_ending}
-use Rattle.cstn_run.proofs.Sessions.{turn_of, ending_of, play_as, answers_as}
+use Rattle.cstn_run.proofs.Runs.{turn_of, ending_of, play_as, answers_as}
 
 -- what the session of a labelled network says is what the program says
 pub comes_guided : (opening : List ℕ) (r : RunSessionParts) → ComesTo (session (turn_of r) (ending_of r) opening r.state) (session guided_turn guided_ending opening r)

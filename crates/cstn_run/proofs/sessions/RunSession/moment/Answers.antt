@@ -6,7 +6,7 @@ use Rattle.cstn_exec.specs.Read.{the_refusal}
 use Rattle.std.proofs.lemmas.List.{length-map}
 use Rattle.cstn_exec.specs.Running.{spaced, the_nodes}
 use Rattle.cstn_run.proofs.Names.{named_inside, named_few}
-use Rattle.cstn_run.proofs.Sessions.{moment_refused, moment_goes_on, moment_ends, moment_text, line_ends, from_empty}
+use Rattle.cstn_run.proofs.Runs.{moment_refused, moment_goes_on, moment_ends, moment_text, line_ends, from_empty}
 use Rattle.cstn_run.proofs.sessions.RunSession.moment.Goals as goal
 
 pub put_moment-requires-clause-inside : goal.put_moment-requires-clause-inside

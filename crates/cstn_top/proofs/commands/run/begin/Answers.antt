@@ -6,7 +6,7 @@ use Rattle.cstn_lift.specs.Read.{the_labelled}
 use Rattle.cstn_check.specs.Growth.{log_of, load_of, live_bounds}
 use Rattle.cstn_reply.specs.Texts.{yes_line}
 use Rattle.cstn_top.proofs.GuidedRuns.{begun}
-use Rattle.cstn_run.proofs.Sessions.{line_ends}
+use Rattle.cstn_run.proofs.Runs.{line_ends}
 use Rattle.cstn_top.proofs.Runs.{verdict_for}
 use Rattle.cstn_top.proofs.commands.run.begin.Goals as goal
 
