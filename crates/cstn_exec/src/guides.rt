@@ -16,13 +16,14 @@ ghost use Rattle.cstn_exec.specs.GuideRead.{parts, advanced_on};
 
 mod sorting;
 
+use crate::executive::Names;
 use crate::{ExecError, Executive};
 use cstn_label::{NodeId, Prop};
 use cstn_lift::{Labels, observers_are_found};
 use cstn_log::SoundPlan;
 use cstn_net::observers_are_time_points;
 use smallvec::SmallVec;
-use sorting::{Names, sort_out};
+use sorting::sort_out;
 use std::alloc::{AllocError, Global};
 use std::marker::Model;
 

@@ -9,15 +9,9 @@ ghost use Rattle.cstn_exec.specs.Guides.{fits_surely, holds_by, holding, others,
 ghost use Rattle.cstn_exec.specs.GuideRead.{AreFresh};
 
 use crate::Executive;
+use crate::executive::Names;
 use cstn_label::{Known, Label, Mark, NodeId, Prop};
 use cstn_lift::Labels;
-use smallvec::SmallVec;
-
-/// How many named time-points the guide holds in place. For a network with more, `Guide::start` allocates the memory.
-const NAMES_IN_PLACE: usize = 8;
-
-/// The time-points that are named at one moment.
-pub type Names = SmallVec<NodeId, NAMES_IN_PLACE>;
 
 // Of the time-points that were called last, names each whose completed label holds by what is known, and leaves out the
 // others.
