@@ -80,7 +80,7 @@ carried plan other before after status text comes may (is_live_fault taken left 
     subst (λ (xs : List ℕ). IsText plan before after ReadFault (xs ++ line (codes "read fault"))) (sym (comes.fault may taken)) (is_live_fault taken left rose)
 carried plan other before after status text comes may (is_memory first (inl none)) = is_memory first (inl none)
 carried plan other before after status text comes may (is_memory first (inr lines)) =
-    is_memory first (inr (record { live = lines.live; said = lines.said; rest = lines.rest; all = lines.all; output = comes.output lines.live lines.said lines.output; first = lines.first; lines = lines.lines }))
+    is_memory first (inr (record { live = lines.live; said = lines.said; rest = lines.rest; all = lines.all; whole = comes.output lines.live lines.said lines.whole; first = lines.first; lines = lines.lines }))
 
 -- a session was held
 talks_end : {S : Type 0} (words : Option Request) (r : Request) (told : Option (List ℕ → Option (List ℕ))) (source now : S) (plan : Plan) (before after : LiveState) (old new : Option (List ℕ)) (result : Status) → Some r ≡ words → Planned r told plan → MayTalk plan → Ends plan before after old new result → Answered words told source now before after old new result
@@ -95,7 +95,7 @@ said_alone plan said before after status text same comes (is_file_fault is) = is
 said_alone plan said before after status text same comes (is_live_fault taken left rose) = is_file_fault same
 said_alone plan said before after status text same comes (is_memory first (inl none)) = is_memory first (inl none)
 said_alone plan said before after status text same comes (is_memory first (inr lines)) =
-    is_memory first (inr (record { live = lines.live; said = lines.said; rest = lines.rest; all = lines.all; output = comes.output lines.live lines.said lines.output; first = lines.first; lines = lines.lines }))
+    is_memory first (inr (record { live = lines.live; said = lines.said; rest = lines.rest; all = lines.all; whole = comes.output lines.live lines.said lines.whole; first = lines.first; lines = lines.lines }))
 
 -- what was prepared was said
 pub spoken : {S : Type 0} (words : Option Request) (r : Request) (told : Option (List ℕ → Option (List ℕ))) (seen : S → LiveState) (source now : S) (p : Prepared) (old new : Option (List ℕ)) (result : Status) → Some r ≡ words → Planned r told (the_plan p) → Ends (the_plan p) (seen source) (seen now) old new result →

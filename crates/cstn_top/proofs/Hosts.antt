@@ -44,6 +44,7 @@ use Rattle.cstn_top.specs.Several.{EachHas, FirstHas}
 use Rattle.cstn_top.specs.Meanings.{files_read, RefusedIsThere}
 use Rattle.cstn_top.specs.Prepared.{Planned}
 use Rattle.cstn_top.proofs.Standing.{IsOfDocument as IsNamedNetwork}
+use Rattle.cstn_top.proofs.Comes.{plain_refusal_output}
 use Rattle.cstn_top.proofs.Documents.{document_says, document_talks, document_then}
 
 -- what follows where the verdict on each network is yes
@@ -289,7 +290,7 @@ planned_host told cap deadline files hosting is = record {
 
 -- what is said of a document, whatever would be said of its network, says that it is refused
 plainly_refused : (bytes : List ℕ) (deadline : Option ℕ) (said : Said) → IsSaidPlainly bytes deadline said → said.outcome ≡ Document → IsRefused bytes deadline
-plainly_refused bytes deadline said plainly outcome = by_said (document_says yes bytes deadline [] said (plainly yes []))
+plainly_refused bytes deadline said plainly outcome = by_said (document_says yes bytes deadline [] said (plain_refusal_output yes bytes deadline said plainly []))
   where
     yes : Answer
     yes = λ names net. says (say Good [])

@@ -2,7 +2,7 @@ pub mod Documents
 pub mod Labels
 pub mod Drills
 pub mod Edited
-pub mod Evidence
+pub mod EvidenceLemmas
 pub mod Hosts
 pub mod Meanings
 pub mod Opening
@@ -33,3 +33,4 @@ pub mod ReadAll
 pub mod ReadFiles
 pub mod BegunHosts
 pub mod Hosted
+pub mod Sayings

@@ -42,7 +42,7 @@ use Rattle.cstn_documents.specs.Documents.{parts_of, HasLabelled, HasNetwork, Is
 use Rattle.cstn_check.specs.Decisions.{IsYes, IsNo}
 use Rattle.cstn_top.specs.Verdicts.{IsLabelledYes, IsLabelledNo}
 use Rattle.cstn_top.proofs.ReadBack.{no_refutation}
-use Rattle.cstn_top.proofs.Evidence.{listed_well, refuted_well, tight_well, conflict_well}
+use Rattle.cstn_top.proofs.EvidenceLemmas.{listed_well, refuted_well, tight_well, conflict_well}
 use Rattle.cstn_top.specs.Meanings.{AreFaulty, IsListed, IsRefutedByLog, IsTight, IsConflict, IsRefutedBy, IsNoRefutation, IsGood, IsBad, IsFull, IsWide, IsDecided, IsDecidedTree, IsLabelledDecided, IsOffGrammar, IsReplayed, IsComplete, ReadsLive, MayStop}
 use Rattle.cstn_reply.specs.Statuses.{status_of}
 use Rattle.cstn_reply.specs.declared.output.Outcome.{Outcome}
@@ -673,7 +673,6 @@ verdict_silent cap names net text may = by_verdict (verdict cap net) may
     by_verdict (Yes load) is = is
     by_verdict (No load) is = is
     by_verdict IsFullVerdict is = is
-
 
 text_silent : (speaks : List ℕ → Answer) (text : List ℕ) (names : List (List ℕ)) (net : Network) → (MayTalk (speaks text names net) → ⊥) → MayTalk (by_text speaks text names net) → ⊥
 text_silent speaks text names net never may = by_length (nat_lt 1476395008 (length text)) may

@@ -126,7 +126,6 @@ verdict_any cap names net after_yes (Yes load) live later = later
 verdict_any cap names net after_yes (No load) live later = said_some _ live
 verdict_any cap names net after_yes IsFullVerdict live later = said_some _ live
 
-
 text_some : (speaks : List ℕ → Answer) (text : List ℕ) (names : List (List ℕ)) (net : Network) (live : List ℕ) → HasSome (speaks text names net) live → HasSome (by_text speaks text names net) live
 text_some speaks text names net live some = by_length (nat_lt 1476395008 (length text))
   where

@@ -21,8 +21,8 @@ ghost use Rattle.cstn_tight.specs.Deadlines.{at_deadline, IsLeastDeadline};
 ghost use Rattle.cstn_top.specs.LabelledDeadlines.{labelled_at, IsLabelledLeastDeadline};
 ghost use Rattle.cstn_top.specs.EditSessions.{network_after, AnswersCheck, IsAtLastCheck};
 
-use cstn_closed::{closed_lists_are_accepted, closed_texts_are_read_back};
 use crate::evidence::evidence_is_accepted;
+use cstn_closed::{closed_lists_are_accepted, closed_texts_are_read_back};
 use cstn_graphml::documents_have_one_answer;
 use cstn_refute::texts_are_read_back;
 use cstn_tree::{made_trees_are_good, networks_have_one_tree, tree_texts_are_read_back};

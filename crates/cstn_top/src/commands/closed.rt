@@ -50,12 +50,7 @@ pub(crate) fn closed_file<F: Shelf>(
 
 // Says the bounds of the live entries of a network's log, after no what refutes the network, or the cap where the log has more
 // than `cap` entries. Fails for want of memory alone.
-fn closed_text(
-    alloc: Global,
-    network: Network,
-    names: &Names,
-    cap: u32,
-) -> Result<Said, AllocError>
+fn closed_text(alloc: Global, network: Network, names: &Names, cap: u32) -> Result<Said, AllocError>
     requires some { 1 ≤ cap }
     requires most { cap ≤ 4194304 }
     requires well_formed { IsWellFormed (the_network network) }

@@ -7,9 +7,9 @@ ghost use Rattle.cstn_words.specs.Read.{the_asked};
 
 use super::Prepared;
 use cstn_documents::{Opened, open};
+use cstn_edit::Editing;
 use cstn_io::Shelf;
 use cstn_reply::Refused;
-use cstn_edit::Editing;
 use cstn_words::Asked;
 use std::alloc::Global;
 

@@ -6,9 +6,9 @@ ghost use Rattle.cstn_words.specs.Requests.{host};
 ghost use Rattle.cstn_top.specs.Prepared.{the_plan, Planned, FitsRequest, TellsRefused};
 
 use super::Prepared;
+use crate::commands::hosting::{Hosting, host_files};
 use cstn_io::Shelf;
 use cstn_reply::Refused;
-use crate::commands::hosting::{Hosting, host_files};
 use std::alloc::Global;
 
 /// The verdicts on the networks of the files, and where each is yes, the host of their plans.

@@ -16,8 +16,8 @@ use cstn_documents::{Opened, open};
 use cstn_io::Shelf;
 use cstn_net::Network;
 use cstn_reply::{Refused, Said};
-use cstn_tree::treecheck_text;
 use cstn_text::Names;
+use cstn_tree::treecheck_text;
 use cstn_words::Asked;
 use std::alloc::Global;
 

@@ -1,7 +1,9 @@
 use Rattle.cstn_reply.specs.Written.{LiveState}
 use Rattle.cstn_reply.specs.Read.{the_said}
+use Rattle.cstn_host.specs.Sessions.{host_turn, host_ending}
+use Rattle.cstn_host.specs.SessionRead.{the_host_session}
 use Rattle.cstn_run.specs.Sessions.{guided_turn, guided_ending}
-use Rattle.cstn_top.specs.declared.commands.Prepared.TheVariants.{Says, Runs}
+use Rattle.cstn_top.specs.declared.commands.Prepared.TheVariants.{Says, Runs, Edits, Hosts}
 use Rattle.cstn_top.specs.Told.{view}
 use Rattle.cstn_top.proofs.Endings.{text_end, opened_ends, ends_as}
 use Rattle.cstn_top.proofs.top.speak.Goals as goal
@@ -16,3 +18,11 @@ pub returns-in-Runs-clause-ends : goal.returns-in-Runs-clause-ends
 returns-in-Runs-clause-ends g c =
     ends_as _ (Runs c.in-Runs.opening c.in-Runs.guiding) _ _ _ _ _ c.in-Runs.is
     (opened_ends guided_turn guided_ending c.in-Runs.guiding _ _ _ _ _ _ _ c.deref-in-Runs.ensures.value c.converse.ensures.ends)
+
+pub returns-in-Edits-clause-ends : goal.returns-in-Edits-clause-ends
+returns-in-Edits-clause-ends g c = ends_as _ (Edits c.in-Edits.editing) _ _ _ _ _ c.in-Edits.is c.converse-in-Edits.ensures.ends
+
+pub returns-in-Hosts-clause-ends : goal.returns-in-Hosts-clause-ends
+returns-in-Hosts-clause-ends g c =
+    ends_as _ (Hosts c.in-Hosts.opening c.in-Hosts.ward) _ _ _ _ _ c.in-Hosts.is
+    (opened_ends host_turn host_ending (the_host_session c.in-Hosts.ward) _ _ _ _ _ _ _ c.deref-in-Hosts.ensures.value c.converse-in-Hosts.ensures.ends)

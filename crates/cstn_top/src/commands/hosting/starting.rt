@@ -13,12 +13,12 @@ ghost use Rattle.cstn_host.specs.SessionRead.{the_names, IsHostSession};
 ghost use Rattle.cstn_top.specs.Begun.{the_named, the_hosting, IsSound, IsOpening, IsBegin, IsHosting};
 
 use super::reading::{AllRead, Document, read_all};
-use cstn_host::HostSession;
 use cstn_check::{Judged, judge, yes_line};
+use cstn_exec::print_names;
+use cstn_host::HostSession;
 use cstn_io::Shelf;
 use cstn_log::SoundPlan;
 use cstn_reply::{Refused, Said};
-use cstn_exec::print_names;
 use cstn_text::Names;
 use std::alloc::{AllocError, Global};
 

@@ -9,12 +9,12 @@ use Rattle.cstn_top.specs.Answers.{listed}
 use Rattle.cstn_top.proofs.Opening.{lowered_accepted, labelled_told, of_closed}
 use Rattle.cstn_top.proofs.commands.closed.closed_file.Goals as goal
 
-pub returns-in_ok-list_bounds-in-Accepted-clause-plan : goal.returns-in_ok-list_bounds-in-Accepted-clause-plan
-returns-in_ok-list_bounds-in-Accepted-clause-plan g c =
+pub returns-in_ok-closed_text-in-Accepted-clause-plan : goal.returns-in_ok-closed_text-in-Accepted-clause-plan
+returns-in_ok-closed_text-in-Accepted-clause-plan g c =
     lowered_accepted {E = ℕ} (closed (the_asked c.args.asked) c.args.cap) (the_asked c.args.asked) (listed c.args.cap) (g.F.Shelf.files c.args.shelf.now) c.in-Accepted.labelled c.split-network.result.0 c.in-Accepted.names
-    (Ok c.in_ok-list_bounds-in-Accepted.field-0) (of_closed (the_asked c.args.asked) c.args.cap)
+    (Ok c.in_ok-closed_text-in-Accepted.field-0) (of_closed (the_asked c.args.asked) c.args.cap)
     (subst (λ (o : WithLabels). IsOpenedWithLabels (g.F.Shelf.files c.args.shelf.now) (the_asked c.args.asked) o) c.in-Accepted.is c.in_ok-labelled.ensures.opened)
-    c.split-network.ensures.lowered c.in_ok-list_bounds-in-Accepted.ensures.said
+    c.split-network.ensures.lowered c.in_ok-closed_text-in-Accepted.ensures.said
 
 pub returns-in-Told-clause-plan : goal.returns-in-Told-clause-plan
 returns-in-Told-clause-plan g c =

@@ -7,14 +7,16 @@ use Rattle.cstn_top.specs.Opened.{IsTextOf}
 use Rattle.cstn_top.specs.declared.commands.texts.TextRead.{TextRead}
 use Rattle.cstn_top.specs.declared.commands.texts.TextRead.TheVariants.{Whole, Told}
 use Rattle.cstn_top.proofs.ByText.{text_said}
+use Rattle.cstn_reply.specs.Read.{the_said}
+use Rattle.cstn_top.proofs.Sayings.{closedcheck_says}
 use Rattle.cstn_top.proofs.commands.closedcheck.check_on.Goals as goal
 
-pub returns-in_ok-check_text-in-Whole-clause-said : goal.returns-in_ok-check_text-in-Whole-clause-said
-returns-in_ok-check_text-in-Whole-clause-said g c =
+pub returns-in_ok-closedcheck_text-in-Whole-clause-said : goal.returns-in_ok-closedcheck_text-in-Whole-clause-said
+returns-in_ok-closedcheck_text-in-Whole-clause-said g c =
     let read : IsTextOf (g.F.Shelf.files c.args.shelf.now) c.args.proof.now (Whole c.in-Whole.text) = subst (λ (t : TextRead). IsTextOf (g.F.Shelf.files c.args.shelf.now) c.args.proof.now t) c.in-Whole.is c.in_ok-text.ensures.text in
-    text_said {E = ℕ} certified (g.F.Shelf.files c.args.shelf.now) c.args.proof.now c.deref.result.now c.args.names.now (the_network c.args.network.now) (Ok c.in_ok-check_text-in-Whole.field-0)
+    text_said {E = ℕ} certified (g.F.Shelf.files c.args.shelf.now) c.args.proof.now c.deref.result.now c.args.names.now (the_network c.args.network.now) (Ok c.in_ok-closedcheck_text-in-Whole.field-0)
     (subst (λ (bytes : List ℕ). IsContent (g.F.Shelf.files c.args.shelf.now) c.args.proof.now bytes) (sym c.deref.ensures.value) read.0) read.1
-    (subst (λ (bytes : List ℕ). length bytes ≤ 1476395008) (sym c.deref.ensures.value) read.2) c.in_ok-check_text-in-Whole.ensures.said
+    (subst (λ (bytes : List ℕ). length bytes ≤ 1476395008) (sym c.deref.ensures.value) read.2) (closedcheck_says c.args.names.now c.deref.result.now (the_network c.args.network.now) (the_said c.in_ok-closedcheck_text-in-Whole.field-0) c.in_ok-closedcheck_text-in-Whole.ensures.said)
 
 pub returns-in-Told-clause-said : goal.returns-in-Told-clause-said
 returns-in-Told-clause-said g c =

@@ -9,12 +9,12 @@ use Rattle.cstn_top.specs.declared.commands.texts.TextRead.TheVariants.{Whole, T
 use Rattle.cstn_top.proofs.ByText.{text_said}
 use Rattle.cstn_top.proofs.commands.treecheck.check_on.Goals as goal
 
-pub returns-in_ok-check_tree-in-Whole-clause-said : goal.returns-in_ok-check_tree-in-Whole-clause-said
-returns-in_ok-check_tree-in-Whole-clause-said g c =
+pub returns-in_ok-treecheck_text-in-Whole-clause-said : goal.returns-in_ok-treecheck_text-in-Whole-clause-said
+returns-in_ok-treecheck_text-in-Whole-clause-said g c =
     let read : IsTextOf (g.F.Shelf.files c.args.shelf.now) c.args.proof.now (Whole c.in-Whole.text) = subst (λ (t : TextRead). IsTextOf (g.F.Shelf.files c.args.shelf.now) c.args.proof.now t) c.in-Whole.is c.in_ok-text.ensures.text in
-    text_said {E = ℕ} tree_checked (g.F.Shelf.files c.args.shelf.now) c.args.proof.now c.deref.result.now c.args.names.now (the_network c.args.network.now) (Ok c.in_ok-check_tree-in-Whole.field-0)
+    text_said {E = ℕ} tree_checked (g.F.Shelf.files c.args.shelf.now) c.args.proof.now c.deref.result.now c.args.names.now (the_network c.args.network.now) (Ok c.in_ok-treecheck_text-in-Whole.field-0)
     (subst (λ (bytes : List ℕ). IsContent (g.F.Shelf.files c.args.shelf.now) c.args.proof.now bytes) (sym c.deref.ensures.value) read.0) read.1
-    (subst (λ (bytes : List ℕ). length bytes ≤ 1476395008) (sym c.deref.ensures.value) read.2) c.in_ok-check_tree-in-Whole.ensures.said
+    (subst (λ (bytes : List ℕ). length bytes ≤ 1476395008) (sym c.deref.ensures.value) read.2) (λ live. c.in_ok-treecheck_text-in-Whole.ensures.said)
 
 pub returns-in-Told-clause-said : goal.returns-in-Told-clause-said
 returns-in-Told-clause-said g c =

@@ -1,0 +1,51 @@
+-- What is said of a network is what its plan says.
+use Rattle.std.proofs.Common.{◌≡◌, ℕ, ◌≤◌, ◌<◌, List, refl, sym, ◌∙◌, ap, subst, inl, inr, arith}
+use Rattle.std.specs.Prelude.{nat_lt, if◌then◌else◌, Option, None, Some}
+use Rattle.cstn_net.specs.Networks.{Network}
+use Rattle.cstn_check.specs.Growth.{log_of, load_of, live_bounds}
+use Rattle.cstn_check.specs.Decisions.{verdict, unless_yes, or_else, checked as checked_text}
+use Rattle.cstn_refute.specs.Texts.{Told as ToldSteps, tells as tells_steps, wrong as wrong_step, told as told_steps}
+use Rattle.cstn_replay.specs.Texts.{IsReplayOfSteps, IsReplayOf}
+use Rattle.cstn_closed.specs.Texts.{Told as ToldBounds, tells as tells_bounds, wrong as wrong_bound, told as told_bounds}
+use Rattle.cstn_closed.specs.Certificates.{IsCertificateOfBounds, IsCertificateOf}
+use Rattle.cstn_tree.specs.Unfolded.{observed, wide, IsTreeUnless, IsUnfolded}
+use Rattle.cstn_reply.specs.Texts.{Said}
+use Rattle.cstn_top.specs.Plans.{Plan, says, branches, IsOutput}
+use Rattle.cstn_top.specs.Answers.{unless_said, on_verdict, checked, unfolded, replayed_steps, replayed, certified_bounds, certified}
+
+said_or : (o : Option Said) (said : Said) → says (or_else o said) ≡ unless_said o (says said)
+said_or None said = refl
+said_or (Some other) said = refl
+
+pub check_says : (cap : ℕ) (names : List (List ℕ)) (net : Network) → says (checked_text cap names net) ≡ checked cap names net
+check_says cap names net = said_or (unless_yes cap names net (verdict cap net)) _
+
+pub tree_says : (cap : ℕ) (names : List (List ℕ)) (net : Network) (said : Said) → IsUnfolded cap names net said → (live : List ℕ) → IsOutput (unfolded cap names net) live said
+tree_says cap names net said (inl (many, is)) live = subst (λ (p : Plan). IsOutput p live said) (sym (beyond 10 (observed net) (says (wide net)) (on_verdict cap names net (branches names (load_of net) (live_bounds (log_of net)) net) (verdict cap net)) many)) is
+  where
+    beyond : (n m : ℕ) (one other : Plan) → n < m → (if nat_lt n m then one else other) ≡ one
+    beyond n m one other lt = grind arith
+tree_says cap names net said (inr (narrow, is)) live =
+    subst (λ (p : Plan). IsOutput p live said) (sym (within 10 (observed net) (says (wide net)) (on_verdict cap names net (branches names (load_of net) (live_bounds (log_of net)) net) (verdict cap net)) narrow))
+    (by_verdict (unless_yes cap names net (verdict cap net)) is)
+  where
+    within : (n m : ℕ) (one other : Plan) → m ≤ n → (if nat_lt n m then one else other) ≡ other
+    within n m one other le = grind arith
+
+    by_verdict : (o : Option Said) → IsTreeUnless names net o said → IsOutput (unless_said o (branches names (load_of net) (live_bounds (log_of net)) net)) live said
+    by_verdict None tells = tells
+    by_verdict (Some other) tells = tells
+
+pub replay_says : (names : List (List ℕ)) (text : List ℕ) (net : Network) (said : Said) → IsReplayOf names text net said → (live : List ℕ) → IsOutput (replayed text names net) live said
+replay_says names text net said is live = by_told (told_steps names text) is
+  where
+    by_told : (t : ToldSteps) → IsReplayOfSteps t net said → IsOutput (replayed_steps t net) live said
+    by_told (tells_steps load steps) tells = tells
+    by_told (wrong_step at) tells = tells
+
+pub closedcheck_says : (names : List (List ℕ)) (text : List ℕ) (net : Network) (said : Said) → IsCertificateOf names text net said → (live : List ℕ) → IsOutput (certified text names net) live said
+closedcheck_says names text net said is live = by_told (told_bounds names text) is
+  where
+    by_told : (t : ToldBounds) → IsCertificateOfBounds names t net said → IsOutput (certified_bounds names t net) live said
+    by_told (tells_bounds load bounds) tells = tells
+    by_told (wrong_bound at) tells = tells
