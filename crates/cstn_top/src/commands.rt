@@ -27,10 +27,10 @@ use closed::closed_file;
 use closedcheck::closedcheck_file;
 use conflict::conflict_file;
 use cstn_edit::Editing;
-use cstn_run::RunSession;
 use cstn_host::HostSession;
 use cstn_io::Shelf;
 use cstn_reply::{Refused, Said};
+use cstn_run::RunSession;
 use cstn_words::Request;
 use drill::drill;
 use edit::edit_file;
@@ -49,11 +49,17 @@ pub(crate) enum Prepared {
     /// A text and no more.
     Says(Said),
     /// The line that says yes, and then the answers to the live lines.
-    Runs { opening: Vec<u8>, guiding: RunSession },
+    Runs {
+        opening: Vec<u8>,
+        guiding: RunSession,
+    },
     /// The answers to the edit lines.
     Edits(Editing),
     /// The lines that say yes, and then the answers to the host lines.
-    Hosts { opening: Vec<u8>, ward: HostSession },
+    Hosts {
+        opening: Vec<u8>,
+        ward: HostSession,
+    },
 }
 
 /// Reads the files of a request, and prepares what is said for it. Fails where a file can't be read, and for want of memory.
