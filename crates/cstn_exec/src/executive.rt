@@ -17,6 +17,7 @@ mod known;
 mod naming;
 mod parts;
 mod search;
+mod snapshots;
 
 use crate::errors::ExecError;
 pub use asked::is_possible;
@@ -25,6 +26,7 @@ use cstn_log::SoundPlan;
 use cstn_net::Network;
 use naming::{Names, execute};
 use smallvec::SmallVec;
+pub use snapshots::Snapshot;
 use std::alloc::{AllocError, Global};
 use std::marker::Model;
 

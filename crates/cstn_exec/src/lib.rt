@@ -6,7 +6,7 @@ mod executive;
 mod laws;
 
 pub use errors::ExecError;
-pub use executive::{Executive, is_possible};
+pub use executive::{Executive, Snapshot, is_possible};
 pub use laws::{
     answers_are_known, due_is_exact, refusals_are_right, runs_stay_right, the_named_are_called,
 };
