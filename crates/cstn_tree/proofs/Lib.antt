@@ -14,3 +14,4 @@ mod MadeTrees
 mod OneTree
 mod BackLemmas
 mod StartLemmas
+mod SaidLemmas

@@ -7,11 +7,11 @@ ghost use Rattle.cstn_net.specs.Strategies.{Table, IsStrategy, IsConsistent, IsL
 ghost use Rattle.cstn_net.specs.Examples.{branch};
 ghost use Rattle.cstn_log.specs.Plans.{IsEarliest};
 ghost use Rattle.cstn_text.specs.Names.{AreNames};
-ghost use Rattle.cstn_tree.specs.Trees.{Tree, IsAmong, at, done, lines_of, table_of};
+ghost use Rattle.cstn_tree.specs.Trees.{Tree, Line, IsAmong, at, done, lines_of, table_of};
 ghost use Rattle.cstn_tree.specs.Good.{first_broken, IsUnbroken};
 ghost use Rattle.cstn_tree.specs.Made.{IsTreeOf};
 ghost use Rattle.cstn_tree.specs.Texts.{shown, tells, told};
-ghost use Rattle.cstn_tree.specs.Written.{AreWritten, FitsText};
+ghost use Rattle.cstn_tree.specs.Written.{AreWritten, FitsText, IsTextOfTree};
 ghost use Rattle.cstn_tree.specs.Read.{the_tree};
 ghost use Rattle.cstn_tree.specs.Examples.{branch_tree, asked_first, named_twice, left_out, slow_branch, crossed, crossed_tree, alone};
 
@@ -48,6 +48,12 @@ pub fn networks_have_one_tree()
 /// lines, the time-points have names and the numbers are in their ranges.
 pub fn tree_texts_are_read_back()
     ensures back { (names : List (List ℕ)) (load : ℕ) (tree : Tree) → AreNames names → AreWritten names load tree → told names (shown names load (lines_of tree)) ≡ tells (lines_of tree) }
+{}
+
+/// The texts that are read as trees are exactly those that are printed of a load and a tree that can be written.
+pub fn tree_texts_are_the_shown_ones()
+    ensures said { (names : List (List ℕ)) (bytes : List ℕ) (lines : List Line) → told names bytes ≡ tells lines → IsTextOfTree names lines bytes }
+    ensures says { (names : List (List ℕ)) (bytes : List ℕ) (lines : List Line) → AreNames names → IsTextOfTree names lines bytes → told names bytes ≡ tells lines }
 {}
 
 /// The lines of a tree are read back as the same tree, so different trees have different lines.

@@ -4,6 +4,7 @@ ghost use Rattle.std.specs.List.{All};
 ghost use Rattle.std.specs.Option.{option_map};
 ghost use Rattle.cstn_tree.specs.Trees.{IsAmong, names_on};
 ghost use Rattle.cstn_tree.specs.Texts.{Told, tells, at_end, told_after, told, load_read, line_within, ahead_after, parts_at};
+ghost use Rattle.cstn_tree.specs.Written.{FitsText};
 ghost use Rattle.cstn_tree.specs.Read.{the_line, the_tree};
 ghost use Rattle.cstn_tree.specs.Reading.{the_ahead, the_lines, IsReader, IsWrong};
 
@@ -20,7 +21,8 @@ const MOST_LOAD: u32 = 4_194_304;
 const MOST_DEPTH: u16 = 2100;
 
 /// Reads a tree from its text. Refuses with the first line that isn't of the form, counted from 1: also with the missing or
-/// cut line where the text ends within the tree, with a line after the tree, and with the 2,101st line of a branch.
+/// cut line where the text ends within the tree, with a line after the tree, and with the 2,101st line of a branch. A tree that
+/// was read is printed as a text that is read again.
 pub fn read(alloc: Global, names: &Names, bytes: &[u8]) -> Result<Tree, TreeError>
     requires few { length names.now ≤ 65536 }
     requires short { length bytes.now < 2 ^ 32 }
@@ -29,6 +31,7 @@ pub fn read(alloc: Global, names: &Names, bytes: &[u8]) -> Result<Tree, TreeErro
 
     ensures named { IfOk result (λ t. IsAmong (length names.now) (the_tree t)) }
     ensures few { IfOk result (λ t. length t + 1 < 2 ^ 32) }
+    ensures fits { IfOk result (λ t. FitsText (the_tree t)) }
 {
     let Some((line, rest)) = cut_at(bytes, b'\n') else {
         return Err(TreeError::Line { line: 1 });

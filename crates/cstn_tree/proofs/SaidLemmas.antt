@@ -1,0 +1,345 @@
+-- A text that says a tree is the printed one.
+use Rattle.std.proofs.Common.{ℕ, zero, suc, ◌≡◌, ◌+◌, ◌<◌, ◌≤◌, ◌^◌, Bool, true, false, List, [], ◌∷◌, ◌++◌, length, get_or, arith, refl, sym, ap, ◌∙◌, subst, append_assoc, append-nil}
+use Rattle.std.specs.Prelude.{◌==◌, ◌&&◌, nat_le, if◌then◌else◌, bytes_eq, flat_map, slice_index_or, max, Option, Some, None, codes}
+use Rattle.std.specs.List.{All}
+use Rattle.std.specs.Option.{option_and_then, option_map}
+use Rattle.std.proofs.lemmas.Option.{same_Some}
+use Rattle.std.proofs.lemmas.List.Elements.{All-nil, All-cons, All-head, All-tail, All-append}
+use Rattle.std.proofs.lemmas.List.Quantifiers.{position-Some}
+use Rattle.std.proofs.lemmas.Slice.Eq.{bytes_eq-Decides}
+use Rattle.cstn_label.specs.Letters.{letter_of, prop_of}
+use Rattle.cstn_text.specs.Names.{AreNames, number_of}
+use Rattle.cstn_text.specs.Numbers.{number_read, number_within, printed_number}
+use Rattle.cstn_text.specs.PrintedNames.{name_read, printed_name}
+use Rattle.cstn_text.proofs.CutLemmas.{cut_joined}
+use Rattle.cstn_text.proofs.NumberLemmas.{number_printed}
+use Rattle.cstn_text.proofs.PrintedNameLemmas.{name_printed}
+use Rattle.cstn_tree.specs.Trees.{Tree, Line, lines_of}
+use Rattle.cstn_tree.specs.Trees.Tree.{at, ask, done}
+use Rattle.cstn_tree.specs.Trees.Line.{AtLine, AskLine, DoneLine}
+use Rattle.cstn_tree.specs.Texts.{printed_line, printed_lines, shown, Parts, begun, parts_at, first_part, node_read, put_first, nodes_read, names_read, at_read, ask_read, word_read, line_read, line_within, ahead_after, Told, tells, wrong, at_end, or_wrong, told_after, load_read, told_lines, told}
+use Rattle.cstn_tree.specs.Whole.{all_lines}
+use Rattle.cstn_tree.specs.Written.{NamesSome, depth, FitsText, IsPrintableLine, AreWritten, IsTextOfTree}
+use Rattle.cstn_tree.specs.Read.{the_tree}
+use Rattle.cstn_tree.proofs.TreeLemmas.{tree_back}
+use Rattle.cstn_tree.proofs.BackLemmas.{shown_back}
+
+-- ---- readings
+
+-- where one reading after another succeeds, the first one does, and then the second
+then_read : {A B : Type 0} (o : Option A) (f : A → Option B) (y : B) → option_and_then f o ≡ Some y → (x : A) × (o ≡ Some x) × (f x ≡ Some y)
+then_read None f y e = absurd (cc)
+then_read (Some x) f y e = (x, refl, e)
+
+map_read : {A B : Type 0} (o : Option A) (f : A → B) (y : B) → option_map f o ≡ Some y → (x : A) × (o ≡ Some x) × (f x ≡ y)
+map_read None f y e = absurd (cc)
+map_read (Some x) f y e = (x, refl, same_Some _ y e)
+
+-- where something is read after a test, the test passed
+if_read : {A : Type 0} (b : Bool) (o : Option A) (y : A) → (if b then o else None) ≡ Some y → (b ≡ true) × (o ≡ Some y)
+if_read true o y e = (refl, e)
+if_read false o y e = absurd (cc)
+
+one_within : (low high n m : ℕ) → (if nat_le low n && nat_le n high then Some n else None) ≡ Some m → (n ≡ m) × (low ≤ m) × (m ≤ high)
+one_within low high n m e = grind arith
+
+-- a number that is read is in its range, and the text is the printed one
+within_said : (low high : ℕ) (text : List ℕ) (n : ℕ) → number_within low high text ≡ Some n → (low ≤ n) × (n ≤ high) × (text ≡ printed_number n)
+within_said low high text n e =
+    let found = then_read (number_read text) (λ m. if nat_le low m && nat_le m high then Some m else None) n e in
+    let range = one_within low high found.0 n found.2 in
+    (range.1, range.2, sym (number_printed text found.0 found.1).0 ∙ ap printed_number range.0)
+
+part_said : (bytes : List ℕ) (cut : List ℕ × List ℕ) → first_part bytes ≡ Some cut → bytes ≡ cut.0 ++ 32 ∷ cut.1
+part_said bytes cut e = cut_joined 32 bytes cut.0 cut.1 e
+
+letter_said : (b p : ℕ) → prop_of b ≡ Some p → (p < 52) × (b ≡ letter_of p)
+letter_said b p e = (low b p e, same b p e)
+  where
+    low : (b p : ℕ) → prop_of b ≡ Some p → p < 52
+    low b p e = grind arith
+
+    same : (b p : ℕ) → prop_of b ≡ Some p → b ≡ letter_of p
+    same b p e = grind arith
+
+-- ---- texts and their parts
+
+-- a text is its parts, each with the byte `end`, and what stands after the last one
+joined : ℕ → List (List ℕ) → List ℕ → List ℕ
+joined end [] tail = tail
+joined end (part ∷ parts) tail = part ++ end ∷ joined end parts tail
+
+begun_joined : (end b : ℕ) (parts : List (List ℕ)) (tail : List ℕ) → joined end (begun b parts tail).0 (begun b parts tail).1 ≡ b ∷ joined end parts tail
+unfolding joined
+begun_joined end b [] tail = refl
+begun_joined end b (part ∷ parts) tail = refl
+
+byte_joined : (end b : ℕ) (ends : Bool) (text : Parts) → (b == end) ≡ ends →
+    let parts : Parts = if ends then ([] ∷ text.0, text.1) else begun b text.0 text.1 in joined end parts.0 parts.1 ≡ b ∷ joined end text.0 text.1
+unfolding joined
+byte_joined end b true text is = let same : end ≡ b = grind arith in ap (λ n. n ∷ joined end text.0 text.1) same
+byte_joined end b false text is = begun_joined end b text.0 text.1
+
+parts_joined : (end : ℕ) (bytes : List ℕ) → joined end (parts_at end bytes).0 (parts_at end bytes).1 ≡ bytes
+unfolding parts_at joined
+parts_joined end [] = refl
+parts_joined end (b ∷ bytes) = byte_joined end b (b == end) (parts_at end bytes) refl ∙ ap (λ (t : List ℕ). b ∷ t) (parts_joined end bytes)
+
+module _ (names : List (List ℕ)) where
+  -- ---- names
+
+  abbrev shown_name : ℕ → List ℕ
+  shown_name x = printed_name (slice_index_or names x [])
+
+  abbrev Inside : ℕ → Type 0
+  Inside x = x < length names
+
+  abbrev more_names : List ℕ → List ℕ
+  more_names xs = flat_map (λ x. 32 ∷ shown_name x) xs
+
+  node_said : (text : List ℕ) (x : ℕ) → node_read names text ≡ Some x → Inside x × (text ≡ shown_name x)
+  node_said text x e =
+      let name = then_read (name_read text) (number_of names) x e in
+      let its = position-Some (bytes_eq name.0) names x [] name.2 in
+      (its.0, sym (name_printed text name.0 name.1).0 ∙ ap printed_name ((bytes_eq-Decides name.0 (get_or names x [])).0 its.1))
+
+  record AreNamesSaid (bytes : List ℕ) (xs : List ℕ) : Type 0 where
+    some : 1 ≤ length xs
+    inside : All Inside xs
+    text : 32 ∷ bytes ≡ more_names xs
+
+  nodes_said : (parts : List (List ℕ)) (tail : List ℕ) (xs : List ℕ) → nodes_read names parts tail ≡ Some xs → AreNamesSaid (joined 32 parts tail) xs
+  unfolding joined
+  nodes_said [] tail xs e =
+      let x = map_read (node_read names tail) (λ x. x ∷ []) xs e in
+      let node = node_said tail x.0 x.1 in
+      subst (AreNamesSaid tail) x.2 (record {
+        some = omega arith;
+        inside = All-cons Inside x.0 [] node.0 (All-nil Inside);
+        text = ap (λ (t : List ℕ). 32 ∷ t) node.1 ∙ sym (append-nil (32 ∷ shown_name x.0));
+      })
+  nodes_said (part ∷ parts) tail xs e =
+      let x = then_read (node_read names part) (λ x. put_first x (nodes_read names parts tail)) xs e in
+      let others = map_read (nodes_read names parts tail) (λ ys. x.0 ∷ ys) xs x.2 in
+      let node = node_said part x.0 x.1 in
+      let below = nodes_said parts tail others.0 others.1 in
+      subst (AreNamesSaid (part ++ 32 ∷ joined 32 parts tail)) others.2 (record {
+        some = omega arith;
+        inside = All-cons Inside x.0 others.0 node.0 below.inside;
+        text = ap (λ (t : List ℕ). 32 ∷ (t ++ 32 ∷ joined 32 parts tail)) node.1 ∙ ap (λ (t : List ℕ). 32 ∷ (shown_name x.0 ++ t)) below.text;
+      })
+
+  names_said : (text : List ℕ) (xs : List ℕ) → names_read names text ≡ Some xs → AreNamesSaid text xs
+  names_said text xs e = subst (λ (t : List ℕ). AreNamesSaid t xs) (parts_joined 32 text) (nodes_said (parts_at 32 text).0 (parts_at 32 text).1 xs e)
+
+  -- ---- lines
+
+  -- the text is the printed one of a line that can be written
+  record IsLine (bytes : List ℕ) (l : Line) : Type 0 where
+    named : NamesSome l
+    written : IsPrintableLine names l
+    text : bytes ≡ printed_line names l
+
+  at_said : (rest : List ℕ) (l : Line) → at_read names rest ≡ Some l → IsLine (codes "at" ++ 32 ∷ rest) l
+  at_said rest l e =
+      let cut = then_read (first_part rest) (λ found. option_and_then (λ t. option_map (AtLine t) (names_read names found.1)) (number_within 0 4294967295 found.0)) l e in
+      let t = then_read (number_within 0 4294967295 cut.0.0) (λ t. option_map (AtLine t) (names_read names cut.0.1)) l cut.2 in
+      let xs = map_read (names_read names cut.0.1) (AtLine t.0) l t.2 in
+      let moment = within_said 0 4294967295 cut.0.0 t.0 t.1 in
+      let named = names_said cut.0.1 xs.0 xs.1 in
+      let high = moment.1 in
+      subst (IsLine (codes "at" ++ 32 ∷ rest)) xs.2 (record {
+        named = named.some;
+        written = (omega arith, named.inside);
+        text = ap (λ (r : List ℕ). codes "at " ++ r) (part_said rest cut.0 cut.1 ∙ ap (λ (n : List ℕ). n ++ 32 ∷ cut.0.1) moment.2 ∙ ap (λ (r : List ℕ). printed_number t.0 ++ r) named.text);
+      })
+
+  ask_said : (rest : List ℕ) (l : Line) → ask_read rest ≡ Some l → IsLine (codes "ask" ++ 32 ∷ rest) l
+  ask_said [] l e = absurd (cc)
+  ask_said (b ∷ (other ∷ bytes)) l e = absurd (cc)
+  ask_said (b ∷ []) l e =
+      let p = map_read (prop_of b) AskLine l e in
+      let letter = letter_said b p.0 p.1 in
+      subst (IsLine (codes "ask" ++ 32 ∷ b ∷ [])) p.2 (record {
+        named = tt;
+        written = letter.0;
+        text = ap (λ n. codes "ask " ++ n ∷ []) letter.1;
+      })
+
+  word_said : (word rest : List ℕ) (l : Line) → word_read names word rest ≡ Some l → IsLine (word ++ 32 ∷ rest) l
+  word_said word rest l e = by_at (bytes_eq word (codes "at")) refl e
+    where
+      by_ask : (b : Bool) → bytes_eq word (codes "ask") ≡ b → (if b then ask_read rest else None) ≡ Some l → IsLine (word ++ 32 ∷ rest) l
+      by_ask true is e = subst (λ (w : List ℕ). IsLine (w ++ 32 ∷ rest) l) (sym ((bytes_eq-Decides word (codes "ask")).0 is)) (ask_said rest l e)
+      by_ask false is e = absurd (cc)
+
+      by_at : (b : Bool) → bytes_eq word (codes "at") ≡ b → (if b then at_read names rest else if bytes_eq word (codes "ask") then ask_read rest else None) ≡ Some l → IsLine (word ++ 32 ∷ rest) l
+      by_at true is e = subst (λ (w : List ℕ). IsLine (w ++ 32 ∷ rest) l) (sym ((bytes_eq-Decides word (codes "at")).0 is)) (at_said rest l e)
+      by_at false is e = by_ask (bytes_eq word (codes "ask")) refl e
+
+  line_said : (text : List ℕ) (l : Line) → line_read names text ≡ Some l → IsLine text l
+  line_said text l e = by_done (bytes_eq text (codes "done")) refl e
+    where
+      by_done : (b : Bool) → bytes_eq text (codes "done") ≡ b →
+          (if b then Some DoneLine else option_and_then (λ found. word_read names found.0 found.1) (first_part text)) ≡ Some l → IsLine text l
+      by_done true is e = subst (IsLine text) (same_Some _ l e) (record { named = tt; written = tt; text = (bytes_eq-Decides text (codes "done")).0 is })
+      by_done false is e =
+          let cut = then_read (first_part text) (λ found. word_read names found.0 found.1) l e in
+          subst (λ (t : List ℕ). IsLine t l) (sym (part_said text cut.0 cut.1)) (word_said cut.0.0 cut.0.1 l cut.2)
+
+  -- ---- trees
+
+  -- there is a tree for each depth, with no branch of more than 2,100 lines from the first line of the text on
+  abbrev AreWithin : List ℕ → List Tree → Type 0
+  AreWithin [] [] = Unit {0}
+  AreWithin [] (tree ∷ trees) = ⊥
+  AreWithin (d ∷ ahead) [] = ⊥
+  AreWithin (d ∷ ahead) (tree ∷ trees) = (d + depth tree ≤ 2101) × AreWithin ahead trees
+
+  -- the text is that of the lines that follow those before, which are those of trees within these depths
+  record AreTrees (ahead : List ℕ) (before lines : List Line) (bytes : List ℕ) : Type 0 where
+    trees : List Tree
+    within : AreWithin ahead trees
+    whole : lines ≡ before ++ all_lines trees
+    named : All NamesSome (all_lines trees)
+    each : All (IsPrintableLine names) (all_lines trees)
+    text : bytes ≡ printed_lines names (all_lines trees)
+
+  module _ (d : ℕ) (ahead : List ℕ) (l : Line) (before lines : List Line) (line rest : List ℕ) where
+    -- the trees that begin with a line, and go on with the lines of other trees
+    begun_trees : IsLine line l → (trees : List Tree) → AreWithin (d ∷ ahead) trees →
+        (below : List Tree) → all_lines trees ≡ l ∷ all_lines below → lines ≡ (before ++ l ∷ []) ++ all_lines below →
+        All NamesSome (all_lines below) → All (IsPrintableLine names) (all_lines below) → rest ≡ printed_lines names (all_lines below) →
+        AreTrees (d ∷ ahead) before lines (line ++ 10 ∷ rest)
+    begun_trees is trees within below same whole named each text = record {
+      trees = trees;
+      within = within;
+      whole = whole ∙ append_assoc before (l ∷ []) (all_lines below) ∙ ap (λ ls. before ++ ls) (sym same);
+      named = subst (All NamesSome) (sym same) (All-cons NamesSome l (all_lines below) is.named named);
+      each = subst (All (IsPrintableLine names)) (sym same) (All-cons (IsPrintableLine names) l (all_lines below) is.written each);
+      text = ap (λ (t : List ℕ). t ++ 10 ∷ rest) is.text
+          ∙ ap (λ (t : List ℕ). printed_line names l ++ 10 ∷ t) text
+          ∙ sym (append_assoc (printed_line names l) (10 ∷ []) (printed_lines names (all_lines below)))
+          ∙ ap (printed_lines names) (sym same);
+    }
+
+  -- a line and the trees that it asks for are the trees that begin with it
+  line_trees : (d : ℕ) (ahead : List ℕ) (l : Line) (before lines : List Line) (line rest : List ℕ) → d ≤ 2100 → IsLine line l →
+      AreTrees (ahead_after d ahead l) (before ++ l ∷ []) lines rest → AreTrees (d ∷ ahead) before lines (line ++ 10 ∷ rest)
+  line_trees d ahead l before lines line rest upto is after = go l is after.trees after.within after.whole after.named after.each after.text
+    where
+      go : (l : Line) → IsLine line l → (trees : List Tree) → AreWithin (ahead_after d ahead l) trees →
+          lines ≡ (before ++ l ∷ []) ++ all_lines trees → All NamesSome (all_lines trees) → All (IsPrintableLine names) (all_lines trees) →
+          rest ≡ printed_lines names (all_lines trees) → AreTrees (d ∷ ahead) before lines (line ++ 10 ∷ rest)
+      go (AtLine t xs) is [] within whole named each text = absurd within
+      go (AtLine t xs) is (next ∷ trees) within whole named each text =
+          let deep = within.0 in
+          begun_trees d ahead (AtLine t xs) before lines line rest is (at t xs next ∷ trees) (omega arith, within.1) (next ∷ trees) refl whole named each text
+      go (AskLine p) is [] within whole named each text = absurd within
+      go (AskLine p) is (one ∷ []) within whole named each text = absurd within.1
+      go (AskLine p) is (one ∷ (other ∷ trees)) within whole named each text =
+          let deep = within.0 in
+          let also = within.1.0 in
+          begun_trees d ahead (AskLine p) before lines line rest is (ask p one other ∷ trees) (omega arith, within.1.1) (one ∷ (other ∷ trees))
+          (ap (λ ls. AskLine p ∷ ls) (append_assoc (lines_of one) (lines_of other) (all_lines trees))) whole named each text
+      go DoneLine is trees within whole named each text =
+          begun_trees d ahead DoneLine before lines line rest is (done ∷ trees) (omega arith, within) trees refl whole named each text
+
+  -- a text is not both wrong and read
+  not_wrong : (line : ℕ) (lines : List Line) → wrong line ≡ tells lines → ⊥
+  not_wrong line lines e = cc
+
+  read_or_wrong : {A : Type 0} (o : Option A) (line : ℕ) (next : A → Told) (lines : List Line) → or_wrong o line next ≡ tells lines → (x : A) × (o ≡ Some x) × (next x ≡ tells lines)
+  read_or_wrong None line next lines e = absurd (not_wrong line lines e)
+  read_or_wrong (Some x) line next lines e = (x, refl, e)
+
+  end_said : (ahead : List ℕ) (before : List Line) (tail : List ℕ) (lines : List Line) → at_end ahead before tail ≡ tells lines → AreTrees ahead before lines tail
+  end_said [] before [] lines e =
+      let same : before ≡ lines = cc in
+      record {
+        trees = [];
+        within = tt;
+        whole = sym same ∙ sym (append-nil before);
+        named = All-nil NamesSome;
+        each = All-nil (IsPrintableLine names);
+        text = refl;
+      }
+  end_said [] before (b ∷ tail) lines e = absurd (not_wrong _ lines e)
+  end_said (d ∷ ahead) before tail lines e = absurd (not_wrong _ lines e)
+
+  within_depth : (d : ℕ) (o : Option Line) (l : Line) → (if nat_le d 2100 then o else None) ≡ Some l → (d ≤ 2100) × (o ≡ Some l)
+  within_depth d o l e = let both = if_read (nat_le d 2100) o l e in (upto both.0, both.1)
+    where
+      upto : nat_le d 2100 ≡ true → d ≤ 2100
+      upto e = grind arith
+
+  after_said : (ahead : List ℕ) (before : List Line) (texts : List (List ℕ)) (tail : List ℕ) (lines : List Line) →
+      told_after names ahead before texts tail ≡ tells lines → AreTrees ahead before lines (joined 10 texts tail)
+  unfolding told_after joined
+  after_said ahead before [] tail lines e = end_said ahead before tail lines e
+  after_said [] before (text ∷ texts) tail lines e = absurd (not_wrong _ lines e)
+  after_said (d ∷ ahead) before (text ∷ texts) tail lines e =
+      let next = read_or_wrong (line_within names d text) (length before + 2) (λ l. told_after names (ahead_after d ahead l) (before ++ l ∷ []) texts tail) lines e in
+      let read = within_depth d (line_read names text) next.0 next.1 in
+      line_trees d ahead next.0 before lines text (joined 10 texts tail) read.0 (line_said text next.0 read.1)
+      (after_said (ahead_after d ahead next.0) (before ++ next.0 ∷ []) texts tail lines next.2)
+
+  load_said : (line : List ℕ) (load : ℕ) → load_read line ≡ Some load → (1 ≤ load) × (load ≤ 4194304) × (line ≡ codes "yes " ++ printed_number load)
+  load_said line load e =
+      let word = then_read (first_part line) (λ word. if bytes_eq word.0 (codes "yes") then number_within 1 4194304 word.1 else None) load e in
+      let number = if_read (bytes_eq word.0.0 (codes "yes")) (number_within 1 4194304 word.0.1) load word.2 in
+      let range = within_said 1 4194304 word.0.1 load number.1 in (
+        range.0,
+        range.1,
+        part_said line word.0 word.1
+            ∙ ap (λ (t : List ℕ). t ++ 32 ∷ word.0.1) ((bytes_eq-Decides word.0.0 (codes "yes")).0 number.0)
+            ∙ ap (λ (t : List ℕ). codes "yes" ++ 32 ∷ t) range.2,
+      )
+
+  -- the trees after the first line are one tree
+  one_tree : (load : ℕ) (lines : List Line) (line text : List ℕ) → 1 ≤ load → load ≤ 4194304 → line ≡ codes "yes " ++ printed_number load →
+      AreTrees (1 ∷ []) [] lines text → IsTextOfTree names lines (line ++ 10 ∷ text)
+  one_tree load lines line text low high first are = go are.trees are.within are.whole are.named are.each are.text
+    where
+      go : (trees : List Tree) → AreWithin (1 ∷ []) trees → lines ≡ all_lines trees → All NamesSome (all_lines trees) → All (IsPrintableLine names) (all_lines trees) →
+          text ≡ printed_lines names (all_lines trees) → IsTextOfTree names lines (line ++ 10 ∷ text)
+      go [] within whole named each is = absurd within
+      go (tree ∷ (other ∷ trees)) within whole named each is = absurd within.1
+      go (tree ∷ []) within whole named each is =
+          let one = append-nil (lines_of tree) in
+          let deep = within.0 in
+          record {
+            load = load;
+            tree = tree;
+            whole = whole ∙ one;
+            written = record {
+              load_low = low;
+              load_high = high;
+              fits = record { named = subst (All NamesSome) one named; short = omega arith };
+              each = subst (All (IsPrintableLine names)) one each;
+            };
+            text = ap (λ (t : List ℕ). t ++ 10 ∷ text) first
+                ∙ ap (λ (t : List ℕ). (codes "yes " ++ printed_number load) ++ 10 ∷ t) (is ∙ ap (printed_lines names) (sym whole));
+          }
+
+  lines_said : (texts : List (List ℕ)) (tail : List ℕ) (lines : List Line) → told_lines names texts tail ≡ tells lines → IsTextOfTree names lines (joined 10 texts tail)
+  unfolding joined
+  lines_said [] tail lines e = absurd (not_wrong 1 lines e)
+  lines_said (line ∷ texts) tail lines e =
+      let load = read_or_wrong (load_read line) 1 (λ load. told_after names (1 ∷ []) [] texts tail) lines e in
+      let first = load_said line load.0 load.1 in
+      one_tree load.0 lines line (joined 10 texts tail) first.0 first.1 first.2 (after_said (1 ∷ []) [] texts tail lines load.2)
+
+-- a text that says the lines of a tree is the one that is printed of a load and that tree
+pub text_said : (names : List (List ℕ)) (bytes : List ℕ) (lines : List Line) → told names bytes ≡ tells lines → IsTextOfTree names lines bytes
+text_said names bytes lines e = subst (IsTextOfTree names lines) (parts_joined 10 bytes) (lines_said names (parts_at 10 bytes).0 (parts_at 10 bytes).1 lines e)
+
+pub text_says : (names : List (List ℕ)) (bytes : List ℕ) (lines : List Line) → AreNames names → IsTextOfTree names lines bytes → told names bytes ≡ tells lines
+text_says names bytes lines are is =
+    ap (told names) (is.text ∙ ap (shown names is.load) is.whole) ∙ shown_back names is.load is.tree are is.written ∙ ap tells (sym is.whole)
+
+-- a tree that a text says fits the text
+pub text_fits : (names : List (List ℕ)) (bytes : List ℕ) (lines : List Line) → told names bytes ≡ tells lines → FitsText (the_tree lines)
+text_fits names bytes lines e =
+    let is = text_said names bytes lines e in
+    subst FitsText (sym (ap the_tree is.whole ∙ tree_back is.tree)) is.written.fits
