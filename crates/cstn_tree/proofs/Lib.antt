@@ -15,3 +15,4 @@ mod OneTree
 mod BackLemmas
 mod StartLemmas
 mod SaidLemmas
+mod BreakLemmas

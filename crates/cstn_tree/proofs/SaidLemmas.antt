@@ -1,10 +1,10 @@
 -- A text that says a tree is the printed one.
-use Rattle.std.proofs.Common.{ℕ, zero, suc, ◌≡◌, ◌+◌, ◌<◌, ◌≤◌, ◌^◌, Bool, true, false, List, [], ◌∷◌, ◌++◌, length, get_or, arith, refl, sym, ap, ◌∙◌, subst, append_assoc, append-nil}
-use Rattle.std.specs.Prelude.{◌==◌, ◌&&◌, nat_le, if◌then◌else◌, bytes_eq, flat_map, slice_index_or, max, Option, Some, None, codes}
+use Rattle.std.proofs.Common.{ℕ, ◌≡◌, ◌+◌, ◌<◌, ◌≤◌, Bool, true, false, List, [], ◌∷◌, ◌++◌, length, get_or, arith, refl, sym, ap, ◌∙◌, subst, append_assoc, append-nil}
+use Rattle.std.specs.Prelude.{◌==◌, ◌&&◌, nat_le, if◌then◌else◌, bytes_eq, flat_map, slice_index_or, Option, Some, None, codes}
 use Rattle.std.specs.List.{All}
 use Rattle.std.specs.Option.{option_and_then, option_map}
 use Rattle.std.proofs.lemmas.Option.{same_Some}
-use Rattle.std.proofs.lemmas.List.Elements.{All-nil, All-cons, All-head, All-tail, All-append}
+use Rattle.std.proofs.lemmas.List.Elements.{All-nil, All-cons}
 use Rattle.std.proofs.lemmas.List.Quantifiers.{position-Some}
 use Rattle.std.proofs.lemmas.Slice.Eq.{bytes_eq-Decides}
 use Rattle.cstn_label.specs.Letters.{letter_of, prop_of}
@@ -19,7 +19,7 @@ use Rattle.cstn_tree.specs.Trees.Tree.{at, ask, done}
 use Rattle.cstn_tree.specs.Trees.Line.{AtLine, AskLine, DoneLine}
 use Rattle.cstn_tree.specs.Texts.{printed_line, printed_lines, shown, Parts, begun, parts_at, first_part, node_read, put_first, nodes_read, names_read, at_read, ask_read, word_read, line_read, line_within, ahead_after, Told, tells, wrong, at_end, or_wrong, told_after, load_read, told_lines, told}
 use Rattle.cstn_tree.specs.Whole.{all_lines}
-use Rattle.cstn_tree.specs.Written.{NamesSome, depth, FitsText, IsPrintableLine, AreWritten, IsTextOfTree}
+use Rattle.cstn_tree.specs.Written.{NamesSome, depth, FitsText, IsPrintableLine, IsTextOfTree}
 use Rattle.cstn_tree.specs.Read.{the_tree}
 use Rattle.cstn_tree.proofs.TreeLemmas.{tree_back}
 use Rattle.cstn_tree.proofs.BackLemmas.{shown_back}
