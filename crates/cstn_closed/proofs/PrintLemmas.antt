@@ -40,13 +40,6 @@ one_more names load xs k x old inside there before =
     ∙ ap (λ t. codes "yes " ++ printed_number load ++ 10 ∷ t)
     (sym (lines_of_more names (map the_bound (take k xs)) (the_bound x)) ∙ ap (printed_bounds names) (sym more))
 
--- the text at the place of a name is the printed name
-pub name_at : (texts : List (String Global)) (names : List (List ℕ)) (i : ℕ) (d : String Global) → map string_bytes texts ≡ map printed_name names → i < length names →
-    string_bytes (get_or texts i d) ≡ printed_name (get_or names i [])
-name_at texts names i d same inside =
-    let long : length texts ≡ length names = sym (length-map texts string_bytes) ∙ ap length same ∙ length-map names printed_name in
-    sym (get_or-map string_bytes texts i d [] (omega arith)) ∙ ap (λ (ts : List (List ℕ)). get_or ts i []) same ∙ get_or-map printed_name names i [] [] inside
-
 -- the line of a bound, by the text of its name
 pub line_of : (names : List (List ℕ)) (b : Declared) (text old new : List ℕ) → text ≡ printed_name (get_or names b.node.0 []) →
     new ≡ old ++ (codes "bound " ++ (text ++ 32 ∷ printed_value b.least ++ 32 ∷ printed_label (marks b.label)) ++ 10 ∷ []) →

@@ -42,13 +42,6 @@ one_more names load xs k x old inside there before =
     ∙ sym (lines_of_more names 0 (map the_entry (take k xs)) (the_entry x))
     ∙ ap (printed_steps names 0) (sym more))
 
--- a name was printed at its place
-pub name_at : (texts : List (String Global)) (names : List (List ℕ)) (i : ℕ) (d : String Global) → map string_bytes texts ≡ map printed_name names → i < length names →
-    string_bytes (get_or texts i d) ≡ printed_name (get_or names i [])
-name_at texts names i d same inside =
-    let long : length texts ≡ length names = sym (length-map texts string_bytes) ∙ ap length same ∙ length-map names printed_name in
-    sym (get_or-map string_bytes texts i d [] (omega arith)) ∙ ap (λ (ts : List (List ℕ)). get_or ts i []) same ∙ get_or-map printed_name names i [] [] inside
-
 joined : (a n v l : List ℕ) → ((a ++ 32 ∷ n) ++ v) ++ l ≡ a ++ 32 ∷ ((n ++ v) ++ l)
 joined a n v l = append_assoc (a ++ 32 ∷ n) v l ∙ append_assoc a (32 ∷ n) (v ++ l) ∙ ap (λ (t : List ℕ). a ++ 32 ∷ t) (sym (append_assoc n v l))
 
