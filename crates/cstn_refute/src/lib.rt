@@ -10,6 +10,6 @@ mod reading;
 mod refutations;
 
 pub use errors::RefuteError;
-pub use parts::read_named_bound;
 pub use laws::{texts_are_read_back, texts_are_the_shown_ones};
+pub use parts::read_named_bound;
 pub use refutations::Refutation;

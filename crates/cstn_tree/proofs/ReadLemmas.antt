@@ -1,19 +1,21 @@
 -- Texts of trees, line by line.
 use Rattle.std.proofs.Common.{ℕ, ◌≡◌, ◌+◌, ◌<◌, List, [], ◌∷◌, ◌++◌, length, map, arith, refl, sym, subst, ap, ◌∙◌}
-use Rattle.std.specs.Prelude.{None, Some, reverse}
+use Rattle.std.specs.Prelude.{None, Some, reverse, codes}
 use Rattle.std.specs.List.{All}
 use Rattle.std.proofs.lemmas.List.{map-append, length-map, reverse-append}
 use Rattle.std.proofs.lemmas.List.Elements.{All-push}
 use Rattle.cstn_text.specs.Cuts.{cut_at}
+use Rattle.cstn_listing.specs.Parts.{Parts, parts_at}
+use Rattle.cstn_listing.specs.Listings.{load_read}
+use Rattle.cstn_listing.proofs.PartLemmas.{parts_cut, parts_open}
 use Rattle.cstn_tree.specs.declared.trees.Line.{Line as ProgramLine}
 use Rattle.cstn_tree.specs.declared.reading.Reader.{Reader}
 use Rattle.cstn_tree.specs.Trees.{Line, names_on}
 use Rattle.cstn_tree.specs.Read.{the_line}
 use Rattle.cstn_tree.specs.Whole.{IsBegun}
 use Rattle.cstn_tree.specs.Reading.{the_ahead, the_lines, IsReader}
-use Rattle.cstn_tree.specs.Texts.{Parts, parts_at, tells, wrong, at_end, or_wrong, line_within, ahead_after, told_after, load_read, told_lines, told}
+use Rattle.cstn_tree.specs.Texts.{tells, wrong, at_end, or_wrong, line_within, ahead_after, told_after, told_lines, told}
 use Rattle.cstn_tree.proofs.TreeLemmas.{begun_first, begun_next}
-use Rattle.cstn_tree.proofs.PartLemmas.{parts_cut, parts_open}
 
 -- ---- what a reader keeps
 
@@ -79,13 +81,13 @@ unfolding told_after
 told_last names ahead lines left is = ap {A = Parts} (λ p. told_after names ahead lines p.0 p.1) (parts_open 10 left is)
 
 pub told_first : (names : List (List ℕ)) (bytes line rest : List ℕ) (load : ℕ) → cut_at 10 bytes ≡ Some (line, rest) →
-    load_read line ≡ Some load → told names bytes ≡ told_after names (1 ∷ []) [] (parts_at 10 rest).0 (parts_at 10 rest).1
+    load_read (codes "yes") line ≡ Some load → told names bytes ≡ told_after names (1 ∷ []) [] (parts_at 10 rest).0 (parts_at 10 rest).1
 told_first names bytes line rest load is read =
     ap {A = Parts} (λ p. told_lines names p.0 p.1) (parts_cut 10 bytes line rest is)
     ∙ ap (λ o. or_wrong o 1 (λ n. told_after names (1 ∷ []) [] (parts_at 10 rest).0 (parts_at 10 rest).1)) read
 
 pub first_wrong : (names : List (List ℕ)) (bytes line rest : List ℕ) → cut_at 10 bytes ≡ Some (line, rest) →
-    load_read line ≡ None → told names bytes ≡ wrong 1
+    load_read (codes "yes") line ≡ None → told names bytes ≡ wrong 1
 first_wrong names bytes line rest is read =
     ap {A = Parts} (λ p. told_lines names p.0 p.1) (parts_cut 10 bytes line rest is)
     ∙ ap (λ o. or_wrong o 1 (λ n. told_after names (1 ∷ []) [] (parts_at 10 rest).0 (parts_at 10 rest).1)) read

@@ -1,57 +1,29 @@
 -- A text that says a tree is the printed one.
-use Rattle.std.proofs.Common.{ℕ, ◌≡◌, ◌+◌, ◌<◌, ◌≤◌, Bool, true, false, List, [], ◌∷◌, ◌++◌, length, get_or, arith, refl, sym, ap, ◌∙◌, subst, append_assoc, append-nil}
-use Rattle.std.specs.Prelude.{◌==◌, ◌&&◌, nat_le, if◌then◌else◌, bytes_eq, flat_map, slice_index_or, Option, Some, None, codes}
+use Rattle.std.proofs.Common.{ℕ, ◌≡◌, ◌+◌, ◌<◌, ◌≤◌, Bool, true, false, List, [], ◌∷◌, ◌++◌, length, arith, refl, sym, ap, ◌∙◌, subst, append_assoc, append-nil}
+use Rattle.std.specs.Prelude.{nat_le, if◌then◌else◌, bytes_eq, flat_map, slice_index_or, Option, Some, None, codes}
 use Rattle.std.specs.List.{All}
 use Rattle.std.specs.Option.{option_and_then, option_map}
 use Rattle.std.proofs.lemmas.Option.{same_Some}
 use Rattle.std.proofs.lemmas.List.Elements.{All-nil, All-cons}
-use Rattle.std.proofs.lemmas.List.Quantifiers.{position-Some}
 use Rattle.std.proofs.lemmas.Slice.Eq.{bytes_eq-Decides}
 use Rattle.cstn_label.specs.Letters.{letter_of, prop_of}
-use Rattle.cstn_text.specs.Names.{AreNames, number_of}
-use Rattle.cstn_text.specs.Numbers.{number_read, number_within, printed_number}
-use Rattle.cstn_text.specs.PrintedNames.{name_read, printed_name}
-use Rattle.cstn_text.proofs.CutLemmas.{cut_joined}
-use Rattle.cstn_text.proofs.NumberLemmas.{number_printed}
-use Rattle.cstn_text.proofs.PrintedNameLemmas.{name_printed}
+use Rattle.cstn_text.specs.Names.{AreNames}
+use Rattle.cstn_text.specs.Numbers.{number_within, printed_number}
+use Rattle.cstn_text.specs.PrintedNames.{printed_name}
+use Rattle.cstn_listing.specs.Parts.{parts_at, joined, part, node_read}
+use Rattle.cstn_listing.specs.Listings.{load_read}
+use Rattle.cstn_listing.proofs.PartLemmas.{parts_joined}
+use Rattle.cstn_listing.proofs.ReadingLemmas.{then_read, map_read, if_read, within_said, part_said, node_said}
+use Rattle.cstn_listing.proofs.ListingLemmas.{load_said}
 use Rattle.cstn_tree.specs.Trees.{Tree, Line, lines_of}
 use Rattle.cstn_tree.specs.Trees.Tree.{at, ask, done}
 use Rattle.cstn_tree.specs.Trees.Line.{AtLine, AskLine, DoneLine}
-use Rattle.cstn_tree.specs.Texts.{printed_line, printed_lines, shown, Parts, begun, parts_at, first_part, node_read, put_first, nodes_read, names_read, at_read, ask_read, word_read, line_read, line_within, ahead_after, Told, tells, wrong, at_end, or_wrong, told_after, load_read, told_lines, told}
+use Rattle.cstn_tree.specs.Texts.{printed_line, printed_lines, shown, put_first, nodes_read, names_read, at_read, ask_read, word_read, line_read, line_within, ahead_after, Told, tells, wrong, at_end, or_wrong, told_after, told_lines, told}
 use Rattle.cstn_tree.specs.Whole.{all_lines}
 use Rattle.cstn_tree.specs.Written.{NamesSome, depth, FitsText, IsPrintableLine, IsTextOfTree}
 use Rattle.cstn_tree.specs.Read.{the_tree}
 use Rattle.cstn_tree.proofs.TreeLemmas.{tree_back}
 use Rattle.cstn_tree.proofs.BackLemmas.{shown_back}
-
--- ---- readings
-
--- where one reading after another succeeds, the first one does, and then the second
-then_read : {A B : Type 0} (o : Option A) (f : A → Option B) (y : B) → option_and_then f o ≡ Some y → (x : A) × (o ≡ Some x) × (f x ≡ Some y)
-then_read None f y e = absurd (cc)
-then_read (Some x) f y e = (x, refl, e)
-
-map_read : {A B : Type 0} (o : Option A) (f : A → B) (y : B) → option_map f o ≡ Some y → (x : A) × (o ≡ Some x) × (f x ≡ y)
-map_read None f y e = absurd (cc)
-map_read (Some x) f y e = (x, refl, same_Some _ y e)
-
--- where something is read after a test, the test passed
-if_read : {A : Type 0} (b : Bool) (o : Option A) (y : A) → (if b then o else None) ≡ Some y → (b ≡ true) × (o ≡ Some y)
-if_read true o y e = (refl, e)
-if_read false o y e = absurd (cc)
-
-one_within : (low high n m : ℕ) → (if nat_le low n && nat_le n high then Some n else None) ≡ Some m → (n ≡ m) × (low ≤ m) × (m ≤ high)
-one_within low high n m e = grind arith
-
--- a number that is read is in its range, and the text is the printed one
-within_said : (low high : ℕ) (text : List ℕ) (n : ℕ) → number_within low high text ≡ Some n → (low ≤ n) × (n ≤ high) × (text ≡ printed_number n)
-within_said low high text n e =
-    let found = then_read (number_read text) (λ m. if nat_le low m && nat_le m high then Some m else None) n e in
-    let range = one_within low high found.0 n found.2 in
-    (range.1, range.2, sym (number_printed text found.0 found.1).0 ∙ ap printed_number range.0)
-
-part_said : (bytes : List ℕ) (cut : List ℕ × List ℕ) → first_part bytes ≡ Some cut → bytes ≡ cut.0 ++ 32 ∷ cut.1
-part_said bytes cut e = cut_joined 32 bytes cut.0 cut.1 e
 
 letter_said : (b p : ℕ) → prop_of b ≡ Some p → (p < 52) × (b ≡ letter_of p)
 letter_said b p e = (low b p e, same b p e)
@@ -61,29 +33,6 @@ letter_said b p e = (low b p e, same b p e)
 
     same : (b p : ℕ) → prop_of b ≡ Some p → b ≡ letter_of p
     same b p e = grind arith
-
--- ---- texts and their parts
-
--- a text is its parts, each with the byte `end`, and what stands after the last one
-joined : ℕ → List (List ℕ) → List ℕ → List ℕ
-joined end [] tail = tail
-joined end (part ∷ parts) tail = part ++ end ∷ joined end parts tail
-
-begun_joined : (end b : ℕ) (parts : List (List ℕ)) (tail : List ℕ) → joined end (begun b parts tail).0 (begun b parts tail).1 ≡ b ∷ joined end parts tail
-unfolding joined
-begun_joined end b [] tail = refl
-begun_joined end b (part ∷ parts) tail = refl
-
-byte_joined : (end b : ℕ) (ends : Bool) (text : Parts) → (b == end) ≡ ends →
-    let parts : Parts = if ends then ([] ∷ text.0, text.1) else begun b text.0 text.1 in joined end parts.0 parts.1 ≡ b ∷ joined end text.0 text.1
-unfolding joined
-byte_joined end b true text is = let same : end ≡ b = grind arith in ap (λ n. n ∷ joined end text.0 text.1) same
-byte_joined end b false text is = begun_joined end b text.0 text.1
-
-parts_joined : (end : ℕ) (bytes : List ℕ) → joined end (parts_at end bytes).0 (parts_at end bytes).1 ≡ bytes
-unfolding parts_at joined
-parts_joined end [] = refl
-parts_joined end (b ∷ bytes) = byte_joined end b (b == end) (parts_at end bytes) refl ∙ ap (λ (t : List ℕ). b ∷ t) (parts_joined end bytes)
 
 module _ (names : List (List ℕ)) where
   -- ---- names
@@ -97,12 +46,6 @@ module _ (names : List (List ℕ)) where
   abbrev more_names : List ℕ → List ℕ
   more_names xs = flat_map (λ x. 32 ∷ shown_name x) xs
 
-  node_said : (text : List ℕ) (x : ℕ) → node_read names text ≡ Some x → Inside x × (text ≡ shown_name x)
-  node_said text x e =
-      let name = then_read (name_read text) (number_of names) x e in
-      let its = position-Some (bytes_eq name.0) names x [] name.2 in
-      (its.0, sym (name_printed text name.0 name.1).0 ∙ ap printed_name ((bytes_eq-Decides name.0 (get_or names x [])).0 its.1))
-
   record AreNamesSaid (bytes : List ℕ) (xs : List ℕ) : Type 0 where
     some : 1 ≤ length xs
     inside : All Inside xs
@@ -112,7 +55,7 @@ module _ (names : List (List ℕ)) where
   unfolding joined
   nodes_said [] tail xs e =
       let x = map_read (node_read names tail) (λ x. x ∷ []) xs e in
-      let node = node_said tail x.0 x.1 in
+      let node = node_said names tail x.0 x.1 in
       subst (AreNamesSaid tail) x.2 (record {
         some = omega arith;
         inside = All-cons Inside x.0 [] node.0 (All-nil Inside);
@@ -121,7 +64,7 @@ module _ (names : List (List ℕ)) where
   nodes_said (part ∷ parts) tail xs e =
       let x = then_read (node_read names part) (λ x. put_first x (nodes_read names parts tail)) xs e in
       let others = map_read (nodes_read names parts tail) (λ ys. x.0 ∷ ys) xs x.2 in
-      let node = node_said part x.0 x.1 in
+      let node = node_said names part x.0 x.1 in
       let below = nodes_said parts tail others.0 others.1 in
       subst (AreNamesSaid (part ++ 32 ∷ joined 32 parts tail)) others.2 (record {
         some = omega arith;
@@ -142,7 +85,7 @@ module _ (names : List (List ℕ)) where
 
   at_said : (rest : List ℕ) (l : Line) → at_read names rest ≡ Some l → IsLine (codes "at" ++ 32 ∷ rest) l
   at_said rest l e =
-      let cut = then_read (first_part rest) (λ found. option_and_then (λ t. option_map (AtLine t) (names_read names found.1)) (number_within 0 4294967295 found.0)) l e in
+      let cut = then_read (part rest) (λ found. option_and_then (λ t. option_map (AtLine t) (names_read names found.1)) (number_within 0 4294967295 found.0)) l e in
       let t = then_read (number_within 0 4294967295 cut.0.0) (λ t. option_map (AtLine t) (names_read names cut.0.1)) l cut.2 in
       let xs = map_read (names_read names cut.0.1) (AtLine t.0) l t.2 in
       let moment = within_said 0 4294967295 cut.0.0 t.0 t.1 in
@@ -181,10 +124,10 @@ module _ (names : List (List ℕ)) where
   line_said text l e = by_done (bytes_eq text (codes "done")) refl e
     where
       by_done : (b : Bool) → bytes_eq text (codes "done") ≡ b →
-          (if b then Some DoneLine else option_and_then (λ found. word_read names found.0 found.1) (first_part text)) ≡ Some l → IsLine text l
+          (if b then Some DoneLine else option_and_then (λ found. word_read names found.0 found.1) (part text)) ≡ Some l → IsLine text l
       by_done true is e = subst (IsLine text) (same_Some _ l e) (record { named = tt; written = tt; text = (bytes_eq-Decides text (codes "done")).0 is })
       by_done false is e =
-          let cut = then_read (first_part text) (λ found. word_read names found.0 found.1) l e in
+          let cut = then_read (part text) (λ found. word_read names found.0 found.1) l e in
           subst (λ (t : List ℕ). IsLine t l) (sym (part_said text cut.0 cut.1)) (word_said cut.0.0 cut.0.1 l cut.2)
 
   -- ---- trees
@@ -284,18 +227,6 @@ module _ (names : List (List ℕ)) where
       line_trees d ahead next.0 before lines text (joined 10 texts tail) read.0 (line_said text next.0 read.1)
       (after_said (ahead_after d ahead next.0) (before ++ next.0 ∷ []) texts tail lines next.2)
 
-  load_said : (line : List ℕ) (load : ℕ) → load_read line ≡ Some load → (1 ≤ load) × (load ≤ 4194304) × (line ≡ codes "yes " ++ printed_number load)
-  load_said line load e =
-      let word = then_read (first_part line) (λ word. if bytes_eq word.0 (codes "yes") then number_within 1 4194304 word.1 else None) load e in
-      let number = if_read (bytes_eq word.0.0 (codes "yes")) (number_within 1 4194304 word.0.1) load word.2 in
-      let range = within_said 1 4194304 word.0.1 load number.1 in (
-        range.0,
-        range.1,
-        part_said line word.0 word.1
-            ∙ ap (λ (t : List ℕ). t ++ 32 ∷ word.0.1) ((bytes_eq-Decides word.0.0 (codes "yes")).0 number.0)
-            ∙ ap (λ (t : List ℕ). codes "yes" ++ 32 ∷ t) range.2,
-      )
-
   -- the trees after the first line are one tree
   one_tree : (load : ℕ) (lines : List Line) (line text : List ℕ) → 1 ≤ load → load ≤ 4194304 → line ≡ codes "yes " ++ printed_number load →
       AreTrees (1 ∷ []) [] lines text → IsTextOfTree names lines (line ++ 10 ∷ text)
@@ -326,8 +257,8 @@ module _ (names : List (List ℕ)) where
   unfolding joined
   lines_said [] tail lines e = absurd (not_wrong 1 lines e)
   lines_said (line ∷ texts) tail lines e =
-      let load = read_or_wrong (load_read line) 1 (λ load. told_after names (1 ∷ []) [] texts tail) lines e in
-      let first = load_said line load.0 load.1 in
+      let load = read_or_wrong (load_read (codes "yes") line) 1 (λ load. told_after names (1 ∷ []) [] texts tail) lines e in
+      let first = load_said (codes "yes") line load.0 load.1 in
       one_tree load.0 lines line (joined 10 texts tail) first.0 first.1 first.2 (after_said (1 ∷ []) [] texts tail lines load.2)
 
 -- a text that says the lines of a tree is the one that is printed of a load and that tree

@@ -1,11 +1,11 @@
 -- Texts of trees.
-use Rattle.std.specs.Prelude.{ℕ, ◌+◌, ◌++◌, ◌==◌, nat_le, if◌then◌else◌, List, [], ◌∷◌, length, flat_map, slice_index_or, Option, None, Some, codes, bytes_eq}
+use Rattle.std.specs.Prelude.{ℕ, ◌+◌, ◌++◌, nat_le, if◌then◌else◌, List, [], ◌∷◌, length, flat_map, slice_index_or, Option, None, Some, codes, bytes_eq}
 use Rattle.std.specs.Option.{option_and_then, option_map}
 use Rattle.cstn_label.specs.Letters.{letter_of, prop_of}
-use Rattle.cstn_text.specs.Cuts.{cut_at}
-use Rattle.cstn_text.specs.Names.{number_of}
 use Rattle.cstn_text.specs.Numbers.{number_within, printed_number}
-use Rattle.cstn_text.specs.PrintedNames.{name_read, printed_name}
+use Rattle.cstn_text.specs.PrintedNames.{printed_name}
+use Rattle.cstn_listing.specs.Parts.{parts_at, part, node_read}
+use Rattle.cstn_listing.specs.Listings.{load_read}
 use Rattle.cstn_tree.specs.Trees.{Line}
 use Rattle.cstn_tree.specs.Trees.Line.{AtLine, AskLine, DoneLine}
 
@@ -25,33 +25,7 @@ printed_lines names lines = flat_map (λ l. printed_line names l ++ 10 ∷ []) l
 abbrev pub shown : List (List ℕ) → ℕ → List Line → List ℕ
 shown names load lines = codes "yes " ++ printed_number load ++ 10 ∷ printed_lines names lines
 
--- ---- parts
-
--- a text split at a byte: the parts that end with it, without it, and what stands after the last one
-abbrev pub Parts : Type 0
-Parts = List (List ℕ) × List ℕ
-
--- the split text with one more byte at the front of its first part
-abbrev pub begun : ℕ → List (List ℕ) → List ℕ → Parts
-begun b [] tail = ([], b ∷ tail)
-begun b (part ∷ parts) tail = ((b ∷ part) ∷ parts, tail)
-
-abbrev pub with_byte : ℕ → ℕ → Parts → Parts
-with_byte end b text = if b == end then ([] ∷ text.0, text.1) else begun b text.0 text.1
-
-unfoldable pub parts_at : ℕ → List ℕ → Parts
-parts_at end [] = ([], [])
-parts_at end (b ∷ bytes) = with_byte end b (parts_at end bytes)
-
 -- ---- read
-
--- the part before the first space, and what stands after it
-abbrev pub first_part : List ℕ → Option (List ℕ × List ℕ)
-first_part bytes = cut_at 32 bytes
-
--- the place in the list of the name that the text prints, if it prints one of them
-abbrev pub node_read : List (List ℕ) → List ℕ → Option ℕ
-node_read names text = option_and_then (number_of names) (name_read text)
 
 abbrev pub put_first : ℕ → Option (List ℕ) → Option (List ℕ)
 put_first x others = option_map (λ xs. x ∷ xs) others
@@ -68,7 +42,7 @@ names_read names bytes = nodes_read names (parts_at 32 bytes).0 (parts_at 32 byt
 -- the `at` of a text that is a moment below 2^32, a space, and names
 abbrev pub at_read : List (List ℕ) → List ℕ → Option Line
 at_read names bytes =
-    option_and_then (λ found. option_and_then (λ t. option_map (AtLine t) (names_read names found.1)) (number_within 0 4294967295 found.0)) (first_part bytes)
+    option_and_then (λ found. option_and_then (λ t. option_map (AtLine t) (names_read names found.1)) (number_within 0 4294967295 found.0)) (part bytes)
 
 -- the `ask` of a text that is a letter
 abbrev pub ask_read : List ℕ → Option Line
@@ -84,7 +58,7 @@ word_read names word rest =
 abbrev pub line_read : List (List ℕ) → List ℕ → Option Line
 line_read names bytes =
     if bytes_eq bytes (codes "done") then Some DoneLine
-    else option_and_then (λ found. word_read names found.0 found.1) (first_part bytes)
+    else option_and_then (λ found. word_read names found.0 found.1) (part bytes)
 
 -- the line of a tree that a text is, where its branch has at most 2,100 lines down to it
 abbrev pub line_within : List (List ℕ) → ℕ → List ℕ → Option Line
@@ -121,15 +95,10 @@ told_after names (depth ∷ ahead) lines (text ∷ texts) tail =
     or_wrong (line_within names depth text) (length lines + 2)
     (λ l. told_after names (ahead_after depth ahead l) (lines ++ l ∷ []) texts tail)
 
--- the first line: `yes`, a space, and the load
-abbrev pub load_read : List ℕ → Option ℕ
-load_read line =
-    option_and_then (λ found. if bytes_eq found.0 (codes "yes") then number_within 1 4194304 found.1 else None) (first_part line)
-
 -- what a text says: a load, and then the lines of one tree
 abbrev pub told_lines : List (List ℕ) → List (List ℕ) → List ℕ → Told
 told_lines names [] tail = wrong 1
-told_lines names (line ∷ lines) tail = or_wrong (load_read line) 1 (λ load. told_after names (1 ∷ []) [] lines tail)
+told_lines names (line ∷ lines) tail = or_wrong (load_read (codes "yes") line) 1 (λ load. told_after names (1 ∷ []) [] lines tail)
 
 abbrev pub told : List (List ℕ) → List ℕ → Told
 told names bytes = told_lines names (parts_at 10 bytes).0 (parts_at 10 bytes).1

@@ -3,19 +3,18 @@ ghost use Rattle.std.specs.Prelude.{ℕ, ◌≡◌, ◌<◌, ◌≤◌, ◌+◌,
 ghost use Rattle.std.specs.List.{All};
 ghost use Rattle.std.specs.Option.{option_map};
 ghost use Rattle.cstn_tree.specs.Trees.{IsAmong, names_on};
-ghost use Rattle.cstn_tree.specs.Texts.{Told, tells, at_end, told_after, told, load_read, line_within, ahead_after, parts_at};
+ghost use Rattle.cstn_listing.specs.Parts.{parts_at};
+ghost use Rattle.cstn_tree.specs.Texts.{Told, tells, at_end, told_after, told, line_within, ahead_after};
 ghost use Rattle.cstn_tree.specs.Written.{FitsText};
 ghost use Rattle.cstn_tree.specs.Read.{the_line, the_tree};
 ghost use Rattle.cstn_tree.specs.Reading.{the_ahead, the_lines, IsReader, IsWrong};
 
 use crate::errors::TreeError;
-use crate::parts::{first_part, read_line};
+use crate::parts::read_line;
 use crate::trees::{Line, Tree};
-use cstn_text::{Names, cut_at, read_number_within};
+use cstn_listing::read_load;
+use cstn_text::{Names, cut_at};
 use std::alloc::{AllocError, Global};
-
-/// The greatest load.
-const MOST_LOAD: u32 = 4_194_304;
 
 /// How many lines there may be on a branch, with its last one.
 const MOST_DEPTH: u16 = 2100;
@@ -36,20 +35,10 @@ pub fn read(alloc: Global, names: &Names, bytes: &[u8]) -> Result<Tree, TreeErro
     let Some((line, rest)) = cut_at(bytes, b'\n') else {
         return Err(TreeError::Line { line: 1 });
     };
-    let Some(_load) = read_load(line) else {
+    let Some(_load) = read_load("yes", line) else {
         return Err(TreeError::Line { line: 1 });
     };
     read_lines(alloc, names, rest)
-}
-
-fn read_load(line: &[u8]) -> Option<u32>
-    ensures load { result ≡ load_read line.now }
-{
-    let (word, rest) = first_part(line)?;
-    if word != b"yes".as_slice() {
-        return None;
-    }
-    read_number_within(1, MOST_LOAD, rest)
 }
 
 // The tree of the lines that follow the line of the load.

@@ -1,9 +1,10 @@
 use Rattle.std.proofs.Common.{ℕ, List, [], ◌∷◌, ◌≡◌, length, arith, sym, subst, ap, ◌∙◌}
 use Rattle.std.specs.Prelude.{IfOk, IfErr}
 use Rattle.cstn_tree.specs.Trees.{Line}
-use Rattle.cstn_tree.specs.Texts.{Told, tells, told_after, parts_at}
+use Rattle.cstn_listing.specs.Parts.{parts_at}
+use Rattle.cstn_tree.specs.Texts.{Told, tells, told_after}
 use Rattle.cstn_tree.specs.Reading.{the_ahead, the_lines, IsWrong}
-use Rattle.cstn_tree.proofs.PartLemmas.{cut_shorter}
+use Rattle.cstn_listing.proofs.PartLemmas.{cut_shorter}
 use Rattle.cstn_tree.proofs.ReadLemmas.{told_cut, told_last}
 use Rattle.cstn_tree.proofs.reading.read_lines.Goals as goal
 

@@ -1,5 +1,6 @@
 use Rattle.std.proofs.Common.{◌≡◌, ◌≤◌, ◌+◌, [], ◌∷◌, length}
-use Rattle.cstn_tree.specs.Texts.{told_after, parts_at}
+use Rattle.cstn_listing.specs.Parts.{parts_at}
+use Rattle.cstn_tree.specs.Texts.{told_after}
 use Rattle.cstn_tree.specs.Reading.{the_ahead, the_lines, IsReader}
 use Rattle.cstn_tree.proofs.reading.read_lines.Given as goal
 
