@@ -7,7 +7,6 @@ use Rattle.cstn_label.specs.Bounds.{Bound}
 use Rattle.cstn_text.specs.Names.{AreNames}
 use Rattle.cstn_text.specs.PrintedLabels.{printed_label, label_read}
 use Rattle.cstn_text.proofs.PrintedLabelLemmas.{label_back}
-use Rattle.cstn_listing.specs.Parts.{part}
 use Rattle.cstn_listing.specs.Listings.{AreLines as AreLinesOf}
 use Rattle.cstn_listing.proofs.ReadingLemmas.{word_part, part_back, IsFree, free, spaced}
 use Rattle.cstn_listing.proofs.ListingLemmas.{ends_some, text_back as listing_back}

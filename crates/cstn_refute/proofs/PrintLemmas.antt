@@ -1,8 +1,6 @@
 -- Texts, step by step.
 use Rattle.std.proofs.Common.{ℕ, ◌≡◌, ◌+◌, ◌<◌, List, [], ◌∷◌, ◌++◌, length, get_or, take, map, arith, sym, ap, ◌∙◌, codes}
-use Rattle.std.specs.Prelude.{String, string_bytes}
-use Rattle.std.specs.declared.alloc.Global.{Global}
-use Rattle.std.proofs.lemmas.List.{append_assoc, map_more, length-map, get_or-map}
+use Rattle.std.proofs.lemmas.List.{append_assoc, map_more, length-map}
 use Rattle.std.proofs.lemmas.Grind.{common_steps}
 use Rattle.cstn_rules.specs.declared.entries.Entry.{Entry as DeclaredEntry}
 use Rattle.cstn_rules.specs.Derivations.{Entry}

@@ -1,28 +1,27 @@
 -- The printed text of a tree is read back as that tree.
-use Rattle.std.proofs.Common.{ℕ, ◌≡◌, ◌≢◌, ◌+◌, ◌<◌, ◌≤◌, ◌^◌, List, [], ◌∷◌, ◌++◌, length, map, arith, refl, sym, subst, ap, ◌∙◌, append_assoc, append-nil}
+use Rattle.std.proofs.Common.{ℕ, ◌≡◌, ◌≢◌, ◌+◌, ◌<◌, ◌≤◌, ◌^◌, List, [], ◌∷◌, ◌++◌, length, arith, refl, sym, subst, ap, ◌∙◌, append_assoc, append-nil}
 use Rattle.std.specs.Prelude.{nat_le, if◌then◌else◌, flat_map, slice_index_or, Option, Some, None, codes}
 use Rattle.std.specs.List.{All}
 use Rattle.std.specs.Option.{option_and_then, option_map}
 use Rattle.std.proofs.lemmas.Bool.{ne_eqb}
-use Rattle.std.proofs.lemmas.List.{map-append}
 use Rattle.std.proofs.lemmas.List.Elements.{All-nil, All-cons, All-head, All-append, All-tail}
 use Rattle.cstn_label.specs.Letters.{letter_of, prop_of}
 use Rattle.cstn_text.specs.Names.{AreNames}
 use Rattle.cstn_text.specs.Numbers.{number_within, printed_number}
 use Rattle.cstn_text.specs.PrintedNames.{printed_name}
-use Rattle.cstn_text.proofs.CutLemmas.{cut_back}
 use Rattle.cstn_text.proofs.PartLemmas.{number_part}
 use Rattle.cstn_listing.specs.Parts.{Parts, parts_at}
+use Rattle.cstn_listing.specs.Listings.{AreLines}
 use Rattle.cstn_listing.proofs.PartLemmas.{parts_cut}
 use Rattle.cstn_listing.proofs.ReadingLemmas.{word_part, part_free, part_back, within_back, node_back, name_one_part, IsFree, free, space_free, spaced}
-use Rattle.cstn_listing.proofs.ListingLemmas.{load_back}
+use Rattle.cstn_listing.proofs.ListingLemmas.{text_back}
 use Rattle.cstn_tree.specs.Trees.{Tree, Line, lines_of}
 use Rattle.cstn_tree.specs.Trees.Tree.{at, ask, done}
 use Rattle.cstn_tree.specs.Trees.Line.{AtLine, AskLine, DoneLine}
-use Rattle.cstn_tree.specs.Texts.{printed_line, printed_lines, shown, put_first, nodes_read, names_read, at_read, word_read, line_read, ahead_after, tells, or_wrong, told_after, told}
+use Rattle.cstn_tree.specs.Texts.{printed_line, printed_lines, shown, put_first, nodes_read, names_read, at_read, word_read, line_read, ahead_after, ahead_next, ahead_along, ahead_of, next_read, is_over, tree_lines, tells, without_load, told}
 use Rattle.cstn_tree.specs.Written.{NamesSome, depth, FitsText, IsPrintableLine, AreWritten}
 use Rattle.cstn_tree.specs.Read.{the_tree}
-use Rattle.cstn_tree.proofs.ReadLemmas.{told_first}
+use Rattle.cstn_tree.proofs.ReadLemmas.{along_more}
 
 -- ---- parts
 
@@ -40,14 +39,6 @@ letter_back p small = grind arith
 
 letter_high : (p : ℕ) → 32 < letter_of p
 letter_high p = grind arith
-
-all_left : {X : Type 0} (P : X → Type 0) (xs ys : List X) → All P (xs ++ ys) → All P xs
-all_left P [] ys all = All-nil P
-all_left P (x ∷ xs) ys all = All-cons P x xs (All-head P x (xs ++ ys) all) (all_left P xs ys (All-tail P x (xs ++ ys) all))
-
-all_right : {X : Type 0} (P : X → Type 0) (xs ys : List X) → All P (xs ++ ys) → All P ys
-all_right P [] ys all = all
-all_right P (x ∷ xs) ys all = all_right P xs ys (All-tail P x (xs ++ ys) all)
 
 module _ (names : List (List ℕ)) (are : AreNames names) where
   -- ---- names
@@ -112,71 +103,63 @@ module _ (names : List (List ℕ)) (are : AreNames names) where
       (All-cons (λ b. b ≢ 10) (letter_of p) [] (λ e. let high = letter_high p in omega arith) (All-nil (λ b. b ≢ 10)))
   line_free DoneLine is = free (codes "done") (word_part (codes "done") (omega arith) refl)
 
-  lines_parts : (ls : List Line) → All (IsPrintableLine names) ls → parts_at 10 (printed_lines names ls) ≡ (map (printed_line names) ls, [])
-  unfolding parts_at
-  lines_parts [] each = refl
-  lines_parts (l ∷ ls) each =
-      let line = printed_line names l in
-      let rest = printed_lines names ls in
-      ap (parts_at 10) (append_assoc line (10 ∷ []) rest)
-      ∙ parts_cut 10 (line ++ 10 ∷ rest) line rest (cut_back 10 line rest (line_free l (each 0 l (omega arith))))
-      ∙ ap {A = Parts} {B = Parts} (λ p. (line ∷ p.0, p.1)) (lines_parts ls (All-tail (IsPrintableLine names) l ls each))
-
   -- ---- trees
 
-  line_told : (d : ℕ) (ahead : List ℕ) (before : List Line) (l : Line) (texts : List (List ℕ)) (tail : List ℕ) → d ≤ 2100 → NamesSome l → IsPrintableLine names l →
-      told_after names (d ∷ ahead) before (printed_line names l ∷ texts) tail ≡ told_after names (ahead_after d ahead l) (before ++ l ∷ []) texts tail
-  unfolding told_after
-  line_told d ahead before l texts tail upto some is =
-      ap (λ o. or_wrong o (length before + 2) (λ k. told_after names (ahead_after d ahead k) (before ++ k ∷ []) texts tail)) (within (line_read names (printed_line names l)) ∙ line_back l some is)
-    where
-      within : (o : Option Line) → (if nat_le d 2100 then o else None) ≡ o
-      within o = grind arith
+  -- where the trees of `ahead` are to come, the lines are theirs, with no line below the 2,100th of its branch
+  abbrev AreFit : List ℕ → List Line → Type 0
+  AreFit [] [] = Unit {0}
+  AreFit [] (l ∷ ls) = ⊥
+  AreFit (d ∷ ahead) [] = ⊥
+  AreFit (d ∷ ahead) (l ∷ ls) = (d ≤ 2100) × AreFit (ahead_after d ahead l) ls
 
-  tree_told : (tree : Tree) (d : ℕ) (ahead : List ℕ) (before : List Line) (texts : List (List ℕ)) (tail : List ℕ) → d + depth tree ≤ 2101 →
-      All NamesSome (lines_of tree) → All (IsPrintableLine names) (lines_of tree) →
-      told_after names (d ∷ ahead) before (map (printed_line names) (lines_of tree) ++ texts) tail ≡ told_after names ahead (before ++ lines_of tree) texts tail
-  tree_told (at t xs next) d ahead before texts tail upto some each =
-      let l = AtLine t xs in
-      line_told d ahead before l (map (printed_line names) (lines_of next) ++ texts) tail (omega arith) (some 0 l (omega arith)) (each 0 l (omega arith))
-      ∙ tree_told next (d + 1) ahead (before ++ l ∷ []) texts tail (omega arith) (All-tail NamesSome l (lines_of next) some) (All-tail (IsPrintableLine names) l (lines_of next) each)
-      ∙ ap (λ ls. told_after names ahead ls texts tail) (append_assoc before (l ∷ []) (lines_of next))
-  tree_told (ask p one other) d ahead before texts tail upto some each =
-      let l = AskLine p in
-      let show = printed_line names in
-      let rest = map show (lines_of other) ++ texts in
-      let some_below = All-tail NamesSome l (lines_of one ++ lines_of other) some in
-      let each_below = All-tail (IsPrintableLine names) l (lines_of one ++ lines_of other) each in
-      line_told d ahead before l (map show (lines_of one ++ lines_of other) ++ texts) tail (omega arith) (some 0 l (omega arith)) (each 0 l (omega arith))
-      ∙ ap (λ ts. told_after names ((d + 1) ∷ ((d + 1) ∷ ahead)) (before ++ l ∷ []) ts tail)
-      (ap (λ ts. ts ++ texts) (map-append show (lines_of one) (lines_of other)) ∙ append_assoc (map show (lines_of one)) (map show (lines_of other)) texts)
-      ∙ tree_told one (d + 1) ((d + 1) ∷ ahead) (before ++ l ∷ []) rest tail (omega arith)
-      (all_left NamesSome (lines_of one) (lines_of other) some_below) (all_left (IsPrintableLine names) (lines_of one) (lines_of other) each_below)
-      ∙ tree_told other (d + 1) ahead ((before ++ l ∷ []) ++ lines_of one) texts tail (omega arith)
-      (all_right NamesSome (lines_of one) (lines_of other) some_below) (all_right (IsPrintableLine names) (lines_of one) (lines_of other) each_below)
-      ∙ ap (λ ls. told_after names ahead ls texts tail)
-      (append_assoc (before ++ l ∷ []) (lines_of one) (lines_of other) ∙ append_assoc before (l ∷ []) (lines_of one ++ lines_of other))
-  tree_told done d ahead before texts tail upto some each =
-      line_told d ahead before DoneLine texts tail (omega arith) (some 0 DoneLine (omega arith)) (each 0 DoneLine (omega arith))
+  tree_fits : (tree : Tree) (d : ℕ) (ahead : List ℕ) (ls : List Line) → d + depth tree ≤ 2101 → AreFit ahead ls → AreFit (d ∷ ahead) (lines_of tree ++ ls)
+  tree_fits (at t xs next) d ahead ls upto fit = (omega arith, tree_fits next (d + 1) ahead ls (omega arith) fit)
+  tree_fits (ask p one other) d ahead ls upto fit = (
+    omega arith,
+    subst (AreFit ((d + 1) ∷ ((d + 1) ∷ ahead))) (sym (append_assoc (lines_of one) (lines_of other) ls))
+        (tree_fits one (d + 1) ((d + 1) ∷ ahead) (lines_of other ++ ls) (omega arith) (tree_fits other (d + 1) ahead ls (omega arith) fit)),
+  )
+  tree_fits done d ahead ls upto fit = (omega arith, fit)
 
-  lines_told : (tree : Tree) → depth tree ≤ 2100 → All NamesSome (lines_of tree) → All (IsPrintableLine names) (lines_of tree) →
-      told_after names (1 ∷ []) [] (map (printed_line names) (lines_of tree)) [] ≡ tells (lines_of tree)
-  unfolding told_after
-  lines_told tree short some each =
-      ap (λ ts. told_after names (1 ∷ []) [] ts []) (sym (append-nil (map (printed_line names) (lines_of tree))))
-      ∙ tree_told tree 1 [] [] [] [] (omega arith) some each
+  along_over : (ahead : List ℕ) (ls : List Line) → AreFit ahead ls → ahead_along ahead ls ≡ []
+  along_over [] [] fit = refl
+  along_over [] (l ∷ ls) fit = absurd fit
+  along_over (d ∷ ahead) [] fit = absurd fit
+  along_over (d ∷ ahead) (l ∷ ls) fit = along_over (ahead_after d ahead l) ls fit.1
+
+  within : (d : ℕ) (o : Option Line) → d ≤ 2100 → (if nat_le d 2100 then o else None) ≡ o
+  within d o upto = grind arith
+
+  lines_read : (ahead : List ℕ) (before ls : List Line) → ahead_of before ≡ ahead → AreFit ahead ls → All NamesSome ls → All (IsPrintableLine names) ls →
+      AreLines (tree_lines names) before ls (printed_lines names ls)
+  lines_read ahead before [] is fit some each = refl
+  lines_read [] before (l ∷ ls) is fit some each = absurd fit
+  lines_read (d ∷ ahead) before (l ∷ ls) is fit some each =
+      let line = printed_line names l in
+      let here = All-head (IsPrintableLine names) l ls each in (
+        line,
+        printed_lines names ls,
+        ap (λ a. next_read names a line) is ∙ within d (line_read names line) fit.0 ∙ line_back l (All-head NamesSome l ls some) here,
+        line_free l here,
+        append_assoc line (10 ∷ []) (printed_lines names ls),
+        lines_read (ahead_after d ahead l) (before ++ l ∷ []) ls (along_more (1 ∷ []) before l ∙ ap (λ a. ahead_next a l) is) fit.1
+            (All-tail NamesSome l ls some) (All-tail (IsPrintableLine names) l ls each),
+      )
 
 -- the printed text of a load and a tree says the lines of the tree
 pub shown_back : (names : List (List ℕ)) (load : ℕ) (tree : Tree) → AreNames names → AreWritten names load tree →
     told names (shown names load (lines_of tree)) ≡ tells (lines_of tree)
 shown_back names load tree are is =
-    let line = codes "yes " ++ printed_number load in
-    let rest = printed_lines names (lines_of tree) in
-    let small = is.load_high in
-    let line_free = spaced (codes "yes") (printed_number load) (free (codes "yes") (word_part (codes "yes") (omega arith) refl)) (free (printed_number load) (number_part load (omega arith))) in
-    told_first names (line ++ 10 ∷ rest) line rest load (cut_back 10 line rest line_free) (load_back (codes "yes") load (word_part (codes "yes") (omega arith) refl) is.load_low is.load_high)
-    ∙ ap {A = Parts} (λ p. told_after names (1 ∷ []) [] p.0 p.1) (lines_parts names are (lines_of tree) is.each)
-    ∙ lines_told names are tree is.fits.short is.fits.named is.each
+    let short = is.fits.short in
+    let fit = subst (AreFit names are (1 ∷ [])) (append-nil (lines_of tree)) (tree_fits names are tree 1 [] [] (omega arith) tt) in
+    ap without_load (text_back (tree_lines names) (word_part (codes "yes") (omega arith) refl) (shown names load (lines_of tree)) load (lines_of tree) (record {
+      low = is.load_low;
+      high = is.load_high;
+      ends = ap is_over (along_over names are (1 ∷ []) (lines_of tree) fit);
+      lines = printed_lines names (lines_of tree);
+      text = refl;
+      each = lines_read names are (1 ∷ []) [] (lines_of tree) refl fit is.fits.named is.each;
+    }))
 
 -- the printed text of a load and lines says these lines, where they are the lines of a tree
 pub said_back : (names : List (List ℕ)) (load : ℕ) (lines : List Line) (text : List ℕ) → AreNames names → 1 ≤ load → load ≤ 4194304 →

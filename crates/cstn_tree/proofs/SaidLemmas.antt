@@ -11,18 +11,19 @@ use Rattle.cstn_text.specs.Names.{AreNames}
 use Rattle.cstn_text.specs.Numbers.{number_within, printed_number}
 use Rattle.cstn_text.specs.PrintedNames.{printed_name}
 use Rattle.cstn_listing.specs.Parts.{parts_at, joined, part, node_read}
-use Rattle.cstn_listing.specs.Listings.{load_read}
+use Rattle.cstn_listing.specs.Listings.{Told as Listing, tells as tells_with, wrong as wrong_line, told as told_by, AreLines}
 use Rattle.cstn_listing.proofs.PartLemmas.{parts_joined}
 use Rattle.cstn_listing.proofs.ReadingLemmas.{then_read, map_read, if_read, within_said, part_said, node_said}
-use Rattle.cstn_listing.proofs.ListingLemmas.{load_said}
+use Rattle.cstn_listing.proofs.ListingLemmas.{text_said as listing_said}
 use Rattle.cstn_tree.specs.Trees.{Tree, Line, lines_of}
 use Rattle.cstn_tree.specs.Trees.Tree.{at, ask, done}
 use Rattle.cstn_tree.specs.Trees.Line.{AtLine, AskLine, DoneLine}
-use Rattle.cstn_tree.specs.Texts.{printed_line, printed_lines, shown, put_first, nodes_read, names_read, at_read, ask_read, word_read, line_read, line_within, ahead_after, Told, tells, wrong, at_end, or_wrong, told_after, told_lines, told}
+use Rattle.cstn_tree.specs.Texts.{printed_line, printed_lines, shown, put_first, nodes_read, names_read, at_read, ask_read, word_read, line_read, ahead_after, ahead_next, ahead_of, next_read, is_over, tree_lines, tells, without_load, told}
 use Rattle.cstn_tree.specs.Whole.{all_lines}
 use Rattle.cstn_tree.specs.Written.{NamesSome, depth, FitsText, IsPrintableLine, IsTextOfTree}
 use Rattle.cstn_tree.specs.Read.{the_tree}
 use Rattle.cstn_tree.proofs.TreeLemmas.{tree_back}
+use Rattle.cstn_tree.proofs.ReadLemmas.{along_more}
 use Rattle.cstn_tree.proofs.BackLemmas.{shown_back}
 
 letter_said : (b p : ℕ) → prop_of b ≡ Some p → (p < 52) × (b ≡ letter_of p)
@@ -139,25 +140,24 @@ module _ (names : List (List ℕ)) where
   AreWithin (d ∷ ahead) [] = ⊥
   AreWithin (d ∷ ahead) (tree ∷ trees) = (d + depth tree ≤ 2101) × AreWithin ahead trees
 
-  -- the text is that of the lines that follow those before, which are those of trees within these depths
-  record AreTrees (ahead : List ℕ) (before lines : List Line) (bytes : List ℕ) : Type 0 where
+  -- the text is that of the lines, which are those of trees within these depths
+  record AreTrees (ahead : List ℕ) (lines : List Line) (bytes : List ℕ) : Type 0 where
     trees : List Tree
     within : AreWithin ahead trees
-    whole : lines ≡ before ++ all_lines trees
+    whole : lines ≡ all_lines trees
     named : All NamesSome (all_lines trees)
     each : All (IsPrintableLine names) (all_lines trees)
     text : bytes ≡ printed_lines names (all_lines trees)
 
-  module _ (d : ℕ) (ahead : List ℕ) (l : Line) (before lines : List Line) (line rest : List ℕ) where
+  module _ (d : ℕ) (ahead : List ℕ) (l : Line) (lines : List Line) (line rest : List ℕ) where
     -- the trees that begin with a line, and go on with the lines of other trees
-    begun_trees : IsLine line l → (trees : List Tree) → AreWithin (d ∷ ahead) trees →
-        (below : List Tree) → all_lines trees ≡ l ∷ all_lines below → lines ≡ (before ++ l ∷ []) ++ all_lines below →
-        All NamesSome (all_lines below) → All (IsPrintableLine names) (all_lines below) → rest ≡ printed_lines names (all_lines below) →
-        AreTrees (d ∷ ahead) before lines (line ++ 10 ∷ rest)
+    begun_trees : IsLine line l → (trees : List Tree) → AreWithin (d ∷ ahead) trees → (below : List Tree) → all_lines trees ≡ l ∷ all_lines below →
+        lines ≡ all_lines below → All NamesSome (all_lines below) → All (IsPrintableLine names) (all_lines below) → rest ≡ printed_lines names (all_lines below) →
+        AreTrees (d ∷ ahead) (l ∷ lines) (line ++ 10 ∷ rest)
     begun_trees is trees within below same whole named each text = record {
       trees = trees;
       within = within;
-      whole = whole ∙ append_assoc before (l ∷ []) (all_lines below) ∙ ap (λ ls. before ++ ls) (sym same);
+      whole = ap (λ ls. l ∷ ls) whole ∙ sym same;
       named = subst (All NamesSome) (sym same) (All-cons NamesSome l (all_lines below) is.named named);
       each = subst (All (IsPrintableLine names)) (sym same) (All-cons (IsPrintableLine names) l (all_lines below) is.written each);
       text = ap (λ (t : List ℕ). t ++ 10 ∷ rest) is.text
@@ -167,48 +167,25 @@ module _ (names : List (List ℕ)) where
     }
 
   -- a line and the trees that it asks for are the trees that begin with it
-  line_trees : (d : ℕ) (ahead : List ℕ) (l : Line) (before lines : List Line) (line rest : List ℕ) → d ≤ 2100 → IsLine line l →
-      AreTrees (ahead_after d ahead l) (before ++ l ∷ []) lines rest → AreTrees (d ∷ ahead) before lines (line ++ 10 ∷ rest)
-  line_trees d ahead l before lines line rest upto is after = go l is after.trees after.within after.whole after.named after.each after.text
+  line_trees : (d : ℕ) (ahead : List ℕ) (l : Line) (lines : List Line) (line rest : List ℕ) → d ≤ 2100 → IsLine line l →
+      AreTrees (ahead_after d ahead l) lines rest → AreTrees (d ∷ ahead) (l ∷ lines) (line ++ 10 ∷ rest)
+  line_trees d ahead l lines line rest upto is after = go l is after.trees after.within after.whole after.named after.each after.text
     where
-      go : (l : Line) → IsLine line l → (trees : List Tree) → AreWithin (ahead_after d ahead l) trees →
-          lines ≡ (before ++ l ∷ []) ++ all_lines trees → All NamesSome (all_lines trees) → All (IsPrintableLine names) (all_lines trees) →
-          rest ≡ printed_lines names (all_lines trees) → AreTrees (d ∷ ahead) before lines (line ++ 10 ∷ rest)
+      go : (l : Line) → IsLine line l → (trees : List Tree) → AreWithin (ahead_after d ahead l) trees → lines ≡ all_lines trees → All NamesSome (all_lines trees) →
+          All (IsPrintableLine names) (all_lines trees) → rest ≡ printed_lines names (all_lines trees) → AreTrees (d ∷ ahead) (l ∷ lines) (line ++ 10 ∷ rest)
       go (AtLine t xs) is [] within whole named each text = absurd within
       go (AtLine t xs) is (next ∷ trees) within whole named each text =
           let deep = within.0 in
-          begun_trees d ahead (AtLine t xs) before lines line rest is (at t xs next ∷ trees) (omega arith, within.1) (next ∷ trees) refl whole named each text
+          begun_trees d ahead (AtLine t xs) lines line rest is (at t xs next ∷ trees) (omega arith, within.1) (next ∷ trees) refl whole named each text
       go (AskLine p) is [] within whole named each text = absurd within
       go (AskLine p) is (one ∷ []) within whole named each text = absurd within.1
       go (AskLine p) is (one ∷ (other ∷ trees)) within whole named each text =
           let deep = within.0 in
           let also = within.1.0 in
-          begun_trees d ahead (AskLine p) before lines line rest is (ask p one other ∷ trees) (omega arith, within.1.1) (one ∷ (other ∷ trees))
+          begun_trees d ahead (AskLine p) lines line rest is (ask p one other ∷ trees) (omega arith, within.1.1) (one ∷ (other ∷ trees))
           (ap (λ ls. AskLine p ∷ ls) (append_assoc (lines_of one) (lines_of other) (all_lines trees))) whole named each text
       go DoneLine is trees within whole named each text =
-          begun_trees d ahead DoneLine before lines line rest is (done ∷ trees) (omega arith, within) trees refl whole named each text
-
-  -- a text is not both wrong and read
-  not_wrong : (line : ℕ) (lines : List Line) → wrong line ≡ tells lines → ⊥
-  not_wrong line lines e = cc
-
-  read_or_wrong : {A : Type 0} (o : Option A) (line : ℕ) (next : A → Told) (lines : List Line) → or_wrong o line next ≡ tells lines → (x : A) × (o ≡ Some x) × (next x ≡ tells lines)
-  read_or_wrong None line next lines e = absurd (not_wrong line lines e)
-  read_or_wrong (Some x) line next lines e = (x, refl, e)
-
-  end_said : (ahead : List ℕ) (before : List Line) (tail : List ℕ) (lines : List Line) → at_end ahead before tail ≡ tells lines → AreTrees ahead before lines tail
-  end_said [] before [] lines e =
-      let same : before ≡ lines = cc in
-      record {
-        trees = [];
-        within = tt;
-        whole = sym same ∙ sym (append-nil before);
-        named = All-nil NamesSome;
-        each = All-nil (IsPrintableLine names);
-        text = refl;
-      }
-  end_said [] before (b ∷ tail) lines e = absurd (not_wrong _ lines e)
-  end_said (d ∷ ahead) before tail lines e = absurd (not_wrong _ lines e)
+          begun_trees d ahead DoneLine lines line rest is (done ∷ trees) (omega arith, within) trees refl whole named each text
 
   within_depth : (d : ℕ) (o : Option Line) (l : Line) → (if nat_le d 2100 then o else None) ≡ Some l → (d ≤ 2100) × (o ≡ Some l)
   within_depth d o l e = let both = if_read (nat_le d 2100) o l e in (upto both.0, both.1)
@@ -216,24 +193,33 @@ module _ (names : List (List ℕ)) where
       upto : nat_le d 2100 ≡ true → d ≤ 2100
       upto e = grind arith
 
-  after_said : (ahead : List ℕ) (before : List Line) (texts : List (List ℕ)) (tail : List ℕ) (lines : List Line) →
-      told_after names ahead before texts tail ≡ tells lines → AreTrees ahead before lines (joined 10 texts tail)
-  unfolding told_after joined
-  after_said ahead before [] tail lines e = end_said ahead before tail lines e
-  after_said [] before (text ∷ texts) tail lines e = absurd (not_wrong _ lines e)
-  after_said (d ∷ ahead) before (text ∷ texts) tail lines e =
-      let next = read_or_wrong (line_within names d text) (length before + 2) (λ l. told_after names (ahead_after d ahead l) (before ++ l ∷ []) texts tail) lines e in
-      let read = within_depth d (line_read names text) next.0 next.1 in
-      line_trees d ahead next.0 before lines text (joined 10 texts tail) read.0 (line_said text next.0 read.1)
-      (after_said (ahead_after d ahead next.0) (before ++ next.0 ∷ []) texts tail lines next.2)
+  -- lines that are read until no tree is to come are those of trees
+  lines_said : (ahead : List ℕ) (before lines : List Line) (bytes : List ℕ) → ahead_of before ≡ ahead → ahead_of (before ++ lines) ≡ [] →
+      AreLines (tree_lines names) before lines bytes → AreTrees ahead lines bytes
+  lines_said [] before [] bytes is over are =
+      record { trees = []; within = tt; whole = refl; named = All-nil NamesSome; each = All-nil (IsPrintableLine names); text = are }
+  lines_said (d ∷ ahead) before [] bytes is over are =
+      let same : d ∷ ahead ≡ [] = sym is ∙ ap ahead_of (sym (append-nil before)) ∙ over in
+      let f : ⊥ = cc in
+      absurd f
+  lines_said [] before (l ∷ lines) bytes is over (line, rest, read, free, whole, are) =
+      let none : None ≡ Some l = sym (ap (λ a. next_read names a line) is) ∙ read in
+      let f : ⊥ = cc in
+      absurd f
+  lines_said (d ∷ ahead) before (l ∷ lines) bytes is over (line, rest, read, free, whole, are) =
+      let here = within_depth d (line_read names line) l (sym (ap (λ a. next_read names a line) is) ∙ read) in
+      let next = along_more (1 ∷ []) before l ∙ ap (λ a. ahead_next a l) is in
+      subst (AreTrees (d ∷ ahead) (l ∷ lines)) (sym whole)
+      (line_trees d ahead l lines line rest here.0 (line_said line l here.1)
+      (lines_said (ahead_after d ahead l) (before ++ l ∷ []) lines rest next (ap ahead_of (append_assoc before (l ∷ []) lines) ∙ over) are))
 
   -- the trees after the first line are one tree
-  one_tree : (load : ℕ) (lines : List Line) (line text : List ℕ) → 1 ≤ load → load ≤ 4194304 → line ≡ codes "yes " ++ printed_number load →
-      AreTrees (1 ∷ []) [] lines text → IsTextOfTree names lines (line ++ 10 ∷ text)
-  one_tree load lines line text low high first are = go are.trees are.within are.whole are.named are.each are.text
+  one_tree : (load : ℕ) (lines : List Line) (bytes text : List ℕ) → 1 ≤ load → load ≤ 4194304 → bytes ≡ codes "yes " ++ printed_number load ++ 10 ∷ text →
+      AreTrees (1 ∷ []) lines text → IsTextOfTree names lines bytes
+  one_tree load lines bytes text low high first are = go are.trees are.within are.whole are.named are.each are.text
     where
       go : (trees : List Tree) → AreWithin (1 ∷ []) trees → lines ≡ all_lines trees → All NamesSome (all_lines trees) → All (IsPrintableLine names) (all_lines trees) →
-          text ≡ printed_lines names (all_lines trees) → IsTextOfTree names lines (line ++ 10 ∷ text)
+          text ≡ printed_lines names (all_lines trees) → IsTextOfTree names lines bytes
       go [] within whole named each is = absurd within
       go (tree ∷ (other ∷ trees)) within whole named each is = absurd within.1
       go (tree ∷ []) within whole named each is =
@@ -249,21 +235,25 @@ module _ (names : List (List ℕ)) where
               fits = record { named = subst (All NamesSome) one named; short = omega arith };
               each = subst (All (IsPrintableLine names)) one each;
             };
-            text = ap (λ (t : List ℕ). t ++ 10 ∷ text) first
-                ∙ ap (λ (t : List ℕ). (codes "yes " ++ printed_number load) ++ 10 ∷ t) (is ∙ ap (printed_lines names) (sym whole));
+            text = first ∙ ap (λ (t : List ℕ). (codes "yes " ++ printed_number load) ++ 10 ∷ t) (is ∙ ap (printed_lines names) (sym whole));
           }
 
-  lines_said : (texts : List (List ℕ)) (tail : List ℕ) (lines : List Line) → told_lines names texts tail ≡ tells lines → IsTextOfTree names lines (joined 10 texts tail)
-  unfolding joined
-  lines_said [] tail lines e = absurd (not_wrong 1 lines e)
-  lines_said (line ∷ texts) tail lines e =
-      let load = read_or_wrong (load_read (codes "yes") line) 1 (λ load. told_after names (1 ∷ []) [] texts tail) lines e in
-      let first = load_said (codes "yes") line load.0 load.1 in
-      one_tree load.0 lines line (joined 10 texts tail) first.0 first.1 first.2 (after_said (1 ∷ []) [] texts tail lines load.2)
+-- what says lines says some load and these lines
+loaded : (t : Listing Line) (lines : List Line) → without_load t ≡ tells lines → (load : ℕ) × (t ≡ tells_with load lines)
+loaded (tells_with load ls) lines e = let same : ls ≡ lines = cc in (load, ap (tells_with load) same)
+loaded (wrong_line line) lines e = let f : ⊥ = cc in absurd f
+
+over_nil : (ahead : List ℕ) → is_over ahead ≡ true → ahead ≡ []
+over_nil [] e = refl
+over_nil (d ∷ ahead) e = absurd (cc)
 
 -- a text that says the lines of a tree is the one that is printed of a load and that tree
 pub text_said : (names : List (List ℕ)) (bytes : List ℕ) (lines : List Line) → told names bytes ≡ tells lines → IsTextOfTree names lines bytes
-text_said names bytes lines e = subst (IsTextOfTree names lines) (parts_joined 10 bytes) (lines_said names (parts_at 10 bytes).0 (parts_at 10 bytes).1 lines e)
+text_said names bytes lines e =
+    let says = loaded (told_by (tree_lines names) bytes) lines e in
+    let is = listing_said (tree_lines names) bytes says.0 lines says.1 in
+    one_tree names says.0 lines bytes is.lines is.low is.high is.text
+    (lines_said names (1 ∷ []) [] lines is.lines refl (over_nil (ahead_of lines) is.ends) is.each)
 
 pub text_says : (names : List (List ℕ)) (bytes : List ℕ) (lines : List Line) → AreNames names → IsTextOfTree names lines bytes → told names bytes ≡ tells lines
 text_says names bytes lines are is =

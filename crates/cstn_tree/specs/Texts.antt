@@ -1,11 +1,11 @@
 -- Texts of trees.
-use Rattle.std.specs.Prelude.{ℕ, ◌+◌, ◌++◌, nat_le, if◌then◌else◌, List, [], ◌∷◌, length, flat_map, slice_index_or, Option, None, Some, codes, bytes_eq}
+use Rattle.std.specs.Prelude.{ℕ, ◌+◌, ◌++◌, Bool, true, false, nat_le, if◌then◌else◌, List, [], ◌∷◌, flat_map, slice_index_or, Option, None, Some, codes, bytes_eq}
 use Rattle.std.specs.Option.{option_and_then, option_map}
 use Rattle.cstn_label.specs.Letters.{letter_of, prop_of}
 use Rattle.cstn_text.specs.Numbers.{number_within, printed_number}
 use Rattle.cstn_text.specs.PrintedNames.{printed_name}
 use Rattle.cstn_listing.specs.Parts.{parts_at, part, node_read}
-use Rattle.cstn_listing.specs.Listings.{load_read}
+use Rattle.cstn_listing.specs.Listings.{Told as Listing, tells as tells_with, wrong as wrong_line, Kind, told as told_by}
 use Rattle.cstn_tree.specs.Trees.{Line}
 use Rattle.cstn_tree.specs.Trees.Line.{AtLine, AskLine, DoneLine}
 
@@ -71,34 +71,45 @@ ahead_after depth ahead (AtLine t xs) = (depth + 1) ∷ ahead
 ahead_after depth ahead (AskLine p) = (depth + 1) ∷ ((depth + 1) ∷ ahead)
 ahead_after depth ahead DoneLine = ahead
 
+-- the trees still to come after a line, where these were to come before it
+abbrev pub ahead_next : List ℕ → Line → List ℕ
+ahead_next [] l = []
+ahead_next (depth ∷ ahead) l = ahead_after depth ahead l
+
+abbrev pub ahead_along : List ℕ → List Line → List ℕ
+ahead_along ahead [] = ahead
+ahead_along ahead (l ∷ lines) = ahead_along (ahead_next ahead l) lines
+
+-- the trees still to come after these lines; before the first line it is one
+abbrev pub ahead_of : List Line → List ℕ
+ahead_of lines = ahead_along (1 ∷ []) lines
+
+-- the line that a text is where these trees are still to come
+abbrev pub next_read : List (List ℕ) → List ℕ → List ℕ → Option Line
+next_read names [] text = None
+next_read names (depth ∷ ahead) text = line_within names depth text
+
+abbrev pub is_over : List ℕ → Bool
+is_over [] = true
+is_over (depth ∷ ahead) = false
+
+-- no tree is still to come after these lines
+abbrev pub is_whole : List Line → Bool
+is_whole lines = is_over (ahead_of lines)
+
+-- trees are listings of their lines behind the word `yes`, and end where no tree is still to come
+abbrev pub tree_lines : List (List ℕ) → Kind Line
+tree_lines names = record { word = codes "yes"; line_read = λ lines text. next_read names (ahead_of lines) text; may_end = is_whole }
+
 -- what a text says: the lines of a tree, or that a line, counted from 1, is the first that isn't of the grammar
 pub data Told : Type 0 where
   tells : (lines : List Line) → Told
   wrong : (line : ℕ) → Told
 
--- the text ends after these lines, with LF, where no tree is still to come
-abbrev pub at_end : List ℕ → List Line → List ℕ → Told
-at_end [] lines [] = tells lines
-at_end [] lines (b ∷ tail) = wrong (length lines + 2)
-at_end (depth ∷ ahead) lines tail = wrong (length lines + 2)
+abbrev pub without_load : Listing Line → Told
+without_load (tells_with load lines) = tells lines
+without_load (wrong_line line) = wrong line
 
--- the line is wrong where nothing is read of it
-abbrev pub or_wrong : {A : Type 0} → Option A → ℕ → (A → Told) → Told
-or_wrong None line next = wrong line
-or_wrong (Some x) line next = next x
-
--- what a text says after `lines` were read of it, where the trees of `ahead` are still to come and these parts are left
-unfoldable pub told_after : List (List ℕ) → List ℕ → List Line → List (List ℕ) → List ℕ → Told
-told_after names ahead lines [] tail = at_end ahead lines tail
-told_after names [] lines (text ∷ texts) tail = wrong (length lines + 2)
-told_after names (depth ∷ ahead) lines (text ∷ texts) tail =
-    or_wrong (line_within names depth text) (length lines + 2)
-    (λ l. told_after names (ahead_after depth ahead l) (lines ++ l ∷ []) texts tail)
-
--- what a text says: a load, and then the lines of one tree
-abbrev pub told_lines : List (List ℕ) → List (List ℕ) → List ℕ → Told
-told_lines names [] tail = wrong 1
-told_lines names (line ∷ lines) tail = or_wrong (load_read (codes "yes") line) 1 (λ load. told_after names (1 ∷ []) [] lines tail)
-
+-- what a text says: a load, which is not looked at, and then the lines of one tree
 abbrev pub told : List (List ℕ) → List ℕ → Told
-told names bytes = told_lines names (parts_at 10 bytes).0 (parts_at 10 bytes).1
+told names bytes = without_load (told_by (tree_lines names) bytes)

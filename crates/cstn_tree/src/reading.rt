@@ -4,7 +4,8 @@ ghost use Rattle.std.specs.List.{All};
 ghost use Rattle.std.specs.Option.{option_map};
 ghost use Rattle.cstn_tree.specs.Trees.{IsAmong, names_on};
 ghost use Rattle.cstn_listing.specs.Parts.{parts_at};
-ghost use Rattle.cstn_tree.specs.Texts.{Told, tells, at_end, told_after, told, line_within, ahead_after};
+ghost use Rattle.cstn_listing.specs.Listings.{at_end, told_after};
+ghost use Rattle.cstn_tree.specs.Texts.{Told, tells, without_load, tree_lines, is_whole, told, line_within, ahead_after};
 ghost use Rattle.cstn_tree.specs.Written.{FitsText};
 ghost use Rattle.cstn_tree.specs.Read.{the_line, the_tree};
 ghost use Rattle.cstn_tree.specs.Reading.{the_ahead, the_lines, IsReader, IsWrong};
@@ -45,8 +46,8 @@ pub fn read(alloc: Global, names: &Names, bytes: &[u8]) -> Result<Tree, TreeErro
 fn read_lines(alloc: Global, names: &Names, bytes: &[u8]) -> Result<Tree, TreeError>
     requires few { length names.now ≤ 65536 }
     requires short { length bytes.now + 2 < 2 ^ 32 }
-    ensures accepted { IfOk result (λ t. told_after names.now (1 ∷ []) [] (parts_at 10 bytes.now).0 (parts_at 10 bytes.now).1 ≡ tells t) }
-    ensures line { IfErr result (IsWrong (told_after names.now (1 ∷ []) [] (parts_at 10 bytes.now).0 (parts_at 10 bytes.now).1)) }
+    ensures accepted { IfOk result (λ t. (load : ℕ) → without_load (told_after (tree_lines names.now) load [] (parts_at 10 bytes.now).0 (parts_at 10 bytes.now).1) ≡ tells t) }
+    ensures line { IfErr result (λ e. (load : ℕ) → IsWrong (without_load (told_after (tree_lines names.now) load [] (parts_at 10 bytes.now).0 (parts_at 10 bytes.now).1)) e) }
     ensures named { IfOk result (λ t. IsAmong (length names.now) (the_tree t)) }
     ensures few { IfOk result (λ t. length t + 1 < 2 ^ 32) }
 {
@@ -92,8 +93,8 @@ impl Reader {
         requires few { length names.now ≤ 65536 }
         requires reader { IsReader (length names.now) self.old }
         requires short { length self.old.lines.items + 2 < 2 ^ 32 }
-        ensures next { OnOk result ((texts : List (List ℕ)) (tail : List ℕ) → told_after names.now (the_ahead self.old) (the_lines self.old) (text.now ∷ texts) tail ≡ told_after names.now (the_ahead self.new) (the_lines self.new) texts tail) }
-        ensures wrong { IfErr result (λ e. (texts : List (List ℕ)) (tail : List ℕ) → IsWrong (told_after names.now (the_ahead self.old) (the_lines self.old) (text.now ∷ texts) tail) e) }
+        ensures next { OnOk result ((load : ℕ) (texts : List (List ℕ)) (tail : List ℕ) → told_after (tree_lines names.now) load (the_lines self.old) (text.now ∷ texts) tail ≡ told_after (tree_lines names.now) load (the_lines self.new) texts tail) }
+        ensures wrong { IfErr result (λ e. (load : ℕ) (texts : List (List ℕ)) (tail : List ℕ) → IsWrong (without_load (told_after (tree_lines names.now) load (the_lines self.old) (text.now ∷ texts) tail)) e) }
         ensures reader { OnOk result (IsReader (length names.now) self.new) }
         ensures count { OnOk result (length self.new.lines.items ≡ length self.old.lines.items + 1) }
     {
@@ -149,8 +150,8 @@ impl Reader {
     fn finish(self, left: &[u8]) -> Result<Tree, TreeError>
         requires reader { (n : ℕ) × IsReader n self }
         requires short { length self.lines.items + 2 < 2 ^ 32 }
-        ensures accepted { IfOk result (λ t. at_end (the_ahead self) (the_lines self) left.now ≡ tells t) }
-        ensures line { IfErr result (IsWrong (at_end (the_ahead self) (the_lines self) left.now)) }
+        ensures accepted { IfOk result (λ t. (load : ℕ) → without_load (at_end is_whole load (the_lines self) left.now) ≡ tells t) }
+        ensures line { IfErr result (λ e. (load : ℕ) → IsWrong (without_load (at_end is_whole load (the_lines self) left.now)) e) }
         ensures lines { IfOk result (λ t. t ≡ the_lines self) }
         ensures named { (n : ℕ) → IsReader n self → IfOk result (λ t. IsAmong n (the_tree t)) }
     {

@@ -4,7 +4,6 @@ use Rattle.cstn_listing.proofs.ListingLemmas.{told_first, first_wrong, none_wron
 use Rattle.cstn_closed.specs.Closed.{the_bounds}
 use Rattle.cstn_closed.specs.Read.{IsWrong}
 use Rattle.cstn_closed.specs.Texts.{told, tells, bound_lines}
-use Rattle.cstn_closed.specs.Written.{AreWritten}
 use Rattle.cstn_closed.proofs.PrintLemmas.{are_named, fits_text}
 use Rattle.cstn_closed.proofs.SaidLemmas.{text_said}
 use Rattle.cstn_closed.proofs.lists.Closed.read.Goals as goal
