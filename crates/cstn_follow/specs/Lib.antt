@@ -1,0 +1,4 @@
+pub mod Histories
+pub mod Continuations
+pub mod Rest
+pub mod Examples
