@@ -107,3 +107,18 @@ mark_left (Some v) a = Absent
 -- the label without the marks of what was told
 abbrev pub label_left : History → Label → Label
 label_left h a = λ p. mark_left (h.told p) (a p)
+
+-- the later history has a later `now`, or more done at moments from the earlier `now` on; nothing else is changed
+pub record GoesOn (h later : History) : Type 0 where
+  pub now : h.now ≤ later.now
+  pub kept : (x t : ℕ) → h.done x ≡ Some t → later.done x ≡ Some t
+  pub more : (x t : ℕ) → h.done x ≡ None → later.done x ≡ Some t → h.now ≤ t
+  pub told : (p : ℕ) → later.told p ≡ h.told p
+  pub expected : (p : ℕ) → later.expected p ≡ h.expected p
+
+-- in the later history more is told, and nothing else is changed
+pub record IsToldMore (h later : History) : Type 0 where
+  pub now : later.now ≡ h.now
+  pub done : (x : ℕ) → later.done x ≡ h.done x
+  pub told : (p : ℕ) (v : Bool) → h.told p ≡ Some v → later.told p ≡ Some v
+  pub expected : (p : ℕ) → later.expected p ≡ h.expected p

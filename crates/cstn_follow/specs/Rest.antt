@@ -120,6 +120,10 @@ watched m h = flat_map (λ x. watched_one m h x (h.done x) (sight_left m h x)) (
 abbrev pub coming : Labelled → History → List Constraint
 coming m h = flat_map (coming_one m h) (range_with_len 0 (count m.base))
 
+-- the constraints that are added
+abbrev pub added : Labelled → History → List Constraint
+added m h = late m h ++ (watched m h ++ coming m h)
+
 -- the reaction of p, which x observes and which isn't told, by the moment at which x is done, if it is
 abbrev pub reaction_after : Labelled → History → ℕ → ℕ → Option ℕ → ℕ
 reaction_after m h p x None = m.base.reaction p
@@ -139,7 +143,7 @@ rest m h fresh = record {
     deadline = m.base.deadline;
     observes = map (sight_left m h) (left m h);
     reaction = λ p. reaction_by m h p (observer_of m.base p);
-    constraints = filter_map (constraint_left m h) m.base.constraints ++ numbered fresh (late m h ++ watched m h ++ coming m h);
+    constraints = filter_map (constraint_left m h) m.base.constraints ++ numbered fresh (added m h);
   };
   labels = map (λ x. label_left h (label_of m x)) (left m h);
 }

@@ -1,2 +1,6 @@
 //! What has happened while a labelled network was carried out, how it may go on, and the labelled network of what is left.
 #![tactic(auto)]
+
+mod laws;
+
+pub use laws::{histories_narrow, nothing_yet_leaves_all, rest_decides};
