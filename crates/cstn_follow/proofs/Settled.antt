@@ -146,12 +146,15 @@ settles_holds h a s agrees settles p = elim (some_or_none (h.told p)) [
   | inr none ↦ subst (MarkFits (s p)) (sym (settles_absent h a p settles none)) tt
 ]
 
+pub allows_below : (h : History) (a : Label) → allows h a ≡ true → (p : ℕ) (v : Bool) → p < 52 → h.told p ≡ Some v → MarkFits v (a p)
+unfolding allows
+allows_below h a e p v inside is = allowed_back (h.told p) (a p) v (All-contains (λ q. allows_mark (h.told q) (a q) ≡ true) (range_with_len 0 52) p
+    (AllPass-from_list_all (λ q. allows_mark (h.told q) (a q)) (range_with_len 0 52) e) (range_contains 52 p inside)) is
+
 module _ (m : Labelled) (h : History) (good : IsLabelled m) (known : IsHistory m h) where
   -- a told proposition is one of the 52
   pub told_letter : (p : ℕ) (v : Bool) → h.told p ≡ Some v → p < 52
   told_letter p v e = let o = (known.told p v e).1 in good.base.letters o.observer p o.observes
 
   pub allows_back : (a : Label) → allows h a ≡ true → Allows h a
-  unfolding allows
-  allows_back a e p v is = allowed_back (h.told p) (a p) v (All-contains (λ q. allows_mark (h.told q) (a q) ≡ true) (range_with_len 0 52) p
-      (AllPass-from_list_all (λ q. allows_mark (h.told q) (a q)) (range_with_len 0 52) e) (range_contains 52 p (told_letter p v is))) is
+  allows_back a e p v is = allows_below h a e p v (told_letter p v is) is

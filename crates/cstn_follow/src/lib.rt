@@ -1,6 +1,11 @@
 //! What has happened while a labelled network was carried out, how it may go on, and the labelled network of what is left.
 #![tactic(auto)]
 
+mod completion;
+mod errors;
+mod histories;
 mod laws;
 
+pub use errors::{FactError, RestError};
+pub use histories::History;
 pub use laws::{histories_narrow, nothing_yet_leaves_all, rest_decides};
