@@ -40,6 +40,7 @@ module _ (n : ℕ) (done : List (Option ℕ)) (k : Known) (some : 0 < n) (is : d
   pub begun_kept : (m : Labelled) → IsLabelled m → n ≡ count m.base → IsKeptFor m parts
   begun_kept m good at = record {
     one_each = ap length is ∙ length-set (nothing n) 0 (Some 0) ∙ length-replicate n None ∙ at;
+    wide = refl;
     history = subst (IsHistory m) (sym begun_is) (nothing_history m good);
     in_time = subst (IsInTime m) (sym begun_is) (record {
       now = omega arith;

@@ -55,7 +55,7 @@ stand_done m h at by zero t (Some u) q e = refl
 stand_done m h at by (suc x) t (Some u) None e = refl
 stand_done m h at by (suc x) t (Some u) (Some p) e = refl
 
-watched_upto : (m : Labelled) (h : History) (p t : ℕ) → moment_watched m h p t ≤ m.base.deadline
+pub watched_upto : (m : Labelled) (h : History) (p t : ℕ) → moment_watched m h p t ≤ m.base.deadline
 watched_upto m h p t = omega arith
 
 stand_upto : (m : Labelled) (h : History) (at x t : ℕ) (q : Option ℕ) → stand m h at x (Some t) q ≤ m.base.deadline

@@ -23,8 +23,10 @@ the_history h = record {
   expected = λ p. slice_index_or h.expected p None;
 }
 
--- a history of the labelled network as the program keeps it, with a place for each time-point and with all numbers in range
+-- a history of the labelled network as the program keeps it, with a place for each time-point and each proposition and with all
+-- numbers in range
 pub record IsKeptFor (m : Labelled) (h : HistoryParts) : Type 0 where
   pub one_each : length h.done ≡ count m.base
+  pub wide : length h.expected ≡ 52
   pub history : IsHistory m (the_history h)
   pub in_time : IsInTime m (the_history h)

@@ -1,33 +1,24 @@
 ghost use Rattle.std.specs.Prelude.{ℕ, ◌≡◌, ◌<◌, ◌≤◌, ◌==◌, length, None, IfOk, if◌then◌else◌};
 ghost use Rattle.cstn_label.specs.Read.{marks, known_value};
 ghost use Rattle.cstn_net.specs.Networks.{count};
-ghost use Rattle.cstn_lift.specs.Labelled.{Labelled};
 ghost use Rattle.cstn_lift.specs.Read.{the_labelled};
 ghost use Rattle.cstn_follow.specs.Histories.{nothing_yet, allows, mark_left, label_left};
 ghost use Rattle.cstn_follow.specs.Read.{the_history, IsKeptFor};
-ghost use Rattle.cstn_follow.specs.Facts.{settles, now_refusal, done_refusal, told_refusal, expected_refusal, observed_since, refusal_of, at_now, with_done, with_told, with_expected};
+ghost use Rattle.cstn_follow.specs.Facts.{settles};
 
-use crate::completion::completed;
-use crate::errors::FactError;
 use cstn_label::{Known, Label, NodeId, Prop, labels_are_their_marks};
-use cstn_lift::{Labelled, observers_are_found};
+use cstn_lift::Labelled;
 use std::alloc::{AllocError, Global};
 use std::marker::Model;
-
-// The latest moment of a fact, in ticks.
-const MAX_MOMENT: u32 = 1_000_000;
-
-// The latest moment at which an outcome that the origin observes may be expected, in ticks.
-const MAX_ORIGIN_EXPECTED: u32 = 1000;
 
 /// What has happened while a labelled network was carried out: the moments of the time-points that are done, the outcomes that
 /// were told, and those that are expected at another moment than after their reaction. What is before `now` is over.
 #[derive(Drop)]
 pub struct History {
-    time: u32,
-    done: Vec<Option<u32>>,
-    told: Known,
-    expected: [Option<u32>; 52],
+    pub(crate) time: u32,
+    pub(crate) done: Vec<Option<u32>>,
+    pub(crate) told: Known,
+    pub(crate) expected: [Option<u32>; 52],
 }
 
 impl Model for History {

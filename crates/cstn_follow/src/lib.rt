@@ -3,6 +3,7 @@
 
 mod completion;
 mod errors;
+mod facts;
 mod histories;
 mod laws;
 
