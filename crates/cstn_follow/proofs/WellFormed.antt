@@ -9,22 +9,25 @@ use Rattle.std.proofs.lemmas.List.Elements.{All-nil, All-cons, All-head, All-tai
 use Rattle.std.proofs.lemmas.List.Kept.{AllPairs-cons}
 use Rattle.cstn_label.specs.declared.marks.Mark.{Mark}
 use Rattle.cstn_label.specs.declared.marks.Mark.TheVariants.{Absent}
-use Rattle.cstn_label.specs.Labels.{Label, IsMarked, IsMarkPlain, IsPlain, IsWithin, empty, joined}
+use Rattle.cstn_label.specs.Labels.{Label, IsMarked, IsMarkWithin, IsMarkPlain, IsPlain, IsWithin, empty, joined}
+use Rattle.cstn_label.proofs.MarkLemmas.{mark_within_absent}
 use Rattle.cstn_label.proofs.LabelLemmas.{within_through}
 use Rattle.cstn_net.specs.Networks.{Network, Constraint, Observes, IsNetwork, IsWellFormed, IsConstraint, IsOnObserved, IsValue, AreConstraintsFor, count, limit}
 use Rattle.cstn_net.proofs.Knowledge.{observer_within}
+use Rattle.cstn_net.proofs.ListLemmas.{pairs_head, pairs_tail}
 use Rattle.cstn_lift.specs.Labelled.{Labelled, label_of}
 use Rattle.cstn_lift.specs.Completion.{completed, completed_label, full_label}
 use Rattle.cstn_lift.specs.Lowered.{numbered}
 use Rattle.cstn_lift.specs.WellFormed.{IsLabelled}
 use Rattle.cstn_lift.proofs.CompletionLemmas.{completed_contains, completed_complete, within_left}
 use Rattle.cstn_lift.proofs.FullLemmas.{full_within, full_on, label_on}
-use Rattle.cstn_lift.proofs.ListLemmas.{numbered_ascending}
+use Rattle.cstn_lift.proofs.Equivalent.{full_from, full_to}
+use Rattle.cstn_lift.proofs.ListLemmas.{numbered_ascending, filter_map_all}
 use Rattle.cstn_follow.specs.Histories.{History, IsHistory, IsInTime, IsObservedAt, known_at, or_at, mark_left, label_left}
-use Rattle.cstn_follow.specs.Rest.{is_left, number_of, end_left, moved, is_over, constraint_left, bare, late, watched, coming, added, moment_watched, reaction_watched, awaited_at, rest}
-use Rattle.cstn_follow.proofs.Lists.{place, passing_yes, passing_no, place_found}
+use Rattle.cstn_follow.specs.Rest.{left, cut, value_left, is_left, number_of, end_left, moved, is_over, constraint_left, bare, late, watched, coming, added, moment_watched, reaction_watched, awaited_at, rest}
+use Rattle.cstn_follow.proofs.Lists.{place, passing_yes, passing_no, filter_map_from}
 use Rattle.cstn_follow.proofs.Settled.{Allows, some_or_none, marked_left, left_told, left_untold, allows_within}
-use Rattle.cstn_follow.proofs.Places.{old, left_coming, left_watching, left_allows, old_stands, old_new, new_inside, observes_left, observes_back, label_at, count_left, old_origin}
+use Rattle.cstn_follow.proofs.Places.{old, left_coming, left_watching, left_allows, old_stands, old_new, new_inside, observes_left, observes_back, label_at, count_left, sees_back}
 use Rattle.cstn_follow.proofs.Labels.{completed_new, observer_left, label_absent}
 use Rattle.cstn_follow.proofs.Forces.{end_done, end_coming, constraint_from, origin_empty, IsMoved, IsAmong}
 use Rattle.cstn_follow.proofs.Added.{late_from, watched_from, coming_from}
@@ -158,10 +161,166 @@ module _ (m : Labelled) (h : History) (fresh : ℕ) (good : IsLabelled m) (known
   left_on a b inside on all p there =
       let marked = marked_left h a p there in
       let o = on p marked.1 in
-      let also : IsMarked (completed m b) p = λ e. marked.1 (within_absent (a p) (completed m b p) (inside p) e) in
+      let also : IsMarked (completed m b) p = λ e. marked.1 (mark_within_absent (a p) (completed m b p) (inside p) e) in
       let wider = full_within m good (completed m b) (completed_complete m b) o.0 p o.1 also in
       let left = observer_left m h fresh good known o.0 p o.1 marked.0 (allows_within h (completed_label m o.0) (completed m b) wider all) in
       (number_of m h o.0, observes_left m h fresh good known o.0 p o.1 marked.0 left)
+
+  -- what is left of a constraint is a constraint of the rest
+  end_inside : (x : ℕ) → x < count m.base → Allows h (completed_label m x) → end_left m h x < count R.base
+  end_inside x here all = elim (some_or_none (h.done x)) [
+    | inl done ↦ let at = end_done m h fresh good known x done.0 done.1 in let some = some_points in omega arith
+    | inr none ↦
+        let at = end_coming m h fresh good known x none in
+        let inside = new_inside m h fresh good known x here (left_coming m h fresh good known x none all) in
+        omega arith
+  ]
+
+  moved_there : (c : Constraint) → Contains m.base.constraints c → Allows h (full_label m c) → IsConstraint R.base (moved m h c)
+  moved_there c has all =
+      let is = All-contains (IsConstraint m.base) m.base.constraints c good.base.network.constraints has in
+      let whole = joined c.label (joined (label_of m c.from) (label_of m c.to)) in
+      record {
+        from = end_inside c.from is.from (allows_within h (completed_label m c.from) (full_label m c) (full_from m good c) all);
+        to = end_inside c.to is.to (allows_within h (completed_label m c.to) (full_label m c) (full_to m good c) all);
+        plain = label_plain h c.label is.plain;
+        observed = left_on c.label whole
+            (within_through c.label whole (completed m whole) (within_left c.label (joined (label_of m c.from) (label_of m c.to))) (completed_contains m whole))
+            is.observed all;
+      }
+
+  bare_there : (k l id : ℕ) (most : ℤ) → k < count R.base → l < count R.base → IsConstraint R.base (record (bare k l most) { id = id })
+  bare_there k l id most from to = record { from = from; to = to; plain = λ p. tt; observed = λ p there. absurd (there refl) }
+
+  -- an added constraint, under any id
+  new_there : (x : ℕ) → x < count m.base → is_left m h x ≡ true → number_of m h x < count R.base
+  new_there x here left = new_inside m h fresh good known x here left
+
+  late_there : (e : Constraint) (id : ℕ) → Contains (late m h) e → IsConstraint R.base (record e { id = id }) × IsValue e.most
+  late_there e id has =
+      let w = late_from m h e has in
+      let past = known.past w.point w.moment w.done in
+      let soon = timely.now in
+      let upto = limit_upto w.point in
+      subst (λ d. IsConstraint R.base (record d { id = id }) × IsValue d.most) w.is
+      (bare_there 0 0 id (pos (limit m.base w.point) -ℤ pos w.moment) some_points some_points, (omega (arith, ints), omega (arith, ints)))
     where
-      within_absent : (u v : Mark) → Rattle.cstn_label.specs.Labels.IsMarkWithin u v → v ≡ Absent → u ≡ Absent
-      within_absent u v w e = Rattle.cstn_label.proofs.MarkLemmas.mark_within_absent u v w e
+      limit_upto : (y : ℕ) → limit m.base y ≤ 1000000
+      limit_upto zero = omega arith
+      limit_upto (suc y) = good.base.in_time
+
+  watched_there : (e : Constraint) (id : ℕ) → Contains (watched m h) e → IsConstraint R.base (record e { id = id }) × IsValue e.most
+  watched_there e id has =
+      let w = watched_from m h e has in
+      let sees = sees_back m h (suc w.point) w.prop w.sees in
+      let left = left_watching m h fresh good known (suc w.point) w.moment w.prop w.done sees.0 sees.1 in
+      let k = number_of m h (suc w.point) in
+      let inside = new_there (suc w.point) w.here left in
+      let upto = watched_upto m h w.prop w.moment in
+      let soon = good.base.in_time in
+      elim w.is [
+        | inl low ↦ subst (λ d. IsConstraint R.base (record d { id = id }) × IsValue d.most) low
+            (bare_there k 0 id (pos 0 -ℤ pos (moment_watched m h w.prop w.moment)) inside some_points, (omega (arith, ints), omega (arith, ints)))
+        | inr high ↦ subst (λ d. IsConstraint R.base (record d { id = id }) × IsValue d.most) high
+            (bare_there 0 k id (pos (moment_watched m h w.prop w.moment)) some_points inside, (omega (arith, ints), omega (arith, ints)))
+      ]
+
+  coming_there : (e : Constraint) (id : ℕ) → Contains (coming m h) e → IsConstraint R.base (record e { id = id }) × IsValue e.most
+  coming_there e id has =
+      let w = coming_from m h e has in
+      let soon = timely.now in
+      subst (λ d. IsConstraint R.base (record d { id = id }) × IsValue d.most) w.is
+      (bare_there (number_of m h w.point) 0 id (pos 0 -ℤ pos h.now) (new_there w.point w.here w.left) some_points, (omega (arith, ints), omega (arith, ints)))
+
+  cut_value : (v : ℤ) → IsValue (cut v)
+  cut_value v = (omega (arith, ints, clamps), omega (arith, ints, clamps))
+
+  each_there : (d : Constraint) → Contains R.base.constraints d → IsConstraint R.base d × IsValue d.most
+  each_there d has = elim (constraint_from m h fresh good known d has) [
+    | inl of ↦ subst (λ e. IsConstraint R.base e × IsValue e.most) (sym of.3) (moved_there of.0 of.1 of.2, cut_value (value_left h of.0))
+    | inr (inl a) ↦ subst (λ e. IsConstraint R.base e × IsValue e.most) (sym a.2) (late_there a.0 d.id a.1)
+    | inr (inr (inl a)) ↦ subst (λ e. IsConstraint R.base e × IsValue e.most) (sym a.2) (watched_there a.0 d.id a.1)
+    | inr (inr (inr a)) ↦ subst (λ e. IsConstraint R.base e × IsValue e.most) (sym a.2) (coming_there a.0 d.id a.1)
+  ]
+
+  -- ids are kept, and those that are added are above them
+  id_by : (c d : Constraint) (b : Bool) → (if b then Some (moved m h c) else None) ≡ Some d → d.id ≡ c.id
+  id_by c d true is = let same : moved m h c ≡ d = cc in sym (ap (λ e. e.id) same)
+  id_by c d false is = absurd (cc)
+
+  ids_all : (P : ℕ → Type 0) (cs : List Constraint) → All (λ c. P c.id) cs → All (λ c. P c.id) (filter_map (constraint_left m h) cs)
+  ids_all P cs all = filter_map_all (λ c. P c.id) (constraint_left m h) cs
+      (All-weaker (λ c. P c.id) (λ c. (d : Constraint) → constraint_left m h c ≡ Some d → P d.id)
+      (λ c here d is. subst P (sym (id_by c d _ is)) here) cs all)
+
+  kept_ascend : (cs : List Constraint) → AllPairs (λ b c. b.id < c.id) cs → AllPairs (λ b c. b.id < c.id) (filter_map (constraint_left m h) cs)
+  kept_ascend [] pairs = λ i j d before inside. absurd (omega arith)
+  kept_ascend (c ∷ cs) pairs =
+      let above = ids_all (λ i. c.id < i) cs (pairs_head (λ a b. a.id < b.id) c cs pairs) in
+      with_first (constraint_left m h c) (λ d is. subst (λ i. All (λ e. i < e.id) (filter_map (constraint_left m h) cs)) (sym (id_by c d _ is)) above)
+      (kept_ascend cs (pairs_tail (λ a b. a.id < b.id) c cs pairs))
+    where
+      with_first : (o : Option Constraint) → ((d : Constraint) → o ≡ Some d → All (λ e. d.id < e.id) (filter_map (constraint_left m h) cs)) →
+          AllPairs (λ a b. a.id < b.id) (filter_map (constraint_left m h) cs) → AllPairs (λ a b. a.id < b.id) (cons_option o (filter_map (constraint_left m h) cs))
+      with_first None low rest = rest
+      with_first (Some d) low rest = AllPairs-cons (λ a b. a.id < b.id) d (filter_map (constraint_left m h) cs) (low d refl) rest
+
+  pairs_append : (cs ds : List Constraint) → AllPairs (λ a b. a.id < b.id) cs → AllPairs (λ a b. a.id < b.id) ds → All (λ c. c.id < fresh) cs →
+      All (λ d. fresh ≤ d.id) ds → AllPairs (λ a b. a.id < b.id) (cs ++ ds)
+  pairs_append [] ds a b low high = b
+  pairs_append (c ∷ cs) ds a b low high =
+      let first = All-head (λ e. e.id < fresh) c cs low in
+      AllPairs-cons (λ x y. x.id < y.id) c (cs ++ ds)
+      (All-append (λ y. c.id < y.id) cs ds (pairs_head (λ x y. x.id < y.id) c cs a) (All-weaker (λ d. fresh ≤ d.id) (λ d. c.id < d.id) (λ d here. omega arith) ds high))
+      (pairs_append cs ds (pairs_tail (λ x y. x.id < y.id) c cs a) b (All-tail (λ e. e.id < fresh) c cs low) high)
+
+  module _ (above : All (λ c. c.id < fresh) m.base.constraints) where
+    pub rest_ascends : AllPairs (λ b c. b.id < c.id) R.base.constraints
+    rest_ascends =
+        let more = numbered_ascending fresh (added m h) in
+        pairs_append (filter_map (constraint_left m h) m.base.constraints) (numbered fresh (added m h)) (kept_ascend m.base.constraints good.base.ascending) more.1
+        (ids_all (λ i. i < fresh) m.base.constraints above) more.0
+
+    pub rest_well_formed : length R.base.constraints ≤ 16384 → IsWellFormed R.base
+    rest_well_formed few = record {
+      network = record {
+        origin = some_points;
+        one_observer = one_observer;
+        reacts = λ k p o. (reacts_there k p o).0;
+        constraints = All-weaker (Contains R.base.constraints) (IsConstraint R.base) (λ d has. (each_there d has).0) R.base.constraints
+            (All-contains_itself R.base.constraints);
+      };
+      few_points = few_points;
+      letters = λ k p o. let back = observes_back m h fresh good known k p o in good.base.letters (old m h k) p back.2;
+      soon = λ k p o. (reacts_there k p o).1;
+      few_constraints = few;
+      ascending = rest_ascends;
+      values = All-weaker (Contains R.base.constraints) (λ c. IsValue c.most) (λ d has. (each_there d has).1) R.base.constraints
+          (All-contains_itself R.base.constraints);
+      in_time = good.base.in_time;
+    }
+
+    -- but for the number of constraints, the rest is a labelled network
+    pub rest_labelled : length R.base.constraints ≤ 16384 → IsLabelled R
+    rest_labelled few = record {
+      base = rest_well_formed few;
+      one_each = length-map (left m h) (λ x. label_left h (label_of m x)) ∙ sym (count_left m h fresh good known);
+      origin = origin_empty m h fresh good known;
+      plain = λ k here.
+          let stands = old_stands m h fresh good known k here in
+          subst IsPlain (sym (label_at m h fresh good known k here)) (label_plain h (label_of m (old m h k)) (good.plain (old m h k) stands.0));
+      observed = λ k here.
+          let x = old m h k in
+          let stands = old_stands m h fresh good known k here in
+          subst (IsOnObserved R.base) (sym (label_at m h fresh good known k here))
+          (left_on (label_of m x) (label_of m x) (completed_contains m (label_of m x)) (good.observed x stands.0) (left_allows m h fresh good known x stands.1));
+      no_circle = λ k p o.
+          let back = observes_back m h fresh good known k p o in
+          let stands = old_stands m h fresh good known k back.0 in
+          ap (λ l. l p) (ap (completed_label R) (sym stands.2) ∙ completed_new m h fresh good known (old m h k) stands.0 stands.1)
+          ∙ left_untold h (completed_label m (old m h k)) p back.1 ∙ good.no_circle (old m h k) p back.2;
+      completed_plain = λ k here.
+          let stands = old_stands m h fresh good known k here in
+          subst IsPlain (sym (ap (completed_label R) (sym stands.2) ∙ completed_new m h fresh good known (old m h k) stands.0 stands.1))
+          (label_plain h (completed_label m (old m h k)) (good.completed_plain (old m h k) stands.0));
+    }

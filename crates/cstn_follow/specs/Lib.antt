@@ -4,3 +4,4 @@ pub mod Rest
 pub mod Examples
 pub mod Read
 pub mod Facts
+pub mod Handed

@@ -1,11 +1,13 @@
 //! What has happened while a labelled network was carried out, how it may go on, and the labelled network of what is left.
 #![tactic(auto)]
 
+mod adding;
 mod completion;
 mod errors;
 mod facts;
 mod histories;
 mod laws;
+mod leaving;
 
 pub use errors::{FactError, RestError};
 pub use histories::History;
