@@ -41,7 +41,7 @@ module _ (test : ℕ → Bool) where
   abbrev pub place : ℕ → ℕ
   place n = length (passing n)
 
-  passing_next : (n : ℕ) → passing (suc n) ≡ passing n ++ cond (test n) (n ∷ []) []
+  pub passing_next : (n : ℕ) → passing (suc n) ≡ passing n ++ cond (test n) (n ∷ []) []
   passing_next n = ap (filter test) (range_snoc 0 n n (omega arith)) ∙ filter-append test (range_with_len 0 n) (n ∷ [])
 
   pub passing_yes : (n : ℕ) → test n ≡ true → passing (suc n) ≡ passing n ++ n ∷ []

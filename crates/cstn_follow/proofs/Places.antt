@@ -93,7 +93,7 @@ module _ (m : Labelled) (h : History) (fresh : ℕ) (good : IsLabelled m) (known
   old_other k inside e = sym (old_stands k inside).2 ∙ ap new e
 
   -- what is observed in the rest
-  sight_at : (k : ℕ) → k < count R.base → slice_index_or R.base.observes k None ≡ sight_left m h (old m h k)
+  pub sight_at : (k : ℕ) → k < count R.base → slice_index_or R.base.observes k None ≡ sight_left m h (old m h k)
   sight_at k inside = get_or-map (sight_left m h) (left m h) k 0 None (let long = count_left in omega arith)
 
   pub observes_left : (x p : ℕ) → Observes m.base x p → h.told p ≡ None → is_left m h x ≡ true → Observes R.base (new x) p

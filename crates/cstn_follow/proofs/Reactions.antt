@@ -11,7 +11,7 @@ use Rattle.cstn_follow.specs.Histories.{History, is_told, known_at}
 use Rattle.cstn_follow.specs.Rest.{is_left, reaction_after, reaction_by, reaction_watched, rest}
 
 module _ (m : Labelled) (h : History) (fresh : ℕ) (good : IsLabelled m) where
-  reaction_left : (x p : ℕ) → Observes m.base x p → h.told p ≡ None → is_left m h x ≡ true →
+  pub reaction_left : (x p : ℕ) → Observes m.base x p → h.told p ≡ None → is_left m h x ≡ true →
       (rest m h fresh).base.reaction p ≡ reaction_after m h p x (h.done x)
   reaction_left x p o none left =
       ap (reaction_by m h p) (observer_found m.base good.base.network x p o)

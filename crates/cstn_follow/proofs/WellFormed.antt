@@ -5,7 +5,7 @@ use Rattle.std.specs.List.{All, AllPairs, Contains, filter, filter_map, cons_opt
 use Rattle.std.proofs.lemmas.Bool.{cases_lt, cases_Bool}
 use Rattle.std.proofs.lemmas.Int.{ints, clamps}
 use Rattle.std.proofs.lemmas.List.{length-map, length-append}
-use Rattle.std.proofs.lemmas.List.Elements.{All-nil, All-cons, All-head, All-tail, All-append, All-contains, All-contains_itself, All-weaker}
+use Rattle.std.proofs.lemmas.List.Elements.{All-nil, All-cons, All-head, All-tail, All-append, All-contains, All-contains_itself, All-weaker, Contains-append_left}
 use Rattle.std.proofs.lemmas.List.Kept.{AllPairs-cons}
 use Rattle.cstn_label.specs.declared.marks.Mark.{Mark}
 use Rattle.cstn_label.specs.declared.marks.Mark.TheVariants.{Absent}
@@ -33,6 +33,7 @@ use Rattle.cstn_follow.proofs.Forces.{end_done, end_coming, constraint_from, ori
 use Rattle.cstn_follow.proofs.Added.{late_from, watched_from, coming_from}
 use Rattle.cstn_follow.proofs.Reactions.{reaction_coming, reaction_origin, reaction_done}
 use Rattle.cstn_follow.proofs.ToRest.{watched_upto}
+use Rattle.cstn_follow.proofs.Inserted.{same_constraint}
 
 place_upto : (test : ℕ → Bool) (n : ℕ) → place test n ≤ n
 place_upto test zero = omega arith
@@ -324,3 +325,23 @@ module _ (m : Labelled) (h : History) (fresh : ℕ) (good : IsLabelled m) (known
           subst IsPlain (sym (ap (completed_label R) (sym stands.2) ∙ completed_new m h fresh good known (old m h k) stands.0 stands.1))
           (label_plain h (completed_label m (old m h k)) (good.completed_plain (old m h k) stands.0));
     }
+
+    -- some of the constraints of the rest may be those of a network that observes the same
+    some_fit : (net : Network) (cs : List Constraint) → net.observes ≡ R.base.observes → length cs ≤ 16384 →
+        AllPairs (λ b c. b.id < c.id) cs → All (Contains R.base.constraints) cs → AreConstraintsFor net cs
+    some_fit net cs same few ascending among = record {
+      few = few;
+      each = All-weaker (Contains R.base.constraints) (IsConstraint net) (λ d has. same_constraint net R.base d same (each_there d has).0) cs among;
+      ascending = ascending;
+      values = All-weaker (Contains R.base.constraints) (λ c. IsValue c.most) (λ d has. (each_there d has).1) cs among;
+    }
+
+    pub kept_fit : (net : Network) → net.observes ≡ R.base.observes → length (filter_map (constraint_left m h) m.base.constraints) ≤ 16384 →
+        AreConstraintsFor net (filter_map (constraint_left m h) m.base.constraints)
+    kept_fit net same few =
+        let cs = filter_map (constraint_left m h) m.base.constraints in
+        some_fit net cs same few (kept_ascend m.base.constraints good.base.ascending)
+        (All-weaker (Contains cs) (Contains R.base.constraints) (λ d has. Contains-append_left cs (numbered fresh (added m h)) d has) cs (All-contains_itself cs))
+
+    pub whole_fit : (net : Network) → net.observes ≡ R.base.observes → length R.base.constraints ≤ 16384 → AreConstraintsFor net R.base.constraints
+    whole_fit net same few = some_fit net R.base.constraints same few rest_ascends (All-contains_itself R.base.constraints)

@@ -1,5 +1,5 @@
 -- The parts of the rest, as the program makes them one after the other.
-use Rattle.std.specs.Prelude.{ℕ, ◌≡◌, ◌<◌, ◌⊎◌, ◌++◌, List, length, map}
+use Rattle.std.specs.Prelude.{ℕ, ◌≡◌, ◌<◌, ◌⊎◌, ◌++◌, List, [], length, map}
 use Rattle.std.specs.List.{range_with_len}
 use Rattle.cstn_net.specs.declared.constraints.Constraint.{Constraint}
 use Rattle.cstn_net.specs.Networks.{Network, Constraint as TheConstraint, count}
@@ -31,7 +31,20 @@ added_for m h Late x = late_one m x (h.done x)
 added_for m h Watched x = watched_one m h x (h.done x) (sight_left m h x)
 added_for m h Coming x = coming_one m h x
 
--- the rest is refused for want of memory, or since it or its lowered network has too many constraints
+-- the rest, whose constraints aren't handed in yet
+abbrev pub bared : Labelled → History → Network
+bared m h = record (rest m h 0).base { constraints = [] }
+
+-- the number of a refusal, and 0 for want of memory
+abbrev pub rest_number : RestError → ℕ
+rest_number (Memory e) = 0
+rest_number TooManyConstraints = 8
+
+-- want of memory, or the network has too many constraints
+abbrev pub IsBaseRefusal : Labelled → RestError → Type 0
+IsBaseRefusal m e = (rest_number e ≡ 0) ⊎ ((e ≡ TooManyConstraints) × (16384 < length m.base.constraints))
+
+-- want of memory, or the labelled network, or its lowered network, has too many constraints
 abbrev pub IsRestRefusal : Labelled → RestError → Type 0
-IsRestRefusal m TooManyConstraints = (16384 < length m.base.constraints) ⊎ (16384 < length (lowered m).constraints)
-IsRestRefusal m (Memory e) = Unit {0}
+IsRestRefusal m e = (rest_number e ≡ 0)
+    ⊎ ((e ≡ TooManyConstraints) × ((16384 < length m.base.constraints) ⊎ (16384 < length (lowered m).constraints)))

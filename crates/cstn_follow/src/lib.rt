@@ -8,7 +8,9 @@ mod facts;
 mod histories;
 mod laws;
 mod leaving;
+mod rests;
 
 pub use errors::{FactError, RestError};
 pub use histories::History;
 pub use laws::{histories_narrow, nothing_yet_leaves_all, rest_decides};
+pub use rests::rest;
