@@ -51,11 +51,11 @@ left_turn m h points new x b so_far test is =
     one true = refl
     one false = refl
 
-pub numbers_turn : (m : Labelled) (h : History) (numbers : List ℕ) (points : List NodeId) (x n : ℕ) → numbers ≡ map (number_of m h) (range_with_len 0 x) →
-    map number points ≡ left_upto m h x → n ≡ length points → numbers ++ n ∷ [] ≡ map (number_of m h) (range_with_len 0 (x + 1))
-numbers_turn m h numbers points x n so_far are is =
+pub numbers_turn : (m : Labelled) (h : History) (numbers new : List ℕ) (points : List NodeId) (x n : ℕ) → new ≡ numbers ++ n ∷ [] →
+    numbers ≡ map (number_of m h) (range_with_len 0 x) → map number points ≡ left_upto m h x → n ≡ length points → new ≡ map (number_of m h) (range_with_len 0 (x + 1))
+numbers_turn m h numbers new points x n more so_far are is =
     let at : n ≡ number_of m h x = is ∙ sym (length-map points number) ∙ ap length are in
-    ap (λ l. l ++ n ∷ []) so_far ∙ ap (λ k. map (number_of m h) (range_with_len 0 x) ++ k ∷ []) at
+    more ∙ ap (λ l. l ++ n ∷ []) so_far ∙ ap (λ k. map (number_of m h) (range_with_len 0 x) ++ k ∷ []) at
     ∙ sym (map-range_with_len_more (number_of m h) 0 x x (omega arith))
 
 -- the next constraint, where it is left

@@ -1,5 +1,5 @@
 -- The parts of the rest, as the program makes them one after the other.
-use Rattle.std.specs.Prelude.{ℕ, ◌≡◌, ◌<◌, ◌⊎◌, ◌++◌, List, [], length, map}
+use Rattle.std.specs.Prelude.{ℕ, ◌≡◌, ◌<◌, ◌≤◌, ◌⊎◌, ◌++◌, List, [], length, map}
 use Rattle.std.specs.List.{range_with_len}
 use Rattle.cstn_net.specs.declared.constraints.Constraint.{Constraint}
 use Rattle.cstn_net.specs.Networks.{Network, Constraint as TheConstraint, count}
@@ -48,3 +48,8 @@ IsBaseRefusal m e = (rest_number e ≡ 0) ⊎ ((e ≡ TooManyConstraints) × (16
 abbrev pub IsRestRefusal : Labelled → RestError → Type 0
 IsRestRefusal m e = (rest_number e ≡ 0)
     ⊎ ((e ≡ TooManyConstraints) × ((16384 < length m.base.constraints) ⊎ (16384 < length (lowered m).constraints)))
+
+-- neither the labelled network nor its lowered network has too many constraints
+pub record HasRoom (m : Labelled) : Type 0 where
+  pub base : length m.base.constraints ≤ 16384
+  pub lowered : length (lowered m).constraints ≤ 16384

@@ -50,6 +50,19 @@ impl History {
         })
     }
 
+    /// An equal history. Fails where memory is refused.
+    pub fn copy(&self, alloc: Global) -> Result<History, AllocError>
+        ensures equal { IfOk result (λ h. h ≡ self.now) }
+    {
+        let done = Vec::from_slice(alloc, &self.done)?;
+        Ok(History {
+            time: self.time,
+            done,
+            told: self.told,
+            expected: self.expected,
+        })
+    }
+
     /// The moment that it is now, in ticks, at most 1,000,000.
     pub fn now(&self) -> u32
         ensures now { result ≡ self.now.time }

@@ -12,5 +12,5 @@ mod rests;
 
 pub use errors::{FactError, RestError};
 pub use histories::History;
-pub use laws::{histories_narrow, nothing_yet_leaves_all, rest_decides};
+pub use laws::{histories_narrow, nothing_yet_leaves_all, rest_decides, rest_is_labelled};
 pub use rests::rest;

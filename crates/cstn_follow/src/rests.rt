@@ -11,7 +11,7 @@ ghost use Rattle.cstn_lift.specs.Read.{the_labelled};
 ghost use Rattle.cstn_lift.specs.WellFormed.{IsLabelled};
 ghost use Rattle.cstn_follow.specs.Rest.{left, constraint_left, reaction_after, rest};
 ghost use Rattle.cstn_follow.specs.Read.{the_history, IsKeptFor};
-ghost use Rattle.cstn_follow.specs.Handed.{AreNumbers, HasAdded, bared, rest_number, IsBaseRefusal, IsRestRefusal};
+ghost use Rattle.cstn_follow.specs.Handed.{AreNumbers, HasAdded, bared, rest_number, IsBaseRefusal, IsRestRefusal, HasRoom};
 
 use crate::adding::added;
 use crate::errors::RestError;
@@ -263,6 +263,9 @@ pub fn rest(
     requires room { fresh ≤ 4294000000 }
     ensures rest { IfOk result (λ l. the_labelled l ≡ rest (the_labelled network.now) (the_history history.now) fresh) }
     ensures labelled { IfOk result (λ l. IsLabelled (the_labelled l)) }
+
+    // Unless memory is refused, it is refused exactly where there are too many constraints.
+    ensures few { IfOk result (λ _. HasRoom (rest (the_labelled network.now) (the_history history.now) fresh)) }
     ensures refused { IfErr result (IsRestRefusal (rest (the_labelled network.now) (the_history history.now) fresh)) }
 {
     labelled_networks_have_no_fault();

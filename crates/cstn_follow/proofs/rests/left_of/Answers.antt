@@ -20,13 +20,12 @@ loop-x-preserved c =
     let points = c.loop-x.points.items in
     let loop = c.loop-x.invariant in
     let few = loop.few in
-    let at = c.len.ensures in
-    let items = c.loop-x.points.ok.0 in
     let b = c.is_left.result in
     let long = ap length c.in_ok-push_if.ensures ∙ length-append points (if b then node ∷ [] else []) in
     let more = one_more b node in
     record {
       points = left_turn m h points c.push_if.new.points.items node b loop.points c.is_left.ensures c.in_ok-push_if.ensures;
-      numbers = c.in_ok-push.ensures.items ∙ numbers_turn m h c.loop-x.numbers.items points x _ loop.numbers loop.points (omega arith);
+      numbers = numbers_turn m h c.loop-x.numbers.items c.push.new.self.items points x c.len.result c.in_ok-push.ensures.items loop.numbers loop.points
+          (let at = c.len.ensures in let items = c.loop-x.points.ok.0 in omega arith);
       few = omega arith;
     }
