@@ -1,9 +1,8 @@
 -- The constraints that are added in the rest, one kind after the other.
-use Rattle.std.proofs.Common.{ℕ, zero, suc, ◌≡◌, ◌≢◌, ◌⊎◌, inl, inr, ◌<◌, ◌≤◌, Bool, true, false, List, [], ◌∷◌, Option, Some, None, arith, refl, sym, subst, ap, ◌∙◌}
-use Rattle.std.specs.Prelude.{ℤ, pos, ◌-ℤ◌, nat_lt, if◌then◌else◌, not, ◌&&◌}
+use Rattle.std.proofs.Common.{ℕ, zero, suc, ◌≡◌, ◌⊎◌, inl, inr, ◌<◌, Bool, true, false, List, [], ◌∷◌, Option, Some, None, arith, refl, sym, subst, ap, ◌∙◌}
+use Rattle.std.specs.Prelude.{pos, ◌-ℤ◌, nat_lt, if◌then◌else◌, not, ◌&&◌}
 use Rattle.std.specs.Option.{is_some}
 use Rattle.std.specs.List.{Contains, range_with_len}
-use Rattle.std.proofs.lemmas.Bool.{cases_Bool}
 use Rattle.cstn_net.specs.Networks.{Constraint, count, limit}
 use Rattle.cstn_lift.specs.Labelled.{Labelled}
 use Rattle.cstn_lift.proofs.ListLemmas.{flat_map_contains, range_contains}

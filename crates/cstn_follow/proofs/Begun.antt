@@ -1,5 +1,5 @@
 -- The history that a program begins with.
-use Rattle.std.proofs.Common.{ℕ, zero, suc, ◌≡◌, ◌<◌, ◌≤◌, List, [], ◌∷◌, Option, Some, None, length, arith, refl, sym, subst, ap, ◌∙◌}
+use Rattle.std.proofs.Common.{ℕ, zero, suc, ◌≡◌, ◌<◌, List, [], Option, Some, None, length, arith, refl, sym, subst, ap, ◌∙◌}
 use Rattle.std.specs.Prelude.{slice_index_or, slice_set, replicate, take, ◌++◌, ◌-◌}
 use Rattle.std.proofs.Math.Path.{fun_ext}
 use Rattle.std.proofs.lemmas.List.{length-replicate, length-set}
@@ -8,7 +8,7 @@ use Rattle.cstn_label.specs.Read.{known_value}
 use Rattle.cstn_net.specs.Networks.{count}
 use Rattle.cstn_lift.specs.Labelled.{Labelled}
 use Rattle.cstn_lift.specs.WellFormed.{IsLabelled}
-use Rattle.cstn_follow.specs.Histories.{History, IsHistory, IsInTime, nothing_yet, origin_alone}
+use Rattle.cstn_follow.specs.Histories.{IsHistory, IsInTime, nothing_yet, origin_alone}
 use Rattle.cstn_follow.specs.Read.{HistoryParts, the_history, IsKeptFor}
 use Rattle.cstn_follow.proofs.Nothing.{nothing_history}
 

@@ -1,25 +1,23 @@
 -- The constraints of the rest, and where they are in force.
-use Rattle.std.proofs.Common.{ℕ, zero, suc, ◌≡◌, ◌⊎◌, inl, inr, ◌<◌, ◌≤◌, ◌++◌, Bool, true, false, List, Option, Some, None, arith, refl, sym, subst, ap, ◌∙◌}
+use Rattle.std.proofs.Common.{ℕ, ◌≡◌, ◌⊎◌, inl, inr, ◌<◌, ◌++◌, Bool, true, false, List, Some, None, refl, sym, subst, ap, ◌∙◌}
 use Rattle.std.specs.Prelude.{ℤ, if◌then◌else◌, not, ◌&&◌}
-use Rattle.std.specs.List.{All, Contains, filter_map}
+use Rattle.std.specs.List.{Contains, filter_map}
 use Rattle.std.specs.Option.{is_some}
 use Rattle.std.proofs.Math.Path.{fun_ext}
-use Rattle.std.proofs.lemmas.Bool.{cases_Bool, and_parts}
 use Rattle.std.proofs.lemmas.List.Elements.{All-contains, All-contains_itself, All-weaker, Contains-append_left, Contains-append_right, Contains-append_cases}
-use Rattle.cstn_label.specs.declared.marks.Mark.TheVariants.{Absent}
-use Rattle.cstn_label.specs.Labels.{Label, Scenario, Holds, empty, joined}
+use Rattle.cstn_label.specs.Labels.{Scenario, Holds, empty, joined}
 use Rattle.cstn_label.proofs.LabelLemmas.{within_itself, holds_within, joined_empty}
 use Rattle.cstn_net.specs.Networks.{Constraint, IsConstraint, count}
 use Rattle.cstn_lift.specs.Labelled.{Labelled, label_of}
 use Rattle.cstn_lift.specs.Completion.{completed, completed_label, full_label}
 use Rattle.cstn_lift.specs.WellFormed.{IsLabelled}
-use Rattle.cstn_lift.specs.Strategies.{IsExecuted, IsInForce}
+use Rattle.cstn_lift.specs.Strategies.{IsInForce}
 use Rattle.cstn_lift.specs.Lowered.{numbered}
 use Rattle.cstn_lift.proofs.CompletionLemmas.{completed_least}
 use Rattle.cstn_lift.proofs.ListLemmas.{filter_map_contains, numbered_all, numbered_contains}
 use Rattle.cstn_lift.proofs.Equivalent.{full_from, full_to}
-use Rattle.cstn_follow.specs.Histories.{History, IsHistory, is_done, allows, label_left}
-use Rattle.cstn_follow.specs.Rest.{is_left, number_of, end_left, moved, is_over, constraint_left, bare, late, watched, coming, added, rest}
+use Rattle.cstn_follow.specs.Histories.{History, IsHistory, allows, label_left}
+use Rattle.cstn_follow.specs.Rest.{number_of, end_left, moved, is_over, constraint_left, bare, late, watched, coming, added, rest}
 use Rattle.cstn_follow.proofs.Lists.{filter_map_from}
 use Rattle.cstn_follow.proofs.Settled.{Allows, some_or_none, allows_true, allows_back, allows_within, left_told, left_untold, left_joined, as_told, holds_left, holds_back, settles_absent}
 use Rattle.cstn_follow.proofs.Places.{left_coming, label_new}
@@ -91,17 +89,19 @@ module _ (m : Labelled) (h : History) (fresh : ℕ) (good : IsLabelled m) (known
       Contains R.base.constraints (moved m h c)
   constraint_kept c has all over =
       let given : constraint_left m h c ≡ Some (moved m h c) =
-          ap (λ b. if b && not (is_over h c) then Some (moved m h c) else None) (allows_true h (full_label m c) all)
-          ∙ ap (λ b. if not b then Some (moved m h c) else None) over in
+      ap (λ b. if b && not (is_over h c) then Some (moved m h c) else None) (allows_true h (full_label m c) all)
+      ∙ ap (λ b. if not b then Some (moved m h c) else None) over in
       Contains-append_left (filter_map (constraint_left m h) m.base.constraints) (numbered fresh (added m h))
       (moved m h c) (filter_map_contains (constraint_left m h) m.base.constraints c (moved m h c) has given)
 
   added_kept : (d : Constraint) → Contains (added m h) d →
       (id : ℕ) × Contains R.base.constraints (record d { id = id })
   added_kept d has =
-      let under = numbered_contains fresh (added m h) d has in
-      (under.0, Contains-append_right (filter_map (constraint_left m h) m.base.constraints)
-      (numbered fresh (added m h)) (record d { id = under.0 }) under.1)
+      let under = numbered_contains fresh (added m h) d has in (
+        under.0,
+        Contains-append_right (filter_map (constraint_left m h) m.base.constraints)
+            (numbered fresh (added m h)) (record d { id = under.0 }) under.1,
+      )
 
   pub late_kept : (d : Constraint) → Contains (late m h) d → (id : ℕ) × Contains R.base.constraints (record d { id = id })
   late_kept d has = added_kept d (Contains-append_left (late m h) (watched m h ++ coming m h) d has)
@@ -140,17 +140,17 @@ module _ (m : Labelled) (h : History) (fresh : ℕ) (good : IsLabelled m) (known
       IsMoved d ⊎ (IsAmong (late m h) d ⊎ (IsAmong (watched m h) d ⊎ IsAmong (coming m h) d))
   constraint_from d has = elim (Contains-append_cases (filter_map (constraint_left m h) m.base.constraints)
       (numbered fresh (added m h)) d has) [
-    | inl of ↦ inl (moved_from d of)
-    | inr more ↦
-        let from = numbered_from fresh (added m h) d more in
-        inr (elim (Contains-append_cases (late m h) (watched m h ++ coming m h) from.0 from.1) [
-          | inl a ↦ inl (from.0, a, from.2)
-          | inr others ↦ inr (elim (Contains-append_cases (watched m h) (coming m h) from.0 others) [
-            | inl b ↦ inl (from.0, b, from.2)
-            | inr c ↦ inr (from.0, c, from.2)
-          ])
-        ])
-  ]
+        | inl of ↦ inl (moved_from d of)
+        | inr more ↦
+            let from = numbered_from fresh (added m h) d more in
+            inr (elim (Contains-append_cases (late m h) (watched m h ++ coming m h) from.0 from.1) [
+              | inl a ↦ inl (from.0, a, from.2)
+              | inr others ↦ inr (elim (Contains-append_cases (watched m h) (coming m h) from.0 others) [
+                | inl b ↦ inl (from.0, b, from.2)
+                | inr c ↦ inr (from.0, c, from.2)
+              ])
+            ])
+      ]
 
   empty_holds : (s : Scenario) → Holds s (completed R empty)
   empty_holds s = holds_within s (completed R empty) empty

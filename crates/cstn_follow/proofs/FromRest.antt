@@ -1,12 +1,12 @@
 -- A labelled strategy of the rest gives a table that continues the history.
-use Rattle.std.proofs.Common.{ℕ, zero, suc, ◌≡◌, ◌⊎◌, inl, inr, ◌+◌, ◌<◌, ◌≤◌, Bool, true, false, Option, Some, None, arith, refl, sym, subst, ap, ◌∙◌}
-use Rattle.std.specs.Prelude.{ℤ, pos, ◌-ℤ◌, ◌≤ℤ◌, min, not, ◌&&◌, ◌==◌, int_lt}
+use Rattle.std.proofs.Common.{ℕ, zero, suc, ◌≡◌, inl, inr, ◌+◌, ◌<◌, ◌≤◌, true, Option, Some, None, arith, refl, sym, subst, ap, ◌∙◌}
+use Rattle.std.specs.Prelude.{ℤ, pos, ◌-ℤ◌, ◌≤ℤ◌, not, ◌&&◌, ◌==◌, int_lt}
 use Rattle.std.specs.List.{Contains}
 use Rattle.std.specs.Option.{is_some, unwrap_or}
 use Rattle.std.proofs.lemmas.Bool.{cases_lt, cases_Bool, and_parts}
 use Rattle.std.proofs.lemmas.Int.{ints}
 use Rattle.std.proofs.lemmas.List.Elements.{All-contains}
-use Rattle.cstn_label.specs.Labels.{Label, Scenario, Holds}
+use Rattle.cstn_label.specs.Labels.{Scenario, Holds}
 use Rattle.cstn_label.proofs.LabelLemmas.{holds_within}
 use Rattle.cstn_net.specs.Networks.{Network, Constraint, IsConstraint, Observes, count, limit}
 use Rattle.cstn_net.specs.Strategies.{Table, Meets}
@@ -16,10 +16,10 @@ use Rattle.cstn_lift.specs.Completion.{completed_label, full_label}
 use Rattle.cstn_lift.specs.WellFormed.{IsLabelled}
 use Rattle.cstn_lift.specs.Strategies.{IsExecuted, IsInForce, IsKnownExecuted, IsLabelledStrategy}
 use Rattle.cstn_lift.proofs.Equivalent.{full_from, full_to}
-use Rattle.cstn_follow.specs.Histories.{History, IsHistory, IsObservedAt, AgreesWith, is_done, known_at, or_at}
-use Rattle.cstn_follow.specs.Continuations.{Continues, IsKnownAfter, IsDoneKnown, IsComingKnown}
-use Rattle.cstn_follow.specs.Rest.{sight_left, is_left, number_of, end_left, moment_done, value_left, cut, moved, is_over, bare, awaited_at, reaction_watched, moment_watched, rest}
-use Rattle.cstn_follow.proofs.Settled.{Allows, some_or_none, as_told, told_itself, holds_allows}
+use Rattle.cstn_follow.specs.Histories.{History, IsHistory, AgreesWith, is_done, known_at, or_at}
+use Rattle.cstn_follow.specs.Continuations.{Continues, IsKnownAfter}
+use Rattle.cstn_follow.specs.Rest.{is_left, number_of, end_left, moment_done, value_left, moved, is_over, bare, moment_watched, rest}
+use Rattle.cstn_follow.proofs.Settled.{some_or_none, as_told, told_itself, holds_allows}
 use Rattle.cstn_follow.proofs.Places.{old, left_coming, left_watching, old_stands, new_inside, observes_back, sees_left}
 use Rattle.cstn_follow.proofs.Forces.{done_empty, origin_empty, end_done, end_coming, force_left, constraint_kept, late_kept, watched_kept, coming_kept, bare_force, bare_full}
 use Rattle.cstn_follow.proofs.Added.{late_in, watched_low, watched_high, coming_in}
@@ -80,7 +80,7 @@ module _ (m : Labelled) (h : History) (fresh : ℕ) (good : IsLabelled m) (known
           let kept = late_kept m h fresh good known (bare 0 0 (pos (limit m.base x) -ℤ pos t)) (late_in m h x t (known.inside x t e) e above) in
           let empty_there = origin_empty m h fresh good known in
           let met = plays.meets s (record (bare 0 0 (pos (limit m.base x) -ℤ pos t)) { id = kept.0 }) kept.1
-              (bare_force m h fresh good known 0 0 (pos (limit m.base x) -ℤ pos t) s empty_there empty_there) in
+          (bare_force m h fresh good known 0 0 (pos (limit m.base x) -ℤ pos t) s empty_there empty_there) in
           absurd (omega (arith, ints))
     ]
 
@@ -171,9 +171,9 @@ module _ (m : Labelled) (h : History) (fresh : ℕ) (good : IsLabelled m) (known
         let low = watched_kept m h fresh good known (bare k 0 (pos 0 -ℤ pos (moment_watched m h p t))) (watched_low m h j t p here done sees) in
         let high = watched_kept m h fresh good known (bare 0 k (pos (moment_watched m h p t))) (watched_high m h j t p here done sees) in
         let met_low = plays.meets s (record (bare k 0 (pos 0 -ℤ pos (moment_watched m h p t))) { id = low.0 }) low.1
-            (bare_force m h fresh good known k 0 (pos 0 -ℤ pos (moment_watched m h p t)) s label zero_label) in
+        (bare_force m h fresh good known k 0 (pos 0 -ℤ pos (moment_watched m h p t)) s label zero_label) in
         let met_high = plays.meets s (record (bare 0 k (pos (moment_watched m h p t))) { id = high.0 }) high.1
-            (bare_force m h fresh good known 0 k (pos (moment_watched m h p t)) s zero_label label) in
+        (bare_force m h fresh good known 0 k (pos (moment_watched m h p t)) s zero_label label) in
         let origin = at_origin s in
         omega (arith, ints)
 
@@ -198,10 +198,10 @@ module _ (m : Labelled) (h : History) (fresh : ℕ) (good : IsLabelled m) (known
         let soon : strategy s (number_of m h j) + R.base.reaction p ≤ u = subst (λ i. strategy s i + R.base.reaction p ≤ u) (sym stands.2) k.passed in
         elim (some_or_none (h.done (old m h k.observer))) [
           | inl done ↦ inr (inl (record {
-              since = done.0;
-              observed = record { observer = j; observes = back.2; done = done.1 };
-              passed = known_at_done j done.0 p u upto back.2 done.1 back.1 soon;
-            }))
+            since = done.0;
+            observed = record { observer = j; observes = back.2; done = done.1 };
+            passed = known_at_done j done.0 p u upto back.2 done.1 back.1 soon;
+          }))
           | inr none ↦
               let reacts = reaction_coming m h fresh good j p back.2 back.1 stands.1 none in
               let at = at_coming s j none in
@@ -222,7 +222,7 @@ module _ (m : Labelled) (h : History) (fresh : ℕ) (good : IsLabelled m) (known
       let at_r = at_coming r x none in
       let upto = upto_deadline s of_s x here none e in
       let both = plays.dynamic s r (number_of m h x) (new_inside m h fresh good known x here left) (executed_in s of_s x here left e)
-          (λ p k. agrees p (subst (λ u. IsKnownAfter m h s (from_rest s) u p) (sym at_s) (known_after s of_s (strategy s (number_of m h x)) p upto k))) in
+      (λ p k. agrees p (subst (λ u. IsKnownAfter m h s (from_rest s) u p) (sym at_s) (known_after s of_s (strategy s (number_of m h x)) p upto k))) in
       (executed_out r of_r x here left both.0, at_r ∙ both.1 ∙ sym at_s)
 
   pub from_rest_continues : Continues m h from_rest

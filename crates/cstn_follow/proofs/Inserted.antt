@@ -1,12 +1,12 @@
 -- Constraints that are put in behind those of a network, one after the other.
-use Rattle.std.proofs.Common.{ℕ, ◌≡◌, ◌+◌, ◌<◌, ◌≤◌, ◌++◌, List, None, length, take, arith, sym, subst, ap, ◌∙◌}
+use Rattle.std.proofs.Common.{ℕ, ◌≡◌, ◌+◌, ◌<◌, ◌++◌, List, None, length, take, arith, sym, subst, ap, ◌∙◌}
 use Rattle.std.specs.Prelude.{map, slice_index_or}
-use Rattle.std.specs.List.{All, AllPairs, Contains}
+use Rattle.std.specs.List.{All, Contains}
 use Rattle.std.proofs.Math.Seq.{take-append-add}
 use Rattle.std.proofs.lemmas.List.{length-map, length-append, length-take-le, get_or-append-add, get_or-take, get_or-map}
 use Rattle.std.proofs.lemmas.List.Elements.{All-contains, All-from_get_or}
 use Rattle.cstn_net.specs.declared.constraints.Constraint.{Constraint}
-use Rattle.cstn_net.specs.Networks.{Network, Constraint as TheConstraint, IsConstraint, IsValue, Observes, AreConstraintsFor, count}
+use Rattle.cstn_net.specs.Networks.{Network, Constraint as TheConstraint, IsConstraint, IsValue, AreConstraintsFor}
 use Rattle.cstn_net.specs.Read.{NetworkParts, the_network, the_constraint, observed}
 
 -- a constraint of a network is one of each that observes the same
@@ -67,8 +67,8 @@ module _ (net : NetworkParts) (more : List Constraint) (fit : AreConstraintsFor 
       let in_all = place_inside in
       let pair = fit.ascending j place (the_constraint c) before (omega arith) in
       let left : slice_index_or (map the_constraint all) j (the_constraint c) ≡ the_constraint (slice_index_or (net.constraints ++ take i more) j c) =
-          get_or-map the_constraint all j c (the_constraint c) (omega arith)
-          ∙ ap the_constraint (sym (get_or-take place all j c before) ∙ ap (λ l. slice_index_or l j c) (take-append-add net.constraints more i)) in
+      get_or-map the_constraint all j c (the_constraint c) (omega arith)
+      ∙ ap the_constraint (sym (get_or-take place all j c before) ∙ ap (λ l. slice_index_or l j c) (take-append-add net.constraints more i)) in
       subst (λ (d : TheConstraint). d.id < c.id) left
       (subst (λ (d : TheConstraint). (slice_index_or (map the_constraint all) j (the_constraint c)).id < d.id) mapped_there pair)
 

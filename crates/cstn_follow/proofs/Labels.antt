@@ -1,21 +1,21 @@
 -- The completed labels of the rest are those of the network without what is told.
-use Rattle.std.proofs.Common.{ℕ, ◌≡◌, ◌⊎◌, inl, inr, ◌<◌, ◌≤◌, Bool, true, false, Option, Some, None, arith, refl, sym, subst, ap, ◌∙◌}
+use Rattle.std.proofs.Common.{ℕ, ◌≡◌, inl, inr, ◌<◌, Bool, true, Option, Some, None, sym, subst, ap, ◌∙◌}
 use Rattle.cstn_label.specs.declared.marks.Mark.{Mark}
-use Rattle.cstn_label.specs.declared.marks.Mark.TheVariants.{Absent, Yes, No, Unknown}
-use Rattle.cstn_label.specs.Labels.{Label, IsMarked, IsMarkWithin, IsWithin, joined, empty}
-use Rattle.cstn_label.proofs.MarkLemmas.{absent_or_not, mark_within_absent}
-use Rattle.cstn_label.proofs.LabelLemmas.{within_itself, within_same, within_through}
-use Rattle.cstn_net.specs.Networks.{Constraint, Observes, count}
+use Rattle.cstn_label.specs.declared.marks.Mark.TheVariants.{Absent}
+use Rattle.cstn_label.specs.Labels.{Label, IsMarked, IsMarkWithin, IsWithin}
+use Rattle.cstn_label.proofs.MarkLemmas.{mark_within_absent}
+use Rattle.cstn_label.proofs.LabelLemmas.{within_same}
+use Rattle.cstn_net.specs.Networks.{Observes, count}
 use Rattle.cstn_net.proofs.Knowledge.{observer_within}
 use Rattle.cstn_lift.specs.Labelled.{Labelled, label_of}
 use Rattle.cstn_lift.specs.Completion.{completed, completed_label, IsCompleteLabel}
 use Rattle.cstn_lift.specs.WellFormed.{IsLabelled}
-use Rattle.cstn_lift.proofs.CompletionLemmas.{completed_contains, completed_complete, completed_least, empty_within}
+use Rattle.cstn_lift.proofs.CompletionLemmas.{completed_contains, completed_complete, completed_least}
 use Rattle.cstn_lift.proofs.FullLemmas.{full_within}
-use Rattle.cstn_follow.specs.Histories.{History, IsHistory, mark_left, label_left}
+use Rattle.cstn_follow.specs.Histories.{History, IsHistory, label_left}
 use Rattle.cstn_follow.specs.Rest.{is_left, number_of, rest}
 use Rattle.cstn_follow.proofs.Settled.{Allows, some_or_none, left_told, left_untold, left_within, marked_left, settles_absent, allows_within}
-use Rattle.cstn_follow.proofs.Places.{old, left_coming, left_watching, left_allows, observes_left, observes_back, old_stands, old_new, new_inside, label_at, label_new}
+use Rattle.cstn_follow.proofs.Places.{old, left_coming, left_watching, left_allows, observes_left, observes_back, label_at, label_new}
 
 -- the mark of the one label where an outcome was told, and of the other where none was
 told_mark : Option Bool → Mark → Mark → Mark
@@ -116,7 +116,7 @@ module _ (m : Labelled) (h : History) (fresh : ℕ) (good : IsLabelled m) (known
           let inner = full_within m good C (completed_complete m a) x p o there in
           let is = observer_left x p o none (allows_within h (completed_label m x) C inner all) in
           let closed = completed_complete (rest m h fresh) (label_left h a) (number_of m h x) p
-              (observes_left m h fresh good known x p o none is) seen in
+          (observes_left m h fresh good known x p o none is) seen in
           within_both x (completed_complete m a x p o there) (λ q unsaid.
           subst (λ b. IsMarkWithin b (D q))
           (ap (λ l. l q) (label_new m h fresh good known x (observer_within m.base x p o) is) ∙ left_untold h (label_of m x) q unsaid)

@@ -1,6 +1,6 @@
 -- Where an element of a list that is made from another one comes from, and the numbers that pass a test.
-use Rattle.std.proofs.Common.{ℕ, zero, suc, ◌≡◌, ◌⊎◌, inl, inr, ◌+◌, ◌<◌, ◌≤◌, Bool, true, false, List, [], ◌∷◌, ◌++◌, length, Option, Some, None, arith, refl, sym, subst, ap, ◌∙◌}
-use Rattle.std.specs.Prelude.{cond, map, slice_index_or, if◌then◌else◌}
+use Rattle.std.proofs.Common.{ℕ, zero, suc, ◌≡◌, inl, inr, ◌+◌, ◌<◌, Bool, true, false, List, [], ◌∷◌, ◌++◌, length, Option, Some, arith, refl, sym, subst, ap, ◌∙◌}
+use Rattle.std.specs.Prelude.{cond, slice_index_or}
 use Rattle.std.specs.List.{All, Contains, filter, filter_map, flat_map, range_with_len}
 use Rattle.std.proofs.lemmas.Bool.{cases_lt, cases_Bool}
 use Rattle.std.proofs.lemmas.List.{length-append, get_or_append_left, get_or_push, append-nil}

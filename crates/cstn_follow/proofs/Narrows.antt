@@ -1,13 +1,13 @@
 -- Time and steps only narrow how a history may go on, and what is told only leaves cases out.
-use Rattle.std.proofs.Common.{ℕ, ◌≡◌, ◌⊎◌, inl, inr, ◌+◌, ◌<◌, ◌≤◌, Bool, Option, Some, None, arith, refl, sym, subst, ap, ◌∙◌}
+use Rattle.std.proofs.Common.{ℕ, ◌≡◌, inl, inr, ◌+◌, ◌<◌, ◌≤◌, Option, Some, None, arith, sym, subst, ap, ◌∙◌}
 use Rattle.cstn_label.specs.Labels.{Scenario}
-use Rattle.cstn_net.specs.Networks.{Constraint, Observes, count, limit}
+use Rattle.cstn_net.specs.Networks.{Observes, count, limit}
 use Rattle.cstn_net.specs.Strategies.{Table}
 use Rattle.cstn_lift.specs.Labelled.{Labelled}
 use Rattle.cstn_lift.specs.Completion.{completed_label}
 use Rattle.cstn_lift.specs.WellFormed.{IsLabelled}
 use Rattle.cstn_lift.specs.Strategies.{IsExecuted}
-use Rattle.cstn_follow.specs.Histories.{History, IsHistory, IsObservedAt, AgreesWith, GoesOn, IsToldMore, known_at, or_at}
+use Rattle.cstn_follow.specs.Histories.{History, IsHistory, AgreesWith, GoesOn, IsToldMore, known_at, or_at}
 use Rattle.cstn_follow.specs.Continuations.{Continues, IsKnownAfter}
 use Rattle.cstn_follow.proofs.Settled.{some_or_none, settles_holds}
 
@@ -80,9 +80,9 @@ module _ (m : Labelled) (h later : History) (good : IsLabelled m) (before : IsHi
       ((p : ℕ) → IsKnownAfter m h s (table s) (table s x) p → r p ≡ s p) → IsExecuted m r x × (table r x ≡ table s x)
   dynamic s r x of_s of_r here none e agrees = elim (some_or_none (later.done x)) [
     | inl done ↦ (
-        settles_holds later (completed_label m x) r (agrees_later r of_r) (after.settled x done.0 done.1),
-        goes.done r x done.0 (agrees_later r of_r) done.1 ∙ sym (goes.done s x done.0 (agrees_later s of_s) done.1),
-      )
+      settles_holds later (completed_label m x) r (agrees_later r of_r) (after.settled x done.0 done.1),
+      goes.done r x done.0 (agrees_later r of_r) done.1 ∙ sym (goes.done s x done.0 (agrees_later s of_s) done.1),
+    )
     | inr coming ↦ goes.dynamic s r x (agrees_later s of_s) (agrees_later r of_r) here coming e
         (λ p k. agrees p (known_before s (table s x) p of_s k))
   ]

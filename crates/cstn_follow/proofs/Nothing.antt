@@ -1,12 +1,12 @@
 -- While nothing has happened, the rest is the network itself.
-use Rattle.std.proofs.Common.{ℕ, zero, suc, ◌≡◌, ◌⊎◌, inl, inr, ◌+◌, ◌<◌, ◌≤◌, Bool, true, false, List, [], ◌∷◌, ◌++◌, length, Option, Some, None, arith, refl, sym, subst, ap, ◌∙◌}
-use Rattle.std.specs.Prelude.{map, slice_index_or, if◌then◌else◌, not, ◌&&◌, ◌||◌, ◌==◌, ℤ, pos, ◌+ℤ◌, ◌-ℤ◌, int_lt}
+use Rattle.std.proofs.Common.{ℕ, zero, suc, ◌≡◌, ◌<◌, ◌≤◌, Bool, true, false, List, [], ◌∷◌, ◌++◌, length, Option, Some, None, arith, refl, sym, ap, ◌∙◌}
+use Rattle.std.specs.Prelude.{map, slice_index_or, if◌then◌else◌, not, ◌&&◌, ◌==◌, ℤ, pos, ◌+ℤ◌, ◌-ℤ◌, int_lt}
 use Rattle.std.specs.Option.{is_some, unwrap_or}
 use Rattle.std.specs.List.{All, filter, filter_map, flat_map, range_with_len, cons_option}
 use Rattle.std.proofs.Math.Path.{fun_ext}
 use Rattle.std.proofs.lemmas.Int.{ints, clamps}
 use Rattle.std.proofs.lemmas.List.{append-nil}
-use Rattle.std.proofs.lemmas.List.Elements.{All-head, All-tail, All-contains_itself, All-weaker}
+use Rattle.std.proofs.lemmas.List.Elements.{All-head, All-tail, All-weaker}
 use Rattle.std.proofs.lemmas.List.FromFn.{length-range_with_len, fill_by_all}
 use Rattle.cstn_label.specs.declared.marks.Mark.TheVariants.{Absent}
 use Rattle.cstn_label.specs.Labels.{Label, IsWithin, empty}
@@ -18,8 +18,8 @@ use Rattle.cstn_lift.specs.WellFormed.{IsLabelled}
 use Rattle.cstn_label.proofs.MarkLemmas.{mark_within_absent}
 use Rattle.cstn_label.proofs.LabelLemmas.{within_itself}
 use Rattle.cstn_lift.proofs.CompletionLemmas.{completed_least}
-use Rattle.cstn_follow.specs.Histories.{History, IsHistory, Settles, nothing_yet, origin_alone, is_done, allows, label_left}
-use Rattle.cstn_follow.specs.Rest.{untold, sight_left, is_left, left, left_upto, number_of, end_left, moment_done, value_left, cut, moved, is_over, constraint_left, late_one, watched_one, coming_one, late, watched, coming, added, reaction_by, rest}
+use Rattle.cstn_follow.specs.Histories.{History, IsHistory, Settles, nothing_yet, origin_alone, allows, label_left}
+use Rattle.cstn_follow.specs.Rest.{untold, sight_left, is_left, left, left_upto, end_left, moment_done, value_left, cut, moved, is_over, constraint_left, late_one, watched_one, coming_one, watched, coming, added, reaction_by, rest}
 use Rattle.cstn_follow.proofs.Settled.{allows_true}
 
 filter_whole : (test : ℕ → Bool) (each : (x : ℕ) → test x ≡ true) (xs : List ℕ) → filter test xs ≡ xs

@@ -1,17 +1,16 @@
 -- The time-points that are left, under their old numbers and under their new ones.
-use Rattle.std.proofs.Common.{ℕ, zero, suc, ◌≡◌, ◌⊎◌, inl, inr, ◌<◌, ◌≤◌, Bool, true, false, Option, Some, None, length, arith, refl, sym, subst, ap, ◌∙◌}
-use Rattle.std.specs.Prelude.{map, slice_index_or, if◌then◌else◌}
+use Rattle.std.proofs.Common.{ℕ, zero, suc, ◌≡◌, inl, inr, ◌<◌, true, Option, Some, None, length, arith, refl, sym, subst, ap, ◌∙◌}
+use Rattle.std.specs.Prelude.{slice_index_or, if◌then◌else◌}
 use Rattle.std.specs.Option.{is_some}
-use Rattle.std.proofs.lemmas.Bool.{cases_lt, false≢true}
-use Rattle.std.proofs.lemmas.List.{get_or-map, get_or_past, length-map}
-use Rattle.cstn_label.specs.Labels.{Label, IsMarked, empty}
+use Rattle.std.proofs.lemmas.List.{get_or-map, length-map}
+use Rattle.cstn_label.specs.Labels.{empty}
 use Rattle.cstn_net.specs.Networks.{Observes, count}
 use Rattle.cstn_net.proofs.Knowledge.{observer_within}
 use Rattle.cstn_lift.specs.Labelled.{Labelled, label_of}
 use Rattle.cstn_lift.specs.Completion.{completed_label}
 use Rattle.cstn_lift.specs.WellFormed.{IsLabelled}
-use Rattle.cstn_follow.specs.Histories.{History, IsHistory, is_done, is_told, allows, label_left}
-use Rattle.cstn_follow.specs.Rest.{untold, sight_left, is_left, left, number_of, end_left, rest}
+use Rattle.cstn_follow.specs.Histories.{History, IsHistory, allows, label_left}
+use Rattle.cstn_follow.specs.Rest.{untold, sight_left, is_left, left, number_of, rest}
 use Rattle.cstn_follow.proofs.Lists.{place_found, place_back}
 use Rattle.cstn_follow.proofs.Settled.{Allows, allows_true, allows_back, some_or_none, settles_allows}
 
@@ -101,7 +100,7 @@ module _ (m : Labelled) (h : History) (fresh : ℕ) (good : IsLabelled m) (known
       let here = observer_within m.base x p o in
       record {
         what = sight_at (new x) (new_inside x here e) ∙ ap (sight_left m h) (old_new x here e)
-            ∙ sight_of h (slice_index_or m.base.observes x None) p o.what none
+            ∙ sight_of h (slice_index_or m.base.observes x None) p o.what none;
       }
 
   pub observes_back : (k p : ℕ) → Observes R.base k p → (k < count R.base) × (h.told p ≡ None) × Observes m.base (old m h k) p

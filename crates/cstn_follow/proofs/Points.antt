@@ -1,5 +1,5 @@
 -- The time-points, the labels and the constraints that are left, as the program makes them one after the other.
-use Rattle.std.proofs.Common.{ℕ, zero, suc, ◌≡◌, ◌⊎◌, inl, inr, ◌+◌, ◌<◌, ◌≤◌, Bool, true, false, List, [], ◌∷◌, ◌++◌, Option, Some, None, length, take, arith, refl, sym, subst, ap, ◌∙◌}
+use Rattle.std.proofs.Common.{ℕ, suc, ◌≡◌, inl, inr, ◌+◌, ◌<◌, ◌≤◌, Bool, true, false, List, [], ◌∷◌, ◌++◌, Option, Some, None, length, take, arith, refl, sym, subst, ap, ◌∙◌}
 use Rattle.std.specs.Prelude.{map, slice_index_or, if◌then◌else◌, option_map, not, ◌||◌}
 use Rattle.std.specs.Option.{is_some}
 use Rattle.std.proofs.Math.Path.{fun_ext}
@@ -19,15 +19,15 @@ use Rattle.cstn_net.specs.Networks.{Constraint as TheConstraint, IsWellFormed, O
 use Rattle.cstn_net.specs.Read.{NetworkParts, the_network, the_constraint, prop_number, observed, reaction_of}
 use Rattle.cstn_net.specs.Drafts.{BuilderParts, constraints_from}
 use Rattle.cstn_net.specs.Handed.{IsHanded}
-use Rattle.cstn_lift.specs.Labelled.{Labelled, label_of}
+use Rattle.cstn_lift.specs.Labelled.{Labelled}
 use Rattle.cstn_lift.specs.Lowered.{observer_of}
 use Rattle.cstn_lift.specs.Read.{LabelledParts, the_labelled}
 use Rattle.cstn_lift.specs.WellFormed.{IsLabelled}
 use Rattle.cstn_lift.specs.Handed.{HasPoints}
 use Rattle.cstn_lift.proofs.Built.{point_added, points_long, reaction_told, reaction_untold}
 use Rattle.cstn_lift.proofs.LoweredLemmas.{observer_found, observer_back}
-use Rattle.cstn_follow.specs.Histories.{History, IsHistory, IsInTime, label_left}
-use Rattle.cstn_follow.specs.Rest.{sight_left, is_left, left, left_upto, number_of, constraint_left, reaction_after, reaction_by, rest}
+use Rattle.cstn_follow.specs.Histories.{History, IsHistory, IsInTime}
+use Rattle.cstn_follow.specs.Rest.{sight_left, is_left, left, left_upto, number_of, constraint_left, reaction_after, reaction_by}
 use Rattle.cstn_follow.specs.Handed.{bared}
 use Rattle.cstn_follow.proofs.Lists.{passing_next}
 use Rattle.cstn_follow.proofs.Places.{old, old_stands, sight_at, sees_back, count_left, observes_left}
@@ -112,11 +112,11 @@ module _ (m : Labelled) (h : History) (good : IsLabelled m) (known : IsHistory m
       point_added (bared m h) k points (record { observes = o; reaction = ticks }) inside has
       (sees ∙ ap (sight_left m h) at ∙ sym (sight_at m h 0 good known k inside))
       (λ p is.
-          let here = observed_prop o p is in
-          let both = sees_back m h x p (sym sees ∙ is) in
-          let left = subst (λ y. is_left m h y ≡ true) (sym at) stands.1 in
-          reacts here.0 here.1 ∙ ap (λ q. reaction_after m h q x (h.done x)) here.2
-          ∙ sym (reaction_left m h 0 good x p both.0 both.1 left))
+      let here = observed_prop o p is in
+      let both = sees_back m h x p (sym sees ∙ is) in
+      let left = subst (λ y. is_left m h y ≡ true) (sym at) stands.1 in
+      reacts here.0 here.1 ∙ ap (λ q. reaction_after m h q x (h.done x)) here.2
+      ∙ sym (reaction_left m h 0 good x p both.0 both.1 left))
     where
       observed_prop : (i : Option Prop) (p : ℕ) → prop_number i ≡ Some p → (q : Prop) × (i ≡ Some q) × (q.index ≡ p)
       observed_prop None p e = absurd (cc)

@@ -1,13 +1,12 @@
 -- The reactions of the rest.
-use Rattle.std.proofs.Common.{ℕ, zero, suc, ◌≡◌, ◌⊎◌, inl, inr, ◌<◌, ◌≤◌, ◌+◌, Bool, true, false, Option, Some, None, arith, refl, sym, subst, ap, ◌∙◌}
+use Rattle.std.proofs.Common.{ℕ, zero, suc, ◌≡◌, true, false, Some, None, refl, ap, ◌∙◌}
 use Rattle.std.specs.Prelude.{if◌then◌else◌, not, ◌||◌}
 use Rattle.std.specs.Option.{is_some}
 use Rattle.cstn_net.specs.Networks.{Observes}
 use Rattle.cstn_lift.specs.Labelled.{Labelled}
-use Rattle.cstn_lift.specs.Lowered.{observer_of}
 use Rattle.cstn_lift.specs.WellFormed.{IsLabelled}
 use Rattle.cstn_lift.proofs.LoweredLemmas.{observer_found}
-use Rattle.cstn_follow.specs.Histories.{History, is_told, known_at}
+use Rattle.cstn_follow.specs.Histories.{History, known_at}
 use Rattle.cstn_follow.specs.Rest.{is_left, reaction_after, reaction_by, reaction_watched, rest}
 
 module _ (m : Labelled) (h : History) (fresh : ℕ) (good : IsLabelled m) where

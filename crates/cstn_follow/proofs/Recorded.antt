@@ -1,18 +1,16 @@
 -- What is recorded keeps a history one of its network.
-use Rattle.std.proofs.Common.{ℕ, zero, suc, ◌≡◌, ◌⊎◌, inl, inr, ◌+◌, ◌<◌, ◌≤◌, Bool, true, false, List, Option, Some, None, length, arith, refl, sym, subst, ap, ◌∙◌}
+use Rattle.std.proofs.Common.{ℕ, zero, suc, ◌≡◌, ◌⊎◌, inl, inr, ◌<◌, ◌≤◌, Bool, true, false, List, Option, Some, None, length, arith, refl, sym, subst, ap, ◌∙◌}
 use Rattle.std.specs.Prelude.{cond, max, nat_lt, nat_le, ◌==◌, ◌&&◌, not, slice_index_or, slice_set, if◌then◌else◌}
 use Rattle.std.proofs.Math.Path.{fun_ext}
-use Rattle.std.proofs.lemmas.Bool.{cases_lt, cases_eq, cases_Bool, eq-eqb, ne_eqb, and_parts}
+use Rattle.std.proofs.lemmas.Bool.{cases_eq, eq-eqb, ne_eqb, and_parts}
 use Rattle.std.proofs.lemmas.List.{length-set, get_or-set_same, get_or-set_other}
-use Rattle.cstn_label.specs.declared.marks.Mark.{Mark}
-use Rattle.cstn_label.specs.declared.marks.Mark.TheVariants.{Absent}
 use Rattle.cstn_label.specs.declared.nodes.NodeId.{NodeId}
 use Rattle.cstn_label.specs.declared.props.Prop.{Prop}
 use Rattle.cstn_label.specs.declared.knowledge.Known.{Known}
-use Rattle.cstn_label.specs.Labels.{Label, MarkFits}
+use Rattle.cstn_label.specs.Labels.{MarkFits}
 use Rattle.cstn_label.specs.Read.{known_value}
 use Rattle.cstn_label.proofs.MarkLemmas.{absent_or_not}
-use Rattle.cstn_net.specs.Networks.{Network, Observes, count}
+use Rattle.cstn_net.specs.Networks.{Observes, count}
 use Rattle.cstn_lift.specs.Labelled.{Labelled}
 use Rattle.cstn_lift.specs.Completion.{completed_label}
 use Rattle.cstn_lift.specs.Lowered.{observer_of}
@@ -24,7 +22,7 @@ use Rattle.cstn_follow.specs.declared.errors.FactError.TheVariants.{Past, OutOfR
 use Rattle.cstn_follow.specs.Histories.{History, IsHistory, IsInTime, IsObservedAt, SettlesMark, Settles}
 use Rattle.cstn_follow.specs.Read.{HistoryParts, the_history, IsKeptFor}
 use Rattle.cstn_follow.specs.Facts.{settles, is_beyond, now_refusal, again_refusal, done_refusal, since, observed_since, again_told, told_after, told_refusal, latest_expected, again_expected, expected_after, expected_refusal, at_now, with_done, with_told, with_expected}
-use Rattle.cstn_follow.proofs.Settled.{some_or_none, settles_absent}
+use Rattle.cstn_follow.proofs.Settled.{settles_absent}
 use Rattle.cstn_follow.proofs.Told.{IsBelow, settles_back}
 
 not_beyond : (t : ℕ) → nat_lt 1000000 t ≡ false → t ≤ 1000000
@@ -302,7 +300,7 @@ module _ (m : Labelled) (good : IsLabelled m) (q : HistoryParts) (kept : IsKeptF
       let here = done_inside m good h kept.history kept.in_time t x e in
       let long = kept.one_each in
       let is : with_done h t x.0 ≡ the_history (record q { time = max q.time t; done = slice_set q.done x.0 (Some t) }) =
-          ap (λ f. record (with_done h t x.0) { done = f }) (fun_ext (λ y. sym (set_is q.done x.0 t (omega arith) y))) in
+      ap (λ f. record (with_done h t x.0) { done = f }) (fun_ext (λ y. sym (set_is q.done x.0 t (omega arith) y))) in
       record {
         one_each = length-set q.done x.0 (Some t) ∙ kept.one_each;
         wide = kept.wide;
@@ -315,7 +313,7 @@ module _ (m : Labelled) (good : IsLabelled m) (q : HistoryParts) (kept : IsKeptF
       IsKeptFor m (record q { time = max q.time t; told = k })
   kept_told t p v k e told =
       let is : with_told h t p.index v ≡ the_history (record q { time = max q.time t; told = k }) =
-          ap (λ f. record (with_told h t p.index v) { told = f }) (fun_ext (λ r. sym (told r))) in
+      ap (λ f. record (with_told h t p.index v) { told = f }) (fun_ext (λ r. sym (told r))) in
       record {
         one_each = kept.one_each;
         wide = kept.wide;
@@ -328,7 +326,7 @@ module _ (m : Labelled) (good : IsLabelled m) (q : HistoryParts) (kept : IsKeptF
   kept_expected t p e =
       let inside : p.index < length q.expected = (let letter = p.in_range in let wide = kept.wide in omega arith) in
       let is : with_expected h t p.index ≡ the_history (record q { expected = slice_set q.expected p.index (Some t) }) =
-          ap (λ f. record (with_expected h t p.index) { expected = f }) (fun_ext (λ r. sym (set_is q.expected p.index t inside r))) in
+      ap (λ f. record (with_expected h t p.index) { expected = f }) (fun_ext (λ r. sym (set_is q.expected p.index t inside r))) in
       record {
         one_each = kept.one_each;
         wide = length-set q.expected p.index (Some t) ∙ kept.wide;

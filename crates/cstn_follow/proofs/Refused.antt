@@ -1,5 +1,5 @@
 -- Why the rest is refused.
-use Rattle.std.proofs.Common.{ℕ, ◌≡◌, ◌≢◌, ◌⊎◌, inl, inr, ◌<◌, ◌≤◌, length, subst, sym}
+use Rattle.std.proofs.Common.{◌≡◌, ◌≢◌, inl, inr, ◌≤◌, length}
 use Rattle.std.proofs.lemmas.Bool.{cases_lt, cases_eq}
 use Rattle.cstn_lift.specs.declared.errors.LiftError.{LiftError}
 use Rattle.cstn_lift.specs.declared.errors.LiftError.TheVariants.{TooManyConstraints as TooMany}

@@ -2,7 +2,7 @@
 use Rattle.std.proofs.Common.{ℕ, ◌≡◌, [], ◌∷◌, Some, None, refl}
 use Rattle.std.specs.Prelude.{map, pos, negsuc, ℤ}
 use Rattle.cstn_label.specs.declared.marks.Mark.{Mark}
-use Rattle.cstn_label.specs.declared.marks.Mark.TheVariants.{Absent, Yes, No, Unknown}
+use Rattle.cstn_label.specs.declared.marks.Mark.TheVariants.{Absent, Yes, No}
 use Rattle.cstn_net.specs.Networks.{Constraint}
 use Rattle.cstn_follow.specs.Histories.{nothing_yet, allows}
 use Rattle.cstn_follow.specs.Rest.{rest}

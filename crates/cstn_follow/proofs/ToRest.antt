@@ -1,11 +1,11 @@
 -- A table that continues a history gives a labelled strategy of the rest.
-use Rattle.std.proofs.Common.{ℕ, zero, suc, ◌≡◌, ◌⊎◌, inl, inr, ◌+◌, ◌<◌, ◌≤◌, Bool, true, false, Option, Some, None, arith, refl, sym, subst, ap, ◌∙◌}
-use Rattle.std.specs.Prelude.{ℤ, pos, ◌-ℤ◌, ◌≤ℤ◌, min, if◌then◌else◌}
+use Rattle.std.proofs.Common.{ℕ, zero, suc, ◌≡◌, inl, inr, ◌+◌, ◌<◌, ◌≤◌, true, Option, Some, None, arith, refl, sym, subst, ap, ◌∙◌}
+use Rattle.std.specs.Prelude.{pos, ◌-ℤ◌}
 use Rattle.std.specs.List.{Contains}
-use Rattle.std.specs.Option.{is_some, unwrap_or}
+use Rattle.std.specs.Option.{unwrap_or}
 use Rattle.std.proofs.lemmas.Int.{ints}
 use Rattle.std.proofs.lemmas.List.Elements.{All-contains}
-use Rattle.cstn_label.specs.Labels.{Label, Scenario, Holds, empty}
+use Rattle.cstn_label.specs.Labels.{Scenario, Holds}
 use Rattle.cstn_label.proofs.LabelLemmas.{holds_within}
 use Rattle.cstn_net.specs.Networks.{Constraint, IsConstraint, Observes, count, limit}
 use Rattle.cstn_net.specs.Strategies.{Table, Meets}
@@ -15,13 +15,13 @@ use Rattle.cstn_lift.specs.Completion.{completed_label, full_label}
 use Rattle.cstn_lift.specs.WellFormed.{IsLabelled}
 use Rattle.cstn_lift.specs.Strategies.{IsExecuted, IsInForce, IsKnownExecuted, IsLabelledStrategy}
 use Rattle.cstn_lift.proofs.Equivalent.{full_from, full_to}
-use Rattle.cstn_follow.specs.Histories.{History, IsHistory, IsInTime, IsObservedAt, AgreesWith, known_at, label_left}
+use Rattle.cstn_follow.specs.Histories.{History, IsHistory, known_at}
 use Rattle.cstn_follow.specs.Continuations.{Continues, IsKnownAfter}
-use Rattle.cstn_follow.specs.Rest.{sight_left, is_left, number_of, end_left, moment_done, value_left, cut, moved, bare, awaited_at, reaction_watched, moment_watched, late, watched, coming, rest}
+use Rattle.cstn_follow.specs.Rest.{sight_left, is_left, number_of, end_left, moment_done, moved, bare, moment_watched, late, watched, coming, rest}
 use Rattle.cstn_follow.proofs.Settled.{Allows, some_or_none, as_told, told_agrees, told_same, holds_left, holds_back, holds_allows, settles_holds}
-use Rattle.cstn_follow.proofs.Places.{old, left_coming, left_watching, left_allows, old_new, old_stands, old_origin, new_inside, observes_left, sees_left, sees_back}
+use Rattle.cstn_follow.proofs.Places.{old, left_coming, left_watching, left_allows, old_new, old_stands, old_origin, observes_left, sees_left, sees_back}
 use Rattle.cstn_follow.proofs.Labels.{completed_new}
-use Rattle.cstn_follow.proofs.Forces.{end_done, end_coming, force_back, bare_full, constraint_from, IsMoved, IsAmong}
+use Rattle.cstn_follow.proofs.Forces.{end_done, end_coming, force_back, bare_full, constraint_from}
 use Rattle.cstn_follow.proofs.Added.{late_from, watched_from, coming_from}
 use Rattle.cstn_follow.proofs.Reactions.{reaction_coming, reaction_origin, reaction_done}
 use Rattle.cstn_follow.proofs.Values.{value_moved}
@@ -123,7 +123,7 @@ module _ (m : Labelled) (h : History) (fresh : ℕ) (good : IsLabelled m) (known
     | inr none ↦
         let left = left_coming m h fresh good known x none (holds_allows h (completed_label m x) (as_told h s) (told_agrees h s) e) in
         let at : to_rest s (end_left m h x) ≡ table (as_told h s) x =
-            ap (to_rest s) (end_coming m h fresh good known x none) ∙ at_coming s x here left none in
+        ap (to_rest s) (end_coming m h fresh good known x none) ∙ at_coming s x here left none in
         let since : moment_done h x ≡ 0 = ap (λ o. unwrap_or o 0) none in
         let upto = goes.within (as_told h s) x (told_agrees h s) here none e in
         let last = limit_upto x in
@@ -208,16 +208,15 @@ module _ (m : Labelled) (h : History) (fresh : ℕ) (good : IsLabelled m) (known
       let stands = old_stands m h fresh good known k here in
       elim (some_or_none (h.done (old m h k))) [
         | inl done ↦ (
-            subst (IsExecuted R r) stands.2 (executed_left m h fresh good known r x stands.0 stands.1 (done_executed m h known r x done.0 done.1)),
-            stand_done m h (table (as_told h r) x) (table (as_told h s) x) x done.0 (h.done x) (sight_left m h x) done.1,
-          )
+          subst (IsExecuted R r) stands.2 (executed_left m h fresh good known r x stands.0 stands.1 (done_executed m h known r x done.0 done.1)),
+          stand_done m h (table (as_told h r) x) (table (as_told h s) x) x done.0 (h.done x) (sight_left m h x) done.1,
+        )
         | inr none ↦
             let seen = executed_back m h fresh good known s x stands.0 stands.1 (subst (IsExecuted R s) (sym stands.2) e) in
             let at_s : to_rest s k ≡ table (as_told h s) x = stand_coming m h (table (as_told h s) x) x (h.done x) (sight_left m h x) none in
             let at_r : to_rest r k ≡ table (as_told h r) x = stand_coming m h (table (as_told h r) x) x (h.done x) (sight_left m h x) none in
             let both = goes.dynamic (as_told h s) (as_told h r) x (told_agrees h s) (told_agrees h r) stands.0 none seen
-                (agree_after s r (table (as_told h s) x) (subst (λ u. (p : ℕ) → IsKnownExecuted R s (to_rest s) u p → r p ≡ s p) at_s agrees)) in
-            (
+            (agree_after s r (table (as_told h s) x) (subst (λ u. (p : ℕ) → IsKnownExecuted R s (to_rest s) u p → r p ≡ s p) at_s agrees)) in (
               subst (IsExecuted R r) stands.2 (executed_left m h fresh good known r x stands.0 stands.1 both.0),
               at_r ∙ both.1 ∙ sym at_s,
             )

@@ -1,23 +1,22 @@
 -- What was told, as the program keeps it.
-use Rattle.std.proofs.Common.{ℕ, ◌≡◌, ◌⊎◌, inl, inr, ◌+◌, ◌<◌, ◌≤◌, Bool, true, false, Option, Some, None, arith, refl, sym, subst, ap, ◌∙◌}
+use Rattle.std.proofs.Common.{ℕ, ◌≡◌, inl, inr, ◌+◌, ◌<◌, ◌≤◌, Bool, true, false, Option, Some, None, arith, refl, sym, subst, ap, ◌∙◌}
 use Rattle.std.specs.Option.{is_some}
 use Rattle.std.specs.Prelude.{cond, ◌↔◌, IsTrue, ◌&&◌, ◌==◌, if◌then◌else◌}
 use Rattle.std.specs.List.{range_with_len}
 use Rattle.std.proofs.Math.Path.{fun_ext}
-use Rattle.std.proofs.lemmas.Bool.{cases_lt, cases_Bool, cases_eq, eq-eqb, ne_eqb, and_parts}
+use Rattle.std.proofs.lemmas.Bool.{cases_lt, cases_eq, eq-eqb, ne_eqb, and_parts}
 use Rattle.std.proofs.lemmas.List.Elements.{All-contains}
 use Rattle.std.proofs.lemmas.List.Sums.{list_all-from_AllPass, AllPass-from_list_all}
 use Rattle.cstn_label.specs.declared.marks.Mark.{Mark}
-use Rattle.cstn_label.specs.declared.marks.Mark.TheVariants.{Absent, Yes, No, Unknown}
+use Rattle.cstn_label.specs.declared.marks.Mark.TheVariants.{Absent}
 use Rattle.cstn_label.specs.declared.knowledge.Known.{Known}
 use Rattle.cstn_label.specs.Labels.{Label, MarkFits, IsPossible, empty, without}
-use Rattle.cstn_label.specs.Marks.{is_absent}
 use Rattle.cstn_label.specs.Words.{has_bit}
 use Rattle.cstn_label.specs.Read.{is_known, the_values, known_value}
 use Rattle.cstn_lift.proofs.ListLemmas.{range_contains, range_all}
-use Rattle.cstn_follow.specs.Histories.{History, SettlesMark, Settles, is_fit, allows, mark_left, label_left}
+use Rattle.cstn_follow.specs.Histories.{History, SettlesMark, Settles, allows, mark_left, label_left}
 use Rattle.cstn_follow.specs.Facts.{settles_mark, settles}
-use Rattle.cstn_follow.proofs.Settled.{Allows, some_or_none, allows_true, allows_below, left_told, left_untold, settles_left, settles_allows}
+use Rattle.cstn_follow.proofs.Settled.{Allows, allows_true, allows_below, settles_left, settles_allows}
 
 -- a label of the program marks none but the 52 propositions
 abbrev pub IsBelow : Label → Type 0
@@ -89,14 +88,14 @@ pub settled_is : (h : History) (a : Label) (b d : Bool) → IsBelow a → b ≡ 
     (b && d) ≡ settles h a
 settled_is h a b d below allowed test = both_ways (b && d) (settles h a)
     (λ e.
-        let both = and_parts b d e in
-        let gone = test.0 both.1 in
-        settles_true h a (λ p. settle_by (h.told p) (a p) (fits (sym allowed ∙ both.0) p) (ap (λ l. l p) gone)))
+    let both = and_parts b d e in
+    let gone = test.0 both.1 in
+    settles_true h a (λ p. settle_by (h.told p) (a p) (fits (sym allowed ∙ both.0) p) (ap (λ l. l p) gone)))
     (λ e.
-        let s = settles_back h a below e in
-        let yes_b : b ≡ true = allowed ∙ allows_true h a (settles_allows h a s) in
-        let yes_d : d ≡ true = test.1 (fun_ext (λ p. settles_left h a p s)) in
-        ap (λ x. x && d) yes_b ∙ yes_d)
+    let s = settles_back h a below e in
+    let yes_b : b ≡ true = allowed ∙ allows_true h a (settles_allows h a s) in
+    let yes_d : d ≡ true = test.1 (fun_ext (λ p. settles_left h a p s)) in
+    ap (λ x. x && d) yes_b ∙ yes_d)
   where
     fits : allows h a ≡ true → (p : ℕ) (v : Bool) → h.told p ≡ Some v → MarkFits v (a p)
     fits e p v is = elim (cases_lt p 52) [

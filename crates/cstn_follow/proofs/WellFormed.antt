@@ -1,35 +1,33 @@
 -- The rest is a labelled network, but for the number of its constraints.
-use Rattle.std.proofs.Common.{ℕ, zero, suc, ◌≡◌, ◌⊎◌, inl, inr, ◌+◌, ◌<◌, ◌≤◌, Bool, true, false, List, [], ◌∷◌, ◌++◌, Option, Some, None, length, arith, refl, sym, subst, ap, ◌∙◌}
-use Rattle.std.specs.Prelude.{ℤ, pos, negsuc, ◌-ℤ◌, ◌≤ℤ◌, min, map, if◌then◌else◌, not, ◌&&◌}
+use Rattle.std.proofs.Common.{ℕ, zero, suc, ◌≡◌, inl, inr, ◌+◌, ◌<◌, ◌≤◌, Bool, true, false, List, [], ◌∷◌, ◌++◌, Option, Some, None, length, arith, refl, sym, subst, ap, ◌∙◌}
+use Rattle.std.specs.Prelude.{ℤ, pos, ◌-ℤ◌, if◌then◌else◌}
 use Rattle.std.specs.List.{All, AllPairs, Contains, filter, filter_map, cons_option, range_with_len}
-use Rattle.std.proofs.lemmas.Bool.{cases_lt, cases_Bool}
+use Rattle.std.proofs.lemmas.Bool.{cases_Bool}
 use Rattle.std.proofs.lemmas.Int.{ints, clamps}
 use Rattle.std.proofs.lemmas.List.{length-map, length-append}
-use Rattle.std.proofs.lemmas.List.Elements.{All-nil, All-cons, All-head, All-tail, All-append, All-contains, All-contains_itself, All-weaker, Contains-append_left}
+use Rattle.std.proofs.lemmas.List.Elements.{All-nil, All-head, All-tail, All-append, All-contains, All-contains_itself, All-weaker, Contains-append_left}
 use Rattle.std.proofs.lemmas.List.Kept.{AllPairs-cons}
 use Rattle.cstn_label.specs.declared.marks.Mark.{Mark}
-use Rattle.cstn_label.specs.declared.marks.Mark.TheVariants.{Absent}
-use Rattle.cstn_label.specs.Labels.{Label, IsMarked, IsMarkWithin, IsMarkPlain, IsPlain, IsWithin, empty, joined}
+use Rattle.cstn_label.specs.Labels.{Label, IsMarked, IsMarkPlain, IsPlain, IsWithin, joined}
 use Rattle.cstn_label.proofs.MarkLemmas.{mark_within_absent}
 use Rattle.cstn_label.proofs.LabelLemmas.{within_through}
-use Rattle.cstn_net.specs.Networks.{Network, Constraint, Observes, IsNetwork, IsWellFormed, IsConstraint, IsOnObserved, IsValue, AreConstraintsFor, count, limit}
-use Rattle.cstn_net.proofs.Knowledge.{observer_within}
+use Rattle.cstn_net.specs.Networks.{Network, Constraint, Observes, IsWellFormed, IsConstraint, IsOnObserved, IsValue, AreConstraintsFor, count, limit}
 use Rattle.cstn_net.proofs.ListLemmas.{pairs_head, pairs_tail}
 use Rattle.cstn_lift.specs.Labelled.{Labelled, label_of}
 use Rattle.cstn_lift.specs.Completion.{completed, completed_label, full_label}
 use Rattle.cstn_lift.specs.Lowered.{numbered}
 use Rattle.cstn_lift.specs.WellFormed.{IsLabelled}
 use Rattle.cstn_lift.proofs.CompletionLemmas.{completed_contains, completed_complete, within_left}
-use Rattle.cstn_lift.proofs.FullLemmas.{full_within, full_on, label_on}
+use Rattle.cstn_lift.proofs.FullLemmas.{full_within}
 use Rattle.cstn_lift.proofs.Equivalent.{full_from, full_to}
 use Rattle.cstn_lift.proofs.ListLemmas.{numbered_ascending, filter_map_all}
-use Rattle.cstn_follow.specs.Histories.{History, IsHistory, IsInTime, IsObservedAt, known_at, or_at, mark_left, label_left}
-use Rattle.cstn_follow.specs.Rest.{left, cut, value_left, is_left, number_of, end_left, moved, is_over, constraint_left, bare, late, watched, coming, added, moment_watched, reaction_watched, awaited_at, rest}
-use Rattle.cstn_follow.proofs.Lists.{place, passing_yes, passing_no, filter_map_from}
-use Rattle.cstn_follow.proofs.Settled.{Allows, some_or_none, marked_left, left_told, left_untold, allows_within}
-use Rattle.cstn_follow.proofs.Places.{old, left_coming, left_watching, left_allows, old_stands, old_new, new_inside, observes_left, observes_back, label_at, count_left, sees_back}
-use Rattle.cstn_follow.proofs.Labels.{completed_new, observer_left, label_absent}
-use Rattle.cstn_follow.proofs.Forces.{end_done, end_coming, constraint_from, origin_empty, IsMoved, IsAmong}
+use Rattle.cstn_follow.specs.Histories.{History, IsHistory, IsInTime, known_at, or_at, mark_left, label_left}
+use Rattle.cstn_follow.specs.Rest.{left, cut, value_left, is_left, number_of, end_left, moved, constraint_left, bare, late, watched, coming, added, moment_watched, rest}
+use Rattle.cstn_follow.proofs.Lists.{place, passing_yes, passing_no}
+use Rattle.cstn_follow.proofs.Settled.{Allows, some_or_none, marked_left, left_untold, allows_within}
+use Rattle.cstn_follow.proofs.Places.{old, left_coming, left_watching, left_allows, old_stands, new_inside, observes_left, observes_back, label_at, count_left, sees_back}
+use Rattle.cstn_follow.proofs.Labels.{completed_new, observer_left}
+use Rattle.cstn_follow.proofs.Forces.{end_done, end_coming, constraint_from, origin_empty}
 use Rattle.cstn_follow.proofs.Added.{late_from, watched_from, coming_from}
 use Rattle.cstn_follow.proofs.Reactions.{reaction_coming, reaction_origin, reaction_done}
 use Rattle.cstn_follow.proofs.ToRest.{watched_upto}

@@ -1,6 +1,6 @@
 -- The clinical pathway: Z, Sample, Antibiotic, Review and Discharge. The sample tells after 60 minutes whether there is an
 -- infection, the proposition 34, and the antibiotic is given only with one.
-use Rattle.std.specs.Prelude.{ℕ, zero, suc, Bool, true, cond, ◌==◌, List, [], ◌∷◌, Option, Some, None, ℤ, pos, negsuc, slice_index_or}
+use Rattle.std.specs.Prelude.{ℕ, Bool, true, cond, ◌==◌, List, [], ◌∷◌, Option, Some, None, ℤ, pos, negsuc, slice_index_or}
 use Rattle.cstn_label.specs.declared.marks.Mark.{Mark}
 use Rattle.cstn_label.specs.declared.marks.Mark.TheVariants.{Absent, Yes, No}
 use Rattle.cstn_label.specs.Labels.{Label, empty, with_mark}

@@ -1,6 +1,5 @@
 -- Facts: which are refused, and what the history is once one is recorded.
-use Rattle.std.specs.Prelude.{ℕ, zero, suc, ◌≡◌, nat_lt, nat_le, max, ◌==◌, cond, Bool, true, ◌&&◌, not, Option, None, Some, Result, Ok, Err, if◌then◌else◌}
-use Rattle.std.specs.Option.{is_some}
+use Rattle.std.specs.Prelude.{ℕ, zero, suc, nat_lt, nat_le, max, ◌==◌, cond, Bool, ◌&&◌, not, Option, None, Some, Result, Ok, Err, if◌then◌else◌}
 use Rattle.std.specs.List.{list_all, range_with_len}
 use Rattle.cstn_label.specs.declared.marks.Mark.{Mark}
 use Rattle.cstn_label.specs.declared.nodes.NodeId.{NodeId}

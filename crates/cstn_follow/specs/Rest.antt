@@ -1,10 +1,10 @@
 -- The labelled network of what is left.
-use Rattle.std.specs.Prelude.{ℕ, zero, suc, ◌≡◌, ◌+◌, ◌-◌, ◌++◌, Bool, true, false, not, ◌&&◌, ◌||◌, ◌==◌, nat_lt, min, List, [], ◌∷◌, length, map, slice_index_or, Option, None, Some, if◌then◌else◌, ℤ, pos, negsuc, ◌+ℤ◌, ◌-ℤ◌, int_lt}
+use Rattle.std.specs.Prelude.{ℕ, zero, suc, ◌+◌, ◌-◌, ◌++◌, Bool, true, not, ◌&&◌, ◌||◌, ◌==◌, nat_lt, min, List, [], ◌∷◌, length, map, slice_index_or, Option, None, Some, if◌then◌else◌, ℤ, pos, negsuc, ◌+ℤ◌, ◌-ℤ◌, int_lt}
 use Rattle.std.specs.Int.{int_min, int_max}
 use Rattle.std.specs.Option.{is_some, unwrap_or}
 use Rattle.std.specs.List.{filter, filter_map, flat_map, range_with_len}
-use Rattle.cstn_label.specs.Labels.{Label, empty}
-use Rattle.cstn_net.specs.Networks.{Network, Constraint, count, limit}
+use Rattle.cstn_label.specs.Labels.{empty}
+use Rattle.cstn_net.specs.Networks.{Constraint, count, limit}
 use Rattle.cstn_lift.specs.Labelled.{Labelled, label_of}
 use Rattle.cstn_lift.specs.Completion.{completed_label, full_label}
 use Rattle.cstn_lift.specs.Lowered.{observer_of, numbered}

@@ -18,8 +18,11 @@ use crate::errors::RestError;
 use crate::histories::History;
 use crate::leaving::{constraint_left, is_left, known_at, reaction_watched, sight_left};
 use cstn_label::{Label, NodeId, Prop};
-use cstn_lift::{LiftError, Labelled, labelled_networks_have_no_fault, lift};
-use cstn_net::{Builder, Constraint, MAX_CONSTRAINTS, NetError, Network, handed_networks_are_closed, network_is_well_formed};
+use cstn_lift::{Labelled, LiftError, labelled_networks_have_no_fault, lift};
+use cstn_net::{
+    Builder, Constraint, MAX_CONSTRAINTS, NetError, Network, handed_networks_are_closed,
+    network_is_well_formed,
+};
 use std::alloc::{AllocError, Global};
 
 // The time-points that are left, and the number of each time-point among them.

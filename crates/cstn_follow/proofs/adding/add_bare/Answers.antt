@@ -1,8 +1,7 @@
-use Rattle.std.proofs.Common.{◌≡◌, ◌+◌, length, arith, refl, ap, ◌∙◌, to_z, of_z, w32}
-use Rattle.std.specs.Prelude.{vec_len, pos, ◌-ℤ◌, ℤ}
+use Rattle.std.proofs.Common.{◌≡◌, ◌+◌, length, arith, ap, ◌∙◌, to_z, of_z, w32}
+use Rattle.std.specs.Prelude.{ℤ}
 use Rattle.std.proofs.lemmas.Int.{to_z-of_z}
 use Rattle.cstn_label.specs.Labels.{Label}
-use Rattle.cstn_net.specs.Networks.{Constraint as TheConstraint}
 use Rattle.cstn_net.specs.declared.constraints.Constraint.{Constraint}
 use Rattle.cstn_net.specs.Read.{the_constraint}
 use Rattle.cstn_follow.specs.Rest.{bare}

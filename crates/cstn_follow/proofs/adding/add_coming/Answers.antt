@@ -1,4 +1,4 @@
-use Rattle.std.proofs.Common.{◌≡◌, ◌<◌, ◌∷◌, [], false, arith, sym, subst, ap, ◌∙◌, to_z, of_z, w32}
+use Rattle.std.proofs.Common.{◌≡◌, ◌∷◌, [], false, arith, sym, subst, ap, ◌∙◌, to_z, of_z, w32}
 use Rattle.std.specs.Prelude.{not, pos, ◌-ℤ◌, slice_index_or}
 use Rattle.std.specs.Option.{is_some}
 use Rattle.std.proofs.lemmas.Int.{ints}
@@ -23,7 +23,7 @@ returns-in_ok-add_bare-clause-added c =
     let x = c.args.x.0 in
     let k = slice_index_or c.args.numbers.now c.index.result 0 in
     let number : k ≡ number_of m h x = ap (λ i. slice_index_or c.args.numbers.now i 0) c.index.ensures.index
-        ∙ number_there m h c.args.numbers.now c.requires.numbers x c.requires.inside in
+    ∙ number_there m h c.args.numbers.now c.requires.numbers x c.requires.inside in
     let now = c.now-now.ensures.now in
     let range = c.now-now.ensures.range in
     let later = c.if-now-gt0.true in

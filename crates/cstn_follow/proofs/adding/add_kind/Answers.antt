@@ -1,4 +1,4 @@
-use Rattle.std.proofs.Common.{◌+◌, ◌*◌, ◌≤◌, length, arith}
+use Rattle.std.proofs.Common.{arith}
 use Rattle.cstn_lift.specs.Read.{the_labelled}
 use Rattle.cstn_follow.specs.Read.{the_history}
 use Rattle.cstn_follow.specs.Handed.{added_for}

@@ -1,4 +1,4 @@
-use Rattle.std.proofs.Common.{◌≡◌, ◌<◌, false, arith, sym, ap, ◌∙◌}
+use Rattle.std.proofs.Common.{◌≡◌, false, arith, sym, ap, ◌∙◌}
 use Rattle.std.specs.Prelude.{slice_index_or}
 use Rattle.std.specs.Option.{is_some}
 use Rattle.cstn_lift.specs.Read.{the_labelled}

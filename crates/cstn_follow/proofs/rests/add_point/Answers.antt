@@ -1,4 +1,4 @@
-use Rattle.std.proofs.Common.{ℕ, ◌≡◌, ◌+◌, ◌<◌, ◌≤◌, Some, None, length, arith, sym, subst, ap, ◌∙◌}
+use Rattle.std.proofs.Common.{◌≡◌, ◌+◌, ◌<◌, Some, length, arith, sym, subst, ap, ◌∙◌}
 use Rattle.cstn_net.specs.declared.points.TimePoint.{TimePoint}
 use Rattle.cstn_net.specs.Networks.{count}
 use Rattle.cstn_net.specs.Drafts.{with_reaction}
@@ -23,7 +23,7 @@ sight_left-observes-requires c =
 pub node-requires : goal.node-requires
 node-requires c =
     let few = few_left (the_labelled c.args.network.now) (the_history c.args.history.now) c.requires.labelled c.requires.kept.history c.requires.kept.in_time
-        (length c.args.builder.now.points) c.requires.place in
+    (length c.args.builder.now.points) c.requires.place in
     omega arith
 
 pub returns-in-Some-clause-added : goal.returns-in-Some-clause-added
@@ -36,12 +36,12 @@ returns-in-Some-clause-added c =
     let ticks = c.reaction_left.result in
     let at = c.in_ok-node.ensures.number in
     let points = ap (λ b. b.points) c.react.ensures.react
-        ∙ ap (λ (b : _). with_reaction c.in_ok-node.node ticks b.points) c.in_ok-node.ensures.appended
-        ∙ reaction_set old t c.in_ok-node.node ticks at in
+    ∙ ap (λ (b : _). with_reaction c.in_ok-node.node ticks b.points) c.in_ok-node.ensures.appended
+    ∙ reaction_set old t c.in_ok-node.node ticks at in
     subst (λ ps. HasPoints (bared m h) (length old + 1) ps) (sym points)
     (point_next m h c.requires.labelled c.requires.kept.history c.requires.kept.in_time (length old) c.args.x.0 old observes ticks c.requires.place c.requires.next
     c.requires.before c.sight_left-observes.ensures (λ p is.
-        c.reaction_left.ensures ∙ ap (λ i. reaction_after m h i c.args.x.0 (h.done c.args.x.0)) (let same : Some c.in-Some.p ≡ Some p = sym c.in-Some.is ∙ is in let e : c.in-Some.p ≡ p = cc in ap (λ q. q.index) e)))
+    c.reaction_left.ensures ∙ ap (λ i. reaction_after m h i c.args.x.0 (h.done c.args.x.0)) (let same : Some c.in-Some.p ≡ Some p = sym c.in-Some.is ∙ is in let e : c.in-Some.p ≡ p = cc in ap (λ q. q.index) e)))
 
 pub returns-in_default-clause-added : goal.returns-in_default-clause-added
 returns-in_default-clause-added c =

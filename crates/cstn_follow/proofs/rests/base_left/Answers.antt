@@ -1,8 +1,8 @@
-use Rattle.std.proofs.Common.{◌≡◌, ◌++◌, ◌≤◌, ◌+◌, [], length, arith, sym, subst, ap, ◌∙◌}
+use Rattle.std.proofs.Common.{◌≡◌, ◌++◌, length, arith, sym, subst, ap, ◌∙◌}
 use Rattle.std.specs.Prelude.{map}
 use Rattle.std.specs.List.{filter_map}
 use Rattle.std.proofs.lemmas.List.{length-map, length-append, map-append}
-use Rattle.cstn_net.specs.Networks.{Network, Constraint as TheConstraint, AreConstraintsFor}
+use Rattle.cstn_net.specs.Networks.{AreConstraintsFor}
 use Rattle.cstn_net.specs.Read.{the_network, the_constraint, observed}
 use Rattle.cstn_lift.specs.Lowered.{numbered}
 use Rattle.cstn_lift.specs.Read.{the_labelled}
@@ -18,10 +18,10 @@ insert_all-requires-clause-fit c =
     let h = the_history c.args.history.now in
     let n = c.reserve.new.self in
     let observes : map observed n.points ≡ (bared m h).observes =
-        ap (λ k. map observed k.points) c.in_default.ensures.same ∙ ap (λ k. k.observes) c.in-Ok-points_left.ensures.bared in
+    ap (λ k. map observed k.points) c.in_default.ensures.same ∙ ap (λ k. k.observes) c.in-Ok-points_left.ensures.bared in
     let list : map the_constraint (n.constraints ++ c.deref-4.result.now) ≡ filter_map (constraint_left m h) m.base.constraints =
-        ap (λ l. map the_constraint (l ++ c.deref-4.result.now)) (ap (λ k. k.constraints) c.in_default.ensures.same ∙ c.in-Ok-points_left.ensures.none)
-        ∙ ap (map the_constraint) c.deref-4.ensures.value ∙ c.in-Ok.ensures.kept in
+    ap (λ l. map the_constraint (l ++ c.deref-4.result.now)) (ap (λ k. k.constraints) c.in_default.ensures.same ∙ c.in-Ok-points_left.ensures.none)
+    ∙ ap (map the_constraint) c.deref-4.ensures.value ∙ c.in-Ok.ensures.kept in
     let few = c.in-Ok.ensures.few in
     let long = ap length c.in-Ok.ensures.kept in
     let same = length-map c.in-Ok.kept.items the_constraint in
@@ -36,13 +36,13 @@ insert_all-requires-2-clause-fit c =
     let kept = c.in-Ok.kept.items in
     let more = c.in-Ok-added.added.items in
     let observes : map observed n.points ≡ (bared m h).observes =
-        ap (map observed) c.insert_all.ensures.same.1 ∙ ap (λ k. map observed k.points) c.in_default.ensures.same ∙ ap (λ k. k.observes) c.in-Ok-points_left.ensures.bared in
+    ap (map observed) c.insert_all.ensures.same.1 ∙ ap (λ k. map observed k.points) c.in_default.ensures.same ∙ ap (λ k. k.observes) c.in-Ok-points_left.ensures.bared in
     let list : map the_constraint (n.constraints ++ c.deref-5.result.now) ≡ (rest m h c.args.fresh).base.constraints =
-        ap (λ l. map the_constraint (l ++ c.deref-5.result.now)) (c.insert_all.ensures.inserted
-        ∙ ap (λ l. l ++ c.deref-4.result.now) (ap (λ k. k.constraints) c.in_default.ensures.same ∙ c.in-Ok-points_left.ensures.none) ∙ c.deref-4.ensures.value)
-        ∙ ap (λ l. map the_constraint (kept ++ l)) c.deref-5.ensures.value ∙ map-append the_constraint kept more
-        ∙ ap (λ l. l ++ map the_constraint more) c.in-Ok.ensures.kept
-        ∙ ap (λ l. filter_map (constraint_left m h) m.base.constraints ++ l) c.in-Ok-added.ensures.added in
+    ap (λ l. map the_constraint (l ++ c.deref-5.result.now)) (c.insert_all.ensures.inserted
+    ∙ ap (λ l. l ++ c.deref-4.result.now) (ap (λ k. k.constraints) c.in_default.ensures.same ∙ c.in-Ok-points_left.ensures.none) ∙ c.deref-4.ensures.value)
+    ∙ ap (λ l. map the_constraint (kept ++ l)) c.deref-5.ensures.value ∙ map-append the_constraint kept more
+    ∙ ap (λ l. l ++ map the_constraint more) c.in-Ok.ensures.kept
+    ∙ ap (λ l. filter_map (constraint_left m h) m.base.constraints ++ l) c.in-Ok-added.ensures.added in
     let kept_long = ap length c.in-Ok.ensures.kept in
     let kept_same = length-map kept the_constraint in
     let more_long = ap length c.in-Ok-added.ensures.added in

@@ -1,4 +1,4 @@
-use Rattle.std.proofs.Common.{◌≡◌, [], refl, sym, ap, ◌∙◌}
+use Rattle.std.proofs.Common.{refl, ap, ◌∙◌}
 use Rattle.cstn_net.specs.Drafts.{constraints_from}
 use Rattle.cstn_lift.specs.Read.{the_labelled}
 use Rattle.cstn_follow.specs.Read.{the_history}

@@ -5,7 +5,6 @@ use Rattle.cstn_label.specs.Read.{marks}
 use Rattle.cstn_lift.specs.Labelled.{Labelled}
 use Rattle.cstn_lift.specs.Faults.{IsLiftRefusal}
 use Rattle.cstn_lift.specs.Read.{the_labelled, with_labels}
-use Rattle.cstn_net.specs.Read.{the_network}
 use Rattle.cstn_net.specs.Networks.{Network}
 use Rattle.cstn_follow.specs.Rest.{rest}
 use Rattle.cstn_follow.specs.Read.{the_history}
@@ -23,8 +22,8 @@ returns-clause-refused c =
     let labels = c.in-Ok-labels_left.labels.items in
     let base_is = c.in-Ok-base_left.ensures.base in
     let same : with_labels base labels ≡ R =
-        ap (λ (n : Network). record { base = n; labels = map marks labels }) base_is
-        ∙ ap (λ (ls : List Label). record R { labels = ls }) c.in-Ok-labels_left.ensures in
+    ap (λ (n : Network). record { base = n; labels = map marks labels }) base_is
+    ∙ ap (λ (ls : List Label). record R { labels = ls }) c.in-Ok-labels_left.ensures in
     let few : length R.base.constraints ≤ 16384 = subst (λ (n : Network). length n.constraints ≤ 16384) base_is c.network_is_well_formed.ensures.few_constraints in
     lift_refused R (rest_labelled m h c.args.fresh c.left_of.ensures.labelled c.requires.kept.history c.requires.kept.in_time c.requires.above few)
     c.labelled_networks_have_no_fault.ensures.few c.in-Err-lift.fault c.refusal_of.result
@@ -40,6 +39,6 @@ returns-in-Ok-lift-clause-few c =
     let labels = c.in-Ok-labels_left.labels.items in
     let base_is = c.in-Ok-base_left.ensures.base in
     let same : with_labels base labels ≡ R =
-        ap (λ (n : Network). record { base = n; labels = map marks labels }) base_is
-        ∙ ap (λ (ls : List Label). record R { labels = ls }) c.in-Ok-labels_left.ensures in
+    ap (λ (n : Network). record { base = n; labels = map marks labels }) base_is
+    ∙ ap (λ (ls : List Label). record R { labels = ls }) c.in-Ok-labels_left.ensures in
     subst HasRoom same (lift_has_room (with_labels base labels) c.network_is_well_formed.ensures.few_constraints c.in-Ok-lift.ensures.faultless)

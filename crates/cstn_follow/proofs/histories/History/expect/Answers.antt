@@ -13,5 +13,5 @@ returns-clause-kept c =
     let t = c.args.moment in
     let was = subst (IsKeptFor m) (sym c.self.view_is) c.requires.kept in
     let free = subst (λ (p : HistoryParts). expected_refusal m (the_history p) t c.args.p ≡ None) (sym c.self.view_is)
-        (sym c.expected_refusal.ensures.refusal ∙ c.in_default.is) in
+    (sym c.expected_refusal.ensures.refusal ∙ c.in_default.is) in
     kept_expected m c.expected_refusal.ensures.labelled q was t c.args.p free

@@ -1,4 +1,4 @@
-use Rattle.std.proofs.Common.{ℕ, ◌≡◌, ◌<◌, ◌≤◌, arith, refl, ◌∙◌}
+use Rattle.std.proofs.Common.{arith, ◌∙◌}
 use Rattle.cstn_label.specs.Read.{marks}
 use Rattle.cstn_follow.specs.Read.{the_history}
 use Rattle.cstn_follow.proofs.Told.{turn_left, elsewhere, left_end}

@@ -1,4 +1,4 @@
-use Rattle.std.proofs.Common.{ℕ, ◌≡◌, true, sym, ◌∙◌, ap}
+use Rattle.std.proofs.Common.{◌≡◌, true, sym, ◌∙◌, ap}
 use Rattle.std.specs.Option.{is_some}
 use Rattle.cstn_label.specs.Read.{marks, known_value}
 use Rattle.cstn_follow.proofs.Told.{mark_taken}

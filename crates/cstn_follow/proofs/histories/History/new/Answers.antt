@@ -1,5 +1,5 @@
-use Rattle.std.proofs.Common.{ℕ, ◌≡◌, ◌<◌, Some, None, arith, refl, ap, sym, ◌∙◌}
-use Rattle.std.specs.Prelude.{take, replicate, slice_set, ◌++◌, ◌-◌}
+use Rattle.std.proofs.Common.{Some, arith, ap, ◌∙◌}
+use Rattle.std.specs.Prelude.{slice_set}
 use Rattle.cstn_net.specs.Networks.{count}
 use Rattle.cstn_net.specs.Read.{the_network}
 use Rattle.cstn_lift.specs.Read.{the_labelled}
