@@ -63,3 +63,11 @@ pub record IsPaged (heads capacity : ℕ) (pages : List Page) (links : Ring) (ro
   pub own : (h : ℕ) → h < heads → IsPageOf pages h h
   pub order : All (IsInOrder heads) pages
   pub half : (k : ℕ) (page : Page) → heads ≤ k → slice_get pages k ≡ Some page → page.head < heads → 16 ≤ length page.records.items
+
+-- the pages are those with which rows begin: each is the first page of a head, and empty
+abbrev pub AreOpened : ℕ → List Page → Type 0
+AreOpened heads pages = (length pages ≡ heads) × ((k : ℕ) (page : Page) → slice_get pages k ≡ Some page → (page.head ≡ k) × (page.records.items ≡ []) × IsPage page)
+
+-- the second list begins with the first
+abbrev pub StartsWith : List Record → List Record → Type 0
+StartsWith front whole = (more : List Record) × (whole ≡ front ++ more)

@@ -78,7 +78,8 @@ impl Links {
 
     /// The place of the last slot of a chain below a slot, or the end of the chain. Each slot's key is its own number.
     pub fn last_below(&self, head: u32, slot: u32) -> u32
-        requires { head < self.now.heads }
+        requires head { head < self.now.heads }
+        requires numbers { (table : Table) × AreLinks self.now table × AreNumbers table }
         ensures before { (table : Table) → AreLinks self.now table → AreNumbers table → IsPrev table self.now.slots self.now.heads head slot result }
         ensures inside { result < self.now.slots + self.now.heads }
     {

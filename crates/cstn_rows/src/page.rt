@@ -1,4 +1,4 @@
-ghost use Rattle.std.specs.Prelude.{◌≡◌, ◌<◌, ◌≤◌, ◌+◌, ◌++◌, ◌∷◌, [], length, slice_index_or, IsPermutation};
+ghost use Rattle.std.specs.Prelude.{◌≡◌, ◌<◌, ◌≤◌, ◌≤ℤ◌, ◌+◌, ◌++◌, ◌∷◌, [], length, slice_index_or, IsPermutation};
 ghost use Rattle.std.specs.List.{swap_remove};
 ghost use Rattle.cstn_rows.specs.Pages.{IsPage};
 
@@ -54,16 +54,16 @@ impl Page {
     }
 
     /// Adds a record.
-    pub fn add(&mut self, record: Record)
+    pub fn add(&mut self, added: Record)
         requires room { length self.old.records.items < 32 }
         requires page { IsPage self.old }
         ensures head { self.new.head ≡ self.old.head }
-        ensures added { self.new.records.items ≡ self.old.records.items ++ record ∷ [] }
+        ensures added { self.new.records.items ≡ self.old.records.items ++ added ∷ [] }
         ensures page { IsPage self.new }
     {
-        self.low = self.low.min(record.least);
-        self.high = self.high.max(record.least);
-        self.records.push(record);
+        self.low = lower(self.low, added.least);
+        self.high = higher(self.high, added.least);
+        self.records.push(added);
     }
 
     /// Takes a record out; the last one takes its place.
@@ -71,8 +71,8 @@ impl Page {
         requires inside { index < length self.old.records.items }
         requires page { IsPage self.old }
         ensures head { self.new.head ≡ self.old.head }
-        ensures record { result ≡ slice_index_or self.old.records.items index result }
-        ensures taken { self.new.records.items ≡ swap_remove self.old.records.items index result }
+        ensures taken { result ≡ slice_index_or self.old.records.items index result }
+        ensures left { self.new.records.items ≡ swap_remove self.old.records.items index result }
         ensures page { IsPage self.new }
     {
         self.records.swap_remove(index)
@@ -116,16 +116,25 @@ impl Page {
     fn refit(&mut self)
         requires { IsPage self.old }
         ensures head { self.new.head ≡ self.old.head }
-        ensures records { self.new.records ≡ self.old.records }
+        ensures same { self.new.records.items ≡ self.old.records.items }
         ensures page { IsPage self.new }
     {
-        let mut low = i32::MAX;
-        let mut high = i32::MIN;
-        for record in self.records.as_slice() {
-            low = low.min(record.least);
-            high = high.max(record.least);
+        let mut fresh = Page::empty(self.head);
+        for kept in self.records.as_slice() {
+            fresh.add(*kept);
         }
-        self.low = low;
-        self.high = high;
+        *self = fresh;
     }
+}
+
+fn lower(a: i32, b: i32) -> i32
+    ensures { (result ≤ℤ a) × (result ≤ℤ b) }
+{
+    if a < b { a } else { b }
+}
+
+fn higher(a: i32, b: i32) -> i32
+    ensures { (a ≤ℤ result) × (b ≤ℤ result) }
+{
+    if a < b { b } else { a }
 }

@@ -1,8 +1,10 @@
-ghost use Rattle.std.specs.Prelude.{◌≡◌, ◌⊎◌, ◌<◌, ◌≤◌, ◌+◌, ◌++◌, ◌∷◌, [], ℕ, List, Some, length, IfOk, IfSome, IfNone, slice_get, slice_index_or, vec_capacity, IsPermutation};
+ghost use Rattle.std.specs.Prelude.{◌≡◌, ◌⊎◌, ◌<◌, ◌≤◌, ◌+◌, ◌++◌, ◌∷◌, [], ℕ, Some, None, length, replicate, IfOk, slice_get, slice_index_or, slice_set, vec_capacity, IsPermutation};
 ghost use Rattle.cstn_rows.specs.declared.page.Page.{Page as ThePage};
-ghost use Rattle.cstn_rows.specs.Chains.{Table, IsIn, IsFirstKey};
-ghost use Rattle.cstn_rows.specs.Links.{Ring};
-ghost use Rattle.cstn_rows.specs.Pages.{IsPage, IsPageOf, held, numbered, most_pages, SameRows};
+ghost use Rattle.cstn_rows.specs.declared.page.Record.{Record};
+ghost use Rattle.cstn_rows.specs.Chains.{IsFirstKey};
+ghost use Rattle.cstn_rows.specs.Links.{AreLinks, SameSize};
+ghost use Rattle.cstn_pool.specs.Slots.{padded};
+ghost use Rattle.cstn_rows.specs.Pages.{IsPage, IsPageOf, on_page, held, homes, numbered, most_pages, AreOpened, StartsWith, SameRows};
 
 use crate::links::Links;
 use crate::page::{HALF, Page, ROOM, Record};
@@ -57,7 +59,8 @@ impl Rows {
 
     /// The first page of the head's row; None where there is no such head.
     pub fn first(&self, head: u32) -> Option<u32>
-        ensures { IsFirstKey (numbered self.now) head 0 result }
+        ensures first { IsFirstKey (numbered self.now) head 0 result }
+        ensures own { head < self.now.heads → IsPageOf self.now.pages head head }
     {
         self.links.first(head)
     }
@@ -80,14 +83,14 @@ impl Rows {
     }
 
     /// Puts a record into the head's row.
-    pub fn put(&mut self, head: u32, record: Record)
+    pub fn put(&mut self, head: u32, added: Record)
         requires head { head < self.old.heads }
         requires room { length (held self.old.pages) < self.old.capacity }
         ensures size { SameRows self.old self.new }
-        ensures put { IsPermutation ((head, record) ∷ held self.old.pages) (held self.new.pages) }
+        ensures put { IsPermutation ((head, added) ∷ held self.old.pages) (held self.new.pages) }
     {
-        let page = self.place_for(head, record.least);
-        self.pages[page as usize].add(record);
+        let page = self.place_for(head, added.least);
+        self.pages[page as usize].add(added);
     }
 
     /// Takes a record out of a page.
@@ -95,7 +98,7 @@ impl Rows {
         requires page { page < length self.old.pages }
         requires index { (p : ThePage) → slice_get self.old.pages page ≡ Some p → index < length p.records.items }
         ensures size { SameRows self.old self.new }
-        ensures record { (p : ThePage) → slice_get self.old.pages page ≡ Some p → result ≡ slice_index_or p.records.items index result }
+        ensures value { (p : ThePage) → slice_get self.old.pages page ≡ Some p → result ≡ slice_index_or p.records.items index result }
         ensures taken { (p : ThePage) → slice_get self.old.pages page ≡ Some p → IsPermutation (held self.old.pages) ((p.head, result) ∷ held self.new.pages) }
     {
         let page = self.page_to_take_from(page);
@@ -113,11 +116,28 @@ impl Rows {
     }
 
     // A page of the head's row that has room. A page that is full is split for it.
-    fn place_for(&mut self, head: u32, least: i32) -> u32 {
+    fn place_for(&mut self, head: u32, least: i32) -> u32
+        requires head { head < self.old.heads }
+        requires room { length (held self.old.pages) < self.old.capacity }
+        ensures size { SameRows self.old self.new }
+        ensures page { (p : ThePage) × (slice_get self.new.pages result ≡ Some p) × (p.head ≡ head) × (length p.records.items < 32) }
+        ensures same { IsPermutation (held self.old.pages) (held self.new.pages) }
+    {
         let page = self.nearest(head, least);
         if self.pages[page as usize].records.len() < ROOM {
             return page;
         }
+        self.divide(page, least)
+    }
+
+    // Splits a full page, and answers the half whose range is nearer to the least value.
+    fn divide(&mut self, page: u32, least: i32) -> u32
+        requires page { (p : ThePage) × (slice_get self.old.pages page ≡ Some p) × (p.head < self.old.heads) × (length p.records.items ≡ 32) }
+        requires room { length (held self.old.pages) < self.old.capacity }
+        ensures size { SameRows self.old self.new }
+        ensures page { (p : ThePage) → slice_get self.old.pages page ≡ Some p → (q : ThePage) × (slice_get self.new.pages result ≡ Some q) × (q.head ≡ p.head) × (length q.records.items < 32) }
+        ensures same { IsPermutation (held self.old.pages) (held self.new.pages) }
+    {
         let upper = self.pages[page as usize].split();
         let is_above = upper.low <= least;
         let number = self.install(upper);
@@ -125,12 +145,15 @@ impl Rows {
     }
 
     // The page whose range ends next above the least value; where none ends above it, the one whose range ends highest.
-    fn nearest(&self, head: u32, least: i32) -> u32 {
-        let mut best = head;
-        let mut end = self.pages[head as usize].high;
+    fn nearest(&self, head: u32, least: i32) -> u32
+        requires { head < self.now.heads }
+        ensures { IsPageOf self.now.pages head result }
+    {
         let mut place = self.first(head);
+        let mut best = head;
+        let mut end = self.page(head).high;
         while let Some(page) = place {
-            let high = self.pages[page as usize].high;
+            let high = self.page(page).high;
             if is_nearer(high, end, least) {
                 best = page;
                 end = high;
@@ -141,23 +164,48 @@ impl Rows {
     }
 
     // Makes a page one of the row that it names.
-    fn install(&mut self, page: Page) -> u32 {
+    fn install(&mut self, page: Page) -> u32
+        requires row { page.head < self.old.heads }
+        requires half { length page.records.items ≡ 16 }
+        requires is { IsPage page }
+        requires room { length (held self.old.pages) + 16 ≤ self.old.capacity }
+        ensures size { SameRows self.old self.new }
+        ensures there { slice_get self.new.pages result ≡ Some page }
+        ensures kept { (k : ℕ) (p : ThePage) → slice_get self.old.pages k ≡ Some p → p.head < self.old.heads → slice_get self.new.pages k ≡ Some p }
+        ensures same { IsPermutation (on_page page ++ held self.old.pages) (held self.new.pages) }
+    {
         match self.links.first(self.heads) {
-            Some(number) => self.reuse(number, page),
+            Some(number) => {
+                self.reuse(number, page);
+                number
+            }
             None => self.append(page),
         }
-        
     }
 
-    fn reuse(&mut self, number: u32, page: Page) -> u32 {
+    // Makes a page that is of no row the given one.
+    fn reuse(&mut self, number: u32, page: Page)
+        requires free { IsPageOf self.old.pages self.old.heads number }
+        requires row { page.head < self.old.heads }
+        requires half { length page.records.items ≡ 16 }
+        requires is { IsPage page }
+        ensures { self.new ≡ record self.old { pages = slice_set self.old.pages number page } }
+    {
         self.links.remove(number);
         let before = self.links.last_below(page.head, number);
         self.links.insert(number, before);
         self.pages[number as usize] = page;
-        number
     }
 
-    fn append(&mut self, page: Page) -> u32 {
+    // Makes the next page that was never used the given one.
+    fn append(&mut self, page: Page) -> u32
+        requires few { length self.old.pages < most_pages self.old.heads self.old.capacity }
+        requires row { page.head < self.old.heads }
+        requires half { length page.records.items ≡ 16 }
+        requires is { IsPage page }
+        ensures number { result ≡ length self.old.pages }
+        ensures pages { self.new ≡ record self.old { pages = self.old.pages ++ page ∷ [] } }
+    {
         let number = self.pages.len() as u32;
         let before = self.links.last_below(page.head, number);
         self.links.insert(number, before);
@@ -167,29 +215,56 @@ impl Rows {
 
     // A page that has the records of this one at the same places, and that may lose one of them: a page that is only half full
     // gets one from the row's first page, or becomes that page where it is empty.
-    fn page_to_take_from(&mut self, page: u32) -> u32 {
+    fn page_to_take_from(&mut self, page: u32) -> u32
+        requires page { page < length self.old.pages }
+        requires some { (p : ThePage) → slice_get self.old.pages page ≡ Some p → 0 < length p.records.items }
+        ensures size { SameRows self.old self.new }
+        ensures front { (p : ThePage) → slice_get self.old.pages page ≡ Some p → (q : ThePage) × (slice_get self.new.pages result ≡ Some q) × (q.head ≡ p.head) × StartsWith p.records.items q.records.items }
+        ensures spare { (q : ThePage) → slice_get self.new.pages result ≡ Some q → (result < self.new.heads) ⊎ (16 < length q.records.items) }
+        ensures same { IsPermutation (held self.old.pages) (held self.new.pages) }
+    {
         if page < self.heads || self.pages[page as usize].records.len() > HALF {
             return page;
         }
         let first = self.pages[page as usize].head;
-        match self.pages[first as usize].records.pop() {
-            Some(record) => {
-                self.pages[page as usize].add(record);
-                page
-            }
-            None => {
-                self.make_first(page, first);
-                first
-            }
+        if self.pages[first as usize].records.is_empty() {
+            self.make_first(page, first);
+            return first;
         }
+        self.refill(page, first);
+        page
     }
 
-    fn make_first(&mut self, page: u32, first: u32) {
-        let none = Page::empty(self.heads);
-        self.pages[first as usize] = mem::replace(&mut self.pages[page as usize], none);
+    // Brings a record from the first page of a row to another page of it.
+    fn refill(&mut self, page: u32, first: u32)
+        requires behind { self.old.heads ≤ page }
+        requires row { first < self.old.heads }
+        requires page { (p : ThePage) × (slice_get self.old.pages page ≡ Some p) × (p.head ≡ first) × (length p.records.items ≤ 16) }
+        requires some { (p : ThePage) → slice_get self.old.pages first ≡ Some p → 0 < length p.records.items }
+        ensures size { SameRows self.old self.new }
+        ensures filled { (p : ThePage) → slice_get self.old.pages page ≡ Some p → (q : ThePage) × (moved : Record) × (slice_get self.new.pages page ≡ Some q) × (q.head ≡ p.head) × (q.records.items ≡ p.records.items ++ moved ∷ []) }
+        ensures same { IsPermutation (held self.old.pages) (held self.new.pages) }
+    {
+        let moved = self.pages[first as usize].take(0);
+        self.pages[page as usize].add(moved);
+    }
+
+    // Makes a page the first of its row, whose first page is empty.
+    fn make_first(&mut self, page: u32, first: u32)
+        requires behind { self.old.heads ≤ page }
+        requires row { first < self.old.heads }
+        requires page { IsPageOf self.old.pages first page }
+        requires empty { (p : ThePage) → slice_get self.old.pages first ≡ Some p → p.records.items ≡ [] }
+        ensures size { SameRows self.old self.new }
+        ensures made { (p : ThePage) → slice_get self.old.pages page ≡ Some p → slice_get self.new.pages first ≡ Some p }
+        ensures same { IsPermutation (held self.old.pages) (held self.new.pages) }
+    {
         self.links.remove(page);
         let before = self.links.last_below(self.heads, page);
         self.links.insert(page, before);
+        let none = Page::empty(self.heads);
+        let full = mem::replace(&mut self.pages[page as usize], none);
+        self.pages[first as usize] = full;
     }
 }
 
@@ -199,7 +274,14 @@ fn is_nearer(high: i32, end: i32, least: i32) -> bool {
 }
 
 // Gives each head its first page.
-fn open_all(links: &mut Links, pages: &mut Vec<Page>, heads: u32) {
+fn open_all(links: &mut Links, pages: &mut Vec<Page>, heads: u32)
+    requires linked { AreLinks links.old (replicate links.old.slots None) }
+    requires empty { pages.old.items ≡ [] }
+    requires heads { (heads < links.old.heads) × (heads ≤ links.old.slots) × (heads ≤ vec_capacity pages.old) }
+    ensures size { SameSize links.old links.new × (vec_capacity pages.new ≡ vec_capacity pages.old) }
+    ensures opened { AreOpened heads pages.new.items }
+    ensures linked { AreLinks links.new (padded None links.new.slots (homes 0 pages.new.items)) }
+{
     for head in 0..heads {
         let end = links.end(head);
         links.insert(head, end);
