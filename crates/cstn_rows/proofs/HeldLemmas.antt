@@ -122,3 +122,6 @@ halves zero (p ∷ pages) half =
 halves (suc n) (p ∷ pages) half =
     let more = halves n pages (λ k q le is. half (suc k) q (omega (arith, le)) is) in
     omega (arith, more, length-append (on_page p) (held pages))
+
+pub none_on : (p : Page) → p.records.items ≡ [] → on_page p ≡ []
+none_on p is = rw is refl

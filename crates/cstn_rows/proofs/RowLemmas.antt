@@ -1,8 +1,9 @@
 -- Steps of rows that stay in order.
-use Rattle.std.proofs.Common.{◌≡◌, ◌≢◌, ◌⊎◌, inl, inr, ℕ, zero, suc, ◌+◌, ◌-◌, ◌*◌, ◌/◌, ◌<◌, ◌≤◌, ◌^◌, ◌++◌, List, [], ◌∷◌, length, set, get_or, map, replicate, refl, ap, sym, ◌∙◌, subst, arith, length-append, append-nil}
+use Rattle.std.proofs.Common.{◌≡◌, ◌≢◌, ◌⊎◌, inl, inr, ℕ, zero, suc, ◌+◌, ◌-◌, ◌*◌, ◌/◌, ◌<◌, ◌≤◌, ◌^◌, ◌++◌, List, [], ◌∷◌, length, set, get_or, map, Bool, true, false, nat_eq, replicate, refl, ap, sym, ◌∙◌, subst, arith, length-append, append-nil}
 use Rattle.std.specs.Prelude.{Option, None, Some, slice_get, All, IsPermutation}
 use Rattle.std.specs.List.{swap_remove}
 use Rattle.std.proofs.lemmas.Bool.{cases_eq, cases_lt}
+use Rattle.std.proofs.lemmas.List.{nil_from_length}
 use Rattle.std.proofs.lemmas.List.Sorted.{IsPermutation-refl, IsPermutation-sym, IsPermutation-trans, IsPermutation-cons, IsPermutation-append_comm, IsPermutation-to_front}
 use Rattle.std.proofs.lemmas.Option.{none-some, same_Some, slice_get_within, get_or_from_slice_get, slice_get-get_or}
 use Rattle.cstn_pool.specs.Slots.{padded}
@@ -126,3 +127,9 @@ opened_more links links' h end pages q opened linked inside slot size end_is ste
     linked' : AreLinks links' (set (padded None links.slots (homes 0 pages)) h (Some (h, h)))
     linked' = step (padded None links.slots (homes 0 pages)) h h linked inside (omega (arith, slot, linked.small)) (subst (λ k. get_or (padded None links.slots (homes 0 pages)) k None ≡ None) opened.0 (past_table links.slots pages)) (λ u there. nothing u h there)
         (record { low = 0; start = inr (end_is, inside, refl); up = omega arith; gap = λ u j there. absurd (nothing u j there) })
+
+pub none_from : {X : Type 0} (xs : List X) (b : Bool) → b ≡ nat_eq (length xs) 0 → b ≡ true → xs ≡ []
+none_from xs b is yes' = nil_from_length xs (grind arith)
+
+pub some_from : {X : Type 0} (xs : List X) (b : Bool) → b ≡ nat_eq (length xs) 0 → b ≡ false → 0 < length xs
+some_from xs b is no' = grind arith
