@@ -1,5 +1,5 @@
 -- Walks through chains in which each slot's key is its own number.
-use Rattle.std.proofs.Common.{◌≡◌, inl, inr, ℕ, ◌+◌, ◌-◌, ◌<◌, ◌≤◌, length, refl, sym, ◌∙◌, subst, arith}
+use Rattle.std.proofs.Common.{◌≡◌, inl, inr, ℕ, ◌+◌, ◌-◌, ◌<◌, ◌≤◌, length, refl, subst, arith}
 use Rattle.std.specs.Prelude.{Option, None, Some}
 use Rattle.cstn_rows.specs.Chains.{Table, IsIn, HasLeastKey, IsFirstKey}
 use Rattle.cstn_rows.specs.Links.{IsStart, IsPrev, AreNumbers}

@@ -1,5 +1,5 @@
 -- Ranges of pages.
-use Rattle.std.proofs.Common.{◌≡◌, ℕ, ◌<◌, ◌++◌, List, [], ◌∷◌, arith}
+use Rattle.std.proofs.Common.{◌++◌, List, [], ◌∷◌, arith}
 use Rattle.std.specs.Prelude.{ℤ, ◌≤ℤ◌, All}
 use Rattle.std.proofs.lemmas.Int.{ints}
 use Rattle.std.proofs.lemmas.List.Elements.{All-push}

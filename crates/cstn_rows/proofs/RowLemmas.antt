@@ -1,19 +1,18 @@
 -- Steps of rows that stay in order.
-use Rattle.std.proofs.Common.{◌≡◌, ◌≢◌, ◌⊎◌, inl, inr, ℕ, zero, suc, ◌+◌, ◌-◌, ◌*◌, ◌/◌, ◌<◌, ◌≤◌, ◌^◌, ◌++◌, List, [], ◌∷◌, length, set, get_or, map, Bool, true, false, nat_eq, replicate, refl, ap, sym, ◌∙◌, subst, arith, length-append, append-nil}
-use Rattle.std.specs.Prelude.{Option, None, Some, slice_get, All, IsPermutation}
+use Rattle.std.proofs.Common.{◌≡◌, inl, inr, ℕ, zero, suc, ◌+◌, ◌<◌, ◌≤◌, ◌^◌, ◌++◌, List, [], ◌∷◌, length, set, get_or, Bool, true, false, nat_eq, refl, ap, sym, ◌∙◌, subst, arith, length-append}
+use Rattle.std.specs.Prelude.{None, Some, slice_get, All}
 use Rattle.std.specs.List.{swap_remove}
 use Rattle.std.proofs.lemmas.Bool.{cases_eq, cases_lt}
 use Rattle.std.proofs.lemmas.List.{nil_from_length}
-use Rattle.std.proofs.lemmas.List.Sorted.{IsPermutation-refl, IsPermutation-sym, IsPermutation-trans, IsPermutation-cons, IsPermutation-append_comm, IsPermutation-to_front}
-use Rattle.std.proofs.lemmas.Option.{none-some, same_Some, slice_get_within, get_or_from_slice_get, slice_get-get_or}
+use Rattle.std.proofs.lemmas.Option.{same_Some, slice_get_within, get_or_from_slice_get, slice_get-get_or}
 use Rattle.cstn_pool.specs.Slots.{padded}
 use Rattle.cstn_rows.specs.declared.page.Record.{Record}
 use Rattle.cstn_rows.specs.declared.page.Page.{Page}
-use Rattle.cstn_rows.specs.Chains.{Table, IsIn, HasLeastKey}
-use Rattle.cstn_rows.specs.Links.{Ring, AreLinks, IsPrev, SameSize}
-use Rattle.cstn_rows.specs.Pages.{IsPage, IsPageOf, on_page, held, homes, most_pages, AreOpened, IsInOrder, IsPaged}
-use Rattle.cstn_rows.proofs.HeldLemmas.{got_set, got_other, less_by_one, held_added, held_less, held_more, page_less, halves}
-use Rattle.cstn_rows.proofs.HomeLemmas.{IsFit, Inserts, in_page, page_of_in, past_table, table_push, changed, rehomed, slice_get_push}
+use Rattle.cstn_rows.specs.Chains.{Table, IsIn}
+use Rattle.cstn_rows.specs.Links.{Ring, AreLinks, SameSize}
+use Rattle.cstn_rows.specs.Pages.{IsPage, IsPageOf, held, homes, most_pages, AreOpened, IsInOrder, IsPaged}
+use Rattle.cstn_rows.proofs.HeldLemmas.{less_by_one, halves}
+use Rattle.cstn_rows.proofs.HomeLemmas.{IsFit, Inserts, in_page, page_of_in, past_table, table_push, slice_get_push}
 
 pub got : {X : Type 0} (xs : List X) (i : ℕ) → i < length xs → (x : X) × (slice_get xs i ≡ Some x)
 got [] i inside = absurd (omega (arith, inside))
@@ -48,6 +47,16 @@ fit_half heads k q row size range = record {
   order = record { range = range; room = omega (arith, size); head = omega (arith, row); free = λ at_end. absurd (omega (arith, at_end, row)) };
   half = λ behind below. omega (arith, size);
 }
+
+-- an empty page of no row fits, and a page in order fits as a first page
+pub fit_none : (heads k : ℕ) (q : Page) → q.head ≡ heads → q.records.items ≡ [] → IsPage q → IsFit heads k q
+fit_none heads k q head none range = record {
+  order = record { range = range; room = omega (arith, ap length none); head = omega (arith, head); free = λ at_end. none };
+  half = λ behind below. absurd (omega (arith, head, below));
+}
+
+pub fit_first : (heads k : ℕ) (q : Page) → k < heads → IsInOrder heads q → IsFit heads k q
+fit_first heads k q first order = record { order = order; half = λ behind below. absurd (omega (arith, first, behind)) }
 
 -- a page with records is of a row
 pub of_row : (heads i : ℕ) (p : Page) → IsInOrder heads p → i < length p.records.items → p.head < heads

@@ -1,5 +1,5 @@
 -- Rows of records in pages.
-use Rattle.std.specs.Prelude.{◌≡◌, ℕ, suc, ◌+◌, ◌-◌, ◌*◌, ◌/◌, ◌<◌, ◌≤◌, ◌^◌, ◌≤ℤ◌, ◌++◌, List, [], ◌∷◌, map, length, drop, replicate, Option, Some, None, slice_get, All, flat_map}
+use Rattle.std.specs.Prelude.{◌≡◌, ℕ, suc, ◌+◌, ◌/◌, ◌<◌, ◌≤◌, ◌^◌, ◌≤ℤ◌, ◌++◌, List, [], ◌∷◌, map, length, Some, None, slice_get, All, flat_map}
 use Rattle.cstn_pool.specs.Slots.{padded}
 use Rattle.cstn_rows.specs.declared.page.Record.{Record}
 use Rattle.cstn_rows.specs.declared.page.Page.{Page}

@@ -270,7 +270,11 @@ impl Rows {
 
 // Whether a range that ends at `high` is nearer to a least value than one that ends at `end`.
 fn is_nearer(high: i32, end: i32, least: i32) -> bool {
-    if end < least { high > end } else { least <= high && high < end }
+    if end < least {
+        high > end
+    } else {
+        least <= high && high < end
+    }
 }
 
 // Gives each head its first page.

@@ -1,4 +1,4 @@
-use Rattle.std.proofs.Common.{ℕ, ◌≡◌, ◌<◌, length, get_or, set, sym, ◌∙◌, subst, arith}
+use Rattle.std.proofs.Common.{ℕ, ◌≡◌, ◌<◌, length, get_or, set, sym, subst, arith}
 use Rattle.std.specs.Prelude.{None, Some}
 use Rattle.cstn_pool.specs.Slots.{padded}
 use Rattle.cstn_rows.specs.Links.{AreLinks}

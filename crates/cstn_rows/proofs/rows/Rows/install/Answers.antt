@@ -1,5 +1,5 @@
-use Rattle.std.proofs.Common.{ℕ, ◌≡◌, ◌<◌, ◌≤◌, ◌+◌, ◌++◌, length, ap, sym, ◌∙◌, subst, arith}
-use Rattle.std.specs.Prelude.{Some, slice_get, slice_set, IsPermutation}
+use Rattle.std.proofs.Common.{◌<◌, ◌≤◌, ◌+◌, ◌++◌, length, ap, sym, ◌∙◌, subst, arith}
+use Rattle.std.specs.Prelude.{Some, slice_set, IsPermutation}
 use Rattle.std.proofs.lemmas.Option.{same_Some}
 use Rattle.cstn_rows.specs.Pages.{Paged, IsPageOf, on_page, held, most_pages, IsInOrder}
 use Rattle.cstn_rows.proofs.HeldLemmas.{got_set, got_other, held_more, held_push, none_on}

@@ -1,4 +1,4 @@
-use Rattle.std.proofs.Common.{◌≡◌, length}
+use Rattle.std.proofs.Common.{length}
 use Rattle.std.specs.Prelude.{IfSome}
 use Rattle.cstn_rows.specs.Pages.{IsPageOf, numbered}
 use Rattle.cstn_rows.proofs.NumberLemmas.{left}

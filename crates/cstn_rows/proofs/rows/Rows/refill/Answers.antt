@@ -23,7 +23,7 @@ invariant_of-self c =
     let read = read_page c.self.inside.pages.items c.args.first own.0 c.index_mut.result.now own.1 c.index_mut.ensures.value in
     let head = c.take-moved.ensures.head ∙ ap (λ x. x.head) read in
     let step = changed c.self.inside.heads c.self.inside.capacity _ c.args.first c.self.inside.pages.items c.self.inside.links own.0 c.take-moved.new.self inv own.1 head
-        (fit_less c.self.inside.heads c.args.first 0 own.0 c.take-moved.new.self c.take-moved.result (at_all (IsInOrder c.self.inside.heads) c.self.inside.pages.items c.args.first own.0 inv.order own.1) (omega (arith, own.2, row)) (some own.0 own.1) head (rw read at c.take-moved.ensures.left) c.take-moved.ensures.page (λ le. absurd (omega (arith, le, row)))) in
+    (fit_less c.self.inside.heads c.args.first 0 own.0 c.take-moved.new.self c.take-moved.result (at_all (IsInOrder c.self.inside.heads) c.self.inside.pages.items c.args.first own.0 inv.order own.1) (omega (arith, own.2, row)) (some own.0 own.1) head (rw read at c.take-moved.ensures.left) c.take-moved.ensures.page (λ le. absurd (omega (arith, le, row)))) in
     let other : c.args.first ≢ c.args.page = λ same. omega (arith, same, row, behind) in
     let there = got_other c.self.inside.pages.items c.args.first c.args.page c.take-moved.new.self other ∙ light.1 in
     let read' = read_page (slice_set c.self.inside.pages.items c.args.first c.take-moved.new.self) c.args.page light.0 c.index_mut-2.result.now there c.index_mut-2.ensures.value in

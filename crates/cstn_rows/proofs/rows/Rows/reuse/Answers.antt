@@ -1,8 +1,6 @@
-use Rattle.std.proofs.Common.{ℕ, ◌<◌, set, sym, ◌∙◌, subst, arith}
-use Rattle.std.specs.Prelude.{None}
+use Rattle.std.proofs.Common.{◌<◌, sym, ◌∙◌, subst, arith}
 use Rattle.std.proofs.lemmas.Option.{slice_get_within}
-use Rattle.cstn_pool.specs.Slots.{padded}
-use Rattle.cstn_rows.specs.Pages.{Paged, IsPageOf, homes, most_pages}
+use Rattle.cstn_rows.specs.Pages.{Paged, IsPageOf, most_pages}
 use Rattle.cstn_rows.proofs.HomeLemmas.{page_of_in, pages_are_numbers, less_are_numbers, moved_to, table_set, rehomed}
 use Rattle.cstn_rows.proofs.RowLemmas.{fit_half, behind_first}
 use Rattle.cstn_rows.proofs.rows.Rows.reuse.Goals as goal

@@ -1,16 +1,11 @@
-use Rattle.std.proofs.Common.{rules, ◌≡◌, ◌⊎◌, ◌<◌, ◌≤◌, ◌+◌, ◌++◌, ◌∷◌, [], ℕ, Some, None, length, replicate, IfOk, slice_get, slice_index_or, slice_set, vec_capacity, IsPermutation, ◌-◌, ◌*◌, ◌/◌, ◌%◌, Bool, true, false, nat_eq, nat_lt, List, bit_and, bit_or, Fits, w8, w32, w64, Bor, MutBor}
-use Rattle.cstn_rows.specs.declared.page.Page.{Page as ThePage}
-use Rattle.cstn_rows.specs.declared.page.Record.{Record}
-use Rattle.cstn_rows.specs.Chains.{IsFirstKey}
-use Rattle.cstn_rows.specs.Links.{AreLinks, SameSize}
-use Rattle.cstn_pool.specs.Slots.{padded}
-use Rattle.cstn_rows.specs.Pages.{IsPage, IsPageOf, on_page, held, homes, numbered, most_pages, AreOpened, StartsWith, SameRows}
+use Rattle.std.proofs.Common.{◌∙◌, arith}
+use Rattle.cstn_rows.proofs.RowLemmas.{opened_all, opened_none}
 use Rattle.cstn_rows.proofs.rows.Rows.start.Goals as goal
 
--- src/rows.rt:52:9
 pub invariant_of-result : goal.invariant_of-result
-invariant_of-result c = ?
+invariant_of-result c =
+    let begun = c.open_all.ensures in
+    opened_all _ _ _ _ c.open_all.new.links (begun.size.0.0 ∙ c.in_ok-links.ensures.size.0) (begun.size.0.1 ∙ c.in_ok-links.ensures.size.1) begun.opened begun.linked (omega (arith, begun.size.1, c.in_ok-pages.ensures.capacity)) (omega (arith, c.ranges.heads.fits), omega (arith, c.ranges.capacity.fits))
 
--- src/rows.rt:43:5
 pub returns-clause-empty : goal.returns-clause-empty
-returns-clause-empty c = ?
+returns-clause-empty c = opened_none _ _ c.open_all.ensures.opened
