@@ -1,11 +1,12 @@
 -- Minimal sets of bounds, each bound in a slot with its birth.
-use Rattle.std.specs.Prelude.{◌≡◌, ◌≢◌, ◌⊎◌, ℕ, suc, ◌+◌, ◌<◌, ◌≤◌, ◌^◌, List, [], ◌∷◌, length, Option, None, Some, slice_index_or, MatchOption, All, sum_by}
+use Rattle.std.specs.Prelude.{◌≡◌, ◌≢◌, ◌⊎◌, ℕ, suc, ◌+◌, ◌<◌, ◌≤◌, ◌^◌, ◌≤ℤ◌, List, [], ◌∷◌, length, Option, None, Some, slice_index_or, MatchOption, All, sum_by, slice_get}
 use Rattle.cstn_label.specs.declared.bounds.Bound.{Bound}
 use Rattle.cstn_label.specs.Bounds.{Dominates}
-use Rattle.cstn_label.specs.Labels.{IsMarked}
+use Rattle.cstn_label.specs.Labels.{IsMarked, IsWithin}
 use Rattle.cstn_label.specs.Read.{marks, the_bound}
 use Rattle.cstn_pool.specs.declared.slot_id.SlotId.{SlotId}
 use Rattle.cstn_rows.specs.declared.page.Record.{Record}
+use Rattle.cstn_rows.specs.declared.page.Page.{Page}
 use Rattle.cstn_rows.specs.Pages.{Paged, held}
 
 -- what each slot holds: nothing, or a birth and a bound
@@ -100,6 +101,25 @@ records_from n (Some entry ∷ table) = record_of n entry.1 ∷ records_from (su
 -- the record is that of the bound in its slot
 abbrev pub IsListed : Entries → ℕ × Record → Type 0
 IsListed table x = (birth : ℕ) × (b : Bound) × IsPlaced table x.1.slot (birth, b) × (record_of x.1.slot b ≡ x)
+
+-- the record is that of a bound that dominates this one, where both are of one time-point
+abbrev pub IsRecordOver : Bound → Record → Type 0
+IsRecordOver b r = (b.least ≤ℤ r.least) × IsWithin (marks r.label) (marks b.label)
+
+-- the record is that of a bound that this one dominates, where both are of one time-point
+abbrev pub IsRecordUnder : Bound → Record → Type 0
+IsRecordUnder b r = (r.least ≤ℤ b.least) × IsWithin (marks b.label) (marks r.label)
+
+-- the record lies at the place i of page k, which is one of the row
+abbrev pub IsRecordAt : List Page → ℕ → ℕ → ℕ → Record → Type 0
+IsRecordAt pages h k i r = (page : Page) × (slice_get pages k ≡ Some page) × (page.head ≡ h) × (slice_get page.records.items i ≡ Some r)
+
+-- no record of the row is of the kind, and none of the page
+abbrev pub IsNoneOf : List Page → ℕ → (Record → Type 0) → Type 0
+IsNoneOf pages h Kind = (k i : ℕ) (r : Record) → IsRecordAt pages h k i r → ¬ Kind r
+
+abbrev pub IsNoneOn : Page → (Record → Type 0) → Type 0
+IsNoneOn page Kind = (i : ℕ) (r : Record) → slice_get page.records.items i ≡ Some r → ¬ Kind r
 
 -- a minimal set whose rows have exactly the records of its bounds
 pub record IsKept (rows : Paged) (nodes : ℕ) (table : Entries) : Type 0 where

@@ -4,6 +4,7 @@
 
 mod laws;
 mod min_set;
+mod scan;
 mod table;
 
 pub use laws::walks_meet_each_once;

@@ -1,10 +1,11 @@
-ghost use Rattle.std.specs.Prelude.{◌≡◌, ◌<◌, ◌≤◌, ◌+◌, ◌^◌, ◌↔◌, ℕ, Some, None, length, IsTrue, IfOk, IsSome, IfSome, IfNone, slice_set, slice_index_or, replicate, map, if◌then◌else◌};
+ghost use Rattle.std.specs.Prelude.{◌≡◌, ◌<◌, ◌≤◌, ◌+◌, ◌^◌, ◌↔◌, ℕ, Some, None, false, length, IsTrue, IfOk, IsSome, IfSome, IfNone, slice_set, slice_index_or, replicate, map, if◌then◌else◌};
 ghost use Rattle.cstn_minset.specs.Sets.{Places, Entries, entry_at, IsPlaced, IsThere, IsOver, IsCovered, IsCleared, AllBornBefore, IsAt, IsMarking, IsFirst, IsFirstSlot, IsMinimal};
 
+use crate::scan::{place_under, slot_over};
 use crate::table::Table;
 use cstn_label::{Bound, Mark, NodeId, Prop, labels_are_their_marks};
 use cstn_pool::SlotId;
-use cstn_rows::{Page, Record, Rows};
+use cstn_rows::{Record, Rows};
 use std::alloc::{AllocError, Global};
 use std::marker::Model;
 
@@ -55,36 +56,11 @@ impl MinSet {
         ensures none { IfNone result (¬ IsCovered self.now.table b.now) }
         ensures minimal { IsMinimal self.now.nodes self.now.table }
     {
-        match self.slot_over(b) {
+        labels_are_their_marks();
+        match slot_over(&self.rows, b) {
             Some(slot) => Some(self.id(slot)),
             None => None,
         }
-    }
-
-    // The slot of an entry that dominates the bound.
-    fn slot_over(&self, b: &Bound) -> Option<u32>
-    {
-        let mut place = self.rows.first(b.node.0 as u32);
-        while let Some(number) = place {
-            if let Some(slot) = slot_over(self.rows.page(number), b) {
-                return Some(slot);
-            }
-            place = self.rows.next(number);
-        }
-        None
-    }
-
-    // The page and the place there of the record of an entry that the bound dominates.
-    fn place_under(&self, b: &Bound) -> Option<(u32, usize)>
-    {
-        let mut place = self.rows.first(b.node.0 as u32);
-        while let Some(number) = place {
-            if let Some(index) = index_under(self.rows.page(number), b) {
-                return Some((number, index));
-            }
-            place = self.rows.next(number);
-        }
-        None
     }
 
     /// Puts a bound in under a new id, and takes those out that it dominates.
@@ -98,10 +74,25 @@ impl MinSet {
         ensures covering_grows { (c : Bound) → IsCovered self.old.table c → IsCovered self.new.table c }
     {
         labels_are_their_marks();
-        while let Some((page, index)) = self.place_under(b) {
-            self.take_out(page, index);
-        }
+        while self.take_under(b) {}
         self.put(*b, id.slot, id.birth);
+    }
+
+    // Takes out an entry that the bound dominates; false where it dominates none.
+    fn take_under(&mut self, b: &Bound) -> bool
+        ensures taken { IsTrue result → (s : ℕ) × (e : ℕ × Bound) × IsPlaced self.old.table s e × IsOver b.now e.1 × (self.new ≡ record self.old { table = slice_set self.old.table s None }) }
+        ensures none { result ≡ false → (self.new ≡ self.old) × ((s : ℕ) (e : ℕ × Bound) → IsPlaced self.old.table s e → ¬ IsOver b.now e.1) }
+        ensures minimal { IsMinimal self.old.nodes self.old.table }
+    {
+        labels_are_their_marks();
+        match place_under(&self.rows, b) {
+            Some((page, index)) => {
+                let kept = self.rows.take(page, index);
+                self.table.set(kept.slot, None);
+                true
+            }
+            None => false,
+        }
     }
 
     fn put(&mut self, b: Bound, slot: u32, birth: u64)
@@ -120,12 +111,6 @@ impl MinSet {
         };
         self.rows.put(b.node.0 as u32, record);
         self.table.set(slot, Some((birth, b)));
-    }
-
-    fn take_out(&mut self, page: u32, index: usize)
-    {
-        let record = self.rows.take(page, index);
-        self.table.set(record.slot, None);
     }
 
     // The bound in a slot.
@@ -213,10 +198,8 @@ impl MinSet {
             return false;
         }
         let b = self.bound(id.slot);
-        // No entry but this one is dominated by its bound.
-        if let Some((page, index)) = self.place_under(&b) {
-            self.take_out(page, index);
-        }
+        // It dominates no entry but its own.
+        self.take_under(&b);
         true
     }
 
@@ -256,34 +239,4 @@ fn is_before(birth: u64, id: Option<SlotId>) -> bool
         Some(id) => birth < id.birth,
         None => true,
     }
-}
-
-// The slot of a record of the page that dominates the bound, where the page is of the bound's time-point.
-fn slot_over(page: &Page, b: &Bound) -> Option<u32>
-{
-    if page.high < b.least {
-        return None;
-    }
-    for record in page.records.as_slice() {
-        if b.least <= record.least && record.label.is_within(b.label) {
-            return Some(record.slot);
-        }
-    }
-    None
-}
-
-// The place of a record of the page that the bound dominates, where the page is of the bound's time-point.
-fn index_under(page: &Page, b: &Bound) -> Option<usize>
-{
-    if b.least < page.low {
-        return None;
-    }
-    let records = page.records.as_slice();
-    for index in 0..records.len() {
-        let record = records[index];
-        if record.least <= b.least && b.label.is_within(record.label) {
-            return Some(index);
-        }
-    }
-    None
 }
