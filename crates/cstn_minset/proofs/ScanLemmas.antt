@@ -1,5 +1,5 @@
 -- Scans of the pages of a row.
-use Rattle.std.proofs.Common.{◌≡◌, inl, inr, ℕ, ◌+◌, ◌<◌, ◌≤◌, List, length, get_or, Bool, true, false, refl, ap, sym, ◌∙◌, subst, arith}
+use Rattle.std.proofs.Common.{◌≡◌, inl, inr, ℕ, ◌+◌, ◌<◌, List, Bool, false, refl, sym, ◌∙◌, subst, arith}
 use Rattle.std.specs.Prelude.{Option, None, Some, slice_get, IsTrue, ◌↔◌}
 use Rattle.std.proofs.lemmas.Bool.{cases_eq}
 use Rattle.std.proofs.lemmas.Option.{same_Some}
@@ -8,7 +8,7 @@ use Rattle.cstn_rows.specs.declared.page.Page.{Page}
 use Rattle.cstn_rows.specs.Chains.{IsFirstKey}
 use Rattle.cstn_rows.specs.Pages.{Paged, IsPageOf, numbered, most_pages}
 use Rattle.cstn_rows.proofs.HomeLemmas.{first_page, page_of_in, pages_are_numbers}
-use Rattle.cstn_minset.specs.Sets.{IsRecordAt, IsNoneOf, IsNoneOn}
+use Rattle.cstn_minset.specs.Sets.{IsNoneOf, IsNoneOn}
 
 -- a scan of a row stands at a page, and no record of the pages before it is of the kind
 pub record IsScanned (rows : Paged) (h : ℕ) (Kind : Record → Type 0) (place : Option ℕ) : Type 0 where

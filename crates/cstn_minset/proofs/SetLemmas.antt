@@ -1,11 +1,11 @@
 -- Rows that have exactly the records of the bounds of a minimal set.
-use Rattle.std.proofs.Common.{◌≡◌, ◌≢◌, ◌⊎◌, inl, inr, ℕ, zero, suc, ◌+◌, ◌*◌, ◌<◌, ◌≤◌, ◌++◌, List, [], ◌∷◌, length, get_or, set, map, Bool, true, false, replicate, refl, ap, sym, ◌∙◌, subst, arith, length-append}
+use Rattle.std.proofs.Common.{◌≡◌, ◌≢◌, ◌⊎◌, inl, inr, ℕ, zero, suc, ◌+◌, ◌<◌, ◌≤◌, ◌++◌, List, [], ◌∷◌, length, get_or, set, Bool, true, false, replicate, refl, ap, sym, ◌∙◌, subst, arith, length-append}
 use Rattle.std.specs.Prelude.{Option, None, Some, All, sum_by, slice_get, IsPermutation, option_map, ◌≤ℤ◌, ◌↔◌, IsTrue, IfSome, IfNone, is_some}
 use Rattle.std.proofs.lemmas.Bool.{cases_eq}
 use Rattle.std.proofs.lemmas.List.{get_or-set_other, get_or-set_same, get_or_append_left, length-set, length-replicate}
 use Rattle.std.proofs.lemmas.List.Elements.{All-map, All-append}
-use Rattle.std.proofs.lemmas.List.Sums.{sum_by-cons, sum_by-le, get_or-le-sum_by}
-use Rattle.std.proofs.lemmas.List.Sorted.{All-permutation, sum_by-IsPermutation, length_permutation}
+use Rattle.std.proofs.lemmas.List.Sums.{sum_by-cons, get_or-le-sum_by}
+use Rattle.std.proofs.lemmas.List.Sorted.{All-permutation, sum_by-IsPermutation}
 use Rattle.std.proofs.lemmas.Option.{none-some, same_Some, slice_get-map}
 use Rattle.cstn_label.specs.declared.bounds.Bound.{Bound}
 use Rattle.cstn_label.specs.declared.labels.Label.{Label}
@@ -18,7 +18,7 @@ use Rattle.cstn_rows.specs.Pages.{Paged, on_page, held, SameRows}
 use Rattle.cstn_rows.proofs.RowLemmas.{at_all, all_from}
 use Rattle.cstn_minset.specs.Sets.{Places, Entries, entry_at, IsPlaced, IsOver, IsCovered, IsCleared, record_of, records_from, IsListed, IsRecordAt, IsNoneOf, IsRecordOver, IsRecordUnder, IsMinimal, IsKept}
 use Rattle.cstn_minset.proofs.BoundLemmas.{MarksEnd, least_or_not, within_or_not, one_is_over}
-use Rattle.cstn_minset.proofs.TableLemmas.{placed_more, placed_less, less_placed, minimal_less, minimal_more, minimal_none}
+use Rattle.cstn_minset.proofs.TableLemmas.{placed_less, less_placed, minimal_less, minimal_none}
 
 -- a place that is emptied, and one that is filled, in what is summed over the records
 pub records_filled : (f : ℕ × Record → ℕ) (n s : ℕ) (T : Entries) (e : ℕ × Bound) → s < length T → entry_at T s ≡ None → sum_by f (records_from n (set T s (Some e))) ≡ f (record_of (n + s) e.1) + sum_by f (records_from n T)

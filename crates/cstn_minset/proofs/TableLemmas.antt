@@ -1,8 +1,8 @@
-use Rattle.std.proofs.Common.{◌≡◌, ◌≢◌, ◌⊎◌, inl, inr, ℕ, zero, suc, ◌+◌, ◌<◌, ◌^◌, [], ◌∷◌, length, get_or, set, map, replicate, nat_eq, true, refl, ap, sym, ◌∙◌, subst, arith, SFits, w32}
-use Rattle.std.specs.Prelude.{Option, None, Some, IsSome, IsTrue}
+use Rattle.std.proofs.Common.{◌≡◌, ◌≢◌, ◌⊎◌, inl, inr, ℕ, zero, suc, ◌<◌, ◌^◌, [], ◌∷◌, length, get_or, set, replicate, nat_eq, true, refl, ap, sym, ◌∙◌, subst, arith}
+use Rattle.std.specs.Prelude.{Option, None, Some, IsTrue}
 use Rattle.std.proofs.lemmas.List.{get_or-set_other, get_or-set_same}
 use Rattle.std.proofs.lemmas.Bool.{cases_eq}
-use Rattle.std.proofs.lemmas.Option.{some_pair_parts, none-some, same_Some}
+use Rattle.std.proofs.lemmas.Option.{none-some, same_Some}
 use Rattle.cstn_label.specs.declared.bounds.Bound.{Bound}
 use Rattle.cstn_minset.specs.Sets.{Entries, IsPlaced, IsOver, IsCovered, AllBornBefore, IsMinimal}
 

@@ -1,5 +1,4 @@
-use Rattle.std.proofs.Common.{ℕ, ◌≡◌, ◌<◌, length, refl, sym, ◌∙◌, subst, arith}
-use Rattle.cstn_label.specs.declared.bounds.Bound.{Bound}
+use Rattle.std.proofs.Common.{ℕ, ◌<◌, length, refl, sym, subst, arith}
 use Rattle.cstn_minset.specs.Sets.{Places, IsPlaced, IsListed, IsRecordOver}
 use Rattle.cstn_minset.proofs.TableLemmas.{placed_within}
 use Rattle.cstn_minset.proofs.SetLemmas.{held_at, none_placed, record_over_or_not, over_from}

@@ -1,6 +1,3 @@
-use Rattle.std.proofs.Common.{ℕ, sym, subst}
-use Rattle.cstn_label.specs.declared.bounds.Bound.{Bound}
-use Rattle.cstn_minset.specs.Sets.{IsPlaced}
 use Rattle.cstn_minset.proofs.SetLemmas.{lifted}
 use Rattle.cstn_minset.proofs.min_set.MinSet.lift.Goals as goal
 

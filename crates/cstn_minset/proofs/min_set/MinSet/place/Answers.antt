@@ -1,5 +1,4 @@
-use Rattle.std.proofs.Common.{◌<◌, length, set, arith, sym, subst}
-use Rattle.std.specs.Prelude.{None}
+use Rattle.std.proofs.Common.{◌<◌, arith, sym, subst}
 use Rattle.cstn_minset.specs.Sets.{Places, IsPlaced, IsCovered, IsCleared}
 use Rattle.cstn_minset.proofs.CoverLemmas.{covering_grows, emptied_at}
 use Rattle.cstn_minset.proofs.SetLemmas.{placed_count, count_less, clearing_more, clearing_end}

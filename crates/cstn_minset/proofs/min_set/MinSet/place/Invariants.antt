@@ -1,5 +1,3 @@
-use Rattle.std.specs.Prelude.{None}
-use Rattle.std.proofs.Common.{length}
 use Rattle.cstn_minset.proofs.SetLemmas.{IsClearing, placed_count}
 use Rattle.cstn_minset.proofs.min_set.MinSet.place.Given as goal
 

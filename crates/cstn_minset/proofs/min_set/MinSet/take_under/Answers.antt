@@ -1,6 +1,5 @@
-use Rattle.std.proofs.Common.{ℕ, ◌≡◌, ◌<◌, length, None, set, refl, ap, sym, ◌∙◌, subst, arith}
+use Rattle.std.proofs.Common.{◌≡◌, None, set, refl, ap, sym, ◌∙◌, subst}
 use Rattle.std.proofs.lemmas.Option.{get_or_from_slice_get}
-use Rattle.cstn_label.specs.declared.bounds.Bound.{Bound}
 use Rattle.cstn_minset.specs.Sets.{Places, IsPlaced, IsListed, IsRecordUnder}
 use Rattle.cstn_minset.proofs.TableLemmas.{placed_within}
 use Rattle.cstn_minset.proofs.SetLemmas.{held_at, none_placed, record_under_or_not, under_from, take_step, places}
@@ -31,6 +30,9 @@ returns-in-Some-clause-taken c = λ y.
     (c.take-kept.result.slot, (listed.0, listed.1), rw slot placed, under_from listed.1 c.args.b.now found.0.slot c.args.b.now.node.0 found.0 listed.3 refl found.2, out)
 
 pub returns-in-None-clause-none : goal.returns-in-None-clause-none
-returns-in-None-clause-none c = λ y. (refl, λ s e there over.
-    let placed = subst (λ (v : Places). IsPlaced v.table s e) (sym c.self.view_is) there in
-    none_placed c.self.inside.rows c.self.inside.nodes c.self.inside.table c.args.b.now.node.0 s e (IsRecordUnder c.args.b.now) c.self.invariant (record_under_or_not c.labels_are_their_marks.ensures.above c.args.b.now) c.in-None.ensures.none placed (sym over.node) (over.least, over.label))
+returns-in-None-clause-none c = λ y. (
+  refl,
+  λ s e there over.
+      let placed = subst (λ (v : Places). IsPlaced v.table s e) (sym c.self.view_is) there in
+      none_placed c.self.inside.rows c.self.inside.nodes c.self.inside.table c.args.b.now.node.0 s e (IsRecordUnder c.args.b.now) c.self.invariant (record_under_or_not c.labels_are_their_marks.ensures.above c.args.b.now) c.in-None.ensures.none placed (sym over.node) (over.least, over.label),
+)
