@@ -11,8 +11,8 @@ use std::marker::Model;
 
 /// Bounds of which none dominates another, each under the id of a pool's slot.
 ///
-/// All memory is taken by [`MinSet::start`]: 93 bytes a slot, of which 53 are for the rows of records in which the bounds of a
-/// time-point are looked for, and 836 for each time-point. No other call takes any.
+/// All memory is taken by [`MinSet::start`]: 90 bytes a slot, of which 50 are for the rows of records in which the bounds of a
+/// time-point are looked for, and 808 for each time-point. No other call takes any.
 #[derive(Drop)]
 pub struct MinSet {
     table: Table,
