@@ -16,10 +16,10 @@ use Rattle.cstn_lift.specs.Lowered.{numbered}
 use Rattle.cstn_lift.proofs.CompletionLemmas.{completed_least}
 use Rattle.cstn_lift.proofs.ListLemmas.{filter_map_contains, numbered_all, numbered_contains}
 use Rattle.cstn_lift.proofs.Equivalent.{full_from, full_to}
-use Rattle.cstn_follow.specs.Histories.{History, IsHistory, allows, label_left}
+use Rattle.cstn_follow.specs.Histories.{History, IsHistory, allows, label_left, IsAllowed}
 use Rattle.cstn_follow.specs.Rest.{number_of, end_left, moved, is_over, constraint_left, bare, late, watched, coming, added, rest}
 use Rattle.cstn_follow.proofs.Lists.{filter_map_from}
-use Rattle.cstn_follow.proofs.Settled.{Allows, some_or_none, allows_true, allows_back, allows_within, left_told, left_untold, left_joined, as_told, holds_left, holds_back, settles_absent}
+use Rattle.cstn_follow.proofs.Settled.{some_or_none, allows_true, allows_back, allows_within, left_told, left_untold, left_joined, as_told, holds_left, holds_back, settles_absent}
 use Rattle.cstn_follow.proofs.Places.{left_coming, label_new}
 use Rattle.cstn_follow.proofs.Labels.{label_absent, completed_left}
 
@@ -53,7 +53,7 @@ module _ (m : Labelled) (h : History) (fresh : ℕ) (good : IsLabelled m) (known
   pub end_coming : (x : ℕ) → h.done x ≡ None → end_left m h x ≡ number_of m h x
   end_coming x e = ap (λ o. if is_some o then 0 else number_of m h x) e
 
-  pub end_label : (x : ℕ) → x < count m.base → Allows h (completed_label m x) → label_of R (end_left m h x) ≡ label_left h (label_of m x)
+  pub end_label : (x : ℕ) → x < count m.base → IsAllowed h (completed_label m x) → label_of R (end_left m h x) ≡ label_left h (label_of m x)
   end_label x here all = elim (some_or_none (h.done x)) [
     | inl done ↦ ap (label_of R) (end_done x done.0 done.1) ∙ origin_empty ∙ sym (done_empty x done.0 done.1)
     | inr none ↦ ap (label_of R) (end_coming x none) ∙ label_new m h fresh good known x here (left_coming m h fresh good known x none all)
@@ -63,7 +63,7 @@ module _ (m : Labelled) (h : History) (fresh : ℕ) (good : IsLabelled m) (known
   ends_within c has = All-contains (IsConstraint m.base) m.base.constraints c good.base.network.constraints has
 
   -- the full label of what is left of a constraint is its full label without what is told
-  pub full_left : (c : Constraint) → Contains m.base.constraints c → Allows h (full_label m c) →
+  pub full_left : (c : Constraint) → Contains m.base.constraints c → IsAllowed h (full_label m c) →
       full_label R (moved m h c) ≡ label_left h (full_label m c)
   full_left c has all =
       let ends = ends_within c has in
@@ -76,16 +76,16 @@ module _ (m : Labelled) (h : History) (fresh : ℕ) (good : IsLabelled m) (known
       ∙ completed_left m h fresh good known (joined c.label (joined (label_of m c.from) (label_of m c.to))) all
 
   -- so it is in force in the same scenarios
-  pub force_left : (c : Constraint) (s : Scenario) → Contains m.base.constraints c → Allows h (full_label m c) →
+  pub force_left : (c : Constraint) (s : Scenario) → Contains m.base.constraints c → IsAllowed h (full_label m c) →
       IsInForce m (as_told h s) c → IsInForce R s (moved m h c)
   force_left c s has all force = subst (Holds s) (sym (full_left c has all)) (holds_left h (full_label m c) s force)
 
-  pub force_back : (c : Constraint) (s : Scenario) → Contains m.base.constraints c → Allows h (full_label m c) →
+  pub force_back : (c : Constraint) (s : Scenario) → Contains m.base.constraints c → IsAllowed h (full_label m c) →
       IsInForce R s (moved m h c) → IsInForce m (as_told h s) c
   force_back c s has all force = holds_back h (full_label m c) s all (subst (Holds s) (full_left c has all) force)
 
   -- a constraint that isn't over and that what is told allows is left
-  pub constraint_kept : (c : Constraint) → Contains m.base.constraints c → Allows h (full_label m c) → is_over h c ≡ false →
+  pub constraint_kept : (c : Constraint) → Contains m.base.constraints c → IsAllowed h (full_label m c) → is_over h c ≡ false →
       Contains R.base.constraints (moved m h c)
   constraint_kept c has all over =
       let given : constraint_left m h c ≡ Some (moved m h c) =
@@ -116,7 +116,7 @@ module _ (m : Labelled) (h : History) (fresh : ℕ) (good : IsLabelled m) (known
 
   -- d is what is left of a constraint that what is told allows
   abbrev pub IsMoved : Constraint → Type 0
-  IsMoved d = (c : Constraint) × Contains m.base.constraints c × Allows h (full_label m c) × (d ≡ moved m h c)
+  IsMoved d = (c : Constraint) × Contains m.base.constraints c × IsAllowed h (full_label m c) × (d ≡ moved m h c)
 
   left_given : (c : Constraint) → Contains m.base.constraints c → (d : Constraint) (a b : Bool) → allows h (full_label m c) ≡ a →
       is_over h c ≡ b → (if a && not b then Some (moved m h c) else None) ≡ Some d → IsMoved d

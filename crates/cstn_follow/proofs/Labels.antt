@@ -12,9 +12,9 @@ use Rattle.cstn_lift.specs.Completion.{completed, completed_label, IsCompleteLab
 use Rattle.cstn_lift.specs.WellFormed.{IsLabelled}
 use Rattle.cstn_lift.proofs.CompletionLemmas.{completed_contains, completed_complete, completed_least}
 use Rattle.cstn_lift.proofs.FullLemmas.{full_within}
-use Rattle.cstn_follow.specs.Histories.{History, IsHistory, label_left}
+use Rattle.cstn_follow.specs.Histories.{History, IsHistory, label_left, IsAllowed}
 use Rattle.cstn_follow.specs.Rest.{is_left, number_of, rest}
-use Rattle.cstn_follow.proofs.Settled.{Allows, some_or_none, left_told, left_untold, left_within, marked_left, settles_absent, allows_within}
+use Rattle.cstn_follow.proofs.Settled.{some_or_none, left_told, left_untold, left_within, marked_left, settles_absent, allows_within}
 use Rattle.cstn_follow.proofs.Places.{old, left_coming, left_watching, left_allows, observes_left, observes_back, label_at, label_new}
 
 -- the mark of the one label where an outcome was told, and of the other where none was
@@ -35,7 +35,7 @@ absent_within a b e = subst (λ c. IsMarkWithin c b) (sym e) tt
 
 module _ (m : Labelled) (h : History) (fresh : ℕ) (good : IsLabelled m) (known : IsHistory m h) where
   -- the observer of what isn't told, if its completed label is within an allowed one, is left
-  pub observer_left : (x p : ℕ) → Observes m.base x p → h.told p ≡ None → Allows h (completed_label m x) → is_left m h x ≡ true
+  pub observer_left : (x p : ℕ) → Observes m.base x p → h.told p ≡ None → IsAllowed h (completed_label m x) → is_left m h x ≡ true
   observer_left x p o none all = elim (some_or_none (h.done x)) [
     | inl done ↦ left_watching m h fresh good known x done.0 p done.1 o none
     | inr coming ↦ left_coming m h fresh good known x coming all
@@ -52,7 +52,7 @@ module _ (m : Labelled) (h : History) (fresh : ℕ) (good : IsLabelled m) (known
   pub label_absent : (x q : ℕ) → completed_label m x q ≡ Absent → label_of m x q ≡ Absent
   label_absent x q e = mark_within_absent (label_of m x q) (completed_label m x q) (completed_contains m (label_of m x) q) e
 
-  module _ (a : Label) (all : Allows h (completed m a)) where
+  module _ (a : Label) (all : IsAllowed h (completed m a)) where
     abbrev C : Label
     C = completed m a
 

@@ -29,7 +29,7 @@ pub contains_one : {X : Type 0} → (x y : X) → Contains (x ∷ []) y → x �
 contains_one x y (zero, inside, here) = here
 contains_one x y (suc k, inside, here) = absurd (omega arith)
 
-range_snoc : (a n j : ℕ) → a + n ≡ j → range_with_len a (suc n) ≡ range_with_len a n ++ j ∷ []
+pub range_snoc : (a n j : ℕ) → a + n ≡ j → range_with_len a (suc n) ≡ range_with_len a n ++ j ∷ []
 range_snoc a zero j e = let same : a ≡ j = omega arith in ap (λ k. k ∷ []) same
 range_snoc a (suc n) j e = ap (λ l. a ∷ l) (range_snoc (a + 1) n j (omega arith))
 

@@ -2,6 +2,7 @@
 use Rattle.std.proofs.Common.{ℕ, zero, suc, ◌≡◌, ◌+◌, ◌<◌, true, false, List, [], ◌∷◌, ◌++◌, Some, length, arith, refl, sym, subst, ap, ◌∙◌, append_assoc}
 use Rattle.std.specs.Prelude.{map, slice_index_or, if◌then◌else◌, not, ◌&&◌, nat_lt, pos, ◌-ℤ◌}
 use Rattle.std.specs.List.{flat_map, range_with_len}
+use Rattle.std.proofs.lemmas.Grind.{flat_map-append}
 use Rattle.std.proofs.lemmas.List.{append-nil, map-append, length-map}
 use Rattle.std.proofs.lemmas.List.FromFn.{length-map-range_with_len, get_or-map-range_with_len}
 use Rattle.cstn_net.specs.declared.constraints.Constraint.{Constraint}
@@ -9,8 +10,7 @@ use Rattle.cstn_net.specs.Networks.{Constraint as TheConstraint, count}
 use Rattle.cstn_net.specs.Read.{the_constraint}
 use Rattle.cstn_lift.specs.Labelled.{Labelled}
 use Rattle.cstn_lift.specs.Lowered.{numbered}
-use Rattle.cstn_lift.proofs.ListLemmas.{numbered_append, numbered_length}
-use Rattle.cstn_lift.proofs.Built.{points_turn}
+use Rattle.cstn_follow.proofs.Lists.{range_snoc}
 use Rattle.cstn_follow.specs.Histories.{History, is_done}
 use Rattle.cstn_follow.specs.Rest.{sight_left, is_left, number_of, end_left, bare, stands_at, moment_watched, watched_one, coming_one}
 use Rattle.cstn_follow.specs.Handed.{AreNumbers, HasAdded, Adds}
@@ -25,14 +25,25 @@ module _ (m : Labelled) (h : History) (numbers : List ℕ) (are : AreNumbers m h
 pub end_other : (m : Labelled) (h : History) (x : ℕ) → is_done h x ≡ false → end_left m h x ≡ number_of m h x
 end_other m h x e = ap (λ b. if b then 0 else number_of m h x) e
 
+-- how many are numbered, and one more of them
+numbered_long : (k : ℕ) (cs : List TheConstraint) → length (numbered k cs) ≡ length cs
+numbered_long k [] = refl
+numbered_long k (c ∷ cs) = ap suc (numbered_long (k + 1) cs)
+
+numbered_more : (k : ℕ) (cs : List TheConstraint) (e : TheConstraint) → numbered k (cs ++ e ∷ []) ≡ numbered k cs ++ record e { id = k + length cs } ∷ []
+numbered_more k [] e = ap (λ i. record e { id = i } ∷ []) (omega arith)
+numbered_more k (c ∷ cs) e =
+    let next : (k + 1) + length cs ≡ k + length (c ∷ cs) = omega arith in
+    ap (λ l. record c { id = k } ∷ l) (numbered_more (k + 1) cs e ∙ ap (λ i. numbered (k + 1) cs ++ record e { id = i } ∷ []) next)
+
 -- one constraint more
 pub adds_one : (fresh : ℕ) (old new : List Constraint) (d : Constraint) (e : TheConstraint) → new ≡ old ++ d ∷ [] →
     the_constraint d ≡ record e { id = fresh + length old } → Adds fresh old new (e ∷ [])
 adds_one fresh old new d e is at cs has =
-    let long : length cs ≡ length old = sym (numbered_length fresh cs) ∙ sym (ap length has) ∙ length-map old the_constraint in
+    let long : length cs ≡ length old = sym (numbered_long fresh cs) ∙ sym (ap length has) ∙ length-map old the_constraint in
     ap (map the_constraint) is ∙ map-append the_constraint old (d ∷ []) ∙ ap (λ l. l ++ the_constraint d ∷ []) has
     ∙ ap (λ f. numbered fresh cs ++ f ∷ []) at ∙ ap (λ k. numbered fresh cs ++ record e { id = fresh + k } ∷ []) (sym long)
-    ∙ sym (numbered_append fresh cs (e ∷ []))
+    ∙ sym (numbered_more fresh cs e)
 
 pub adds_none : (fresh : ℕ) (old : List Constraint) → Adds fresh old old []
 adds_none fresh old cs has = subst (λ ds. HasAdded fresh ds old) (sym (append-nil cs)) has
@@ -46,7 +57,14 @@ adds_both fresh old mid new es fs first more cs has =
 pub adds_turn : (fresh : ℕ) (old mid new : List Constraint) (f : ℕ → List TheConstraint) (x : ℕ) →
     Adds fresh old mid (flat_map f (range_with_len 0 x)) → Adds fresh mid new (f x) → Adds fresh old new (flat_map f (range_with_len 0 (x + 1)))
 adds_turn fresh old mid new f x first more cs has =
-    subst (λ ds. HasAdded fresh ds new) (points_turn f cs x) (more (cs ++ flat_map f (range_with_len 0 x)) (first cs has))
+    subst (λ ds. HasAdded fresh ds new) (next x) (more (cs ++ flat_map f (range_with_len 0 x)) (first cs has))
+  where
+    next : (i : ℕ) → (cs ++ flat_map f (range_with_len 0 i)) ++ f i ≡ cs ++ flat_map f (range_with_len 0 (i + 1))
+    next i =
+        let later : i + 1 ≡ suc i = omega arith in
+        append_assoc cs (flat_map f (range_with_len 0 i)) (f i) ∙ ap (λ l. cs ++ l)
+        (ap (λ l. flat_map f (range_with_len 0 i) ++ l) (sym (append-nil (f i))) ∙ sym (flat_map-append f (range_with_len 0 i) (i ∷ []))
+        ∙ ap (flat_map f) (sym (range_snoc 0 i i (omega arith)) ∙ ap (range_with_len 0) (sym later)))
 
 -- what is added for a watched time-point
 pub watched_adds : (m : Labelled) (h : History) (x t p : ℕ) → (x ≡ 0 → ⊥) → h.done x ≡ Some t → sight_left m h x ≡ Some p →

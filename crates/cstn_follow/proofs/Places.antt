@@ -9,10 +9,10 @@ use Rattle.cstn_net.proofs.Knowledge.{observer_within}
 use Rattle.cstn_lift.specs.Labelled.{Labelled, label_of}
 use Rattle.cstn_lift.specs.Completion.{completed_label}
 use Rattle.cstn_lift.specs.WellFormed.{IsLabelled}
-use Rattle.cstn_follow.specs.Histories.{History, IsHistory, allows, label_left}
+use Rattle.cstn_follow.specs.Histories.{History, IsHistory, allows, label_left, IsAllowed}
 use Rattle.cstn_follow.specs.Rest.{untold, sight_left, is_left, left, number_of, rest}
 use Rattle.cstn_follow.proofs.Lists.{place_found, place_back}
-use Rattle.cstn_follow.proofs.Settled.{Allows, allows_true, allows_back, some_or_none, settles_allows}
+use Rattle.cstn_follow.proofs.Settled.{allows_true, allows_back, some_or_none, settles_allows}
 
 sight_of : (h : History) (o : Option ℕ) (p : ℕ) → o ≡ Some p → h.told p ≡ None → untold h o ≡ Some p
 sight_of h o p e none = ap (untold h) e ∙ ap (λ t. if is_some t then None else Some p) none
@@ -49,7 +49,7 @@ module _ (m : Labelled) (h : History) (fresh : ℕ) (good : IsLabelled m) (known
   abbrev new : ℕ → ℕ
   new = number_of m h
 
-  pub left_coming : (x : ℕ) → h.done x ≡ None → Allows h (completed_label m x) → is_left m h x ≡ true
+  pub left_coming : (x : ℕ) → h.done x ≡ None → IsAllowed h (completed_label m x) → is_left m h x ≡ true
   left_coming zero e all = refl
   left_coming (suc x) e all =
       ap (λ o. if is_some o then is_some (sight_left m h (suc x)) else allows h (completed_label m (suc x))) e
@@ -62,13 +62,13 @@ module _ (m : Labelled) (h : History) (fresh : ℕ) (good : IsLabelled m) (known
       ∙ ap is_some (sight_of h (slice_index_or m.base.observes (suc x) None) p o.what none)
 
   -- what is told allows the completed label of each time-point that is left
-  pub left_allows : (x : ℕ) → is_left m h x ≡ true → Allows h (completed_label m x)
+  pub left_allows : (x : ℕ) → is_left m h x ≡ true → IsAllowed h (completed_label m x)
   left_allows x e = elim (some_or_none (h.done x)) [
     | inl done ↦ settles_allows h (completed_label m x) (known.settled x done.0 done.1)
     | inr coming ↦ left_by x e coming
   ]
     where
-      left_by : (y : ℕ) → is_left m h y ≡ true → h.done y ≡ None → Allows h (completed_label m y)
+      left_by : (y : ℕ) → is_left m h y ≡ true → h.done y ≡ None → IsAllowed h (completed_label m y)
       left_by zero b none = let at = known.origin in absurd (cc)
       left_by (suc y) b none = allows_back m h good known (completed_label m (suc y))
           (sym (ap (λ o. if is_some o then is_some (sight_left m h (suc y)) else allows h (completed_label m (suc y))) none) ∙ b)

@@ -17,14 +17,14 @@ use Rattle.cstn_net.specs.declared.points.TimePoint.{TimePoint}
 use Rattle.cstn_net.specs.declared.constraints.Constraint.{Constraint}
 use Rattle.cstn_net.specs.Networks.{Constraint as TheConstraint, IsWellFormed, Observes, count}
 use Rattle.cstn_net.specs.Read.{NetworkParts, the_network, the_constraint, prop_number, observed, reaction_of}
-use Rattle.cstn_net.specs.Drafts.{BuilderParts, constraints_from}
+use Rattle.cstn_net.specs.Drafts.{BuilderParts, constraints_from, with_reaction}
 use Rattle.cstn_net.specs.Handed.{IsHanded}
 use Rattle.cstn_lift.specs.Labelled.{Labelled}
 use Rattle.cstn_lift.specs.Lowered.{observer_of}
 use Rattle.cstn_lift.specs.Read.{LabelledParts, the_labelled}
 use Rattle.cstn_lift.specs.WellFormed.{IsLabelled}
 use Rattle.cstn_lift.specs.Handed.{HasPoints}
-use Rattle.cstn_lift.proofs.Built.{point_added, points_long, reaction_told, reaction_untold}
+use Rattle.cstn_lift.proofs.Built.{point_added, points_long, reaction_set, reaction_told, reaction_untold}
 use Rattle.cstn_lift.proofs.LoweredLemmas.{observer_found, observer_back}
 use Rattle.cstn_follow.specs.Histories.{History, IsHistory, IsInTime}
 use Rattle.cstn_follow.specs.Rest.{sight_left, is_left, left, left_upto, number_of, constraint_left, reaction_after, reaction_by}
@@ -177,3 +177,8 @@ module _ (parts : LabelledParts) (h : History) (good : IsLabelled (the_labelled 
 
   pub bared_is : IsWellFormed (bared m h)
   bared_is = bared_well_formed m h 0 good known timely
+
+-- the reaction of the time-point that was put behind the others
+pub reaction_put : (points : List TimePoint) (t : TimePoint) (n ticks : ℕ) → n ≡ length points →
+    with_reaction n ticks (points ++ t ∷ []) ≡ points ++ record t { reaction = ticks } ∷ []
+reaction_put points t n ticks at = reaction_set points t n ticks at

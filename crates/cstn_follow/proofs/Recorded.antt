@@ -19,11 +19,11 @@ use Rattle.cstn_lift.proofs.FullLemmas.{full_on}
 use Rattle.cstn_lift.proofs.LoweredLemmas.{observer_back, observer_found}
 use Rattle.cstn_follow.specs.declared.errors.FactError.{FactError}
 use Rattle.cstn_follow.specs.declared.errors.FactError.TheVariants.{Past, OutOfRange}
-use Rattle.cstn_follow.specs.Histories.{History, IsHistory, IsInTime, IsObservedAt, SettlesMark, Settles}
+use Rattle.cstn_follow.specs.Histories.{IsTimelyHistory, History, IsHistory, IsInTime, IsObservedAt, SettlesMark, Settles, IsOnLetters}
 use Rattle.cstn_follow.specs.Read.{HistoryParts, the_history, IsKeptFor}
 use Rattle.cstn_follow.specs.Facts.{settles, is_beyond, now_refusal, again_refusal, done_refusal, since, observed_since, again_told, told_after, told_refusal, latest_expected, again_expected, expected_after, expected_refusal, at_now, with_done, with_told, with_expected}
 use Rattle.cstn_follow.proofs.Settled.{settles_absent}
-use Rattle.cstn_follow.proofs.Told.{IsBelow, settles_back}
+use Rattle.cstn_follow.proofs.Told.{settles_back}
 
 not_beyond : (t : ℕ) → nat_lt 1000000 t ≡ false → t ≤ 1000000
 not_beyond t e = grind arith
@@ -109,7 +109,7 @@ module _ (m : Labelled) (h : History) (known : IsHistory m h) (timely : IsInTime
   now_in_time t e = record { now = (now_free t e).1; expected = timely.expected; origin = timely.origin }
 
 module _ (m : Labelled) (good : IsLabelled m) (h : History) (known : IsHistory m h) (timely : IsInTime m h) where
-  full_below : (x : ℕ) → IsBelow (completed_label m x)
+  full_below : (x : ℕ) → IsOnLetters (completed_label m x)
   full_below x p past = elim (absent_or_not (completed_label m x p)) [
     | inl none ↦ none
     | inr marked ↦ let o = full_on m good x p marked in let inside = good.base.letters o.0 p o.1 in absurd (omega arith)
@@ -354,3 +354,16 @@ pub now_passes : (h : History) (t : ℕ) → h.now ≤ t → is_beyond t ≡ fal
 now_passes h t low high =
     ap (λ b. if b then Some (Past h.now) else if is_beyond t then Some (OutOfRange t) else None) (lt_false t h.now low)
     ∙ ap (λ b. if b then Some (OutOfRange t) else None) high
+
+pub timely_now : (m : Labelled) (h : History) (t : ℕ) → IsHistory m h → IsInTime m h → now_refusal h t ≡ None → IsTimelyHistory m (at_now h t)
+timely_now m h t known timely e = record { history = now_history m h known timely t e; in_time = now_in_time m h known timely t e }
+
+module _ (m : Labelled) (h : History) (good : IsLabelled m) (known : IsHistory m h) (timely : IsInTime m h) where
+  pub timely_done : (t : ℕ) (x : NodeId) → done_refusal m h t x ≡ None → IsTimelyHistory m (with_done h t x.0)
+  timely_done t x e = record { history = done_history m good h known timely t x e; in_time = done_in_time m good h known timely t x e }
+
+  pub timely_told : (t : ℕ) (p : Prop) (v : Bool) → told_refusal m h t p ≡ None → IsTimelyHistory m (with_told h t p.index v)
+  timely_told t p v e = record { history = told_history m good h known timely t p v e; in_time = told_in_time m good h known timely t p v e }
+
+  pub timely_expected : (t : ℕ) (p : Prop) → expected_refusal m h t p ≡ None → IsTimelyHistory m (with_expected h t p.index)
+  timely_expected t p e = record { history = expected_history m good h known timely t p e; in_time = expected_in_time m good h known timely t p e }

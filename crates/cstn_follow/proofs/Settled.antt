@@ -11,17 +11,13 @@ use Rattle.cstn_label.proofs.MarkLemmas.{mark_fits_within}
 use Rattle.cstn_lift.specs.Labelled.{Labelled}
 use Rattle.cstn_lift.specs.WellFormed.{IsLabelled}
 use Rattle.cstn_lift.proofs.ListLemmas.{range_contains, range_all}
-use Rattle.cstn_follow.specs.Histories.{History, IsHistory, AgreesWith, SettlesMark, Settles, is_fit, allows_mark, allows, mark_left, label_left}
+use Rattle.cstn_follow.specs.Histories.{History, IsHistory, AgreesWith, SettlesMark, Settles, is_fit, allows_mark, allows, mark_left, label_left, IsAllowed}
 
 fit_right : (v : Bool) (a : Mark) → is_fit v a ≡ true → MarkFits v a
 fit_right v a e = grind arith
 
 fit_true : (v : Bool) (a : Mark) → MarkFits v a → is_fit v a ≡ true
 fit_true v a h = grind arith
-
--- what was told contradicts no mark of the label
-abbrev pub Allows : History → Label → Type 0
-Allows h a = (p : ℕ) (v : Bool) → h.told p ≡ Some v → MarkFits v (a p)
 
 pub some_or_none : {T : Type 0} → (o : Option T) → ((v : T) × (o ≡ Some v)) ⊎ (o ≡ None)
 some_or_none None = inr refl
@@ -34,7 +30,7 @@ allowed_there (Some v) a h = fit_true v a (h v refl)
 allowed_back : (o : Option Bool) (a : Mark) (v : Bool) → allows_mark o a ≡ true → o ≡ Some v → MarkFits v a
 allowed_back o a v e is = fit_right v a (subst (λ q. allows_mark q a ≡ true) is e)
 
-pub allows_true : (h : History) (a : Label) → Allows h a → allows h a ≡ true
+pub allows_true : (h : History) (a : Label) → IsAllowed h a → allows h a ≡ true
 unfolding allows
 allows_true h a all = list_all-from_AllPass (λ p. allows_mark (h.told p) (a p)) (range_with_len 0 52)
     (range_all (λ p. allows_mark (h.told p) (a p) ≡ true) 0 52 (λ p low high. allowed_there (h.told p) (a p) (all p)))
@@ -78,7 +74,7 @@ settled_fits o a v h e = subst (λ q. SettlesMark q a) e h
 settled_absent : (o : Option Bool) (a : Mark) → SettlesMark o a → o ≡ None → a ≡ Absent
 settled_absent o a h e = subst (λ q. SettlesMark q a) e h
 
-pub settles_allows : (h : History) (a : Label) → Settles h a → Allows h a
+pub settles_allows : (h : History) (a : Label) → Settles h a → IsAllowed h a
 settles_allows h a s p v e = settled_fits (h.told p) (a p) v (s p) e
 
 pub settles_absent : (h : History) (a : Label) (p : ℕ) → Settles h a → h.told p ≡ None → a p ≡ Absent
@@ -87,7 +83,7 @@ settles_absent h a p s e = settled_absent (h.told p) (a p) (s p) e
 pub settles_left : (h : History) (a : Label) (p : ℕ) → Settles h a → label_left h a p ≡ Absent
 settles_left h a p s = settled_left (h.told p) (a p) (s p)
 
-pub allows_within : (h : History) (a b : Label) → IsWithin a b → Allows h b → Allows h a
+pub allows_within : (h : History) (a b : Label) → IsWithin a b → IsAllowed h b → IsAllowed h a
 allows_within h a b w all p v e = mark_fits_within v (a p) (b p) (w p) (all p v e)
 
 -- the scenario with the values that were told
@@ -128,14 +124,14 @@ holds_left h a s holds p = elim (some_or_none (h.told p)) [
   | inr none ↦ subst (λ m. MarkFits (s p) m) (sym (left_untold h a p none)) (subst (λ v. MarkFits v (a p)) (told_same h s p none) (holds p))
 ]
 
-pub holds_back : (h : History) (a : Label) (s : Scenario) → Allows h a → Holds s (label_left h a) → Holds (as_told h s) a
+pub holds_back : (h : History) (a : Label) (s : Scenario) → IsAllowed h a → Holds s (label_left h a) → Holds (as_told h s) a
 holds_back h a s all holds p = elim (some_or_none (h.told p)) [
   | inl told ↦ subst (λ v. MarkFits v (a p)) (sym (told_agrees h s p told.0 told.1)) (all p told.0 told.1)
   | inr none ↦ subst (λ v. MarkFits v (a p)) (sym (told_same h s p none)) (subst (λ m. MarkFits (s p) m) (left_untold h a p none) (holds p))
 ]
 
 -- a label that holds in a scenario that agrees with what is told is allowed by it
-pub holds_allows : (h : History) (a : Label) (s : Scenario) → AgreesWith h s → Holds s a → Allows h a
+pub holds_allows : (h : History) (a : Label) (s : Scenario) → AgreesWith h s → Holds s a → IsAllowed h a
 holds_allows h a s agrees holds p v e = subst (λ w. MarkFits w (a p)) (agrees p v e) (holds p)
 
 -- what settles a label makes it hold
@@ -155,5 +151,5 @@ module _ (m : Labelled) (h : History) (good : IsLabelled m) (known : IsHistory m
   pub told_letter : (p : ℕ) (v : Bool) → h.told p ≡ Some v → p < 52
   told_letter p v e = let o = (known.told p v e).1 in good.base.letters o.observer p o.observes
 
-  pub allows_back : (a : Label) → allows h a ≡ true → Allows h a
+  pub allows_back : (a : Label) → allows h a ≡ true → IsAllowed h a
   allows_back a e p v is = allows_below h a e p v (told_letter p v is) is

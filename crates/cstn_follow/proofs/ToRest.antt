@@ -15,10 +15,10 @@ use Rattle.cstn_lift.specs.Completion.{completed_label, full_label}
 use Rattle.cstn_lift.specs.WellFormed.{IsLabelled}
 use Rattle.cstn_lift.specs.Strategies.{IsExecuted, IsInForce, IsKnownExecuted, IsLabelledStrategy}
 use Rattle.cstn_lift.proofs.Equivalent.{full_from, full_to}
-use Rattle.cstn_follow.specs.Histories.{History, IsHistory, known_at}
+use Rattle.cstn_follow.specs.Histories.{History, IsHistory, known_at, IsAllowed}
 use Rattle.cstn_follow.specs.Continuations.{Continues, IsKnownAfter}
 use Rattle.cstn_follow.specs.Rest.{sight_left, is_left, number_of, end_left, moment_done, moved, bare, moment_watched, late, watched, coming, rest}
-use Rattle.cstn_follow.proofs.Settled.{Allows, some_or_none, as_told, told_agrees, told_same, holds_left, holds_back, holds_allows, settles_holds}
+use Rattle.cstn_follow.proofs.Settled.{some_or_none, as_told, told_agrees, told_same, holds_left, holds_back, holds_allows, settles_holds}
 use Rattle.cstn_follow.proofs.Places.{old, left_coming, left_watching, left_allows, old_new, old_stands, old_origin, observes_left, sees_left, sees_back}
 use Rattle.cstn_follow.proofs.Labels.{completed_new}
 use Rattle.cstn_follow.proofs.Forces.{end_done, end_coming, force_back, bare_full, constraint_from}
@@ -222,7 +222,7 @@ module _ (m : Labelled) (h : History) (fresh : ℕ) (good : IsLabelled m) (known
             )
       ]
 
-  meets_moved : (s : Scenario) (c : Constraint) → Contains m.base.constraints c → Allows h (full_label m c) → IsInForce R s (moved m h c) →
+  meets_moved : (s : Scenario) (c : Constraint) → Contains m.base.constraints c → IsAllowed h (full_label m c) → IsInForce R s (moved m h c) →
       Meets (to_rest s) (moved m h c)
   meets_moved s c has all force =
       let there = force_back m h fresh good known c s has all force in

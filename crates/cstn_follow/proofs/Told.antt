@@ -14,13 +14,9 @@ use Rattle.cstn_label.specs.Labels.{Label, MarkFits, IsPossible, empty, without}
 use Rattle.cstn_label.specs.Words.{has_bit}
 use Rattle.cstn_label.specs.Read.{is_known, the_values, known_value}
 use Rattle.cstn_lift.proofs.ListLemmas.{range_contains, range_all}
-use Rattle.cstn_follow.specs.Histories.{History, SettlesMark, Settles, allows, mark_left, label_left}
+use Rattle.cstn_follow.specs.Histories.{History, SettlesMark, Settles, allows, mark_left, label_left, IsAllowed, IsOnLetters}
 use Rattle.cstn_follow.specs.Facts.{settles_mark, settles}
-use Rattle.cstn_follow.proofs.Settled.{Allows, allows_true, allows_below, settles_left, settles_allows}
-
--- a label of the program marks none but the 52 propositions
-abbrev pub IsBelow : Label → Type 0
-IsBelow a = (p : ℕ) → 52 ≤ p → a p ≡ Absent
+use Rattle.cstn_follow.proofs.Settled.{allows_true, allows_below, settles_left, settles_allows}
 
 known_by : (b w v : Bool) → (if b then Some w else None) ≡ Some v → (b ≡ true) × (w ≡ v)
 known_by true w v e = (refl, (let same : w ≡ v = cc in same))
@@ -29,12 +25,12 @@ known_by false w v e = absurd (cc)
 absent_fits : (v : Bool) (a : Mark) → a ≡ Absent → MarkFits v a
 absent_fits v a e = subst (MarkFits v) (sym e) tt
 
-possible_allows : (k : Known) (h : History) (a : Label) → h.told ≡ known_value k → IsPossible (is_known k) (the_values k) a → Allows h a
+possible_allows : (k : Known) (h : History) (a : Label) → h.told ≡ known_value k → IsPossible (is_known k) (the_values k) a → IsAllowed h a
 possible_allows k h a same possible p v e =
     let both = known_by (has_bit k.seen p) (the_values k p) v (sym (ap (λ f. f p) same) ∙ e) in
     subst (λ w. MarkFits w (a p)) both.1 (possible p both.0)
 
-allows_possible : (k : Known) (h : History) (a : Label) → h.told ≡ known_value k → IsBelow a → allows h a ≡ true →
+allows_possible : (k : Known) (h : History) (a : Label) → h.told ≡ known_value k → IsOnLetters a → allows h a ≡ true →
     IsPossible (is_known k) (the_values k) a
 allows_possible k h a same below e p known = elim (cases_lt p 52) [
   | inl inside ↦ allows_below h a e p (the_values k p) inside
@@ -48,7 +44,7 @@ both_ways false true f g = g refl
 both_ways false false f g = refl
 
 -- the program's test whether what is told allows a label
-pub allowed_is : (k : Known) (h : History) (a : Label) (b : Bool) → h.told ≡ known_value k → IsBelow a →
+pub allowed_is : (k : Known) (h : History) (a : Label) (b : Bool) → h.told ≡ known_value k → IsOnLetters a →
     (IsTrue b ↔ IsPossible (is_known k) (the_values k) a) → b ≡ allows h a
 allowed_is k h a b same below test = both_ways b (allows h a)
     (λ e. allows_true h a (possible_allows k h a same (test.0 e)))
@@ -71,7 +67,7 @@ unfolding settles
 settles_true h a s = list_all-from_AllPass (λ p. settles_mark (h.told p) (a p)) (range_with_len 0 52)
     (range_all (λ p. settles_mark (h.told p) (a p) ≡ true) 0 52 (λ p low high. settle_true (h.told p) (a p) (s p)))
 
-pub settles_back : (h : History) (a : Label) → IsBelow a → settles h a ≡ true → Settles h a
+pub settles_back : (h : History) (a : Label) → IsOnLetters a → settles h a ≡ true → Settles h a
 unfolding settles
 settles_back h a below e p = elim (cases_lt p 52) [
   | inl inside ↦ settle_right (h.told p) (a p) (All-contains (λ q. settles_mark (h.told q) (a q) ≡ true) (range_with_len 0 52) p
@@ -83,25 +79,21 @@ settle_by : (o : Option Bool) (a : Mark) → ((v : Bool) → o ≡ Some v → Ma
 settle_by None a fits gone = gone
 settle_by (Some v) a fits gone = fits v refl
 
--- the program's test whether what is told settles a label
-pub settled_is : (h : History) (a : Label) (b d : Bool) → IsBelow a → b ≡ allows h a → (IsTrue d ↔ (label_left h a ≡ empty)) →
-    (b && d) ≡ settles h a
-settled_is h a b d below allowed test = both_ways (b && d) (settles h a)
-    (λ e.
-    let both = and_parts b d e in
-    let gone = test.0 both.1 in
-    settles_true h a (λ p. settle_by (h.told p) (a p) (fits (sym allowed ∙ both.0) p) (ap (λ l. l p) gone)))
-    (λ e.
-    let s = settles_back h a below e in
-    let yes_b : b ≡ true = allowed ∙ allows_true h a (settles_allows h a s) in
-    let yes_d : d ≡ true = test.1 (fun_ext (λ p. settles_left h a p s)) in
-    ap (λ x. x && d) yes_b ∙ yes_d)
+-- the program's test whether what is told settles a label: nothing is left of it, and it is allowed
+pub settled_is : (h : History) (a : Label) (b : Bool) → IsOnLetters a → b ≡ allows h a → ((p : ℕ) → label_left h a p ≡ Absent) → b ≡ settles h a
+settled_is h a b below allowed gone = both_ways b (settles h a)
+    (λ e. settles_true h a (λ p. settle_by (h.told p) (a p) (fits (sym allowed ∙ e) p) (gone p)))
+    (λ e. allowed ∙ allows_true h a (settles_allows h a (settles_back h a below e)))
   where
     fits : allows h a ≡ true → (p : ℕ) (v : Bool) → h.told p ≡ Some v → MarkFits v (a p)
     fits e p v is = elim (cases_lt p 52) [
       | inl inside ↦ allows_below h a e p v inside is
       | inr past ↦ absent_fits v (a p) (below p past)
     ]
+
+pub unsettled_is : (h : History) (a : Label) (p : ℕ) → IsOnLetters a → (label_left h a p ≡ Absent → ⊥) → false ≡ settles h a
+unsettled_is h a p below stays = both_ways false (settles h a) (λ e. absurd (cc))
+    (λ e. absurd (stays (settles_left h a p (settles_back h a below e))))
 
 -- one mark is taken off where its proposition was told
 left_more : (o : Option Bool) (a : Mark) → mark_left o Absent ≡ Absent
@@ -152,7 +144,14 @@ mark_taken told a p e q = elim (cases_eq q p) [
     taken None b f = absurd (cc)
     taken (Some v) b f = refl
 
--- what isn't allowed isn't settled
-pub unsettled_is : (h : History) (a : Label) (b : Bool) → IsBelow a → b ≡ allows h a → b ≡ false → b ≡ settles h a
-unsettled_is h a b below allowed e = both_ways b (settles h a) (λ t. absurd (cc))
-    (λ s. allowed ∙ allows_true h a (settles_allows h a (settles_back h a below s)))
+pub allows_both : (h : History) (a : Label) → IsOnLetters a → IsTrue (allows h a) ↔ IsAllowed h a
+allows_both h a below = (
+  (λ e p v is. elim (cases_lt p 52) [
+    | inl inside ↦ allows_below h a e p v inside is
+    | inr past ↦ absent_fits v (a p) (below p past)
+  ]),
+  allows_true h a,
+)
+
+pub settles_both : (h : History) (a : Label) → IsOnLetters a → IsTrue (settles h a) ↔ Settles h a
+settles_both h a below = (settles_back h a below, settles_true h a)

@@ -21,10 +21,10 @@ use Rattle.cstn_lift.proofs.CompletionLemmas.{completed_contains, completed_comp
 use Rattle.cstn_lift.proofs.FullLemmas.{full_within}
 use Rattle.cstn_lift.proofs.Equivalent.{full_from, full_to}
 use Rattle.cstn_lift.proofs.ListLemmas.{numbered_ascending, filter_map_all}
-use Rattle.cstn_follow.specs.Histories.{History, IsHistory, IsInTime, known_at, or_at, mark_left, label_left}
+use Rattle.cstn_follow.specs.Histories.{History, IsHistory, IsInTime, known_at, or_at, mark_left, label_left, IsAllowed}
 use Rattle.cstn_follow.specs.Rest.{left, cut, value_left, is_left, number_of, end_left, moved, constraint_left, bare, late, watched, coming, added, moment_watched, rest}
 use Rattle.cstn_follow.proofs.Lists.{place, passing_yes, passing_no}
-use Rattle.cstn_follow.proofs.Settled.{Allows, some_or_none, marked_left, left_untold, allows_within}
+use Rattle.cstn_follow.proofs.Settled.{some_or_none, marked_left, left_untold, allows_within}
 use Rattle.cstn_follow.proofs.Places.{old, left_coming, left_watching, left_allows, old_stands, new_inside, observes_left, observes_back, label_at, count_left, sees_back}
 use Rattle.cstn_follow.proofs.Labels.{completed_new, observer_left}
 use Rattle.cstn_follow.proofs.Forces.{end_done, end_coming, constraint_from, origin_empty}
@@ -156,7 +156,7 @@ module _ (m : Labelled) (h : History) (fresh : ℕ) (good : IsLabelled m) (known
   }
 
   -- what is left of a label names only what is observed in the rest, where what is told allows a complete label that it is within
-  left_on : (a b : Label) → IsWithin a (completed m b) → IsOnObserved m.base a → Allows h (completed m b) → IsOnObserved R.base (label_left h a)
+  left_on : (a b : Label) → IsWithin a (completed m b) → IsOnObserved m.base a → IsAllowed h (completed m b) → IsOnObserved R.base (label_left h a)
   left_on a b inside on all p there =
       let marked = marked_left h a p there in
       let o = on p marked.1 in
@@ -166,7 +166,7 @@ module _ (m : Labelled) (h : History) (fresh : ℕ) (good : IsLabelled m) (known
       (number_of m h o.0, observes_left m h fresh good known o.0 p o.1 marked.0 left)
 
   -- what is left of a constraint is a constraint of the rest
-  end_inside : (x : ℕ) → x < count m.base → Allows h (completed_label m x) → end_left m h x < count R.base
+  end_inside : (x : ℕ) → x < count m.base → IsAllowed h (completed_label m x) → end_left m h x < count R.base
   end_inside x here all = elim (some_or_none (h.done x)) [
     | inl done ↦ let at = end_done m h fresh good known x done.0 done.1 in let some = some_points in omega arith
     | inr none ↦
@@ -175,7 +175,7 @@ module _ (m : Labelled) (h : History) (fresh : ℕ) (good : IsLabelled m) (known
         omega arith
   ]
 
-  moved_there : (c : Constraint) → Contains m.base.constraints c → Allows h (full_label m c) → IsConstraint R.base (moved m h c)
+  moved_there : (c : Constraint) → Contains m.base.constraints c → IsAllowed h (full_label m c) → IsConstraint R.base (moved m h c)
   moved_there c has all =
       let is = All-contains (IsConstraint m.base) m.base.constraints c good.base.network.constraints has in
       let whole = joined c.label (joined (label_of m c.from) (label_of m c.to)) in

@@ -67,6 +67,11 @@ pub record IsInTime (m : Labelled) (h : History) : Type 0 where
   pub expected : (p e : ℕ) → h.expected p ≡ Some e → e ≤ 1000000
   pub origin : (p e : ℕ) → h.expected p ≡ Some e → Observes m.base 0 p → e ≤ 1000
 
+-- a history with all numbers in range
+pub record IsTimelyHistory (m : Labelled) (h : History) : Type 0 where
+  pub history : IsHistory m h
+  pub in_time : IsInTime m h
+
 -- the moment expected, and otherwise this one
 abbrev pub or_at : Option ℕ → ℕ → ℕ
 or_at None t = t
@@ -94,6 +99,14 @@ is_fit false Unknown = false
 abbrev pub allows_mark : Option Bool → Mark → Bool
 allows_mark None a = true
 allows_mark (Some v) a = is_fit v a
+
+-- what was told contradicts no mark of the label
+abbrev pub IsAllowed : History → Label → Type 0
+IsAllowed h a = (p : ℕ) (v : Bool) → h.told p ≡ Some v → MarkFits v (a p)
+
+-- the label marks none but the 52 propositions
+abbrev pub IsOnLetters : Label → Type 0
+IsOnLetters a = (p : ℕ) → 52 ≤ p → a p ≡ Absent
 
 -- what was told of the 52 propositions doesn't contradict the label
 unfoldable pub allows : History → Label → Bool

@@ -12,10 +12,11 @@ use cstn_lift::Labelled;
 pub fn completed(network: &Labelled, label: Label) -> Label
     ensures completed { marks result ≡ completed (the_labelled network.now) (marks label) }
 {
+    within_is_an_order();
     let mut whole = label;
     for _round in 0..network.base().count() {
         let next = with_observers(network, whole);
-        if next == whole {
+        if next.is_within(whole) {
             return whole;
         }
         whole = next;

@@ -130,6 +130,9 @@ impl History {
         ensures settles { result ≡ settles (the_history self.now) (marks label) }
     {
         labels_are_their_marks();
-        self.allows(label) && self.label_left(label) == Label::empty()
+        match self.label_left(label).first_marked_from(0) {
+            Some(_) => false,
+            None => self.allows(label),
+        }
     }
 }

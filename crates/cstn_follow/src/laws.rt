@@ -1,16 +1,24 @@
 // Laws of histories and of what is left.
-ghost use Rattle.std.specs.Prelude.{ℕ, ◌≡◌, ◌<◌, ◌≤◌, ◌↔◌, None, IsTrue, length};
+ghost use Rattle.std.specs.Prelude.{ℕ, ◌≡◌, ◌<◌, ◌≤◌, ◌↔◌, [], None, Bool, IsTrue, length};
 ghost use Rattle.std.specs.List.{All};
-ghost use Rattle.cstn_label.specs.Labels.{Scenario};
-ghost use Rattle.cstn_net.specs.Networks.{count};
+ghost use Rattle.cstn_label.specs.declared.nodes.NodeId.{NodeId};
+ghost use Rattle.cstn_label.specs.declared.props.Prop.{Prop};
+ghost use Rattle.cstn_label.specs.Labels.{Label, Scenario};
+ghost use Rattle.cstn_net.specs.Networks.{IsWellFormed, count};
+ghost use Rattle.cstn_net.specs.Drafts.{BuilderParts};
+ghost use Rattle.cstn_net.specs.Handed.{IsHanded};
 ghost use Rattle.cstn_net.specs.Strategies.{Table};
 ghost use Rattle.cstn_lift.specs.Labelled.{Labelled};
-ghost use Rattle.cstn_lift.specs.Completion.{completed_label};
+ghost use Rattle.cstn_lift.specs.Completion.{completed, completed_label, joined_upto, rounds};
+ghost use Rattle.cstn_lift.specs.Handed.{HasPoints};
+ghost use Rattle.cstn_lift.specs.Read.{LabelledParts, the_labelled};
 ghost use Rattle.cstn_lift.specs.WellFormed.{IsLabelled};
 ghost use Rattle.cstn_lift.specs.Strategies.{IsExecuted, IsLabelledConsistent, IsLabelledLeast};
-ghost use Rattle.cstn_follow.specs.Histories.{History, IsHistory, IsInTime, AgreesWith, label_left, GoesOn, IsToldMore, nothing_yet};
+ghost use Rattle.cstn_follow.specs.Histories.{History, IsHistory, IsInTime, IsTimelyHistory, AgreesWith, Settles, IsAllowed, IsOnLetters, allows, label_left, GoesOn, IsToldMore, nothing_yet};
 ghost use Rattle.cstn_follow.specs.Continuations.{Continues, Can, IsLeastNow};
 ghost use Rattle.cstn_follow.specs.Rest.{is_left, number_of, rest};
+ghost use Rattle.cstn_follow.specs.Facts.{settles, now_refusal, done_refusal, told_refusal, expected_refusal, at_now, with_done, with_told, with_expected};
+ghost use Rattle.cstn_follow.specs.Handed.{bared};
 
 /// The rest decides: a history can go on exactly where the labelled network of what is left is consistent. In each scenario that
 /// agrees with what was told, a time-point that isn't done and is executed has the same least moments from now on as it has in
@@ -46,4 +54,36 @@ pub fn histories_narrow()
 pub fn nothing_yet_leaves_all()
     ensures history { (m : Labelled) → IsLabelled m → IsHistory m nothing_yet }
     ensures rest { (m : Labelled) (fresh : ℕ) → IsLabelled m → rest m nothing_yet fresh ≡ m }
+{}
+
+/// Completion ends: where a further round of joining in the labels of observers changes nothing, the label is the completed one.
+pub fn completion_ends()
+    ensures { (m : Labelled) (n : ℕ) (a : Label) → joined_upto m (count m.base) (rounds m n a) ≡ rounds m n a → rounds m n a ≡ completed m a }
+{}
+
+/// What was told allows a label of the 52 propositions exactly where it contradicts no mark, and settles it exactly where it
+/// decides that the label holds.
+pub fn told_labels_are_decided()
+    ensures allows { (h : History) (a : Label) → IsOnLetters a → (IsTrue (allows h a) ↔ IsAllowed h a) }
+    ensures settles { (h : History) (a : Label) → IsOnLetters a → (IsTrue (settles h a) ↔ Settles h a) }
+{}
+
+/// A fact that isn't refused makes the history one of the same network, with all numbers in range.
+pub fn facts_make_histories()
+    ensures now { (m : Labelled) (h : History) (t : ℕ) → IsHistory m h → IsInTime m h → now_refusal h t ≡ None → IsTimelyHistory m (at_now h t) }
+    ensures done { (m : Labelled) (h : History) (t : ℕ) (x : NodeId) → IsLabelled m → IsHistory m h → IsInTime m h → done_refusal m h t x ≡ None
+        → IsTimelyHistory m (with_done h t x.0) }
+    ensures told { (m : Labelled) (h : History) (t : ℕ) (p : Prop) (v : Bool) → IsLabelled m → IsHistory m h → IsInTime m h → told_refusal m h t p ≡ None
+        → IsTimelyHistory m (with_told h t p.index v) }
+    ensures expected { (m : Labelled) (h : History) (t : ℕ) (p : Prop) → IsLabelled m → IsHistory m h → IsInTime m h → expected_refusal m h t p ≡ None
+        → IsTimelyHistory m (with_expected h t p.index) }
+{}
+
+/// A builder that has the time-points that are left, each with what it observes and its reaction, and no constraints yet was
+/// handed the rest without its constraints, which is a network.
+pub fn points_left_are_handed()
+    ensures network { (m : Labelled) (h : History) → IsLabelled m → IsHistory m h → IsInTime m h → IsWellFormed (bared m h) }
+    ensures handed { (m : LabelledParts) (h : History) (b : BuilderParts) → IsLabelled (the_labelled m) → IsHistory (the_labelled m) h → IsInTime (the_labelled m) h
+        → HasPoints (bared (the_labelled m) h) (count (bared (the_labelled m) h)) b.points → b.deadline ≡ (the_labelled m).base.deadline → b.drafts ≡ []
+        → IsHanded b (bared (the_labelled m) h) }
 {}

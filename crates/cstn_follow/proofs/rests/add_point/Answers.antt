@@ -4,11 +4,10 @@ use Rattle.cstn_net.specs.Networks.{count}
 use Rattle.cstn_net.specs.Drafts.{with_reaction}
 use Rattle.cstn_lift.specs.Handed.{HasPoints}
 use Rattle.cstn_lift.specs.Read.{the_labelled}
-use Rattle.cstn_lift.proofs.Built.{reaction_set}
 use Rattle.cstn_follow.specs.Rest.{reaction_after}
 use Rattle.cstn_follow.specs.Read.{the_history}
 use Rattle.cstn_follow.specs.Handed.{bared}
-use Rattle.cstn_follow.proofs.Points.{old_inside, few_left, point_next, points_counted}
+use Rattle.cstn_follow.proofs.Points.{old_inside, few_left, point_next, points_counted, reaction_put}
 use Rattle.cstn_follow.proofs.rests.add_point.Goals as goal
 
 pub sight_left-observes-requires : goal.sight_left-observes-requires
@@ -37,7 +36,7 @@ returns-in-Some-clause-added c =
     let at = c.in_ok-node.ensures.number in
     let points = ap (λ b. b.points) c.react.ensures.react
     ∙ ap (λ (b : _). with_reaction c.in_ok-node.node ticks b.points) c.in_ok-node.ensures.appended
-    ∙ reaction_set old t c.in_ok-node.node ticks at in
+    ∙ reaction_put old t c.in_ok-node.node ticks at in
     subst (λ ps. HasPoints (bared m h) (length old + 1) ps) (sym points)
     (point_next m h c.requires.labelled c.requires.kept.history c.requires.kept.in_time (length old) c.args.x.0 old observes ticks c.requires.place c.requires.next
     c.requires.before c.sight_left-observes.ensures (λ p is.
