@@ -1,6 +1,5 @@
 -- Completion by rounds, each of which joins in the labels of the observers of what is marked.
 use Rattle.std.proofs.Common.{ℕ, ◌≡◌, ◌+◌, ◌<◌, ◌≤◌}
-use Rattle.cstn_label.specs.declared.labels.Label.{Label as Words}
 use Rattle.cstn_label.specs.declared.marks.Mark.TheVariants.{Absent}
 use Rattle.cstn_label.specs.Labels.{Label, IsMarked, IsWithin, joined}
 use Rattle.cstn_net.specs.Networks.{Observes, count}

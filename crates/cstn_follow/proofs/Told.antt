@@ -1,16 +1,16 @@
 -- What was told, as the program keeps it.
 use Rattle.std.proofs.Common.{ℕ, ◌≡◌, inl, inr, ◌+◌, ◌<◌, ◌≤◌, Bool, true, false, Option, Some, None, arith, refl, sym, subst, ap, ◌∙◌}
 use Rattle.std.specs.Option.{is_some}
-use Rattle.std.specs.Prelude.{cond, ◌↔◌, IsTrue, ◌&&◌, ◌==◌, if◌then◌else◌}
+use Rattle.std.specs.Prelude.{cond, ◌↔◌, IsTrue, ◌==◌, if◌then◌else◌}
 use Rattle.std.specs.List.{range_with_len}
 use Rattle.std.proofs.Math.Path.{fun_ext}
-use Rattle.std.proofs.lemmas.Bool.{cases_lt, cases_eq, eq-eqb, ne_eqb, and_parts}
+use Rattle.std.proofs.lemmas.Bool.{cases_lt, cases_eq, eq-eqb, ne_eqb}
 use Rattle.std.proofs.lemmas.List.Elements.{All-contains}
 use Rattle.std.proofs.lemmas.List.Sums.{list_all-from_AllPass, AllPass-from_list_all}
 use Rattle.cstn_label.specs.declared.marks.Mark.{Mark}
 use Rattle.cstn_label.specs.declared.marks.Mark.TheVariants.{Absent}
 use Rattle.cstn_label.specs.declared.knowledge.Known.{Known}
-use Rattle.cstn_label.specs.Labels.{Label, MarkFits, IsPossible, empty, without}
+use Rattle.cstn_label.specs.Labels.{Label, MarkFits, IsPossible, without}
 use Rattle.cstn_label.specs.Words.{has_bit}
 use Rattle.cstn_label.specs.Read.{is_known, the_values, known_value}
 use Rattle.cstn_lift.proofs.ListLemmas.{range_contains, range_all}

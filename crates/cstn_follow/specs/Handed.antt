@@ -1,11 +1,13 @@
 -- The parts of the rest, as the program makes them one after the other.
 use Rattle.std.specs.Prelude.{ℕ, ◌≡◌, ◌<◌, ◌≤◌, ◌⊎◌, ◌++◌, List, [], length, map}
-use Rattle.std.specs.List.{range_with_len}
+use Rattle.std.specs.List.{flat_map, range_with_len}
 use Rattle.cstn_net.specs.declared.constraints.Constraint.{Constraint}
+use Rattle.cstn_net.specs.declared.points.TimePoint.{TimePoint}
 use Rattle.cstn_net.specs.Networks.{Network, Constraint as TheConstraint, count}
 use Rattle.cstn_net.specs.Read.{the_constraint}
 use Rattle.cstn_lift.specs.Labelled.{Labelled}
 use Rattle.cstn_lift.specs.Lowered.{numbered, lowered}
+use Rattle.cstn_lift.specs.Handed.{HasPoints}
 use Rattle.cstn_follow.specs.declared.errors.RestError.{RestError}
 use Rattle.cstn_follow.specs.declared.errors.RestError.TheVariants.{TooManyConstraints, Memory}
 use Rattle.cstn_follow.specs.declared.adding.Kind.{Kind}
@@ -31,9 +33,20 @@ added_for m h Late x = late_one m x (h.done x)
 added_for m h Watched x = watched_one m h x (h.done x) (sight_left m h x)
 added_for m h Coming x = coming_one m h x
 
+-- the constraints of one kind that are added for all time-points
+abbrev pub added_for_all : Labelled → History → Kind → List TheConstraint
+added_for_all m h kind = flat_map (added_for m h kind) (range_with_len 0 (count m.base))
+
 -- the rest, whose constraints aren't handed in yet
 abbrev pub bared : Labelled → History → Network
 bared m h = record (rest m h 0).base { constraints = [] }
+
+-- the first n time-points of the rest, and all of them
+abbrev pub HasLeft : Labelled → History → ℕ → List TimePoint → Type 0
+HasLeft m h n points = HasPoints (bared m h) n points
+
+abbrev pub HasAllLeft : Labelled → History → List TimePoint → Type 0
+HasAllLeft m h points = HasLeft m h (count (bared m h)) points
 
 -- the number of a refusal, and 0 for want of memory
 abbrev pub rest_number : RestError → ℕ

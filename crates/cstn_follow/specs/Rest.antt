@@ -135,6 +135,10 @@ abbrev pub reaction_by : Labelled → History → ℕ → Option ℕ → ℕ
 reaction_by m h p None = m.base.reaction p
 reaction_by m h p (Some x) = if is_told h p || not (is_left m h x) then 1 else reaction_after m h p x (h.done x)
 
+-- what is left of the constraints
+abbrev pub constraints_left : Labelled → History → List Constraint
+constraints_left m h = filter_map (constraint_left m h) m.base.constraints
+
 -- The labelled network of what is left, in which the constraints that are added have ids from `fresh` on. Of a time-point that
 -- is done, the label names only what is told.
 abbrev pub rest : Labelled → History → ℕ → Labelled
@@ -143,7 +147,7 @@ rest m h fresh = record {
     deadline = m.base.deadline;
     observes = map (sight_left m h) (left m h);
     reaction = λ p. reaction_by m h p (observer_of m.base p);
-    constraints = filter_map (constraint_left m h) m.base.constraints ++ numbered fresh (added m h);
+    constraints = constraints_left m h ++ numbered fresh (added m h);
   };
   labels = map (λ x. label_left h (label_of m x)) (left m h);
 }

@@ -1,11 +1,10 @@
 // The constraints that are added in the rest.
 ghost use Rattle.std.specs.Prelude.{◌≡◌, ◌<◌, ◌≤◌, ◌+◌, ◌*◌, [], ◌∷◌, length, IfOk};
-ghost use Rattle.std.specs.List.{flat_map, range_with_len};
 ghost use Rattle.cstn_net.specs.Networks.{count};
 ghost use Rattle.cstn_lift.specs.Read.{the_labelled};
 ghost use Rattle.cstn_follow.specs.Rest.{bare, added};
 ghost use Rattle.cstn_follow.specs.Read.{the_history, IsKeptFor};
-ghost use Rattle.cstn_follow.specs.Handed.{AreNumbers, HasAdded, Adds, added_for};
+ghost use Rattle.cstn_follow.specs.Handed.{AreNumbers, HasAdded, Adds, added_for, added_for_all};
 
 use crate::histories::History;
 use crate::leaving::{is_left, moment_watched, sight_left};
@@ -56,7 +55,7 @@ fn add_kind(
     requires numbers { AreNumbers (the_labelled network.now) (the_history history.now) numbers.now }
     requires room { fresh ≤ 4294000000 }
     requires few { length added.old.items ≤ 4096 }
-    ensures added { IfOk result (λ _. Adds fresh added.old.items added.new.items (flat_map (added_for (the_labelled network.now) (the_history history.now) kind) (range_with_len 0 (count (the_labelled network.now).base)))) }
+    ensures added { IfOk result (λ _. Adds fresh added.old.items added.new.items (added_for_all (the_labelled network.now) (the_history history.now) kind)) }
     ensures few { IfOk result (λ _. length added.new.items ≤ length added.old.items + 2048) }
 {
     for x in 0..network.base().count() {
@@ -102,7 +101,8 @@ fn add_late(
     requires kept { IsKeptFor (the_labelled network.now) history.now }
     requires room { fresh ≤ 4294000000 }
     requires few { length added.old.items ≤ 10000 }
-    ensures added { IfOk result (λ _. Adds fresh added.old.items added.new.items (added_for (the_labelled network.now) (the_history history.now) Kind.Late x.0)) }
+    ensures added { IfOk result (λ _. Adds fresh added.old.items added.new.items
+        (added_for (the_labelled network.now) (the_history history.now) Kind.Late x.0)) }
     ensures few { IfOk result (λ _. length added.new.items ≤ length added.old.items + 2) }
 {
     let limit = network.base().limit(x);
@@ -131,7 +131,8 @@ fn add_watched(
     requires numbers { AreNumbers (the_labelled network.now) (the_history history.now) numbers.now }
     requires room { fresh ≤ 4294000000 }
     requires few { length added.old.items ≤ 10000 }
-    ensures added { IfOk result (λ _. Adds fresh added.old.items added.new.items (added_for (the_labelled network.now) (the_history history.now) Kind.Watched x.0)) }
+    ensures added { IfOk result (λ _. Adds fresh added.old.items added.new.items
+        (added_for (the_labelled network.now) (the_history history.now) Kind.Watched x.0)) }
     ensures few { IfOk result (λ _. length added.new.items ≤ length added.old.items + 2) }
 {
     if x.0 == 0 {
@@ -164,7 +165,8 @@ fn add_coming(
     requires numbers { AreNumbers (the_labelled network.now) (the_history history.now) numbers.now }
     requires room { fresh ≤ 4294000000 }
     requires few { length added.old.items ≤ 10000 }
-    ensures added { IfOk result (λ _. Adds fresh added.old.items added.new.items (added_for (the_labelled network.now) (the_history history.now) Kind.Coming x.0)) }
+    ensures added { IfOk result (λ _. Adds fresh added.old.items added.new.items
+        (added_for (the_labelled network.now) (the_history history.now) Kind.Coming x.0)) }
     ensures few { IfOk result (λ _. length added.new.items ≤ length added.old.items + 2) }
 {
     let now = history.now();

@@ -10,7 +10,6 @@ ghost use Rattle.cstn_net.specs.Handed.{IsHanded};
 ghost use Rattle.cstn_net.specs.Strategies.{Table};
 ghost use Rattle.cstn_lift.specs.Labelled.{Labelled};
 ghost use Rattle.cstn_lift.specs.Completion.{completed, completed_label, joined_upto, rounds};
-ghost use Rattle.cstn_lift.specs.Handed.{HasPoints};
 ghost use Rattle.cstn_lift.specs.Read.{LabelledParts, the_labelled};
 ghost use Rattle.cstn_lift.specs.WellFormed.{IsLabelled};
 ghost use Rattle.cstn_lift.specs.Strategies.{IsExecuted, IsLabelledConsistent, IsLabelledLeast};
@@ -18,35 +17,36 @@ ghost use Rattle.cstn_follow.specs.Histories.{History, IsHistory, IsInTime, IsTi
 ghost use Rattle.cstn_follow.specs.Continuations.{Continues, Can, IsLeastNow};
 ghost use Rattle.cstn_follow.specs.Rest.{is_left, number_of, rest};
 ghost use Rattle.cstn_follow.specs.Facts.{settles, now_refusal, done_refusal, told_refusal, expected_refusal, at_now, with_done, with_told, with_expected};
-ghost use Rattle.cstn_follow.specs.Handed.{bared};
+ghost use Rattle.cstn_follow.specs.Handed.{HasAllLeft, bared};
 
 /// The rest decides: a history can go on exactly where the labelled network of what is left is consistent. In each scenario that
 /// agrees with what was told, a time-point that isn't done and is executed has the same least moments from now on as it has in
 /// the rest.
 pub fn rest_decides()
     ensures can { (m : Labelled) (h : History) (fresh : ℕ) → IsLabelled m → IsHistory m h → (Can m h ↔ IsLabelledConsistent (rest m h fresh)) }
-    ensures least { (m : Labelled) (h : History) (fresh : ℕ) (s : Scenario) (x t : ℕ) → IsLabelled m → IsHistory m h → AgreesWith h s → x < count m.base → h.done x ≡ None
-        → IsExecuted m s x → (IsLeastNow m h s x t ↔ IsLabelledLeast (rest m h fresh) s (number_of m h x) t) }
+    ensures least { (m : Labelled) (h : History) (fresh : ℕ) (s : Scenario) (x t : ℕ) → IsLabelled m → IsHistory m h → AgreesWith h s
+        → x < count m.base → h.done x ≡ None → IsExecuted m s x → (IsLeastNow m h s x t ↔ IsLabelledLeast (rest m h fresh) s (number_of m h x) t) }
 {}
 
 /// Where it has at most 16,384 constraints, what is left is a labelled network, in which a time-point's completed label is that of
 /// the network as it was, without what was told. So what is executed in a scenario that agrees with what was told is executed there
 /// in the rest.
 pub fn rest_is_labelled()
-    ensures labelled { (m : Labelled) (h : History) (fresh : ℕ) → IsLabelled m → IsHistory m h → IsInTime m h → All (λ c. c.id < fresh) m.base.constraints
-        → length (rest m h fresh).base.constraints ≤ 16384 → IsLabelled (rest m h fresh) }
-    ensures completed { (m : Labelled) (h : History) (fresh x : ℕ) → IsLabelled m → IsHistory m h → x < count m.base → IsTrue (is_left m h x)
-        → completed_label (rest m h fresh) (number_of m h x) ≡ label_left h (completed_label m x) }
-    ensures executed { (m : Labelled) (h : History) (fresh x : ℕ) (s : Scenario) → IsLabelled m → IsHistory m h → x < count m.base → AgreesWith h s → IsTrue (is_left m h x)
-        → (IsExecuted m s x ↔ IsExecuted (rest m h fresh) s (number_of m h x)) }
-    ensures gone { (m : Labelled) (h : History) (x : ℕ) (s : Scenario) → IsLabelled m → IsHistory m h → AgreesWith h s → h.done x ≡ None → IsExecuted m s x → IsTrue (is_left m h x) }
+    ensures labelled { (m : Labelled) (h : History) (fresh : ℕ) → IsLabelled m → IsHistory m h → IsInTime m h
+        → All (λ c. c.id < fresh) m.base.constraints → length (rest m h fresh).base.constraints ≤ 16384 → IsLabelled (rest m h fresh) }
+    ensures completed { (m : Labelled) (h : History) (fresh x : ℕ) → IsLabelled m → IsHistory m h → x < count m.base
+        → IsTrue (is_left m h x) → completed_label (rest m h fresh) (number_of m h x) ≡ label_left h (completed_label m x) }
+    ensures executed { (m : Labelled) (h : History) (fresh x : ℕ) (s : Scenario) → IsLabelled m → IsHistory m h → x < count m.base
+        → AgreesWith h s → IsTrue (is_left m h x) → (IsExecuted m s x ↔ IsExecuted (rest m h fresh) s (number_of m h x)) }
+    ensures gone { (m : Labelled) (h : History) (x : ℕ) (s : Scenario) → IsLabelled m → IsHistory m h → AgreesWith h s
+        → h.done x ≡ None → IsExecuted m s x → IsTrue (is_left m h x) }
 {}
 
 /// Time and steps only narrow: with a later `now`, or with more done from `now` on, a table that continues the later history
 /// continues the earlier one. What is told only leaves cases out: a table that continues a history still does once more is told.
 pub fn histories_narrow()
-    ensures time_and_steps { (m : Labelled) (h later : History) (table : Table) → IsLabelled m → IsHistory m h → IsHistory m later → GoesOn h later
-        → Continues m later table → Continues m h table }
+    ensures time_and_steps { (m : Labelled) (h later : History) (table : Table) → IsLabelled m → IsHistory m h → IsHistory m later
+        → GoesOn h later → Continues m later table → Continues m h table }
     ensures told { (m : Labelled) (h later : History) (table : Table) → IsToldMore h later → Continues m h table → Continues m later table }
 {}
 
@@ -71,19 +71,19 @@ pub fn told_labels_are_decided()
 /// A fact that isn't refused makes the history one of the same network, with all numbers in range.
 pub fn facts_make_histories()
     ensures now { (m : Labelled) (h : History) (t : ℕ) → IsHistory m h → IsInTime m h → now_refusal h t ≡ None → IsTimelyHistory m (at_now h t) }
-    ensures done { (m : Labelled) (h : History) (t : ℕ) (x : NodeId) → IsLabelled m → IsHistory m h → IsInTime m h → done_refusal m h t x ≡ None
-        → IsTimelyHistory m (with_done h t x.0) }
-    ensures told { (m : Labelled) (h : History) (t : ℕ) (p : Prop) (v : Bool) → IsLabelled m → IsHistory m h → IsInTime m h → told_refusal m h t p ≡ None
-        → IsTimelyHistory m (with_told h t p.index v) }
-    ensures expected { (m : Labelled) (h : History) (t : ℕ) (p : Prop) → IsLabelled m → IsHistory m h → IsInTime m h → expected_refusal m h t p ≡ None
-        → IsTimelyHistory m (with_expected h t p.index) }
+    ensures done { (m : Labelled) (h : History) (t : ℕ) (x : NodeId) → IsLabelled m → IsHistory m h → IsInTime m h
+        → done_refusal m h t x ≡ None → IsTimelyHistory m (with_done h t x.0) }
+    ensures told { (m : Labelled) (h : History) (t : ℕ) (p : Prop) (v : Bool) → IsLabelled m → IsHistory m h → IsInTime m h
+        → told_refusal m h t p ≡ None → IsTimelyHistory m (with_told h t p.index v) }
+    ensures expected { (m : Labelled) (h : History) (t : ℕ) (p : Prop) → IsLabelled m → IsHistory m h → IsInTime m h
+        → expected_refusal m h t p ≡ None → IsTimelyHistory m (with_expected h t p.index) }
 {}
 
 /// A builder that has the time-points that are left, each with what it observes and its reaction, and no constraints yet was
 /// handed the rest without its constraints, which is a network.
 pub fn points_left_are_handed()
     ensures network { (m : Labelled) (h : History) → IsLabelled m → IsHistory m h → IsInTime m h → IsWellFormed (bared m h) }
-    ensures handed { (m : LabelledParts) (h : History) (b : BuilderParts) → IsLabelled (the_labelled m) → IsHistory (the_labelled m) h → IsInTime (the_labelled m) h
-        → HasPoints (bared (the_labelled m) h) (count (bared (the_labelled m) h)) b.points → b.deadline ≡ (the_labelled m).base.deadline → b.drafts ≡ []
+    ensures handed { (m : LabelledParts) (h : History) (b : BuilderParts) → IsLabelled (the_labelled m) → IsHistory (the_labelled m) h
+        → IsInTime (the_labelled m) h → HasAllLeft (the_labelled m) h b.points → b.deadline ≡ m.base.deadline → b.drafts ≡ []
         → IsHanded b (bared (the_labelled m) h) }
 {}

@@ -1,17 +1,16 @@
 // The labelled network of what is left.
 ghost use Rattle.std.specs.Prelude.{ℕ, ◌≡◌, ◌≢◌, ◌<◌, ◌≤◌, ◌+◌, ◌++◌, ◌∷◌, [], map, length, slice_index_or, if◌then◌else◌, IfOk, IfErr};
-ghost use Rattle.std.specs.List.{All, filter_map, cons_option};
+ghost use Rattle.std.specs.List.{All, cons_option};
 ghost use Rattle.cstn_label.specs.Read.{marks};
 ghost use Rattle.cstn_net.specs.Networks.{Observes, IsWellFormed, AreConstraintsFor, count};
 ghost use Rattle.cstn_net.specs.Read.{the_network, the_constraint};
 ghost use Rattle.cstn_net.specs.Drafts.{net_number};
 ghost use Rattle.cstn_lift.specs.Faults.{lift_number};
-ghost use Rattle.cstn_lift.specs.Handed.{HasPoints};
 ghost use Rattle.cstn_lift.specs.Read.{the_labelled};
 ghost use Rattle.cstn_lift.specs.WellFormed.{IsLabelled};
-ghost use Rattle.cstn_follow.specs.Rest.{left, constraint_left, reaction_after, rest};
+ghost use Rattle.cstn_follow.specs.Rest.{left, constraints_left, reaction_after, rest};
 ghost use Rattle.cstn_follow.specs.Read.{the_history, IsKeptFor};
-ghost use Rattle.cstn_follow.specs.Handed.{AreNumbers, HasAdded, bared, rest_number, IsBaseRefusal, IsRestRefusal, HasRoom};
+ghost use Rattle.cstn_follow.specs.Handed.{AreNumbers, HasLeft, HasAllLeft, bared, rest_number, IsBaseRefusal, IsRestRefusal, HasRoom};
 
 use crate::adding::added;
 use crate::errors::RestError;
@@ -66,7 +65,7 @@ fn kept(
 ) -> Result<Vec<Constraint>, AllocError>
     requires kept { IsKeptFor (the_labelled network.now) history.now }
     requires numbers { AreNumbers (the_labelled network.now) (the_history history.now) numbers.now }
-    ensures kept { IfOk result (λ v. map the_constraint v.items ≡ filter_map (constraint_left (the_labelled network.now) (the_history history.now)) (the_labelled network.now).base.constraints) }
+    ensures kept { IfOk result (λ v. map the_constraint v.items ≡ constraints_left (the_labelled network.now) (the_history history.now)) }
     ensures few { IfOk result (λ v. length v.items ≤ 16384) }
 {
     let mut kept = Vec::new(alloc);
@@ -149,7 +148,7 @@ fn add_points(
     requires kept { IsKeptFor (the_labelled network.now) history.now }
     requires points { map (λ x. x.0) points.now ≡ left (the_labelled network.now) (the_history history.now) }
     requires none { builder.old.points ≡ [] }
-    ensures points { IfOk result (λ _. HasPoints (bared (the_labelled network.now) (the_history history.now)) (count (bared (the_labelled network.now) (the_history history.now))) builder.new.points) }
+    ensures points { IfOk result (λ _. HasAllLeft (the_labelled network.now) (the_history history.now) builder.new.points) }
     ensures same { (builder.new.deadline ≡ builder.old.deadline) × (builder.new.drafts ≡ builder.old.drafts) }
 {
     for x in points {
@@ -169,8 +168,8 @@ fn add_point(
     requires kept { IsKeptFor (the_labelled network.now) history.now }
     requires place { length builder.old.points < count (bared (the_labelled network.now) (the_history history.now)) }
     requires next { x.0 ≡ slice_index_or (left (the_labelled network.now) (the_history history.now)) (length builder.old.points) 0 }
-    requires before { HasPoints (bared (the_labelled network.now) (the_history history.now)) (length builder.old.points) builder.old.points }
-    ensures added { IfOk result (λ _. HasPoints (bared (the_labelled network.now) (the_history history.now)) (length builder.old.points + 1) builder.new.points) }
+    requires before { HasLeft (the_labelled network.now) (the_history history.now) (length builder.old.points) builder.old.points }
+    ensures added { IfOk result (λ _. HasLeft (the_labelled network.now) (the_history history.now) (length builder.old.points + 1) builder.new.points) }
     ensures longer { IfOk result (λ _. length builder.new.points ≡ length builder.old.points + 1) }
     ensures same { (builder.new.deadline ≡ builder.old.deadline) × (builder.new.drafts ≡ builder.old.drafts) }
 {

@@ -27,7 +27,7 @@ returns-then-is_within c =
     let next = c.with_observers-next.ensures.joined in
     let below = c.is_within.ensures.within.0 c.if-is_within.true in
     let fixed : joined_upto m (count m.base) whole ≡ whole = c.within_is_an_order.ensures.antisymmetric (joined_upto m (count m.base) whole) whole
-        (subst (λ l. IsWithin l whole) next below) (round_begins m whole) in
+    (subst (λ l. IsWithin l whole) next below) (round_begins m whole) in
     record { completed = so_far ∙ rounds_are_over m c.loop-round._round a (sym (ap (joined_upto m (count m.base)) so_far) ∙ fixed ∙ so_far) }
 
 pub returns : goal.returns
