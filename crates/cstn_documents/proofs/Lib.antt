@@ -1,3 +1,3 @@
 pub mod Contents
-pub mod Texts
+pub mod Joining
 pub mod Opening

@@ -1,11 +1,11 @@
 -- What is said of a document that was opened.
 use Rattle.std.proofs.Common.{◌≡◌, ◌≢◌, ℕ, zero, suc, ◌+◌, ◌^◌, get_or, ◌≤◌, ◌<◌, List, [], ◌∷◌, length, refl, ap, sym, ◌∙◌, subst, inl, inr, arith}
-use Rattle.std.specs.Prelude.{nat_lt, if◌then◌else◌, Option, Result, Ok, Err, IfOk, codes}
-use Rattle.cstn_io.specs.Contents.{IsLongFile}
+use Rattle.std.specs.Prelude.{nat_lt, if◌then◌else◌, Option, Result, Ok, Err, IfOk, IsErrAnd, codes}
+use Rattle.cstn_io.specs.Contents.{IsFile as IsRead, IsLongFile}
 use Rattle.std.specs.List.{All}
 use Rattle.std.proofs.lemmas.List.{length-map, get_or-map}
 use Rattle.cstn_net.specs.declared.constraints.Constraint.{Constraint as LentConstraint}
-use Rattle.cstn_net.specs.Networks.{Network, Constraint, count}
+use Rattle.cstn_net.specs.Networks.{Network, Constraint, IsWellFormed, count}
 use Rattle.cstn_net.specs.Read.{NetworkParts, the_network, the_constraint}
 use Rattle.cstn_element.specs.declared.errors.DocError.{DocError}
 use Rattle.cstn_element.specs.declared.errors.DocError.TheVariants.{NotUtf8, Shape, NameTwice, UnknownNode, Value, LabelText, Contingent, EdgeType, NoDeadline, Net, Lift, Memory}
@@ -27,18 +27,16 @@ use Rattle.std.proofs.Math.Path.{fun_ext}
 use Rattle.cstn_net.specs.declared.errors.NetError.{NetError}
 use Rattle.cstn_documents.specs.Files.{IsContent, AreThere}
 use Rattle.cstn_documents.specs.Refusals.{refusal_text, fault_text, label_fault_text}
-use Rattle.cstn_words.specs.Requests.{Asked}
 use Rattle.cstn_reply.specs.Texts.{Said, say}
 use Rattle.cstn_documents.specs.Documents.{AreEmpty, IsRefusalOf, IsLabelsTold}
-use Rattle.cstn_documents.specs.Opened.{IsToldBy, IsPlainDocument, OpensAs, OpensWithLabels, IsOpened, IsOpenedWithLabels, IsTooLong, IsTakenOf, TellsLabels}
+use Rattle.cstn_words.specs.Requests.{Asked}
+use Rattle.cstn_documents.specs.declared.reading.NamedNetwork.{NamedNetwork}
+use Rattle.cstn_documents.specs.declared.reading.NamedLabelled.{NamedLabelled}
+use Rattle.cstn_documents.specs.Opened.{IsToldBy, IsFile, IsAsked, IsLabelledOf, IsPlainDocument, IsPlainOf, IsRefusal, IsPlainRefusal, IsTakenOf, TellsLabels, IsLongText}
 use Rattle.cstn_reply.specs.Read.{the_said}
 use Rattle.cstn_reply.specs.declared.output.Said.{Said as SaidText}
-use Rattle.cstn_reply.specs.declared.output.Outcome.TheVariants.{Document}
-use Rattle.cstn_documents.specs.declared.documents.Opened.{Opened}
-use Rattle.cstn_documents.specs.declared.documents.Opened.TheVariants.{Accepted, Told}
-use Rattle.cstn_documents.specs.declared.documents.WithLabels.{WithLabels}
-use Rattle.cstn_documents.specs.declared.documents.WithLabels.TheVariants.{Accepted as LabelledOne, Told as RefusedOne}
-use Rattle.cstn_documents.proofs.Contents.{long_content, long_is_there}
+use Rattle.cstn_reply.specs.declared.output.Outcome.TheVariants.{Document, Script}
+use Rattle.cstn_documents.proofs.Contents.{long_content, long_is_there, is_content, is_there}
 
 -- a refusal by the grammar
 refused_said : (told : Result Parts Refusal) (refusal : Refusal) (said : Said) → told ≡ Err refusal → said ≡ say Document (refusal_text refusal) → IsRefusalOf told said
@@ -85,22 +83,28 @@ told_by (Lift error names) said same = ap (λ (s : Said). s.outcome) same
 told_by (Memory e) said same = absurd same
 
 -- a document that is refused
-pub refused_opens : (bytes : List ℕ) (deadline : Option ℕ) (error : DocError) (said : SaidText) → length bytes ≤ 8388608 → RefusesDocument (document bytes deadline) error → IsToldBy error (the_said said) → OpensWithLabels bytes deadline (RefusedOne said)
-refused_opens bytes deadline error said short is same =
-    (inr (short, error_said (document bytes deadline) error (the_said said) is same), told_by error (the_said said) same)
+pub refused_is : (bytes : List ℕ) (deadline : Option ℕ) (error : DocError) (said : SaidText) → length bytes ≤ 8388608 → RefusesDocument (document bytes deadline) error → IsToldBy error (the_said said) → IsRefusal bytes deadline said
+refused_is bytes deadline error said short is same = (inr (short, error_said (document bytes deadline) error (the_said said) is same), told_by error (the_said said) same)
 
--- a file that is too long
-pub long_opened : {E : Type 0} (told : Option (List ℕ → Option (List ℕ))) (asked : Asked) (r : Result WithLabels E) → IsLongFile told asked.file 8388608 → IfOk r IsTooLong → IfOk r (IsOpenedWithLabels told asked)
-long_opened told asked (Err e) long is = tt
-long_opened told asked (Ok (LabelledOne labelled names)) long is = absurd is
-long_opened told asked (Ok (RefusedOne said)) long is =
-    let found = long_content told asked.file 8388608 long in
-    record {
-      bytes = found.0;
-      content = found.1;
-      there = long_is_there told asked.file 8388608 long;
-      opens = (inl (found.2, is), ap (λ (s : Said). s.outcome) is);
-    }
+-- a file that is too long for a document
+pub long_document : (told : Option (List ℕ → Option (List ℕ))) (name : List ℕ) (deadline : Option ℕ) (said : SaidText) → IsLongFile told name 8388608 → the_said said ≡ say Document (codes "document long") → IsFile told name (λ bytes. IsRefusal bytes deadline said)
+long_document told name deadline said long is =
+    let found = long_content told name 8388608 long in
+    record { bytes = found.0; content = found.1; there = long_is_there told name 8388608 long; is = (inl (found.2, is), ap (λ (s : Said). s.outcome) is) }
+
+-- a file that is too long for a text
+pub long_text : (told : Option (List ℕ → Option (List ℕ))) (name : List ℕ) (said : SaidText) → IsLongFile told name 1476395008 → the_said said ≡ say Script (codes "script long") → IsFile told name (IsLongText said)
+long_text told name said long is =
+    let found = long_content told name 1476395008 long in
+    record { bytes = found.0; content = found.1; there = long_is_there told name 1476395008 long; is = (found.2, is) }
+
+-- a file that was read
+pub whole_file : (told : Option (List ℕ → Option (List ℕ))) (name bytes : List ℕ) (holds : List ℕ → Type 0) → IsRead told name bytes → holds bytes → IsFile told name holds
+whole_file told name bytes holds read is = record { bytes = bytes; content = is_content told name bytes read; there = is_there told name bytes read; is = is }
+
+-- what follows of the bytes of a file
+pub file_as : (told : Option (List ℕ → Option (List ℕ))) (name : List ℕ) (one other : List ℕ → Type 0) → IsFile told name one → ((bytes : List ℕ) → one bytes → other bytes) → IsFile told name other
+file_as told name one other file follows = record { bytes = file.bytes; content = file.content; there = file.there; is = follows file.bytes file.is }
 
 -- the ids of a document's constraints are their places
 numbered_id : (k : ℕ) (cs : List DrawnConstraint) (i : ℕ) (d : Constraint) → i < length (numbered_drawn k cs) → (get_or (numbered_drawn k cs) i d).id ≡ k + i
@@ -118,32 +122,43 @@ plain_network parts good empties =
 labels_said : (told : Result Parts Refusal) (parts : Parts) (said : Said) → told ≡ Ok parts → IsFit parts → (AreEmpty parts.labels → ⊥) → said ≡ say Document (codes "document labels") → IsLabelsTold told said
 labels_said told parts said is fit labelled same = subst (λ (r : Result Parts Refusal). IsLabelsTold r said) (sym is) (fit, labelled, same)
 
--- a document whose labelled network was read
-plain_opens : (bytes : List ℕ) (deadline : Option ℕ) (l : LabelledParts) (names : List (List ℕ)) (opened : Opened) → OpensWithLabels bytes deadline (LabelledOne l names) → IsTakenOf l names opened → OpensAs bytes deadline opened
-plain_opens bytes deadline l names (Accepted net others) opens taken =
-    let is = opens.1 in
-    let empties : AreEmpty is.parts.labels = subst (λ (m : Labelled). AreEmpty m.labels) is.labelled_is taken.0 in
-    let parts_are : IsPlainDocument (document bytes deadline) net others = record {
+-- the ids of a document's constraints are small
+document_ids : (told : Result Parts Refusal) (net : NetworkParts) (names : List (List ℕ)) → IsPlainDocument told net names → IsWellFormed (the_network net) → All (λ (c : LentConstraint). c.id < 2 ^ 31) net.constraints
+document_ids told net names is good = λ i d inside.
+    let few : length (the_network net).constraints ≤ 16384 = good.few_constraints in
+    let long : length (the_network net).constraints ≡ length net.constraints = length-map net.constraints the_constraint in
+    let all : (the_network net).constraints ≡ numbered_drawn 0 is.parts.constraints = ap (λ (n : Network). n.constraints) is.network_is in
+    let place = numbered_id 0 is.parts.constraints i (the_constraint d) (omega (arith, inside, long, ap length all)) in
+    let there = ap (λ (cs : List Constraint). (get_or cs i (the_constraint d)).id) all in
+    let same = ap (λ (c : Constraint). c.id) (get_or-map the_constraint net.constraints i d (the_constraint d) inside) in
+    omega (arith, inside, few, long, place, there, same)
+
+-- a document whose labelled network was taken as a plain one
+pub plain_opens : (bytes : List ℕ) (deadline : Option ℕ) (l : NamedLabelled) (d : NamedNetwork) → IsLabelledOf bytes deadline l → IsTakenOf l.labelled l.names d → IsPlainOf bytes deadline d
+plain_opens bytes deadline l d opens taken =
+    let is = opens.is in
+    let empties : AreEmpty is.parts.labels = subst (λ (m : Labelled). AreEmpty m.labels) is.labelled_is taken.empties in
+    let parts_are : IsPlainDocument (document bytes deadline) d.network d.names = record {
       parts = is.parts;
       told_are = is.told_are;
       unlabelled = (is.fit, empties);
-      network_is = taken.2 ∙ ap lowered is.labelled_is ∙ plain_network is.parts (subst IsLabelled is.labelled_is taken.1) empties;
-      names_are = taken.4 ∙ is.names_are;
+      network_is = taken.network ∙ ap lowered is.labelled_is ∙ plain_network is.parts (subst IsLabelled is.labelled_is taken.labelled) empties;
+      names_are = taken.same ∙ is.names_are;
     } in
-    (opens.0, parts_are, taken.3)
-plain_opens bytes deadline l names (Told said) opens taken =
-    let is = opens.1 in (
-      inr (opens.0, labels_said (document bytes deadline) is.parts (the_said said) is.told_are is.fit (λ empties. taken.0 (subst (λ (m : Labelled). AreEmpty m.labels) (sym is.labelled_is) empties)) taken.1),
+    record { short = opens.short; is = parts_are; well_formed = taken.well_formed; ids = document_ids (document bytes deadline) d.network d.names parts_are taken.well_formed; names = taken.named }
+
+-- a document that has labels where none are taken
+pub plain_refused : (bytes : List ℕ) (deadline : Option ℕ) (l : NamedLabelled) (said : SaidText) → IsLabelledOf bytes deadline l → TellsLabels l.labelled said → IsPlainRefusal bytes deadline said
+plain_refused bytes deadline l said opens taken =
+    let is = opens.is in (
+      inr (opens.short, labels_said (document bytes deadline) is.parts (the_said said) is.told_are is.fit (λ empties. taken.0 (subst (λ (m : Labelled). AreEmpty m.labels) (sym is.labelled_is) empties)) taken.1),
       ap (λ (s : Said). s.outcome) taken.1,
     )
 
-pub plainly_opened : {E : Type 0} (told : Option (List ℕ → Option (List ℕ))) (asked : Asked) (l : LabelledParts) (names : List (List ℕ)) (r : Result Opened E) → IsOpenedWithLabels told asked (LabelledOne l names) → IfOk r (IsTakenOf l names) → IfOk r (IsOpened told asked)
-plainly_opened told asked l names (Err e) is taken = tt
-plainly_opened told asked l names (Ok opened) is taken = record { bytes = is.bytes; content = is.content; there = is.there; opens = plain_opens is.bytes asked.deadline l names opened is.opens taken }
-
--- a document that was refused, whether labels are taken or not
-pub plainly_refused : (told : Option (List ℕ → Option (List ℕ))) (asked : Asked) (said : SaidText) → IsOpenedWithLabels told asked (RefusedOne said) → IsOpened told asked (Told said)
-plainly_refused told asked said is = record { bytes = is.bytes; content = is.content; there = is.there; opens = (inl is.opens.0, is.opens.1) }
+-- a document that was taken as a plain one
+pub plainly_asked : {E : Type 0} (told : Option (List ℕ → Option (List ℕ))) (asked : Asked) (l : NamedLabelled) (r : Result NamedNetwork E) → IsAsked told asked (λ bytes deadline. IsLabelledOf bytes deadline l) → IfOk r (IsTakenOf l.labelled l.names) → IfOk r (λ d. IsAsked told asked (λ bytes deadline. IsPlainOf bytes deadline d))
+plainly_asked told asked l (Err e) opened taken = tt
+plainly_asked told asked l (Ok d) opened taken = file_as told asked.file (λ bytes. IsLabelledOf bytes asked.deadline l) (λ bytes. IsPlainOf bytes asked.deadline d) opened (λ bytes is. plain_opens bytes asked.deadline l d is taken)
 
 -- a label that can't differ from the empty one is empty
 empty_unless : (a : Label) → (a ≢ empty → ⊥) → a ≡ empty
@@ -156,19 +171,11 @@ empty_unless a never = fun_ext (λ p. elim (absent_or_not (a p)) [
 pub empties_from : (l : LabelledParts) → IsLabelled (the_labelled l) → ((x : ℕ) → x < count (the_network l.base) → label_in (the_labelled l).labels x ≢ empty → ⊥) → AreEmpty (the_labelled l).labels
 empties_from l good none = λ x inside. empty_unless (label_in (the_labelled l).labels x) (none x (omega (arith, inside, good.one_each)))
 
--- where a label differs from the empty one, not all labels are empty, and it is told that the document has labels
-pub labels_told : {E : Type 0} (l : LabelledParts) (names : List (List ℕ)) (r : Result Opened E) → IsLabelled (the_labelled l) → (x : ℕ) → x < count (the_network l.base) → label_in (the_labelled l).labels x ≢ empty → IfOk r TellsLabels → IfOk r (IsTakenOf l names)
-labels_told l names (Err e) good x inside there told = tt
-labels_told l names (Ok (Accepted net others)) good x inside there told = absurd told
-labels_told l names (Ok (Told said)) good x inside there told = (λ empties. there (empties x (omega (arith, inside, good.one_each))), told)
+-- where a label differs from the empty one, not all labels are empty
+pub some_label : (l : LabelledParts) → IsLabelled (the_labelled l) → (x : ℕ) → x < count (the_network l.base) → label_in (the_labelled l).labels x ≢ empty → AreEmpty (the_labelled l).labels → ⊥
+some_label l good x inside there empties = there (empties x (omega (arith, inside, good.one_each)))
 
-pub document_ids : (told : Option (List ℕ → Option (List ℕ))) (asked : Asked) (net : NetworkParts) (names : List (List ℕ)) → IsOpened told asked (Accepted net names) → All (λ (c : LentConstraint). c.id < 2 ^ 31) net.constraints
-document_ids told asked net names opened = λ i d inside.
-    let is = opened.opens.1 in
-    let few : length (the_network net).constraints ≤ 16384 = opened.opens.2.few_constraints in
-    let long : length (the_network net).constraints ≡ length net.constraints = length-map net.constraints the_constraint in
-    let all : (the_network net).constraints ≡ numbered_drawn 0 is.parts.constraints = ap (λ (n : Network). n.constraints) is.network_is in
-    let place = numbered_id 0 is.parts.constraints i (the_constraint d) (omega (arith, inside, long, ap length all)) in
-    let there = ap (λ (cs : List Constraint). (get_or cs i (the_constraint d)).id) all in
-    let same = ap (λ (c : Constraint). c.id) (get_or-map the_constraint net.constraints i d (the_constraint d) inside) in
-    omega (arith, inside, few, long, place, there, same)
+-- the error that is handed on is the one that came
+pub handed_on : {T E : Type 0} (r : Result T E) (e other : E) → IsErrAnd r (λ x. x ≡ e) → r ≡ Err other → e ≡ other
+handed_on (Ok x) e other told is = absurd told
+handed_on (Err x) e other told is = sym told ∙ (cc)

@@ -1,6 +1,7 @@
--- A document that was opened.
-use Rattle.std.specs.Prelude.{◌≡◌, ℕ, ◌≤◌, [], ◌∷◌, List, length, Option, Result, Ok, codes}
-use Rattle.cstn_net.specs.Networks.{IsWellFormed, count}
+-- Documents and texts that were read.
+use Rattle.std.specs.Prelude.{◌≡◌, ℕ, ◌≤◌, ◌<◌, ◌^◌, [], ◌∷◌, List, length, Option, Result, Ok, codes}
+use Rattle.std.specs.List.{All}
+use Rattle.cstn_net.specs.Networks.{Network, IsWellFormed, count}
 use Rattle.cstn_net.specs.Read.{NetworkParts, the_network}
 use Rattle.cstn_element.specs.declared.errors.DocError.{DocError}
 use Rattle.cstn_element.specs.declared.errors.DocError.TheVariants.{NotUtf8, Shape, NameTwice, UnknownNode, Value, LabelText, Contingent, EdgeType, NoDeadline, Net, Lift, Memory}
@@ -13,14 +14,13 @@ use Rattle.cstn_lift.specs.WellFormed.{IsLabelled}
 use Rattle.cstn_lift.specs.Lowered.{lowered}
 use Rattle.cstn_lift.specs.Read.{LabelledParts, the_labelled}
 use Rattle.cstn_graphml.specs.DrawnGraph.{origin_name}
-use Rattle.cstn_reply.specs.declared.output.Outcome.TheVariants.{Document}
-use Rattle.cstn_documents.specs.declared.documents.Opened.{Opened}
-use Rattle.cstn_documents.specs.declared.documents.Opened.TheVariants.{Accepted, Told}
-use Rattle.cstn_documents.specs.declared.documents.WithLabels.{WithLabels}
-use Rattle.cstn_documents.specs.declared.documents.WithLabels.TheVariants.{Accepted as Labelled, Told as Refused}
+use Rattle.cstn_reply.specs.declared.output.Outcome.TheVariants.{Document, Script}
+use Rattle.cstn_documents.specs.declared.reading.NamedNetwork.{NamedNetwork}
+use Rattle.cstn_documents.specs.declared.reading.NamedLabelled.{NamedLabelled}
+use Rattle.cstn_reply.specs.declared.output.Said.{Said as SaidText}
+use Rattle.cstn_words.specs.Requests.{Asked}
 use Rattle.cstn_documents.specs.Files.{IsContent, AreThere}
 use Rattle.cstn_documents.specs.Refusals.{refusal_text, fault_text, label_fault_text}
-use Rattle.cstn_words.specs.Requests.{Asked}
 use Rattle.cstn_reply.specs.Texts.{Said, say}
 use Rattle.cstn_documents.specs.Documents.{AreEmpty, AreUnlabelled, IsSaidOf, IsSaidPlainly}
 use Rattle.cstn_reply.specs.Read.{the_said}
@@ -40,6 +40,37 @@ IsToldBy (Net error names) said = said ≡ say Document (fault_text names error)
 IsToldBy (Lift error names) said = said ≡ say Document (label_fault_text names error)
 IsToldBy (Memory e) said = ⊥
 
+-- the named file is there, and has bytes of which this holds
+pub record IsFile (told : Option (List ℕ → Option (List ℕ))) (name : List ℕ) (holds : List ℕ → Type 0) : Type 0 where
+  pub bytes : List ℕ
+  pub content : IsContent told name bytes
+  pub there : AreThere told (name ∷ [])
+  pub is : holds bytes
+
+-- the file that is asked for is there, and has bytes of which this holds with the deadline that is asked for
+abbrev pub IsAsked : Option (List ℕ → Option (List ℕ)) → Asked → (List ℕ → Option ℕ → Type 0) → Type 0
+IsAsked told asked holds = IsFile told asked.file (λ bytes. holds bytes asked.deadline)
+
+-- the names are those of the time-points of a network, and the first is the name of the origin
+pub record AreNamesOf (names : List (List ℕ)) (net : Network) : Type 0 where
+  pub named : length names ≡ count net
+  pub origin : (later : List (List ℕ)) × (names ≡ origin_name ∷ later)
+
+-- the bytes are a document of this labelled network, under these names
+pub record IsLabelledOf (bytes : List ℕ) (deadline : Option ℕ) (d : NamedLabelled) : Type 0 where
+  pub short : length bytes ≤ 8388608
+  pub is : IsDocument (document bytes deadline) (the_labelled d.labelled) d.names
+  pub names : AreNamesOf d.names (the_network d.labelled.base)
+
+-- the bytes are a document of a labelled network under these names, and this is the network that it is lowered to
+pub record IsLoweredOf (bytes : List ℕ) (deadline : Option ℕ) (d : NamedNetwork) : Type 0 where
+  pub labelled : LabelledParts
+  pub short : length bytes ≤ 8388608
+  pub is : IsDocument (document bytes deadline) (the_labelled labelled) d.names
+  pub network : the_network d.network ≡ lowered (the_labelled labelled)
+  pub well_formed : IsWellFormed (the_network d.network)
+  pub names : AreNamesOf d.names (the_network d.network)
+
 -- the document has these parts, without labels: this is their network, and these are the names of its time-points
 pub record IsPlainDocument (told : Result Parts Refusal) (network : NetworkParts) (names : List (List ℕ)) : Type 0 where
   pub parts : Parts
@@ -48,51 +79,38 @@ pub record IsPlainDocument (told : Result Parts Refusal) (network : NetworkParts
   pub network_is : the_network network ≡ network_of parts
   pub names_are : names ≡ parts.names
 
--- the network of a labelled one was taken, since no time-point has a label, or it is told that one has
-abbrev pub IsTakenOf : LabelledParts → List (List ℕ) → Opened → Type 0
-IsTakenOf l names (Accepted network others) =
-    AreEmpty (the_labelled l).labels × IsLabelled (the_labelled l) × (the_network network ≡ lowered (the_labelled l)) × IsWellFormed (the_network network) × (others ≡ names)
-IsTakenOf l names (Told said) = (AreEmpty (the_labelled l).labels → ⊥) × (the_said said ≡ say Document (codes "document labels"))
+-- the bytes are a document of this network, no time-point of which has a label, under these names
+pub record IsPlainOf (bytes : List ℕ) (deadline : Option ℕ) (d : NamedNetwork) : Type 0 where
+  pub short : length bytes ≤ 8388608
+  pub is : IsPlainDocument (document bytes deadline) d.network d.names
+  pub well_formed : IsWellFormed (the_network d.network)
+  pub ids : All (λ c. c.id < 2 ^ 31) d.network.constraints
+  pub names : AreNamesOf d.names (the_network d.network)
 
--- it is told that the document has labels
-abbrev pub TellsLabels : Opened → Type 0
-TellsLabels (Accepted network names) = ⊥
-TellsLabels (Told said) = the_said said ≡ say Document (codes "document labels")
+-- this is said of the file with these bytes, which is refused, where labels are taken and where they aren't
+abbrev pub IsRefusal : List ℕ → Option ℕ → SaidText → Type 0
+IsRefusal bytes deadline said = IsSaidOf bytes deadline (the_said said) × (said.outcome ≡ Document)
 
--- the document of these bytes was accepted, or this is said of it
-abbrev pub OpensWithLabels : List ℕ → Option ℕ → WithLabels → Type 0
-OpensWithLabels bytes deadline (Labelled labelled names) = (length bytes ≤ 8388608) × IsDocument (document bytes deadline) (the_labelled labelled) names
-OpensWithLabels bytes deadline (Refused said) = IsSaidOf bytes deadline (the_said said) × (said.outcome ≡ Document)
+abbrev pub IsPlainRefusal : List ℕ → Option ℕ → SaidText → Type 0
+IsPlainRefusal bytes deadline said = IsSaidPlainly bytes deadline (the_said said) × (said.outcome ≡ Document)
 
--- the document of these bytes was accepted, without labels, or this is said of it
-abbrev pub OpensAs : List ℕ → Option ℕ → Opened → Type 0
-OpensAs bytes deadline (Accepted network names) =
-    (length bytes ≤ 8388608) × IsPlainDocument (document bytes deadline) network names × IsWellFormed (the_network network)
-OpensAs bytes deadline (Told said) = IsSaidPlainly bytes deadline (the_said said) × (said.outcome ≡ Document)
+-- the network of a labelled one was taken, since no time-point has a label
+pub record IsTakenOf (l : LabelledParts) (names : List (List ℕ)) (d : NamedNetwork) : Type 0 where
+  pub empties : AreEmpty (the_labelled l).labels
+  pub labelled : IsLabelled (the_labelled l)
+  pub network : the_network d.network ≡ lowered (the_labelled l)
+  pub well_formed : IsWellFormed (the_network d.network)
+  pub same : d.names ≡ names
+  pub named : AreNamesOf d.names (the_network d.network)
 
--- an accepted document has a name for each time-point, and the first is the name of the origin
-abbrev pub HasNames : Opened → Type 0
-HasNames (Accepted network names) = (length names ≡ count (the_network network)) × ((later : List (List ℕ)) × (names ≡ origin_name ∷ later))
-HasNames (Told said) = Unit {0}
+-- it is told that a time-point has a label
+abbrev pub TellsLabels : LabelledParts → SaidText → Type 0
+TellsLabels l said = (AreEmpty (the_labelled l).labels → ⊥) × (the_said said ≡ say Document (codes "document labels"))
 
-abbrev pub IsNamedLabelled : WithLabels → Type 0
-IsNamedLabelled (Labelled labelled names) = (length names ≡ count (the_network labelled.base)) × ((later : List (List ℕ)) × (names ≡ origin_name ∷ later))
-IsNamedLabelled (Refused said) = Unit {0}
+-- the bytes are this text, which isn't too long
+abbrev pub IsTextOf : List ℕ → List ℕ → Type 0
+IsTextOf text bytes = (bytes ≡ text) × (length bytes ≤ 1476395008)
 
--- it is told that the file is too long
-abbrev pub IsTooLong : WithLabels → Type 0
-IsTooLong (Labelled labelled names) = ⊥
-IsTooLong (Refused said) = the_said said ≡ say Document (codes "document long")
-
--- the document of a file was opened
-pub record IsOpenedWithLabels (told : Option (List ℕ → Option (List ℕ))) (asked : Asked) (opened : WithLabels) : Type 0 where
-  pub bytes : List ℕ
-  pub content : IsContent told asked.file bytes
-  pub there : AreThere told (asked.file ∷ [])
-  pub opens : OpensWithLabels bytes asked.deadline opened
-
-pub record IsOpened (told : Option (List ℕ → Option (List ℕ))) (asked : Asked) (opened : Opened) : Type 0 where
-  pub bytes : List ℕ
-  pub content : IsContent told asked.file bytes
-  pub there : AreThere told (asked.file ∷ [])
-  pub opens : OpensAs bytes asked.deadline opened
+-- the bytes are a text that is too long, and that is said
+abbrev pub IsLongText : SaidText → List ℕ → Type 0
+IsLongText said bytes = (1476395008 < length bytes) × (the_said said ≡ say Script (codes "script long"))

@@ -100,7 +100,7 @@ fn unobserved(alloc: Global, prop: Prop) -> Result<Vec<u8>, AllocError>
     Ok(text)
 }
 
-#[tactic(auto, using(crate::proofs::Texts::between))]
+#[tactic(auto, using(crate::proofs::Joining::between))]
 fn twins(alloc: Global, prop: Prop, first: &str, second: &str) -> Result<Vec<u8>, AllocError>
     ensures line { IfOk result (λ text. text.items ≡ line (codes "document X10 N7 " ++ letter_of prop.index ∷ 32 ∷ printed_name first.now ++ 32 ∷ printed_name second.now)) }
 {
@@ -143,7 +143,7 @@ fn label_fault_line(alloc: Global, error: LiftError, names: &Names) -> Result<Ve
     }
 }
 
-#[tactic(auto, using(crate::proofs::Texts::between))]
+#[tactic(auto, using(crate::proofs::Joining::between))]
 fn unseen(alloc: Global, name: &str, prop: Prop) -> Result<Vec<u8>, AllocError>
     ensures line { IfOk result (λ text. text.items ≡ line (codes "document X12 L3 " ++ printed_name name.now ++ 32 ∷ letter_of prop.index ∷ [])) }
 {

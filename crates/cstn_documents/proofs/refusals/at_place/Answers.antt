@@ -1,7 +1,7 @@
 use Rattle.std.proofs.Common.{ℕ, List, ap, ◌∙◌, Vec, Global, codes, decimal}
 use Rattle.cstn_reply.specs.Texts.{Said}
 use Rattle.cstn_reply.specs.declared.output.Outcome.TheVariants.{Document}
-use Rattle.cstn_documents.proofs.Texts.{line_of_four}
+use Rattle.cstn_documents.proofs.Joining.{line_of_four}
 use Rattle.cstn_documents.proofs.refusals.at_place.Goals as goal
 
 abbrev said_text : List ℕ → Said

@@ -1,5 +1,5 @@
 use Rattle.std.proofs.Common.{ℕ, ap, ◌∙◌, Vec, Global, codes, decimal}
-use Rattle.cstn_documents.proofs.Texts.{line_of_four}
+use Rattle.cstn_documents.proofs.Joining.{line_of_four}
 use Rattle.cstn_documents.proofs.refusals.with_number.Goals as goal
 
 pub returns : goal.returns
