@@ -27,11 +27,13 @@ use Rattle.cstn_host.specs.Sessions.{File, HostSession, begun as begun_session, 
 use Rattle.cstn_host.specs.Files.{Named, the_file, yes_lines}
 use Rattle.cstn_top.specs.Hosting.{on_verdicts, attended}
 use Rattle.cstn_host.specs.SessionRead.{the_planned, the_files, the_names, the_host_session, IsHostSession}
-use Rattle.cstn_top.specs.Begun.{HasBegun, the_named, the_hosting, IsBegin, IsOpening, IsSound}
-use Rattle.cstn_top.specs.declared.commands.hosting.reading.Document.{Document}
-use Rattle.cstn_top.specs.declared.commands.hosting.starting.Hosting.{Hosting}
-use Rattle.cstn_top.specs.declared.commands.hosting.starting.Hosting.TheVariants.{Begins, Told as ToldAll}
-use Rattle.cstn_top.specs.declared.commands.hosting.starting.Begun.{Begun}
+use Rattle.cstn_top.specs.Begun.{HasBegun, the_named, IsBegin, IsSound}
+use Rattle.cstn_documents.specs.declared.reading.NamedNetwork.{NamedNetwork}
+use Rattle.cstn_top.specs.declared.commands.Prepared.{Prepared}
+use Rattle.cstn_top.specs.declared.commands.Prepared.TheVariants.{Says, Runs, Edits, Hosts}
+use Rattle.cstn_top.specs.declared.commands.host.Begun.{Begun}
+use Rattle.cstn_top.specs.Prepared.{the_plan}
+use Rattle.cstn_top.specs.Questions.{FitsKind, a_host}
 use Rattle.cstn_host.proofs.PutLines.{nothing_after}
 
 files_more : (plans : List PlanParts) (names : List (List (List ℕ))) (plan : PlanParts) (texts : List (List ℕ)) → length names ≡ length plans → the_files (plans ++ plan ∷ []) (names ++ texts ∷ []) ≡ the_files plans names ++ the_planned plan texts ∷ []
@@ -116,15 +118,15 @@ nothing_more : {A : Type 0} (xs : List A) → xs ++ [] ≡ xs
 nothing_more xs = grind (arith, common_steps)
 
 -- where no document is left, all were taken
-pub all_taken : (all front left : List Document) → all ≡ front ++ left → length left ≡ 0 → all ≡ front
+pub all_taken : (all front left : List NamedNetwork) → all ≡ front ++ left → length left ≡ 0 → all ≡ front
 all_taken all front [] is none = is ∙ nothing_more front
 all_taken all front (d ∷ ds) is none = absurd (omega (arith, none))
 
 -- where all documents are sound, each is
-pub sound_at : (all front later : List Document) (document : Document) → All IsSound all → all ≡ front ++ document ∷ later → IsSound document
+pub sound_at : (all front later : List NamedNetwork) (document : NamedNetwork) → All IsSound all → all ≡ front ++ document ∷ later → IsSound document
 sound_at all front later document sound is =
     let more = length-append front (document ∷ later) in
-    subst IsSound (ap (λ (ds : List Document). slice_index_or ds (length front) document) is ∙ get_or-append_seam front document later document)
+    subst IsSound (ap (λ (ds : List NamedNetwork). slice_index_or ds (length front) document) is ∙ get_or-append_seam front document later document)
     (sound (length front) document (omega (arith, more, ap length is)))
 
 -- the session after yes of all networks
@@ -132,7 +134,7 @@ abbrev pub attending : List Named → Plan
 attending all = session host_turn host_ending (yes_lines all) (begun_session (map the_file all))
 
 -- a verdict that isn't yes
-pub told_at : (cap : ℕ) (all front later : List Document) (document : Document) (begun : Begun) (said : SaidText) → all ≡ front ++ document ∷ later → HasBegun cap (map the_named front) begun → TellsVerdict cap document.names document.network (Told said) → ComesTo (attended cap (map the_named all)) (says (the_said said))
+pub told_at : (cap : ℕ) (all front later : List NamedNetwork) (document : NamedNetwork) (begun : Begun) (said : SaidText) → all ≡ front ++ document ∷ later → HasBegun cap (map the_named front) begun → TellsVerdict cap document.names document.network (Told said) → ComesTo (attended cap (map the_named all)) (says (the_said said))
 told_at cap all front later document begun said all_is so_far decided =
     let same : attended cap (map the_named all) ≡ says (the_said said) =
     ap (λ (ns : List Named). on_verdicts cap (attending (map the_named all)) ns) (ap (map the_named) all_is ∙ map-append the_named front (document ∷ later))
@@ -141,13 +143,15 @@ told_at cap all front later document begun said all_is so_far decided =
     subst (λ (p : Plan). ComesTo p (says (the_said said))) (sym same) (record { output = λ live s is. is; talks = λ may. may; fault = λ may taken. refl })
 
 -- all verdicts were yes
-pub all_begun : {E : Type 0} (cap : ℕ) (all front : List Document) (begun : Begun) (r : Result Hosting E) → all ≡ front → HasBegun cap (map the_named front) begun → IfOk r (IsBegin begun) → IfOk r (λ hosting. ComesTo (attended cap (map the_named all)) (the_hosting hosting))
+pub all_begun : {E : Type 0} (cap : ℕ) (all front : List NamedNetwork) (begun : Begun) (r : Result Prepared E) → all ≡ front → HasBegun cap (map the_named front) begun → IfOk r (IsBegin begun) → IfOk r (λ prepared. ComesTo (attended cap (map the_named all)) (the_plan prepared))
 all_begun cap all front begun (Err e) all_is so_far is = tt
-all_begun cap all front begun (Ok (ToldAll said)) all_is so_far is = absurd is
-all_begun cap all front begun (Ok (Begins opening ward)) all_is so_far is =
+all_begun cap all front begun (Ok (Says said)) all_is so_far is = absurd is
+all_begun cap all front begun (Ok (Runs opening run)) all_is so_far is = absurd is
+all_begun cap all front begun (Ok (Edits editing)) all_is so_far is = absurd is
+all_begun cap all front begun (Ok (Hosts opening ward)) all_is so_far is =
     let named : List Named = map the_named front in
     let same : attended cap (map the_named all) ≡ session host_turn host_ending opening.items (the_host_session ward) =
-    ap (λ (ds : List Document). attended cap (map the_named ds)) all_is
+    ap (λ (ds : List NamedNetwork). attended cap (map the_named ds)) all_is
     ∙ ap (λ (ns : List Named). on_verdicts cap (attending named) ns) (sym (nothing_more named))
     ∙ so_far.verdicts (attending named) []
     ∙ ap (λ (o : List ℕ). session host_turn host_ending o (begun_session (map the_file named))) (sym (ap (λ (v : Vec ℕ Global). v.items) is.0 ∙ so_far.opening))
@@ -163,7 +167,9 @@ yes_ends (first ∷ rest) = at (yes_ends rest)
     at (inl none) = inr (codes "yes " ++ decimal (load_of first.net), ap (λ (xs : List ℕ). yes_line (load_of first.net) ++ xs) none ∙ nothing_after (yes_line (load_of first.net)))
     at (inr (front, is)) = inr (yes_line (load_of first.net) ++ front, ap (λ (xs : List ℕ). yes_line (load_of first.net) ++ xs) is ∙ sym (append_assoc (yes_line (load_of first.net)) front (10 ∷ [])))
 
-pub opening_ends : {E : Type 0} (cap : ℕ) (all : List Named) (begun : Begun) (r : Result Hosting E) → HasBegun cap all begun → IfOk r (IsBegin begun) → IfOk r IsOpening
+pub opening_ends : {E : Type 0} (cap : ℕ) (all : List Named) (begun : Begun) (r : Result Prepared E) → HasBegun cap all begun → IfOk r (IsBegin begun) → IfOk r (FitsKind a_host)
 opening_ends cap all begun (Err e) so_far is = tt
-opening_ends cap all begun (Ok (ToldAll said)) so_far is = absurd is
-opening_ends cap all begun (Ok (Begins opening ward)) so_far is = subst EndsLine (sym (ap (λ (v : Vec ℕ Global). v.items) is.0 ∙ so_far.opening)) (yes_ends all)
+opening_ends cap all begun (Ok (Says said)) so_far is = absurd is
+opening_ends cap all begun (Ok (Runs opening run)) so_far is = absurd is
+opening_ends cap all begun (Ok (Edits editing)) so_far is = absurd is
+opening_ends cap all begun (Ok (Hosts opening ward)) so_far is = (subst EndsLine (sym (ap (λ (v : Vec ℕ Global). v.items) is.0 ∙ so_far.opening)) (yes_ends all), refl)

@@ -2,10 +2,11 @@
 use Rattle.std.proofs.Common.{◌≡◌, ℕ, ◌≤◌, ◌<◌, List, length, refl, ap, sym, ◌∙◌, subst, inl, inr, arith}
 use Rattle.std.specs.Prelude.{nat_lt, if◌then◌else◌, Option, Result, Ok, Err, codes}
 use Rattle.cstn_net.specs.Networks.{Network}
-use Rattle.cstn_net.specs.Read.{NetworkParts, the_network}
+use Rattle.cstn_net.specs.Read.{the_network}
 use Rattle.cstn_lift.specs.Labelled.{Labelled}
-use Rattle.cstn_lift.specs.Read.{LabelledParts, the_labelled}
+use Rattle.cstn_lift.specs.Read.{the_labelled}
 use Rattle.cstn_element.specs.Results.{Refusal}
+use Rattle.cstn_graphml.specs.Answers.{IsDocument}
 use Rattle.cstn_graphml.specs.Document.{Parts, document}
 use Rattle.cstn_graphml.specs.Networks.{network_of, labelled_of, IsFit}
 use Rattle.cstn_reply.specs.Texts.{Said, say}
@@ -13,11 +14,11 @@ use Rattle.cstn_reply.specs.Read.{the_said}
 use Rattle.cstn_reply.specs.declared.output.Said.{Said as SaidText}
 use Rattle.cstn_reply.specs.declared.output.Outcome.TheVariants.{Document}
 use Rattle.cstn_documents.specs.Documents.{AreUnlabelled, IsRefusalOf, IsSaidOf, IsLabelsTold, IsSaidPlainly}
-use Rattle.cstn_documents.specs.Opened.{OpensAs, OpensWithLabels}
-use Rattle.cstn_documents.specs.declared.documents.Opened.TheVariants.{Accepted, Told}
-use Rattle.cstn_documents.specs.declared.documents.WithLabels.TheVariants.{Accepted as LabelledOne, Told as RefusedOne}
+use Rattle.cstn_documents.specs.Opened.{IsLabelledOf, IsLoweredOf, IsPlainOf, IsRefusal, IsPlainRefusal}
+use Rattle.cstn_documents.specs.declared.reading.NamedNetwork.{NamedNetwork}
+use Rattle.cstn_documents.specs.declared.reading.NamedLabelled.{NamedLabelled}
 use Rattle.cstn_top.specs.Plans.{Plan, says, judges, unlabelled, IsOutput, ComesTo}
-use Rattle.cstn_top.specs.Answers.{Answer, LabelledAnswer, of_plain, judged, on_labelled, on_document}
+use Rattle.cstn_top.specs.Answers.{Answer, LabelledAnswer, of_plain, of_lowered, judged, on_labelled, on_document}
 
 within : (n m : ℕ) (plan other : Plan) → m ≤ n → (if nat_lt n m then plan else other) ≡ other
 within n m plan other le = grind arith
@@ -77,19 +78,19 @@ judges_comes parts plan other good comes = record {
 }
 
 -- what is said of a document that was accepted
-pub accepted_comes : (answer : Answer) (bytes : List ℕ) (deadline : Option ℕ) (net : NetworkParts) (names : List (List ℕ)) (plan : Plan) → OpensAs bytes deadline (Accepted net names) → ComesTo (answer names (the_network net)) plan → ComesTo (on_document answer bytes deadline) plan
-accepted_comes answer bytes deadline net names plan opens comes =
-    let is = opens.1 in
+pub accepted_comes : (answer : Answer) (bytes : List ℕ) (deadline : Option ℕ) (d : NamedNetwork) (plan : Plan) → IsPlainOf bytes deadline d → ComesTo (answer d.names (the_network d.network)) plan → ComesTo (on_document answer bytes deadline) plan
+accepted_comes answer bytes deadline d plan opens comes =
+    let is = opens.is in
     let parts : Parts = is.parts in
-    let same : on_document answer bytes deadline ≡ judges parts (unlabelled parts.labels (answer names (the_network net))) =
-    short_document (of_plain answer) bytes deadline opens.0
+    let same : on_document answer bytes deadline ≡ judges parts (unlabelled parts.labels (answer d.names (the_network d.network))) =
+    short_document (of_plain answer) bytes deadline opens.short
     ∙ ap (judged (of_plain answer)) is.told_are
     ∙ ap (λ (ns : List (List ℕ)). judges parts (unlabelled parts.labels (answer ns (network_of parts)))) (sym is.names_are)
-    ∙ ap (λ (n : Network). judges parts (unlabelled parts.labels (answer names n))) (sym is.network_is) in
-    subst (λ (p : Plan). ComesTo p plan) (sym same) (judges_comes parts (answer names (the_network net)) plan is.unlabelled comes)
+    ∙ ap (λ (n : Network). judges parts (unlabelled parts.labels (answer d.names n))) (sym is.network_is) in
+    subst (λ (p : Plan). ComesTo p plan) (sym same) (judges_comes parts (answer d.names (the_network d.network)) plan is.unlabelled comes)
 
 -- what is said of a document that was refused
-pub told_comes : (answer : Answer) (bytes : List ℕ) (deadline : Option ℕ) (said : SaidText) → OpensAs bytes deadline (Told said) → ComesTo (on_document answer bytes deadline) (says (the_said said))
+pub told_comes : (answer : Answer) (bytes : List ℕ) (deadline : Option ℕ) (said : SaidText) → IsPlainRefusal bytes deadline said → ComesTo (on_document answer bytes deadline) (says (the_said said))
 told_comes answer bytes deadline said opens = comes_to_text (on_document answer bytes deadline) (the_said said) (plain_refusal_output answer bytes deadline (the_said said) opens.0)
 
 -- what is said of the parts of a document, where they make a labelled network
@@ -101,15 +102,30 @@ fit_comes parts plan other fit comes = record {
 }
 
 -- what is said of a labelled network
-pub labelled_comes : (answer : LabelledAnswer) (bytes : List ℕ) (deadline : Option ℕ) (l : LabelledParts) (names : List (List ℕ)) (plan : Plan) → OpensWithLabels bytes deadline (LabelledOne l names) → ComesTo (answer names (the_labelled l)) plan → ComesTo (on_labelled answer bytes deadline) plan
-labelled_comes answer bytes deadline l names plan opens comes =
-    let is = opens.1 in
-    let same : on_labelled answer bytes deadline ≡ judges is.parts (answer names (the_labelled l)) =
-    short_document answer bytes deadline opens.0
+document_comes : (answer : LabelledAnswer) (bytes : List ℕ) (deadline : Option ℕ) (m : Labelled) (names : List (List ℕ)) (plan : Plan) → length bytes ≤ 8388608 → IsDocument (document bytes deadline) m names → ComesTo (answer names m) plan → ComesTo (on_labelled answer bytes deadline) plan
+document_comes answer bytes deadline m names plan short is comes =
+    let same : on_labelled answer bytes deadline ≡ judges is.parts (answer names m) =
+    short_document answer bytes deadline short
     ∙ ap (judged answer) is.told_are
     ∙ ap (λ (ns : List (List ℕ)). judges is.parts (answer ns (labelled_of is.parts))) (sym is.names_are)
-    ∙ ap (λ (m : Labelled). judges is.parts (answer names m)) (sym is.labelled_is) in
-    subst (λ (p : Plan). ComesTo p plan) (sym same) (fit_comes is.parts (answer names (the_labelled l)) plan is.fit comes)
+    ∙ ap (λ (l : Labelled). judges is.parts (answer names l)) (sym is.labelled_is) in
+    subst (λ (p : Plan). ComesTo p plan) (sym same) (fit_comes is.parts (answer names m) plan is.fit comes)
 
-pub refused_comes : (answer : LabelledAnswer) (bytes : List ℕ) (deadline : Option ℕ) (said : SaidText) → OpensWithLabels bytes deadline (RefusedOne said) → ComesTo (on_labelled answer bytes deadline) (says (the_said said))
+pub labelled_comes : (answer : LabelledAnswer) (bytes : List ℕ) (deadline : Option ℕ) (d : NamedLabelled) (plan : Plan) → IsLabelledOf bytes deadline d → ComesTo (answer d.names (the_labelled d.labelled)) plan → ComesTo (on_labelled answer bytes deadline) plan
+labelled_comes answer bytes deadline d plan opens comes = document_comes answer bytes deadline (the_labelled d.labelled) d.names plan opens.short opens.is comes
+
+-- what is said of the network that a labelled one is lowered to
+pub lowered_comes : (answer : Answer) (bytes : List ℕ) (deadline : Option ℕ) (d : NamedNetwork) (plan : Plan) → IsLoweredOf bytes deadline d → ComesTo (answer d.names (the_network d.network)) plan → ComesTo (on_labelled (of_lowered answer) bytes deadline) plan
+lowered_comes answer bytes deadline d plan opens comes =
+    document_comes (of_lowered answer) bytes deadline (the_labelled opens.labelled) d.names plan opens.short opens.is (subst (λ (n : Network). ComesTo (answer d.names n) plan) opens.network comes)
+
+pub refused_comes : (answer : LabelledAnswer) (bytes : List ℕ) (deadline : Option ℕ) (said : SaidText) → IsRefusal bytes deadline said → ComesTo (on_labelled answer bytes deadline) (says (the_said said))
 refused_comes answer bytes deadline said opens = comes_to_text (on_labelled answer bytes deadline) (the_said said) (refusal_output answer bytes deadline (the_said said) opens.0)
+
+-- what comes to a plan comes to what that comes to
+pub comes_through : (one two three : Plan) → ComesTo one two → ComesTo two three → ComesTo one three
+comes_through one two three first later = record {
+  output = λ live said is. first.output live said (later.output live said is);
+  talks = λ may. first.talks (later.talks may);
+  fault = λ may taken. later.fault may taken ∙ first.fault (later.talks may) taken;
+}

@@ -20,7 +20,9 @@ use Rattle.cstn_top.specs.Plans.{says}
 use Rattle.cstn_check.specs.Decisions.{verdict}
 use Rattle.cstn_top.specs.Outputs.{drilled}
 use Rattle.cstn_top.specs.Meanings.{files_read}
-use Rattle.cstn_top.specs.Prepared.{Planned}
+use Rattle.cstn_top.specs.Questions.{Asks}
+use Rattle.cstn_top.specs.declared.commands.questions.Question.TheVariants.{Drill}
+use Rattle.cstn_top.proofs.Comes.{comes_itself}
 use Rattle.cstn_reply.specs.Statuses.{status_of}
 use Rattle.cstn_reply.specs.declared.status.Status.{Status}
 use Rattle.cstn_top.specs.Drills.{small, large, is_unrefuted, unrefuted, AreConsistent, none, one_more, no_more}
@@ -123,11 +125,6 @@ counts_right number (suc n) = counts_more number n (is_unrefuted (small number n
 no_file_read : (status : Status) → files_read status [] ≡ []
 no_file_read status = grind arith
 
--- the plan of a drill
-pub drill_planned : (number : ℕ) (told : Option (List ℕ → Option (List ℕ))) (said : Said) → said ≡ drilled number → Planned (drill number) told (says said)
-drill_planned number told said is = record {
-  contents = [];
-  are = λ files e. refl;
-  comes = record { output = λ live other same. same ∙ is; talks = λ may. may; fault = λ may taken. absurd may };
-  there = λ live other output. subst (λ (names : List (List ℕ)). AreThere told names) (sym (no_file_read (status_of other.outcome))) (none_there told);
-}
+-- what a drill asks
+pub drill_asked : (number : ℕ) (told : Option (List ℕ → Option (List ℕ))) → Asks (drill number) told (Drill number)
+drill_asked number told = record { contents = []; are = λ files e. refl; comes = comes_itself (says (drilled number)); there = none_there told }

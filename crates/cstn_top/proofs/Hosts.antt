@@ -36,13 +36,11 @@ use Rattle.cstn_top.specs.Plans.{session}
 use Rattle.cstn_host.specs.Sessions.{begun, host_turn, host_ending}
 use Rattle.cstn_host.specs.Files.{Named, the_file, yes_lines}
 use Rattle.cstn_top.specs.Hosting.{on_documents, on_verdicts, attended, hosted_plan}
-use Rattle.cstn_top.specs.Begun.{the_hosting, IsOfDocument, IsHosting}
-use Rattle.cstn_top.specs.declared.commands.hosting.starting.Hosting.{Hosting}
-use Rattle.cstn_top.specs.declared.commands.hosting.starting.Hosting.TheVariants.{Begins, Told}
+use Rattle.cstn_top.specs.Begun.{IsRefusedAt}
+use Rattle.cstn_top.specs.Questions.{TellsInstead}
 use Rattle.cstn_host.proofs.Plays.{IsEnd, plays}
 use Rattle.cstn_top.specs.Several.{EachHas, FirstHas}
 use Rattle.cstn_top.specs.Meanings.{files_read, RefusedIsThere}
-use Rattle.cstn_top.specs.Prepared.{Planned}
 use Rattle.cstn_top.proofs.Standing.{IsOfDocument as IsNamedNetwork}
 use Rattle.cstn_top.proofs.Comes.{plain_refusal_output}
 use Rattle.cstn_top.proofs.Documents.{document_says, document_talks, document_then}
@@ -245,10 +243,10 @@ all_of_first is_there (name ∷ names) (suc n) all = by_first (is_there name) (l
     by_first true later all follows = follows all
     by_first false later all follows = absurd (cc)
 
-first_there : (told : Option (List ℕ → Option (List ℕ))) (names : List (List ℕ)) (n : ℕ) → AreThere told names → AreThere told (take n names)
+pub first_there : (told : Option (List ℕ → Option (List ℕ))) (names : List (List ℕ)) (n : ℕ) → AreThere told names → AreThere told (take n names)
 first_there told names n there = λ files e. all_of_first (λ name. is_some (files name)) names n (there files e)
 
-files_all : (told : Option (List ℕ → Option (List ℕ))) (names : List (List ℕ)) (status : Status) → AreThere told names → AreThere told (take 1 names) → AreThere told (files_read status names)
+pub files_all : (told : Option (List ℕ → Option (List ℕ))) (names : List (List ℕ)) (status : Status) → AreThere told names → AreThere told (take 1 names) → AreThere told (files_read status names)
 files_all told names IsGood there first = there
 files_all told names IsBad there first = there
 files_all told names IsWords there first = none_there told
@@ -273,21 +271,6 @@ first_of_them is_there place (name ∷ names) all = by_both (is_there name) (lis
 first_of_more : (told : Option (List ℕ → Option (List ℕ))) (names : List (List ℕ)) (place : ℕ) → AreThere told (take (suc place) names) → AreThere told (take 1 names)
 first_of_more told names place there = λ files e. first_of_them (λ name. is_some (files name)) place names (there files e)
 
--- what was prepared for the files of a host says what their contents call for
-pub planned_host : (told : Option (List ℕ → Option (List ℕ))) (cap : ℕ) (deadline : Option ℕ) (files : List (List ℕ)) (hosting : Hosting) → IsHosting told cap deadline files hosting → Planned (host files deadline cap) told (the_hosting hosting)
-planned_host told cap deadline files hosting is = record {
-  contents = is.contents;
-  are = is.are;
-  comes = is.comes;
-  there = λ live said output. by_there hosting said live output is.there;
-}
-  where
-    by_there : (h : Hosting) (said : Said) (live : List ℕ) → IsOutput (the_hosting h) live said → IsOfDocument told deadline files is.contents h ⊎ AreThere told files → AreThere told (files_read (status_of said.outcome) files)
-    by_there h said live output (inr there) = files_all told files (status_of said.outcome) there (first_there told files 1 there)
-    by_there (Begins opening ward) said live output (inl never) = absurd never
-    by_there (Told text) said live output (inl (refused, file)) =
-        subst (λ (o : Outcome). AreThere told (files_read (status_of o) files)) (sym (ap (λ (s : Said). s.outcome) output ∙ refused)) (first_of_more told files file.place file.there)
-
 -- what is said of a document, whatever would be said of its network, says that it is refused
 plainly_refused : (bytes : List ℕ) (deadline : Option ℕ) (said : Said) → IsSaidPlainly bytes deadline said → said.outcome ≡ Document → IsRefused bytes deadline
 plainly_refused bytes deadline said plainly outcome = by_said (document_says yes bytes deadline [] said (plain_refusal_output yes bytes deadline said plainly []))
@@ -305,14 +288,22 @@ plainly_refused bytes deadline said plainly outcome = by_said (document_says yes
         let other : said.outcome ≡ Good = ap (λ (s : Said). s.outcome) (accepted (parts_of (document bytes deadline)) has) in
         let never : Document ≡ Good = sym outcome ∙ other in absurd (cc)
 
--- where a document of a host is refused, it is there, and so is each file before it
-pub host_refused : (told : Option (List ℕ → Option (List ℕ))) (cap : ℕ) (deadline : Option ℕ) (files : List (List ℕ)) (said : SaidText) → IsHosting told cap deadline files (Told said) → said.outcome ≡ Document →
-    (contents : List (List ℕ)) × AreContents told files contents × RefusedIsThere told (host files deadline cap) contents
-host_refused told cap deadline files said is outcome = (is.contents, is.are, by_there is.there)
-  where
-    tells : HasRefused deadline is.contents
-    tells = subst (HostTells cap deadline is.contents (the_said said)) outcome (host_tells cap deadline is.contents [] (the_said said) (is.comes.output [] (the_said said) refl))
+-- where a document of a host is refused, that is what the host says, the document is there, and so is each file before it
+pub host_told : (told : Option (List ℕ → Option (List ℕ))) (cap : ℕ) (deadline : Option ℕ) (files : List (List ℕ)) (said : SaidText) → IsRefusedAt told deadline files said → TellsInstead (host files deadline cap) told said
+host_told told cap deadline files said is = record {
+  plan = record {
+    contents = is.contents;
+    are = is.are;
+    comes = is.comes (attended cap);
+    there = λ live other output.
+        subst (λ (o : Outcome). AreThere told (files_read (status_of o) files)) (sym (ap (λ (s : Said). s.outcome) output ∙ is.outcome)) (first_of_more told files is.file.place is.file.there);
+  };
+  refused = λ outcome. (is.contents, is.are, (is.file.place, plainly_refused (get_or is.contents is.file.place []) deadline (the_said said) is.file.is is.outcome, is.file.there));
+}
 
-    by_there : IsOfDocument told deadline files is.contents (Told said) ⊎ AreThere told files → RefusedIsThere told (host files deadline cap) is.contents
-    by_there (inl (same, file)) = (file.place, plainly_refused (get_or is.contents file.place []) deadline (the_said said) file.is same, file.there)
-    by_there (inr there) = (tells.0, tells.1, first_there told files (suc tells.0) there)
+-- where all files of a host are there, a document that it says to be refused is there, and so is each file before it
+pub host_refused : (told : Option (List ℕ → Option (List ℕ))) (cap : ℕ) (deadline : Option ℕ) (files contents : List (List ℕ)) (said : Said) → AreContents told files contents → AreThere told files → ((live : List ℕ) → IsOutput (hosted_plan cap deadline contents) live said) → said.outcome ≡ Document →
+    (all : List (List ℕ)) × AreContents told files all × RefusedIsThere told (host files deadline cap) all
+host_refused told cap deadline files contents said are there output outcome =
+    let tells : HasRefused deadline contents = subst (HostTells cap deadline contents said) outcome (host_tells cap deadline contents [] said (output [])) in
+    (contents, are, (tells.0, tells.1, first_there told files (suc tells.0) there))

@@ -6,7 +6,6 @@ pub mod EvidenceLemmas
 pub mod Hosts
 pub mod Meanings
 pub mod Opening
-pub mod ByText
 pub mod Trees
 pub mod Endings
 pub mod Runs
@@ -34,3 +33,4 @@ pub mod ReadFiles
 pub mod BegunHosts
 pub mod Hosted
 pub mod Sayings
+pub mod Preparing

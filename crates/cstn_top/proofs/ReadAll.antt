@@ -6,7 +6,6 @@ use Rattle.std.proofs.lemmas.List.{length-map, map-append}
 use Rattle.std.proofs.Math.Seq.{get_or-append_seam}
 use Rattle.std.proofs.lemmas.List.Folds.{list_all-append}
 use Rattle.std.proofs.lemmas.List.Elements.{All-append, All-cons, All-nil}
-use Rattle.cstn_net.specs.Read.{NetworkParts, the_network}
 use Rattle.cstn_words.specs.Requests.{Asked}
 use Rattle.cstn_documents.specs.Files.{file_at, AreContents, AreThere}
 use Rattle.cstn_top.specs.Plans.{Plan, says, ComesTo}
@@ -14,27 +13,18 @@ use Rattle.cstn_reply.specs.Read.{the_said}
 use Rattle.cstn_reply.specs.declared.output.Said.{Said as SaidText}
 use Rattle.cstn_documents.proofs.Contents.{some_contents, one_content, none_there}
 use Rattle.cstn_top.specs.Answers.{Answer}
-use Rattle.cstn_documents.specs.Opened.{IsOpened}
+use Rattle.cstn_documents.specs.Opened.{IsAsked, IsPlainOf, IsPlainRefusal}
 use Rattle.cstn_documents.specs.Documents.{IsSaidPlainly}
-use Rattle.cstn_documents.specs.declared.documents.Opened.TheVariants.{Accepted, Told}
-use Rattle.cstn_top.proofs.Comes.{comes_itself, accepted_comes, told_comes}
-use Rattle.cstn_top.specs.declared.commands.hosting.reading.Document.{Document}
+use Rattle.cstn_top.proofs.Comes.{comes_itself, comes_through, accepted_comes, told_comes}
+use Rattle.cstn_documents.specs.declared.reading.NamedNetwork.{NamedNetwork}
 use Rattle.cstn_host.specs.Files.{Named}
 use Rattle.cstn_top.specs.Hosting.{on_documents}
 use Rattle.std.specs.List.{All}
 use Rattle.cstn_top.specs.Begun.{the_named, HasRead, IsRefusedAt, IsSound}
 
--- where one plan comes to a second one, and that to a third, the first comes to the third
-pub comes_through : (one two three : Plan) → ComesTo one two → ComesTo two three → ComesTo one three
-comes_through one two three first later = record {
-  output = λ live said is. first.output live said (later.output live said is);
-  talks = λ may. first.talks (later.talks may);
-  fault = λ may taken. later.fault may taken ∙ first.fault (later.talks may) taken;
-}
-
 -- where all documents are sound, and one more is, they are sound together
-pub sound_more : (old new : List Document) (document : Document) → new ≡ old ++ document ∷ [] → All IsSound old → IsSound document → All IsSound new
-sound_more old new document is all one = subst (λ (ds : List Document). All IsSound ds) (sym is) (All-append IsSound old (document ∷ []) all (All-cons IsSound document [] one (All-nil IsSound)))
+pub sound_more : (old new : List NamedNetwork) (document : NamedNetwork) → new ≡ old ++ document ∷ [] → All IsSound old → IsSound document → All IsSound new
+sound_more old new document is all one = subst (λ (ds : List NamedNetwork). All IsSound ds) (sym is) (All-append IsSound old (document ∷ []) all (All-cons IsSound document [] one (All-nil IsSound)))
 
 -- the contents of some files, and those of further files, are the contents of all
 pub contents_more : (told : Option (List ℕ → Option (List ℕ))) (names more contents later : List (List ℕ)) → AreContents told names contents → AreContents told more later → AreContents told (names ++ more) (contents ++ later)
@@ -69,7 +59,7 @@ read_none told deadline = record { contents = []; are = λ files e. refl; there 
 abbrev next_answer : (List Named → Plan) → Option ℕ → List Named → List (List ℕ) → Answer
 next_answer answer deadline before rest = λ names net. on_documents answer deadline (before ++ record { names = names; net = net } ∷ []) rest
 
-module _ (told : Option (List ℕ → Option (List ℕ))) (deadline : Option ℕ) (files : List (List ℕ)) (documents : List Document) (so_far : HasRead told deadline files documents) (file : List ℕ) where
+module _ (told : Option (List ℕ → Option (List ℕ))) (deadline : Option ℕ) (files : List (List ℕ)) (documents : List NamedNetwork) (so_far : HasRead told deadline files documents) (file : List ℕ) where
   -- what is said of the contents so far and then these bytes is what is said of these bytes after the documents so far
   comes_next : (answer : List Named → Plan) (bytes : List ℕ) (rest : List (List ℕ)) → ComesTo (on_documents answer deadline [] ((so_far.contents ++ bytes ∷ []) ++ rest)) (on_documents answer deadline (map the_named documents) (bytes ∷ rest))
   comes_next answer bytes rest =
@@ -77,31 +67,31 @@ module _ (told : Option (List ℕ → Option (List ℕ))) (deadline : Option ℕ
       (so_far.comes answer (bytes ∷ rest))
 
   -- the next document is accepted
-  pub read_more : (net : NetworkParts) (names : List (List ℕ)) → IsOpened told (asked_for file deadline) (Accepted net names) → HasRead told deadline (files ++ file ∷ []) (documents ++ record { network = net; names = names } ∷ [])
-  read_more net names opened = record {
+  pub read_more : (d : NamedNetwork) → IsAsked told (asked_for file deadline) (λ bytes asked. IsPlainOf bytes asked d) → HasRead told deadline (files ++ file ∷ []) (documents ++ d ∷ [])
+  read_more d opened = record {
     contents = so_far.contents ++ opened.bytes ∷ [];
     are = contents_more told files (file ∷ []) so_far.contents (opened.bytes ∷ []) so_far.are (one_content told file opened.bytes opened.content);
     there = there_more told files (file ∷ []) so_far.there opened.there;
     comes = λ answer rest.
-        let now : List Named = map the_named documents ++ record { names = names; net = the_network net } ∷ [] in
-        let one : Document = record { network = net; names = names } in
-        subst (λ (all : List Named). ComesTo (on_documents answer deadline [] ((so_far.contents ++ opened.bytes ∷ []) ++ rest)) (on_documents answer deadline all rest)) (sym (map-append the_named documents (one ∷ [])))
+        let now : List Named = map the_named documents ++ the_named d ∷ [] in
+        subst (λ (all : List Named). ComesTo (on_documents answer deadline [] ((so_far.contents ++ opened.bytes ∷ []) ++ rest)) (on_documents answer deadline all rest)) (sym (map-append the_named documents (d ∷ [])))
         (comes_through (on_documents answer deadline [] ((so_far.contents ++ opened.bytes ∷ []) ++ rest)) (on_documents answer deadline (map the_named documents) (opened.bytes ∷ rest)) (on_documents answer deadline now rest)
         (comes_next answer opened.bytes rest)
-        (accepted_comes (next_answer answer deadline (map the_named documents) rest) opened.bytes deadline net names (on_documents answer deadline now rest) opened.opens (comes_itself (on_documents answer deadline now rest))));
+        (accepted_comes (next_answer answer deadline (map the_named documents) rest) opened.bytes deadline d (on_documents answer deadline now rest) opened.is (comes_itself (on_documents answer deadline now rest))));
   }
 
   -- the next document is refused
-  pub read_refused : (all rest : List (List ℕ)) (said : SaidText) → files ++ file ∷ rest ≡ all → IsOpened told (asked_for file deadline) (Told said) → IsRefusedAt told deadline all (the_said said)
+  pub read_refused : (all rest : List (List ℕ)) (said : SaidText) → files ++ file ∷ rest ≡ all → IsAsked told (asked_for file deadline) (λ bytes asked. IsPlainRefusal bytes asked said) → IsRefusedAt told deadline all said
   read_refused all rest said is opened =
-      subst (λ (names : List (List ℕ)). IsRefusedAt told deadline names (the_said said)) is (record {
+      subst (λ (names : List (List ℕ)). IsRefusedAt told deadline names said) is (record {
         contents = (so_far.contents ++ opened.bytes ∷ []) ++ later.0;
         are = contents_all;
         file = record { place = length so_far.contents; is = at_place; there = up_to_place };
+        outcome = opened.is.1;
         comes = λ answer.
             comes_through (on_documents answer deadline [] ((so_far.contents ++ opened.bytes ∷ []) ++ later.0)) (on_documents answer deadline (map the_named documents) (opened.bytes ∷ later.0)) (says (the_said said))
             (comes_next answer opened.bytes later.0)
-            (told_comes (next_answer answer deadline (map the_named documents) later.0) opened.bytes deadline said opened.opens);
+            (told_comes (next_answer answer deadline (map the_named documents) later.0) opened.bytes deadline said opened.is);
       })
     where
       later : (contents : List (List ℕ)) × AreContents told rest contents
@@ -118,7 +108,7 @@ module _ (told : Option (List ℕ → Option (List ℕ))) (deadline : Option ℕ
       at_place =
           subst (λ (bytes : List ℕ). IsSaidPlainly bytes deadline (the_said said))
           (sym (ap (λ (all : List (List ℕ)). get_or all (length so_far.contents) []) (append_assoc so_far.contents (opened.bytes ∷ []) later.0) ∙ get_or-append_seam so_far.contents opened.bytes later.0 []))
-          opened.opens.0
+          opened.is.0
 
       up_to_place : AreThere told (take (suc (length so_far.contents)) (files ++ file ∷ rest))
       up_to_place = λ known e.

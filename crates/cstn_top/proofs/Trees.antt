@@ -37,20 +37,6 @@ use Rattle.cstn_top.specs.Answers.{checked_lines, tree_checked}
 use Rattle.cstn_top.specs.Trees.{IsNarrow, IsGoodTree, IsBrokenTree, HasTree, IsTreeProof}
 use Rattle.cstn_top.specs.Meanings.{IsDecidedTree}
 use Rattle.cstn_top.specs.Prepared.{Planned}
-use Rattle.cstn_top.proofs.Opening.{IsOfOne, one_comes}
-use Rattle.cstn_top.proofs.ByText.{IsOfTwo}
-
-pub of_tree : (asked : Asked) (cap : ℕ) → IsOfOne (tree asked cap) asked (of_plain (unfolded cap))
-of_tree asked cap = record { files = refl; plan = λ bytes. refl }
-
-pub of_treecheck : (asked : Asked) (proof : List ℕ) → IsOfTwo (treecheck asked proof) asked proof (λ text. of_plain (by_text tree_checked text))
-of_treecheck asked proof = record { files = refl; plan = λ bytes text. refl }
-
--- the plan of a document that was accepted, where what is said is one of its outputs
-pub one_answers : {E : Type 0} (request : Request) (asked : Asked) (answer : Answer) (told : Option (List ℕ → Option (List ℕ))) (net : NetworkParts) (names : List (List ℕ)) (r : Result SaidText E) → IsOfOne request asked (of_plain answer) → IsOpened told asked (Accepted net names) → ((live : List ℕ) → IfOk r (λ said. IsOutput (answer names (the_network net)) live (the_said said))) → IfOk r (λ said. Planned request told (says (the_said said)))
-one_answers request asked answer told net names (Err e) one opened is = tt
-one_answers {E} request asked answer told net names (Ok said) one opened is =
-    one_comes {X = SaidText} {E = E} request asked answer told net names (λ x. says (the_said x)) (Ok said) one opened (comes_to_text (answer names (the_network net)) (the_said said) is)
 
 -- ---- `tree`
 

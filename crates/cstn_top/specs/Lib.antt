@@ -13,7 +13,6 @@ pub mod Held
 pub mod EditSessions
 pub mod LabelledDeadlines
 -- What the proofs use beside.
-pub mod Opened
 pub mod Prepared
 pub mod Plans
 pub mod Verdicts
@@ -23,3 +22,4 @@ pub mod Running
 pub mod Editing
 pub mod Hosting
 pub mod Begun
+pub mod Questions

@@ -22,38 +22,38 @@ use Rattle.cstn_top.specs.declared.commands.Prepared.TheVariants.{Hosts}
 -- the plan that is carried out
 abbrev pub the_plan : Prepared → Plan
 the_plan (Says said) = says (the_said said)
-the_plan (Runs opening guiding) = session guided_turn guided_ending opening.items guiding
+the_plan (Runs opening session') = session guided_turn guided_ending opening.items session'
 the_plan (Edits editing) = session edit_turn edit_ending [] (the_editing editing)
-the_plan (Hosts opening ward) = session host_turn host_ending opening.items (the_host_session ward)
+the_plan (Hosts opening session') = session host_turn host_ending opening.items (the_host_session session')
 
 -- an opening is whole lines
 abbrev pub IsLined : Prepared → Type 0
 IsLined (Says said) = Unit {0}
-IsLined (Runs opening guiding) = EndsLine opening.items
+IsLined (Runs opening session') = EndsLine opening.items
 IsLined (Edits editing) = Unit {0}
-IsLined (Hosts opening ward) = EndsLine opening.items
+IsLined (Hosts opening session') = EndsLine opening.items
 
 -- an answer to a line may want memory
 abbrev pub MayWant : Prepared → Type 0
 MayWant (Says said) = ⊥
-MayWant (Runs opening guiding) = ⊥
+MayWant (Runs opening session') = ⊥
 MayWant (Edits editing) = Unit {0}
-MayWant (Hosts opening ward) = Unit {0}
+MayWant (Hosts opening session') = Unit {0}
 
 -- an opening is whole lines, and an edit session or a host is prepared only where one is asked for
 abbrev pub FitsRequest : Request → Prepared → Type 0
 FitsRequest request (Says said) = Unit {0}
-FitsRequest request (Runs opening guiding) = EndsLine opening.items
+FitsRequest request (Runs opening session') = EndsLine opening.items
 FitsRequest request (Edits editing) = AsksEdit request
-FitsRequest request (Hosts opening ward) = EndsLine opening.items × AsksHost request
+FitsRequest request (Hosts opening session') = EndsLine opening.items × AsksHost request
 
 -- Where it is told that a document of a host is refused, that document is there, and so is each file before it. A run or an edit
 -- session is prepared for no host. Of the other requests, which read one document, nothing is told beside.
 abbrev pub TellsRefused : Option (List ℕ → Option (List ℕ)) → Request → Prepared → Type 0
 TellsRefused told (host files deadline cap) (Says said) = said.outcome ≡ Document → HoldsOf (Some (host files deadline cap)) told (RefusedIsThere told)
-TellsRefused told (host files deadline cap) (Runs opening guiding) = ⊥
+TellsRefused told (host files deadline cap) (Runs opening session') = ⊥
 TellsRefused told (host files deadline cap) (Edits editing) = ⊥
-TellsRefused told (host files deadline cap) (Hosts opening ward) = Unit {0}
+TellsRefused told (host files deadline cap) (Hosts opening session') = Unit {0}
 TellsRefused told (check asked cap) prepared = Unit {0}
 TellsRefused told (run asked cap) prepared = Unit {0}
 TellsRefused told (edit asked cap) prepared = Unit {0}

@@ -92,8 +92,8 @@ fn speak<S: Source, K: Sink>(alloc: Global, prepared: Prepared, live: &mut S, ou
 {
     match prepared {
         Prepared::Says(said) => finish(out, &said.text, said.outcome.status()),
-        Prepared::Runs { opening, guiding } => converse(alloc, guiding, &opening, live, out),
-        Prepared::Edits(editing) => converse(alloc, editing, b"", live, out),
-        Prepared::Hosts { opening, ward } => converse(alloc, ward, &opening, live, out),
+        Prepared::Runs { opening, session } => converse(alloc, session, &opening, live, out),
+        Prepared::Edits(session) => converse(alloc, session, b"", live, out),
+        Prepared::Hosts { opening, session } => converse(alloc, session, &opening, live, out),
     }
 }

@@ -1,39 +1,102 @@
 // `host [--deadline N] [--cap CAP] FILE ..`
-ghost use Rattle.std.specs.Prelude.{◌≡◌, ◌≤◌, length, map, string_bytes, IfOk, IsTrue, IsErrOf};
-ghost use Rattle.std.specs.List.{list_all};
-ghost use Rattle.cstn_io.specs.Causes.{Rose};
-ghost use Rattle.cstn_words.specs.Requests.{host};
-ghost use Rattle.cstn_top.specs.Prepared.{the_plan, Planned, FitsRequest, TellsRefused};
+ghost use Rattle.std.specs.Prelude.{ℕ, ◌≡◌, ◌≤◌, ◌++◌, ◌∷◌, [], length, map, IfOk, OnOk};
+ghost use Rattle.std.specs.List.{All};
+ghost use Rattle.cstn_net.specs.Networks.{count};
+ghost use Rattle.cstn_net.specs.Read.{the_network};
+ghost use Rattle.cstn_text.specs.PrintedNames.{printed_name};
+ghost use Rattle.cstn_reply.specs.Texts.{yes_line};
+ghost use Rattle.cstn_exec.specs.Running.{AreShort};
+ghost use Rattle.cstn_host.specs.SessionRead.{the_names, IsHostSession};
+ghost use Rattle.cstn_top.specs.Begun.{the_named, IsSound, IsBegin};
+ghost use Rattle.cstn_top.specs.Hosting.{attended};
+ghost use Rattle.cstn_top.specs.Plans.{ComesTo};
+ghost use Rattle.cstn_top.specs.Prepared.{the_plan};
+ghost use Rattle.cstn_top.specs.Questions.{FitsKind, a_host};
 
 use super::Prepared;
-use crate::commands::hosting::{Hosting, host_files};
-use cstn_io::Shelf;
-use cstn_reply::Refused;
-use std::alloc::Global;
+use cstn_check::{Judged, judge, yes_line};
+use cstn_documents::NamedNetwork;
+use cstn_exec::print_names;
+use cstn_host::HostSession;
+use cstn_log::SoundPlan;
+use cstn_text::Names;
+use std::alloc::{AllocError, Global};
 
-/// The verdicts on the networks of the files, and where each is yes, the host of their plans.
-pub(crate) fn host_all<F: Shelf>(
+// The lines that say yes, the plans and the printed names of the networks that were checked so far.
+#[derive(Drop)]
+struct Begun {
+    opening: Vec<u8>,
+    plans: Vec<SoundPlan>,
+    names: Vec<Vec<String>>,
+}
+
+impl Begun {
+    // Adds the plan of a network whose verdict is yes, the line that says so, and the printed names.
+    fn add(
+        &mut self,
+        alloc: Global,
+        load: u32,
+        plan: SoundPlan,
+        names: &Names,
+    ) -> Result<(), AllocError>
+        requires named { length names.now ≡ count (the_network plan.net) }
+        requires few { count (the_network plan.net) ≤ 1024 }
+        ensures opening { OnOk result (self.new.opening.items ≡ self.old.opening.items ++ yes_line load) }
+        ensures plans { OnOk result (self.new.plans.items ≡ self.old.plans.items ++ plan ∷ []) }
+        ensures names { OnOk result (the_names self.new.names.items ≡ the_names self.old.names.items ++ map printed_name names.now ∷ []) }
+        ensures short { OnOk result (AreShort plan.net (map printed_name names.now)) }
+    {
+        let line = yes_line(alloc, load)?;
+        let printed = print_names(alloc, names)?;
+        self.opening.extend_from_slice(&line)?;
+        self.plans.push(plan)?;
+        self.names.push(printed)?;
+        Ok(())
+    }
+}
+
+/// Checks the networks of 1 to 8 documents one after another, each log with at most `cap` entries: the first whose verdict isn't
+/// yes is told, and else the host lines are to be answered. Fails for want of memory alone.
+pub(crate) fn host_session(
     alloc: Global,
-    files: &[String],
-    deadline: Option<u32>,
+    documents: Vec<NamedNetwork>,
     cap: u32,
-    shelf: &mut F,
-) -> Result<Prepared, Refused>
-    requires may_ask { IsTrue (list_all (F.may_ask shelf.old) (map string_bytes files.now)) }
-    requires some_files { 1 ≤ length files.now }
-    requires few_files { length files.now ≤ 8 }
+) -> Result<Prepared, AllocError>
+    requires some_documents { 1 ≤ length documents.items }
+    requires few_documents { length documents.items ≤ 8 }
+    requires sound { All IsSound documents.items }
     requires some { 1 ≤ cap }
     requires most { cap ≤ 65536 }
-    ensures plan { IfOk result (λ prepared. Planned (host (map string_bytes files.now) deadline cap) (F.files shelf.old) (the_plan prepared)) }
-    ensures fits { IfOk result (FitsRequest (host (map string_bytes files.now) deadline cap)) }
-    ensures refused { IfOk result (TellsRefused (F.files shelf.old) (host (map string_bytes files.now) deadline cap)) }
-    ensures names { F.may_ask shelf.new ≡ F.may_ask shelf.old }
-    ensures files { F.files shelf.new ≡ F.files shelf.old }
-    ensures later { F.faults shelf.old ≤ F.faults shelf.new }
-    ensures fault { IsErrOf result Refused.ReadFault → Rose (F.faults shelf.old) (F.faults shelf.new) }
+    ensures comes { IfOk result (λ prepared. ComesTo (attended cap (map the_named documents.items)) (the_plan prepared)) }
+    ensures fits { IfOk result (FitsKind a_host) }
 {
-    match host_files(alloc, files, deadline, cap, shelf)? {
-        Hosting::Begins { opening, ward } => Ok(Prepared::Hosts { opening, ward }),
-        Hosting::Told(said) => Ok(Prepared::Says(said)),
+    let mut begun = Begun {
+        opening: Vec::new(alloc),
+        plans: Vec::new(alloc),
+        names: Vec::new(alloc),
+    };
+    for document in documents {
+        let NamedNetwork { network, names } = document;
+        match judge(alloc, network, &names, cap)? {
+            Judged::Yes { load, check } => {
+                begun.add(alloc, load, check.into_plan(), &names)?;
+            }
+            Judged::Told(said) => return Ok(Prepared::Says(said)),
+        }
     }
+    begin(alloc, begun)
+}
+
+// The ward of the plans, with no id open, after the lines that say yes.
+fn begin(alloc: Global, begun: Begun) -> Result<Prepared, AllocError>
+    requires some { 1 ≤ length begun.plans.items }
+    requires few { length begun.plans.items ≤ 8 }
+    requires named { IsHostSession begun.plans.items (the_names begun.names.items) }
+    ensures begins { IfOk result (IsBegin begun) }
+{
+    let session = HostSession::start(alloc, begun.plans, begun.names)?;
+    Ok(Prepared::Hosts {
+        opening: begun.opening,
+        session,
+    })
 }

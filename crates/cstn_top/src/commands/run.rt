@@ -1,56 +1,28 @@
 // `run FILE [--deadline N] [--cap CAP]`
-ghost use Rattle.std.specs.Prelude.{ℕ, ◌≡◌, ◌≤◌, length, IfOk, IsTrue, IsErrOf, Some};
-ghost use Rattle.cstn_io.specs.Causes.{Rose};
+ghost use Rattle.std.specs.Prelude.{ℕ, ◌≡◌, ◌≤◌, length, IfOk, Some};
 ghost use Rattle.cstn_net.specs.Networks.{count};
 ghost use Rattle.cstn_net.specs.Read.{the_network};
 ghost use Rattle.cstn_lift.specs.Lowered.{lowered};
 ghost use Rattle.cstn_lift.specs.Read.{the_labelled};
+ghost use Rattle.cstn_check.specs.Decisions.{verdict};
 ghost use Rattle.cstn_check.specs.Growth.{load_of};
 ghost use Rattle.cstn_check.specs.declared.verdicts.Verdict.TheVariants.{Yes};
-ghost use Rattle.cstn_words.specs.Requests.{Request, run};
 ghost use Rattle.cstn_top.specs.Plans.{ComesTo};
-ghost use Rattle.cstn_top.specs.Prepared.{the_plan, Planned, FitsRequest};
-ghost use Rattle.cstn_words.specs.Read.{the_asked};
+ghost use Rattle.cstn_top.specs.Prepared.{the_plan};
+ghost use Rattle.cstn_top.specs.Questions.{FitsKind, a_run};
 ghost use Rattle.cstn_top.specs.Running.{carried_out};
-ghost use Rattle.cstn_check.specs.Decisions.{verdict};
 
 use super::Prepared;
 use cstn_check::{Check, Judged, judge, yes_line};
-use cstn_documents::{WithLabels, open_labelled};
 use cstn_exec::Guide;
-use cstn_io::Shelf;
 use cstn_lift::{Labelled, Labels};
-use cstn_reply::Refused;
 use cstn_run::RunSession;
 use cstn_text::Names;
-use cstn_words::Asked;
 use std::alloc::{AllocError, Global};
 
-/// The verdict on the labelled network of a file: that on the network it is lowered to. After yes its plan is carried out.
-pub(crate) fn run_file<F: Shelf>(
-    alloc: Global,
-    asked: Asked<'_>,
-    cap: u32,
-    shelf: &mut F,
-) -> Result<Prepared, Refused>
-    requires may_ask { IsTrue (F.may_ask shelf.old asked.file.now) }
-    requires some { 1 ≤ cap }
-    requires most { cap ≤ 4194304 }
-    ensures plan { IfOk result (λ prepared. Planned (run (the_asked asked.entry) cap) (F.files shelf.old) (the_plan prepared)) }
-    ensures fits { IfOk result (FitsRequest (run (the_asked asked.entry) cap)) }
-    ensures fault { IsErrOf result Refused.ReadFault → Rose (F.faults shelf.old) (F.faults shelf.new) }
-    ensures names { F.may_ask shelf.new ≡ F.may_ask shelf.old }
-    ensures files { F.files shelf.new ≡ F.files shelf.old }
-    ensures later { F.faults shelf.old ≤ F.faults shelf.new }
-{
-    match open_labelled(alloc, asked, shelf)? {
-        WithLabels::Accepted { labelled, names } => Ok(prepare(alloc, labelled, &names, cap)?),
-        WithLabels::Told(said) => Ok(Prepared::Says(said)),
-    }
-}
-
-// What is said of a labelled network.
-fn prepare(
+/// What is said of a labelled network: the verdict on the network that it is lowered to, and after yes the session that carries
+/// its plan out. Fails for want of memory alone.
+pub(crate) fn run_session(
     alloc: Global,
     labelled: Labelled,
     names: &Names,
@@ -60,7 +32,7 @@ fn prepare(
     requires most { cap ≤ 4194304 }
     requires named { length names.now ≡ count (the_network labelled.base) }
     ensures comes { IfOk result (λ prepared. ComesTo (carried_out cap names.now (the_labelled labelled)) (the_plan prepared)) }
-    ensures fits { IfOk result (λ prepared. (request : Request) → FitsRequest request prepared) }
+    ensures fits { IfOk result (FitsKind a_run) }
 {
     let (network, labels) = labelled.split();
     match judge(alloc, network, names, cap)? {
@@ -85,10 +57,10 @@ fn begin(
     requires named { length names.now ≡ count (the_network labels.base) }
     requires few { length names.now ≤ 1024 }
     ensures comes { IfOk result (λ prepared. ComesTo (carried_out cap names.now (the_labelled labels)) (the_plan prepared)) }
-    ensures fits { IfOk result (λ prepared. (request : Request) → FitsRequest request prepared) }
+    ensures fits { IfOk result (FitsKind a_run) }
 {
     let opening = yes_line(alloc, load)?;
     let guide = Guide::start(alloc, check.into_plan(), labels)?;
-    let guiding = RunSession::start(alloc, guide, names)?;
-    Ok(Prepared::Runs { opening, guiding })
+    let session = RunSession::start(alloc, guide, names)?;
+    Ok(Prepared::Runs { opening, session })
 }

@@ -1,0 +1,54 @@
+use Rattle.std.proofs.Common.{◌≡◌, ◌∙◌, ℕ, List, length, map, take, ap, subst, arith, String, Global, string_bytes, suc, ◌∷◌, [], ◌++◌}
+use Rattle.std.specs.Prelude.{Option, Err, IsErrAnd, drop}
+use Rattle.std.proofs.lemmas.List.{take_all, length-map, length-append}
+use Rattle.cstn_documents.specs.Opened.{IsAsked, IsPlainOf, IsPlainRefusal}
+use Rattle.cstn_documents.specs.declared.reading.NamedNetwork.{NamedNetwork}
+use Rattle.cstn_documents.specs.declared.reading.Unread.TheVariants.{Told}
+use Rattle.cstn_documents.proofs.Opening.{handed_on}
+use Rattle.cstn_top.specs.Begun.{HasRead}
+use Rattle.cstn_top.proofs.ReadFiles.{ask_at, files_at, next_file}
+use Rattle.cstn_top.proofs.ReadAll.{asked_for, read_more, read_refused, sound_more}
+use Rattle.cstn_top.proofs.commands.several.open_all.Goals as goal
+
+pub open-requires : goal.open-requires
+open-requires g c = record { may_ask = ask_at (g.F.Shelf.may_ask c.args.shelf.now) (g.F.Shelf.may_ask c.loop-file.shelf) c.args.files.now c.loop-file.file-index c.file-item.result c.as_str.result.now c.requires.may_ask c.loop-file.invariant.ask c.loop-file-test.true c.file-item.is c.as_str.ensures.value }
+
+pub loop-file-preserved : goal.loop-file-preserved
+loop-file-preserved g c =
+    let told = g.F.Shelf.files c.args.shelf.now in
+    let asked = asked_for c.as_str.result.now c.args.deadline in
+    let document = c.in_ok-document.document in
+    let inv = c.loop-file.invariant in
+    let opened : IsAsked told asked (λ bytes deadline. IsPlainOf bytes deadline document) =
+    subst (λ (t : Option (List ℕ → Option (List ℕ))). IsAsked t asked (λ bytes deadline. IsPlainOf bytes deadline document)) inv.files c.in_ok-document.ensures.opened in
+    let items = c.in-Ok.ensures.items in
+    let grown = length-append c.loop-file.documents.items (document ∷ []) in
+    record {
+      read =
+          subst (λ (ns : List (List ℕ)). HasRead told c.args.deadline ns c.push.new.self.items)
+          (next_file c.args.files.now c.loop-file.file-index c.file-item.result c.as_str.result.now c.loop-file-test.true c.file-item.is c.as_str.ensures.value)
+          (subst (λ (ds : List NamedNetwork). HasRead told c.args.deadline (map string_bytes (take c.loop-file.file-index c.args.files.now) ++ c.as_str.result.now ∷ []) ds) (sym items)
+          (read_more told c.args.deadline (map string_bytes (take c.loop-file.file-index c.args.files.now)) c.loop-file.documents.items inv.read c.as_str.result.now document opened));
+      many = omega (arith, inv.many, ap length items, grown);
+      sound = sound_more c.loop-file.documents.items c.push.new.self.items document items inv.sound (record { well_formed = opened.is.well_formed; named = opened.is.names.named });
+      ask = c.open.ensures.names ∙ inv.ask;
+      files = c.open.ensures.files ∙ inv.files;
+      later = omega (arith, c.open.ensures.later, inv.later);
+    }
+
+pub returns-in_err-document-clause-refused : goal.returns-in_err-document-clause-refused
+returns-in_err-document-clause-refused g c = λ said e.
+    let told : IsErrAnd c.from_residual.result (λ x. x ≡ c.in_err-document.field-0.0) = c.from_residual.ensures.1 in
+    let asked = asked_for c.as_str.result.now c.args.deadline in
+    let opened : IsAsked (g.F.Shelf.files c.args.shelf.now) asked (λ bytes deadline. IsPlainRefusal bytes deadline said) =
+    subst (λ (t : Option (List ℕ → Option (List ℕ))). IsAsked t asked (λ bytes deadline. IsPlainRefusal bytes deadline said)) c.loop-file.invariant.files
+    (c.open.ensures.refused said (c.in_err-document.was ∙ ap Err (handed_on c.from_residual.result c.in_err-document.field-0.0 (Told said) told e))) in
+    read_refused (g.F.Shelf.files c.args.shelf.now) c.args.deadline (map string_bytes (take c.loop-file.file-index c.args.files.now)) c.loop-file.documents.items c.loop-file.invariant.read c.as_str.result.now
+    (map string_bytes c.args.files.now) (map string_bytes (drop (suc c.loop-file.file-index) c.args.files.now)) said
+    (files_at c.args.files.now c.loop-file.file-index c.file-item.result c.as_str.result.now c.loop-file-test.true c.file-item.is c.as_str.ensures.value)
+    opened
+
+pub returns-clause-read : goal.returns-clause-read
+returns-clause-read g c =
+    let all = take_all c.loop-file.file-index c.args.files.now (omega (arith, c.loop-file-test.false)) in
+    subst (λ (fs : List (String Global)). HasRead (g.F.Shelf.files c.args.shelf.now) c.args.deadline (map string_bytes fs) c.loop-file.documents.items) all c.loop-file.invariant.read

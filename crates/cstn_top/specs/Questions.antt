@@ -1,0 +1,98 @@
+-- What a request asks, once its files are read.
+use Rattle.std.specs.Prelude.{◌≡◌, ◌≤◌, ◌<◌, ◌^◌, ℕ, List, length, map, Option}
+use Rattle.std.specs.List.{All}
+use Rattle.cstn_net.specs.Read.{the_network}
+use Rattle.cstn_lift.specs.Read.{the_labelled}
+use Rattle.cstn_words.specs.Requests.{Request, check, run, edit, closed, tight, conflict, tree, save, replay, closedcheck, treecheck, drill, host, files_of}
+use Rattle.cstn_reply.specs.Read.{the_said}
+use Rattle.cstn_reply.specs.Written.{EndsLine}
+use Rattle.cstn_reply.specs.declared.output.Said.{Said as SaidText}
+use Rattle.cstn_documents.specs.Files.{AreContents, AreThere}
+use Rattle.cstn_documents.specs.Opened.{AreNamesOf}
+use Rattle.cstn_top.specs.Plans.{Plan, says, ComesTo}
+use Rattle.cstn_top.specs.Answers.{checked, listed, tightened, blamed, unfolded, by_text, replayed, certified, tree_checked}
+use Rattle.cstn_top.specs.Running.{carried_out}
+use Rattle.cstn_top.specs.Editing.{edited}
+use Rattle.cstn_top.specs.Hosting.{attended}
+use Rattle.cstn_top.specs.Outputs.{saved, drilled, plan_at}
+use Rattle.cstn_top.specs.Prepared.{Planned, TellsRefused}
+use Rattle.cstn_top.specs.Begun.{the_named, IsSound}
+use Rattle.cstn_top.specs.declared.commands.Prepared.{Prepared}
+use Rattle.cstn_top.specs.declared.commands.Prepared.TheVariants.{Says, Runs, Edits, Hosts}
+use Rattle.cstn_top.specs.declared.commands.questions.Question.{Question}
+use Rattle.cstn_top.specs.declared.commands.questions.Question.TheVariants.{Check, Closed, Tight, Conflict, Tree, Edit, Run, Save, Replay, Closedcheck, Treecheck, Drill, Host}
+
+-- what is said to a question
+abbrev pub the_question : Question → Plan
+the_question (Check d cap) = checked cap d.names (the_network d.network)
+the_question (Closed d cap) = listed cap d.names (the_network d.network)
+the_question (Tight d cap) = tightened cap d.names (the_network d.network)
+the_question (Conflict d cap) = blamed cap d.names (the_network d.network)
+the_question (Tree d cap) = unfolded cap d.names (the_network d.network)
+the_question (Edit d cap) = edited cap d.names (the_network d.network)
+the_question (Run d cap) = carried_out cap d.names (the_labelled d.labelled)
+the_question (Save d) = saved d.names (the_labelled d.labelled)
+the_question (Replay d text) = by_text replayed text.items d.names (the_network d.network)
+the_question (Closedcheck d text) = by_text certified text.items d.names (the_network d.network)
+the_question (Treecheck d text) = by_text tree_checked text.items d.names (the_network d.network)
+the_question (Drill number) = says (drilled number)
+the_question (Host documents cap) = attended cap (map the_named documents.items)
+
+-- the question says what the request says of the contents of its files, each of which is there
+pub record Asks (request : Request) (told : Option (List ℕ → Option (List ℕ))) (question : Question) : Type 0 where
+  pub contents : List (List ℕ)
+  pub are : AreContents told (files_of request) contents
+  pub comes : ComesTo (plan_at request contents) (the_question question)
+  pub there : AreThere told (files_of request)
+
+-- this is what the request says, since a file is refused
+pub record TellsInstead (request : Request) (told : Option (List ℕ → Option (List ℕ))) (said : SaidText) : Type 0 where
+  pub plan : Planned request told (says (the_said said))
+  pub refused : TellsRefused told request (Says said)
+
+-- a log may have from 1 to 4,194,304 entries
+pub record IsCap (cap : ℕ) : Type 0 where
+  pub some : 1 ≤ cap
+  pub most : cap ≤ 4194304
+
+-- what was read is what documents and texts hold
+abbrev pub IsSoundQuestion : Question → Type 0
+IsSoundQuestion (Check d cap) = IsSound d × IsCap cap
+IsSoundQuestion (Closed d cap) = IsSound d × IsCap cap
+IsSoundQuestion (Tight d cap) = IsSound d × IsCap cap
+IsSoundQuestion (Conflict d cap) = IsSound d × IsCap cap
+IsSoundQuestion (Tree d cap) = IsSound d × IsCap cap
+IsSoundQuestion (Edit d cap) = IsSound d × IsCap cap × All (λ c. c.id < 2 ^ 31) d.network.constraints
+IsSoundQuestion (Run d cap) = AreNamesOf d.names (the_network d.labelled.base) × IsCap cap
+IsSoundQuestion (Save d) = AreNamesOf d.names (the_network d.labelled.base)
+IsSoundQuestion (Replay d text) = IsSound d × (length text.items ≤ 1476395008)
+IsSoundQuestion (Closedcheck d text) = IsSound d × (length text.items ≤ 1476395008)
+IsSoundQuestion (Treecheck d text) = IsSound d × (length text.items ≤ 1476395008)
+IsSoundQuestion (Drill number) = Unit {0}
+IsSoundQuestion (Host documents cap) = All IsSound documents.items × (1 ≤ length documents.items) × (length documents.items ≤ 8) × (1 ≤ cap) × (cap ≤ 65536)
+
+-- how a request is answered: by a text, or by a session
+pub data Kind : Type 0 where
+  a_text : Kind
+  a_run : Kind
+  an_edit : Kind
+  a_host : Kind
+
+abbrev pub kind_of : Question → Kind
+kind_of (Run d cap) = a_run
+kind_of (Edit d cap) = an_edit
+kind_of (Host documents cap) = a_host
+kind_of question = a_text
+
+abbrev pub kind_at : Request → Kind
+kind_at (run asked cap) = a_run
+kind_at (edit asked cap) = an_edit
+kind_at (host files deadline cap) = a_host
+kind_at request = a_text
+
+-- a session is prepared only where it is asked for, and its opening is whole lines
+abbrev pub FitsKind : Kind → Prepared → Type 0
+FitsKind kind (Says said) = Unit {0}
+FitsKind kind (Runs opening session) = EndsLine opening.items × (kind ≡ a_run)
+FitsKind kind (Edits session) = kind ≡ an_edit
+FitsKind kind (Hosts opening session) = EndsLine opening.items × (kind ≡ a_host)

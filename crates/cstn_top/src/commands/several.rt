@@ -1,0 +1,43 @@
+// The documents of several files.
+ghost use Rattle.std.specs.Prelude.{◌≡◌, ◌≤◌, length, map, string_bytes, IfOk, IsTrue, IsErrOf, Err};
+ghost use Rattle.std.specs.List.{All, list_all};
+ghost use Rattle.cstn_io.specs.Causes.{Rose};
+ghost use Rattle.cstn_reply.specs.declared.output.Said.{Said as SaidText};
+ghost use Rattle.cstn_top.specs.Begun.{HasRead, IsRefusedAt, IsSound};
+
+use cstn_documents::{NamedNetwork, Unread, open};
+use cstn_io::Shelf;
+use cstn_words::Asked;
+use std::alloc::Global;
+
+/// Reads the documents of the files, one after another. Fails at the first that is refused, where a file can't be read, and for
+/// want of memory.
+pub(crate) fn open_all<F: Shelf>(
+    alloc: Global,
+    files: &[String],
+    deadline: Option<u32>,
+    shelf: &mut F,
+) -> Result<Vec<NamedNetwork>, Unread>
+    requires may_ask { IsTrue (list_all (F.may_ask shelf.old) (map string_bytes files.now)) }
+    ensures read { IfOk result (λ documents. HasRead (F.files shelf.old) deadline (map string_bytes files.now) documents.items) }
+    ensures many { IfOk result (λ documents. length documents.items ≡ length files.now) }
+    ensures sound { IfOk result (λ documents. All IsSound documents.items) }
+    ensures refused { (said : SaidText) → result ≡ Err (Unread.Told said) → IsRefusedAt (F.files shelf.old) deadline (map string_bytes files.now) said }
+    ensures names { F.may_ask shelf.new ≡ F.may_ask shelf.old }
+    ensures files { F.files shelf.new ≡ F.files shelf.old }
+    ensures later { F.faults shelf.old ≤ F.faults shelf.new }
+    ensures fault { IsErrOf result Unread.ReadFault → Rose (F.faults shelf.old) (F.faults shelf.new) }
+{
+    let mut documents = Vec::new(alloc);
+    for file in files {
+        let asked = Asked {
+            file: file.as_str(),
+            deadline,
+        };
+        let document = open(alloc, asked, shelf)?;
+        let Ok(()) = documents.push(document) else {
+            return Err(Unread::Memory);
+        };
+    }
+    Ok(documents)
+}
