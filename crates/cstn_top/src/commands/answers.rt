@@ -23,8 +23,8 @@ use std::alloc::{AllocError, Global};
 /// Prepares what is said to a question. Fails for want of memory alone.
 pub(crate) fn answer(alloc: Global, question: Question) -> Result<Prepared, AllocError>
     requires sound { IsSoundQuestion question }
-    ensures comes { IfOk result (λ prepared. ComesTo (the_question question.entry) (the_plan prepared)) }
-    ensures fits { IfOk result (FitsKind (kind_of question.entry)) }
+    ensures comes { IfOk result (λ prepared. ComesTo (the_question question) (the_plan prepared)) }
+    ensures fits { IfOk result (FitsKind (kind_of question)) }
 {
     match question {
         Question::Check { document, cap } => {

@@ -69,7 +69,6 @@ pub(crate) enum Question {
 
 /// Reads what a request names, one file after another: none is read where an earlier one is refused. Fails where one is refused,
 /// where one can't be read, and for want of memory.
-#[tactic(none)]
 pub(crate) fn ask<F: Shelf>(
     alloc: Global,
     request: Request<'_>,

@@ -1,4 +1,4 @@
-use Rattle.std.proofs.Common.{◌++◌, ap, ◌∙◌, codes, decimal}
+use Rattle.std.proofs.Common.{◌++◌, refl, ap, ◌∙◌, codes, decimal}
 use Rattle.cstn_net.specs.Networks.{Network}
 use Rattle.cstn_net.specs.Read.{the_network}
 use Rattle.cstn_lift.specs.Lowered.{lowered}
@@ -22,4 +22,4 @@ returns-clause-comes c =
     c.in_ok-guide.ensures.start c.in_ok-session.ensures.start
 
 pub returns-clause-fits : goal.returns-clause-fits
-returns-clause-fits c request = line_ends c.in_ok-opening.opening.items (codes "yes " ++ decimal (load_of (the_network c.args.check.net))) (c.in_ok-opening.ensures.line ∙ ap yes_line c.requires.load)
+returns-clause-fits c = (line_ends c.in_ok-opening.opening.items (codes "yes " ++ decimal (load_of (the_network c.args.check.net))) (c.in_ok-opening.ensures.line ∙ ap yes_line c.requires.load), refl)

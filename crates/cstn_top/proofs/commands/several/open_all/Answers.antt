@@ -1,4 +1,4 @@
-use Rattle.std.proofs.Common.{◌≡◌, ◌∙◌, ℕ, List, length, map, take, ap, subst, arith, String, Global, string_bytes, suc, ◌∷◌, [], ◌++◌}
+use Rattle.std.proofs.Common.{◌≡◌, ◌∙◌, ℕ, List, length, map, take, ap, sym, subst, arith, String, Global, string_bytes, suc, ◌∷◌, [], ◌++◌}
 use Rattle.std.specs.Prelude.{Option, Err, IsErrAnd, drop}
 use Rattle.std.proofs.lemmas.List.{take_all, length-map, length-append}
 use Rattle.cstn_documents.specs.Opened.{IsAsked, IsPlainOf, IsPlainRefusal}
