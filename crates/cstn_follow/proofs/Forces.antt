@@ -1,5 +1,5 @@
 -- The constraints of the rest, and where they are in force.
-use Rattle.std.proofs.Common.{ℕ, ◌≡◌, ◌⊎◌, inl, inr, ◌<◌, ◌++◌, Bool, true, false, List, Some, None, refl, sym, subst, ap, ◌∙◌}
+use Rattle.std.proofs.Common.{ℕ, ◌≡◌, ◌⊎◌, inl, inr, ◌+◌, ◌<◌, ◌++◌, ◌∷◌, [], length, Bool, true, false, List, Some, None, refl, sym, subst, ap, ◌∙◌}
 use Rattle.std.specs.Prelude.{ℤ, if◌then◌else◌, not, ◌&&◌}
 use Rattle.std.specs.List.{Contains, filter_map}
 use Rattle.std.specs.Option.{is_some}
@@ -14,7 +14,7 @@ use Rattle.cstn_lift.specs.WellFormed.{IsLabelled}
 use Rattle.cstn_lift.specs.Strategies.{IsInForce}
 use Rattle.cstn_lift.specs.Lowered.{numbered}
 use Rattle.cstn_lift.proofs.CompletionLemmas.{completed_least}
-use Rattle.cstn_lift.proofs.ListLemmas.{filter_map_contains, numbered_all, numbered_contains}
+use Rattle.cstn_lift.proofs.ListLemmas.{filter_map_contains, numbered_all, numbered_append, numbered_contains, numbered_length}
 use Rattle.cstn_lift.proofs.Equivalent.{full_from, full_to}
 use Rattle.cstn_follow.specs.Histories.{History, IsHistory, allows, label_left, IsAllowed}
 use Rattle.cstn_follow.specs.Rest.{number_of, end_left, moved, is_over, constraint_left, bare, late, watched, coming, added, rest}
@@ -30,6 +30,13 @@ numbered_from k cs d has =
     let P : Constraint → Type 0 = λ f. (e : Constraint) × Contains cs e × (f ≡ record e { id = f.id }) in
     All-contains P (numbered k cs) d (numbered_all P k cs
     (All-weaker (Contains cs) (λ c. (id : ℕ) → P (record c { id = id })) (λ c among id. (c, among, refl)) cs (All-contains_itself cs))) has
+
+-- one constraint more is numbered behind the others
+pub numbered_more : (k : ℕ) (cs : List Constraint) (e : Constraint) → numbered k (cs ++ e ∷ []) ≡ numbered k cs ++ record e { id = k + length cs } ∷ []
+numbered_more k cs e = numbered_append k cs (e ∷ [])
+
+pub numbered_long : (k : ℕ) (cs : List Constraint) → length (numbered k cs) ≡ length cs
+numbered_long k cs = numbered_length k cs
 
 module _ (m : Labelled) (h : History) (fresh : ℕ) (good : IsLabelled m) (known : IsHistory m h) where
   abbrev R : Labelled

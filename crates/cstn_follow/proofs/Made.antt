@@ -11,6 +11,7 @@ use Rattle.cstn_net.specs.Read.{the_constraint}
 use Rattle.cstn_lift.specs.Labelled.{Labelled}
 use Rattle.cstn_lift.specs.Lowered.{numbered}
 use Rattle.cstn_follow.proofs.Lists.{range_snoc}
+use Rattle.cstn_follow.proofs.Forces.{numbered_long, numbered_more}
 use Rattle.cstn_follow.specs.Histories.{History, is_done}
 use Rattle.cstn_follow.specs.Rest.{sight_left, is_left, number_of, end_left, bare, stands_at, moment_watched, watched_one, coming_one}
 use Rattle.cstn_follow.specs.Handed.{AreNumbers, HasAdded, Adds}
@@ -24,17 +25,6 @@ module _ (m : Labelled) (h : History) (numbers : List ℕ) (are : AreNumbers m h
 
 pub end_other : (m : Labelled) (h : History) (x : ℕ) → is_done h x ≡ false → end_left m h x ≡ number_of m h x
 end_other m h x e = ap (λ b. if b then 0 else number_of m h x) e
-
--- how many are numbered, and one more of them
-numbered_long : (k : ℕ) (cs : List TheConstraint) → length (numbered k cs) ≡ length cs
-numbered_long k [] = refl
-numbered_long k (c ∷ cs) = ap suc (numbered_long (k + 1) cs)
-
-numbered_more : (k : ℕ) (cs : List TheConstraint) (e : TheConstraint) → numbered k (cs ++ e ∷ []) ≡ numbered k cs ++ record e { id = k + length cs } ∷ []
-numbered_more k [] e = ap (λ i. record e { id = i } ∷ []) (omega arith)
-numbered_more k (c ∷ cs) e =
-    let next : (k + 1) + length cs ≡ k + length (c ∷ cs) = omega arith in
-    ap (λ l. record c { id = k } ∷ l) (numbered_more (k + 1) cs e ∙ ap (λ i. numbered (k + 1) cs ++ record e { id = i } ∷ []) next)
 
 -- one constraint more
 pub adds_one : (fresh : ℕ) (old new : List Constraint) (d : Constraint) (e : TheConstraint) → new ≡ old ++ d ∷ [] →

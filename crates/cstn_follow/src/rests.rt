@@ -252,8 +252,8 @@ fn base_left(
 }
 
 /// The labelled network of what is left of a labelled network after what has happened. Its constraints keep their ids, and those
-/// that are added have ids from `fresh` on, which is above all ids of the network. Refused where it, or its lowered network, has
-/// more than 16,384 constraints, or where memory is refused.
+/// that are added have ids from `fresh` on, which is above all ids of the network and at most 4,294,000,000. Refused where it, or
+/// its lowered network, has more than 16,384 constraints, or where memory is refused.
 pub fn rest(
     alloc: Global,
     network: &Labelled,
