@@ -1,6 +1,6 @@
 -- What is said of a document that was opened.
 use Rattle.std.proofs.Common.{◌≡◌, ◌≢◌, ℕ, zero, suc, ◌+◌, ◌^◌, get_or, ◌≤◌, ◌<◌, List, [], ◌∷◌, length, refl, ap, sym, ◌∙◌, subst, inl, inr, arith}
-use Rattle.std.specs.Prelude.{nat_lt, if◌then◌else◌, Option, Result, Ok, Err, IfOk, IsErrAnd, codes}
+use Rattle.std.specs.Prelude.{nat_lt, if◌then◌else◌, Option, Result, Ok, Err, IfOk, IsErrAnd, slice_index_or, codes}
 use Rattle.cstn_io.specs.Contents.{IsFile as IsRead, IsLongFile}
 use Rattle.std.specs.List.{All}
 use Rattle.std.proofs.lemmas.List.{length-map, get_or-map}
@@ -16,13 +16,13 @@ use Rattle.cstn_graphml.specs.Document.{Parts, document}
 use Rattle.cstn_graphml.specs.DrawnGraph.{DrawnConstraint}
 use Rattle.cstn_graphml.specs.Networks.{numbered_drawn, network_of, labelled_of, IsFit}
 use Rattle.cstn_label.specs.Labels.{Label, empty}
-use Rattle.cstn_label.proofs.MarkLemmas.{absent_or_not}
+use Rattle.cstn_label.specs.declared.marks.Mark.{Mark}
+use Rattle.cstn_label.specs.declared.marks.Mark.TheVariants.{Absent, Yes, No, Unknown}
 use Rattle.cstn_lift.specs.declared.errors.LiftError.{LiftError}
-use Rattle.cstn_lift.specs.Labelled.{Labelled, label_in}
+use Rattle.cstn_lift.specs.Labelled.{Labelled, HasNoLabels, label_in}
 use Rattle.cstn_lift.specs.WellFormed.{IsLabelled}
-use Rattle.cstn_lift.specs.Lowered.{lowered}
+use Rattle.cstn_lift.specs.Lowered.{numbered, lowered}
 use Rattle.cstn_lift.specs.Read.{LabelledParts, the_labelled}
-use Rattle.cstn_lift.proofs.Unlabelled.{unlabelled_lowered, numbered_same}
 use Rattle.std.proofs.Math.Path.{fun_ext}
 use Rattle.cstn_net.specs.declared.errors.NetError.{NetError}
 use Rattle.cstn_documents.specs.Files.{IsContent, AreThere}
@@ -112,11 +112,18 @@ numbered_id k [] i d inside = absurd (omega (arith, inside))
 numbered_id k (c ∷ cs) zero d inside = omega arith
 numbered_id k (c ∷ cs) (suc i) d inside = let later = numbered_id (k + 1) cs i d (omega (arith, inside)) in omega (arith, later)
 
+-- the laws of labelled networks that are needed here
+abbrev pub IsNumbered : Type 0
+IsNumbered = (m : Labelled) → IsLabelled m → HasNoLabels m → lowered m ≡ record m.base { constraints = numbered 0 m.base.constraints }
+
+abbrev pub IsSameNumbered : Type 0
+IsSameNumbered = (k : ℕ) (cs : List Constraint) → ((i : ℕ) (d : Constraint) → i < length cs → (slice_index_or cs i d).id ≡ k + i) → numbered k cs ≡ cs
+
 -- the lowered network of a document without labels is its network
-plain_network : (parts : Parts) → IsLabelled (labelled_of parts) → AreEmpty parts.labels → lowered (labelled_of parts) ≡ network_of parts
-plain_network parts good empties =
-    unlabelled_lowered (labelled_of parts) good (λ x inside. empties x (omega (arith, inside, good.one_each)))
-    ∙ ap (λ (cs : List Constraint). record (network_of parts) { constraints = cs }) (numbered_same 0 (numbered_drawn 0 parts.constraints) (λ i d inside. numbered_id 0 parts.constraints i d inside))
+plain_network : IsNumbered → IsSameNumbered → (parts : Parts) → IsLabelled (labelled_of parts) → AreEmpty parts.labels → lowered (labelled_of parts) ≡ network_of parts
+plain_network is_numbered same parts good empties =
+    is_numbered (labelled_of parts) good (λ x inside. empties x (omega (arith, inside, good.one_each)))
+    ∙ ap (λ (cs : List Constraint). record (network_of parts) { constraints = cs }) (same 0 (numbered_drawn 0 parts.constraints) (λ i d inside. numbered_id 0 parts.constraints i d inside))
 
 -- a document with labels
 labels_said : (told : Result Parts Refusal) (parts : Parts) (said : Said) → told ≡ Ok parts → IsFit parts → (AreEmpty parts.labels → ⊥) → said ≡ say Document (codes "document labels") → IsLabelsTold told said
@@ -134,15 +141,15 @@ document_ids told net names is good = λ i d inside.
     omega (arith, inside, few, long, place, there, same)
 
 -- a document whose labelled network was taken as a plain one
-pub plain_opens : (bytes : List ℕ) (deadline : Option ℕ) (l : NamedLabelled) (d : NamedNetwork) → IsLabelledOf bytes deadline l → IsTakenOf l.labelled l.names d → IsPlainOf bytes deadline d
-plain_opens bytes deadline l d opens taken =
+pub plain_opens : IsNumbered → IsSameNumbered → (bytes : List ℕ) (deadline : Option ℕ) (l : NamedLabelled) (d : NamedNetwork) → IsLabelledOf bytes deadline l → IsTakenOf l.labelled l.names d → IsPlainOf bytes deadline d
+plain_opens is_numbered same_numbered bytes deadline l d opens taken =
     let is = opens.is in
     let empties : AreEmpty is.parts.labels = subst (λ (m : Labelled). AreEmpty m.labels) is.labelled_is taken.empties in
     let parts_are : IsPlainDocument (document bytes deadline) d.network d.names = record {
       parts = is.parts;
       told_are = is.told_are;
       unlabelled = (is.fit, empties);
-      network_is = taken.network ∙ ap lowered is.labelled_is ∙ plain_network is.parts (subst IsLabelled is.labelled_is taken.labelled) empties;
+      network_is = taken.network ∙ ap lowered is.labelled_is ∙ plain_network is_numbered same_numbered is.parts (subst IsLabelled is.labelled_is taken.labelled) empties;
       names_are = taken.same ∙ is.names_are;
     } in
     record { short = opens.short; is = parts_are; well_formed = taken.well_formed; ids = document_ids (document bytes deadline) d.network d.names parts_are taken.well_formed; names = taken.named }
@@ -156,16 +163,22 @@ plain_refused bytes deadline l said opens taken =
     )
 
 -- a document that was taken as a plain one
-pub plainly_asked : {E : Type 0} (told : Option (List ℕ → Option (List ℕ))) (asked : Asked) (l : NamedLabelled) (r : Result NamedNetwork E) → IsAsked told asked (λ bytes deadline. IsLabelledOf bytes deadline l) → IfOk r (IsTakenOf l.labelled l.names) → IfOk r (λ d. IsAsked told asked (λ bytes deadline. IsPlainOf bytes deadline d))
-plainly_asked told asked l (Err e) opened taken = tt
-plainly_asked told asked l (Ok d) opened taken = file_as told asked.file (λ bytes. IsLabelledOf bytes asked.deadline l) (λ bytes. IsPlainOf bytes asked.deadline d) opened (λ bytes is. plain_opens bytes asked.deadline l d is taken)
+pub plainly_asked : {E : Type 0} → IsNumbered → IsSameNumbered → (told : Option (List ℕ → Option (List ℕ))) (asked : Asked) (l : NamedLabelled) (r : Result NamedNetwork E) → IsAsked told asked (λ bytes deadline. IsLabelledOf bytes deadline l) → IfOk r (IsTakenOf l.labelled l.names) → IfOk r (λ d. IsAsked told asked (λ bytes deadline. IsPlainOf bytes deadline d))
+plainly_asked is_numbered same_numbered told asked l (Err e) opened taken = tt
+plainly_asked is_numbered same_numbered told asked l (Ok d) opened taken = file_as told asked.file (λ bytes. IsLabelledOf bytes asked.deadline l) (λ bytes. IsPlainOf bytes asked.deadline d) opened (λ bytes is. plain_opens is_numbered same_numbered bytes asked.deadline l d is taken)
 
 -- a label that can't differ from the empty one is empty
 empty_unless : (a : Label) → (a ≢ empty → ⊥) → a ≡ empty
-empty_unless a never = fun_ext (λ p. elim (absent_or_not (a p)) [
-  | inl is ↦ is
-  | inr not ↦ absurd (never (λ same. not (ap (λ (b : Label). b p) same)))
-])
+empty_unless a never = fun_ext (λ p. by_mark p (a p) refl)
+  where
+    other : (p : ℕ) (m : Mark) → a p ≡ m → (m ≡ Absent → ⊥) → ⊥
+    other p m is differs = never (λ same. differs (sym is ∙ ap (λ (b : Label). b p) same))
+
+    by_mark : (p : ℕ) (m : Mark) → a p ≡ m → a p ≡ Absent
+    by_mark p Absent is = is
+    by_mark p Yes is = absurd (other p Yes is (λ e. cc))
+    by_mark p No is = absurd (other p No is (λ e. cc))
+    by_mark p Unknown is = absurd (other p Unknown is (λ e. cc))
 
 -- the labels are empty where none differs from the empty one
 pub empties_from : (l : LabelledParts) → IsLabelled (the_labelled l) → ((x : ℕ) → x < count (the_network l.base) → label_in (the_labelled l).labels x ≢ empty → ⊥) → AreEmpty (the_labelled l).labels

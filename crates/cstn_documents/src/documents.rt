@@ -14,7 +14,7 @@ use crate::refusals::refuse;
 use crate::{NamedLabelled, NamedNetwork, Unread};
 use cstn_graphml::read;
 use cstn_io::{Shelf, TakeError, take_all};
-use cstn_lift::Labelled;
+use cstn_lift::{Labelled, unlabelled_is_plain};
 use cstn_reply::{Outcome, Said};
 use cstn_text::Names;
 use cstn_words::Asked;
@@ -37,6 +37,7 @@ pub fn open<F: Shelf>(
     ensures later { F.faults shelf.old ≤ F.faults shelf.new }
     ensures fault { IsErrOf result Unread.ReadFault → Rose (F.faults shelf.old) (F.faults shelf.new) }
 {
+    unlabelled_is_plain();
     let document = open_labelled(alloc, asked, shelf)?;
     take_plain(alloc, document.labelled, document.names)
 }

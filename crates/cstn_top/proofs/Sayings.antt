@@ -1,6 +1,6 @@
 -- What is said of a network is what its plan says.
-use Rattle.std.proofs.Common.{◌≡◌, ℕ, ◌≤◌, ◌<◌, List, refl, sym, ◌∙◌, ap, subst, inl, inr, arith}
-use Rattle.std.specs.Prelude.{nat_lt, if◌then◌else◌, Option, None, Some}
+use Rattle.std.proofs.Common.{◌≡◌, ℕ, ◌≤◌, ◌<◌, List, length, refl, sym, ◌∙◌, ap, subst, inl, inr, arith}
+use Rattle.std.specs.Prelude.{nat_lt, if◌then◌else◌, Option, None, Some, codes}
 use Rattle.cstn_net.specs.Networks.{Network}
 use Rattle.cstn_check.specs.Growth.{log_of, load_of, live_bounds}
 use Rattle.cstn_check.specs.Decisions.{verdict, unless_yes, or_else, checked as checked_text}
@@ -9,9 +9,10 @@ use Rattle.cstn_replay.specs.Texts.{IsReplayOfSteps, IsReplayOf}
 use Rattle.cstn_closed.specs.Texts.{Told as ToldBounds, tells as tells_bounds, wrong as wrong_bound, told as told_bounds}
 use Rattle.cstn_closed.specs.Certificates.{IsCertificateOfBounds, IsCertificateOf}
 use Rattle.cstn_tree.specs.Unfolded.{observed, wide, IsTreeUnless, IsUnfolded}
-use Rattle.cstn_reply.specs.Texts.{Said}
+use Rattle.cstn_reply.specs.Texts.{Said, say}
+use Rattle.cstn_reply.specs.declared.output.Outcome.TheVariants.{Script}
 use Rattle.cstn_top.specs.Plans.{Plan, says, branches, IsOutput}
-use Rattle.cstn_top.specs.Answers.{unless_said, on_verdict, checked, unfolded, replayed_steps, replayed, certified_bounds, certified}
+use Rattle.cstn_top.specs.Answers.{Answer, by_text, unless_said, on_verdict, checked, unfolded, replayed_steps, replayed, certified_bounds, certified}
 
 said_or : (o : Option Said) (said : Said) → says (or_else o said) ≡ unless_said o (says said)
 said_or None said = refl
@@ -49,3 +50,12 @@ closedcheck_says names text net said is live = by_told (told_bounds names text) 
     by_told : (t : ToldBounds) → IsCertificateOfBounds names t net said → IsOutput (certified_bounds names t net) live said
     by_told (tells_bounds load bounds) tells = tells
     by_told (wrong_bound at) tells = tells
+
+-- what is said by a text that isn't too long
+pub text_says : (speaks : List ℕ → Answer) (text : List ℕ) (names : List (List ℕ)) (net : Network) (said : Said) → length text ≤ 1476395008 → ((live : List ℕ) → IsOutput (speaks text names net) live said) → (live : List ℕ) → IsOutput (by_text speaks text names net) live said
+text_says speaks text names net said short is live =
+    let same : by_text speaks text names net ≡ speaks text names net = within 1476395008 (length text) (says (say Script (codes "script long"))) (speaks text names net) short in
+    subst (λ (a : Plan). IsOutput a live said) (sym same) (is live)
+  where
+    within : (n m : ℕ) (one other : Plan) → m ≤ n → (if nat_lt n m then one else other) ≡ other
+    within n m one other le = grind arith

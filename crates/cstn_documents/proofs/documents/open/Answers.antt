@@ -15,7 +15,7 @@ returns-in_err-document-clause-refused g c = λ said e.
 
 pub returns-clause-opened : goal.returns-clause-opened
 returns-clause-opened g c =
-    plainly_asked (g.F.Shelf.files c.args.shelf.now) (the_asked c.args.asked) c.in_ok-document.document c.take_plain.result c.in_ok-document.ensures.opened c.take_plain.ensures.taken
+    plainly_asked c.unlabelled_is_plain.ensures.numbered c.unlabelled_is_plain.ensures.same (g.F.Shelf.files c.args.shelf.now) (the_asked c.args.asked) c.in_ok-document.document c.take_plain.result c.in_ok-document.ensures.opened c.take_plain.ensures.taken
 
 pub returns-clause-refused : goal.returns-clause-refused
 returns-clause-refused g c = λ said e.
