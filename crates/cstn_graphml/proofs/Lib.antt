@@ -11,3 +11,4 @@ pub mod Fits
 pub mod OneAnswer
 pub mod OfDocuments
 pub mod SomeAnswer
+pub mod Held
