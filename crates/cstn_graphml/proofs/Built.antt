@@ -88,7 +88,7 @@ parts_with deadline d = record {
   names = d.names;
   observes = or_nothing (option_map observed_seen d.origin) ∷ map observed_seen d.observes.items;
   labels = labels_seen d;
-  constraints = map drawn_seen d.constraints.items;
+  constraints = map drawn_seen d.constraints.list.items;
 }
 
 abbrev pub all_points : LentGraph → List (Option LentObservation)
@@ -98,16 +98,16 @@ abbrev begun : ℕ → BuilderParts
 begun deadline = record { deadline = deadline; points = []; drafts = [] }
 
 pub built_points : (deadline : ℕ) (d : LentGraph) → (builder_of deadline d).points ≡ map point_of (all_points d)
-built_points deadline d = drafts_leave_points d.constraints.items (with_points (all_points d) (begun deadline)) ∙ points_are (all_points d) (begun deadline)
+built_points deadline d = drafts_leave_points d.constraints.list.items (with_points (all_points d) (begun deadline)) ∙ points_are (all_points d) (begun deadline)
 
-pub built_drafts : (deadline : ℕ) (d : LentGraph) → (builder_of deadline d).drafts ≡ map draft_of d.constraints.items
-built_drafts deadline d = drafts_are d.constraints.items (with_points (all_points d) (begun deadline)) ∙ ap (λ (xs : List LentDraft). xs ++ map draft_of d.constraints.items) (points_leave_drafts (all_points d) (begun deadline))
+pub built_drafts : (deadline : ℕ) (d : LentGraph) → (builder_of deadline d).drafts ≡ map draft_of d.constraints.list.items
+built_drafts deadline d = drafts_are d.constraints.list.items (with_points (all_points d) (begun deadline)) ∙ ap (λ (xs : List LentDraft). xs ++ map draft_of d.constraints.list.items) (points_leave_drafts (all_points d) (begun deadline))
 
 pub has_parts : (deadline : ℕ) (d : LentGraph) → HasParts (builder_of deadline d) (parts_with deadline d)
 has_parts deadline d = record {
-  deadline = drafts_leave_deadline d.constraints.items (with_points (all_points d) (begun deadline)) ∙ points_leave_deadline (all_points d) (begun deadline);
+  deadline = drafts_leave_deadline d.constraints.list.items (with_points (all_points d) (begun deadline)) ∙ points_leave_deadline (all_points d) (begun deadline);
   observes = ap (map observation_of) (built_points deadline d) ∙ seen_points (all_points d) ∙ ap (λ o. o ∷ map observed_seen d.observes.items) (seen_origin d.origin);
-  constraints = ap (map drawn_of) (built_drafts deadline d) ∙ seen_drafts d.constraints.items;
+  constraints = ap (map drawn_of) (built_drafts deadline d) ∙ seen_drafts d.constraints.list.items;
 }
 
 pub made_constraints : (k : ℕ) (ds : List LentDraft) → map the_constraint (constraints_from k ds) ≡ numbered_drawn k (map drawn_of ds)

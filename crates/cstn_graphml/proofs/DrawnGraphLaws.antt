@@ -1,5 +1,5 @@
 -- The laws of drawn graphs hold of everything that is read.
-use Rattle.std.proofs.Common.{◌≡◌, ℕ, ◌<◌, ◌≤◌, Bool, true, false, List, [], ◌∷◌, ◌++◌, length, refl, ap, subst, arith, Option, Some, None, Result, Ok, Err}
+use Rattle.std.proofs.Common.{◌≡◌, ℕ, ◌<◌, Bool, true, false, List, [], ◌∷◌, ◌++◌, length, refl, ap, subst, arith, Option, Some, None, Result, Ok, Err}
 use Rattle.std.specs.Prelude.{if◌then◌else◌, is_some, codes, not, nat_lt, nat_le, ◌&&◌}
 use Rattle.std.specs.List.{All, list_any}
 use Rattle.std.proofs.lemmas.List.{length-append}
@@ -58,7 +58,7 @@ blank_keeps : {S : Type 0} (P : S → Type 0) (s t : S) (at : ℕ) (raw : List �
 blank_keeps P s t at raw p h = let b = bind_ok (blank at raw) (λ same. Ok s) t h in subst P (ok_is s t b.2) p
 
 pub empty_is : IsDrawnGraph empty_graph
-empty_is = record { later = []; first = refl; each = refl; labelled = refl; among = λ k d inside. absurd (omega (arith, inside)); few = omega arith; origin_timely = tt; timely = λ k d inside. absurd (omega (arith, inside)); origin_lettered = tt; lettered = λ k d inside. absurd (omega (arith, inside)); literals = λ k d inside. absurd (omega (arith, inside)); origin_literals = empty_of_literals; label_literals = λ k d inside. absurd (omega (arith, inside)) }
+empty_is = record { later = []; first = refl; each = refl; labelled = refl; among = λ k d inside. absurd (omega (arith, inside)); origin_timely = tt; timely = λ k d inside. absurd (omega (arith, inside)); origin_lettered = tt; lettered = λ k d inside. absurd (omega (arith, inside)); literals = λ k d inside. absurd (omega (arith, inside)); origin_literals = empty_of_literals; label_literals = λ k d inside. absurd (omega (arith, inside)) }
 
 picked : (b c : Bool) (later : Option ℕ) (k n : ℕ) → (if b then when c 0 else later) ≡ Some k → 0 < n → ((j : ℕ) → later ≡ Some j → j < n) → k < n
 picked true true later k n e z h = let i : 0 ≡ k = cc in subst (λ j. j < n) i z
@@ -69,38 +69,28 @@ picked false c later k n e z h = h k e
 node_inside : (name : List ℕ) (d : DrawnGraph) (k : ℕ) → IsDrawnGraph d → node_of name d ≡ Some k → k < length d.names
 node_inside name d k h e = picked (is_same name origin_name) (is_some d.origin) (number_of d.names name) k (length d.names) e (omega (arith, h.each)) (λ j f. (position-Some _ d.names j [] f).0)
 
--- what holds of all constraints and of one more holds of them all, whether there is room for that one or not
-room_keeps : (P : DrawnConstraint → Type 0) (room : Bool) (cs : List DrawnConstraint) (c : DrawnConstraint) → All P cs → P c → All P (if room then cs ++ (c ∷ []) else cs)
-room_keeps P true cs c h p = All-push P cs c h p
-room_keeps P false cs c h p = h
-
-room_few : (room : Bool) (cs : List DrawnConstraint) (c : DrawnConstraint) → nat_le (length cs) 16384 ≡ room → length cs ≤ 16385 → length (if room then cs ++ (c ∷ []) else cs) ≤ 16385
-room_few true cs c e few = let below : length cs ≤ 16384 = grind arith in omega (arith, below, length-append cs (c ∷ []))
-room_few false cs c e few = few
-
 constraint_kept : (c : DrawnConstraint) (d : DrawnGraph) → IsDrawnGraph d → IsDrawnAmong (length d.names) c → IsOfLiterals c.label → IsDrawnGraph (with_constraint c d)
 constraint_kept c d h i p = record {
   later = h.later;
   first = h.first;
   each = h.each;
   labelled = h.labelled;
-  among = room_keeps (IsDrawnAmong (length d.names)) (nat_le (length d.constraints) 16384) d.constraints c h.among i;
-  few = room_few (nat_le (length d.constraints) 16384) d.constraints c refl h.few;
+  among = All-push (IsDrawnAmong (length d.names)) d.constraints c h.among i;
   origin_timely = h.origin_timely;
   timely = h.timely;
   origin_lettered = h.origin_lettered;
   lettered = h.lettered;
-  literals = room_keeps (λ (c : DrawnConstraint). IsOfLiterals c.label) (nat_le (length d.constraints) 16384) d.constraints c h.literals p;
+  literals = All-push (λ (c : DrawnConstraint). IsOfLiterals c.label) d.constraints c h.literals p;
   origin_literals = h.origin_literals;
   label_literals = h.label_literals;
 }
 
 deadline_kept : (found : Datum) (n : ℕ) (d : DrawnGraph) → IsDrawnGraph d → IsDrawnGraph (with_deadline found n d)
-deadline_kept found n d h = record { later = h.later; first = h.first; each = h.each; labelled = h.labelled; among = h.among; few = h.few; origin_timely = h.origin_timely; timely = h.timely; origin_lettered = h.origin_lettered; lettered = h.lettered; literals = h.literals; origin_literals = h.origin_literals; label_literals = h.label_literals }
+deadline_kept found n d h = record { later = h.later; first = h.first; each = h.each; labelled = h.labelled; among = h.among; origin_timely = h.origin_timely; timely = h.timely; origin_lettered = h.origin_lettered; lettered = h.lettered; literals = h.literals; origin_literals = h.origin_literals; label_literals = h.label_literals }
 
 node_by : (b : Bool) (name : List ℕ) (observed : Option Observation) (label : Label) (d : DrawnGraph) → IsDrawnGraph d → IsWithReaction observed → IsLettered observed → IsOfLiterals label
     → IsDrawnGraph (if b then record d { origin = Some observed; origin_label = label } else record d { names = d.names ++ (name ∷ []); observes = d.observes ++ (observed ∷ []); labels = d.labels ++ (label ∷ []) })
-node_by true name observed label d h t l p = record { later = h.later; first = h.first; each = h.each; labelled = h.labelled; among = h.among; few = h.few; origin_timely = t; timely = h.timely; origin_lettered = l; lettered = h.lettered; literals = h.literals; origin_literals = p; label_literals = h.label_literals }
+node_by true name observed label d h t l p = record { later = h.later; first = h.first; each = h.each; labelled = h.labelled; among = h.among; origin_timely = t; timely = h.timely; origin_lettered = l; lettered = h.lettered; literals = h.literals; origin_literals = p; label_literals = h.label_literals }
 node_by false name observed label d h t l p =
     let longer = length-append d.names (name ∷ []) in
     let each = length-append d.observes (observed ∷ []) in
@@ -111,7 +101,6 @@ node_by false name observed label d h t l p =
       each = omega (arith, longer, each, h.each);
       labelled = omega (arith, longer, labelled, h.labelled);
       among = All-weaker (IsDrawnAmong (length d.names)) (IsDrawnAmong (length (d.names ++ (name ∷ [])))) (λ c i. (omega (arith, longer, i.0), omega (arith, longer, i.1))) d.constraints h.among;
-      few = h.few;
       origin_timely = h.origin_timely;
       timely = All-push IsWithReaction d.observes observed h.timely t;
       origin_lettered = h.origin_lettered;

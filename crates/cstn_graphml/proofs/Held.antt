@@ -99,10 +99,10 @@ labels_held : (labels : List Label) → All IsOfLiterals labels → map marks (m
 labels_held [] all = refl
 labels_held (a ∷ labels) all = rw (marks_held a (All-head IsOfLiterals a labels all).letters, labels_held labels (All-tail IsOfLiterals a labels all)) refl
 
-draft_held : DrawnConstraint → Draft
+pub draft_held : DrawnConstraint → Draft
 draft_held c = record { from = c.from; to = c.to; most = c.most; label = label_held c.label }
 
-drafts_held : (cs : List DrawnConstraint) → All (λ (c : DrawnConstraint). IsOfLiterals c.label) cs → map drawn_of (map draft_held cs) ≡ cs
+pub drafts_held : (cs : List DrawnConstraint) → All (λ (c : DrawnConstraint). IsOfLiterals c.label) cs → map drawn_of (map draft_held cs) ≡ cs
 unfolding draft_held
 drafts_held [] all = refl
 drafts_held (c ∷ cs) all =

@@ -1,5 +1,6 @@
 pub mod Examples
 pub mod FreshNames
+pub mod KeptRead
 pub mod GraphRead
 pub mod DrawnGraphLaws
 pub mod Built

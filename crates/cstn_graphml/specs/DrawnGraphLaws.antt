@@ -1,5 +1,5 @@
 -- What holds of everything that was read of a graph.
-use Rattle.std.specs.Prelude.{ℕ, ◌≡◌, ◌<◌, ◌≤◌, ◌+◌, List, ◌∷◌, length, Option, Some, None}
+use Rattle.std.specs.Prelude.{ℕ, ◌≡◌, ◌<◌, ◌+◌, List, ◌∷◌, length, Option, Some, None}
 use Rattle.std.specs.List.{All}
 use Rattle.cstn_data.specs.NumberTexts.{IsReaction}
 use Rattle.cstn_data.specs.LabelTexts.{IsOfLiterals}
@@ -21,15 +21,13 @@ IsLettered (Some o) = o.prop < 52
 IsLettered None = Unit {0}
 
 -- The name of the origin stands first, and each name after it has an entry in `observes` and in `labels`. Each constraint is
--- between time-points with names, one constraint at most is past the limit of a network, labels consist of literals, and what is
--- observed has a letter and a reaction in range.
+-- between time-points with names, labels consist of literals, and what is observed has a letter and a reaction in range.
 pub record IsDrawnGraph (d : DrawnGraph) : Type 0 where
   pub later : List (List ℕ)
   pub first : d.names ≡ origin_name ∷ later
   pub each : length d.names ≡ length d.observes + 1
   pub labelled : length d.names ≡ length d.labels + 1
   pub among : All (IsDrawnAmong (length d.names)) d.constraints
-  pub few : length d.constraints ≤ 16385
   pub origin_timely : IsWithReaction (or_nothing d.origin)
   pub timely : All IsWithReaction d.observes
   pub origin_lettered : IsLettered (or_nothing d.origin)

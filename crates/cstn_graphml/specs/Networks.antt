@@ -84,7 +84,7 @@ at_origin None = None
 
 -- the builder, once it was handed this deadline and what a graph holds
 abbrev pub builder_of : ℕ → LentGraph → BuilderParts
-builder_of deadline d = with_drafts d.constraints.items (with_points (at_origin d.origin ∷ d.observes.items) (record { deadline = deadline; points = []; drafts = [] }))
+builder_of deadline d = with_drafts d.constraints.list.items (with_points (at_origin d.origin ∷ d.observes.items) (record { deadline = deadline; points = []; drafts = [] }))
 
 -- a builder was handed exactly these parts
 pub record HasParts (b : BuilderParts) (parts : Parts) : Type 0 where

@@ -13,10 +13,9 @@ ghost use Rattle.cstn_lift.specs.declared.errors.LiftError.{LiftError};
 use cstn_lift::{labels_without_a_lowest_fault_are_in_order, lowest_lift_fault_is_one};
 use cstn_net::{builders_without_a_lowest_fault_make_networks, lowest_net_fault_is_one};
 
-/// Of the constraints of a document past the limit of a network, one at most is kept. Parts with that one make no network, and
-/// the fault that is told is `TooManyConstraints` or one with a lower number.
+/// Parts with more constraints than a network holds make no network, and the fault that is told is `TooManyConstraints` or one
+/// with a lower number.
 pub fn documents_past_the_limit_are_refused()
-    ensures kept { (bytes : List ℕ) (deadline : Option ℕ) (parts : Parts) → document bytes deadline ≡ Ok parts → length parts.constraints ≤ 16385 }
     ensures no_network { (parts : Parts) → 16384 < length parts.constraints → IsWellFormed (network_of parts) → ⊥ }
     ensures told { (parts : Parts) (error : NetError) → 16384 < length parts.constraints → IsUnfit parts error
         → net_number error ≤ net_number TooManyConstraints }

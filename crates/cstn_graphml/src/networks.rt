@@ -83,7 +83,7 @@ fn builder_of(alloc: Global, deadline: u32, graph: &DrawnGraph) -> Result<Builde
         return Err(AllocError);
     }
     put_points(&mut builder, graph.observes.as_slice())?;
-    put_constraints(&mut builder, graph.constraints.as_slice())?;
+    put_constraints(&mut builder, graph.constraints.list.as_slice())?;
     Ok(builder)
 }
 

@@ -6,7 +6,7 @@ use Rattle.std.proofs.Math.Path.{fun_ext}
 use Rattle.std.proofs.lemmas.Bool.{eqb-true}
 use Rattle.std.proofs.lemmas.List.{length-map}
 use Rattle.std.proofs.lemmas.List.Elements.{All-tail, All-head, All-cons, All-nil, All-weaker}
-use Rattle.cstn_net.specs.Networks.{Network, Constraint, count, Observes, IsConstraint, IsWellFormed, IsValue, is_prop}
+use Rattle.cstn_net.specs.Networks.{Network, Constraint, count, Observes, IsConstraint, IsWellFormed, IsValue}
 use Rattle.cstn_net.specs.declared.errors.NetError.{NetError}
 use Rattle.cstn_graphml.specs.DrawnGraph.{DrawnConstraint}
 use Rattle.cstn_graphml.specs.Document.{Parts, document}
