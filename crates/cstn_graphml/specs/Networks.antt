@@ -1,11 +1,11 @@
 -- The labelled network of a document, and what a builder is handed for its network.
-use Rattle.std.specs.Prelude.{◌≡◌, ℕ, ◌==◌, List, [], ◌∷◌, ◌++◌, map, Option, Some, None, option_map, if◌then◌else◌}
+use Rattle.std.specs.Prelude.{◌≡◌, ℕ, List, [], ◌∷◌, ◌++◌, map, Option, Some, None, option_map}
 use Rattle.cstn_net.specs.declared.points.TimePoint.{TimePoint}
 use Rattle.cstn_net.specs.declared.drafts.Draft.{Draft as LentDraft}
 use Rattle.cstn_net.specs.declared.errors.NetError.{NetError}
 use Rattle.cstn_net.specs.Networks.{Constraint, Network, IsWellFormed}
 use Rattle.cstn_net.specs.Drafts.{BuilderParts, constraints_from, IsLowestNetFault}
-use Rattle.cstn_net.specs.Read.{NetworkParts, observed}
+use Rattle.cstn_net.specs.Read.{NetworkParts, observed, first_reaction}
 use Rattle.cstn_label.specs.declared.labels.Label.{Label}
 use Rattle.cstn_label.specs.Read.{marks}
 use Rattle.cstn_lift.specs.declared.errors.LiftError.{LiftError}
@@ -31,21 +31,17 @@ numbered_drawn k cs = numbered k (map constraint_drawn cs)
 abbrev pub observed_prop : Option Observation → Option ℕ
 observed_prop observed = option_map (λ o. o.prop) observed
 
-abbrev pub reaction_by : Option Observation → ℕ → ℕ → ℕ
-reaction_by (Some o) p later = if o.prop == p then o.reaction else later
-reaction_by None p later = later
-
--- the reaction of the first observation of p in ticks, 1 where there is none
-abbrev pub reaction_among : List (Option Observation) → ℕ → ℕ
-reaction_among [] p = 1
-reaction_among (observed ∷ later) p = reaction_by observed p (reaction_among later p)
+-- the reaction of what is observed in ticks, 1 where nothing is
+abbrev pub observed_reaction : Option Observation → ℕ
+observed_reaction (Some o) = o.reaction
+observed_reaction None = 1
 
 -- the network of a document: a proposition has the reaction of its observation, and ids are the places of the constraints
 abbrev pub network_of : Parts → Network
 network_of parts = record {
   deadline = parts.deadline;
   observes = map observed_prop parts.observes;
-  reaction = reaction_among parts.observes;
+  reaction = first_reaction observed_prop observed_reaction parts.observes;
   constraints = numbered_drawn 0 parts.constraints;
 }
 
