@@ -1,11 +1,11 @@
 -- The tests decide the definitions.
-use Rattle.std.proofs.Common.{ℕ, zero, suc, ◌≡◌, inl, inr, ◌<◌, ◌≤◌, Bool, true, false, not, ◌&&◌, eqb, ltb, Some, None, arith, refl, sym, subst, ap, ◌∙◌}
+use Rattle.std.proofs.Common.{ℕ, ◌≡◌, inl, inr, ◌<◌, ◌≤◌, true, false, not, ◌&&◌, eqb, ltb, Some, None, arith, sym, ap, ◌∙◌}
 use Rattle.std.specs.Prelude.{ℤ, pos, ◌≤ℤ◌, ◌<ℤ◌, int_lt, ◌-ℤ◌, ◌+ℤ◌}
 use Rattle.std.specs.Int.{int_min}
 use Rattle.std.proofs.lemmas.Int.{ints}
 use Rattle.std.proofs.lemmas.Bool.{cases_lt, and_parts, and_from, eqb-true, eq-eqb, lt-ltb, cond-true, cond-false}
 use Rattle.cstn_label.specs.declared.marks.Mark.{Mark}
-use Rattle.cstn_label.specs.Labels.{Label, IsMarkPlain, IsMarkWithin, IsPlain, IsWithin, joined, without}
+use Rattle.cstn_label.specs.Labels.{Label, IsMarkWithin, IsWithin, joined, without}
 use Rattle.cstn_label.specs.declared.marks.Mark.TheVariants.{Absent}
 use Rattle.cstn_net.specs.Networks.{Network, Constraint, Observes, count, limit}
 use Rattle.cstn_label.specs.Bounds.{Bound, Dominates}
@@ -36,30 +36,6 @@ not_absent m h = grind arith
 
 pub false_absent : (m : Mark) → is_absent m ≡ false → m ≡ Absent → ⊥
 false_absent m h e = grind arith
-
-within_true : (m n : Mark) → IsMarkWithin m n → is_mark_within m n ≡ true
-mark_within_true m n h = grind arith
-
-true_mark_within : (m n : Mark) → is_mark_within m n ≡ true → IsMarkWithin m n
-true_mark_within m n h = grind arith
-
-absent_within : (m n : Mark) → m ≡ Absent → IsMarkWithin m n
-absent_within m n e = rw e tt
-
-not_absent : (m : Mark) → (m ≡ Absent → ⊥) → is_absent m ≡ false
-not_absent m h = grind arith
-
-pub false_absent : (m : Mark) → is_absent m ≡ false → m ≡ Absent → ⊥
-false_absent m h e = grind arith
-
-pub plain_true : (a : Label) → IsPlain a → is_plain a ≡ true
-plain_true a h = each_from (λ p. is_mark_plain (a p)) 52 (λ p. mark_plain_true (a p) (h p))
-
-pub true_plain : (a : Label) → Small a → is_plain a ≡ true → IsPlain a
-true_plain a small e = λ p. elim (cases_lt p 52) [
-  | inl below ↦ true_mark_plain (a p) (each_at (λ q. is_mark_plain (a q)) 52 p below e)
-  | inr above ↦ absent_plain (a p) (small p above)
-]
 
 within_true : (a b : Label) → IsWithin a b → is_within a b ≡ true
 within_true a b h = each_from (λ p. is_mark_within (a p) (b p)) 52 (λ p. mark_within_true (a p) (b p) (h p))
