@@ -18,7 +18,7 @@ use Rattle.cstn_graphml.specs.DrawnGraphLaws.{IsDrawnAmong}
 use Rattle.cstn_graphml.specs.DrawnGraph.{observation, DrawnConstraint}
 use Rattle.cstn_graphml.specs.Document.{Parts, or_nothing}
 use Rattle.cstn_graphml.specs.Labels.{labels_seen}
-use Rattle.cstn_graphml.specs.Networks.{with_points, with_drafts, point_of, draft_of, drawn_of, numbered_drawn, observed_prop, observed_reaction, observation_of, builder_of, at_origin, HasParts, network_of, IsBuilt}
+use Rattle.cstn_graphml.specs.Networks.{begun, with_points, with_drafts, point_of, draft_of, drawn_of, numbered_drawn, observed_prop, observed_reaction, observation_of, builder_of, at_origin, HasParts, network_of, IsBuilt}
 
 -- the last element of one list may as well be the first of the next
 seam : {A : Type 0} (xs : List A) (x : A) (ys : List A) → (xs ++ (x ∷ [])) ++ ys ≡ xs ++ (x ∷ ys)
@@ -94,9 +94,6 @@ parts_with deadline d = record {
 
 abbrev pub all_points : LentGraph → List (Option LentObservation)
 all_points d = at_origin d.origin ∷ d.observes.items
-
-abbrev begun : ℕ → BuilderParts
-begun deadline = record { deadline = deadline; points = []; drafts = [] }
 
 pub built_points : (deadline : ℕ) (d : LentGraph) → (builder_of deadline d).points ≡ map point_of (all_points d)
 built_points deadline d = drafts_leave_points d.constraints.list.items (with_points (all_points d) (begun deadline)) ∙ points_are (all_points d) (begun deadline)

@@ -4,7 +4,7 @@ use Rattle.cstn_net.specs.declared.points.TimePoint.{TimePoint}
 use Rattle.cstn_net.specs.declared.drafts.Draft.{Draft as LentDraft}
 use Rattle.cstn_net.specs.declared.errors.NetError.{NetError}
 use Rattle.cstn_net.specs.Networks.{Constraint, Network, IsWellFormed}
-use Rattle.cstn_net.specs.Drafts.{BuilderParts, constraints_from, IsLowestNetFault}
+use Rattle.cstn_net.specs.Drafts.{BuilderParts, with_draft, constraints_from, IsLowestNetFault}
 use Rattle.cstn_net.specs.Read.{NetworkParts, observed, first_reaction}
 use Rattle.cstn_label.specs.declared.labels.Label.{Label}
 use Rattle.cstn_label.specs.Read.{marks}
@@ -63,6 +63,10 @@ draft_of c = record { from = c.from; to = c.to; most = c.most; label = c.label }
 abbrev pub drawn_of : LentDraft → DrawnConstraint
 drawn_of d = record { from = d.from; to = d.to; most = d.most; label = marks d.label }
 
+-- a builder that was handed nothing yet
+abbrev pub begun : ℕ → BuilderParts
+begun deadline = record { deadline = deadline; points = []; drafts = [] }
+
 -- the builder, once it was handed these time-points after its own
 abbrev pub with_points : List (Option LentObservation) → BuilderParts → BuilderParts
 with_points [] b = b
@@ -71,7 +75,7 @@ with_points (observed ∷ later) b = with_points later (record b { points = b.po
 -- the builder, once it was handed these constraints after its own
 abbrev pub with_drafts : List Lent → BuilderParts → BuilderParts
 with_drafts [] b = b
-with_drafts (c ∷ cs) b = with_drafts cs (record b { drafts = b.drafts ++ (draft_of c ∷ []) })
+with_drafts (c ∷ cs) b = with_drafts cs (with_draft (draft_of c) b)
 
 -- what the origin observes: nothing where its node wasn't read
 abbrev pub at_origin : Option (Option LentObservation) → Option LentObservation
@@ -80,7 +84,7 @@ at_origin None = None
 
 -- the builder, once it was handed this deadline and what a graph holds
 abbrev pub builder_of : ℕ → LentGraph → BuilderParts
-builder_of deadline d = with_drafts d.constraints.list.items (with_points (at_origin d.origin ∷ d.observes.items) (record { deadline = deadline; points = []; drafts = [] }))
+builder_of deadline d = with_drafts d.constraints.list.items (with_points (at_origin d.origin ∷ d.observes.items) (begun deadline))
 
 -- a builder was handed exactly these parts
 pub record HasParts (b : BuilderParts) (parts : Parts) : Type 0 where

@@ -1,10 +1,10 @@
 //! Edges, which are checked and put in the graph as constraints when they end.
 
-ghost use Rattle.std.specs.Prelude.{◌≡◌, map, true};
-ghost use Rattle.cstn_graphml.specs.Judged.{is_kept, with_pair, with_pairs, with_values, with_edge, judged_edge};
+ghost use Rattle.std.specs.Prelude.{◌≡◌, map};
+ghost use Rattle.cstn_graphml.specs.Judged.{is_kept, with_pair, with_pairs, with_values, with_kept, judged_edge};
 ghost use Rattle.cstn_graphml.specs.Kept.{kept, kept_by};
 ghost use Rattle.cstn_element.specs.Children.{tag_seen};
-ghost use Rattle.cstn_element.specs.DataElementSeen.{lent_datum, datum_seen};
+ghost use Rattle.cstn_element.specs.DataElementSeen.{lent_datum, data_seen};
 ghost use Rattle.cstn_data.specs.TextsSeen.{pair_seen};
 ghost use Rattle.cstn_data.specs.PairsLeft.{pairs_left};
 ghost use Rattle.cstn_graphml.specs.DrawnGraphSeen.{graph_seen};
@@ -99,7 +99,7 @@ fn put_edge(
     found: &[Datum],
     graph: &mut DrawnGraph,
 ) -> Result<(), DocError>
-    ensures { Gives (λ u. graph_seen graph.new) result (kept_by kept (with_edge true at source.now target.now (graph_seen graph.old) (map datum_seen found.now))) }
+    ensures { Gives (λ u. graph_seen graph.new) result (kept_by kept (with_kept at source.now target.now (graph_seen graph.old) (data_seen found.now))) }
 {
     let Some(from) = node_of(graph, source) else {
         return Err(DocError::UnknownNode { at });
@@ -118,7 +118,7 @@ pub fn judge_edge(
     found: &[Datum],
     graph: &mut DrawnGraph,
 ) -> Result<(), DocError>
-    ensures { Gives (λ u. graph_seen graph.new) result (kept_by kept (judged_edge (tag_seen start.now) (graph_seen graph.old) (map datum_seen found.now))) }
+    ensures { Gives (λ u. graph_seen graph.new) result (kept_by kept (judged_edge (tag_seen start.now) (graph_seen graph.old) (data_seen found.now))) }
 {
     let at = start.at;
     let Some(source) = text_attribute(alloc, &start.attributes, b"source")? else {

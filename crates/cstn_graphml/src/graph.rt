@@ -7,7 +7,7 @@ ghost use Rattle.cstn_graphml.specs.Document.Part.{a_datum, a_node, an_edge};
 ghost use Rattle.cstn_element.specs.Children.{ReadsChild};
 ghost use Rattle.cstn_graphml.specs.DrawnGraphSeen.{graph_seen};
 ghost use Rattle.cstn_graphml.specs.PartSeen.{part_seen};
-ghost use Rattle.cstn_element.specs.Reads.{Reads};
+ghost use Rattle.cstn_element.specs.Reads.{ReadsRest};
 
 use crate::deadlines::judge_deadline;
 use crate::drawn_graph::{DrawnGraph, empty_graph};
@@ -122,7 +122,7 @@ fn read_graph(
     scanner: &mut Scanner,
     name: &[u8],
 ) -> Result<DrawnGraph, DocError>
-    ensures reads { (others : List (List ℕ)) → length others ≡ 1 → Reads graph_seen in_kept_graph name.now others scanner.old scanner.new result }
+    ensures reads { ReadsRest 1 graph_seen in_kept_graph name.now scanner.old scanner.new result }
     ensures less { length scanner.new ≤ length scanner.old }
 {
     elements_are_read_in_turn::<GraphReading>();

@@ -5,7 +5,7 @@ ghost use Rattle.cstn_markup.specs.Bytes.{is_same};
 ghost use Rattle.cstn_graphml.specs.Kept.{kept_root_reading, in_kept_root};
 ghost use Rattle.cstn_element.specs.Children.{ReadsChild};
 ghost use Rattle.cstn_graphml.specs.DrawnGraphSeen.{graph_seen};
-ghost use Rattle.cstn_element.specs.Reads.{Reads};
+ghost use Rattle.cstn_element.specs.Reads.{ReadsRest};
 
 use crate::drawn_graph::DrawnGraph;
 use crate::graph::read_whole_graph;
@@ -51,7 +51,7 @@ fn read_root(
     scanner: &mut Scanner,
     name: &[u8],
 ) -> Result<DrawnGraph, DocError>
-    ensures reads { (others : List (List ℕ)) → length others ≡ 0 → Reads graph_seen in_kept_root name.now others scanner.old scanner.new result }
+    ensures reads { ReadsRest 0 graph_seen in_kept_root name.now scanner.old scanner.new result }
     ensures less { length scanner.new ≤ length scanner.old }
 {
     elements_are_read_in_turn::<RootReading>();
