@@ -19,12 +19,11 @@ use Rattle.cstn_net.specs.Read.{observed, reaction_of, the_constraint}
 use Rattle.cstn_net.specs.Drafts.{constraint_of, constraints_from, with_reaction}
 use Rattle.cstn_lift.specs.Labelled.{Labelled}
 use Rattle.cstn_lift.specs.Completion.{full_label}
-use Rattle.cstn_label.specs.Marks.{is_plain}
-use Rattle.cstn_lift.specs.Lowered.{observer_of, with_full_label, guard, guards_of, numbered}
+use Rattle.cstn_lift.specs.Lowered.{is_plain, observer_of, with_full_label, guard, guards_of, numbered}
 use Rattle.cstn_lift.specs.Handed.{HasPoints, HasConstraints}
 use Rattle.cstn_lift.proofs.CompletionLemmas.{marked_true}
 use Rattle.cstn_lift.proofs.ListLemmas.{numbered_length, numbered_append}
-use Rattle.cstn_lift.proofs.LoweredLemmas.{plain_true, true_plain, prop_back}
+use Rattle.cstn_lift.proofs.LoweredLemmas.{plain_true, plain_back, prop_back}
 
 module _ (long : (k : ℕ) (ds : List Draft) → length (constraints_from k ds) ≡ length ds)
     (more : (k i : ℕ) (ds : List Draft) (d : Draft) → i ≡ k + length ds → constraints_from k (ds ++ d ∷ []) ≡ constraints_from k ds ++ constraint_of i d ∷ []) where
@@ -73,7 +72,7 @@ full_skipped m c cs ds l above label_is unplain has =
     let full = full_label m (the_constraint c) in
     let with_full = record (the_constraint c) { label = full } in
     elim (cases_Bool (is_plain full)) [
-      | inl set ↦ absurd (unplain (subst IsPlain (sym label_is) (true_plain full (λ p past. ap (λ a. a p) (sym label_is) ∙ above p past) set)))
+      | inl set ↦ absurd (unplain (subst IsPlain (sym label_is) (plain_back full (λ p past. ap (λ a. a p) (sym label_is) ∙ above p past) set)))
       | inr clear ↦
           let given : with_full_label m (the_constraint c) ≡ None = ap (λ b. if b then Some with_full else None) clear in
           subst (λ (o : Option TheConstraint). HasConstraints (cs ++ cons_option o []) ds) (sym given)

@@ -4,17 +4,16 @@ use Rattle.std.specs.Prelude.{◌↔◌, map, if◌then◌else◌, option_map, p
 use Rattle.std.specs.List.{All, Contains, filter_map, flat_map, range_with_len}
 use Rattle.std.proofs.lemmas.List.Elements.{All-contains, All-contains_itself, All-weaker, Contains-append_left}
 use Rattle.cstn_label.specs.Labels.{IsPlain}
-use Rattle.cstn_label.specs.Marks.{is_marked, is_plain}
+use Rattle.cstn_label.specs.Marks.{is_marked}
 use Rattle.cstn_net.specs.Networks.{Constraint, count}
 use Rattle.cstn_lift.specs.Labelled.{Labelled}
 use Rattle.cstn_lift.specs.Completion.{completed, completed_label, full_label}
 use Rattle.cstn_lift.specs.WellFormed.{IsLabelled}
-use Rattle.cstn_lift.specs.Lowered.{observer_of, with_full_label, full_constraints, guard, guards_of, guards_with, guards}
+use Rattle.cstn_lift.specs.Lowered.{is_plain, observer_of, with_full_label, full_constraints, guard, guards_of, guards_with, guards}
 use Rattle.cstn_lift.specs.Kept.{IsConstraintOf, IsKept, IsLowered, IsFull, IsGuard}
 use Rattle.cstn_lift.proofs.CompletionLemmas.{marked_back}
 use Rattle.cstn_lift.proofs.ListLemmas.{filter_map_contains, flat_map_contains, range_contains, numbered_contains, filter_map_all, flat_map_all, range_all}
-use Rattle.cstn_label.proofs.PlainLabels.{plain_true, true_plain}
-use Rattle.cstn_lift.proofs.LoweredLemmas.{only, completed_at, guard_is, observer_back}
+use Rattle.cstn_lift.proofs.LoweredLemmas.{plain_true, plain_back, only, completed_at, guard_is, observer_back}
 use Rattle.cstn_lift.proofs.Equivalent.{full_observed}
 use Rattle.cstn_lift.proofs.WellFormed.{above, plain_and_observed}
 
@@ -39,7 +38,7 @@ range_from n i has = All-contains (λ k. k < n) (range_with_len 0 n) i (range_al
 
 module _ (m : Labelled) (good : IsLabelled m) where
   plain_over_all : (c : Constraint) → IsConstraintOf m c → is_plain (full_label m c) ≡ true → IsPlain (full_label m c)
-  plain_over_all c has = true_plain (full_label m c) (above m good (full_label m c) (full_observed m good c has))
+  plain_over_all c has = plain_back (full_label m c) (above m good (full_label m c) (full_observed m good c has))
 
   -- a full label is plain at the propositions 0 to 51 exactly where it is plain at all
   pub plain_both : (c : Constraint) → IsConstraintOf m c → IsTrue (is_plain (full_label m c)) ↔ IsPlain (full_label m c)

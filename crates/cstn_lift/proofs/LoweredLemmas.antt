@@ -1,22 +1,43 @@
 -- The constraints of the lowered network.
-use Rattle.std.proofs.Common.{ℕ, ◌≡◌, ◌⊎◌, inl, inr, ◌<◌, Bool, true, false, Option, Some, None, arith, refl, sym, subst, ap, ◌∙◌, ◌++◌}
+use Rattle.std.proofs.Common.{ℕ, ◌≡◌, ◌⊎◌, inl, inr, ◌<◌, ◌≤◌, Bool, true, false, Option, Some, None, arith, refl, sym, subst, ap, ◌∙◌, ◌++◌}
 use Rattle.std.specs.Prelude.{map, slice_index_or, if◌then◌else◌, option_map, ℤ, pos, ◌-ℤ◌, ◌==◌}
 use Rattle.std.specs.List.{All, Contains, range_with_len}
-use Rattle.std.proofs.lemmas.Bool.{cases_Bool}
+use Rattle.std.proofs.lemmas.Bool.{cases_lt, cases_Bool}
 use Rattle.std.proofs.lemmas.List.{get_or-map}
 use Rattle.std.proofs.lemmas.List.Elements.{All-append, All-contains, All-contains_itself, All-weaker, Contains-append_left, Contains-append_right}
 use Rattle.std.proofs.lemmas.List.Quantifiers.{position-Some}
-use Rattle.cstn_label.specs.Labels.{Label, IsMarked, IsPlain, empty}
-use Rattle.cstn_label.specs.Marks.{is_marked, is_plain}
+use Rattle.std.proofs.lemmas.List.Sums.{list_all-from_AllPass, AllPass-from_list_all}
+use Rattle.cstn_label.specs.declared.marks.Mark.{Mark}
+use Rattle.cstn_label.specs.declared.marks.Mark.TheVariants.{Absent}
+use Rattle.cstn_label.specs.Labels.{Label, IsMarked, IsMarkPlain, IsPlain, empty}
+use Rattle.cstn_label.specs.Marks.{is_marked, is_mark_plain}
 use Rattle.cstn_net.specs.Networks.{Network, IsNetwork, Constraint, Observes, count, is_prop}
 use Rattle.cstn_net.proofs.Knowledge.{observer_within}
-pub use Rattle.cstn_label.proofs.PlainLabels.{plain_true, true_plain}
 use Rattle.cstn_lift.specs.Labelled.{Labelled, label_in}
 use Rattle.cstn_lift.specs.Completion.{completed, completed_label, full_label}
 use Rattle.cstn_lift.specs.WellFormed.{IsLabelled}
-use Rattle.cstn_lift.specs.Lowered.{observer_of, with_full_label, full_constraints, guard, guards_of, guards_with, guards, lowered}
+use Rattle.cstn_lift.specs.Lowered.{is_plain, observer_of, with_full_label, full_constraints, guard, guards_of, guards_with, guards, lowered}
 use Rattle.cstn_lift.proofs.CompletionLemmas.{marked_true, marked_back}
 use Rattle.cstn_lift.proofs.ListLemmas.{filter_map_contains, flat_map_contains, range_contains, numbered_contains, numbered_all, filter_map_all, flat_map_all, range_all, position_found}
+
+mark_plain_true : (a : Mark) → IsMarkPlain a → is_mark_plain a ≡ true
+mark_plain_true a h = grind arith
+
+mark_plain_back : (a : Mark) → is_mark_plain a ≡ true → IsMarkPlain a
+mark_plain_back a h = grind arith
+
+pub plain_true : (a : Label) → IsPlain a → is_plain a ≡ true
+unfolding is_plain
+plain_true a h = list_all-from_AllPass (λ p. is_mark_plain (a p)) (range_with_len 0 52)
+    (range_all (λ p. is_mark_plain (a p) ≡ true) 0 52 (λ p low high. mark_plain_true (a p) (h p)))
+
+pub plain_back : (a : Label) → ((p : ℕ) → 52 ≤ p → a p ≡ Absent) → is_plain a ≡ true → IsPlain a
+unfolding is_plain
+plain_back a above h p = elim (cases_lt p 52) [
+  | inl inside ↦ mark_plain_back (a p) (All-contains (λ q. is_mark_plain (a q) ≡ true) (range_with_len 0 52) p
+      (AllPass-from_list_all (λ q. is_mark_plain (a q)) (range_with_len 0 52) h) (range_contains 52 p inside))
+  | inr past ↦ subst IsMarkPlain (sym (above p past)) tt
+]
 
 prop_true : (p q : ℕ) → p ≡ q → (p == q) ≡ true
 prop_true p q e = grind arith

@@ -8,7 +8,7 @@ use Rattle.cstn_net.specs.Networks.{Constraint}
 use Rattle.cstn_net.specs.Examples.{only, both}
 use Rattle.cstn_lift.specs.Labelled.{Labelled}
 use Rattle.cstn_lift.specs.Completion.{completed_label}
-use Rattle.cstn_lift.specs.Lowered.{guards_of, lowered}
+use Rattle.cstn_lift.specs.Lowered.{is_plain, guards_of, lowered}
 
 abbrev pub shape : Constraint → ℕ × ℕ × ℕ × ℤ × Mark × Mark
 shape c = (c.id, c.from, c.to, c.most, c.label 0, c.label 1)
@@ -17,7 +17,7 @@ abbrev pub late : Labelled
 late = record { base = record { deadline = 10; observes = None ∷ (Some 0 ∷ (None ∷ [])); reaction = λ p. 1; constraints = record { id = 4; from = 2; to = 0; most = negsuc 4; label = empty } ∷ [] }; labels = empty ∷ (empty ∷ (only Yes ∷ [])) }
 
 pub late_row : map shape (lowered late).constraints ≡ (0, 2, 0, negsuc 4, Yes, Absent) ∷ ((1, 2, 1, negsuc 0, Yes, Absent) ∷ [])
-unfolding guards_of
+unfolding is_plain guards_of
 late_row = refl
 
 abbrev pub circle : Labelled
@@ -34,7 +34,7 @@ never_row : completed_label never 3 0 ≡ Unknown
 never_row = refl
 
 never_lowered : map shape (lowered never).constraints ≡ (0, 2, 1, negsuc 2, Yes, Absent) ∷ ((1, 3, 1, negsuc 2, Unknown, Yes) ∷ ((2, 3, 2, negsuc 2, Unknown, Yes) ∷ []))
-unfolding guards_of
+unfolding is_plain guards_of
 never_lowered = refl
 
 -- a label with these marks of p, q and r, for a chain of three observers: R has the label !q and observes r, Q has the label p
@@ -49,5 +49,5 @@ abbrev pub chain : Labelled
 chain = record { base = record { deadline = 10; observes = None ∷ (Some 2 ∷ (Some 1 ∷ (Some 0 ∷ (None ∷ [])))); reaction = λ p. 1; constraints = record { id = 7; from = 4; to = 0; most = pos 1; label = empty } ∷ [] }; labels = empty ∷ (three Absent No Absent ∷ (three Yes Absent Absent ∷ (empty ∷ (three Absent Absent Yes ∷ [])))) }
 
 pub chain_row : map shape (lowered chain).constraints ≡ (0, 4, 0, pos 1, Yes, No) ∷ ((1, 1, 3, negsuc 0, Yes, No) ∷ ((2, 1, 2, negsuc 0, Yes, No) ∷ ((3, 2, 3, negsuc 0, Yes, Absent) ∷ ((4, 4, 3, negsuc 0, Yes, No) ∷ ((5, 4, 2, negsuc 0, Yes, No) ∷ ((6, 4, 1, negsuc 0, Yes, No) ∷ []))))))
-unfolding guards_of
+unfolding is_plain guards_of
 chain_row = refl

@@ -15,8 +15,7 @@ use Rattle.cstn_lift.specs.Lowered.{with_full_label, full_constraints, guard, gu
 use Rattle.cstn_lift.proofs.CompletionLemmas.{completed_contains, completed_least, empty_within}
 use Rattle.cstn_lift.proofs.FullLemmas.{past_empty}
 use Rattle.cstn_lift.proofs.ListLemmas.{range_all}
-use Rattle.cstn_label.proofs.PlainLabels.{plain_true}
-use Rattle.cstn_lift.proofs.LoweredLemmas.{completed_at}
+use Rattle.cstn_lift.proofs.LoweredLemmas.{plain_true, completed_at}
 
 filter_map_whole : {X : Type 0} → (h : X → Option X) (xs : List X) → All (λ x. h x ≡ Some x) xs → filter_map h xs ≡ xs
 filter_map_whole h [] all = refl

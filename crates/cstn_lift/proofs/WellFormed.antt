@@ -15,8 +15,7 @@ use Rattle.cstn_lift.specs.WellFormed.{IsLabelled}
 use Rattle.cstn_lift.specs.Lowered.{full_constraints, guards, lowered}
 use Rattle.cstn_lift.proofs.FullLemmas.{full_plain, full_on}
 use Rattle.cstn_lift.proofs.ListLemmas.{numbered_ascending}
-use Rattle.cstn_label.proofs.PlainLabels.{true_plain}
-use Rattle.cstn_lift.proofs.LoweredLemmas.{IsOfLowered, only}
+use Rattle.cstn_lift.proofs.LoweredLemmas.{IsOfLowered, only, plain_back}
 use Rattle.cstn_lift.proofs.Equivalent.{full_observed}
 
 module _ (m : Labelled) (good : IsLabelled m) where
@@ -45,7 +44,7 @@ module _ (m : Labelled) (good : IsLabelled m) where
       record {
         from = omega arith;
         to = omega arith;
-        plain = subst IsPlain (sym f.3.marks) (true_plain full (above full on) f.2);
+        plain = subst IsPlain (sym f.3.marks) (plain_back full (above full on) f.2);
         observed = observed_there d.label full f.3.marks on;
       }
   constraint_there d (inr g) =

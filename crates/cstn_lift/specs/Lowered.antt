@@ -1,11 +1,15 @@
 -- The plain network that a labelled network is turned into.
-use Rattle.std.specs.Prelude.{ℕ, ◌+◌, ◌++◌, List, [], ◌∷◌, Option, None, Some, option_map, map, pos, ◌-ℤ◌, if◌then◌else◌}
-use Rattle.std.specs.List.{filter_map, flat_map, position, range_with_len}
+use Rattle.std.specs.Prelude.{ℕ, ◌+◌, ◌++◌, Bool, List, [], ◌∷◌, Option, None, Some, option_map, map, pos, ◌-ℤ◌, if◌then◌else◌}
+use Rattle.std.specs.List.{filter_map, flat_map, list_all, position, range_with_len}
 use Rattle.cstn_label.specs.Labels.{Label}
-use Rattle.cstn_label.specs.Marks.{is_marked, is_plain}
+use Rattle.cstn_label.specs.Marks.{is_marked, is_mark_plain}
 use Rattle.cstn_net.specs.Networks.{Network, Constraint, count, is_prop}
 use Rattle.cstn_lift.specs.Labelled.{Labelled, label_in}
 use Rattle.cstn_lift.specs.Completion.{completed, full_label}
+
+-- none of the 52 propositions has an unknown mark
+unfoldable pub is_plain : Label → Bool
+is_plain a = list_all (λ p. is_mark_plain (a p)) (range_with_len 0 52)
 
 -- the time-point that observes p
 abbrev pub observer_of : Network → ℕ → Option ℕ

@@ -4,14 +4,14 @@ use Rattle.std.specs.Prelude.{Option, Some, None, is_some, option_map, if◌then
 use Rattle.std.specs.List.{cons_option, filter_map, flat_map, range_with_len}
 use Rattle.std.proofs.Math.Path.{fun_ext}
 use Rattle.std.proofs.lemmas.List.{length-append}
-use Rattle.cstn_label.specs.Marks.{is_marked, is_plain}
+use Rattle.cstn_label.specs.Marks.{is_marked}
 use Rattle.cstn_label.specs.Labels.{Label, IsPlain, joined}
 use Rattle.cstn_net.specs.Networks.{Network, Constraint, IsWellFormed}
 use Rattle.cstn_lift.specs.declared.errors.LiftError.{LiftError}
 use Rattle.cstn_lift.specs.Labelled.{Labelled, label_in}
 use Rattle.cstn_lift.specs.Completion.{brought_by, joined_upto, rounds, completed}
 use Rattle.cstn_lift.specs.WellFormed.{IsLabelled}
-use Rattle.cstn_lift.specs.Lowered.{with_full_label, full_constraints, guard, guards_of, guards, lowered, observer_of, numbered as numbered_lowered}
+use Rattle.cstn_lift.specs.Lowered.{is_plain, with_full_label, full_constraints, guard, guards_of, guards, lowered, observer_of, numbered as numbered_lowered}
 use Rattle.cstn_lift.specs.Faults.{HasLiftFault}
 use Rattle.cstn_net.specs.Read.{first_reaction}
 use Rattle.cstn_graphml.specs.Networks.{numbered_drawn, labelled_of, IsFit, observed_prop, observed_reaction}
