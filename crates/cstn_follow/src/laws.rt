@@ -14,7 +14,7 @@ ghost use Rattle.cstn_lift.specs.Read.{LabelledParts, the_labelled};
 ghost use Rattle.cstn_lift.specs.WellFormed.{IsLabelled};
 ghost use Rattle.cstn_lift.specs.Strategies.{IsExecuted, IsLabelledConsistent, IsLabelledLeast};
 ghost use Rattle.cstn_follow.specs.Histories.{History, IsHistory, IsInTime, IsTimelyHistory, AgreesWith, Settles, IsAllowed, IsOnLetters, allows, label_left, GoesOn, IsToldMore, nothing_yet};
-ghost use Rattle.cstn_follow.specs.Continuations.{Continues, Can, IsLeastNow};
+ghost use Rattle.cstn_follow.specs.Continuations.{Continues, Can, IsLeastNow, IsQuietBefore, IsAlwaysAt};
 ghost use Rattle.cstn_follow.specs.Rest.{is_left, number_of, rest};
 ghost use Rattle.cstn_follow.specs.Facts.{settles, now_refusal, done_refusal, told_refusal, expected_refusal, at_now, with_done, with_told, with_expected};
 ghost use Rattle.cstn_follow.specs.Handed.{HasAllLeft, bared};
@@ -48,6 +48,18 @@ pub fn histories_narrow()
     ensures time_and_steps { (m : Labelled) (h later : History) (table : Table) → IsLabelled m → IsHistory m h → IsHistory m later
         → GoesOn h later → Continues m later table → Continues m h table }
     ensures told { (m : Labelled) (h later : History) (table : Table) → IsToldMore h later → Continues m h table → Continues m later table }
+{}
+
+/// Whoever follows a table that continues a history stays on it, where nothing that isn't done comes before t in it: when time
+/// passes up to t, when an outcome is told at a moment up to t, and when a time-point that it has at t in each scenario that is
+/// left is done at t.
+pub fn tables_are_followed()
+    ensures time { (m : Labelled) (h : History) (table : Table) (t : ℕ) → Continues m h table → IsQuietBefore m h table t
+        → Continues m (at_now h t) table }
+    ensures told { (m : Labelled) (h : History) (table : Table) (t p : ℕ) (v : Bool) → Continues m h table → IsQuietBefore m h table t
+        → h.told p ≡ None → Continues m (with_told h t p v) table }
+    ensures done { (m : Labelled) (h : History) (table : Table) (t x : ℕ) → IsLabelled m → IsHistory m h → Continues m h table
+        → IsQuietBefore m h table t → x < count m.base → h.done x ≡ None → IsAlwaysAt m h table x t → Continues m (with_done h t x) table }
 {}
 
 /// That nothing has happened yet is a history of each labelled network, and what is left is then the labelled network itself.
