@@ -63,3 +63,7 @@ IsQuietBefore m h table t =
 -- in each scenario that agrees with the history, the table has x at t
 abbrev pub IsAlwaysAt : Labelled → History → Table → ℕ → ℕ → Type 0
 IsAlwaysAt m h table x t = (s : Scenario) → AgreesWith h s → IsExecuted m s x × (table s x ≡ t)
+
+-- x can wait until t: some table that continues the history has x at t or later in each scenario in which x is executed
+abbrev pub CanWait : Labelled → History → ℕ → ℕ → Type 0
+CanWait m h x t = (table : Table) × Continues m h table × ((s : Scenario) → AgreesWith h s → IsExecuted m s x → t ≤ table s x)

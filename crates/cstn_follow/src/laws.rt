@@ -14,8 +14,8 @@ ghost use Rattle.cstn_lift.specs.Read.{LabelledParts, the_labelled};
 ghost use Rattle.cstn_lift.specs.WellFormed.{IsLabelled};
 ghost use Rattle.cstn_lift.specs.Strategies.{IsExecuted, IsLabelledConsistent, IsLabelledLeast};
 ghost use Rattle.cstn_follow.specs.Histories.{History, IsHistory, IsInTime, IsTimelyHistory, AgreesWith, Settles, IsAllowed, IsOnLetters, allows, label_left, GoesOn, IsToldMore, nothing_yet};
-ghost use Rattle.cstn_follow.specs.Continuations.{Continues, Can, IsLeastNow, IsQuietBefore, IsAlwaysAt};
-ghost use Rattle.cstn_follow.specs.Rest.{is_left, number_of, rest};
+ghost use Rattle.cstn_follow.specs.Continuations.{Continues, Can, IsLeastNow, IsQuietBefore, IsAlwaysAt, CanWait};
+ghost use Rattle.cstn_follow.specs.Rest.{is_left, number_of, rest, rest_waiting};
 ghost use Rattle.cstn_follow.specs.Facts.{settles, now_refusal, done_refusal, told_refusal, expected_refusal, at_now, with_done, with_told, with_expected};
 ghost use Rattle.cstn_follow.specs.Handed.{HasAllLeft, bared};
 
@@ -60,6 +60,14 @@ pub fn tables_are_followed()
         → h.told p ≡ None → Continues m (with_told h t p v) table }
     ensures done { (m : Labelled) (h : History) (table : Table) (t x : ℕ) → IsLabelled m → IsHistory m h → Continues m h table
         → IsQuietBefore m h table t → x < count m.base → h.done x ≡ None → IsAlwaysAt m h table x t → Continues m (with_done h t x) table }
+{}
+
+/// A time-point that is left and isn't done can wait until t exactly where what is left is consistent with the constraint that it is
+/// at t or later; and where it can wait until t, it can wait until each earlier moment.
+pub fn waiting_is_decided()
+    ensures until { (m : Labelled) (h : History) (fresh x t : ℕ) → IsLabelled m → IsHistory m h → x < count m.base → h.done x ≡ None
+        → IsTrue (is_left m h x) → (CanWait m h x t ↔ IsLabelledConsistent (rest_waiting m h fresh x t)) }
+    ensures earlier { (m : Labelled) (h : History) (x t u : ℕ) → u ≤ t → CanWait m h x t → CanWait m h x u }
 {}
 
 /// That nothing has happened yet is a history of each labelled network, and what is left is then the labelled network itself.

@@ -15,6 +15,6 @@ pub use histories::History;
 pub use laws::{
     completion_ends, facts_make_histories, histories_narrow, nothing_yet_leaves_all,
     points_left_are_handed, rest_decides, rest_is_labelled, tables_are_followed,
-    told_labels_are_decided,
+    told_labels_are_decided, waiting_is_decided,
 };
 pub use rests::rest;
