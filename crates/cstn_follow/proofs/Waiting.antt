@@ -1,22 +1,21 @@
 -- Until when a time-point can wait.
-use Rattle.std.proofs.Common.{ℕ, zero, suc, ◌≡◌, inl, inr, ◌<◌, ◌≤◌, ◌∷◌, [], None, true, arith, refl, sym, subst}
+use Rattle.std.proofs.Common.{ℕ, zero, suc, ◌≡◌, inl, inr, ◌<◌, ◌≤◌, ◌∷◌, ◌++◌, [], None, true, arith, refl, sym, subst}
 use Rattle.std.specs.Prelude.{◌↔◌, pos, ◌-ℤ◌}
 use Rattle.std.proofs.lemmas.Int.{ints}
 use Rattle.std.proofs.lemmas.List.Elements.{Contains-append_left, Contains-append_right, Contains-append_cases}
 use Rattle.cstn_label.specs.Labels.{Label, Scenario, Holds}
-use Rattle.cstn_label.proofs.LabelLemmas.{within_same}
 use Rattle.cstn_net.specs.Networks.{Constraint, Observes, count, limit}
 use Rattle.cstn_net.specs.Strategies.{Table, Meets}
 use Rattle.cstn_lift.specs.Labelled.{Labelled}
 use Rattle.cstn_lift.specs.Completion.{completed}
 use Rattle.cstn_lift.specs.WellFormed.{IsLabelled}
 use Rattle.cstn_lift.specs.Strategies.{IsExecuted, IsInForce, IsKnownExecuted, IsLabelledStrategy, IsLabelledConsistent}
-use Rattle.cstn_lift.proofs.CompletionLemmas.{completed_contains, completed_complete, completed_least}
 use Rattle.cstn_follow.specs.Histories.{History, IsHistory}
 use Rattle.cstn_follow.specs.Continuations.{CanWait}
 use Rattle.cstn_follow.specs.Rest.{is_left, number_of, bare, rest, with_constraint, rest_waiting}
 use Rattle.cstn_follow.proofs.Lists.{contains_one}
 use Rattle.cstn_follow.proofs.Settled.{as_told, told_itself, told_agrees}
+use Rattle.cstn_follow.proofs.Edited.{completed_new}
 use Rattle.cstn_follow.proofs.Forces.{bare_full}
 use Rattle.cstn_follow.proofs.ToRest.{executed_left, executed_back, to_rest, to_rest_strategy, at_coming, at_origin}
 use Rattle.cstn_follow.proofs.FromRest.{from_rest, from_rest_continues, at_origin as back_origin, at_coming as back_coming}
@@ -32,10 +31,8 @@ module _ (R : Labelled) (d : Constraint) where
   observes_less : (x p : ℕ) → Observes more.base x p → Observes R.base x p
   observes_less x p o = record { what = o.what }
 
-  pub completed_more : (a : Label) → completed more a ≡ completed R a
-  completed_more a = within_same (completed more a) (completed R a)
-      (completed_least more a (completed R a) (completed_contains R a) (λ x p o marked. completed_complete R a x p (observes_less x p o) marked))
-      (completed_least R a (completed more a) (completed_contains more a) (λ x p o marked. completed_complete more a x p (observes_more x p o) marked))
+  completed_more : (a : Label) → completed more a ≡ completed R a
+  completed_more a = completed_new R R.base.deadline (R.base.constraints ++ d ∷ []) a
 
   executed_more : (s : Scenario) (x : ℕ) → IsExecuted R s x → IsExecuted more s x
   executed_more s x e = subst (Holds s) (sym (completed_more _)) e
