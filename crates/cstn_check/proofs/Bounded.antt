@@ -17,12 +17,12 @@ use Rattle.cstn_label.specs.declared.marks.Mark.TheVariants.{Absent, Yes, No, Un
 use Rattle.cstn_label.proofs.MarkLemmas.{absent_or_not}
 use Rattle.cstn_net.specs.Networks.{Network, IsNetwork, IsConstraint, Constraint, count, limit}
 use Rattle.cstn_label.specs.Bounds.{Bound, Dominates}
-use Rattle.cstn_label.specs.Marks.{is_absent}
+use Rattle.cstn_label.specs.Marks.{is_absent, is_plain}
 use Rattle.cstn_rules.specs.Rules.{finished}
 use Rattle.cstn_rules.specs.Derivations.{Entry}
 use Rattle.cstn_check.specs.Kept.{AllGood, IsBoundOf, IsKept, IsRanged}
 use Rattle.cstn_log.proofs.FinishLemmas.{limit_deadline}
-use Rattle.cstn_check.specs.Tests.{dominates, is_plain, chain_of, wait_for as wait_by, wait_of}
+use Rattle.cstn_check.specs.Tests.{dominates, chain_of, wait_for as wait_by, wait_of}
 use Rattle.cstn_check.specs.Growth.{Instance, why_of, is_covered, is_refuted, of_one, of_two, conclusion, grown, log_of, observed, most_entries}
 use Rattle.cstn_log.specs.Entries.{bases}
 use Rattle.cstn_check.proofs.Decided.{HasLetters, dominates_true}

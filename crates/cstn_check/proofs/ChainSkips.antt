@@ -3,6 +3,7 @@ use Rattle.std.proofs.Common.{ℕ, zero, suc, ◌≡◌, inl, inr, ◌+◌, ◌<
 use Rattle.std.specs.Prelude.{slice_get}
 use Rattle.std.proofs.lemmas.Bool.{cases_Bool, cases_lt, and_parts, eqb-true, cond-false}
 use Rattle.std.proofs.lemmas.Option.{slice_get_within}
+use Rattle.cstn_label.specs.Marks.{is_plain}
 use Rattle.cstn_label.specs.Labels.{joined}
 use Rattle.cstn_net.specs.declared.constraints.Constraint.{Constraint as DeclaredConstraint}
 use Rattle.cstn_net.specs.Links.{ends}
@@ -11,7 +12,7 @@ use Rattle.cstn_net.specs.Read.{the_constraint}
 use Rattle.cstn_rules.specs.Derivations.{Entry}
 use Rattle.cstn_rules.specs.Rules.{finished, carried}
 use Rattle.cstn_log.specs.Entries.{State, the_entries}
-use Rattle.cstn_check.specs.Tests.{is_plain, chain_of}
+use Rattle.cstn_check.specs.Tests.{chain_of}
 use Rattle.cstn_check.specs.Growth.{Instance, is_refuted, of_one, step, tried, chains_at}
 use Rattle.cstn_check.specs.Growth.Instance.{chain_at}
 use Rattle.cstn_check.specs.Turns.{IsTaken}

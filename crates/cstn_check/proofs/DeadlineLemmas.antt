@@ -7,7 +7,7 @@ use Rattle.std.proofs.lemmas.Bool.{cases_Bool, and_parts, and_from, and_right, c
 use Rattle.std.proofs.lemmas.List.Elements.{All-contains}
 use Rattle.std.proofs.lemmas.List.Folds.{list_any-append}
 use Rattle.cstn_label.specs.declared.marks.Mark.TheVariants.{Absent}
-use Rattle.cstn_label.specs.Marks.{is_absent, is_mark_plain}
+use Rattle.cstn_label.specs.Marks.{is_absent, is_mark_plain, is_plain, each_below}
 use Rattle.cstn_label.specs.Labels.{Label, joined, without}
 use Rattle.cstn_label.specs.Bounds.{Bound}
 use Rattle.cstn_net.specs.Networks.{Network, IsNetwork, IsConstraint, IsWellFormed, Constraint, count, limit}
@@ -17,7 +17,7 @@ use Rattle.cstn_rules.specs.Rules.{finished, carried, awaited, without_own}
 use Rattle.cstn_rules.specs.declared.entries.Why.{Why}
 use Rattle.cstn_rules.specs.Derivations.{Entry}
 use Rattle.cstn_log.specs.Entries.{bases}
-use Rattle.cstn_check.specs.Tests.{is_plain, dominates, refutes, chain_of, wait_for as wait_by, wait_of, is_within, each_below}
+use Rattle.cstn_check.specs.Tests.{dominates, refutes, chain_of, wait_for as wait_by, wait_of, is_within}
 use Rattle.cstn_check.specs.Growth.{Instance, why_of, is_covered, is_refuted, premises_live, of_one, of_two, conclusion, with_conclusion, step, tried, turn, grown, log_of, load_of}
 use Rattle.cstn_check.specs.Growth.Instance.{chain_at, wait_at}
 use Rattle.cstn_check.specs.Kept.{AllGood, IsBoundOf}

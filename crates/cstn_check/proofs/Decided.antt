@@ -1,17 +1,18 @@
 -- The tests decide the definitions.
-use Rattle.std.proofs.Common.{ℕ, zero, suc, ◌≡◌, inl, inr, ◌<◌, ◌≤◌, Bool, true, false, not, ◌&&◌, eqb, ltb, Some, None, arith, refl, sym, subst, ap, ◌∙◌}
+use Rattle.std.proofs.Common.{ℕ, ◌≡◌, inl, inr, ◌<◌, ◌≤◌, true, false, not, ◌&&◌, eqb, ltb, Some, None, arith, sym, ap, ◌∙◌}
 use Rattle.std.specs.Prelude.{ℤ, pos, ◌≤ℤ◌, ◌<ℤ◌, int_lt, ◌-ℤ◌, ◌+ℤ◌}
 use Rattle.std.specs.Int.{int_min}
 use Rattle.std.proofs.lemmas.Int.{ints}
 use Rattle.std.proofs.lemmas.Bool.{cases_lt, and_parts, and_from, eqb-true, eq-eqb, lt-ltb, cond-true, cond-false}
 use Rattle.cstn_label.specs.declared.marks.Mark.{Mark}
-use Rattle.cstn_label.specs.Labels.{Label, IsMarkPlain, IsMarkWithin, IsPlain, IsWithin, joined, without}
+use Rattle.cstn_label.specs.Labels.{Label, IsMarkWithin, IsWithin, joined, without}
 use Rattle.cstn_label.specs.declared.marks.Mark.TheVariants.{Absent}
 use Rattle.cstn_net.specs.Networks.{Network, Constraint, Observes, count, limit}
 use Rattle.cstn_label.specs.Bounds.{Bound, Dominates}
-use Rattle.cstn_label.specs.Marks.{is_absent, is_mark_plain}
+use Rattle.cstn_label.specs.Marks.{is_absent, is_plain}
+use Rattle.cstn_label.proofs.PlainLabels.{each_at, each_from, plain_true}
 use Rattle.cstn_rules.specs.Rules.{Refutes, finished, IsChain, IsWait}
-use Rattle.cstn_check.specs.Tests.{each_below, is_mark_within, is_plain, is_within, dominates, refutes, chain_of, wait_for, wait_of}
+use Rattle.cstn_check.specs.Tests.{is_mark_within, is_within, dominates, refutes, chain_of, wait_for, wait_of}
 
 -- each observed proposition is one of the 52 letters
 abbrev pub HasLetters : Network → Type 0
@@ -21,51 +22,20 @@ HasLetters net = (x p : ℕ) → Observes net x p → p < 52
 abbrev pub Small : Label → Type 0
 Small a = (p : ℕ) → 52 ≤ p → a p ≡ Absent
 
-each_at : (test : ℕ → Bool) (n p : ℕ) → p < n → each_below test n ≡ true → test p ≡ true
-each_at test zero p h e = absurd (omega arith)
-each_at test (suc n) p h e =
-    let both = and_parts (test n) (each_below test n) e in
-    elim (cases_lt p n) [
-      | inl below ↦ each_at test n p below both.1
-      | inr last ↦ let here : n ≡ p = omega arith in subst (λ k. test k ≡ true) here both.0
-    ]
-
-each_from : (test : ℕ → Bool) (n : ℕ) → ((p : ℕ) → test p ≡ true) → each_below test n ≡ true
-each_from test zero h = refl
-each_from test (suc n) h = and_from (test n) (each_below test n) (h n) (each_from test n h)
-
 mark_within_true : (m n : Mark) → IsMarkWithin m n → is_mark_within m n ≡ true
 mark_within_true m n h = grind arith
 
 true_mark_within : (m n : Mark) → is_mark_within m n ≡ true → IsMarkWithin m n
 true_mark_within m n h = grind arith
 
-mark_plain_true : (m : Mark) → IsMarkPlain m → is_mark_plain m ≡ true
-mark_plain_true m h = grind arith
-
-true_mark_plain : (m : Mark) → is_mark_plain m ≡ true → IsMarkPlain m
-true_mark_plain m h = grind arith
-
 absent_within : (m n : Mark) → m ≡ Absent → IsMarkWithin m n
 absent_within m n e = rw e tt
-
-absent_plain : (m : Mark) → m ≡ Absent → IsMarkPlain m
-absent_plain m e = rw e tt
 
 not_absent : (m : Mark) → (m ≡ Absent → ⊥) → is_absent m ≡ false
 not_absent m h = grind arith
 
 pub false_absent : (m : Mark) → is_absent m ≡ false → m ≡ Absent → ⊥
 false_absent m h e = grind arith
-
-pub plain_true : (a : Label) → IsPlain a → is_plain a ≡ true
-plain_true a h = each_from (λ p. is_mark_plain (a p)) 52 (λ p. mark_plain_true (a p) (h p))
-
-pub true_plain : (a : Label) → Small a → is_plain a ≡ true → IsPlain a
-true_plain a small e = λ p. elim (cases_lt p 52) [
-  | inl below ↦ true_mark_plain (a p) (each_at (λ q. is_mark_plain (a q)) 52 p below e)
-  | inr above ↦ absent_plain (a p) (small p above)
-]
 
 within_true : (a b : Label) → IsWithin a b → is_within a b ≡ true
 within_true a b h = each_from (λ p. is_mark_within (a p) (b p)) 52 (λ p. mark_within_true (a p) (b p) (h p))

@@ -4,6 +4,7 @@ use Rattle.std.specs.Prelude.{ℤ, pos, ◌<ℤ◌, int_lt, slice_get, ◌↔◌
 use Rattle.std.proofs.lemmas.Int.{ints}
 use Rattle.std.proofs.lemmas.Bool.{cases_Bool, cases_lt, false≢true, or_cases, and_parts, ltb-true, not-true, not_from_false, both_ways}
 use Rattle.std.proofs.lemmas.Option.{slice_get_within}
+use Rattle.cstn_label.specs.Marks.{is_plain}
 use Rattle.cstn_label.specs.Labels.{Scenario}
 use Rattle.cstn_net.specs.Networks.{Network, IsNetwork, IsWellFormed, count, limit}
 use Rattle.cstn_net.specs.Strategies.{Table, IsStrategy, IsConsistent, IsLeast}
@@ -18,11 +19,12 @@ use Rattle.cstn_check.specs.Kept.{IsKept}
 use Rattle.cstn_check.specs.Turns.{IsRefutedLast, LastRefutes}
 use Rattle.cstn_log.specs.Asked.{AllSound, asked}
 use Rattle.cstn_log.proofs.Strategies.{asked_strategy, asked_least}
-use Rattle.cstn_check.specs.Tests.{refutes, is_plain}
+use Rattle.cstn_check.specs.Tests.{refutes}
 use Rattle.cstn_check.specs.Verdicts.{is_consistent}
 use Rattle.cstn_check.specs.Growth.{is_refuted, live_bounds, log_of, load_of, grown, grow, most_entries}
 use Rattle.cstn_log.specs.Entries.{bases}
-use Rattle.cstn_check.proofs.Decided.{HasLetters, Small, true_plain}
+use Rattle.cstn_label.proofs.PlainLabels.{true_plain}
+use Rattle.cstn_check.proofs.Decided.{HasLetters, Small}
 use Rattle.cstn_check.proofs.Lists.{AreSmall, listed_live}
 use Rattle.cstn_check.proofs.GoodLemmas.{good_at, good_small}
 use Rattle.cstn_check.proofs.Derives.{grown_derived}

@@ -10,16 +10,17 @@ use Rattle.cstn_label.specs.Labels.{Label, joined, without, empty}
 use Rattle.cstn_label.proofs.MarkLemmas.{absent_or_not}
 use Rattle.cstn_net.specs.Networks.{Network, IsNetwork, IsConstraint, Constraint, IsOnObserved, count}
 use Rattle.cstn_label.specs.Bounds.{Bound}
-use Rattle.cstn_label.specs.Marks.{is_absent}
+use Rattle.cstn_label.specs.Marks.{is_absent, is_plain}
 use Rattle.cstn_rules.specs.Rules.{finished, IsChain, IsWait}
 use Rattle.cstn_rules.specs.Derivations.{Entry, IsEarlier, Follows, IsDerivation}
 use Rattle.cstn_rules.specs.declared.entries.Why.{Why}
 use Rattle.cstn_rules.specs.declared.entries.Why.TheVariants.{Base, Chain, Wait}
 use Rattle.cstn_check.specs.Kept.{AllGood, IsBoundOf}
-use Rattle.cstn_check.specs.Tests.{is_plain, chain_of, wait_for as wait_by, wait_of}
+use Rattle.cstn_check.specs.Tests.{chain_of, wait_for as wait_by, wait_of}
 use Rattle.cstn_check.specs.Growth.{Instance, why_of, is_covered, is_refuted, premises_live, of_one, of_two, conclusion, with_conclusion, step, tried, turn, grown}
 use Rattle.cstn_log.specs.Entries.{bases}
-use Rattle.cstn_check.proofs.Decided.{HasLetters, Small, true_plain, false_absent}
+use Rattle.cstn_label.proofs.PlainLabels.{true_plain}
+use Rattle.cstn_check.proofs.Decided.{HasLetters, Small, false_absent}
 use Rattle.cstn_check.specs.Growth.Instance.{chain_at, wait_at}
 use Rattle.cstn_check.proofs.Lists.{Extends, get_kept}
 use Rattle.cstn_check.proofs.Grows.{Each, each_turn}

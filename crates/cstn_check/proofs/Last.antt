@@ -3,12 +3,13 @@ use Rattle.std.proofs.Common.{ℕ, zero, suc, ◌≡◌, inl, inr, ◌+◌, ◌-
 use Rattle.std.specs.Prelude.{pos, int_lt, slice_get}
 use Rattle.std.proofs.lemmas.Int.{ints}
 use Rattle.std.proofs.lemmas.Bool.{cases_lt, false≢true, or_parts, or_left, or_right, and_right, cond-true}
+use Rattle.cstn_label.specs.Marks.{is_plain}
 use Rattle.cstn_label.specs.Labels.{empty}
 use Rattle.cstn_net.specs.Networks.{Network, count, limit}
 use Rattle.cstn_label.specs.Bounds.{Bound}
 use Rattle.cstn_rules.specs.Derivations.{Entry}
 use Rattle.cstn_rules.specs.declared.entries.Why.TheVariants.{Base}
-use Rattle.cstn_check.specs.Tests.{refutes, is_plain}
+use Rattle.cstn_check.specs.Tests.{refutes}
 use Rattle.cstn_check.specs.Growth.{Instance, why_of, is_covered, is_refuted, conclusion, step, tried, turn, grown}
 use Rattle.cstn_check.specs.Turns.{IsRefutedLast, LastRefutes}
 use Rattle.cstn_log.specs.Entries.{bases}

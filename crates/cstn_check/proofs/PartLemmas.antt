@@ -1,7 +1,6 @@
 -- The last entry of a list with its ancestors, as steps of a refutation.
-use Rattle.std.proofs.Common.{ℕ, zero, suc, ◌≡◌, ◌-◌, ◌<◌, ◌≤◌, inl, inr, Bool, false, List, length, get_or, Some, Result, Ok, Err, arith, sym, subst, ap, ◌∙◌}
-use Rattle.std.specs.Prelude.{slice_get, slice_index_or, IfOk}
-use Rattle.std.specs.declared.alloc.AllocError.{AllocError}
+use Rattle.std.proofs.Common.{ℕ, zero, suc, ◌≡◌, ◌-◌, ◌<◌, ◌≤◌, inl, inr, Bool, false, List, length, get_or, Some, arith, sym, subst, ap, ◌∙◌}
+use Rattle.std.specs.Prelude.{slice_get, slice_index_or}
 use Rattle.std.specs.List.{All}
 use Rattle.std.proofs.lemmas.Int.{ints}
 use Rattle.std.proofs.lemmas.Bool.{cases_Bool}
@@ -18,8 +17,7 @@ use Rattle.cstn_log.proofs.ChoiceLemmas.{rank_marked, rank_unmarked}
 use Rattle.cstn_log.proofs.CutLemmas.{length_cut, comes}
 use Rattle.cstn_log.proofs.MarkLemmas.{part_refutation}
 use Rattle.cstn_refute.specs.Refutations.{RefutationParts, IsStep, AreSteps, FitsText, the_steps}
-use Rattle.cstn_check.specs.Growth.{log_of, load_of}
-use Rattle.cstn_check.specs.Verdicts.{IsRefutationOf}
+use Rattle.cstn_check.specs.Growth.{log_of}
 use Rattle.cstn_check.specs.Kept.{IsKept, IsRanged}
 use Rattle.cstn_check.specs.Turns.{LastRefutes}
 use Rattle.cstn_check.proofs.Decides.{log_derived}

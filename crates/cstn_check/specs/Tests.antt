@@ -1,17 +1,12 @@
 -- The definitions on labels and bounds as functions that answer true or false.
-use Rattle.std.specs.Prelude.{ℕ, zero, suc, Bool, true, false, not, cond, ◌&&◌, ◌==◌, Option, Some, None, slice_index_or, pos, int_lt, nat_lt}
+use Rattle.std.specs.Prelude.{ℕ, Bool, true, false, not, cond, ◌&&◌, ◌==◌, Option, Some, None, slice_index_or, pos, int_lt, nat_lt}
 use Rattle.cstn_label.specs.declared.marks.Mark.{Mark}
-use Rattle.cstn_label.specs.Marks.{is_absent, is_mark_plain}
+use Rattle.cstn_label.specs.Marks.{is_absent, is_plain, each_below}
 use Rattle.cstn_label.specs.Labels.{Label, joined}
 use Rattle.cstn_label.specs.declared.marks.Mark.TheVariants.{Absent, Yes, No, Unknown}
 use Rattle.cstn_net.specs.Networks.{Network, Constraint, count, limit}
 use Rattle.cstn_label.specs.Bounds.{Bound}
 use Rattle.cstn_rules.specs.Rules.{finished, carried, awaited}
-
--- each of the first n propositions passes the test
-abbrev pub each_below : (ℕ → Bool) → ℕ → Bool
-each_below test zero = true
-each_below test (suc n) = test n && each_below test n
 
 -- a mark is within another
 abbrev pub is_mark_within : Mark → Mark → Bool
@@ -28,10 +23,6 @@ is_mark_within Unknown Absent = false
 is_mark_within Unknown Yes = false
 is_mark_within Unknown No = false
 is_mark_within Unknown Unknown = true
-
--- no mark of the 52 letters is unknown
-abbrev pub is_plain : Label → Bool
-is_plain a = each_below (λ p. is_mark_plain (a p)) 52
 
 -- each mark of the 52 letters is within the other label's
 abbrev pub is_within : Label → Label → Bool

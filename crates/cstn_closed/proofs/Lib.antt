@@ -7,7 +7,6 @@ mod WalkLemmas
 mod MarkingLemmas
 pub mod FaultLemmas
 mod InstanceLemmas
-mod LineLemmas
 mod BackLemmas
 mod SaidLemmas
 mod PrintLemmas

@@ -1,9 +1,7 @@
 -- Texts, bound by bound.
 use Rattle.std.proofs.Common.{ℕ, ◌≡◌, ◌+◌, ◌<◌, ◌≤◌, List, [], ◌∷◌, ◌++◌, length, get_or, take, map, arith, refl, sym, subst, ap, ◌∙◌, codes}
-use Rattle.std.specs.Prelude.{String, string_bytes}
 use Rattle.std.specs.List.{All}
-use Rattle.std.specs.declared.alloc.Global.{Global}
-use Rattle.std.proofs.lemmas.List.{append_assoc, map_more, length-map, get_or-map}
+use Rattle.std.proofs.lemmas.List.{append_assoc, map_more, length-map}
 use Rattle.std.proofs.lemmas.List.Elements.{All-nil, All-cons, All-get_or, All-tail}
 use Rattle.cstn_label.specs.declared.bounds.Bound.{Bound as Declared}
 use Rattle.cstn_label.specs.declared.labels.Label.{Label}
@@ -39,13 +37,6 @@ one_more names load xs k x old inside there before =
     ∙ append_assoc (codes "yes " ++ printed_number load) (10 ∷ printed_bounds names (map the_bound (take k xs))) line
     ∙ ap (λ t. codes "yes " ++ printed_number load ++ 10 ∷ t)
     (sym (lines_of_more names (map the_bound (take k xs)) (the_bound x)) ∙ ap (printed_bounds names) (sym more))
-
--- the text at the place of a name is the printed name
-pub name_at : (texts : List (String Global)) (names : List (List ℕ)) (i : ℕ) (d : String Global) → map string_bytes texts ≡ map printed_name names → i < length names →
-    string_bytes (get_or texts i d) ≡ printed_name (get_or names i [])
-name_at texts names i d same inside =
-    let long : length texts ≡ length names = sym (length-map texts string_bytes) ∙ ap length same ∙ length-map names printed_name in
-    sym (get_or-map string_bytes texts i d [] (omega arith)) ∙ ap (λ (ts : List (List ℕ)). get_or ts i []) same ∙ get_or-map printed_name names i [] [] inside
 
 -- the line of a bound, by the text of its name
 pub line_of : (names : List (List ℕ)) (b : Declared) (text old new : List ℕ) → text ≡ printed_name (get_or names b.node.0 []) →

@@ -1,9 +1,9 @@
 -- What a text can say.
-use Rattle.std.specs.Prelude.{ℕ, ◌≡◌, ◌<◌, ◌≤◌, List, length, pos, ◌≤ℤ◌}
+use Rattle.std.specs.Prelude.{ℕ, ◌<◌, ◌≤◌, List, length, pos, ◌≤ℤ◌}
 use Rattle.std.specs.List.{All}
 use Rattle.cstn_label.specs.declared.bounds.Bound.{Bound as Declared}
-use Rattle.cstn_label.specs.declared.marks.Mark.TheVariants.{Absent}
 use Rattle.cstn_label.specs.Bounds.{Bound}
+pub use Rattle.cstn_refute.specs.Written.{IsPrintableBound}
 use Rattle.cstn_closed.specs.Closed.{ClosedParts}
 
 -- the bound is at a time-point that has a name, with a least value from 0 to 1,000,001
@@ -18,13 +18,6 @@ pub record FitsText (c : ClosedParts) : Type 0 where
   pub load_high : c.load ≤ 4194304
   pub some : 1 ≤ length c.bounds
   pub few : length c.bounds ≤ 4194304
-
--- the bound is at a time-point that has a name, with a least value from 0 to 1,000,001 and marks on the 52 propositions alone
-pub record IsPrintableBound (names : List (List ℕ)) (b : Bound) : Type 0 where
-  pub node : b.node < length names
-  pub low : pos 0 ≤ℤ b.least
-  pub high : b.least ≤ℤ pos 1000001
-  pub marks : (p : ℕ) → 52 ≤ p → b.label p ≡ Absent
 
 -- a load and bounds that a text can say
 pub record AreWritten (names : List (List ℕ)) (load : ℕ) (bounds : List Bound) : Type 0 where

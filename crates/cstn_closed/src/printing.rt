@@ -12,7 +12,8 @@ ghost use Rattle.cstn_closed.specs.Written.{FitsText, IsNamed};
 
 use crate::lists::Closed;
 use cstn_label::{Bound, labels_are_their_marks};
-use cstn_text::{Names, print_name, push_label, push_number, push_value};
+use cstn_listing::{print_names, push_load};
+use cstn_text::{Names, push_label, push_value};
 use std::alloc::{AllocError, Global};
 
 // The bytes that are reserved for each line. Where lines are longer, more memory is taken as they come.
@@ -32,34 +33,12 @@ impl Closed {
         let printed = print_names(alloc, names)?;
         let bounds = self.bounds();
         let mut text = String::with_capacity(alloc, USUAL_LINE * (bounds.len() + 1))?;
-        push_load(&mut text, self.load())?;
+        push_load(&mut text, "yes", self.load())?;
         for bound in bounds {
             push_bound(&mut text, *bound, &printed[bound.node.index()])?;
         }
         Ok(text)
     }
-}
-
-// The printed form of each name.
-fn print_names(alloc: Global, names: &Names) -> Result<Vec<String>, AllocError>
-    ensures printed { IfOk result (λ texts. map string_bytes texts.items ≡ map printed_name names.now) }
-    ensures names { AreNames names.now }
-{
-    let names = names.as_slice();
-    let mut texts = Vec::with_capacity(alloc, names.len())?;
-    for name in names {
-        texts.push(print_name(alloc, name)?)?;
-    }
-    Ok(texts)
-}
-
-// Appends the first line.
-fn push_load(text: &mut String, load: u32) -> Result<(), AllocError>
-    ensures pushed { OnOk result (string_bytes text.new ≡ string_bytes text.old ++ (codes "yes " ++ printed_number load ++ 10 ∷ [])) }
-{
-    text.push_str("yes ")?;
-    push_number(text, load as u64)?;
-    text.push('\n')
 }
 
 // Appends the line of a bound; `name` is the printed name of its time-point.

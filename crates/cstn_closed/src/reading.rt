@@ -4,18 +4,20 @@ ghost use Rattle.std.specs.List.{All};
 ghost use Rattle.std.specs.Option.{option_map};
 ghost use Rattle.cstn_label.specs.Bounds.{Bound as TheBound};
 ghost use Rattle.cstn_label.specs.Read.{the_bound};
-ghost use Rattle.cstn_refute.specs.Steps.{part, node_read, bound_read, named_bound_read};
-ghost use Rattle.cstn_refute.specs.Texts.{lines_of};
+ghost use Rattle.cstn_listing.specs.Parts.{parts_at};
+ghost use Rattle.cstn_listing.specs.Listings.{at_end, is_some_listed, or_wrong, told_after};
 ghost use Rattle.cstn_closed.specs.Closed.{the_bounds};
-ghost use Rattle.cstn_closed.specs.Texts.{Told, tells, wrong, at_end, or_wrong, told_after, told, load_read, line_read};
+ghost use Rattle.cstn_closed.specs.Texts.{Told, tells, wrong, bound_lines, told, line_read};
 ghost use Rattle.cstn_closed.specs.Written.{AreWritten, FitsText, IsNamed};
 ghost use Rattle.cstn_closed.specs.Read.{IsWrong};
 
 use crate::errors::ClosedError;
-use crate::limits::{MOST_BOUNDS, MOST_LEAST, MOST_LOAD};
+use crate::limits::MOST_BOUNDS;
 use crate::lists::Closed;
-use cstn_label::{Bound, NodeId};
-use cstn_text::{Names, cut_at, read_label, read_number_within};
+use cstn_label::Bound;
+use cstn_listing::{part, read_load};
+use cstn_refute::read_named_bound;
+use cstn_text::{Names, cut_at};
 use std::alloc::{AllocError, Global};
 
 impl Closed {
@@ -33,43 +35,18 @@ impl Closed {
         let Some((line, rest)) = cut_at(bytes, b'\n') else {
             return Err(ClosedError::Line { line: 1 });
         };
-        let Some(load) = read_load(line) else {
+        let Some(load) = read_load("yes", line) else {
             return Err(ClosedError::Line { line: 1 });
         };
-        match read_bounds(alloc, names, load, rest) {
-            Ok(closed) => {
-                if closed.bounds().is_empty() {
-                    return Err(ClosedError::Line { line: 2 });
-                }
-                Ok(closed)
-            }
-            Err(error) => Err(error),
-        }
+        read_bounds(alloc, names, load, rest)
     }
 }
 
-// The bytes before the first space and those after it, if there is a space.
-fn part(bytes: &[u8]) -> Option<(&[u8], &[u8])>
-    ensures part { option_map (λ parts. (parts.0.now, parts.1.now)) result ≡ part bytes.now }
-{
-    cut_at(bytes, b' ')
-}
-
-fn read_load(line: &[u8]) -> Option<u32>
-    ensures load { result ≡ load_read line.now }
-{
-    let (word, rest) = part(line)?;
-    if word != b"yes".as_slice() {
-        return None;
-    }
-    read_number_within(1, MOST_LOAD, rest)
-}
-
-// The list of a load and of the bounds on the lines of `bytes`, of which there may be none.
+// The list of a load and of the bounds on the lines of `bytes`.
 fn read_bounds(alloc: Global, names: &Names, load: u32, bytes: &[u8]) -> Result<Closed, ClosedError>
     requires few { length names.now ≤ 65536 }
-    ensures accepted { IfOk result (λ c. told_after names.now load [] (lines_of bytes.now).0 (lines_of bytes.now).1 ≡ at_end c.load (the_bounds c) []) }
-    ensures line { IfErr result (IsWrong (told_after names.now load [] (lines_of bytes.now).0 (lines_of bytes.now).1)) }
+    ensures accepted { IfOk result (λ c. told_after (bound_lines names.now) load [] (parts_at 10 bytes.now).0 (parts_at 10 bytes.now).1 ≡ tells c.load (the_bounds c)) }
+    ensures line { IfErr result (IsWrong (told_after (bound_lines names.now) load [] (parts_at 10 bytes.now).0 (parts_at 10 bytes.now).1)) }
 {
     let mut bounds = Vec::new(alloc);
     let mut left = bytes;
@@ -116,45 +93,15 @@ fn read_line(names: &Names, k: u32, line: &[u8]) -> Option<Bound>
     }
 }
 
-fn read_named_bound(names: &Names, bytes: &[u8]) -> Option<Bound>
-    requires few { length names.now ≤ 65536 }
-    ensures bound { option_map the_bound result ≡ named_bound_read names.now bytes.now }
-{
-    let (name, rest) = part(bytes)?;
-    let node = read_node(names, name)?;
-    read_bound(node, rest)
-}
-
-fn read_node(names: &Names, bytes: &[u8]) -> Option<NodeId>
-    requires few { length names.now ≤ 65536 }
-    ensures node { option_map (λ x. x.0) result ≡ node_read names.now bytes.now }
-{
-    let number = names.find_printed(bytes)?;
-    Some(NodeId(number as u16))
-}
-
-fn read_bound(node: NodeId, bytes: &[u8]) -> Option<Bound>
-    ensures bound { option_map the_bound result ≡ bound_read node.0 bytes.now }
-{
-    let (least, label) = part(bytes)?;
-    let least = read_number_within(0, MOST_LEAST, least)?;
-    let label = read_label(label)?;
-    Some(Bound {
-        node,
-        least: least as i32,
-        label,
-    })
-}
-
-// The list of the load and the bounds, or `Line` with the cut line where the text doesn't end with LF.
+// The list of the load and the bounds, if there is a bound and the text ends behind the LF of the last one.
 fn finish(load: u32, bounds: Vec<Bound>, left: &[u8]) -> Result<Closed, ClosedError>
     requires few { length bounds.items ≤ 4194304 }
-    ensures accepted { IfOk result (λ c. at_end load (map the_bound bounds.items) left.now ≡ at_end c.load (the_bounds c) []) }
-    ensures line { IfErr result (IsWrong (at_end load (map the_bound bounds.items) left.now)) }
+    ensures accepted { IfOk result (λ c. at_end is_some_listed load (map the_bound bounds.items) left.now ≡ tells c.load (the_bounds c)) }
+    ensures line { IfErr result (IsWrong (at_end is_some_listed load (map the_bound bounds.items) left.now)) }
 {
-    if !left.is_empty() {
-        let line = bounds.len() as u32 + 2;
-        return Err(ClosedError::Line { line });
+    let count = bounds.len() as u32;
+    if count == 0 || !left.is_empty() {
+        return Err(ClosedError::Line { line: count + 2 });
     }
     Ok(Closed::new(load, bounds))
 }

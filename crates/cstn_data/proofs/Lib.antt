@@ -1,3 +1,3 @@
-pub mod PlainLabels
+pub mod LiteralLabels
 pub mod PairTexts
 pub mod ReactionLemmas

@@ -1,7 +1,7 @@
 -- Labels as texts.
-use Rattle.std.specs.Prelude.{ℕ, Bool, true, false, ◌||◌, ◌==◌, List, [], ◌∷◌, Option, Some, None, if◌then◌else◌}
+use Rattle.std.specs.Prelude.{ℕ, ◌≡◌, ◌≤◌, Bool, true, false, ◌||◌, ◌==◌, List, [], ◌∷◌, Option, Some, None, if◌then◌else◌}
 use Rattle.cstn_label.specs.Marks.{is_absent}
-use Rattle.cstn_label.specs.Labels.{Label, empty, with_mark}
+use Rattle.cstn_label.specs.Labels.{Label, empty, with_mark, IsPlain}
 use Rattle.cstn_label.specs.Letters.{prop_of}
 use Rattle.cstn_label.specs.declared.marks.Mark.{Mark}
 use Rattle.cstn_label.specs.declared.marks.Mark.TheVariants.{Absent, Yes, No, Unknown}
@@ -53,3 +53,8 @@ is_of_empty bytes = is_same bytes [] || is_same bytes (226 ∷ 138 ∷ 161 ∷ [
 -- the label of a label text, which is a text of the empty label, or literals
 abbrev pub label_of : List ℕ → Option Label
 label_of bytes = if is_of_empty bytes then Some empty else label_after literal empty bytes
+
+-- a label that consists of literals: it has no unknown mark, and marks none but the 52 propositions that have letters
+pub record IsOfLiterals (a : Label) : Type 0 where
+  pub plain : IsPlain a
+  pub letters : (p : ℕ) → 52 ≤ p → a p ≡ Absent

@@ -1,5 +1,5 @@
 -- The pairs that are left of a text of values.
-use Rattle.std.specs.Prelude.{ℕ, ◌<◌, List, [], ◌∷◌, length, Option, Some, None, option_map}
+use Rattle.std.specs.Prelude.{ℕ, ◌≡◌, ◌<◌, List, [], ◌∷◌, length, Option, Some, None, option_map}
 use Rattle.cstn_data.specs.declared.value_texts.First.{First}
 use Rattle.cstn_data.specs.declared.value_texts.First.TheVariants.{Pair as FirstPair, End, Wrong}
 use Rattle.cstn_data.specs.ValueTexts.{Pair, pairs_after}
@@ -12,6 +12,10 @@ or_none None = []
 -- the pairs up to the closing brace
 abbrev pub pairs_left : List ℕ → List Pair
 pairs_left bytes = or_none (pairs_after 0 [] bytes)
+
+-- no pair was left, and what is left is as it was
+abbrev pub IsSpent : List ℕ → List ℕ → Type 0
+IsSpent old new = (pairs_left old ≡ []) × (new ≡ old)
 
 -- all pairs, by the first one and the bytes behind it
 abbrev pub first_seen : First → Option (List Pair)

@@ -14,7 +14,7 @@ use Rattle.cstn_label.specs.declared.marks.Mark.{Mark}
 use Rattle.cstn_label.specs.declared.marks.Mark.TheVariants.{Absent}
 use Rattle.cstn_label.specs.Labels.{Label, IsPlain}
 use Rattle.cstn_label.specs.Read.{marks}
-use Rattle.cstn_label.specs.Marks.{is_absent}
+use Rattle.cstn_label.specs.Marks.{is_absent, is_plain}
 use Rattle.cstn_net.specs.declared.constraints.Constraint.{Constraint}
 use Rattle.cstn_net.specs.Networks.{Network, Constraint as TheConstraint, IsOnObserved, IsValue, count, is_prop, IsUnobserved, IsLeastUnobserved}
 use Rattle.cstn_net.specs.Read.{NetworkParts, the_network, the_constraint, has_id, without_id, with_most}
@@ -24,8 +24,8 @@ use Rattle.cstn_text.proofs.CutLemmas.{position_at}
 use Rattle.cstn_rules.specs.Derivations.{Entry}
 use Rattle.cstn_log.specs.Entries.{State, the_entries}
 use Rattle.cstn_log.specs.Cuts.{dropped}
-use Rattle.cstn_check.specs.Tests.{is_plain}
-use Rattle.cstn_check.proofs.Decided.{Small, plain_true, true_plain}
+use Rattle.cstn_label.proofs.PlainLabels.{plain_true, true_plain}
+use Rattle.cstn_check.proofs.Decided.{Small}
 use Rattle.cstn_edit.specs.declared.outcomes.Outcome.{Outcome}
 use Rattle.cstn_edit.proofs.CutLemmas.{kept_dropped}
 use Rattle.cstn_edit.specs.Sessions.{SessionParts, kept_of, kept_list, next_id}

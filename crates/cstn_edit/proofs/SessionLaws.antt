@@ -9,6 +9,7 @@ use Rattle.std.proofs.lemmas.List.Elements.{All-map, All-push, All-filter, All-w
 use Rattle.std.proofs.lemmas.List.Filters.{length-filter_both}
 use Rattle.std.proofs.lemmas.List.Kept.{AllPairs-filter}
 use Rattle.std.proofs.lemmas.List.Quantifiers.{all_pairs_push}
+use Rattle.cstn_label.specs.Marks.{is_plain}
 use Rattle.cstn_label.specs.Labels.{Label}
 use Rattle.cstn_label.specs.Bounds.{Dominates}
 use Rattle.cstn_net.specs.Networks.{Network, Constraint, IsConstraint, IsValue, IsWellFormed, count}
@@ -24,12 +25,12 @@ use Rattle.cstn_log.proofs.ChoiceLemmas.{rank_grows}
 use Rattle.cstn_log.proofs.CutLemmas.{comes}
 use Rattle.cstn_log.proofs.MarkLemmas.{dropped_derivation}
 use Rattle.cstn_check.specs.declared.verdicts.Verdict.TheVariants.{Yes, No, Full}
-use Rattle.cstn_check.specs.Tests.{is_plain}
 use Rattle.cstn_check.specs.Checks.{IsPrefix}
 use Rattle.cstn_check.specs.Growth.{is_refuted, grow, load_of, most_entries}
 use Rattle.cstn_check.specs.Kept.{IsKept}
 use Rattle.cstn_check.specs.Turns.{IsRefutedLast}
-use Rattle.cstn_check.proofs.Decided.{Small, true_plain}
+use Rattle.cstn_label.proofs.PlainLabels.{true_plain}
+use Rattle.cstn_check.proofs.Decided.{Small}
 use Rattle.cstn_check.proofs.Lists.{extends_through}
 use Rattle.cstn_check.proofs.Derives.{grown_keeps}
 use Rattle.cstn_check.proofs.Bounded.{kept_more}

@@ -3,14 +3,13 @@ use Rattle.std.specs.Prelude.{ℕ, ℤ, pos, negsuc, int_le, ◌+◌, nat_le, �
 use Rattle.std.specs.List.{filter, list_any, range_with_len}
 use Rattle.std.specs.Option.{option_map, unwrap_or}
 use Rattle.cstn_label.specs.Labels.{Label}
-use Rattle.cstn_label.specs.Marks.{is_absent}
+use Rattle.cstn_label.specs.Marks.{is_absent, is_plain}
 use Rattle.cstn_net.specs.Networks.{Network, Constraint, count}
 use Rattle.cstn_net.specs.Scenarios.{is_observed}
 use Rattle.cstn_net.specs.Read.{the_network}
 use Rattle.cstn_rules.specs.Derivations.{Entry}
 use Rattle.cstn_log.specs.Entries.{bases}
 use Rattle.cstn_log.specs.Cuts.{dropped}
-use Rattle.cstn_check.specs.Tests.{is_plain}
 use Rattle.cstn_edit.specs.declared.errors.EditError.{EditError}
 use Rattle.cstn_edit.specs.declared.errors.EditError.TheVariants.{EditLimit as AtLimit, NoRoom as WithoutRoom, NoSuch as Missing, ValueRange as OutOfRange, NotPlain as Unplain, NotObserved as Unobserved}
 use Rattle.cstn_edit.specs.declared.outcomes.Outcome.{Outcome}

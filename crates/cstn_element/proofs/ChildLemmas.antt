@@ -8,7 +8,7 @@ use Rattle.cstn_markup.specs.Tokens.Kind.{start_tag, text_run}
 use Rattle.cstn_markup.specs.Steps.{StepsBy}
 use Rattle.cstn_element.specs.Results.{◌>>=◌, demand}
 use Rattle.cstn_element.specs.Results.Refusal.{shape}
-use Rattle.cstn_element.specs.Contents.{Tag, Content, contents, inner, outer, all_cut, opened}
+use Rattle.cstn_element.specs.Contents.{Tag, Content, contents, inner, outer, all_cut, opened, tag_of}
 use Rattle.cstn_element.specs.Contents.Content.{done, cut, run, element}
 use Rattle.cstn_element.specs.Elements.{Reading, read_by, blank}
 use Rattle.cstn_element.specs.Children.{past_blanks, Reaches, IsNext, Takes}
@@ -18,7 +18,7 @@ use Rattle.cstn_element.specs.declared.children.Next.{Next}
 use Rattle.cstn_element.specs.declared.children.Next.TheVariants.{Child}
 use Rattle.cstn_element.specs.declared.errors.DocError.{DocError}
 use Rattle.cstn_element.specs.declared.errors.DocError.TheVariants.{Shape}
-use Rattle.cstn_element.proofs.Places.{run_is, opens_by, tag_of}
+use Rattle.cstn_element.proofs.Places.{run_is, opens_by}
 use Rattle.cstn_element.proofs.PassedOver.{fails_through}
 
 -- behind white space, the same stands next at the tokens `first` and at the tokens `before`

@@ -5,14 +5,14 @@ use Rattle.cstn_markup.specs.Tokens.Kind.{start_tag, text_run}
 use Rattle.cstn_markup.specs.Steps.{StepsBy}
 use Rattle.cstn_element.specs.Results.{◌>>=◌}
 use Rattle.cstn_element.specs.Results.Refusal.{shape}
-use Rattle.cstn_element.specs.Contents.{Tag, Content, contents, inner, outer, all_cut, opened}
+use Rattle.cstn_element.specs.Contents.{Tag, Content, contents, inner, outer, all_cut, opened, tag_of}
 use Rattle.std.specs.Prelude.{nat_lt}
 use Rattle.cstn_element.specs.Contents.Content.{done}
 use Rattle.cstn_element.specs.Elements.{Reading, read_by}
 use Rattle.cstn_element.specs.Reads.{Reads, Continues, Fails, inside, behind}
 use Rattle.cstn_element.specs.declared.errors.DocError.{DocError}
 use Rattle.cstn_element.specs.declared.errors.DocError.TheVariants.{Shape}
-use Rattle.cstn_element.proofs.Places.{run_is, closed_is, open_is, opens_by, tag_of}
+use Rattle.cstn_element.proofs.Places.{run_is, closed_is, open_is, opens_by}
 use Rattle.cstn_element.proofs.PassedOver.{fails_through}
 
 module _ {S A X : Type 0} (r : Reading S A) (start : S) (view : X → A) where

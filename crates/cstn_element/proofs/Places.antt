@@ -8,7 +8,7 @@ use Rattle.cstn_markup.specs.Steps.{Steps, StepsBy}
 use Rattle.cstn_markup.specs.Seen.{kind_of, token_of}
 use Rattle.cstn_markup.specs.declared.token.Token.{Token as LentToken}
 use Rattle.cstn_markup.specs.declared.token.Kind.{Kind as Lent}
-use Rattle.cstn_element.specs.Contents.{Tag, contents, contents_by, all_cut, with_run, with_closed, with_element, opened, closed_by}
+use Rattle.cstn_element.specs.Contents.{tag_of, contents, contents_by, all_cut, with_run, with_closed, with_element, opened, closed_by}
 use Rattle.cstn_element.specs.Contents.Content.{done}
 
 -- what a step left, by the kind of the token that it gave
@@ -37,9 +37,6 @@ wrong_is (n ∷ names) at before after h = first_is (n ∷ names) _ before [] h.
 
 pub unfinished_is : (name : List ℕ) (others : List (List ℕ)) (at : ℕ) (before after : List Token) → StepsBy finish (record { at = at; kind = finish }) before after → contents (name ∷ others) before ≡ all_cut (name ∷ others) at
 unfinished_is name others at before after h = first_is (name ∷ others) _ before [] h.0
-
-abbrev pub tag_of : ℕ → List ℕ → List Attribute → Tag
-tag_of at name attributes = record { at = at; name = name; attributes = attributes }
 
 pub opens_by : (names : List (List ℕ)) (at : ℕ) (name : List ℕ) (attributes : List Attribute) (closed : Bool) (before after : List Token) → StepsBy (start_tag name attributes closed) (record { at = at; kind = start_tag name attributes closed }) before after
     → contents names before ≡ opened (nat_lt (length names) 32) closed names (tag_of at name attributes) (λ others. contents others after)

@@ -4,12 +4,12 @@ use Rattle.cstn_markup.specs.Tokens.{Attribute, Token}
 use Rattle.cstn_markup.specs.Tokens.Kind.{start_tag, end_tag, text_run, finish}
 use Rattle.cstn_markup.specs.Steps.{StepsBy}
 use Rattle.cstn_element.specs.Results.Refusal.{shape}
-use Rattle.cstn_element.specs.Contents.{contents, inner, all_cut}
+use Rattle.cstn_element.specs.Contents.{contents, inner, all_cut, tag_of}
 use Rattle.cstn_element.specs.Contents.Content.{done}
 use Rattle.cstn_element.specs.Elements.{Reading, read_by}
 use Rattle.cstn_element.specs.Reads.{Continues, Fails, inside}
 use Rattle.cstn_element.specs.declared.errors.DocError.{DocError}
-use Rattle.cstn_element.proofs.Places.{first_is, run_is, opens_by, tag_of}
+use Rattle.cstn_element.proofs.Places.{first_is, run_is, opens_by}
 use Rattle.cstn_element.proofs.PassedOver.{fails_through}
 use Rattle.cstn_element.proofs.Folds.{element_fails}
 

@@ -23,6 +23,19 @@ past_blanks (element tag content after) = element tag content after
 abbrev pub tag_seen : Start → Tag
 tag_seen start = record { at = start.at; name = start.name.now; attributes = start.attributes }
 
+-- what stands in an element of which the start tag was read, inside elements of these names, and what stands behind it
+abbrev pub inside_of : Start → List (List ℕ) → List Token → Content
+inside_of start names left = inside start.closed start.at start.name.now names left
+
+abbrev pub behind_of : Start → List (List ℕ) → List Token → List Content
+behind_of start names left = behind start.closed start.name.now names left
+
+-- An element whose start tag was read was read to its end, inside any others: what was returned is what `meaning` tells of its
+-- content.
+abbrev pub ReadsInside : {A B : Type 0} → (A → B) → (Content → Result B Refusal) → Start → List Token → List Token → Result A DocError → Type 0
+ReadsInside view meaning start before after result =
+    (names : List (List ℕ)) → ReadsWhole view meaning start.closed start.at start.name.now names before after result
+
 -- An element whose start tag was read, inside so many others, was read to its end: what was returned is what `meaning` tells of
 -- its tag and its content.
 abbrev pub ReadsChild : {A B : Type 0} → ℕ → (A → B) → (Tag → Content → Result B Refusal) → Start → List Token → List Token → Result A DocError → Type 0
@@ -41,8 +54,8 @@ pub record Reaches (names : List (List ℕ)) (before : List Token) (found : Cont
 abbrev pub IsNext : Next → List ℕ → List (List ℕ) → List Token → List Token → Type 0
 IsNext (Child start) name others before after =
     Reaches (name ∷ others) before
-    (element (tag_seen start) (inside start.closed start.at start.name.now (name ∷ others) after) (inner (behind start.closed start.name.now (name ∷ others) after)))
-    (outer (behind start.closed start.name.now (name ∷ others) after))
+    (element (tag_seen start) (inside_of start (name ∷ others) after) (inner (behind_of start (name ∷ others) after)))
+    (outer (behind_of start (name ∷ others) after))
 IsNext (End at) name others before after = Reaches (name ∷ others) before (done at) (contents others after)
 IsNext (Wrong at) name others before after = past_blanks (inner (contents (name ∷ others) before)) ≡ cut at
 

@@ -1,5 +1,5 @@
 -- The data elements that the program has, as those that the definitions speak of.
-use Rattle.std.specs.Prelude.{Option, Some, None}
+use Rattle.std.specs.Prelude.{ℕ, List, map, Option, Some, None}
 use Rattle.std.specs.Borrow.{Bor}
 use Rattle.cstn_data.specs.WhiteSpace.{trimmed}
 use Rattle.cstn_element.specs.declared.data_element.Datum.{Datum as Lent}
@@ -7,6 +7,13 @@ use Rattle.cstn_element.specs.Elements.{Datum}
 
 abbrev pub datum_seen : Lent → Datum
 datum_seen d = record { key = d.key.items; at = d.at; value = trimmed d.text.items }
+
+abbrev pub data_seen : List Lent → List Datum
+data_seen found = map datum_seen found
+
+-- the keys that are used
+abbrev pub keys_seen : List (Bor (List ℕ)) → List (List ℕ)
+keys_seen used = map (λ key. key.now) used
 
 abbrev pub maybe_datum : Option Lent → Option Datum
 maybe_datum (Some d) = Some (datum_seen d)

@@ -83,7 +83,8 @@ GoesOnInDocument S A r =
 -- an element in the document was refused, and so is the document
 abbrev pub IsRefusedInDocument : (S A : Type 0) → Reading S A → Type 0
 IsRefusedInDocument S A r =
-    (begun now later : S) (first before inside behind : List Token) (t : LentToken) (name : Bor (List ℕ)) (attributes : List Attribute) (closed : Bool) (error : DocError)
+    (begun now later : S) (first before inside behind : List Token) (t : LentToken) (name : Bor (List ℕ)) (attributes : List Attribute) (closed : Bool)
+    (error : DocError)
     → IsAt r begun now [] first before → Steps (token_of t) before inside → t.kind ≡ StartTag name attributes closed
     → ReadsWhole {A = Unit {0}} (λ u. later) (r.elements now (tag_at t.at name attributes)) closed t.at name.now [] inside behind (Err error)
     → Fails error (read_by r begun (content_of first))

@@ -1,5 +1,5 @@
 -- What it is to read the rest of an element.
-use Rattle.std.specs.Prelude.{◌≡◌, ℕ, List, ◌∷◌, Result, Ok, Err, OnOk, Bool, true, false}
+use Rattle.std.specs.Prelude.{◌≡◌, ℕ, List, ◌∷◌, length, Result, Ok, Err, OnOk, Bool, true, false}
 use Rattle.cstn_element.specs.Contents.Content.{done}
 use Rattle.cstn_markup.specs.Tokens.{Token}
 use Rattle.cstn_element.specs.Results.{Refusal}
@@ -41,9 +41,15 @@ LeavesAt (Err e) names before after others = Unit {0}
 
 -- The rest of the element of this name, inside elements of the other names, was read: what was returned is what `meaning` tells
 -- of its content, and the tokens left are those behind its end.
-pub record Reads {A B : Type 0} (view : A → B) (meaning : Content → Result B Refusal) (name : List ℕ) (others : List (List ℕ)) (before after : List Token) (result : Result A DocError) : Type 0 where
+pub record Reads {A B : Type 0} (view : A → B) (meaning : Content → Result B Refusal) (name : List ℕ) (others : List (List ℕ))
+    (before after : List Token) (result : Result A DocError) : Type 0 where
   pub told : Gives view result (meaning (inner (contents (name ∷ others) before)))
   pub left : LeavesAt result (name ∷ others) before after others
+
+-- the rest of the element of this name, inside so many others, was read likewise
+abbrev pub ReadsRest : {A B : Type 0} → ℕ → (A → B) → (Content → Result B Refusal) → List ℕ → List Token → List Token → Result A DocError → Type 0
+ReadsRest depth view meaning name before after result =
+    (others : List (List ℕ)) → length others ≡ depth → Reads view meaning name others before after result
 
 -- The reading went from the tokens `before` on to the tokens `after` in the same element: what `meaning` tells of the rest from
 -- `before` on, `later` tells of the rest from `after` on.
@@ -63,6 +69,7 @@ behind false name names left = outer (contents (name ∷ names) left)
 
 -- An element whose start tag was read, inside elements of these names, was read to its end: what was returned is what `meaning`
 -- tells of its content.
-pub record ReadsWhole {A B : Type 0} (view : A → B) (meaning : Content → Result B Refusal) (closed : Bool) (at : ℕ) (name : List ℕ) (names : List (List ℕ)) (before after : List Token) (result : Result A DocError) : Type 0 where
+pub record ReadsWhole {A B : Type 0} (view : A → B) (meaning : Content → Result B Refusal) (closed : Bool) (at : ℕ) (name : List ℕ) (names : List (List ℕ))
+    (before after : List Token) (result : Result A DocError) : Type 0 where
   pub told : Gives view result (meaning (inside closed at name names before))
   pub left : OnOk result (behind closed name names before ≡ contents names after)

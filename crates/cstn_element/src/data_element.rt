@@ -5,7 +5,7 @@ ghost use Rattle.std.specs.List.{list_any};
 ghost use Rattle.cstn_markup.specs.Bytes.{is_same, resolved};
 ghost use Rattle.cstn_element.specs.Elements.{has_key, datum, datum_of};
 ghost use Rattle.cstn_element.specs.Children.{ReadsChild};
-ghost use Rattle.cstn_element.specs.DataElementSeen.{maybe_datum, datum_seen, lent_datum};
+ghost use Rattle.cstn_element.specs.DataElementSeen.{maybe_datum, datum_seen, data_seen, keys_seen, lent_datum};
 
 use crate::attributes::attribute;
 use crate::children::Start;
@@ -59,7 +59,7 @@ pub fn read_datum<'a>(
     depth: usize,
 ) -> Result<Option<Datum>, DocError>
     requires deep { depth < 32 }
-    ensures reads { ReadsChild depth maybe_datum (datum (map (λ u. u.now) used.now) (has_key (map datum_seen found.now))) start.now scanner.old scanner.new result }
+    ensures reads { ReadsChild depth maybe_datum (datum (keys_seen used.now) (has_key (data_seen found.now))) start.now scanner.old scanner.new result }
     ensures less { length scanner.new ≤ length scanner.old }
 {
     let at = start.at;
@@ -79,7 +79,7 @@ pub fn read_datum<'a>(
 
 /// The data element with this key, or None where none was found.
 pub fn datum_of<'a>(found: &'a [Datum], key: &[u8]) -> Option<&'a Datum>
-    ensures { lent_datum result ≡ datum_of key.now (map datum_seen found.now) }
+    ensures { lent_datum result ≡ datum_of key.now (data_seen found.now) }
 {
     let mut rest = found;
     while let Some((datum, next)) = rest.split_first() {

@@ -2,7 +2,8 @@
 
 ghost use Rattle.std.specs.Prelude.{◌≡◌, ℕ, List, ◌≤◌, length};
 ghost use Rattle.cstn_element.specs.Elements.{texts};
-ghost use Rattle.cstn_element.specs.Reads.{Reads, ReadsWhole};
+ghost use Rattle.cstn_element.specs.Reads.{Reads};
+ghost use Rattle.cstn_element.specs.Children.{ReadsInside};
 
 use crate::children::Start;
 use crate::errors::DocError;
@@ -50,7 +51,7 @@ pub fn read_element_text(
     scanner: &mut Scanner,
     start: &Start,
 ) -> Result<Vec<u8>, DocError>
-    ensures reads { (names : List (List ℕ)) → ReadsWhole (λ v. v.items) texts start.now.closed start.now.at start.now.name.now names scanner.old scanner.new result }
+    ensures reads { ReadsInside (λ v. v.items) texts start.now scanner.old scanner.new result }
     ensures less { length scanner.new ≤ length scanner.old }
 {
     if start.closed {

@@ -4,8 +4,8 @@ ghost use Rattle.std.specs.Prelude.{◌≡◌, ℕ, List, ◌≤◌, length, map
 ghost use Rattle.cstn_markup.specs.Bytes.{is_same};
 ghost use Rattle.cstn_element.specs.Elements.{data_reading, data_of};
 ghost use Rattle.cstn_element.specs.Children.{ReadsChild};
-ghost use Rattle.cstn_element.specs.DataElementSeen.{datum_seen};
-ghost use Rattle.cstn_element.specs.Reads.{Reads};
+ghost use Rattle.cstn_element.specs.DataElementSeen.{data_seen, keys_seen};
+ghost use Rattle.cstn_element.specs.Reads.{ReadsRest};
 
 use crate::children::{Next, Start, next_child};
 use crate::data_element::{Datum, read_datum};
@@ -23,7 +23,8 @@ fn read_child<'a>(
     used: &[&[u8]],
     found: &mut Vec<Datum>,
 ) -> Result<(), DocError>
-    ensures reads { ReadsChild 3 (λ u. map datum_seen found.new.items) ((data_reading (map (λ u. u.now) used.now)).elements (map datum_seen found.old.items)) start.now scanner.old scanner.new result }
+    ensures reads { ReadsChild 3 (λ u. data_seen found.new.items) ((data_reading (keys_seen used.now)).elements (data_seen found.old.items))
+        start.now scanner.old scanner.new result }
     ensures less { length scanner.new ≤ length scanner.old }
 {
     if start.name != b"data".as_slice() {
@@ -46,7 +47,7 @@ fn read_data(
     name: &[u8],
     used: &[&[u8]],
 ) -> Result<Vec<Datum>, DocError>
-    ensures reads { (others : List (List ℕ)) → length others ≡ 2 → Reads (λ v. map datum_seen v.items) (data_of (map (λ u. u.now) used.now)) name.now others scanner.old scanner.new result }
+    ensures reads { ReadsRest 2 (λ v. data_seen v.items) (data_of (keys_seen used.now)) name.now scanner.old scanner.new result }
     ensures less { length scanner.new ≤ length scanner.old }
 {
     let mut found = Vec::new(alloc);
@@ -67,7 +68,7 @@ pub fn read_element_data(
     start: &Start,
     used: &[&[u8]],
 ) -> Result<Vec<Datum>, DocError>
-    ensures reads { ReadsChild 2 (λ v. map datum_seen v.items) (λ tag. data_of (map (λ u. u.now) used.now)) start.now scanner.old scanner.new result }
+    ensures reads { ReadsChild 2 (λ v. data_seen v.items) (λ tag. data_of (keys_seen used.now)) start.now scanner.old scanner.new result }
     ensures less { length scanner.new ≤ length scanner.old }
 {
     if start.closed {

@@ -2,7 +2,7 @@
 
 ghost use Rattle.std.specs.Prelude.{◌≡◌, ℕ, List, ◌≤◌, ◌<◌, ◌+◌, length};
 ghost use Rattle.cstn_element.specs.Elements.{passed};
-ghost use Rattle.cstn_element.specs.Reads.{Reads, raised};
+ghost use Rattle.cstn_element.specs.Reads.{ReadsRest, raised};
 ghost use Rattle.cstn_element.specs.Children.{ReadsChild};
 
 use crate::children::Start;
@@ -14,7 +14,7 @@ use cstn_markup::{Kind, Scanner, Token};
 /// too deep.
 fn pass_over<'a>(scanner: &mut Scanner<'a>, name: &'a [u8], depth: usize) -> Result<(), Fault>
     requires { depth < 32 }
-    ensures reads { (others : List (List ℕ)) → length others ≡ depth → Reads (λ u. u) passed name.now others scanner.old scanner.new (raised result) }
+    ensures reads { ReadsRest depth (λ u. u) passed name.now scanner.old scanner.new (raised result) }
     ensures less { length scanner.new ≤ length scanner.old }
 {
     let mut open_names = OpenNames::new(name);

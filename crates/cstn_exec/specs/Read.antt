@@ -48,3 +48,8 @@ pub record IsExecutive (net : Network) (run : Run) (size : ℕ) : Type 0 where
   pub right : IsRight net run
   pub in_time : next run ≤ net.deadline + 1
   pub room : count net ≤ size
+
+-- a run that an executive of the network can have: it is right and not past the deadline
+pub record IsRunOf (net : Network) (run : Run) : Type 0 where
+  pub right : IsRight net run
+  pub in_time : next run ≤ net.deadline + 1

@@ -17,6 +17,7 @@ mod known;
 mod naming;
 mod parts;
 mod search;
+mod snapshots;
 
 use crate::errors::ExecError;
 pub use asked::is_possible;
@@ -26,6 +27,7 @@ use cstn_net::Network;
 pub use naming::Names;
 use naming::execute;
 use smallvec::SmallVec;
+pub use snapshots::Snapshot;
 use std::alloc::{AllocError, Global};
 use std::marker::Model;
 

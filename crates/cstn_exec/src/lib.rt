@@ -10,7 +10,7 @@ mod laws;
 mod lines;
 
 pub use errors::ExecError;
-pub use executive::{Executive, is_possible};
+pub use executive::{Executive, Snapshot, is_possible};
 pub use guide_laws::{
     guide_answers_are_known, guides_are_on_time, guides_stay_right, holding_is_decided,
     outcomes_are_of_the_named, the_named_hold, unlabelled_guides_are_executives,

@@ -9,7 +9,7 @@ use Rattle.std.proofs.Math.Path.{fun_ext}
 use Rattle.cstn_net.specs.declared.points.TimePoint.{TimePoint}
 use Rattle.cstn_net.specs.Drafts.{BuilderParts, constraint_of, constraints_from, with_reaction}
 use Rattle.cstn_net.specs.declared.drafts.Draft.{Draft as LentDraft}
-use Rattle.cstn_net.specs.Read.{NetworkParts, the_network, the_constraint, observed, reaction_of}
+use Rattle.cstn_net.specs.Read.{NetworkParts, the_network, the_constraint, observed, reaction_of, first_reaction}
 use Rattle.cstn_graphml.specs.declared.drawn_graph.Observation.{Observation as LentObservation}
 use Rattle.cstn_graphml.specs.declared.drawn_graph.DrawnConstraint.{DrawnConstraint as Lent}
 use Rattle.cstn_graphml.specs.declared.drawn_graph.DrawnGraph.{DrawnGraph as LentGraph}
@@ -18,7 +18,7 @@ use Rattle.cstn_graphml.specs.DrawnGraphLaws.{IsDrawnAmong}
 use Rattle.cstn_graphml.specs.DrawnGraph.{observation, DrawnConstraint}
 use Rattle.cstn_graphml.specs.Document.{Parts, or_nothing}
 use Rattle.cstn_graphml.specs.Labels.{labels_seen}
-use Rattle.cstn_graphml.specs.Networks.{with_points, with_drafts, point_of, draft_of, drawn_of, numbered_drawn, observed_prop, reaction_by, reaction_among, observation_of, builder_of, at_origin, HasParts, network_of, IsBuilt}
+use Rattle.cstn_graphml.specs.Networks.{begun, with_points, with_drafts, point_of, draft_of, drawn_of, numbered_drawn, observed_prop, observed_reaction, observation_of, builder_of, at_origin, HasParts, network_of, IsBuilt}
 
 -- the last element of one list may as well be the first of the next
 seam : {A : Type 0} (xs : List A) (x : A) (ys : List A) → (xs ++ (x ∷ [])) ++ ys ≡ xs ++ (x ∷ ys)
@@ -65,13 +65,14 @@ pub props_kept : (points : List TimePoint) → map observed points ≡ map obser
 props_kept [] = refl
 props_kept (t ∷ points) = rw (sym (prop_kept (observed t) t.reaction), props_kept points) refl
 
-reaction_kept : (prop : Option ℕ) (ticks p later : ℕ) → (if is_prop p prop then ticks else later) ≡ reaction_by (observation prop ticks) p later
+reaction_kept : (prop : Option ℕ) (ticks p later : ℕ) →
+    (if is_prop p prop then ticks else later) ≡ (if is_prop p (observed_prop (observation prop ticks)) then observed_reaction (observation prop ticks) else later)
 reaction_kept (Some q) ticks p later = refl
 reaction_kept None ticks p later = refl
 
-pub reactions_kept : (points : List TimePoint) (p : ℕ) → reaction_of points p ≡ reaction_among (map observation_of points) p
+pub reactions_kept : (points : List TimePoint) (p : ℕ) → reaction_of points p ≡ first_reaction observed_prop observed_reaction (map observation_of points) p
 reactions_kept [] p = refl
-reactions_kept (t ∷ points) p = ap (λ later. if is_prop p (observed t) then t.reaction else later) (reactions_kept points p) ∙ reaction_kept (observed t) t.reaction p (reaction_among (map observation_of points) p)
+reactions_kept (t ∷ points) p = ap (λ later. if is_prop p (observed t) then t.reaction else later) (reactions_kept points p) ∙ reaction_kept (observed t) t.reaction p (first_reaction observed_prop observed_reaction (map observation_of points) p)
 
 seen_drafts : (cs : List Lent) → map drawn_of (map draft_of cs) ≡ map drawn_seen cs
 seen_drafts [] = refl
@@ -88,26 +89,23 @@ parts_with deadline d = record {
   names = d.names;
   observes = or_nothing (option_map observed_seen d.origin) ∷ map observed_seen d.observes.items;
   labels = labels_seen d;
-  constraints = map drawn_seen d.constraints.items;
+  constraints = map drawn_seen d.constraints.list.items;
 }
 
 abbrev pub all_points : LentGraph → List (Option LentObservation)
 all_points d = at_origin d.origin ∷ d.observes.items
 
-abbrev begun : ℕ → BuilderParts
-begun deadline = record { deadline = deadline; points = []; drafts = [] }
-
 pub built_points : (deadline : ℕ) (d : LentGraph) → (builder_of deadline d).points ≡ map point_of (all_points d)
-built_points deadline d = drafts_leave_points d.constraints.items (with_points (all_points d) (begun deadline)) ∙ points_are (all_points d) (begun deadline)
+built_points deadline d = drafts_leave_points d.constraints.list.items (with_points (all_points d) (begun deadline)) ∙ points_are (all_points d) (begun deadline)
 
-pub built_drafts : (deadline : ℕ) (d : LentGraph) → (builder_of deadline d).drafts ≡ map draft_of d.constraints.items
-built_drafts deadline d = drafts_are d.constraints.items (with_points (all_points d) (begun deadline)) ∙ ap (λ (xs : List LentDraft). xs ++ map draft_of d.constraints.items) (points_leave_drafts (all_points d) (begun deadline))
+pub built_drafts : (deadline : ℕ) (d : LentGraph) → (builder_of deadline d).drafts ≡ map draft_of d.constraints.list.items
+built_drafts deadline d = drafts_are d.constraints.list.items (with_points (all_points d) (begun deadline)) ∙ ap (λ (xs : List LentDraft). xs ++ map draft_of d.constraints.list.items) (points_leave_drafts (all_points d) (begun deadline))
 
 pub has_parts : (deadline : ℕ) (d : LentGraph) → HasParts (builder_of deadline d) (parts_with deadline d)
 has_parts deadline d = record {
-  deadline = drafts_leave_deadline d.constraints.items (with_points (all_points d) (begun deadline)) ∙ points_leave_deadline (all_points d) (begun deadline);
+  deadline = drafts_leave_deadline d.constraints.list.items (with_points (all_points d) (begun deadline)) ∙ points_leave_deadline (all_points d) (begun deadline);
   observes = ap (map observation_of) (built_points deadline d) ∙ seen_points (all_points d) ∙ ap (λ o. o ∷ map observed_seen d.observes.items) (seen_origin d.origin);
-  constraints = ap (map drawn_of) (built_drafts deadline d) ∙ seen_drafts d.constraints.items;
+  constraints = ap (map drawn_of) (built_drafts deadline d) ∙ seen_drafts d.constraints.list.items;
 }
 
 pub made_constraints : (k : ℕ) (ds : List LentDraft) → map the_constraint (constraints_from k ds) ≡ numbered_drawn k (map drawn_of ds)
@@ -128,7 +126,7 @@ made_network deadline d n h =
     let parts = has_parts deadline d in
     let observed_is : map observation_of n.points ≡ (parts_with deadline d).observes = ap (map observation_of) h.points ∙ parts.observes in
     same_network (h.deadline ∙ parts.deadline) (props_kept n.points ∙ ap (map observed_prop) observed_is)
-    (fun_ext (λ p. reactions_kept n.points p ∙ ap (λ os. reaction_among os p) observed_is))
+    (fun_ext (λ p. reactions_kept n.points p ∙ ap (λ os. first_reaction observed_prop observed_reaction os p) observed_is))
     (ap (map the_constraint) h.constraints ∙ made_constraints 0 (builder_of deadline d).drafts ∙ ap (numbered_drawn 0) parts.constraints)
 
 -- the network that was made has a time-point for each name of the graph

@@ -1,5 +1,5 @@
 -- The laws of drawn graphs hold of everything that is read.
-use Rattle.std.proofs.Common.{◌≡◌, ℕ, ◌<◌, ◌≤◌, Bool, true, false, List, [], ◌∷◌, ◌++◌, length, refl, ap, subst, arith, Option, Some, None, Result, Ok, Err}
+use Rattle.std.proofs.Common.{◌≡◌, ℕ, ◌<◌, Bool, true, false, List, [], ◌∷◌, ◌++◌, length, refl, ap, subst, arith, Option, Some, None, Result, Ok, Err}
 use Rattle.std.specs.Prelude.{if◌then◌else◌, is_some, codes, not, nat_lt, nat_le, ◌&&◌}
 use Rattle.std.specs.List.{All, list_any}
 use Rattle.std.proofs.lemmas.List.{length-append}
@@ -18,11 +18,13 @@ use Rattle.cstn_graphml.specs.DrawnGraph.{Observation, observation, DrawnGraph, 
 use Rattle.cstn_graphml.specs.Judged.{judged_node, judged_edge, judged_deadline, with_pair, with_pairs, with_values, with_edge, is_kept, observed, reacting, labelled}
 use Rattle.cstn_graphml.specs.Document.{Part, graph_child, graph_reading, in_graph, root_child, root_reading, in_root, document_child, document_reading, in_document, part_of}
 use Rattle.cstn_graphml.specs.Document.Part.{a_datum, a_node, an_edge, another}
-use Rattle.cstn_graphml.specs.DrawnGraphLaws.{IsDrawnGraph, IsDrawnAmong, IsWithReaction}
-use Rattle.cstn_label.specs.Labels.{Label, IsPlain, empty}
-use Rattle.cstn_data.specs.LabelTexts.{label_of}
+use Rattle.cstn_graphml.specs.DrawnGraphLaws.{IsDrawnGraph, IsDrawnAmong, IsWithReaction, IsLettered}
+use Rattle.cstn_label.specs.Labels.{Label, empty}
+use Rattle.cstn_label.specs.Letters.{prop_of}
+use Rattle.cstn_data.specs.LabelTexts.{label_of, IsOfLiterals}
+use Rattle.cstn_data.specs.ObservedLetters.{observed_in, maybe_prop}
 use Rattle.cstn_data.proofs.ReactionLemmas.{reaction_in_reach}
-use Rattle.cstn_data.proofs.PlainLabels.{HasPlainLabel, label_plain, values_plain}
+use Rattle.cstn_data.proofs.LiteralLabels.{HasLiterals, prop_small, empty_of_literals, label_of_literals, values_of_literals}
 
 pub bind_ok : {A B : Type 0} (o : Result A Refusal) (f : A → Result B Refusal) (y : B) → (o >>= f) ≡ Ok y → (x : A) × (o ≡ Ok x) × (f x ≡ Ok y)
 bind_ok (Ok x) f y e = (x, refl, e)
@@ -56,7 +58,7 @@ blank_keeps : {S : Type 0} (P : S → Type 0) (s t : S) (at : ℕ) (raw : List �
 blank_keeps P s t at raw p h = let b = bind_ok (blank at raw) (λ same. Ok s) t h in subst P (ok_is s t b.2) p
 
 pub empty_is : IsDrawnGraph empty_graph
-empty_is = record { later = []; first = refl; each = refl; labelled = refl; among = λ k d inside. absurd (omega (arith, inside)); few = omega arith; origin_timely = tt; timely = λ k d inside. absurd (omega (arith, inside)); plain = λ k d inside. absurd (omega (arith, inside)); origin_plain = λ p. tt; plain_labels = λ k d inside. absurd (omega (arith, inside)) }
+empty_is = record { later = []; first = refl; each = refl; labelled = refl; among = λ k d inside. absurd (omega (arith, inside)); origin_timely = tt; timely = λ k d inside. absurd (omega (arith, inside)); origin_lettered = tt; lettered = λ k d inside. absurd (omega (arith, inside)); literals = λ k d inside. absurd (omega (arith, inside)); origin_literals = empty_of_literals; label_literals = λ k d inside. absurd (omega (arith, inside)) }
 
 picked : (b c : Bool) (later : Option ℕ) (k n : ℕ) → (if b then when c 0 else later) ≡ Some k → 0 < n → ((j : ℕ) → later ≡ Some j → j < n) → k < n
 picked true true later k n e z h = let i : 0 ≡ k = cc in subst (λ j. j < n) i z
@@ -67,37 +69,29 @@ picked false c later k n e z h = h k e
 node_inside : (name : List ℕ) (d : DrawnGraph) (k : ℕ) → IsDrawnGraph d → node_of name d ≡ Some k → k < length d.names
 node_inside name d k h e = picked (is_same name origin_name) (is_some d.origin) (number_of d.names name) k (length d.names) e (omega (arith, h.each)) (λ j f. (position-Some _ d.names j [] f).0)
 
--- what holds of all constraints and of one more holds of them all, whether there is room for that one or not
-room_keeps : (P : DrawnConstraint → Type 0) (room : Bool) (cs : List DrawnConstraint) (c : DrawnConstraint) → All P cs → P c → All P (if room then cs ++ (c ∷ []) else cs)
-room_keeps P true cs c h p = All-push P cs c h p
-room_keeps P false cs c h p = h
-
-room_few : (room : Bool) (cs : List DrawnConstraint) (c : DrawnConstraint) → nat_le (length cs) 16384 ≡ room → length cs ≤ 16385 → length (if room then cs ++ (c ∷ []) else cs) ≤ 16385
-room_few true cs c e few = let below : length cs ≤ 16384 = grind arith in omega (arith, below, length-append cs (c ∷ []))
-room_few false cs c e few = few
-
-constraint_kept : (c : DrawnConstraint) (d : DrawnGraph) → IsDrawnGraph d → IsDrawnAmong (length d.names) c → IsPlain c.label → IsDrawnGraph (with_constraint c d)
+constraint_kept : (c : DrawnConstraint) (d : DrawnGraph) → IsDrawnGraph d → IsDrawnAmong (length d.names) c → IsOfLiterals c.label → IsDrawnGraph (with_constraint c d)
 constraint_kept c d h i p = record {
   later = h.later;
   first = h.first;
   each = h.each;
   labelled = h.labelled;
-  among = room_keeps (IsDrawnAmong (length d.names)) (nat_le (length d.constraints) 16384) d.constraints c h.among i;
-  few = room_few (nat_le (length d.constraints) 16384) d.constraints c refl h.few;
+  among = All-push (IsDrawnAmong (length d.names)) d.constraints c h.among i;
   origin_timely = h.origin_timely;
   timely = h.timely;
-  plain = room_keeps (λ (c : DrawnConstraint). IsPlain c.label) (nat_le (length d.constraints) 16384) d.constraints c h.plain p;
-  origin_plain = h.origin_plain;
-  plain_labels = h.plain_labels;
+  origin_lettered = h.origin_lettered;
+  lettered = h.lettered;
+  literals = All-push (λ (c : DrawnConstraint). IsOfLiterals c.label) d.constraints c h.literals p;
+  origin_literals = h.origin_literals;
+  label_literals = h.label_literals;
 }
 
 deadline_kept : (found : Datum) (n : ℕ) (d : DrawnGraph) → IsDrawnGraph d → IsDrawnGraph (with_deadline found n d)
-deadline_kept found n d h = record { later = h.later; first = h.first; each = h.each; labelled = h.labelled; among = h.among; few = h.few; origin_timely = h.origin_timely; timely = h.timely; plain = h.plain; origin_plain = h.origin_plain; plain_labels = h.plain_labels }
+deadline_kept found n d h = record { later = h.later; first = h.first; each = h.each; labelled = h.labelled; among = h.among; origin_timely = h.origin_timely; timely = h.timely; origin_lettered = h.origin_lettered; lettered = h.lettered; literals = h.literals; origin_literals = h.origin_literals; label_literals = h.label_literals }
 
-node_by : (b : Bool) (name : List ℕ) (observed : Option Observation) (label : Label) (d : DrawnGraph) → IsDrawnGraph d → IsWithReaction observed → IsPlain label
+node_by : (b : Bool) (name : List ℕ) (observed : Option Observation) (label : Label) (d : DrawnGraph) → IsDrawnGraph d → IsWithReaction observed → IsLettered observed → IsOfLiterals label
     → IsDrawnGraph (if b then record d { origin = Some observed; origin_label = label } else record d { names = d.names ++ (name ∷ []); observes = d.observes ++ (observed ∷ []); labels = d.labels ++ (label ∷ []) })
-node_by true name observed label d h t p = record { later = h.later; first = h.first; each = h.each; labelled = h.labelled; among = h.among; few = h.few; origin_timely = t; timely = h.timely; plain = h.plain; origin_plain = p; plain_labels = h.plain_labels }
-node_by false name observed label d h t p =
+node_by true name observed label d h t l p = record { later = h.later; first = h.first; each = h.each; labelled = h.labelled; among = h.among; origin_timely = t; timely = h.timely; origin_lettered = l; lettered = h.lettered; literals = h.literals; origin_literals = p; label_literals = h.label_literals }
+node_by false name observed label d h t l p =
     let longer = length-append d.names (name ∷ []) in
     let each = length-append d.observes (observed ∷ []) in
     let labelled = length-append d.labels (label ∷ []) in
@@ -107,44 +101,61 @@ node_by false name observed label d h t p =
       each = omega (arith, longer, each, h.each);
       labelled = omega (arith, longer, labelled, h.labelled);
       among = All-weaker (IsDrawnAmong (length d.names)) (IsDrawnAmong (length (d.names ++ (name ∷ [])))) (λ c i. (omega (arith, longer, i.0), omega (arith, longer, i.1))) d.constraints h.among;
-      few = h.few;
       origin_timely = h.origin_timely;
       timely = All-push IsWithReaction d.observes observed h.timely t;
-      plain = h.plain;
-      origin_plain = h.origin_plain;
-      plain_labels = All-push IsPlain d.labels label h.plain_labels p;
+      origin_lettered = h.origin_lettered;
+      lettered = All-push IsLettered d.observes observed h.lettered l;
+      literals = h.literals;
+      origin_literals = h.origin_literals;
+      label_literals = All-push IsOfLiterals d.labels label h.label_literals p;
     }
 
-node_kept : (name : List ℕ) (observed : Option Observation) (label : Label) (d : DrawnGraph) → IsDrawnGraph d → IsWithReaction observed → IsPlain label → IsDrawnGraph (with_node name observed label d)
-node_kept name observed label d h t p = node_by (is_same name origin_name) name observed label d h t p
+node_kept : (name : List ℕ) (observed : Option Observation) (label : Label) (d : DrawnGraph) → IsDrawnGraph d → IsWithReaction observed → IsLettered observed → IsOfLiterals label → IsDrawnGraph (with_node name observed label d)
+node_kept name observed label d h t l p = node_by (is_same name origin_name) name observed label d h t l p
 
 -- the reaction of a node is in range
 reacting_in_reach : (found : Option Datum) (ticks : ℕ) → reacting found ≡ Ok ticks → IsReaction ticks
 reacting_in_reach None ticks e = subst IsReaction (ok_is 1 ticks e) (omega arith, omega arith)
 reacting_in_reach (Some x) ticks e = reaction_in_reach x.value ticks (given (reaction_in x.value) (bad_value x.at) ticks e)
 
--- the label of a node is plain
-labelled_plain : (found : Option Datum) (label : Label) → labelled found ≡ Ok label → IsPlain label
-labelled_plain None label e = subst IsPlain (ok_is empty label e) (λ p. tt)
-labelled_plain (Some x) label e = label_plain x.value label (given (label_of x.value) (label_text x.at) label e)
+-- what a node observes has a letter
+letter_named : (o : Option ℕ) (prop : Option ℕ) → ((p : ℕ) → o ≡ Some p → p < 52) → maybe_prop o ≡ Some prop → (ticks : ℕ) → IsLettered (observation prop ticks)
+letter_named (Some p) prop small e ticks =
+    let is : Some p ≡ prop = cc in
+    subst (λ o. IsLettered (observation o ticks)) is (small p refl)
+letter_named None prop small e ticks = absurd (cc)
+
+text_lettered : (text : List ℕ) (prop : Option ℕ) → observed_in text ≡ Some prop → (ticks : ℕ) → IsLettered (observation prop ticks)
+text_lettered [] prop e ticks = let is : None ≡ prop = cc in subst (λ o. IsLettered (observation o ticks)) is tt
+text_lettered (b ∷ []) prop e ticks = letter_named (prop_of b) prop (prop_small b) e ticks
+text_lettered (b ∷ c ∷ bytes) prop e ticks = absurd (cc)
+
+observed_lettered : (found : Option Datum) (prop : Option ℕ) (ticks : ℕ) → observed found ≡ Ok prop → IsLettered (observation prop ticks)
+observed_lettered None prop ticks e = subst (λ o. IsLettered (observation o ticks)) (ok_is None prop e) tt
+observed_lettered (Some x) prop ticks e = text_lettered x.value prop (given (observed_in x.value) (label_text x.at) prop e) ticks
+
+-- the label of a node consists of literals
+labelled_literals : (found : Option Datum) (label : Label) → labelled found ≡ Ok label → IsOfLiterals label
+labelled_literals None label e = subst IsOfLiterals (ok_is empty label e) empty_of_literals
+labelled_literals (Some x) label e = label_of_literals x.value label (given (label_of x.value) (label_text x.at) label e)
 
 observation_timely : (prop : Option ℕ) (ticks : ℕ) → IsReaction ticks → IsWithReaction (observation prop ticks)
 observation_timely (Some p) ticks h = h
 observation_timely None ticks h = tt
 
-pairs_kept : (at from to : ℕ) (pairs : List Pair) (d e : DrawnGraph) → IsDrawnGraph d → All HasPlainLabel pairs → from < length d.names → to < length d.names → with_pairs at from to pairs d ≡ Ok e → IsDrawnGraph e
+pairs_kept : (at from to : ℕ) (pairs : List Pair) (d e : DrawnGraph) → IsDrawnGraph d → All HasLiterals pairs → from < length d.names → to < length d.names → with_pairs at from to pairs d ≡ Ok e → IsDrawnGraph e
 unfolding with_pairs
-pairs_kept at from to [] d e h plain f t k = subst IsDrawnGraph (ok_is d e k) h
-pairs_kept at from to (p ∷ pairs) d e h plain f t k =
+pairs_kept at from to [] d e h literals f t k = subst IsDrawnGraph (ok_is d e k) h
+pairs_kept at from to (p ∷ pairs) d e h literals f t k =
     let b = bind_ok (with_pair at from to p d) (with_pairs at from to pairs) e k in
     let q = bind_ok (or_refused p.label (label_text at)) (λ label. Ok (with_constraint (record { from = from; to = to; most = p.most; label = label }) d)) b.0 b.1 in
     let is = ok_is (with_constraint (record { from = from; to = to; most = p.most; label = q.0 }) d) b.0 q.2 in
-    let here : IsPlain q.0 = All-head HasPlainLabel p pairs plain q.0 (given p.label (label_text at) q.0 q.1) in
-    pairs_kept at from to pairs b.0 e (subst IsDrawnGraph is (constraint_kept (record { from = from; to = to; most = p.most; label = q.0 }) d h (f, t) here)) (All-tail HasPlainLabel p pairs plain) (subst (λ (x : DrawnGraph). from < length x.names) is f) (subst (λ (x : DrawnGraph). to < length x.names) is t) b.2
+    let here : IsOfLiterals q.0 = All-head HasLiterals p pairs literals q.0 (given p.label (label_text at) q.0 q.1) in
+    pairs_kept at from to pairs b.0 e (subst IsDrawnGraph is (constraint_kept (record { from = from; to = to; most = p.most; label = q.0 }) d h (f, t) here)) (All-tail HasLiterals p pairs literals) (subst (λ (x : DrawnGraph). from < length x.names) is f) (subst (λ (x : DrawnGraph). to < length x.names) is t) b.2
 
 values_kept : (from to : ℕ) (found : Option Datum) (d e : DrawnGraph) → IsDrawnGraph d → from < length d.names → to < length d.names → with_values from to found d ≡ Ok e → IsDrawnGraph e
 values_kept from to None d e h f t k = subst IsDrawnGraph (ok_is d e k) h
-values_kept from to (Some x) d e h f t k = let b = bind_ok (or_refused (values_of x.value) (bad_value x.at)) (λ pairs. with_pairs x.at from to pairs d) e k in pairs_kept x.at from to b.0 d e h (values_plain x.value b.0 (given (values_of x.value) (bad_value x.at) b.0 b.1)) f t b.2
+values_kept from to (Some x) d e h f t k = let b = bind_ok (or_refused (values_of x.value) (bad_value x.at)) (λ pairs. with_pairs x.at from to pairs d) e k in pairs_kept x.at from to b.0 d e h (values_of_literals x.value b.0 (given (values_of x.value) (bad_value x.at) b.0 b.1)) f t b.2
 
 edge_by : (keeps : Bool) (at : ℕ) (source target : List ℕ) (d e : DrawnGraph) (found : List Datum) → IsDrawnGraph d → with_edge keeps at source target d found ≡ Ok e → IsDrawnGraph e
 edge_by false at source target d e found h k = subst IsDrawnGraph (ok_is d e k) h
@@ -169,7 +180,8 @@ node_judged tag d e found h k =
     let r = bind_ok (reacting (datum_of (codes "Reaction") found)) (λ ticks. labelled (datum_of (codes "Label") found) >>= λ label. Ok (with_node a.0 (observation p.0 ticks) label d)) e p.2 in
     let u = bind_ok (labelled (datum_of (codes "Label") found)) (λ label. Ok (with_node a.0 (observation p.0 r.0) label d)) e r.2 in
     subst IsDrawnGraph (ok_is (with_node a.0 (observation p.0 r.0) u.0 d) e u.2)
-    (node_kept a.0 (observation p.0 r.0) u.0 d h (observation_timely p.0 r.0 (reacting_in_reach (datum_of (codes "Reaction") found) r.0 r.1)) (labelled_plain (datum_of (codes "Label") found) u.0 u.1))
+    (node_kept a.0 (observation p.0 r.0) u.0 d h (observation_timely p.0 r.0 (reacting_in_reach (datum_of (codes "Reaction") found) r.0 r.1)) (observed_lettered (datum_of (codes "Obs") found) p.0 r.0 p.1)
+    (labelled_literals (datum_of (codes "Label") found) u.0 u.1))
 
 deadline_judged : (d e : DrawnGraph) (found : Option Datum) → IsDrawnGraph d → judged_deadline d found ≡ Ok e → IsDrawnGraph e
 deadline_judged d e None h k = subst IsDrawnGraph (ok_is d e k) h

@@ -14,10 +14,11 @@ use Rattle.cstn_net.specs.Faults.{IsFirst}
 use Rattle.cstn_net.specs.Networks.{IsValue, IsWellFormed}
 use Rattle.cstn_net.specs.Drafts.{BuilderParts, HasReaction, IsLeastOfFirst, LacksObserver, AreFirstTwins, HasNetFault, IsLowestNetFault, observations}
 use Rattle.cstn_net.proofs.HandedLemmas.{no_fault}
+use Rattle.cstn_net.specs.Read.{first_reaction}
 use Rattle.cstn_graphml.specs.Document.{Parts}
 use Rattle.cstn_graphml.specs.DrawnGraph.{Observation, observation, DrawnConstraint}
 use Rattle.cstn_graphml.specs.DrawnGraphLaws.{IsWithReaction}
-use Rattle.cstn_graphml.specs.Networks.{HasParts, IsUnfit, network_of, numbered_drawn, observed_prop, reaction_among, observation_of, drawn_of}
+use Rattle.cstn_graphml.specs.Networks.{HasParts, IsUnfit, network_of, numbered_drawn, observed_prop, observation_of, drawn_of, observed_reaction}
 use Rattle.cstn_graphml.proofs.Built.{props_kept, reactions_kept, made_constraints}
 
 -- parts that make a well-formed network have no fault
@@ -27,7 +28,7 @@ fits parts error good unfit =
     (record {
       deadline = unfit.parts_are.deadline;
       observes = props_kept unfit.builder.points ∙ ap (map observed_prop) unfit.parts_are.observes;
-      reaction = λ p. reactions_kept unfit.builder.points p ∙ ap (λ os. reaction_among os p) unfit.parts_are.observes;
+      reaction = λ p. reactions_kept unfit.builder.points p ∙ ap (λ os. first_reaction observed_prop observed_reaction os p) unfit.parts_are.observes;
       constraints = made_constraints 0 unfit.builder.drafts ∙ ap (numbered_drawn 0) unfit.parts_are.constraints;
     })
     error unfit.fault.has

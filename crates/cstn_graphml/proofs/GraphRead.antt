@@ -1,30 +1,18 @@
 -- Steps of reading the graph, the root and the document.
-use Rattle.std.proofs.Common.{◌≡◌, ℕ, List, ◌∷◌, Bool, true, false, Option, Some, None, Result, Ok, Err, ap, sym, ◌∙◌, subst}
+use Rattle.std.proofs.Common.{◌≡◌, ℕ, List, ◌∷◌, Bool, true, false, Option, Result, Ok, Err, ap, sym, ◌∙◌, subst}
 use Rattle.cstn_markup.specs.Tokens.{Token}
 use Rattle.cstn_element.specs.Results.{Refusal, ◌>>=◌}
 use Rattle.cstn_element.specs.Results.Refusal.{shape}
 use Rattle.cstn_element.specs.Contents.{Tag, Content, contents, inner}
 use Rattle.cstn_element.specs.Contents.Content.{done}
 use Rattle.cstn_element.specs.Elements.{Reading, read_by, passed}
-use Rattle.cstn_graphml.specs.DrawnGraph.{DrawnGraph, empty_graph}
-use Rattle.cstn_graphml.specs.DrawnGraphSeen.{graph_seen}
-use Rattle.cstn_graphml.specs.Document.{Part, in_graph, graph_child, root_child}
+use Rattle.cstn_graphml.specs.DrawnGraph.{DrawnGraph}
+use Rattle.cstn_graphml.specs.Document.{Part, graph_child, root_child}
 use Rattle.cstn_graphml.specs.Document.Part.{another}
 use Rattle.cstn_element.specs.Reads.{Reads, ReadsWhole, Continues, Fails, Gives, inside, behind}
 use Rattle.cstn_element.specs.InTurn.{LeavesState}
-use Rattle.cstn_graphml.specs.declared.drawn_graph.DrawnGraph.{DrawnGraph as LentGraph}
 use Rattle.cstn_element.specs.declared.errors.DocError.{DocError}
 use Rattle.cstn_element.specs.declared.errors.DocError.TheVariants.{Shape}
-
--- the first graph in the root was read, and is the root's
-pub root_read : (b : Bool) (s : Option DrawnGraph) (tag : Tag) (closed : Bool) (name : List ℕ) (names : List (List ℕ)) (before after : List Token) (d : LentGraph) → b ≡ true → s ≡ None
-    → ReadsWhole graph_seen (in_graph empty_graph) closed tag.at name names before after (Ok d) → ReadsWhole {A = Unit {0}} (λ u. Some (graph_seen d)) (root_child b s tag) closed tag.at name names before after (Ok tt)
-root_read b s tag closed name names before after d e n h =
-    let content = inside closed tag.at name names before in
-    record {
-      told = ap (λ q. root_child q s tag content) e ∙ ap (λ o. root_child true o tag content) n ∙ ap (λ o. o >>= λ graph. Ok (Some graph)) h.told;
-      left = h.left;
-    }
 
 -- an element whose end is refused is refused at its end
 pub end_fails : {S A X : Type 0} (r : Reading S A) (start : S) (view : X → A) (s : S) (name : List ℕ) (others : List (List ℕ)) (at : ℕ) (first before after : List Token) → Continues (read_by r start) (read_by r s) (name ∷ others) first before

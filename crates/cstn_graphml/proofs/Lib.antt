@@ -1,5 +1,6 @@
 pub mod Examples
 pub mod FreshNames
+pub mod KeptRead
 pub mod GraphRead
 pub mod DrawnGraphLaws
 pub mod Built
@@ -11,3 +12,4 @@ pub mod Fits
 pub mod OneAnswer
 pub mod OfDocuments
 pub mod SomeAnswer
+pub mod Held

@@ -1,5 +1,5 @@
 -- What holds of each document that is read: a name for each time-point, the origin's first, plain labels, and reactions in range.
-use Rattle.std.proofs.Common.{◌≡◌, ◌≢◌, ℕ, List, [], ◌∷◌, length, map, ap, sym, ◌∙◌, subst, arith, Option, Some, None, Result, Ok, Err}
+use Rattle.std.proofs.Common.{◌≡◌, ◌≢◌, ℕ, List, [], ◌∷◌, length, map, ap, sym, ◌∙◌, subst, arith, Option, Result, Ok, Err}
 use Rattle.std.specs.Prelude.{IfOk, IfErr}
 use Rattle.std.specs.List.{All}
 use Rattle.std.proofs.lemmas.List.{length-map, get_or-map}
@@ -15,14 +15,15 @@ use Rattle.cstn_net.specs.Drafts.{HasReaction}
 use Rattle.cstn_net.specs.Networks.{IsWellFormed, count}
 use Rattle.cstn_lift.specs.declared.errors.LiftError.TheVariants.{NotPlain as NotPlainLabel}
 use Rattle.cstn_lift.specs.Labelled.{Labelled}
+use Rattle.cstn_data.specs.LabelTexts.{IsOfLiterals}
 use Rattle.cstn_markup.specs.Tokens.{tokens}
 use Rattle.cstn_element.specs.declared.errors.DocError.{DocError}
 use Rattle.cstn_element.specs.declared.errors.DocError.TheVariants.{Net, Lift}
 use Rattle.cstn_element.specs.Results.{or_refused}
 use Rattle.cstn_element.specs.Results.Refusal.{no_deadline}
 use Rattle.cstn_element.specs.Contents.{content_of}
-use Rattle.cstn_graphml.specs.DrawnGraph.{Observation, DrawnGraph, DrawnConstraint, origin_name}
-use Rattle.cstn_graphml.specs.DrawnGraphLaws.{IsDrawnGraph, IsWithReaction, IsTimelyOrigin}
+use Rattle.cstn_graphml.specs.DrawnGraph.{DrawnGraph, DrawnConstraint, origin_name}
+use Rattle.cstn_graphml.specs.DrawnGraphLaws.{IsDrawnGraph, IsWithReaction, IsLettered}
 use Rattle.cstn_graphml.specs.Document.{Parts, document, in_document, drawn_parts, first_of_two, is_text, or_nothing}
 use Rattle.cstn_graphml.specs.Networks.{observed_prop, observation_of, drawn_of, IsUnfit, IsMislabelled}
 use Rattle.cstn_graphml.specs.Answers.{IsDocument, RefusesDocument}
@@ -55,10 +56,6 @@ are_drawn bytes deadline parts is =
       constraints_are = ap (λ (p : Parts). p.constraints) same;
     }
 
-timely_origin : (o : Option (Option Observation)) → IsTimelyOrigin o → IsWithReaction (or_nothing o)
-timely_origin (Some observed) h = h
-timely_origin None h = tt
-
 -- what holds of all images holds of the image of each element
 pub of_images : {X Z : Type 0} (f : X → Z) (P : Z → Type 0) (xs : List X) → All P (map f xs) → All (λ x. P (f x)) xs
 of_images f P xs all = λ k d inside. subst P (get_or-map f xs k d (f d) inside) (all k (f d) (omega (arith, inside, length-map xs f)))
@@ -68,6 +65,15 @@ never_first P [] k all first = let inside = first.inside in omega arith
 never_first P (x ∷ xs) k all first = first.here x (all k x first.inside)
 
 module _ (parts : Parts) (is : AreDrawn parts) where
+  pub constraint_literals : All (λ (c : DrawnConstraint). IsOfLiterals c.label) parts.constraints
+  constraint_literals = subst (All (λ (c : DrawnConstraint). IsOfLiterals c.label)) is.constraints_are is.drawn.literals
+
+  pub label_literals : All IsOfLiterals parts.labels
+  label_literals = subst (All IsOfLiterals) is.labels_are (All-cons IsOfLiterals is.graph.origin_label is.graph.labels is.drawn.origin_literals is.drawn.label_literals)
+
+  pub letters_observed : All IsLettered parts.observes
+  letters_observed = subst (All IsLettered) is.observes_are (All-cons IsLettered (or_nothing is.graph.origin) is.graph.observes is.drawn.origin_lettered is.drawn.lettered)
+
   pub as_many_names : length parts.names ≡ length parts.observes
   as_many_names = omega (arith, is.drawn.each, ap length is.names_are, ap length is.observes_are)
 
@@ -76,12 +82,14 @@ module _ (parts : Parts) (is : AreDrawn parts) where
 
   plain_there : (k : ℕ) → IsUnfit parts (NotPlain k) → ⊥
   plain_there k unfit =
-      let all = subst (All (λ (c : DrawnConstraint). IsPlain c.label)) (is.constraints_are ∙ sym unfit.parts_are.constraints) is.drawn.plain in
-      never_first (λ (d : Draft). IsPlain (marks d.label)) unfit.builder.drafts k (of_images drawn_of (λ (c : DrawnConstraint). IsPlain c.label) unfit.builder.drafts all) unfit.fault.has
+      let all = subst (All (λ (c : DrawnConstraint). IsOfLiterals c.label)) (sym unfit.parts_are.constraints) constraint_literals in
+      let drafts = of_images drawn_of (λ (c : DrawnConstraint). IsOfLiterals c.label) unfit.builder.drafts all in
+      never_first (λ (d : Draft). IsPlain (marks d.label)) unfit.builder.drafts k
+      (All-weaker (λ (d : Draft). IsOfLiterals (marks d.label)) (λ (d : Draft). IsPlain (marks d.label)) (λ d h. h.plain) unfit.builder.drafts drafts) unfit.fault.has
 
   timely_there : (node : NodeId) → IsUnfit parts (ReactionRange node) → ⊥
   timely_there node unfit =
-      let here = All-cons IsWithReaction (or_nothing is.graph.origin) is.graph.observes (timely_origin is.graph.origin is.drawn.origin_timely) is.drawn.timely in
+      let here = All-cons IsWithReaction (or_nothing is.graph.origin) is.graph.observes is.drawn.origin_timely is.drawn.timely in
       let all = of_images observation_of IsWithReaction unfit.builder.points (subst (All IsWithReaction) (is.observes_are ∙ sym unfit.parts_are.observes) here) in
       never_first HasReaction unfit.builder.points node.0
       (All-weaker (λ (t : TimePoint). IsWithReaction (observation_of t)) HasReaction (λ t timely. timely_back t.observes t.reaction timely) unfit.builder.points all) unfit.fault.has
@@ -89,7 +97,7 @@ module _ (parts : Parts) (is : AreDrawn parts) where
   plain_node : (node : NodeId) → IsMislabelled parts (NotPlainLabel node) → ⊥
   plain_node node wrong =
       let first = wrong.fault.has in
-      let all = subst (All IsPlain) is.labels_are (All-cons IsPlain is.graph.origin_label is.graph.labels is.drawn.origin_plain is.drawn.plain_labels) in
+      let all = All-weaker IsOfLiterals IsPlain (λ a h. h.plain) parts.labels label_literals in
       first.here (all node.0 empty (omega (arith, first.inside, is.drawn.each, is.drawn.labelled, ap length is.labels_are, ap length is.observes_are, length-map parts.observes observed_prop)))
 
 -- what follows for each value that was returned

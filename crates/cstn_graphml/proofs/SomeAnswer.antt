@@ -11,7 +11,7 @@ use Rattle.cstn_net.specs.declared.drafts.Draft.{Draft}
 use Rattle.cstn_net.specs.declared.errors.NetError.{NetError}
 use Rattle.cstn_net.specs.Networks.{Network, Constraint, IsWellFormed, count}
 use Rattle.cstn_net.specs.Drafts.{BuilderParts, IsDraftAmong, IsLowestNetFault, constraints_from}
-use Rattle.cstn_net.specs.Read.{the_network}
+use Rattle.cstn_net.specs.Read.{the_network, first_reaction}
 use Rattle.cstn_net.proofs.NoFault.{letter_of_label}
 use Rattle.cstn_lift.specs.declared.errors.LiftError.{LiftError}
 use Rattle.cstn_lift.specs.Labelled.{Labelled, label_of, label_in}
@@ -19,7 +19,7 @@ use Rattle.cstn_lift.specs.Faults.{HasLiftFault, IsLowestLiftFault}
 use Rattle.cstn_lift.specs.WellFormed.{IsLabelled}
 use Rattle.cstn_graphml.specs.DrawnGraphLaws.{IsDrawnAmong}
 use Rattle.cstn_graphml.specs.Document.{Parts}
-use Rattle.cstn_graphml.specs.Networks.{HasParts, IsHeld, IsFit, IsUnfit, IsMislabelled, network_of, labelled_of, numbered_drawn, observed_prop, reaction_among, observation_of, drawn_of}
+use Rattle.cstn_graphml.specs.Networks.{HasParts, IsHeld, IsFit, IsUnfit, IsMislabelled, network_of, labelled_of, numbered_drawn, observed_prop, observation_of, drawn_of, observed_reaction}
 use Rattle.cstn_graphml.proofs.Built.{props_kept, reactions_kept, made_constraints}
 use Rattle.cstn_graphml.proofs.OfDocuments.{AreDrawn, as_many_names, of_images}
 
@@ -38,7 +38,7 @@ same_network a b c d = rw (a, b, c, d) refl
 made_of : (b : BuilderParts) (parts : Parts) → HasParts b parts → made_by b ≡ network_of parts
 made_of b parts h =
     same_network h.deadline (props_kept b.points ∙ ap (map observed_prop) h.observes)
-    (fun_ext (λ p. reactions_kept b.points p ∙ ap (λ os. reaction_among os p) h.observes))
+    (fun_ext (λ p. reactions_kept b.points p ∙ ap (λ os. first_reaction observed_prop observed_reaction os p) h.observes))
     (made_constraints 0 b.drafts ∙ ap (numbered_drawn 0) h.constraints)
 
 letters_at : (ls : List Lent) (x p : ℕ) → label_in (map marks ls) x p ≢ Absent → p < 52

@@ -94,9 +94,18 @@ abbrev pub or_nothing : Option (Option Observation) → Option Observation
 or_nothing (Some observed) = observed
 or_nothing None = None
 
+-- the parts of a graph, with this deadline
+abbrev pub parts_of : ℕ → DrawnGraph → Parts
+parts_of deadline graph = record {
+  deadline = deadline;
+  names = graph.names;
+  observes = or_nothing graph.origin ∷ graph.observes;
+  labels = graph.origin_label ∷ graph.labels;
+  constraints = graph.constraints;
+}
+
 abbrev pub drawn_parts : Option ℕ → DrawnGraph → Result Parts Refusal
-drawn_parts word graph = or_refused (first_of_two word graph.deadline) no_deadline >>= λ deadline.
-    Ok (record { deadline = deadline; names = graph.names; observes = or_nothing graph.origin ∷ graph.observes; labels = graph.origin_label ∷ graph.labels; constraints = graph.constraints })
+drawn_parts word graph = or_refused (first_of_two word graph.deadline) no_deadline >>= λ deadline. Ok (parts_of deadline graph)
 
 -- the bytes are UTF-8, or refused at the first byte of the first wrong sequence
 abbrev pub is_text : List ℕ → Result (Unit {0}) Refusal

@@ -1,5 +1,5 @@
 -- What was read of a graph so far.
-use Rattle.std.specs.Prelude.{ℕ, nat_le, List, [], ◌∷◌, ◌++◌, length, Option, Some, None, is_some, if◌then◌else◌, codes, ℤ}
+use Rattle.std.specs.Prelude.{ℕ, List, [], ◌∷◌, ◌++◌, Option, Some, None, is_some, if◌then◌else◌, codes, ℤ}
 use Rattle.cstn_label.specs.Labels.{Label, empty}
 use Rattle.cstn_markup.specs.Bytes.{is_same, when}
 use Rattle.cstn_text.specs.Names.{number_of}
@@ -50,10 +50,9 @@ with_node name observed label graph = if is_same name origin_name
     then record graph { origin = Some observed; origin_label = label }
     else record graph { names = graph.names ++ (name ∷ []); observes = graph.observes ++ (observed ∷ []); labels = graph.labels ++ (label ∷ []) }
 
--- The graph with a constraint more: one constraint past the limit of a network is kept, so that the network is refused; what
--- comes after it is read and judged, and not kept.
+-- the graph with a constraint more
 abbrev pub with_constraint : DrawnConstraint → DrawnGraph → DrawnGraph
-with_constraint c graph = record graph { constraints = if nat_le (length graph.constraints) 16384 then graph.constraints ++ (c ∷ []) else graph.constraints }
+with_constraint c graph = record graph { constraints = graph.constraints ++ (c ∷ []) }
 
 -- the graph with the deadline of a data element
 abbrev pub with_deadline : Datum → ℕ → DrawnGraph → DrawnGraph

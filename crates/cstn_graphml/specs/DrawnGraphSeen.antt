@@ -22,5 +22,5 @@ graph_seen d = record {
   names = d.names;
   observes = map observed_seen d.observes.items;
   labels = map marks d.labels.items;
-  constraints = map drawn_seen d.constraints.items;
+  constraints = map drawn_seen d.constraints.list.items;
 }

@@ -12,7 +12,7 @@ use Rattle.cstn_data.specs.LabelTexts.{label_of}
 use Rattle.cstn_data.specs.ValueTexts.{Pair, values_of}
 use Rattle.cstn_element.specs.Contents.{Tag}
 use Rattle.cstn_element.specs.Elements.{attribute, Datum, datum_of}
-use Rattle.cstn_graphml.specs.DrawnGraph.{DrawnGraph, observation, node_of, with_node, with_constraint, with_deadline}
+use Rattle.cstn_graphml.specs.DrawnGraph.{DrawnGraph, DrawnConstraint, observation, node_of, with_node, with_constraint, with_deadline}
 
 -- the proposition that a node observes by its data element, if any
 abbrev pub observed : Option Datum → Result (Option ℕ) Refusal
@@ -51,9 +51,13 @@ abbrev pub is_kept : Option Datum → Result Bool Refusal
 is_kept None = Ok true
 is_kept (Some d) = or_refused (edge_type_of d.value) (edge_type d.at) >>= is_kept_as d.at
 
+-- the constraint of a pair with this label, between these time-points
+abbrev pub drawn_between : ℕ → ℕ → Pair → Label → DrawnConstraint
+drawn_between from to p label = record { from = from; to = to; most = p.most; label = label }
+
 -- the graph with the constraint of a pair; refused where its label text isn't of the form
 abbrev pub with_pair : ℕ → ℕ → ℕ → Pair → DrawnGraph → Result DrawnGraph Refusal
-with_pair at from to p graph = or_refused p.label (label_text at) >>= λ label. Ok (with_constraint (record { from = from; to = to; most = p.most; label = label }) graph)
+with_pair at from to p graph = or_refused p.label (label_text at) >>= λ label. Ok (with_constraint (drawn_between from to p label) graph)
 
 -- the graph with a constraint for each pair
 unfoldable pub with_pairs : ℕ → ℕ → ℕ → List Pair → DrawnGraph → Result DrawnGraph Refusal
@@ -65,12 +69,17 @@ abbrev pub with_values : ℕ → ℕ → Option Datum → DrawnGraph → Result 
 with_values from to None graph = Ok graph
 with_values from to (Some d) graph = or_refused (values_of d.value) (bad_value d.at) >>= λ pairs. with_pairs d.at from to pairs graph
 
-abbrev pub with_edge : Bool → ℕ → List ℕ → List ℕ → DrawnGraph → List Datum → Result DrawnGraph Refusal
-with_edge false at source target graph found = Ok graph
-with_edge true at source target graph found =
+-- the graph with the constraints of an edge that is kept
+abbrev pub with_kept : ℕ → List ℕ → List ℕ → DrawnGraph → List Datum → Result DrawnGraph Refusal
+with_kept at source target graph found =
     or_refused (node_of source graph) (unknown_node at) >>= λ from.
     or_refused (node_of target graph) (unknown_node at) >>= λ to.
     with_values from to (datum_of (codes "LabeledValues") found) graph
+
+-- the graph with the constraints of an edge, where that is kept
+abbrev pub with_edge : Bool → ℕ → List ℕ → List ℕ → DrawnGraph → List Datum → Result DrawnGraph Refusal
+with_edge false at source target graph found = Ok graph
+with_edge true at source target graph found = with_kept at source target graph found
 
 -- the graph with the constraints of an edge whose data were read, or the refusal of the edge
 abbrev pub judged_edge : Tag → DrawnGraph → List Datum → Result DrawnGraph Refusal

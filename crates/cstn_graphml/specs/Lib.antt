@@ -3,6 +3,7 @@ pub mod DrawnGraphSeen
 pub mod DrawnGraphLaws
 pub mod Judged
 pub mod Document
+pub mod Kept
 pub mod Networks
 pub mod Labels
 pub mod PartSeen

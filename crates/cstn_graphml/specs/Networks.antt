@@ -1,11 +1,11 @@
 -- The labelled network of a document, and what a builder is handed for its network.
-use Rattle.std.specs.Prelude.{◌≡◌, ℕ, ◌==◌, List, [], ◌∷◌, ◌++◌, map, Option, Some, None, option_map, if◌then◌else◌}
+use Rattle.std.specs.Prelude.{◌≡◌, ℕ, List, [], ◌∷◌, ◌++◌, map, Option, Some, None, option_map}
 use Rattle.cstn_net.specs.declared.points.TimePoint.{TimePoint}
 use Rattle.cstn_net.specs.declared.drafts.Draft.{Draft as LentDraft}
 use Rattle.cstn_net.specs.declared.errors.NetError.{NetError}
 use Rattle.cstn_net.specs.Networks.{Constraint, Network, IsWellFormed}
-use Rattle.cstn_net.specs.Drafts.{BuilderParts, constraints_from, IsLowestNetFault}
-use Rattle.cstn_net.specs.Read.{NetworkParts, observed}
+use Rattle.cstn_net.specs.Drafts.{BuilderParts, with_draft, constraints_from, IsLowestNetFault}
+use Rattle.cstn_net.specs.Read.{NetworkParts, observed, first_reaction}
 use Rattle.cstn_label.specs.declared.labels.Label.{Label}
 use Rattle.cstn_label.specs.Read.{marks}
 use Rattle.cstn_lift.specs.declared.errors.LiftError.{LiftError}
@@ -31,21 +31,17 @@ numbered_drawn k cs = numbered k (map constraint_drawn cs)
 abbrev pub observed_prop : Option Observation → Option ℕ
 observed_prop observed = option_map (λ o. o.prop) observed
 
-abbrev pub reaction_by : Option Observation → ℕ → ℕ → ℕ
-reaction_by (Some o) p later = if o.prop == p then o.reaction else later
-reaction_by None p later = later
-
--- the reaction of the first observation of p in ticks, 1 where there is none
-abbrev pub reaction_among : List (Option Observation) → ℕ → ℕ
-reaction_among [] p = 1
-reaction_among (observed ∷ later) p = reaction_by observed p (reaction_among later p)
+-- the reaction of what is observed in ticks, 1 where nothing is
+abbrev pub observed_reaction : Option Observation → ℕ
+observed_reaction (Some o) = o.reaction
+observed_reaction None = 1
 
 -- the network of a document: a proposition has the reaction of its observation, and ids are the places of the constraints
 abbrev pub network_of : Parts → Network
 network_of parts = record {
   deadline = parts.deadline;
   observes = map observed_prop parts.observes;
-  reaction = reaction_among parts.observes;
+  reaction = first_reaction observed_prop observed_reaction parts.observes;
   constraints = numbered_drawn 0 parts.constraints;
 }
 
@@ -67,6 +63,10 @@ draft_of c = record { from = c.from; to = c.to; most = c.most; label = c.label }
 abbrev pub drawn_of : LentDraft → DrawnConstraint
 drawn_of d = record { from = d.from; to = d.to; most = d.most; label = marks d.label }
 
+-- a builder that was handed nothing yet
+abbrev pub begun : ℕ → BuilderParts
+begun deadline = record { deadline = deadline; points = []; drafts = [] }
+
 -- the builder, once it was handed these time-points after its own
 abbrev pub with_points : List (Option LentObservation) → BuilderParts → BuilderParts
 with_points [] b = b
@@ -75,7 +75,7 @@ with_points (observed ∷ later) b = with_points later (record b { points = b.po
 -- the builder, once it was handed these constraints after its own
 abbrev pub with_drafts : List Lent → BuilderParts → BuilderParts
 with_drafts [] b = b
-with_drafts (c ∷ cs) b = with_drafts cs (record b { drafts = b.drafts ++ (draft_of c ∷ []) })
+with_drafts (c ∷ cs) b = with_drafts cs (with_draft (draft_of c) b)
 
 -- what the origin observes: nothing where its node wasn't read
 abbrev pub at_origin : Option (Option LentObservation) → Option LentObservation
@@ -84,7 +84,7 @@ at_origin None = None
 
 -- the builder, once it was handed this deadline and what a graph holds
 abbrev pub builder_of : ℕ → LentGraph → BuilderParts
-builder_of deadline d = with_drafts d.constraints.items (with_points (at_origin d.origin ∷ d.observes.items) (record { deadline = deadline; points = []; drafts = [] }))
+builder_of deadline d = with_drafts d.constraints.list.items (with_points (at_origin d.origin ∷ d.observes.items) (begun deadline))
 
 -- a builder was handed exactly these parts
 pub record HasParts (b : BuilderParts) (parts : Parts) : Type 0 where

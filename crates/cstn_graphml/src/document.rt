@@ -2,7 +2,7 @@
 
 ghost use Rattle.std.specs.Prelude.{◌≡◌, [], ◌≤◌, length, option_map};
 ghost use Rattle.cstn_element.specs.Contents.{content_of};
-ghost use Rattle.cstn_graphml.specs.Document.{document_child, in_document};
+ghost use Rattle.cstn_graphml.specs.Kept.{kept_document_reading, in_kept_document};
 ghost use Rattle.cstn_element.specs.Children.{tag_seen};
 ghost use Rattle.cstn_graphml.specs.DrawnGraphSeen.{graph_seen};
 ghost use Rattle.cstn_element.specs.Reads.{Gives, ReadsWhole};
@@ -25,7 +25,7 @@ fn read_document_child(
     start: &Start,
     seen: &mut Option<DrawnGraph>,
 ) -> Result<(), DocError>
-    ensures reads { ReadsWhole (λ u. option_map graph_seen seen.new) (document_child (option_map graph_seen seen.old) (tag_seen start.now))
+    ensures reads { ReadsWhole (λ u. option_map graph_seen seen.new) (kept_document_reading.elements (option_map graph_seen seen.old) (tag_seen start.now))
         start.now.closed start.now.at start.now.name.now [] scanner.old scanner.new result }
     ensures less { length scanner.new ≤ length scanner.old }
 {
@@ -48,7 +48,7 @@ pub fn read_document(
     key: NameKey,
     scanner: &mut Scanner,
 ) -> Result<DrawnGraph, DocError>
-    ensures { Gives graph_seen result (in_document (content_of scanner.old)) }
+    ensures { Gives graph_seen result (in_kept_document (content_of scanner.old)) }
 {
     documents_are_read_in_turn::<DocumentReading>();
     let mut seen = None;

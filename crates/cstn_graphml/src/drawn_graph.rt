@@ -5,10 +5,11 @@ ghost use Rattle.cstn_label.specs.Read.{marks};
 ghost use Rattle.cstn_graphml.specs.DrawnGraph.{node_of, with_node, with_constraint, with_deadline, empty_graph};
 ghost use Rattle.cstn_element.specs.DataElementSeen.{datum_seen};
 ghost use Rattle.cstn_graphml.specs.DrawnGraphSeen.{observed_seen, drawn_seen, graph_seen};
+ghost use Rattle.cstn_graphml.specs.Kept.{kept};
 
+use crate::kept::KeptConstraints;
 use cstn_element::Datum;
 use cstn_label::{Label, Prop};
-use cstn_net::MAX_CONSTRAINTS;
 use cstn_text::{NameError, NameKey, Names};
 use std::alloc::{AllocError, Global};
 
@@ -39,7 +40,7 @@ pub struct DrawnGraph {
     pub names: Names,
     pub observes: Vec<Option<Observation>>,
     pub labels: Vec<Label>,
-    pub constraints: Vec<DrawnConstraint>,
+    pub constraints: KeptConstraints,
 }
 
 /// A graph of which nothing was read yet: it has the name of the origin alone. Its names are hashed with the key. Fails for
@@ -59,7 +60,7 @@ pub fn empty_graph(alloc: Global, key: NameKey) -> Result<DrawnGraph, AllocError
         names,
         observes: Vec::new(alloc),
         labels: Vec::new(alloc),
-        constraints: Vec::new(alloc),
+        constraints: KeptConstraints::new(alloc),
     })
 }
 
@@ -108,15 +109,12 @@ pub fn put_node(
     }
 }
 
-/// Puts in a constraint, unless the graph has one past the limit of a network already. Fails for want of memory alone.
+/// Puts in a constraint, of which nothing is kept where the graph has one past the limit of a network. Fails for want of memory
+/// alone.
 pub fn put_constraint(graph: &mut DrawnGraph, constraint: DrawnConstraint) -> Result<(), AllocError>
-    ensures { OnOk result (graph_seen graph.new ≡ with_constraint (drawn_seen constraint) (graph_seen graph.old)) }
+    ensures { OnOk result (graph_seen graph.new ≡ kept (with_constraint (drawn_seen constraint) (graph_seen graph.old))) }
 {
-    if graph.constraints.len() > MAX_CONSTRAINTS {
-        return Ok(());
-    }
-    graph.constraints.push(constraint)?;
-    Ok(())
+    graph.constraints.put(constraint)
 }
 
 /// Puts in a data element of the graph, and its deadline in ticks. Fails for want of memory alone.

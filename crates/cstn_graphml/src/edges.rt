@@ -1,9 +1,10 @@
 //! Edges, which are checked and put in the graph as constraints when they end.
 
-ghost use Rattle.std.specs.Prelude.{◌≡◌, map, true};
-ghost use Rattle.cstn_graphml.specs.Judged.{is_kept, with_pair, with_pairs, with_values, with_edge, judged_edge};
+ghost use Rattle.std.specs.Prelude.{◌≡◌, map};
+ghost use Rattle.cstn_graphml.specs.Judged.{is_kept, with_pair, with_pairs, with_values, with_kept, judged_edge};
+ghost use Rattle.cstn_graphml.specs.Kept.{kept, kept_by};
 ghost use Rattle.cstn_element.specs.Children.{tag_seen};
-ghost use Rattle.cstn_element.specs.DataElementSeen.{lent_datum, datum_seen};
+ghost use Rattle.cstn_element.specs.DataElementSeen.{lent_datum, data_seen};
 ghost use Rattle.cstn_data.specs.TextsSeen.{pair_seen};
 ghost use Rattle.cstn_data.specs.PairsLeft.{pairs_left};
 ghost use Rattle.cstn_graphml.specs.DrawnGraphSeen.{graph_seen};
@@ -38,7 +39,7 @@ fn put_pair(
     pair: Pair,
     graph: &mut DrawnGraph,
 ) -> Result<(), DocError>
-    ensures { Gives (λ u. graph_seen graph.new) result (with_pair at from to (pair_seen pair) (graph_seen graph.old)) }
+    ensures { Gives (λ u. graph_seen graph.new) result (kept_by kept (with_pair at from to (pair_seen pair) (graph_seen graph.old))) }
 {
     let Some(label) = pair.label else {
         return Err(DocError::LabelText { at });
@@ -63,7 +64,7 @@ fn put_pairs(
     pairs: Pairs,
     graph: &mut DrawnGraph,
 ) -> Result<(), DocError>
-    ensures { Gives (λ u. graph_seen graph.new) result (with_pairs at from to (pairs_left pairs.entry) (graph_seen graph.old)) }
+    ensures { Gives (λ u. graph_seen graph.new) result (kept_by kept (with_pairs at from to (pairs_left pairs.entry) (graph_seen graph.old))) }
 {
     let mut pairs = pairs;
     while let Some(pair) = pairs.next_pair() {
@@ -79,7 +80,7 @@ fn put_values(
     datum: Option<&Datum>,
     graph: &mut DrawnGraph,
 ) -> Result<(), DocError>
-    ensures { Gives (λ u. graph_seen graph.new) result (with_values from to (lent_datum datum.entry) (graph_seen graph.old)) }
+    ensures { Gives (λ u. graph_seen graph.new) result (kept_by kept (with_values from to (lent_datum datum.entry) (graph_seen graph.old))) }
 {
     let Some(datum) = datum else {
         return Ok(());
@@ -98,7 +99,7 @@ fn put_edge(
     found: &[Datum],
     graph: &mut DrawnGraph,
 ) -> Result<(), DocError>
-    ensures { Gives (λ u. graph_seen graph.new) result (with_edge true at source.now target.now (graph_seen graph.old) (map datum_seen found.now)) }
+    ensures { Gives (λ u. graph_seen graph.new) result (kept_by kept (with_kept at source.now target.now (graph_seen graph.old) (data_seen found.now))) }
 {
     let Some(from) = node_of(graph, source) else {
         return Err(DocError::UnknownNode { at });
@@ -117,7 +118,7 @@ pub fn judge_edge(
     found: &[Datum],
     graph: &mut DrawnGraph,
 ) -> Result<(), DocError>
-    ensures { Gives (λ u. graph_seen graph.new) result (judged_edge (tag_seen start.now) (graph_seen graph.old) (map datum_seen found.now)) }
+    ensures { Gives (λ u. graph_seen graph.new) result (kept_by kept (judged_edge (tag_seen start.now) (graph_seen graph.old) (data_seen found.now))) }
 {
     let at = start.at;
     let Some(source) = text_attribute(alloc, &start.attributes, b"source")? else {

@@ -1,13 +1,13 @@
 //! Reading the graph: its deadline, its nodes and its edges.
 
 ghost use Rattle.std.specs.Prelude.{◌≡◌, ℕ, List, ◌≤◌, length};
-ghost use Rattle.cstn_graphml.specs.DrawnGraph.{empty_graph};
-ghost use Rattle.cstn_graphml.specs.Document.{part_of, graph_child, graph_reading, in_graph};
+ghost use Rattle.cstn_graphml.specs.Document.{part_of, graph_child};
+ghost use Rattle.cstn_graphml.specs.Kept.{kept, kept_by, kept_graph_reading, in_kept_graph};
 ghost use Rattle.cstn_graphml.specs.Document.Part.{a_datum, a_node, an_edge};
 ghost use Rattle.cstn_element.specs.Children.{ReadsChild};
 ghost use Rattle.cstn_graphml.specs.DrawnGraphSeen.{graph_seen};
 ghost use Rattle.cstn_graphml.specs.PartSeen.{part_seen};
-ghost use Rattle.cstn_element.specs.Reads.{Reads};
+ghost use Rattle.cstn_element.specs.Reads.{ReadsRest};
 
 use crate::deadlines::judge_deadline;
 use crate::drawn_graph::{DrawnGraph, empty_graph};
@@ -84,7 +84,8 @@ fn read_edge(
     start: &Start,
     graph: &mut DrawnGraph,
 ) -> Result<(), DocError>
-    ensures reads { ReadsChild 2 (λ u. graph_seen graph.new) (graph_child an_edge (graph_seen graph.old)) start.now scanner.old scanner.new result }
+    ensures reads { ReadsChild 2 (λ u. graph_seen graph.new) (λ tag inside. kept_by kept (graph_child an_edge (graph_seen graph.old) tag inside))
+        start.now scanner.old scanner.new result }
     ensures less { length scanner.new ≤ length scanner.old }
 {
     let used: [&[u8]; 2] = [b"Type", b"LabeledValues"];
@@ -99,7 +100,7 @@ fn read_graph_child<'a>(
     start: &Start<'a>,
     graph: &mut DrawnGraph,
 ) -> Result<(), DocError>
-    ensures reads { ReadsChild 2 (λ u. graph_seen graph.new) (graph_reading.elements (graph_seen graph.old)) start.now scanner.old scanner.new result }
+    ensures reads { ReadsChild 2 (λ u. graph_seen graph.new) (kept_graph_reading.elements (graph_seen graph.old)) start.now scanner.old scanner.new result }
     ensures less { length scanner.new ≤ length scanner.old }
 {
     elements_passed_over_leave_the_state::<GraphReading>();
@@ -121,7 +122,7 @@ fn read_graph(
     scanner: &mut Scanner,
     name: &[u8],
 ) -> Result<DrawnGraph, DocError>
-    ensures reads { (others : List (List ℕ)) → length others ≡ 1 → Reads graph_seen (in_graph empty_graph) name.now others scanner.old scanner.new result }
+    ensures reads { ReadsRest 1 graph_seen in_kept_graph name.now scanner.old scanner.new result }
     ensures less { length scanner.new ≤ length scanner.old }
 {
     elements_are_read_in_turn::<GraphReading>();
@@ -143,7 +144,7 @@ pub fn read_whole_graph(
     scanner: &mut Scanner,
     start: &Start,
 ) -> Result<DrawnGraph, DocError>
-    ensures reads { ReadsChild 1 graph_seen (λ tag. in_graph empty_graph) start.now scanner.old scanner.new result }
+    ensures reads { ReadsChild 1 graph_seen (λ tag. in_kept_graph) start.now scanner.old scanner.new result }
     ensures less { length scanner.new ≤ length scanner.old }
 {
     if start.closed {

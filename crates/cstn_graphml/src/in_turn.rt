@@ -10,7 +10,7 @@ impl ElementReading for GraphReading {
     ghost use Rattle.std.specs.Prelude.{refl};
     ghost use Rattle.cstn_graphml.specs.DrawnGraph.{DrawnGraph};
     ghost use Rattle.cstn_graphml.specs.DrawnGraphSeen.{graph_seen};
-    ghost use Rattle.cstn_graphml.specs.Document.{graph_reading};
+    ghost use Rattle.cstn_graphml.specs.Kept.{kept_graph_reading};
     ghost use Rattle.cstn_graphml.specs.declared.drawn_graph.DrawnGraph.{DrawnGraph as Lent};
 
     ghost State = { DrawnGraph };
@@ -21,7 +21,7 @@ impl ElementReading for GraphReading {
 
     ghost seen = { graph_seen };
 
-    ghost reading = { graph_reading };
+    ghost reading = { kept_graph_reading };
 
     ghost blanks = { λ s at raw. refl };
 }
@@ -33,7 +33,7 @@ impl ElementReading for RootReading {
     ghost use Rattle.std.specs.Prelude.{refl, Option};
     ghost use Rattle.cstn_graphml.specs.DrawnGraph.{DrawnGraph};
     ghost use Rattle.cstn_graphml.specs.DrawnGraphSeen.{graph_seen};
-    ghost use Rattle.cstn_graphml.specs.Document.{root_reading};
+    ghost use Rattle.cstn_graphml.specs.Kept.{kept_root_reading};
     ghost use Rattle.cstn_graphml.specs.declared.drawn_graph.DrawnGraph.{DrawnGraph as Lent};
 
     ghost State = { Option DrawnGraph };
@@ -44,7 +44,7 @@ impl ElementReading for RootReading {
 
     ghost seen = { graph_seen };
 
-    ghost reading = { root_reading };
+    ghost reading = { kept_root_reading };
 
     ghost blanks = { λ s at raw. refl };
 }
@@ -56,7 +56,7 @@ impl ElementReading for DocumentReading {
     ghost use Rattle.std.specs.Prelude.{refl, Option};
     ghost use Rattle.cstn_graphml.specs.DrawnGraph.{DrawnGraph};
     ghost use Rattle.cstn_graphml.specs.DrawnGraphSeen.{graph_seen};
-    ghost use Rattle.cstn_graphml.specs.Document.{document_reading};
+    ghost use Rattle.cstn_graphml.specs.Kept.{kept_document_reading};
     ghost use Rattle.cstn_graphml.specs.declared.drawn_graph.DrawnGraph.{DrawnGraph as Lent};
 
     ghost State = { Option DrawnGraph };
@@ -67,7 +67,7 @@ impl ElementReading for DocumentReading {
 
     ghost seen = { graph_seen };
 
-    ghost reading = { document_reading };
+    ghost reading = { kept_document_reading };
 
     ghost blanks = { λ s at raw. refl };
 }

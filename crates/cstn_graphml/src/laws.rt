@@ -13,21 +13,21 @@ ghost use Rattle.cstn_lift.specs.declared.errors.LiftError.{LiftError};
 use cstn_lift::{labels_without_a_lowest_fault_are_in_order, lowest_lift_fault_is_one};
 use cstn_net::{builders_without_a_lowest_fault_make_networks, lowest_net_fault_is_one};
 
-/// Of the constraints of a document past the limit of a network, one at most is kept. Parts with that one make no network, and
-/// the fault that is told is `TooManyConstraints` or one with a lower number.
+/// Parts with more constraints than a network holds make no network, and the fault that is told is `TooManyConstraints` or one
+/// with a lower number.
 pub fn documents_past_the_limit_are_refused()
-    ensures kept { (bytes : List ℕ) (deadline : Option ℕ) (parts : Parts) → document bytes deadline ≡ Ok parts → length parts.constraints ≤ 16385 }
     ensures no_network { (parts : Parts) → 16384 < length parts.constraints → IsWellFormed (network_of parts) → ⊥ }
     ensures told { (parts : Parts) (error : NetError) → 16384 < length parts.constraints → IsUnfit parts error
         → net_number error ≤ net_number TooManyConstraints }
 {}
 
-/// A document has one answer: two answers for the same bytes and deadline are equal, and it can't be that there is none, where
-/// values of the program can hold what the document says: then parts without a fault make a labelled network. Parts that make
-/// one, parts whose network has a fault, and parts whose labels have one exclude each other, and the lowest fault is one.
+/// A document has one answer: two answers for the same bytes and deadline are equal, and it can't be that there is none. Values
+/// of the program can hold what it says, and then parts without a fault make a labelled network. Parts that make one, parts whose
+/// network has a fault, and parts whose labels have one exclude each other, and the lowest fault is one.
 pub fn documents_have_one_answer()
     ensures one { (bytes : List ℕ) (deadline : Option ℕ) (a b : Answer) → IsAnswer bytes deadline a → IsAnswer bytes deadline b → a ≡ b }
-    ensures some { (bytes : List ℕ) (deadline : Option ℕ) → CanBeHeld bytes deadline → ((a : Answer) → IsAnswer bytes deadline a → ⊥) → ⊥ }
+    ensures some { (bytes : List ℕ) (deadline : Option ℕ) → ((a : Answer) → IsAnswer bytes deadline a → ⊥) → ⊥ }
+    ensures held { (bytes : List ℕ) (deadline : Option ℕ) → CanBeHeld bytes deadline }
     ensures made { (bytes : List ℕ) (deadline : Option ℕ) (parts : Parts) → document bytes deadline ≡ Ok parts → IsHeld parts
         → ((error : NetError) → IsUnfit parts error → ⊥) → ((error : LiftError) → IsMislabelled parts error → ⊥) → IsFit parts }
     ensures fit { (parts : Parts) (error : NetError) → IsFit parts → IsUnfit parts error → ⊥ }

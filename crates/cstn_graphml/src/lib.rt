@@ -7,6 +7,7 @@ mod drawn_graph;
 mod edges;
 mod graph;
 mod in_turn;
+mod kept;
 mod labels;
 mod laws;
 mod networks;

@@ -1,7 +1,7 @@
 //! The network of a graph.
 
 ghost use Rattle.std.specs.Prelude.{◌≡◌, ◌<◌, ◌+◌, ◌-◌, ◌^◌, ◌++◌, ◌∷◌, [], length, OnOk, IfOk, IfErr, All};
-ghost use Rattle.cstn_net.specs.Drafts.{IsNetRefusal};
+ghost use Rattle.cstn_net.specs.Drafts.{with_draft, IsNetRefusal};
 ghost use Rattle.cstn_net.specs.Networks.{IsWellFormed};
 ghost use Rattle.cstn_net.specs.Read.{the_network};
 ghost use Rattle.cstn_graphml.specs.DrawnGraphSeen.{graph_seen};
@@ -48,7 +48,7 @@ fn put_constraint(builder: &mut Builder, c: DrawnConstraint) -> Result<(), Alloc
     requires room { length builder.old.drafts < 2 ^ 32 - 1 }
     requires from { c.from < length builder.old.points }
     requires to { c.to < length builder.old.points }
-    ensures { OnOk result (builder.new ≡ record builder.old { drafts = builder.old.drafts ++ draft_of c ∷ [] }) }
+    ensures { OnOk result (builder.new ≡ with_draft (draft_of c) builder.old) }
 {
     builder.constrain(c.from, c.to, c.most, c.label)?;
     Ok(())
@@ -83,7 +83,7 @@ fn builder_of(alloc: Global, deadline: u32, graph: &DrawnGraph) -> Result<Builde
         return Err(AllocError);
     }
     put_points(&mut builder, graph.observes.as_slice())?;
-    put_constraints(&mut builder, graph.constraints.as_slice())?;
+    put_constraints(&mut builder, graph.constraints.list.as_slice())?;
     Ok(builder)
 }
 

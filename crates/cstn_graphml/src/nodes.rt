@@ -4,7 +4,7 @@ ghost use Rattle.std.specs.Prelude.{◌≡◌, map, option_map};
 ghost use Rattle.cstn_label.specs.Read.{marks};
 ghost use Rattle.cstn_graphml.specs.Judged.{observed, reacting, labelled, judged_node};
 ghost use Rattle.cstn_element.specs.Children.{tag_seen};
-ghost use Rattle.cstn_element.specs.DataElementSeen.{lent_datum, datum_seen};
+ghost use Rattle.cstn_element.specs.DataElementSeen.{lent_datum, data_seen};
 ghost use Rattle.cstn_data.specs.TextsSeen.{prop_seen};
 ghost use Rattle.cstn_graphml.specs.DrawnGraph.{observation};
 ghost use Rattle.cstn_graphml.specs.DrawnGraphSeen.{observed_seen, graph_seen};
@@ -73,7 +73,7 @@ pub fn judge_node(
     found: &[Datum],
     graph: &mut DrawnGraph,
 ) -> Result<(), DocError>
-    ensures { Gives (λ u. graph_seen graph.new) result (judged_node (tag_seen start.now) (graph_seen graph.old) (map datum_seen found.now)) }
+    ensures { Gives (λ u. graph_seen graph.new) result (judged_node (tag_seen start.now) (graph_seen graph.old) (data_seen found.now)) }
 {
     let at = start.at;
     let Some(id) = text_attribute(alloc, &start.attributes, b"id")? else {

@@ -2,10 +2,10 @@
 
 ghost use Rattle.std.specs.Prelude.{◌≡◌, ℕ, List, ◌≤◌, length, option_map, codes};
 ghost use Rattle.cstn_markup.specs.Bytes.{is_same};
-ghost use Rattle.cstn_graphml.specs.Document.{root_reading, in_root};
+ghost use Rattle.cstn_graphml.specs.Kept.{kept_root_reading, in_kept_root};
 ghost use Rattle.cstn_element.specs.Children.{ReadsChild};
 ghost use Rattle.cstn_graphml.specs.DrawnGraphSeen.{graph_seen};
-ghost use Rattle.cstn_element.specs.Reads.{Reads};
+ghost use Rattle.cstn_element.specs.Reads.{ReadsRest};
 
 use crate::drawn_graph::DrawnGraph;
 use crate::graph::read_whole_graph;
@@ -27,7 +27,7 @@ fn read_root_child<'a>(
     start: &Start<'a>,
     seen: &mut Option<DrawnGraph>,
 ) -> Result<(), DocError>
-    ensures reads { ReadsChild 1 (λ u. option_map graph_seen seen.new) (root_reading.elements (option_map graph_seen seen.old))
+    ensures reads { ReadsChild 1 (λ u. option_map graph_seen seen.new) (kept_root_reading.elements (option_map graph_seen seen.old))
         start.now scanner.old scanner.new result }
     ensures less { length scanner.new ≤ length scanner.old }
 {
@@ -51,7 +51,7 @@ fn read_root(
     scanner: &mut Scanner,
     name: &[u8],
 ) -> Result<DrawnGraph, DocError>
-    ensures reads { (others : List (List ℕ)) → length others ≡ 0 → Reads graph_seen in_root name.now others scanner.old scanner.new result }
+    ensures reads { ReadsRest 0 graph_seen in_kept_root name.now scanner.old scanner.new result }
     ensures less { length scanner.new ≤ length scanner.old }
 {
     elements_are_read_in_turn::<RootReading>();
@@ -78,7 +78,7 @@ pub fn read_whole_root(
     scanner: &mut Scanner,
     start: &Start,
 ) -> Result<DrawnGraph, DocError>
-    ensures reads { ReadsChild 0 graph_seen (λ tag. in_root) start.now scanner.old scanner.new result }
+    ensures reads { ReadsChild 0 graph_seen (λ tag. in_kept_root) start.now scanner.old scanner.new result }
     ensures less { length scanner.new ≤ length scanner.old }
 {
     if start.closed {

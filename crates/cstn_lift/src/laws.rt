@@ -30,8 +30,10 @@ pub fn completion_is_a_closure()
 pub fn completed_labels_are_ordered()
     ensures plain { (m : Labelled) (x : ℕ) → IsLabelled m → IsPlain (completed_label m x) }
     ensures observed { (m : Labelled) (x : ℕ) → IsLabelled m → IsOnObserved m.base (completed_label m x) }
-    ensures within { (m : Labelled) (x j p : ℕ) → IsLabelled m → Observes m.base j p → IsMarked (completed_label m x) p → IsWithin (completed_label m j) (completed_label m x) }
-    ensures order { (m : Labelled) → IsLabelled m → (rank : ℕ → ℕ) × ((j p k q : ℕ) → Observes m.base j p → Observes m.base k q → IsMarked (completed_label m j) q → rank k < rank j) }
+    ensures within { (m : Labelled) (x j p : ℕ) → IsLabelled m → Observes m.base j p → IsMarked (completed_label m x) p
+        → IsWithin (completed_label m j) (completed_label m x) }
+    ensures order { (m : Labelled) → IsLabelled m
+        → (rank : ℕ → ℕ) × ((j p k q : ℕ) → Observes m.base j p → Observes m.base k q → IsMarked (completed_label m j) q → rank k < rank j) }
 {}
 
 /// The observer of a proposition is the time-point that observes it, and there is none where nothing does.
@@ -66,25 +68,32 @@ pub fn lowered_is_equivalent()
 /// of these at the same moment in both, and their least moments are the same.
 pub fn twins_are_executed_alike()
     ensures decided { (m : Labelled) (s : Scenario) (x : ℕ) → IsLabelled m → IsExecuted m s x ⊎ (IsExecuted m s x → ⊥) }
-    ensures observers { (m : Labelled) (s : Scenario) (x j p : ℕ) → IsLabelled m → IsExecuted m s x → Observes m.base j p → IsMarked (completed_label m x) p → IsExecuted m s j }
+    ensures observers { (m : Labelled) (s : Scenario) (x j p : ℕ) → IsLabelled m → IsExecuted m s x → Observes m.base j p
+        → IsMarked (completed_label m x) p → IsExecuted m s j }
     ensures executed { (m : Labelled) (s r : Scenario) (x : ℕ) → IsLabelled m → AreTwins m s r → (IsExecuted m s x ↔ IsExecuted m r x) }
-    ensures moments { (m : Labelled) (table : Table) (s r : Scenario) (x : ℕ) → IsLabelledStrategy m table → AreTwins m s r → x < count m.base → IsExecuted m s x → table r x ≡ table s x }
-    ensures least { (m : Labelled) (s r : Scenario) (x t : ℕ) → IsLabelled m → AreTwins m s r → x < count m.base → (IsLabelledLeast m s x t ↔ IsLabelledLeast m r x t) }
+    ensures moments { (m : Labelled) (table : Table) (s r : Scenario) (x : ℕ) → IsLabelledStrategy m table → AreTwins m s r → x < count m.base
+        → IsExecuted m s x → table r x ≡ table s x }
+    ensures least { (m : Labelled) (s r : Scenario) (x t : ℕ) → IsLabelled m → AreTwins m s r → x < count m.base
+        → (IsLabelledLeast m s x t ↔ IsLabelledLeast m r x t) }
 {}
 
 /// In a strategy of the lowered network, what is known at the moment of a time-point either rules its completed label out, or
 /// each proposition that the label marks is known then and the label holds.
 pub fn labels_are_decided_in_time()
-    ensures executed { (m : Labelled) (table : Table) (s : Scenario) (x : ℕ) → IsLabelled m → IsStrategy (lowered m) table → x < count m.base → IsOpenIn m table s x → IsExecuted m s x }
-    ensures known { (m : Labelled) (table : Table) (s : Scenario) (x p : ℕ) → IsLabelled m → IsStrategy (lowered m) table → x < count m.base → IsOpenIn m table s x → IsMarked (completed_label m x) p → IsKnownIn m table s x p }
+    ensures executed { (m : Labelled) (table : Table) (s : Scenario) (x : ℕ) → IsLabelled m → IsStrategy (lowered m) table → x < count m.base
+        → IsOpenIn m table s x → IsExecuted m s x }
+    ensures known { (m : Labelled) (table : Table) (s : Scenario) (x p : ℕ) → IsLabelled m → IsStrategy (lowered m) table → x < count m.base
+        → IsOpenIn m table s x → IsMarked (completed_label m x) p → IsKnownIn m table s x p }
 {}
 
 /// A strategy of the lowered network, read in each scenario with default values for what isn't observed there, is a labelled
 /// strategy. Where it has each time-point at its least moment, so has the labelled strategy each time-point that is executed.
 pub fn defaults_give_a_labelled_strategy()
     ensures twins { (m : Labelled) (d : Scenario) → IsLabelled m → (twin : Scenario → Scenario) × AreDefaulted m d twin }
-    ensures strategy { (m : Labelled) (table : Table) (d : Scenario) (twin : Scenario → Scenario) → IsLabelled m → AreDefaulted m d twin → IsStrategy (lowered m) table → IsLabelledStrategy m (λ s. table (twin s)) }
-    ensures least { (m : Labelled) (table : Table) (d : Scenario) (twin : Scenario → Scenario) → IsLabelled m → AreDefaulted m d twin → HasLeasts (lowered m) table → HasLabelledLeasts m (λ s. table (twin s)) }
+    ensures strategy { (m : Labelled) (table : Table) (d : Scenario) (twin : Scenario → Scenario) → IsLabelled m → AreDefaulted m d twin
+        → IsStrategy (lowered m) table → IsLabelledStrategy m (λ s. table (twin s)) }
+    ensures least { (m : Labelled) (table : Table) (d : Scenario) (twin : Scenario → Scenario) → IsLabelled m → AreDefaulted m d twin
+        → HasLeasts (lowered m) table → HasLabelledLeasts m (λ s. table (twin s)) }
 {}
 
 /// It makes no difference that scenarios give values to propositions that nothing observes. A labelled network is consistent

@@ -133,7 +133,8 @@ fn add_one_full(
     requires points { length builder.old.points ≡ count (the_network net.now) }
     requires range { IsInRange (count (the_network net.now)) c.now }
     requires few { length builder.old.drafts ≤ 100000 }
-    ensures added { IfOk result (λ _. AddsConstraints builder.old.drafts builder.new.drafts (full_of (with_labels net.now labels.now) (the_constraint c.now ∷ []))) }
+    ensures added { IfOk result (λ _. AddsConstraints builder.old.drafts builder.new.drafts
+        (full_of (with_labels net.now labels.now) (the_constraint c.now ∷ []))) }
     ensures few { length builder.new.drafts ≤ length builder.old.drafts + 1 }
     ensures rest { (builder.new.deadline ≡ builder.old.deadline) × (builder.new.points ≡ builder.old.points) }
 {
@@ -209,7 +210,8 @@ fn add_guard(
     requires marked { IsMarked (marks label) p.index }
     requires points { length builder.old.points ≡ count (the_network net.now) }
     requires few { length builder.old.drafts ≤ 100000 }
-    ensures added { IfOk result (λ _. AddsConstraints builder.old.drafts builder.new.drafts (guards_for (the_network net.now) x.0 (marks label) (p.index ∷ []))) }
+    ensures added { IfOk result (λ _. AddsConstraints builder.old.drafts builder.new.drafts
+        (guards_for (the_network net.now) x.0 (marks label) (p.index ∷ []))) }
     ensures few { length builder.new.drafts ≤ length builder.old.drafts + 1 }
     ensures rest { (builder.new.deadline ≡ builder.old.deadline) × (builder.new.points ≡ builder.old.points) }
 {

@@ -14,7 +14,8 @@ use cstn_net::Network;
 /// The first time-point with a label that isn't plain.
 pub fn first_not_plain(net: &Network, labels: &[Label]) -> Option<NodeId>
     requires one_each { length labels.now ≡ count (the_network net.now) }
-    ensures first { MatchOption result (ArePlain (the_network net.now) (map marks labels.now)) (λ x. IsFirstUnplain (the_network net.now) (map marks labels.now) x.0) }
+    ensures first { MatchOption result (ArePlain (the_network net.now) (map marks labels.now))
+        (λ x. IsFirstUnplain (the_network net.now) (map marks labels.now) x.0) }
     ensures well_formed { IsWellFormed (the_network net.now) }
 {
     for x in 0..net.count() {
@@ -29,7 +30,8 @@ pub fn first_not_plain(net: &Network, labels: &[Label]) -> Option<NodeId>
 /// The first time-point whose label names a proposition that nothing observes, and the least such proposition.
 pub fn first_unobserved(net: &Network, labels: &[Label]) -> Option<(NodeId, Prop)>
     requires one_each { length labels.now ≡ count (the_network net.now) }
-    ensures first { MatchOption result (AreOnObserved (the_network net.now) (map marks labels.now)) (λ f. IsFirstUnobserved (the_network net.now) (map marks labels.now) f.0.0 f.1.index) }
+    ensures first { MatchOption result (AreOnObserved (the_network net.now) (map marks labels.now))
+        (λ f. IsFirstUnobserved (the_network net.now) (map marks labels.now) f.0.0 f.1.index) }
 {
     for x in 0..net.count() {
         let node = NodeId(x);
@@ -43,7 +45,8 @@ pub fn first_unobserved(net: &Network, labels: &[Label]) -> Option<(NodeId, Prop
 /// The first time-point that observes what its label marks.
 pub fn first_in_circle(net: &Network, labels: &[Label]) -> Option<NodeId>
     requires one_each { length labels.now ≡ count (the_network net.now) }
-    ensures first { MatchOption result (AreInNoCircle (the_network net.now) (map marks labels.now)) (λ x. IsFirstInCircle (the_network net.now) (map marks labels.now) x.0) }
+    ensures first { MatchOption result (AreInNoCircle (the_network net.now) (map marks labels.now))
+        (λ x. IsFirstInCircle (the_network net.now) (map marks labels.now) x.0) }
 {
     for x in 0..net.count() {
         let node = NodeId(x);

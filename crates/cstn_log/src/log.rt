@@ -31,7 +31,7 @@ use std::marker::Model;
 /// An entry is live while no later one dominates it. A pool has the bound of each entry, and a minimal set those of the live
 /// ones, each under the id that [`Log::slot`] answers. An entry keeps its id while entries before it are taken out, and only
 /// its place changes: premises are kept by slot, and a table tells the place of each. All memory of the log is taken by
-/// [`Log::start`]: 389 bytes for each entry that there may be, so 1,632 MB for the largest cap of 4,194,304, and 24 bytes for
+/// [`Log::start`]: 423 bytes for each entry that there may be, so 1,774 MB for the largest cap of 4,194,304, and 816 bytes for
 /// each time-point. Of these, 212 bytes an entry are links of chains: 4 by time-point, written for entries that are pushed, and
 /// 208 by proposition, written only up to the last entry whose label marks something. One more byte an entry is used by
 /// [`Log::retract`] alone.

@@ -49,13 +49,13 @@ MarksEnd = (a : Label) (p : ℕ) → 52 ≤ p → marks a p ≡ Absent
 absent_within : (m n : Mark) → m ≡ Absent → IsMarkWithin m n
 absent_within m n is = subst (λ (o : Mark). IsMarkWithin o n) (sym is) tt
 
-within_or_not : MarksEnd → (a b : Label) → IsWithin (marks a) (marks b) ⊎ ¬ IsWithin (marks a) (marks b)
+pub within_or_not : MarksEnd → (a b : Label) → IsWithin (marks a) (marks b) ⊎ ¬ IsWithin (marks a) (marks b)
 within_or_not end a b = elim (marks_within_or_not (marks a) (marks b) 52) [
   | inr not ↦ inr not
   | inl below ↦ inl (λ p. elim (cases_lt p 52) [ inl less ↦ below p less | inr above ↦ absent_within (marks a p) (marks b p) (end a p above) ])
 ]
 
-least_or_not : (a b : ℤ) → (a ≤ℤ b) ⊎ ¬ (a ≤ℤ b)
+pub least_or_not : (a b : ℤ) → (a ≤ℤ b) ⊎ ¬ (a ≤ℤ b)
 least_or_not a b = elim (cases_Bool (int_le a b)) [ inl y ↦ inl (least a b y) | inr n ↦ inr (not_least a b n) ]
   where
     least : (c d : ℤ) → int_le c d ≡ true → c ≤ℤ d

@@ -1,11 +1,13 @@
 -- Minimal sets of bounds, each bound in a slot with its birth.
-use Rattle.std.specs.Prelude.{◌≡◌, ◌≢◌, ◌⊎◌, ℕ, suc, ◌+◌, ◌-◌, ◌*◌, ◌<◌, ◌≤◌, ◌^◌, ℤ, pos, negsuc, List, [], ◌∷◌, map, length, Option, None, Some, slice_index_or, MatchOption}
+use Rattle.std.specs.Prelude.{◌≡◌, ◌≢◌, ◌⊎◌, ℕ, suc, ◌+◌, ◌<◌, ◌≤◌, ◌^◌, ◌≤ℤ◌, List, [], ◌∷◌, length, Option, None, Some, slice_index_or, MatchOption, All, sum_by, slice_get}
 use Rattle.cstn_label.specs.declared.bounds.Bound.{Bound}
 use Rattle.cstn_label.specs.Bounds.{Dominates}
-use Rattle.cstn_label.specs.Labels.{IsMarked}
+use Rattle.cstn_label.specs.Labels.{IsMarked, IsWithin}
 use Rattle.cstn_label.specs.Read.{marks, the_bound}
 use Rattle.cstn_pool.specs.declared.slot_id.SlotId.{SlotId}
-use Rattle.cstn_minset.specs.Links.{Ring, AreLinks}
+use Rattle.cstn_rows.specs.declared.page.Record.{Record}
+use Rattle.cstn_rows.specs.declared.page.Page.{Page}
+use Rattle.cstn_rows.specs.Pages.{Paged, held}
 
 -- what each slot holds: nothing, or a birth and a bound
 abbrev pub Entries : Type 0
@@ -80,35 +82,49 @@ IsWalk table Kind low (id ∷ ids) = IsFirst table Kind low (Some id) × IsWalk 
 abbrev pub IsFirstSlot : Entries → (Bound → Type 0) → ℕ → Option ℕ → Type 0
 IsFirstSlot table Kind low answer = MatchOption answer (IsNone table Kind low) (λ slot. (birth : ℕ) × IsLeast table Kind low slot birth)
 
--- the chain of an entry is its time-point's, and its key there is its birth
-abbrev pub by_birth : Option (ℕ × Bound) → Option (ℕ × ℕ)
-by_birth None = None
-by_birth (Some entry) = Some (entry.1.node.0, entry.0)
-
--- the lowest key in a chain by value of bounds with this least value; a birth adds less to it than the step to the next value
-abbrev pub value_key : ℤ → ℕ
-value_key (pos n) = (2 ^ 31 + n) * 2 ^ 64
-value_key (negsuc n) = (2 ^ 31 - suc n) * 2 ^ 64
-
--- the chain of an entry is its time-point's, and its key there orders by least value, and where that is equal by birth
-abbrev pub by_value : Option (ℕ × Bound) → Option (ℕ × ℕ)
-by_value None = None
-by_value (Some entry) = Some (entry.1.node.0, value_key entry.1.least + entry.0)
-
 -- no entry dominates another, no two have the same birth, and each is at a time-point of the set
 pub record IsMinimal (nodes : ℕ) (table : Entries) : Type 0 where
   pub minimal : (s t : ℕ) (e f : ℕ × Bound) → IsPlaced table s e → IsPlaced table t f → s ≢ t → ¬ IsOver e.1 f.1
   pub apart : (s t : ℕ) (e f : ℕ × Bound) → IsPlaced table s e → IsPlaced table t f → e.0 ≡ f.0 → s ≡ t
   pub in_range : (s : ℕ) (e : ℕ × Bound) → IsPlaced table s e → (e.1.node.0 < nodes) × (e.0 < 2 ^ 64)
 
--- the links run through the entries by the keys that the order gives them
-pub record AreOrdered (order : Option (ℕ × Bound) → Option (ℕ × ℕ)) (heads : ℕ) (links : Ring) (table : Entries) : Type 0 where
-  pub slots : links.slots ≡ length table
-  pub heads_are : links.heads ≡ heads
-  pub linked : AreLinks links (map order table)
+-- the record of a bound in a slot, with its time-point
+abbrev pub record_of : ℕ → Bound → ℕ × Record
+record_of slot b = (b.node.0, record { label = b.label; least = b.least; slot = slot })
 
--- a minimal set whose links run through each time-point's entries by birth and by least value
-pub record IsChained (births values : Ring) (nodes : ℕ) (table : Entries) : Type 0 where
-  pub by_births : AreOrdered by_birth nodes births table
-  pub by_values : AreOrdered by_value nodes values table
+-- the records of all bounds, from the slot n on
+abbrev pub records_from : ℕ → Entries → List (ℕ × Record)
+records_from n [] = []
+records_from n (None ∷ table) = records_from (suc n) table
+records_from n (Some entry ∷ table) = record_of n entry.1 ∷ records_from (suc n) table
+
+-- the record is that of the bound in its slot
+abbrev pub IsListed : Entries → ℕ × Record → Type 0
+IsListed table x = (birth : ℕ) × (b : Bound) × IsPlaced table x.1.slot (birth, b) × (record_of x.1.slot b ≡ x)
+
+-- the record is that of a bound that dominates this one, where both are of one time-point
+abbrev pub IsRecordOver : Bound → Record → Type 0
+IsRecordOver b r = (b.least ≤ℤ r.least) × IsWithin (marks r.label) (marks b.label)
+
+-- the record is that of a bound that this one dominates, where both are of one time-point
+abbrev pub IsRecordUnder : Bound → Record → Type 0
+IsRecordUnder b r = (r.least ≤ℤ b.least) × IsWithin (marks b.label) (marks r.label)
+
+-- the record lies at the place i of page k, which is one of the row
+abbrev pub IsRecordAt : List Page → ℕ → ℕ → ℕ → Record → Type 0
+IsRecordAt pages h k i r = (page : Page) × (slice_get pages k ≡ Some page) × (page.head ≡ h) × (slice_get page.records.items i ≡ Some r)
+
+-- no record of the row is of the kind, and none of the page
+abbrev pub IsNoneOf : List Page → ℕ → (Record → Type 0) → Type 0
+IsNoneOf pages h Kind = (k i : ℕ) (r : Record) → IsRecordAt pages h k i r → ¬ Kind r
+
+abbrev pub IsNoneOn : Page → (Record → Type 0) → Type 0
+IsNoneOn page Kind = (i : ℕ) (r : Record) → slice_get page.records.items i ≡ Some r → ¬ Kind r
+
+-- a minimal set whose rows have exactly the records of its bounds
+pub record IsKept (rows : Paged) (nodes : ℕ) (table : Entries) : Type 0 where
+  pub heads : rows.heads ≡ nodes
+  pub room : rows.capacity ≡ length table
+  pub listed : All (IsListed table) (held rows.pages)
+  pub same : (f : ℕ × Record → ℕ) → sum_by f (held rows.pages) ≡ sum_by f (records_from 0 table)
   pub minimal : IsMinimal nodes table

@@ -3,9 +3,8 @@
 #![tactic(auto)]
 
 mod laws;
-mod links;
 mod min_set;
-mod places;
+mod scan;
 mod table;
 
 pub use laws::walks_meet_each_once;

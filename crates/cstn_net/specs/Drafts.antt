@@ -1,5 +1,5 @@
 -- What a builder holds, and what keeps it from being a network.
-use Rattle.std.specs.Prelude.{ℕ, zero, suc, ◌≡◌, ◌≢◌, ◌<◌, ◌≤◌, ◌+◌, List, [], ◌∷◌, length, map, Option, None, Some, IsSome, slice_index_or}
+use Rattle.std.specs.Prelude.{ℕ, zero, suc, ◌≡◌, ◌≢◌, ◌<◌, ◌≤◌, ◌+◌, List, [], ◌∷◌, ◌++◌, length, map, Option, None, Some, IsSome, slice_index_or}
 use Rattle.std.specs.List.{All, HoldsAt}
 use Rattle.cstn_label.specs.declared.marks.Mark.TheVariants.{Absent}
 use Rattle.cstn_label.specs.Labels.{Label, IsPlain}
@@ -30,6 +30,10 @@ abbrev pub with_reaction : ℕ → ℕ → List TimePoint → List TimePoint
 with_reaction node ticks [] = []
 with_reaction zero ticks (t ∷ ts) = record t { reaction = ticks } ∷ ts
 with_reaction (suc node) ticks (t ∷ ts) = t ∷ with_reaction node ticks ts
+
+-- the builder, once it was handed this constraint after its own
+abbrev pub with_draft : Draft → BuilderParts → BuilderParts
+with_draft d b = record b { drafts = b.drafts ++ (d ∷ []) }
 
 -- the constraint of a draft, under its id
 abbrev pub constraint_of : ℕ → Draft → Constraint

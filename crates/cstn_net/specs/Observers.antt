@@ -45,7 +45,8 @@ abbrev pub HasNoTwin : List (Option NodeId) → Option ℕ → NodeId → Type 0
 HasNoTwin table observes x = (p : ℕ) (y : NodeId) → IsTwin table observes x p y → ⊥
 
 -- what stays true of a network of the program: its table of observers is right, it is well-formed, and its links are right
-pub record IsKept (deadline : ℕ) (points : List TimePoint) (table : List (Option NodeId)) (constraints : List Constraint) (chains : List (Option Chain)) (nexts : List (Option ℕ)) : Type 0 where
+pub record IsKept (deadline : ℕ) (points : List TimePoint) (table : List (Option NodeId)) (constraints : List Constraint)
+    (chains : List (Option Chain)) (nexts : List (Option ℕ)) : Type 0 where
   pub observers : KnowsObservers (map observed points) table
   pub well_formed : IsWellFormed (the_network (record { deadline = deadline; points = points; constraints = constraints; spare = 0 }))
   pub linked : AreLinked (ends constraints) chains nexts

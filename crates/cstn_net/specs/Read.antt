@@ -26,10 +26,14 @@ prop_number o = option_map (λ p. p.index) o
 abbrev pub observed : TimePoint → Option ℕ
 observed t = prop_number t.observes
 
+-- the reaction of the first of these that observes p, and 1 where none does, by what each observes and by its reaction
+abbrev pub first_reaction : {X : Type 0} → (X → Option ℕ) → (X → ℕ) → List X → ℕ → ℕ
+first_reaction observes reaction [] p = 1
+first_reaction observes reaction (x ∷ xs) p = if is_prop p (observes x) then reaction x else first_reaction observes reaction xs p
+
 -- the reaction of the first time-point that observes p, and 1 where none does
 abbrev pub reaction_of : List TimePoint → ℕ → ℕ
-reaction_of [] p = 1
-reaction_of (t ∷ ts) p = if is_prop p (observed t) then t.reaction else reaction_of ts p
+reaction_of points p = first_reaction observed (λ t. t.reaction) points p
 
 -- the network that a program's network stands for
 abbrev pub the_network : NetworkParts → Network

@@ -4,7 +4,7 @@ ghost use Rattle.cstn_net.specs.declared.errors.NetError.{NetError};
 ghost use Rattle.cstn_net.specs.Networks.{IsWellFormed};
 ghost use Rattle.cstn_net.specs.Read.{the_network, observed};
 ghost use Rattle.cstn_net.specs.Observers.{KnowsObservers};
-ghost use Rattle.cstn_net.specs.Drafts.{IsSized, IsSound, IsLowestNetFault, IsNetRefusal, HasNetFault, constraints_from, with_reaction};
+ghost use Rattle.cstn_net.specs.Drafts.{IsSized, IsSound, IsLowestNetFault, IsNetRefusal, HasNetFault, constraints_from, with_draft, with_reaction};
 
 use crate::drafts::{Draft, constraints_of};
 use crate::errors::NetError;
@@ -90,7 +90,7 @@ impl Builder {
         requires to { to < length self.old.points }
         requires room { length self.old.drafts < 2 ^ 32 - 1 }
         ensures id { IfOk result (λ id. id ≡ length self.old.drafts) }
-        ensures appended { IfOk result (λ _. self.new ≡ record self.old { drafts = self.old.drafts ++ record { from = from; to = to; most = most; label = label } ∷ [] }) }
+        ensures appended { IfOk result (λ _. self.new ≡ with_draft (record { from = from; to = to; most = most; label = label }) self.old) }
         ensures refused { OnErr result (self.new ≡ self.old) }
     {
         let id = self.drafts.len() as u32;

@@ -24,6 +24,7 @@ pub fn reactions_are_a_tick_at_first()
 
 /// One more draft gives one more constraint, whose id is the first id plus the number of drafts before it.
 pub fn drafts_are_numbered()
-    ensures more { (k i : ℕ) (ds : List Draft) (d : Draft) → i ≡ k + length ds → constraints_from k (ds ++ d ∷ []) ≡ constraints_from k ds ++ constraint_of i d ∷ [] }
+    ensures more { (k i : ℕ) (ds : List Draft) (d : Draft) → i ≡ k + length ds
+        → constraints_from k (ds ++ d ∷ []) ≡ constraints_from k ds ++ constraint_of i d ∷ [] }
     ensures length { (k : ℕ) (ds : List Draft) → length (constraints_from k ds) ≡ length ds }
 {}

@@ -32,13 +32,18 @@ pub fn knowledge_grows()
 /// that agrees with what is known is possible. A possible label holds where all propositions that it marks are known, and a
 /// plain possible label holds in some scenario that agrees with what is known.
 pub fn possible_until_ruled_out()
-    ensures within { (net : Network) (at : Schedule) (t : ℕ) (s : Scenario) (a b : Label) → IsWithin a b → IsPossibleAt net at t s b → IsPossibleAt net at t s a }
-    ensures joined { (net : Network) (at : Schedule) (t : ℕ) (s : Scenario) (a b : Label) → (IsPossibleAt net at t s (joined a b) ↔ (IsPossibleAt net at t s a × IsPossibleAt net at t s b)) }
+    ensures within { (net : Network) (at : Schedule) (t : ℕ) (s : Scenario) (a b : Label) → IsWithin a b → IsPossibleAt net at t s b
+        → IsPossibleAt net at t s a }
+    ensures joined { (net : Network) (at : Schedule) (t : ℕ) (s : Scenario) (a b : Label)
+        → (IsPossibleAt net at t s (joined a b) ↔ (IsPossibleAt net at t s a × IsPossibleAt net at t s b)) }
     ensures earlier { (net : Network) (at : Schedule) (t u : ℕ) (s : Scenario) (a : Label) → t ≤ u → IsPossibleAt net at u s a → IsPossibleAt net at t s a }
-    ensures agrees { (net : Network) (at : Schedule) (t : ℕ) (s r : Scenario) (a : Label) → Agrees net at t s r → IsPossibleAt net at t s a → IsPossibleAt net at t r a }
+    ensures agrees { (net : Network) (at : Schedule) (t : ℕ) (s r : Scenario) (a : Label) → Agrees net at t s r → IsPossibleAt net at t s a
+        → IsPossibleAt net at t r a }
     ensures holds { (net : Network) (at : Schedule) (t : ℕ) (s r : Scenario) (a : Label) → Agrees net at t s r → Holds r a → IsPossibleAt net at t s a }
-    ensures settled { (net : Network) (at : Schedule) (t : ℕ) (s : Scenario) (a : Label) → ((p : ℕ) → IsMarked a p → IsKnown net at t p) → IsPossibleAt net at t s a → Holds s a }
-    ensures flipped { (net : Network) (at : Schedule) (t : ℕ) (s : Scenario) (a : Label) → IsPlain a → IsPossibleAt net at t s a → (r : Scenario) × Agrees net at t s r × Holds r a }
+    ensures settled { (net : Network) (at : Schedule) (t : ℕ) (s : Scenario) (a : Label) → ((p : ℕ) → IsMarked a p → IsKnown net at t p)
+        → IsPossibleAt net at t s a → Holds s a }
+    ensures flipped { (net : Network) (at : Schedule) (t : ℕ) (s : Scenario) (a : Label) → IsPlain a → IsPossibleAt net at t s a
+        → (r : Scenario) × Agrees net at t s r × Holds r a }
 {}
 
 /// A table is dynamic exactly where, in every scenario that agrees with what is known when a time-point is executed, that
@@ -50,14 +55,18 @@ pub fn dynamic_is_one_sided()
 /// Agreement with what is known is mutual in a dynamic table: where r agrees with what is known at t in s, s agrees with what
 /// is known at t in r, each moment up to t is the same in both, and the same is known at t in both.
 pub fn past_is_common()
-    ensures symmetric { (net : Network) (table : Table) → IsNetwork net → IsDynamic net table → (s r : Scenario) (t : ℕ) → AgreesIn net table t s r → AgreesIn net table t r s }
-    ensures moments { (net : Network) (table : Table) → IsNetwork net → IsDynamic net table → (s r : Scenario) (t x : ℕ) → x < count net → AgreesIn net table t s r → HasOneMoment table t s r x }
-    ensures known { (net : Network) (table : Table) → IsNetwork net → IsDynamic net table → (s r : Scenario) (t p : ℕ) → AgreesIn net table t s r → IsKnown net (table s) t p → IsKnown net (table r) t p }
+    ensures symmetric { (net : Network) (table : Table) → IsNetwork net → IsDynamic net table → (s r : Scenario) (t : ℕ) → AgreesIn net table t s r
+        → AgreesIn net table t r s }
+    ensures moments { (net : Network) (table : Table) → IsNetwork net → IsDynamic net table → (s r : Scenario) (t x : ℕ) → x < count net
+        → AgreesIn net table t s r → HasOneMoment table t s r x }
+    ensures known { (net : Network) (table : Table) → IsNetwork net → IsDynamic net table → (s r : Scenario) (t p : ℕ) → AgreesIn net table t s r
+        → IsKnown net (table s) t p → IsKnown net (table r) t p }
 {}
 
 /// Scenarios that agree on the observed propositions have the same moments in a dynamic table.
 pub fn unobserved_is_unseen()
-    ensures { (net : Network) (table : Table) (s r : Scenario) (x : ℕ) → IsDynamic net table → x < count net → AgreesOnObserved net s r → table r x ≡ table s x }
+    ensures { (net : Network) (table : Table) (s r : Scenario) (x : ℕ) → IsDynamic net table → x < count net → AgreesOnObserved net s r
+        → table r x ≡ table s x }
 {}
 
 /// It makes no difference that scenarios give values to propositions that nothing observes. A network is consistent exactly
@@ -84,7 +93,8 @@ pub fn plain_strategy_is_a_schedule()
 /// A strategy stays one with a later deadline and with fewer constraints, where the rest of the network is the same.
 pub fn strategies_are_kept()
     ensures deadline { (net : Network) (table : Table) (h : ℕ) → net.deadline ≤ h → IsStrategy net table → IsStrategy (record net { deadline = h }) table }
-    ensures constraints { (net : Network) (table : Table) (cs : List Constraint) → AreConstraintsOf net cs → IsStrategy net table → IsStrategy (record net { constraints = cs }) table }
+    ensures constraints { (net : Network) (table : Table) (cs : List Constraint) → AreConstraintsOf net cs → IsStrategy net table
+        → IsStrategy (record net { constraints = cs }) table }
 {}
 
 /// A consistent network stays so with a later deadline and with fewer constraints.
@@ -104,7 +114,8 @@ pub fn other_constraints_are_well_formed()
 pub fn bounds_hold()
     ensures dominated { (net : Network) (table : Table) (a b : Bound) → Dominates a b → HoldsIn net table a → HoldsIn net table b }
     ensures base { (net : Network) (table : Table) (x : ℕ) → HoldsIn net table (record { node = x; least = pos 0; label = empty }) }
-    ensures cases { (net : Network) (table : Table) (b : Bound) → HoldsIn net table b ↔ ((s : Scenario) → (b.least ≤ℤ pos (table s b.node)) ⊎ (IsPossibleIn net table b s → ⊥)) }
+    ensures cases { (net : Network) (table : Table) (b : Bound)
+        → HoldsIn net table b ↔ ((s : Scenario) → (b.least ≤ℤ pos (table s b.node)) ⊎ (IsPossibleIn net table b s → ⊥)) }
 {}
 
 /// A time-point has at most one least moment in each scenario.

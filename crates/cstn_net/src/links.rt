@@ -62,7 +62,8 @@ impl Links {
         requires room { vec_len self.old.nexts < vec_capacity self.old.nexts }
         requires inside { to.0 < length self.old.chains.items }
         requires linked { (xs : List ℕ) × AreLinked xs self.old.chains.items self.old.nexts.items }
-        ensures linked { (xs : List ℕ) → AreLinked xs self.old.chains.items self.old.nexts.items → AreLinked (xs ++ to.0 ∷ []) self.new.chains.items self.new.nexts.items }
+        ensures linked { (xs : List ℕ) → AreLinked xs self.old.chains.items self.old.nexts.items
+            → AreLinked (xs ++ to.0 ∷ []) self.new.chains.items self.new.nexts.items }
         ensures wide { length self.new.chains.items ≡ length self.old.chains.items }
         ensures long { vec_len self.new.nexts ≡ vec_len self.old.nexts + 1 }
         ensures room { vec_capacity self.new.nexts ≡ vec_capacity self.old.nexts }

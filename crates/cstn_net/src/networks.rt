@@ -32,11 +32,17 @@ impl Model for Network {
 
     ghost Value = { NetworkParts };
 
-    ghost view = { λ n. record { deadline = n.deadline; points = n.points.items; constraints = n.constraints.items; spare = vec_capacity n.links.nexts - vec_len n.constraints } };
+    ghost view = { λ n. record {
+      deadline = n.deadline;
+      points = n.points.items;
+      constraints = n.constraints.items;
+      spare = vec_capacity n.links.nexts - vec_len n.constraints;
+    } };
 
     ghost use Rattle.cstn_net.specs.Observers.{IsKept};
 
-    ghost invariant = { λ n. IsKept n.deadline n.points.items n.observers n.constraints.items n.links.chains.items n.links.nexts.items × (vec_capacity n.links.nexts ≤ vec_capacity n.constraints) };
+    ghost invariant = { λ n. IsKept n.deadline n.points.items n.observers n.constraints.items n.links.chains.items n.links.nexts.items
+        × (vec_capacity n.links.nexts ≤ vec_capacity n.constraints) };
 }
 
 impl Network {

@@ -74,7 +74,8 @@ fn twin(table: &Observers, x: NodeId, observes: Option<Prop>) -> Option<(Prop, N
 pub fn first_twins(table: &Observers, points: &[TimePoint]) -> Option<(Prop, NodeId, NodeId)>
     requires few { length points.now ≤ 1024 }
     requires observers { KnowsObservers (map observed points.now) table.now }
-    ensures { MatchOption result (HasTwins (map observed points.now) (length points.now) → ⊥) (λ t. AreFirstTwins (map observed points.now) t.0.index t.1.0 t.2.0) }
+    ensures { MatchOption result (HasTwins (map observed points.now) (length points.now) → ⊥)
+        (λ t. AreFirstTwins (map observed points.now) t.0.index t.1.0 t.2.0) }
 {
     for (i, point) in points.iter().enumerate() {
         if let Some(found) = twin(table, NodeId(i as u16), point.observes) {

@@ -9,5 +9,6 @@ ghost use Rattle.cstn_net.specs.Links.{IsNextPlace, ends, ends_at, left_to};
 pub fn walk_visits_each()
     ensures begins { (x : ℕ) (cs : List Constraint) (o : Option ℕ) → IsNextPlace x 0 (ends cs) o → left_to x o cs ≡ filter (ends_at x) cs }
     ensures visited { (x low p : ℕ) (cs : List Constraint) → IsNextPlace x low (ends cs) (Some p) → (p < length cs) × HoldsAt (λ c. c.to.0 ≡ x) cs p }
-    ensures goes_on { (x p : ℕ) (cs : List Constraint) (c : Constraint) (o : Option ℕ) → p < length cs → c ≡ slice_index_or cs p c → c.to.0 ≡ x → IsNextPlace (slice_index (ends cs) p) (p + 1) (ends cs) o → left_to x (Some p) cs ≡ c ∷ left_to x o cs }
+    ensures goes_on { (x p : ℕ) (cs : List Constraint) (c : Constraint) (o : Option ℕ) → p < length cs → c ≡ slice_index_or cs p c → c.to.0 ≡ x
+        → IsNextPlace (slice_index (ends cs) p) (p + 1) (ends cs) o → left_to x (Some p) cs ≡ c ∷ left_to x o cs }
 {}

@@ -1,6 +1,6 @@
 mod OrderLemmas
 mod PrintLemmas
-mod ReadLemmas
+pub mod BoundLemmas
 mod BackLemmas
 mod SaidLemmas
 mod WrittenLemmas

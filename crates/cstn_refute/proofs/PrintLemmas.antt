@@ -1,8 +1,6 @@
 -- Texts, step by step.
 use Rattle.std.proofs.Common.{ℕ, ◌≡◌, ◌+◌, ◌<◌, List, [], ◌∷◌, ◌++◌, length, get_or, take, map, arith, sym, ap, ◌∙◌, codes}
-use Rattle.std.specs.Prelude.{String, string_bytes}
-use Rattle.std.specs.declared.alloc.Global.{Global}
-use Rattle.std.proofs.lemmas.List.{append_assoc, map_more, length-map, get_or-map}
+use Rattle.std.proofs.lemmas.List.{append_assoc, map_more, length-map}
 use Rattle.std.proofs.lemmas.Grind.{common_steps}
 use Rattle.cstn_rules.specs.declared.entries.Entry.{Entry as DeclaredEntry}
 use Rattle.cstn_rules.specs.Derivations.{Entry}
@@ -41,13 +39,6 @@ one_more names load xs k x old inside there before =
     (ap (λ n. printed_steps names 0 (map the_entry (take k xs)) ++ (printed_step names n (the_entry x) ++ 10 ∷ [])) (sym long)
     ∙ sym (lines_of_more names 0 (map the_entry (take k xs)) (the_entry x))
     ∙ ap (printed_steps names 0) (sym more))
-
--- a name was printed at its place
-pub name_at : (texts : List (String Global)) (names : List (List ℕ)) (i : ℕ) (d : String Global) → map string_bytes texts ≡ map printed_name names → i < length names →
-    string_bytes (get_or texts i d) ≡ printed_name (get_or names i [])
-name_at texts names i d same inside =
-    let long : length texts ≡ length names = sym (length-map texts string_bytes) ∙ ap length same ∙ length-map names printed_name in
-    sym (get_or-map string_bytes texts i d [] (omega arith)) ∙ ap (λ (ts : List (List ℕ)). get_or ts i []) same ∙ get_or-map printed_name names i [] [] inside
 
 joined : (a n v l : List ℕ) → ((a ++ 32 ∷ n) ++ v) ++ l ≡ a ++ 32 ∷ ((n ++ v) ++ l)
 joined a n v l = append_assoc (a ++ 32 ∷ n) v l ∙ append_assoc a (32 ∷ n) (v ++ l) ∙ ap (λ (t : List ℕ). a ++ 32 ∷ t) (sym (append_assoc n v l))

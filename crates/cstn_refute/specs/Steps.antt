@@ -5,20 +5,15 @@ use Rattle.cstn_label.specs.Bounds.{Bound}
 use Rattle.cstn_rules.specs.declared.entries.Why.{Why}
 use Rattle.cstn_rules.specs.declared.entries.Why.TheVariants.{Base, Chain, Wait}
 use Rattle.cstn_rules.specs.Derivations.{Entry}
-use Rattle.cstn_text.specs.Cuts.{cut_at}
-use Rattle.cstn_text.specs.Names.{number_of}
 use Rattle.cstn_text.specs.Numbers.{number_within, printed_number, printed_value}
-use Rattle.cstn_text.specs.PrintedNames.{name_read, printed_name}
+use Rattle.cstn_text.specs.PrintedNames.{printed_name}
 use Rattle.cstn_text.specs.PrintedLabels.{label_read, printed_label}
+use Rattle.cstn_listing.specs.Parts.{part, node_read}
 
 infixl 20 ◌>>=◌
 -- what f gives from the value of o, if both are there
 abbrev pub ◌>>=◌ : {A B : Type 0} → Option A → (A → Option B) → Option B
 o >>= f = option_and_then f o
-
--- the part before the first space, and what stands after it
-abbrev pub part : List ℕ → Option (List ℕ × List ℕ)
-part bytes = cut_at 32 bytes
 
 -- a constraint's id or a step's place is a number below 2^32
 abbrev pub place_read : List ℕ → Option ℕ
@@ -49,10 +44,6 @@ abbrev pub bound_read : ℕ → List ℕ → Option Bound
 bound_read x bytes =
     part bytes >>= (λ least. number_within 0 1000001 least.0 >>= (λ d. label_read least.1 >>= (λ a.
     Some (record { node = x; least = pos d; label = a }))))
-
--- the number of the name of which this is the printed form
-abbrev pub node_read : List (List ℕ) → List ℕ → Option ℕ
-node_read names text = name_read text >>= number_of names
 
 -- the printed name of a time-point, a space, and the rest of its bound
 abbrev pub named_bound_read : List (List ℕ) → List ℕ → Option Bound

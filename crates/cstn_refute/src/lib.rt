@@ -11,4 +11,5 @@ mod refutations;
 
 pub use errors::RefuteError;
 pub use laws::{texts_are_read_back, texts_are_the_shown_ones};
+pub use parts::read_named_bound;
 pub use refutations::Refutation;

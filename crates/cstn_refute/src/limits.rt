@@ -1,8 +1,5 @@
 // The limits of a text.
 
-/// The greatest load.
-pub(crate) const MOST_LOAD: u32 = 4_194_304;
-
 /// How many steps there are at most.
 pub(crate) const MOST_STEPS: u32 = 4_194_304;
 

@@ -4,19 +4,13 @@ ghost use Rattle.std.specs.Option.{option_map};
 ghost use Rattle.cstn_label.specs.Read.{the_bound};
 ghost use Rattle.cstn_rules.specs.Read.{the_entry};
 ghost use Rattle.cstn_refute.specs.Refutations.{IsStep};
-ghost use Rattle.cstn_refute.specs.Steps.{part, place_read, places_read, chain_read, wait_read, why_read, is_place, rule_read, bound_read, node_read, named_bound_read, step_read};
+ghost use Rattle.cstn_refute.specs.Steps.{place_read, places_read, chain_read, wait_read, why_read, is_place, rule_read, bound_read, named_bound_read, step_read};
 
 use crate::limits::{MOST_LEAST, MOST_STEPS};
 use cstn_label::{Bound, NodeId};
+use cstn_listing::{part, read_node};
 use cstn_rules::{Entry, Why};
-use cstn_text::{Names, cut_at, read_label, read_number_within};
-
-/// What stands before the first space, and what stands after it, if there is a space.
-pub(crate) fn part(bytes: &[u8]) -> Option<(&[u8], &[u8])>
-    ensures part { option_map (λ parts. (parts.0.now, parts.1.now)) result ≡ part bytes.now }
-{
-    cut_at(bytes, b' ')
-}
+use cstn_text::{Names, read_label, read_number_within};
 
 fn read_place(bytes: &[u8]) -> Option<u32>
     ensures place { result ≡ place_read bytes.now }
@@ -103,15 +97,9 @@ fn read_rule(k: u32, line: &[u8]) -> Option<(Why, &[u8])>
     read_why(word, rest)
 }
 
-fn read_node(names: &Names, bytes: &[u8]) -> Option<NodeId>
-    requires few { length names.now ≤ 65536 }
-    ensures node { option_map (λ x. x.0) result ≡ node_read names.now bytes.now }
-{
-    let number = names.find_printed(bytes)?;
-    Some(NodeId(number as u16))
-}
-
-fn read_named_bound(names: &Names, bytes: &[u8]) -> Option<Bound>
+/// The bound that a text writes: the printed name of a time-point, a least value from 0 to 1,000,001 and a label, with a space
+/// between; none where the text isn't of the form.
+pub fn read_named_bound(names: &Names, bytes: &[u8]) -> Option<Bound>
     requires few { length names.now ≤ 65536 }
     ensures bound { option_map the_bound result ≡ named_bound_read names.now bytes.now }
     ensures range { IfSome result (λ b. (pos 0 ≤ℤ b.least) × (b.least ≤ℤ pos 1000001)) }

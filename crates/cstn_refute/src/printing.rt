@@ -13,8 +13,9 @@ ghost use Rattle.cstn_refute.specs.Written.{ArePlaces};
 
 use crate::refutations::Refutation;
 use cstn_label::{Bound, labels_are_their_marks};
+use cstn_listing::{print_names, push_load};
 use cstn_rules::{Entry, Why};
-use cstn_text::{Names, print_name, push_label, push_number, push_value};
+use cstn_text::{Names, push_label, push_number, push_value};
 use std::alloc::{AllocError, Global};
 
 // A usual line has fewer bytes. Room for longer ones is taken as they come.
@@ -34,34 +35,12 @@ impl Refutation {
         let printed = print_names(alloc, names)?;
         let steps = self.steps();
         let mut text = String::with_capacity(alloc, USUAL_LINE * (steps.len() + 1))?;
-        push_load(&mut text, self.load())?;
+        push_load(&mut text, "no", self.load())?;
         for (k, step) in steps.iter().enumerate() {
             push_step(&mut text, k, *step, &printed[step.bound.node.index()])?;
         }
         Ok(text)
     }
-}
-
-// The printed form of each name.
-fn print_names(alloc: Global, names: &Names) -> Result<Vec<String>, AllocError>
-    ensures printed { IfOk result (λ texts. map string_bytes texts.items ≡ map printed_name names.now) }
-    ensures names { AreNames names.now }
-{
-    let names = names.as_slice();
-    let mut texts = Vec::with_capacity(alloc, names.len())?;
-    for name in names {
-        texts.push(print_name(alloc, name)?)?;
-    }
-    Ok(texts)
-}
-
-// Appends the first line.
-fn push_load(text: &mut String, load: u32) -> Result<(), AllocError>
-    ensures pushed { OnOk result (string_bytes text.new ≡ string_bytes text.old ++ (codes "no " ++ printed_number load ++ 10 ∷ [])) }
-{
-    text.push_str("no ")?;
-    push_number(text, load as u64)?;
-    text.push('\n')
 }
 
 // Appends the line of the step at the place k, at the time-point of this printed name.

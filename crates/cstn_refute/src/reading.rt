@@ -5,16 +5,18 @@ ghost use Rattle.cstn_rules.specs.Derivations.{Entry as TheEntry};
 ghost use Rattle.cstn_rules.specs.Read.{the_entry};
 ghost use Rattle.cstn_refute.specs.Refutations.{IsStep, the_steps};
 ghost use Rattle.cstn_refute.specs.Steps.{step_read};
-ghost use Rattle.cstn_refute.specs.Texts.{Told, tells, wrong, at_end, or_wrong, told_after, told, load_read, lines_of};
+ghost use Rattle.cstn_listing.specs.Parts.{parts_at};
+ghost use Rattle.cstn_listing.specs.Listings.{at_end, is_some_listed, or_wrong, told_after};
+ghost use Rattle.cstn_refute.specs.Texts.{Told, tells, wrong, step_lines, told};
 ghost use Rattle.cstn_refute.specs.Written.{AreWritten};
 ghost use Rattle.cstn_refute.specs.Read.{IsWrong};
 
 use crate::errors::RefuteError;
-use crate::limits::MOST_LOAD;
-use crate::parts::{part, read_step};
+use crate::parts::read_step;
 use crate::refutations::Refutation;
+use cstn_listing::read_load;
 use cstn_rules::Entry;
-use cstn_text::{Names, cut_at, read_number_within};
+use cstn_text::{Names, cut_at};
 use std::alloc::{AllocError, Global};
 
 impl Refutation {
@@ -32,21 +34,11 @@ impl Refutation {
         let Some((line, rest)) = cut_at(bytes, b'\n') else {
             return Err(RefuteError::Line { line: 1 });
         };
-        let Some(load) = read_load(line) else {
+        let Some(load) = read_load("no", line) else {
             return Err(RefuteError::Line { line: 1 });
         };
         read_steps(alloc, names, load, rest)
     }
-}
-
-fn read_load(line: &[u8]) -> Option<u32>
-    ensures load { result ≡ load_read line.now }
-{
-    let (word, rest) = part(line)?;
-    if word != b"no".as_slice() {
-        return None;
-    }
-    read_number_within(1, MOST_LOAD, rest)
 }
 
 // Reads the lines of the steps, and makes the refutation of these and the load.
@@ -57,8 +49,8 @@ fn read_steps(
     bytes: &[u8],
 ) -> Result<Refutation, RefuteError>
     requires few { length names.now ≤ 65536 }
-    ensures accepted { IfOk result (λ r. told_after names.now load [] (lines_of bytes.now).0 (lines_of bytes.now).1 ≡ tells r.load (the_steps r)) }
-    ensures line { IfErr result (IsWrong (told_after names.now load [] (lines_of bytes.now).0 (lines_of bytes.now).1)) }
+    ensures accepted { IfOk result (λ r. told_after (step_lines names.now) load [] (parts_at 10 bytes.now).0 (parts_at 10 bytes.now).1 ≡ tells r.load (the_steps r)) }
+    ensures line { IfErr result (IsWrong (told_after (step_lines names.now) load [] (parts_at 10 bytes.now).0 (parts_at 10 bytes.now).1)) }
 {
     let mut steps = Vec::new(alloc);
     let mut left = bytes;
@@ -96,8 +88,8 @@ fn read_next(names: &Names, k: u32, line: &[u8]) -> Result<Entry, RefuteError>
 fn finish(load: u32, steps: Vec<Entry>, left: &[u8]) -> Result<Refutation, RefuteError>
     requires few { length steps.items ≤ 4194304 }
     requires each { All IsStep steps.items }
-    ensures accepted { IfOk result (λ r. at_end load (map the_entry steps.items) left.now ≡ tells r.load (the_steps r)) }
-    ensures line { IfErr result (IsWrong (at_end load (map the_entry steps.items) left.now)) }
+    ensures accepted { IfOk result (λ r. at_end is_some_listed load (map the_entry steps.items) left.now ≡ tells r.load (the_steps r)) }
+    ensures line { IfErr result (IsWrong (at_end is_some_listed load (map the_entry steps.items) left.now)) }
 {
     let count = steps.len() as u32;
     if count == 0 || !left.is_empty() {

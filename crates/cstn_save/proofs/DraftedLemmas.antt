@@ -4,7 +4,7 @@ use Rattle.std.specs.Prelude.{Option, Some, None, codes, nat_lt, nat_le, ◌&&�
 use Rattle.std.specs.List.{AllPairs, position, position_or_len}
 use Rattle.std.specs.Str.{bytes_eq}
 use Rattle.std.proofs.lemmas.Bool.{false_from_ne_true}
-use Rattle.std.proofs.lemmas.List.{take_more, take_all, get_or-take, length-append}
+use Rattle.std.proofs.lemmas.List.{take_more, take_all, get_or-take}
 use Rattle.std.proofs.lemmas.List.Sums.{position_or_len_is}
 use Rattle.std.proofs.lemmas.Slice.Eq.{bytes_eq-Decides}
 use Rattle.cstn_net.specs.Networks.{Constraint}
@@ -126,12 +126,8 @@ found names observes labels deadline n (suc i) d given all so h =
     ∙ found_at (bytes_eq name) names (suc i) h
     (position_or_len_is (bytes_eq name) names (suc i) [] (omega arith) (λ k below. other_name names observes labels k (suc i) given below h) (λ below. self name))
 
--- constraints are put behind those of the draft, where a network holds them all
-pub with_all_is : (cs : List Constraint) (d : DrawnGraph) → length d.constraints + length cs ≤ 16384 → with_all cs d ≡ record d { constraints = d.constraints ++ map drawn cs }
+-- constraints are put behind those of the draft
+pub with_all_is : (cs : List Constraint) (d : DrawnGraph) → with_all cs d ≡ record d { constraints = d.constraints ++ map drawn cs }
 unfolding with_all
-with_all_is [] d few = rw (append-nil d.constraints) refl
-with_all_is (c ∷ cs) d few =
-    let more : DrawnGraph = record d { constraints = d.constraints ++ (drawn c ∷ []) } in
-    let room : nat_le (length d.constraints) 16384 ≡ true = grind arith in
-    let put : with_constraint (drawn c) d ≡ more = rw room refl in
-    ap (with_all cs) put ∙ with_all_is cs more (omega (arith, few, length-append d.constraints (drawn c ∷ []))) ∙ rw (append_assoc d.constraints (drawn c ∷ []) (map drawn cs)) refl
+with_all_is [] d = rw (append-nil d.constraints) refl
+with_all_is (c ∷ cs) d = with_all_is cs (with_constraint (drawn c) d) ∙ rw (append_assoc d.constraints (drawn c ∷ []) (map drawn cs)) refl

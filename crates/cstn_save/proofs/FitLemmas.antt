@@ -13,7 +13,8 @@ use Rattle.cstn_lift.specs.Completion.{brought_by, joined_upto, rounds, complete
 use Rattle.cstn_lift.specs.WellFormed.{IsLabelled}
 use Rattle.cstn_lift.specs.Lowered.{is_plain, with_full_label, full_constraints, guard, guards_of, guards, lowered, observer_of, numbered as numbered_lowered}
 use Rattle.cstn_lift.specs.Faults.{HasLiftFault}
-use Rattle.cstn_graphml.specs.Networks.{numbered_drawn, labelled_of, IsFit, reaction_among}
+use Rattle.cstn_net.specs.Read.{first_reaction}
+use Rattle.cstn_graphml.specs.Networks.{numbered_drawn, labelled_of, IsFit, observed_prop, observed_reaction}
 use Rattle.cstn_save.specs.Canonical.{timed_observations}
 use Rattle.cstn_save.specs.ReadBack.{drawn, parts}
 use Rattle.cstn_save.proofs.SameLemmas.{props_back, well_formed_back}
@@ -117,7 +118,7 @@ HasNoFault m = IsLabelled m → length (lowered m).constraints ≤ 16384 → (e 
 pub fit_back : (m : Labelled) (names : List (List ℕ)) → ((n : Labelled) → HasNoFault n) → IsLabelled m → IsWellFormed (lowered m) → IsFit (parts m names)
 fit_back m names law good small =
     let net : Network = m.base in
-    let back : ℕ → ℕ = reaction_among (timed_observations net) in
+    let back : ℕ → ℕ = first_reaction observed_prop observed_reaction (timed_observations net) in
     let n : List (Option ℕ) → Labelled = λ os. read net.deadline os back net.reaction net.constraints m.labels in
     let Fits : List (Option ℕ) → Type 0 = λ os. IsWellFormed (n os).base → IsLabelled (n os) × (length (lowered (n os)).constraints ≤ 16384) in
     let here : Fits net.observes = λ base. (

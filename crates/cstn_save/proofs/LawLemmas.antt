@@ -124,7 +124,7 @@ content_back m names good is =
     } in
     let drafted_is = canonical_drafted m names (omega (arith, wf.in_time)) new (λ at. all_known names net.constraints (drafted_of m names at) (known at)) in
     ap (λ r. r >>= drawn_parts None) drafted_is.1
-    ∙ ap (drawn_parts None) (with_all_is net.constraints (drafted_of m names drafted_is.0) (omega (arith, ap length (shape drafted_is.0).none, wf.few_constraints)))
+    ∙ ap (drawn_parts None) (with_all_is net.constraints (drafted_of m names drafted_is.0))
     ∙ parts_told m names n (drafted_of m names drafted_is.0) all count_is (omega (arith, count_is, good.one_each)) (shape drafted_is.0)
 
 -- the canonical document is UTF-8

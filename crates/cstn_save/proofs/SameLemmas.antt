@@ -1,17 +1,18 @@
 -- The network that is read back is the one that was written, but for ids and the reactions of what nothing observes.
 use Rattle.std.proofs.Common.{◌≡◌, ℕ, zero, suc, ◌+◌, ◌<◌, ◌≤◌, List, [], ◌∷◌, length, refl, ap, sym, ◌∙◌, arith, Bool, true, false, subst, map, Ok, Result}
-use Rattle.std.specs.Prelude.{Option, Some, None, ◌==◌, slice_index_or}
+use Rattle.std.specs.Prelude.{Option, Some, None, ◌==◌, slice_index_or, if◌then◌else◌}
 use Rattle.std.specs.List.{All}
 use Rattle.std.proofs.Math.Path.{fun_ext}
 use Rattle.std.proofs.lemmas.Bool.{eqb-true}
 use Rattle.std.proofs.lemmas.List.{length-map}
 use Rattle.std.proofs.lemmas.List.Elements.{All-tail, All-head, All-cons, All-nil, All-weaker}
-use Rattle.cstn_net.specs.Networks.{Network, Constraint, count, Observes, IsConstraint, IsWellFormed, IsValue, is_prop}
+use Rattle.cstn_net.specs.Networks.{Network, Constraint, count, Observes, IsConstraint, IsWellFormed, IsValue}
 use Rattle.cstn_net.specs.declared.errors.NetError.{NetError}
+use Rattle.cstn_net.specs.Read.{first_reaction}
 use Rattle.cstn_graphml.specs.DrawnGraph.{DrawnConstraint}
 use Rattle.cstn_graphml.specs.Document.{Parts, document}
 use Rattle.cstn_element.specs.Results.{Refusal}
-use Rattle.cstn_graphml.specs.Networks.{numbered_drawn, observed_prop, reaction_by, reaction_among, network_of, labelled_of, IsUnfit}
+use Rattle.cstn_graphml.specs.Networks.{numbered_drawn, observed_prop, network_of, labelled_of, IsUnfit, observed_reaction}
 use Rattle.cstn_lift.specs.Labelled.{Labelled}
 use Rattle.cstn_lift.specs.WellFormed.{IsLabelled}
 use Rattle.cstn_graphml.proofs.Built.{numbered_length}
@@ -31,28 +32,28 @@ props_back reaction (o ∷ os) = rw (observed_back reaction o, props_back reacti
 differs : (q p : ℕ) → (q == p) ≡ false → Some q ≡ Some p → ⊥
 differs q p e same = let is : q ≡ p = cc in grind arith
 
-here_or_later : (reaction : ℕ → ℕ) (q p later : ℕ) (b : Bool) → (q == p) ≡ b → (b ≡ false → later ≡ reaction p) → reaction_by (observed_by reaction (Some q)) p later ≡ reaction p
+here_or_later : (reaction : ℕ → ℕ) (q p later : ℕ) (b : Bool) → (q == p) ≡ b → (b ≡ false → later ≡ reaction p) → (if q == p then reaction q else later) ≡ reaction p
 here_or_later reaction q p later true e next = rw e (ap reaction (eqb-true q p e))
 here_or_later reaction q p later false e next = rw e (next refl)
 
 -- the reaction of an observed proposition is read back
-reaction_found : (reaction : ℕ → ℕ) (os : List (Option ℕ)) (x p : ℕ) → slice_index_or os x None ≡ Some p → reaction_among (map (observed_by reaction) os) p ≡ reaction p
+reaction_found : (reaction : ℕ → ℕ) (os : List (Option ℕ)) (x p : ℕ) → slice_index_or os x None ≡ Some p → first_reaction observed_prop observed_reaction (map (observed_by reaction) os) p ≡ reaction p
 reaction_found reaction [] x p e = absurd (cc)
 reaction_found reaction (None ∷ os) zero p e = absurd (cc)
 reaction_found reaction (None ∷ os) (suc x) p e = reaction_found reaction os x p e
-reaction_found reaction (Some q ∷ os) zero p e = here_or_later reaction q p (reaction_among (map (observed_by reaction) os) p) (q == p) refl (λ other. absurd (differs q p other e))
-reaction_found reaction (Some q ∷ os) (suc x) p e = here_or_later reaction q p (reaction_among (map (observed_by reaction) os) p) (q == p) refl (λ other. reaction_found reaction os x p e)
+reaction_found reaction (Some q ∷ os) zero p e = here_or_later reaction q p (first_reaction observed_prop observed_reaction (map (observed_by reaction) os) p) (q == p) refl (λ other. absurd (differs q p other e))
+reaction_found reaction (Some q ∷ os) (suc x) p e = here_or_later reaction q p (first_reaction observed_prop observed_reaction (map (observed_by reaction) os) p) (q == p) refl (λ other. reaction_found reaction os x p e)
 
 nowhere : (o : Option ℕ) (os : List (Option ℕ)) (p : ℕ) → (o ≡ Some p → ⊥) → ((x : ℕ) → slice_index_or os x None ≡ Some p → ⊥) → (x : ℕ) → slice_index_or (o ∷ os) x None ≡ Some p → ⊥
 nowhere o os p first later zero e = first e
 nowhere o os p first later (suc x) e = later x e
 
 -- the reaction of each proposition is read back, where it is 1 tick for those that nothing observes
-reaction_all : (reaction : ℕ → ℕ) (os : List (Option ℕ)) (p : ℕ) → (((x : ℕ) → slice_index_or os x None ≡ Some p → ⊥) → reaction p ≡ 1) → reaction_among (map (observed_by reaction) os) p ≡ reaction p
+reaction_all : (reaction : ℕ → ℕ) (os : List (Option ℕ)) (p : ℕ) → (((x : ℕ) → slice_index_or os x None ≡ Some p → ⊥) → reaction p ≡ 1) → first_reaction observed_prop observed_reaction (map (observed_by reaction) os) p ≡ reaction p
 reaction_all reaction [] p tick = sym (tick (λ x e. absurd (cc)))
 reaction_all reaction (None ∷ os) p tick = reaction_all reaction os p (λ none. tick (nowhere None os p (λ e. absurd (cc)) none))
 reaction_all reaction (Some q ∷ os) p tick =
-    here_or_later reaction q p (reaction_among (map (observed_by reaction) os) p) (q == p) refl
+    here_or_later reaction q p (first_reaction observed_prop observed_reaction (map (observed_by reaction) os) p) (q == p) refl
     (λ other. reaction_all reaction os p (λ none. tick (nowhere (Some q) os p (differs q p other) none)))
 
 drawn_numbered : (j : ℕ) (ds : List DrawnConstraint) → map drawn (numbered_drawn j ds) ≡ ds
@@ -152,7 +153,7 @@ told_apart m other names more wf is good are same =
         observes = props;
         reaction = λ x p o.
             sym (reaction_found m.base.reaction m.base.observes x p (ap (λ os. slice_index_or os x None) props ∙ o.what))
-            ∙ ap (λ os. reaction_among os p) seen ∙ reaction_found other.base.reaction other.base.observes x p o.what;
+            ∙ ap (λ os. first_reaction observed_prop observed_reaction os p) seen ∙ reaction_found other.base.reaction other.base.observes x p o.what;
         constraints = ap (λ (p : Parts). p.constraints) read;
       },
     )

@@ -107,7 +107,8 @@ edge_tag source target = codes "<edge source=\"" ++ escaped_name source ++ codes
 -- what follows the start tag in the line of a constraint
 abbrev pub edge_data : ℤ → Label → List ℕ
 edge_data most label =
-    codes "<data key=\"Type\">requirement</data><data key=\"LabeledValues\">{(" ++ printed_value most ++ codes ", " ++ document_label label ++ codes ")}</data></edge>\n"
+    codes "<data key=\"Type\">requirement</data><data key=\"LabeledValues\">{(" ++ printed_value most ++ codes ", "
+    ++ document_label label ++ codes ")}</data></edge>\n"
 
 -- the line of a constraint
 abbrev pub edge_line : List (List ℕ) → Constraint → List ℕ

@@ -13,7 +13,13 @@ drawn c = record { from = c.from; to = c.to; most = c.most; label = c.label }
 
 -- the names and the labelled network, but for the ids of its constraints
 abbrev pub parts : Labelled → List (List ℕ) → Parts
-parts m names = record { deadline = m.base.deadline; names = names; observes = timed_observations m.base; labels = m.labels; constraints = map drawn m.base.constraints }
+parts m names = record {
+  deadline = m.base.deadline;
+  names = names;
+  observes = timed_observations m.base;
+  labels = m.labels;
+  constraints = map drawn m.base.constraints;
+}
 
 -- one name for each time-point, all different, and the first is `Z`
 pub record AreNamesOf (net : Network) (names : List (List ℕ)) : Type 0 where

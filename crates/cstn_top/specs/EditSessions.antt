@@ -2,13 +2,13 @@
 use Rattle.std.specs.Prelude.{◌≡◌, ◌<◌, ◌≤◌, ◌⊎◌, ◌+◌, ℕ, ℤ, Bool, nat_lt, ◌&&◌, if◌then◌else◌, List, [], ◌∷◌, ◌++◌, length, map, Option, None, Some, codes}
 use Rattle.std.specs.List.{All}
 use Rattle.std.specs.Option.{is_none}
+use Rattle.cstn_label.specs.Marks.{is_plain}
 use Rattle.cstn_label.specs.Labels.{Label}
 use Rattle.cstn_net.specs.Networks.{Network, Constraint}
 use Rattle.cstn_net.specs.Strategies.{IsConsistent}
 use Rattle.cstn_text.specs.Names.{AreNames, number_of}
 use Rattle.cstn_rules.specs.Derivations.{Entry, IsRefutation}
 use Rattle.cstn_log.specs.Cuts.{part}
-use Rattle.cstn_check.specs.Tests.{is_plain}
 use Rattle.cstn_check.specs.Growth.{load_of}
 use Rattle.cstn_refute.specs.Texts.{shown}
 use Rattle.cstn_top.specs.Accepted.{IsNoText, HasIds}

@@ -1,50 +1,29 @@
 -- The printed text of a tree is read back as that tree.
-use Rattle.std.proofs.Common.{ℕ, ◌≡◌, ◌≢◌, ◌+◌, ◌<◌, ◌≤◌, ◌^◌, true, List, [], ◌∷◌, ◌++◌, length, map, get_or, arith, refl, sym, subst, ap, ◌∙◌, append_assoc, append-nil}
-use Rattle.std.specs.Prelude.{◌&&◌, nat_lt, nat_le, if◌then◌else◌, bytes_eq, flat_map, slice_index_or, Option, Some, None, codes}
-use Rattle.std.specs.List.{All, list_all}
+use Rattle.std.proofs.Common.{ℕ, ◌≡◌, ◌≢◌, ◌+◌, ◌<◌, ◌≤◌, ◌^◌, List, [], ◌∷◌, ◌++◌, length, arith, refl, sym, subst, ap, ◌∙◌, append_assoc, append-nil}
+use Rattle.std.specs.Prelude.{nat_le, if◌then◌else◌, flat_map, slice_index_or, Option, Some, None, codes}
+use Rattle.std.specs.List.{All}
 use Rattle.std.specs.Option.{option_and_then, option_map}
-use Rattle.std.proofs.lemmas.Bool.{and_parts, ne_eqb}
-use Rattle.std.proofs.lemmas.List.{map-append}
-use Rattle.std.proofs.lemmas.List.Elements.{All-nil, All-cons, All-head, All-append, All-weaker, All-get_or, All-tail}
+use Rattle.std.proofs.lemmas.Bool.{ne_eqb}
+use Rattle.std.proofs.lemmas.List.Elements.{All-nil, All-cons, All-head, All-append, All-tail}
 use Rattle.cstn_label.specs.Letters.{letter_of, prop_of}
-use Rattle.cstn_text.specs.Names.{IsName, AreNames, number_of}
+use Rattle.cstn_text.specs.Names.{AreNames}
 use Rattle.cstn_text.specs.Numbers.{number_within, printed_number}
-use Rattle.cstn_text.specs.Parts.{IsOnePart}
 use Rattle.cstn_text.specs.PrintedNames.{printed_name}
-use Rattle.cstn_text.proofs.CutLemmas.{cut_back}
-use Rattle.cstn_text.proofs.NameLemmas.{found_back}
-use Rattle.cstn_text.proofs.NumberLemmas.{number_back}
-use Rattle.cstn_text.proofs.PartLemmas.{number_part, name_part}
-use Rattle.cstn_text.proofs.PrintedNameLemmas.{name_back}
+use Rattle.cstn_text.proofs.PartLemmas.{number_part}
+use Rattle.cstn_listing.specs.Parts.{Parts, parts_at}
+use Rattle.cstn_listing.specs.Listings.{AreLines}
+use Rattle.cstn_listing.proofs.PartLemmas.{parts_cut}
+use Rattle.cstn_listing.proofs.ReadingLemmas.{word_part, part_free, part_back, within_back, node_back, name_one_part, IsFree, free, space_free, spaced}
+use Rattle.cstn_listing.proofs.ListingLemmas.{text_back}
 use Rattle.cstn_tree.specs.Trees.{Tree, Line, lines_of}
 use Rattle.cstn_tree.specs.Trees.Tree.{at, ask, done}
 use Rattle.cstn_tree.specs.Trees.Line.{AtLine, AskLine, DoneLine}
-use Rattle.cstn_tree.specs.Texts.{printed_line, printed_lines, shown, Parts, parts_at, first_part, node_read, put_first, nodes_read, names_read, at_read, word_read, line_read, ahead_after, tells, or_wrong, told_after, load_read, told}
+use Rattle.cstn_tree.specs.Texts.{printed_line, printed_lines, shown, put_first, nodes_read, names_read, at_read, word_read, line_read, ahead_after, ahead_next, ahead_along, ahead_of, next_read, is_over, tree_lines, tells, without_load, told}
 use Rattle.cstn_tree.specs.Written.{NamesSome, depth, FitsText, IsPrintableLine, AreWritten}
 use Rattle.cstn_tree.specs.Read.{the_tree}
-use Rattle.cstn_tree.proofs.PartLemmas.{parts_cut}
-use Rattle.cstn_tree.proofs.ReadLemmas.{told_first}
+use Rattle.cstn_tree.proofs.ReadLemmas.{along_more}
 
 -- ---- parts
-
-above : (b : ℕ) → nat_lt 32 b ≡ true → 32 < b
-above b e = grind arith
-
-all_above : (text : List ℕ) → list_all (λ b. nat_lt 32 b) text ≡ true → All (λ b. 32 < b) text
-all_above [] e = All-nil (λ b. 32 < b)
-all_above (b ∷ text) e =
-    let parts = and_parts (nat_lt 32 b) (list_all (λ c. nat_lt 32 c) text) e in
-    All-cons (λ c. 32 < c) b text (above b parts.0) (all_above text parts.1)
-
--- a word is one part of a line
-word_part : (text : List ℕ) → 1 ≤ length text → list_all (λ b. nat_lt 32 b) text ≡ true → IsOnePart text
-word_part text some e = record { some = some; high = all_above text e }
-
-part_free : (byte : ℕ) (text : List ℕ) → byte ≤ 32 → IsOnePart text → All (λ b. b ≢ byte) text
-part_free byte text low is = All-weaker (λ b. 32 < b) (λ b. b ≢ byte) (λ b high same. omega (arith, high, same)) text is.high
-
-part_back : (text rest : List ℕ) → IsOnePart text → first_part (text ++ 32 ∷ rest) ≡ Some (text, rest)
-part_back text rest is = cut_back 32 text rest (part_free 32 text (omega arith) is)
 
 -- a text without the byte `end` has no part that ends with it
 parts_whole : (end : ℕ) (text : List ℕ) → All (λ b. b ≢ end) text → parts_at end text ≡ ([], text)
@@ -55,39 +34,11 @@ parts_whole end (b ∷ text) free =
     let more = parts_whole end text (All-tail (λ b. b ≢ end) b text free) in
     rw (other, more) refl
 
-chosen : (low high n : ℕ) → low ≤ n → n ≤ high → (if nat_le low n && nat_le n high then Some n else None) ≡ Some n
-chosen low high n p q = grind arith
-
-within_back : (low high n : ℕ) → low ≤ n → n ≤ high → high < 2 ^ 64 → number_within low high (printed_number n) ≡ Some n
-within_back low high n p q small =
-    ap (option_and_then (λ m. if nat_le low m && nat_le m high then Some m else None)) (number_back n (omega arith)) ∙ chosen low high n p q
-
 letter_back : (p : ℕ) → p < 52 → prop_of (letter_of p) ≡ Some p
 letter_back p small = grind arith
 
 letter_high : (p : ℕ) → 32 < letter_of p
 letter_high p = grind arith
-
-all_left : {X : Type 0} (P : X → Type 0) (xs ys : List X) → All P (xs ++ ys) → All P xs
-all_left P [] ys all = All-nil P
-all_left P (x ∷ xs) ys all = All-cons P x xs (All-head P x (xs ++ ys) all) (all_left P xs ys (All-tail P x (xs ++ ys) all))
-
-all_right : {X : Type 0} (P : X → Type 0) (xs ys : List X) → All P (xs ++ ys) → All P ys
-all_right P [] ys all = all
-all_right P (x ∷ xs) ys all = all_right P xs ys (All-tail P x (xs ++ ys) all)
-
--- the text has no LF
-abbrev IsFree : List ℕ → Type 0
-IsFree text = All (λ b. b ≢ 10) text
-
-free : (text : List ℕ) → IsOnePart text → IsFree text
-free text is = part_free 10 text (omega arith) is
-
-space_free : (text : List ℕ) → IsFree text → IsFree (32 ∷ text)
-space_free text is = All-cons (λ b. b ≢ 10) 32 text (λ e. omega (arith, e)) is
-
-spaced : (one other : List ℕ) → IsFree one → IsFree other → IsFree (one ++ 32 ∷ other)
-spaced one other p q = All-append (λ b. b ≢ 10) one (32 ∷ other) p (space_free other q)
 
 module _ (names : List (List ℕ)) (are : AreNames names) where
   -- ---- names
@@ -98,13 +49,6 @@ module _ (names : List (List ℕ)) (are : AreNames names) where
   abbrev Inside : ℕ → Type 0
   Inside x = x < length names
 
-  name_one_part : (x : ℕ) → Inside x → IsOnePart (shown_name x)
-  name_one_part x inside = name_part (get_or names x []) (All-get_or IsName names x [] inside are.each).some
-
-  node_back : (x : ℕ) → Inside x → node_read names (shown_name x) ≡ Some x
-  node_back x inside =
-      ap (option_and_then (number_of names)) (name_back (get_or names x []) (All-get_or IsName names x [] inside are.each)) ∙ found_back names x are inside
-
   abbrev more_names : List ℕ → List ℕ
   more_names xs = flat_map (λ x. 32 ∷ shown_name x) xs
 
@@ -112,13 +56,13 @@ module _ (names : List (List ℕ)) (are : AreNames names) where
   names_back x [] inside =
       let here = inside 0 x (omega arith) in
       ap (names_read names) (append-nil (shown_name x))
-      ∙ ap {A = Parts} (λ p. nodes_read names p.0 p.1) (parts_whole 32 (shown_name x) (part_free 32 (shown_name x) (omega arith) (name_one_part x here)))
-      ∙ ap (option_map (λ y. y ∷ [])) (node_back x here)
+      ∙ ap {A = Parts} (λ p. nodes_read names p.0 p.1) (parts_whole 32 (shown_name x) (part_free 32 (shown_name x) (omega arith) (name_one_part names x are here)))
+      ∙ ap (option_map (λ y. y ∷ [])) (node_back names x are here)
   names_back x (y ∷ ys) inside =
       let here = inside 0 x (omega arith) in
       let rest = shown_name y ++ more_names ys in
-      ap {A = Parts} (λ p. nodes_read names p.0 p.1) (parts_cut 32 (shown_name x ++ 32 ∷ rest) (shown_name x) rest (part_back (shown_name x) rest (name_one_part x here)))
-      ∙ ap (option_and_then (λ z. put_first z (names_read names rest))) (node_back x here)
+      ap {A = Parts} (λ p. nodes_read names p.0 p.1) (parts_cut 32 (shown_name x ++ 32 ∷ rest) (shown_name x) rest (part_back (shown_name x) rest (name_one_part names x are here)))
+      ∙ ap (option_and_then (λ z. put_first z (names_read names rest))) (node_back names x are here)
       ∙ ap (put_first x) (names_back y ys (All-tail Inside x (y ∷ ys) inside))
 
   -- ---- lines
@@ -145,7 +89,7 @@ module _ (names : List (List ℕ)) (are : AreNames names) where
   names_free : (xs : List ℕ) → All Inside xs → IsFree (more_names xs)
   names_free [] inside = All-nil (λ b. b ≢ 10)
   names_free (x ∷ xs) inside =
-      All-append (λ b. b ≢ 10) (32 ∷ shown_name x) (more_names xs) (space_free (shown_name x) (free (shown_name x) (name_one_part x (inside 0 x (omega arith)))))
+      All-append (λ b. b ≢ 10) (32 ∷ shown_name x) (more_names xs) (space_free (shown_name x) (free (shown_name x) (name_one_part names x are (inside 0 x (omega arith)))))
       (names_free xs (All-tail Inside x xs inside))
 
   line_free : (l : Line) → IsPrintableLine names l → IsFree (printed_line names l)
@@ -159,77 +103,63 @@ module _ (names : List (List ℕ)) (are : AreNames names) where
       (All-cons (λ b. b ≢ 10) (letter_of p) [] (λ e. let high = letter_high p in omega arith) (All-nil (λ b. b ≢ 10)))
   line_free DoneLine is = free (codes "done") (word_part (codes "done") (omega arith) refl)
 
-  lines_parts : (ls : List Line) → All (IsPrintableLine names) ls → parts_at 10 (printed_lines names ls) ≡ (map (printed_line names) ls, [])
-  unfolding parts_at
-  lines_parts [] each = refl
-  lines_parts (l ∷ ls) each =
-      let line = printed_line names l in
-      let rest = printed_lines names ls in
-      ap (parts_at 10) (append_assoc line (10 ∷ []) rest)
-      ∙ parts_cut 10 (line ++ 10 ∷ rest) line rest (cut_back 10 line rest (line_free l (each 0 l (omega arith))))
-      ∙ ap {A = Parts} {B = Parts} (λ p. (line ∷ p.0, p.1)) (lines_parts ls (All-tail (IsPrintableLine names) l ls each))
-
   -- ---- trees
 
-  line_told : (d : ℕ) (ahead : List ℕ) (before : List Line) (l : Line) (texts : List (List ℕ)) (tail : List ℕ) → d ≤ 2100 → NamesSome l → IsPrintableLine names l →
-      told_after names (d ∷ ahead) before (printed_line names l ∷ texts) tail ≡ told_after names (ahead_after d ahead l) (before ++ l ∷ []) texts tail
-  unfolding told_after
-  line_told d ahead before l texts tail upto some is =
-      ap (λ o. or_wrong o (length before + 2) (λ k. told_after names (ahead_after d ahead k) (before ++ k ∷ []) texts tail)) (within (line_read names (printed_line names l)) ∙ line_back l some is)
-    where
-      within : (o : Option Line) → (if nat_le d 2100 then o else None) ≡ o
-      within o = grind arith
+  -- where the trees of `ahead` are to come, the lines are theirs, with no line below the 2,100th of its branch
+  abbrev AreFit : List ℕ → List Line → Type 0
+  AreFit [] [] = Unit {0}
+  AreFit [] (l ∷ ls) = ⊥
+  AreFit (d ∷ ahead) [] = ⊥
+  AreFit (d ∷ ahead) (l ∷ ls) = (d ≤ 2100) × AreFit (ahead_after d ahead l) ls
 
-  tree_told : (tree : Tree) (d : ℕ) (ahead : List ℕ) (before : List Line) (texts : List (List ℕ)) (tail : List ℕ) → d + depth tree ≤ 2101 →
-      All NamesSome (lines_of tree) → All (IsPrintableLine names) (lines_of tree) →
-      told_after names (d ∷ ahead) before (map (printed_line names) (lines_of tree) ++ texts) tail ≡ told_after names ahead (before ++ lines_of tree) texts tail
-  tree_told (at t xs next) d ahead before texts tail upto some each =
-      let l = AtLine t xs in
-      line_told d ahead before l (map (printed_line names) (lines_of next) ++ texts) tail (omega arith) (some 0 l (omega arith)) (each 0 l (omega arith))
-      ∙ tree_told next (d + 1) ahead (before ++ l ∷ []) texts tail (omega arith) (All-tail NamesSome l (lines_of next) some) (All-tail (IsPrintableLine names) l (lines_of next) each)
-      ∙ ap (λ ls. told_after names ahead ls texts tail) (append_assoc before (l ∷ []) (lines_of next))
-  tree_told (ask p one other) d ahead before texts tail upto some each =
-      let l = AskLine p in
-      let show = printed_line names in
-      let rest = map show (lines_of other) ++ texts in
-      let some_below = All-tail NamesSome l (lines_of one ++ lines_of other) some in
-      let each_below = All-tail (IsPrintableLine names) l (lines_of one ++ lines_of other) each in
-      line_told d ahead before l (map show (lines_of one ++ lines_of other) ++ texts) tail (omega arith) (some 0 l (omega arith)) (each 0 l (omega arith))
-      ∙ ap (λ ts. told_after names ((d + 1) ∷ ((d + 1) ∷ ahead)) (before ++ l ∷ []) ts tail)
-      (ap (λ ts. ts ++ texts) (map-append show (lines_of one) (lines_of other)) ∙ append_assoc (map show (lines_of one)) (map show (lines_of other)) texts)
-      ∙ tree_told one (d + 1) ((d + 1) ∷ ahead) (before ++ l ∷ []) rest tail (omega arith)
-      (all_left NamesSome (lines_of one) (lines_of other) some_below) (all_left (IsPrintableLine names) (lines_of one) (lines_of other) each_below)
-      ∙ tree_told other (d + 1) ahead ((before ++ l ∷ []) ++ lines_of one) texts tail (omega arith)
-      (all_right NamesSome (lines_of one) (lines_of other) some_below) (all_right (IsPrintableLine names) (lines_of one) (lines_of other) each_below)
-      ∙ ap (λ ls. told_after names ahead ls texts tail)
-      (append_assoc (before ++ l ∷ []) (lines_of one) (lines_of other) ∙ append_assoc before (l ∷ []) (lines_of one ++ lines_of other))
-  tree_told done d ahead before texts tail upto some each =
-      line_told d ahead before DoneLine texts tail (omega arith) (some 0 DoneLine (omega arith)) (each 0 DoneLine (omega arith))
+  tree_fits : (tree : Tree) (d : ℕ) (ahead : List ℕ) (ls : List Line) → d + depth tree ≤ 2101 → AreFit ahead ls → AreFit (d ∷ ahead) (lines_of tree ++ ls)
+  tree_fits (at t xs next) d ahead ls upto fit = (omega arith, tree_fits next (d + 1) ahead ls (omega arith) fit)
+  tree_fits (ask p one other) d ahead ls upto fit = (
+    omega arith,
+    subst (AreFit ((d + 1) ∷ ((d + 1) ∷ ahead))) (sym (append_assoc (lines_of one) (lines_of other) ls))
+        (tree_fits one (d + 1) ((d + 1) ∷ ahead) (lines_of other ++ ls) (omega arith) (tree_fits other (d + 1) ahead ls (omega arith) fit)),
+  )
+  tree_fits done d ahead ls upto fit = (omega arith, fit)
 
-  load_back : (load : ℕ) → 1 ≤ load → load ≤ 4194304 → load_read (codes "yes " ++ printed_number load) ≡ Some load
-  load_back load low high =
-      ap (λ (o : Option (List ℕ × List ℕ)). option_and_then (λ found. if bytes_eq found.0 (codes "yes") then number_within 1 4194304 found.1 else None) o)
-      (part_back (codes "yes") (printed_number load) (word_part (codes "yes") (omega arith) refl))
-      ∙ within_back 1 4194304 load low high (omega arith)
+  along_over : (ahead : List ℕ) (ls : List Line) → AreFit ahead ls → ahead_along ahead ls ≡ []
+  along_over [] [] fit = refl
+  along_over [] (l ∷ ls) fit = absurd fit
+  along_over (d ∷ ahead) [] fit = absurd fit
+  along_over (d ∷ ahead) (l ∷ ls) fit = along_over (ahead_after d ahead l) ls fit.1
 
-  lines_told : (tree : Tree) → depth tree ≤ 2100 → All NamesSome (lines_of tree) → All (IsPrintableLine names) (lines_of tree) →
-      told_after names (1 ∷ []) [] (map (printed_line names) (lines_of tree)) [] ≡ tells (lines_of tree)
-  unfolding told_after
-  lines_told tree short some each =
-      ap (λ ts. told_after names (1 ∷ []) [] ts []) (sym (append-nil (map (printed_line names) (lines_of tree))))
-      ∙ tree_told tree 1 [] [] [] [] (omega arith) some each
+  within : (d : ℕ) (o : Option Line) → d ≤ 2100 → (if nat_le d 2100 then o else None) ≡ o
+  within d o upto = grind arith
+
+  lines_read : (ahead : List ℕ) (before ls : List Line) → ahead_of before ≡ ahead → AreFit ahead ls → All NamesSome ls → All (IsPrintableLine names) ls →
+      AreLines (tree_lines names) before ls (printed_lines names ls)
+  lines_read ahead before [] is fit some each = refl
+  lines_read [] before (l ∷ ls) is fit some each = absurd fit
+  lines_read (d ∷ ahead) before (l ∷ ls) is fit some each =
+      let line = printed_line names l in
+      let here = All-head (IsPrintableLine names) l ls each in (
+        line,
+        printed_lines names ls,
+        ap (λ a. next_read names a line) is ∙ within d (line_read names line) fit.0 ∙ line_back l (All-head NamesSome l ls some) here,
+        line_free l here,
+        append_assoc line (10 ∷ []) (printed_lines names ls),
+        lines_read (ahead_after d ahead l) (before ++ l ∷ []) ls (along_more (1 ∷ []) before l ∙ ap (λ a. ahead_next a l) is) fit.1
+            (All-tail NamesSome l ls some) (All-tail (IsPrintableLine names) l ls each),
+      )
 
 -- the printed text of a load and a tree says the lines of the tree
 pub shown_back : (names : List (List ℕ)) (load : ℕ) (tree : Tree) → AreNames names → AreWritten names load tree →
     told names (shown names load (lines_of tree)) ≡ tells (lines_of tree)
 shown_back names load tree are is =
-    let line = codes "yes " ++ printed_number load in
-    let rest = printed_lines names (lines_of tree) in
-    let small = is.load_high in
-    let line_free = spaced (codes "yes") (printed_number load) (free (codes "yes") (word_part (codes "yes") (omega arith) refl)) (free (printed_number load) (number_part load (omega arith))) in
-    told_first names (line ++ 10 ∷ rest) line rest load (cut_back 10 line rest line_free) (load_back names are load is.load_low is.load_high)
-    ∙ ap {A = Parts} (λ p. told_after names (1 ∷ []) [] p.0 p.1) (lines_parts names are (lines_of tree) is.each)
-    ∙ lines_told names are tree is.fits.short is.fits.named is.each
+    let short = is.fits.short in
+    let fit = subst (AreFit names are (1 ∷ [])) (append-nil (lines_of tree)) (tree_fits names are tree 1 [] [] (omega arith) tt) in
+    ap without_load (text_back (tree_lines names) (word_part (codes "yes") (omega arith) refl) (shown names load (lines_of tree)) load (lines_of tree) (record {
+      low = is.load_low;
+      high = is.load_high;
+      ends = ap is_over (along_over names are (1 ∷ []) (lines_of tree) fit);
+      lines = printed_lines names (lines_of tree);
+      text = refl;
+      each = lines_read names are (1 ∷ []) [] (lines_of tree) refl fit is.fits.named is.each;
+    }))
 
 -- the printed text of a load and lines says these lines, where they are the lines of a tree
 pub said_back : (names : List (List ℕ)) (load : ℕ) (lines : List Line) (text : List ℕ) → AreNames names → 1 ≤ load → load ≤ 4194304 →

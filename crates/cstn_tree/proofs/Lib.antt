@@ -14,4 +14,6 @@ mod MadeTrees
 mod OneTree
 mod BackLemmas
 mod StartLemmas
+mod SaidLemmas
+mod BreakLemmas
 mod SayingTrees

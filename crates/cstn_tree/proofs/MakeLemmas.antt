@@ -1,19 +1,15 @@
 -- The tree of a network, line by line.
-use Rattle.std.proofs.Common.{ℕ, ◌≡◌, ◌⊎◌, inl, inr, ◌+◌, ◌-◌, ◌≤◌, true, false, List, [], ◌∷◌, ◌++◌, Option, Some, None, arith, refl, sym, subst, ap, ◌∙◌, append_assoc}
-use Rattle.std.specs.Prelude.{nat_lt}
-use Rattle.std.specs.List.{range_with_len, find}
-use Rattle.std.proofs.lemmas.Bool.{cases_Bool, cond-true, cond-false, lt-ltb}
+use Rattle.std.proofs.Common.{ℕ, ◌≡◌, true, false, List, [], ◌∷◌, ◌++◌, Some, None, sym, subst, ap, ◌∙◌, append_assoc}
 use Rattle.std.proofs.lemmas.List.{append-nil}
 use Rattle.cstn_label.specs.Bounds.{Bound}
 use Rattle.cstn_net.specs.Networks.{Network, count}
-use Rattle.cstn_exec.specs.Runs.{Run, start, after, next, is_done, due, called, has_work, awaited}
-use Rattle.cstn_exec.specs.Moves.{Refusal, Done, Past, Awaiting, moment_refusal, unless_past, unless_awaiting, unless_late, moved, handed}
-use Rattle.cstn_exec.specs.Answers.{Event, run_after}
+use Rattle.cstn_exec.specs.Runs.{Run, start, due, called}
+use Rattle.cstn_exec.specs.Moves.{Awaiting, moment_refusal, moved, handed}
 use Rattle.cstn_tree.specs.Trees.{Tree, Line, lines_of}
 use Rattle.cstn_tree.specs.Trees.Tree.{at, ask, done}
 use Rattle.cstn_tree.specs.Trees.Line.{AtLine, AskLine, DoneLine}
 use Rattle.cstn_tree.specs.Whole.{all_lines}
-use Rattle.cstn_tree.specs.Made.{IsTreeOf, AreTreesFrom, IsGrown, run_along}
+use Rattle.cstn_tree.specs.Made.{IsTreeOf, AreTreesFrom, IsGrown}
 use Rattle.cstn_tree.specs.Made.IsTreeFrom.{ends, asks, names}
 use Rattle.cstn_tree.specs.Read.{AreWhole, the_tree}
 use Rattle.cstn_tree.proofs.TreeLemmas.{tree_back}
@@ -70,7 +66,3 @@ module _ (net : Network) (bounds : List Bound) where
                 ∙ ap (λ l. ls ++ (AskLine p ∷ l)) (sym (append_assoc (lines_of one) (lines_of other) (all_lines trees))) ∙ whole.1,
             whole.2,
           )
-
-  pub along_more : (run : Run) (es : List Event) (e : Event) → run_along net bounds run (es ++ e ∷ []) ≡ run_after net bounds (run_along net bounds run es) e
-  along_more run [] e = refl
-  along_more run (x ∷ xs) e = along_more (run_after net bounds run x) xs e

@@ -1,5 +1,6 @@
 pub mod Trees
 pub mod Good
+pub mod Breaks
 pub mod Walks
 pub mod Read
 pub mod Branches

@@ -4,7 +4,6 @@ use Rattle.cstn_label.specs.Bounds.{Bound}
 use Rattle.cstn_net.specs.Networks.{Network, count}
 use Rattle.cstn_exec.specs.Runs.{Run, start, due, called}
 use Rattle.cstn_exec.specs.Moves.{Awaiting, moment_refusal, moved, handed}
-use Rattle.cstn_exec.specs.Answers.{Event, run_after}
 use Rattle.cstn_tree.specs.Trees.{Tree, Line, lines_of}
 use Rattle.cstn_tree.specs.Trees.Tree.{at, ask, done}
 use Rattle.cstn_tree.specs.Whole.{all_lines}
@@ -33,8 +32,3 @@ AreTreesFrom net bounds (run ∷ runs) (tree ∷ trees) = IsTreeFrom net bounds 
 -- the lines, followed by those of the trees from these runs, are the lines of the tree of the network
 pub record IsGrown (net : Network) (bounds : List Bound) (ls : List Line) (runs : List Run) : Type 0 where
   pub grown : (trees : List Tree) → AreTreesFrom net bounds runs trees → (tree : Tree) × (ls ++ all_lines trees ≡ lines_of tree) × IsTreeOf net bounds tree
-
--- the run after events in their order
-abbrev pub run_along : Network → List Bound → Run → List Event → Run
-run_along net bounds run [] = run
-run_along net bounds run (e ∷ es) = run_along net bounds (run_after net bounds run e) es

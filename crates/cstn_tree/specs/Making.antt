@@ -1,33 +1,41 @@
 -- What the program keeps while it makes a tree.
-use Rattle.std.specs.Prelude.{◌≡◌, List, ◌∷◌, map, reverse}
+use Rattle.std.specs.Prelude.{ℕ, ◌≡◌, false, List, ◌∷◌, Some, None, map, reverse}
+use Rattle.std.specs.List.{All}
 use Rattle.cstn_label.specs.Bounds.{Bound}
-use Rattle.cstn_net.specs.Networks.{Network, count}
-use Rattle.cstn_exec.specs.Runs.{Run, start}
-use Rattle.cstn_exec.specs.Answers.{Event, Moment as MomentEvent, See as SeeEvent}
-use Rattle.cstn_tree.specs.declared.making.Step.{Step}
-use Rattle.cstn_tree.specs.declared.making.Step.TheVariants.{Moment, See}
-use Rattle.cstn_tree.specs.declared.making.Path.{Path}
+use Rattle.cstn_net.specs.Networks.{Network}
+use Rattle.cstn_net.specs.Read.{the_network}
+use Rattle.cstn_log.specs.Plans.{the_bounds}
+use Rattle.cstn_exec.specs.Runs.{Run, due}
+use Rattle.cstn_exec.specs.Moves.{moment_refusal, outcome_refusal, handed}
+use Rattle.cstn_exec.specs.Read.{ExecParts, IsRunOf, moved_on}
+use Rattle.cstn_tree.specs.declared.making.OpenAsk.{OpenAsk}
 use Rattle.cstn_tree.specs.declared.making.Making.{Making}
 use Rattle.cstn_tree.specs.Read.{the_line}
-use Rattle.cstn_tree.specs.Made.{IsGrown, run_along}
+use Rattle.cstn_tree.specs.Made.{IsGrown}
 
-abbrev pub the_event : Step → Event
-the_event (Moment t) = MomentEvent t
-the_event (See prop value) = SeeEvent prop.index value
-
-abbrev pub the_events : List Step → List Event
-the_events steps = map the_event steps
-
--- the run after these steps from the start
-abbrev pub run_by : Network → List Bound → List Step → Run
-run_by net bounds steps = run_along net bounds (start (count net)) (the_events steps)
+-- the run of the second tree of an `ask`
+abbrev pub second_run : OpenAsk → Run
+second_run a = handed a.before a.prop.index false
 
 -- the runs of the trees that are still to come, the next one first
-abbrev pub the_pending : Network → List Bound → Making → List Run
-the_pending net bounds m = map (λ (p : Path). run_by net bounds p.steps.items) (reverse m.pending.items)
+abbrev pub the_pending : List OpenAsk → List Run
+the_pending asks = map second_run (reverse asks)
+
+-- the executive can go back to the `ask`, and accepts an outcome there
+pub record IsOpenAsk (net : Network) (a : OpenAsk) : Type 0 where
+  pub run : IsRunOf net a.before
+  pub accepted : outcome_refusal net a.before a.prop.index ≡ None
 
 -- the lines, followed by those of the trees from the executive's run and from the pending runs, are the lines of the tree of
--- the network; and the path leads to the executive's run
+-- the network
 pub record IsMaking (net : Network) (bounds : List Bound) (run : Run) (m : Making) : Type 0 where
-  pub grown : IsGrown net bounds (map the_line m.lines.items) (run ∷ the_pending net bounds m)
-  pub path : run ≡ run_by net bounds m.path.items
+  pub grown : IsGrown net bounds (map the_line m.lines.items) (run ∷ the_pending m.asks.items)
+  pub asks : All (IsOpenAsk net) m.asks.items
+
+-- the executive has accepted the due moment t, whose line is still to come
+pub record IsMovedTo (t : ℕ) (exec : ExecParts) (m : Making) : Type 0 where
+  pub before : ExecParts
+  pub making : IsMaking (the_network before.net) (the_bounds before.bounds) before.run m
+  pub due : due (the_network before.net) (the_bounds before.bounds) before.run ≡ Some t
+  pub accepted : moment_refusal (the_network before.net) (the_bounds before.bounds) before.run t ≡ None
+  pub moved : exec ≡ moved_on before t

@@ -5,7 +5,7 @@ use Rattle.cstn_tree.specs.declared.reading.Reader.{Reader}
 use Rattle.cstn_tree.specs.declared.errors.TreeError.{TreeError}
 use Rattle.cstn_tree.specs.declared.errors.TreeError.TheVariants.{Line as WrongLine, Memory}
 use Rattle.cstn_tree.specs.Trees.{Line, names_on}
-use Rattle.cstn_tree.specs.Texts.{Told, wrong}
+use Rattle.cstn_tree.specs.Texts.{Told, wrong, ahead_of}
 use Rattle.cstn_tree.specs.Read.{the_line}
 use Rattle.cstn_tree.specs.Whole.{IsBegun}
 
@@ -21,8 +21,9 @@ abbrev pub IsWrong : Told → TreeError → Type 0
 IsWrong t (WrongLine line) = t ≡ wrong line
 IsWrong t (Memory e) = Unit {0}
 
--- what a reader keeps: its lines, followed by those of the trees that are still to come, are the lines of one tree, and they
--- name time-points below n
+-- what a reader keeps: the trees that are still to come after its lines; these, followed by the lines of those trees, are the
+-- lines of one tree, and they name time-points below n
 pub record IsReader (n : ℕ) (r : Reader) : Type 0 where
+  pub ahead : the_ahead r ≡ ahead_of (the_lines r)
   pub begun : IsBegun (the_lines r) (length (the_ahead r))
   pub named : All (λ l. All (λ x. x < n) (names_on l)) (the_lines r)

@@ -1,11 +1,11 @@
 -- Texts of trees.
-use Rattle.std.specs.Prelude.{ℕ, ◌+◌, ◌++◌, ◌==◌, nat_le, if◌then◌else◌, List, [], ◌∷◌, length, flat_map, slice_index_or, Option, None, Some, codes, bytes_eq}
+use Rattle.std.specs.Prelude.{ℕ, ◌+◌, ◌++◌, Bool, true, false, nat_le, if◌then◌else◌, List, [], ◌∷◌, flat_map, slice_index_or, Option, None, Some, codes, bytes_eq}
 use Rattle.std.specs.Option.{option_and_then, option_map}
 use Rattle.cstn_label.specs.Letters.{letter_of, prop_of}
-use Rattle.cstn_text.specs.Cuts.{cut_at}
-use Rattle.cstn_text.specs.Names.{number_of}
 use Rattle.cstn_text.specs.Numbers.{number_within, printed_number}
-use Rattle.cstn_text.specs.PrintedNames.{name_read, printed_name}
+use Rattle.cstn_text.specs.PrintedNames.{printed_name}
+use Rattle.cstn_listing.specs.Parts.{parts_at, part, node_read}
+use Rattle.cstn_listing.specs.Listings.{Told as Listing, tells as tells_with, wrong as wrong_line, Kind, told as told_by}
 use Rattle.cstn_tree.specs.Trees.{Line}
 use Rattle.cstn_tree.specs.Trees.Line.{AtLine, AskLine, DoneLine}
 
@@ -25,33 +25,7 @@ printed_lines names lines = flat_map (λ l. printed_line names l ++ 10 ∷ []) l
 abbrev pub shown : List (List ℕ) → ℕ → List Line → List ℕ
 shown names load lines = codes "yes " ++ printed_number load ++ 10 ∷ printed_lines names lines
 
--- ---- parts
-
--- a text split at a byte: the parts that end with it, without it, and what stands after the last one
-abbrev pub Parts : Type 0
-Parts = List (List ℕ) × List ℕ
-
--- the split text with one more byte at the front of its first part
-abbrev pub begun : ℕ → List (List ℕ) → List ℕ → Parts
-begun b [] tail = ([], b ∷ tail)
-begun b (part ∷ parts) tail = ((b ∷ part) ∷ parts, tail)
-
-abbrev pub with_byte : ℕ → ℕ → Parts → Parts
-with_byte end b text = if b == end then ([] ∷ text.0, text.1) else begun b text.0 text.1
-
-unfoldable pub parts_at : ℕ → List ℕ → Parts
-parts_at end [] = ([], [])
-parts_at end (b ∷ bytes) = with_byte end b (parts_at end bytes)
-
 -- ---- read
-
--- the part before the first space, and what stands after it
-abbrev pub first_part : List ℕ → Option (List ℕ × List ℕ)
-first_part bytes = cut_at 32 bytes
-
--- the place in the list of the name that the text prints, if it prints one of them
-abbrev pub node_read : List (List ℕ) → List ℕ → Option ℕ
-node_read names text = option_and_then (number_of names) (name_read text)
 
 abbrev pub put_first : ℕ → Option (List ℕ) → Option (List ℕ)
 put_first x others = option_map (λ xs. x ∷ xs) others
@@ -68,7 +42,7 @@ names_read names bytes = nodes_read names (parts_at 32 bytes).0 (parts_at 32 byt
 -- the `at` of a text that is a moment below 2^32, a space, and names
 abbrev pub at_read : List (List ℕ) → List ℕ → Option Line
 at_read names bytes =
-    option_and_then (λ found. option_and_then (λ t. option_map (AtLine t) (names_read names found.1)) (number_within 0 4294967295 found.0)) (first_part bytes)
+    option_and_then (λ found. option_and_then (λ t. option_map (AtLine t) (names_read names found.1)) (number_within 0 4294967295 found.0)) (part bytes)
 
 -- the `ask` of a text that is a letter
 abbrev pub ask_read : List ℕ → Option Line
@@ -84,7 +58,7 @@ word_read names word rest =
 abbrev pub line_read : List (List ℕ) → List ℕ → Option Line
 line_read names bytes =
     if bytes_eq bytes (codes "done") then Some DoneLine
-    else option_and_then (λ found. word_read names found.0 found.1) (first_part bytes)
+    else option_and_then (λ found. word_read names found.0 found.1) (part bytes)
 
 -- the line of a tree that a text is, where its branch has at most 2,100 lines down to it
 abbrev pub line_within : List (List ℕ) → ℕ → List ℕ → Option Line
@@ -97,39 +71,45 @@ ahead_after depth ahead (AtLine t xs) = (depth + 1) ∷ ahead
 ahead_after depth ahead (AskLine p) = (depth + 1) ∷ ((depth + 1) ∷ ahead)
 ahead_after depth ahead DoneLine = ahead
 
+-- the trees still to come after a line, where these were to come before it
+abbrev pub ahead_next : List ℕ → Line → List ℕ
+ahead_next [] l = []
+ahead_next (depth ∷ ahead) l = ahead_after depth ahead l
+
+abbrev pub ahead_along : List ℕ → List Line → List ℕ
+ahead_along ahead [] = ahead
+ahead_along ahead (l ∷ lines) = ahead_along (ahead_next ahead l) lines
+
+-- the trees still to come after these lines; before the first line it is one
+abbrev pub ahead_of : List Line → List ℕ
+ahead_of lines = ahead_along (1 ∷ []) lines
+
+-- the line that a text is where these trees are still to come
+abbrev pub next_read : List (List ℕ) → List ℕ → List ℕ → Option Line
+next_read names [] text = None
+next_read names (depth ∷ ahead) text = line_within names depth text
+
+abbrev pub is_over : List ℕ → Bool
+is_over [] = true
+is_over (depth ∷ ahead) = false
+
+-- no tree is still to come after these lines
+abbrev pub is_whole : List Line → Bool
+is_whole lines = is_over (ahead_of lines)
+
+-- trees are listings of their lines behind the word `yes`, and end where no tree is still to come
+abbrev pub tree_lines : List (List ℕ) → Kind Line
+tree_lines names = record { word = codes "yes"; line_read = λ lines text. next_read names (ahead_of lines) text; may_end = is_whole }
+
 -- what a text says: the lines of a tree, or that a line, counted from 1, is the first that isn't of the grammar
 pub data Told : Type 0 where
   tells : (lines : List Line) → Told
   wrong : (line : ℕ) → Told
 
--- the text ends after these lines, with LF, where no tree is still to come
-abbrev pub at_end : List ℕ → List Line → List ℕ → Told
-at_end [] lines [] = tells lines
-at_end [] lines (b ∷ tail) = wrong (length lines + 2)
-at_end (depth ∷ ahead) lines tail = wrong (length lines + 2)
+abbrev pub without_load : Listing Line → Told
+without_load (tells_with load lines) = tells lines
+without_load (wrong_line line) = wrong line
 
--- the line is wrong where nothing is read of it
-abbrev pub or_wrong : {A : Type 0} → Option A → ℕ → (A → Told) → Told
-or_wrong None line next = wrong line
-or_wrong (Some x) line next = next x
-
--- what a text says after `lines` were read of it, where the trees of `ahead` are still to come and these parts are left
-unfoldable pub told_after : List (List ℕ) → List ℕ → List Line → List (List ℕ) → List ℕ → Told
-told_after names ahead lines [] tail = at_end ahead lines tail
-told_after names [] lines (text ∷ texts) tail = wrong (length lines + 2)
-told_after names (depth ∷ ahead) lines (text ∷ texts) tail =
-    or_wrong (line_within names depth text) (length lines + 2)
-    (λ l. told_after names (ahead_after depth ahead l) (lines ++ l ∷ []) texts tail)
-
--- the first line: `yes`, a space, and the load
-abbrev pub load_read : List ℕ → Option ℕ
-load_read line =
-    option_and_then (λ found. if bytes_eq found.0 (codes "yes") then number_within 1 4194304 found.1 else None) (first_part line)
-
--- what a text says: a load, and then the lines of one tree
-abbrev pub told_lines : List (List ℕ) → List (List ℕ) → List ℕ → Told
-told_lines names [] tail = wrong 1
-told_lines names (line ∷ lines) tail = or_wrong (load_read line) 1 (λ load. told_after names (1 ∷ []) [] lines tail)
-
+-- what a text says: a load, which is not looked at, and then the lines of one tree
 abbrev pub told : List (List ℕ) → List ℕ → Told
-told names bytes = told_lines names (parts_at 10 bytes).0 (parts_at 10 bytes).1
+told names bytes = without_load (told_by (tree_lines names) bytes)

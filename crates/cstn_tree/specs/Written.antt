@@ -1,9 +1,10 @@
 -- What a text of a tree can say.
-use Rattle.std.specs.Prelude.{ℕ, ◌+◌, ◌^◌, ◌<◌, ◌≤◌, max, List, length}
+use Rattle.std.specs.Prelude.{ℕ, ◌≡◌, ◌+◌, ◌^◌, ◌<◌, ◌≤◌, max, List, length}
 use Rattle.std.specs.List.{All}
 use Rattle.cstn_tree.specs.Trees.{Tree, Line, lines_of}
 use Rattle.cstn_tree.specs.Trees.Tree.{at, ask, done}
 use Rattle.cstn_tree.specs.Trees.Line.{AtLine, AskLine, DoneLine}
+use Rattle.cstn_tree.specs.Texts.{shown}
 
 -- an `at` names a time-point
 abbrev pub NamesSome : Line → Type 0
@@ -34,3 +35,11 @@ pub record AreWritten (names : List (List ℕ)) (load : ℕ) (tree : Tree) : Typ
   pub load_high : load ≤ 4194304
   pub fits : FitsText tree
   pub each : All (IsPrintableLine names) (lines_of tree)
+
+-- the text of a load and of the tree of these lines
+pub record IsTextOfTree (names : List (List ℕ)) (lines : List Line) (bytes : List ℕ) : Type 0 where
+  pub load : ℕ
+  pub tree : Tree
+  pub whole : lines ≡ lines_of tree
+  pub written : AreWritten names load tree
+  pub text : bytes ≡ shown names load lines

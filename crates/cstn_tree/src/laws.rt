@@ -1,5 +1,5 @@
 // Laws of trees.
-ghost use Rattle.std.specs.Prelude.{ℕ, ◌≡◌, ◌<◌, ◌≤◌, [], ◌∷◌, List, length, None, Some};
+ghost use Rattle.std.specs.Prelude.{ℕ, ◌≡◌, ◌<◌, ◌≤◌, [], ◌∷◌, List, length, map, None, Some};
 ghost use Rattle.cstn_label.specs.Labels.{Scenario};
 ghost use Rattle.cstn_label.specs.Bounds.{Bound};
 ghost use Rattle.cstn_net.specs.Networks.{Network, IsNetwork, IsWellFormed, count};
@@ -7,11 +7,12 @@ ghost use Rattle.cstn_net.specs.Strategies.{Table, IsStrategy, IsConsistent, IsL
 ghost use Rattle.cstn_net.specs.Examples.{branch};
 ghost use Rattle.cstn_log.specs.Plans.{IsEarliest};
 ghost use Rattle.cstn_text.specs.Names.{AreNames};
-ghost use Rattle.cstn_tree.specs.Trees.{Tree, IsAmong, at, done, lines_of, table_of};
+ghost use Rattle.cstn_tree.specs.Trees.{Tree, Line, IsAmong, at, done, lines_of, table_of};
 ghost use Rattle.cstn_tree.specs.Good.{first_broken, IsUnbroken};
+ghost use Rattle.cstn_tree.specs.Breaks.{IsFirstBreak, on_branches};
 ghost use Rattle.cstn_tree.specs.Made.{IsTreeOf};
 ghost use Rattle.cstn_tree.specs.Texts.{shown, tells, told};
-ghost use Rattle.cstn_tree.specs.Written.{AreWritten, FitsText};
+ghost use Rattle.cstn_tree.specs.Written.{AreWritten, FitsText, IsTextOfTree};
 ghost use Rattle.cstn_tree.specs.Read.{the_tree};
 ghost use Rattle.cstn_tree.specs.Examples.{branch_tree, asked_first, named_twice, left_out, slow_branch, crossed, crossed_tree, alone};
 
@@ -50,10 +51,22 @@ pub fn tree_texts_are_read_back()
     ensures back { (names : List (List ℕ)) (load : ℕ) (tree : Tree) → AreNames names → AreWritten names load tree → told names (shown names load (lines_of tree)) ≡ tells (lines_of tree) }
 {}
 
+/// The texts that are read as trees are exactly those that are printed of a load and a tree that can be written.
+pub fn tree_texts_are_the_shown_ones()
+    ensures said { (names : List (List ℕ)) (bytes : List ℕ) (lines : List Line) → told names bytes ≡ tells lines → IsTextOfTree names lines bytes }
+    ensures says { (names : List (List ℕ)) (bytes : List ℕ) (lines : List Line) → AreNames names → IsTextOfTree names lines bytes → told names bytes ≡ tells lines }
+{}
+
 /// The lines of a tree are read back as the same tree, so different trees have different lines.
 #[tactic(auto, using(crate::proofs::TreeLemmas::tree_back))]
 pub fn trees_are_their_lines()
     ensures back { (tree : Tree) → the_tree (lines_of tree) ≡ tree }
+{}
+
+/// The line that a check finds is the first that breaks by what stands above it on its branch; where it finds none, no line breaks.
+pub fn the_first_that_breaks_is_found()
+    ensures first { (net : Network) (tree : Tree) → IsWellFormed net → IsFirstBreak net 2 (on_branches [] tree) (first_broken net tree) }
+    ensures lines { (tree : Tree) → map (λ l. l.1) (on_branches [] tree) ≡ lines_of tree }
 {}
 
 /// Which line of some small trees is the first that breaks, if any does.

@@ -1,32 +1,31 @@
 // The tree of a network, made by what its executive does.
 ghost use Rattle.std.specs.Prelude.{ℕ, ◌≡◌, ◌<◌, ◌+◌, ◌++◌, ◌∷◌, [], true, false, None, Some, List, length, map, IfOk, OnOk, MatchOption};
 ghost use Rattle.std.specs.Option.{option_map};
-ghost use Rattle.cstn_exec.specs.Read.{the_refusal};
+ghost use Rattle.cstn_exec.specs.Read.{the_refusal, moved_on};
 ghost use Rattle.cstn_label.specs.Labels.{Scenario};
 ghost use Rattle.cstn_net.specs.Networks.{count};
 ghost use Rattle.cstn_net.specs.Strategies.{IsLeast};
 ghost use Rattle.cstn_net.specs.Read.{the_network};
 ghost use Rattle.cstn_log.specs.Plans.{the_bounds};
-ghost use Rattle.cstn_exec.specs.Runs.{start, due, called};
-ghost use Rattle.cstn_exec.specs.Moves.{Awaiting, moment_refusal};
-ghost use Rattle.cstn_exec.specs.Answers.{Moment, run_after};
+ghost use Rattle.cstn_exec.specs.Runs.{start, due};
+ghost use Rattle.cstn_exec.specs.Moves.{Awaiting, moment_refusal, outcome_refusal, handed};
 ghost use Rattle.cstn_tree.specs.Trees.{IsAmong, table_of};
 ghost use Rattle.cstn_tree.specs.Good.{IsUnbroken};
-ghost use Rattle.cstn_tree.specs.Made.{IsTreeOf, IsGrown, run_along};
+ghost use Rattle.cstn_tree.specs.Made.{IsTreeOf, IsGrown};
 ghost use Rattle.cstn_tree.specs.Written.{FitsText};
 ghost use Rattle.cstn_tree.specs.Read.{the_line, the_tree};
-ghost use Rattle.cstn_tree.specs.Making.{the_event, the_events, the_pending, IsMaking};
+ghost use Rattle.cstn_tree.specs.Making.{IsMaking, IsMovedTo};
 
 use crate::trees::{Line, Named, Tree};
-use cstn_exec::{ExecError, Executive, due_is_exact, refusals_are_right};
+use cstn_exec::{ExecError, Executive, Snapshot, due_is_exact, refusals_are_right};
 use cstn_label::Prop;
 use std::alloc::{AllocError, Global};
 
 /// The tree of the executive's network. No line of it breaks, it has each time-point at its least moment, and its text is read
 /// back as the same tree. Fails for want of memory alone. The executive is left restarted, also when this fails.
 ///
-/// Takes a step for each line of the tree, and before the second tree of each `ask` one more for each line above that tree.
-/// Where k propositions are observed a tree can have 2^k branches.
+/// Takes a step for each line of the tree: at most what the executive takes to find a due moment twice, and for an `ask` and
+/// the tree for false below it a copy of what the executive knows. Where k propositions are observed a tree can have 2^k branches.
 pub fn make(alloc: Global, exec: &mut Executive) -> Result<Tree, AllocError>
     ensures tree { IfOk result (λ t. IsTreeOf (the_network exec.old.net) (the_bounds exec.old.bounds) (the_tree t)) }
     ensures restarted { exec.new ≡ record exec.old { run = start (count (the_network exec.old.net)); named = [] } }
@@ -51,8 +50,7 @@ fn grow(alloc: Global, exec: &mut Executive) -> Result<Tree, AllocError>
 {
     let mut making = Making {
         lines: Vec::new(alloc),
-        path: Vec::new(alloc),
-        pending: Vec::new(alloc),
+        asks: Vec::new(alloc),
     };
     // Each step takes memory for a line, so memory ends before the steps do.
     for _ in 0..u64::MAX {
@@ -67,26 +65,18 @@ fn grow(alloc: Global, exec: &mut Executive) -> Result<Tree, AllocError>
     Err(AllocError)
 }
 
-// What an executive is told: a moment, or an outcome.
-#[derive(Clone, Copy)]
-enum Step {
-    Moment { t: u32 },
-    See { prop: Prop, value: bool },
-}
-
-// What an executive is told up to a line.
+// An `ask` whose tree for false is still to come, and what the executive knew before it.
 #[derive(Drop)]
-struct Path {
-    steps: Vec<Step>,
+struct OpenAsk {
+    before: Snapshot,
+    prop: Prop,
 }
 
-// The lines so far, what the executive was told since its start, and what it is to be told from its start on to get to each
-// tree that is still to come, the next one's last.
+// The lines so far, and each `ask` whose tree for false is still to come, the next one last.
 #[derive(Drop)]
 struct Making {
     lines: Vec<Line>,
-    path: Vec<Step>,
-    pending: Vec<Path>,
+    asks: Vec<OpenAsk>,
 }
 
 impl Making {
@@ -100,13 +90,13 @@ impl Making {
         let Some(t) = exec.due() else {
             return self.finish(exec);
         };
-        match awaited(exec, t) {
+        match move_on(exec, t) {
             Some(prop) => self.ask(alloc, exec, prop),
             None => self.name(alloc, exec, t),
         }
     }
 
-    // Puts a `done`, and goes to the next tree that is still to come.
+    // Puts a `done`, and goes back to the last `ask` whose tree for false is still to come.
     fn finish(&mut self, exec: &mut Executive) -> Result<bool, AllocError>
         requires making { IsMaking (the_network exec.old.net) (the_bounds exec.old.bounds) exec.old.run self.old }
         requires over { due (the_network exec.old.net) (the_bounds exec.old.bounds) exec.old.run ≡ None }
@@ -115,11 +105,10 @@ impl Making {
         ensures same { exec.new ≡ record exec.old { run = exec.new.run; named = exec.new.named } }
     {
         self.lines.push(Line::Done)?;
-        match self.pending.pop() {
-            Some(path) => {
-                exec.restart();
-                follow(exec, &path.steps);
-                self.path = path.steps;
+        match self.asks.pop() {
+            Some(ask) => {
+                exec.go_back(ask.before);
+                see(exec, ask.prop, false);
                 Ok(true)
             }
             None => Ok(false),
@@ -136,42 +125,36 @@ impl Making {
     {
         refusals_are_right();
         exec.network().count();
-        let mut steps = Vec::from_slice(alloc, &self.path)?;
-        steps.push(Step::See { prop, value: false })?;
-        self.pending.push(Path { steps })?;
-        self.path.push(Step::See { prop, value: true })?;
+        let before = exec.snapshot(alloc)?;
+        self.asks.push(OpenAsk { before, prop })?;
         self.lines.push(Line::Ask { prop })?;
-        tell(exec, Step::See { prop, value: true });
+        see(exec, prop, true);
         Ok(true)
     }
 
-    // Puts an `at` of the due moment.
-    fn name(&mut self, alloc: Global, exec: &mut Executive, t: u32) -> Result<bool, AllocError>
-        requires making { IsMaking (the_network exec.old.net) (the_bounds exec.old.bounds) exec.old.run self.old }
-        requires due { due (the_network exec.old.net) (the_bounds exec.old.bounds) exec.old.run ≡ Some t }
-        requires accepted { moment_refusal (the_network exec.old.net) (the_bounds exec.old.bounds) exec.old.run t ≡ None }
+    // Puts an `at` of the moment that the executive has just accepted.
+    fn name(&mut self, alloc: Global, exec: &Executive, t: u32) -> Result<bool, AllocError>
+        requires moved { IsMovedTo t exec.now self.old }
         ensures more { IfOk result (λ more. more ≡ true) }
-        ensures making { OnOk result (IsMaking (the_network exec.old.net) (the_bounds exec.old.bounds) exec.new.run self.new) }
-        ensures same { exec.new ≡ record exec.old { run = exec.new.run; named = exec.new.named } }
+        ensures making { OnOk result (IsMaking (the_network exec.now.net) (the_bounds exec.now.bounds) exec.now.run self.new) }
     {
-        tell(exec, Step::Moment { t });
         let nodes = Vec::from_slice(alloc, exec.named())?;
         let named = Named { nodes };
         self.lines.push(Line::At { moment: t, named })?;
-        self.path.push(Step::Moment { t })?;
         Ok(true)
     }
 }
 
-// The proposition for which the due moment has to wait; none where that moment is accepted.
-fn awaited(exec: &Executive, t: u32) -> Option<Prop>
-    requires due { due (the_network exec.now.net) (the_bounds exec.now.bounds) exec.now.run ≡ Some t }
-    ensures { MatchOption result (moment_refusal (the_network exec.now.net) (the_bounds exec.now.bounds) exec.now.run t ≡ None) (λ p. moment_refusal (the_network exec.now.net) (the_bounds exec.now.bounds) exec.now.run t ≡ Some (Awaiting p.index)) }
+// Goes on to the due moment. Where that moment has to wait for an outcome nothing changes, and the proposition is returned.
+fn move_on(exec: &mut Executive, t: u32) -> Option<Prop>
+    requires due { due (the_network exec.old.net) (the_bounds exec.old.bounds) exec.old.run ≡ Some t }
+    ensures moves { MatchOption result (moment_refusal (the_network exec.old.net) (the_bounds exec.old.bounds) exec.old.run t ≡ None) (λ p. moment_refusal (the_network exec.old.net) (the_bounds exec.old.bounds) exec.old.run t ≡ Some (Awaiting p.index)) }
+    ensures moved { MatchOption result (exec.new ≡ moved_on exec.old t) (λ p. exec.new ≡ exec.old) }
 {
     due_is_exact();
-    match exec.can(t) {
-        Some(refusal) => awaited_by(refusal),
-        None => None,
+    match exec.moment(t) {
+        Ok(()) => None,
+        Err(refusal) => awaited_by(refusal),
     }
 }
 
@@ -188,28 +171,10 @@ fn awaited_by(refusal: ExecError) -> Option<Prop>
     }
 }
 
-// Tells the executive these moments and outcomes, one after the other.
-fn follow(exec: &mut Executive, steps: &[Step])
-    ensures run { exec.new.run ≡ run_along (the_network exec.old.net) (the_bounds exec.old.bounds) exec.old.run (the_events steps.now) }
-    ensures same { exec.new ≡ record exec.old { run = exec.new.run; named = exec.new.named } }
+// Tells the executive an outcome that it accepts.
+fn see(exec: &mut Executive, prop: Prop, value: bool)
+    requires accepted { outcome_refusal (the_network exec.old.net) exec.old.run prop.index ≡ None }
+    ensures handed { exec.new ≡ record exec.old { run = handed exec.old.run prop.index value } }
 {
-    for step in steps {
-        tell(exec, *step);
-    }
-}
-
-// Tells the executive a moment or an outcome. What it refuses changes nothing.
-fn tell(exec: &mut Executive, step: Step)
-    ensures run { exec.new.run ≡ run_after (the_network exec.old.net) (the_bounds exec.old.bounds) exec.old.run (the_event step) }
-    ensures named { (t : ℕ) → the_event step ≡ Moment t → moment_refusal (the_network exec.old.net) (the_bounds exec.old.bounds) exec.old.run t ≡ None → exec.new.named ≡ called (the_network exec.old.net) (the_bounds exec.old.bounds) exec.old.run t }
-    ensures same { exec.new ≡ record exec.old { run = exec.new.run; named = exec.new.named } }
-{
-    match step {
-        Step::Moment { t } => {
-            let _ = exec.moment(t);
-        }
-        Step::See { prop, value } => {
-            let _ = exec.see(prop, value);
-        }
-    }
+    let _ = exec.see(prop, value);
 }

@@ -3,29 +3,14 @@ ghost use Rattle.std.specs.Prelude.{ℕ, ◌≡◌, ◌<◌, ◌≤◌, IfSome, 
 ghost use Rattle.std.specs.List.{All};
 ghost use Rattle.std.specs.Option.{option_map};
 ghost use Rattle.cstn_tree.specs.Trees.{names_on};
-ghost use Rattle.cstn_tree.specs.Texts.{first_part, node_read, names_read, at_read, ask_read, word_read, line_read};
+ghost use Rattle.cstn_tree.specs.Texts.{names_read, at_read, ask_read, word_read, line_read};
 ghost use Rattle.cstn_tree.specs.Read.{the_line};
 
 use crate::trees::{Line, Named};
-use cstn_label::{NodeId, Prop};
-use cstn_text::{Names, cut_at, read_number_within};
+use cstn_label::Prop;
+use cstn_listing::{part, read_node};
+use cstn_text::{Names, read_number_within};
 use std::alloc::{AllocError, Global};
-
-/// What stands before the first space, and what stands after it; none where there is no space.
-pub fn first_part(bytes: &[u8]) -> Option<(&[u8], &[u8])>
-    ensures part { option_map (λ parts. (parts.0.now, parts.1.now)) result ≡ first_part bytes.now }
-{
-    cut_at(bytes, b' ')
-}
-
-fn read_node(names: &Names, bytes: &[u8]) -> Option<NodeId>
-    requires few { length names.now ≤ 65536 }
-    ensures node { option_map (λ x. x.0) result ≡ node_read names.now bytes.now }
-    ensures inside { IfSome result (λ x. x.0 < length names.now) }
-{
-    let number = names.find_printed(bytes)?;
-    Some(NodeId(number as u16))
-}
 
 // The time-points of one name or more, with a space between names; none where the text isn't of that form.
 fn read_names(alloc: Global, names: &Names, bytes: &[u8]) -> Result<Option<Named>, AllocError>
@@ -35,7 +20,7 @@ fn read_names(alloc: Global, names: &Names, bytes: &[u8]) -> Result<Option<Named
 {
     let mut nodes = Vec::new(alloc);
     let mut left = bytes;
-    while let Some((name, rest)) = first_part(left) {
+    while let Some((name, rest)) = part(left) {
         let Some(x) = read_node(names, name) else {
             return Ok(None);
         };
@@ -54,7 +39,7 @@ fn read_at(alloc: Global, names: &Names, bytes: &[u8]) -> Result<Option<Line>, A
     ensures read { IfOk result (λ line. option_map the_line line ≡ at_read names.now bytes.now) }
     ensures inside { IfOk result (λ line. IfSome line (λ l. All (λ x. x < length names.now) (names_on (the_line l)))) }
 {
-    let Some((moment, rest)) = first_part(bytes) else {
+    let Some((moment, rest)) = part(bytes) else {
         return Ok(None);
     };
     let Some(moment) = read_number_within(0, u32::MAX, moment) else {
@@ -107,7 +92,7 @@ pub fn read_line(alloc: Global, names: &Names, bytes: &[u8]) -> Result<Option<Li
     if bytes == b"done".as_slice() {
         return Ok(Some(Line::Done));
     }
-    match first_part(bytes) {
+    match part(bytes) {
         Some((word, rest)) => read_word(alloc, names, word, rest),
         None => Ok(None),
     }

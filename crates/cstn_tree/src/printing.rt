@@ -12,11 +12,9 @@ ghost use Rattle.cstn_tree.specs.Branches.{numbers};
 
 use crate::trees::{Line, Tree};
 use cstn_label::NodeId;
+use cstn_listing::push_load;
 use cstn_text::{Names, print_name, push_number};
 use std::alloc::{AllocError, Global};
-
-// Most lines have fewer bytes. Room for longer ones is taken as they come.
-const USUAL_LINE: usize = 16;
 
 /// The text of a tree: a line for the load, and one for each line of the tree.
 ///
@@ -32,21 +30,12 @@ pub fn print(alloc: Global, tree: &Tree, load: u32, names: &Names) -> Result<Str
     names.count();
     let lines = tree.lines();
     let mut text = String::new(alloc);
-    push_load(&mut text, load)?;
+    push_load(&mut text, "yes", load)?;
     for k in 0..lines.len() {
         push_line(alloc, &mut text, names, &lines[k])?;
         text.push('\n')?;
     }
     Ok(text)
-}
-
-// Appends the line of the load, with its LF.
-fn push_load(text: &mut String, load: u32) -> Result<(), AllocError>
-    ensures pushed { OnOk result (string_bytes text.new ≡ string_bytes text.old ++ (codes "yes " ++ printed_number load ++ 10 ∷ [])) }
-{
-    text.push_str("yes ")?;
-    push_number(text, load as u64)?;
-    text.push('\n')
 }
 
 // Appends a line of the tree, without its LF.

@@ -3,24 +3,26 @@ ghost use Rattle.std.specs.Prelude.{ℕ, ◌≡◌, ◌<◌, ◌≤◌, ◌+◌,
 ghost use Rattle.std.specs.List.{All};
 ghost use Rattle.std.specs.Option.{option_map};
 ghost use Rattle.cstn_tree.specs.Trees.{IsAmong, names_on};
-ghost use Rattle.cstn_tree.specs.Texts.{Told, tells, at_end, told_after, told, load_read, line_within, ahead_after, parts_at};
+ghost use Rattle.cstn_listing.specs.Parts.{parts_at};
+ghost use Rattle.cstn_listing.specs.Listings.{at_end, told_after};
+ghost use Rattle.cstn_tree.specs.Texts.{Told, tells, without_load, tree_lines, is_whole, told, line_within, ahead_after};
+ghost use Rattle.cstn_tree.specs.Written.{FitsText};
 ghost use Rattle.cstn_tree.specs.Read.{the_line, the_tree};
 ghost use Rattle.cstn_tree.specs.Reading.{the_ahead, the_lines, IsReader, IsWrong};
 
 use crate::errors::TreeError;
-use crate::parts::{first_part, read_line};
+use crate::parts::read_line;
 use crate::trees::{Line, Tree};
-use cstn_text::{Names, cut_at, read_number_within};
+use cstn_listing::read_load;
+use cstn_text::{Names, cut_at};
 use std::alloc::{AllocError, Global};
-
-/// The greatest load.
-const MOST_LOAD: u32 = 4_194_304;
 
 /// How many lines there may be on a branch, with its last one.
 const MOST_DEPTH: u16 = 2100;
 
 /// Reads a tree from its text. Refuses with the first line that isn't of the form, counted from 1: also with the missing or
-/// cut line where the text ends within the tree, with a line after the tree, and with the 2,101st line of a branch.
+/// cut line where the text ends within the tree, with a line after the tree, and with the 2,101st line of a branch. A tree that
+/// was read is printed as a text that is read again.
 pub fn read(alloc: Global, names: &Names, bytes: &[u8]) -> Result<Tree, TreeError>
     requires few { length names.now ≤ 65536 }
     requires short { length bytes.now < 2 ^ 32 }
@@ -29,32 +31,23 @@ pub fn read(alloc: Global, names: &Names, bytes: &[u8]) -> Result<Tree, TreeErro
 
     ensures named { IfOk result (λ t. IsAmong (length names.now) (the_tree t)) }
     ensures few { IfOk result (λ t. length t + 1 < 2 ^ 32) }
+    ensures fits { IfOk result (λ t. FitsText (the_tree t)) }
 {
     let Some((line, rest)) = cut_at(bytes, b'\n') else {
         return Err(TreeError::Line { line: 1 });
     };
-    let Some(_load) = read_load(line) else {
+    let Some(_load) = read_load("yes", line) else {
         return Err(TreeError::Line { line: 1 });
     };
     read_lines(alloc, names, rest)
-}
-
-fn read_load(line: &[u8]) -> Option<u32>
-    ensures load { result ≡ load_read line.now }
-{
-    let (word, rest) = first_part(line)?;
-    if word != b"yes".as_slice() {
-        return None;
-    }
-    read_number_within(1, MOST_LOAD, rest)
 }
 
 // The tree of the lines that follow the line of the load.
 fn read_lines(alloc: Global, names: &Names, bytes: &[u8]) -> Result<Tree, TreeError>
     requires few { length names.now ≤ 65536 }
     requires short { length bytes.now + 2 < 2 ^ 32 }
-    ensures accepted { IfOk result (λ t. told_after names.now (1 ∷ []) [] (parts_at 10 bytes.now).0 (parts_at 10 bytes.now).1 ≡ tells t) }
-    ensures line { IfErr result (IsWrong (told_after names.now (1 ∷ []) [] (parts_at 10 bytes.now).0 (parts_at 10 bytes.now).1)) }
+    ensures accepted { IfOk result (λ t. (load : ℕ) → without_load (told_after (tree_lines names.now) load [] (parts_at 10 bytes.now).0 (parts_at 10 bytes.now).1) ≡ tells t) }
+    ensures line { IfErr result (λ e. (load : ℕ) → IsWrong (without_load (told_after (tree_lines names.now) load [] (parts_at 10 bytes.now).0 (parts_at 10 bytes.now).1)) e) }
     ensures named { IfOk result (λ t. IsAmong (length names.now) (the_tree t)) }
     ensures few { IfOk result (λ t. length t + 1 < 2 ^ 32) }
 {
@@ -100,8 +93,8 @@ impl Reader {
         requires few { length names.now ≤ 65536 }
         requires reader { IsReader (length names.now) self.old }
         requires short { length self.old.lines.items + 2 < 2 ^ 32 }
-        ensures next { OnOk result ((texts : List (List ℕ)) (tail : List ℕ) → told_after names.now (the_ahead self.old) (the_lines self.old) (text.now ∷ texts) tail ≡ told_after names.now (the_ahead self.new) (the_lines self.new) texts tail) }
-        ensures wrong { IfErr result (λ e. (texts : List (List ℕ)) (tail : List ℕ) → IsWrong (told_after names.now (the_ahead self.old) (the_lines self.old) (text.now ∷ texts) tail) e) }
+        ensures next { OnOk result ((load : ℕ) (texts : List (List ℕ)) (tail : List ℕ) → told_after (tree_lines names.now) load (the_lines self.old) (text.now ∷ texts) tail ≡ told_after (tree_lines names.now) load (the_lines self.new) texts tail) }
+        ensures wrong { IfErr result (λ e. (load : ℕ) (texts : List (List ℕ)) (tail : List ℕ) → IsWrong (without_load (told_after (tree_lines names.now) load (the_lines self.old) (text.now ∷ texts) tail)) e) }
         ensures reader { OnOk result (IsReader (length names.now) self.new) }
         ensures count { OnOk result (length self.new.lines.items ≡ length self.old.lines.items + 1) }
     {
@@ -157,8 +150,8 @@ impl Reader {
     fn finish(self, left: &[u8]) -> Result<Tree, TreeError>
         requires reader { (n : ℕ) × IsReader n self }
         requires short { length self.lines.items + 2 < 2 ^ 32 }
-        ensures accepted { IfOk result (λ t. at_end (the_ahead self) (the_lines self) left.now ≡ tells t) }
-        ensures line { IfErr result (IsWrong (at_end (the_ahead self) (the_lines self) left.now)) }
+        ensures accepted { IfOk result (λ t. (load : ℕ) → without_load (at_end is_whole load (the_lines self) left.now) ≡ tells t) }
+        ensures line { IfErr result (λ e. (load : ℕ) → IsWrong (without_load (at_end is_whole load (the_lines self) left.now)) e) }
         ensures lines { IfOk result (λ t. t ≡ the_lines self) }
         ensures named { (n : ℕ) → IsReader n self → IfOk result (λ t. IsAmong n (the_tree t)) }
     {

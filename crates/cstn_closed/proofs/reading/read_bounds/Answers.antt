@@ -1,42 +1,47 @@
 use Rattle.std.proofs.Common.{◌≡◌, ◌∙◌, ◌≤◌, ◌+◌, ◌++◌, ◌∷◌, [], length, map, sym, subst, arith}
 use Rattle.std.specs.Prelude.{Some, IfOk, IfErr}
 use Rattle.std.proofs.lemmas.Grind.{common_steps}
+use Rattle.std.proofs.lemmas.List.{length-map}
 use Rattle.cstn_label.specs.Bounds.{Bound}
 use Rattle.cstn_label.specs.Read.{the_bound}
-use Rattle.cstn_refute.specs.Texts.{lines_of}
+use Rattle.cstn_listing.specs.Parts.{parts_at}
+use Rattle.cstn_listing.specs.Listings.{told_after, or_wrong}
+use Rattle.cstn_listing.proofs.ListingLemmas.{told_next, told_viewed, told_last}
 use Rattle.cstn_closed.specs.Closed.{the_bounds}
 use Rattle.cstn_closed.specs.Read.{IsWrong}
-use Rattle.cstn_closed.specs.Texts.{line_read, at_end, told_after, or_wrong}
-use Rattle.cstn_closed.proofs.LineLemmas.{told_next, told_on, told_last}
+use Rattle.cstn_closed.specs.Texts.{tells, bound_lines, line_read}
 use Rattle.cstn_closed.proofs.reading.read_bounds.Goals as goal
 
 pub returns-clause-accepted : goal.returns-clause-accepted
 returns-clause-accepted c =
-    let last = told_last c.args.names.now c.args.load (map the_bound c.loop-line.bounds.items) c.loop-line.left.now (sym c.in_default.ensures.cut) in
-    subst (λ t. IfOk c.finish.result (λ r. t ≡ at_end r.load (the_bounds r) [])) (sym last ∙ c.loop-line.invariant.told) c.finish.ensures.accepted
+    let last = told_last (bound_lines c.args.names.now) c.args.load (map the_bound c.loop-line.bounds.items) c.loop-line.left.now (sym c.in_default.ensures.cut) in
+    subst (λ t. IfOk c.finish.result (λ r. t ≡ tells r.load (the_bounds r))) (sym last ∙ c.loop-line.invariant.told) c.finish.ensures.accepted
 
 pub returns-clause-line : goal.returns-clause-line
 returns-clause-line c =
-    let last = told_last c.args.names.now c.args.load (map the_bound c.loop-line.bounds.items) c.loop-line.left.now (sym c.in_default.ensures.cut) in
+    let last = told_last (bound_lines c.args.names.now) c.args.load (map the_bound c.loop-line.bounds.items) c.loop-line.left.now (sym c.in_default.ensures.cut) in
     subst (λ t. IfErr c.finish.result (IsWrong t)) (sym last ∙ c.loop-line.invariant.told) c.finish.ensures.line
 
 pub loop-line-preserved : goal.loop-line-preserved
 loop-line-preserved c =
+    let kind = bound_lines c.args.names.now in
     let bounds = c.loop-line.bounds.items in
     let bound = c.in-Ok.bound in
     let count = c.len-k.ensures ∙ c.loop-line.bounds.ok.0 in
-    let read = subst (λ k. line_read c.args.names.now k c.in-Some.line.now ≡ Some (the_bound bound)) count c.in-Ok.ensures.bound in
+    let read = subst (λ k. line_read c.args.names.now k c.in-Some.line.now ≡ Some (the_bound bound)) (count ∙ sym (length-map bounds the_bound)) c.in-Ok.ensures.bound in
     let few = c.in-Ok.ensures.few in
-    let on = told_on c.args.names.now c.args.load bounds c.loop-line.left.now c.in-Some.line.now c.in-Some.rest.now bound _
+    let on = told_viewed kind the_bound c.args.load bounds c.loop-line.left.now c.in-Some.line.now c.in-Some.rest.now bound _
     (sym c.in-Some.ensures.cut) read c.loop-line.invariant.told in
-    subst (λ xs. record { told : told_after c.args.names.now c.args.load (map the_bound xs) (lines_of c.in-Some.rest.now).0 (lines_of c.in-Some.rest.now).1 ≡ told_after c.args.names.now c.args.load [] (lines_of c.args.bytes.now).0 (lines_of c.args.bytes.now).1; few : length xs ≤ 4194304 })
+    subst (λ xs. record { told : told_after kind c.args.load (map the_bound xs) (parts_at 10 c.in-Some.rest.now).0 (parts_at 10 c.in-Some.rest.now).1 ≡ told_after kind c.args.load [] (parts_at 10 c.args.bytes.now).0 (parts_at 10 c.args.bytes.now).1; few : length xs ≤ 4194304 })
     (sym c.in-Ok-push.ensures.items)
     (record { told = on; few = grind (arith, common_steps) })
 
 pub returns-in-Err-clause-line : goal.returns-in-Err-clause-line
 returns-in-Err-clause-line c =
-    let bounds = c.loop-line.bounds.items in
-    let next = told_next c.args.names.now c.args.load bounds c.loop-line.left.now c.in-Some.line.now c.in-Some.rest.now (sym c.in-Some.ensures.cut) in
-    let on = λ (b : Bound). told_after c.args.names.now c.args.load (map the_bound bounds ++ b ∷ []) (lines_of c.in-Some.rest.now).0 (lines_of c.in-Some.rest.now).1 in
-    let here = subst (λ k. IsWrong (or_wrong (line_read c.args.names.now k c.in-Some.line.now) (k + 2) on) c.in-Err.e) (c.len-k.ensures ∙ c.loop-line.bounds.ok.0) (c.in-Err.ensures.line on) in
+    let kind = bound_lines c.args.names.now in
+    let bounds = map the_bound c.loop-line.bounds.items in
+    let next = told_next kind c.args.load bounds c.loop-line.left.now c.in-Some.line.now c.in-Some.rest.now (sym c.in-Some.ensures.cut) in
+    let on = λ (b : Bound). told_after kind c.args.load (bounds ++ b ∷ []) (parts_at 10 c.in-Some.rest.now).0 (parts_at 10 c.in-Some.rest.now).1 in
+    let count = c.len-k.ensures ∙ c.loop-line.bounds.ok.0 ∙ sym (length-map c.loop-line.bounds.items the_bound) in
+    let here = subst (λ k. IsWrong (or_wrong (line_read c.args.names.now k c.in-Some.line.now) (k + 2) on) c.in-Err.e) count (c.in-Err.ensures.line on) in
     subst (λ t. IsWrong t c.in-Err.e) (sym next ∙ c.loop-line.invariant.told) here

@@ -5,13 +5,13 @@ use Rattle.cstn_element.specs.Contents.{contents, inner}
 use Rattle.cstn_element.specs.Elements.{read_by}
 use Rattle.cstn_element.specs.declared.children.Next.{Next}
 use Rattle.cstn_graphml.specs.DrawnGraph.{empty_graph}
-use Rattle.cstn_graphml.specs.Document.{graph_reading}
+use Rattle.cstn_graphml.specs.Kept.{kept_graph_reading}
 use Rattle.cstn_graphml.specs.DrawnGraphSeen.{graph_seen}
 use Rattle.cstn_graphml.proofs.graph.read_graph.Goals as goal
 
 pub loop-start-init : goal.loop-start-init
 loop-start-init c = record {
-  same = λ others l. record { told = ap (λ d. read_by graph_reading d (inner (contents (c.args.name.now ∷ others) c.args.scanner.now))) (sym c.in_ok-graph.ensures); left = refl };
+  same = λ others l. record { told = ap (λ d. read_by kept_graph_reading d (inner (contents (c.args.name.now ∷ others) c.args.scanner.now))) (sym c.in_ok-graph.ensures); left = refl };
   less = omega arith;
 }
 

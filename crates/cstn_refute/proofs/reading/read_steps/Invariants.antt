@@ -2,12 +2,14 @@ use Rattle.std.proofs.Common.{◌≡◌, ◌≤◌, [], length, map}
 use Rattle.std.specs.List.{All}
 use Rattle.cstn_rules.specs.Read.{the_entry}
 use Rattle.cstn_refute.specs.Refutations.{IsStep}
-use Rattle.cstn_refute.specs.Texts.{told_after, lines_of}
+use Rattle.cstn_listing.specs.Parts.{parts_at}
+use Rattle.cstn_listing.specs.Listings.{told_after}
+use Rattle.cstn_refute.specs.Texts.{step_lines}
 use Rattle.cstn_refute.proofs.reading.read_steps.Given as goal
 
 abbrev pub invariant-loop-line : goal.invariant-loop-line
 invariant-loop-line l = record {
-  told : told_after l.names l.load (map the_entry l.steps.items) (lines_of l.left).0 (lines_of l.left).1 ≡ told_after l.names l.load [] (lines_of l.bytes).0 (lines_of l.bytes).1;
+  told : told_after (step_lines l.names) l.load (map the_entry l.steps.items) (parts_at 10 l.left).0 (parts_at 10 l.left).1 ≡ told_after (step_lines l.names) l.load [] (parts_at 10 l.bytes).0 (parts_at 10 l.bytes).1;
   few : length l.steps.items ≤ 4194304;
   each : All IsStep l.steps.items;
 }

@@ -10,7 +10,7 @@ use Rattle.cstn_tree.proofs.making.grow.Goals as goal
 
 pub loop-init : goal.loop-init
 loop-init c = record {
-  making = making_first (the_network c.args.exec.now.net) (the_bounds c.args.exec.now.bounds) c.args.exec.now.run _ c.requires.started c.new.ensures.items c.new-2.ensures.items c.new-3.ensures.items;
+  making = making_first (the_network c.args.exec.now.net) (the_bounds c.args.exec.now.bounds) c.args.exec.now.run _ c.requires.started c.new.ensures.items c.new-2.ensures.items;
   same = refl;
 }
 

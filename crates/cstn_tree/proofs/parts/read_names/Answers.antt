@@ -4,7 +4,8 @@ use Rattle.std.proofs.lemmas.List.Elements.{All-push}
 use Rattle.cstn_label.specs.declared.nodes.NodeId.{NodeId}
 use Rattle.cstn_tree.specs.Branches.{numbers}
 use Rattle.cstn_tree.specs.Texts.{names_read}
-use Rattle.cstn_tree.proofs.PartLemmas.{after_names, cut_shorter, names_on_read, names_wrong, names_last, names_last_wrong}
+use Rattle.cstn_listing.proofs.PartLemmas.{cut_shorter}
+use Rattle.cstn_tree.proofs.PartLemmas.{after_names, names_on_read, names_wrong, names_last, names_last_wrong}
 use Rattle.cstn_tree.proofs.TreeLemmas.{numbers_all}
 use Rattle.cstn_tree.proofs.parts.read_names.Goals as goal
 

@@ -1,11 +1,13 @@
-use Rattle.std.proofs.Common.{◌≡◌, ◌≤◌, ◌+◌, [], ◌∷◌, length}
-use Rattle.cstn_tree.specs.Texts.{told_after, parts_at}
-use Rattle.cstn_tree.specs.Reading.{the_ahead, the_lines, IsReader}
+use Rattle.std.proofs.Common.{ℕ, ◌≡◌, ◌≤◌, ◌+◌, [], length}
+use Rattle.cstn_listing.specs.Parts.{parts_at}
+use Rattle.cstn_listing.specs.Listings.{told_after}
+use Rattle.cstn_tree.specs.Texts.{tree_lines}
+use Rattle.cstn_tree.specs.Reading.{the_lines, IsReader}
 use Rattle.cstn_tree.proofs.reading.read_lines.Given as goal
 
 abbrev pub invariant-loop-line : goal.invariant-loop-line
 invariant-loop-line l = record {
-  told : told_after l.names (the_ahead l.reader) (the_lines l.reader) (parts_at 10 l.left).0 (parts_at 10 l.left).1 ≡ told_after l.names (1 ∷ []) [] (parts_at 10 l.bytes).0 (parts_at 10 l.bytes).1;
+  told : (load : ℕ) → told_after (tree_lines l.names) load (the_lines l.reader) (parts_at 10 l.left).0 (parts_at 10 l.left).1 ≡ told_after (tree_lines l.names) load [] (parts_at 10 l.bytes).0 (parts_at 10 l.bytes).1;
   reader : IsReader (length l.names) l.reader;
   count : length l.reader.lines.items + length l.left ≤ length l.bytes;
 }

@@ -1,7 +1,7 @@
 use Rattle.std.proofs.Common.{◌≡◌, ◌<◌, None, length, set, sym, subst, arith}
 use Rattle.cstn_pool.specs.Slots.{padded}
 use Rattle.cstn_minset.specs.Sets.{Entries}
-use Rattle.cstn_minset.proofs.WrittenLemmas.{resized_at}
+use Rattle.cstn_rows.proofs.WrittenLemmas.{resized_at}
 use Rattle.cstn_minset.proofs.table.Table.set.Goals as goal
 
 pub returns : goal.returns

@@ -10,23 +10,23 @@ use Rattle.cstn_tree.proofs.ReadLemmas.{popped, reader_next, take_end, take_wron
 use Rattle.cstn_tree.proofs.reading.Reader.take.Goals as goal
 
 pub returns-in_default-clause-wrong : goal.returns-in_default-clause-wrong
-returns-in_default-clause-wrong c = λ texts tail.
+returns-in_default-clause-wrong c = λ load texts tail.
     let none : reverse c.args.self.now.ahead.items ≡ [] = ap reverse (no_items c.args.self.now.ahead.items (sym c.args.self.now.ahead.ok.0 ∙ c.in_default.ensures.cases.0)) in
-    take_end c.args.names.now c.args.self.now c.args.text.now texts tail none ∙ ap (λ (n : ℕ). wrong (n + 2)) (sym (c.len.ensures ∙ c.args.self.now.lines.ok.0))
+    take_end c.args.names.now c.args.self.now c.requires.reader.ahead load c.args.text.now texts tail none ∙ ap (λ (n : ℕ). wrong (n + 2)) (sym (c.len.ensures ∙ c.args.self.now.lines.ok.0))
 
 pub returns-in_default-read-clause-wrong : goal.returns-in_default-read-clause-wrong
-returns-in_default-read-clause-wrong c = λ texts tail.
+returns-in_default-read-clause-wrong c = λ load texts tail.
     let first = popped c.args.self.now.ahead.items c.pop.new.self.items c.in-Some.depth c.in-Some.ensures.items in
     let read = sym c.in-Ok.ensures.read ∙ ap (λ (o : Option ProgramLine). option_map the_line o) c.in_default-read.is in
-    take_wrong c.args.names.now c.args.self.now c.args.text.now texts tail c.in-Some.depth (reverse c.pop.new.self.items) first read
+    take_wrong c.args.names.now c.args.self.now c.requires.reader.ahead load c.args.text.now texts tail c.in-Some.depth (reverse c.pop.new.self.items) first read
     ∙ ap (λ (n : ℕ). wrong (n + 2)) (sym (c.len.ensures ∙ c.args.self.now.lines.ok.0))
 
 pub returns-in-Ok-put-clause-next : goal.returns-in-Ok-put-clause-next
-returns-in-Ok-put-clause-next c = λ texts tail.
+returns-in-Ok-put-clause-next c = λ load texts tail.
     let first = popped c.args.self.now.ahead.items c.pop.new.self.items c.in-Some.depth c.in-Some.ensures.items in
     let read = sym c.in-Ok.ensures.read ∙ ap (λ (o : Option ProgramLine). option_map the_line o) c.in-Some-read.is in
-    take_next c.args.names.now c.args.self.now c.args.text.now texts tail c.put.new.self c.in-Some.depth (reverse c.pop.new.self.items) c.in-Some-read.line first read
-    c.in-Ok-put.ensures.ahead c.in-Ok-put.ensures.lines
+    take_next c.args.names.now c.args.self.now c.requires.reader.ahead load c.args.text.now texts tail c.put.new.self c.in-Some.depth (reverse c.pop.new.self.items) c.in-Some-read.line first read
+    c.in-Ok-put.ensures.lines
 
 pub returns-in-Ok-put-clause-reader : goal.returns-in-Ok-put-clause-reader
 returns-in-Ok-put-clause-reader c =

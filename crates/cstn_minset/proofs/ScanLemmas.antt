@@ -1,0 +1,52 @@
+-- Scans of the pages of a row.
+use Rattle.std.proofs.Common.{◌≡◌, inl, inr, ℕ, ◌+◌, ◌<◌, List, Bool, false, refl, sym, ◌∙◌, subst, arith}
+use Rattle.std.specs.Prelude.{Option, None, Some, slice_get, IsTrue, ◌↔◌}
+use Rattle.std.proofs.lemmas.Bool.{cases_eq}
+use Rattle.std.proofs.lemmas.Option.{same_Some}
+use Rattle.cstn_rows.specs.declared.page.Record.{Record}
+use Rattle.cstn_rows.specs.declared.page.Page.{Page}
+use Rattle.cstn_rows.specs.Chains.{IsFirstKey}
+use Rattle.cstn_rows.specs.Pages.{Paged, IsPageOf, numbered, most_pages}
+use Rattle.cstn_rows.proofs.HomeLemmas.{first_page, page_of_in, pages_are_numbers}
+use Rattle.cstn_minset.specs.Sets.{IsNoneOf, IsNoneOn}
+
+-- a scan of a row stands at a page, and no record of the pages before it is of the kind
+pub record IsScanned (rows : Paged) (h : ℕ) (Kind : Record → Type 0) (place : Option ℕ) : Type 0 where
+  pub low : ℕ
+  pub here : IsFirstKey (numbered rows) h low place
+  pub none : (k : ℕ) (p : Page) → slice_get rows.pages k ≡ Some p → p.head ≡ h → k < low → IsNoneOn p Kind
+
+pub scanned_start : (rows : Paged) (h : ℕ) (Kind : Record → Type 0) (place : Option ℕ) → IsFirstKey (numbered rows) h 0 place → IsScanned rows h Kind place
+scanned_start rows h Kind place first = record { low = 0; here = first; none = λ k p is head less. absurd (omega (arith, less)) }
+
+pub scanned_page : (rows : Paged) (h k : ℕ) (Kind : Record → Type 0) → IsScanned rows h Kind (Some k) → IsPageOf rows.pages h k
+scanned_page rows h k Kind scan = first_page (most_pages rows.heads rows.capacity) h scan.low rows.pages (Some k) scan.here
+
+pub scanned_more : (rows : Paged) (h k : ℕ) (Kind : Record → Type 0) (next : Option ℕ) (p : Page) → IsScanned rows h Kind (Some k) → slice_get rows.pages k ≡ Some p → IsNoneOn p Kind → IsFirstKey (numbered rows) h (k + 1) next → IsScanned rows h Kind next
+scanned_more rows h k Kind next p scan is none first = record {
+  low = k + 1;
+  here = first;
+  none = λ j q there head less. elim (cases_eq j k) [
+    | inl same ↦ subst (λ x. IsNoneOn x Kind) (same_Some p q (sym is ∙ rw same at there)) none
+    | inr other ↦ elim (scan.here.least j j (page_of_in (most_pages rows.heads rows.capacity) j rows.pages h (q, there, head))) [
+      | inl before ↦ scan.none j q there head before
+      | inr behind ↦ absurd (omega (arith, behind, less, other, pages_are_numbers (most_pages rows.heads rows.capacity) rows.pages k h scan.here.key scan.here.there))
+    ]
+  ];
+}
+
+pub scanned_end : (rows : Paged) (h : ℕ) (Kind : Record → Type 0) (place : Option ℕ) → ((k : ℕ) → place ≡ Some k → ⊥) → IsScanned rows h Kind place → IsNoneOf rows.pages h Kind
+scanned_end rows h Kind None not scan = λ k i r at.
+    scan.none k at.0 at.1 at.2 (scan.here k k (page_of_in (most_pages rows.heads rows.capacity) k rows.pages h (at.0, at.1, at.2))) i r at.3
+scanned_end rows h Kind (Some k) not scan = absurd (not k refl)
+
+-- none of the first n records is of the kind
+abbrev pub IsNoneUpto : List Record → ℕ → (Record → Type 0) → Type 0
+IsNoneUpto rs n Kind = (i : ℕ) (r : Record) → i < n → slice_get rs i ≡ Some r → ¬ Kind r
+
+pub none_more : (rs : List Record) (n : ℕ) (Kind : Record → Type 0) (x : Record) (test : Bool) → IsNoneUpto rs n Kind → slice_get rs n ≡ Some x → (IsTrue test ↔ Kind x) → test ≡ false → IsNoneUpto rs (n + 1) Kind
+none_more rs n Kind x test none here is no' = λ i r less there kind.
+    elim (cases_eq i n) [
+      | inl same ↦ (let sure = is.1 (subst Kind (sym (same_Some x r (sym here ∙ rw same at there))) kind) in cc)
+      | inr other ↦ none i r (omega (arith, less, other)) there kind
+    ]

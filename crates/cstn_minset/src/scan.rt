@@ -1,0 +1,87 @@
+//! Looking through the rows of records for one that dominates a bound, or that a bound dominates.
+ghost use Rattle.std.specs.Prelude.{◌≡◌, ◌↔◌, ℕ, Some, IsTrue, IfSome, IfNone, slice_get};
+ghost use Rattle.cstn_rows.specs.declared.page.Record.{Record as TheRecord};
+ghost use Rattle.cstn_rows.specs.Pages.{IsPage};
+ghost use Rattle.cstn_minset.specs.Sets.{IsRecordOver, IsRecordUnder, IsRecordAt, IsNoneOf, IsNoneOn};
+
+use cstn_label::Bound;
+use cstn_rows::{Page, Record, Rows};
+
+/// The slot of a record that dominates the bound; None exactly where none does.
+pub fn slot_over(rows: &Rows, b: &Bound) -> Option<u32>
+    ensures some { IfSome result (λ s. (k i : ℕ) × (r : TheRecord) × IsRecordAt rows.now.pages b.now.node.0 k i r × (r.slot ≡ s) × IsRecordOver b.now r) }
+    ensures none { IfNone result (IsNoneOf rows.now.pages b.now.node.0 (IsRecordOver b.now)) }
+{
+    let mut place = rows.first(b.node.0 as u32);
+    while let Some(number) = place {
+        if let Some(slot) = over_on_page(rows.page(number), b) {
+            return Some(slot);
+        }
+        place = rows.next(number);
+    }
+    None
+}
+
+/// The page of a record that the bound dominates, and its place there; None exactly where it dominates none.
+pub fn place_under(rows: &Rows, b: &Bound) -> Option<(u32, usize)>
+    ensures some { IfSome result (λ at. (r : TheRecord) × IsRecordAt rows.now.pages b.now.node.0 at.0 at.1 r × IsRecordUnder b.now r) }
+    ensures none { IfNone result (IsNoneOf rows.now.pages b.now.node.0 (IsRecordUnder b.now)) }
+{
+    let mut place = rows.first(b.node.0 as u32);
+    while let Some(number) = place {
+        if let Some(index) = under_on_page(rows.page(number), b) {
+            return Some((number, index));
+        }
+        place = rows.next(number);
+    }
+    None
+}
+
+// The slot of a record of a page of the bound's time-point that dominates the bound.
+fn over_on_page(page: &Page, b: &Bound) -> Option<u32>
+    requires { IsPage page.now }
+    ensures some { IfSome result (λ s. (i : ℕ) × (r : TheRecord) × (slice_get page.now.records.items i ≡ Some r) × (r.slot ≡ s) × IsRecordOver b.now r) }
+    ensures none { IfNone result (IsNoneOn page.now (IsRecordOver b.now)) }
+{
+    if page.high < b.least {
+        return None;
+    }
+    for kept in page.records.as_slice() {
+        if is_over(*kept, b) {
+            return Some(kept.slot);
+        }
+    }
+    None
+}
+
+// The place of a record of a page of the bound's time-point that the bound dominates.
+fn under_on_page(page: &Page, b: &Bound) -> Option<usize>
+    requires { IsPage page.now }
+    ensures some { IfSome result (λ i. (r : TheRecord) × (slice_get page.now.records.items i ≡ Some r) × IsRecordUnder b.now r) }
+    ensures none { IfNone result (IsNoneOn page.now (IsRecordUnder b.now)) }
+{
+    if b.least < page.low {
+        return None;
+    }
+    let records = page.records.as_slice();
+    for index in 0..records.len() {
+        if is_under(records[index], b) {
+            return Some(index);
+        }
+    }
+    None
+}
+
+// Whether the record dominates the bound, where both are of one time-point.
+fn is_over(kept: Record, b: &Bound) -> bool
+    ensures { IsTrue result ↔ IsRecordOver b.now kept }
+{
+    b.least <= kept.least && kept.label.is_within(b.label)
+}
+
+// Whether the bound dominates the record, where both are of one time-point.
+fn is_under(kept: Record, b: &Bound) -> bool
+    ensures { IsTrue result ↔ IsRecordUnder b.now kept }
+{
+    kept.least <= b.least && b.label.is_within(kept.label)
+}
