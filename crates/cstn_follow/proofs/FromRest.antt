@@ -54,7 +54,7 @@ module _ (m : Labelled) (h : History) (fresh : ℕ) (good : IsLabelled m) (known
   pub at_coming : (s : Scenario) (x : ℕ) → h.done x ≡ None → from_rest s x ≡ strategy s (number_of m h x)
   at_coming s x e = ap (λ o. or_at o (strategy s (number_of m h x))) e
 
-  at_origin : (s : Scenario) → strategy s 0 ≡ 0
+  pub at_origin : (s : Scenario) → strategy s 0 ≡ 0
   at_origin s =
       let seen = executed_left m h fresh good known s 0 good.base.network.origin refl (done_executed m h known s 0 0 known.origin) in
       let upto = plays.within s 0 (new_inside m h fresh good known 0 good.base.network.origin refl) seen in

@@ -55,22 +55,22 @@ not_true false e = refl
 
 -- an entry that was set, and the others
 module _ {T : Type 0} (f : ℕ → Option T) (x : ℕ) (v : T) where
-  abbrev put : ℕ → Option T
+  abbrev pub put : ℕ → Option T
   put y = cond (y == x) (Some v) (f y)
 
-  put_there : (y : ℕ) → y ≡ x → put y ≡ Some v
+  pub put_there : (y : ℕ) → y ≡ x → put y ≡ Some v
   put_there y e = ap (λ b. cond b (Some v) (f y)) (eq-eqb y x e)
 
-  put_other : (y : ℕ) → (y ≡ x → ⊥) → put y ≡ f y
+  pub put_other : (y : ℕ) → (y ≡ x → ⊥) → put y ≡ f y
   put_other y e = ap (λ b. cond b (Some v) (f y)) (ne_eqb y x e)
 
-  put_from : (y : ℕ) (w : T) → put y ≡ Some w → ((y ≡ x) × (v ≡ w)) ⊎ (f y ≡ Some w)
+  pub put_from : (y : ℕ) (w : T) → put y ≡ Some w → ((y ≡ x) × (v ≡ w)) ⊎ (f y ≡ Some w)
   put_from y w e = elim (cases_eq y x) [
     | inl same ↦ let at : v ≡ w = (let is : Some v ≡ Some w = sym (put_there y same) ∙ e in cc) in inl (same, at)
     | inr other ↦ inr (sym (put_other y other) ∙ e)
   ]
 
-  put_kept : (y : ℕ) (w : T) → f x ≡ None → f y ≡ Some w → put y ≡ Some w
+  pub put_kept : (y : ℕ) (w : T) → f x ≡ None → f y ≡ Some w → put y ≡ Some w
   put_kept y w none e = put_other y (λ same. let at = subst (λ z. f z ≡ Some w) same e in cc) ∙ e
 
 -- a list in which an entry was set

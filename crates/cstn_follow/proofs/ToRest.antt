@@ -100,7 +100,7 @@ module _ (m : Labelled) (h : History) (fresh : ℕ) (good : IsLabelled m) (known
       ap (from_old s) (old_new m h fresh good known x here left)
       ∙ stand_coming m h (table (as_told h s) x) x (h.done x) (sight_left m h x) none
 
-  at_origin : (s : Scenario) → to_rest s 0 ≡ 0
+  pub at_origin : (s : Scenario) → to_rest s 0 ≡ 0
   at_origin s =
       ap (from_old s) (old_origin m h fresh good known)
       ∙ stand_origin m h (table (as_told h s) 0) 0 (h.done 0) (sight_left m h 0) known.origin

@@ -54,3 +54,16 @@ pub record IsLeastNow (m : Labelled) (h : History) (s : Scenario) (x t : ℕ) : 
   pub executed : IsExecuted m s x
   pub reached : (table : Table) × Continues m h table × (table s x ≡ t)
   pub least : (table : Table) → Continues m h table → t ≤ table s x
+
+-- in each scenario that agrees with the history, the table has nothing that isn't done before t
+abbrev pub IsQuietBefore : Labelled → History → Table → ℕ → Type 0
+IsQuietBefore m h table t =
+    (s : Scenario) (x : ℕ) → AgreesWith h s → x < count m.base → h.done x ≡ None → IsExecuted m s x → t ≤ table s x
+
+-- in each scenario that agrees with the history, the table has x at t
+abbrev pub IsAlwaysAt : Labelled → History → Table → ℕ → ℕ → Type 0
+IsAlwaysAt m h table x t = (s : Scenario) → AgreesWith h s → IsExecuted m s x × (table s x ≡ t)
+
+-- x can wait until t: some table that continues the history has x at t or later in each scenario in which x is executed
+abbrev pub CanWait : Labelled → History → ℕ → ℕ → Type 0
+CanWait m h x t = (table : Table) × Continues m h table × ((s : Scenario) → AgreesWith h s → IsExecuted m s x → t ≤ table s x)

@@ -1,11 +1,11 @@
 -- What has happened while a labelled network was carried out: its history.
-use Rattle.std.specs.Prelude.{ℕ, zero, suc, ◌≡◌, ◌+◌, ◌<◌, ◌≤◌, Bool, true, false, Option, None, Some}
+use Rattle.std.specs.Prelude.{ℕ, zero, suc, ◌≡◌, ◌+◌, ◌<◌, ◌≤◌, Bool, true, false, Option, None, Some, List}
 use Rattle.std.specs.Option.{is_some}
 use Rattle.std.specs.List.{list_all, range_with_len}
 use Rattle.cstn_label.specs.declared.marks.Mark.{Mark}
 use Rattle.cstn_label.specs.declared.marks.Mark.TheVariants.{Absent, Yes, No, Unknown}
 use Rattle.cstn_label.specs.Labels.{Label, Scenario, MarkFits}
-use Rattle.cstn_net.specs.Networks.{Observes, count}
+use Rattle.cstn_net.specs.Networks.{Constraint, Observes, count}
 use Rattle.cstn_lift.specs.Labelled.{Labelled}
 use Rattle.cstn_lift.specs.Completion.{completed_label}
 
@@ -120,6 +120,10 @@ mark_left (Some v) a = Absent
 -- the label without the marks of what was told
 abbrev pub label_left : History → Label → Label
 label_left h a = λ p. mark_left (h.told p) (a p)
+
+-- the labelled network with another deadline and other constraints
+abbrev pub edited : Labelled → ℕ → List Constraint → Labelled
+edited m deadline cs = record m { base = record m.base { deadline = deadline; constraints = cs } }
 
 -- the later history has a later `now`, or more done at moments from the earlier `now` on; nothing else is changed
 pub record GoesOn (h later : History) : Type 0 where

@@ -151,3 +151,11 @@ rest m h fresh = record {
   };
   labels = map (λ x. label_left h (label_of m x)) (left m h);
 }
+
+-- the labelled network with one constraint more
+abbrev pub with_constraint : Labelled → Constraint → Labelled
+with_constraint m c = record m { base = record m.base { constraints = m.base.constraints ++ c ∷ [] } }
+
+-- what is left, in which x is at t or later
+abbrev pub rest_waiting : Labelled → History → ℕ → ℕ → ℕ → Labelled
+rest_waiting m h fresh x t = with_constraint (rest m h fresh) (bare (number_of m h x) 0 (pos 0 -ℤ pos t))

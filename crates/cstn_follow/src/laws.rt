@@ -1,10 +1,10 @@
 // Laws of histories and of what is left.
-ghost use Rattle.std.specs.Prelude.{ℕ, ◌≡◌, ◌<◌, ◌≤◌, ◌↔◌, [], None, Bool, IsTrue, length};
+ghost use Rattle.std.specs.Prelude.{ℕ, ◌≡◌, ◌<◌, ◌≤◌, ◌↔◌, [], None, Bool, IsTrue, List, length};
 ghost use Rattle.std.specs.List.{All};
 ghost use Rattle.cstn_label.specs.declared.nodes.NodeId.{NodeId};
 ghost use Rattle.cstn_label.specs.declared.props.Prop.{Prop};
 ghost use Rattle.cstn_label.specs.Labels.{Label, Scenario};
-ghost use Rattle.cstn_net.specs.Networks.{IsWellFormed, count};
+ghost use Rattle.cstn_net.specs.Networks.{Constraint, IsWellFormed, AreConstraintsOf, count};
 ghost use Rattle.cstn_net.specs.Drafts.{BuilderParts};
 ghost use Rattle.cstn_net.specs.Handed.{IsHanded};
 ghost use Rattle.cstn_net.specs.Strategies.{Table};
@@ -13,9 +13,9 @@ ghost use Rattle.cstn_lift.specs.Completion.{completed, completed_label, joined_
 ghost use Rattle.cstn_lift.specs.Read.{LabelledParts, the_labelled};
 ghost use Rattle.cstn_lift.specs.WellFormed.{IsLabelled};
 ghost use Rattle.cstn_lift.specs.Strategies.{IsExecuted, IsLabelledConsistent, IsLabelledLeast};
-ghost use Rattle.cstn_follow.specs.Histories.{History, IsHistory, IsInTime, IsTimelyHistory, AgreesWith, Settles, IsAllowed, IsOnLetters, allows, label_left, GoesOn, IsToldMore, nothing_yet};
-ghost use Rattle.cstn_follow.specs.Continuations.{Continues, Can, IsLeastNow};
-ghost use Rattle.cstn_follow.specs.Rest.{is_left, number_of, rest};
+ghost use Rattle.cstn_follow.specs.Histories.{History, IsHistory, IsInTime, IsTimelyHistory, AgreesWith, Settles, IsAllowed, IsOnLetters, allows, label_left, GoesOn, IsToldMore, edited, nothing_yet};
+ghost use Rattle.cstn_follow.specs.Continuations.{Continues, Can, IsLeastNow, IsQuietBefore, IsAlwaysAt, CanWait};
+ghost use Rattle.cstn_follow.specs.Rest.{is_left, number_of, rest, rest_waiting};
 ghost use Rattle.cstn_follow.specs.Facts.{settles, now_refusal, done_refusal, told_refusal, expected_refusal, at_now, with_done, with_told, with_expected};
 ghost use Rattle.cstn_follow.specs.Handed.{HasAllLeft, bared};
 
@@ -48,6 +48,35 @@ pub fn histories_narrow()
     ensures time_and_steps { (m : Labelled) (h later : History) (table : Table) → IsLabelled m → IsHistory m h → IsHistory m later
         → GoesOn h later → Continues m later table → Continues m h table }
     ensures told { (m : Labelled) (h later : History) (table : Table) → IsToldMore h later → Continues m h table → Continues m later table }
+{}
+
+/// Whoever follows a table that continues a history stays on it, where nothing that isn't done comes before t in it: when time
+/// passes up to t, when an outcome is told at a moment up to t, and when a time-point that it has at t in each scenario that is
+/// left is done at t.
+pub fn tables_are_followed()
+    ensures time { (m : Labelled) (h : History) (table : Table) (t : ℕ) → Continues m h table → IsQuietBefore m h table t
+        → Continues m (at_now h t) table }
+    ensures told { (m : Labelled) (h : History) (table : Table) (t p : ℕ) (v : Bool) → Continues m h table → IsQuietBefore m h table t
+        → h.told p ≡ None → Continues m (with_told h t p v) table }
+    ensures done { (m : Labelled) (h : History) (table : Table) (t x : ℕ) → IsLabelled m → IsHistory m h → Continues m h table
+        → IsQuietBefore m h table t → x < count m.base → h.done x ≡ None → IsAlwaysAt m h table x t → Continues m (with_done h t x) table }
+{}
+
+/// A time-point that is left and isn't done can wait until t exactly where what is left is consistent with the constraint that it is
+/// at t or later; and where it can wait until t, it can wait until each earlier moment.
+pub fn waiting_is_decided()
+    ensures until { (m : Labelled) (h : History) (fresh x t : ℕ) → IsLabelled m → IsHistory m h → x < count m.base → h.done x ≡ None
+        → IsTrue (is_left m h x) → (CanWait m h x t ↔ IsLabelledConsistent (rest_waiting m h fresh x t)) }
+    ensures earlier { (m : Labelled) (h : History) (x t u : ℕ) → u ≤ t → CanWait m h x t → CanWait m h x u }
+{}
+
+/// A history of a labelled network is one of each with another deadline and other constraints. With a later deadline and fewer
+/// constraints a history that could go on still can.
+pub fn edits_keep_histories()
+    ensures history { (m : Labelled) (h : History) (deadline : ℕ) (cs : List Constraint) → IsHistory m h → IsInTime m h
+        → IsTimelyHistory (edited m deadline cs) h }
+    ensures more { (m : Labelled) (h : History) (deadline : ℕ) (cs : List Constraint) → m.base.deadline ≤ deadline → AreConstraintsOf m.base cs
+        → Can m h → Can (edited m deadline cs) h }
 {}
 
 /// That nothing has happened yet is a history of each labelled network, and what is left is then the labelled network itself.
