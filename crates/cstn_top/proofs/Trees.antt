@@ -24,8 +24,6 @@ use Rattle.cstn_reply.specs.declared.output.Outcome.TheVariants.{Good, Bad, Word
 use Rattle.cstn_top.specs.Answers.{Answer, of_plain}
 use Rattle.cstn_check.specs.Decisions.{verdict, IsYes, IsNo}
 use Rattle.cstn_top.specs.Answers.{on_verdict}
-use Rattle.cstn_documents.specs.Opened.{IsOpened}
-use Rattle.cstn_documents.specs.declared.documents.Opened.TheVariants.{Accepted}
 use Rattle.cstn_check.proofs.Deciding.{Tells, verdict_tells}
 use Rattle.cstn_top.proofs.Comes.{comes_to_text}
 use Rattle.cstn_top.specs.Accepted.{IsAccepted}

@@ -16,13 +16,13 @@ returns-in-Says-clause-ends g c =
 
 pub returns-in-Runs-clause-ends : goal.returns-in-Runs-clause-ends
 returns-in-Runs-clause-ends g c =
-    ends_as _ (Runs c.in-Runs.opening c.in-Runs.guiding) _ _ _ _ _ c.in-Runs.is
-    (opened_ends guided_turn guided_ending c.in-Runs.guiding _ _ _ _ _ _ _ c.deref-in-Runs.ensures.value c.converse.ensures.ends)
+    ends_as _ (Runs c.in-Runs.opening c.in-Runs.session) _ _ _ _ _ c.in-Runs.is
+    (opened_ends guided_turn guided_ending c.in-Runs.session _ _ _ _ _ _ _ c.deref-in-Runs.ensures.value c.converse.ensures.ends)
 
 pub returns-in-Edits-clause-ends : goal.returns-in-Edits-clause-ends
-returns-in-Edits-clause-ends g c = ends_as _ (Edits c.in-Edits.editing) _ _ _ _ _ c.in-Edits.is c.converse-in-Edits.ensures.ends
+returns-in-Edits-clause-ends g c = ends_as _ (Edits c.in-Edits.session) _ _ _ _ _ c.in-Edits.is c.converse-in-Edits.ensures.ends
 
 pub returns-in-Hosts-clause-ends : goal.returns-in-Hosts-clause-ends
 returns-in-Hosts-clause-ends g c =
-    ends_as _ (Hosts c.in-Hosts.opening c.in-Hosts.ward) _ _ _ _ _ c.in-Hosts.is
-    (opened_ends host_turn host_ending (the_host_session c.in-Hosts.ward) _ _ _ _ _ _ _ c.deref-in-Hosts.ensures.value c.converse-in-Hosts.ensures.ends)
+    ends_as _ (Hosts c.in-Hosts.opening c.in-Hosts.session) _ _ _ _ _ c.in-Hosts.is
+    (opened_ends host_turn host_ending (the_host_session c.in-Hosts.session) _ _ _ _ _ _ _ c.deref-in-Hosts.ensures.value c.converse-in-Hosts.ensures.ends)
