@@ -67,3 +67,28 @@ IsAlwaysAt m h table x t = (s : Scenario) → AgreesWith h s → IsExecuted m s 
 -- x can wait until t: some table that continues the history has x at t or later in each scenario in which x is executed
 abbrev pub CanWait : Labelled → History → ℕ → ℕ → Type 0
 CanWait m h x t = (table : Table) × Continues m h table × ((s : Scenario) → AgreesWith h s → IsExecuted m s x → t ≤ table s x)
+
+-- the outcome of p is awaited at t: it isn't told, and its observer is done and it is known by then
+abbrev pub IsAwaited : Labelled → History → ℕ → ℕ → Type 0
+IsAwaited m h t p = (h.told p ≡ None) × IsDoneKnown m h t p
+
+-- x is named at t: it isn't done, and t is its least moment from now on in each scenario that agrees with the history
+pub record IsNamed (m : Labelled) (h : History) (t x : ℕ) : Type 0 where
+  pub here : x < count m.base
+  pub coming : h.done x ≡ None
+  pub least : (s : Scenario) → AgreesWith h s → IsLeastNow m h s x t
+
+-- an outcome is awaited at t, or a time-point is named
+abbrev pub IsEventful : Labelled → History → ℕ → Type 0
+IsEventful m h t = ((p : ℕ) × IsAwaited m h t p) ⊎ ((x : ℕ) × IsNamed m h t x)
+
+-- t is the next moment: the least one from now on at which an outcome is awaited or a time-point is named
+pub record IsNext (m : Labelled) (h : History) (t : ℕ) : Type 0 where
+  pub from : h.now ≤ t
+  pub eventful : IsEventful m h t
+  pub first : (u : ℕ) → h.now ≤ u → u < t → IsEventful m h u → ⊥
+
+-- the table has each time-point that isn't done at its least moment from now on
+abbrev pub IsLeastTable : Labelled → History → Table → Type 0
+IsLeastTable m h table =
+    (s : Scenario) (x : ℕ) → AgreesWith h s → x < count m.base → h.done x ≡ None → IsExecuted m s x → IsLeastNow m h s x (table s x)

@@ -14,7 +14,7 @@ ghost use Rattle.cstn_lift.specs.Read.{LabelledParts, the_labelled};
 ghost use Rattle.cstn_lift.specs.WellFormed.{IsLabelled};
 ghost use Rattle.cstn_lift.specs.Strategies.{IsExecuted, IsLabelledConsistent, IsLabelledLeast};
 ghost use Rattle.cstn_follow.specs.Histories.{History, IsHistory, IsInTime, IsTimelyHistory, AgreesWith, Settles, IsAllowed, IsOnLetters, allows, label_left, GoesOn, IsToldMore, edited, nothing_yet};
-ghost use Rattle.cstn_follow.specs.Continuations.{Continues, Can, IsLeastNow, IsQuietBefore, IsAlwaysAt, CanWait};
+ghost use Rattle.cstn_follow.specs.Continuations.{Continues, Can, IsLeastNow, IsQuietBefore, IsAlwaysAt, IsNamed, IsNext, IsLeastTable, CanWait};
 ghost use Rattle.cstn_follow.specs.Rest.{is_left, number_of, rest, rest_waiting};
 ghost use Rattle.cstn_follow.specs.Facts.{settles, now_refusal, done_refusal, told_refusal, expected_refusal, at_now, with_done, with_told, with_expected};
 ghost use Rattle.cstn_follow.specs.Handed.{HasAllLeft, bared};
@@ -60,6 +60,19 @@ pub fn tables_are_followed()
         → h.told p ≡ None → Continues m (with_told h t p v) table }
     ensures done { (m : Labelled) (h : History) (table : Table) (t x : ℕ) → IsLabelled m → IsHistory m h → Continues m h table
         → IsQuietBefore m h table t → x < count m.base → h.done x ≡ None → IsAlwaysAt m h table x t → Continues m (with_done h t x) table }
+{}
+
+/// Before the next moment no table that continues a history executes anything that isn't done. So the history can go on when time
+/// passes up to it, and when an outcome is told at a moment up to it. Where a table of least moments continues the history, it still
+/// does when a time-point that is named at the next moment is done at it.
+pub fn next_moment_is_first()
+    ensures quiet { (m : Labelled) (h : History) (table : Table) (t : ℕ) → IsLabelled m → IsNext m h t → Continues m h table
+        → IsQuietBefore m h table t }
+    ensures time { (m : Labelled) (h : History) (t u : ℕ) → IsLabelled m → IsNext m h t → u ≤ t → Can m h → Can m (at_now h u) }
+    ensures told { (m : Labelled) (h : History) (t u p : ℕ) (v : Bool) → IsLabelled m → IsNext m h t → u ≤ t → h.told p ≡ None
+        → Can m h → Can m (with_told h u p v) }
+    ensures done { (m : Labelled) (h : History) (table : Table) (t x : ℕ) → IsLabelled m → IsHistory m h → IsNext m h t
+        → Continues m h table → IsLeastTable m h table → IsNamed m h t x → Continues m (with_done h t x) table }
 {}
 
 /// A time-point that is left and isn't done can wait until t exactly where what is left is consistent with the constraint that it is

@@ -14,7 +14,7 @@ pub use errors::{FactError, RestError};
 pub use histories::History;
 pub use laws::{
     completion_ends, edits_keep_histories, facts_make_histories, histories_narrow,
-    nothing_yet_leaves_all, points_left_are_handed, rest_decides, rest_is_labelled,
-    tables_are_followed, told_labels_are_decided, waiting_is_decided,
+    next_moment_is_first, nothing_yet_leaves_all, points_left_are_handed, rest_decides,
+    rest_is_labelled, tables_are_followed, told_labels_are_decided, waiting_is_decided,
 };
 pub use rests::rest;
