@@ -1,6 +1,6 @@
 -- What is said of a document that was opened.
 use Rattle.std.proofs.Common.{◌≡◌, ◌≢◌, ℕ, zero, suc, ◌+◌, ◌^◌, get_or, ◌≤◌, ◌<◌, List, [], ◌∷◌, length, refl, ap, sym, ◌∙◌, subst, inl, inr, arith}
-use Rattle.std.specs.Prelude.{nat_lt, if◌then◌else◌, Option, Result, Ok, Err, IfOk, IsErrAnd, slice_index_or, codes}
+use Rattle.std.specs.Prelude.{Option, Result, Ok, Err, IfOk, IsErrAnd, slice_index_or, codes}
 use Rattle.cstn_io.specs.Contents.{IsFile as IsRead, IsLongFile}
 use Rattle.std.specs.List.{All}
 use Rattle.std.proofs.lemmas.List.{length-map, get_or-map}
@@ -25,7 +25,6 @@ use Rattle.cstn_lift.specs.Lowered.{numbered, lowered}
 use Rattle.cstn_lift.specs.Read.{LabelledParts, the_labelled}
 use Rattle.std.proofs.Math.Path.{fun_ext}
 use Rattle.cstn_net.specs.declared.errors.NetError.{NetError}
-use Rattle.cstn_documents.specs.Files.{IsContent, AreThere}
 use Rattle.cstn_documents.specs.Refusals.{refusal_text, fault_text, label_fault_text}
 use Rattle.cstn_reply.specs.Texts.{Said, say}
 use Rattle.cstn_documents.specs.Documents.{AreEmpty, IsRefusalOf, IsLabelsTold}

@@ -1,5 +1,5 @@
 -- What the session of a guide says is what `run` says.
-use Rattle.std.proofs.Common.{◌≡◌, ℕ, ◌+◌, List, [], ◌++◌, ap, sym, subst, ◌∙◌}
+use Rattle.std.proofs.Common.{◌≡◌, ℕ, List, [], ◌++◌, ap, sym, subst, ◌∙◌}
 use Rattle.std.specs.Prelude.{map}
 use Rattle.cstn_label.specs.Bounds.{Bound}
 use Rattle.cstn_net.specs.Networks.{count}
@@ -11,7 +11,7 @@ use Rattle.cstn_check.specs.Growth.{log_of, load_of, live_bounds}
 use Rattle.cstn_check.specs.declared.verdicts.Verdict.TheVariants.{Yes}
 use Rattle.cstn_text.specs.PrintedNames.{printed_name}
 use Rattle.cstn_lines.specs.Pieces.{lines_of, whole_lines}
-use Rattle.cstn_exec.specs.Guides.{Guided, begun as begun_guide, named}
+use Rattle.cstn_exec.specs.Guides.{Guided, begun as begun_guide}
 use Rattle.cstn_exec.specs.GuideRead.{GuideParts}
 use Rattle.cstn_reply.specs.Texts.{yes_line, after_text}
 use Rattle.cstn_top.specs.Plans.{Plan, ComesTo, session}

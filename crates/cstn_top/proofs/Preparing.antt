@@ -7,7 +7,7 @@ use Rattle.cstn_reply.specs.Read.{the_said}
 use Rattle.cstn_top.specs.Plans.{ComesTo}
 use Rattle.cstn_top.specs.Outputs.{plan_at}
 use Rattle.cstn_top.specs.Prepared.{the_plan, Planned, FitsRequest, TellsRefused}
-use Rattle.cstn_top.specs.Questions.{Asks, the_question, Kind, a_text, a_run, an_edit, a_host, kind_at, FitsKind}
+use Rattle.cstn_top.specs.Questions.{Asks, the_question, Kind, a_run, an_edit, a_host, kind_at, FitsKind}
 use Rattle.cstn_top.specs.declared.commands.Prepared.{Prepared}
 use Rattle.cstn_top.specs.declared.commands.Prepared.TheVariants.{Says, Runs, Edits, Hosts}
 use Rattle.cstn_top.specs.declared.commands.questions.Question.{Question}

@@ -1,5 +1,5 @@
 -- What is said of a network is what its plan says.
-use Rattle.std.proofs.Common.{◌≡◌, ℕ, ◌≤◌, ◌<◌, List, length, refl, sym, ◌∙◌, ap, subst, inl, inr, arith}
+use Rattle.std.proofs.Common.{◌≡◌, ℕ, ◌≤◌, ◌<◌, List, length, refl, sym, subst, inl, inr, arith}
 use Rattle.std.specs.Prelude.{nat_lt, if◌then◌else◌, Option, None, Some, codes}
 use Rattle.cstn_net.specs.Networks.{Network}
 use Rattle.cstn_check.specs.Growth.{log_of, load_of, live_bounds}

@@ -26,13 +26,10 @@ use Rattle.cstn_log.specs.Plans.{IsEarliest}
 use Rattle.cstn_log.specs.Asked.{asked}
 use Rattle.cstn_log.proofs.PlanLemmas.{asked_earliest}
 use Rattle.cstn_check.specs.Growth.{log_of, load_of, live_bounds}
-use Rattle.cstn_check.specs.Verdicts.{is_consistent}
 use Rattle.cstn_check.specs.declared.verdicts.Verdict.{Verdict}
 use Rattle.cstn_check.specs.declared.verdicts.Verdict.TheVariants.{Yes, No, Full as IsFullVerdict}
 use Rattle.cstn_check.proofs.Decides.{log_decides, log_closed, log_sound}
 use Rattle.cstn_check.proofs.Ends.{load_above}
-use Rattle.cstn_conflict.specs.Conflicts.{is_conflict_full}
-use Rattle.cstn_tight.specs.Bisection.{is_tight_full}
 use Rattle.cstn_text.specs.Names.{AreNames}
 use Rattle.cstn_text.specs.PrintedNames.{printed_name}
 use Rattle.cstn_tree.specs.Trees.{Tree, lines_of as tree_lines, table_of}

@@ -1,6 +1,6 @@
 -- The text of each answer stands for it.
-use Rattle.std.proofs.Common.{◌≡◌, ℕ, ◌-◌, ◌≤◌, ◌<◌, ◌^◌, ◌||◌, Bool, true, false, List, [], ◌∷◌, ◌++◌, length, refl, sym, ap, subst, ◌∙◌, inl, inr, arith}
-use Rattle.std.specs.Prelude.{◌⊎◌, ◌↔◌, nat_lt, nat_eq, if◌then◌else◌}
+use Rattle.std.proofs.Common.{◌≡◌, ℕ, ◌-◌, ◌≤◌, ◌<◌, ◌^◌, ◌||◌, Bool, true, false, List, [], length, refl, sym, ap, subst, ◌∙◌, inl, inr, arith}
+use Rattle.std.specs.Prelude.{◌⊎◌, nat_lt, nat_eq, if◌then◌else◌}
 use Rattle.std.specs.List.{list_any}
 use Rattle.std.proofs.lemmas.List.Elements.{All-filter}
 use Rattle.cstn_net.specs.Networks.{Network, Constraint, IsWellFormed, count}
@@ -24,7 +24,7 @@ use Rattle.cstn_tight.specs.Bisection.{least_deadline, is_above, is_tight_full}
 use Rattle.cstn_tight.proofs.BracketLemmas.{IsRefuted, IsFound, found}
 use Rattle.cstn_tight.proofs.LeastLemmas.{good_at_deadline}
 use Rattle.cstn_reply.specs.Texts.{Said}
-use Rattle.cstn_top.specs.Plans.{Plan, says, IsOutput}
+use Rattle.cstn_top.specs.Plans.{says, IsOutput}
 use Rattle.cstn_reply.specs.Texts.{yes_line, full_line}
 use Rattle.cstn_reply.specs.declared.output.Outcome.{Outcome}
 use Rattle.cstn_reply.specs.declared.output.Outcome.TheVariants.{Good, Bad, Words, Document, Full, Unfinished, Script, Wide}

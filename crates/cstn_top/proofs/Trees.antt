@@ -1,8 +1,7 @@
 -- What is said of trees, and what its outcome tells.
 use Rattle.std.proofs.Common.{◌≡◌, ℕ, ◌≤◌, ◌<◌, Bool, true, false, List, ◌++◌, length, refl, sym, ◌∙◌, ap, subst, inl, inr, arith}
-use Rattle.std.specs.Prelude.{nat_lt, if◌then◌else◌, Option, None, Some, Result, Ok, Err, IfOk, codes, decimal}
+use Rattle.std.specs.Prelude.{nat_lt, if◌then◌else◌, Option, None, Some, codes, decimal}
 use Rattle.cstn_net.specs.Networks.{Network, IsWellFormed}
-use Rattle.cstn_net.specs.Read.{NetworkParts, the_network}
 use Rattle.cstn_check.specs.Growth.{log_of, load_of, live_bounds}
 use Rattle.cstn_check.specs.declared.verdicts.Verdict.{Verdict}
 use Rattle.cstn_check.specs.declared.verdicts.Verdict.TheVariants.{Yes, No, Full as IsFullVerdict}
@@ -12,20 +11,15 @@ use Rattle.cstn_tree.specs.Texts.{Told, tells, wrong, shown, told as told_tree}
 use Rattle.cstn_tree.specs.Trees.{lines_of}
 use Rattle.cstn_tree.proofs.TreeLemmas.{tree_back}
 use Rattle.cstn_tree.proofs.Strategies.{good_is_strategy}
-use Rattle.cstn_words.specs.Requests.{Asked, Request, tree, treecheck}
 use Rattle.cstn_reply.specs.Texts.{Said, say}
 use Rattle.cstn_top.specs.Plans.{says, branches, IsOutput, MayTalk}
 use Rattle.cstn_tree.specs.Unfolded.{IsTreeText}
-use Rattle.cstn_reply.specs.Read.{the_said}
 use Rattle.cstn_reply.specs.Statuses.{status_of}
-use Rattle.cstn_reply.specs.declared.output.Said.{Said as SaidText}
 use Rattle.cstn_reply.specs.declared.output.Outcome.{Outcome}
 use Rattle.cstn_reply.specs.declared.output.Outcome.TheVariants.{Good, Bad, Words, Document, Full, Unfinished, Script, Wide}
-use Rattle.cstn_top.specs.Answers.{Answer, of_plain}
 use Rattle.cstn_check.specs.Decisions.{verdict, IsYes, IsNo}
 use Rattle.cstn_top.specs.Answers.{on_verdict}
 use Rattle.cstn_check.proofs.Deciding.{Tells, verdict_tells}
-use Rattle.cstn_top.proofs.Comes.{comes_to_text}
 use Rattle.cstn_top.specs.Accepted.{IsAccepted}
 use Rattle.cstn_top.specs.Answers.{by_text}
 use Rattle.cstn_tree.specs.Unfolded.{observed}
@@ -34,7 +28,6 @@ use Rattle.cstn_tree.specs.Checked.{told_of_line}
 use Rattle.cstn_top.specs.Answers.{checked_lines, tree_checked}
 use Rattle.cstn_top.specs.Trees.{IsNarrow, IsGoodTree, IsBrokenTree, HasTree, IsTreeProof}
 use Rattle.cstn_top.specs.Meanings.{IsDecidedTree}
-use Rattle.cstn_top.specs.Prepared.{Planned}
 
 -- ---- `tree`
 

@@ -1,6 +1,5 @@
 -- What was read of the files of a host, and how its session begins.
 use Rattle.std.specs.Prelude.{◌≡◌, ℕ, suc, List, [], ◌++◌, length, map, take, get_or, Option}
-use Rattle.std.specs.List.{All}
 use Rattle.cstn_net.specs.Networks.{IsWellFormed, count}
 use Rattle.cstn_net.specs.Read.{the_network}
 use Rattle.cstn_documents.specs.Files.{AreContents, AreThere}

@@ -3,7 +3,7 @@ use Rattle.std.specs.Prelude.{◌≡◌, ◌≤◌, ◌<◌, ◌^◌, ℕ, List,
 use Rattle.std.specs.List.{All}
 use Rattle.cstn_net.specs.Read.{the_network}
 use Rattle.cstn_lift.specs.Read.{the_labelled}
-use Rattle.cstn_words.specs.Requests.{Request, check, run, edit, closed, tight, conflict, tree, save, replay, closedcheck, treecheck, drill, host, files_of}
+use Rattle.cstn_words.specs.Requests.{Request, run, edit, host, files_of}
 use Rattle.cstn_reply.specs.Read.{the_said}
 use Rattle.cstn_reply.specs.Written.{EndsLine}
 use Rattle.cstn_reply.specs.declared.output.Said.{Said as SaidText}

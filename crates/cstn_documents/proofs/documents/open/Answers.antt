@@ -1,4 +1,4 @@
-use Rattle.std.proofs.Common.{◌≡◌, List, ℕ, inl, ap, ◌∙◌}
+use Rattle.std.proofs.Common.{◌≡◌, inl, ap, ◌∙◌}
 use Rattle.std.specs.Prelude.{Err, IsErrAnd}
 use Rattle.cstn_words.specs.Read.{the_asked}
 use Rattle.cstn_documents.specs.declared.reading.Unread.TheVariants.{Told}

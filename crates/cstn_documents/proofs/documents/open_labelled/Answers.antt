@@ -1,4 +1,4 @@
-use Rattle.std.proofs.Common.{◌≡◌, ℕ, List, ap, sym, subst}
+use Rattle.std.proofs.Common.{◌≡◌, ℕ, List, ap, subst}
 use Rattle.std.specs.Prelude.{Err}
 use Rattle.cstn_reply.specs.declared.output.Said.{Said}
 use Rattle.cstn_documents.specs.Opened.{IsFile, IsRefusal}

@@ -1,4 +1,4 @@
-use Rattle.std.proofs.Common.{◌≡◌, ◌≤◌, ◌∙◌, ℕ, List, [], length, refl, ap, sym, subst}
+use Rattle.std.proofs.Common.{◌≡◌, ◌∙◌, ℕ, List, [], refl, ap, sym, subst}
 use Rattle.std.specs.Prelude.{IfOk}
 use Rattle.cstn_net.specs.Read.{the_network}
 use Rattle.cstn_lift.specs.Read.{the_labelled}
@@ -12,9 +12,8 @@ use Rattle.cstn_top.specs.Prepared.{the_plan}
 use Rattle.cstn_replay.specs.Texts.{IsReplayOf}
 use Rattle.cstn_closed.specs.Certificates.{IsCertificateOf}
 use Rattle.cstn_tree.specs.Checked.{tree_checked as checked_text}
-use Rattle.cstn_top.specs.Questions.{IsSoundQuestion, the_question, kind_of, FitsKind, a_run, an_edit, a_host}
-use Rattle.cstn_top.specs.declared.commands.Prepared.{Prepared}
-use Rattle.cstn_top.specs.declared.commands.Prepared.TheVariants.{Says, Edits}
+use Rattle.cstn_top.specs.Questions.{IsSoundQuestion, the_question, kind_of, FitsKind}
+use Rattle.cstn_top.specs.declared.commands.Prepared.TheVariants.{Edits}
 use Rattle.cstn_top.specs.declared.commands.questions.Question.{Question}
 use Rattle.cstn_top.proofs.Comes.{comes_same, comes_to_text}
 use Rattle.cstn_top.proofs.Sayings.{check_says, tree_says, replay_says, closedcheck_says, text_says}

@@ -1,4 +1,4 @@
-use Rattle.std.proofs.Common.{sym, subst, ◌≡◌, ℕ, ◌≤◌, arith}
+use Rattle.std.proofs.Common.{sym, subst, ℕ, ◌≤◌, arith}
 use Rattle.cstn_net.specs.Read.{the_network}
 use Rattle.cstn_check.specs.Decisions.{TellsVerdict}
 use Rattle.cstn_check.specs.declared.decisions.Judged.{Judged}

@@ -1,7 +1,7 @@
-use Rattle.std.proofs.Common.{sym, ap, subst, ◌≡◌, map, List}
+use Rattle.std.proofs.Common.{sym, ap, subst, List}
 use Rattle.std.specs.List.{All}
 use Rattle.cstn_label.specs.declared.bounds.Bound.{Bound}
-use Rattle.cstn_net.specs.Read.{NetworkParts, the_network}
+use Rattle.cstn_net.specs.Read.{the_network}
 use Rattle.cstn_closed.specs.Closed.{ClosedParts}
 use Rattle.cstn_closed.specs.Written.{IsNamed}
 use Rattle.cstn_top.proofs.Listing.{all_named}

@@ -1,6 +1,6 @@
 use Rattle.std.proofs.Common.{◌≡◌, ◌∙◌, ℕ, List, length, map, take, ap, sym, subst, arith, String, Global, string_bytes, suc, ◌∷◌, [], ◌++◌}
 use Rattle.std.specs.Prelude.{Option, Err, IsErrAnd, drop}
-use Rattle.std.proofs.lemmas.List.{take_all, length-map, length-append}
+use Rattle.std.proofs.lemmas.List.{take_all, length-append}
 use Rattle.cstn_documents.specs.Opened.{IsAsked, IsPlainOf, IsPlainRefusal}
 use Rattle.cstn_documents.specs.declared.reading.NamedNetwork.{NamedNetwork}
 use Rattle.cstn_documents.specs.declared.reading.Unread.TheVariants.{Told}
