@@ -1,5 +1,0 @@
-use Rattle.cstn_follow.proofs.Rounds.{rounds_are_over}
-use Rattle.cstn_follow.proofs.laws.completion_ends.Goals as goal
-
-pub returns : goal.returns
-returns c = rounds_are_over

@@ -1,0 +1,58 @@
+-- The history that a program begins with.
+use Rattle.std.proofs.Common.{ℕ, zero, suc, ◌≡◌, ◌<◌, List, [], Option, Some, None, length, arith, refl, sym, subst, ap, ◌∙◌}
+use Rattle.std.specs.Prelude.{slice_index_or, slice_set, replicate, take, ◌++◌, ◌-◌}
+use Rattle.std.proofs.Math.Path.{fun_ext}
+use Rattle.std.proofs.lemmas.List.{length-replicate, length-set}
+use Rattle.cstn_label.specs.declared.knowledge.Known.{Known}
+use Rattle.cstn_label.specs.Read.{known_value}
+use Rattle.cstn_net.specs.Networks.{count}
+use Rattle.cstn_lift.specs.Labelled.{Labelled}
+use Rattle.cstn_lift.specs.WellFormed.{IsLabelled}
+use Rattle.cstn_history.specs.Histories.{IsHistory, IsInTime, nothing_yet, origin_alone}
+use Rattle.cstn_history.specs.Read.{HistoryParts, the_history, IsKeptFor}
+use Rattle.cstn_history.proofs.Nothing.{nothing_history}
+
+abbrev nothing : ℕ → List (Option ℕ)
+nothing n = replicate n None
+
+none_there : (n x : ℕ) → slice_index_or (nothing n) x None ≡ None
+none_there zero x = refl
+none_there (suc n) zero = refl
+none_there (suc n) (suc x) = none_there n x
+
+origin_there : (n x : ℕ) → 0 < n → slice_index_or (slice_set (nothing n) 0 (Some 0)) x None ≡ origin_alone x
+origin_there zero x some = absurd (omega arith)
+origin_there (suc n) zero some = refl
+origin_there (suc n) (suc x) some = none_there n x
+
+module _ (n : ℕ) (done : List (Option ℕ)) (k : Known) (some : 0 < n) (is : done ≡ slice_set (nothing n) 0 (Some 0))
+    (none : (q : ℕ) → known_value k q ≡ None) where
+  abbrev parts : HistoryParts
+  parts = record { time = 0; done = done; told = k; expected = nothing 52 }
+
+  pub begun_is : the_history parts ≡ nothing_yet
+  begun_is =
+      ap (λ f. record { now = 0; done = f; told = known_value k; expected = λ p. slice_index_or (nothing 52) p None })
+      (fun_ext (λ x. ap (λ l. slice_index_or l x None) is ∙ origin_there n x some))
+      ∙ ap (λ f. record nothing_yet { told = f; expected = λ p. slice_index_or (nothing 52) p None }) (fun_ext none)
+      ∙ ap (λ f. record nothing_yet { expected = f }) (fun_ext (none_there 52))
+
+  pub begun_kept : (m : Labelled) → IsLabelled m → n ≡ count m.base → IsKeptFor m parts
+  begun_kept m good at = record {
+    one_each = ap length is ∙ length-set (nothing n) 0 (Some 0) ∙ length-replicate n None ∙ at;
+    wide = refl;
+    history = subst (IsHistory m) (sym begun_is) (nothing_history m good);
+    in_time = subst (IsInTime m) (sym begun_is) (record {
+      now = omega arith;
+      expected = λ p e is. absurd (cc);
+      origin = λ p e is o. absurd (cc);
+    });
+  }
+
+-- a list that was empty, made n long
+pub nothing_taken : (n : ℕ) (xs : List (Option ℕ)) (k : ℕ) → xs ≡ [] → k ≡ 0 → take n xs ++ nothing (n - k) ≡ nothing n
+nothing_taken n xs k e f = ap (λ l. take n l ++ nothing (n - k)) e ∙ ap (λ i. take n [] ++ nothing i) (let same : n - k ≡ n = omega arith in same) ∙ taken n
+  where
+    taken : (i : ℕ) → take i [] ++ nothing i ≡ nothing i
+    taken zero = refl
+    taken (suc i) = refl
