@@ -5,5 +5,6 @@ pub mod ConflictLemmas
 pub mod GiverLemmas
 pub mod SearchLemmas
 pub mod StandLemmas
+pub mod RoomLemmas
 mod Saying
 pub mod IdLines

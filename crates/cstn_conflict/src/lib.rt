@@ -6,6 +6,7 @@ mod errors;
 mod givers;
 mod ids;
 mod laws;
+mod room;
 mod search;
 mod texts;
 

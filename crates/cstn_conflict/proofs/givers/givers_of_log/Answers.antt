@@ -4,7 +4,7 @@ use Rattle.cstn_log.specs.Entries.{the_entries}
 use Rattle.cstn_check.specs.Givers.{gave}
 use Rattle.cstn_conflict.specs.Trials.{givers}
 use Rattle.cstn_conflict.proofs.GiverLemmas.{none_gave, entries_next}
-use Rattle.cstn_conflict.proofs.givers.givers.Goals as goal
+use Rattle.cstn_conflict.proofs.givers.givers_of_log.Goals as goal
 
 pub loop-k-init : goal.loop-k-init
 loop-k-init c = let none = none_gave c.args.ids.now in search rules
