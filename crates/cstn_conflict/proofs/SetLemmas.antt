@@ -104,7 +104,7 @@ pub without_well_formed : (id : ℕ) (net : Network) → IsWellFormed net → Is
 without_well_formed id net = some_well_formed net (λ c. not (eqb c.id id))
 
 -- an element of a list is still one where another may be put before the list
-contains_behind : {X : Type 0} (y : X) (ys : List X) (b : Bool) (x : X) → Contains ys x → Contains (cond b (y ∷ ys) ys) x
+pub contains_behind : {X : Type 0} (y : X) (ys : List X) (b : Bool) (x : X) → Contains ys x → Contains (cond b (y ∷ ys) ys) x
 contains_behind y ys true x h = (suc h.0, (let less = h.1 in omega arith), h.2)
 contains_behind y ys false x h = h
 

@@ -12,5 +12,5 @@ mod texts;
 pub use conflicts::{Conflict, smallest};
 pub use errors::ConflictError;
 pub use ids::Ids;
-pub use laws::sets_are_decided;
+pub use laws::{refutations_stand, sets_are_decided};
 pub use texts::conflict_text;

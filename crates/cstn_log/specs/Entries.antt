@@ -31,6 +31,16 @@ AreBornFrom birth ids = (k : ℕ) (id : SlotId) → slice_get ids k ≡ Some id 
 abbrev pub the_entries : List Entry → List TheEntry
 the_entries entries = map the_entry entries
 
+-- the entry at the place has this bound
+pub record IsBoundAt (entries : List Entry) (k : ℕ) (b : Bound) : Type 0 where
+  pub entry : Entry
+  pub there : slice_get entries k ≡ Some entry
+  pub is : entry.bound ≡ b
+
+-- the entry at the place dominates the bound
+abbrev pub IsDominator : List Entry → ℕ → Bound → Type 0
+IsDominator entries k b = (over : Bound) × IsBoundAt entries k over × IsOver over b
+
 -- some entry dominates the bound
 abbrev pub IsCoveredBy : List Entry → Bound → Type 0
 IsCoveredBy entries b = (k : ℕ) × (e : Entry) × (slice_get entries k ≡ Some e) × IsOver e.bound b

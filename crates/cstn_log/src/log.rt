@@ -8,7 +8,7 @@ ghost use Rattle.cstn_net.specs.Read.{the_network};
 ghost use Rattle.cstn_rules.specs.Rules.{base};
 ghost use Rattle.cstn_rules.specs.Derivations.{Follows, IsDerivation, IsRefutation};
 ghost use Rattle.cstn_minset.specs.Sets.{IsPlaced};
-ghost use Rattle.cstn_log.specs.Entries.{State, HasId, AreBornFrom, the_entries, IsCoveredBy, IsLive, AllNew, bases, first_entries};
+ghost use Rattle.cstn_log.specs.Entries.{State, HasId, AreBornFrom, the_entries, IsBoundAt, IsDominator, IsCoveredBy, IsLive, AllNew, bases, first_entries};
 ghost use Rattle.cstn_log.specs.Cuts.{PremisesBelow, is_marked as is_marked_at, chosen, marked_staying, with_ancestors, last_marked, cut, part, dropped};
 ghost use Rattle.cstn_log.specs.Kept.{IsIdAt};
 ghost use Rattle.cstn_log.specs.Chains.{IsFirstLive, IsNext, IsBehind, IsMarkedAt, IsAtNode};
@@ -152,6 +152,17 @@ impl Log {
         self.minimal.covers(b)
     }
 
+    /// The place of an entry that dominates the bound; None exactly where no entry does.
+    pub fn cover(&self, b: &Bound) -> Option<u32>
+        ensures cover { IfSome result (λ k. IsDominator self.now.entries k b.now) }
+        ensures none { IfNone result (¬ IsCoveredBy self.now.entries b.now) }
+    {
+        match self.minimal.cover(b) {
+            Some(id) => self.list.place(id),
+            None => None,
+        }
+    }
+
     /// Whether no later entry dominates the one at this place.
     pub fn live(&self, k: u32) -> bool
         requires { k < length self.now.entries }
@@ -181,6 +192,15 @@ impl Log {
     {
         derivations_are_sound();
         self.list.entry(k as usize)
+    }
+
+    /// The bound of the entry at a place, without the rule that gave it. It takes less time than the whole entry.
+    pub fn bound(&self, k: u32) -> Bound
+        requires { k < length self.now.entries }
+        ensures bound { IsBoundAt self.now.entries k result }
+        ensures node { result.node.0 < self.now.nodes }
+    {
+        self.list.bound(k as usize)
     }
 
     /// The last entry and its ancestors, in order, with premises as places in the answer. They are a derivation of each network
