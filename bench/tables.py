@@ -93,8 +93,8 @@ class Tables:
         grew = False
         for one, other in itertools.permutations(range(len(tables)), 2):
             case, mine, theirs = self.cases[one], tables[one], tables[other]
-            told = [mine[self.observers[letter]] + self.reactions[letter] for letter in case.keys() & self.cases[other].keys() if case[letter] != self.cases[other][letter]]
-            known = min(told)
+            differ = [letter for letter in case.keys() & self.cases[other].keys() if case[letter] != self.cases[other][letter]]
+            known = min(mine[self.observers[letter]] + self.reactions[letter] for letter in differ)
             for name, moment in mine.items():
                 least = min(theirs.get(name, 0), known)
                 if least > moment:

@@ -84,7 +84,8 @@ def tell_shortest(net, tree):
     if lines:
         lines.insert(0, "Ranges that the plan takes at their shortest. Where the length is not its choice, the yes says nothing of a longer one: "
                         "write the longest as the least, or as the reaction of an observation.")
-    data = [{"constraints": [least, most], "from": first, "to": then, "least": low, "most": high, "in_every_case": every} for least, most, first, then, low, high, every in found]
+    data = [{"constraints": [least, most], "from": first, "to": then, "least": low, "most": high, "in_every_case": every}
+            for least, most, first, then, low, high, every in found]
     return data, lines
 
 
@@ -92,12 +93,16 @@ def waits(net, observer):
     """The constraints by which a time-point comes at least some ticks after an observer, without a label of its own for what that tells."""
     letter = net.observed[observer]
     for number, (source, target, most, _) in enumerate(net.constraints):
-        if target == observer and most < 0 and source != observer and letter not in net.completed(net.labels.get(source, "")) and None not in net.in_force(number).values():
+        asks = letter in net.completed(net.labels.get(source, ""))
+        if target == observer and most < 0 and source != observer and not asks and None not in net.in_force(number).values():
             yield number, source, -most
 
 
 def disagreeing(net):
-    """The constraints that seem to repeat a reaction by hand and have another number: shorter ones, and longer ones that stand there twice or more while none has its number."""
+    """The constraints that seem to repeat a reaction by hand and have another number.
+
+    These are shorter ones, and longer ones that stand there twice or more while none has the number of the reaction.
+    """
     found = []
     for observer in net.observed:
         reaction, all_waits = net.reaction(observer), list(waits(net, observer))
@@ -120,4 +125,5 @@ def tell_disagreeing(net):
         lines.append(f"{net.called(number)}: {name} at least {ticks(least)} after {observer}, but {letter} is known {ticks(reaction)} after it, {fault}")
     if lines:
         lines.insert(0, "Reactions that seem to be written again on an edge, and do not agree:")
-    return [{"constraint": number, "observer": observer, "reaction": net.reaction(observer), "at_least": least} for number, observer, least in found], lines
+    data = [{"constraint": number, "observer": observer, "reaction": net.reaction(observer), "at_least": least} for number, observer, least in found]
+    return data, lines

@@ -172,8 +172,10 @@ def network_in_words(net):
 def network_data(net):
     """The network as data: its deadline, time-points and constraints, each with its line where that was found."""
     rows = net.rows if len(net.rows) == len(net.constraints) else [None] * len(net.constraints)
-    points = [{"name": name, "observes": net.observed.get(name), "reaction": net.reaction(name) if name in net.observed else None, "label": net.labels.get(name, "")} for name in net.names]
-    constraints = [{"id": number, "line": rows[number], "from": source, "to": target, "at_most": most, "label": label, "says": constraint(source, target, most, label),
+    points = [{"name": name, "observes": net.observed.get(name), "reaction": net.reaction(name) if name in net.observed else None,
+               "label": net.labels.get(name, "")} for name in net.names]
+    constraints = [{"id": number, "line": rows[number], "from": source, "to": target, "at_most": most, "label": label,
+                    "says": constraint(source, target, most, label),
                     "counts": written(net.in_force(number)) if None not in net.in_force(number).values() else None, "for_a_label": number in net.waits}
                    for number, (source, target, most, label) in enumerate(net.constraints)]
     return {"deadline": net.deadline, "time_points": points, "constraints": constraints}

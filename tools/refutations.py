@@ -31,7 +31,7 @@ def premises(line):
 
 
 def turns(steps):
-    """For each step whether it repeats, with greater moments, the one a turn before it, where that goes on for three turns and more: the length of the turn, or 0."""
+    """For each step the length of a turn where it repeats, with greater moments, the one a turn before it, for three turns and more; else 0."""
     shapes = []
     for number, line in enumerate(steps):
         parts = line.split(" ")
@@ -69,7 +69,7 @@ class Refutation:
         return f"the label of {source}" + (f", which asks for {self.net.observed[target]}" if len(literals(label)) > 1 else "")
 
     def beside(self, number):
-        """What is to be said beside a constraint that stands there for a label: who asks and who tells, each with its line, and what can be done."""
+        """What is to be said beside a constraint for a label: who asks and who tells, each with its line, and what can be done."""
         own, source, target = self.constraints[number][:3]
         if own is not None:
             return FOR_A_LABEL if number in self.net.waits else ""
@@ -170,8 +170,10 @@ def accepted_no(refutation, text, missing):
     end = "the start is at 0" if name == "Z" else f"the deadline is {net.limit(name)}"
     lines += [*steps, f"But {end}, so no plan can be carried out{where(label)}."]
     if any(refutation.turns) and not lacks:
-        lines.append("The turns go on until they meet the deadline or a constraint. Where `tight` with a larger deadline says no too, none helps: change a constraint that the steps use, or shorten a reaction.")
-    data = {"answer": "no", "deadline": net.deadline, "each_needed": blamed, **lacks, "constraints": refutation.uses(), "reactions": refutation.reactions(), "steps": steps, "where": label.strip("-")}
+        lines.append("The turns go on until they meet the deadline or a constraint. Where `tight` with a larger deadline says no too, none helps: "
+                     "change a constraint that the steps use, or shorten a reaction.")
+    data = {"answer": "no", "deadline": net.deadline, "each_needed": blamed, **lacks, "constraints": refutation.uses(),
+            "reactions": refutation.reactions(), "steps": steps, "where": label.strip("-")}
     return data, lines
 
 

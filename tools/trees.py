@@ -21,7 +21,8 @@ def tree_of(net, lines, known):
         told = [printed(name) for name in parts[2:]]
         names = [name for name in told if net.is_executed(name, known)]
         before = {name: net.unknown(name, known) for name in names}
-        items.append({"at": int(parts[1]), "names": names, "left_out": [name for name in told if name not in names], "before": {name: letters for name, letters in before.items() if letters}})
+        items.append({"at": int(parts[1]), "names": names, "left_out": [name for name in told if name not in names],
+                      "before": {name: letters for name, letters in before.items() if letters}})
     return items, lines
 
 
