@@ -13,7 +13,7 @@ use Rattle.cstn_reply.specs.declared.output.Outcome.TheVariants.{Good, Bad, Word
 use Rattle.cstn_top.proofs.Dispatched.{IsGood, IsBad, IsFull, IsWide, IsComplete, IsEvidence, IsRanged, IsLeastRun, IsCarriedOut, IsLeftUnfinished, IsEnded, AreHeld}
 use Rattle.cstn_top.specs.Command.{WantsMemory}
 use Rattle.cstn_top.proofs.Standing.{YesAccepted, NoAccepted}
-use Rattle.cstn_reply.specs.declared.status.Status.TheVariants.{Good as IsGoodStatus, Unfinished as IsUnfinishedStatus}
+use Rattle.cstn_reply.specs.declared.status.Status.TheVariants.{Good as IsGoodStatus, Bad as IsBadStatus, Unfinished as IsUnfinishedStatus}
 use Rattle.cstn_top.specs.Prepared.{the_plan, TellsRefused, FitsKind}
 use Rattle.cstn_top.specs.declared.commands.Prepared.{Prepared}
 use Rattle.cstn_top.specs.declared.commands.questions.Question.{Question}
@@ -56,3 +56,14 @@ pub record IsProved (request : Request) : Type 0 where
   pub unfinished : (told old new : Option (List ℕ)) (contents : List (List ℕ)) → IsEnded IsUnfinishedStatus told old new request contents → IsLeftUnfinished told old new request contents
   -- it can't be that there is no output
   pub some : Laws → (contents : List (List ℕ)) (live : List ℕ) → IsRanged request → AreHeld request contents → HasSome (plan_at request contents) live
+
+-- where no text is evidence after Good and after Bad, nothing is asked of any
+pub no_evidence : (request : Request) (contents : List (List ℕ)) (text : List ℕ) → IsEvidence request IsGoodStatus text contents → IsEvidence request IsBadStatus text contents → (o : Outcome) → IsEvidence request (status_of o) text contents
+no_evidence request contents text good bad Good = good
+no_evidence request contents text good bad Bad = bad
+no_evidence request contents text good bad Words = tt
+no_evidence request contents text good bad Document = tt
+no_evidence request contents text good bad Full = tt
+no_evidence request contents text good bad Unfinished = tt
+no_evidence request contents text good bad Script = tt
+no_evidence request contents text good bad Wide = tt

@@ -1,5 +1,5 @@
 -- It can't be that a request has no output.
-use Rattle.std.proofs.Common.{◌≡◌, ℕ, zero, suc, ◌+◌, ◌<◌, ◌≤◌, Bool, true, false, List, ◌∷◌, ◌++◌, length, map, refl, subst, inl, inr, arith, zero-add}
+use Rattle.std.proofs.Common.{◌≡◌, ℕ, zero, suc, ◌+◌, ◌<◌, ◌≤◌, Bool, true, false, List, ◌∷◌, ◌++◌, length, map, refl, subst, inl, inr, arith, zero-add, []}
 use Rattle.std.specs.Prelude.{slice_get, nat_lt, if◌then◌else◌, Option, Some, Result, Ok, Err, ◌-◌, codes, decimal}
 use Rattle.std.specs.List.{All}
 use Rattle.std.proofs.lemmas.List.Elements.{All-head, All-tail, All-contains}
@@ -57,6 +57,7 @@ use Rattle.cstn_host.specs.Sessions.{begun as begun_host, host_turn, host_ending
 use Rattle.cstn_host.specs.Files.{Named, the_file, yes_lines}
 use Rattle.cstn_top.proofs.Documents.{of_network}
 use Rattle.cstn_top.proofs.SomeFault.{faultless, faultless_is_closed}
+use Rattle.cstn_log.specs.Asked.{asked}
 
 -- it can't be that the plan has no output
 abbrev pub HasSome : Plan → List ℕ → Type 0

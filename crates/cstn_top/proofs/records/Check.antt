@@ -1,5 +1,5 @@
 -- What is proved of `check`.
-use Rattle.std.proofs.Common.{ℕ, List, ap, sym, subst, inl, inr}
+use Rattle.std.proofs.Common.{ℕ, List, ap, sym, subst, inl, inr, []}
 use Rattle.std.specs.Prelude.{get_or, Option}
 use Rattle.cstn_check.specs.Growth.{load_of}
 use Rattle.cstn_words.specs.Requests.{Asked, check}

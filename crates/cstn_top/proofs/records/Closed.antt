@@ -1,5 +1,5 @@
 -- What is proved of `closed`.
-use Rattle.std.proofs.Common.{ℕ, ◌<◌, List, ap, sym, subst, inl, inr, arith}
+use Rattle.std.proofs.Common.{ℕ, ◌<◌, List, ap, sym, subst, inl, inr, arith, []}
 use Rattle.std.specs.Prelude.{get_or, Option}
 use Rattle.cstn_net.specs.Networks.{IsWellFormed}
 use Rattle.cstn_check.specs.Growth.{log_of, load_of, live_bounds}

@@ -1,5 +1,5 @@
 -- What is proved of `closedcheck`.
-use Rattle.std.proofs.Common.{ℕ, Bool, true, false, List, length, ap, sym, subst, inl, inr}
+use Rattle.std.proofs.Common.{ℕ, Bool, true, false, List, length, ap, sym, subst, inl, inr, []}
 use Rattle.std.specs.Prelude.{nat_lt, if◌then◌else◌, get_or, Option, codes}
 use Rattle.cstn_net.specs.Networks.{Network, IsWellFormed}
 use Rattle.cstn_net.specs.Strategies.{IsConsistent}
@@ -20,7 +20,7 @@ use Rattle.cstn_log.specs.Asked.{asked as table_of}
 use Rattle.cstn_log.proofs.Strategies.{asked_strategy}
 use Rattle.cstn_closed.specs.Texts.{Told as ToldBounds, tells as tells_bounds, wrong as wrong_bound, told as told_bounds}
 use Rattle.cstn_graphml.specs.Networks.{labelled_of}
-use Rattle.cstn_top.proofs.Proved.{IsRight, IsProved}
+use Rattle.cstn_top.proofs.Proved.{IsRight, IsProved, no_evidence}
 use Rattle.cstn_top.proofs.Meanings.{text_silent}
 use Rattle.cstn_top.proofs.SomeOutput.{text_some, certified_some, document_some}
 
@@ -93,7 +93,7 @@ closedcheck_proved asked proof = record {
       on_labels (of_lowered (by_text certified (get_or contents 1 []))) (get_or contents 0 []) asked.deadline live said (λ names m. CertifiesLabelled (told_bounds names (get_or contents 1 [])) m said.outcome) (IsRight told said.outcome (closedcheck asked proof) contents)
       (λ is refused. subst (λ (o : Outcome). IsRight told o (closedcheck asked proof) contents) (sym is) tt) (bounds_text_tells (get_or contents 1 []) live said) (closedcheck_right told asked proof contents said.outcome) output;
   complete = λ contents live said output. tt;
-  evidence = λ yes_text no_text contents live said capped output. tt;
+  evidence = λ yes_text no_text contents live said capped output. no_evidence (closedcheck asked proof) contents said.text tt tt said.outcome;
   talks = λ contents may.
       labels_silent (of_lowered (by_text certified (get_or contents 1 []))) (get_or contents 0 []) asked.deadline
       (λ names m. text_silent certified (get_or contents 1 []) names (lowered m) (bounds_silent names (told_bounds names (get_or contents 1 [])) (lowered m))) may;

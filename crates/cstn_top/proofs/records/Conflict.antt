@@ -1,5 +1,5 @@
 -- What is proved of `conflict`.
-use Rattle.std.proofs.Common.{◌≡◌, ℕ, true, List, refl, sym, subst}
+use Rattle.std.proofs.Common.{◌≡◌, ℕ, true, List, refl, sym, subst, []}
 use Rattle.std.specs.Prelude.{get_or, Option}
 use Rattle.cstn_net.specs.Networks.{Network, IsWellFormed}
 use Rattle.cstn_net.specs.Strategies.{IsConsistent}

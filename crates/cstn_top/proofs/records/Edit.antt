@@ -1,5 +1,5 @@
 -- What is proved of `edit`.
-use Rattle.std.proofs.Common.{◌≡◌, ℕ, ◌<◌, List, length, refl, ap, sym, ◌∙◌, subst, inl, inr}
+use Rattle.std.proofs.Common.{◌≡◌, ℕ, ◌<◌, List, length, refl, ap, sym, ◌∙◌, subst, inl, inr, []}
 use Rattle.std.specs.Prelude.{◌⊎◌, get_or, Option, None, Some, IsSomeAnd, IfSome}
 use Rattle.std.proofs.lemmas.Option.{same_Some}
 use Rattle.cstn_io.specs.Contents.{IsAllOf, with_bytes}
@@ -31,7 +31,7 @@ use Rattle.cstn_top.specs.Lines.{StopsAtLine}
 use Rattle.cstn_edit.specs.Editing.{Editing, begun_editing, answered_edit, answered_add, answered, edit_turn, edit_ending, ending_by, last_checked}
 use Rattle.cstn_top.proofs.Played.{TurnIs, stops_at, Played, all_answered, one_last, one_stops, played}
 use Rattle.cstn_top.proofs.Dispatched.{IsEnded}
-use Rattle.cstn_top.proofs.Proved.{IsRight, IsProved}
+use Rattle.cstn_top.proofs.Proved.{IsRight, IsProved, no_evidence}
 use Rattle.cstn_top.proofs.Meanings.{network_then, on_network, none_such}
 use Rattle.cstn_top.proofs.SomeOutput.{plain_some}
 
@@ -131,7 +131,7 @@ edit_proved asked cap = record {
       on_network (edited cap) (get_or contents 0 []) asked.deadline live said (EditTells told cap) (λ o. IsRight told o (edit asked cap) contents) (λ refused. tt)
       (λ names net good named is. edit_tells told cap names net live said good named all is) (edit_right told asked cap contents) output;
   complete = λ contents live said output. tt;
-  evidence = λ yes_text no_text contents live said capped output. tt;
+  evidence = λ yes_text no_text contents live said capped output. no_evidence (edit asked cap) contents said.text tt tt said.outcome;
   talks = edit_talks asked cap;
   wants = λ contents wants may. edit_talks asked cap contents may;
   refused = λ told question prepared asks comes fits. tt;

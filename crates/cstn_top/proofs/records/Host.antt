@@ -1,5 +1,5 @@
 -- What is proved of `host`.
-use Rattle.std.proofs.Common.{◌≡◌, ℕ, ◌≤◌, List, refl, sym, subst, arith}
+use Rattle.std.proofs.Common.{◌≡◌, ℕ, ◌≤◌, List, refl, sym, subst, arith, []}
 use Rattle.std.specs.Prelude.{Option}
 use Rattle.cstn_net.specs.Networks.{Network}
 use Rattle.cstn_reply.specs.Texts.{Said}

@@ -1,5 +1,5 @@
 -- What is proved of `replay`.
-use Rattle.std.proofs.Common.{◌≡◌, ℕ, ◌≤◌, ◌<◌, Bool, true, false, List, length, refl, ap, sym, subst, inl, inr, arith}
+use Rattle.std.proofs.Common.{◌≡◌, ℕ, ◌≤◌, ◌<◌, Bool, true, false, List, length, refl, ap, sym, subst, inl, inr, arith, []}
 use Rattle.std.specs.Prelude.{nat_lt, if◌then◌else◌, get_or, Option, codes}
 use Rattle.cstn_net.specs.Networks.{Network, IsWellFormed}
 use Rattle.cstn_net.specs.Strategies.{IsConsistent}
@@ -22,7 +22,7 @@ use Rattle.cstn_reply.specs.declared.output.Outcome.TheVariants.{Good, Bad, Word
 use Rattle.cstn_top.proofs.Labels.{IsOfLabelled, labelled_then, none_labelled, on_labels, labels_silent}
 use Rattle.cstn_top.proofs.Dispatched.{IsComplete}
 use Rattle.cstn_graphml.specs.Networks.{labelled_of}
-use Rattle.cstn_top.proofs.Proved.{IsRight, IsProved}
+use Rattle.cstn_top.proofs.Proved.{IsRight, IsProved, no_evidence}
 use Rattle.cstn_top.proofs.Meanings.{text_silent}
 use Rattle.cstn_top.proofs.SomeOutput.{text_some, replayed_some, document_some}
 
@@ -124,7 +124,7 @@ replay_proved asked proof = record {
       (IsComplete (status_of said.outcome) (replay asked proof) contents)
       (λ is refused. inl (ap status_of is, refused))
       (λ names m of is. decides_text (get_or contents 1 []) (told_by names (get_or contents 1 [])) m said.outcome (text_tells (get_or contents 1 []) live said names m of is)) (λ has. inr has) output;
-  evidence = λ yes_text no_text contents live said capped output. tt;
+  evidence = λ yes_text no_text contents live said capped output. no_evidence (replay asked proof) contents said.text tt tt said.outcome;
   talks = λ contents may.
       labels_silent (of_lowered (by_text replayed (get_or contents 1 []))) (get_or contents 0 []) asked.deadline
       (λ names m. text_silent replayed (get_or contents 1 []) names (lowered m) (steps_silent (told_by names (get_or contents 1 [])) (lowered m))) may;

@@ -1,5 +1,5 @@
 -- What is proved of `run`.
-use Rattle.std.proofs.Common.{◌≡◌, ℕ, ◌≤◌, ◌<◌, Bool, true, false, List, ◌∷◌, ◌+◌, map, refl, ap, sym, ◌∙◌, subst, inl, inr, arith}
+use Rattle.std.proofs.Common.{◌≡◌, ℕ, ◌≤◌, ◌<◌, Bool, true, false, List, ◌∷◌, ◌+◌, map, refl, ap, sym, ◌∙◌, subst, inl, inr, arith, []}
 use Rattle.std.specs.Prelude.{◌⊎◌, if◌then◌else◌, get_or, Option, None, Some, IsSomeAnd, IfSome}
 use Rattle.cstn_io.specs.Contents.{IsAllOf, with_bytes}
 use Rattle.cstn_net.specs.Networks.{count}
@@ -69,8 +69,8 @@ where_labelled bytes deadline holds each = by_found (parts_of (document bytes de
     by_found None is = tt
     by_found (Some parts) is = λ fit.
         let has : HasLabelled bytes deadline (λ names m. Unit {0}) = subst (λ (f : Option Parts). IsSomeAnd f (λ parts. IsFit parts × Unit {0})) (sym is) (fit, tt) in
-        let then : HasLabelled bytes deadline holds = fit_then bytes deadline (λ names m. Unit {0}) holds has (λ names m good of h. each names m good of) in
-        (subst (λ (f : Option Parts). IsSomeAnd f (λ parts. IsFit parts × holds parts.names (labelled_of parts))) is then).1
+        let following : HasLabelled bytes deadline holds = fit_then bytes deadline (λ names m. Unit {0}) holds has (λ names m good of h. each names m good of) in
+        (subst (λ (f : Option Parts). IsSomeAnd f (λ parts. IsFit parts × holds parts.names (labelled_of parts))) is following).1
 
 -- what the outcome of a run tells of a labelled network
 abbrev pub RunTells : ℕ → Labelled → Outcome → Type 0

@@ -1,5 +1,5 @@
 -- What is proved of `save`.
-use Rattle.std.proofs.Common.{◌≡◌, ℕ, List, refl, ap, sym, subst}
+use Rattle.std.proofs.Common.{◌≡◌, ℕ, List, refl, ap, sym, subst, []}
 use Rattle.std.specs.Prelude.{get_or, Option, None, Some, IsSomeAnd}
 use Rattle.cstn_graphml.specs.Document.{Parts, document}
 use Rattle.cstn_graphml.specs.Networks.{IsFit}
@@ -10,7 +10,7 @@ use Rattle.cstn_documents.specs.Documents.{parts_of, HasLabelled}
 use Rattle.cstn_reply.specs.declared.output.Outcome.{Outcome}
 use Rattle.cstn_reply.specs.declared.output.Outcome.TheVariants.{Good}
 use Rattle.cstn_top.proofs.Labels.{on_labels, labels_silent}
-use Rattle.cstn_top.proofs.Proved.{IsRight, IsProved}
+use Rattle.cstn_top.proofs.Proved.{IsRight, IsProved, no_evidence}
 use Rattle.cstn_top.proofs.SomeOutput.{said_some, document_some}
 
 save_right : (live : Option (List ℕ)) (asked : Asked) (contents : List (List ℕ)) (o : Outcome) → HasLabelled (get_or contents 0 []) asked.deadline (λ names m. o ≡ Good) → IsRight live o (save asked) contents
@@ -28,7 +28,7 @@ save_proved asked = record {
       on_labels saved (get_or contents 0 []) asked.deadline live said (λ names m. said.outcome ≡ Good) (IsRight told said.outcome (save asked) contents)
       (λ is refused. subst (λ (o : Outcome). IsRight told o (save asked) contents) (sym is) tt) (λ names m of is. ap (λ (s : Said). s.outcome) is) (save_right told asked contents said.outcome) output;
   complete = λ contents live said output. tt;
-  evidence = λ yes_text no_text contents live said capped output. tt;
+  evidence = λ yes_text no_text contents live said capped output. no_evidence (save asked) contents said.text tt tt said.outcome;
   talks = λ contents may. labels_silent saved (get_or contents 0 []) asked.deadline (λ names m is. is) may;
   wants = λ contents wants may. absurd wants;
   refused = λ told question prepared asks comes fits. tt;

@@ -1,5 +1,5 @@
 -- What is proved of `tight`.
-use Rattle.std.proofs.Common.{◌≡◌, ℕ, true, List, refl, sym, subst}
+use Rattle.std.proofs.Common.{◌≡◌, ℕ, true, List, refl, sym, subst, []}
 use Rattle.std.specs.Prelude.{get_or, Option}
 use Rattle.cstn_net.specs.Networks.{IsWellFormed}
 use Rattle.cstn_words.specs.Requests.{Asked, tight}

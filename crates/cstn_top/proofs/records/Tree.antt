@@ -1,5 +1,5 @@
 -- What is proved of `tree`.
-use Rattle.std.proofs.Common.{ℕ, ◌≤◌, Bool, true, false, List, ◌+◌, refl, ap, sym, subst, inl, inr, ◌++◌}
+use Rattle.std.proofs.Common.{ℕ, ◌≤◌, Bool, true, false, List, ◌+◌, refl, ap, sym, subst, inl, inr, ◌++◌, []}
 use Rattle.std.specs.Prelude.{nat_lt, if◌then◌else◌, get_or, Option, codes, decimal}
 use Rattle.cstn_net.specs.Networks.{Network}
 use Rattle.cstn_graphml.specs.Document.{document}

@@ -1,5 +1,5 @@
 -- What is proved of `treecheck`.
-use Rattle.std.proofs.Common.{ℕ, List}
+use Rattle.std.proofs.Common.{ℕ, List, []}
 use Rattle.std.specs.Prelude.{get_or, Option}
 use Rattle.cstn_graphml.specs.Document.{document}
 use Rattle.cstn_words.specs.Requests.{Asked, treecheck}
@@ -10,7 +10,7 @@ use Rattle.cstn_reply.specs.declared.output.Outcome.{Outcome}
 use Rattle.cstn_reply.specs.declared.output.Outcome.TheVariants.{Good, Bad, Words, Document, Full, Unfinished, Script, Wide}
 use Rattle.cstn_tree.specs.Texts.{told as told_tree}
 use Rattle.cstn_top.proofs.Trees.{ChecksTree, tree_tells, lines_silent}
-use Rattle.cstn_top.proofs.Proved.{IsRight, IsProved}
+use Rattle.cstn_top.proofs.Proved.{IsRight, IsProved, no_evidence}
 use Rattle.cstn_top.proofs.Meanings.{on_network, none_such, never_talks, text_silent}
 use Rattle.cstn_top.proofs.SomeOutput.{text_some, lines_some, plain_some}
 
@@ -30,7 +30,7 @@ treecheck_proved asked proof = record {
       on_network (by_text tree_checked (get_or contents 1 [])) (get_or contents 0 []) asked.deadline live said (λ o names net. ChecksTree (told_tree names (get_or contents 1 [])) net o) (λ o. IsRight told o (treecheck asked proof) contents) (λ refused. tt)
       (λ names net good named is. tree_tells (get_or contents 1 []) names net live said good is) (treecheck_right told asked proof contents) output;
   complete = λ contents live said output. tt;
-  evidence = λ yes_text no_text contents live said capped output. tt;
+  evidence = λ yes_text no_text contents live said capped output. no_evidence (treecheck asked proof) contents said.text tt tt said.outcome;
   talks = λ contents may.
       never_talks (by_text tree_checked (get_or contents 1 [])) (get_or contents 0 []) asked.deadline (λ names net. text_silent tree_checked (get_or contents 1 []) names net (lines_silent (told_tree names (get_or contents 1 [])) net)) may;
   wants = λ contents wants may. absurd wants;
