@@ -87,10 +87,15 @@ none_gave [] = refl
 none_gave (i ∷ is) = ap (λ bs. false ∷ bs) (none_gave is)
 
 -- the first entries and one more
+pub entry_next : (list : List DeclaredEntry) (k : ℕ) (e : DeclaredEntry) → k < length list → e ≡ get_or list k e →
+    the_entries (take (k + 1) list) ≡ the_entries (take k list) ++ the_entry e ∷ []
+entry_next list k e inside here =
+    ap the_entries (take_more list k e inside) ∙ map_push the_entry (take k list) (get_or list k e)
+    ∙ ap (λ x. the_entries (take k list) ++ the_entry x ∷ []) (sym here)
+
 pub entries_next : (list : List DeclaredEntry) (k : ℕ) (e : DeclaredEntry) → slice_get list k ≡ Some e →
     the_entries (take (k + 1) list) ≡ the_entries (take k list) ++ the_entry e ∷ []
 entries_next list k e there =
     let inside = slice_get_within list k e there in
-    let same : get_or list k e ≡ e = let at = slice_get-get_or list k e inside in cc in
-    ap the_entries (take_more list k e inside) ∙ map_push the_entry (take k list) (get_or list k e)
-    ∙ ap (λ x. the_entries (take k list) ++ the_entry x ∷ []) same
+    let here : e ≡ get_or list k e = let at = slice_get-get_or list k e inside in cc in
+    entry_next list k e inside here

@@ -4,5 +4,7 @@ pub mod TrialLemmas
 pub mod ConflictLemmas
 pub mod GiverLemmas
 pub mod SearchLemmas
+pub mod StandLemmas
+pub mod RoomLemmas
 mod Saying
 pub mod IdLines

@@ -1,21 +1,24 @@
 -- Trials of the search, and constraints that are left out with no trial.
-use Rattle.std.proofs.Common.{ℕ, ◌≡◌, ◌<◌, ◌≤◌, Bool, true, false, not, List, length, get_or, arith, sym, subst, ap, ◌∙◌}
+use Rattle.std.proofs.Common.{ℕ, ◌≡◌, ◌<◌, ◌≤◌, Bool, true, false, not, List, Option, Some, None, length, get_or, arith, refl, sym, subst, ap, ◌∙◌}
+use Rattle.std.specs.Prelude.{IfSome}
 use Rattle.std.proofs.lemmas.Bool.{cond-true, cond-false, false_from_ne_true}
 use Rattle.std.proofs.lemmas.List.{get_or-map}
-use Rattle.cstn_net.specs.Networks.{Network, IsWellFormed}
+use Rattle.cstn_net.specs.Networks.{Network, IsNetwork, IsWellFormed}
 use Rattle.cstn_net.specs.Strategies.{IsConsistent}
 use Rattle.cstn_net.specs.Read.{NetworkParts, the_network}
-use Rattle.cstn_rules.specs.Derivations.{IsRefutation}
+use Rattle.cstn_rules.specs.Derivations.{Entry, IsRefutation}
 use Rattle.cstn_log.specs.Cuts.{part}
 use Rattle.cstn_log.proofs.MarkLemmas.{part_refutation}
 use Rattle.cstn_refute.specs.Refutations.{RefutationParts, the_steps}
-use Rattle.cstn_check.specs.Growth.{is_refuted, log_of, load_of}
+use Rattle.cstn_check.specs.Growth.{is_refuted, log_of, load_of, most_entries}
 use Rattle.cstn_check.specs.Givers.{gave, without}
-use Rattle.cstn_check.specs.declared.verdicts.Verdict.TheVariants.{No}
 use Rattle.cstn_check.proofs.Answering.{log_refutes_last}
 use Rattle.cstn_check.proofs.PartLemmas.{log_refutation}
 use Rattle.cstn_check.specs.Verdicts.{is_consistent, IsRefutationOf}
-use Rattle.cstn_conflict.specs.Trials.{IsVerdictOn, IsNoOn, givers, smaller}
+use Rattle.cstn_conflict.specs.declared.search.No.{No}
+use Rattle.cstn_conflict.specs.Sets.{with_ids}
+use Rattle.cstn_conflict.specs.Conflicts.{conflict_set}
+use Rattle.cstn_conflict.specs.Trials.{Decides, IsNoOn, givers, smaller}
 use Rattle.cstn_check.proofs.Decides.{decided, not_consistent}
 use Rattle.cstn_conflict.proofs.SetLemmas.{without_well_formed}
 use Rattle.cstn_conflict.proofs.TrialLemmas.{copied}
@@ -28,52 +31,98 @@ part_refutes net good refuted = part_refutation net (log_of net) (log_refutation
     by b e = grind arith
 
 -- what a check that said no leaves
-pub no_from : (cap : ℕ) (net : Network) (ids : List ℕ) (marks : List Bool) (r : RefutationParts) → IsWellFormed net → (load : ℕ) → IsVerdictOn cap net (No load) →
-    marks ≡ givers ids (log_of net) → IsRefutationOf net r → IsNoOn cap net ids marks r
-no_from cap net ids marks r good load told marked refutation = record {
-  refuted = false_from_ne_true (is_consistent net) (λ t. told.2 ((decided net good).0 t));
-  within = told.1;
-  givers = marked;
-  refutation = refutation;
+pub no_from : (cap : ℕ) (checked net : NetworkParts) (ids : List ℕ) (one : No) → checked ≡ net → is_consistent (the_network net) ≡ false → load_of (the_network net) ≤ cap →
+    (list : List Entry) × Decides cap (the_network checked) one.roomy list × (one.gave.items ≡ givers ids list) →
+    IfSome one.refutation (IsRefutationOf (the_network checked)) → IsNoOn cap (the_network net) ids one
+no_from cap checked net ids one same refuted within found refutation = record {
+  refuted = refuted;
+  within = within;
+  list = found.0;
+  decides = subst (λ (n : NetworkParts). Decides cap (the_network n) one.roomy found.0) same found.1;
+  givers = found.2;
+  refutation = subst (λ (n : NetworkParts). IfSome one.refutation (IsRefutationOf (the_network n))) same refutation;
 }
 
--- the mark of the id at a place tells whether its constraint gave an entry of the log
-pub idle_at : (cap : ℕ) (net : Network) (ids : List ℕ) (marks : List Bool) (r : RefutationParts) (k : ℕ) → IsNoOn cap net ids marks r → k < length ids →
-    get_or marks k false ≡ false → gave (get_or ids k 0) (log_of net) ≡ false
-idle_at cap net ids marks r k last inside unmarked =
-    sym (ap (λ ms. get_or ms k false) last.givers ∙ get_or-map (λ id. gave id (log_of net)) ids k 0 false inside) ∙ unmarked
+-- the mark of the id at a place tells whether its constraint gave an entry of the list
+pub idle_at : (cap : ℕ) (net : Network) (ids : List ℕ) (one : No) (k : ℕ) → (last : IsNoOn cap net ids one) → k < length ids →
+    get_or one.gave.items k false ≡ false → gave (get_or ids k 0) last.list ≡ false
+idle_at cap net ids one k last inside unmarked =
+    sym (ap (λ ms. get_or ms k false) last.givers ∙ get_or-map (λ id. gave id last.list) ids k 0 false inside) ∙ unmarked
 
--- where the log without a constraint is the same, so is the no
-module _ (cap : ℕ) (net : Network) (ids : List ℕ) (marks : List Bool) (r : RefutationParts) (id : ℕ) (good : IsWellFormed net) (last : IsNoOn cap net ids marks r)
-    (same : log_of (without id net) ≡ log_of net) where
-  still_refuted : is_consistent (without id net) ≡ false
-  still_refuted = ap (λ l. not (is_refuted net l)) same ∙ last.refuted
+-- the laws that are needed here
+abbrev pub Idle : Type 0
+Idle = (net : Network) (id : ℕ) → gave id (log_of net) ≡ false → log_of (without id net) ≡ log_of net
 
-  pub skip_within : load_of (without id net) ≤ cap
-  skip_within = let size = ap length same in let below = last.within in omega arith
+abbrev pub Stands : Type 0
+Stands = (net : Network) (id : ℕ) (steps : List Entry) → gave id steps ≡ false → IsRefutation net steps → IsRefutation (without id net) steps
 
-  pub skip_smaller : without id net ≡ smaller id net
-  skip_smaller = sym (cond-false (is_consistent (without id net)) net (without id net) still_refuted)
+abbrev pub Sound : Type 0
+Sound = (net : Network) (steps : List Entry) → IsNetwork net → IsRefutation net steps → IsConsistent net → ⊥
 
-  pub skip_no : IsNoOn cap (without id net) ids marks r
-  skip_no =
-      let same_part : the_steps r ≡ part (log_of (without id net)) = last.refutation.part ∙ ap part (sym same) in
+abbrev pub Bounded : Type 0
+Bounded = (net : Network) → IsWellFormed net → load_of net ≤ most_entries net
+
+module _ (idle : Idle) (stands : Stands) (sound : Sound) (bounded : Bounded) (cap id : ℕ) (net : Network) (good : IsWellFormed net) where
+  -- a constraint that gave no entry of a list that decides may be left out, and the list still decides
+  stays : (b : Bool) (list : List Entry) → gave id list ≡ false → Decides cap net b list → is_consistent net ≡ false → load_of net ≤ cap →
+      (is_consistent (without id net) ≡ false) × (load_of (without id net) ≤ cap) × Decides cap (without id net) b list
+  stays true list none decides refuted within =
+      let small = without_well_formed id net good in
+      let again = stands net id list none decides.0 in (
+        false_from_ne_true (is_consistent (without id net)) (λ t. sound (without id net) list small.network again ((decided (without id net) small).0 t)),
+        (let most = bounded (without id net) small in let room : most_entries (without id net) ≤ cap = decides.1 in omega arith),
+        (again, decides.1),
+      )
+  stays false list none is refuted within =
+      let same = idle net id (subst (λ l. gave id l ≡ false) is none) in
+      (ap (λ l. not (is_refuted net l)) same ∙ refuted, (let size = ap length same in omega arith), is ∙ sym same)
+
+  -- the refutation of a network whose log stays is one of the network without the constraint
+  kept : (list : List Entry) (o : Option RefutationParts) → gave id list ≡ false → list ≡ log_of net → is_consistent net ≡ false → load_of net ≤ cap →
+      IfSome o (IsRefutationOf net) → IfSome o (IsRefutationOf (without id net))
+  kept list None none is refuted within r = tt
+  kept list (Some r) none is refuted within refutation =
+      let same = idle net id (subst (λ l. gave id l ≡ false) is none) in
+      let same_part : the_steps r ≡ part (log_of (without id net)) = refutation.part ∙ ap part (sym same) in
       record {
-        refuted = still_refuted;
-        within = skip_within;
-        givers = last.givers ∙ ap (givers ids) (sym same);
-        refutation = record {
-          part = same_part;
-          load = last.refutation.load ∙ ap length (sym same);
-          refutes = subst (IsRefutation (without id net)) (sym same_part) (part_refutes (without id net) (without_well_formed id net good) still_refuted);
-          named = last.refutation.named;
-          text = last.refutation.text;
-        };
+        part = same_part;
+        load = refutation.load ∙ ap length (sym same);
+        refutes = subst (IsRefutation (without id net)) (sym same_part)
+            (part_refutes (without id net) (without_well_formed id net good) (stays false list none is refuted within).0);
+        named = refutation.named;
+        text = refutation.text;
       }
 
+  module _ (ids : List ℕ) (one : No) (last : IsNoOn cap net ids one) (none : gave id last.list ≡ false) where
+    after : (is_consistent (without id net) ≡ false) × (load_of (without id net) ≤ cap) × Decides cap (without id net) one.roomy last.list
+    after = stays one.roomy last.list none last.decides last.refuted last.within
+
+    -- what is left of the no once the constraint was left out: the log may be another one, unless the list is the log
+    pub skip_no : (two : No) → two.roomy ≡ one.roomy → two.gave ≡ one.gave → (one.roomy ≡ true → two.refutation ≡ None) → (one.roomy ≡ false → two.refutation ≡ one.refutation) →
+        IsNoOn cap (without id net) ids two
+    skip_no two roomy marks forgotten keeps = record {
+      refuted = after.0;
+      within = after.1;
+      list = last.list;
+      decides = subst (λ (b : Bool). Decides cap (without id net) b last.list) (sym roomy) after.2;
+      givers = ap (λ m. m.items) marks ∙ last.givers;
+      refutation = by one.roomy refl last.decides;
+    }
+      where
+        by : (b : Bool) → one.roomy ≡ b → Decides cap net b last.list → IfSome two.refutation (IsRefutationOf (without id net))
+        by true t d = subst (λ (o : Option RefutationParts). IfSome o (IsRefutationOf (without id net))) (sym (forgotten t)) tt
+        by false f d = subst (λ (o : Option RefutationParts). IfSome o (IsRefutationOf (without id net))) (sym (keeps f))
+            (kept last.list one.refutation none d last.refuted last.within last.refutation)
+
+    pub skip_within : load_of (without id net) ≤ cap
+    skip_within = after.1
+
+    pub skip_smaller : without id net ≡ smaller id net
+    skip_smaller = sym (cond-false (is_consistent (without id net)) net (without id net) after.0)
+
 -- where the network isn't consistent without a constraint, that is left out
-pub out_smaller : (cap id : ℕ) (net : Network) (ids : List ℕ) (marks : List Bool) (r : RefutationParts) → IsNoOn cap (without id net) ids marks r → without id net ≡ smaller id net
-out_smaller cap id net ids marks r last = sym (cond-false (is_consistent (without id net)) net (without id net) last.refuted)
+pub out_smaller : (cap id : ℕ) (net : Network) (ids : List ℕ) (one : No) → IsNoOn cap (without id net) ids one → without id net ≡ smaller id net
+out_smaller cap id net ids one last = sym (cond-false (is_consistent (without id net)) net (without id net) last.refuted)
 
 -- where it is consistent, the constraint stays
 pub in_smaller : (id : ℕ) (net : Network) → IsWellFormed net → IsConsistent (without id net) → net ≡ smaller id net
@@ -81,8 +130,15 @@ in_smaller id net good consistent =
     sym (cond-true (is_consistent (without id net)) net (without id net) ((decided (without id net) (without_well_formed id net good)).1 consistent))
 
 -- the no on a copy of the whole network
-pub whole_no : (cap : ℕ) (net other : NetworkParts) (ids : List ℕ) (marks : List Bool) (r : RefutationParts) → IsWellFormed (the_network net) →
-    other ≡ record net { spare = 0 } → IsNoOn cap (the_network other) ids marks r → (IsConsistent (the_network net) → ⊥) × (load_of (the_network net) ≤ cap)
-whole_no cap net other ids marks r good copy first =
-    let last = subst (λ (n : Network). IsNoOn cap n ids marks r) (copied net other copy) first in
+pub whole_no : (cap : ℕ) (net other : NetworkParts) (ids : List ℕ) (one : No) → IsWellFormed (the_network net) →
+    other ≡ record net { spare = 0 } → IsNoOn cap (the_network other) ids one → (IsConsistent (the_network net) → ⊥) × (load_of (the_network net) ≤ cap)
+whole_no cap net other ids one good copy first =
+    let last = subst (λ (n : Network). IsNoOn cap n ids one) (copied net other copy) first in
     (not_consistent (the_network net) good last.refuted, last.within)
+
+-- the refutation of what is left refutes the whole network
+pub refutes_whole : ((net : Network) (set : List ℕ) (steps : List Entry) → IsRefutation (with_ids net set) steps → IsRefutation net steps) →
+    (net left : NetworkParts) (r : RefutationParts) → the_network left ≡ with_ids (the_network net) (conflict_set (the_network net)) →
+    IsRefutationOf (the_network left) r → IsRefutation (the_network net) (the_steps r)
+refutes_whole more net left r is refutation =
+    more (the_network net) (conflict_set (the_network net)) (the_steps r) (subst (λ (n : Network). IsRefutation n (the_steps r)) is refutation.refutes)

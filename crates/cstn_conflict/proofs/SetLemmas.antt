@@ -1,8 +1,7 @@
 -- Networks with some of their constraints.
 use Rattle.std.proofs.Common.{ℕ, zero, suc, ◌≡◌, ◌<◌, Bool, true, false, not, cond, eqb, ◌&&◌, ◌||◌, inl, inr, List, [], ◌∷◌, length, get_or, map, arith, refl, sym, ap, ◌∙◌}
-use Rattle.std.specs.Prelude.{◌↔◌}
 use Rattle.std.specs.List.{AllPairs, Contains, filter}
-use Rattle.std.proofs.lemmas.Bool.{cases_Bool, or_left, or_right, and_from, and_right, cond-true, cond-false, eqb-true, eq-eqb, not-true, not_from_true, not_from_false, both_ways}
+use Rattle.std.proofs.lemmas.Bool.{cases_Bool, or_left, or_right, and_from, and_right, cond-true, cond-false, eqb-true, eq-eqb, not_from_true, not_from_false}
 use Rattle.std.proofs.lemmas.List.Elements.{All-filter, filter_agree}
 use Rattle.std.proofs.lemmas.List.Filters.{length-filter_both}
 use Rattle.std.proofs.lemmas.List.Kept.{AllPairs-filter}
@@ -13,9 +12,6 @@ use Rattle.cstn_net.specs.Strategies.{IsConsistent}
 use Rattle.cstn_net.proofs.ListLemmas.{pairs_map}
 use Rattle.cstn_net.proofs.Kept.{fewer_constraints}
 use Rattle.cstn_net.proofs.WellFormed.{well_formed_with}
-use Rattle.cstn_check.specs.Growth.{is_refuted, log_of}
-use Rattle.cstn_check.proofs.Decides.{log_decides}
-use Rattle.cstn_check.specs.Verdicts.{is_consistent}
 use Rattle.cstn_check.specs.Givers.{without}
 use Rattle.cstn_conflict.specs.Sets.{ids_of, has, less, with_ids}
 
@@ -104,7 +100,7 @@ pub without_well_formed : (id : ℕ) (net : Network) → IsWellFormed net → Is
 without_well_formed id net = some_well_formed net (λ c. not (eqb c.id id))
 
 -- an element of a list is still one where another may be put before the list
-contains_behind : {X : Type 0} (y : X) (ys : List X) (b : Bool) (x : X) → Contains ys x → Contains (cond b (y ∷ ys) ys) x
+pub contains_behind : {X : Type 0} (y : X) (ys : List X) (b : Bool) (x : X) → Contains ys x → Contains (cond b (y ∷ ys) ys) x
 contains_behind y ys true x h = (suc h.0, (let less = h.1 in omega arith), h.2)
 contains_behind y ys false x h = h
 

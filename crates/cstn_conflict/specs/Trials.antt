@@ -1,29 +1,14 @@
--- The verdicts, networks and refutations in the search for a conflict set.
-use Rattle.std.specs.Prelude.{ℕ, ◌≡◌, ◌<◌, ◌≤◌, Bool, false, nat_lt, if◌then◌else◌, List, map}
-use Rattle.std.specs.List.{All, list_any}
-use Rattle.cstn_net.specs.Networks.{Network, count}
-use Rattle.cstn_net.specs.Strategies.{IsConsistent}
+-- The networks and refutations in the search for a conflict set.
+use Rattle.std.specs.Prelude.{ℕ, ◌≡◌, ◌≤◌, Bool, true, false, if◌then◌else◌, List, map, Option, None, Some, IfSome}
+use Rattle.std.specs.List.{list_any}
+use Rattle.cstn_net.specs.Networks.{Network}
 use Rattle.cstn_rules.specs.Derivations.{Entry, IsRefutation}
-use Rattle.cstn_log.specs.Cuts.{part}
-use Rattle.cstn_refute.specs.Refutations.{RefutationParts, FitsText, the_steps}
-use Rattle.cstn_check.specs.Growth.{log_of, load_of}
+use Rattle.cstn_check.specs.Growth.{log_of, load_of, most_entries}
 use Rattle.cstn_check.specs.Givers.{gave, without}
-use Rattle.cstn_check.specs.declared.verdicts.Verdict.{Verdict}
-use Rattle.cstn_check.specs.declared.verdicts.Verdict.TheVariants.{Yes, No, Full}
 use Rattle.cstn_check.specs.Verdicts.{is_consistent, IsRefutationOf}
 use Rattle.cstn_conflict.specs.Sets.{ids_of}
 use Rattle.cstn_conflict.specs.Conflicts.{is_above, tried_from}
-
--- the verdict on a network whose log may have `cap` entries
-abbrev pub verdict_on : ℕ → Network → Verdict
-verdict_on cap net = if nat_lt cap (load_of net) then Full else if is_consistent net then Yes (load_of net) else No (load_of net)
-
--- what a verdict tells of a network: its load, which is at most the cap, and whether it is consistent, or that its load is
--- above the cap
-abbrev pub IsVerdictOn : ℕ → Network → Verdict → Type 0
-IsVerdictOn cap net (Yes load) = (load ≡ load_of net) × (load_of net ≤ cap) × IsConsistent net
-IsVerdictOn cap net (No load) = (load ≡ load_of net) × (load_of net ≤ cap) × ¬ IsConsistent net
-IsVerdictOn cap net Full = cap < load_of net
+use Rattle.cstn_conflict.specs.declared.search.No.{No}
 
 -- the network without the constraint of the id, where that isn't consistent, and else the network as it is
 abbrev pub smaller : ℕ → Network → Network
@@ -37,10 +22,23 @@ is_any_above cap net = list_any (is_above cap net) (tried_from net (ids_of net) 
 abbrev pub givers : List ℕ → List Entry → List Bool
 givers ids list = map (λ id. gave id list) ids
 
--- what a check of a network that isn't consistent leaves for the search: for each id whether its constraint gave an entry of
--- the log, and the refutation; the load is at most the cap
-pub record IsNoOn (cap : ℕ) (net : Network) (ids : List ℕ) (gave : List Bool) (r : RefutationParts) : Type 0 where
+-- how many marks a label may have of what a time-point observes: four of a proposition, one where nothing is observed
+abbrev pub factor : Option ℕ → ℕ
+factor None = 1
+factor (Some p) = 4
+
+-- a constraint that gave no entry of the list may be left out: where no log can have more than `cap` entries, the list refutes
+-- the network, and else it is the network's log
+abbrev pub Decides : ℕ → Network → Bool → List Entry → Type 0
+Decides cap net true list = IsRefutation net list × (most_entries net ≤ cap)
+Decides cap net false list = list ≡ log_of net
+
+-- what a check of a network that isn't consistent leaves for the search: for each id whether its constraint gave an entry of a
+-- list that decides, and the refutation, if the log is still that of the check; the load is at most the cap
+pub record IsNoOn (cap : ℕ) (net : Network) (ids : List ℕ) (no : No) : Type 0 where
   pub refuted : is_consistent net ≡ false
   pub within : load_of net ≤ cap
-  pub givers : gave ≡ givers ids (log_of net)
-  pub refutation : IsRefutationOf net r
+  pub list : List Entry
+  pub decides : Decides cap net no.roomy list
+  pub givers : no.gave.items ≡ givers ids list
+  pub refutation : IfSome no.refutation (IsRefutationOf net)

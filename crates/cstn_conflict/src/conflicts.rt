@@ -1,4 +1,4 @@
-// The conflict set of a network. A set is checked only where its log can differ from that of the last no.
+// The conflict set of a network. A set is checked only where the last no leaves open whether it is refuted within the cap.
 ghost use Rattle.std.specs.Prelude.{ℕ, ◌≡◌, ◌<◌, ◌≤◌, true, false, IfOk, IsOk, IsErrOf, length};
 ghost use Rattle.std.specs.List.{All, AllPairs, Contains};
 ghost use Rattle.cstn_net.specs.Networks.{count};
@@ -15,7 +15,8 @@ ghost use Rattle.cstn_conflict.specs.Trials.{IsNoOn, is_any_above};
 
 use crate::errors::ConflictError;
 use crate::ids::{Ids, ids_of};
-use crate::search::{No, leave_out, no_on};
+use crate::laws::refutations_stand;
+use crate::search::{No, leave_out, no_on, refutation_of};
 use cstn_net::{Network, network_is_well_formed};
 use cstn_refute::Refutation;
 use std::alloc::Global;
@@ -29,7 +30,8 @@ pub struct Conflict {
 
 /// The conflict set of a network that isn't consistent: the constraints are tried in ascending order of their ids, and each is
 /// left out for good where what is left isn't consistent without it. Each set is tried by a check whose log may have `cap`
-/// entries; a constraint that gave no entry of the last no's log is left out with no check, for the log without it is the same.
+/// entries. A constraint that gave no entry of the last no's log is left out with no check, for the log without it is the same;
+/// and where no log can be full, so is one that gave no step of the last refutation, which still refutes the network without it.
 /// The refutation is that of the check of the network with the conflict set. The network is dropped, also on failure.
 pub fn smallest(alloc: Global, net: Network, cap: u32) -> Result<Conflict, ConflictError>
     requires some { 1 ≤ cap }
@@ -51,10 +53,12 @@ pub fn smallest(alloc: Global, net: Network, cap: u32) -> Result<Conflict, Confl
     ensures part { IfOk result (λ conflict. the_steps conflict.refutation ≡ part (log_of (with_ids (the_network net) (conflict_set (the_network net))))) }
     ensures load { IfOk result (λ conflict. conflict.refutation.load ≡ load_of (with_ids (the_network net) (conflict_set (the_network net)))) }
     ensures refutes { IfOk result (λ conflict. IsRefutation (with_ids (the_network net) conflict.ids) (the_steps conflict.refutation)) }
+    ensures refutes_all { IfOk result (λ conflict. IsRefutation (the_network net) (the_steps conflict.refutation)) }
     ensures named { IfOk result (λ conflict. All (λ e. e.bound.node.0 < count (the_network net)) conflict.refutation.steps) }
     ensures text { IfOk result (λ conflict. FitsText conflict.refutation) }
 {
     network_is_well_formed(&net);
+    refutations_stand();
     let ids = ids_of(alloc, &net)?;
     let first = no_on(alloc, net.copy(alloc)?, ids.as_slice(), cap)?;
     let (net, refutation) = left_over(alloc, net, ids.as_slice(), first, cap)?;
@@ -74,7 +78,7 @@ fn left_over(
     requires most { cap ≤ 4194304 }
     requires ids { ids.now ≡ ids_of (the_network net) }
     requires ascending { AllPairs (λ a b. a < b) ids.now }
-    requires first { IsNoOn cap (the_network net) ids.now first.gave.items first.refutation }
+    requires first { IsNoOn cap (the_network net) ids.now first }
     ensures never { (load : ℕ) → IsErrOf result (ConflictError.Consistent load) → ⊥ }
     ensures full { IsErrOf result ConflictError.Full → is_any_above cap (the_network net) ≡ true }
     ensures within { IsOk result → is_any_above cap (the_network net) ≡ false }
@@ -87,5 +91,6 @@ fn left_over(
     for k in 0..ids.len() {
         leave_out(alloc, &mut net, &mut last, ids, k, cap)?;
     }
-    Ok((net, last.refutation))
+    let refutation = refutation_of(alloc, &net, last.refutation, cap)?;
+    Ok((net, refutation))
 }

@@ -1,5 +1,5 @@
 // Which constraints gave entries of a log.
-ghost use Rattle.std.specs.Prelude.{◌≡◌, ◌≢◌, ◌<◌, ◌++◌, ◌∷◌, [], List, length, IfOk, MatchOption};
+ghost use Rattle.std.specs.Prelude.{◌≡◌, ◌≢◌, ◌<◌, ◌++◌, ◌∷◌, [], List, length, map, IfOk, MatchOption};
 ghost use Rattle.std.specs.List.{All, AllPairs, HoldsAt};
 ghost use Rattle.cstn_rules.specs.Derivations.{Entry as TheEntry};
 ghost use Rattle.cstn_rules.specs.Read.{the_entry};
@@ -11,13 +11,29 @@ use cstn_rules::{Entry, Why};
 use std::alloc::{AllocError, Global};
 
 /// For each id, in ascending order, whether its constraint gave an entry of the log.
-pub(crate) fn givers(alloc: Global, ids: &[u32], log: &Log) -> Result<Vec<bool>, AllocError>
+pub(crate) fn givers_of_log(alloc: Global, ids: &[u32], log: &Log) -> Result<Vec<bool>, AllocError>
     requires ascending { AllPairs (λ a b. a < b) ids.now }
     ensures givers { IfOk result (λ marks. marks.items ≡ givers ids.now (the_entries log.now.entries)) }
 {
     let mut marks = vec![in alloc; false; ids.len()]?;
     for k in 0..log.len() {
         mark_giver(ids, log.entry(k), &mut marks);
+    }
+    Ok(marks)
+}
+
+/// For each id, in ascending order, whether its constraint gave one of the steps.
+pub(crate) fn givers_of_steps(
+    alloc: Global,
+    ids: &[u32],
+    steps: &[Entry],
+) -> Result<Vec<bool>, AllocError>
+    requires ascending { AllPairs (λ a b. a < b) ids.now }
+    ensures givers { IfOk result (λ marks. marks.items ≡ givers ids.now (map the_entry steps.now)) }
+{
+    let mut marks = vec![in alloc; false; ids.len()]?;
+    for k in 0..steps.len() {
+        mark_giver(ids, steps[k], &mut marks);
     }
     Ok(marks)
 }

@@ -6,11 +6,12 @@ mod errors;
 mod givers;
 mod ids;
 mod laws;
+mod room;
 mod search;
 mod texts;
 
 pub use conflicts::{Conflict, smallest};
 pub use errors::ConflictError;
 pub use ids::Ids;
-pub use laws::sets_are_decided;
+pub use laws::{refutations_stand, sets_are_decided};
 pub use texts::conflict_text;

@@ -260,7 +260,7 @@ module _ (net : Network) (bounds : List Bound) (table : Table) (wf : IsWellForme
     abbrev asked_least : is_awaited net run (t + 1) p ≡ true
     asked_least = (awaited_least net bounds run wf (t + 1) p (judged net bounds run t (Some (Awaiting p)) waits)).0
 
-    ready : Ready net wf.network run (t + 1) p
+    pub ready : Ready net wf.network run (t + 1) p
     ready = (awaited_from net wf.network run (t + 1) p asked_least).0
 
     pub missing : outcome_of run p ≡ None

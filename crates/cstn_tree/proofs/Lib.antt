@@ -12,6 +12,8 @@ mod MakingLemmas
 mod Following
 mod MadeTrees
 mod OneTree
+mod SameTree
+mod TreeLengths
 mod BackLemmas
 mod StartLemmas
 mod SaidLemmas

@@ -38,7 +38,7 @@ left [] = 0
 left (None ∷ os) = suc (left os)
 left (Some x ∷ os) = left os
 
-left_upto : {X : Type 0} (os : List (Option X)) → left os ≤ length os
+pub left_upto : {X : Type 0} (os : List (Option X)) → left os ≤ length os
 left_upto [] = omega arith
 left_upto (None ∷ os) = let more = left_upto os in omega arith
 left_upto (Some x ∷ os) = let more = left_upto os in omega arith
@@ -51,7 +51,7 @@ left_fewer (Some y ∷ os) zero x = omega arith
 left_fewer (None ∷ os) (suc k) x = let more = left_fewer os k x in omega arith
 left_fewer (Some y ∷ os) (suc k) x = let more = left_fewer os k x in omega arith
 
-left_less : {X : Type 0} (os : List (Option X)) (k : ℕ) (x : X) → k < length os → slice_index_or os k None ≡ None → left (slice_set os k (Some x)) + 1 ≡ left os
+pub left_less : {X : Type 0} (os : List (Option X)) (k : ℕ) (x : X) → k < length os → slice_index_or os k None ≡ None → left (slice_set os k (Some x)) + 1 ≡ left os
 left_less [] k x inside e = absurd (omega arith)
 left_less (None ∷ os) zero x inside e = omega arith
 left_less (Some y ∷ os) zero x inside e = let f : ⊥ = cc in absurd f

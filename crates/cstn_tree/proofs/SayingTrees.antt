@@ -1,5 +1,5 @@
 -- What is said of a yes as a tree.
-use Rattle.std.proofs.Common.{◌≡◌, ℕ, ◌<◌, ◌≤◌, List, ◌++◌, refl, sym, ◌∙◌, ap, subst, inl, inr}
+use Rattle.std.proofs.Common.{◌≡◌, ℕ, ◌<◌, ◌≤◌, List, refl, sym, ◌∙◌, ap, subst, inl, inr}
 use Rattle.std.specs.Prelude.{Option, None, Some, Result, Ok, Err, IfOk}
 use Rattle.cstn_label.specs.Labels.{Scenario}
 use Rattle.cstn_label.specs.Bounds.{Bound}

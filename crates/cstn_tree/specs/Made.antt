@@ -2,6 +2,8 @@
 use Rattle.std.specs.Prelude.{ℕ, ◌≡◌, true, false, List, [], ◌∷◌, ◌++◌, Some, None}
 use Rattle.cstn_label.specs.Bounds.{Bound}
 use Rattle.cstn_net.specs.Networks.{Network, count}
+use Rattle.cstn_net.specs.Strategies.{Table}
+use Rattle.cstn_log.specs.Plans.{IsEarliest}
 use Rattle.cstn_exec.specs.Runs.{Run, start, due, called}
 use Rattle.cstn_exec.specs.Moves.{Awaiting, moment_refusal, moved, handed}
 use Rattle.cstn_tree.specs.Trees.{Tree, Line, lines_of}
@@ -21,6 +23,13 @@ pub data IsTreeFrom (net : Network) (bounds : List Bound) : Run → Tree → Typ
 -- the tree from the run in which nothing is executed yet
 abbrev pub IsTreeOf : Network → List Bound → Tree → Type 0
 IsTreeOf net bounds tree = IsTreeFrom net bounds (start (count net)) tree
+
+-- the tree of a network: that by some bounds that have a strategy with each time-point at the least moment that they leave it
+pub record IsTheTree (net : Network) (tree : Tree) : Type 0 where
+  pub bounds : List Bound
+  pub table : Table
+  pub earliest : IsEarliest net bounds table
+  pub made : IsTreeOf net bounds tree
 
 -- a tree from each of the runs
 abbrev pub AreTreesFrom : Network → List Bound → List Run → List Tree → Type 0

@@ -1,5 +1,5 @@
 // Laws of trees.
-ghost use Rattle.std.specs.Prelude.{ℕ, ◌≡◌, ◌<◌, ◌≤◌, [], ◌∷◌, List, length, map, None, Some};
+ghost use Rattle.std.specs.Prelude.{ℕ, ◌≡◌, ◌<◌, ◌≤◌, ◌↔◌, [], ◌∷◌, List, length, map, None, Some};
 ghost use Rattle.cstn_label.specs.Labels.{Scenario};
 ghost use Rattle.cstn_label.specs.Bounds.{Bound};
 ghost use Rattle.cstn_net.specs.Networks.{Network, IsNetwork, IsWellFormed, count};
@@ -10,8 +10,9 @@ ghost use Rattle.cstn_text.specs.Names.{AreNames};
 ghost use Rattle.cstn_tree.specs.Trees.{Tree, Line, IsAmong, at, done, lines_of, table_of};
 ghost use Rattle.cstn_tree.specs.Good.{first_broken, IsUnbroken};
 ghost use Rattle.cstn_tree.specs.Breaks.{IsFirstBreak, on_branches};
-ghost use Rattle.cstn_tree.specs.Made.{IsTreeOf};
+ghost use Rattle.cstn_tree.specs.Made.{IsTreeOf, IsTheTree};
 ghost use Rattle.cstn_tree.specs.Texts.{shown, tells, told};
+ghost use Rattle.cstn_tree.specs.Unfolded.{observed};
 ghost use Rattle.cstn_tree.specs.Written.{AreWritten, FitsText, IsTextOfTree};
 ghost use Rattle.cstn_tree.specs.Read.{the_tree};
 ghost use Rattle.cstn_tree.specs.Examples.{branch_tree, asked_first, named_twice, left_out, slow_branch, crossed, crossed_tree, alone};
@@ -37,13 +38,23 @@ pub fn made_trees_are_good()
 {}
 
 /// A network has one tree by given bounds at most, and one by bounds that have a strategy with each time-point at the least moment
-/// that they leave it.
+/// that they leave it. Which of these bounds it is makes no difference. So a network has one tree where it is consistent, and
+/// else none.
 pub fn networks_have_one_tree()
     ensures one { (net : Network) (bounds : List Bound) (tree other : Tree) → IsTreeOf net bounds tree → IsTreeOf net bounds other → tree ≡ other }
     ensures some { (net : Network) (bounds : List Bound) (table : Table) → IsWellFormed net → IsEarliest net bounds table → (tree : Tree) × IsTreeOf net bounds tree }
+    ensures same { (net : Network) (tree other : Tree) → IsWellFormed net → IsTheTree net tree → IsTheTree net other → tree ≡ other }
+    ensures consistent { (net : Network) → IsWellFormed net → (IsConsistent net ↔ ((tree : Tree) × IsTheTree net tree)) }
 {
     due_is_exact();
 }
+
+/// The text of the tree of a network in which at most 10 propositions are observed has at most as many bytes as a text of evidence
+/// may have: each of its branches names each time-point once, and it has a branch for each outcome of these propositions at most.
+pub fn made_texts_are_short()
+    ensures short { (names : List (List ℕ)) (load : ℕ) (net : Network) (bounds : List Bound) (table : Table) → AreNames names → length names ≡ count net → load ≤ 4194304
+        → observed net ≤ 10 → IsWellFormed net → IsEarliest net bounds table → (tree : Tree) → IsTreeOf net bounds tree → length (shown names load (lines_of tree)) ≤ 1476395008 }
+{}
 
 /// The text of a load and a tree is read back as the tree, where each `at` names a time-point, no branch has more than 2,100
 /// lines, the time-points have names and the numbers are in their ranges.

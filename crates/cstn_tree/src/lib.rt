@@ -18,9 +18,9 @@ mod walks;
 pub use checking::{TreeAnswer, check};
 pub use errors::TreeError;
 pub use laws::{
-    broken_lines_are_known, good_trees_are_strategies, made_trees_are_good, networks_have_one_tree,
-    the_first_that_breaks_is_found, tree_texts_are_read_back, tree_texts_are_the_shown_ones,
-    trees_are_their_lines,
+    broken_lines_are_known, good_trees_are_strategies, made_texts_are_short, made_trees_are_good,
+    networks_have_one_tree, the_first_that_breaks_is_found, tree_texts_are_read_back,
+    tree_texts_are_the_shown_ones, trees_are_their_lines,
 };
 pub use making::make;
 pub use printing::print;

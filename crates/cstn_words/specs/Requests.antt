@@ -1,5 +1,5 @@
 -- Which words are a request.
-use Rattle.std.specs.Prelude.{◌≡◌, ℕ, Bool, nat_le, nat_eq, ◌&&◌, if◌then◌else◌, List, [], ◌∷◌, length, Option, None, Some, codes}
+use Rattle.std.specs.Prelude.{ℕ, Bool, nat_le, nat_eq, ◌&&◌, if◌then◌else◌, List, [], ◌∷◌, length, Option, None, Some, codes}
 use Rattle.std.specs.Option.{option_map, option_and_then, unwrap_or}
 use Rattle.std.specs.Cmp.Lexicographic.{pointwise}
 use Rattle.cstn_text.specs.Numbers.{number_read}
@@ -150,15 +150,3 @@ files_of (host files deadline cap) = files
 abbrev pub names_of : Option Request → List (List ℕ)
 names_of None = []
 names_of (Some request) = files_of request
-
--- an edit session is asked for
-abbrev pub AsksEdit : Request → Type 0
-AsksEdit (edit asked cap) = Unit {0}
-AsksEdit request = ⊥
-
--- a host is asked for
-pub record AsksHost (request : Request) : Type 0 where
-  pub files : List (List ℕ)
-  pub deadline : Option ℕ
-  pub cap : ℕ
-  pub is : request ≡ host files deadline cap

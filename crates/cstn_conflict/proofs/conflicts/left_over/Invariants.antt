@@ -9,5 +9,5 @@ abbrev pub invariant-loop-k : goal.invariant-loop-k
 invariant-loop-k l = record {
   end : l.k-end ≡ length l.ids;
   reached : Reaches l.cap (the_network l.fn.net) (the_network l.net) (drop l.k (ids_of (the_network l.fn.net)));
-  last : IsNoOn l.cap (the_network l.net) l.ids l.last.gave.items l.last.refutation;
+  last : IsNoOn l.cap (the_network l.net) l.ids l.last;
 }

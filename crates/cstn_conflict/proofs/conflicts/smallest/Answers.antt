@@ -8,7 +8,7 @@ use Rattle.cstn_check.specs.Growth.{load_of}
 use Rattle.cstn_conflict.specs.declared.errors.ConflictError.TheVariants.{Full}
 use Rattle.cstn_conflict.specs.Sets.{with_ids, less}
 use Rattle.cstn_conflict.proofs.TrialLemmas.{copied}
-use Rattle.cstn_conflict.proofs.SearchLemmas.{whole_no}
+use Rattle.cstn_conflict.proofs.SearchLemmas.{whole_no, refutes_whole}
 use Rattle.cstn_conflict.proofs.ConflictLemmas.{full_bounded, whole_full, whole_bounded, not_full, some, inconsistent, needed, handed_on}
 use Rattle.cstn_conflict.proofs.conflicts.smallest.Goals as goal
 
@@ -34,24 +34,27 @@ returns-in_err-net-clause-bounded c full =
 
 pub returns-clause-refused : goal.returns-clause-refused
 returns-clause-refused c ok =
-    let whole = whole_no c.args.cap c.args.net c.in_ok-copy.field-0 _ _ _ c.network_is_well_formed.ensures c.in_ok-copy.ensures.equal c.in_ok-first.ensures.no in
+    let whole = whole_no c.args.cap c.args.net c.in_ok-copy.field-0 _ _ c.network_is_well_formed.ensures c.in_ok-copy.ensures.equal c.in_ok-first.ensures.no in
     (whole.0, not_full (the_network c.args.net) c.network_is_well_formed.ensures whole.0 c.args.cap whole.1 (c.in_ok-net.ensures.within refl))
 
 pub returns-clause-some : goal.returns-clause-some
 returns-clause-some c =
-    let whole = whole_no c.args.cap c.args.net c.in_ok-copy.field-0 _ _ _ c.network_is_well_formed.ensures c.in_ok-copy.ensures.equal c.in_ok-first.ensures.no in
+    let whole = whole_no c.args.cap c.args.net c.in_ok-copy.field-0 _ _ c.network_is_well_formed.ensures c.in_ok-copy.ensures.equal c.in_ok-first.ensures.no in
     subst (λ (ids : List ℕ). 1 ≤ length ids) (sym (c.in_ok-ids-2.ensures.ids ∙ c.in_ok-net.ensures.ids))
     (some (the_network c.args.net) c.network_is_well_formed.ensures whole.0)
 
 pub returns-clause-inconsistent : goal.returns-clause-inconsistent
 returns-clause-inconsistent c =
-    let whole = whole_no c.args.cap c.args.net c.in_ok-copy.field-0 _ _ _ c.network_is_well_formed.ensures c.in_ok-copy.ensures.equal c.in_ok-first.ensures.no in
+    let whole = whole_no c.args.cap c.args.net c.in_ok-copy.field-0 _ _ c.network_is_well_formed.ensures c.in_ok-copy.ensures.equal c.in_ok-first.ensures.no in
     subst (λ ids. IsConsistent (with_ids (the_network c.args.net) ids) → ⊥) (sym (c.in_ok-ids-2.ensures.ids ∙ c.in_ok-net.ensures.ids))
     (inconsistent (the_network c.args.net) c.network_is_well_formed.ensures whole.0)
 
 pub returns-clause-needed : goal.returns-clause-needed
 returns-clause-needed c =
-    let whole = whole_no c.args.cap c.args.net c.in_ok-copy.field-0 _ _ _ c.network_is_well_formed.ensures c.in_ok-copy.ensures.equal c.in_ok-first.ensures.no in
+    let whole = whole_no c.args.cap c.args.net c.in_ok-copy.field-0 _ _ c.network_is_well_formed.ensures c.in_ok-copy.ensures.equal c.in_ok-first.ensures.no in
     subst (λ ids. (id : ℕ) → Contains ids id → IsConsistent (with_ids (the_network c.args.net) (less id ids)))
     (sym (c.in_ok-ids-2.ensures.ids ∙ c.in_ok-net.ensures.ids))
     (needed (the_network c.args.net) c.network_is_well_formed.ensures whole.0)
+
+pub returns-clause-refutes_all : goal.returns-clause-refutes_all
+returns-clause-refutes_all c = refutes_whole c.refutations_stand.ensures.more c.args.net c.in_ok-net.net _ c.in_ok-net.ensures.left c.in_ok-net.ensures.refutation

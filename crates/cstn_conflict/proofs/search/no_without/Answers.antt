@@ -24,7 +24,7 @@ returns-clause-full c is =
 
 pub returns-clause-no : goal.returns-clause-no
 returns-clause-no c =
-    subst (λ (n : Network). IfOk c.no_on.result (λ l. IsNoOn c.args.cap n c.args.ids.now l.gave.items l.refutation))
+    subst (λ (n : Network). IfOk c.no_on.result (IsNoOn c.args.cap n c.args.ids.now))
     (taken_out c.args.id c.in_ok-less.less c.take_out.new.self c.take_out.result c.take_out.ensures.none c.take_out.ensures.same c.take_out.ensures.gone
     ∙ ap (without c.args.id) (copied c.args.net.now c.in_ok-less.less c.in_ok-less.ensures.equal))
     c.no_on.ensures.no

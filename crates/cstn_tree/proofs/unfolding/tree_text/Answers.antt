@@ -1,4 +1,4 @@
-use Rattle.std.proofs.Common.{◌≡◌, ℕ, ◌≤◌, sym, subst, arith}
+use Rattle.std.proofs.Common.{ℕ, ◌≤◌, sym, subst, arith}
 use Rattle.std.specs.Prelude.{IfOk}
 use Rattle.cstn_net.specs.Read.{NetworkParts, the_network}
 use Rattle.cstn_check.specs.Growth.{log_of, live_bounds}
@@ -6,7 +6,7 @@ use Rattle.cstn_reply.specs.Read.{the_said}
 use Rattle.cstn_check.specs.Decisions.{TellsVerdict}
 use Rattle.cstn_check.specs.declared.decisions.Judged.{Judged}
 use Rattle.cstn_check.specs.declared.decisions.Judged.TheVariants.{Yes}
-use Rattle.cstn_tree.specs.Unfolded.{observed, IsTreeText}
+use Rattle.cstn_tree.specs.Unfolded.{IsTreeText}
 use Rattle.cstn_tree.proofs.SayingTrees.{yes_said}
 use Rattle.cstn_tree.proofs.unfolding.tree_text.Goals as goal
 

@@ -1,0 +1,55 @@
+-- The bound on every log of a network, counted time-point by time-point.
+use Rattle.std.proofs.Common.{ℕ, zero, suc, ◌≡◌, ◌+◌, ◌*◌, ◌^◌, ◌<◌, ◌≤◌, List, [], ◌∷◌, Option, Some, None, take, length, arith, refl, sym, ap, ◌∙◌}
+use Rattle.std.specs.Prelude.{slice_index_or}
+use Rattle.std.proofs.Math.Nat.{mul_assoc, pow-suc}
+use Rattle.std.proofs.lemmas.Nat.{mul-le}
+use Rattle.cstn_check.specs.Growth.{observed}
+use Rattle.cstn_conflict.specs.Trials.{factor}
+
+plus_one : (n : ℕ) → n + 1 ≡ suc n
+plus_one n = omega arith
+
+-- a time-point that observes nothing
+observed_none : (os : List (Option ℕ)) (x : ℕ) → x < length os → slice_index_or os x None ≡ None → observed (take (suc x) os) ≡ observed (take x os)
+observed_none [] x inside none = absurd (omega arith)
+observed_none (None ∷ os) zero inside none = refl
+observed_none (Some p ∷ os) zero inside none = let f : ⊥ = cc in absurd f
+observed_none (None ∷ os) (suc x) inside none = observed_none os x (omega arith) none
+observed_none (Some p ∷ os) (suc x) inside none = ap suc (observed_none os x (omega arith) none)
+
+-- a time-point that observes a proposition
+observed_one : (os : List (Option ℕ)) (x p : ℕ) → x < length os → slice_index_or os x None ≡ Some p → observed (take (suc x) os) ≡ suc (observed (take x os))
+observed_one [] x p inside some = absurd (omega arith)
+observed_one (None ∷ os) zero p inside some = let f : ⊥ = cc in absurd f
+observed_one (Some q ∷ os) zero p inside some = refl
+observed_one (None ∷ os) (suc x) p inside some = observed_one os x p (omega arith) some
+observed_one (Some q ∷ os) (suc x) p inside some = ap suc (observed_one os x p (omega arith) some)
+
+-- the bound by the first x of the time-points
+abbrev pub most_by : ℕ → ℕ → List (Option ℕ) → ℕ → ℕ
+most_by n h os x = n * (h + 2) * 4 ^ observed (take x os)
+
+pub most_same : (n h : ℕ) (os : List (Option ℕ)) (x : ℕ) → x < length os → slice_index_or os x None ≡ None → most_by n h os (x + 1) ≡ most_by n h os x
+most_same n h os x inside none =
+    ap (λ (k : ℕ). most_by n h os k) (plus_one x) ∙ ap (λ (k : ℕ). n * (h + 2) * 4 ^ k) (observed_none os x inside none)
+
+pub most_more : (n h : ℕ) (os : List (Option ℕ)) (x p : ℕ) → x < length os → slice_index_or os x None ≡ Some p → most_by n h os (x + 1) ≡ most_by n h os x * 4
+most_more n h os x p inside some =
+    ap (λ (k : ℕ). most_by n h os k) (plus_one x) ∙ ap (λ (k : ℕ). n * (h + 2) * 4 ^ k) (observed_one os x p inside some)
+    ∙ ap (λ (k : ℕ). n * (h + 2) * k) (pow-suc 4 (observed (take x os)))
+    ∙ sym (mul_assoc (n * (h + 2)) (4 ^ observed (take x os)) 4)
+
+pub most_first : (n h : ℕ) (os : List (Option ℕ)) → n * (h + 2) ≡ most_by n h os 0
+most_first n h os = omega arith
+
+-- the bound by one more time-point
+pub most_next : (n h : ℕ) (os : List (Option ℕ)) (x : ℕ) → x < length os → most_by n h os (x + 1) ≡ most_by n h os x * factor (slice_index_or os x None)
+most_next n h os x inside = by (slice_index_or os x None) refl
+  where
+    by : (o : Option ℕ) → slice_index_or os x None ≡ o → most_by n h os (x + 1) ≡ most_by n h os x * factor o
+    by None e = most_same n h os x inside e ∙ omega arith
+    by (Some p) e = most_more n h os x p inside e
+
+-- the bound where nothing is observed is small
+pub first_small : (n h : ℕ) → n ≤ 1024 → h ≤ 1000000 → n * (h + 2) ≤ 1024002048
+first_small n h few soon = let le = mul-le n (h + 2) 1024 1000002 few (omega arith) in omega (arith, le)
