@@ -76,10 +76,9 @@ class Network:
         return found
 
     def unknown(self, name, known):
-        """The letters, in words, that constraints of a time-point ask for and that aren't known where it is executed."""
+        """The letters that constraints of a time-point ask for and that aren't known where it is executed."""
         holds = [marks for marks in self.marks.get(name, []) if all(known.get(letter, value) == value for letter, value in marks.items())]
-        letters = sorted(set().union(*holds) - known.keys() - {self.observed.get(name)})
-        return f" (before {' and '.join(letters)} {'is' if len(letters) == 1 else 'are'} known)" if letters else ""
+        return sorted(set().union(*holds) - known.keys() - {self.observed.get(name)})
 
     def lowered(self):
         """What the steps of a refutation count: the constraints that are in force anywhere, by their ids, and then who waits for what."""
@@ -160,24 +159,43 @@ def constraint(source, target, most, label):
 FOR_A_LABEL = " (for a label of the document that was copied, so no constraint of it: do not remove or change it)"
 
 
-def tell_network(net):
-    print(f"The deadline is {net.deadline}. {len(net.names)} time-points: {', '.join(net.names)}.")
-    for name, letter in net.observed.items():
-        print(f"{name} tells {letter}, which is known {ticks(net.reaction(name))} later.")
-    for name, label in net.labels.items():
-        print(f"{name} is executed only{where(label)[1:]}.")
+def network_in_words(net):
+    """The deadline, the time-points, what is observed, the labels and the constraints, a line for each."""
+    lines = [f"The deadline is {net.deadline}. {len(net.names)} time-points: {', '.join(net.names)}."]
+    lines += [f"{name} tells {letter}, which is known {ticks(net.reaction(name))} later." for name, letter in net.observed.items()]
+    lines += [f"{name} is executed only{where(label)[1:]}." for name, label in net.labels.items()]
     for number, parts in enumerate(net.constraints):
-        print(f"{net.called(number)}: {constraint(*parts)}{counts_where(net, number)}{FOR_A_LABEL if number in net.waits else ''}")
+        lines.append(f"{net.called(number)}: {constraint(*parts)}{counts_where(net, number)}{FOR_A_LABEL if number in net.waits else ''}")
+    return lines
 
 
-def tell_unlabelled(net):
-    """Each time-point without a label that is tied to time-points of one case alone, by their labels."""
+def network_data(net):
+    """The network as data: its deadline, time-points and constraints, each with its line where that was found."""
+    rows = net.rows if len(net.rows) == len(net.constraints) else [None] * len(net.constraints)
+    points = [{"name": name, "observes": net.observed.get(name), "reaction": net.reaction(name) if name in net.observed else None,
+               "label": net.labels.get(name, "")} for name in net.names]
+    constraints = [{"id": number, "line": rows[number], "from": source, "to": target, "at_most": most, "label": label,
+                    "says": constraint(source, target, most, label),
+                    "counts": written(net.in_force(number)) if None not in net.in_force(number).values() else None, "for_a_label": number in net.waits}
+                   for number, (source, target, most, label) in enumerate(net.constraints)]
+    return {"deadline": net.deadline, "time_points": points, "constraints": constraints}
+
+
+def tied_to_one_case(net):
+    """Each time-point without a label that is tied to time-points of one case alone, by their labels, with that case."""
     for name in [it for it in net.names if it != "Z" and it not in net.labels]:
         ties = [number for number, parts in enumerate(net.constraints) if name in parts[:2]]
         marks = [{it for it in net.in_force(number).items() if it[0] not in literals(net.constraints[number][3])} for number in ties]
         common = dict(set.intersection(*marks)) if marks else {}
         if common and None not in common.values():
-            print(f"{name} has no label, so it is executed in every case, though all that its constraints tie it to is executed only{where(written(common))[1:]}.")
+            yield name, written(common)
+
+
+def tell_unlabelled(net):
+    """The time-points without a label that are tied to one case alone, as data and in words."""
+    found = list(tied_to_one_case(net))
+    return ([{"time_point": name, "tied_to": label} for name, label in found],
+            [f"{name} has no label, so it is executed in every case, though all that its constraints tie it to is executed only{where(label)[1:]}." for name, label in found])
 
 
 def counts_where(net, number):
@@ -208,11 +226,3 @@ def plain_copy(net):
 
 def printed(name):
     return bytes(re.sub(rb"%([0-9A-F]{2})", lambda found: bytes([int(found[1], 16)]), name.encode())).decode()
-
-
-def counted(constraints, number, called=str):
-    """A constraint that a step names, in words, with its id in the document where it has one there."""
-    if number >= len(constraints):
-        return f"constraint {number}, which FILE lacks"
-    own, *parts = constraints[number]
-    return f"constraint {called(own)}: {constraint(*parts)}" if own is not None else f"its label: {constraint(*parts)}"

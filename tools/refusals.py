@@ -2,7 +2,6 @@
 import difflib
 import re
 import xml.parsers.expat
-from xml.sax.saxutils import escape
 
 from networks import plain, printed
 
@@ -130,13 +129,13 @@ def without_dashes(comment):
 
 
 def tell_passed_over(reader, refused):
-    """What of the document is passed over, each with its line, and whether the start was added."""
+    """What of the document is passed over, each with its line, and whether the start was added, as data and in words."""
+    notes, lines = sorted(reader.notes, key=lambda it: ("did you mean" not in it[1], it)), []
     if reader.error:
-        print(f"(what was passed over is told up to {reader.error})")
+        lines.append(f"(what was passed over is told up to {reader.error})")
     if "Z" not in reader.nodes and not refused:
-        print("Z, the start, was added, since no node has this name: nothing ties it to the others but what the constraints below say of Z." + (" There is a node z." if "z" in reader.nodes else ""))
-    for line, what in sorted(reader.notes, key=lambda it: ("did you mean" not in it[1], it)):
-        print(f"line {line}: {what}")
+        lines.append("Z, the start, was added, since no node has this name: nothing ties it to the others but what the constraints below say of Z." + (" There is a node z." if "z" in reader.nodes else ""))
+    return [{"line": line, "says": what} for line, what in notes], lines + [f"line {line}: {what}" for line, what in notes]
 
 
 def tell_line(text, place):
@@ -148,6 +147,15 @@ def tell_line(text, place):
 def attributes(tag):
     """The attributes of a tag, by their names."""
     return {name: plain(one or other) for name, one, other in re.findall(r"""([\w:.-]+)\s*=\s*(?:"([^"]*)"|'([^']*)')""", tag)}
+
+
+NODE = re.compile(rb"""<node(?=[\s/>])(?:[^"'>]|"[^"]*"|'[^']*')*>""")
+
+
+def node_called(text, name):
+    """The place of the node of this name, whole, or none: in comments there is no node."""
+    bare = re.sub(rb"(?s)<!--.*?-->", lambda found: b" " * len(found[0]), text)
+    return next((it.start() for it in re.finditer(NODE, bare) if attributes(it[0].decode(errors="replace")).get("id") == name), None)
 
 
 def ids_of(text):
@@ -200,10 +208,10 @@ def tell_refused(path, answer, reader):
         print(f"which means: {means}")
     tell_letters(text.decode(errors="replace"), answer, reader.lines)
     name = re.search(r"^document X12 (?:L1|L[45] (\S+))", answer)
-    node = re.search(rf"<node[^>]*id=.{re.escape(escape(printed(name[1] or 'Z')))}.".encode(), text) if name else None
+    node = node_called(text, printed(name[1] or "Z")) if name else None
     number = re.search(r"^document X10 N5 (\d+)", answer)
-    if node:
-        tell_line(text, node.start())
+    if node is not None:
+        tell_line(text, node)
     if number and int(number[1]) < len(reader.rows):
         row = reader.rows[int(number[1])]
         print(f"line {row}: {b''.join(text.split(bytes([10]))[row - 1 : row]).decode(errors='replace').strip()[:200]}")

@@ -2,23 +2,45 @@
 from networks import constraint, literals, printed, ticks
 
 
-def tree_in_words(net, lines, known, depth):
-    """A tree in words, and the lines behind it: where time-points are left out, without the outcomes that they would tell."""
-    words, indent = [], "  " * depth
+def tree_of(net, lines, known):
+    """A tree as data, and the lines behind it: what is executed at each moment and what is left out; then what is asked, with a tree for each outcome.
+
+    An outcome is not asked for where nobody who is executed would tell it.
+    """
+    items = []
     while lines:
         parts, lines = lines[0].split(" "), lines[1:]
         if parts[0] == "done":
             break
         if parts[0] == "ask":
-            asked = net.is_told(parts[1], known)
+            told = {}
             for value in (True, False):
-                told, lines = tree_in_words(net, lines, known | {parts[1]: value}, depth + asked)
-                words += [f"{indent}Where {parts[1]} is {str(value).lower()}:"] * asked + told * (asked or not value)
+                told[value], lines = tree_of(net, lines, known | {parts[1]: value})
+            items += [{"ask": parts[1], "true": told[True], "false": told[False]}] if net.is_told(parts[1], known) else told[False]
             break
         told = [printed(name) for name in parts[2:]]
-        names = [name + net.unknown(name, known) for name in told if net.is_executed(name, known)]
-        words.append(f"{indent}at {parts[1]}: {', '.join(names) or 'nothing; left out: ' + ', '.join(told)}")
-    return words, lines
+        names = [name for name in told if net.is_executed(name, known)]
+        before = {name: net.unknown(name, known) for name in names}
+        items.append({"at": int(parts[1]), "names": names, "left_out": [name for name in told if name not in names],
+                      "before": {name: letters for name, letters in before.items() if letters}})
+    return items, lines
+
+
+def tree_in_words(items, depth=0):
+    """A tree in words, each outcome deeper than what is asked."""
+    words, indent = [], "  " * depth
+    for item in items:
+        if "ask" in item:
+            for value in ("true", "false"):
+                words += [f"{indent}Where {item['ask']} is {value}:", *tree_in_words(item[value], depth + 1)]
+            continue
+        names = [name + unknown_in_words(item["before"].get(name, [])) for name in item["names"]]
+        words.append(f"{indent}at {item['at']}: {', '.join(names) or 'nothing; left out: ' + ', '.join(item['left_out'])}")
+    return words
+
+
+def unknown_in_words(letters):
+    return f" (before {' and '.join(letters)} {'is' if len(letters) == 1 else 'are'} known)" if letters else ""
 
 
 class Branch:

@@ -66,6 +66,7 @@ module _ (net : Network) (s : State) (good : IsWellFormed net) (started : IsStar
                 is = ap (λ l. l ++ log_of net) (started.entries ∙ cond-true _ _ _ small);
               },
               λ few. started.entries ∙ cond-true _ _ _ small,
+              λ room. absurd (omega (arith, below, room)),
             )
         | inr large ↦
             let all = ap length (started.entries ∙ cond-false _ _ _ large) in
@@ -119,4 +120,5 @@ verdict_from net old new Full v load good base full cut whole refuted is short r
             ∙ take-append-drop old.cap (log_of net);
       },
       λ few. absurd (omega arith),
+      λ fits. cut refl ∙ ap (λ l. take old.cap (grow net l)) base,
     )

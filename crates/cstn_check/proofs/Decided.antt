@@ -37,10 +37,10 @@ not_absent m h = grind arith
 pub false_absent : (m : Mark) → is_absent m ≡ false → m ≡ Absent → ⊥
 false_absent m h e = grind arith
 
-within_true : (a b : Label) → IsWithin a b → is_within a b ≡ true
+pub within_true : (a b : Label) → IsWithin a b → is_within a b ≡ true
 within_true a b h = each_from (λ p. is_mark_within (a p) (b p)) 52 (λ p. mark_within_true (a p) (b p) (h p))
 
-true_within : (a b : Label) → Small a → is_within a b ≡ true → IsWithin a b
+pub true_within : (a b : Label) → Small a → is_within a b ≡ true → IsWithin a b
 true_within a b small e = λ p. elim (cases_lt p 52) [
   | inl below ↦ true_mark_within (a p) (b p) (each_at (λ q. is_mark_within (a q) (b q)) 52 p below e)
   | inr above ↦ absent_within (a p) (b p) (small p above)

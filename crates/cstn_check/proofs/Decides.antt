@@ -52,7 +52,7 @@ pub record RefutedAt (net : Network) (L : List Entry) : Type 0 where
   pub there : slice_get L place ≡ Some entry
   pub refutes : Refutes net entry.bound
 
-refuted_at : (net : Network) (L : List Entry) → AreSmall L → is_refuted net L ≡ true → RefutedAt net L
+pub refuted_at : (net : Network) (L : List Entry) → AreSmall L → is_refuted net L ≡ true → RefutedAt net L
 refuted_at net [] small h = absurd (false≢true h)
 refuted_at net (x ∷ xs) small h = elim (or_cases (refutes net x.bound) (is_refuted net xs) h) [
   | inl head ↦ record { place = 0; entry = x; there = refl; refutes = true_refutes net x.bound (small 0 x refl) head }
@@ -101,7 +101,7 @@ grown_refuted_last net L n small last =
     only_refuted_last net (grown net L n)
     (grown_last net L n (λ k e there before. stands_false net e.bound (small k e there) (last.before k e there (omega arith))))
 
-kept_small : (net : Network) (L : List Entry) → HasLetters net → IsKept net L → AreSmall L
+pub kept_small : (net : Network) (L : List Entry) → HasLetters net → IsKept net L → AreSmall L
 kept_small net L letters kept k e there = good_small net e.bound letters (good_at net L k e kept.good there)
 
 -- ---- the list that is grown from one that growth can go on from

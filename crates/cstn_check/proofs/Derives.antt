@@ -100,15 +100,15 @@ derivation_more net L x d f k e there =
           (subst (λ y. Follows net (L ++ x ∷ []) (length L) y.why y.bound) last.1 f)
     ]
 
-small_of : (net : Network) (a : Label) → HasLetters net → IsOnObserved net a → Small a
+pub small_of : (net : Network) (a : Label) → HasLetters net → IsOnObserved net a → Small a
 small_of net a letters h = λ p past. elim (absent_or_not (a p)) [
   | inl none ↦ none
   | inr marked ↦ let o = h p marked in let l = letters o.0 p o.1 in absurd (omega arith)
 ]
 
-pub chain_is : (net : Network) (c : Constraint) (b r : Bound) → HasLetters net → IsConstraint net c → IsBoundOf net b →
+pub chain_when : (net : Network) (c : Constraint) (b r : Bound) → Small b.label → Small (joined b.label c.label) →
     chain_of net c b ≡ Some r → IsChain net c b r
-chain_is net c b r letters good_c good e =
+chain_when net c b r small joined_small e =
     let made = finished net (record { node = c.from; least = b.least -ℤ c.most; label = joined b.label c.label }) in
     elim (cases_Bool ((eqb b.node c.to) && (is_plain b.label && is_plain (joined b.label c.label)))) [
       | inl given ↦
@@ -118,15 +118,20 @@ chain_is net c b r letters good_c good e =
           let same : r ≡ made = cc in
           record {
             at = eqb-true b.node c.to one.0;
-            plain = true_plain b.label (small_of net b.label letters good.observed) two.0;
-            together = true_plain (joined b.label c.label)
-                (small_of net (joined b.label c.label) letters (joined_observed net b.label c.label good.observed good_c.observed)) two.1;
+            plain = true_plain b.label small two.0;
+            together = true_plain (joined b.label c.label) joined_small two.1;
             gives = same;
           }
       | inr none ↦
           let at = cond-false _ (Some made) None none in
           let f : ⊥ = cc in absurd f
     ]
+
+pub chain_is : (net : Network) (c : Constraint) (b r : Bound) → HasLetters net → IsConstraint net c → IsBoundOf net b →
+    chain_of net c b ≡ Some r → IsChain net c b r
+chain_is net c b r letters good_c good e =
+    chain_when net c b r (small_of net b.label letters good.observed)
+    (small_of net (joined b.label c.label) letters (joined_observed net b.label c.label good.observed good_c.observed)) e
 
 pub wait_is : (net : Network) (o : Option ℕ) (seen b r : Bound) → slice_index_or net.observes seen.node None ≡ o →
     wait_by net o seen b ≡ Some r → (p : ℕ) × IsWait net p seen b r

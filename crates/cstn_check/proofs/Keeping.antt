@@ -1,12 +1,12 @@
 -- What a check keeps.
-use Rattle.std.proofs.Common.{ℕ, ◌≡◌, ◌<◌, inl, inr, List, [], ◌++◌, Option, Some, None, arith, refl, sym, subst, ap, ◌∙◌}
+use Rattle.std.proofs.Common.{ℕ, ◌≡◌, ◌<◌, ◌≤◌, inl, inr, List, [], ◌++◌, take, Option, Some, None, arith, refl, sym, subst, ap, ◌∙◌}
 use Rattle.std.specs.Prelude.{nat_lt}
 use Rattle.std.proofs.lemmas.Bool.{cases_Bool, lt-ltb, cond-true, cond-false}
 use Rattle.std.proofs.lemmas.List.{append-nil}
 use Rattle.cstn_net.specs.Networks.{Network, IsWellFormed, count}
 use Rattle.cstn_net.specs.Read.{NetworkParts, the_network}
 use Rattle.cstn_rules.specs.Derivations.{Entry}
-use Rattle.cstn_log.specs.Entries.{State, the_entries}
+use Rattle.cstn_log.specs.Entries.{State, the_entries, first_entries}
 use Rattle.cstn_check.specs.Growth.{log_of}
 use Rattle.cstn_check.specs.Checks.{CheckParts, IsPrefix, IsVerdict, HasAnswered}
 use Rattle.cstn_check.specs.declared.verdicts.Verdict.{Verdict}
@@ -63,3 +63,20 @@ pub none_seen : (n : NetworkParts) (log : State) (o : Option Verdict) (parts : C
 none_seen n log o parts e f good is few =
     kept_none (the_network n) good log o is
     (subst (λ (m : NetworkParts). log.cap < count (the_network m)) (sym e) (subst (λ k. k < count (the_network parts.net)) (sym f) few))
+
+-- before the verdict the log is as it was started, and after full it has as many of the first entries as it may
+pub started_seen : (n : NetworkParts) (log : State) (o : Option Verdict) (parts : CheckParts) → n ≡ parts.net → log.cap ≡ parts.cap → o ≡ parts.verdict →
+    HasAnswered (the_network n) log o → parts.verdict ≡ None → the_entries log.entries ≡ first_entries (the_network parts.net) parts.cap
+started_seen n log o parts e f g is none =
+    subst (λ k. the_entries log.entries ≡ first_entries (the_network parts.net) k) f
+    (subst (λ (m : NetworkParts). the_entries log.entries ≡ first_entries (the_network m) log.cap) e
+    (subst (λ v. HasAnswered (the_network n) log v) (g ∙ none) is).entries)
+
+pub full_seen : (n : NetworkParts) (log : State) (o : Option Verdict) (parts : CheckParts) → n ≡ parts.net → log.cap ≡ parts.cap → o ≡ parts.verdict →
+    HasAnswered (the_network n) log o → parts.verdict ≡ Some Full → count (the_network parts.net) ≤ parts.cap →
+    the_entries log.entries ≡ take parts.cap (log_of (the_network parts.net))
+full_seen n log o parts e f g is full room =
+    let at : HasAnswered (the_network n) log (Some Full) = subst (λ v. HasAnswered (the_network n) log v) (g ∙ full) is in
+    subst (λ k. the_entries log.entries ≡ take k (log_of (the_network parts.net))) f
+    (subst (λ (m : NetworkParts). the_entries log.entries ≡ take log.cap (log_of (the_network m))) e
+    (at.3 (subst (λ (m : NetworkParts). count (the_network m) ≤ log.cap) (sym e) (subst (λ k. count (the_network parts.net) ≤ k) (sym f) room))))

@@ -10,6 +10,7 @@ pub mod Decides
 pub mod InRange
 mod Examples
 pub mod Ends
+pub mod TestLemmas
 pub mod Reading
 pub mod TurnLemmas
 pub mod Sequences

@@ -11,7 +11,7 @@ use Rattle.cstn_log.specs.Entries.{State, the_entries}
 use Rattle.cstn_check.specs.Growth.{Instance, is_refuted, step, tried, chains_at, waits_below, turn}
 use Rattle.cstn_check.specs.Growth.Instance.{chain_at, wait_at}
 use Rattle.cstn_check.specs.Kept.{IsKept}
-use Rattle.cstn_check.specs.Turns.{IsOpen, IsTaken, IsFront, IsCut, IsLonger}
+use Rattle.cstn_check.specs.Turns.{IsOpen, IsTaken, IsFront, IsCut, KeepIds, IsLonger}
 use Rattle.cstn_check.proofs.Grows.{Each, tried_extends}
 use Rattle.cstn_check.proofs.Derives.{OfNetwork, tried_keeps, tried_derived}
 use Rattle.cstn_check.proofs.Bounded.{kept_more}
@@ -50,7 +50,11 @@ longer_through a b c h k =
     let short = k.short in
     let more = h.longer in
     let rest = k.longer in
-    record { cap = k.cap ∙ h.cap; nodes = k.nodes ∙ h.nodes; births = omega arith; short = omega arith; longer = omega arith }
+    let ids : KeepIds a.ids c.ids = record {
+      more = h.ids.more ++ k.ids.more;
+      is = sym (append_assoc a.ids h.ids.more k.ids.more) ∙ ap (λ l. l ++ k.ids.more) h.ids.is ∙ k.ids.is;
+    } in
+    record { cap = k.cap ∙ h.cap; nodes = k.nodes ∙ h.nodes; ids = ids; births = omega arith; short = omega arith; longer = omega arith }
 
 module _ (net : Network) (old : State) (xs ys : List Instance) where
   pub refuted_then : (new : State) → IsTaken net old new (tried net (the_entries old.entries) xs) true →

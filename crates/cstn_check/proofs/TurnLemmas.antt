@@ -4,7 +4,7 @@ use Rattle.std.specs.Prelude.{slice_get, slice_index_or, IsTrue, ◌↔◌}
 use Rattle.std.specs.List.{Contains}
 use Rattle.std.proofs.lemmas.Bool.{cond-true, cond-false, and_from, and_right}
 use Rattle.std.proofs.lemmas.List.Elements.{All-contains}
-use Rattle.std.proofs.lemmas.List.{map-append}
+use Rattle.std.proofs.lemmas.List.{map-append, append-nil}
 use Rattle.std.proofs.lemmas.List.Folds.{list_any-append}
 use Rattle.cstn_label.specs.Bounds.{Bound}
 use Rattle.cstn_label.specs.Read.{the_bound}
@@ -28,7 +28,7 @@ abbrev pub put_to : List TheEntry → TheEntry → List TheEntry
 put_to list e = cond (is_covered list e.bound) list (list ++ e ∷ [])
 
 pub longer_itself : (s : State) → length s.entries ≤ s.cap → IsLonger s s
-longer_itself s short = record { cap = refl; nodes = refl; births = refl; short = short; longer = omega arith }
+longer_itself s short = record { cap = refl; nodes = refl; ids = record { more = []; is = append-nil s.ids }; births = refl; short = short; longer = omega arith }
 
 pub put_nothing : (net : Network) (s : State) (e : Entry) → IsOpen net s → IsCoveredBy s.entries e.bound →
     IsTaken net s s (put_to (the_entries s.entries) (the_entry e)) false
@@ -65,6 +65,7 @@ put_last net old new e slot r ready free room is iff =
       longer = record {
         cap = cap;
         nodes = nodes;
+        ids = record { more = record { slot = slot; birth = old.births } ∷ []; is = sym (ap (λ (s : State). s.ids) is) };
         births = omega arith;
         short = omega arith;
         longer = omega arith;

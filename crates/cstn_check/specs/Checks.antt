@@ -1,5 +1,5 @@
 -- Checks of a network.
-use Rattle.std.specs.Prelude.{ℕ, ◌≡◌, ◌<◌, ◌≤◌, Option, Some, None, List, [], ◌++◌, false}
+use Rattle.std.specs.Prelude.{ℕ, ◌≡◌, ◌<◌, ◌≤◌, Option, Some, None, List, [], ◌++◌, take, false}
 use Rattle.cstn_label.specs.declared.bounds.Bound.{Bound}
 use Rattle.cstn_net.specs.Networks.{Network, count}
 use Rattle.cstn_net.specs.Read.{NetworkParts}
@@ -35,7 +35,7 @@ pub record IsPrefix (front list : List Entry) : Type 0 where
 abbrev pub IsVerdict : Network → ℕ → List Entry → Verdict → Type 0
 IsVerdict net cap list (Yes load) = (load ≡ load_of net) × (load_of net ≤ cap) × (list ≡ log_of net) × (is_refuted net (log_of net) ≡ false)
 IsVerdict net cap list (No load) = (load ≡ load_of net) × (load_of net ≤ cap) × (list ≡ log_of net) × LastRefutes net (log_of net)
-IsVerdict net cap list Full = (cap < load_of net) × IsPrefix list (log_of net) × (cap < count net → list ≡ [])
+IsVerdict net cap list Full = (cap < load_of net) × IsPrefix list (log_of net) × (cap < count net → list ≡ []) × (count net ≤ cap → list ≡ take cap (log_of net))
 
 -- before a verdict the log has its first entries, and after one what the verdict says
 abbrev pub HasAnswered : Network → State → Option Verdict → Type 0

@@ -1,5 +1,6 @@
 pub mod Tests
 pub mod Growth
+pub mod Relations
 pub mod Spent
 pub mod Givers
 pub mod Tries

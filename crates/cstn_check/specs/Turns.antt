@@ -3,6 +3,7 @@ use Rattle.std.specs.Prelude.{ℕ, ◌≡◌, ◌<◌, ◌≤◌, ◌+◌, ◌-�
 use Rattle.cstn_net.specs.Networks.{Network, count}
 use Rattle.cstn_rules.specs.Rules.{Refutes}
 use Rattle.cstn_rules.specs.Derivations.{Entry, IsDerivation}
+use Rattle.cstn_pool.specs.declared.slot_id.SlotId.{SlotId}
 use Rattle.cstn_log.specs.Entries.{State, the_entries}
 use Rattle.cstn_check.specs.Growth.{is_refuted}
 use Rattle.cstn_check.specs.Kept.{IsKept}
@@ -17,10 +18,17 @@ pub record IsOpen (net : Network) (log : State) : Type 0 where
   pub short : length log.entries ≤ log.cap
   pub births : log.births + log.cap < 2 ^ 62 + length log.entries
 
--- the new log has the cap and the time-points of the old one, no fewer entries, and one birth more for each new entry
+-- the second list of ids begins with the first
+pub record KeepIds (old new : List SlotId) : Type 0 where
+  pub more : List SlotId
+  pub is : old ++ more ≡ new
+
+-- the new log has the cap and the time-points of the old one, its ids at their places, no fewer entries, and one birth more for
+-- each new entry
 pub record IsLonger (old new : State) : Type 0 where
   pub cap : new.cap ≡ old.cap
   pub nodes : new.nodes ≡ old.nodes
+  pub ids : KeepIds old.ids new.ids
   pub births : new.births + length old.entries ≡ old.births + length new.entries
   pub short : length new.entries ≤ old.cap
   pub longer : length old.entries ≤ length new.entries

@@ -1,11 +1,11 @@
-ghost use Rattle.std.specs.Prelude.{ℕ, ◌≡◌, ◌<◌, ◌≤◌, ◌↔◌, IfOk, Some, None, List, []};
+ghost use Rattle.std.specs.Prelude.{ℕ, ◌≡◌, ◌<◌, ◌≤◌, ◌↔◌, IfOk, Some, None, List, [], take};
 ghost use Rattle.std.specs.List.{All};
 ghost use Rattle.cstn_net.specs.Networks.{count};
 ghost use Rattle.cstn_net.specs.Strategies.{IsConsistent};
 ghost use Rattle.cstn_net.specs.Read.{the_network};
 ghost use Rattle.cstn_rules.specs.Derivations.{Entry, IsRefutation};
 ghost use Rattle.cstn_log.specs.Cuts.{part};
-ghost use Rattle.cstn_log.specs.Entries.{the_entries};
+ghost use Rattle.cstn_log.specs.Entries.{the_entries, first_entries};
 ghost use Rattle.cstn_log.specs.Plans.{the_bounds};
 ghost use Rattle.cstn_refute.specs.Refutations.{FitsText, the_steps};
 ghost use Rattle.cstn_check.specs.Growth.{log_of, load_of, live_bounds, most_entries};
@@ -113,10 +113,12 @@ impl Check {
         self.tries.count
     }
 
-    /// The log: all of it once the check has answered yes or no, and else its first entries. It is empty where `cap` is below
-    /// the number of time-points.
+    /// The log: all of it once the check has answered yes or no, its first `cap` entries after full, and the base bounds before.
+    /// It is empty where `cap` is below the number of time-points.
     pub fn kept(&self) -> &Log
         ensures whole { (v : Verdict) → self.now.verdict ≡ Some v → (v ≡ Verdict.Full → ⊥) → the_entries result.now.entries ≡ log_of (the_network self.now.net) }
+        ensures started { self.now.verdict ≡ None → the_entries result.now.entries ≡ first_entries (the_network self.now.net) self.now.cap }
+        ensures full { self.now.verdict ≡ Some Verdict.Full → count (the_network self.now.net) ≤ self.now.cap → the_entries result.now.entries ≡ take self.now.cap (log_of (the_network self.now.net)) }
         ensures front { IsPrefix (the_entries result.now.entries) (log_of (the_network self.now.net)) }
         ensures empty { self.now.cap < count (the_network self.now.net) → the_entries result.now.entries ≡ [] }
         ensures size { result.now.cap ≡ self.now.cap }

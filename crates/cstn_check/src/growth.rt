@@ -3,6 +3,7 @@ ghost use Rattle.cstn_check.specs.Spent.{AreSpent, fresh_count, most_tries};
 ghost use Rattle.cstn_net.specs.Networks.{count};
 ghost use Rattle.cstn_net.specs.Read.{the_network};
 ghost use Rattle.cstn_rules.specs.Derivations.{Entry as TheEntry, IsDerivation};
+ghost use Rattle.cstn_pool.specs.declared.slot_id.SlotId.{SlotId};
 ghost use Rattle.cstn_log.specs.Entries.{the_entries, bases};
 ghost use Rattle.cstn_check.specs.Growth.{grow};
 ghost use Rattle.cstn_check.specs.Kept.{IsKept};
@@ -25,7 +26,8 @@ pub enum Grown {
 /// Grows the list of the log in a fixed order, and says why growth ended. Each entry has a turn, which tries chain of each
 /// constraint with the entry, in ascending id, and then wait of the entry with each entry up to it, in both orders. A
 /// conclusion of live entries is appended where no entry dominates it. Growth ends at the first entry that refutes the network,
-/// or after the last entry's turn. The log is full exactly where the list would have more entries than its cap.
+/// or after the last entry's turn. The log is full exactly where the list would have more entries than its cap. The entries that
+/// the log has keep their ids.
 pub fn grow(net: &Network, log: &mut Log, tries: &mut Tries) -> Grown
     requires nodes { log.old.nodes ≡ count (the_network net.now) }
     requires derivation { IsDerivation (the_network net.now) (the_entries log.old.entries) }
@@ -38,6 +40,7 @@ pub fn grow(net: &Network, log: &mut Log, tries: &mut Tries) -> Grown
     ensures grown { (result ≡ Grown.Full → ⊥) → the_entries log.new.entries ≡ grow (the_network net.now) (the_entries log.old.entries) }
     ensures refuted { result ≡ Grown.Refuted ↔ ((result ≡ Grown.Full → ⊥) × LastRefutes (the_network net.now) (the_entries log.new.entries)) }
 
+    ensures ids { (more : List SlotId) × (log.old.ids ++ more ≡ log.new.ids) }
     ensures births { log.new.births ≤ log.old.births + log.old.cap }
     ensures size { (log.new.cap ≡ log.old.cap) × (log.new.nodes ≡ log.old.nodes) }
     ensures derivation { IsDerivation (the_network net.now) (the_entries log.new.entries) }
@@ -66,6 +69,7 @@ pub fn grow_on(net: &Network, log: &mut Log, fresh: &[u32], tries: &mut Tries) -
     ensures grown { (result ≡ Grown.Full → ⊥) → the_entries log.new.entries ≡ grow (the_network net.now) (the_entries log.old.entries) }
     ensures refuted { result ≡ Grown.Refuted ↔ ((result ≡ Grown.Full → ⊥) × LastRefutes (the_network net.now) (the_entries log.new.entries)) }
 
+    ensures ids { (more : List SlotId) × (log.old.ids ++ more ≡ log.new.ids) }
     ensures births { log.new.births ≤ log.old.births + log.old.cap }
     ensures size { (log.new.cap ≡ log.old.cap) × (log.new.nodes ≡ log.old.nodes) }
     ensures derivation { IsDerivation (the_network net.now) (the_entries log.new.entries) }

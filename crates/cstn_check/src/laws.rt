@@ -2,18 +2,53 @@
 ghost use Rattle.std.specs.Prelude.{ℕ, ◌≡◌, ◌<◌, ◌≤◌, ◌-◌, ◌+◌, ◌++◌, ◌↔◌, true, false, length, slice_get, List, [], ◌∷◌, Some, None};
 ghost use Rattle.std.specs.List.{Contains};
 ghost use Rattle.cstn_label.specs.declared.marks.Mark.TheVariants.{Absent, No};
-ghost use Rattle.cstn_label.specs.Labels.{Scenario, empty};
-ghost use Rattle.cstn_label.specs.Bounds.{Bound};
-ghost use Rattle.cstn_net.specs.Networks.{Network, IsNetwork, IsWellFormed, count};
+ghost use Rattle.cstn_label.specs.Labels.{Label, Scenario, IsWithin, empty};
+ghost use Rattle.cstn_label.specs.Bounds.{Bound, Dominates};
+ghost use Rattle.cstn_net.specs.Networks.{Network, Constraint, IsNetwork, IsWellFormed, count};
 ghost use Rattle.cstn_net.specs.Strategies.{Table, IsStrategy, IsConsistent, IsLeast};
 ghost use Rattle.cstn_rules.specs.Closed.{IsClosed};
 ghost use Rattle.cstn_rules.specs.Derivations.{Entry, IsDerivation};
-ghost use Rattle.cstn_rules.specs.Rules.{Refutes, IsBoundOf};
+ghost use Rattle.cstn_rules.specs.Rules.{Refutes, IsBoundOf, IsChain, IsWait};
 ghost use Rattle.cstn_log.specs.Entries.{bases};
 ghost use Rattle.cstn_check.specs.Examples.{HasLog, Shows, of_two_marks, after, before, prompt, branch_and, crossed_and, unknown_mark, process, drawn, crossed_lines, unknown_mark_lines, process_lines};
-ghost use Rattle.cstn_check.specs.Growth.{Instance, grown, grow, log_of, load_of, most_entries, is_refuted, live_bounds};
+ghost use Rattle.cstn_check.specs.Tests.{is_within, dominates, refutes, chain_of, wait_of};
+ghost use Rattle.cstn_check.specs.Growth.{Instance, grown, grow, log_of, load_of, most_entries, is_covered, is_live, is_refuted, live_bounds};
+ghost use Rattle.cstn_check.specs.Relations.{IsOnLetters, AreOnLetters, IsCovered, IsLive, IsRefuted};
 ghost use Rattle.cstn_check.specs.Kept.{IsKept};
 ghost use Rattle.cstn_check.specs.Spent.{HasPremises, IsSpent, AreSpent};
+
+/// The tests by true and false, with which growth is defined, decide the relations on labels and bounds, where labels mark none
+/// but the 52 letters; those of a network's constraints mark no other.
+pub fn tests_decide()
+    ensures within { (a b : Label) → IsOnLetters a → (is_within a b ≡ true ↔ IsWithin a b) }
+    ensures dominates { (a b : Bound) → IsOnLetters a.label → (dominates a b ≡ true ↔ Dominates a b) }
+    ensures refutes { (net : Network) (b : Bound) → IsOnLetters b.label → (refutes net b ≡ true ↔ Refutes net b) }
+    ensures chain { (net : Network) (c : Constraint) (b r : Bound) → IsOnLetters b.label → IsOnLetters c.label → (chain_of net c b ≡ Some r ↔ IsChain net c b r) }
+    ensures wait { (net : Network) (seen b r : Bound) → (wait_of net seen b ≡ Some r ↔ ((p : ℕ) × IsWait net p seen b r)) }
+    ensures letters { (net : Network) (c : Constraint) → IsWellFormed net → Contains net.constraints c → IsOnLetters c.label }
+{}
+
+/// The tests on lists decide the relations too, where labels mark none but the 52 letters; those of a list that growth keeps mark
+/// no other.
+pub fn tests_on_lists_decide()
+    ensures covered { (list : List Entry) (r : Bound) → AreOnLetters list → (is_covered list r ≡ true ↔ IsCovered list r) }
+    ensures live { (list : List Entry) (k : ℕ) → AreOnLetters list → (is_live list k ≡ true ↔ IsLive list k) }
+    ensures refuted { (net : Network) (list : List Entry) → AreOnLetters list → (is_refuted net list ≡ true ↔ IsRefuted net list) }
+    ensures live_bounds { (list : List Entry) (b : Bound) → AreOnLetters list → (Contains (live_bounds list) b ↔ ((k : ℕ) × (e : Entry) × (slice_get list k ≡ Some e) × IsLive list k × (e.bound ≡ b))) }
+    ensures letters { (net : Network) (list : List Entry) → IsWellFormed net → IsKept net list → AreOnLetters list }
+{}
+
+/// A list that growth keeps, as that of the base bounds, stays one while it grows, and never has more entries than
+/// `most_entries`. After any number of turns it is the grown list or its first entries. It is the whole grown list once there were
+/// as many turns as that has entries, or once an entry refutes the network; further turns change nothing.
+pub fn kept_lists_grow_to_an_end()
+    ensures bases { (net : Network) → IsWellFormed net → IsKept net (bases (count net)) }
+    ensures kept { (net : Network) (list : List Entry) (n : ℕ) → IsWellFormed net → IsKept net list → IsKept net (grown net list n) }
+    ensures most { (net : Network) (list : List Entry) (n : ℕ) → IsWellFormed net → IsKept net list → length (grown net list n) ≤ most_entries net }
+    ensures goes_on { (net : Network) (list : List Entry) (n : ℕ) → IsWellFormed net → IsKept net list → (more : List Entry) × (grown net list n ++ more ≡ grow net list) }
+    ensures done { (net : Network) (list : List Entry) (n : ℕ) → IsWellFormed net → IsKept net list → length (grow net list) ≤ n → grown net list n ≡ grow net list }
+    ensures refuted { (net : Network) (list : List Entry) (n : ℕ) → IsWellFormed net → IsKept net list → is_refuted net (grown net list n) ≡ true → grown net list n ≡ grow net list }
+{}
 
 /// The load is at least n and at most n * 4^k * (H + 2): n time-points, k observed propositions, H the deadline.
 pub fn growth_is_bounded()

@@ -20,6 +20,7 @@ pub use givers::logs_stay_without_idle_constraints;
 pub use growth::{Grown, grow, grow_on};
 pub use laws::{
     grown_lists_are_spent, growth_decides, growth_ends, growth_is_bounded,
-    live_bounds_are_in_range, loads_are_known, logs_are_known, spent_instances_stay_spent,
+    kept_lists_grow_to_an_end, live_bounds_are_in_range, loads_are_known, logs_are_known,
+    spent_instances_stay_spent, tests_decide, tests_on_lists_decide,
 };
 pub use verdicts::Verdict;

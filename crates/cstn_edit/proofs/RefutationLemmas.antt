@@ -8,10 +8,10 @@ use Rattle.cstn_rules.specs.declared.entries.Entry.{Entry as DeclaredEntry}
 use Rattle.cstn_rules.specs.Read.{the_entry}
 use Rattle.cstn_log.specs.Entries.{State, the_entries, AllNew}
 use Rattle.cstn_log.specs.Cuts.{part}
-use Rattle.cstn_refute.specs.Refutations.{AreSteps}
+use Rattle.cstn_refute.specs.Refutations.{RefutationParts, AreSteps, FitsText, the_steps}
 use Rattle.cstn_check.specs.declared.verdicts.Verdict.TheVariants.{No}
 use Rattle.cstn_check.specs.Turns.{LastRefutes}
-use Rattle.cstn_check.proofs.PartLemmas.{part_steps, part_named}
+use Rattle.cstn_check.proofs.PartLemmas.{part_steps, part_named, part_text}
 use Rattle.cstn_edit.specs.declared.outcomes.Outcome.{Outcome}
 use Rattle.cstn_edit.specs.Sessions.{Refuted, IsKeptLog, kept_list}
 use Rattle.cstn_edit.proofs.VerdictLemmas.{log_on, room_where_not, room_kept}
@@ -36,6 +36,15 @@ kept_load net log o load kept refuted said =
     let L = the_entries log.entries in
     let no = refuted load said in
     no.0 ∙ sym (length-map log.entries the_entry) ∙ ap length (sym (room_kept net log.cap L (room_refuted net log kept no.1)))
+
+-- a refutation of the last entry of the log with its ancestors is in the ranges of a text
+pub kept_text : (net : Network) (log : State) (r : RefutationParts) → IsKeptLog net log → LastRefutes net (the_entries log.entries) →
+    r.load ≡ length log.entries → the_steps r ≡ part (the_entries log.entries) → length log.entries ≤ 4194304 → FitsText r
+kept_text net log r kept last load is few =
+    let L = the_entries log.entries in
+    let long : length L ≡ length log.entries = length-map log.entries the_entry in
+    part_text net L r (record { derivation = kept.derivation; last = last.last; is_last = last.is_last; refutes = last.refutes })
+    (load ∙ sym long) is (omega (arith, few, long))
 
 module _ (net : Network) (log : State) (steps : List DeclaredEntry) (good : IsWellFormed net) (kept : IsKeptLog net log)
     (last : LastRefutes net (the_entries log.entries)) (new : AllNew log.entries) (is : the_entries steps ≡ part (the_entries log.entries)) where

@@ -4,6 +4,7 @@ ghost use Rattle.cstn_label.specs.declared.marks.Mark.TheVariants.{Absent};
 ghost use Rattle.cstn_label.specs.Labels.{Label};
 ghost use Rattle.cstn_net.specs.Networks.{Network, IsWellFormed, count};
 ghost use Rattle.cstn_check.specs.Growth.{grow, load_of};
+ghost use Rattle.cstn_check.specs.Kept.{IsKept};
 ghost use Rattle.cstn_check.specs.declared.verdicts.Verdict.TheVariants.{Full};
 ghost use Rattle.cstn_edit.specs.Edits.{Session, begun, add_refusal, change_refusal, with_added, with_removed, with_changed, outcome_at, with_verdict};
 ghost use Rattle.cstn_edit.specs.Sound.{IsSound, IsTrueOf};
@@ -16,6 +17,7 @@ pub fn sessions_stay_sound()
     ensures removed { (s : Session) (id : ℕ) → IsSound s → IsSound (with_removed s id) }
     ensures changed { (s : Session) (id : ℕ) (most : ℤ) → change_refusal s id most ≡ None → IsSound s → IsSound (with_changed s id most) }
     ensures verdict { (cap : ℕ) (s : Session) → IsSound s → IsSound (with_verdict cap s) }
+    ensures grows { (s : Session) → IsSound s → IsKept s.net s.kept }
 {}
 
 /// Each verdict of a sound session is true of the network as edited: yes is said only where it is consistent, no only where

@@ -11,7 +11,7 @@ ghost use Rattle.cstn_log.specs.Entries.{bases, the_entries};
 ghost use Rattle.cstn_log.specs.Cuts.{dropped, part};
 ghost use Rattle.cstn_check.specs.declared.verdicts.Verdict.{Verdict};
 ghost use Rattle.cstn_check.specs.Growth.{grow, load_of};
-ghost use Rattle.cstn_refute.specs.Refutations.{the_steps};
+ghost use Rattle.cstn_refute.specs.Refutations.{FitsText, the_steps};
 ghost use Rattle.cstn_check.specs.Spent.{most_tries};
 ghost use Rattle.cstn_edit.specs.Fresh.{fresh_with, ids_of};
 ghost use Rattle.cstn_edit.specs.Sessions.{kept_of, next_id, highest_of, kept_after, outcome_of};
@@ -262,8 +262,9 @@ impl Session {
         ensures load { IfOk result (λ r. r.load ≡ length (kept_of self.now)) }
         ensures refutes { IfOk result (λ r. IsRefutation (the_network self.now.net) (the_steps r)) }
 
-        // Each step is at a time-point of the network, so the refutation can be printed with their names.
+        // It can be printed with the names of the time-points, and its text gives it back.
         ensures named { IfOk result (λ r. All (λ e. e.bound.node.0 < count (the_network self.now.net)) r.steps) }
+        ensures text { IfOk result FitsText }
     {
         network_is_well_formed(&self.net);
         let load = self.log.len();

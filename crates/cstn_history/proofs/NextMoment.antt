@@ -9,12 +9,12 @@ use Rattle.cstn_lift.specs.Labelled.{Labelled}
 use Rattle.cstn_lift.specs.Strategies.{IsExecuted}
 use Rattle.cstn_lift.specs.WellFormed.{IsLabelled}
 use Rattle.cstn_history.specs.Histories.{History, IsHistory, AgreesWith}
-use Rattle.cstn_history.specs.Continuations.{Continues, Can, IsDoneKnown, IsKnownAfter, IsNamed, IsNext, IsLeastTable, IsQuietBefore, IsAlwaysAt}
+use Rattle.cstn_history.specs.Continuations.{Continues, Can, IsDoneKnown, IsKnownAfter, IsNamed, IsEventful, IsNext, IsLeastTable, IsQuietBefore, IsAlwaysAt}
 use Rattle.cstn_history.specs.Facts.{at_now, with_done, with_told}
 use Rattle.cstn_history.proofs.Settled.{some_or_none}
 use Rattle.cstn_history.proofs.Followed.{time_passes, outcome_comes, step_is_done}
 
-module _ (m : Labelled) (h : History) (good : IsLabelled m) (t : ℕ) (next : IsNext m h t) where
+module _ (m : Labelled) (h : History) (good : IsLabelled m) (t : ℕ) (first : (u : ℕ) → h.now ≤ u → u < t → IsEventful m h u → ⊥) where
   -- no table has anything that isn't done before n
   abbrev NoneBefore : ℕ → Type 0
   NoneBefore n = (table : Table) (s : Scenario) (x : ℕ) → Continues m h table → AgreesWith h s → x < count m.base → h.done x ≡ None →
@@ -34,7 +34,7 @@ module _ (m : Labelled) (h : History) (good : IsLabelled m) (t : ℕ) (next : Is
       where
         unknown : h.told p ≡ None → IsKnownAfter m h s (table s) (table s x) p → ⊥
         unknown untold (inl told) = let said = told.1 in cc
-        unknown untold (inr (inl d)) = next.first n from_now inside (inl (p, (untold, subst (λ u. IsDoneKnown m h u p) at d)))
+        unknown untold (inr (inl d)) = first n from_now inside (inl (p, (untold, subst (λ u. IsDoneKnown m h u p) at d)))
         unknown untold (inr (inr c)) =
             let some = good.base.network.reacts c.observer p c.observes in
             let soon = c.passed in
@@ -46,7 +46,7 @@ module _ (m : Labelled) (h : History) (good : IsLabelled m) (t : ℕ) (next : Is
         (both.0, both.1 ∙ at)
 
     not_there : ⊥
-    not_there = next.first n from_now inside (inr (
+    not_there = first n from_now inside (inr (
       x,
       record {
         here = here;
@@ -72,11 +72,15 @@ module _ (m : Labelled) (h : History) (good : IsLabelled m) (t : ℕ) (next : Is
     | inr later ↦ not_there n (omega arith) (none_before n (omega arith)) table s x goes agrees here none e (omega arith)
   ]
 
-  pub quiet_before : (table : Table) → Continues m h table → IsQuietBefore m h table t
-  quiet_before table goes s x agrees here none e = elim (cases_lt (table s x) t) [
+  pub quiet_upto : (table : Table) → Continues m h table → IsQuietBefore m h table t
+  quiet_upto table goes s x agrees here none e = elim (cases_lt (table s x) t) [
     | inl less ↦ absurd (none_before t (omega arith) table s x goes agrees here none e less)
     | inr late ↦ late
   ]
+
+module _ (m : Labelled) (h : History) (good : IsLabelled m) (t : ℕ) (next : IsNext m h t) where
+  pub quiet_before : (table : Table) → Continues m h table → IsQuietBefore m h table t
+  quiet_before = quiet_upto m h good t next.first
 
   -- a table of least moments has what is named at the next moment in each scenario
   pub named_always : (table : Table) (x : ℕ) → Continues m h table → IsLeastTable m h table → IsNamed m h t x → IsAlwaysAt m h table x t

@@ -14,7 +14,7 @@ ghost use Rattle.cstn_lift.specs.Read.{LabelledParts, the_labelled};
 ghost use Rattle.cstn_lift.specs.WellFormed.{IsLabelled};
 ghost use Rattle.cstn_lift.specs.Strategies.{IsExecuted, IsLabelledConsistent, IsLabelledLeast};
 ghost use Rattle.cstn_history.specs.Histories.{History, IsHistory, IsInTime, IsTimelyHistory, AgreesWith, Settles, IsAllowed, IsOnLetters, allows, label_left, GoesOn, IsToldMore, edited, nothing_yet};
-ghost use Rattle.cstn_history.specs.Continuations.{Continues, Can, IsLeastNow, IsQuietBefore, IsAlwaysAt, IsNamed, IsNext, IsLeastTable, CanWait};
+ghost use Rattle.cstn_history.specs.Continuations.{Continues, Can, IsLeastNow, IsQuietBefore, IsAlwaysAt, IsNamed, IsEventful, IsNext, IsLeastTable, CanWait};
 ghost use Rattle.cstn_history.specs.Rest.{is_left, number_of, rest, rest_waiting};
 ghost use Rattle.cstn_history.specs.Facts.{settles, now_refusal, done_refusal, told_refusal, expected_refusal, at_now, with_done, with_told, with_expected};
 ghost use Rattle.cstn_history.specs.Handed.{HasAllLeft, bared};
@@ -64,8 +64,11 @@ pub fn tables_are_followed()
 
 /// Before the next moment no table that continues a history executes anything that isn't done. So the history can go on when time
 /// passes up to it, and when an outcome is told at a moment up to it. Where a table of least moments continues the history, it still
-/// does when a time-point that is named at the next moment is done at it.
+/// does when a time-point that is named at the next moment is done at it. And as long as no outcome is awaited and no time-point
+/// is named, no table that continues the history executes anything that isn't done.
 pub fn next_moment_is_first()
+    ensures unless { (m : Labelled) (h : History) (table : Table) (t : ℕ) → IsLabelled m → ((u : ℕ) → h.now ≤ u → u < t → IsEventful m h u → ⊥)
+        → Continues m h table → IsQuietBefore m h table t }
     ensures quiet { (m : Labelled) (h : History) (table : Table) (t : ℕ) → IsLabelled m → IsNext m h t → Continues m h table
         → IsQuietBefore m h table t }
     ensures time { (m : Labelled) (h : History) (t u : ℕ) → IsLabelled m → IsNext m h t → u ≤ t → Can m h → Can m (at_now h u) }

@@ -10,6 +10,7 @@ mod laws;
 mod leaving;
 mod rests;
 
+pub use completion::completed;
 pub use errors::{FactError, RestError};
 pub use histories::History;
 pub use laws::{
@@ -17,4 +18,5 @@ pub use laws::{
     next_moment_is_first, nothing_yet_leaves_all, points_left_are_handed, rest_decides,
     rest_is_labelled, tables_are_followed, told_labels_are_decided, waiting_is_decided,
 };
-pub use rests::rest;
+pub use leaving::known_at;
+pub use rests::{numbers_left, rest};

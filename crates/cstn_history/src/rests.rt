@@ -47,6 +47,20 @@ fn left_of(alloc: Global, network: &Labelled, history: &History) -> Result<Left,
     Ok(Left { points, numbers })
 }
 
+/// The number that each time-point has among those that are left, which is that of the next one that is left where it isn't left
+/// itself. Fails where memory is refused.
+pub fn numbers_left(
+    alloc: Global,
+    network: &Labelled,
+    history: &History,
+) -> Result<Vec<u16>, AllocError>
+    requires kept { IsKeptFor (the_labelled network.now) history.now }
+    ensures numbers { IfOk result (λ v. AreNumbers (the_labelled network.now) (the_history history.now) v.items) }
+{
+    let left = left_of(alloc, network, history)?;
+    Ok(left.numbers)
+}
+
 fn push_if(points: &mut Vec<NodeId>, x: NodeId, is_kept: bool) -> Result<(), AllocError>
     ensures { IfOk result (λ _. points.new.items ≡ points.old.items ++ (if is_kept then x ∷ [] else [])) }
 {

@@ -1,6 +1,6 @@
 -- What a log keeps.
 use Rattle.std.proofs.Common.{◌≡◌, ◌≢◌, inl, inr, ℕ, zero, suc, ◌<◌, ◌≤◌, List, [], ◌∷◌, length, get_or, replicate, Bool, true, false, nat_eq, refl, ap, sym, ◌∙◌, subst, arith}
-use Rattle.std.specs.Prelude.{Option, None, Some, IsTrue, ◌↔◌, is_some, slice_get, count_by, if◌then◌else◌}
+use Rattle.std.specs.Prelude.{Option, None, Some, IfSome, IfNone, IsTrue, ◌↔◌, is_some, slice_get, count_by, if◌then◌else◌}
 use Rattle.std.proofs.lemmas.List.{length-replicate}
 use Rattle.std.proofs.lemmas.Bool.{cases_lt, cases_Bool}
 use Rattle.std.proofs.lemmas.Option.{none-some, same_Some, slice_get-get_or}
@@ -10,7 +10,7 @@ use Rattle.cstn_rules.specs.declared.entries.Entry.{Entry}
 use Rattle.cstn_pool.specs.declared.slot_id.SlotId.{SlotId}
 use Rattle.cstn_pool.specs.Slots.{value_at}
 use Rattle.cstn_minset.specs.Sets.{Entries, IsThere, IsOver, IsCovered}
-use Rattle.cstn_log.specs.Entries.{IsCoveredBy, IsLive}
+use Rattle.cstn_log.specs.Entries.{HasId, IsBoundAt, IsDominator, IsCoveredBy, IsLive}
 use Rattle.cstn_log.specs.Kept.{IsKept, IsPooled, IsTabled}
 
 -- no id has an empty slot
@@ -89,6 +89,19 @@ covered_there table entries ids b covered is covers = (
     by_list c =
         let f = is.placed c.0 c.1 c.2 in
         (f.0, f.1, f.3, subst (λ (z : Bound). IsOver z b) (sym f.5) c.3)
+
+-- the place of the id of a bound that dominates another is that of an entry which does
+pub dominator_at : (slots : List (Option (ℕ × Entry))) (births : ℕ) (table : Entries) (entries : List Entry) (ids : List SlotId) (nodes : ℕ) (id : SlotId) (b : Bound) (place : Option ℕ) → IsKept slots births table entries ids nodes → (c : Bound) × (get_or table id.slot None ≡ Some (id.birth, c)) × IsOver c b → IfSome place (λ k. slice_get ids k ≡ Some id) → IfSome place (λ k. IsDominator entries k b)
+dominator_at slots births table entries ids nodes id b None is found there = there
+dominator_at slots births table entries ids nodes id b (Some k) is found there =
+    let f = is.tabled.placed id.slot (id.birth, found.0) found.1 in
+    let k_is : f.0 ≡ k = same_place slots births entries ids f.0 k (record { slot = id.slot; birth = id.birth }) id is.pooled f.2.there there refl in
+    (found.0, record { entry = f.1; there = subst (λ (m : ℕ). slice_get entries m ≡ Some f.1) k_is f.3; is = f.5 }, found.2)
+
+-- an id of the minimal set has a place
+pub placed_there : (table : Entries) (entries : List Entry) (ids : List SlotId) (id : SlotId) (c : Bound) (place : Option ℕ) (A : Type 0) → IsTabled table entries ids → get_or table id.slot None ≡ Some (id.birth, c) → IfNone place (¬ HasId ids id) → IfNone place A
+placed_there table entries ids id c None A is there none = absurd (let f = is.placed id.slot (id.birth, c) there in none (f.0, f.2.there))
+placed_there table entries ids id c (Some k) A is there none = none
 
 -- what the list doesn't cover isn't covered by the minimal set
 pub uncovered_there : (table : Entries) (entries : List Entry) (ids : List SlotId) (b : Bound) → IsTabled table entries ids → ¬ IsCoveredBy entries b → ¬ IsCovered table b

@@ -202,7 +202,7 @@ staying_more id marks (e ∷ es) =
     (stays id marks e.why ∷ rest.0, rest.1 ∙ append_assoc marks (stays id marks e.why ∷ []) rest.0)
 
 -- an entry is marked where it stays
-stays_marked : (id : ℕ) (marks : List Bool) (es : List Entry) (i : ℕ) (e : Entry) →
+pub stays_marked : (id : ℕ) (marks : List Bool) (es : List Entry) (i : ℕ) (e : Entry) →
     ((j : ℕ) (d : Entry) → slice_get es j ≡ Some d → PremisesBelow (length marks + j) d.why) → slice_get es i ≡ Some e →
     is_marked (marked_staying id marks es) (length marks + i) ≡ stays id (marked_staying id marks es) e.why
 stays_marked id marks [] i e low there = absurd (none-some e there)
@@ -241,7 +241,7 @@ pub staying_closed : (steps : List Entry) (id : ℕ) → AllEarlier steps → Is
 staying_closed steps id all k e there marked =
     stays_closed id (marked_staying id [] steps) e.why (marked_stays id steps all.below k e there marked)
 
-other_constraint : (id c i : ℕ) (marks : List Bool) → stays id marks (Chain c i) ≡ true → c ≡ id → ⊥
+pub other_constraint : (id c i : ℕ) (marks : List Bool) → stays id marks (Chain c i) ≡ true → c ≡ id → ⊥
 other_constraint id c i marks h same =
     let differs = (both_true (not (nat_eq c id)) (is_marked marks i) h).0 in
     absurd (not_same id (subst (λ n. not (nat_eq n id) ≡ true) same differs))

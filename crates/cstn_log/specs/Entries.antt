@@ -1,5 +1,5 @@
 -- Lists of entries.
-use Rattle.std.specs.Prelude.{◌≡◌, ℕ, zero, suc, ◌<◌, List, [], ◌∷◌, ◌++◌, map, Some, nat_lt, slice_get, if◌then◌else◌}
+use Rattle.std.specs.Prelude.{◌≡◌, ℕ, zero, suc, ◌<◌, ◌≤◌, List, [], ◌∷◌, ◌++◌, map, Some, nat_lt, slice_get, if◌then◌else◌}
 use Rattle.cstn_label.specs.declared.bounds.Bound.{Bound}
 use Rattle.cstn_net.specs.Networks.{Network, count}
 use Rattle.cstn_rules.specs.declared.entries.Entry.{Entry}
@@ -23,9 +23,23 @@ pub record State : Type 0 where
 abbrev pub HasId : List SlotId → SlotId → Type 0
 HasId ids id = (k : ℕ) × (slice_get ids k ≡ Some id)
 
+-- each of the ids has this birth or a later one
+abbrev pub AreBornFrom : ℕ → List SlotId → Type 0
+AreBornFrom birth ids = (k : ℕ) (id : SlotId) → slice_get ids k ≡ Some id → birth ≤ id.birth
+
 -- the bounds and rules of entries
 abbrev pub the_entries : List Entry → List TheEntry
 the_entries entries = map the_entry entries
+
+-- the entry at the place has this bound
+pub record IsBoundAt (entries : List Entry) (k : ℕ) (b : Bound) : Type 0 where
+  pub entry : Entry
+  pub there : slice_get entries k ≡ Some entry
+  pub is : entry.bound ≡ b
+
+-- the entry at the place dominates the bound
+abbrev pub IsDominator : List Entry → ℕ → Bound → Type 0
+IsDominator entries k b = (over : Bound) × IsBoundAt entries k over × IsOver over b
 
 -- some entry dominates the bound
 abbrev pub IsCoveredBy : List Entry → Bound → Type 0

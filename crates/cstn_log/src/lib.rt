@@ -15,6 +15,6 @@ mod putting;
 pub use cuts::{
     cuts_are_derivations, cuts_are_known, dropping_leaves_derivations, parts_are_derivations,
 };
-pub use laws::closed_lists_have_strategies;
+pub use laws::{closed_lists_have_strategies, cut_lists_follow_ancestors};
 pub use log::Log;
 pub use plans::{Plan, SoundPlan};

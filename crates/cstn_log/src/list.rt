@@ -1,11 +1,12 @@
 // The list of a log: its entries in order, stored with their premises named by slots.
 ghost use Rattle.std.specs.Prelude.{ℕ, ◌≡◌, ◌≢◌, ◌<◌, ◌≤◌, ◌++◌, ◌∷◌, ◌↔◌, [], List, Some, length, map, slice_get, slice_index_or, vec_capacity, IfOk, IfNone, IfSome, IsTrue};
 ghost use Rattle.cstn_pool.specs.declared.slot_id.SlotId.{SlotId as TheId};
-ghost use Rattle.cstn_log.specs.Entries.{HasId, the_entries};
+ghost use Rattle.cstn_log.specs.Entries.{HasId, IsBoundAt, the_entries};
 ghost use Rattle.cstn_log.specs.Kept.{renewed};
 ghost use Rattle.cstn_log.specs.Cuts.{PremisesBelow, AllEarlier, IsClosedUnder, replaced, chosen};
 ghost use Rattle.cstn_log.specs.Lists.{Listing, AreApart, IsFiled, slots_of};
 
+use cstn_label::Bound;
 use cstn_pool::SlotId;
 use cstn_rules::{Entry, Why};
 use std::alloc::{AllocError, Global};
@@ -78,6 +79,14 @@ impl EntryList {
         ensures premises { PremisesBelow k result.why }
     {
         placed(self.stored[k], &self.places)
+    }
+
+    // The bound of the entry at a place.
+    pub fn bound(&self, k: usize) -> Bound
+        requires { k < length self.now.entries }
+        ensures { IsBoundAt self.now.entries k result }
+    {
+        self.stored[k].bound
     }
 
     // The id of the entry at a place.

@@ -8,7 +8,7 @@ ghost use Rattle.cstn_net.specs.Read.{the_network};
 ghost use Rattle.cstn_rules.specs.Rules.{base};
 ghost use Rattle.cstn_rules.specs.Derivations.{Follows, IsDerivation, IsRefutation};
 ghost use Rattle.cstn_minset.specs.Sets.{IsPlaced};
-ghost use Rattle.cstn_log.specs.Entries.{State, HasId, the_entries, IsCoveredBy, IsLive, AllNew, bases, first_entries};
+ghost use Rattle.cstn_log.specs.Entries.{State, HasId, AreBornFrom, the_entries, IsBoundAt, IsDominator, IsCoveredBy, IsLive, AllNew, bases, first_entries};
 ghost use Rattle.cstn_log.specs.Cuts.{PremisesBelow, is_marked as is_marked_at, chosen, marked_staying, with_ancestors, last_marked, cut, part, dropped};
 ghost use Rattle.cstn_log.specs.Kept.{IsIdAt};
 ghost use Rattle.cstn_log.specs.Chains.{IsFirstLive, IsNext, IsBehind, IsMarkedAt, IsAtNode};
@@ -104,10 +104,12 @@ impl Log {
         requires net { self.old.nodes ≡ count (the_network net.now) }
         requires room { count (the_network net.now) ≤ self.old.cap }
         requires empty { self.old.entries ≡ [] }
+        requires no_ids { self.old.ids ≡ [] }
         requires births { self.old.births < 2 ^ 62 }
         ensures bases { the_entries self.new.entries ≡ bases (count (the_network net.now)) }
         ensures size { (self.new.cap ≡ self.old.cap) × (self.new.nodes ≡ self.old.nodes) }
         ensures births { self.new.births ≡ self.old.births + count (the_network net.now) }
+        ensures ids { AreBornFrom self.old.births self.new.ids }
         ensures derivation { IsDerivation (the_network net.now) (the_entries self.new.entries) }
     {
         for node in 0..net.count() {
@@ -150,6 +152,17 @@ impl Log {
         self.minimal.covers(b)
     }
 
+    /// The place of an entry that dominates the bound; None exactly where no entry does.
+    pub fn cover(&self, b: &Bound) -> Option<u32>
+        ensures cover { IfSome result (λ k. IsDominator self.now.entries k b.now) }
+        ensures none { IfNone result (¬ IsCoveredBy self.now.entries b.now) }
+    {
+        match self.minimal.cover(b) {
+            Some(id) => self.list.place(id),
+            None => None,
+        }
+    }
+
     /// Whether no later entry dominates the one at this place.
     pub fn live(&self, k: u32) -> bool
         requires { k < length self.now.entries }
@@ -179,6 +192,15 @@ impl Log {
     {
         derivations_are_sound();
         self.list.entry(k as usize)
+    }
+
+    /// The bound of the entry at a place, without the rule that gave it. It takes less time than the whole entry.
+    pub fn bound(&self, k: u32) -> Bound
+        requires { k < length self.now.entries }
+        ensures bound { IsBoundAt self.now.entries k result }
+        ensures node { result.node.0 < self.now.nodes }
+    {
+        self.list.bound(k as usize)
     }
 
     /// The last entry and its ancestors, in order, with premises as places in the answer. They are a derivation of each network
@@ -247,11 +269,13 @@ impl Log {
     }
 
     /// Starts again: the log has the base bounds of the network, or nothing where its cap is below
-    /// their number.
+    /// their number. They have new ids, and those that the log had are gone for good.
     pub fn restart(&mut self, net: &Network)
         requires net { self.old.nodes ≡ count (the_network net.now) }
         requires births { self.old.births < 2 ^ 62 }
         ensures restart { the_entries self.new.entries ≡ first_entries (the_network net.now) self.old.cap }
+        ensures ids { AreBornFrom self.old.births self.new.ids }
+        ensures gone { (id : SlotId) → HasId self.old.ids id → ¬ HasId self.new.ids id }
         ensures births { (self.old.births ≤ self.new.births) × (self.new.births ≤ self.old.births + count (the_network net.now)) }
         ensures size { (self.new.cap ≡ self.old.cap) × (self.new.nodes ≡ self.old.nodes) }
         ensures derivation { IsDerivation (the_network net.now) (the_entries self.new.entries) }
@@ -263,7 +287,8 @@ impl Log {
     }
 
     fn take_all_out(&mut self)
-        ensures { self.new ≡ record self.old { entries = []; ids = [] } }
+        ensures empty { self.new ≡ record self.old { entries = []; ids = [] } }
+        ensures born { (id : SlotId) → HasId self.old.ids id → id.birth < self.old.births }
     {
         clear(&mut self.pool, &mut self.minimal, &mut self.list);
         self.marking.clear();

@@ -7,5 +7,5 @@ mod min_set;
 mod scan;
 mod table;
 
-pub use laws::walks_meet_each_once;
+pub use laws::{placing_leaves_what_nothing_later_dominates, walks_meet_each_once};
 pub use min_set::MinSet;

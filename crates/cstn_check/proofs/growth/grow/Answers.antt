@@ -25,6 +25,9 @@ returns-clause-grown c = grown_is (the_network c.args.net.now) c.args.log.now c.
 pub returns-clause-refuted : goal.returns-clause-refuted
 returns-clause-refuted c = refuted_is (the_network c.args.net.now) c.args.log.now c.grow_kept.new.log c.grow_kept.result c.requires.last (record { closed = c.grow_kept.ensures.closed; refuted = c.grow_kept.ensures.refuted; full = c.grow_kept.ensures.full })
 
+pub returns-clause-ids : goal.returns-clause-ids
+returns-clause-ids c = let l = longer_of (the_network c.args.net.now) c.args.log.now c.grow_kept.new.log c.grow_kept.result (record { closed = c.grow_kept.ensures.closed; refuted = c.grow_kept.ensures.refuted; full = c.grow_kept.ensures.full }) in (l.ids.more, l.ids.is)
+
 pub returns-clause-births : goal.returns-clause-births
 returns-clause-births c = births_most (the_network c.args.net.now) c.args.log.now c.grow_kept.new.log c.grow_kept.result (record { closed = c.grow_kept.ensures.closed; refuted = c.grow_kept.ensures.refuted; full = c.grow_kept.ensures.full })
 

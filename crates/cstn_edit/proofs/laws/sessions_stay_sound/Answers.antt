@@ -1,4 +1,4 @@
-use Rattle.cstn_edit.proofs.SessionLaws.{begun_is_sound, added_is_sound, removed_is_sound, changed_is_sound, verdict_is_sound}
+use Rattle.cstn_edit.proofs.SessionLaws.{begun_is_sound, added_is_sound, removed_is_sound, changed_is_sound, verdict_is_sound, sound_goes_on}
 use Rattle.cstn_edit.proofs.laws.sessions_stay_sound.Goals as goal
 
 pub returns-clause-begun : goal.returns-clause-begun
@@ -15,3 +15,6 @@ returns-clause-changed c = changed_is_sound
 
 pub returns-clause-verdict : goal.returns-clause-verdict
 returns-clause-verdict c = verdict_is_sound
+
+pub returns-clause-grows : goal.returns-clause-grows
+returns-clause-grows c s sound = (sound_goes_on s sound).kept

@@ -1,0 +1,5 @@
+mod Lists
+mod Coming
+pub mod Exact
+pub mod Going
+pub mod Until

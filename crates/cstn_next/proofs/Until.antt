@@ -1,0 +1,320 @@
+-- Until when a time-point can wait is found by halving.
+use Rattle.std.proofs.Common.{ℕ, zero, suc, ◌≡◌, inl, inr, ◌+◌, ◌-◌, ◌*◌, ◌^◌, ◌<◌, ◌≤◌, Bool, true, false, not, List, [], ◌∷◌, ◌++◌, Option, Some, None, length, arith, refl, sym, subst, ap, ◌∙◌}
+use Rattle.std.specs.Prelude.{◌↔◌, ◌/◌, map, slice_index_or, nat_lt, pos, ◌-ℤ◌, if◌then◌else◌}
+use Rattle.std.specs.List.{All, Contains, filter_map, flat_map, range_with_len}
+use Rattle.std.proofs.Math.Path.{fun_ext}
+use Rattle.std.proofs.Math.Nat.{mul-div-le, two-pow-succ}
+use Rattle.std.proofs.lemmas.Nat.{le-div}
+use Rattle.std.proofs.lemmas.Int.{ints}
+use Rattle.std.proofs.lemmas.Bool.{cases_Bool, cases_lt}
+use Rattle.std.proofs.lemmas.List.{length-append}
+use Rattle.std.proofs.lemmas.List.Quantifiers.{all_pairs_push}
+use Rattle.std.proofs.lemmas.List.Elements.{All-weaker, All-append, All-cons, filter_map-append}
+use Rattle.cstn_label.specs.Labels.{Label, Scenario, Holds, MarkFits, IsPlain, empty, joined}
+use Rattle.cstn_label.proofs.LabelLemmas.{made_true, made_holds, joined_empty}
+use Rattle.cstn_net.specs.Networks.{Network, Constraint, IsNetwork, IsConstraint, IsWellFormed, IsValue, Observes, count, limit}
+use Rattle.cstn_net.specs.Strategies.{Table, IsConsistent}
+use Rattle.cstn_lift.specs.Labelled.{Labelled, label_of}
+use Rattle.cstn_lift.specs.Completion.{completed, completed_label, full_label}
+use Rattle.cstn_lift.specs.Lowered.{is_plain, with_full_label, full_of, full_constraints, guards_of, guards_with, all_guards, guards, numbered, lowered}
+use Rattle.cstn_lift.specs.Strategies.{IsExecuted, IsLabelledStrategy, IsLabelledConsistent}
+use Rattle.cstn_lift.specs.WellFormed.{IsLabelled}
+use Rattle.cstn_lift.proofs.Equivalent.{equivalent}
+use Rattle.cstn_lift.proofs.ListLemmas.{filter_map_all, numbered_length}
+use Rattle.cstn_lift.proofs.LoweredLemmas.{plain_true}
+use Rattle.cstn_lift.proofs.WellFormed.{lowered_well_formed}
+use Rattle.cstn_check.specs.Growth.{load_of}
+use Rattle.cstn_check.specs.Verdicts.{is_consistent}
+use Rattle.cstn_check.proofs.Decides.{decided}
+use Rattle.cstn_history.specs.Histories.{History, IsHistory, IsTimelyHistory, AgreesWith}
+use Rattle.cstn_history.specs.Continuations.{Continues, Can, CanWait}
+use Rattle.cstn_history.specs.Rest.{is_left, number_of, bare, rest, with_constraint, rest_waiting, moved, constraint_left, constraints_left, added}
+use Rattle.cstn_history.proofs.Edited.{completed_new}
+use Rattle.cstn_history.proofs.Settled.{as_told, told_agrees, told_same, some_or_none}
+use Rattle.cstn_history.proofs.Places.{left_allows, new_inside}
+use Rattle.cstn_history.proofs.WellFormed.{rest_labelled}
+use Rattle.cstn_history.proofs.Waiting.{waits_both, waits_less, strategy_more, strategy_less, met_more}
+use Rattle.cstn_next.specs.Waiting.{HasRoomToWait, Span, waiting_one, rest_until, said, tried, middle, halved, and_then, halving, waits_until}
+
+all_one : (P : Constraint → Type 0) → (d : Constraint) → P d → All P (d ∷ [])
+all_one P d here = All-cons P d [] here (λ i e inside. absurd (omega arith))
+
+-- ---- a labelled network with one constraint more, by which a time-point waits
+
+module _ (R : Labelled) (good : IsLabelled R) (fresh k t : ℕ) where
+  abbrev d : Constraint
+  d = waiting_one fresh k t
+
+  abbrev W : Labelled
+  W = with_constraint R d
+
+  completed_same : (a : Label) → completed W a ≡ completed R a
+  completed_same a = completed_new R R.base.deadline (R.base.constraints ++ d ∷ []) a
+
+  pub waiting_labelled : IsWellFormed W.base → IsLabelled W
+  waiting_labelled wf = record {
+    base = wf;
+    one_each = good.one_each;
+    origin = good.origin;
+    plain = good.plain;
+    observed = λ x here p marked. let o = good.observed x here p marked in (o.0, record { what = o.1.what });
+    no_circle = λ x p o. ap (λ (a : Label). a p) (completed_same (label_of R x)) ∙ good.no_circle x p (record { what = o.what });
+    completed_plain = λ x here. subst IsPlain (sym (completed_same (label_of R x))) (good.completed_plain x here);
+  }
+
+  full_same : (c : Constraint) → with_full_label W c ≡ with_full_label R c
+  full_same c = ap (λ (a : Label). if is_plain a then Some (record c { label = a }) else None) (completed_same (joined c.label (joined (label_of R c.from) (label_of R c.to))))
+
+  guards_same : (x : ℕ) (a : Label) → guards_of W.base x a ≡ guards_of R.base x a
+  unfolding guards_of
+  guards_same x a = refl
+
+  all_same : guards W ≡ guards R
+  all_same =
+      ap (λ (f : ℕ → List Constraint). flat_map f (range_with_len 0 (count R.base))) (fun_ext (λ x. guards_same x _))
+      ∙ ap (λ (f : Label → Label). all_guards R.base (map f R.labels)) (fun_ext completed_same)
+
+  plain_here : k < count R.base → is_plain (full_label R d) ≡ true
+  plain_here here =
+      let empty_there = ap (λ (b : Label). completed R (joined empty (joined (label_of R k) b))) good.origin
+      ∙ ap (completed R) (joined_empty (label_of R k)) in
+      plain_true (full_label R d) (subst IsPlain (sym empty_there) (good.completed_plain k here))
+
+  pub waiting_long : k < count R.base → length (lowered W).constraints ≡ length (lowered R).constraints + 1
+  waiting_long here =
+      let cs = R.base.constraints in
+      let more = filter_map-append (with_full_label R) cs (d ∷ []) in
+      let last = ap (λ b. if b then Some (record d { label = full_label R d }) else None) (plain_here here) in
+      let one : filter_map (with_full_label R) (d ∷ []) ≡ record d { label = full_label R d } ∷ [] = rw last refl in
+      let full : full_constraints W ≡ full_constraints R ++ record d { label = full_label R d } ∷ [] =
+      ap (λ (f : Constraint → Option Constraint). filter_map f (cs ++ d ∷ [])) (fun_ext full_same) ∙ more ∙ ap (λ l. full_constraints R ++ l) one in
+      let long = ap length full ∙ length-append (full_constraints R) (record d { label = full_label R d } ∷ []) in
+      let guarded = ap length all_same in
+      let both = length-append (full_constraints W) (guards W) in
+      let before = length-append (full_constraints R) (guards R) in
+      let new = numbered_length 0 (full_constraints W ++ guards W) in
+      let old = numbered_length 0 (full_constraints R ++ guards R) in
+      omega arith
+
+-- ---- what is left, in which x is at t or later
+
+module _ (m : Labelled) (h : History) (fresh x : ℕ) (good : IsLabelled m) (timely : IsTimelyHistory m h) (above : All (λ c. c.id < fresh) m.base.constraints)
+    (room : HasRoomToWait m h fresh) where
+  abbrev known : IsHistory m h
+  known = timely.history
+
+  abbrev Rest : Labelled
+  Rest = rest m h fresh
+
+  rest_good : IsLabelled Rest
+  rest_good = rest_labelled m h fresh good known timely.in_time above (let few = room.base in omega arith)
+
+  below_more : (j : ℕ) (c : Constraint) (cs : List Constraint) → All (λ d. d.id < (j + 1) + length cs) (numbered (j + 1) cs) →
+      All (λ d. d.id < j + length (c ∷ cs)) (numbered j (c ∷ cs))
+  below_more j c cs later = All-cons (λ d. d.id < j + length (c ∷ cs)) (record c { id = j }) (numbered (j + 1) cs) (omega arith)
+      (All-weaker (λ d. d.id < (j + 1) + length cs) (λ d. d.id < j + length (c ∷ cs)) (λ d here. omega arith) (numbered (j + 1) cs) later)
+
+  numbered_below : (j : ℕ) (cs : List Constraint) → All (λ c. c.id < j + length cs) (numbered j cs)
+  numbered_below j [] = λ i e inside. absurd (omega arith)
+  numbered_below j (c ∷ cs) = below_more j c cs (numbered_below (j + 1) cs)
+
+  id_by : (c e : Constraint) (b : Bool) → (if b then Some (moved m h c) else None) ≡ Some e → e.id ≡ c.id
+  id_by c e true is = let same : moved m h c ≡ e = cc in sym (ap (λ f. f.id) same)
+  id_by c e false is = absurd (cc)
+
+  kept_below : (n : ℕ) (cs : List Constraint) → All (λ c. c.id < n) cs → All (λ c. c.id < n) (filter_map (constraint_left m h) cs)
+  kept_below n cs all = filter_map_all (λ c. c.id < n) (constraint_left m h) cs
+      (All-weaker (λ c. c.id < n) (λ c. (e : Constraint) → constraint_left m h c ≡ Some e → e.id < n)
+      (λ c here e is. subst (λ i. i < n) (sym (id_by c e _ is)) here) cs all)
+
+  pub ids_below : All (λ c. c.id < fresh + 16384) Rest.base.constraints
+  ids_below =
+      let long = length-append (constraints_left m h) (numbered fresh (added m h)) in
+      let same = numbered_length fresh (added m h) in
+      let few = room.base in
+      All-append (λ c. c.id < fresh + 16384) (constraints_left m h) (numbered fresh (added m h))
+      (kept_below (fresh + 16384) m.base.constraints (All-weaker (λ c. c.id < fresh) (λ c. c.id < fresh + 16384) (λ c here. omega arith) m.base.constraints above))
+      (All-weaker (λ c. c.id < fresh + length (added m h)) (λ c. c.id < fresh + 16384) (λ c here. omega arith) (numbered fresh (added m h))
+      (numbered_below fresh (added m h)))
+
+  module _ (here : x < count m.base) (none : h.done x ≡ None) (left : is_left m h x ≡ true) where
+    k_inside : number_of m h x < count Rest.base
+    k_inside = new_inside m h fresh good known x here left
+
+    until_base : (t : ℕ) → t ≤ 1000000 → IsWellFormed (rest_until m h fresh x t).base
+    until_base t upto =
+        let base = rest_good.base in
+        let d : Constraint = waiting_one fresh (number_of m h x) t in
+        let new : Network = (rest_until m h fresh x t).base in
+        let cs = Rest.base.constraints in
+        record {
+          network = record {
+            origin = base.network.origin;
+            one_observer = λ y z p o w. base.network.one_observer y z p (record { what = o.what }) (record { what = w.what });
+            reacts = λ y p o. base.network.reacts y p (record { what = o.what });
+            constraints = All-append (IsConstraint new) cs (d ∷ [])
+                (All-weaker (IsConstraint Rest.base) (IsConstraint new) (λ c is. record {
+                  from = is.from;
+                  to = is.to;
+                  plain = is.plain;
+                  observed = λ p marked. let o = is.observed p marked in (o.0, record { what = o.1.what });
+                }) cs base.network.constraints)
+                (all_one (IsConstraint new) d (record {
+                  from = k_inside;
+                  to = base.network.origin;
+                  plain = λ p. tt;
+                  observed = λ p marked. absurd (marked refl);
+                }));
+          };
+          few_points = base.few_points;
+          letters = λ y p o. base.letters y p (record { what = o.what });
+          soon = λ y p o. base.soon y p (record { what = o.what });
+          few_constraints = let long = length-append cs (d ∷ []) in let few = room.base in omega arith;
+          ascending = all_pairs_push (λ b c. b.id < c.id) cs d base.ascending (λ i e inside. ids_below i e inside);
+          values = All-append (λ c. IsValue c.most) cs (d ∷ []) base.values
+              (all_one (λ c. IsValue c.most) d ((omega (arith, ints)), (omega (arith, ints))));
+          in_time = base.in_time;
+        }
+
+    until_labelled : (t : ℕ) → t ≤ 1000000 → IsLabelled (rest_until m h fresh x t)
+    until_labelled t upto = waiting_labelled Rest rest_good fresh (number_of m h x) t (until_base t upto)
+
+    until_well_formed : (t : ℕ) → t ≤ 1000000 → IsWellFormed (lowered (rest_until m h fresh x t))
+    until_well_formed t upto = lowered_well_formed (rest_until m h fresh x t) (until_labelled t upto)
+        (let long = waiting_long Rest rest_good fresh (number_of m h x) t k_inside in let few = room.lowered in omega arith)
+
+    -- an id makes no difference
+    other_id : (t : ℕ) → IsLabelledConsistent (rest_waiting m h fresh x t) ↔ IsLabelledConsistent (rest_until m h fresh x t)
+    other_id t = (
+      (λ c. (c.0, strategy_more Rest new c.0 (strategy_less Rest old c.0 c.1) (λ s force. met_more Rest old c.0 c.1 s force))),
+      (λ c. (c.0, strategy_more Rest old c.0 (strategy_less Rest new c.0 c.1) (λ s force. met_more Rest new c.0 c.1 s force))),
+    )
+      where
+        old : Constraint
+        old = bare (number_of m h x) 0 (pos 0 -ℤ pos t)
+
+        new : Constraint
+        new = waiting_one fresh (number_of m h x) t
+
+    wait_decided : (t : ℕ) → t ≤ 1000000 → (is_consistent (lowered (rest_until m h fresh x t)) ≡ true) ↔ CanWait m h x t
+    wait_decided t upto =
+        let a = decided (lowered (rest_until m h fresh x t)) (until_well_formed t upto) in
+        let b = (equivalent (rest_until m h fresh x t) (until_labelled t upto)).consistent in
+        let c = other_id t in
+        let e = waits_both m h fresh x t good known here none left in (
+          (λ yes. e.1 (c.1 (b.1 (a.0 yes)))),
+          (λ waits. a.1 (b.0 (c.0 (e.0 waits)))),
+        )
+
+    module _ (cap : ℕ) where
+      said_is : (full b v : Bool) → (if full then None else Some b) ≡ Some v → b ≡ v
+      said_is true b v e = absurd (cc)
+      said_is false b v e = let same : b ≡ v = cc in same
+
+      tried_is : (t : ℕ) (v : Bool) → tried m h fresh x cap t ≡ Some v → is_consistent (lowered (rest_until m h fresh x t)) ≡ v
+      tried_is t v e = said_is (nat_lt cap (load_of (lowered (rest_until m h fresh x t)))) (is_consistent (lowered (rest_until m h fresh x t))) v e
+
+      -- what is left to be tried: x can wait until the lower end, and not beyond the upper one
+      record IsSpan (s : Span) : Type 0 where
+        low : CanWait m h x s.low
+        high : (u : ℕ) → CanWait m h x u → u ≤ s.high
+        upto : s.high ≤ 1000000
+
+      abbrev IsLast : ℕ → Type 0
+      IsLast t = CanWait m h x t × ((u : ℕ) → CanWait m h x u → u ≤ t)
+
+      is_less : (a b : ℕ) → nat_lt a b ≡ true → a < b
+      is_less a b e = grind arith
+
+      not_less : (a b : ℕ) → nat_lt a b ≡ false → b ≤ a
+      not_less a b e = grind arith
+
+      record Middle (s : Span) : Type 0 where
+        over : s.low < middle s
+        upto : middle s ≤ s.high
+        half : s.high + s.low ≤ 2 * middle s
+        twice : 2 * middle s ≤ s.high + s.low + 1
+
+      middle_is : (s : Span) → s.low < s.high → Middle s
+      middle_is s less =
+          let low = le-div (s.low + 1) (s.low + s.high + 1) 2 (omega arith) (omega arith) in
+          let twice = mul-div-le (s.low + s.high + 1) 2 in
+          let half = half_up (s.low + s.high) in
+          record { over = omega arith; upto = omega arith; half = omega arith; twice = omega arith }
+        where
+          half_up : (a : ℕ) → a ≤ 2 * ((a + 1) / 2)
+          half_up a = omega arith
+
+      -- what is found by n tries
+      abbrev Finds : ℕ → Type 0
+      Finds n = (s : Span) (t : ℕ) → IsSpan s → s.high < s.low + 2 ^ n → halving (tried m h fresh x cap) n s ≡ Some t → IsLast t
+
+      turned : (n : ℕ) → Finds n → (s : Span) (t : ℕ) → IsSpan s → s.high < s.low + 2 ^ suc n → (o : Option Bool) →
+          tried m h fresh x cap (middle s) ≡ o → Middle s → and_then (halved s o) (halving (tried m h fresh x cap) n) ≡ Some t → IsLast t
+      turned n finds s t is small None at mid go = absurd (cc)
+      turned n finds s t is small (Some true) at mid go =
+          let waits = (wait_decided (middle s) (let a = mid.upto in let b = is.upto in omega arith)).0 (tried_is (middle s) true at) in
+          let double = two-pow-succ n in
+          let half = mid.half in
+          let twice = mid.twice in
+          finds (record { low = middle s; high = s.high }) t (record { low = waits; high = is.high; upto = is.upto }) (omega arith) go
+      turned n finds s t is small (Some false) at mid go =
+          let no = tried_is (middle s) false at in
+          let both = wait_decided (middle s) (let a = mid.upto in let b = is.upto in omega arith) in
+          let double = two-pow-succ n in
+          let half = mid.half in
+          let twice = mid.twice in
+          let over = mid.over in
+          finds (record { low = s.low; high = middle s - 1 }) t (record {
+            low = is.low;
+            high = λ u waits. elim (cases_lt u (middle s)) [
+              | inl less ↦ omega arith
+              | inr late ↦ let yes = both.1 (waits_less m h x u (middle s) late waits) in absurd (cc)
+            ];
+            upto = let a = mid.upto in let b = is.upto in omega arith;
+          }) (omega arith) go
+
+      found_by : (n : ℕ) → Finds n
+      found_by zero s t is small e =
+          let at : s.low ≡ t = cc in
+          (subst (CanWait m h x) at is.low, (λ u waits. let upto = is.high u waits in omega arith))
+      found_by (suc n) s t is small e = elim (cases_Bool (nat_lt s.low s.high)) [
+        | inr stop ↦
+            let end : Some s.low ≡ Some t =
+            sym (ap (λ b. if b then and_then (halved s (tried m h fresh x cap (middle s))) (halving (tried m h fresh x cap) n) else Some s.low) stop) ∙ e in
+            let at : s.low ≡ t = cc in
+            let over = not_less s.low s.high stop in
+            (subst (CanWait m h x) at is.low, (λ u waits. let upto = is.high u waits in omega arith))
+        | inl more ↦ turned n (found_by n) s t is small (tried m h fresh x cap (middle s)) refl (middle_is s (is_less s.low s.high more))
+            (sym (ap (λ b. if b then and_then (halved s (tried m h fresh x cap (middle s))) (halving (tried m h fresh x cap) n) else Some s.low) more) ∙ e)
+      ]
+
+      -- x is executed in some scenario that agrees with the history
+      where_executed : (s : Scenario) × AgreesWith h s × IsExecuted m s x
+      where_executed =
+          let a = completed_label m x in
+          let made = made_true a (λ p. false) in
+          let allowed = left_allows m h fresh good known x left in (
+            as_told h made,
+            told_agrees h made,
+            λ p. elim (some_or_none (h.told p)) [
+              | inl told ↦ subst (λ v. MarkFits v (a p)) (sym (told_agrees h made p told.0 told.1)) (allowed p told.0 told.1)
+              | inr untold ↦ subst (λ v. MarkFits v (a p)) (sym (told_same h made p untold)) (made_holds a (λ q. false) (good.completed_plain x here) p)
+            ],
+          )
+
+      limit_upto : (y : ℕ) → limit m.base y ≤ m.base.deadline
+      limit_upto zero = omega arith
+      limit_upto (suc y) = omega arith
+
+      pub last_found : Can m h → (t : ℕ) → waits_until m h fresh x cap ≡ Some t → CanWait m h x t × ((u : ℕ) → CanWait m h x u → u ≤ t)
+      last_found can t e =
+          let in_time = good.base.in_time in
+          let first : CanWait m h x h.now = (can.0, can.1, (λ s agrees seen. can.1.from_now s x agrees here none seen)) in
+          let bounded : (u : ℕ) → CanWait m h x u → u ≤ m.base.deadline = λ u waits.
+          let w = where_executed in
+          let late = waits.2 w.0 w.1 w.2 in
+          let upto = waits.1.within w.0 x w.1 here none w.2 in
+          let last = limit_upto x in
+          omega arith in
+          found_by 20 (record { low = h.now; high = m.base.deadline }) t (record { low = first; high = bounded; upto = in_time }) (omega arith) e

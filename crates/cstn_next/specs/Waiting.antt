@@ -1,0 +1,59 @@
+-- Until when a time-point can wait, by halving.
+use Rattle.std.specs.Prelude.{ℕ, zero, suc, ◌+◌, ◌-◌, ◌/◌, ◌<◌, Bool, true, false, nat_lt, length, Option, None, Some, pos, ◌-ℤ◌, if◌then◌else◌}
+use Rattle.cstn_net.specs.Networks.{Network, Constraint}
+use Rattle.cstn_check.specs.Growth.{load_of}
+use Rattle.cstn_check.specs.Verdicts.{is_consistent}
+use Rattle.cstn_lift.specs.Labelled.{Labelled}
+use Rattle.cstn_lift.specs.Lowered.{lowered}
+use Rattle.cstn_history.specs.Histories.{History}
+use Rattle.cstn_history.specs.Rest.{number_of, bare, rest, with_constraint}
+
+-- the time-point with the number k is at t or later; the id is above all ids of what is left, in which what was added has ids from
+-- `fresh` on
+abbrev pub waiting_one : ℕ → ℕ → ℕ → Constraint
+waiting_one fresh k t = record (bare k 0 (pos 0 -ℤ pos t)) { id = fresh + 16384 }
+
+-- what is left, in which x is at t or later
+abbrev pub rest_until : Labelled → History → ℕ → ℕ → ℕ → Labelled
+rest_until m h fresh x t = with_constraint (rest m h fresh) (waiting_one fresh (number_of m h x) t)
+
+-- what is left, and its lowered network, has room for one constraint more
+pub record HasRoomToWait (m : Labelled) (h : History) (fresh : ℕ) : Type 0 where
+  pub base : length (rest m h fresh).base.constraints < 16384
+  pub lowered : length (lowered (rest m h fresh)).constraints < 16384
+
+-- what a check whose log may have `cap` entries says of a network; none where the log is full
+abbrev pub said : ℕ → Network → Option Bool
+said cap net = if nat_lt cap (load_of net) then None else Some (is_consistent net)
+
+-- what is said of what is left with x at t or later
+abbrev pub tried : Labelled → History → ℕ → ℕ → ℕ → ℕ → Option Bool
+tried m h fresh x cap t = said cap (lowered (rest_until m h fresh x t))
+
+-- the moments that are left to be tried
+pub record Span : Type 0 where
+  pub low : ℕ
+  pub high : ℕ
+
+-- the moment half-way, rounded up
+abbrev pub middle : Span → ℕ
+middle s = (s.low + s.high + 1) / 2
+
+-- what is left to be tried once the middle was
+abbrev pub halved : Span → Option Bool → Option Span
+halved s None = None
+halved s (Some true) = Some (record { low = middle s; high = s.high })
+halved s (Some false) = Some (record { low = s.low; high = middle s - 1 })
+
+abbrev pub and_then : Option Span → (Span → Option ℕ) → Option ℕ
+and_then None go = None
+and_then (Some s) go = go s
+
+-- the moment that is left once the middle was tried n times, or as often as more than one was left; none where a try says nothing
+abbrev pub halving : (ℕ → Option Bool) → ℕ → Span → Option ℕ
+halving test zero s = Some s.low
+halving test (suc n) s = if nat_lt s.low s.high then and_then (halved s (test (middle s))) (halving test n) else Some s.low
+
+-- until when x can wait, from now up to the deadline, by at most 20 tries; none where a log that was tried is full
+abbrev pub waits_until : Labelled → History → ℕ → ℕ → ℕ → Option ℕ
+waits_until m h fresh x cap = halving (tried m h fresh x cap) 20 (record { low = h.now; high = m.base.deadline })
