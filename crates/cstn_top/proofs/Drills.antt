@@ -15,14 +15,13 @@ use Rattle.cstn_gen.specs.Generated.{generated}
 use Rattle.cstn_gen.proofs.WellFormed.{well_formed}
 use Rattle.cstn_words.specs.Requests.{drill}
 use Rattle.cstn_top.specs.Plans.{says}
-use Rattle.cstn_check.specs.Decisions.{verdict}
-use Rattle.cstn_top.specs.Outputs.{drilled}
+use Rattle.cstn_top.specs.commands.Drill.{drilled, small, large, is_unrefuted, unrefuted, AreConsistent, none, one_more, no_more}
 use Rattle.cstn_top.specs.Meanings.{files_read}
 use Rattle.cstn_top.specs.Questions.{Asks}
+use Rattle.cstn_check.specs.Decisions.{verdict}
 use Rattle.cstn_top.specs.declared.commands.questions.Question.TheVariants.{Drill}
 use Rattle.cstn_top.proofs.Comes.{comes_itself}
 use Rattle.cstn_reply.specs.declared.status.Status.{Status}
-use Rattle.cstn_top.specs.Drills.{small, large, is_unrefuted, unrefuted, AreConsistent, none, one_more, no_more}
 use Rattle.cstn_documents.proofs.Contents.{none_there}
 use Rattle.cstn_check.proofs.Deciding.{verdict_full, verdict_no, verdict_yes}
 

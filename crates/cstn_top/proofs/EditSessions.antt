@@ -37,8 +37,8 @@ use Rattle.cstn_edit.specs.Editing.{Editing, begun_editing, answered_edit, answe
 use Rattle.cstn_reply.specs.Reached.{state_after}
 use Rattle.cstn_reply.proofs.Sessions.{first_leads, same_state, says_next}
 use Rattle.cstn_top.specs.Accepted.{IsNoText, HasIds}
-use Rattle.cstn_top.proofs.ReadBack.{StepsBack}
 use Rattle.cstn_top.specs.Lines.{AreAnswered}
+use Rattle.cstn_top.proofs.ReadBack.{StepsBack}
 use Rattle.cstn_top.proofs.EditTexts.{next_small, kept_text}
 use Rattle.cstn_top.specs.EditSessions.{EditedNetwork, unedited, may_add, may_remove, may_change, after_add, after_edit, after_lines, network_after, SaysYes, SaysNo, SaysFull, AnswersCheck, IsNoCheck, IsAtLastCheck}
 

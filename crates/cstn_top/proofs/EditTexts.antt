@@ -26,12 +26,12 @@ use Rattle.cstn_refute.specs.Written.{ArePlaces, IsPrintableStep, AreWritten}
 use Rattle.cstn_lines.specs.EditLines.{Edit, added, removed, changed, asked, edit_read}
 use Rattle.cstn_reply.specs.Texts.{say}
 use Rattle.cstn_top.specs.Plans.{Plan, replays, IsOutput}
+use Rattle.cstn_top.specs.Answers.{Answer, by_text}
+use Rattle.cstn_top.specs.commands.Replay.{replayed_steps, replayed}
+use Rattle.cstn_top.specs.Accepted.{IsAccepted, IsNoText, HasIds}
 use Rattle.cstn_reply.specs.declared.output.Outcome.TheVariants.{Good}
-use Rattle.cstn_top.specs.Answers.{Answer}
 use Rattle.cstn_edit.specs.Sessions.{next_id}
 use Rattle.cstn_edit.proofs.StartLemmas.{highest_small}
-use Rattle.cstn_top.specs.Answers.{by_text, replayed_steps, replayed}
-use Rattle.cstn_top.specs.Accepted.{IsAccepted, IsNoText, HasIds}
 use Rattle.cstn_top.proofs.Listing.{limit_in_time}
 use Rattle.cstn_top.proofs.Lengths.{steps_text_short}
 use Rattle.cstn_top.proofs.ReadBack.{StepsBack, no_refutation}

@@ -31,10 +31,10 @@ use Rattle.cstn_edit.specs.Sound.{IsSound}
 use Rattle.cstn_edit.proofs.SessionLaws.{begun_is_sound, added_is_sound, removed_is_sound, changed_is_sound, verdict_is_sound, yes_is_true, no_is_true, full_is_exact}
 use Rattle.cstn_reply.specs.Texts.{Said, after_text}
 use Rattle.cstn_top.specs.Plans.{IsOutput}
+use Rattle.cstn_top.specs.commands.Edit.{edited}
+use Rattle.cstn_top.specs.commands.Edit.{AtLastCheck}
 use Rattle.cstn_reply.specs.Sessions.{Turn, more, last, wrong, on_turn, script, play}
 use Rattle.cstn_edit.specs.Editing.{Editing, begun_editing, answered_edit, answered_add, answered_check, answered, edit_turn, edit_ending, ending_by, last_checked}
-use Rattle.cstn_top.specs.Editing.{edited}
-use Rattle.cstn_top.specs.Meanings.{AtLastCheck}
 use Rattle.cstn_reply.specs.declared.output.Outcome.{Outcome}
 use Rattle.cstn_reply.specs.declared.output.Outcome.TheVariants.{Good, Bad, Words, Document, Full, Unfinished, Script, Wide}
 

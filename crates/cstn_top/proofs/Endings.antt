@@ -3,20 +3,19 @@ use Rattle.std.proofs.Common.{◌≡◌, ℕ, List, [], ◌++◌, refl, sym, ◌
 use Rattle.std.specs.Prelude.{◌⊎◌, IsNone, Option, None, Some, codes}
 use Rattle.cstn_io.specs.Contents.{IsAllOf}
 use Rattle.cstn_reply.specs.Texts.{line}
-use Rattle.cstn_words.specs.Requests.{Request, files_of, names_of, AsksEdit}
+use Rattle.cstn_words.specs.Requests.{Request, files_of, names_of}
 use Rattle.cstn_documents.specs.Files.{AreContents, AreThere}
 use Rattle.cstn_reply.specs.Texts.{Said, say}
-use Rattle.cstn_top.specs.Plans.{Plan, says, IsOutput, MayTalk, IsText, Ends, ComesTo, Untouched}
+use Rattle.cstn_top.specs.Plans.{Plan, says, IsOutput, MayTalk, IsText, Ends, ComesTo, Untouched, session}
+use Rattle.cstn_top.specs.Dispatch.{plan_of, plan_at}
+use Rattle.cstn_top.specs.Prepared.{the_plan, Planned, IsLined, MayWant, TellsRefused}
+use Rattle.cstn_top.specs.Meanings.{HoldsOf, IsStopped, files_read, RefusedIsThere, ReadsLive, MayStop}
 use Rattle.cstn_reply.specs.Written.{LiveState, is_output, is_file_fault, is_live_fault, is_memory, IsWritten}
 use Rattle.cstn_reply.specs.Sessions.{Turn}
-use Rattle.cstn_top.specs.Plans.{session}
-use Rattle.cstn_words.specs.Requests.{AsksHost, host}
+use Rattle.cstn_words.specs.Requests.{host}
 use Rattle.cstn_host.specs.SessionRead.{the_host_session}
-use Rattle.cstn_top.specs.Outputs.{plan_of, plan_at}
 use Rattle.cstn_reply.specs.Read.{the_said}
-use Rattle.cstn_top.specs.Prepared.{the_plan, Planned, IsLined, MayWant, FitsRequest, TellsRefused}
 use Rattle.cstn_top.specs.Told.{Answers}
-use Rattle.cstn_top.specs.Meanings.{HoldsOf, IsComplete, IsStopped, files_read, RefusedIsThere, ReadsLive, MayStop}
 use Rattle.cstn_reply.specs.Statuses.{status_of}
 use Rattle.cstn_top.specs.declared.commands.Prepared.{Prepared}
 use Rattle.cstn_top.specs.declared.commands.Prepared.TheVariants.{Says, Runs, Edits, Hosts}
@@ -28,8 +27,12 @@ use Rattle.cstn_reply.specs.declared.output.Outcome.{Outcome}
 use Rattle.cstn_reply.specs.declared.output.Outcome.TheVariants.{Words, Document}
 use Rattle.cstn_reply.proofs.Contents.{given, all_given, no_taken}
 use Rattle.cstn_documents.proofs.Contents.{some_contents, none_there}
-use Rattle.cstn_top.proofs.Meanings.{IsRight, output_right, output_complete, talks_live, edits_stop}
-use Rattle.cstn_top.proofs.Meanings.{hosts_stop}
+use Rattle.cstn_top.proofs.Proved.{IsRight}
+use Rattle.cstn_top.proofs.Dispatch.{proved}
+use Rattle.cstn_top.proofs.Dispatched.{IsComplete}
+use Rattle.cstn_top.specs.Command.{Kind, WantsMemory}
+use Rattle.cstn_top.specs.Dispatch.{command_of}
+use Rattle.cstn_top.specs.Prepared.{FitsKind}
 
 -- how a call ends, for contents of the files that its words name
 abbrev pub Answered : {S : Type 0} → Option Request → Option (List ℕ → Option (List ℕ)) → S → S → LiveState → LiveState → Option (List ℕ) → Option (List ℕ) → Status → Type 0
@@ -148,7 +151,7 @@ request_tells r told source now before after old new result outcome answered is 
   where
     by_status : EndsAs (plan_at r answered.0) before result ⊎ IsStopped result → IsRight before.left outcome r answered.0
     by_status (inl (live, all, (said, output, at))) =
-        subst (λ (o : Outcome). IsRight before.left o r answered.0) (status_alone said.outcome outcome (sym at ∙ is)) (output_right before.left r answered.0 live said all output)
+        subst (λ (o : Outcome). IsRight before.left o r answered.0) (status_alone said.outcome outcome (sym at ∙ is)) ((proved r).right before.left answered.0 live said all output)
     by_status (inr stopped) = absurd (not_stopped outcome (subst IsStopped is stopped))
 
 -- the status Words comes only where the words are no request
@@ -161,46 +164,40 @@ pub complete_at : {S : Type 0} (r : Request) (told : Option (List ℕ → Option
 complete_at r told source now before after old new result answered = by_status (end_status (plan_at r answered.0) before after old new result answered.2)
   where
     by_status : EndsAs (plan_at r answered.0) before result ⊎ IsStopped result → IsStopped result ⊎ IsComplete result r answered.0
-    by_status (inl (live, all, (said, output, at))) = inr (subst (λ (s : Status). IsComplete s r answered.0) (sym at) (output_complete r answered.0 live said output))
+    by_status (inl (live, all, (said, output, at))) = inr (subst (λ (s : Status). IsComplete s r answered.0) (sym at) ((proved r).complete answered.0 live said output))
     by_status (inr stopped) = inl stopped
 
 -- a session was held only by a request that reads the live source
 pub reads_live : (words : Option Request) (r : Request) (told : Option (List ℕ → Option (List ℕ))) (plan : Plan) → Some r ≡ words → Planned r told plan → MayTalk plan → HoldsOf words told ReadsLive
 reads_live words r told plan there planned may =
-    subst (λ (w : Option Request). HoldsOf w told ReadsLive) there (planned.contents, planned.are, talks_live r planned.contents (planned.comes.talks may))
+    subst (λ (w : Option Request). HoldsOf w told ReadsLive) there (planned.contents, planned.are, (proved r).talks planned.contents (planned.comes.talks may))
 
 -- and else the live source is as it was
 pub live_is : {S : Type 0} (words : Option Request) (r : Request) (told : Option (List ℕ → Option (List ℕ))) (plan : Plan) (source now : S) → Some r ≡ words → Planned r told plan → Untouched plan source now → HoldsOf words told ReadsLive ⊎ (now ≡ source)
 live_is words r told plan source now there planned (inl may) = inl (reads_live words r told plan there planned may)
 live_is words r told plan source now there planned (inr same) = inr same
 
--- an edit session was held only where one is asked for
-may_stop : (words : Option Request) (r : Request) (told : Option (List ℕ → Option (List ℕ))) (plan : Plan) → Some r ≡ words → Planned r told plan → AsksEdit r → MayTalk plan → HoldsOf words told MayStop
-may_stop words r told plan there planned asks may =
-    subst (λ (w : Option Request). HoldsOf w told MayStop) there (planned.contents, planned.are, edits_stop r planned.contents asks (planned.comes.talks may))
-
--- a host was carried out only where one is asked for
-may_stop_host : (words : Option Request) (r : Request) (told : Option (List ℕ → Option (List ℕ))) (plan : Plan) → Some r ≡ words → Planned r told plan → AsksHost r → MayTalk plan → HoldsOf words told MayStop
-may_stop_host words r told plan there planned asks may =
-    subst (λ (w : Option Request). HoldsOf w told MayStop) there (planned.contents, planned.are, hosts_stop r planned.contents asks (planned.comes.talks may))
-
 -- an answer may want memory only where that is asked for
-wants : (words : Option Request) (r : Request) (told : Option (List ℕ → Option (List ℕ))) (p : Prepared) → Some r ≡ words → Planned r told (the_plan p) → FitsRequest r p → MayWant p → HoldsOf words told MayStop
+may_stop : (words : Option Request) (r : Request) (told : Option (List ℕ → Option (List ℕ))) (plan : Plan) → Some r ≡ words → Planned r told plan → WantsMemory (command_of r).kind → MayTalk plan → HoldsOf words told MayStop
+may_stop words r told plan there planned wants may =
+    subst (λ (w : Option Request). HoldsOf w told MayStop) there (planned.contents, planned.are, (proved r).wants planned.contents wants (planned.comes.talks may))
+
+wants : (words : Option Request) (r : Request) (told : Option (List ℕ → Option (List ℕ))) (p : Prepared) → Some r ≡ words → Planned r told (the_plan p) → FitsKind (command_of r).kind p → MayWant p → HoldsOf words told MayStop
 wants words r told (Says said) there planned fits want = absurd want
 wants words r told (Runs opening guiding) there planned fits want = absurd want
-wants words r told (Edits editing) there planned fits want = may_stop words r told _ there planned fits tt
-wants words r told (Hosts opening ward) there planned fits want = may_stop_host words r told _ there planned fits.1 tt
+wants words r told (Edits editing) there planned fits want = may_stop words r told _ there planned (subst WantsMemory (sym fits) tt) tt
+wants words r told (Hosts opening ward) there planned fits want = may_stop words r told _ there planned (subst WantsMemory (sym fits.1) tt) tt
 
-pub memory_is : (words : Option Request) (r : Request) (told : Option (List ℕ → Option (List ℕ))) (p : Prepared) (Alone : Type 0) → Some r ≡ words → Planned r told (the_plan p) → FitsRequest r p → MayWant p ⊎ Alone → HoldsOf words told MayStop ⊎ Alone
+pub memory_is : (words : Option Request) (r : Request) (told : Option (List ℕ → Option (List ℕ))) (p : Prepared) (Alone : Type 0) → Some r ≡ words → Planned r told (the_plan p) → FitsKind (command_of r).kind p → MayWant p ⊎ Alone → HoldsOf words told MayStop ⊎ Alone
 memory_is words r told p Alone there planned fits (inl want) = inl (wants words r told p there planned fits want)
 memory_is words r told p Alone there planned fits (inr alone) = inr alone
 
 -- the opening of what was prepared is whole lines
-pub lined : (r : Request) (p : Prepared) → FitsRequest r p → IsLined p
-lined r (Says said) fits = tt
-lined r (Runs opening guiding) fits = fits
-lined r (Edits editing) fits = tt
-lined r (Hosts opening ward) fits = fits.0
+pub lined : (kind : Kind) (p : Prepared) → FitsKind kind p → IsLined p
+lined kind (Says said) fits = tt
+lined kind (Runs opening guiding) fits = fits.0
+lined kind (Edits editing) fits = tt
+lined kind (Hosts opening ward) fits = fits.0
 
 -- a call that was stopped tells of no file
 stopped_there : (told : Option (List ℕ → Option (List ℕ))) (names : List (List ℕ)) (result : Status) → IsStopped result → AreThere told (files_read result names)

@@ -13,7 +13,9 @@ use Rattle.cstn_tight.specs.Deadlines.{at_deadline}
 use Rattle.cstn_tight.specs.Bisection.{least_deadline, is_above, is_tight_full}
 use Rattle.cstn_tight.proofs.LeastLemmas.{good_at_deadline}
 use Rattle.cstn_tight.proofs.BracketLemmas.{IsRefuted, IsFound, found}
-use Rattle.cstn_top.specs.Meanings.{IsListed, IsRefutedByLog, IsTight, IsConflict}
+use Rattle.cstn_top.specs.Verdicts.{IsListed, IsRefutedByLog}
+use Rattle.cstn_top.specs.commands.Tight.{IsTight}
+use Rattle.cstn_top.specs.commands.Conflict.{IsConflict}
 
 -- the bounds of a yes have no fault
 pub listed_well : (net : Network) → IsWellFormed net → IsConsistent net → IsListed net

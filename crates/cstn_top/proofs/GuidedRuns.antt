@@ -16,8 +16,8 @@ use Rattle.cstn_exec.specs.GuideRead.{GuideParts}
 use Rattle.cstn_reply.specs.Texts.{yes_line, after_text}
 use Rattle.cstn_top.specs.Plans.{Plan, ComesTo, session}
 use Rattle.cstn_top.specs.Answers.{on_verdict}
+use Rattle.cstn_top.specs.commands.Run.{carried_out}
 use Rattle.cstn_check.specs.Decisions.{verdict}
-use Rattle.cstn_top.specs.Running.{carried_out}
 use Rattle.cstn_run.specs.Sessions.{RunSessionParts, guide_turn, guide_ending, guided_turn, guided_ending}
 use Rattle.cstn_run.proofs.Runs.{turn_of, ending_of, play_as, answers_as}
 

@@ -20,32 +20,34 @@ use Rattle.cstn_lines.specs.Pieces.{lines_of}
 use Rattle.cstn_words.specs.Requests.{Request, check, edit, replay}
 use Rattle.cstn_reply.specs.Texts.{Said}
 use Rattle.cstn_top.specs.Plans.{IsOutput}
+use Rattle.cstn_top.specs.Answers.{LabelledAnswer, of_lowered, on_labelled, by_text}
+use Rattle.cstn_top.specs.commands.Check.{checked}
+use Rattle.cstn_top.specs.Verdicts.{IsLabelledYes}
+use Rattle.cstn_top.specs.Accepted.{IsNoText}
+use Rattle.cstn_top.specs.commands.Replay.{replayed, IsRefutedBy}
+use Rattle.cstn_top.specs.Dispatch.{plan_at}
+use Rattle.cstn_top.specs.Meanings.{IsStopped}
+use Rattle.cstn_top.specs.commands.Run.{run_bounds, AnswersLeast, WroteRun}
+use Rattle.cstn_top.specs.commands.Edit.{IsVerdictOn, EditEnds, WroteEdits}
 use Rattle.cstn_documents.specs.Documents.{AreEmpty, AreUnlabelled}
 use Rattle.cstn_reply.specs.Statuses.{status_of}
 use Rattle.cstn_reply.specs.declared.status.Status.{Status}
 use Rattle.cstn_reply.specs.declared.status.Status.TheVariants.{Good as IsYesStatus, Bad as IsNoStatus, Full as IsFullStatus}
 use Rattle.cstn_reply.specs.declared.output.Outcome.{Outcome}
 use Rattle.cstn_reply.specs.declared.output.Outcome.TheVariants.{Good, Bad, Words, Document as IsRefusedOutcome, Full, Unfinished, Script, Wide}
-use Rattle.cstn_top.specs.Answers.{LabelledAnswer, of_lowered, on_labelled}
 use Rattle.cstn_documents.specs.Documents.{parts_of, HasLabelled, HasNetwork, IsNoDocument, IsRefused}
-use Rattle.cstn_top.specs.Answers.{checked}
-use Rattle.cstn_top.specs.Verdicts.{IsLabelledYes}
-use Rattle.cstn_top.specs.Accepted.{IsNoText}
-use Rattle.cstn_top.specs.Answers.{by_text, replayed}
 use Rattle.cstn_edit.specs.Editing.{begun_editing, last_checked}
 use Rattle.cstn_run.specs.Meanings.{IsCarriedThrough}
-use Rattle.cstn_top.specs.Outputs.{plan_at}
 use Rattle.cstn_refute.specs.Texts.{told as told_by}
-use Rattle.cstn_top.specs.Meanings.{IsStopped, IsRefutedBy}
-use Rattle.cstn_top.specs.Evidence.{WroteEvidence}
-use Rattle.cstn_top.specs.Lines.{run_bounds, AnswersLeast, WroteRun, IsVerdictOn, EditEnds, WroteEdits, IsEnded}
 use Rattle.cstn_top.specs.EditSessions.{IsNoCheck, IsAtLastCheck}
 use Rattle.cstn_top.specs.Headline.{Document, network, printed_names, HasStrategy, load, edited, Call, Checked, Ran, Replayed, Edited, Decides, IsEditedVerdict, IsExecutedOver}
 use Rattle.cstn_top.proofs.Documents.{labelled_says}
 use Rattle.cstn_top.proofs.Labels.{labelled_then}
-use Rattle.cstn_top.proofs.Meanings.{VerdictsLabelled, check_tells}
+use Rattle.cstn_top.proofs.Meanings.{VerdictsLabelled}
+use Rattle.cstn_top.proofs.records.Check.{check_tells}
 use Rattle.cstn_top.proofs.Endings.{end_status}
 use Rattle.cstn_top.proofs.EditSessions.{last_is}
+use Rattle.cstn_top.proofs.Dispatched.{WroteEvidence, IsEnded}
 
 -- ---- the network of a document
 

@@ -6,9 +6,9 @@ use Rattle.std.proofs.lemmas.Grind.{common_steps}
 use Rattle.cstn_words.specs.Requests.{host}
 use Rattle.cstn_documents.specs.declared.reading.NamedNetwork.{NamedNetwork}
 use Rattle.cstn_top.specs.Plans.{ComesTo}
-use Rattle.cstn_top.specs.Hosting.{attended, on_documents}
-use Rattle.cstn_top.specs.Begun.{the_named, HasRead}
+use Rattle.cstn_top.specs.commands.Host.{attended, on_documents}
 use Rattle.cstn_top.specs.Questions.{Asks}
+use Rattle.cstn_top.specs.Begun.{the_named, HasRead}
 use Rattle.cstn_top.specs.declared.commands.questions.Question.TheVariants.{Host}
 
 nothing_more : (xs : List (List ℕ)) → xs ++ [] ≡ xs

@@ -17,7 +17,11 @@ use Rattle.cstn_documents.specs.Files.{AreContents, AreThere}
 use Rattle.cstn_reply.specs.Read.{the_said}
 use Rattle.cstn_reply.specs.declared.output.Said.{Said as SaidText}
 use Rattle.cstn_reply.specs.Texts.{Said, say}
-use Rattle.cstn_top.specs.Plans.{Plan, says, IsOutput, MayTalk}
+use Rattle.cstn_top.specs.Plans.{Plan, says, IsOutput, MayTalk, session}
+use Rattle.cstn_top.specs.Answers.{Answer, on_verdict}
+use Rattle.cstn_top.specs.commands.Host.{on_documents, on_verdicts, attended, hosted_plan, EachHas, FirstHas}
+use Rattle.cstn_top.specs.Questions.{TellsInstead}
+use Rattle.cstn_top.specs.Meanings.{files_read, RefusedIsThere}
 use Rattle.cstn_documents.specs.Documents.{AreUnlabelled}
 use Rattle.cstn_reply.specs.Statuses.{status_of}
 use Rattle.cstn_reply.specs.declared.status.Status.{Status}
@@ -26,21 +30,14 @@ use Rattle.cstn_reply.specs.declared.output.Outcome.{Outcome}
 use Rattle.cstn_reply.specs.declared.output.Outcome.TheVariants.{Good, Bad, Words, Document, Full, Unfinished, Script, Wide}
 use Rattle.cstn_documents.proofs.Contents.{none_there}
 use Rattle.cstn_lines.specs.Pieces.{lines_of}
-use Rattle.cstn_top.specs.Answers.{Answer}
 use Rattle.cstn_documents.specs.Documents.{parts_of, HasNetwork, IsRefused}
 use Rattle.cstn_documents.specs.Documents.{IsSaidPlainly}
 use Rattle.cstn_check.specs.Decisions.{verdict, IsYes, IsNo}
-use Rattle.cstn_top.specs.Answers.{on_verdict}
 use Rattle.cstn_check.proofs.Deciding.{Tells, verdict_tells}
-use Rattle.cstn_top.specs.Plans.{session}
 use Rattle.cstn_host.specs.Sessions.{begun, host_turn, host_ending}
 use Rattle.cstn_host.specs.Files.{Named, the_file, yes_lines}
-use Rattle.cstn_top.specs.Hosting.{on_documents, on_verdicts, attended, hosted_plan}
 use Rattle.cstn_top.specs.Begun.{IsRefusedAt}
-use Rattle.cstn_top.specs.Questions.{TellsInstead}
 use Rattle.cstn_host.proofs.Plays.{IsEnd, plays}
-use Rattle.cstn_top.specs.Several.{EachHas, FirstHas}
-use Rattle.cstn_top.specs.Meanings.{files_read, RefusedIsThere}
 use Rattle.cstn_top.proofs.Standing.{IsOfDocument as IsNamedNetwork}
 use Rattle.cstn_top.proofs.Comes.{plain_refusal_output}
 use Rattle.cstn_top.proofs.Documents.{document_says, document_talks, document_then}

@@ -1,3 +1,4 @@
+pub mod Dispatched
 pub mod Documents
 pub mod Labels
 pub mod Drills
@@ -11,7 +12,10 @@ pub mod Endings
 pub mod Runs
 pub mod Accepted
 pub mod Played
-pub mod Lines
+pub mod Proved
+pub mod records
+pub mod Dispatch
+pub mod Calls
 pub mod Told
 pub mod EditTexts
 pub mod EditSessions

@@ -19,10 +19,19 @@ use Rattle.cstn_documents.specs.declared.reading.NamedNetwork.{NamedNetwork}
 use Rattle.cstn_documents.specs.declared.reading.NamedLabelled.{NamedLabelled}
 use Rattle.cstn_documents.proofs.Contents.{one_content, two_contents, some_content, none_there, two_there}
 use Rattle.cstn_top.specs.Plans.{Plan, says, IsOutput, ComesTo}
-use Rattle.cstn_top.specs.Answers.{Answer, LabelledAnswer, of_plain, of_lowered, on_labelled, checked, listed, tightened, blamed, unfolded, by_text, replayed, certified, tree_checked}
-use Rattle.cstn_top.specs.Running.{carried_out}
-use Rattle.cstn_top.specs.Editing.{edited}
-use Rattle.cstn_top.specs.Outputs.{saved, plan_at}
+use Rattle.cstn_top.specs.Answers.{Answer, LabelledAnswer, of_plain, of_lowered, on_labelled, by_text}
+use Rattle.cstn_top.specs.commands.Check.{checked}
+use Rattle.cstn_top.specs.commands.Closed.{listed}
+use Rattle.cstn_top.specs.commands.Tight.{tightened}
+use Rattle.cstn_top.specs.commands.Conflict.{blamed}
+use Rattle.cstn_top.specs.commands.Tree.{unfolded}
+use Rattle.cstn_top.specs.commands.Replay.{replayed}
+use Rattle.cstn_top.specs.commands.Closedcheck.{certified}
+use Rattle.cstn_top.specs.commands.Treecheck.{tree_checked}
+use Rattle.cstn_top.specs.commands.Run.{carried_out}
+use Rattle.cstn_top.specs.commands.Edit.{edited}
+use Rattle.cstn_top.specs.commands.Save.{saved}
+use Rattle.cstn_top.specs.Dispatch.{plan_at}
 use Rattle.cstn_top.specs.Meanings.{files_read}
 use Rattle.cstn_top.specs.Prepared.{Planned}
 use Rattle.cstn_top.specs.Questions.{Asks, the_question}

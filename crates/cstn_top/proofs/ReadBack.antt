@@ -37,12 +37,13 @@ use Rattle.cstn_graphml.specs.DrawnGraph.{DrawnConstraint}
 use Rattle.cstn_graphml.specs.Networks.{numbered_drawn}
 use Rattle.cstn_reply.specs.Texts.{say}
 use Rattle.cstn_top.specs.Plans.{Plan, says, replays, certifies, IsOutput}
+use Rattle.cstn_top.specs.Answers.{Answer, by_text}
+use Rattle.cstn_top.specs.commands.Replay.{replayed_steps, replayed}
+use Rattle.cstn_top.specs.commands.Closedcheck.{certified_bounds, certified}
+use Rattle.cstn_top.specs.Accepted.{IsAccepted, IsYesText, IsNoText, HasIds}
 use Rattle.cstn_reply.specs.declared.output.Outcome.TheVariants.{Good, Script}
 use Rattle.cstn_tight.proofs.ClosedLemmas.{live_short, some_live}
-use Rattle.cstn_top.specs.Answers.{Answer}
-use Rattle.cstn_top.specs.Answers.{by_text, replayed_steps, replayed, certified_bounds, certified}
 use Rattle.cstn_top.proofs.Listing.{limit_in_time}
-use Rattle.cstn_top.specs.Accepted.{IsAccepted, IsYesText, IsNoText, HasIds}
 use Rattle.cstn_top.proofs.Lengths.{bounds_text_short, steps_text_short}
 
 -- the ids of the constraints of a document are numbers of 32 bits

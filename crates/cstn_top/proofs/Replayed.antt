@@ -7,21 +7,24 @@ use Rattle.cstn_graphml.specs.Networks.{labelled_of, IsFit}
 use Rattle.cstn_words.specs.Requests.{Asked, check, run, closed, replay, closedcheck}
 use Rattle.cstn_reply.specs.Texts.{Said, say}
 use Rattle.cstn_top.specs.Plans.{Plan, says, judges, IsOutput}
+use Rattle.cstn_top.specs.Answers.{LabelledAnswer, of_lowered, judged, on_labelled, by_text}
+use Rattle.cstn_top.specs.commands.Check.{checked}
+use Rattle.cstn_top.specs.Accepted.{IsAccepted}
+use Rattle.cstn_top.specs.commands.Closed.{listed}
+use Rattle.cstn_top.specs.commands.Replay.{replayed}
+use Rattle.cstn_top.specs.commands.Closedcheck.{certified}
+use Rattle.cstn_top.specs.commands.Run.{carried_out}
+use Rattle.cstn_top.specs.Dispatch.{plan_at}
 use Rattle.cstn_reply.specs.Statuses.{status_of}
 use Rattle.cstn_reply.specs.declared.output.Outcome.{Outcome}
 use Rattle.cstn_reply.specs.declared.output.Outcome.TheVariants.{Good, Bad, Document}
-use Rattle.cstn_top.specs.Answers.{LabelledAnswer, of_lowered, judged, on_labelled}
 use Rattle.cstn_documents.specs.Documents.{parts_of, HasLabelled}
-use Rattle.cstn_top.specs.Answers.{checked}
-use Rattle.cstn_top.specs.Accepted.{IsAccepted}
-use Rattle.cstn_top.specs.Answers.{listed}
-use Rattle.cstn_top.specs.Answers.{by_text, replayed, certified}
 use Rattle.cstn_top.proofs.Standing.{YesAccepted, NoAccepted}
-use Rattle.cstn_top.specs.Running.{carried_out}
-use Rattle.cstn_top.specs.Outputs.{plan_at}
-use Rattle.cstn_top.specs.Evidence.{IsEvidence}
-use Rattle.cstn_top.proofs.Accepted.{output_evidence}
+use Rattle.cstn_top.proofs.records.Check.{check_proved}
+use Rattle.cstn_top.proofs.records.Run.{run_proved}
+use Rattle.cstn_top.proofs.records.Closed.{closed_proved}
 use Rattle.cstn_top.proofs.OneOutput.{OneJudgement}
+use Rattle.cstn_top.proofs.Dispatched.{IsEvidence}
 
 -- a document that isn't refused isn't too long
 not_long : (answer : LabelledAnswer) (bytes : List ℕ) (deadline : Option ℕ) (live : List ℕ) (said : Said) → (said.outcome ≡ Document → ⊥) → IsOutput (on_labelled answer bytes deadline) live said → nat_lt 8388608 (length bytes) ≡ false
@@ -57,22 +60,22 @@ module _ (one : OneJudgement) (yes_text : YesAccepted) (no_text : NoAccepted) wh
   check_passes asked cap file bytes live said capped output no' =
       labelled_accepted one (of_lowered (by_text replayed said.text)) bytes asked.deadline
       (not_long (of_lowered (checked cap)) bytes asked.deadline live said (bad_differs said.outcome no') output)
-      (subst (λ (o : Outcome). IsEvidence (check asked cap) (status_of o) said.text (bytes ∷ [])) no' (output_evidence yes_text no_text (check asked cap) (bytes ∷ []) live said capped output))
+      (subst (λ (o : Outcome). IsEvidence (check asked cap) (status_of o) said.text (bytes ∷ [])) no' ((check_proved asked cap).evidence yes_text no_text (bytes ∷ []) live said capped output))
 
   pub run_passes : (asked : Asked) (cap : ℕ) (file bytes live : List ℕ) (said : Said) → cap ≤ 4194304 → IsOutput (plan_at (run asked cap) (bytes ∷ [])) live said → said.outcome ≡ Bad → IsAccepted (plan_at (replay asked file) (bytes ∷ said.text ∷ []))
   run_passes asked cap file bytes live said capped output no' =
       labelled_accepted one (of_lowered (by_text replayed said.text)) bytes asked.deadline
       (not_long (carried_out cap) bytes asked.deadline live said (bad_differs said.outcome no') output)
-      (subst (λ (o : Outcome). IsEvidence (run asked cap) (status_of o) said.text (bytes ∷ [])) no' (output_evidence yes_text no_text (run asked cap) (bytes ∷ []) live said capped output))
+      (subst (λ (o : Outcome). IsEvidence (run asked cap) (status_of o) said.text (bytes ∷ [])) no' ((run_proved asked cap).evidence yes_text no_text (bytes ∷ []) live said capped output))
 
   pub closed_passes : (asked : Asked) (cap : ℕ) (file bytes live : List ℕ) (said : Said) → cap ≤ 4194304 → IsOutput (plan_at (closed asked cap) (bytes ∷ [])) live said → said.outcome ≡ Bad → IsAccepted (plan_at (replay asked file) (bytes ∷ said.text ∷ []))
   closed_passes asked cap file bytes live said capped output no' =
       labelled_accepted one (of_lowered (by_text replayed said.text)) bytes asked.deadline
       (not_long (of_lowered (listed cap)) bytes asked.deadline live said (bad_differs said.outcome no') output)
-      (subst (λ (o : Outcome). IsEvidence (closed asked cap) (status_of o) said.text (bytes ∷ [])) no' (output_evidence yes_text no_text (closed asked cap) (bytes ∷ []) live said capped output))
+      (subst (λ (o : Outcome). IsEvidence (closed asked cap) (status_of o) said.text (bytes ∷ [])) no' ((closed_proved asked cap).evidence yes_text no_text (bytes ∷ []) live said capped output))
 
   pub bounds_pass : (asked : Asked) (cap : ℕ) (file bytes live : List ℕ) (said : Said) → cap ≤ 4194304 → IsOutput (plan_at (closed asked cap) (bytes ∷ [])) live said → said.outcome ≡ Good → IsAccepted (plan_at (closedcheck asked file) (bytes ∷ said.text ∷ []))
   bounds_pass asked cap file bytes live said capped output yes' =
       labelled_accepted one (of_lowered (by_text certified said.text)) bytes asked.deadline
       (not_long (of_lowered (listed cap)) bytes asked.deadline live said (good_differs said.outcome yes') output)
-      (subst (λ (o : Outcome). IsEvidence (closed asked cap) (status_of o) said.text (bytes ∷ [])) yes' (output_evidence yes_text no_text (closed asked cap) (bytes ∷ []) live said capped output))
+      (subst (λ (o : Outcome). IsEvidence (closed asked cap) (status_of o) said.text (bytes ∷ [])) yes' ((closed_proved asked cap).evidence yes_text no_text (bytes ∷ []) live said capped output))

@@ -10,12 +10,11 @@ use Rattle.cstn_check.specs.declared.verdicts.Verdict.TheVariants.{Yes}
 use Rattle.cstn_exec.specs.Guides.{begun}
 use Rattle.cstn_reply.specs.Texts.{yes_line}
 use Rattle.cstn_reply.specs.Texts.{Said}
-use Rattle.cstn_top.specs.Plans.{Plan, says, ComesTo}
-use Rattle.cstn_top.specs.Plans.{session}
-use Rattle.cstn_check.specs.Decisions.{verdict, unless_yes}
+use Rattle.cstn_top.specs.Plans.{Plan, says, ComesTo, session}
 use Rattle.cstn_top.specs.Answers.{unless_said}
+use Rattle.cstn_top.specs.commands.Run.{carried_out}
+use Rattle.cstn_check.specs.Decisions.{verdict, unless_yes}
 use Rattle.cstn_run.specs.Sessions.{guide_turn, guide_ending}
-use Rattle.cstn_top.specs.Running.{carried_out}
 
 -- a yes on a network is a yes on an equal network
 pub verdict_for : (cap : ℕ) (net other : Network) → net ≡ other → verdict cap net ≡ Yes (load_of net) → verdict cap other ≡ Yes (load_of other)

@@ -12,7 +12,11 @@ use Rattle.cstn_tree.specs.Unfolded.{observed, wide, IsTreeUnless, IsUnfolded}
 use Rattle.cstn_reply.specs.Texts.{Said, say}
 use Rattle.cstn_reply.specs.declared.output.Outcome.TheVariants.{Script}
 use Rattle.cstn_top.specs.Plans.{Plan, says, branches, IsOutput}
-use Rattle.cstn_top.specs.Answers.{Answer, by_text, unless_said, on_verdict, checked, unfolded, replayed_steps, replayed, certified_bounds, certified}
+use Rattle.cstn_top.specs.Answers.{Answer, by_text, unless_said, on_verdict}
+use Rattle.cstn_top.specs.commands.Check.{checked}
+use Rattle.cstn_top.specs.commands.Tree.{unfolded}
+use Rattle.cstn_top.specs.commands.Replay.{replayed_steps, replayed}
+use Rattle.cstn_top.specs.commands.Closedcheck.{certified_bounds, certified}
 
 said_or : (o : Option Said) (said : Said) → says (or_else o said) ≡ unless_said o (says said)
 said_or None said = refl

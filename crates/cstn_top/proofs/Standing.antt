@@ -25,16 +25,16 @@ use Rattle.cstn_tight.proofs.BracketLemmas.{IsRefuted, IsFound, found}
 use Rattle.cstn_tight.proofs.LeastLemmas.{good_at_deadline}
 use Rattle.cstn_reply.specs.Texts.{Said}
 use Rattle.cstn_top.specs.Plans.{says, IsOutput}
+use Rattle.cstn_top.specs.Answers.{on_verdict}
+use Rattle.cstn_top.specs.Accepted.{IsYesText, IsNoText, HasIds}
+use Rattle.cstn_top.specs.commands.Tight.{IsTightText, tightened}
+use Rattle.cstn_top.specs.commands.Conflict.{IsConflictText, blamed}
 use Rattle.cstn_reply.specs.Texts.{yes_line, full_line}
 use Rattle.cstn_reply.specs.declared.output.Outcome.{Outcome}
 use Rattle.cstn_reply.specs.declared.output.Outcome.TheVariants.{Good, Bad, Words, Document, Full, Unfinished, Script, Wide}
 use Rattle.cstn_check.specs.Decisions.{verdict}
-use Rattle.cstn_top.specs.Answers.{on_verdict}
-use Rattle.cstn_top.specs.Accepted.{IsYesText, IsNoText, IsTightText, IsConflictText, HasIds}
 use Rattle.cstn_conflict.specs.Texts.{blame_text}
-use Rattle.cstn_top.specs.Answers.{blamed}
 use Rattle.cstn_tight.specs.Texts.{refuted_text, tight_text}
-use Rattle.cstn_top.specs.Answers.{tightened}
 
 -- a network with a deadline up to its own is well-formed
 at_well : (net : Network) (h : ℕ) → IsWellFormed net → h ≤ net.deadline → IsWellFormed (at_deadline net h)

@@ -8,11 +8,12 @@ use Rattle.cstn_reply.specs.declared.output.Outcome.TheVariants.{Good, Bad, Full
 use Rattle.cstn_top.specs.Told.{IsToldOf, Answers, IsTold}
 use Rattle.cstn_top.proofs.Standing.{YesAccepted, NoAccepted}
 use Rattle.cstn_top.proofs.Endings.{Answered, request_tells, complete_at}
-use Rattle.cstn_top.proofs.Accepted.{evidence_at}
-use Rattle.cstn_top.specs.Prepared.{IsRanged}
-use Rattle.cstn_top.proofs.Lines.{run_least, carried_at, left_at, ended_at}
+use Rattle.cstn_top.proofs.Calls.{evidence_at, carried_at, left_at, ended_at}
+use Rattle.cstn_top.proofs.Dispatch.{proved}
+use Rattle.cstn_top.proofs.Dispatched.{IsRanged}
+use Rattle.cstn_top.specs.Dispatch.{command_of}
 
-told_of : {S : Type 0} → YesAccepted → NoAccepted → (r : Request) (told : Option (List ℕ → Option (List ℕ))) (source now : S) (before after : LiveState) (old new : Option (List ℕ)) (result : Status) → IsRanged r → (answered : Answered (Some r) told source now before after old new result) → IsToldOf before old new result answered.0 r
+told_of : {S : Type 0} → YesAccepted → NoAccepted → (r : Request) (told : Option (List ℕ → Option (List ℕ))) (source now : S) (before after : LiveState) (old new : Option (List ℕ)) (result : Status) → IsRanged r → (answered : Answered (Some r) told source now before after old new result) → IsToldOf before old new result answered.0 (command_of r)
 told_of yes_text no_text r told source now before after old new result ranged answered = record {
   good = λ is. request_tells r told source now before after old new result Good answered is;
   bad = λ is. request_tells r told source now before after old new result Bad answered is;
@@ -20,7 +21,7 @@ told_of yes_text no_text r told source now before after old new result ranged an
   wide = λ is. request_tells r told source now before after old new result Wide answered is;
   complete = complete_at r told source now before after old new result answered;
   evidence = evidence_at yes_text no_text r told source now before after old new result ranged answered;
-  least = run_least r answered.0;
+  least = (proved r).least answered.0;
   carried_out = carried_at r told source now before after old new result answered;
   unfinished = left_at r told source now before after old new result answered;
   ended = ended_at r told source now before after old new result answered;
@@ -36,6 +37,6 @@ told_is yes_text no_text words told seen source now old new result ranged answer
   request = by_words words ranged answered;
 }
   where
-    by_words : (w : Option Request) → IfSome w IsRanged → (a : Answers w told seen source now old new result) → IfSome w (IsToldOf (seen source) old new result a.0)
+    by_words : (w : Option Request) → IfSome w IsRanged → (a : Answers w told seen source now old new result) → IfSome w (λ request. IsToldOf (seen source) old new result a.0 (command_of request))
     by_words None ranged a = tt
     by_words (Some r) ranged a = told_of yes_text no_text r told source now (seen source) (seen now) old new result ranged a

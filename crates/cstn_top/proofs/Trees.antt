@@ -13,21 +13,18 @@ use Rattle.cstn_tree.proofs.TreeLemmas.{tree_back}
 use Rattle.cstn_tree.proofs.Strategies.{good_is_strategy}
 use Rattle.cstn_reply.specs.Texts.{Said, say}
 use Rattle.cstn_top.specs.Plans.{says, branches, IsOutput, MayTalk}
+use Rattle.cstn_top.specs.Answers.{on_verdict, by_text}
+use Rattle.cstn_top.specs.Accepted.{IsAccepted}
+use Rattle.cstn_top.specs.commands.Tree.{unfolded, IsNarrow, HasTree, IsTreeProof, IsDecidedTree}
+use Rattle.cstn_top.specs.commands.Treecheck.{checked_lines, tree_checked, IsGoodTree, IsBrokenTree}
 use Rattle.cstn_tree.specs.Unfolded.{IsTreeText}
 use Rattle.cstn_reply.specs.Statuses.{status_of}
 use Rattle.cstn_reply.specs.declared.output.Outcome.{Outcome}
 use Rattle.cstn_reply.specs.declared.output.Outcome.TheVariants.{Good, Bad, Words, Document, Full, Unfinished, Script, Wide}
 use Rattle.cstn_check.specs.Decisions.{verdict, IsYes, IsNo}
-use Rattle.cstn_top.specs.Answers.{on_verdict}
 use Rattle.cstn_check.proofs.Deciding.{Tells, verdict_tells}
-use Rattle.cstn_top.specs.Accepted.{IsAccepted}
-use Rattle.cstn_top.specs.Answers.{by_text}
 use Rattle.cstn_tree.specs.Unfolded.{observed}
-use Rattle.cstn_top.specs.Answers.{unfolded}
 use Rattle.cstn_tree.specs.Checked.{told_of_line}
-use Rattle.cstn_top.specs.Answers.{checked_lines, tree_checked}
-use Rattle.cstn_top.specs.Trees.{IsNarrow, IsGoodTree, IsBrokenTree, HasTree, IsTreeProof}
-use Rattle.cstn_top.specs.Meanings.{IsDecidedTree}
 
 -- ---- `tree`
 

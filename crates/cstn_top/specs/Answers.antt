@@ -1,4 +1,4 @@
--- What is said of networks and of documents, as plans.
+-- What is said of documents, of networks and of texts, as plans.
 use Rattle.std.specs.Prelude.{ℕ, nat_lt, if◌then◌else◌, List, length, Option, None, Some, codes, Result, Ok, Err}
 use Rattle.cstn_net.specs.Networks.{Network}
 use Rattle.cstn_lift.specs.Labelled.{Labelled}
@@ -6,21 +6,12 @@ use Rattle.cstn_lift.specs.Lowered.{lowered}
 use Rattle.cstn_element.specs.Results.{Refusal}
 use Rattle.cstn_graphml.specs.Document.{Parts, document}
 use Rattle.cstn_graphml.specs.Networks.{labelled_of}
-use Rattle.cstn_check.specs.Growth.{log_of, load_of, live_bounds}
-use Rattle.cstn_check.specs.Decisions.{verdict, unless_yes}
+use Rattle.cstn_check.specs.Decisions.{unless_yes}
 use Rattle.cstn_check.specs.declared.verdicts.Verdict.{Verdict}
-use Rattle.cstn_refute.specs.Texts.{Told as ToldSteps, tells as tells_steps, wrong as wrong_step, told as told_steps}
-use Rattle.cstn_closed.specs.Texts.{shown, Told as ToldBounds, tells as tells_bounds, wrong as wrong_bound, told as told_bounds}
-use Rattle.cstn_conflict.specs.Texts.{blamed as blamed_text}
-use Rattle.cstn_tight.specs.Texts.{tightened as tightened_text}
-use Rattle.cstn_tree.specs.Checked.{checked_lines as checked_lines_text}
-use Rattle.cstn_tree.specs.Texts.{Told as ToldTree, told as told_tree}
-use Rattle.cstn_tree.specs.Unfolded.{observed, wide}
-use Rattle.cstn_reply.specs.Texts.{Said, say, yes_line}
-use Rattle.cstn_reply.specs.Sessions.{script}
-use Rattle.cstn_reply.specs.declared.output.Outcome.TheVariants.{Good, Document, Script}
+use Rattle.cstn_reply.specs.Texts.{Said, say}
+use Rattle.cstn_reply.specs.declared.output.Outcome.TheVariants.{Document, Script}
 use Rattle.cstn_documents.specs.Refusals.{refusal_text}
-use Rattle.cstn_top.specs.Plans.{Plan, says, replays, certifies, branches, judges, unlabelled}
+use Rattle.cstn_top.specs.Plans.{Plan, says, judges, unlabelled}
 
 -- what is said of a network under the names of its time-points
 abbrev pub Answer : Type 0
@@ -65,58 +56,9 @@ unless_said (Some said) plan = says said
 abbrev pub on_verdict : ℕ → List (List ℕ) → Network → Plan → Verdict → Plan
 on_verdict cap names net after_yes v = unless_said (unless_yes cap names net v) after_yes
 
--- what `check` says of a network
-abbrev pub checked : ℕ → Answer
-checked cap names net = on_verdict cap names net (says (record { outcome = Good; text = yes_line (load_of net) })) (verdict cap net)
-
--- what `closed` says of a network: after yes the load, and the bounds of the live entries of its log
-abbrev pub listed : ℕ → Answer
-listed cap names net =
-    on_verdict cap names net (says (record { outcome = Good; text = shown names (load_of net) (live_bounds (log_of net)) })) (verdict cap net)
-
--- what `tree` says of a network: how many propositions are observed, where they are more than 10; and else after yes the load,
--- and the tree of what the executive does by the bounds of the live entries of the log
-abbrev pub unfolded : ℕ → Answer
-unfolded cap names net =
-    if nat_lt 10 (observed net) then says (wide net)
-    else on_verdict cap names net (branches names (load_of net) (live_bounds (log_of net)) net) (verdict cap net)
-
--- what `tight` and `conflict` say of a network
-abbrev pub tightened : ℕ → Answer
-tightened cap names net = says (tightened_text cap names net)
-
-abbrev pub blamed : ℕ → Answer
-blamed cap names net = says (blamed_text cap names net)
-
 -- ---- of texts
 
 -- the text is refused where it has more than 1,476,395,008 bytes
 abbrev pub by_text : (List ℕ → Answer) → List ℕ → Answer
 by_text answer text names net =
     if nat_lt 1476395008 (length text) then says (say Script (codes "script long")) else answer text names net
-
--- the steps of a text are replayed
-abbrev pub replayed_steps : ToldSteps → Network → Plan
-replayed_steps (tells_steps load steps) net = replays steps net
-replayed_steps (wrong_step at) net = says (script at)
-
--- what `replay` says of a network by a text
-abbrev pub replayed : List ℕ → Answer
-replayed text names net = replayed_steps (told_steps names text) net
-
--- the bounds of a text are checked
-abbrev pub certified_bounds : List (List ℕ) → ToldBounds → Network → Plan
-certified_bounds names (tells_bounds load bounds) net = certifies names bounds net
-certified_bounds names (wrong_bound at) net = says (script at)
-
--- what `closedcheck` says of a network by a text
-abbrev pub certified : List ℕ → Answer
-certified text names net = certified_bounds names (told_bounds names text) net
-
--- the tree of a text is checked
-abbrev pub checked_lines : ToldTree → Network → Plan
-checked_lines told net = says (checked_lines_text told net)
-
--- what `treecheck` says of a network by a text
-abbrev pub tree_checked : List ℕ → Answer
-tree_checked text names net = checked_lines (told_tree names text) net

@@ -16,14 +16,14 @@ use Rattle.cstn_exec.specs.Sound.{AgreesHanded}
 use Rattle.cstn_words.specs.Requests.{Asked, Request, check, run, edit, replay}
 use Rattle.cstn_reply.specs.Written.{LiveState}
 use Rattle.cstn_top.specs.Plans.{Ends}
+use Rattle.cstn_top.specs.Dispatch.{command_of, plan_at}
+use Rattle.cstn_top.specs.Meanings.{IsStopped}
+use Rattle.cstn_top.specs.commands.Run.{run_bounds}
 use Rattle.cstn_documents.specs.Documents.{AreEmpty}
 use Rattle.cstn_reply.specs.declared.status.Status.{Status}
 use Rattle.cstn_reply.specs.declared.status.Status.TheVariants.{Good, Bad, Full, Script}
 use Rattle.cstn_run.specs.Meanings.{end_of, WasNamed}
-use Rattle.cstn_top.specs.Outputs.{plan_at}
-use Rattle.cstn_top.specs.Meanings.{IsStopped}
 use Rattle.cstn_top.specs.EditSessions.{network_after, IsNoCheck}
-use Rattle.cstn_top.specs.Lines.{run_bounds}
 use Rattle.cstn_top.specs.Told.{IsToldOf}
 
 -- the bytes are a document with the deadline that is asked for, and its parts make a labelled network
@@ -64,7 +64,7 @@ pub record Call (request : Request) (contents : List (List ℕ)) : Type 0 where
   pub after : LiveState
   pub old : List ℕ
   pub output : Ends (plan_at request contents) before after (Some old) (Some (old ++ text)) status
-  pub told : IsToldOf before (Some old) (Some (old ++ text)) status contents request
+  pub told : IsToldOf before (Some old) (Some (old ++ text)) status contents (command_of request)
   pub live_is : before.left ≡ Some live
   pub unstopped : IsStopped status → ⊥
 

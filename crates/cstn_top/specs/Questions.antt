@@ -3,22 +3,33 @@ use Rattle.std.specs.Prelude.{◌≡◌, ◌≤◌, ◌<◌, ◌^◌, ℕ, List,
 use Rattle.std.specs.List.{All}
 use Rattle.cstn_net.specs.Read.{the_network}
 use Rattle.cstn_lift.specs.Read.{the_labelled}
-use Rattle.cstn_words.specs.Requests.{Request, run, edit, host, files_of}
+use Rattle.cstn_words.specs.Requests.{Request, files_of}
 use Rattle.cstn_reply.specs.Read.{the_said}
 use Rattle.cstn_reply.specs.Written.{EndsLine}
 use Rattle.cstn_reply.specs.declared.output.Said.{Said as SaidText}
 use Rattle.cstn_documents.specs.Files.{AreContents, AreThere}
 use Rattle.cstn_documents.specs.Opened.{AreNamesOf}
 use Rattle.cstn_top.specs.Plans.{Plan, says, ComesTo}
-use Rattle.cstn_top.specs.Answers.{checked, listed, tightened, blamed, unfolded, by_text, replayed, certified, tree_checked}
-use Rattle.cstn_top.specs.Running.{carried_out}
-use Rattle.cstn_top.specs.Editing.{edited}
-use Rattle.cstn_top.specs.Hosting.{attended}
-use Rattle.cstn_top.specs.Outputs.{saved, drilled, plan_at}
+use Rattle.cstn_top.specs.commands.Check.{checked}
+use Rattle.cstn_top.specs.commands.Closed.{listed}
+use Rattle.cstn_top.specs.commands.Tight.{tightened}
+use Rattle.cstn_top.specs.commands.Conflict.{blamed}
+use Rattle.cstn_top.specs.commands.Tree.{unfolded}
+use Rattle.cstn_top.specs.Answers.{by_text}
+use Rattle.cstn_top.specs.commands.Replay.{replayed}
+use Rattle.cstn_top.specs.commands.Closedcheck.{certified}
+use Rattle.cstn_top.specs.commands.Treecheck.{tree_checked}
+use Rattle.cstn_top.specs.commands.Run.{carried_out}
+use Rattle.cstn_top.specs.commands.Edit.{edited}
+use Rattle.cstn_top.specs.commands.Host.{attended}
+use Rattle.cstn_top.specs.commands.Save.{saved}
+use Rattle.cstn_top.specs.commands.Drill.{drilled}
+use Rattle.cstn_top.specs.Command.{Kind, a_text, a_run, an_edit, a_host}
+use Rattle.cstn_top.specs.Dispatch.{command_of, plan_at}
 use Rattle.cstn_top.specs.Prepared.{Planned, TellsRefused}
 use Rattle.cstn_top.specs.Begun.{the_named, IsSound}
 use Rattle.cstn_top.specs.declared.commands.Prepared.{Prepared}
-use Rattle.cstn_top.specs.declared.commands.Prepared.TheVariants.{Says, Runs, Edits, Hosts}
+use Rattle.cstn_top.specs.declared.commands.Prepared.TheVariants.{Says}
 use Rattle.cstn_top.specs.declared.commands.questions.Question.{Question}
 use Rattle.cstn_top.specs.declared.commands.questions.Question.TheVariants.{Check, Closed, Tight, Conflict, Tree, Edit, Run, Save, Replay, Closedcheck, Treecheck, Drill, Host}
 
@@ -71,28 +82,20 @@ IsSoundQuestion (Treecheck d text) = IsSound d × (length text.items ≤ 1476395
 IsSoundQuestion (Drill number) = Unit {0}
 IsSoundQuestion (Host documents cap) = All IsSound documents.items × (1 ≤ length documents.items) × (length documents.items ≤ 8) × (1 ≤ cap) × (cap ≤ 65536)
 
--- how a request is answered: by a text, or by a session
-pub data Kind : Type 0 where
-  a_text : Kind
-  a_run : Kind
-  an_edit : Kind
-  a_host : Kind
-
 abbrev pub kind_of : Question → Kind
-kind_of (Run d cap) = a_run
+kind_of (Check d cap) = a_text
+kind_of (Closed d cap) = a_text
+kind_of (Tight d cap) = a_text
+kind_of (Conflict d cap) = a_text
+kind_of (Tree d cap) = a_text
 kind_of (Edit d cap) = an_edit
+kind_of (Run d cap) = a_run
+kind_of (Save d) = a_text
+kind_of (Replay d text) = a_text
+kind_of (Closedcheck d text) = a_text
+kind_of (Treecheck d text) = a_text
+kind_of (Drill number) = a_text
 kind_of (Host documents cap) = a_host
-kind_of question = a_text
 
 abbrev pub kind_at : Request → Kind
-kind_at (run asked cap) = a_run
-kind_at (edit asked cap) = an_edit
-kind_at (host files deadline cap) = a_host
-kind_at request = a_text
-
--- a session is prepared only where it is asked for, and its opening is whole lines
-abbrev pub FitsKind : Kind → Prepared → Type 0
-FitsKind kind (Says said) = Unit {0}
-FitsKind kind (Runs opening session) = EndsLine opening.items × (kind ≡ a_run)
-FitsKind kind (Edits session) = kind ≡ an_edit
-FitsKind kind (Hosts opening session) = EndsLine opening.items × (kind ≡ a_host)
+kind_at request = (command_of request).kind

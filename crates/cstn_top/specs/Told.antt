@@ -8,12 +8,12 @@ use Rattle.cstn_reply.specs.Texts.{line}
 use Rattle.cstn_documents.specs.Files.{AreContents}
 use Rattle.cstn_reply.specs.Written.{LiveState}
 use Rattle.cstn_top.specs.Plans.{Ends, Untouched}
+use Rattle.cstn_top.specs.Command.{Command}
+use Rattle.cstn_top.specs.Dispatch.{command_of, plan_of}
+use Rattle.cstn_top.specs.Meanings.{HoldsOf, ReadsLive, IsStopped}
+use Rattle.cstn_top.specs.Evidence.{WroteEvidence}
 use Rattle.cstn_reply.specs.declared.status.Status.{Status}
 use Rattle.cstn_reply.specs.declared.status.Status.TheVariants.{Good, Bad, Full, Unfinished, Wide}
-use Rattle.cstn_top.specs.Outputs.{plan_of}
-use Rattle.cstn_top.specs.Meanings.{HoldsOf, ReadsLive, IsGood, IsBad, IsFull, IsWide, IsComplete, IsStopped}
-use Rattle.cstn_top.specs.Evidence.{WroteEvidence}
-use Rattle.cstn_top.specs.Lines.{IsLeastRun, IsCarriedOut, IsLeftUnfinished, IsEnded}
 
 -- what is seen of a live source, by the bytes that it has left and its count of faults
 abbrev pub view : {S : Type 0} → (S → Option (List ℕ)) → (S → ℕ) → S → LiveState
@@ -35,30 +35,30 @@ Reads words files = TellsOf words files ReadsLive
 abbrev pub WroteMemory : {K : Type 0} → (K → Option (List ℕ)) → K → K → Type 0
 WroteMemory written old new = written new ≡ with_bytes (written old) (line (codes "memory"))
 
--- What is told of a request whose files have these contents. The live source was seen as `before`, and what was written goes
+-- What is told of a command whose files have these contents. The live source was seen as `before`, and what was written goes
 -- from `old` to `new`.
-pub record IsToldOf (before : LiveState) (old new : Option (List ℕ)) (status : Status) (contents : List (List ℕ)) (request : Request) : Type 0 where
+pub record IsToldOf (before : LiveState) (old new : Option (List ℕ)) (status : Status) (contents : List (List ℕ)) (command : Command) : Type 0 where
   -- Good: the network has a strategy, or what was handed in or asked for is right
-  pub good : status ≡ Good → IsGood before.left request contents
+  pub good : status ≡ Good → command.good before.left contents
   -- Bad: the network has no strategy, or what was handed in is wrong
-  pub bad : status ≡ Bad → IsBad before.left request contents
+  pub bad : status ≡ Bad → command.bad before.left contents
   -- Full: a log has more entries than the cap
-  pub full : status ≡ Full → IsFull before.left request contents
+  pub full : status ≡ Full → command.full before.left contents
   -- Wide: more than 10 propositions are observed
-  pub wide : status ≡ Wide → IsWide request contents
+  pub wide : status ≡ Wide → command.wide contents
   -- a network whose log isn't too long is decided, and a text is accepted or not; there is no third case but a document or a
   -- text that isn't of its grammar
-  pub complete : IsStopped status ⊎ IsComplete status request contents
+  pub complete : IsStopped status ⊎ command.complete status contents
   -- what was written as evidence is accepted when it is handed in again
-  pub evidence : IsStopped status ⊎ WroteEvidence old new status request contents
+  pub evidence : IsStopped status ⊎ WroteEvidence old new status command contents
   -- after yes, each answer of a run is of least moments
-  pub least : IsLeastRun request contents
+  pub least : command.lines.least contents
   -- a run that ends with Good is carried through to its end, and meets each constraint that is in force
-  pub carried_out : status ≡ Good → IsCarriedOut before.left old new request contents
+  pub carried_out : status ≡ Good → command.lines.carried_out before.left old new contents
   -- a run that ends with Unfinished tells the due moment
-  pub unfinished : status ≡ Unfinished → IsLeftUnfinished before.left old new request contents
+  pub unfinished : status ≡ Unfinished → command.lines.unfinished before.left old new contents
   -- a run and an edit session end by the network and by the lines of the live source
-  pub ended : IsStopped status ⊎ IsEnded status before.left old new request contents
+  pub ended : IsStopped status ⊎ command.lines.ended status before.left old new contents
 
 -- what a call with these words wrote, for some contents of the files that they name, and whether it left the live source
 abbrev pub Answers : {S : Type 0} → Option Request → Option (List ℕ → Option (List ℕ)) → (S → LiveState) → S → S → Option (List ℕ) → Option (List ℕ) → Status → Type 0
@@ -76,4 +76,4 @@ pub record IsTold {S : Type 0} (words : Option Request) (files : Option (List �
   -- the live source is as it was, unless the plan comes to a session
   pub untouched : Untouched (plan_of words contents) source now
   -- where the words are a request, what is told of it
-  pub request : IfSome words (IsToldOf (seen source) old new status contents)
+  pub request : IfSome words (λ request. IsToldOf (seen source) old new status contents (command_of request))

@@ -4,7 +4,8 @@ ghost use Rattle.std.specs.List.{list_all};
 ghost use Rattle.cstn_io.specs.Causes.{Rose};
 ghost use Rattle.cstn_words.specs.Requests.{files_of};
 ghost use Rattle.cstn_words.specs.Read.{the_request, IsCapped};
-ghost use Rattle.cstn_top.specs.Prepared.{the_plan, Planned, FitsRequest, TellsRefused};
+ghost use Rattle.cstn_top.specs.Prepared.{the_plan, Planned, FitsKind, TellsRefused};
+ghost use Rattle.cstn_top.specs.Questions.{kind_at};
 
 mod answers;
 mod closed;
@@ -54,7 +55,7 @@ pub(crate) fn prepare<F: Shelf>(
     requires may_ask { IsTrue (list_all (F.may_ask shelf.old) (files_of (the_request request))) }
     requires capped { IsCapped request }
     ensures plan { IfOk result (λ prepared. Planned (the_request request.entry) (F.files shelf.old) (the_plan prepared)) }
-    ensures fits { IfOk result (FitsRequest (the_request request.entry)) }
+    ensures fits { IfOk result (FitsKind (kind_at (the_request request.entry))) }
     ensures refused { IfOk result (TellsRefused (F.files shelf.old) (the_request request.entry)) }
     ensures unnamed_stand { files_of (the_request request.entry) ≡ [] → shelf.new ≡ shelf.old }
     ensures fault { IsErrOf result Refused.ReadFault → Rose (F.faults shelf.old) (F.faults shelf.new) }

@@ -2,7 +2,7 @@
 ghost use Rattle.std.specs.Prelude.{◌≡◌, ◌⊎◌, ◌≤◌, ◌<◌, ℕ, List};
 ghost use Rattle.cstn_lines.specs.Pieces.{lines_of};
 ghost use Rattle.cstn_reply.specs.declared.status.Status.TheVariants.{Good, Bad, Full};
-ghost use Rattle.cstn_top.specs.Lines.{AnswersLeast, run_bounds};
+ghost use Rattle.cstn_top.specs.commands.Run.{AnswersLeast, run_bounds};
 ghost use Rattle.cstn_top.specs.Headline.{Document, network, printed_names, HasStrategy, load, edited, Checked, Ran, Replayed, Edited, Decides, IsEditedVerdict, IsExecutedOver};
 
 /// For every labelled network of a document, `check` ends with Good exactly where a dynamic strategy exists and with Bad exactly

@@ -6,14 +6,12 @@ ghost use Rattle.cstn_lines.specs.Pieces.{is_past};
 ghost use Rattle.cstn_edit.specs.Editing.{Editing, begun_editing, edit_turn, last_checked};
 ghost use Rattle.cstn_reply.specs.Reached.{state_after};
 ghost use Rattle.cstn_top.specs.Accepted.{HasIds, IsAccepted};
-ghost use Rattle.cstn_words.specs.Requests.{Asked, Request, check, run, closed, replay, closedcheck};
 ghost use Rattle.cstn_top.specs.Plans.{Plan, IsOutput};
+ghost use Rattle.cstn_top.specs.Lines.{AreAnswered};
+ghost use Rattle.cstn_top.specs.Dispatch.{command_of, plan_at};
+ghost use Rattle.cstn_words.specs.Requests.{Asked, Request, check, run, closed, replay, closedcheck};
 ghost use Rattle.cstn_reply.specs.Texts.{Said};
 ghost use Rattle.cstn_reply.specs.declared.output.Outcome.TheVariants.{Good, Bad};
-ghost use Rattle.cstn_top.specs.Lines.{AreAnswered};
-ghost use Rattle.cstn_top.specs.Outputs.{plan_at};
-ghost use Rattle.cstn_top.specs.Prepared.{IsRanged};
-ghost use Rattle.cstn_top.specs.Held.{AreHeld};
 ghost use Rattle.cstn_lift.specs.Labelled.{Labelled};
 ghost use Rattle.cstn_lift.specs.Lowered.{lowered};
 ghost use Rattle.cstn_lift.specs.WellFormed.{IsLabelled};
@@ -52,7 +50,7 @@ pub fn least_deadlines_are_lowered()
 /// And it can't be that a request has none, where values of the program can hold what its documents say, and its cap is in range.
 pub fn outputs_are_one()
     ensures one { (plan : Plan) (live : List ℕ) (one other : Said) → IsOutput plan live one → IsOutput plan live other → one ≡ other }
-    ensures some { (request : Request) (contents : List (List ℕ)) (live : List ℕ) → IsRanged request → AreHeld request contents
+    ensures some { (request : Request) (contents : List (List ℕ)) (live : List ℕ) → (command_of request).ranged → (command_of request).held contents
         → ((said : Said) → IsOutput (plan_at request contents) live said → ⊥) → ⊥ }
 {
     documents_have_one_answer();

@@ -5,9 +5,10 @@ ghost use Rattle.std.specs.List.{list_all};
 ghost use Rattle.cstn_words.specs.Read.{request_in, named_files};
 ghost use Rattle.cstn_documents.specs.Files.{AreThere};
 ghost use Rattle.cstn_top.specs.Plans.{Ends, Untouched, MayTalk};
-ghost use Rattle.cstn_reply.specs.declared.status.Status.TheVariants.{Words, Document, ReadFault, WriteFault, Memory};
+ghost use Rattle.cstn_top.specs.Dispatch.{command_of};
 ghost use Rattle.cstn_top.specs.Meanings.{files_read, RefusedIsThere, MayStop};
-ghost use Rattle.cstn_top.specs.Prepared.{the_plan, IsLined, MayWant, IsRanged};
+ghost use Rattle.cstn_top.specs.Prepared.{the_plan, IsLined, MayWant};
+ghost use Rattle.cstn_reply.specs.declared.status.Status.TheVariants.{Words, Document, ReadFault, WriteFault, Memory};
 ghost use Rattle.cstn_top.specs.Told.{view, Failed, TellsOf, Reads, WroteMemory, Answers, IsTold};
 
 use crate::commands::{Prepared, prepare};
@@ -55,7 +56,7 @@ fn respond<F: Shelf, S: Source, K: Sink>(
 ) -> Status
     requires may_ask { IsTrue (list_all (F.may_ask shelf.old) (named_files words.now)) }
     ensures told { Answers (request_in words.now) (F.files shelf.old) (view S.left S.faults) live.old live.new (K.written out.old) (K.written out.new) result }
-    ensures ranged { IfSome (request_in words.now) IsRanged }
+    ensures ranged { IfSome (request_in words.now) (λ request. (command_of request).ranged) }
     ensures there { AreThere (F.files shelf.old) (files_read result (named_files words.now)) }
     ensures refused { result ≡ Document → TellsOf words.now (F.files shelf.old) (RefusedIsThere (F.files shelf.old)) }
     ensures flushed { result ≢ WriteFault → K.flushed out.new ≡ option_map length (K.written out.new) }

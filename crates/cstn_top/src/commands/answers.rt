@@ -1,8 +1,8 @@
 // What is answered to a question. Nothing is read here.
 ghost use Rattle.std.specs.Prelude.{IfOk};
 ghost use Rattle.cstn_top.specs.Plans.{ComesTo};
-ghost use Rattle.cstn_top.specs.Prepared.{the_plan};
-ghost use Rattle.cstn_top.specs.Questions.{the_question, IsSoundQuestion, FitsKind, kind_of};
+ghost use Rattle.cstn_top.specs.Prepared.{the_plan, FitsKind};
+ghost use Rattle.cstn_top.specs.Questions.{the_question, IsSoundQuestion, kind_of};
 
 use super::Prepared;
 use super::closed::closed_text;

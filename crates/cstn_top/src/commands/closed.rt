@@ -6,7 +6,7 @@ ghost use Rattle.cstn_check.specs.Growth.{log_of, load_of, live_bounds};
 ghost use Rattle.cstn_check.specs.declared.verdicts.Verdict.TheVariants.{Yes};
 ghost use Rattle.cstn_closed.specs.Texts.{shown};
 ghost use Rattle.cstn_reply.specs.Read.{the_said};
-ghost use Rattle.cstn_top.specs.Answers.{listed};
+ghost use Rattle.cstn_top.specs.commands.Closed.{listed};
 ghost use Rattle.cstn_top.specs.Plans.{says};
 
 use cstn_check::{Check, Judged, growth_is_bounded, judge, live_bounds_are_in_range};

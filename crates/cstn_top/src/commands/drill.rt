@@ -5,8 +5,7 @@ ghost use Rattle.cstn_net.specs.Read.{the_network};
 ghost use Rattle.cstn_check.specs.Growth.{most_entries};
 ghost use Rattle.cstn_table.specs.Tables.{observed_props};
 ghost use Rattle.cstn_check.specs.Decisions.{verdict};
-ghost use Rattle.cstn_top.specs.Outputs.{drilled};
-ghost use Rattle.cstn_top.specs.Drills.{small, large, is_unrefuted, counts_of, small_line, large_line};
+ghost use Rattle.cstn_top.specs.commands.Drill.{drilled, small, large, is_unrefuted, counts_of, small_line, large_line};
 ghost use Rattle.cstn_reply.specs.Read.{the_said};
 
 use cstn_check::{Check, Verdict};

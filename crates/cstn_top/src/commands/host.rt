@@ -8,10 +8,10 @@ ghost use Rattle.cstn_reply.specs.Texts.{yes_line};
 ghost use Rattle.cstn_exec.specs.Running.{AreShort};
 ghost use Rattle.cstn_host.specs.SessionRead.{the_names, IsHostSession};
 ghost use Rattle.cstn_top.specs.Begun.{the_named, IsSound, IsBegin};
-ghost use Rattle.cstn_top.specs.Hosting.{attended};
+ghost use Rattle.cstn_top.specs.commands.Host.{attended};
 ghost use Rattle.cstn_top.specs.Plans.{ComesTo};
-ghost use Rattle.cstn_top.specs.Prepared.{the_plan};
-ghost use Rattle.cstn_top.specs.Questions.{FitsKind, a_host};
+ghost use Rattle.cstn_top.specs.Prepared.{the_plan, FitsKind};
+ghost use Rattle.cstn_top.specs.Command.{a_host};
 
 use super::Prepared;
 use cstn_check::{Judged, judge, yes_line};

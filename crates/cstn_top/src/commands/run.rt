@@ -8,9 +8,9 @@ ghost use Rattle.cstn_check.specs.Decisions.{verdict};
 ghost use Rattle.cstn_check.specs.Growth.{load_of};
 ghost use Rattle.cstn_check.specs.declared.verdicts.Verdict.TheVariants.{Yes};
 ghost use Rattle.cstn_top.specs.Plans.{ComesTo};
-ghost use Rattle.cstn_top.specs.Prepared.{the_plan};
-ghost use Rattle.cstn_top.specs.Questions.{FitsKind, a_run};
-ghost use Rattle.cstn_top.specs.Running.{carried_out};
+ghost use Rattle.cstn_top.specs.Prepared.{the_plan, FitsKind};
+ghost use Rattle.cstn_top.specs.Command.{a_run};
+ghost use Rattle.cstn_top.specs.commands.Run.{carried_out};
 
 use super::Prepared;
 use cstn_check::{Check, Judged, judge, yes_line};

@@ -4,7 +4,7 @@ ghost use Rattle.cstn_net.specs.Networks.{count};
 ghost use Rattle.cstn_net.specs.Read.{the_network};
 ghost use Rattle.cstn_lift.specs.Read.{the_labelled};
 ghost use Rattle.cstn_reply.specs.Read.{the_said};
-ghost use Rattle.cstn_top.specs.Outputs.{saved};
+ghost use Rattle.cstn_top.specs.commands.Save.{saved};
 ghost use Rattle.cstn_top.specs.Plans.{says};
 
 use cstn_lift::Labelled;

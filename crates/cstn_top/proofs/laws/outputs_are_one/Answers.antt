@@ -1,5 +1,7 @@
 use Rattle.cstn_top.proofs.OneOutput.{OneJudgement, one_output}
-use Rattle.cstn_top.proofs.SomeOutput.{TreesMade, some_output}
+use Rattle.cstn_top.proofs.SomeOutput.{TreesMade}
+use Rattle.cstn_top.proofs.Proved.{Laws}
+use Rattle.cstn_top.proofs.Dispatch.{proved}
 use Rattle.cstn_top.proofs.laws.outputs_are_one.Goals as goal
 
 pub returns : goal.returns
@@ -8,7 +10,8 @@ returns c =
     let trees = c.made_trees_are_good.ensures in
     let judgement : OneJudgement = record { fit = answer.fit; labelled = answer.labelled; either = answer.either; unfit = answer.unfit; mislabelled = answer.mislabelled } in
     let made : TreesMade = record { some = c.networks_have_one_tree.ensures.some; good = trees.good; least = trees.least; written = trees.written; back = c.tree_texts_are_read_back.ensures.back } in
+    let laws : Laws = record { made = answer.made; trees = made; steps = c.texts_are_read_back.ensures.ranges; bounds = c.closed_texts_are_read_back.ensures.ranges } in
     record {
       one = one_output judgement c.closed_lists_are_accepted.ensures.one c.networks_have_one_tree.ensures.one;
-      some = some_output answer.made made c.texts_are_read_back.ensures.ranges c.closed_texts_are_read_back.ensures.ranges;
+      some = λ request contents live ranged held. (proved request).some laws contents live ranged held;
     }

@@ -2,9 +2,10 @@ use Rattle.std.proofs.Common.{inr}
 use Rattle.cstn_reply.specs.Written.{LiveState}
 use Rattle.cstn_words.specs.Read.{the_request}
 use Rattle.cstn_top.specs.Prepared.{the_plan}
+use Rattle.cstn_top.specs.Questions.{kind_at}
 use Rattle.cstn_top.specs.Told.{view}
 use Rattle.cstn_top.proofs.Endings.{words_end, fault_end, memory_end, spoken, there_is, refused_is, reads_live, live_is, memory_is, lined}
-use Rattle.cstn_top.proofs.Accepted.{ranged_as}
+use Rattle.cstn_top.proofs.Calls.{ranged_as}
 use Rattle.cstn_top.proofs.top.respond.Goals as goal
 
 pub returns-in_default-clause-told : goal.returns-in_default-clause-told
@@ -23,7 +24,7 @@ returns-in-Err-Memory-clause-told g c =
     memory_end _ (g.F.Shelf.files c.args.shelf.now) c.args.live.now seen _ _ _ c.finish-in-Err-Memory.ensures.written
 
 pub speak-requires : goal.speak-requires
-speak-requires g c = record { lined = lined _ c.in-Ok.prepared c.in-Ok.ensures.fits }
+speak-requires g c = record { lined = lined (kind_at (the_request c.in-Some.request)) c.in-Ok.prepared c.in-Ok.ensures.fits }
 
 pub returns-in-Ok-clause-told : goal.returns-in-Ok-clause-told
 returns-in-Ok-clause-told g c =

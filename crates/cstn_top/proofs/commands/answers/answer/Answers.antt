@@ -5,14 +5,23 @@ use Rattle.cstn_lift.specs.Read.{the_labelled}
 use Rattle.cstn_reply.specs.Read.{the_said}
 use Rattle.cstn_edit.specs.Editing.{edit_turn, edit_ending, the_editing}
 use Rattle.cstn_top.specs.Plans.{says, session, ComesTo}
-use Rattle.cstn_top.specs.Answers.{checked, listed, tightened, blamed, unfolded, by_text, replayed, certified, tree_checked}
-use Rattle.cstn_top.specs.Editing.{edited}
-use Rattle.cstn_top.specs.Outputs.{saved, drilled}
-use Rattle.cstn_top.specs.Prepared.{the_plan}
+use Rattle.cstn_top.specs.commands.Check.{checked}
+use Rattle.cstn_top.specs.commands.Closed.{listed}
+use Rattle.cstn_top.specs.commands.Tight.{tightened}
+use Rattle.cstn_top.specs.commands.Conflict.{blamed}
+use Rattle.cstn_top.specs.commands.Tree.{unfolded}
+use Rattle.cstn_top.specs.Answers.{by_text}
+use Rattle.cstn_top.specs.commands.Replay.{replayed}
+use Rattle.cstn_top.specs.commands.Closedcheck.{certified}
+use Rattle.cstn_top.specs.commands.Treecheck.{tree_checked}
+use Rattle.cstn_top.specs.commands.Edit.{edited}
+use Rattle.cstn_top.specs.commands.Save.{saved}
+use Rattle.cstn_top.specs.commands.Drill.{drilled}
+use Rattle.cstn_top.specs.Prepared.{the_plan, FitsKind}
+use Rattle.cstn_top.specs.Questions.{IsSoundQuestion, the_question, kind_of}
 use Rattle.cstn_replay.specs.Texts.{IsReplayOf}
 use Rattle.cstn_closed.specs.Certificates.{IsCertificateOf}
 use Rattle.cstn_tree.specs.Checked.{tree_checked as checked_text}
-use Rattle.cstn_top.specs.Questions.{IsSoundQuestion, the_question, kind_of, FitsKind}
 use Rattle.cstn_top.specs.declared.commands.Prepared.TheVariants.{Edits}
 use Rattle.cstn_top.specs.declared.commands.questions.Question.{Question}
 use Rattle.cstn_top.proofs.Comes.{comes_same, comes_to_text}

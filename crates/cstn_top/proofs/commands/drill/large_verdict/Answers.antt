@@ -1,4 +1,4 @@
-use Rattle.cstn_top.specs.Drills.{large}
+use Rattle.cstn_top.specs.commands.Drill.{large}
 use Rattle.cstn_top.proofs.Drills.{verdict_is}
 use Rattle.cstn_top.proofs.commands.drill.large_verdict.Goals as goal
 

@@ -1,5 +1,5 @@
 use Rattle.std.proofs.Common.{◌≡◌, ◌+◌}
-use Rattle.cstn_top.specs.Drills.{unrefuted}
+use Rattle.cstn_top.specs.commands.Drill.{unrefuted}
 use Rattle.cstn_top.proofs.commands.drill.small_counts.Given as goal
 
 abbrev pub invariant-loop-i : goal.invariant-loop-i

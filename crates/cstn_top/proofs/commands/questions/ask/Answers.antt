@@ -7,11 +7,20 @@ use Rattle.cstn_words.specs.declared.words.Request.TheVariants.{Check as CheckAs
 use Rattle.cstn_documents.specs.Opened.{IsFile, IsTextOf, IsLongText}
 use Rattle.cstn_documents.specs.declared.reading.Unread.TheVariants.{Told}
 use Rattle.cstn_documents.proofs.Opening.{handed_on}
-use Rattle.cstn_top.specs.Answers.{of_lowered, checked, listed, tightened, blamed, unfolded, by_text, replayed, certified, tree_checked}
-use Rattle.cstn_top.specs.Running.{carried_out}
-use Rattle.cstn_top.specs.Editing.{edited}
-use Rattle.cstn_top.specs.Outputs.{saved}
-use Rattle.cstn_top.specs.Questions.{Asks, TellsInstead, kind_at, a_text, a_run, an_edit, a_host}
+use Rattle.cstn_top.specs.Answers.{of_lowered, by_text}
+use Rattle.cstn_top.specs.commands.Check.{checked}
+use Rattle.cstn_top.specs.commands.Closed.{listed}
+use Rattle.cstn_top.specs.commands.Tight.{tightened}
+use Rattle.cstn_top.specs.commands.Conflict.{blamed}
+use Rattle.cstn_top.specs.commands.Tree.{unfolded}
+use Rattle.cstn_top.specs.commands.Replay.{replayed}
+use Rattle.cstn_top.specs.commands.Closedcheck.{certified}
+use Rattle.cstn_top.specs.commands.Treecheck.{tree_checked}
+use Rattle.cstn_top.specs.commands.Run.{carried_out}
+use Rattle.cstn_top.specs.commands.Edit.{edited}
+use Rattle.cstn_top.specs.commands.Save.{saved}
+use Rattle.cstn_top.specs.Questions.{Asks, TellsInstead, kind_at}
+use Rattle.cstn_top.specs.Command.{a_text, a_run, an_edit, a_host}
 use Rattle.cstn_top.specs.declared.commands.questions.Question.TheVariants.{Check, Closed, Tight, Conflict, Tree, Edit, Run, Save, Replay, Closedcheck, Treecheck, Drill, Host}
 use Rattle.cstn_top.proofs.Opening.{of_check, of_closed, of_tight, of_conflict, of_tree, of_edit, of_run, of_save, of_replay, of_closedcheck, of_treecheck, plain_asked, lowered_asked, labelled_asked, refused_told, plainly_told, lowered_with_text, plain_with_text, refused_before_text, plainly_before_text, long_after_lowered, long_after_plain}
 use Rattle.cstn_top.proofs.Drills.{drill_asked}

@@ -5,11 +5,11 @@ use Rattle.cstn_lift.specs.Lowered.{lowered}
 use Rattle.cstn_lift.specs.Read.{LabelledParts, the_labelled}
 use Rattle.cstn_reply.specs.Read.{the_said}
 use Rattle.cstn_top.specs.Plans.{ComesTo}
+use Rattle.cstn_top.specs.commands.Run.{carried_out}
+use Rattle.cstn_top.specs.Prepared.{the_plan}
 use Rattle.cstn_check.specs.Decisions.{TellsVerdict}
 use Rattle.cstn_check.specs.declared.decisions.Judged.{Judged}
 use Rattle.cstn_check.specs.declared.decisions.Judged.TheVariants.{Yes}
-use Rattle.cstn_top.specs.Running.{carried_out}
-use Rattle.cstn_top.specs.Prepared.{the_plan}
 use Rattle.cstn_top.proofs.Runs.{told_for}
 use Rattle.cstn_top.proofs.commands.run.run_session.Goals as goal
 

@@ -1,0 +1,13 @@
+pub mod Check
+pub mod Run
+pub mod Edit
+pub mod Closed
+pub mod Tight
+pub mod Conflict
+pub mod Tree
+pub mod Save
+pub mod Replay
+pub mod Closedcheck
+pub mod Treecheck
+pub mod Drill
+pub mod Host

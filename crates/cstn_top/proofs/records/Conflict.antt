@@ -1,0 +1,88 @@
+-- What is proved of `conflict`.
+use Rattle.std.proofs.Common.{◌≡◌, ℕ, true, List, refl, sym, subst, []}
+use Rattle.std.specs.Prelude.{get_or, Option}
+use Rattle.cstn_net.specs.Networks.{Network, IsWellFormed}
+use Rattle.cstn_net.specs.Strategies.{IsConsistent}
+use Rattle.cstn_graphml.specs.Document.{document}
+use Rattle.cstn_check.specs.Growth.{load_of}
+use Rattle.cstn_words.specs.Requests.{Asked, conflict}
+use Rattle.cstn_top.specs.commands.Conflict.{IsConflict, blamed, IsConflictText}
+use Rattle.cstn_reply.specs.Texts.{yes_line, full_line}
+use Rattle.cstn_documents.specs.Documents.{parts_of, HasNetwork}
+use Rattle.cstn_top.proofs.EvidenceLemmas.{conflict_well}
+use Rattle.cstn_reply.specs.Statuses.{status_of}
+use Rattle.cstn_reply.specs.declared.output.Outcome.{Outcome}
+use Rattle.cstn_reply.specs.declared.output.Outcome.TheVariants.{Good, Bad, Words, Document, Full, Unfinished, Script, Wide}
+use Rattle.cstn_check.specs.Verdicts.{is_consistent}
+use Rattle.cstn_conflict.specs.Conflicts.{conflict_set, is_conflict_full as is_blame_full}
+use Rattle.cstn_conflict.specs.Texts.{blame_text}
+use Rattle.cstn_top.proofs.Standing.{Stands, StandsFor, conflict_stands}
+use Rattle.cstn_top.proofs.Dispatched.{IsEvidence}
+use Rattle.cstn_top.proofs.Proved.{IsRight, IsProved}
+use Rattle.cstn_top.proofs.Meanings.{Finds, search_says, on_network, none_such, never_talks}
+use Rattle.cstn_top.proofs.Accepted.{network_shown}
+use Rattle.cstn_top.proofs.SomeOutput.{said_some, plain_some}
+
+-- what the outcome of `conflict` tells
+abbrev Blames : ℕ → Network → Outcome → Type 0
+Blames cap net Good = IsConsistent net
+Blames cap net Bad = (IsConsistent net → ⊥) × IsConflict net (conflict_set net)
+Blames cap net Full = is_blame_full cap net ≡ true
+Blames cap net Words = ⊥
+Blames cap net Document = ⊥
+Blames cap net Unfinished = ⊥
+Blames cap net Script = ⊥
+Blames cap net Wide = ⊥
+
+blames : (cap : ℕ) (net : Network) (o : Outcome) → IsWellFormed net → Finds (is_blame_full cap net) net o → Blames cap net o
+blames cap net Good good is = is.0
+blames cap net Bad good is = (is, conflict_well net good is)
+blames cap net Full good is = is
+blames cap net Words good is = is
+blames cap net Document good is = is
+blames cap net Unfinished good is = is
+blames cap net Script good is = is
+blames cap net Wide good is = is
+
+conflict_right : (live : Option (List ℕ)) (asked : Asked) (cap : ℕ) (contents : List (List ℕ)) (o : Outcome) → HasNetwork (get_or contents 0 []) asked.deadline (λ names net. Blames cap net o) → IsRight live o (conflict asked cap) contents
+conflict_right live asked cap contents Good has = has
+conflict_right live asked cap contents Bad has = has
+conflict_right live asked cap contents Full has = has
+conflict_right live asked cap contents Words has = none_such (parts_of (document (get_or contents 0 []) asked.deadline)) has
+conflict_right live asked cap contents Document has = tt
+conflict_right live asked cap contents Unfinished has = tt
+conflict_right live asked cap contents Script has = tt
+conflict_right live asked cap contents Wide has = none_such (parts_of (document (get_or contents 0 []) asked.deadline)) has
+
+conflict_shown : (asked : Asked) (cap : ℕ) (contents : List (List ℕ)) (o : Outcome) (text : List ℕ) → HasNetwork (get_or contents 0 []) asked.deadline (λ names net. Stands o (Unit {0}) (IsConflictText names net text)) → IsEvidence (conflict asked cap) (status_of o) text contents
+conflict_shown asked cap contents Good text has = tt
+conflict_shown asked cap contents Bad text has = has
+conflict_shown asked cap contents Words text has = tt
+conflict_shown asked cap contents Document text has = tt
+conflict_shown asked cap contents Full text has = tt
+conflict_shown asked cap contents Unfinished text has = tt
+conflict_shown asked cap contents Script text has = tt
+conflict_shown asked cap contents Wide text has = tt
+
+pub conflict_proved : (asked : Asked) (cap : ℕ) → IsProved (conflict asked cap)
+conflict_proved asked cap = record {
+  right = λ told contents live said all output.
+      on_network (blamed cap) (get_or contents 0 []) asked.deadline live said (λ o names net. Blames cap net o) (λ o. IsRight told o (conflict asked cap) contents) (λ refused. tt)
+      (λ names net good named is. blames cap net said.outcome good (search_says (is_blame_full cap net) (is_consistent net) net (full_line cap) (yes_line (load_of net)) (blame_text names net (conflict_set net)) live said good refl is)) (conflict_right told asked cap contents) output;
+  complete = λ contents live said output. tt;
+  evidence = λ yes_text no_text contents live said capped output.
+      network_shown (blamed cap) (get_or contents 0 []) asked.deadline live said (λ names net s. StandsFor (λ text. Unit {0}) (IsConflictText names net) s) (λ s. IsEvidence (conflict asked cap) (status_of s.outcome) s.text contents)
+      (λ is. subst (λ (o : Outcome). IsEvidence (conflict asked cap) (status_of o) said.text contents) (sym is) tt)
+      (λ names net is out. conflict_stands yes_text no_text cap names net live said is capped out)
+      (conflict_shown asked cap contents said.outcome said.text) output;
+  talks = λ contents may.
+      never_talks (blamed cap) (get_or contents 0 []) asked.deadline (λ names net may'. may') may;
+  wants = λ contents wants may. absurd wants;
+  refused = λ told question prepared asks comes fits. tt;
+  least = λ contents. tt;
+  ended = λ told old new contents live said all wrote output. tt;
+  carried_out = λ told old new contents ended. tt;
+  unfinished = λ told old new contents ended. tt;
+  some = λ laws contents live ranged held.
+      plain_some laws.made (blamed cap) (get_or contents 0 []) asked.deadline live held (λ names net of. said_some _ live);
+}

@@ -1,9 +1,0 @@
--- What `edit` says of a network.
-use Rattle.std.specs.Prelude.{ℕ, []}
-use Rattle.cstn_top.specs.Answers.{Answer}
-use Rattle.cstn_top.specs.Plans.{session}
-use Rattle.cstn_edit.specs.Editing.{begun_editing, edit_turn, edit_ending}
-
--- what `edit` says of a network: the answers to the edit lines
-abbrev pub edited : ℕ → Answer
-edited cap names net = session edit_turn edit_ending [] (begun_editing cap names net)

@@ -1,0 +1,75 @@
+-- `host [--deadline N] [--cap CAP] FILE ..`: plans of several networks, carried out at once.
+use Rattle.std.specs.Prelude.{◌⊎◌, ◌≤◌, ◌<◌, ℕ, suc, List, [], ◌∷◌, ◌++◌, map, take, get_or, Option}
+use Rattle.std.specs.List.{All}
+use Rattle.cstn_net.specs.Networks.{Network}
+use Rattle.cstn_graphml.specs.Answers.{CanBeHeld}
+use Rattle.cstn_check.specs.Growth.{load_of}
+use Rattle.cstn_check.specs.Decisions.{verdict, IsYes, IsNo}
+use Rattle.cstn_host.specs.Sessions.{begun, host_turn, host_ending}
+use Rattle.cstn_host.specs.Files.{Named, the_file, yes_lines}
+use Rattle.cstn_documents.specs.Files.{AreThere}
+use Rattle.cstn_documents.specs.Documents.{HasNetwork, IsRefused}
+use Rattle.cstn_top.specs.Plans.{Plan, session}
+use Rattle.cstn_top.specs.Answers.{on_document, on_verdict}
+use Rattle.cstn_top.specs.Accepted.{IsNoText}
+use Rattle.cstn_top.specs.Command.{Command, a_host, Nothing}
+
+-- what is said of files with these contents, whose documents are read one after another: the refusal of the first document that
+-- is refused, or `answer` of all networks
+abbrev pub on_documents : (List Named → Plan) → Option ℕ → List Named → List (List ℕ) → Plan
+on_documents answer deadline before [] = answer before
+on_documents answer deadline before (bytes ∷ rest) =
+    on_document (λ names net. on_documents answer deadline (before ++ record { names = names; net = net } ∷ []) rest) bytes deadline
+
+-- what is said of networks that are checked one after another: the first verdict that isn't yes, or `after_yes`
+abbrev pub on_verdicts : ℕ → Plan → List Named → Plan
+on_verdicts cap after_yes [] = after_yes
+on_verdicts cap after_yes (named ∷ rest) = on_verdict cap named.names named.net (on_verdicts cap after_yes rest) (verdict cap named.net)
+
+-- what is said of networks: where each verdict is yes, these lines and then the answers to the host lines
+abbrev pub attended : ℕ → List Named → Plan
+attended cap all = on_verdicts cap (session host_turn host_ending (yes_lines all) (begun (map the_file all))) all
+
+-- what `host` says of files with these contents
+abbrev pub hosted_plan : ℕ → Option ℕ → List (List ℕ) → Plan
+hosted_plan cap deadline contents = on_documents (attended cap) deadline [] contents
+
+-- each document with these contents has a network of which this holds
+abbrev pub EachHas : List (List ℕ) → Option ℕ → (Network → Type 0) → Type 0
+EachHas [] deadline holds = Unit {0}
+EachHas (bytes ∷ rest) deadline holds = HasNetwork bytes deadline (λ names net. holds net) × EachHas rest deadline holds
+
+-- this holds of the network of one document under the names of its time-points, and each network before it has a strategy,
+-- and a log of at most `cap` entries
+abbrev pub FirstHas : List (List ℕ) → Option ℕ → ℕ → (List (List ℕ) → Network → Type 0) → Type 0
+FirstHas [] deadline cap holds = ⊥
+FirstHas (bytes ∷ rest) deadline cap holds =
+    HasNetwork bytes deadline holds ⊎ (HasNetwork bytes deadline (λ names net. IsYes cap net) × FirstHas rest deadline cap holds)
+
+abbrev pub host_command : List (List ℕ) → Option ℕ → ℕ → Command
+host_command files deadline cap = record {
+  plan = λ contents. hosted_plan cap deadline contents;
+  kind = a_host;
+  -- each network has a strategy; or the first of which the verdict isn't yes has none, or its log has more than `cap` entries
+  good = λ live contents. EachHas contents deadline (IsYes cap);
+  bad = λ live contents. FirstHas contents deadline cap (λ names net. IsNo cap net);
+  full = λ live contents. FirstHas contents deadline cap (λ names net. cap < load_of net);
+  wide = λ contents. ⊥;
+  complete = λ status contents. Nothing;
+  good_text = λ text contents. Nothing;
+  bad_text = λ text contents. FirstHas contents deadline cap (λ names net. IsNoText names net text);
+  -- the document of one file is refused, and each file up to that one is there
+  refused = λ told contents. (place : ℕ) × IsRefused (get_or contents place []) deadline × AreThere told (take (suc place) files);
+  lines = record {
+    -- where each network has a strategy
+    reads = λ contents. EachHas contents deadline (IsYes cap);
+    -- where an id is opened
+    wants = λ contents. EachHas contents deadline (IsYes cap);
+    least = λ contents. Nothing;
+    carried_out = λ live old new contents. Nothing;
+    unfinished = λ live old new contents. Nothing;
+    ended = λ status live old new contents. Nothing;
+  };
+  ranged = cap ≤ 4194304;
+  held = λ contents. All (λ bytes. CanBeHeld bytes deadline) contents;
+}
