@@ -5,8 +5,8 @@ use cstn_net::{Builder, Network};
 use cstn_text::{NameKey, Names};
 use std::alloc::Global;
 
-// The sample is sour: s.
-const SOUR: Prop = Prop { index: 44 };
+/// The sample is sour: s.
+pub const SOUR: Prop = Prop { index: 44 };
 
 /// The network of bottling a batch, in minutes from its start, and the names of its time-points.
 pub fn bottling(alloc: Global) -> anyhow::Result<(Network, Names)> {
@@ -32,8 +32,8 @@ pub fn bottling(alloc: Global) -> anyhow::Result<(Network, Names)> {
     Ok((net.close()?, names))
 }
 
-// Adds a time-point and its name, and answers its number.
-fn point(
+/// Adds a time-point and its name, and answers its number.
+pub fn point(
     net: &mut Builder,
     names: &mut Names,
     name: &str,

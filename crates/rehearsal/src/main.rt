@@ -3,12 +3,18 @@
 
 mod bottling;
 mod courses;
+mod heating;
+mod labelled;
 mod plain;
 mod plans;
 mod printing;
 
+use labelled::rehearse_heating;
 use plain::rehearse_bottling;
 
 fn main(rt: HostRuntime) -> anyhow::Result<()> {
-    rehearse_bottling(&rt, rt.alloc())
+    println!(rt; "bottling")?;
+    rehearse_bottling(&rt, rt.alloc())?;
+    println!(rt; "heating")?;
+    rehearse_heating(&rt, rt.alloc())
 }

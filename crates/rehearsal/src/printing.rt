@@ -2,8 +2,12 @@ use cstn_label::{NodeId, Prop};
 use cstn_text::Names;
 use std::io;
 
-/// Prints a moment, and the names of the time-points that are executed then; the number of one that has no name.
+/// Prints a moment, and the names of the time-points that are executed then; the number of one that has no name. Prints nothing
+/// where none are executed.
 pub fn print_named(rt: &impl Print, t: u32, named: &[NodeId], names: &Names) -> io::Result<()> {
+    if named.is_empty() {
+        return Ok(());
+    }
     print!(rt; "{t}")?;
     for x in named {
         match names.as_slice().get(x.index()) {
