@@ -2,6 +2,7 @@
 #![tactic(auto)]
 
 mod edits;
+mod follow;
 mod hosts;
 mod laws;
 mod lines;
@@ -9,6 +10,7 @@ mod live;
 mod places;
 
 pub use edits::{EditLine, NameText, read_edit};
+pub use follow::{FollowLine, read_follow};
 pub use hosts::{HostLine, read_host};
 pub use laws::{
     edit_lines_are_read_back, host_lines_have_one_text, joined_lines_are_the_bytes,
