@@ -1,5 +1,5 @@
 -- What is answered to edit lines.
-use Rattle.std.specs.Prelude.{◌≤◌, ℕ, ℤ, if◌then◌else◌, List, [], ◌∷◌, ◌++◌, length, ◌≡◌, Option, None, Some, codes, decimal, bytes_eq}
+use Rattle.std.specs.Prelude.{◌≤◌, ℕ, ℤ, Bool, false, ◌||◌, if◌then◌else◌, List, [], ◌∷◌, ◌++◌, length, ◌≡◌, Option, None, Some, codes, decimal, bytes_eq}
 use Rattle.cstn_label.specs.Labels.{Label}
 use Rattle.cstn_label.specs.Letters.{letter_of}
 use Rattle.cstn_net.specs.Networks.{Network, count}
@@ -15,6 +15,7 @@ use Rattle.cstn_refute.specs.Texts.{shown}
 use Rattle.cstn_edit.specs.Sessions.{SessionParts, next_id}
 use Rattle.cstn_edit.specs.Edits.{Session, Refusal, EditLimit, NoRoom, NoSuch, ValueRange, NotPlain, NotObserved, begun, add_refusal, remove_refusal, change_refusal, with_added, with_removed, with_changed, outcome_at, with_verdict, the_session}
 use Rattle.cstn_edit.specs.declared.outcomes.Outcome.{Outcome as Answered}
+use Rattle.cstn_lines.specs.LiveLines.{cut_at_space}
 use Rattle.cstn_lines.specs.EditLines.{Edit, added, removed, changed, asked, edit_read}
 use Rattle.cstn_reply.specs.Texts.{line, yes_line, full_line, Said}
 use Rattle.cstn_reply.specs.Sessions.{Turn, more, wrong, on_turn}
@@ -84,6 +85,15 @@ answered e (Some asked) = answered_check e (outcome_at e.cap e.session) (with_ve
 -- the answer to an edit line
 abbrev pub edit_turn : Editing → List ℕ → Turn Editing
 edit_turn e text = answered e (edit_read text)
+
+-- the word before the first space is `add`
+abbrev pub is_adding : Option (List ℕ × List ℕ) → Bool
+is_adding None = false
+is_adding (Some parts) = bytes_eq parts.0 (codes "add")
+
+-- the answer to the line may want memory: only to `add` and to `check`
+abbrev pub edit_wants : List ℕ → Bool
+edit_wants text = bytes_eq text (codes "check") || is_adding (cut_at_space text)
 
 -- how the session ends, by the verdict of its last check
 abbrev pub ending_by : Option Verdict → Outcome

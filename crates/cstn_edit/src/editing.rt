@@ -13,7 +13,7 @@ ghost use Rattle.cstn_edit.specs.Edits.{the_refusal, the_session, add_refusal, r
 ghost use Rattle.cstn_edit.specs.declared.outcomes.Outcome.{Outcome as Answered};
 ghost use Rattle.cstn_reply.specs.Texts.{line};
 ghost use Rattle.cstn_reply.specs.Sessions.{more};
-ghost use Rattle.cstn_edit.specs.Editing.{Editing as State, begun_editing, edit_turn, edit_ending, refused_edit, unknown_name, answered_edit, answered_add, answered_check, ending_by, the_editing};
+ghost use Rattle.cstn_edit.specs.Editing.{Editing as State, begun_editing, edit_turn, edit_wants, edit_ending, refused_edit, unknown_name, answered_edit, answered_add, answered_check, ending_by, the_editing};
 
 use crate::{EditError, Session};
 use cstn_check::Verdict;
@@ -198,7 +198,7 @@ impl Talk for Editing {
 
     ghost room = { λ _. 64 };
 
-    ghost may_stop = { true };
+    ghost may_stop = { edit_wants };
 
     fn room(&self) -> usize {
         ROOM

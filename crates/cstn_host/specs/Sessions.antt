@@ -1,5 +1,5 @@
 -- What is answered to host lines.
-use Rattle.std.specs.Prelude.{ℕ, zero, suc, ◌+◌, nat_lt, if◌then◌else◌, List, [], ◌∷◌, ◌++◌, length, flat_map, replicate, slice_set, slice_index_or, Option, None, Some, codes, decimal}
+use Rattle.std.specs.Prelude.{ℕ, zero, suc, ◌+◌, nat_lt, Bool, true, false, if◌then◌else◌, List, [], ◌∷◌, ◌++◌, length, flat_map, replicate, slice_set, slice_index_or, Option, None, Some, codes, decimal}
 use Rattle.std.specs.Option.{option_map}
 use Rattle.cstn_label.specs.Bounds.{Bound}
 use Rattle.cstn_net.specs.Networks.{Network, count}
@@ -181,6 +181,17 @@ hosted_turn session (Some hosted) = more (said session hosted) (session_after se
 -- the answer to a host line
 abbrev pub host_turn : HostSession → List ℕ → Turn HostSession
 host_turn session text = hosted_turn session (host_read text)
+
+-- the host line opens an id
+abbrev pub is_opening : Option Hosted → Bool
+is_opening None = false
+is_opening (Some (opened id file)) = true
+is_opening (Some (put_on id live)) = false
+is_opening (Some (closed id)) = false
+
+-- the answer to the line may want memory: only one that opens an id
+abbrev pub host_wants : List ℕ → Bool
+host_wants text = is_opening (host_read text)
 
 -- the first of two, or the second where there is no first
 abbrev pub or_later : Option (ℕ × ℕ) → Option (ℕ × ℕ) → Option (ℕ × ℕ)

@@ -1,11 +1,11 @@
 // What an open id holds.
-ghost use Rattle.std.specs.Prelude.{◌≡◌, List, IfSome, OnErr};
+ghost use Rattle.std.specs.Prelude.{◌≡◌, false, List, IfSome, OnErr};
 ghost use Rattle.std.specs.Option.{option_map};
 ghost use Rattle.cstn_log.specs.Plans.{PlanParts};
 ghost use Rattle.cstn_exec.specs.Answers.{Moment, See, Names, Kept, answer_to};
 ghost use Rattle.cstn_host.specs.Hosts.{net_at, bounds_at, named_in};
 ghost use Rattle.cstn_host.specs.Calls.{Pass, Told, answer_at, passed, case_after};
-ghost use Rattle.cstn_host.specs.Read.{the_opened, IsOver, answer_of};
+ghost use Rattle.cstn_host.specs.Read.{the_opened, IsOver, answer_of, in_want};
 
 use crate::errors::HostError;
 use cstn_exec::Executive;
@@ -24,6 +24,7 @@ impl Case {
         ensures answer { (plans : List PlanParts) → IsOver plans self.old → answer_of (λ _. Told (Names self.new.executive.named)) result ≡ Told (answer_to (net_at plans self.old.file) (bounds_at plans self.old.file) self.old.executive.run (Moment t)) }
         ensures after { (plans : List PlanParts) → IsOver plans self.old → the_opened self.new ≡ passed plans (the_opened self.old) (Moment t) }
         ensures over { (plans : List PlanParts) → IsOver plans self.old → IsOver plans self.new }
+        ensures memory { in_want result ≡ false }
         ensures same { OnErr result (self.new ≡ self.old) }
     {
         match self.executive.moment(t) {
@@ -37,6 +38,7 @@ impl Case {
         ensures answer { (plans : List PlanParts) → IsOver plans self.old → answer_of (λ _. Told Kept) result ≡ Told (answer_to (net_at plans self.old.file) (bounds_at plans self.old.file) self.old.executive.run (See p.index value)) }
         ensures after { (plans : List PlanParts) → IsOver plans self.old → the_opened self.new ≡ passed plans (the_opened self.old) (See p.index value) }
         ensures over { (plans : List PlanParts) → IsOver plans self.old → IsOver plans self.new }
+        ensures memory { in_want result ≡ false }
         ensures same { OnErr result (self.new ≡ self.old) }
     {
         match self.executive.see(p, value) {
@@ -51,6 +53,7 @@ pub fn pass_moment(case: &mut Option<Case>, id: u32, t: u32) -> Result<(), HostE
     ensures answer { (plans : List PlanParts) → IfSome case.old (IsOver plans) → answer_of (λ _. Told (Names (named_in (option_map the_opened case.new)))) result ≡ answer_at plans id (option_map the_opened case.old) (Pass (Moment t)) }
     ensures after { (plans : List PlanParts) → IfSome case.old (IsOver plans) → option_map the_opened case.new ≡ case_after plans (option_map the_opened case.old) (Pass (Moment t)) }
     ensures over { (plans : List PlanParts) → IfSome case.old (IsOver plans) → IfSome case.new (IsOver plans) }
+    ensures memory { in_want result ≡ false }
     ensures same { OnErr result (case.new ≡ case.old) }
 {
     match case {
@@ -64,6 +67,7 @@ pub fn pass_outcome(case: &mut Option<Case>, id: u32, p: Prop, value: bool) -> R
     ensures answer { (plans : List PlanParts) → IfSome case.old (IsOver plans) → answer_of (λ _. Told Kept) result ≡ answer_at plans id (option_map the_opened case.old) (Pass (See p.index value)) }
     ensures after { (plans : List PlanParts) → IfSome case.old (IsOver plans) → option_map the_opened case.new ≡ case_after plans (option_map the_opened case.old) (Pass (See p.index value)) }
     ensures over { (plans : List PlanParts) → IfSome case.old (IsOver plans) → IfSome case.new (IsOver plans) }
+    ensures memory { in_want result ≡ false }
     ensures same { OnErr result (case.new ≡ case.old) }
 {
     match case {

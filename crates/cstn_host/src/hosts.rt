@@ -1,4 +1,4 @@
-ghost use Rattle.std.specs.Prelude.{◌≡◌, ◌<◌, ◌≤◌, [], length, replicate, None, IfOk, IfErr, OnErr};
+ghost use Rattle.std.specs.Prelude.{◌≡◌, ◌<◌, ◌≤◌, [], false, length, replicate, None, IfOk, IfErr, OnErr};
 ghost use Rattle.cstn_net.specs.Networks.{count};
 ghost use Rattle.cstn_net.specs.Read.{the_network};
 ghost use Rattle.cstn_exec.specs.Runs.{start};
@@ -96,6 +96,7 @@ impl Host {
     /// the first that applies of `IdRange` and `NoSuchPlan`.
     pub fn due(&self, id: u32) -> Result<Option<u32>, HostError>
         ensures answer { answer_of (λ t. Told (DueAt t)) result ≡ answer_on self.now id (Pass AskDue) }
+        ensures memory { in_want result ≡ false }
     {
         let place = place_of(id)?;
         match &self.cases[place] {
@@ -121,6 +122,7 @@ impl Host {
     /// [`Executive::moment`].
     pub fn moment(&mut self, id: u32, t: u32) -> Result<(), HostError>
         ensures answer { answer_of (λ _. Told (Names (named_at self.new id))) result ≡ answer_on self.old id (Pass (Moment t)) }
+        ensures memory { in_want result ≡ false }
         ensures after { self.new ≡ host_after self.old id (Pass (Moment t)) }
         ensures same { OnErr result (self.new ≡ self.old) }
         ensures plans { self.new.plans ≡ self.old.plans }
@@ -133,6 +135,7 @@ impl Host {
     /// `Exec` with the reason of [`Executive::see`].
     pub fn see(&mut self, id: u32, p: Prop, value: bool) -> Result<(), HostError>
         ensures answer { answer_of (λ _. Told Kept) result ≡ answer_on self.old id (Pass (See p.index value)) }
+        ensures memory { in_want result ≡ false }
         ensures after { self.new ≡ host_after self.old id (Pass (See p.index value)) }
         ensures same { OnErr result (self.new ≡ self.old) }
         ensures plans { self.new.plans ≡ self.old.plans }
@@ -144,6 +147,7 @@ impl Host {
     /// Closes an id, and drops its executive. Refused with the first that applies of `IdRange` and `NoSuchPlan`.
     pub fn close(&mut self, id: u32) -> Result<(), HostError>
         ensures answer { answer_of (λ _. Agreed) result ≡ answer_on self.old id Close }
+        ensures memory { in_want result ≡ false }
         ensures after { self.new ≡ host_after self.old id Close }
         ensures same { OnErr result (self.new ≡ self.old) }
         ensures plans { self.new.plans ≡ self.old.plans }

@@ -1,10 +1,10 @@
 // Sessions of a host: host lines are answered under the names of each file.
-ghost use Rattle.std.specs.Prelude.{◌≡◌, ◌≤◌, ◌<◌, [], true, length, vec_capacity, is_none, nat_lt, Some, IfOk, OnOk};
+ghost use Rattle.std.specs.Prelude.{◌≡◌, ◌≤◌, ◌<◌, [], true, length, vec_capacity, is_none, nat_lt, Some, IfOk, OnErr, OnOk};
 ghost use Rattle.cstn_lines.specs.LiveLines.{moment_at, seen, due_now, the_live};
 ghost use Rattle.cstn_lines.specs.HostLines.{opened, put_on, closed};
 ghost use Rattle.cstn_exec.specs.Runs.{due};
 ghost use Rattle.cstn_host.specs.Hosts.{Opened, net_at, bounds_at, case_at};
-ghost use Rattle.cstn_host.specs.Sessions.{begun, case_of, due_in, said, unfinished, session_after, host_turn, host_ending, HostSession as SessionState};
+ghost use Rattle.cstn_host.specs.Sessions.{begun, case_of, due_in, said, unfinished, session_after, host_turn, host_wants, host_ending, HostSession as SessionState};
 ghost use Rattle.cstn_host.specs.SessionRead.{the_files, the_host_session, the_names, IsHostSession};
 
 use crate::Host;
@@ -81,6 +81,7 @@ impl HostSession {
         ensures said { OnOk result (said (the_host_session self.old) (closed id) ≡ text.new.items) }
         ensures after { OnOk result (session_after (the_host_session self.old) (closed id) ≡ the_host_session self.new) }
         ensures capacity { vec_capacity text.old ≤ vec_capacity text.new }
+        ensures memory { OnErr result ⊥ }
     {
         match self.host.close(id) {
             Ok(()) => {
@@ -98,6 +99,7 @@ impl HostSession {
         ensures said { OnOk result (said (the_host_session self.old) (put_on id (the_live line)) ≡ text.new.items) }
         ensures after { OnOk result (session_after (the_host_session self.old) (put_on id (the_live line)) ≡ the_host_session self.new) }
         ensures capacity { vec_capacity text.old ≤ vec_capacity text.new }
+        ensures memory { OnErr result ⊥ }
     {
         match line {
             LiveLine::Moment { t } => self.moment(id, t, text),
@@ -113,6 +115,7 @@ impl HostSession {
         ensures said { OnOk result (said (the_host_session self.old) (put_on id (moment_at t)) ≡ text.new.items) }
         ensures after { OnOk result (session_after (the_host_session self.old) (put_on id (moment_at t)) ≡ the_host_session self.new) }
         ensures capacity { vec_capacity text.old ≤ vec_capacity text.new }
+        ensures memory { OnErr result ⊥ }
     {
         if let Err(error) = self.host.moment(id, t) {
             return put_error(text, id, error);
@@ -156,6 +159,7 @@ impl HostSession {
         ensures said { OnOk result (said (the_host_session self.old) (put_on id (seen prop.index value)) ≡ text.new.items) }
         ensures after { OnOk result (session_after (the_host_session self.old) (put_on id (seen prop.index value)) ≡ the_host_session self.new) }
         ensures capacity { vec_capacity text.old ≤ vec_capacity text.new }
+        ensures memory { OnErr result ⊥ }
     {
         match self.host.see(id, prop, value) {
             Ok(()) => {
@@ -173,6 +177,7 @@ impl HostSession {
         requires room { ROOM ≤ vec_capacity text.old }
         ensures said { OnOk result (said (the_host_session self.now) (put_on id due_now) ≡ text.new.items) }
         ensures capacity { vec_capacity text.old ≤ vec_capacity text.new }
+        ensures memory { OnErr result ⊥ }
     {
         match self.host.due(id) {
             Ok(Some(t)) => {
@@ -225,7 +230,7 @@ impl Talk for HostSession {
 
     ghost room = { λ _. 200000 };
 
-    ghost may_stop = { true };
+    ghost may_stop = { host_wants };
 
     fn room(&self) -> usize {
         ROOM

@@ -1,5 +1,5 @@
 // Lines of an id, and why a host line is refused.
-ghost use Rattle.std.specs.Prelude.{◌≡◌, ◌≤◌, ◌+◌, ◌++◌, ◌∷◌, [], false, length, vec_capacity, codes, decimal, OnOk};
+ghost use Rattle.std.specs.Prelude.{◌≡◌, ◌≤◌, ◌+◌, ◌++◌, ◌∷◌, [], true, false, length, vec_capacity, codes, decimal, OnOk, OnErr};
 ghost use Rattle.cstn_reply.specs.Texts.{line};
 ghost use Rattle.cstn_host.specs.Read.{the_denial, is_memory};
 ghost use Rattle.cstn_host.specs.SessionRead.{error_text};
@@ -29,6 +29,7 @@ pub(crate) fn put_error(text: &mut Vec<u8>, id: u32, error: HostError) -> Result
     requires room { 200 ≤ vec_capacity text.old }
     ensures items { OnOk result (text.new.items ≡ error_text id (the_denial error)) }
     ensures wanted { OnOk result (is_memory error ≡ false) }
+    ensures memory { OnErr result (is_memory error ≡ true) }
     ensures capacity { vec_capacity text.old ≤ vec_capacity text.new }
 {
     match error {

@@ -1,6 +1,6 @@
 -- How a session ends: what was written before, and the last text.
 use Rattle.std.proofs.Common.{◌≡◌, ℕ, ◌+◌, min, List, [], ◌∷◌, ◌++◌, length, take, refl, ap, sym, ◌∙◌, subst, arith, append_assoc, inl, inr, suc}
-use Rattle.std.specs.Prelude.{true, Option, None, Some, codes}
+use Rattle.std.specs.Prelude.{◌⊎◌, true, Option, None, Some, codes}
 use Rattle.std.proofs.lemmas.Grind.{common_steps}
 use Rattle.std.proofs.lemmas.List.{take_min, take-append-le}
 use Rattle.cstn_io.specs.Contents.{with_bytes, IsAtEnd}
@@ -8,11 +8,13 @@ use Rattle.cstn_lines.specs.Pieces.{lines_of}
 use Rattle.cstn_lines.specs.Steps.{LinesState}
 use Rattle.cstn_reply.specs.Texts.{Said, after_text, line}
 use Rattle.cstn_reply.specs.Written.{LiveState, IsText, is_output, is_memory, IsWritten, Ends}
-use Rattle.cstn_reply.specs.Sessions.{Turn, play, session_says, session_heard, Progress}
+use Rattle.cstn_reply.specs.Sessions.{Turn, play, session_says}
+use Rattle.cstn_reply.specs.Reached.{session_heard, Progress}
 use Rattle.cstn_reply.specs.declared.status.Status.{Status}
 use Rattle.cstn_reply.specs.declared.status.Status.TheVariants.{WriteFault, Memory}
 use Rattle.cstn_reply.proofs.Contents.{given, all_given, given_end, no_taken}
 use Rattle.cstn_reply.proofs.Sessions.{after_both}
+use Rattle.cstn_reply.proofs.Talking.{played}
 
 with_more : (old mid new : Option (List ℕ)) (xs ys : List ℕ) → mid ≡ with_bytes old xs → new ≡ with_bytes mid ys → new ≡ with_bytes old (xs ++ ys)
 with_more None mid new xs ys is later = rw (later, is) refl
@@ -34,21 +36,21 @@ pub shown : (old new : Option (List ℕ)) (text other : List ℕ) (status result
 shown old new text other status result written same = subst (λ (xs : List ℕ). IsWritten old new xs status result) same written
 
 -- how a session ends where the last text was written, whole or in part, after what was written before
-pub finishes : (output : List ℕ → Said → Type 0) (heard : List ℕ → List ℕ) (before after : LiveState) (old mid new : Option (List ℕ)) (said text : List ℕ) (status result : Status) → IsText output heard before after status (said ++ text) → mid ≡ with_bytes old said → IsWritten mid new text status result → Ends output heard before after old new result
+pub finishes : (output : List ℕ → Said → Type 0) (heard : List ℕ → Option (List ℕ)) (before after : LiveState) (old mid new : Option (List ℕ)) (said text : List ℕ) (status result : Status) → IsText output heard before after status (said ++ text) → mid ≡ with_bytes old said → IsWritten mid new text status result → Ends output heard before after old new result
 finishes output heard before after old mid new said text status result is was (inl (same, wrote)) = (status, said ++ text, is, inl (same, with_more old mid new said text was wrote))
 finishes output heard before after old mid new said text status result is was (inr (fault, (n, wrote))) = (status, said ++ text, is, inr (fault, (length said + n, with_more_cut old mid new said text n was wrote)))
 
 -- how a session ends where memory is refused before anything is written
-pub no_memory : (output : List ℕ → Said → Type 0) (heard : List ℕ → List ℕ) (before after : LiveState) (old new : Option (List ℕ)) (result : Status) → IsWritten old new (line (codes "memory")) Memory result → Ends output heard before after old new result
+pub no_memory : (output : List ℕ → Said → Type 0) (heard : List ℕ → Option (List ℕ)) (before after : LiveState) (old new : Option (List ℕ)) (result : Status) → IsWritten old new (line (codes "memory")) Memory result → Ends output heard before after old new result
 no_memory output heard before after old new result wrote = (Memory, line (codes "memory"), is_memory [] (inl refl), wrote)
 
 -- how a session ends where the sink fails in an answer
-pub cut_short : {S : Type 0} (turn : S → List ℕ → Turn S) (ending : S → Said) (opening : List ℕ) (start : S) (before : LiveState) (now : Option (List ℕ)) (faults : ℕ) (lines : LinesState) (state : S) (taken said : List ℕ) (old new : Option (List ℕ)) (n : ℕ) → Progress turn ending start before.left now lines state taken said → (lines.ended ≡ true → IsAtEnd now) → new ≡ with_bytes old (take n (opening ++ said)) → Ends (session_says turn ending opening start) (session_heard turn opening start) before (record { left = now; faults = faults }) old new WriteFault
+pub cut_short : {S : Type 0} (turn : S → List ℕ → Turn S) (ending : S → Said) (opening : List ℕ) (start : S) (before : LiveState) (now : Option (List ℕ)) (faults : ℕ) (lines : LinesState) (state : S) (taken said : List ℕ) (old new : Option (List ℕ)) (n : ℕ) → Progress turn start before.left now lines state taken said → (lines.ended ≡ true → IsAtEnd now) → new ≡ with_bytes old (take n (opening ++ said)) → Ends (session_says turn ending opening start) (session_heard turn opening start) before (record { left = now; faults = faults }) old new WriteFault
 cut_short turn ending opening start before now faults lines state taken said old new n so_far at_end is =
     let live : List ℕ = taken ++ given now in
     let rest : Said = play turn ending state lines.count (lines_of (lines.kept ++ given now)) in
     let all : Said = after_text opening (play turn ending start 0 (lines_of live)) in
-    let whole : all ≡ after_text (opening ++ said) rest = ap (after_text opening) (so_far.whole (given now) (λ h. given_end now (at_end h))) ∙ after_both opening said rest in
+    let whole : all ≡ after_text (opening ++ said) rest = ap (after_text opening) (played turn ending start before.left now lines state taken said so_far (given now) (λ h. given_end now (at_end h))) ∙ after_both opening said rest in
     let cut : ℕ = min n (length (opening ++ said)) in (
       _,
       all.text,
@@ -78,3 +80,8 @@ regroup_cut old mid new opening said shown text n was wrote is =
     with_more_cut old mid new (opening ++ said) shown n was wrote
     ∙ ap (λ (ys : List ℕ). with_bytes old (take (length (opening ++ said) + n) ((opening ++ said) ++ ys))) is
     ∙ ap (λ (ys : List ℕ). with_bytes old (take (length (opening ++ said) + n) ys)) (append_assoc opening said text)
+
+-- a call that ended with Memory was to end so
+pub was_memory : (status result : Status) → (result ≡ status) ⊎ (result ≡ WriteFault) → result ≡ Memory → Some status ≡ Some Memory
+was_memory status result (inl same) is = ap (λ (s : Status). Some s) (sym same ∙ is)
+was_memory status result (inr fault) is = absurd (let f : ⊥ = cc in f)

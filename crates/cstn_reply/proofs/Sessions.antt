@@ -1,10 +1,11 @@
 -- What a session says to lines, and then to further lines.
 use Rattle.std.proofs.Common.{◌≡◌, ℕ, ◌+◌, List, [], ◌∷◌, ◌++◌, suc, length, refl, ap, sym, ◌∙◌, subst, arith, append_assoc, Bool, true, false}
 use Rattle.std.specs.Prelude.{Option, Some, None}
+use Rattle.std.specs.Option.{option_map}
 use Rattle.cstn_lines.specs.Pieces.{is_past}
 use Rattle.cstn_reply.specs.Texts.{Said, after_text}
 use Rattle.cstn_reply.specs.Sessions.{Turn, more, last, wrong, script, play, answers}
-use Rattle.cstn_reply.specs.Reached.{state_after, ended, LeadsTo, Says}
+use Rattle.cstn_reply.specs.Reached.{state_after, heard, ended, LeadsTo, Says}
 
 -- two texts before what is said
 pub after_both : (xs ys : List ℕ) (said : Said) → after_text xs (after_text ys said) ≡ after_text (xs ++ ys) said
@@ -100,6 +101,16 @@ zero_plus n = omega arith
 pub one_more : (n k : ℕ) → (n + 1) + k ≡ n + suc k
 one_more n k = omega arith
 
+-- the state after further lines
+pub state_split : {S : Type 0} (turn : S → List ℕ → Turn S) (s g : S) (count : ℕ) (lines later : List (List ℕ)) → state_after turn s count lines ≡ Some g → state_after turn s count (lines ++ later) ≡ state_after turn g (count + length lines) later
+state_split turn s g count [] later is =
+    ap (λ n. state_after turn s n later) (plus_none count) ∙ ap (λ x. state_after turn x (count + 0) later) (same_state s g is)
+state_split turn s g count (first ∷ lines) later is =
+    let l = first_leads turn s g count first lines is in
+    state_more turn s count first (lines ++ later) l.short l.text l.next l.answer
+    ∙ state_split turn l.next g (count + 1) lines later l.rest
+    ∙ ap (λ n. state_after turn g n later) (one_more count (length lines))
+
 pub play_split : {S : Type 0} (turn : S → List ℕ → Turn S) (ending : S → Said) (s g : S) (count : ℕ) (lines later : List (List ℕ)) → state_after turn s count lines ≡ Some g → play turn ending s count (lines ++ later) ≡ after_text (answers turn s count lines) (play turn ending g (count + length lines) later)
 play_split turn ending s g count [] later is =
     ap (λ n. play turn ending s n later) (plus_none count) ∙ ap (λ x. play turn ending x (count + 0) later) (same_state s g is)
@@ -130,6 +141,15 @@ ended_split turn led s g count (first ∷ lines) later is =
     ended_more turn s count first (lines ++ later) l.short led l.text l.next l.answer
     ∙ ended_split turn led l.next g (count + 1) lines later l.rest
     ∙ ap (λ n. ended turn led g n later) (one_more count (length lines))
+
+-- the answers to lines that lead to a state
+pub heard_where : {S : Type 0} (turn : S → List ℕ → Turn S) (start g : S) (lines : List (List ℕ)) → state_after turn start 0 lines ≡ Some g → heard turn start lines ≡ Some (answers turn start 0 lines)
+heard_where turn start g lines is = ap (option_map (λ reached. answers turn start 0 lines)) is
+
+-- where a text is told by an option, it is that text
+told : {S : Type 0} (o : Option S) (text said : List ℕ) → option_map (λ g. text) o ≡ Some said → said ≡ text
+told None text said is = absurd (let f : ⊥ = cc in f)
+told (Some g) text said is = sym (same_state text said is)
 
 -- an answer begins with a text
 abbrev pub Begins : {S : Type 0} → Turn S → List ℕ → Type 0
@@ -162,9 +182,10 @@ says_next {S} turn ending start g before next text leads begins = by_turn (turn 
             ∙ after_both (answers turn start 0 before) answer (play turn ending state (n + 1) later)
             ∙ ap (λ xs. after_text (answers turn start 0 before ++ xs) (play turn ending state (n + 1) later)) is,
       );
-      heard = λ later. (
+      before_fault = λ later all heard_is. (
         answers turn state (n + 1) later,
-        heard_from later
+        told (state_after turn start 0 (before ++ next ∷ later)) (answers turn start 0 (before ++ next ∷ later)) all heard_is
+            ∙ heard_from later
             ∙ ap (λ xs. answers turn start 0 before ++ xs) (answers_more turn g n next later short answer state at)
             ∙ sym (append_assoc (answers turn start 0 before) answer (answers turn state (n + 1) later))
             ∙ ap (λ xs. (answers turn start 0 before ++ xs) ++ answers turn state (n + 1) later) is,
@@ -178,9 +199,10 @@ says_next {S} turn ending start g before next text leads begins = by_turn (turn 
             ∙ ap (λ xs. after_text (answers turn start 0 before) (record { outcome = said.outcome; text = xs })) is.1
             ∙ after_both (answers turn start 0 before) text (record { outcome = said.outcome; text = is.0 }),
       );
-      heard = λ later. (
+      before_fault = λ later all heard_is. (
         is.0,
-        heard_from later
+        told (state_after turn start 0 (before ++ next ∷ later)) (answers turn start 0 (before ++ next ∷ later)) all heard_is
+            ∙ heard_from later
             ∙ ap (λ xs. answers turn start 0 before ++ xs) (answers_last turn g n next later short said at ∙ is.1)
             ∙ sym (append_assoc (answers turn start 0 before) text is.0),
       );

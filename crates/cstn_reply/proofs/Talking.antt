@@ -1,6 +1,7 @@
 -- How a session goes on, line by line.
 use Rattle.std.proofs.Common.{◌≡◌, ℕ, ◌+◌, ◌≤◌, List, [], ◌∷◌, ◌++◌, refl, ap, sym, ◌∙◌, subst, arith, append_assoc, inl, inr}
-use Rattle.std.specs.Prelude.{Bool, true, false, Option, codes}
+use Rattle.std.specs.Prelude.{Bool, true, false, length, IsTrue, Option, Some, codes}
+use Rattle.std.specs.Option.{option_map}
 use Rattle.std.proofs.lemmas.Grind.{common_steps}
 use Rattle.cstn_io.specs.Causes.{Rose}
 use Rattle.cstn_io.specs.Contents.{after_bytes, IsAllOf, IsAtEnd}
@@ -9,17 +10,21 @@ use Rattle.cstn_lines.specs.Steps.{LinesState, HandsOut, IsOver, HasWrongLine, I
 use Rattle.cstn_reply.specs.Texts.{Said, after_text, line}
 use Rattle.cstn_reply.specs.Statuses.{status_of}
 use Rattle.cstn_reply.specs.Written.{EndsLine, LiveState, IsText, is_output, is_live_fault, is_memory}
-use Rattle.cstn_reply.specs.Sessions.{Turn, more, last, wrong, script, play, answers, session_says, session_heard, the_turn, Progress}
+use Rattle.cstn_reply.specs.Sessions.{Turn, more, last, wrong, script, play, answers, session_says, the_turn}
+use Rattle.cstn_reply.specs.Reached.{heard, session_heard, MeetsLine, Progress}
 use Rattle.cstn_reply.specs.declared.status.Status.{Status}
 use Rattle.cstn_reply.specs.declared.status.Status.TheVariants.{ReadFault, Memory}
 use Rattle.cstn_reply.specs.declared.output.Outcome.{Outcome}
 use Rattle.cstn_reply.specs.declared.output.Outcome.TheVariants.{Script}
 use Rattle.cstn_reply.specs.declared.session.Answer.{Answer}
-use Rattle.cstn_reply.proofs.Sessions.{after_both, play_more, answers_more, play_last, play_wrong, play_past}
+use Rattle.cstn_reply.proofs.Sessions.{after_both, zero_plus, play_split, answers_split, state_split, answers_more, state_more, play_last, play_wrong, play_past, heard_where}
 use Rattle.cstn_reply.proofs.Contents.{given, all_given, given_end, no_taken, more_taken}
 
-nothing_more : (xs : List ℕ) → xs ++ [] ≡ xs
+pub nothing_more : (xs : List ℕ) → xs ++ [] ≡ xs
 nothing_more xs = grind (arith, common_steps)
+
+no_more : (ls : List (List ℕ)) → ls ++ [] ≡ ls
+no_more ls = grind (arith, common_steps)
 
 join_lines : (xs ys : List ℕ) → EndsLine xs → EndsLine ys → EndsLine (xs ++ ys)
 join_lines xs ys first (inl none) = subst (λ (y : List ℕ). EndsLine (xs ++ y)) (sym none) (subst (λ (y : List ℕ). EndsLine y) (sym (nothing_more xs)) first)
@@ -33,18 +38,50 @@ Turning S = S → List ℕ → Turn S
 pub turned : {S : Type 0} (turn : Turning S) (state next : S) (shown first text : List ℕ) (a b : Answer) → turn state shown ≡ the_turn a next text → shown ≡ first → a ≡ b → turn state first ≡ the_turn b next text
 turned turn state next shown first text a b is same at = ap (turn state) (sym same) ∙ is ∙ ap (λ (x : Answer). the_turn x next text) at
 
+pub not_both : (b : Bool) → b ≡ false → b ≡ true → ⊥
+not_both b low high = let f : ⊥ = cc in f
+
+-- a line may want memory, as an equal line does
+pub asked : (kind : List ℕ → Bool) (shown first : List ℕ) → IsTrue (kind shown) → shown ≡ first → kind first ≡ true
+asked kind shown first is same = sym (ap kind same) ∙ is
+
 -- the progress of a session at its start
-pub starts : {S : Type 0} (turn : Turning S) (ending : S → Said) (start : S) (told : Option (List ℕ)) (lines : LinesState) → lines.kept ≡ [] → lines.count ≡ 0 → Progress turn ending start told told lines start [] []
-starts turn ending start told lines kept count = record {
+pub starts : {S : Type 0} (turn : Turning S) (start : S) (told : Option (List ℕ)) (lines : LinesState) → lines.kept ≡ [] → lines.count ≡ 0 → Progress turn start told told lines start [] []
+starts turn start told lines kept count = record {
+  before = [];
   read = no_taken told;
-  whole = λ rest e. rw (kept, count) refl;
-  heard = λ rest e. rw (kept, count) refl;
+  lines_are = λ rest e. rw kept refl;
+  whole_are = λ rest e. rw kept refl;
+  counts = count;
+  leads = refl;
+  answered = refl;
   lines_end = inl refl;
 }
 
+module _ {S : Type 0} (turn : Turning S) (start : S) (told now : Option (List ℕ)) (lines : LinesState) (state : S) (taken said : List ℕ) (so_far : Progress turn start told now lines state taken said) where
+  -- the number of lines that were answered
+  count_is : 0 + length so_far.before ≡ lines.count
+  count_is = zero_plus (length so_far.before) ∙ sym so_far.counts
+
+  -- what a session says of the lines that were answered and of those to come
+  play_on : (ending : S → Said) (later : List (List ℕ)) → play turn ending start 0 (so_far.before ++ later) ≡ after_text said (play turn ending state lines.count later)
+  play_on ending later =
+      play_split turn ending start state 0 so_far.before later so_far.leads
+      ∙ ap (λ (xs : List ℕ). after_text xs (play turn ending state (0 + length so_far.before) later)) (sym so_far.answered)
+      ∙ ap (λ (n : ℕ). after_text said (play turn ending state n later)) count_is
+
+  -- and what was said is all that is heard so far
+  heard_so_far : heard turn start so_far.before ≡ Some said
+  heard_so_far = heard_where turn start state so_far.before so_far.leads ∙ ap (λ (xs : List ℕ). Some xs) (sym so_far.answered)
+
+-- what a session says of all lines, from the bytes kept on
+pub played : {S : Type 0} (turn : Turning S) (ending : S → Said) (start : S) (told now : Option (List ℕ)) (lines : LinesState) (state : S) (taken said : List ℕ) → Progress turn start told now lines state taken said → (rest : List ℕ) → (lines.ended ≡ true → rest ≡ []) → play turn ending start 0 (lines_of (taken ++ rest)) ≡ after_text said (play turn ending state lines.count (lines_of (lines.kept ++ rest)))
+played turn ending start told now lines state taken said so_far rest end =
+    ap (play turn ending start 0) (so_far.lines_are rest end) ∙ play_on turn start told now lines state taken said so_far ending (lines_of (lines.kept ++ rest))
+
 -- a session of this progress takes these bytes in a step through its lines
-pub record Stepped {S : Type 0} (turn : Turning S) (ending : S → Said) (start : S) (told mid now : Option (List ℕ)) (lines after : LinesState) (state : S) (taken said bytes : List ℕ) : Type 0 where
-  pub so_far : Progress turn ending start told mid lines state taken said
+pub record Stepped {S : Type 0} (turn : Turning S) (start : S) (told mid now : Option (List ℕ)) (lines after : LinesState) (state : S) (taken said bytes : List ℕ) : Type 0 where
+  pub so_far : Progress turn start told mid lines state taken said
   pub reads : mid ≡ after_bytes bytes now
   pub idle : lines.ended ≡ true → bytes ≡ []
   pub stays : lines.ended ≡ true → after.ended ≡ true
@@ -54,34 +91,67 @@ was_going : (a b : Bool) → (a ≡ true → b ≡ true) → b ≡ false → a �
 was_going true b stays going = absurd (let e : b ≡ true = stays refl in cc)
 was_going false b stays going = refl
 
--- what a session says of all lines, from the bytes that this step took on
-goes_on : {S : Type 0} (turn : Turning S) (ending : S → Said) (start : S) (told mid now : Option (List ℕ)) (lines after : LinesState) (state : S) (taken said bytes : List ℕ) → Stepped turn ending start told mid now lines after state taken said bytes → (rest : List ℕ) → (after.ended ≡ true → rest ≡ []) → play turn ending start 0 (lines_of ((taken ++ bytes) ++ rest)) ≡ after_text said (play turn ending state lines.count (lines_of ((lines.kept ++ bytes) ++ rest)))
-goes_on turn ending start told mid now lines after state taken said bytes stepped rest end =
-    let empty : lines.ended ≡ true → bytes ++ rest ≡ [] = λ h. ap (λ m. m ++ rest) (stepped.idle h) ∙ end (stepped.stays h) in
-    rw (append_assoc taken bytes rest, append_assoc lines.kept bytes rest) (stepped.so_far.whole (bytes ++ rest) empty)
+longer : (n : ℕ) (before : List (List ℕ)) (line : List ℕ) → n ≡ length before → n + 1 ≡ length (before ++ line ∷ [])
+longer n before line is = rw is grind (arith, common_steps)
 
--- the progress after one more line and its answer
-pub one_more : {S : Type 0} (turn : Turning S) (ending : S → Said) (start : S) (told mid now : Option (List ℕ)) (lines after : LinesState) (state next : S) (taken said bytes text : List ℕ) (number : ℕ) → Stepped turn ending start told mid now lines after state taken said bytes → HandsOut (lines.kept ++ bytes) lines.count after number → turn state after.line ≡ more text next → EndsLine text → Progress turn ending start told now after next (taken ++ bytes) (said ++ text)
-one_more {S} turn ending start told mid now lines after state next taken said bytes text number stepped out is whole =
-    let short : is_past (lines.count + 1) after.line ≡ false = subst (λ (n : ℕ). is_past n after.line ≡ false) out.is_number out.short in
-    record {
-      read = more_taken told mid now taken bytes stepped.so_far.read stepped.reads;
-      whole = λ rest end.
-          goes_on turn ending start told mid now lines after state taken said bytes stepped rest end
-          ∙ ap (λ (ls : List (List ℕ)). after_text said (play turn ending state lines.count ls)) (out.lines rest end)
-          ∙ ap (after_text said) (play_more turn state lines.count after.line (lines_of (after.kept ++ rest)) short ending text next is)
-          ∙ after_both said text (play turn ending next (lines.count + 1) (lines_of (after.kept ++ rest)))
-          ∙ ap (λ (n : ℕ). after_text (said ++ text) (play turn ending next n (lines_of (after.kept ++ rest)))) (sym out.counts);
-      heard = λ rest going.
-          ap (λ (bs : List ℕ). answers turn start 0 (whole_lines bs)) (append_assoc taken bytes rest)
-          ∙ stepped.so_far.heard (bytes ++ rest) (was_going lines.ended after.ended stepped.stays going)
-          ∙ ap (λ (bs : List ℕ). said ++ answers turn state lines.count (whole_lines bs)) (sym (append_assoc lines.kept bytes rest))
-          ∙ ap (λ (ls : List (List ℕ)). said ++ answers turn state lines.count ls) (out.whole rest going)
-          ∙ ap (λ xs. said ++ xs) (answers_more turn state lines.count after.line (whole_lines (after.kept ++ rest)) short text next is)
-          ∙ sym (append_assoc said text (answers turn next (lines.count + 1) (whole_lines (after.kept ++ rest))))
-          ∙ ap (λ (n : ℕ). (said ++ text) ++ answers turn next n (whole_lines (after.kept ++ rest))) (sym out.counts);
-      lines_end = join_lines said text stepped.so_far.lines_end whole;
-    }
+module _ {S : Type 0} (turn : Turning S) (start : S) (told mid now : Option (List ℕ)) (lines after : LinesState) (state : S) (taken said bytes : List ℕ) (stepped : Stepped turn start told mid now lines after state taken said bytes) where
+  -- the bytes that this step took on as lines
+  lines_on : (rest : List ℕ) → (after.ended ≡ true → rest ≡ []) → lines_of ((taken ++ bytes) ++ rest) ≡ stepped.so_far.before ++ lines_of ((lines.kept ++ bytes) ++ rest)
+  lines_on rest end =
+      let empty : lines.ended ≡ true → bytes ++ rest ≡ [] = λ h. ap (λ m. m ++ rest) (stepped.idle h) ∙ end (stepped.stays h) in
+      rw (append_assoc taken bytes rest, append_assoc lines.kept bytes rest) (stepped.so_far.lines_are (bytes ++ rest) empty)
+
+  whole_on : (rest : List ℕ) → after.ended ≡ false → whole_lines ((taken ++ bytes) ++ rest) ≡ stepped.so_far.before ++ whole_lines ((lines.kept ++ bytes) ++ rest)
+  whole_on rest going =
+      rw (append_assoc taken bytes rest, append_assoc lines.kept bytes rest) (stepped.so_far.whole_are (bytes ++ rest) (was_going lines.ended after.ended stepped.stays going))
+
+  -- what a session says of all lines, from the bytes that this step took on
+  goes_on : (ending : S → Said) (rest : List ℕ) → (after.ended ≡ true → rest ≡ []) → play turn ending start 0 (lines_of ((taken ++ bytes) ++ rest)) ≡ after_text said (play turn ending state lines.count (lines_of ((lines.kept ++ bytes) ++ rest)))
+  goes_on ending rest end = ap (play turn ending start 0) (lines_on rest end) ∙ play_on turn start told mid lines state taken said stepped.so_far ending (lines_of ((lines.kept ++ bytes) ++ rest))
+
+  module _ (number : ℕ) (out : HandsOut (lines.kept ++ bytes) lines.count after number) where
+    -- the line that was handed out is neither too long nor too late
+    short_line : is_past (lines.count + 1) after.line ≡ false
+    short_line = subst (λ (n : ℕ). is_past n after.line ≡ false) out.is_number out.short
+
+    -- the progress after one more line and its answer
+    pub one_more : (text : List ℕ) (next : S) → turn state after.line ≡ more text next → EndsLine text → Progress turn start told now after next (taken ++ bytes) (said ++ text)
+    one_more text next is whole =
+        let short : is_past ((0 + length stepped.so_far.before) + 1) after.line ≡ false = subst (λ (n : ℕ). is_past (n + 1) after.line ≡ false) (sym (count_is turn start told mid lines state taken said stepped.so_far)) short_line in
+        record {
+          before = stepped.so_far.before ++ after.line ∷ [];
+          read = more_taken told mid now taken bytes stepped.so_far.read stepped.reads;
+          lines_are = λ rest end.
+              lines_on rest end ∙ ap (λ (ls : List (List ℕ)). stepped.so_far.before ++ ls) (out.lines rest end)
+              ∙ sym (append_assoc stepped.so_far.before (after.line ∷ []) (lines_of (after.kept ++ rest)));
+          whole_are = λ rest going.
+              whole_on rest going ∙ ap (λ (ls : List (List ℕ)). stepped.so_far.before ++ ls) (out.whole rest going)
+              ∙ sym (append_assoc stepped.so_far.before (after.line ∷ []) (whole_lines (after.kept ++ rest)));
+          counts = out.counts ∙ longer lines.count stepped.so_far.before after.line stepped.so_far.counts;
+          leads = state_split turn start state 0 stepped.so_far.before (after.line ∷ []) stepped.so_far.leads ∙ state_more turn state (0 + length stepped.so_far.before) after.line [] short text next is;
+          answered = sym
+              (answers_split turn start state 0 stepped.so_far.before (after.line ∷ []) stepped.so_far.leads
+              ∙ ap (λ (xs : List ℕ). answers turn start 0 stepped.so_far.before ++ xs) (answers_more turn state (0 + length stepped.so_far.before) after.line [] short text next is ∙ nothing_more text)
+              ∙ ap (λ (xs : List ℕ). xs ++ text) (sym stepped.so_far.answered));
+          lines_end = join_lines said text stepped.so_far.lines_end whole;
+        }
+
+    -- the session came to this line, which is of a kind
+    pub comes_to : (kind : List ℕ → Bool) → kind after.line ≡ true → MeetsLine (heard turn start) kind told
+    comes_to kind is = (
+      (taken ++ bytes) ++ given now,
+      all_given told now (taken ++ bytes) (more_taken told mid now taken bytes stepped.so_far.read stepped.reads),
+      record {
+        before = stepped.so_far.before;
+        next = after.line;
+        later = lines_of (after.kept ++ given now);
+        said = said;
+        lines_are = lines_on (given now) (λ h. given_end now (stepped.at_end h)) ∙ ap (λ (ls : List (List ℕ)). stepped.so_far.before ++ ls) (out.lines (given now) (λ h. given_end now (stepped.at_end h)));
+        answered = heard_so_far turn start told mid lines state taken said stepped.so_far;
+        within = subst (λ (n : ℕ). is_past (n + 1) after.line ≡ false) stepped.so_far.counts short_line;
+        is_kind = is;
+      },
+    )
 
 -- what was said, and a last text after it, are the whole output
 ends_here : {S : Type 0} (turn : Turning S) (ending : S → Said) (opening : List ℕ) (start : S) (before after : LiveState) (live said text : List ℕ) (outcome : Outcome) (status : Status) → IsAllOf before.left live → play turn ending start 0 (lines_of live) ≡ after_text said (record { outcome = outcome; text = text }) → status ≡ status_of outcome → IsText (session_says turn ending opening start) (session_heard turn opening start) before after status ((opening ++ said) ++ text)
@@ -91,18 +161,18 @@ ends_here turn ending opening start before after live said text outcome status a
     subst (λ (s : Status). IsText (session_says turn ending opening start) (session_heard turn opening start) before after s ((opening ++ said) ++ text)) (sym at) (is_output live whole all output)
 
 -- what was said is followed by a last text in the whole output, where that text is what is said of the rest of the bytes
-rest_ends : {S : Type 0} (turn : Turning S) (ending : S → Said) (opening : List ℕ) (start : S) (before : LiveState) (mid now : Option (List ℕ)) (faults : ℕ) (lines after : LinesState) (state : S) (taken said bytes text : List ℕ) (outcome : Outcome) (status : Status) → Stepped turn ending start before.left mid now lines after state taken said bytes → ((after.ended ≡ true → given now ≡ []) → play turn ending state lines.count (lines_of ((lines.kept ++ bytes) ++ given now)) ≡ record { outcome = outcome; text = text }) → status ≡ status_of outcome → IsText (session_says turn ending opening start) (session_heard turn opening start) before (record { left = now; faults = faults }) status ((opening ++ said) ++ text)
+rest_ends : {S : Type 0} (turn : Turning S) (ending : S → Said) (opening : List ℕ) (start : S) (before : LiveState) (mid now : Option (List ℕ)) (faults : ℕ) (lines after : LinesState) (state : S) (taken said bytes text : List ℕ) (outcome : Outcome) (status : Status) → Stepped turn start before.left mid now lines after state taken said bytes → ((after.ended ≡ true → given now ≡ []) → play turn ending state lines.count (lines_of ((lines.kept ++ bytes) ++ given now)) ≡ record { outcome = outcome; text = text }) → status ≡ status_of outcome → IsText (session_says turn ending opening start) (session_heard turn opening start) before (record { left = now; faults = faults }) status ((opening ++ said) ++ text)
 rest_ends turn ending opening start before mid now faults lines after state taken said bytes text outcome status stepped ends at =
     let end : after.ended ≡ true → given now ≡ [] = λ h. given_end now (stepped.at_end h) in
     ends_here turn ending opening start before (record { left = now; faults = faults }) ((taken ++ bytes) ++ given now) said text outcome status
     (all_given before.left now (taken ++ bytes) (more_taken before.left mid now taken bytes stepped.so_far.read stepped.reads))
-    (goes_on turn ending start before.left mid now lines after state taken said bytes stepped (given now) end ∙ ap (after_text said) (ends end))
+    (goes_on turn start before.left mid now lines after state taken said bytes stepped ending (given now) end ∙ ap (after_text said) (ends end))
     at
 
 -- the whole output, where the answer to a line is the last one
-pub last_line : {S : Type 0} (turn : Turning S) (ending : S → Said) (opening : List ℕ) (start : S) (before : LiveState) (mid now : Option (List ℕ)) (faults : ℕ) (lines after : LinesState) (state : S) (taken said bytes text : List ℕ) (number : ℕ) (outcome : Outcome) (status : Status) → Stepped turn ending start before.left mid now lines after state taken said bytes → HandsOut (lines.kept ++ bytes) lines.count after number → turn state after.line ≡ last (record { outcome = outcome; text = text }) → status ≡ status_of outcome → IsText (session_says turn ending opening start) (session_heard turn opening start) before (record { left = now; faults = faults }) status ((opening ++ said) ++ text)
+pub last_line : {S : Type 0} (turn : Turning S) (ending : S → Said) (opening : List ℕ) (start : S) (before : LiveState) (mid now : Option (List ℕ)) (faults : ℕ) (lines after : LinesState) (state : S) (taken said bytes text : List ℕ) (number : ℕ) (outcome : Outcome) (status : Status) → Stepped turn start before.left mid now lines after state taken said bytes → HandsOut (lines.kept ++ bytes) lines.count after number → turn state after.line ≡ last (record { outcome = outcome; text = text }) → status ≡ status_of outcome → IsText (session_says turn ending opening start) (session_heard turn opening start) before (record { left = now; faults = faults }) status ((opening ++ said) ++ text)
 last_line turn ending opening start before mid now faults lines after state taken said bytes text number outcome status stepped out is at =
-    let short : is_past (lines.count + 1) after.line ≡ false = subst (λ (n : ℕ). is_past n after.line ≡ false) out.is_number out.short in
+    let short : is_past (lines.count + 1) after.line ≡ false = short_line turn start before.left mid now lines after state taken said bytes stepped number out in
     rest_ends turn ending opening start before mid now faults lines after state taken said bytes text outcome status stepped
     (λ end. ap (λ (ls : List (List ℕ)). play turn ending state lines.count ls) (out.lines (given now) end)
     ∙ play_last turn state lines.count after.line (lines_of (after.kept ++ given now)) short ending (record { outcome = outcome; text = text }) is)
@@ -112,9 +182,9 @@ scripts : (n m : ℕ) (text : List ℕ) → n ≡ m → text ≡ (script m).text
 scripts n m text same is = rw (same, is) refl
 
 -- the whole output, where a line is of no grammar
-pub wrong_line : {S : Type 0} (turn : Turning S) (ending : S → Said) (opening : List ℕ) (start : S) (before : LiveState) (mid now : Option (List ℕ)) (faults : ℕ) (lines after : LinesState) (state : S) (taken said bytes text : List ℕ) (number : ℕ) (status : Status) → Stepped turn ending start before.left mid now lines after state taken said bytes → HandsOut (lines.kept ++ bytes) lines.count after number → turn state after.line ≡ wrong → text ≡ (script number).text → status ≡ status_of Script → IsText (session_says turn ending opening start) (session_heard turn opening start) before (record { left = now; faults = faults }) status ((opening ++ said) ++ text)
+pub wrong_line : {S : Type 0} (turn : Turning S) (ending : S → Said) (opening : List ℕ) (start : S) (before : LiveState) (mid now : Option (List ℕ)) (faults : ℕ) (lines after : LinesState) (state : S) (taken said bytes text : List ℕ) (number : ℕ) (status : Status) → Stepped turn start before.left mid now lines after state taken said bytes → HandsOut (lines.kept ++ bytes) lines.count after number → turn state after.line ≡ wrong → text ≡ (script number).text → status ≡ status_of Script → IsText (session_says turn ending opening start) (session_heard turn opening start) before (record { left = now; faults = faults }) status ((opening ++ said) ++ text)
 wrong_line turn ending opening start before mid now faults lines after state taken said bytes text number status stepped out is text_is at =
-    let short : is_past (lines.count + 1) after.line ≡ false = subst (λ (n : ℕ). is_past n after.line ≡ false) out.is_number out.short in
+    let short : is_past (lines.count + 1) after.line ≡ false = short_line turn start before.left mid now lines after state taken said bytes stepped number out in
     rest_ends turn ending opening start before mid now faults lines after state taken said bytes text Script status stepped
     (λ end. ap (λ (ls : List (List ℕ)). play turn ending state lines.count ls) (out.lines (given now) end)
     ∙ play_wrong turn state lines.count after.line (lines_of (after.kept ++ given now)) short ending is
@@ -122,7 +192,7 @@ wrong_line turn ending opening start before mid now faults lines after state tak
     at
 
 -- the whole output, where a line is too long or too late
-pub past_line : {S : Type 0} (turn : Turning S) (ending : S → Said) (opening : List ℕ) (start : S) (before : LiveState) (mid now : Option (List ℕ)) (faults : ℕ) (lines after : LinesState) (state : S) (taken said bytes text : List ℕ) (number : ℕ) (status : Status) → Stepped turn ending start before.left mid now lines after state taken said bytes → HasWrongLine (lines.kept ++ bytes) lines.count after number → text ≡ (script number).text → status ≡ status_of Script → IsText (session_says turn ending opening start) (session_heard turn opening start) before (record { left = now; faults = faults }) status ((opening ++ said) ++ text)
+pub past_line : {S : Type 0} (turn : Turning S) (ending : S → Said) (opening : List ℕ) (start : S) (before : LiveState) (mid now : Option (List ℕ)) (faults : ℕ) (lines after : LinesState) (state : S) (taken said bytes text : List ℕ) (number : ℕ) (status : Status) → Stepped turn start before.left mid now lines after state taken said bytes → HasWrongLine (lines.kept ++ bytes) lines.count after number → text ≡ (script number).text → status ≡ status_of Script → IsText (session_says turn ending opening start) (session_heard turn opening start) before (record { left = now; faults = faults }) status ((opening ++ said) ++ text)
 past_line turn ending opening start before mid now faults lines after state taken said bytes text number status stepped out text_is at =
     let found = out.next (given now) in
     let past : is_past (lines.count + 1) found.0 ≡ true = subst (λ (n : ℕ). is_past n found.0 ≡ true) out.is_number found.3 in
@@ -133,37 +203,40 @@ past_line turn ending opening start before mid now faults lines after state take
     at
 
 -- the whole output, where no line is left
-pub no_line : {S : Type 0} (turn : Turning S) (ending : S → Said) (opening : List ℕ) (start : S) (before : LiveState) (mid now : Option (List ℕ)) (faults : ℕ) (lines after : LinesState) (state : S) (taken said bytes text : List ℕ) (outcome : Outcome) (status : Status) → Stepped turn ending start before.left mid now lines after state taken said bytes → IsOver (lines.kept ++ bytes) lines.count after → ending state ≡ record { outcome = outcome; text = text } → status ≡ status_of outcome → IsText (session_says turn ending opening start) (session_heard turn opening start) before (record { left = now; faults = faults }) status ((opening ++ said) ++ text)
+pub no_line : {S : Type 0} (turn : Turning S) (ending : S → Said) (opening : List ℕ) (start : S) (before : LiveState) (mid now : Option (List ℕ)) (faults : ℕ) (lines after : LinesState) (state : S) (taken said bytes text : List ℕ) (outcome : Outcome) (status : Status) → Stepped turn start before.left mid now lines after state taken said bytes → IsOver (lines.kept ++ bytes) lines.count after → ending state ≡ record { outcome = outcome; text = text } → status ≡ status_of outcome → IsText (session_says turn ending opening start) (session_heard turn opening start) before (record { left = now; faults = faults }) status ((opening ++ said) ++ text)
 no_line turn ending opening start before mid now faults lines after state taken said bytes text outcome status stepped out is at =
     rest_ends turn ending opening start before mid now faults lines after state taken said bytes text outcome status stepped
     (λ end. ap (λ (bs : List ℕ). play turn ending state lines.count (lines_of bs)) (ap (λ (xs : List ℕ). xs ++ given now) out.none ∙ end out.ended) ∙ is)
     at
 
 -- what is written where the live source fails
-pub fault_line : {S : Type 0} (turn : Turning S) (ending : S → Said) (opening : List ℕ) (start : S) (before : LiveState) (mid now : Option (List ℕ)) (old faults : ℕ) (lines after : LinesState) (state : S) (taken said bytes text : List ℕ) (status : Status) → Stepped turn ending start before.left mid now lines after state taken said bytes → IsBroken (lines.kept ++ bytes) lines.count after → before.faults ≤ old → Rose old faults → text ≡ line (codes "read fault") → status ≡ ReadFault → IsText (session_says turn ending opening start) (session_heard turn opening start) before (record { left = now; faults = faults }) status ((opening ++ said) ++ text)
+pub fault_line : {S : Type 0} (turn : Turning S) (ending : S → Said) (opening : List ℕ) (start : S) (before : LiveState) (mid now : Option (List ℕ)) (old faults : ℕ) (lines after : LinesState) (state : S) (taken said bytes text : List ℕ) (status : Status) → Stepped turn start before.left mid now lines after state taken said bytes → IsBroken (lines.kept ++ bytes) lines.count after → before.faults ≤ old → Rose old faults → text ≡ line (codes "read fault") → status ≡ ReadFault → IsText (session_says turn ending opening start) (session_heard turn opening start) before (record { left = now; faults = faults }) status ((opening ++ said) ++ text)
 fault_line turn ending opening start before mid now old faults lines after state taken said bytes text status stepped out earlier rose text_is at =
-    let said_is : answers turn start 0 (whole_lines (taken ++ bytes)) ≡ said =
-    stepped.so_far.heard bytes (was_going lines.ended after.ended stepped.stays out.ended)
-    ∙ ap (λ (ls : List (List ℕ)). said ++ answers turn state lines.count ls) out.none
-    ∙ nothing_more said in
-    let text_was : (opening ++ answers turn start 0 (whole_lines (taken ++ bytes))) ++ line (codes "read fault") ≡ (opening ++ said) ++ text =
-    ap (λ (xs : List ℕ). (opening ++ xs) ++ line (codes "read fault")) said_is ∙ ap (λ (xs : List ℕ). (opening ++ said) ++ xs) (sym text_is) in
+    let before_is : whole_lines (taken ++ bytes) ≡ stepped.so_far.before =
+    ap whole_lines (sym (nothing_more (taken ++ bytes)))
+    ∙ whole_on turn start before.left mid now lines after state taken said bytes stepped [] out.ended
+    ∙ ap (λ (bs : List ℕ). stepped.so_far.before ++ whole_lines bs) (nothing_more (lines.kept ++ bytes))
+    ∙ ap (λ (ls : List (List ℕ)). stepped.so_far.before ++ ls) out.none
+    ∙ no_more stepped.so_far.before in
+    let heard_is : session_heard turn opening start (taken ++ bytes) ≡ Some (opening ++ said) =
+    ap (λ (ls : List (List ℕ)). option_map (λ (xs : List ℕ). opening ++ xs) (heard turn start ls)) before_is
+    ∙ ap (option_map (λ (xs : List ℕ). opening ++ xs)) (heard_so_far turn start before.left mid lines state taken said stepped.so_far) in
     let now_seen : LiveState = record { left = now; faults = faults } in
     subst (λ (s : Status). IsText (session_says turn ending opening start) (session_heard turn opening start) before now_seen s ((opening ++ said) ++ text)) (sym at)
-    (subst (λ (x : List ℕ). IsText (session_says turn ending opening start) (session_heard turn opening start) before now_seen ReadFault x) text_was
-    (is_live_fault (taken ++ bytes) (more_taken before.left mid now taken bytes stepped.so_far.read stepped.reads) (later before.faults old faults earlier rose)))
+    (subst (λ (x : List ℕ). IsText (session_says turn ending opening start) (session_heard turn opening start) before now_seen ReadFault ((opening ++ said) ++ x)) (sym text_is)
+    (is_live_fault (taken ++ bytes) (opening ++ said) (more_taken before.left mid now taken bytes stepped.so_far.read stepped.reads) (later before.faults old faults earlier rose) heard_is))
   where
     later : (a b c : ℕ) → a ≤ b → Rose b c → Rose a c
     later a b c h r = omega (arith, r)
 
 -- what is written where memory for an answer is refused
-pub memory_line : {S : Type 0} (turn : Turning S) (ending : S → Said) (opening : List ℕ) (start : S) (before : LiveState) (mid now : Option (List ℕ)) (faults : ℕ) (lines after : LinesState) (state : S) (taken said bytes text : List ℕ) (status : Status) → Stepped turn ending start before.left mid now lines after state taken said bytes → EndsLine opening → text ≡ line (codes "memory") → status ≡ Memory → IsText (session_says turn ending opening start) (session_heard turn opening start) before (record { left = now; faults = faults }) status ((opening ++ said) ++ text)
+pub memory_line : {S : Type 0} (turn : Turning S) (ending : S → Said) (opening : List ℕ) (start : S) (before : LiveState) (mid now : Option (List ℕ)) (faults : ℕ) (lines after : LinesState) (state : S) (taken said bytes text : List ℕ) (status : Status) → Stepped turn start before.left mid now lines after state taken said bytes → EndsLine opening → text ≡ line (codes "memory") → status ≡ Memory → IsText (session_says turn ending opening start) (session_heard turn opening start) before (record { left = now; faults = faults }) status ((opening ++ said) ++ text)
 memory_line turn ending opening start before mid now faults lines after state taken said bytes text status stepped opens text_is at =
     let end : after.ended ≡ true → given now ≡ [] = λ h. given_end now (stepped.at_end h) in
     let live : List ℕ = (taken ++ bytes) ++ given now in
     let rest : Said = play turn ending state lines.count (lines_of ((lines.kept ++ bytes) ++ given now)) in
     let whole : after_text opening (play turn ending start 0 (lines_of live)) ≡ after_text (opening ++ said) rest =
-    ap (after_text opening) (goes_on turn ending start before.left mid now lines after state taken said bytes stepped (given now) end)
+    ap (after_text opening) (goes_on turn start before.left mid now lines after state taken said bytes stepped ending (given now) end)
     ∙ after_both opening said rest in
     let now_seen : LiveState = record { left = now; faults = faults } in
     subst (λ (s : Status). IsText (session_says turn ending opening start) (session_heard turn opening start) before now_seen s ((opening ++ said) ++ text)) (sym at)

@@ -1,7 +1,11 @@
 -- The states that lines lead a session to, and what it says to the next line.
-use Rattle.std.specs.Prelude.{◌≡◌, ℕ, ◌+◌, false, if◌then◌else◌, List, [], ◌∷◌, ◌++◌, length, Option, None, Some}
-use Rattle.cstn_lines.specs.Pieces.{is_past}
+use Rattle.std.specs.Prelude.{◌≡◌, ℕ, ◌+◌, Bool, true, false, if◌then◌else◌, List, [], ◌∷◌, ◌++◌, length, Option, None, Some}
+use Rattle.std.specs.Option.{option_map}
+use Rattle.cstn_io.specs.Contents.{after_bytes, IsAllOf}
+use Rattle.cstn_lines.specs.Pieces.{lines_of, whole_lines, is_past}
+use Rattle.cstn_lines.specs.Steps.{LinesState}
 use Rattle.cstn_reply.specs.Texts.{Said, after_text}
+use Rattle.cstn_reply.specs.Written.{EndsLine}
 use Rattle.cstn_reply.specs.Sessions.{Turn, on_turn, play, answers}
 
 -- The state to which these lines lead from the given state, before which there were `count` lines. There is none where one of
@@ -11,6 +15,42 @@ state_after turn state count [] = Some state
 state_after turn state count (first ∷ lines) =
     if is_past (count + 1) first then None else
     on_turn (turn state first) (λ text next. state_after turn next (count + 1) lines) (λ said. None) None
+
+-- the answers of a session to these lines, where each of them leads on
+abbrev pub heard : {S : Type 0} → (S → List ℕ → Turn S) → S → List (List ℕ) → Option (List ℕ)
+heard turn start lines = option_map (λ reached. answers turn start 0 lines) (state_after turn start 0 lines)
+
+-- what is said by an opening and then a session before a fault of the live source that has given these bytes, where each whole
+-- line of them leads on
+abbrev pub session_heard : {S : Type 0} → (S → List ℕ → Turn S) → List ℕ → S → List ℕ → Option (List ℕ)
+session_heard turn opening start taken = option_map (λ said. opening ++ said) (heard turn start (whole_lines taken))
+
+-- a session whose answers to lines are given by `heard` comes to a line of this kind: each line before it leads on
+pub record ComesToLine (heard : List (List ℕ) → Option (List ℕ)) (kind : List ℕ → Bool) (lines : List (List ℕ)) : Type 0 where
+  pub before : List (List ℕ)
+  pub next : List ℕ
+  pub later : List (List ℕ)
+  pub said : List ℕ
+  pub lines_are : lines ≡ before ++ next ∷ later
+  pub answered : heard before ≡ Some said
+  pub within : is_past (length before + 1) next ≡ false
+  pub is_kind : kind next ≡ true
+
+-- a session over the lines of the live source, which has these bytes, comes to a line of this kind
+abbrev pub MeetsLine : (List (List ℕ) → Option (List ℕ)) → (List ℕ → Bool) → Option (List ℕ) → Type 0
+MeetsLine heard kind told = (live : List ℕ) × IsAllOf told live × ComesToLine heard kind (lines_of live)
+
+-- How far a session has come: the bytes that it took are the lines `before`, each of which was answered and leads on, and then
+-- the bytes kept.
+pub record Progress {S : Type 0} (turn : S → List ℕ → Turn S) (start : S) (told now : Option (List ℕ)) (lines : LinesState) (state : S) (taken said : List ℕ) : Type 0 where
+  pub before : List (List ℕ)
+  pub read : told ≡ after_bytes taken now
+  pub lines_are : (rest : List ℕ) → (lines.ended ≡ true → rest ≡ []) → lines_of (taken ++ rest) ≡ before ++ lines_of (lines.kept ++ rest)
+  pub whole_are : (rest : List ℕ) → lines.ended ≡ false → whole_lines (taken ++ rest) ≡ before ++ whole_lines (lines.kept ++ rest)
+  pub counts : lines.count ≡ length before
+  pub leads : state_after turn start 0 before ≡ Some state
+  pub answered : said ≡ answers turn start 0 before
+  pub lines_end : EndsLine said
 
 -- the state in which a session over these lines ends, where `led` gives the state after a line that has the last answer
 abbrev pub ended : {S : Type 0} → (S → List ℕ → Turn S) → (S → List ℕ → S) → S → ℕ → List (List ℕ) → S
@@ -27,4 +67,4 @@ pub record LeadsTo {S : Type 0} (turn : S → List ℕ → Turn S) (start : S) (
 -- after the answers to the lines before, a session says this text to a line, whatever lines come later
 pub record Says {S : Type 0} (turn : S → List ℕ → Turn S) (ending : S → Said) (start : S) (before : List (List ℕ)) (next : List ℕ) (text : List ℕ) : Type 0 where
   pub whole : (later : List (List ℕ)) → (rest : Said) × (play turn ending start 0 (before ++ next ∷ later) ≡ after_text (answers turn start 0 before ++ text) rest)
-  pub heard : (later : List (List ℕ)) → (rest : List ℕ) × (answers turn start 0 (before ++ next ∷ later) ≡ (answers turn start 0 before ++ text) ++ rest)
+  pub before_fault : (later : List (List ℕ)) (said : List ℕ) → heard turn start (before ++ next ∷ later) ≡ Some said → (rest : List ℕ) × (said ≡ (answers turn start 0 before ++ text) ++ rest)

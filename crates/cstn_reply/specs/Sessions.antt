@@ -1,10 +1,7 @@
 -- Sessions over lines.
-use Rattle.std.specs.Prelude.{◌≡◌, ℕ, ◌+◌, true, false, if◌then◌else◌, List, [], ◌∷◌, ◌++◌, Option, codes, decimal}
-use Rattle.cstn_io.specs.Contents.{after_bytes}
-use Rattle.cstn_lines.specs.Pieces.{lines_of, whole_lines, is_past}
-use Rattle.cstn_lines.specs.Steps.{LinesState}
+use Rattle.std.specs.Prelude.{◌≡◌, ℕ, ◌+◌, if◌then◌else◌, List, [], ◌∷◌, ◌++◌, codes, decimal}
+use Rattle.cstn_lines.specs.Pieces.{lines_of, is_past}
 use Rattle.cstn_reply.specs.Texts.{Said, say, after_text}
-use Rattle.cstn_reply.specs.Written.{EndsLine}
 use Rattle.cstn_reply.specs.declared.output.Outcome.TheVariants.{Script}
 use Rattle.cstn_reply.specs.declared.session.Answer.{Answer}
 use Rattle.cstn_reply.specs.declared.session.Answer.TheVariants.{More, Last, Wrong}
@@ -43,20 +40,8 @@ answers turn state count (first ∷ lines) =
 abbrev pub session_says : {S : Type 0} → (S → List ℕ → Turn S) → (S → Said) → List ℕ → S → List ℕ → Said → Type 0
 session_says turn ending opening state live said = said ≡ after_text opening (play turn ending state 0 (lines_of live))
 
--- what is said by an opening and then a session before a fault of the live source that has given these bytes
-abbrev pub session_heard : {S : Type 0} → (S → List ℕ → Turn S) → List ℕ → S → List ℕ → List ℕ
-session_heard turn opening state taken = opening ++ answers turn state 0 (whole_lines taken)
-
 -- an answer with the state and the text that it leaves
 abbrev pub the_turn : {S : Type 0} → Answer → S → List ℕ → Turn S
 the_turn More state text = more text state
 the_turn (Last outcome) state text = last (record { outcome = outcome; text = text })
 the_turn Wrong state text = wrong
-
--- How far a session has come: the bytes that it took and the answers that it said, after which what it says of the whole is
--- what it says from its state on of the bytes kept and those to come.
-pub record Progress {S : Type 0} (turn : S → List ℕ → Turn S) (ending : S → Said) (start : S) (told now : Option (List ℕ)) (lines : LinesState) (state : S) (taken said : List ℕ) : Type 0 where
-  pub read : told ≡ after_bytes taken now
-  pub whole : (rest : List ℕ) → (lines.ended ≡ true → rest ≡ []) → play turn ending start 0 (lines_of (taken ++ rest)) ≡ after_text said (play turn ending state lines.count (lines_of (lines.kept ++ rest)))
-  pub heard : (rest : List ℕ) → lines.ended ≡ false → answers turn start 0 (whole_lines (taken ++ rest)) ≡ said ++ answers turn state lines.count (whole_lines (lines.kept ++ rest))
-  pub lines_end : EndsLine said

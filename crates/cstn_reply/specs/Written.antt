@@ -1,5 +1,5 @@
 -- What is written for a request, also after a fault.
-use Rattle.std.specs.Prelude.{◌≡◌, ◌⊎◌, ℕ, List, [], ◌++◌, take, Option, codes}
+use Rattle.std.specs.Prelude.{◌≡◌, ◌⊎◌, ℕ, List, [], ◌++◌, take, Option, Some, codes}
 use Rattle.cstn_io.specs.Causes.{Rose}
 use Rattle.cstn_io.specs.Contents.{after_bytes, with_bytes, IsAllOf}
 use Rattle.cstn_reply.specs.Texts.{Said, line}
@@ -27,11 +27,11 @@ pub record AreFirstLines (output : List ℕ → Said → Type 0) (before : LiveS
   pub lines : EndsLine text
 
 -- What is written where each write is accepted: what is said where the live source has these bytes, by `output`, or what comes
--- after a fault. `heard` gives what is said before a fault of the live source that has given these bytes.
-pub data IsText (output : List ℕ → Said → Type 0) (heard : List ℕ → List ℕ) (before after : LiveState) : Status → List ℕ → Type 0 where
+-- after a fault. `heard` gives what is said before a fault of the live source that has given these bytes, if more is read then.
+pub data IsText (output : List ℕ → Said → Type 0) (heard : List ℕ → Option (List ℕ)) (before after : LiveState) : Status → List ℕ → Type 0 where
   is_output : (live : List ℕ) (said : Said) → IsAllOf before.left live → output live said → IsText output heard before after (status_of said.outcome) said.text
   is_file_fault : after ≡ before → IsText output heard before after ReadFault (line (codes "read fault"))
-  is_live_fault : (taken : List ℕ) → before.left ≡ after_bytes taken after.left → Rose before.faults after.faults → IsText output heard before after ReadFault (heard taken ++ line (codes "read fault"))
+  is_live_fault : (taken said : List ℕ) → before.left ≡ after_bytes taken after.left → Rose before.faults after.faults → heard taken ≡ Some said → IsText output heard before after ReadFault (said ++ line (codes "read fault"))
   is_memory : (text : List ℕ) → (text ≡ []) ⊎ AreFirstLines output before text → IsText output heard before after Memory (text ++ line (codes "memory"))
 
 -- The text was written whole with its status, or after a fault of the sink a prefix of it.
@@ -39,6 +39,6 @@ abbrev pub IsWritten : Option (List ℕ) → Option (List ℕ) → List ℕ → 
 IsWritten old new text status result = ((result ≡ status) × (new ≡ with_bytes old text)) ⊎ ((result ≡ WriteFault) × ((n : ℕ) × (new ≡ with_bytes old (take n text))))
 
 -- A call ends with this status: a text of the output was written, whole or in part.
-abbrev pub Ends : (List ℕ → Said → Type 0) → (List ℕ → List ℕ) → LiveState → LiveState → Option (List ℕ) → Option (List ℕ) → Status → Type 0
+abbrev pub Ends : (List ℕ → Said → Type 0) → (List ℕ → Option (List ℕ)) → LiveState → LiveState → Option (List ℕ) → Option (List ℕ) → Status → Type 0
 Ends output heard before after old new result =
     (status : Status) × (text : List ℕ) × IsText output heard before after status text × IsWritten old new text status result

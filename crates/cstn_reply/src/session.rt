@@ -6,7 +6,8 @@ ghost use Rattle.cstn_io.specs.Contents.{after_bytes, with_bytes, IsAtEnd};
 ghost use Rattle.cstn_lines.specs.Steps.{LinesState};
 ghost use Rattle.cstn_reply.specs.Texts.{Said, line};
 ghost use Rattle.cstn_reply.specs.Written.{EndsLine, LiveState, IsText, Ends};
-ghost use Rattle.cstn_reply.specs.Sessions.{Turn, script, session_says, session_heard, the_turn, Progress};
+ghost use Rattle.cstn_reply.specs.Sessions.{Turn, script, session_says, the_turn};
+ghost use Rattle.cstn_reply.specs.Reached.{heard, session_heard, MeetsLine, Progress};
 
 use crate::Status;
 use crate::output::{Outcome, finish, send};
@@ -43,14 +44,14 @@ pub trait Talk: Drop {
     /// How much room an answer wants, in bytes.
     ghost room: { Self → ℕ };
 
-    /// Whether an answer may want memory.
-    ghost may_stop: { Bool };
+    /// Whether the answer to a line may want memory.
+    ghost may_stop: { List ℕ → Bool };
 
     /// How many bytes an answer may have, and what is said where the lines end.
     fn room(&self) -> usize
         ensures { result ≡ room self.now };
 
-    /// Answers a line: its answer stands in `text` then. Fails where memory is refused.
+    /// Answers a line: its answer stands in `text` then. Fails for want of memory alone, and only at a line that may want it.
     fn answer(&mut self, line: &[u8], text: &mut Vec<u8>) -> Result<Answer, AllocError>
         requires empty { text.old.items ≡ [] }
         requires room { room self.old ≤ vec_capacity text.old }
@@ -58,7 +59,7 @@ pub trait Talk: Drop {
         ensures lines { IfOk result (λ answer. answer ≡ Answer.More → EndsLine text.new.items) }
         ensures room { room self.new ≡ room self.old }
         ensures capacity { vec_capacity text.old ≤ vec_capacity text.new }
-        ensures memory { OnErr result (IsTrue may_stop) };
+        ensures memory { OnErr result (IsTrue (may_stop line.now)) };
 
     /// What is said where the lines end stands in `text` then, and the outcome is returned.
     fn ending(&self, text: &mut Vec<u8>) -> Outcome
@@ -104,8 +105,8 @@ fn next<T: Talk, S: Source>(
     requires at_end { lines.old.ended ≡ true → IsAtEnd (S.left live.old) }
     requires room { T.room talk.old ≤ vec_capacity text.old }
     requires script { 40 ≤ vec_capacity text.old }
-    ensures goes_on { IfNone result ((start : T.State) (told : Option (List ℕ)) (taken said : List ℕ) → Progress T.turn T.ending start told (S.left live.old) lines.old (T.state talk.old) taken said → (bytes : List ℕ) × Progress T.turn T.ending start told (S.left live.new) lines.new (T.state talk.new) (taken ++ bytes) (said ++ text.new.items)) }
-    ensures ends { IfSome result (λ status. (start : T.State) (before : LiveState) (taken said opening : List ℕ) → Progress T.turn T.ending start before.left (S.left live.old) lines.old (T.state talk.old) taken said → before.faults ≤ S.faults live.old → EndsLine opening → IsText (session_says T.turn T.ending opening start) (session_heard T.turn opening start) before (record { left = S.left live.new; faults = S.faults live.new }) status ((opening ++ said) ++ text.new.items)) }
+    ensures goes_on { IfNone result ((start : T.State) (told : Option (List ℕ)) (taken said : List ℕ) → Progress T.turn start told (S.left live.old) lines.old (T.state talk.old) taken said → (bytes : List ℕ) × Progress T.turn start told (S.left live.new) lines.new (T.state talk.new) (taken ++ bytes) (said ++ text.new.items)) }
+    ensures ends { IfSome result (λ status. (start : T.State) (before : LiveState) (taken said opening : List ℕ) → Progress T.turn start before.left (S.left live.old) lines.old (T.state talk.old) taken said → before.faults ≤ S.faults live.old → EndsLine opening → IsText (session_says T.turn T.ending opening start) (session_heard T.turn opening start) before (record { left = S.left live.new; faults = S.faults live.new }) status ((opening ++ said) ++ text.new.items)) }
     ensures at_end { lines.new.ended ≡ true → IsAtEnd (S.left live.new) }
     ensures count { IfNone result ((lines.new.count ≡ lines.old.count + 1) × (lines.new.count ≤ 16777216)) }
     ensures room { T.room talk.new ≡ T.room talk.old }
@@ -113,7 +114,7 @@ fn next<T: Talk, S: Source>(
     ensures later { S.faults live.old ≤ S.faults live.new }
     ensures read { result ≡ Some Status.ReadFault → Rose (S.faults live.old) (S.faults live.new) }
     ensures write { result ≢ Some Status.WriteFault }
-    ensures memory { result ≡ Some Status.Memory → IsTrue T.may_stop }
+    ensures memory { result ≡ Some Status.Memory → (start : T.State) (told : Option (List ℕ)) (taken said : List ℕ) → Progress T.turn start told (S.left live.old) lines.old (T.state talk.old) taken said → MeetsLine (heard T.turn start) T.may_stop told }
 {
     text.clear();
     match lines.step(live) {
@@ -155,7 +156,7 @@ pub fn converse<T: Talk, S: Source, K: Sink>(
     ensures flushed { result ≢ Status.WriteFault → K.flushed out.new ≡ option_map length (K.written out.new) }
     ensures read { result ≡ Status.ReadFault → Rose (S.faults live.old) (S.faults live.new) }
     ensures write { result ≡ Status.WriteFault → Rose (K.faults out.old) (K.faults out.new) }
-    ensures memory { result ≡ Status.Memory → IsTrue T.may_stop ⊎ ((K.written out.new ≡ with_bytes (K.written out.old) (line (codes "memory"))) × (live.new ≡ live.old)) }
+    ensures memory { result ≡ Status.Memory → MeetsLine (heard T.turn (T.state talk)) T.may_stop (S.left live.old) ⊎ ((K.written out.new ≡ with_bytes (K.written out.old) (line (codes "memory"))) × (live.new ≡ live.old)) }
     ensures later { (S.faults live.old ≤ S.faults live.new) × (K.faults out.old ≤ K.faults out.new) }
 {
     let Ok(mut lines) = Lines::start(alloc) else {

@@ -12,7 +12,8 @@ ghost use Rattle.cstn_exec.specs.Runs.{start};
 ghost use Rattle.cstn_exec.specs.Moves.{moment_refusal};
 ghost use Rattle.cstn_exec.specs.Guides.{Guided, begun};
 ghost use Rattle.cstn_exec.specs.Sound.{IsPlanned};
-ghost use Rattle.cstn_reply.specs.Sessions.{play, answers};
+ghost use Rattle.cstn_reply.specs.Sessions.{play};
+ghost use Rattle.cstn_reply.specs.Reached.{heard};
 ghost use Rattle.cstn_reply.specs.declared.output.Outcome.TheVariants.{Good, Unfinished};
 ghost use Rattle.cstn_check.specs.Decisions.{verdict};
 ghost use Rattle.cstn_exec.specs.Running.{run_turn, run_ending};
@@ -45,8 +46,8 @@ pub fn good_sessions_are_carried_out()
     ensures unfinished { (names : List (List ℕ)) (m : Labelled) (bounds : List Bound) (lines : List (List ℕ)) → IsPlanned m bounds → (said_to names m bounds lines).outcome ≡ Unfinished → EndsUnfinished names m bounds lines }
 {}
 
-/// Where no time-point has a label, a guided session says what the session of an executive says.
+/// Where no time-point has a label, a guided session says what the session of an executive says, also before a fault.
 pub fn unlabelled_sessions_are_plain()
     ensures whole { (names : List (List ℕ)) (m : Labelled) (bounds : List Bound) (lines : List (List ℕ)) → IsPlanned m bounds → HasNoLabels m → said_to names m bounds lines ≡ play (run_turn names (lowered m) bounds) (run_ending (lowered m) bounds) (start (count m.base)) 0 lines }
-    ensures heard { (names : List (List ℕ)) (m : Labelled) (bounds : List Bound) (lines : List (List ℕ)) → IsPlanned m bounds → HasNoLabels m → answers (guide_turn names m bounds) (begun (count m.base)) 0 lines ≡ answers (run_turn names (lowered m) bounds) (start (count m.base)) 0 lines }
+    ensures heard { (names : List (List ℕ)) (m : Labelled) (bounds : List Bound) (lines : List (List ℕ)) → IsPlanned m bounds → HasNoLabels m → heard (guide_turn names m bounds) (begun (count m.base)) lines ≡ heard (run_turn names (lowered m) bounds) (start (count m.base)) lines }
 {}

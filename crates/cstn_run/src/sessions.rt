@@ -115,7 +115,7 @@ impl Talk for RunSession {
 
     ghost room = { λ _. 200000 };
 
-    ghost may_stop = { false };
+    ghost may_stop = { λ _. false };
 
     fn room(&self) -> usize {
         ROOM

@@ -1,7 +1,11 @@
-use Rattle.std.proofs.Common.{arith, ◌++◌}
+use Rattle.std.proofs.Common.{arith, rules, [], ◌++◌, inl, ap, sym, ◌∙◌}
 use Rattle.cstn_reply.specs.Written.{LiveState}
-use Rattle.cstn_reply.specs.Sessions.{session_says, session_heard}
-use Rattle.cstn_reply.proofs.SessionEnds.{no_memory, cut_opening, cut_short, finishes, regroup, regroup_cut, shown}
+use Rattle.cstn_reply.specs.Sessions.{session_says}
+use Rattle.cstn_reply.specs.Reached.{session_heard}
+use Rattle.cstn_io.specs.Contents.{with_bytes}
+use Rattle.cstn_lines.specs.Steps.{LinesState}
+use Rattle.cstn_reply.proofs.Talking.{nothing_more, not_both, starts}
+use Rattle.cstn_reply.proofs.SessionEnds.{was_memory, no_memory, cut_opening, cut_short, finishes, regroup, regroup_cut, shown}
 use Rattle.cstn_reply.proofs.session.converse.Goals as goal
 
 pub returns-in_default-clause-ends : goal.returns-in_default-clause-ends
@@ -49,3 +53,21 @@ returns-in-Some-clause-ends g c =
     finishes _ _ _ after _ _ _ (c.args.opening.now ++ was.1) _ _ _
     (c.in-Some.ensures.ends (g.T.Talk.state c.args.talk) _ was.0 was.1 c.args.opening.now was.2 c.session.invariant.live c.requires)
     was.3 (shown _ _ _ _ _ _ c.finish-in-Some.ensures.written c.deref-in-Some.ensures.value)
+
+pub returns-in-Some-clause-memory : goal.returns-in-Some-clause-memory
+returns-in-Some-clause-memory g c is =
+    let was = c.session.invariant.progress in
+    inl (c.in-Some.ensures.memory (was_memory _ _ c.finish-in-Some.ensures.status is) (g.T.Talk.state c.args.talk) (g.S.Source.left c.args.live.now) was.0 was.1 was.2)
+
+pub session-init : goal.session-init
+session-init g c =
+    let lines_are = c.in-Ok.ensures in
+    record {
+      progress = ([], [], starts g.T.Talk.turn (g.T.Talk.state c.args.talk) _ _ (ap (λ (s : LinesState). s.kept) lines_are) (ap (λ (s : LinesState). s.count) lines_are), c.in-Ok-send.ensures.whole ∙ ap (with_bytes _) (sym (nothing_more c.args.opening.now)));
+      at_end = λ e. absurd (not_both _ (ap (λ (s : LinesState). s.ended) lines_are) e);
+      room = search rules;
+      script = search rules;
+      count = search rules;
+      live = search rules;
+      out = search rules;
+    }

@@ -1,5 +1,5 @@
 use Rattle.std.proofs.Common.{refl}
-use Rattle.cstn_reply.proofs.Talking.{turned, one_more, last_line, wrong_line, past_line, no_line, fault_line, memory_line}
+use Rattle.cstn_reply.proofs.Talking.{turned, asked, one_more, comes_to, last_line, wrong_line, past_line, no_line, fault_line, memory_line}
 use Rattle.cstn_reply.proofs.session.next.Goals as goal
 
 pub returns-in-Ok-More-clause-goes_on : goal.returns-in-Ok-More-clause-goes_on
@@ -8,9 +8,9 @@ returns-in-Ok-More-clause-goes_on g c start told taken said so_far =
     let bytes = step.steps.0 in
     let turn = turned g.T.Talk.turn (g.T.Talk.state c.args.talk.now) (g.T.Talk.state c.answer.new.self) _ c.step.new.self.line _ _ _ c.in-Ok-More.ensures.turn c.line.ensures c.in-Ok-More.field-0-is in (
       bytes,
-      one_more g.T.Talk.turn g.T.Talk.ending start told _ _ _ _ _ _ taken said bytes _ c.in-Line.number
+      one_more g.T.Talk.turn start told _ _ _ _ _ taken said bytes
           (record { so_far = so_far; reads = step.steps.1; idle = step.steps.2; stays = step.stays; at_end = step.ended c.requires.at_end })
-          step.steps.3 turn (c.in-Ok-More.ensures.lines c.in-Ok-More.field-0-is),
+          c.in-Line.number step.steps.3 _ _ turn (c.in-Ok-More.ensures.lines c.in-Ok-More.field-0-is),
     )
 
 pub returns-in-Ok-Last-clause-ends : goal.returns-in-Ok-Last-clause-ends
@@ -62,3 +62,10 @@ returns-in-Fault-clause-ends g c start before taken said opening so_far earlier 
     fault_line g.T.Talk.turn g.T.Talk.ending opening start before _ _ _ _ _ _ _ taken said bytes _ _
     (record { so_far = so_far; reads = step.steps.1; idle = step.steps.2; stays = step.stays; at_end = step.ended c.requires.at_end })
     step.steps.3 earlier (step.fault refl) c.put-in-Fault.ensures.items refl
+
+pub returns-in-Err-clause-memory : goal.returns-in-Err-clause-memory
+returns-in-Err-clause-memory g c is start told taken said so_far =
+    let step = c.in-Line.ensures in
+    comes_to g.T.Talk.turn start told _ _ _ _ _ taken said step.steps.0
+    (record { so_far = so_far; reads = step.steps.1; idle = step.steps.2; stays = step.stays; at_end = step.ended c.requires.at_end })
+    c.in-Line.number step.steps.3 g.T.Talk.may_stop (asked g.T.Talk.may_stop _ _ c.in-Err.ensures.memory c.line.ensures)
