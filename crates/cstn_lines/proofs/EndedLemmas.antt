@@ -1,8 +1,7 @@
 -- The lines of some bytes, where a last one that lacks its LF is heard as an empty one.
-use Rattle.std.proofs.Common.{◌≡◌, ◌≢◌, ℕ, ◌+◌, ◌<◌, ◌≤◌, List, [], ◌∷◌, ◌++◌, length, take, drop, refl, arith, zero, suc, add-one, sym, ap, subst, ◌∙◌, append-nil, append_assoc, length-append}
+use Rattle.std.proofs.Common.{◌≡◌, ◌≢◌, ℕ, ◌+◌, ◌<◌, ◌≤◌, List, [], ◌∷◌, ◌++◌, length, take, drop, refl, arith, zero, suc, add-one, sym, ap, ◌∙◌, append-nil, length-append}
 use Rattle.std.specs.Prelude.{Bool, true, false, nat_lt, ◌==◌, if◌then◌else◌}
 use Rattle.std.proofs.lemmas.Bool.{ne_eqb, eq-eqb, eqb-true, false≢true}
-use Rattle.std.proofs.lemmas.Grind.{common_steps}
 use Rattle.cstn_listing.specs.Parts.{Parts, begun, parts_at}
 use Rattle.cstn_lines.specs.Pieces.{IsCut, HasNoEnd, unended, with_unended, ended_lines}
 
@@ -10,6 +9,10 @@ use Rattle.cstn_lines.specs.Pieces.{IsCut, HasNoEnd, unended, with_unended, ende
 line_first : (line : List ℕ) (lines : List (List ℕ)) (tail : List ℕ) → with_unended (line ∷ lines) tail ≡ line ∷ with_unended lines tail
 line_first line lines [] = refl
 line_first line lines (b ∷ tail) = refl
+
+pub none_ended : ended_lines [] ≡ []
+unfolding parts_at
+none_ended = refl
 
 -- an LF at the front ends an empty first line, and another byte begins one
 ends_parts : (b : ℕ) (bs : List ℕ) → b ≡ 10 → parts_at 10 (b ∷ bs) ≡ ([] ∷ (parts_at 10 bs).0, (parts_at 10 bs).1)

@@ -273,7 +273,7 @@ followed_only word rest line is =
 
     at : (did saw now await deadline by : Bool) → did ≡ bytes_eq word (codes "did") → saw ≡ bytes_eq word (codes "saw") → now ≡ bytes_eq word (codes "now") → await ≡ bytes_eq word (codes "await") → deadline ≡ bytes_eq word (codes "deadline") → by ≡ bytes_eq word (codes "by")
         → (if did then done_read rest else if saw then came_read rest else if now then option_map now_at (moment_of rest) else if await then awaited_read rest
-          else if deadline then option_map ends_by (number_within 0 1000000 rest) else if by then option_map asks_by (name_read rest) else option_map edits (edited_read (word, rest))) ≡ Some line
+        else if deadline then option_map ends_by (number_within 0 1000000 rest) else if by then option_map asks_by (name_read rest) else option_map edits (edited_read (word, rest))) ≡ Some line
         → IsWritten line (word ++ 32 ∷ rest)
     at true saw now await deadline by a b c d e f said = spelled (codes "did") (sym a) (done_only rest line said)
     at false true now await deadline by a b c d e f said = spelled (codes "saw") (sym b) (came_only rest line said)

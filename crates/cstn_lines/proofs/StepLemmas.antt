@@ -6,10 +6,10 @@ use Rattle.std.proofs.Math.Seq.{take-append-add}
 use Rattle.std.proofs.lemmas.Grind.{common_steps}
 use Rattle.cstn_io.specs.Contents.{after_bytes}
 use Rattle.cstn_lines.specs.Pieces.{lines_of, whole_lines, heard_lines, IsCut, HasNoEnd, is_past, between}
-use Rattle.cstn_lines.specs.Steps.{LinesState, heard_line, HandsOut, HasWrongLine, IsBroken, IsPast, Steps, ReadsOn}
+use Rattle.cstn_lines.specs.Steps.{LinesState, heard_line, HandsOut, IsOver, HasWrongLine, IsBroken, IsPast, Steps, ReadsOn}
 use Rattle.cstn_lines.specs.declared.lines.Next.{Next}
 use Rattle.cstn_lines.proofs.PieceLemmas.{cut_lines, cut_whole, open_whole, last_line, long_line, some_line, take_between, drop_between, between_none}
-use Rattle.cstn_lines.proofs.EndedLemmas.{cut_ended, last_ended, long_ended, some_ended}
+use Rattle.cstn_lines.proofs.EndedLemmas.{none_ended, cut_ended, last_ended, long_ended, some_ended}
 
 not_past : (n : ℕ) (line : List ℕ) → n ≤ 2 ^ 24 → length line ≤ 4096 → is_past n line ≡ false
 not_past n line h k = grind arith
@@ -120,6 +120,14 @@ hand_last kept bytes stop count n after some none short below its had rest count
     short_heard : (ends : Bool) → count < 2 ^ 24 → is_past n (heard_line ends after) ≡ false
     short_heard false few = not_past n after.line (omega arith) (rw its short)
     short_heard true few = rw had (not_past n [] (omega arith) (omega arith))
+
+-- no line is left where no byte is
+pub over : (kept : List ℕ) (count : ℕ) (after : LinesState) → kept ≡ [] → after.kept ≡ [] → after.count ≡ count → after.ended ≡ true → IsOver kept count after
+over kept count after none stays counts ended = record { none = none; lines = λ ends. ap (heard_lines ends) none ∙ none_heard ends; kept = stays; counts = counts; ended = ended }
+  where
+    none_heard : (ends : Bool) → heard_lines ends [] ≡ []
+    none_heard false = refl
+    none_heard true = none_ended
 
 pub no_bytes : (told : Option (List ℕ)) → told ≡ after_bytes [] told
 no_bytes None = refl

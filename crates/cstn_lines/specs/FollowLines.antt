@@ -1,5 +1,5 @@
 -- Lines of a session that follows a plan.
-use Rattle.std.specs.Prelude.{ℕ, ◌≡◌, ◌<◌, ◌≤◌, ◌^◌, ◌++◌, Bool, true, ◌||◌, if◌then◌else◌, List, [], ◌∷◌, length, flat_map, Option, None, Some, IsSomeAnd, codes, bytes_eq}
+use Rattle.std.specs.Prelude.{ℕ, ◌≡◌, ◌<◌, ◌≤◌, ◌^◌, ◌++◌, Bool, true, ◌||◌, if◌then◌else◌, List, [], ◌∷◌, length, flat_map, Option, Some, IsSomeAnd, codes, bytes_eq}
 use Rattle.std.specs.List.{All}
 use Rattle.std.specs.Option.{option_map, option_and_then}
 use Rattle.cstn_label.specs.Letters.{letter_of}

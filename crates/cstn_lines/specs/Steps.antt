@@ -39,6 +39,7 @@ wrong_at number = Wrong number
 -- there is no line left
 pub record IsOver (bytes : List ℕ) (count : ℕ) (after : LinesState) : Type 0 where
   pub none : bytes ≡ []
+  pub lines : (ends : Bool) → heard_lines ends bytes ≡ []
   pub kept : after.kept ≡ []
   pub counts : after.count ≡ count
   pub ended : after.ended ≡ true

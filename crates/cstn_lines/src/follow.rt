@@ -19,37 +19,21 @@ const MAX_DEADLINE: u32 = 1_000_000;
 #[derive(Debug, Drop)]
 pub enum FollowLine {
     /// `did T NAME NAME ..`: a moment in ticks, a number of at most 4,294,967,295, and one printed name or more.
-    Did {
-        t: u32,
-        names: Vec<NameText>,
-    },
+    Did { t: u32, names: Vec<NameText> },
     /// `saw T P true` or `saw T P false`, with T as in `did`, and P an ASCII letter.
-    Saw {
-        t: u32,
-        prop: Prop,
-        value: bool,
-    },
+    Saw { t: u32, prop: Prop, value: bool },
     /// `now T`, with T as in `did`.
-    Now {
-        t: u32,
-    },
+    Now { t: u32 },
     /// `await T P`, with T as in `did`, and P an ASCII letter.
-    Await {
-        t: u32,
-        prop: Prop,
-    },
+    Await { t: u32, prop: Prop },
     /// A line of an edit session: `add FROM TO W LABEL`, `remove ID`, `change ID W` or `check`.
     Edit(EditLine),
     /// `deadline N`, with N in ticks, a number of at most 1,000,000.
-    Deadline {
-        ticks: u32,
-    },
+    Deadline { ticks: u32 },
     /// `next`.
     Next,
     /// `by NAME`, a printed name.
-    By {
-        name: NameText,
-    },
+    By { name: NameText },
     /// `blame`.
     Blame,
     /// `rest`.

@@ -1,6 +1,5 @@
 use Rattle.std.proofs.Common.{rules, List, Some, ℕ, ap, sym, ◌∙◌}
 use Rattle.cstn_lines.specs.FollowLines.{names_read}
-use Rattle.cstn_listing.proofs.PartLemmas.{cut_shorter}
 use Rattle.cstn_lines.proofs.FollowLemmas.{after_names, names_on_read, names_wrong, names_last, names_last_wrong}
 use Rattle.cstn_lines.proofs.follow.read_names.Goals as goal
 
