@@ -7,3 +7,4 @@ pub mod EditLemmas
 pub mod SessionLaws
 pub mod FreshLemmas
 pub mod Edits
+pub mod Wanting

@@ -1,11 +1,12 @@
 -- Which edit lines may want memory.
-use Rattle.std.proofs.Common.{◌≡◌, ℕ, ℤ, Bool, true, false, List, refl, sym, ◌∙◌, subst}
-use Rattle.std.specs.Prelude.{◌||◌, IsSomeAnd, if◌then◌else◌, Option, None, Some, codes, bytes_eq}
+use Rattle.std.proofs.Common.{◌≡◌, ℕ, ℤ, Bool, true, false, List, refl, ap, sym, ◌∙◌, subst}
+use Rattle.std.specs.Prelude.{◌||◌, IsSomeAnd, if◌then◌else◌, Option, None, Some, Result, Ok, Err, OnErr, codes, bytes_eq}
 use Rattle.std.specs.Option.{option_map, option_and_then}
 use Rattle.cstn_label.specs.Labels.{Label}
 use Rattle.cstn_text.specs.Numbers.{value_read}
 use Rattle.cstn_lines.specs.LiveLines.{cut_at_space}
-use Rattle.cstn_lines.specs.EditLines.{Edit, added, removed, changed, asked, id_read, change_read, add_read, edited_read, edit_read, IsAdding}
+use Rattle.cstn_lines.specs.declared.edits.EditLine.{EditLine}
+use Rattle.cstn_lines.specs.EditLines.{the_edit, Edit, added, removed, changed, asked, id_read, change_read, add_read, edited_read, edit_read, IsAdding}
 use Rattle.cstn_edit.specs.Editing.{is_adding, edit_wants}
 
 or_right : (a b : Bool) → b ≡ true → (a || b) ≡ true
@@ -21,7 +22,7 @@ pub adding_wants : (text : List ℕ) → IsAdding text → edit_wants text ≡ t
 adding_wants text is = or_right (bytes_eq text (codes "check")) (is_adding (cut_at_space text)) (adding (cut_at_space text) is)
 
 -- no edit, or one that removes or changes
-Quiet : Option Edit → Type 0
+abbrev pub Quiet : Option Edit → Type 0
 Quiet None = Unit {0}
 Quiet (Some (added from to most a)) = ⊥
 Quiet (Some (removed id)) = Unit {0}
@@ -81,3 +82,11 @@ add_wants text from to most a is = by_wants text (added from to most a) (edit_wa
 -- the line that checks
 pub check_wants : (text : List ℕ) → edit_read text ≡ Some asked → edit_wants text ≡ true
 check_wants text is = by_wants text asked (edit_wants text) refl is (λ never. never)
+
+-- what an edit line says, by what was read of it
+pub said_so : (text : List ℕ) (o : Option EditLine) (e : EditLine) (edit : Edit) → o ≡ Some e → option_map the_edit o ≡ edit_read text → the_edit e ≡ edit → edit_read text ≡ Some edit
+said_so text o e edit at is says = sym is ∙ ap (option_map the_edit) at ∙ ap (λ (x : Edit). Some x) says
+
+pub on_err : {X E : Type 0} (r : Result X E) (P : Type 0) → P → OnErr r P
+on_err (Ok x) P p = tt
+on_err (Err e) P p = p

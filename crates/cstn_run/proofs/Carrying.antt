@@ -19,13 +19,14 @@ use Rattle.cstn_exec.proofs.Timely.{on_time}
 use Rattle.cstn_reply.specs.Texts.{line, Said}
 use Rattle.cstn_reply.specs.Sessions.{Turn, more, last, wrong}
 use Rattle.cstn_reply.specs.declared.output.Outcome.TheVariants.{Good}
-use Rattle.cstn_exec.specs.Running.{moment_line, refused_text, due_text, executing}
+use Rattle.cstn_exec.specs.Running.{moment_line, refused_text, seen_text, due_text, executing}
 use Rattle.cstn_run.specs.Sessions.{named_turn, noted_turn, answer_turn, guide_turn, guide_ending}
 use Rattle.cstn_reply.specs.Reached.{state_after}
-use Rattle.cstn_run.specs.Meanings.{GuidesTo, NamesLeast, IsDueMoment, TellsDue, AcceptsExactly, led_by, led_to}
+use Rattle.cstn_run.specs.Meanings.{GuidesTo, NamesLeast, IsDueMoment, TellsDue, AcceptsExactly, SeesExactly, led_by, led_to}
 use Rattle.cstn_reply.proofs.Sessions.{first_leads, Begins, says_next, same_state}
 use Rattle.cstn_run.proofs.Moments.{after_guided, named_now}
 use Rattle.cstn_run.proofs.Accepting.{accepted_where, refused_where}
+use Rattle.cstn_run.proofs.Outcomes.{seen_accepted, seen_kept, seen_unnamed}
 
 -- what the last answer tells of its line: it hands in a moment that is accepted, and after which all is executed or left out
 pub record LastAt (m : Labelled) (bounds : List Bound) (g : Guided) (o : Option Live) (said : Said) : Type 0 where
@@ -159,6 +160,22 @@ module _ (names : List (List ℕ)) (m : Labelled) (bounds : List Bound) where
           refused = refused_where m bounds plan g right t;
           says = λ why stands. says_next turn ending (begun (count m.base)) g before next (line (refused_text why)) leads
               (refused_begins g next t why at ((refused_where m bounds plan g right t why).1 stands));
+        }
+
+    sees : (g : Guided) (next : List ℕ) (p : ℕ) (value : Bool) (why : Option Refusal) (text : List ℕ) → live_read next ≡ Some (seen p value) → see_refusal m g p ≡ why → Begins (noted_turn g p value why) text → Begins (guide_turn names m bounds g next) text
+    sees g next p value why text at is begins =
+        subst (λ (o : Option Live). Begins (answer_turn names m bounds g o) text) (sym at)
+        (subst (λ (r : Option Refusal). Begins (noted_turn g p value r) text) (sym is) begins)
+
+    pub sees_exactly : (before : List (List ℕ)) (next : List ℕ) (g : Guided) (p : ℕ) (value : Bool) → GuidesTo names m bounds before next g → live_read next ≡ Some (seen p value) → SeesExactly names m bounds before next g p value
+    sees_exactly before next g p value leads at =
+        let net = plan.well_formed.network in
+        record {
+          accepted = seen_accepted m net g p;
+          kept = seen_kept m net g p;
+          unnamed = seen_unnamed m net g p;
+          says = λ ok. says_next turn ending (begun (count m.base)) g before next (line (seen_text p value)) leads (sees g next p value None (line (seen_text p value)) at ok refl);
+          refuses = λ why is. says_next turn ending (begun (count m.base)) g before next (line (refused_text why)) leads (sees g next p value (Some why) (line (refused_text why)) at is refl);
         }
 
     pub tells_due : (before : List (List ℕ)) (next : List ℕ) (g : Guided) → GuidesTo names m bounds before next g → live_read next ≡ Some due_now → TellsDue names m bounds before next g

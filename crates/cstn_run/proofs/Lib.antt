@@ -6,3 +6,4 @@ pub mod Carrying
 pub mod Ending
 pub mod Plain
 pub mod Planned
+pub mod Outcomes

@@ -1,22 +1,22 @@
 -- What the answers of a guided session tell.
-use Rattle.std.specs.Prelude.{◌≡◌, ◌↔◌, ◌≤◌, ◌<◌, ℕ, ◌+◌, true, List, ◌∷◌, ◌++◌, Option, None, Some, codes, decimal}
+use Rattle.std.specs.Prelude.{◌≡◌, ◌↔◌, ◌≤◌, ◌<◌, ℕ, ◌+◌, Bool, true, List, ◌∷◌, ◌++◌, Option, None, Some, codes, decimal}
 use Rattle.std.specs.List.{Contains}
 use Rattle.std.specs.List.Sorted.{IsStrictlyIncreasing}
 use Rattle.cstn_label.specs.Bounds.{Bound}
 use Rattle.cstn_label.specs.Labels.{Scenario}
-use Rattle.cstn_net.specs.Networks.{count}
+use Rattle.cstn_net.specs.Networks.{Observes, count}
 use Rattle.cstn_lift.specs.Labelled.{Labelled}
 use Rattle.cstn_lift.specs.Lowered.{lowered}
 use Rattle.cstn_lift.specs.Strategies.{IsLabelledLeast}
 use Rattle.cstn_lines.specs.LiveLines.{Live, moment_at, seen, due_now, live_read}
-use Rattle.cstn_exec.specs.Runs.{next as next_moment, is_awaited, due as due_moment}
+use Rattle.cstn_exec.specs.Runs.{next as next_moment, outcome_of, is_awaited, due as due_moment}
 use Rattle.cstn_exec.specs.Moves.{Refusal, Done, Past, Late, Awaiting, NotExecuted, Known, moment_refusal}
 use Rattle.cstn_exec.specs.Right.{IsDue, IsDone, IsFirstAwaited}
-use Rattle.cstn_exec.specs.Guides.{Guided, begun, named_at, advanced}
+use Rattle.cstn_exec.specs.Guides.{Guided, begun, named_at, advanced, see_refusal}
 use Rattle.cstn_exec.specs.Sound.{IsNamedAt, AgreesHanded, IsOnTime, IsLed}
 use Rattle.cstn_reply.specs.Texts.{line, Said}
 use Rattle.cstn_reply.specs.Sessions.{play, answers}
-use Rattle.cstn_exec.specs.Running.{moment_line, refused_text, due_text}
+use Rattle.cstn_exec.specs.Running.{moment_line, refused_text, seen_text, due_text}
 use Rattle.cstn_run.specs.Sessions.{guide_turn, guide_ending}
 use Rattle.cstn_reply.specs.Reached.{ended, LeadsTo, Says}
 
@@ -86,6 +86,24 @@ pub record AcceptsExactly (names : List (List ℕ)) (m : Labelled) (bounds : Lis
   pub accepted : moment_refusal (lowered m) bounds g.run t ≡ None ↔ IsAcceptable m g t
   pub refused : (why : Refusal) → moment_refusal (lowered m) bounds g.run t ≡ Some why ↔ IsRefusedFor m g t why
   pub says : (why : Refusal) → IsRefusedFor m g t why → GuideSays names m bounds before next (line (refused_text why))
+
+-- ---- which outcomes are accepted
+
+-- the observer of p was named
+pub record IsObserved (m : Labelled) (g : Guided) (p : ℕ) : Type 0 where
+  pub observer : ℕ
+  pub moment : ℕ
+  pub observes : Observes (lowered m) observer p
+  pub named : named_at g observer ≡ Some moment
+
+-- An outcome of p is accepted exactly where the observer of p was named and no outcome of p is kept; where one is kept, or the
+-- observer was not named, it is refused for that. The answer says which.
+pub record SeesExactly (names : List (List ℕ)) (m : Labelled) (bounds : List Bound) (before : List (List ℕ)) (next : List ℕ) (g : Guided) (p : ℕ) (value : Bool) : Type 0 where
+  pub accepted : see_refusal m g p ≡ None ↔ (IsObserved m g p × (outcome_of g.run p ≡ None))
+  pub kept : (v : Bool) → see_refusal m g p ≡ Some (Known p v) ↔ (IsObserved m g p × (outcome_of g.run p ≡ Some v))
+  pub unnamed : see_refusal m g p ≡ Some (NotExecuted p) ↔ (IsObserved m g p → ⊥)
+  pub says : see_refusal m g p ≡ None → GuideSays names m bounds before next (line (seen_text p value))
+  pub refuses : (why : Refusal) → see_refusal m g p ≡ Some why → GuideSays names m bounds before next (line (refused_text why))
 
 -- ---- whole sessions
 

@@ -1,8 +1,9 @@
-use Rattle.std.proofs.Common.{Some, w32, to_z, of_z}
+use Rattle.std.proofs.Common.{Some, ap, w32, to_z, of_z}
 use Rattle.cstn_label.specs.Read.{marks}
-use Rattle.cstn_lines.specs.EditLines.{added, removed, changed, asked}
+use Rattle.cstn_lines.specs.EditLines.{the_edit, added, removed, changed, asked}
 use Rattle.cstn_edit.specs.Editing.{the_editing}
 use Rattle.cstn_edit.proofs.Edits.{answer_ends}
+use Rattle.cstn_edit.proofs.Wanting.{adding_wants, add_wants, check_wants, said_so, on_err}
 use Rattle.cstn_edit.proofs.editing.EditingTalk.answer.Goals as goal
 
 pub returns-in_ok-add-in-Some-Add-clause-lines : goal.returns-in_ok-add-in-Some-Add-clause-lines
@@ -22,3 +23,12 @@ returns-in-Some-Change-clause-lines c = λ is.
 pub returns-in_ok-check-in-Some-Check-clause-lines : goal.returns-in_ok-check-in-Some-Check-clause-lines
 returns-in_ok-check-in-Some-Check-clause-lines c = λ is.
     answer_ends (the_editing c.args.self.now) (Some asked) _ _ c.in_ok-check-in-Some-Check.ensures.turn
+
+pub returns-in_err-from-clause-memory : goal.returns-in_err-from-clause-memory
+returns-in_err-from-clause-memory c = on_err _ _ (adding_wants c.args.line.now c.in_err-from.ensures.memory)
+
+pub returns-in_err-add-in-Some-Add-clause-memory : goal.returns-in_err-add-in-Some-Add-clause-memory
+returns-in_err-add-in-Some-Add-clause-memory c = on_err _ _ (add_wants c.args.line.now _ _ _ _ (said_so c.args.line.now _ _ _ c.in-Some-Add.is c.in_ok-from.ensures.read (ap the_edit c.in-Some-Add.field-0-is)))
+
+pub returns-in_err-check-in-Some-Check-clause-memory : goal.returns-in_err-check-in-Some-Check-clause-memory
+returns-in_err-check-in-Some-Check-clause-memory c = on_err _ _ (check_wants c.args.line.now (said_so c.args.line.now _ _ _ c.in-Some-Check.is c.in_ok-from.ensures.read (ap the_edit c.in-Some-Check.field-0-is)))
