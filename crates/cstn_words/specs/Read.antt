@@ -1,11 +1,11 @@
 -- How values of the program are read.
 use Rattle.std.specs.Prelude.{ℕ, ◌≤◌, List, Option, map, length, String, string_bytes}
-use Rattle.cstn_words.specs.Requests.{Asked, Taken, Request, request_of, names_of, check, run, edit, follow, closed, tight, conflict, tree, save, replay, closedcheck, treecheck, drill}
+use Rattle.cstn_words.specs.Requests.{Asked, Taken, Request, request_of, names_of, check, run, edit, closed, tight, conflict, tree, save, replay, closedcheck, treecheck, drill}
 use Rattle.cstn_words.specs.Requests.{host}
 use Rattle.cstn_words.specs.declared.words.Asked.{Asked as AskedWords}
 use Rattle.cstn_words.specs.declared.words.Taken.{Taken as TakenWords}
 use Rattle.cstn_words.specs.declared.words.Request.{Request as RequestWords}
-use Rattle.cstn_words.specs.declared.words.Request.TheVariants.{Check, Run, Edit, Follow, Closed, Tight, Conflict, Tree, Save, Replay, Closedcheck, Treecheck, Drill}
+use Rattle.cstn_words.specs.declared.words.Request.TheVariants.{Check, Run, Edit, Closed, Tight, Conflict, Tree, Save, Replay, Closedcheck, Treecheck, Drill}
 use Rattle.cstn_words.specs.declared.words.Request.TheVariants.{Host}
 
 -- the file and the deadline that are asked for
@@ -24,7 +24,6 @@ abbrev pub the_request : RequestWords → Request
 the_request (Check asked cap) = check (the_asked asked) cap
 the_request (Run asked cap) = run (the_asked asked) cap
 the_request (Edit asked cap) = edit (the_asked asked) cap
-the_request (Follow asked cap) = follow (the_asked asked) cap
 the_request (Closed asked cap) = closed (the_asked asked) cap
 the_request (Tight asked cap) = tight (the_asked asked) cap
 the_request (Conflict asked cap) = conflict (the_asked asked) cap
@@ -49,7 +48,6 @@ abbrev pub IsCapped : RequestWords → Type 0
 IsCapped (Check asked cap) = (1 ≤ cap) × (cap ≤ 4194304)
 IsCapped (Run asked cap) = (1 ≤ cap) × (cap ≤ 4194304)
 IsCapped (Edit asked cap) = (1 ≤ cap) × (cap ≤ 4194304)
-IsCapped (Follow asked cap) = (1 ≤ cap) × (cap ≤ 4194304)
 IsCapped (Closed asked cap) = (1 ≤ cap) × (cap ≤ 4194304)
 IsCapped (Tight asked cap) = (1 ≤ cap) × (cap ≤ 4194304)
 IsCapped (Conflict asked cap) = (1 ≤ cap) × (cap ≤ 4194304)

@@ -29,10 +29,6 @@ pub enum Request<'a> {
         asked: Asked<'a>,
         cap: u32,
     },
-    Follow {
-        asked: Asked<'a>,
-        cap: u32,
-    },
     Closed {
         asked: Asked<'a>,
         cap: u32,
@@ -143,7 +139,6 @@ fn capped_at<'a>(command: &str, asked: Asked<'a>, cap: u32) -> Option<Request<'a
         "check" => Some(Request::Check { asked, cap }),
         "run" => Some(Request::Run { asked, cap }),
         "edit" => Some(Request::Edit { asked, cap }),
-        "follow" => Some(Request::Follow { asked, cap }),
         "closed" => Some(Request::Closed { asked, cap }),
         "tight" => Some(Request::Tight { asked, cap }),
         "conflict" => Some(Request::Conflict { asked, cap }),
