@@ -46,7 +46,7 @@ pub output_wrote : (plan : Plan) (before after : LiveState) (old new : Option (L
 output_wrote plan before after old new status result text what (inr cut) = inr (inr (inl cut.0))
 output_wrote plan before after old new status result text (is_output live said all output) (inl wrote) = inl (live, all, (said, output, wrote.0, wrote.1))
 output_wrote plan before after old new status result text (is_file_fault same) (inl wrote) = inr (inl wrote.0)
-output_wrote plan before after old new status result text (is_live_fault taken left rose) (inl wrote) = inr (inl wrote.0)
+output_wrote plan before after old new status result text (is_live_fault taken said left rose heard) (inl wrote) = inr (inl wrote.0)
 output_wrote plan before after old new status result text (is_memory first why) (inl wrote) = inr (inr (inr wrote.0))
 
 -- what was written for a request is evidence, unless the call was stopped

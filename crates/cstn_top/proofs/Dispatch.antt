@@ -1,5 +1,10 @@
 -- What is proved of each request, by its command.
+use Rattle.std.proofs.Common.{◌≡◌, ℕ, Bool, false, List, refl}
 use Rattle.cstn_words.specs.Requests.{Request, check, run, edit, closed, tight, conflict, tree, save, replay, closedcheck, treecheck, drill, host}
+use Rattle.cstn_edit.specs.Editing.{edit_wants}
+use Rattle.cstn_host.specs.Sessions.{host_wants}
+use Rattle.cstn_top.specs.Command.{Kind, a_text, a_run, an_edit, a_host}
+use Rattle.cstn_top.specs.Dispatch.{command_of}
 use Rattle.cstn_top.proofs.Proved.{IsProved}
 use Rattle.cstn_top.proofs.records.Check.{check_proved}
 use Rattle.cstn_top.proofs.records.Run.{run_proved}
@@ -29,3 +34,25 @@ proved (closedcheck asked proof) = closedcheck_proved asked proof
 proved (treecheck asked proof) = treecheck_proved asked proof
 proved (drill number) = drill_proved number
 proved (host files deadline cap) = host_proved files deadline cap
+
+-- the lines whose answers may want memory, by the kind of a command
+abbrev pub kind_wants : Kind → List ℕ → Bool
+kind_wants a_text = λ line. false
+kind_wants a_run = λ line. false
+kind_wants an_edit = edit_wants
+kind_wants a_host = host_wants
+
+pub wants_by : (request : Request) → (command_of request).lines.wants_at ≡ kind_wants (command_of request).kind
+wants_by (check asked cap) = refl
+wants_by (run asked cap) = refl
+wants_by (edit asked cap) = refl
+wants_by (closed asked cap) = refl
+wants_by (tight asked cap) = refl
+wants_by (conflict asked cap) = refl
+wants_by (tree asked cap) = refl
+wants_by (save asked) = refl
+wants_by (replay asked proof) = refl
+wants_by (closedcheck asked proof) = refl
+wants_by (treecheck asked proof) = refl
+wants_by (drill number) = refl
+wants_by (host files deadline cap) = refl

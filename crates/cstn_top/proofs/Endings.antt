@@ -1,17 +1,21 @@
 -- How a call ends: what was written is a text of the plan.
 use Rattle.std.proofs.Common.{◌≡◌, ℕ, List, [], ◌++◌, refl, sym, ◌∙◌, ap, subst, inl, inr, arith}
-use Rattle.std.specs.Prelude.{◌⊎◌, IsNone, Option, None, Some, codes}
+use Rattle.std.specs.Prelude.{◌⊎◌, Bool, true, false, IsNone, Option, None, Some, codes}
+use Rattle.std.specs.Option.{option_map}
 use Rattle.cstn_io.specs.Contents.{IsAllOf}
 use Rattle.cstn_reply.specs.Texts.{line}
 use Rattle.cstn_words.specs.Requests.{Request, files_of, names_of}
 use Rattle.cstn_documents.specs.Files.{AreContents, AreThere}
 use Rattle.cstn_reply.specs.Texts.{Said, say}
-use Rattle.cstn_top.specs.Plans.{Plan, says, IsOutput, MayTalk, IsText, Ends, ComesTo, Untouched, session}
+use Rattle.cstn_top.specs.Plans.{Plan, says, before_fault, IsOutput, MayTalk, IsText, Ends, ComesTo, Untouched, session}
 use Rattle.cstn_top.specs.Dispatch.{plan_of, plan_at}
 use Rattle.cstn_top.specs.Prepared.{the_plan, Planned, IsLined, MayWant, TellsRefused}
 use Rattle.cstn_top.specs.Meanings.{HoldsOf, IsStopped, files_read, RefusedIsThere, ReadsLive, MayStop}
 use Rattle.cstn_reply.specs.Written.{LiveState, is_output, is_file_fault, is_live_fault, is_memory, IsWritten}
 use Rattle.cstn_reply.specs.Sessions.{Turn}
+use Rattle.cstn_reply.specs.Reached.{heard, MeetsLine}
+use Rattle.cstn_edit.specs.Editing.{the_editing, edit_turn, edit_wants}
+use Rattle.cstn_host.specs.Sessions.{host_turn, host_wants}
 use Rattle.cstn_words.specs.Requests.{host}
 use Rattle.cstn_host.specs.SessionRead.{the_host_session}
 use Rattle.cstn_reply.specs.Read.{the_said}
@@ -19,7 +23,7 @@ use Rattle.cstn_top.specs.Told.{Answers}
 use Rattle.cstn_reply.specs.Statuses.{status_of}
 use Rattle.cstn_top.specs.declared.commands.Prepared.{Prepared}
 use Rattle.cstn_top.specs.declared.commands.Prepared.TheVariants.{Says, Runs, Edits, Hosts}
-use Rattle.cstn_lines.specs.Pieces.{lines_of}
+use Rattle.cstn_lines.specs.Pieces.{lines_of, whole_lines}
 use Rattle.cstn_host.proofs.Plays.{IsEnd, plays}
 use Rattle.cstn_reply.specs.declared.status.Status.{Status}
 use Rattle.cstn_reply.specs.declared.status.Status.TheVariants.{Words as IsWords, Document as IsRefusedStatus, ReadFault, Memory}
@@ -28,7 +32,7 @@ use Rattle.cstn_reply.specs.declared.output.Outcome.TheVariants.{Words, Document
 use Rattle.cstn_reply.proofs.Contents.{given, all_given, no_taken}
 use Rattle.cstn_documents.proofs.Contents.{some_contents, none_there}
 use Rattle.cstn_top.proofs.Proved.{IsRight}
-use Rattle.cstn_top.proofs.Dispatch.{proved}
+use Rattle.cstn_top.proofs.Dispatch.{proved, kind_wants, wants_by}
 use Rattle.cstn_top.proofs.Dispatched.{IsComplete}
 use Rattle.cstn_top.specs.Command.{Kind, WantsMemory}
 use Rattle.cstn_top.specs.Dispatch.{command_of}
@@ -79,8 +83,7 @@ ends_as p q before after old new result same ends = subst (λ (x : Prepared). En
 carried : (plan other : Plan) (before after : LiveState) (status : Status) (text : List ℕ) → ComesTo plan other → MayTalk other → IsText other before after status text → IsText plan before after status text
 carried plan other before after status text comes may (is_output live said all output) = is_output live said all (comes.output live said output)
 carried plan other before after status text comes may (is_file_fault same) = is_file_fault same
-carried plan other before after status text comes may (is_live_fault taken left rose) =
-    subst (λ (xs : List ℕ). IsText plan before after ReadFault (xs ++ line (codes "read fault"))) (sym (comes.fault may taken)) (is_live_fault taken left rose)
+carried plan other before after status text comes may (is_live_fault taken said left rose heard) = is_live_fault taken said left rose (sym (comes.fault may (whole_lines taken)) ∙ heard)
 carried plan other before after status text comes may (is_memory first (inl none)) = is_memory first (inl none)
 carried plan other before after status text comes may (is_memory first (inr lines)) =
     is_memory first (inr (record { live = lines.live; said = lines.said; rest = lines.rest; all = lines.all; whole = comes.output lines.live lines.said lines.whole; first = lines.first; lines = lines.lines }))
@@ -95,7 +98,8 @@ talks_end words r told source now plan before after old new result there planned
 said_alone : (plan : Plan) (said : Said) (before after : LiveState) (status : Status) (text : List ℕ) → after ≡ before → ComesTo plan (says said) → IsText (says said) before after status text → IsText plan before after status text
 said_alone plan said before after status text same comes (is_output live other all output) = is_output live other all (comes.output live other output)
 said_alone plan said before after status text same comes (is_file_fault is) = is_file_fault is
-said_alone plan said before after status text same comes (is_live_fault taken left rose) = is_file_fault same
+said_alone plan said before after status text same comes (is_live_fault taken text' left rose heard) =
+    absurd (let none : None ≡ Some text' = heard in let f : ⊥ = cc in f)
 said_alone plan said before after status text same comes (is_memory first (inl none)) = is_memory first (inl none)
 said_alone plan said before after status text same comes (is_memory first (inr lines)) =
     is_memory first (inr (record { live = lines.live; said = lines.said; rest = lines.rest; all = lines.all; whole = comes.output lines.live lines.said lines.whole; first = lines.first; lines = lines.lines }))
@@ -123,7 +127,7 @@ EndsAs plan before status = (live : List ℕ) × IsAllOf before.left live × ((s
 text_status : (plan : Plan) (before after : LiveState) (status : Status) (text : List ℕ) → IsText plan before after status text → EndsAs plan before status ⊎ IsStopped status
 text_status plan before after status text (is_output live said all output) = inl (live, all, (said, output, refl))
 text_status plan before after status text (is_file_fault same) = inr (inl refl)
-text_status plan before after status text (is_live_fault taken left rose) = inr (inl refl)
+text_status plan before after status text (is_live_fault taken said left rose heard) = inr (inl refl)
 text_status plan before after status text (is_memory first why) = inr (inr (inr refl))
 
 pub end_status : (plan : Plan) (before after : LiveState) (old new : Option (List ℕ)) (result : Status) → Ends plan before after old new result → EndsAs plan before result ⊎ IsStopped result
@@ -177,20 +181,51 @@ pub live_is : {S : Type 0} (words : Option Request) (r : Request) (told : Option
 live_is words r told plan source now there planned (inl may) = inl (reads_live words r told plan there planned may)
 live_is words r told plan source now there planned (inr same) = inr same
 
+-- a session that comes to a line of a kind comes to it also by what is said with an opening
+meets : (heard other : List (List ℕ) → Option (List ℕ)) (opening : List ℕ) (kind : List ℕ → Bool) (told : Option (List ℕ)) → ((lines : List (List ℕ)) → option_map (λ (xs : List ℕ). opening ++ xs) (heard lines) ≡ other lines) → MeetsLine heard kind told → MeetsLine other kind told
+meets heard other opening kind told same (live, all, found) = (
+  live,
+  all,
+  record {
+    before = found.before;
+    next = found.next;
+    later = found.later;
+    said = opening ++ found.said;
+    lines_are = found.lines_are;
+    answered = sym (same found.before) ∙ ap (option_map (λ (xs : List ℕ). opening ++ xs)) found.answered;
+    within = found.within;
+    is_kind = found.is_kind;
+  },
+)
+
 -- an answer may want memory only where that is asked for
-may_stop : (words : Option Request) (r : Request) (told : Option (List ℕ → Option (List ℕ))) (plan : Plan) → Some r ≡ words → Planned r told plan → WantsMemory (command_of r).kind → MayTalk plan → HoldsOf words told MayStop
-may_stop words r told plan there planned wants may =
-    subst (λ (w : Option Request). HoldsOf w told MayStop) there (planned.contents, planned.are, (proved r).wants planned.contents wants (planned.comes.talks may))
+may_stop : (words : Option Request) (r : Request) (told : Option (List ℕ → Option (List ℕ))) (live : Option (List ℕ)) (plan : Plan) → Some r ≡ words → Planned r told plan → WantsMemory (command_of r).kind → MayTalk plan → ((contents : List (List ℕ)) → ComesTo (plan_at r contents) plan → MeetsLine (before_fault (plan_at r contents)) (command_of r).lines.wants_at live) → HoldsOf words told (MayStop live)
+may_stop words r told live plan there planned wants may at =
+    subst (λ (w : Option Request). HoldsOf w told (MayStop live)) there
+    (planned.contents, planned.are, ((proved r).wants planned.contents wants (planned.comes.talks may), at planned.contents planned.comes))
 
-wants : (words : Option Request) (r : Request) (told : Option (List ℕ → Option (List ℕ))) (p : Prepared) → Some r ≡ words → Planned r told (the_plan p) → FitsKind (command_of r).kind p → MayWant p → HoldsOf words told MayStop
-wants words r told (Says said) there planned fits want = absurd want
-wants words r told (Runs opening guiding) there planned fits want = absurd want
-wants words r told (Edits editing) there planned fits want = may_stop words r told _ there planned (subst WantsMemory (sym fits) tt) tt
-wants words r told (Hosts opening ward) there planned fits want = may_stop words r told _ there planned (subst WantsMemory (sym fits.1) tt) tt
+wants : (words : Option Request) (r : Request) (told : Option (List ℕ → Option (List ℕ))) (live : Option (List ℕ)) (p : Prepared) → Some r ≡ words → Planned r told (the_plan p) → FitsKind (command_of r).kind p → MayWant live p → HoldsOf words told (MayStop live)
+wants words r told live (Says said) there planned fits want = absurd want
+wants words r told live (Runs opening guiding) there planned fits want = absurd want
+wants words r told live (Edits editing) there planned fits want =
+    may_stop words r told live _ there planned (subst WantsMemory (sym fits) tt) tt
+    (λ contents comes. subst (λ (k : List ℕ → Bool). MeetsLine (before_fault (plan_at r contents)) k live) (ap kind_wants (sym fits) ∙ sym (wants_by r)) (meets (heard edit_turn (the_editing editing)) (before_fault (plan_at r contents)) [] edit_wants live (comes.fault tt) want))
+wants words r told live (Hosts opening ward) there planned fits want =
+    may_stop words r told live _ there planned (subst WantsMemory (sym fits.1) tt) tt
+    (λ contents comes. subst (λ (k : List ℕ → Bool). MeetsLine (before_fault (plan_at r contents)) k live) (ap kind_wants (sym fits.1) ∙ sym (wants_by r)) (meets (heard host_turn (the_host_session ward)) (before_fault (plan_at r contents)) opening.items host_wants live (comes.fault tt) want))
 
-pub memory_is : (words : Option Request) (r : Request) (told : Option (List ℕ → Option (List ℕ))) (p : Prepared) (Alone : Type 0) → Some r ≡ words → Planned r told (the_plan p) → FitsKind (command_of r).kind p → MayWant p ⊎ Alone → HoldsOf words told MayStop ⊎ Alone
-memory_is words r told p Alone there planned fits (inl want) = inl (wants words r told p there planned fits want)
-memory_is words r told p Alone there planned fits (inr alone) = inr alone
+-- where no answer may want memory, none is wanted
+pub unasked : (heard : List (List ℕ) → Option (List ℕ)) (told : Option (List ℕ)) (Want Alone : Type 0) → MeetsLine heard (λ line. false) told ⊎ Alone → Want ⊎ Alone
+unasked heard told Want Alone (inl (live, all, found)) = absurd (let e : false ≡ true = found.is_kind in let f : ⊥ = cc in f)
+unasked heard told Want Alone (inr alone) = inr alone
+
+-- what equals what was prepared may want memory likewise
+pub wants_as : (live : Option (List ℕ)) (p other : Prepared) (Alone : Type 0) → p ≡ other → MayWant live other ⊎ Alone → MayWant live p ⊎ Alone
+wants_as live p other Alone same wants = subst (λ (q : Prepared). MayWant live q ⊎ Alone) (sym same) wants
+
+pub memory_is : (words : Option Request) (r : Request) (told : Option (List ℕ → Option (List ℕ))) (live : Option (List ℕ)) (p : Prepared) (Alone : Type 0) → Some r ≡ words → Planned r told (the_plan p) → FitsKind (command_of r).kind p → MayWant live p ⊎ Alone → HoldsOf words told (MayStop live) ⊎ Alone
+memory_is words r told live p Alone there planned fits (inl want) = inl (wants words r told live p there planned fits want)
+memory_is words r told live p Alone there planned fits (inr alone) = inr alone
 
 -- the opening of what was prepared is whole lines
 pub lined : (kind : Kind) (p : Prepared) → FitsKind kind p → IsLined p

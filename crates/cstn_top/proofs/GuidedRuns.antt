@@ -1,6 +1,7 @@
 -- What the session of a guide says is what `run` says.
 use Rattle.std.proofs.Common.{◌≡◌, ℕ, List, [], ◌++◌, ap, sym, subst, ◌∙◌}
 use Rattle.std.specs.Prelude.{map}
+use Rattle.std.specs.Option.{option_map}
 use Rattle.cstn_label.specs.Bounds.{Bound}
 use Rattle.cstn_net.specs.Networks.{count}
 use Rattle.cstn_log.specs.Plans.{PlanParts, the_bounds}
@@ -10,7 +11,7 @@ use Rattle.cstn_lift.specs.Read.{LabelledParts, the_labelled}
 use Rattle.cstn_check.specs.Growth.{log_of, load_of, live_bounds}
 use Rattle.cstn_check.specs.declared.verdicts.Verdict.TheVariants.{Yes}
 use Rattle.cstn_text.specs.PrintedNames.{printed_name}
-use Rattle.cstn_lines.specs.Pieces.{lines_of, whole_lines}
+use Rattle.cstn_lines.specs.Pieces.{lines_of}
 use Rattle.cstn_exec.specs.Guides.{Guided, begun as begun_guide}
 use Rattle.cstn_exec.specs.GuideRead.{GuideParts}
 use Rattle.cstn_reply.specs.Texts.{yes_line, after_text}
@@ -19,14 +20,14 @@ use Rattle.cstn_top.specs.Answers.{on_verdict}
 use Rattle.cstn_top.specs.commands.Run.{carried_out}
 use Rattle.cstn_check.specs.Decisions.{verdict}
 use Rattle.cstn_run.specs.Sessions.{RunSessionParts, guide_turn, guide_ending, guided_turn, guided_ending}
-use Rattle.cstn_run.proofs.Runs.{turn_of, ending_of, play_as, answers_as}
+use Rattle.cstn_run.proofs.Runs.{turn_of, ending_of, play_as, heard_as}
 
 -- what the session of a labelled network says is what the program says
 pub comes_guided : (opening : List ℕ) (r : RunSessionParts) → ComesTo (session (turn_of r) (ending_of r) opening r.state) (session guided_turn guided_ending opening r)
 comes_guided opening r = record {
   output = λ live said is. is ∙ ap (after_text opening) (play_as r 0 (lines_of live));
   talks = λ may. tt;
-  fault = λ may taken. ap (λ (xs : List ℕ). opening ++ xs) (answers_as r 0 (whole_lines taken));
+  fault = λ may lines. ap (option_map (λ (xs : List ℕ). opening ++ xs)) (heard_as r lines);
 }
 
 -- after yes, a session from the beginning on, by the bounds of the log, says what is said of the labelled network

@@ -6,7 +6,7 @@ use Rattle.cstn_words.specs.Requests.{Request}
 use Rattle.cstn_reply.specs.Texts.{Said}
 use Rattle.cstn_top.specs.Plans.{IsOutput, MayTalk, ComesTo}
 use Rattle.cstn_top.specs.Dispatch.{plan_at, command_of}
-use Rattle.cstn_top.specs.Meanings.{ReadsLive, MayStop}
+use Rattle.cstn_top.specs.Meanings.{ReadsLive}
 use Rattle.cstn_reply.specs.Statuses.{status_of}
 use Rattle.cstn_reply.specs.declared.output.Outcome.{Outcome}
 use Rattle.cstn_reply.specs.declared.output.Outcome.TheVariants.{Good, Bad, Words, Document, Full, Unfinished, Script, Wide}
@@ -46,7 +46,7 @@ pub record IsProved (request : Request) : Type 0 where
   pub evidence : YesAccepted → NoAccepted → (contents : List (List ℕ)) (live : List ℕ) (said : Said) → IsRanged request → IsOutput (plan_at request contents) live said → IsEvidence request (status_of said.outcome) said.text contents
   -- a session is held only where the live source is read, and where an answer may want memory
   pub talks : (contents : List (List ℕ)) → MayTalk (plan_at request contents) → ReadsLive request contents
-  pub wants : (contents : List (List ℕ)) → WantsMemory (command_of request).kind → MayTalk (plan_at request contents) → MayStop request contents
+  pub wants : (contents : List (List ℕ)) → WantsMemory (command_of request).kind → MayTalk (plan_at request contents) → (command_of request).lines.wants contents
   -- where a document of a host is said to be refused, it is there, and so is each file before it
   pub refused : (told : Option (List ℕ → Option (List ℕ))) (question : Question) (prepared : Prepared) → Asks request told question → ComesTo (the_question question) (the_plan prepared) → FitsKind (kind_at request) prepared → TellsRefused told request prepared
   -- the answers to lines are least, and an output ends as is told

@@ -1,5 +1,5 @@
 -- What a command is. Each has a record of its own in `commands`; `Dispatch` gives that of a request.
-use Rattle.std.specs.Prelude.{ℕ, List, [], get_or, Option}
+use Rattle.std.specs.Prelude.{ℕ, Bool, false, List, [], get_or, Option}
 use Rattle.cstn_reply.specs.declared.status.Status.{Status}
 use Rattle.cstn_top.specs.Plans.{Plan}
 
@@ -10,7 +10,7 @@ pub data Kind : Type 0 where
   an_edit : Kind
   a_host : Kind
 
--- an answer to a line may want memory
+-- the answers to some lines may want memory
 abbrev pub WantsMemory : Kind → Type 0
 WantsMemory a_text = ⊥
 WantsMemory a_run = ⊥
@@ -33,8 +33,10 @@ proof_in contents = get_or contents 1 []
 pub record OfLines : Type 1 where
   -- the live source is read
   pub reads : List (List ℕ) → Type 0
-  -- an answer to a line may want memory, after something was written
+  -- the answers to some lines may want memory, after something was written
   pub wants : List (List ℕ) → Type 0
+  -- the answer to this line may want memory
+  pub wants_at : List ℕ → Bool
   -- of the answers to any lines
   pub least : List (List ℕ) → Type 0
   -- of a call that ends with Good, and with Unfinished
@@ -48,6 +50,7 @@ abbrev pub no_lines : OfLines
 no_lines = record {
   reads = λ contents. ⊥;
   wants = λ contents. ⊥;
+  wants_at = λ line. false;
   least = λ contents. Nothing;
   carried_out = λ live old new contents. Nothing;
   unfinished = λ live old new contents. Nothing;

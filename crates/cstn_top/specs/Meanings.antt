@@ -4,7 +4,9 @@ use Rattle.cstn_words.specs.Requests.{Request, files_of}
 use Rattle.cstn_documents.specs.Files.{AreContents}
 use Rattle.cstn_reply.specs.declared.status.Status.{Status}
 use Rattle.cstn_reply.specs.declared.status.Status.TheVariants.{Good, Bad, Words, Document, Full, ReadFault, WriteFault, Memory, Unfinished, Script, Wide}
-use Rattle.cstn_top.specs.Dispatch.{command_of}
+use Rattle.cstn_reply.specs.Reached.{MeetsLine}
+use Rattle.cstn_top.specs.Plans.{before_fault}
+use Rattle.cstn_top.specs.Dispatch.{command_of, plan_at}
 
 -- the words are a request, and it holds of the request and the contents of its files
 abbrev pub HoldsOf : Option Request → Option (List ℕ → Option (List ℕ)) → (Request → List (List ℕ) → Type 0) → Type 0
@@ -37,6 +39,7 @@ RefusedIsThere told request contents = (command_of request).refused told content
 abbrev pub ReadsLive : Request → List (List ℕ) → Type 0
 ReadsLive request contents = (command_of request).lines.reads contents
 
--- an answer to a line may want memory, after something was written
-abbrev pub MayStop : Request → List (List ℕ) → Type 0
-MayStop request contents = (command_of request).lines.wants contents
+-- the session over the lines of the live source, which has these bytes, comes to a line whose answer may want memory
+abbrev pub MayStop : Option (List ℕ) → Request → List (List ℕ) → Type 0
+MayStop live request contents =
+    (command_of request).lines.wants contents × MeetsLine (before_fault (plan_at request contents)) (command_of request).lines.wants_at live

@@ -1,5 +1,6 @@
 -- What a request says, and what is written for it, also after a fault.
-use Rattle.std.specs.Prelude.{◌≡◌, ◌⊎◌, ℕ, List, [], ◌++◌, Option, codes}
+use Rattle.std.specs.Prelude.{◌≡◌, ◌⊎◌, ℕ, List, ◌++◌, Option, None, codes}
+use Rattle.std.specs.Option.{option_map}
 use Rattle.cstn_label.specs.Bounds.{Bound}
 use Rattle.cstn_label.specs.Labels.{Label}
 use Rattle.cstn_net.specs.Networks.{Network}
@@ -11,7 +12,8 @@ use Rattle.cstn_graphml.specs.Networks.{IsUnfit, IsMislabelled, IsFit}
 use Rattle.cstn_rules.specs.Derivations.{Entry}
 use Rattle.cstn_reply.specs.Texts.{Said, say, after_text}
 use Rattle.cstn_reply.specs.Written.{LiveState, IsText as IsTextOf, Ends as EndsBy}
-use Rattle.cstn_reply.specs.Sessions.{Turn, play, answers}
+use Rattle.cstn_reply.specs.Sessions.{Turn, play}
+use Rattle.cstn_reply.specs.Reached.{heard}
 use Rattle.cstn_reply.specs.declared.status.Status.{Status}
 use Rattle.cstn_reply.specs.declared.output.Outcome.TheVariants.{Document}
 use Rattle.cstn_replay.specs.Texts.{IsReplay}
@@ -22,14 +24,15 @@ use Rattle.cstn_documents.specs.Documents.{AreEmpty}
 
 -- What a request says: a text and no more; what the replay of steps on a network says; what the check of a list of bounds says,
 -- under the names of the time-points; the tree of a network, by a load and bounds; an opening and then a session over the lines
--- of the live source, by what it says of all lines and what it answers to some of them alone; what another plan says, where the
--- parts of a document make a labelled network; or what another plan says, where the labels of the time-points are empty.
+-- of the live source, by what it says of all lines and what it answers to some of them alone, where each of these leads on; what
+-- another plan says, where the parts of a document make a labelled network; or what another plan says, where the labels of the
+-- time-points are empty.
 pub data Plan : Type 0 where
   says : Said → Plan
   replays : List Entry → Network → Plan
   certifies : List (List ℕ) → List Bound → Network → Plan
   branches : List (List ℕ) → ℕ → List Bound → Network → Plan
-  talks : List ℕ → (List (List ℕ) → Said) → (List (List ℕ) → List ℕ) → Plan
+  talks : List ℕ → (List (List ℕ) → Said) → (List (List ℕ) → Option (List ℕ)) → Plan
   judges : Parts → Plan → Plan
   unlabelled : List Label → Plan → Plan
 
@@ -48,15 +51,15 @@ IsOutput (judges parts plan) live said =
 IsOutput (unlabelled labels plan) live said =
     (AreEmpty labels × IsOutput plan live said) ⊎ ((AreEmpty labels → ⊥) × (said ≡ say Document (codes "document labels")))
 
--- what is said before a fault of the live source that has given these bytes
-abbrev pub before_fault : Plan → List ℕ → List ℕ
-before_fault (says said) taken = []
-before_fault (replays steps net) taken = []
-before_fault (certifies names bounds net) taken = []
-before_fault (branches names load bounds net) taken = []
-before_fault (talks opening whole heard) taken = opening ++ heard (whole_lines taken)
-before_fault (judges parts plan) taken = before_fault plan taken
-before_fault (unlabelled labels plan) taken = before_fault plan taken
+-- what is said to these lines before more is read, if anything is read then: each of them leads on
+abbrev pub before_fault : Plan → List (List ℕ) → Option (List ℕ)
+before_fault (says said) lines = None
+before_fault (replays steps net) lines = None
+before_fault (certifies names bounds net) lines = None
+before_fault (branches names load bounds net) lines = None
+before_fault (talks opening whole heard) lines = option_map (λ said. opening ++ said) (heard lines)
+before_fault (judges parts plan) lines = before_fault plan lines
+before_fault (unlabelled labels plan) lines = before_fault plan lines
 
 -- the plan may come to a session
 abbrev pub MayTalk : Plan → Type 0
@@ -76,16 +79,20 @@ Untouched plan before after = MayTalk plan ⊎ (after ≡ before)
 pub record ComesTo (plan other : Plan) : Type 0 where
   pub output : (live : List ℕ) (said : Said) → IsOutput other live said → IsOutput plan live said
   pub talks : MayTalk other → MayTalk plan
-  pub fault : MayTalk other → (taken : List ℕ) → before_fault other taken ≡ before_fault plan taken
+  pub fault : MayTalk other → (lines : List (List ℕ)) → before_fault other lines ≡ before_fault plan lines
 
 -- an opening, and then a session from a state on
 abbrev pub session : {S : Type 0} → (S → List ℕ → Turn S) → (S → Said) → List ℕ → S → Plan
-session turn ending opening state = talks opening (play turn ending state 0) (answers turn state 0)
+session turn ending opening state = talks opening (play turn ending state 0) (heard turn state)
+
+-- what is said before a fault of the live source that has given these bytes, by the whole lines of them
+abbrev pub after_taken : Plan → List ℕ → Option (List ℕ)
+after_taken plan taken = before_fault plan (whole_lines taken)
 
 -- what is written for a plan where each write is accepted
 abbrev pub IsText : Plan → LiveState → LiveState → Status → List ℕ → Type 0
-IsText plan before after status text = IsTextOf (IsOutput plan) (before_fault plan) before after status text
+IsText plan before after status text = IsTextOf (IsOutput plan) (after_taken plan) before after status text
 
 -- a call ends with this status: a text of the plan was written, whole or in part
 abbrev pub Ends : Plan → LiveState → LiveState → Option (List ℕ) → Option (List ℕ) → Status → Type 0
-Ends plan before after old new result = EndsBy (IsOutput plan) (before_fault plan) before after old new result
+Ends plan before after old new result = EndsBy (IsOutput plan) (after_taken plan) before after old new result

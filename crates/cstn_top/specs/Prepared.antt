@@ -6,10 +6,11 @@ use Rattle.cstn_reply.specs.Texts.{Said}
 use Rattle.cstn_reply.specs.Read.{the_said}
 use Rattle.cstn_reply.specs.Statuses.{status_of}
 use Rattle.cstn_reply.specs.Written.{EndsLine}
+use Rattle.cstn_reply.specs.Reached.{heard, MeetsLine}
 use Rattle.cstn_reply.specs.declared.output.Outcome.TheVariants.{Document}
 use Rattle.cstn_run.specs.Sessions.{guided_turn, guided_ending}
-use Rattle.cstn_edit.specs.Editing.{the_editing, edit_turn, edit_ending}
-use Rattle.cstn_host.specs.Sessions.{host_turn, host_ending}
+use Rattle.cstn_edit.specs.Editing.{the_editing, edit_turn, edit_wants, edit_ending}
+use Rattle.cstn_host.specs.Sessions.{host_turn, host_wants, host_ending}
 use Rattle.cstn_host.specs.SessionRead.{the_host_session}
 use Rattle.cstn_top.specs.Plans.{Plan, says, ComesTo, IsOutput, session}
 use Rattle.cstn_top.specs.Command.{Kind, a_text, a_run, an_edit, a_host}
@@ -32,12 +33,12 @@ IsLined (Runs opening session') = EndsLine opening.items
 IsLined (Edits editing) = Unit {0}
 IsLined (Hosts opening session') = EndsLine opening.items
 
--- an answer to a line may want memory
-abbrev pub MayWant : Prepared → Type 0
-MayWant (Says said) = ⊥
-MayWant (Runs opening session') = ⊥
-MayWant (Edits editing) = Unit {0}
-MayWant (Hosts opening session') = Unit {0}
+-- the session over the lines of the live source, which has these bytes, comes to a line whose answer may want memory
+abbrev pub MayWant : Option (List ℕ) → Prepared → Type 0
+MayWant live (Says said) = ⊥
+MayWant live (Runs opening session') = ⊥
+MayWant live (Edits editing) = MeetsLine (heard edit_turn (the_editing editing)) edit_wants live
+MayWant live (Hosts opening session') = MeetsLine (heard host_turn (the_host_session session')) host_wants live
 
 -- a session is prepared only where it is asked for, and its opening is whole lines
 abbrev pub FitsKind : Kind → Prepared → Type 0

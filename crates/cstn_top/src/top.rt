@@ -34,7 +34,7 @@ pub fn run<F: Shelf, S: Source, K: Sink>(
     ensures read_fault { result ≡ ReadFault → Failed F.faults shelf.old shelf.new ⊎ (Reads words.now (F.files shelf.old) × Failed S.faults live.old live.new) }
     ensures write_fault { result ≡ WriteFault → Failed K.faults out.old out.new }
     ensures live { Reads words.now (F.files shelf.old) ⊎ (live.new ≡ live.old) }
-    ensures memory { result ≡ Memory → TellsOf words.now (F.files shelf.old) MayStop ⊎ (WroteMemory K.written out.old out.new × (live.new ≡ live.old)) }
+    ensures memory { result ≡ Memory → TellsOf words.now (F.files shelf.old) (MayStop (S.left live.old)) ⊎ (WroteMemory K.written out.old out.new × (live.new ≡ live.old)) }
     ensures words { IsNone (request_in words.now) → (result ≡ Words) ⊎ (result ≡ WriteFault) }
     ensures words_only { result ≡ Words → IsNone (request_in words.now) }
     ensures unnamed_stand { named_files words.now ≡ [] → shelf.new ≡ shelf.old }
@@ -63,7 +63,7 @@ fn respond<F: Shelf, S: Source, K: Sink>(
     ensures read_fault { result ≡ ReadFault → Failed F.faults shelf.old shelf.new ⊎ (Reads words.now (F.files shelf.old) × Failed S.faults live.old live.new) }
     ensures write_fault { result ≡ WriteFault → Failed K.faults out.old out.new }
     ensures live { Reads words.now (F.files shelf.old) ⊎ (live.new ≡ live.old) }
-    ensures memory { result ≡ Memory → TellsOf words.now (F.files shelf.old) MayStop ⊎ (WroteMemory K.written out.old out.new × (live.new ≡ live.old)) }
+    ensures memory { result ≡ Memory → TellsOf words.now (F.files shelf.old) (MayStop (S.left live.old)) ⊎ (WroteMemory K.written out.old out.new × (live.new ≡ live.old)) }
     ensures words { IsNone (request_in words.now) → (result ≡ Words) ⊎ (result ≡ WriteFault) }
     ensures unnamed_stand { named_files words.now ≡ [] → shelf.new ≡ shelf.old }
     ensures names { F.may_ask shelf.new ≡ F.may_ask shelf.old }
@@ -88,7 +88,7 @@ fn speak<S: Source, K: Sink>(alloc: Global, prepared: Prepared, live: &mut S, ou
     ensures flushed { result ≢ WriteFault → K.flushed out.new ≡ option_map length (K.written out.new) }
     ensures read_fault { result ≡ ReadFault → MayTalk (the_plan prepared) × Failed S.faults live.old live.new }
     ensures write_fault { result ≡ WriteFault → Failed K.faults out.old out.new }
-    ensures memory { result ≡ Memory → MayWant prepared ⊎ (WroteMemory K.written out.old out.new × (live.new ≡ live.old)) }
+    ensures memory { result ≡ Memory → MayWant (S.left live.old) prepared ⊎ (WroteMemory K.written out.old out.new × (live.new ≡ live.old)) }
     ensures later { (S.faults live.old ≤ S.faults live.new) × (K.faults out.old ≤ K.faults out.new) }
 {
     match prepared {

@@ -44,7 +44,7 @@ use Rattle.cstn_reply.specs.declared.status.Status.TheVariants.{Good as IsGoodSt
 use Rattle.cstn_reply.specs.Reached.{state_after}
 use Rattle.cstn_run.specs.Meanings.{said_to, IsCarriedThrough, EndsUnfinished}
 use Rattle.cstn_run.proofs.Planned.{planned}
-use Rattle.cstn_run.proofs.Carrying.{names_least, accepts_exactly, tells_due}
+use Rattle.cstn_run.proofs.Carrying.{names_least, accepts_exactly, sees_exactly, tells_due}
 use Rattle.cstn_run.proofs.Ending.{timely, carried_through, ends_unfinished}
 use Rattle.cstn_top.proofs.Documents.{labelled_says}
 use Rattle.cstn_top.proofs.Played.{TurnIs, stops_at, Played, all_answered, one_last, one_stops, played}
@@ -227,6 +227,7 @@ answers_least : (names : List (List â„•)) (m : Labelled) (bounds : List Bound) â
 answers_least names m bounds plan = record {
   moments = names_least names m bounds plan;
   accepted = accepts_exactly names m bounds plan;
+  outcomes = sees_exactly names m bounds plan;
   timely = timely names m bounds plan;
   due = tells_due names m bounds plan;
 }

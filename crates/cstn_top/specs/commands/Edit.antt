@@ -13,7 +13,7 @@ use Rattle.cstn_reply.specs.declared.status.Status.{Status}
 use Rattle.cstn_reply.specs.declared.status.Status.TheVariants.{Good, Bad, Document, Full, Script}
 use Rattle.cstn_documents.specs.Files.{AreThere}
 use Rattle.cstn_documents.specs.Documents.{HasNetwork, IsRefused}
-use Rattle.cstn_edit.specs.Editing.{begun_editing, edit_turn, edit_ending, last_checked}
+use Rattle.cstn_edit.specs.Editing.{begun_editing, edit_turn, edit_wants, edit_ending, last_checked}
 use Rattle.cstn_top.specs.Plans.{session}
 use Rattle.cstn_top.specs.Answers.{Answer, on_document}
 use Rattle.cstn_top.specs.Lines.{AreAnswered, StopsAtLine}
@@ -71,6 +71,7 @@ edit_command asked cap = record {
     -- where the document has a network
     reads = λ contents. HasNetwork (file_in contents) asked.deadline (λ names net. Nothing);
     wants = λ contents. HasNetwork (file_in contents) asked.deadline (λ names net. Nothing);
+    wants_at = edit_wants;
     least = λ contents. Nothing;
     carried_out = λ live old new contents. Nothing;
     unfinished = λ live old new contents. Nothing;

@@ -5,7 +5,7 @@ use Rattle.cstn_net.specs.Networks.{Network}
 use Rattle.cstn_graphml.specs.Answers.{CanBeHeld}
 use Rattle.cstn_check.specs.Growth.{load_of}
 use Rattle.cstn_check.specs.Decisions.{verdict, IsYes, IsNo}
-use Rattle.cstn_host.specs.Sessions.{begun, host_turn, host_ending}
+use Rattle.cstn_host.specs.Sessions.{begun, host_turn, host_wants, host_ending}
 use Rattle.cstn_host.specs.Files.{Named, the_file, yes_lines}
 use Rattle.cstn_documents.specs.Files.{AreThere}
 use Rattle.cstn_documents.specs.Documents.{HasNetwork, IsRefused}
@@ -65,6 +65,7 @@ host_command files deadline cap = record {
     reads = λ contents. EachHas contents deadline (IsYes cap);
     -- where an id is opened
     wants = λ contents. EachHas contents deadline (IsYes cap);
+    wants_at = host_wants;
     least = λ contents. Nothing;
     carried_out = λ live old new contents. Nothing;
     unfinished = λ live old new contents. Nothing;

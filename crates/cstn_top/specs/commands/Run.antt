@@ -1,5 +1,5 @@
 -- `run FILE [--deadline N] [--cap CAP]`: a network is carried out by the lines of the live source.
-use Rattle.std.specs.Prelude.{◌≡◌, ◌⊎◌, ◌≤◌, ◌<◌, ◌++◌, ℕ, List, [], ◌∷◌, map, Option, None, Some, IfSome}
+use Rattle.std.specs.Prelude.{◌≡◌, ◌⊎◌, ◌≤◌, ◌<◌, ◌++◌, ℕ, Bool, false, List, [], ◌∷◌, map, Option, None, Some, IfSome}
 use Rattle.cstn_io.specs.Contents.{with_bytes, IsAllOf}
 use Rattle.cstn_label.specs.Bounds.{Bound}
 use Rattle.cstn_net.specs.Networks.{count}
@@ -14,7 +14,7 @@ use Rattle.cstn_check.specs.Decisions.{verdict}
 use Rattle.cstn_exec.specs.Moves.{moment_refusal}
 use Rattle.cstn_exec.specs.Guides.{Guided, begun}
 use Rattle.cstn_lines.specs.Pieces.{lines_of}
-use Rattle.cstn_lines.specs.LiveLines.{moment_at, due_now, live_read}
+use Rattle.cstn_lines.specs.LiveLines.{moment_at, seen, due_now, live_read}
 use Rattle.cstn_words.specs.Requests.{Asked}
 use Rattle.cstn_reply.specs.Texts.{yes_line}
 use Rattle.cstn_reply.specs.declared.status.Status.{Status}
@@ -22,7 +22,7 @@ use Rattle.cstn_reply.specs.declared.status.Status.TheVariants.{Good, Bad, Docum
 use Rattle.cstn_documents.specs.Files.{AreThere}
 use Rattle.cstn_documents.specs.Documents.{parts_of, HasLabelled, IsNoDocument}
 use Rattle.cstn_run.specs.Sessions.{guide_turn, guide_ending}
-use Rattle.cstn_run.specs.Meanings.{GuidesTo, NamesLeast, TellsDue, AcceptsExactly, IsTimely, said_to, IsCarriedThrough, EndsUnfinished}
+use Rattle.cstn_run.specs.Meanings.{GuidesTo, NamesLeast, TellsDue, AcceptsExactly, SeesExactly, IsTimely, said_to, IsCarriedThrough, EndsUnfinished}
 use Rattle.cstn_top.specs.Plans.{session}
 use Rattle.cstn_top.specs.Answers.{LabelledAnswer, on_labelled, on_verdict}
 use Rattle.cstn_top.specs.Accepted.{IsNoText}
@@ -44,11 +44,13 @@ run_bounds m = live_bounds (log_of (lowered m))
 
 -- After any lines, a moment that is accepted is answered with exactly the time-points that aren't executed yet, whose completed
 -- labels hold, and whose least moment it is, and `due` with the due moment. A moment is accepted exactly where something is left
--- to do, it is above the last accepted one, no outcome is awaited at it, and it is at most the due moment. Over any lines, each
--- time-point that an answer names is named at its least moment.
+-- to do, it is above the last accepted one, no outcome is awaited at it, and it is at most the due moment. An outcome is accepted
+-- exactly where its observer was named and no outcome of that proposition is kept. Over any lines, each time-point that an answer
+-- names is named at its least moment.
 pub record AnswersLeast (names : List (List ℕ)) (m : Labelled) (bounds : List Bound) : Type 0 where
   pub moments : (before : List (List ℕ)) (next : List ℕ) (g : Guided) (t : ℕ) → GuidesTo names m bounds before next g → live_read next ≡ Some (moment_at t) → moment_refusal (lowered m) bounds g.run t ≡ None → NamesLeast names m bounds before next g t
   pub accepted : (before : List (List ℕ)) (next : List ℕ) (g : Guided) (t : ℕ) → GuidesTo names m bounds before next g → live_read next ≡ Some (moment_at t) → AcceptsExactly names m bounds before next g t
+  pub outcomes : (before : List (List ℕ)) (next : List ℕ) (g : Guided) (p : ℕ) (value : Bool) → GuidesTo names m bounds before next g → live_read next ≡ Some (seen p value) → SeesExactly names m bounds before next g p value
   pub timely : (lines : List (List ℕ)) → IsTimely names m bounds lines
   pub due : (before : List (List ℕ)) (next : List ℕ) (g : Guided) → GuidesTo names m bounds before next g → live_read next ≡ Some due_now → TellsDue names m bounds before next g
 
@@ -97,6 +99,7 @@ run_command asked cap = record {
     -- after yes
     reads = λ contents. HasLabelled (file_in contents) asked.deadline (λ names m. IsLabelledYes cap m);
     wants = λ contents. ⊥;
+    wants_at = λ line. false;
     -- after yes, the answers are least
     least = λ contents.
         IfLabelled (file_in contents) asked.deadline (λ names m. IsLabelledYes cap m → AnswersLeast (map printed_name names) m (run_bounds m));

@@ -5,7 +5,7 @@ use Rattle.cstn_host.specs.SessionRead.{the_host_session}
 use Rattle.cstn_run.specs.Sessions.{guided_turn, guided_ending}
 use Rattle.cstn_top.specs.declared.commands.Prepared.TheVariants.{Says, Runs, Edits, Hosts}
 use Rattle.cstn_top.specs.Told.{view}
-use Rattle.cstn_top.proofs.Endings.{text_end, opened_ends, ends_as}
+use Rattle.cstn_top.proofs.Endings.{text_end, opened_ends, ends_as, unasked, wants_as}
 use Rattle.cstn_top.proofs.top.speak.Goals as goal
 
 pub returns-in-Says-clause-ends : goal.returns-in-Says-clause-ends
@@ -26,3 +26,12 @@ pub returns-in-Hosts-clause-ends : goal.returns-in-Hosts-clause-ends
 returns-in-Hosts-clause-ends g c =
     ends_as _ (Hosts c.in-Hosts.opening c.in-Hosts.session) _ _ _ _ _ c.in-Hosts.is
     (opened_ends host_turn host_ending (the_host_session c.in-Hosts.session) _ _ _ _ _ _ _ c.deref-in-Hosts.ensures.value c.converse-in-Hosts.ensures.ends)
+
+pub returns-in-Runs-clause-memory : goal.returns-in-Runs-clause-memory
+returns-in-Runs-clause-memory g c is = unasked _ _ _ _ (c.converse.ensures.memory is)
+
+pub returns-in-Edits-clause-memory : goal.returns-in-Edits-clause-memory
+returns-in-Edits-clause-memory g c is = wants_as _ _ (Edits c.in-Edits.session) _ c.in-Edits.is (c.converse-in-Edits.ensures.memory is)
+
+pub returns-in-Hosts-clause-memory : goal.returns-in-Hosts-clause-memory
+returns-in-Hosts-clause-memory g c is = wants_as _ _ (Hosts c.in-Hosts.opening c.in-Hosts.session) _ c.in-Hosts.is (c.converse-in-Hosts.ensures.memory is)
