@@ -1,5 +1,5 @@
 // Edit sessions: edit lines are answered by a session.
-ghost use Rattle.std.specs.Prelude.{◌≡◌, ◌<◌, ◌≤◌, ◌^◌, ◌++◌, [], ℕ, true, length, vec_capacity, if◌then◌else◌, Some, IfOk, IfSome, OnOk, codes, decimal};
+ghost use Rattle.std.specs.Prelude.{false, ◌≡◌, ◌<◌, ◌≤◌, ◌^◌, ◌++◌, [], ℕ, true, length, vec_capacity, if◌then◌else◌, Some, IfOk, IfSome, OnOk, codes, decimal};
 ghost use Rattle.std.specs.List.{All};
 ghost use Rattle.std.specs.Option.{option_map};
 ghost use Rattle.cstn_label.specs.Read.{marks};
@@ -198,10 +198,16 @@ impl Talk for Editing {
 
     ghost room = { λ _. 64 };
 
+    ghost ends = { false };
+
     ghost may_stop = { edit_wants };
 
     fn room(&self) -> usize {
         ROOM
+    }
+
+    fn ends(&self) -> bool {
+        false
     }
 
     fn answer(&mut self, line: &[u8], text: &mut Vec<u8>) -> Result<Answer, AllocError> {

@@ -1,5 +1,5 @@
 // Sessions of a host: host lines are answered under the names of each file.
-ghost use Rattle.std.specs.Prelude.{◌≡◌, ◌≤◌, ◌<◌, [], true, length, vec_capacity, is_none, nat_lt, Some, IfOk, OnErr, OnOk};
+ghost use Rattle.std.specs.Prelude.{false, ◌≡◌, ◌≤◌, ◌<◌, [], true, length, vec_capacity, is_none, nat_lt, Some, IfOk, OnErr, OnOk};
 ghost use Rattle.cstn_lines.specs.LiveLines.{moment_at, seen, due_now, the_live};
 ghost use Rattle.cstn_lines.specs.HostLines.{opened, put_on, closed};
 ghost use Rattle.cstn_exec.specs.Runs.{due};
@@ -230,10 +230,16 @@ impl Talk for HostSession {
 
     ghost room = { λ _. 200000 };
 
+    ghost ends = { false };
+
     ghost may_stop = { host_wants };
 
     fn room(&self) -> usize {
         ROOM
+    }
+
+    fn ends(&self) -> bool {
+        false
     }
 
     fn answer(&mut self, line: &[u8], text: &mut Vec<u8>) -> Result<Answer, AllocError> {

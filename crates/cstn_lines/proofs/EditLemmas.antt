@@ -43,7 +43,7 @@ id_back id small = ap (option_and_then (λ n. if nat_lt n (2 ^ 32) then Some n e
 abbrev with_value : List ℕ × List ℕ → Option Edit
 with_value parts = option_and_then (λ id. option_map (changed id) (value_read parts.1)) (id_read parts.0)
 
-change_back : (id : ℕ) (most : ℤ) → id < 2 ^ 32 → FitsSigned w32 most → change_read (printed_number id ++ 32 ∷ printed_value most) ≡ Some (changed id most)
+pub change_back : (id : ℕ) (most : ℤ) → id < 2 ^ 32 → FitsSigned w32 most → change_read (printed_number id ++ 32 ∷ printed_value most) ≡ Some (changed id most)
 change_back id most small fits =
     ap (option_and_then with_value) (joined_cut (printed_number id) (printed_value most) (part_free (printed_number id) (number_part id (omega arith)).high))
     ∙ ap (option_and_then (λ i. option_map (changed i) (value_read (printed_value most)))) (id_back id small)
@@ -60,7 +60,7 @@ ends_back from to most label named also =
     ap (option_and_then (λ f. option_map (λ t. added f t most label) (name_read (printed_name to)))) (name_back from named)
     ∙ ap (option_map (λ t. added from t most label)) (name_back to also)
 
-add_back : (from to : List ℕ) (most : ℤ) (label : Label) → IsName from → IsName to → FitsSigned w32 most → ((p : ℕ) → 52 ≤ p → label p ≡ Absent) →
+pub add_back : (from to : List ℕ) (most : ℤ) (label : Label) → IsName from → IsName to → FitsSigned w32 most → ((p : ℕ) → 52 ≤ p → label p ≡ Absent) →
     add_read (printed_name from ++ 32 ∷ (printed_name to ++ 32 ∷ (printed_value most ++ 32 ∷ printed_label label))) ≡ Some (added from to most label)
 add_back from to most label named also fits letters =
     let pf = printed_name from in
@@ -148,7 +148,7 @@ add_only rest line is =
     same_line (added from.0 to.0 most.0 label.0) line _ to.2
     ((three.0.1, label.1, ap (λ bs. codes "add" ++ 32 ∷ bs) whole), (first.1, second.1, limit.1, label_small three.0.1 label.0 label.1))
 
-edited_only : (word rest : List ℕ) (line : Edit) → edited_read (word, rest) ≡ Some line → IsWritten line (word ++ 32 ∷ rest)
+pub edited_only : (word rest : List ℕ) (line : Edit) → edited_read (word, rest) ≡ Some line → IsWritten line (word ++ 32 ∷ rest)
 edited_only word rest line is = at (bytes_eq word (codes "add")) (bytes_eq word (codes "remove")) (bytes_eq word (codes "change")) refl refl refl is
   where
     spelled : (bytes : List ℕ) → bytes_eq word bytes ≡ true → IsWritten line (bytes ++ 32 ∷ rest) → IsWritten line (word ++ 32 ∷ rest)

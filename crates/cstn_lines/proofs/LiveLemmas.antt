@@ -24,13 +24,13 @@ joined_cut word rest none = cut_back 32 word rest (no_space word none)
 chosen : (t : ℕ) → t < 2 ^ 32 → (if nat_lt t (2 ^ 32) then Some (moment_at t) else None) ≡ Some (moment_at t)
 chosen t small = grind arith
 
-letter_back : (p : ℕ) → p < 52 → prop_of (letter_of p) ≡ Some p
+pub letter_back : (p : ℕ) → p < 52 → prop_of (letter_of p) ≡ Some p
 letter_back p small = grind arith
 
-letter_is_part : (p : ℕ) → list_all (λ b. not (b == 32)) (letter_of p ∷ []) ≡ true
+pub letter_is_part : (p : ℕ) → list_all (λ b. not (b == 32)) (letter_of p ∷ []) ≡ true
 letter_is_part p = grind arith
 
-truth_back : (value : Bool) → truth_read (printed_truth value) ≡ Some value
+pub truth_back : (value : Bool) → truth_read (printed_truth value) ≡ Some value
 truth_back true = refl
 truth_back false = refl
 
@@ -81,12 +81,12 @@ moment_only rest line is = at (number_read rest) refl is
 letter_only : (letter p : ℕ) → prop_of letter ≡ Some p → (letter_of p ≡ letter) × (p < 52)
 letter_only letter p is = grind arith
 
-prop_only : (text : List ℕ) (p : ℕ) → prop_read text ≡ Some p → (letter_of p ∷ [] ≡ text) × (p < 52)
+pub prop_only : (text : List ℕ) (p : ℕ) → prop_read text ≡ Some p → (letter_of p ∷ [] ≡ text) × (p < 52)
 prop_only [] p is = absurd (cc)
 prop_only (b ∷ []) p is = let its = letter_only b p is in (ap (λ c. c ∷ []) its.0, its.1)
 prop_only (b ∷ c ∷ bytes) p is = absurd (cc)
 
-truth_only : (text : List ℕ) (value : Bool) → truth_read text ≡ Some value → printed_truth value ≡ text
+pub truth_only : (text : List ℕ) (value : Bool) → truth_read text ≡ Some value → printed_truth value ≡ text
 truth_only text value is = at (bytes_eq text (codes "true")) (bytes_eq text (codes "false")) refl refl is
   where
     just : (a b : Bool) → Some a ≡ Some b → a ≡ b

@@ -1,14 +1,15 @@
 use Rattle.std.proofs.Common.{◌≡◌, ℕ, ◌+◌, ◌-◌, ◌^◌, ◌<◌, ◌≤◌, List, [], ◌∷◌, ◌++◌, length, take, drop, refl, ap, sym, ◌∙◌, subst, arith, append_assoc, append-nil, length-append, length-take}
-use Rattle.std.specs.Prelude.{true, false, Option, None, Some}
+use Rattle.std.specs.Prelude.{Bool, true, false, Option, None, Some}
 use Rattle.std.proofs.lemmas.Bool.{false≢true}
 use Rattle.std.proofs.lemmas.List.{take-take, take-append-le}
 use Rattle.std.proofs.Math.Seq.{take-append-add}
 use Rattle.std.proofs.lemmas.Grind.{common_steps}
 use Rattle.cstn_io.specs.Contents.{after_bytes}
-use Rattle.cstn_lines.specs.Pieces.{lines_of, whole_lines, IsCut, HasNoEnd, is_past, between}
-use Rattle.cstn_lines.specs.Steps.{LinesState, HandsOut, HasWrongLine, IsBroken, IsPast, Steps, ReadsOn}
+use Rattle.cstn_lines.specs.Pieces.{lines_of, whole_lines, heard_lines, IsCut, HasNoEnd, is_past, between}
+use Rattle.cstn_lines.specs.Steps.{LinesState, heard_line, HandsOut, IsOver, HasWrongLine, IsBroken, IsPast, Steps, ReadsOn}
 use Rattle.cstn_lines.specs.declared.lines.Next.{Next}
 use Rattle.cstn_lines.proofs.PieceLemmas.{cut_lines, cut_whole, open_whole, last_line, long_line, some_line, take_between, drop_between, between_none}
+use Rattle.cstn_lines.proofs.EndedLemmas.{none_ended, cut_ended, last_ended, long_ended, some_ended}
 
 not_past : (n : ℕ) (line : List ℕ) → n ≤ 2 ^ 24 → length line ≤ 4096 → is_past n line ≡ false
 not_past n line h k = grind arith
@@ -19,23 +20,36 @@ past_late n line h = grind arith
 past_long : (n : ℕ) (line : List ℕ) → 4096 < length line → is_past n line ≡ true
 past_long n line h = grind arith
 
-pub hand_cut : (kept bytes : List ℕ) (start stop i count n : ℕ) (after : LinesState) → IsCut kept i → kept ≡ between start stop bytes → stop ≤ 4097 → count < 2 ^ 24 → after.line ≡ between start (start + i) bytes → after.kept ≡ between (start + i + 1) stop bytes → after.count ≡ count + 1 → n ≡ count + 1 → HandsOut kept count after n
-hand_cut kept bytes start stop i count n after cut is short below line rest counts number =
+pub hand_cut : (kept bytes : List ℕ) (start stop i count n : ℕ) (after : LinesState) → IsCut kept i → kept ≡ between start stop bytes → stop ≤ 4097 → count < 2 ^ 24 → after.line ≡ between start (start + i) bytes → after.whole ≡ true → after.kept ≡ between (start + i + 1) stop bytes → after.count ≡ count + 1 → n ≡ count + 1 → HandsOut kept count after n
+hand_cut kept bytes start stop i count n after cut is short below line had rest counts number =
     let long : length kept ≤ stop - start = omega (arith, ap length is, length-take (stop - start) (drop start bytes)) in
     let its : after.line ≡ take i kept = line ∙ sym (take_between i start stop bytes (omega (arith, cut.inside))) ∙ ap (take i) (sym is) in
     let more : after.kept ≡ drop (i + 1) kept = rest ∙ ap (λ k. between k stop bytes) (omega arith) ∙ sym (drop_between (i + 1) start stop bytes (omega (arith, cut.inside))) ∙ ap (drop (i + 1)) (sym is) in
     record {
       is_number = number;
       counts = counts;
-      lines = λ r e. rw (its, more) (cut_lines kept r i cut);
+      lines = λ ends r e. heard_cut ends r its more;
       whole = λ r e. rw (its, more) (cut_whole kept r i cut);
-      short = not_past n after.line (omega arith) (rw its (omega (arith, cut.inside, length-take i kept)));
+      going = λ e. had;
+      short = λ ends. short_heard ends (not_past n after.line (omega arith) (rw its (omega (arith, cut.inside, length-take i kept))));
     }
+  where
+    heard_cut : (ends : Bool) (r : List ℕ) → after.line ≡ take i kept → after.kept ≡ drop (i + 1) kept → heard_lines ends (kept ++ r) ≡ heard_line ends after ∷ heard_lines ends (after.kept ++ r)
+    heard_cut false r its more = rw (its, more) (cut_lines kept r i cut)
+    heard_cut true r its more = rw (had, its, more) (cut_ended kept r i cut)
+
+    short_heard : (ends : Bool) → is_past n after.line ≡ false → is_past n (heard_line ends after) ≡ false
+    short_heard false e = e
+    short_heard true e = rw had e
+
+-- the first line that is heard of the kept bytes and of those that follow is too long or too late
+abbrev FindsPast : List ℕ → ℕ → Type 0
+FindsPast kept n = (ends : Bool) (rest : List ℕ) → (line : List ℕ) × (lines : List (List ℕ)) × (heard_lines ends (kept ++ rest) ≡ line ∷ lines) × (is_past n line ≡ true)
 
 -- where a first line is too long or too late whatever follows, and stays kept, the step found it wrong and would do so again
-refused : (kept : List ℕ) (count n : ℕ) (after : LinesState) → n ≡ count + 1 → ((rest : List ℕ) → (line : List ℕ) × (lines : List (List ℕ)) × (lines_of (kept ++ rest) ≡ line ∷ lines) × (is_past n line ≡ true)) → after.kept ≡ kept → after.count ≡ count → HasWrongLine kept count after n
+refused : (kept : List ℕ) (count n : ℕ) (after : LinesState) → n ≡ count + 1 → FindsPast kept n → after.kept ≡ kept → after.count ≡ count → HasWrongLine kept count after n
 refused kept count n after number next stays same =
-    let now = next [] in
+    let now = next false [] in
     let all : lines_of after.kept ≡ now.0 ∷ now.1 = ap lines_of (stays ∙ sym (append-nil kept)) ∙ now.2 in
     record {
       is_number = number;
@@ -45,13 +59,19 @@ refused kept count n after number next stays same =
       stays = (now.0, now.1, all, subst (λ (k : ℕ). is_past k now.0 ≡ true) (number ∙ ap (λ k. k + 1) (sym same)) now.3);
     }
 
+late_first : (kept : List ℕ) (n : ℕ) → 0 < length kept → 2 ^ 24 < n → FindsPast kept n
+late_first kept n some late false r = let found = some_line (kept ++ r) (omega (arith, length-append kept r)) in (found.0, found.1, found.2, past_late n found.0 late)
+late_first kept n some late true r = let found = some_ended (kept ++ r) (omega (arith, length-append kept r)) in (found.0, found.1, found.2, past_late n found.0 late)
+
+long_first : (kept : List ℕ) (n : ℕ) → HasNoEnd kept → 4096 < length kept → FindsPast kept n
+long_first kept n none long false r = let found = long_line kept r none (omega arith) in (kept ++ found.0, found.1, found.2, past_long n (kept ++ found.0) (omega (arith, length-append kept found.0)))
+long_first kept n none long true r = let found = long_ended kept r none long in (kept ++ found.0, found.1, found.2, past_long n (kept ++ found.0) (omega (arith, length-append kept found.0)))
+
 pub refuse_late : (kept : List ℕ) (count n : ℕ) (after : LinesState) → 0 < length kept → count ≡ 2 ^ 24 → n ≡ count + 1 → after.kept ≡ kept → after.count ≡ count → HasWrongLine kept count after n
-refuse_late kept count n after some at number stays counts =
-    refused kept count n after number (λ r. let found = some_line (kept ++ r) (omega (arith, length-append kept r)) in (found.0, found.1, found.2, past_late n found.0 (omega arith))) stays counts
+refuse_late kept count n after some at number stays counts = refused kept count n after number (late_first kept n some (omega arith)) stays counts
 
 pub refuse_long : (kept : List ℕ) (count n : ℕ) (after : LinesState) → HasNoEnd kept → 4096 < length kept → n ≡ count + 1 → after.kept ≡ kept → after.count ≡ count → HasWrongLine kept count after n
-refuse_long kept count n after none long number stays counts =
-    refused kept count n after number (λ r. let found = long_line kept r none (omega arith) in (kept ++ found.0, found.1, found.2, past_long n (kept ++ found.0) (omega (arith, length-append kept found.0)))) stays counts
+refuse_long kept count n after none long number stays counts = refused kept count n after number (long_first kept n none long) stays counts
 
 -- bytes have one first line, which can't both fit and be too long or too late
 one_first : (kept line other : List ℕ) (lines others : List (List ℕ)) (n : ℕ) → lines_of kept ≡ line ∷ lines → lines_of kept ≡ other ∷ others → is_past n other ≡ false → is_past n line ≡ true → ⊥
@@ -76,21 +96,38 @@ open_not_past state (b ∷ bs) same none short few past =
     one_first state.kept past.0 (b ∷ bs) past.1 [] (state.count + 1) past.2 first (not_past (state.count + 1) (b ∷ bs) (omega arith) short) past.3
 
 -- the last line is handed out, which lacks its LF
-pub hand_last : (kept bytes : List ℕ) (stop count n : ℕ) (after : LinesState) → 0 < length kept → HasNoEnd kept → length kept ≤ 4096 → (0 < length kept → count < 2 ^ 24) → after.line ≡ kept → after.kept ≡ between stop stop bytes → after.count ≡ count + 1 → n ≡ count + 1 → after.ended ≡ true → HandsOut kept count after n
-hand_last kept bytes stop count n after some none short below its rest counts number ended =
+pub hand_last : (kept bytes : List ℕ) (stop count n : ℕ) (after : LinesState) → 0 < length kept → HasNoEnd kept → length kept ≤ 4096 → (0 < length kept → count < 2 ^ 24) → after.line ≡ kept → after.whole ≡ false → after.kept ≡ between stop stop bytes → after.count ≡ count + 1 → n ≡ count + 1 → after.ended ≡ true → HandsOut kept count after n
+hand_last kept bytes stop count n after some none short below its had rest counts number ended =
     let few : count < 2 ^ 24 = below some in
     let more : after.kept ≡ [] = rest ∙ between_none stop bytes in
     record {
       is_number = number;
       counts = counts;
-      lines = λ r e. rw (its, more, e ended) (only kept some none);
+      lines = λ ends r e. heard_last ends r more (e ended);
       whole = λ r e. absurd (cc);
-      short = not_past n after.line (omega arith) (rw its short);
+      going = λ e. absurd (cc);
+      short = λ ends. short_heard ends few;
     }
   where
     only : (xs : List ℕ) → 0 < length xs → HasNoEnd xs → lines_of (xs ++ []) ≡ xs ∷ lines_of ([] ++ [])
     only [] h none = absurd (omega arith)
     only (x ∷ xs) h none = let e : (x ∷ xs) ++ [] ≡ x ∷ xs = grind (arith, common_steps) in subst (λ (y : List ℕ). lines_of y ≡ (x ∷ xs) ∷ []) (sym e) (last_line x xs none)
+
+    heard_last : (ends : Bool) (r : List ℕ) → after.kept ≡ [] → r ≡ [] → heard_lines ends (kept ++ r) ≡ heard_line ends after ∷ heard_lines ends (after.kept ++ r)
+    heard_last false r more e = rw (its, more, e) (only kept some none)
+    heard_last true r more e = rw (had, more, e) (last_ended kept some none short)
+
+    short_heard : (ends : Bool) → count < 2 ^ 24 → is_past n (heard_line ends after) ≡ false
+    short_heard false few = not_past n after.line (omega arith) (rw its short)
+    short_heard true few = rw had (not_past n [] (omega arith) (omega arith))
+
+-- no line is left where no byte is
+pub over : (kept : List ℕ) (count : ℕ) (after : LinesState) → kept ≡ [] → after.kept ≡ [] → after.count ≡ count → after.ended ≡ true → IsOver kept count after
+over kept count after none stays counts ended = record { none = none; lines = λ ends. ap (heard_lines ends) none ∙ none_heard ends; kept = stays; counts = counts; ended = ended }
+  where
+    none_heard : (ends : Bool) → heard_lines ends [] ≡ []
+    none_heard false = refl
+    none_heard true = none_ended
 
 pub no_bytes : (told : Option (List ℕ)) → told ≡ after_bytes [] told
 no_bytes None = refl

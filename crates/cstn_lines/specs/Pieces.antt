@@ -1,5 +1,6 @@
 -- Bytes as lines.
-use Rattle.std.specs.Prelude.{◌≡◌, ◌≢◌, ℕ, ◌<◌, ◌-◌, ◌^◌, take, drop, Bool, nat_lt, ◌||◌, ◌==◌, if◌then◌else◌, List, [], ◌∷◌, ◌++◌, length, get_or}
+use Rattle.std.specs.Prelude.{◌≡◌, ◌≢◌, ℕ, ◌<◌, ◌-◌, ◌^◌, take, drop, Bool, true, false, nat_lt, ◌||◌, ◌==◌, if◌then◌else◌, List, [], ◌∷◌, ◌++◌, length, get_or}
+use Rattle.cstn_listing.specs.Parts.{parts_at}
 
 -- the bytes from the place `start` to the place `end`, without the one at `end`
 abbrev pub between : ℕ → ℕ → List ℕ → List ℕ
@@ -47,3 +48,20 @@ HasNoEnd bs = (k : ℕ) → k < length bs → get_or bs k 0 ≢ 10
 -- a line of this number is wrong in every grammar: it is too long, with more than 4,096 bytes, or too late, above number 2^24
 abbrev pub is_past : ℕ → List ℕ → Bool
 is_past number line = nat_lt 4096 (length line) || nat_lt (2 ^ 24) number
+
+-- a last line that lacks its LF is heard as an empty one, unless it is too long
+abbrev pub unended : List ℕ → List ℕ
+unended line = if nat_lt 4096 (length line) then line else []
+
+abbrev pub with_unended : List (List ℕ) → List ℕ → List (List ℕ)
+with_unended lines [] = lines
+with_unended lines (b ∷ tail) = lines ++ unended (b ∷ tail) ∷ []
+
+-- the lines of some bytes, where a last one that lacks its LF is heard so
+abbrev pub ended_lines : List ℕ → List (List ℕ)
+ended_lines bs = with_unended (parts_at 10 bs).0 (parts_at 10 bs).1
+
+-- the lines that are heard of some bytes, by whether each has to have its LF
+abbrev pub heard_lines : (ends : Bool) → List ℕ → List (List ℕ)
+heard_lines false bs = lines_of bs
+heard_lines true bs = ended_lines bs

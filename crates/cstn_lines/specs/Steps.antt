@@ -1,24 +1,32 @@
 -- Steps through the lines of a source.
-use Rattle.std.specs.Prelude.{◌≡◌, ℕ, ◌+◌, ◌≤◌, ◌<◌, ◌^◌, length, Bool, true, false, List, [], ◌∷◌, ◌++◌}
-use Rattle.cstn_lines.specs.Pieces.{lines_of, whole_lines, is_past, HasNoEnd}
+use Rattle.std.specs.Prelude.{◌≡◌, ℕ, ◌+◌, ◌≤◌, ◌<◌, ◌^◌, length, Bool, true, false, if◌then◌else◌, List, [], ◌∷◌, ◌++◌}
+use Rattle.cstn_lines.specs.Pieces.{lines_of, whole_lines, heard_lines, is_past, HasNoEnd}
 use Rattle.cstn_lines.specs.declared.lines.Next.{Next}
 use Rattle.cstn_lines.specs.declared.lines.Next.TheVariants.{Line, End, Wrong, Fault}
 
--- the line that the last step handed out, the bytes that were taken and not handed out yet, how many lines were handed out, and
--- whether the source has ended
+-- the line that the last step handed out, and whether it had its LF; the bytes that were taken and not handed out yet, how many
+-- lines were handed out, and whether the source has ended
 pub record LinesState : Type 0 where
   pub line : List ℕ
+  pub whole : Bool
   pub kept : List ℕ
   pub count : ℕ
   pub ended : Bool
+
+-- how the line that was handed out is heard, by whether it has to have its LF
+abbrev pub heard_line : (ends : Bool) → LinesState → List ℕ
+heard_line false state = state.line
+heard_line true state = if state.whole then state.line else []
 
 -- the step handed out the first line of these bytes, which comes after `count` lines, whatever bytes follow
 pub record HandsOut (bytes : List ℕ) (count : ℕ) (after : LinesState) (number : ℕ) : Type 0 where
   pub is_number : number ≡ count + 1
   pub counts : after.count ≡ count + 1
-  pub lines : (rest : List ℕ) → (after.ended ≡ true → rest ≡ []) → lines_of (bytes ++ rest) ≡ after.line ∷ lines_of (after.kept ++ rest)
+  pub lines : (ends : Bool) (rest : List ℕ) → (after.ended ≡ true → rest ≡ []) →
+      heard_lines ends (bytes ++ rest) ≡ heard_line ends after ∷ heard_lines ends (after.kept ++ rest)
   pub whole : (rest : List ℕ) → after.ended ≡ false → whole_lines (bytes ++ rest) ≡ after.line ∷ whole_lines (after.kept ++ rest)
-  pub short : is_past number after.line ≡ false
+  pub going : after.ended ≡ false → after.whole ≡ true
+  pub short : (ends : Bool) → is_past number (heard_line ends after) ≡ false
 
 -- the next line, as far as it is kept, is already too long or too late
 abbrev pub IsPast : LinesState → Type 0
@@ -31,6 +39,7 @@ wrong_at number = Wrong number
 -- there is no line left
 pub record IsOver (bytes : List ℕ) (count : ℕ) (after : LinesState) : Type 0 where
   pub none : bytes ≡ []
+  pub lines : (ends : Bool) → heard_lines ends bytes ≡ []
   pub kept : after.kept ≡ []
   pub counts : after.count ≡ count
   pub ended : after.ended ≡ true
@@ -38,7 +47,8 @@ pub record IsOver (bytes : List ℕ) (count : ℕ) (after : LinesState) : Type 0
 -- the first line of these bytes is too long or too late, whatever bytes follow
 pub record HasWrongLine (bytes : List ℕ) (count : ℕ) (after : LinesState) (number : ℕ) : Type 0 where
   pub is_number : number ≡ count + 1
-  pub next : (rest : List ℕ) → (line : List ℕ) × (lines : List (List ℕ)) × (lines_of (bytes ++ rest) ≡ line ∷ lines) × (is_past number line ≡ true)
+  pub next : (ends : Bool) (rest : List ℕ) →
+      (line : List ℕ) × (lines : List (List ℕ)) × (heard_lines ends (bytes ++ rest) ≡ line ∷ lines) × (is_past number line ≡ true)
   pub kept : after.kept ≡ bytes
   pub counts : after.count ≡ count
   pub stays : IsPast after

@@ -1,7 +1,8 @@
 // Edit lines.
-ghost use Rattle.std.specs.Prelude.{◌≡◌, false, IfOk, OnErr, codes, bytes_eq};
+ghost use Rattle.std.specs.Prelude.{◌≡◌, true, false, IfOk, OnErr, codes, bytes_eq};
 ghost use Rattle.std.specs.Option.{option_map};
 ghost use Rattle.cstn_label.specs.Read.{marks};
+ghost use Rattle.cstn_text.specs.PrintedNames.{name_read};
 ghost use Rattle.cstn_lines.specs.EditLines.{the_edit, id_read, change_read, ends_read, limit_read, add_read, edited_read, edit_read, IsAdding};
 
 use crate::live::cut_at_space;
@@ -66,9 +67,21 @@ pub fn read_edit(alloc: Global, bytes: &[u8]) -> Result<Option<EditLine>, AllocE
     if bytes == b"check".as_slice() {
         return Ok(Some(EditLine::Check));
     }
-    let Some((word, operands)) = cut_at_space(bytes) else {
-        return Ok(None);
-    };
+    match cut_at_space(bytes) {
+        Some((word, operands)) => read_edited(alloc, word, operands),
+        None => Ok(None),
+    }
+}
+
+// The edit line of a word, a space and what follows.
+pub fn read_edited(
+    alloc: Global,
+    word: &[u8],
+    operands: &[u8],
+) -> Result<Option<EditLine>, AllocError>
+    ensures read { IfOk result (λ line. option_map the_edit line ≡ edited_read (word.now, operands.now)) }
+    ensures memory { OnErr result (bytes_eq word.now (codes "add") ≡ true) }
+{
     if word == b"add".as_slice() {
         return read_add(alloc, operands);
     }
@@ -151,16 +164,26 @@ fn read_ends(
 ) -> Result<Option<EditLine>, AllocError>
     ensures { IfOk result (λ line. option_map the_edit line ≡ ends_read from.now to.now most (marks label)) }
 {
-    let Some(from) = read_name(alloc, from)? else {
+    let Some(from) = read_name_text(alloc, from)? else {
         return Ok(None);
     };
-    let Some(to) = read_name(alloc, to)? else {
+    let Some(to) = read_name_text(alloc, to)? else {
         return Ok(None);
     };
     Ok(Some(EditLine::Add {
-        from: NameText { text: from },
-        to: NameText { text: to },
+        from,
+        to,
         most,
         label,
     }))
+}
+
+// The name that a text prints; none where it prints none.
+pub fn read_name_text(alloc: Global, bytes: &[u8]) -> Result<Option<NameText>, AllocError>
+    ensures { IfOk result (λ name. option_map (λ n. n) name ≡ name_read bytes.now) }
+{
+    match read_name(alloc, bytes)? {
+        Some(text) => Ok(Some(NameText { text })),
+        None => Ok(None),
+    }
 }

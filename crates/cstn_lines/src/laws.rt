@@ -2,6 +2,7 @@
 ghost use Rattle.std.specs.Prelude.{◌≡◌, ◌⊎◌, ◌++◌, [], ◌∷◌, ℕ, List, Some};
 ghost use Rattle.cstn_lines.specs.Pieces.{lines_of, joined};
 ghost use Rattle.cstn_lines.specs.EditLines.{Edit, IsEdit, IsTextOf, edit_read, printed_edit};
+ghost use Rattle.cstn_lines.specs.FollowLines.{Follow, IsFollow, IsTextOf as IsTextOfFollow, follow_read, printed_follow};
 ghost use Rattle.cstn_lines.specs.HostLines.{Hosted, IsHosted, host_read, printed_hosted};
 ghost use Rattle.cstn_lines.specs.LiveLines.{Live, IsLive, live_read, printed_live};
 
@@ -20,6 +21,15 @@ pub fn edit_lines_are_read_back()
     ensures back { (line : Edit) → IsEdit line → edit_read (printed_edit line) ≡ Some line }
     ensures only { (text : List ℕ) (line : Edit) → edit_read text ≡ Some line → IsTextOf line text }
     ensures edit { (text : List ℕ) (line : Edit) → edit_read text ≡ Some line → IsEdit line }
+{}
+
+/// What is printed of a line of a session that follows a plan is read again as the same line. What is read as such a line is
+/// the text of one, where the marks of an edit's label may stand in any order.
+#[tactic(auto, using(crate::proofs::FollowLemmas::follow_back, crate::proofs::FollowLemmas::follow_only, crate::proofs::FollowLemmas::follow_is))]
+pub fn follow_lines_are_read_back()
+    ensures back { (line : Follow) → IsFollow line → follow_read (printed_follow line) ≡ Some line }
+    ensures only { (text : List ℕ) (line : Follow) → follow_read text ≡ Some line → IsTextOfFollow line text }
+    ensures follow { (text : List ℕ) (line : Follow) → follow_read text ≡ Some line → IsFollow line }
 {}
 
 /// Each host line has one text.

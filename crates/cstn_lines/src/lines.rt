@@ -48,13 +48,13 @@ pub struct Lines {
 }
 
 impl Model for Lines {
-    ghost use Rattle.std.specs.Prelude.{◌≡◌, ◌≤◌, ◌^◌, vec_len};
+    ghost use Rattle.std.specs.Prelude.{◌≡◌, ◌≤◌, ◌^◌, nat_lt, vec_len};
     ghost use Rattle.cstn_lines.specs.Pieces.{HasNoEnd, between};
     ghost use Rattle.cstn_lines.specs.Steps.{LinesState};
 
     ghost Value = { LinesState };
 
-    ghost view = { λ s. record { line = between s.first s.last s.bytes.items; kept = between s.start s.end s.bytes.items; count = s.count; ended = s.ended } };
+    ghost view = { λ s. record { line = between s.first s.last s.bytes.items; whole = nat_lt s.last s.start; kept = between s.start s.end s.bytes.items; count = s.count; ended = s.ended } };
 
     ghost invariant = { λ s. (s.first ≤ s.last) × (s.last ≤ s.end) × (s.start ≤ s.searched) × (s.searched ≤ s.end) × (s.end ≤ 4097) × (vec_len s.bytes ≡ 4097) × HasNoEnd (between s.start s.searched s.bytes.items) × (s.count ≤ 2 ^ 24) };
 }
@@ -63,7 +63,7 @@ impl Lines {
     /// The state before the first line of a source. Takes memory for the longest line, and none later. Fails for
     /// want of memory alone.
     pub fn start(alloc: Global) -> Result<Lines, AllocError>
-        ensures { IfOk result (λ s. s ≡ record { line = []; kept = []; count = 0; ended = false }) }
+        ensures { IfOk result (λ s. s ≡ record { line = []; whole = false; kept = []; count = 0; ended = false }) }
     {
         let bytes = vec![in alloc; 0u8; ROOM]?;
         Ok(Lines {
@@ -84,6 +84,14 @@ impl Lines {
         ensures { result.now ≡ self.now.line }
     {
         &self.bytes[self.first..self.last]
+    }
+
+    /// Whether the line that the last step handed out had its LF, which only the last line of a source may lack. After a
+    /// step that handed out none this means nothing.
+    pub fn is_whole(&self) -> bool
+        ensures { result ≡ self.now.whole }
+    {
+        self.last < self.start
     }
 
     // How many bytes are kept.

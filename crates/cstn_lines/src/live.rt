@@ -65,7 +65,8 @@ fn read_seen(bytes: &[u8]) -> Option<LiveLine>
     Some(LiveLine::See { prop, value })
 }
 
-fn read_prop(bytes: &[u8]) -> Option<Prop>
+// The proposition of one letter.
+pub fn read_prop(bytes: &[u8]) -> Option<Prop>
     ensures { option_map (λ p. p.index) result ≡ prop_read bytes.now }
 {
     match bytes {
@@ -74,7 +75,8 @@ fn read_prop(bytes: &[u8]) -> Option<Prop>
     }
 }
 
-fn read_truth(bytes: &[u8]) -> Option<bool>
+// `true` or `false`.
+pub fn read_truth(bytes: &[u8]) -> Option<bool>
     ensures { result ≡ truth_read bytes.now }
 {
     if bytes == b"true".as_slice() {

@@ -1,10 +1,10 @@
 -- How a session ends: what was written before, and the last text.
 use Rattle.std.proofs.Common.{◌≡◌, ℕ, ◌+◌, min, List, [], ◌∷◌, ◌++◌, length, take, refl, ap, sym, ◌∙◌, subst, arith, append_assoc, inl, inr, suc}
-use Rattle.std.specs.Prelude.{◌⊎◌, true, Option, None, Some, codes}
+use Rattle.std.specs.Prelude.{◌⊎◌, Bool, true, Option, None, Some, codes}
 use Rattle.std.proofs.lemmas.Grind.{common_steps}
 use Rattle.std.proofs.lemmas.List.{take_min, take-append-le}
 use Rattle.cstn_io.specs.Contents.{with_bytes, IsAtEnd}
-use Rattle.cstn_lines.specs.Pieces.{lines_of}
+use Rattle.cstn_lines.specs.Pieces.{heard_lines}
 use Rattle.cstn_lines.specs.Steps.{LinesState}
 use Rattle.cstn_reply.specs.Texts.{Said, after_text, line}
 use Rattle.cstn_reply.specs.Written.{LiveState, IsText, is_output, is_memory, IsWritten, Ends}
@@ -45,12 +45,12 @@ pub no_memory : (output : List ℕ → Said → Type 0) (heard : List ℕ → Op
 no_memory output heard before after old new result wrote = (Memory, line (codes "memory"), is_memory [] (inl refl), wrote)
 
 -- how a session ends where the sink fails in an answer
-pub cut_short : {S : Type 0} (turn : S → List ℕ → Turn S) (ending : S → Said) (opening : List ℕ) (start : S) (before : LiveState) (now : Option (List ℕ)) (faults : ℕ) (lines : LinesState) (state : S) (taken said : List ℕ) (old new : Option (List ℕ)) (n : ℕ) → Progress turn start before.left now lines state taken said → (lines.ended ≡ true → IsAtEnd now) → new ≡ with_bytes old (take n (opening ++ said)) → Ends (session_says turn ending opening start) (session_heard turn opening start) before (record { left = now; faults = faults }) old new WriteFault
-cut_short turn ending opening start before now faults lines state taken said old new n so_far at_end is =
+pub cut_short : {S : Type 0} (ends : Bool) (turn : S → List ℕ → Turn S) (ending : S → Said) (opening : List ℕ) (start : S) (before : LiveState) (now : Option (List ℕ)) (faults : ℕ) (lines : LinesState) (state : S) (taken said : List ℕ) (old new : Option (List ℕ)) (n : ℕ) → Progress ends turn start before.left now lines state taken said → (lines.ended ≡ true → IsAtEnd now) → new ≡ with_bytes old (take n (opening ++ said)) → Ends (session_says ends turn ending opening start) (session_heard turn opening start) before (record { left = now; faults = faults }) old new WriteFault
+cut_short ends turn ending opening start before now faults lines state taken said old new n so_far at_end is =
     let live : List ℕ = taken ++ given now in
-    let rest : Said = play turn ending state lines.count (lines_of (lines.kept ++ given now)) in
-    let all : Said = after_text opening (play turn ending start 0 (lines_of live)) in
-    let whole : all ≡ after_text (opening ++ said) rest = ap (after_text opening) (played turn ending start before.left now lines state taken said so_far (given now) (λ h. given_end now (at_end h))) ∙ after_both opening said rest in
+    let rest : Said = play turn ending state lines.count (heard_lines ends (lines.kept ++ given now)) in
+    let all : Said = after_text opening (play turn ending start 0 (heard_lines ends live)) in
+    let whole : all ≡ after_text (opening ++ said) rest = ap (after_text opening) (played ends turn ending start before.left now lines state taken said so_far (given now) (λ h. given_end now (at_end h))) ∙ after_both opening said rest in
     let cut : ℕ = min n (length (opening ++ said)) in (
       _,
       all.text,
@@ -59,14 +59,14 @@ cut_short turn ending opening start before now faults lines state taken said old
     )
 
 -- how a session ends where the sink fails in the opening
-pub cut_opening : {S : Type 0} (turn : S → List ℕ → Turn S) (ending : S → Said) (opening : List ℕ) (start : S) (before after : LiveState) (old new : Option (List ℕ)) (n : ℕ) → new ≡ with_bytes old (take n opening) → Ends (session_says turn ending opening start) (session_heard turn opening start) before after old new WriteFault
-cut_opening turn ending opening start before after old new n is =
+pub cut_opening : {S : Type 0} (ends : Bool) (turn : S → List ℕ → Turn S) (ending : S → Said) (opening : List ℕ) (start : S) (before after : LiveState) (old new : Option (List ℕ)) (n : ℕ) → new ≡ with_bytes old (take n opening) → Ends (session_says ends turn ending opening start) (session_heard turn opening start) before after old new WriteFault
+cut_opening ends turn ending opening start before after old new n is =
     let live : List ℕ = given before.left in
-    let all : Said = after_text opening (play turn ending start 0 (lines_of live)) in (
+    let all : Said = after_text opening (play turn ending start 0 (heard_lines ends live)) in (
       _,
       all.text,
       is_output live all (all_given before.left before.left [] (no_taken before.left)) refl,
-      inr (refl, (min n (length opening), is ∙ ap (with_bytes old) (shorter n opening (play turn ending start 0 (lines_of live)).text))),
+      inr (refl, (min n (length opening), is ∙ ap (with_bytes old) (shorter n opening (play turn ending start 0 (heard_lines ends live)).text))),
     )
 
 -- what is written after one more answer was written

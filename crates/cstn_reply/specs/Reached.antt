@@ -2,7 +2,7 @@
 use Rattle.std.specs.Prelude.{◌≡◌, ℕ, ◌+◌, Bool, true, false, if◌then◌else◌, List, [], ◌∷◌, ◌++◌, length, Option, None, Some}
 use Rattle.std.specs.Option.{option_map}
 use Rattle.cstn_io.specs.Contents.{after_bytes, IsAllOf}
-use Rattle.cstn_lines.specs.Pieces.{lines_of, whole_lines, is_past}
+use Rattle.cstn_lines.specs.Pieces.{whole_lines, heard_lines, is_past}
 use Rattle.cstn_lines.specs.Steps.{LinesState}
 use Rattle.cstn_reply.specs.Texts.{Said, after_text}
 use Rattle.cstn_reply.specs.Written.{EndsLine}
@@ -37,15 +37,15 @@ pub record ComesToLine (heard : List (List ℕ) → Option (List ℕ)) (kind : L
   pub is_kind : kind next ≡ true
 
 -- a session over the lines of the live source, which has these bytes, comes to a line of this kind
-abbrev pub MeetsLine : (List (List ℕ) → Option (List ℕ)) → (List ℕ → Bool) → Option (List ℕ) → Type 0
-MeetsLine heard kind told = (live : List ℕ) × IsAllOf told live × ComesToLine heard kind (lines_of live)
+abbrev pub MeetsLine : (ends : Bool) → (List (List ℕ) → Option (List ℕ)) → (List ℕ → Bool) → Option (List ℕ) → Type 0
+MeetsLine ends heard kind told = (live : List ℕ) × IsAllOf told live × ComesToLine heard kind (heard_lines ends live)
 
 -- How far a session has come: the bytes that it took are the lines `before`, each of which was answered and leads on, and then
 -- the bytes kept.
-pub record Progress {S : Type 0} (turn : S → List ℕ → Turn S) (start : S) (told now : Option (List ℕ)) (lines : LinesState) (state : S) (taken said : List ℕ) : Type 0 where
+pub record Progress {S : Type 0} (ends : Bool) (turn : S → List ℕ → Turn S) (start : S) (told now : Option (List ℕ)) (lines : LinesState) (state : S) (taken said : List ℕ) : Type 0 where
   pub before : List (List ℕ)
   pub read : told ≡ after_bytes taken now
-  pub lines_are : (rest : List ℕ) → (lines.ended ≡ true → rest ≡ []) → lines_of (taken ++ rest) ≡ before ++ lines_of (lines.kept ++ rest)
+  pub lines_are : (rest : List ℕ) → (lines.ended ≡ true → rest ≡ []) → heard_lines ends (taken ++ rest) ≡ before ++ heard_lines ends (lines.kept ++ rest)
   pub whole_are : (rest : List ℕ) → lines.ended ≡ false → whole_lines (taken ++ rest) ≡ before ++ whole_lines (lines.kept ++ rest)
   pub counts : lines.count ≡ length before
   pub leads : state_after turn start 0 before ≡ Some state

@@ -1,6 +1,6 @@
 -- Sessions over lines.
-use Rattle.std.specs.Prelude.{◌≡◌, ℕ, ◌+◌, if◌then◌else◌, List, [], ◌∷◌, ◌++◌, codes, decimal}
-use Rattle.cstn_lines.specs.Pieces.{lines_of, is_past}
+use Rattle.std.specs.Prelude.{◌≡◌, ℕ, ◌+◌, Bool, if◌then◌else◌, List, [], ◌∷◌, ◌++◌, codes, decimal}
+use Rattle.cstn_lines.specs.Pieces.{heard_lines, is_past}
 use Rattle.cstn_reply.specs.Texts.{Said, say, after_text}
 use Rattle.cstn_reply.specs.declared.output.Outcome.TheVariants.{Script}
 use Rattle.cstn_reply.specs.declared.session.Answer.{Answer}
@@ -36,9 +36,10 @@ answers turn state count (first ∷ lines) =
     if is_past (count + 1) first then [] else
     on_turn (turn state first) (λ text next. text ++ answers turn next (count + 1) lines) (λ said. said.text) []
 
--- what is said by an opening and then a session from a state on, where the live source has these bytes
-abbrev pub session_says : {S : Type 0} → (S → List ℕ → Turn S) → (S → Said) → List ℕ → S → List ℕ → Said → Type 0
-session_says turn ending opening state live said = said ≡ after_text opening (play turn ending state 0 (lines_of live))
+-- what is said by an opening and then a session from a state on, where the live source has these bytes, and by whether each line
+-- has to have its LF
+abbrev pub session_says : {S : Type 0} → (ends : Bool) → (S → List ℕ → Turn S) → (S → Said) → List ℕ → S → List ℕ → Said → Type 0
+session_says ends turn ending opening state live said = said ≡ after_text opening (play turn ending state 0 (heard_lines ends live))
 
 -- an answer with the state and the text that it leaves
 abbrev pub the_turn : {S : Type 0} → Answer → S → List ℕ → Turn S

@@ -3,7 +3,7 @@ ghost use Rattle.std.specs.Prelude.{◌≡◌, ◌≢◌, ◌⊎◌, ◌≤◌, 
 ghost use Rattle.std.specs.Option.{option_map};
 ghost use Rattle.cstn_io.specs.Causes.{Rose};
 ghost use Rattle.cstn_io.specs.Contents.{after_bytes, with_bytes, IsAtEnd};
-ghost use Rattle.cstn_lines.specs.Steps.{LinesState};
+ghost use Rattle.cstn_lines.specs.Steps.{LinesState, heard_line};
 ghost use Rattle.cstn_reply.specs.Texts.{Said, line};
 ghost use Rattle.cstn_reply.specs.Written.{EndsLine, LiveState, IsText, Ends};
 ghost use Rattle.cstn_reply.specs.Sessions.{Turn, script, session_says, the_turn};
@@ -44,12 +44,19 @@ pub trait Talk: Drop {
     /// How much room an answer wants, in bytes.
     ghost room: { Self → ℕ };
 
+    /// Whether each line has to have its LF.
+    ghost ends: { Bool };
+
     /// Whether the answer to a line may want memory.
     ghost may_stop: { List ℕ → Bool };
 
     /// How many bytes an answer may have, and what is said where the lines end.
     fn room(&self) -> usize
         ensures { result ≡ room self.now };
+
+    /// Whether each line has to have its LF. Where it has, a last line that lacks it is heard as an empty one.
+    fn ends(&self) -> bool
+        ensures { result ≡ ends };
 
     /// Answers a line: its answer stands in `text` then. Fails for want of memory alone, and only at a line that may want it.
     fn answer(&mut self, line: &[u8], text: &mut Vec<u8>) -> Result<Answer, AllocError>
@@ -94,6 +101,16 @@ fn put_script(text: &mut Vec<u8>, number: u32)
     text.extend_from_slice(b"\n").unwrap();
 }
 
+// The line that the last step handed out, as the session hears it.
+fn heard_line<'a, T: Talk>(talk: &T, lines: &'a Lines) -> &'a [u8]
+    ensures { result.now ≡ heard_line T.ends lines.now }
+{
+    if talk.ends() && !lines.is_whole() {
+        return b"";
+    }
+    lines.line()
+}
+
 // Takes the next line and puts the answer to it into `text`. None where the session goes on; at its end `text` is the last
 // text, and the status is returned.
 fn next<T: Talk, S: Source>(
@@ -105,8 +122,8 @@ fn next<T: Talk, S: Source>(
     requires at_end { lines.old.ended ≡ true → IsAtEnd (S.left live.old) }
     requires room { T.room talk.old ≤ vec_capacity text.old }
     requires script { 40 ≤ vec_capacity text.old }
-    ensures goes_on { IfNone result ((start : T.State) (told : Option (List ℕ)) (taken said : List ℕ) → Progress T.turn start told (S.left live.old) lines.old (T.state talk.old) taken said → (bytes : List ℕ) × Progress T.turn start told (S.left live.new) lines.new (T.state talk.new) (taken ++ bytes) (said ++ text.new.items)) }
-    ensures ends { IfSome result (λ status. (start : T.State) (before : LiveState) (taken said opening : List ℕ) → Progress T.turn start before.left (S.left live.old) lines.old (T.state talk.old) taken said → before.faults ≤ S.faults live.old → EndsLine opening → IsText (session_says T.turn T.ending opening start) (session_heard T.turn opening start) before (record { left = S.left live.new; faults = S.faults live.new }) status ((opening ++ said) ++ text.new.items)) }
+    ensures goes_on { IfNone result ((start : T.State) (told : Option (List ℕ)) (taken said : List ℕ) → Progress T.ends T.turn start told (S.left live.old) lines.old (T.state talk.old) taken said → (bytes : List ℕ) × Progress T.ends T.turn start told (S.left live.new) lines.new (T.state talk.new) (taken ++ bytes) (said ++ text.new.items)) }
+    ensures ends { IfSome result (λ status. (start : T.State) (before : LiveState) (taken said opening : List ℕ) → Progress T.ends T.turn start before.left (S.left live.old) lines.old (T.state talk.old) taken said → before.faults ≤ S.faults live.old → EndsLine opening → IsText (session_says T.ends T.turn T.ending opening start) (session_heard T.turn opening start) before (record { left = S.left live.new; faults = S.faults live.new }) status ((opening ++ said) ++ text.new.items)) }
     ensures at_end { lines.new.ended ≡ true → IsAtEnd (S.left live.new) }
     ensures count { IfNone result ((lines.new.count ≡ lines.old.count + 1) × (lines.new.count ≤ 16777216)) }
     ensures room { T.room talk.new ≡ T.room talk.old }
@@ -114,11 +131,11 @@ fn next<T: Talk, S: Source>(
     ensures later { S.faults live.old ≤ S.faults live.new }
     ensures read { result ≡ Some Status.ReadFault → Rose (S.faults live.old) (S.faults live.new) }
     ensures write { result ≢ Some Status.WriteFault }
-    ensures memory { result ≡ Some Status.Memory → (start : T.State) (told : Option (List ℕ)) (taken said : List ℕ) → Progress T.turn start told (S.left live.old) lines.old (T.state talk.old) taken said → MeetsLine (heard T.turn start) T.may_stop told }
+    ensures memory { result ≡ Some Status.Memory → (start : T.State) (told : Option (List ℕ)) (taken said : List ℕ) → Progress T.ends T.turn start told (S.left live.old) lines.old (T.state talk.old) taken said → MeetsLine T.ends (heard T.turn start) T.may_stop told }
 {
     text.clear();
     match lines.step(live) {
-        Next::Line { number } => match talk.answer(lines.line(), text) {
+        Next::Line { number } => match talk.answer(heard_line(talk, lines), text) {
             Ok(Answer::More) => None,
             Ok(Answer::Last(outcome)) => Some(outcome.status()),
             Ok(Answer::Wrong) => {
@@ -152,11 +169,11 @@ pub fn converse<T: Talk, S: Source, K: Sink>(
     out: &mut K,
 ) -> Status
     requires { EndsLine opening.now }
-    ensures ends { Ends (session_says T.turn T.ending opening.now (T.state talk)) (session_heard T.turn opening.now (T.state talk)) (record { left = S.left live.old; faults = S.faults live.old }) (record { left = S.left live.new; faults = S.faults live.new }) (K.written out.old) (K.written out.new) result }
+    ensures ends { Ends (session_says T.ends T.turn T.ending opening.now (T.state talk)) (session_heard T.turn opening.now (T.state talk)) (record { left = S.left live.old; faults = S.faults live.old }) (record { left = S.left live.new; faults = S.faults live.new }) (K.written out.old) (K.written out.new) result }
     ensures flushed { result ≢ Status.WriteFault → K.flushed out.new ≡ option_map length (K.written out.new) }
     ensures read { result ≡ Status.ReadFault → Rose (S.faults live.old) (S.faults live.new) }
     ensures write { result ≡ Status.WriteFault → Rose (K.faults out.old) (K.faults out.new) }
-    ensures memory { result ≡ Status.Memory → MeetsLine (heard T.turn (T.state talk)) T.may_stop (S.left live.old) ⊎ ((K.written out.new ≡ with_bytes (K.written out.old) (line (codes "memory"))) × (live.new ≡ live.old)) }
+    ensures memory { result ≡ Status.Memory → MeetsLine T.ends (heard T.turn (T.state talk)) T.may_stop (S.left live.old) ⊎ ((K.written out.new ≡ with_bytes (K.written out.old) (line (codes "memory"))) × (live.new ≡ live.old)) }
     ensures later { (S.faults live.old ≤ S.faults live.new) × (K.faults out.old ≤ K.faults out.new) }
 {
     let Ok(mut lines) = Lines::start(alloc) else {

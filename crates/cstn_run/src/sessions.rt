@@ -115,10 +115,16 @@ impl Talk for RunSession {
 
     ghost room = { λ _. 200000 };
 
+    ghost ends = { false };
+
     ghost may_stop = { λ _. false };
 
     fn room(&self) -> usize {
         ROOM
+    }
+
+    fn ends(&self) -> bool {
+        false
     }
 
     fn answer(&mut self, line: &[u8], text: &mut Vec<u8>) -> Result<Answer, AllocError> {

@@ -182,7 +182,7 @@ live_is words r told plan source now there planned (inl may) = inl (reads_live w
 live_is words r told plan source now there planned (inr same) = inr same
 
 -- a session that comes to a line of a kind comes to it also by what is said with an opening
-meets : (heard other : List (List ℕ) → Option (List ℕ)) (opening : List ℕ) (kind : List ℕ → Bool) (told : Option (List ℕ)) → ((lines : List (List ℕ)) → option_map (λ (xs : List ℕ). opening ++ xs) (heard lines) ≡ other lines) → MeetsLine heard kind told → MeetsLine other kind told
+meets : (heard other : List (List ℕ) → Option (List ℕ)) (opening : List ℕ) (kind : List ℕ → Bool) (told : Option (List ℕ)) → ((lines : List (List ℕ)) → option_map (λ (xs : List ℕ). opening ++ xs) (heard lines) ≡ other lines) → MeetsLine false heard kind told → MeetsLine false other kind told
 meets heard other opening kind told same (live, all, found) = (
   live,
   all,
@@ -199,7 +199,7 @@ meets heard other opening kind told same (live, all, found) = (
 )
 
 -- an answer may want memory only where that is asked for
-may_stop : (words : Option Request) (r : Request) (told : Option (List ℕ → Option (List ℕ))) (live : Option (List ℕ)) (plan : Plan) → Some r ≡ words → Planned r told plan → WantsMemory (command_of r).kind → MayTalk plan → ((contents : List (List ℕ)) → ComesTo (plan_at r contents) plan → MeetsLine (before_fault (plan_at r contents)) (command_of r).lines.wants_at live) → HoldsOf words told (MayStop live)
+may_stop : (words : Option Request) (r : Request) (told : Option (List ℕ → Option (List ℕ))) (live : Option (List ℕ)) (plan : Plan) → Some r ≡ words → Planned r told plan → WantsMemory (command_of r).kind → MayTalk plan → ((contents : List (List ℕ)) → ComesTo (plan_at r contents) plan → MeetsLine false (before_fault (plan_at r contents)) (command_of r).lines.wants_at live) → HoldsOf words told (MayStop live)
 may_stop words r told live plan there planned wants may at =
     subst (λ (w : Option Request). HoldsOf w told (MayStop live)) there
     (planned.contents, planned.are, ((proved r).wants planned.contents wants (planned.comes.talks may), at planned.contents planned.comes))
@@ -209,13 +209,13 @@ wants words r told live (Says said) there planned fits want = absurd want
 wants words r told live (Runs opening guiding) there planned fits want = absurd want
 wants words r told live (Edits editing) there planned fits want =
     may_stop words r told live _ there planned (subst WantsMemory (sym fits) tt) tt
-    (λ contents comes. subst (λ (k : List ℕ → Bool). MeetsLine (before_fault (plan_at r contents)) k live) (ap kind_wants (sym fits) ∙ sym (wants_by r)) (meets (heard edit_turn (the_editing editing)) (before_fault (plan_at r contents)) [] edit_wants live (comes.fault tt) want))
+    (λ contents comes. subst (λ (k : List ℕ → Bool). MeetsLine false (before_fault (plan_at r contents)) k live) (ap kind_wants (sym fits) ∙ sym (wants_by r)) (meets (heard edit_turn (the_editing editing)) (before_fault (plan_at r contents)) [] edit_wants live (comes.fault tt) want))
 wants words r told live (Hosts opening ward) there planned fits want =
     may_stop words r told live _ there planned (subst WantsMemory (sym fits.1) tt) tt
-    (λ contents comes. subst (λ (k : List ℕ → Bool). MeetsLine (before_fault (plan_at r contents)) k live) (ap kind_wants (sym fits.1) ∙ sym (wants_by r)) (meets (heard host_turn (the_host_session ward)) (before_fault (plan_at r contents)) opening.items host_wants live (comes.fault tt) want))
+    (λ contents comes. subst (λ (k : List ℕ → Bool). MeetsLine false (before_fault (plan_at r contents)) k live) (ap kind_wants (sym fits.1) ∙ sym (wants_by r)) (meets (heard host_turn (the_host_session ward)) (before_fault (plan_at r contents)) opening.items host_wants live (comes.fault tt) want))
 
 -- where no answer may want memory, none is wanted
-pub unasked : (heard : List (List ℕ) → Option (List ℕ)) (told : Option (List ℕ)) (Want Alone : Type 0) → MeetsLine heard (λ line. false) told ⊎ Alone → Want ⊎ Alone
+pub unasked : (heard : List (List ℕ) → Option (List ℕ)) (told : Option (List ℕ)) (Want Alone : Type 0) → MeetsLine false heard (λ line. false) told ⊎ Alone → Want ⊎ Alone
 unasked heard told Want Alone (inl (live, all, found)) = absurd (let e : false ≡ true = found.is_kind in let f : ⊥ = cc in f)
 unasked heard told Want Alone (inr alone) = inr alone
 

@@ -1,5 +1,5 @@
 -- What is prepared for a request.
-use Rattle.std.specs.Prelude.{◌≡◌, ℕ, List, [], Option, Some}
+use Rattle.std.specs.Prelude.{false, ◌≡◌, ℕ, List, [], Option, Some}
 use Rattle.cstn_words.specs.Requests.{Request, files_of}
 use Rattle.cstn_documents.specs.Files.{AreContents, AreThere}
 use Rattle.cstn_reply.specs.Texts.{Said}
@@ -37,8 +37,8 @@ IsLined (Hosts opening session') = EndsLine opening.items
 abbrev pub MayWant : Option (List ℕ) → Prepared → Type 0
 MayWant live (Says said) = ⊥
 MayWant live (Runs opening session') = ⊥
-MayWant live (Edits editing) = MeetsLine (heard edit_turn (the_editing editing)) edit_wants live
-MayWant live (Hosts opening session') = MeetsLine (heard host_turn (the_host_session session')) host_wants live
+MayWant live (Edits editing) = MeetsLine false (heard edit_turn (the_editing editing)) edit_wants live
+MayWant live (Hosts opening session') = MeetsLine false (heard host_turn (the_host_session session')) host_wants live
 
 -- a session is prepared only where it is asked for, and its opening is whole lines
 abbrev pub FitsKind : Kind → Prepared → Type 0

@@ -11,17 +11,17 @@ use Rattle.cstn_reply.proofs.session.converse.Goals as goal
 pub returns-in_default-clause-ends : goal.returns-in_default-clause-ends
 returns-in_default-clause-ends g c =
     let seen : LiveState = record { left = g.S.Source.left c.args.live.now; faults = g.S.Source.faults c.args.live.now } in
-    no_memory (session_says g.T.Talk.turn g.T.Talk.ending c.args.opening.now (g.T.Talk.state c.args.talk)) (session_heard g.T.Talk.turn c.args.opening.now (g.T.Talk.state c.args.talk)) seen seen _ _ _ c.finish.ensures.written
+    no_memory (session_says g.T.Talk.ends g.T.Talk.turn g.T.Talk.ending c.args.opening.now (g.T.Talk.state c.args.talk)) (session_heard g.T.Talk.turn c.args.opening.now (g.T.Talk.state c.args.talk)) seen seen _ _ _ c.finish.ensures.written
 
 pub returns-in_default-with_capacity-clause-ends : goal.returns-in_default-with_capacity-clause-ends
 returns-in_default-with_capacity-clause-ends g c =
     let seen : LiveState = record { left = g.S.Source.left c.args.live.now; faults = g.S.Source.faults c.args.live.now } in
-    no_memory (session_says g.T.Talk.turn g.T.Talk.ending c.args.opening.now (g.T.Talk.state c.args.talk)) (session_heard g.T.Talk.turn c.args.opening.now (g.T.Talk.state c.args.talk)) seen seen _ _ _ c.finish-in_default-with_capacity.ensures.written
+    no_memory (session_says g.T.Talk.ends g.T.Talk.turn g.T.Talk.ending c.args.opening.now (g.T.Talk.state c.args.talk)) (session_heard g.T.Talk.turn c.args.opening.now (g.T.Talk.state c.args.talk)) seen seen _ _ _ c.finish-in_default-with_capacity.ensures.written
 
 pub returns-in_default-send-clause-ends : goal.returns-in_default-send-clause-ends
 returns-in_default-send-clause-ends g c =
     let failed = c.in_default-send.ensures.prefix in
-    cut_opening g.T.Talk.turn g.T.Talk.ending c.args.opening.now (g.T.Talk.state c.args.talk) _ _ _ _ failed.0 failed.1
+    cut_opening g.T.Talk.ends g.T.Talk.turn g.T.Talk.ending c.args.opening.now (g.T.Talk.state c.args.talk) _ _ _ _ failed.0 failed.1
 
 pub session-preserved : goal.session-preserved
 session-preserved g c =
@@ -43,7 +43,7 @@ returns-in_default-send-2-clause-ends g c =
     let was = c.session.invariant.progress in
     let now = c.in-None.ensures.goes_on (g.T.Talk.state c.args.talk) (g.S.Source.left c.args.live.now) was.0 was.1 was.2 in
     let failed = c.in_default-send-2.ensures.prefix in
-    cut_short g.T.Talk.turn g.T.Talk.ending c.args.opening.now (g.T.Talk.state c.args.talk) _ _ _ _ _ (was.0 ++ now.0) (was.1 ++ c.next.new.text.items) _ _ _ now.1 c.in-None.ensures.at_end
+    cut_short g.T.Talk.ends g.T.Talk.turn g.T.Talk.ending c.args.opening.now (g.T.Talk.state c.args.talk) _ _ _ _ _ (was.0 ++ now.0) (was.1 ++ c.next.new.text.items) _ _ _ now.1 c.in-None.ensures.at_end
     (regroup_cut _ _ _ c.args.opening.now was.1 _ _ failed.0 was.3 failed.1 c.deref.ensures.value)
 
 pub returns-in-Some-clause-ends : goal.returns-in-Some-clause-ends
@@ -63,7 +63,7 @@ pub session-init : goal.session-init
 session-init g c =
     let lines_are = c.in-Ok.ensures in
     record {
-      progress = ([], [], starts g.T.Talk.turn (g.T.Talk.state c.args.talk) _ _ (ap (λ (s : LinesState). s.kept) lines_are) (ap (λ (s : LinesState). s.count) lines_are), c.in-Ok-send.ensures.whole ∙ ap (with_bytes _) (sym (nothing_more c.args.opening.now)));
+      progress = ([], [], starts g.T.Talk.ends g.T.Talk.turn (g.T.Talk.state c.args.talk) _ _ (ap (λ (s : LinesState). s.kept) lines_are) (ap (λ (s : LinesState). s.count) lines_are), c.in-Ok-send.ensures.whole ∙ ap (with_bytes _) (sym (nothing_more c.args.opening.now)));
       at_end = λ e. absurd (not_both _ (ap (λ (s : LinesState). s.ended) lines_are) e);
       room = search rules;
       script = search rules;

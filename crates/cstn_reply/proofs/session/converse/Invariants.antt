@@ -5,7 +5,7 @@ use Rattle.cstn_reply.proofs.session.converse.Given as goal
 
 abbrev pub invariant-session : goal.invariant-session
 invariant-session g l = record {
-  progress : (taken said : List ℕ) × Progress g.T.Talk.turn (g.T.Talk.state l.fn.talk) (g.S.Source.left l.fn.live) (g.S.Source.left l.live) l.lines (g.T.Talk.state l.talk) taken said × (g.K.Sink.written l.out ≡ with_bytes (g.K.Sink.written l.fn.out) (l.opening ++ said));
+  progress : (taken said : List ℕ) × Progress g.T.Talk.ends g.T.Talk.turn (g.T.Talk.state l.fn.talk) (g.S.Source.left l.fn.live) (g.S.Source.left l.live) l.lines (g.T.Talk.state l.talk) taken said × (g.K.Sink.written l.out ≡ with_bytes (g.K.Sink.written l.fn.out) (l.opening ++ said));
   at_end : l.lines.ended ≡ true → IsAtEnd (g.S.Source.left l.live);
   room : g.T.Talk.room l.talk ≤ vec_capacity l.text;
   script : 40 ≤ vec_capacity l.text;
