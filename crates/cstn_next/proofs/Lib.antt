@@ -1,5 +1,3 @@
 mod Lists
-mod Coming
+pub mod Coming
 pub mod Exact
-pub mod Going
-pub mod Until

@@ -1,6 +1,6 @@
-//! What is next while a labelled network is carried out, whether it can be gone on with, and until when what is next can wait.
+//! What is next while a labelled network is carried out.
 #![tactic(auto)]
 
 mod laws;
 
-pub use laws::{next_is_exact, next_keeps_going, waiting_is_found};
+pub use laws::next_is_exact;
