@@ -1,3 +1,5 @@
-mod Lists
+pub mod Lists
 pub mod Coming
 pub mod Exact
+mod Filled
+mod Told

@@ -2,5 +2,9 @@
 #![tactic(auto)]
 
 mod laws;
+mod moments;
+mod ready;
 
 pub use laws::next_is_exact;
+pub use moments::{NextMoment, next};
+pub use ready::is_ready;
