@@ -1,13 +1,12 @@
 -- What is ready, and what is awaited.
-use Rattle.std.proofs.Common.{ℕ, ◌≡◌, inl, inr, ◌+◌, ◌<◌, ◌≤◌, max, Bool, true, false, not, ◌&&◌, Option, Some, None, arith, refl, sym, subst, ap, ◌∙◌}
+use Rattle.std.proofs.Common.{ℕ, ◌≡◌, inl, inr, ◌<◌, ◌≤◌, max, Bool, true, false, not, Option, Some, None, arith, refl, subst, ap, ◌∙◌}
 use Rattle.std.specs.Prelude.{if◌then◌else◌}
 use Rattle.std.specs.Option.{is_some}
-use Rattle.std.proofs.lemmas.Bool.{cases_lt, and_parts, and_from, leb-true, le-leb}
+use Rattle.std.proofs.lemmas.Bool.{and_parts, and_from, leb-true, le-leb}
 use Rattle.cstn_label.specs.declared.marks.Mark.{Mark}
 use Rattle.cstn_label.specs.declared.marks.Mark.TheVariants.{Absent}
 use Rattle.cstn_label.specs.Labels.{Scenario, MarkFits}
 use Rattle.cstn_label.proofs.MarkLemmas.{absent_or_not}
-use Rattle.cstn_net.specs.Networks.{Observes, count}
 use Rattle.cstn_lift.specs.Labelled.{Labelled}
 use Rattle.cstn_lift.specs.Completion.{completed_label}
 use Rattle.cstn_lift.specs.Lowered.{observer_of}
@@ -15,7 +14,7 @@ use Rattle.cstn_lift.specs.Strategies.{IsExecuted}
 use Rattle.cstn_lift.specs.WellFormed.{IsLabelled}
 use Rattle.cstn_lift.proofs.FullLemmas.{full_on}
 use Rattle.cstn_lift.proofs.LoweredLemmas.{observer_found, observer_back}
-use Rattle.cstn_history.specs.Histories.{History, IsHistory, IsObservedAt, AgreesWith, SettlesMark, Settles, IsOnLetters, is_done, is_told, known_at}
+use Rattle.cstn_history.specs.Histories.{History, IsObservedAt, AgreesWith, SettlesMark, IsOnLetters, is_done, known_at}
 use Rattle.cstn_history.specs.Continuations.{IsAwaited}
 use Rattle.cstn_history.specs.Facts.{settles, since, observed_since}
 use Rattle.cstn_history.proofs.Settled.{some_or_none, as_told, told_agrees, told_same, settles_holds}

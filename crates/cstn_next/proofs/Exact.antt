@@ -1,9 +1,9 @@
 -- What is next is found by the bounds of a plan of what is left.
-use Rattle.std.proofs.Common.{ℕ, zero, suc, ◌≡◌, inl, inr, ◌+◌, ◌<◌, ◌≤◌, max, Bool, true, false, ◌&&◌, List, Option, Some, None, eqb, arith, refl, sym, subst, ap, ◌∙◌}
+use Rattle.std.proofs.Common.{ℕ, ◌≡◌, inl, inr, ◌+◌, ◌<◌, ◌≤◌, max, Bool, true, false, ◌&&◌, List, Option, Some, None, eqb, arith, refl, sym, subst, ap, ◌∙◌}
 use Rattle.std.specs.Prelude.{◌↔◌, if◌then◌else◌, pos, ◌≤ℤ◌}
 use Rattle.std.specs.List.{Contains}
 use Rattle.std.proofs.lemmas.Int.{ints}
-use Rattle.std.proofs.lemmas.Bool.{cases_lt, and_parts, and_from, eqb-true, eq-eqb}
+use Rattle.std.proofs.lemmas.Bool.{and_parts, and_from, eqb-true, eq-eqb}
 use Rattle.cstn_label.specs.declared.marks.Mark.TheVariants.{Absent}
 use Rattle.cstn_label.specs.Labels.{Scenario, Holds, IsPlain, MarkFits}
 use Rattle.cstn_label.specs.Marks.{is_plain}
@@ -11,7 +11,7 @@ use Rattle.cstn_label.specs.Bounds.{Bound}
 use Rattle.cstn_label.proofs.MarkLemmas.{absent_or_not, fits_absent}
 use Rattle.cstn_label.proofs.LabelLemmas.{made_true, made_holds, plain_from_holds}
 use Rattle.cstn_label.proofs.PlainLabels.{plain_true, true_plain}
-use Rattle.cstn_net.specs.Networks.{Network, IsNetwork, Observes, count, limit}
+use Rattle.cstn_net.specs.Networks.{Network, IsNetwork, count, limit}
 use Rattle.cstn_net.specs.Strategies.{Table}
 use Rattle.cstn_lift.specs.Labelled.{Labelled}
 use Rattle.cstn_lift.specs.Completion.{completed_label}
@@ -19,8 +19,8 @@ use Rattle.cstn_lift.specs.Lowered.{lowered}
 use Rattle.cstn_lift.specs.Strategies.{IsExecuted}
 use Rattle.cstn_lift.specs.WellFormed.{IsLabelled}
 use Rattle.cstn_lift.proofs.Equivalent.{equivalent}
-use Rattle.cstn_log.specs.Asked.{asked, greatest}
-use Rattle.cstn_log.proofs.AskedLemmas.{Attains, greatest_upper, greatest_attained, asked_attained, asked_upper}
+use Rattle.cstn_log.specs.Asked.{asked}
+use Rattle.cstn_log.proofs.AskedLemmas.{greatest_upper, greatest_attained, asked_attained, asked_upper}
 use Rattle.cstn_log.proofs.Strategies.{asked_least}
 use Rattle.cstn_history.specs.Histories.{History, IsHistory, AgreesWith, known_at}
 use Rattle.cstn_history.specs.Continuations.{IsLeastNow, IsAwaited, IsNamed, IsEventful, IsNext}
@@ -30,8 +30,8 @@ use Rattle.cstn_history.proofs.Places.{left_coming, new_inside, observes_back}
 use Rattle.cstn_history.proofs.ToRest.{executed_left}
 use Rattle.cstn_history.proofs.Decides.{least_both}
 use Rattle.cstn_history.proofs.NextMoment.{quiet_upto}
-use Rattle.cstn_next.specs.Next.{IsPlannedBy, IsAllDone, is_ready, latest, coming_at, coming_moments, awaited_from, awaited_moments, earlier, earliest, next_moment, is_upto, named, awaited}
-use Rattle.cstn_next.proofs.Lists.{IsBy, by_left, by_right, earlier_one, earlier_none, earliest_by, earliest_one, mapped, mapped_from, passing, passing_from}
+use Rattle.cstn_next.specs.Next.{IsPlannedBy, IsAllDone, is_ready, latest, coming_at, coming_moments, awaited_from, awaited_moments, earliest, next_moment, is_upto, named, awaited}
+use Rattle.cstn_next.proofs.Lists.{IsBy, by_left, by_right, earlier_one, earliest_by, earliest_one, mapped, mapped_from, passing, passing_from}
 use Rattle.cstn_next.proofs.Coming.{upto_true, upto_by, ready_coming, ready_executed, ready_from, awaited_at, awaited_letter, awaited_now, awaited_back, coming_parts}
 
 least_one : (m : Labelled) (h : History) (s : Scenario) (x t u : ℕ) → IsLeastNow m h s x t → IsLeastNow m h s x u → t ≡ u

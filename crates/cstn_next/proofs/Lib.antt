@@ -1,5 +1,5 @@
-mod Lists
-mod Coming
+pub mod Lists
+pub mod Coming
 pub mod Exact
-pub mod Going
-pub mod Until
+mod Filled
+mod Told

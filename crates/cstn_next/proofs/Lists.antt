@@ -1,10 +1,11 @@
 -- The earliest of moments, and the numbers below n that pass a test.
-use Rattle.std.proofs.Common.{ℕ, zero, suc, ◌≡◌, ◌⊎◌, inl, inr, ◌+◌, ◌<◌, ◌≤◌, min, Bool, true, List, [], ◌∷◌, ◌++◌, Option, Some, None, cond, length, arith, refl, sym, subst, ap, ◌∙◌}
-use Rattle.std.specs.Prelude.{map}
+use Rattle.std.proofs.Common.{ℕ, zero, suc, ◌≡◌, ◌⊎◌, inl, inr, ◌+◌, ◌<◌, ◌≤◌, min, Bool, true, List, [], ◌∷◌, ◌++◌, Option, Some, None, cond, length, take, arith, refl, sym, subst, ap, ◌∙◌}
+use Rattle.std.specs.Prelude.{map, slice_index_or}
 use Rattle.std.specs.List.{All, Contains, filter, range_with_len}
 use Rattle.std.specs.List.Sorted.{IsStrictlyIncreasing}
 use Rattle.std.proofs.lemmas.Bool.{cases_Bool, cond-true}
-use Rattle.std.proofs.lemmas.List.Elements.{filter_passes, All-filter, All-contains, All-contains_itself}
+use Rattle.std.proofs.lemmas.List.{take_more}
+use Rattle.std.proofs.lemmas.List.Elements.{filter_passes, All-filter, All-contains}
 use Rattle.std.proofs.lemmas.List.FromFn.{get_or-range_with_len, length-range_with_len}
 use Rattle.std.proofs.lemmas.List.Kept.{IsStrictlyIncreasing-filter}
 use Rattle.cstn_next.specs.Next.{earlier, earliest}
@@ -66,6 +67,9 @@ pub earliest_push : (xs : List (Option ℕ)) (a : Option ℕ) → earliest (xs +
 earliest_push [] a = earlier_alone a
 earliest_push (x ∷ xs) a = ap (earlier x) (earliest_push xs a) ∙ sym (earlier_three x (earliest xs) a)
 
+pub earliest_more : (xs : List (Option ℕ)) (k : ℕ) → k < length xs → earlier (earliest (take k xs)) (slice_index_or xs k None) ≡ earliest (take (k + 1) xs)
+earliest_more xs k inside = sym (earliest_push (take k xs) (slice_index_or xs k None)) ∙ ap earliest (sym (take_more xs k None inside))
+
 -- ---- lists that are made of the numbers below n
 
 in_range : (a n : ℕ) → All (λ x. (a ≤ x) × (x < a + n)) (range_with_len a n)
@@ -85,7 +89,7 @@ within n x inside =
     let at = get_or-range_with_len 0 n x x inside in
     (x, omega arith, omega arith)
 
-map_contains : {X Y : Type 0} → (f : X → Y) (xs : List X) (x : X) → Contains xs x → Contains (map f xs) (f x)
+pub map_contains : {X Y : Type 0} → (f : X → Y) (xs : List X) (x : X) → Contains xs x → Contains (map f xs) (f x)
 map_contains f [] x (k, inside, is) = absurd (omega arith)
 map_contains f (y ∷ ys) x (zero, inside, is) = (0, omega arith, ap f is)
 map_contains f (y ∷ ys) x (suc k, inside, is) =
@@ -107,7 +111,7 @@ pub mapped_from : {Y : Type 0} → (f : ℕ → Y) (n : ℕ) (y : Y) → Contain
 mapped_from f n y c = let from = map_from f (range_with_len 0 n) y c in (from.0, below n from.0 from.1, from.2)
 
 -- the numbers below n that pass a test
-filter_in : {X : Type 0} → (test : X → Bool) (xs : List X) (x : X) → Contains xs x → test x ≡ true → Contains (filter test xs) x
+pub filter_in : {X : Type 0} → (test : X → Bool) (xs : List X) (x : X) → Contains xs x → test x ≡ true → Contains (filter test xs) x
 filter_in test [] x (k, inside, is) e = absurd (omega arith)
 filter_in test (y ∷ ys) x (zero, inside, is) e =
     subst (λ l. Contains l x) (sym (cond-true (test y) (y ∷ filter test ys) (filter test ys) (subst (λ z. test z ≡ true) (sym is) e))) (0, omega arith, is)

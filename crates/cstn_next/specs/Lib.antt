@@ -1,3 +1,1 @@
 pub mod Next
-pub mod Progress
-pub mod Waiting

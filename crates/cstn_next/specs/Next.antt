@@ -15,6 +15,7 @@ use Rattle.cstn_lift.specs.Strategies.{IsExecuted}
 use Rattle.cstn_history.specs.Histories.{History, IsHistory, IsObservedAt, AgreesWith, is_done, is_told, known_at}
 use Rattle.cstn_history.specs.Rest.{number_of, rest}
 use Rattle.cstn_history.specs.Facts.{settles, observed_since}
+use Rattle.cstn_next.specs.declared.moments.NextMoment.{NextMoment}
 
 -- The bounds are those of a sound plan of what is left: a list that is closed for the lowered network of what is left, each bound
 -- of which holds in each of its strategies.
@@ -86,3 +87,11 @@ named m h bounds t = filter (λ x. is_upto t (coming_at m h bounds x)) (range_wi
 
 abbrev pub awaited : Labelled → History → ℕ → List ℕ
 awaited m h t = filter (λ p. is_upto t (awaited_from m h p)) (range_with_len 0 52)
+
+-- what is told of the next moment, by the bounds: when it is, and what is named and what is awaited at it; nothing where nothing is left
+abbrev pub TellsNext : Labelled → History → List Bound → Option NextMoment → Type 0
+TellsNext m h bounds None = next_moment m h bounds ≡ None
+TellsNext m h bounds (Some n) =
+    (next_moment m h bounds ≡ Some n.moment)
+    × (map (λ x. x.0) n.named.items ≡ named m h bounds n.moment)
+    × (map (λ p. p.index) n.awaited.items ≡ awaited m h n.moment)

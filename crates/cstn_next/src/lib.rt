@@ -1,6 +1,10 @@
-//! What is next while a labelled network is carried out, whether it can be gone on with, and until when what is next can wait.
+//! What is next while a labelled network is carried out.
 #![tactic(auto)]
 
 mod laws;
+mod moments;
+mod ready;
 
-pub use laws::{next_is_exact, next_keeps_going, waiting_is_found};
+pub use laws::next_is_exact;
+pub use moments::{NextMoment, next};
+pub use ready::is_ready;

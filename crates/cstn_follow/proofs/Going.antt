@@ -32,7 +32,7 @@ use Rattle.cstn_history.proofs.NextMoment.{quiet_upto}
 use Rattle.cstn_history.proofs.Followed.{time_passes, outcome_comes, step_is_done}
 use Rattle.cstn_history.proofs.Recorded.{put_there, put_other, put_from, put_kept, timely_now, timely_done, timely_told}
 use Rattle.cstn_next.specs.Next.{is_ready}
-use Rattle.cstn_next.specs.Progress.{HasRoomLeft, IsQuietUpto, IsPassing, IsTelling, IsDoing, IsStep, AreSteps, after}
+use Rattle.cstn_follow.specs.Progress.{HasRoomLeft, IsQuietUpto, IsPassing, IsTelling, IsDoing, IsStep, AreSteps, after}
 use Rattle.cstn_next.proofs.Coming.{ready_from}
 
 -- an outcome that is accepted wasn't told

@@ -1,5 +1,5 @@
-use Rattle.cstn_next.proofs.Going.{least_table, goes_on, all_go_on, named_accepted, still_named, still_quiet}
-use Rattle.cstn_next.proofs.laws.next_keeps_going.Goals as goal
+use Rattle.cstn_follow.proofs.Going.{least_table, goes_on, all_go_on, named_accepted, still_named, still_quiet}
+use Rattle.cstn_follow.proofs.laws.next_keeps_going.Goals as goal
 
 pub returns : goal.returns
 returns c = record {

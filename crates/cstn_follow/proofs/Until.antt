@@ -34,7 +34,7 @@ use Rattle.cstn_history.proofs.Settled.{as_told, told_agrees, told_same, some_or
 use Rattle.cstn_history.proofs.Places.{left_allows, new_inside}
 use Rattle.cstn_history.proofs.WellFormed.{rest_labelled}
 use Rattle.cstn_history.proofs.Waiting.{waits_both, waits_less, strategy_more, strategy_less, met_more}
-use Rattle.cstn_next.specs.Waiting.{HasRoomToWait, Span, waiting_one, rest_until, said, tried, middle, halved, and_then, halving, waits_until}
+use Rattle.cstn_follow.specs.Waiting.{HasRoomToWait, Span, waiting_one, rest_until, said, tried, middle, halved, and_then, halving, waits_until}
 
 all_one : (P : Constraint → Type 0) → (d : Constraint) → P d → All P (d ∷ [])
 all_one P d here = All-cons P d [] here (λ i e inside. absurd (omega arith))

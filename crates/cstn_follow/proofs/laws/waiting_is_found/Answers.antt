@@ -1,6 +1,6 @@
 use Rattle.cstn_history.proofs.Places.{new_inside}
-use Rattle.cstn_next.proofs.Until.{waiting_labelled, waiting_long, ids_below, last_found}
-use Rattle.cstn_next.proofs.laws.waiting_is_found.Goals as goal
+use Rattle.cstn_follow.proofs.Until.{waiting_labelled, waiting_long, ids_below, last_found}
+use Rattle.cstn_follow.proofs.laws.waiting_is_found.Goals as goal
 
 pub returns : goal.returns
 returns c = record {

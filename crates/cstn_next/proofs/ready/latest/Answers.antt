@@ -1,0 +1,18 @@
+use Rattle.std.proofs.Common.{ℕ, ◌≡◌, ◌+◌, ◌-◌, drop, arith, subst}
+use Rattle.std.specs.Prelude.{slice_index}
+use Rattle.cstn_log.specs.Plans.{the_bounds}
+use Rattle.cstn_next.specs.Next.{latest}
+use Rattle.cstn_next.proofs.Filled.{latest_more}
+use Rattle.cstn_next.proofs.ready.latest.Goals as goal
+
+pub loop-k-preserved : goal.loop-k-preserved
+loop-k-preserved c =
+    let bounds = c.args.plan.now.bounds in
+    let more = c.loop-k-test.true in
+    let same : c.loop-k.k ≡ c.loop-k.k - 1 + 1 = omega arith in
+    record {
+      upto = let before = c.loop-k.invariant.upto in omega arith;
+      moments = λ x inside. latest_more bounds (c.loop-k.k - 1) x c.bound.result _ _ c.bound.ensures.bound
+          (subst (λ (n : ℕ). slice_index c.loop-k.after x ≡ latest (the_bounds (drop n bounds)) x) same (c.loop-k.invariant.moments x inside))
+          (c.note.ensures x inside);
+    }

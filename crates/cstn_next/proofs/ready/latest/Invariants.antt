@@ -1,0 +1,14 @@
+use Rattle.std.proofs.Common.{ℕ, ◌≡◌, ◌<◌, ◌≤◌, drop, length}
+use Rattle.std.specs.Prelude.{slice_index}
+use Rattle.cstn_log.specs.Plans.{the_bounds}
+use Rattle.cstn_next.specs.Next.{latest}
+use Rattle.cstn_next.proofs.ready.latest.Given as goal
+
+abbrev pub invariant-loop-k : goal.invariant-loop-k
+invariant-loop-k l = record {
+  upto : l.k ≤ length l.fn.plan.bounds;
+  moments : (x : ℕ) → x < 1024 → slice_index l.after x ≡ latest (the_bounds (drop l.k l.fn.plan.bounds)) x;
+}
+
+abbrev pub decreases-loop-k : goal.decreases-loop-k
+decreases-loop-k l = l.k
