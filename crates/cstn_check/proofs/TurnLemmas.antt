@@ -17,10 +17,13 @@ use Rattle.cstn_rules.specs.Rules.{Refutes, IsChain, IsWait, IsBoundOf}
 use Rattle.cstn_rules.specs.Read.{the_entry}
 use Rattle.cstn_log.specs.Entries.{State, the_entries, IsBoundAt, IsCoveredBy, IsLive}
 use Rattle.cstn_log.proofs.DerivedLemmas.{chain_follows, wait_follows}
+use Rattle.cstn_log.proofs.ListLemmas.{get_map}
 use Rattle.cstn_check.specs.Tests.{refutes, chain_of, wait_of}
 use Rattle.cstn_check.specs.Growth.{Instance, why_of, is_covered, is_refuted, premises_live, is_live, of_one, of_two, conclusion, with_conclusion, step}
 use Rattle.cstn_check.specs.Growth.Instance.{chain_at, wait_at}
 use Rattle.cstn_check.specs.Turns.{IsOpen, IsTaken, IsCut, IsLonger}
+use Rattle.cstn_check.specs.Waits.{HasBound}
+use Rattle.cstn_check.proofs.Lists.{Extends, get_kept}
 use Rattle.cstn_check.proofs.Reading.{entry_at, covered_true, uncovered_false, live_true, dead_false, refutes_is}
 use Rattle.cstn_check.proofs.Decided.{chain_gives, wait_gives}
 use Rattle.cstn_check.proofs.GoodLemmas.{good_at}
@@ -217,15 +220,29 @@ bound_in net s k b ready at = subst (λ z. IsBoundOf net (the_bound z)) at.is (b
 chain_from : (net : Network) (s : State) (c : Constraint) (j : ℕ) (b : DeclaredBound) (r : Bound) (at : IsBoundAt s.entries j b) → IsChain net c (the_bound b) r → IsChain net c (the_bound at.entry.bound) r
 chain_from net s c j b r at is = subst (λ z. IsChain net c (the_bound z) r) (sym at.is) is
 
+-- a bound that is read is one of the network
+pub bound_had : (net : Network) (s : State) (k : ℕ) (b : Bound) → IsOpen net s → HasBound s.entries k b → IsBoundOf net b
+bound_had net s k b ready at = subst (λ z. IsBoundOf net z) at.is (bound_of net s k at.entry ready at.there)
+
+-- the bound that is read at a place is that of its entry
+pub has_bound : (entries : List Entry) (k : ℕ) (b : DeclaredBound) → IsBoundAt entries k b → HasBound entries k (the_bound b)
+has_bound entries k b at = record { entry = at.entry; there = at.there; is = ap the_bound at.is }
+
+-- an entry has its bound while the list grows
+pub bound_on : (L G : List Entry) (k : ℕ) (b : Bound) → Extends (the_entries L) (the_entries G) → k < length (the_entries L) → HasBound L k b → HasBound G k b
+bound_on L G k b more inside at =
+    let got = get_map the_entry G k (the_entry at.entry) (get_kept (the_entries L) (the_entries G) k more inside ∙ entry_at L k at.entry at.there) in
+    record { entry = got.0; there = got.1; is = ap (λ (y : TheEntry). y.bound) got.2 ∙ at.is }
+
 -- wait of the bounds at two places is wait of their entries
-wait_from : (net : Network) (s : State) (i j p : ℕ) (seen b : DeclaredBound) (r : Bound) (one : IsBoundAt s.entries i seen) (other : IsBoundAt s.entries j b) → IsWait net p (the_bound seen) (the_bound b) r → IsWait net p (the_bound one.entry.bound) (the_bound other.entry.bound) r
+wait_from : (net : Network) (s : State) (i j p : ℕ) (seen b r : Bound) (one : HasBound s.entries i seen) (other : HasBound s.entries j b) → IsWait net p seen b r → IsWait net p (the_bound one.entry.bound) (the_bound other.entry.bound) r
 wait_from net s i j p seen b r one other is =
-    subst (λ z. IsWait net p (the_bound one.entry.bound) (the_bound z) r) (sym other.is) (subst (λ z. IsWait net p (the_bound z) (the_bound b) r) (sym one.is) is)
+    subst (λ z. IsWait net p (the_bound one.entry.bound) z r) (sym other.is) (subst (λ z. IsWait net p z b r) (sym one.is) is)
 
 pub chain_follows_from : (net : Network) (s : State) (c : Constraint) (j : ℕ) (b : DeclaredBound) (r : Bound) → Contains net.constraints c → IsBoundAt s.entries j b → IsChain net c (the_bound b) r → Follows net (the_entries s.entries) (length s.entries) (Chain c.id j) r
 chain_follows_from net s c j b r has at is = chain_follows net s.entries c j at.entry r has at.there (chain_from net s c j b r at is)
 
-pub wait_follows_from : (net : Network) (s : State) (p i j : ℕ) (seen b : DeclaredBound) (r : Bound) → IsBoundAt s.entries i seen → IsBoundAt s.entries j b → IsWait net p (the_bound seen) (the_bound b) r → Follows net (the_entries s.entries) (length s.entries) (Wait i j) r
+pub wait_follows_from : (net : Network) (s : State) (p i j : ℕ) (seen b r : Bound) → HasBound s.entries i seen → HasBound s.entries j b → IsWait net p seen b r → Follows net (the_entries s.entries) (length s.entries) (Wait i j) r
 wait_follows_from net s p i j seen b r one other is =
     wait_follows net s.entries p i j one.entry other.entry r one.there other.there (wait_from net s i j p seen b r one other is)
 
@@ -237,11 +254,11 @@ module _ (net : Network) (s : State) (good : IsWellFormed net) (ready : IsOpen n
   chain_ends_from c j b has at none =
       chain_ends net s good ready c j at.entry has at.there (λ r is. none r (subst (λ z. IsChain net c (the_bound z) r) at.is is))
 
-  pub wait_concludes_from : (i j : ℕ) (seen b : DeclaredBound) (p : ℕ) (r : Bound) → IsBoundAt s.entries i seen → IsBoundAt s.entries j b → IsWait net p (the_bound seen) (the_bound b) r → conclusion net (the_entries s.entries) (wait_at i j) ≡ Some r
+  pub wait_concludes_from : (i j : ℕ) (seen b : Bound) (p : ℕ) (r : Bound) → HasBound s.entries i seen → HasBound s.entries j b → IsWait net p seen b r → conclusion net (the_entries s.entries) (wait_at i j) ≡ Some r
   wait_concludes_from i j seen b p r one other is =
       wait_concludes net s good ready i j one.entry other.entry p r one.there other.there (wait_from net s i j p seen b r one other is)
 
-  pub wait_ends_from : (i j : ℕ) (seen b : DeclaredBound) → IsBoundAt s.entries i seen → IsBoundAt s.entries j b → ((p : ℕ) (r : Bound) → IsWait net p (the_bound seen) (the_bound b) r → ⊥) → conclusion net (the_entries s.entries) (wait_at i j) ≡ None
+  pub wait_ends_from : (i j : ℕ) (seen b : Bound) → HasBound s.entries i seen → HasBound s.entries j b → ((p : ℕ) (r : Bound) → IsWait net p seen b r → ⊥) → conclusion net (the_entries s.entries) (wait_at i j) ≡ None
   wait_ends_from i j seen b one other none =
       wait_ends net s good ready i j one.entry other.entry one.there other.there (λ p r is.
-      none p r (subst (λ z. IsWait net p (the_bound seen) (the_bound z) r) other.is (subst (λ z. IsWait net p (the_bound z) (the_bound other.entry.bound) r) one.is is)))
+      none p r (subst (λ z. IsWait net p seen z r) other.is (subst (λ z. IsWait net p z (the_bound other.entry.bound) r) one.is is)))

@@ -13,7 +13,7 @@ ghost use Rattle.cstn_check.specs.Growth.Instance.{chain_at, wait_at};
 ghost use Rattle.cstn_check.specs.Tries.{concludes, concludes_with, concludes_upto};
 ghost use Rattle.cstn_check.specs.Turns.{IsOpen, IsTaken, IsCut};
 ghost use Rattle.cstn_check.specs.Spent.{AreSpent, IsSpent, is_fresh, fresh_count};
-ghost use Rattle.cstn_check.specs.Waits.{Waits};
+ghost use Rattle.cstn_check.specs.Waits.{HasBound, Waits};
 
 use crate::walks::{PROPS, next_waiting};
 use cstn_label::{Bound, Mark, NodeId};
@@ -98,50 +98,58 @@ fn try_chain(
     put(net, log, Entry { bound, why }, &mut near)
 }
 
-// Tries wait of the entry at i, as the one at the observer, and the entry at j, and says whether the list is refuted then.
-// `near` has for each proposition the place of an entry that dominated the last conclusion of wait for it. Such an entry often
-// dominates the next one too.
+// The place of an entry, and its bound.
+#[derive(Clone, Copy)]
+struct Placed {
+    place: u32,
+    bound: Bound,
+}
+
+// Tries wait of the entry `seen`, as the one at the observer, and the entry `premise`, and says whether the list is refuted
+// then. `near` has for each proposition the place of an entry that dominated the last conclusion of wait for it. Such an entry
+// often dominates the next one too.
 fn try_wait(
     net: &Network,
     log: &mut Log,
-    i: u32,
-    j: u32,
+    seen: Placed,
+    premise: Placed,
     tries: &mut Tries,
     near: &mut [u32],
 ) -> Result<bool, Full>
     requires size { length near.old ≡ 52 }
     requires ready { IsOpen (the_network net.now) log.old }
-    requires seen { i < length log.old.entries }
-    requires place { j < length log.old.entries }
-    ensures taken { IfOk result (λ r. IsTaken (the_network net.now) log.old log.new (step (the_network net.now) (the_entries log.old.entries) (wait_at i j)) r) }
-    ensures cut { IsErr result → IsCut log.old log.new (step (the_network net.now) (the_entries log.old.entries) (wait_at i j)) }
+    requires seen { seen.place < length log.old.entries }
+    requires place { premise.place < length log.old.entries }
+    requires node { seen.bound.node.0 < count (the_network net.now) }
+    requires seen_bound { HasBound log.old.entries seen.place (the_bound seen.bound) }
+    requires bound { HasBound log.old.entries premise.place (the_bound premise.bound) }
+    ensures taken { IfOk result (λ r. IsTaken (the_network net.now) log.old log.new (step (the_network net.now) (the_entries log.old.entries) (wait_at seen.place premise.place)) r) }
+    ensures cut { IsErr result → IsCut log.old log.new (step (the_network net.now) (the_entries log.old.entries) (wait_at seen.place premise.place)) }
     ensures ready { IfOk result (λ r. r ≡ false → IsOpen (the_network net.now) log.new) }
     ensures tries { tries.old.count ≤ tries.new.count }
     ensures most { tries.new.count ≤ tries.old.count + 1 }
-    ensures concluding { tries.new.count ≤ tries.old.count + concludes (the_network net.now) (the_entries log.old.entries) i j }
+    ensures concluding { tries.new.count ≤ tries.old.count + concludes (the_network net.now) (the_entries log.old.entries) seen.place premise.place }
     ensures size { length near.new ≡ 52 }
 {
     network_is_well_formed(net);
     is_in_range(tries);
-    let seen = log.bound(i);
-    let premise = log.bound(j);
-    if !waits(net, &seen, &premise) {
+    if !waits(net, &seen.bound, &premise.bound) {
         return Ok(false);
     }
-    if !log.live(i) {
+    if !log.live(seen.place) {
         return Ok(false);
     }
-    if !log.live(j) {
+    if !log.live(premise.place) {
         return Ok(false);
     }
-    let Some(bound) = wait(net, &seen, &premise, tries) else {
+    let Some(bound) = wait(net, &seen.bound, &premise.bound, tries) else {
         return Ok(false);
     };
     let why = Why::Wait {
-        seen: i,
-        premise: j,
+        seen: seen.place,
+        premise: premise.place,
     };
-    let cell = observed_index(net, seen.node);
+    let cell = observed_index(net, seen.bound.node);
     let mut place = near[cell];
     let done = put(net, log, Entry { bound, why }, &mut place);
     near[cell] = place;
@@ -315,9 +323,17 @@ fn try_both(
     ensures size { length near.new ≡ 52 }
 {
     network_is_well_formed(net);
-    match try_wait(net, log, i, j, tries, near) {
+    let one = Placed {
+        place: i,
+        bound: log.bound(i),
+    };
+    let other = Placed {
+        place: j,
+        bound: log.bound(j),
+    };
+    match try_wait(net, log, one, other, tries, near) {
         Ok(true) => Ok(true),
-        Ok(false) => try_wait(net, log, j, i, tries, near),
+        Ok(false) => try_wait(net, log, other, one, tries, near),
         Err(full) => Err(full),
     }
 }
