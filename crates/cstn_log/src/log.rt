@@ -31,9 +31,9 @@ use std::marker::Model;
 /// An entry is live while no later one dominates it. A pool has the bound of each entry, and a minimal set those of the live
 /// ones, each under the id that [`Log::slot`] answers. An entry keeps its id while entries before it are taken out, and only
 /// its place changes: premises are kept by slot, and a table tells the place of each. All memory of the log is taken by
-/// [`Log::start`]: 222 bytes for each entry that there may be, so 929 MB for the largest cap of 4,194,304, and 816 bytes for
-/// each time-point. Of these, 4 bytes an entry are links of the chain of its time-point, and 7 are sets of the places that mark
-/// each proposition, written only up to the last entry whose label marks something. One more byte an entry is used by
+/// [`Log::start`]: 221.5 bytes for each entry that there may be, so 929 MB for the largest cap of 4,194,304, and 816 bytes for
+/// each time-point. Of these, 4 bytes an entry are links of the chain of its time-point, and 6.5 are for the sets of places whose
+/// labels mark a proposition, written only up to the last entry whose label marks something. One more byte an entry is used by
 /// [`Log::retract`] alone.
 #[derive(Drop)]
 pub struct Log {

@@ -1,5 +1,5 @@
 // Sets of places in a list of entries, as bits, which grow with the list. Places of dead entries may be left out.
-ghost use Rattle.std.specs.Prelude.{ℕ, ◌≡◌, ◌⊎◌, ◌<◌, ◌≤◌, ◌+◌, ◌*◌, ◌/◌, ◌%◌, ◌++◌, ◌∷◌, [], ◌==◌, true, false, cond, List, length, set, slice_index_or, vec_capacity, IfOk, IfSome, IfNone};
+ghost use Rattle.std.specs.Prelude.{ℕ, ◌≡◌, ◌⊎◌, ◌<◌, ◌≤◌, ◌+◌, ◌*◌, ◌/◌, ◌%◌, ◌++◌, ◌∷◌, [], true, false, List, length, set, slice_index_or, vec_capacity, IfOk, IfSome, IfNone};
 ghost use Rattle.cstn_label.specs.Words.{has_bit};
 ghost use Rattle.cstn_rules.specs.declared.entries.Entry.{Entry as TheEntry};
 ghost use Rattle.cstn_log.specs.MarkSets.{AreMarkSets, has_place, word_at};
