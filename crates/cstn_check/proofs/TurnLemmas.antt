@@ -6,18 +6,24 @@ use Rattle.std.proofs.lemmas.Bool.{cond-true, cond-false, and_from, and_right}
 use Rattle.std.proofs.lemmas.List.Elements.{All-contains}
 use Rattle.std.proofs.lemmas.List.{map-append, append-nil}
 use Rattle.std.proofs.lemmas.List.Folds.{list_any-append}
+use Rattle.cstn_label.specs.declared.bounds.Bound.{Bound as DeclaredBound}
 use Rattle.cstn_label.specs.Bounds.{Bound}
 use Rattle.cstn_label.specs.Read.{the_bound}
 use Rattle.cstn_net.specs.Networks.{Network, Constraint, IsConstraint, IsWellFormed}
 use Rattle.cstn_rules.specs.declared.entries.Entry.{Entry}
-use Rattle.cstn_rules.specs.Derivations.{Entry as TheEntry}
+use Rattle.cstn_rules.specs.Derivations.{Entry as TheEntry, Follows}
+use Rattle.cstn_rules.specs.declared.entries.Why.TheVariants.{Chain, Wait}
 use Rattle.cstn_rules.specs.Rules.{Refutes, IsChain, IsWait, IsBoundOf}
 use Rattle.cstn_rules.specs.Read.{the_entry}
-use Rattle.cstn_log.specs.Entries.{State, the_entries, IsCoveredBy, IsLive}
+use Rattle.cstn_log.specs.Entries.{State, the_entries, IsBoundAt, IsCoveredBy, IsLive}
+use Rattle.cstn_log.proofs.DerivedLemmas.{chain_follows, wait_follows}
+use Rattle.cstn_log.proofs.ListLemmas.{get_map}
 use Rattle.cstn_check.specs.Tests.{refutes, chain_of, wait_of}
 use Rattle.cstn_check.specs.Growth.{Instance, why_of, is_covered, is_refuted, premises_live, is_live, of_one, of_two, conclusion, with_conclusion, step}
 use Rattle.cstn_check.specs.Growth.Instance.{chain_at, wait_at}
 use Rattle.cstn_check.specs.Turns.{IsOpen, IsTaken, IsCut, IsLonger}
+use Rattle.cstn_check.specs.Waits.{HasBound}
+use Rattle.cstn_check.proofs.Lists.{Extends, get_kept}
 use Rattle.cstn_check.proofs.Reading.{entry_at, covered_true, uncovered_false, live_true, dead_false, refutes_is}
 use Rattle.cstn_check.proofs.Decided.{chain_gives, wait_gives}
 use Rattle.cstn_check.proofs.GoodLemmas.{good_at}
@@ -199,3 +205,60 @@ module _ (net : Network) (s : State) (good : IsWellFormed net) (ready : IsOpen n
       ∙ none_given (wait_of net (the_bound e.bound) (the_bound f.bound)) (λ r gives.
       let w = wait_is net (slice_index_or net.observes e.bound.node.0 None) (the_bound e.bound) (the_bound f.bound) r refl gives in
       none w.0 r w.1)
+
+-- ---- bounds that are read without their rules
+
+-- the entry of a bound that is read
+pub entry_with : (entries : List Entry) (k : ℕ) (b : DeclaredBound) (at : IsBoundAt entries k b) → slice_get entries k ≡ Some (record { bound = b; why = at.entry.why })
+entry_with entries k b at = subst (λ z. slice_get entries k ≡ Some (record { bound = z; why = at.entry.why })) at.is at.there
+
+-- a bound at a place of the log is one of the network
+pub bound_in : (net : Network) (s : State) (k : ℕ) (b : DeclaredBound) → IsOpen net s → IsBoundAt s.entries k b → IsBoundOf net (the_bound b)
+bound_in net s k b ready at = subst (λ z. IsBoundOf net (the_bound z)) at.is (bound_of net s k at.entry ready at.there)
+
+-- chain of the bound at a place is chain of its entry
+chain_from : (net : Network) (s : State) (c : Constraint) (j : ℕ) (b : DeclaredBound) (r : Bound) (at : IsBoundAt s.entries j b) → IsChain net c (the_bound b) r → IsChain net c (the_bound at.entry.bound) r
+chain_from net s c j b r at is = subst (λ z. IsChain net c (the_bound z) r) (sym at.is) is
+
+-- a bound that is read is one of the network
+pub bound_had : (net : Network) (s : State) (k : ℕ) (b : Bound) → IsOpen net s → HasBound s.entries k b → IsBoundOf net b
+bound_had net s k b ready at = subst (λ z. IsBoundOf net z) at.is (bound_of net s k at.entry ready at.there)
+
+-- the bound that is read at a place is that of its entry
+pub has_bound : (entries : List Entry) (k : ℕ) (b : DeclaredBound) → IsBoundAt entries k b → HasBound entries k (the_bound b)
+has_bound entries k b at = record { entry = at.entry; there = at.there; is = ap the_bound at.is }
+
+-- an entry has its bound while the list grows
+pub bound_on : (L G : List Entry) (k : ℕ) (b : Bound) → Extends (the_entries L) (the_entries G) → k < length (the_entries L) → HasBound L k b → HasBound G k b
+bound_on L G k b more inside at =
+    let got = get_map the_entry G k (the_entry at.entry) (get_kept (the_entries L) (the_entries G) k more inside ∙ entry_at L k at.entry at.there) in
+    record { entry = got.0; there = got.1; is = ap (λ (y : TheEntry). y.bound) got.2 ∙ at.is }
+
+-- wait of the bounds at two places is wait of their entries
+wait_from : (net : Network) (s : State) (i j p : ℕ) (seen b r : Bound) (one : HasBound s.entries i seen) (other : HasBound s.entries j b) → IsWait net p seen b r → IsWait net p (the_bound one.entry.bound) (the_bound other.entry.bound) r
+wait_from net s i j p seen b r one other is =
+    subst (λ z. IsWait net p (the_bound one.entry.bound) z r) (sym other.is) (subst (λ z. IsWait net p z b r) (sym one.is) is)
+
+pub chain_follows_from : (net : Network) (s : State) (c : Constraint) (j : ℕ) (b : DeclaredBound) (r : Bound) → Contains net.constraints c → IsBoundAt s.entries j b → IsChain net c (the_bound b) r → Follows net (the_entries s.entries) (length s.entries) (Chain c.id j) r
+chain_follows_from net s c j b r has at is = chain_follows net s.entries c j at.entry r has at.there (chain_from net s c j b r at is)
+
+pub wait_follows_from : (net : Network) (s : State) (p i j : ℕ) (seen b r : Bound) → HasBound s.entries i seen → HasBound s.entries j b → IsWait net p seen b r → Follows net (the_entries s.entries) (length s.entries) (Wait i j) r
+wait_follows_from net s p i j seen b r one other is =
+    wait_follows net s.entries p i j one.entry other.entry r one.there other.there (wait_from net s i j p seen b r one other is)
+
+module _ (net : Network) (s : State) (good : IsWellFormed net) (ready : IsOpen net s) where
+  pub chain_concludes_from : (c : Constraint) (j : ℕ) (b : DeclaredBound) (r : Bound) → IsBoundAt s.entries j b → IsChain net c (the_bound b) r → conclusion net (the_entries s.entries) (chain_at c j) ≡ Some r
+  chain_concludes_from c j b r at is = chain_concludes net s good ready c j at.entry r at.there (chain_from net s c j b r at is)
+
+  pub chain_ends_from : (c : Constraint) (j : ℕ) (b : DeclaredBound) → Contains net.constraints c → IsBoundAt s.entries j b → ((r : Bound) → IsChain net c (the_bound b) r → ⊥) → conclusion net (the_entries s.entries) (chain_at c j) ≡ None
+  chain_ends_from c j b has at none =
+      chain_ends net s good ready c j at.entry has at.there (λ r is. none r (subst (λ z. IsChain net c (the_bound z) r) at.is is))
+
+  pub wait_concludes_from : (i j : ℕ) (seen b : Bound) (p : ℕ) (r : Bound) → HasBound s.entries i seen → HasBound s.entries j b → IsWait net p seen b r → conclusion net (the_entries s.entries) (wait_at i j) ≡ Some r
+  wait_concludes_from i j seen b p r one other is =
+      wait_concludes net s good ready i j one.entry other.entry p r one.there other.there (wait_from net s i j p seen b r one other is)
+
+  pub wait_ends_from : (i j : ℕ) (seen b : Bound) → HasBound s.entries i seen → HasBound s.entries j b → ((p : ℕ) (r : Bound) → IsWait net p seen b r → ⊥) → conclusion net (the_entries s.entries) (wait_at i j) ≡ None
+  wait_ends_from i j seen b one other none =
+      wait_ends net s good ready i j one.entry other.entry one.there other.there (λ p r is.
+      none p r (subst (λ z. IsWait net p seen z r) other.is (subst (λ z. IsWait net p z (the_bound other.entry.bound) r) one.is is)))

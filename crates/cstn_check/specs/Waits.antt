@@ -25,6 +25,12 @@ pub record IsWaiting (net : Network) (entries : List Entry) (i j : ℕ) : Type 0
   pub other_live : IsLive entries j
   pub either : Waits net (the_bound one.bound) (the_bound other.bound) ⊎ Waits net (the_bound other.bound) (the_bound one.bound)
 
+-- the entry at the place has this bound
+pub record HasBound (entries : List Entry) (k : ℕ) (b : Bound) : Type 0 where
+  pub entry : Entry
+  pub there : slice_get entries k ≡ Some entry
+  pub is : the_bound entry.bound ≡ b
+
 -- no live place from `from` up to j, before `next`, is at the observer of p
 pub record NoneSees (net : Network) (entries : List TheEntry) (p j from next : ℕ) : Type 0 where
   pub none : (k : ℕ) (e : TheEntry) → from ≤ k → k ≤ j → k < next → slice_get entries k ≡ Some e → is_live entries k ≡ true → Observes net e.bound.node p → ⊥

@@ -7,13 +7,13 @@ ghost use Rattle.cstn_net.specs.Links.{ends};
 ghost use Rattle.cstn_net.specs.Read.{the_network, the_constraint};
 ghost use Rattle.cstn_rules.specs.Derivations.{Follows};
 ghost use Rattle.cstn_rules.specs.Read.{the_entry};
-ghost use Rattle.cstn_log.specs.Entries.{the_entries};
+ghost use Rattle.cstn_log.specs.Entries.{the_entries, IsCoveredBy};
 ghost use Rattle.cstn_check.specs.Growth.{Instance, is_covered, step, tried, waits_below, turn, chains_at};
 ghost use Rattle.cstn_check.specs.Growth.Instance.{chain_at, wait_at};
 ghost use Rattle.cstn_check.specs.Tries.{concludes, concludes_with, concludes_upto};
 ghost use Rattle.cstn_check.specs.Turns.{IsOpen, IsTaken, IsCut};
 ghost use Rattle.cstn_check.specs.Spent.{AreSpent, IsSpent, is_fresh, fresh_count};
-ghost use Rattle.cstn_check.specs.Waits.{Waits};
+ghost use Rattle.cstn_check.specs.Waits.{HasBound, Waits};
 
 use crate::walks::{PROPS, next_waiting};
 use cstn_label::{Bound, Mark, NodeId};
@@ -22,19 +22,46 @@ use cstn_net::{Constraint, Network, network_is_well_formed};
 use cstn_pool::Full;
 use cstn_rules::{Entry, Tries, Why, chain, refutes, wait};
 
-// Puts a conclusion at the end of the list, where no entry dominates it, and says whether the list is refuted then.
-fn put(net: &Network, log: &mut Log, e: Entry) -> Result<bool, Full>
+// Puts a conclusion at the end of the list, where no entry dominates it, and says whether the list is refuted then. The entry
+// at `near` is the first that is asked, and `near` becomes the place of the one that dominates it.
+fn put(net: &Network, log: &mut Log, e: Entry, near: &mut u32) -> Result<bool, Full>
     requires ready { IsOpen (the_network net.now) log.old }
     requires follows { Follows (the_network net.now) (the_entries log.old.entries) (length log.old.entries) e.why (the_bound e.bound) }
     requires node { e.bound.node.0 < count (the_network net.now) }
     ensures taken { IfOk result (λ r. IsTaken (the_network net.now) log.old log.new (cond (is_covered (the_entries log.old.entries) (the_bound e.bound)) (the_entries log.old.entries) (the_entries log.old.entries ++ the_entry e ∷ [])) r) }
     ensures cut { IsErr result → IsCut log.old log.new (cond (is_covered (the_entries log.old.entries) (the_bound e.bound)) (the_entries log.old.entries) (the_entries log.old.entries ++ the_entry e ∷ [])) }
 {
-    if log.covered(&e.bound) {
+    if covers(log, &e.bound, near) {
         return Ok(false);
     }
     log.push(net, e)?;
     Ok(refutes(net, &e.bound))
+}
+
+// Whether some entry dominates the bound. The one at `near` is asked first, and `near` becomes the place of one that is found.
+fn covers(log: &Log, b: &Bound, near: &mut u32) -> bool
+    ensures covered { IsTrue result ↔ IsCoveredBy log.now.entries b.now }
+{
+    if is_over(log, *near, b) {
+        return true;
+    }
+    match log.cover(b) {
+        Some(place) => {
+            *near = place;
+            true
+        }
+        None => false,
+    }
+}
+
+// Whether there is an entry at the place, and it dominates the bound.
+fn is_over(log: &Log, place: u32, b: &Bound) -> bool
+    ensures covered { IsTrue result → IsCoveredBy log.now.entries b.now }
+{
+    if log.len() <= place {
+        return false;
+    }
+    log.bound(place).dominates(b)
 }
 
 // Tries chain of a constraint with the entry at a place, and says whether the list is refuted then.
@@ -59,7 +86,7 @@ fn try_chain(
     if !log.live(j) {
         return Ok(false);
     }
-    let premise = log.entry(j).bound;
+    let premise = log.bound(j);
     let Some(bound) = chain(net, c, &premise, tries) else {
         return Ok(false);
     };
@@ -67,42 +94,77 @@ fn try_chain(
         constraint: c.id,
         premise: j,
     };
-    put(net, log, Entry { bound, why })
+    let mut near = j;
+    put(net, log, Entry { bound, why }, &mut near)
 }
 
-// Tries wait of the entry at i, as the one at the observer, and the entry at j, and says whether the list is refuted then.
-fn try_wait(net: &Network, log: &mut Log, i: u32, j: u32, tries: &mut Tries) -> Result<bool, Full>
+// The place of an entry, and its bound.
+#[derive(Clone, Copy)]
+struct Placed {
+    place: u32,
+    bound: Bound,
+}
+
+// Tries wait of the entry `seen`, as the one at the observer, and the entry `premise`, and says whether the list is refuted
+// then. `near` has for each proposition the place of an entry that dominated the last conclusion of wait for it. Such an entry
+// often dominates the next one too.
+fn try_wait(
+    net: &Network,
+    log: &mut Log,
+    seen: Placed,
+    premise: Placed,
+    tries: &mut Tries,
+    near: &mut [u32],
+) -> Result<bool, Full>
+    requires size { length near.old ≡ 52 }
     requires ready { IsOpen (the_network net.now) log.old }
-    requires seen { i < length log.old.entries }
-    requires place { j < length log.old.entries }
-    ensures taken { IfOk result (λ r. IsTaken (the_network net.now) log.old log.new (step (the_network net.now) (the_entries log.old.entries) (wait_at i j)) r) }
-    ensures cut { IsErr result → IsCut log.old log.new (step (the_network net.now) (the_entries log.old.entries) (wait_at i j)) }
+    requires seen { seen.place < length log.old.entries }
+    requires place { premise.place < length log.old.entries }
+    requires node { seen.bound.node.0 < count (the_network net.now) }
+    requires seen_bound { HasBound log.old.entries seen.place (the_bound seen.bound) }
+    requires bound { HasBound log.old.entries premise.place (the_bound premise.bound) }
+    ensures taken { IfOk result (λ r. IsTaken (the_network net.now) log.old log.new (step (the_network net.now) (the_entries log.old.entries) (wait_at seen.place premise.place)) r) }
+    ensures cut { IsErr result → IsCut log.old log.new (step (the_network net.now) (the_entries log.old.entries) (wait_at seen.place premise.place)) }
     ensures ready { IfOk result (λ r. r ≡ false → IsOpen (the_network net.now) log.new) }
     ensures tries { tries.old.count ≤ tries.new.count }
     ensures most { tries.new.count ≤ tries.old.count + 1 }
-    ensures concluding { tries.new.count ≤ tries.old.count + concludes (the_network net.now) (the_entries log.old.entries) i j }
+    ensures concluding { tries.new.count ≤ tries.old.count + concludes (the_network net.now) (the_entries log.old.entries) seen.place premise.place }
+    ensures size { length near.new ≡ 52 }
 {
     network_is_well_formed(net);
     is_in_range(tries);
-    let seen = log.entry(i).bound;
-    let premise = log.entry(j).bound;
-    if !waits(net, &seen, &premise) {
+    if !waits(net, &seen.bound, &premise.bound) {
         return Ok(false);
     }
-    if !log.live(i) {
+    if !log.live(seen.place) {
         return Ok(false);
     }
-    if !log.live(j) {
+    if !log.live(premise.place) {
         return Ok(false);
     }
-    let Some(bound) = wait(net, &seen, &premise, tries) else {
+    let Some(bound) = wait(net, &seen.bound, &premise.bound, tries) else {
         return Ok(false);
     };
     let why = Why::Wait {
-        seen: i,
-        premise: j,
+        seen: seen.place,
+        premise: premise.place,
     };
-    put(net, log, Entry { bound, why })
+    let cell = observed_index(net, seen.bound.node);
+    let mut place = near[cell];
+    let done = put(net, log, Entry { bound, why }, &mut place);
+    near[cell] = place;
+    done
+}
+
+// The index of what the time-point observes; 0 where it observes nothing.
+fn observed_index(net: &Network, x: NodeId) -> usize
+    requires { x.0 < count (the_network net.now) }
+    ensures { result < 52 }
+{
+    match net.observes(x) {
+        None => 0,
+        Some(p) => p.index as usize,
+    }
 }
 
 // Whether the first bound is at the observer of a proposition that the second marks.
@@ -240,7 +302,15 @@ fn next_ending(net: &Network, at: usize) -> usize
 }
 
 // Tries wait of the entries at two places, either way round, and says whether the list is refuted then.
-fn try_both(net: &Network, log: &mut Log, i: u32, j: u32, tries: &mut Tries) -> Result<bool, Full>
+fn try_both(
+    net: &Network,
+    log: &mut Log,
+    i: u32,
+    j: u32,
+    tries: &mut Tries,
+    near: &mut [u32],
+) -> Result<bool, Full>
+    requires size { length near.old ≡ 52 }
     requires ready { IsOpen (the_network net.now) log.old }
     requires first { i < length log.old.entries }
     requires place { j < length log.old.entries }
@@ -250,11 +320,20 @@ fn try_both(net: &Network, log: &mut Log, i: u32, j: u32, tries: &mut Tries) -> 
     ensures tries { tries.old.count ≤ tries.new.count }
     ensures most { tries.new.count ≤ tries.old.count + 2 }
     ensures concluding { tries.new.count ≤ tries.old.count + concludes_with (the_network net.now) (the_entries log.old.entries) j i }
+    ensures size { length near.new ≡ 52 }
 {
     network_is_well_formed(net);
-    match try_wait(net, log, i, j, tries) {
+    let one = Placed {
+        place: i,
+        bound: log.bound(i),
+    };
+    let other = Placed {
+        place: j,
+        bound: log.bound(j),
+    };
+    match try_wait(net, log, one, other, tries, near) {
         Ok(true) => Ok(true),
-        Ok(false) => try_wait(net, log, j, i, tries),
+        Ok(false) => try_wait(net, log, other, one, tries, near),
         Err(full) => Err(full),
     }
 }
@@ -275,9 +354,10 @@ fn try_waits(net: &Network, log: &mut Log, j: u32, tries: &mut Tries) -> Result<
     let _room = log.len();
     let mut sees = [0; PROPS];
     let mut marking = 0;
+    let mut near = [0; PROPS];
     let mut i = next_waiting(net, log, 0, j, &mut sees, &mut marking);
     while i <= j {
-        match try_both(net, log, i, j, tries) {
+        match try_both(net, log, i, j, tries, &mut near) {
             Ok(true) => return Ok(true),
             Ok(false) => i = next_waiting(net, log, i + 1, j, &mut sees, &mut marking),
             Err(full) => return Err(full),

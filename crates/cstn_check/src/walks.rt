@@ -1,5 +1,5 @@
-// Finds the entries of which wait with a given entry has a conclusion, along the chains of the log: those link the places at
-// one time-point, or the places whose labels mark one proposition.
+// Finds the entries of which wait with a given entry has a conclusion, by the chains of the log, of the places at one
+// time-point, and by its sets, of the places whose labels mark one proposition.
 ghost use Rattle.std.specs.Prelude.{ℕ, ◌≡◌, ◌+◌, ◌<◌, ◌≤◌, length, set, slice_index_or};
 ghost use Rattle.cstn_label.specs.Labels.{IsMarked};
 ghost use Rattle.cstn_label.specs.Read.{marks};
@@ -19,7 +19,7 @@ pub const PROPS: usize = 52;
 // The next place from `from` up to `j` at which to try wait with the entry at `j`, in both orders: the places between have no
 // wait with a conclusion. It is `j + 1` where none is left, or the entry at `j` is dead. `sees` keeps the next place at the
 // observer of each proposition, and `marking` the next place whose label marks what the time-point of the entry at `j`
-// observes, so that a chain is walked on only once `from` is past that place.
+// observes, so that a walk goes on only once `from` is past that place.
 pub fn next_waiting(
     net: &Network,
     log: &mut Log,
@@ -43,7 +43,7 @@ pub fn next_waiting(
     if !log.live(j) {
         return j + 1;
     }
-    let b = log.entry(j).bound;
+    let b = log.bound(j);
     let marks = next_marking(net, log, b.node, from, j, *marking);
     *marking = marks;
     let seen = next_seen(net, log, &b, from, j, sees);
@@ -70,11 +70,11 @@ fn next_marking(net: &Network, log: &mut Log, x: NodeId, from: u32, j: u32, next
     if from <= next {
         return next;
     }
-    first_marking(net, log, x, from, j, next)
+    first_marking(net, log, x, from, j)
 }
 
 // The first live place from `from` on whose entry marks what the time-point observes.
-fn first_marking(net: &Network, log: &mut Log, x: NodeId, from: u32, j: u32, near: u32) -> u32
+fn first_marking(net: &Network, log: &mut Log, x: NodeId, from: u32, j: u32) -> u32
     requires node { x.0 < count (the_network net.now) }
     requires upto { from ≤ length log.old.entries }
     requires place { j < length log.old.entries }
@@ -84,7 +84,7 @@ fn first_marking(net: &Network, log: &mut Log, x: NodeId, from: u32, j: u32, nea
 {
     match net.observes(x) {
         None => u32::MAX,
-        Some(p) => log.first_marked(p, from, near, j),
+        Some(p) => log.first_marked(p, from, j),
     }
 }
 

@@ -10,7 +10,7 @@ use Rattle.cstn_rules.specs.declared.entries.Entry.{Entry}
 use Rattle.cstn_pool.specs.declared.slot_id.SlotId.{SlotId}
 use Rattle.cstn_pool.specs.Slots.{value_at}
 use Rattle.cstn_minset.specs.Sets.{Entries, IsThere, IsOver, IsCovered}
-use Rattle.cstn_log.specs.Entries.{HasId, IsBoundAt, IsDominator, IsCoveredBy, IsLive}
+use Rattle.cstn_log.specs.Entries.{HasId, IsDominator, IsCoveredBy, IsLive}
 use Rattle.cstn_log.specs.Kept.{IsKept, IsPooled, IsTabled}
 
 -- no id has an empty slot

@@ -1,5 +1,6 @@
 pub mod ChainLemmas
-pub mod MarkChainLemmas
+pub mod BitLemmas
+pub mod MarkSetLemmas
 pub mod NodeChainLemmas
 pub mod ListLemmas
 pub mod LiveLemmas

@@ -1,6 +1,5 @@
--- Chains of places: for each proposition the places whose label marks it, and for each time-point the places at it. Places
--- whose entries aren't live may be left out.
-use Rattle.std.specs.Prelude.{ℕ, zero, suc, ◌≡◌, ◌⊎◌, ◌<◌, ◌≤◌, ◌+◌, ◌*◌, List, [], ◌∷◌, ◌++◌, Some, length, slice_get, slice_index_or}
+-- Chains of places: for each time-point the places at it. Places whose entries aren't live may be left out.
+use Rattle.std.specs.Prelude.{ℕ, zero, suc, ◌≡◌, ◌⊎◌, ◌<◌, ◌≤◌, ◌+◌, List, Some, length, slice_get, slice_index_or}
 use Rattle.cstn_label.specs.Labels.{IsMarked}
 use Rattle.cstn_label.specs.Read.{marks}
 use Rattle.cstn_rules.specs.declared.entries.Entry.{Entry}
@@ -36,11 +35,6 @@ pub record IsNext (test keep : ℕ → Type 0) (from end place : ℕ) : Type 0 w
   pub none : (k : ℕ) → from ≤ k → k < end → k < place → test k → keep k → ⊥
   pub ends : end ≤ place → (k : ℕ) → from ≤ k → k < end → test k → ⊥
 
--- cells of links, and how many there is room for
-pub record Cells : Type 0 where
-  pub cells : List ℕ
-  pub room : ℕ
-
 -- a position in a chain: 0, its start, or one more than a place that passes the test, which is behind that place
 abbrev pub IsBehind : (ℕ → Type 0) → ℕ → Type 0
 IsBehind test zero = Unit {0}
@@ -53,16 +47,6 @@ pub record IsChain (test keep : ℕ → Type 0) (end : ℕ) (link : ℕ → ℕ)
   pub behind : IsBehind test last
   pub none : (k : ℕ) → last ≤ k → k < end → test k → ⊥
   pub leads : (from : ℕ) → from ≤ end → IsBehind test from → IsNext test keep from end (link from)
-
--- the next place of the chain of p from `from` on, which is 0, its start, or one more than a place of it
-abbrev pub mark_link : List ℕ → ℕ → ℕ → ℕ
-mark_link links p from = slice_index_or links (from * 52 + p) no_place
-
--- the links are those of the places whose label marks p, for each p
-pub record AreMarkChains (entries : List Entry) (links lasts : List ℕ) : Type 0 where
-  pub chains : (p : ℕ) → p < 52 → IsChain (IsMarkedAt entries p) (IsLive entries) (length entries) (mark_link links p) (slice_index_or lasts p 0)
-  pub links_size : length links ≡ length entries * 52 + 52
-  pub lasts_size : length lasts ≡ 52
 
 -- the index in the links of what leads from `from` in the chain of x
 abbrev pub node_cell : ℕ → ℕ → ℕ → ℕ
@@ -78,11 +62,3 @@ pub record AreNodeChains (nodes : ℕ) (entries : List Entry) (links lasts : Lis
   pub chains : (x : ℕ) → x < nodes → IsChain (IsAtNode entries x) (IsLive entries) (length entries) (node_link nodes links x) (slice_index_or lasts x 0)
   pub links_size : length links ≡ nodes + length entries
   pub lasts_size : length lasts ≡ nodes
-
--- the chains while e, the entry after `entries`, is put in: those of the first n propositions are done already
-pub record AreMarkChainsUpto (entries : List Entry) (e : Entry) (n : ℕ) (links lasts : List ℕ) : Type 0 where
-  pub done : (p : ℕ) → p < n → p < 52 → IsChain (IsMarkedAt (entries ++ e ∷ []) p) (IsLive (entries ++ e ∷ [])) (length entries + 1) (mark_link links p) (slice_index_or lasts p 0)
-  pub left : (p : ℕ) → n ≤ p → p < 52 → IsChain (IsMarkedAt entries p) (IsLive entries) (length entries) (mark_link links p) (slice_index_or lasts p 0)
-  pub ends : (p : ℕ) → n ≤ p → p < 52 → mark_link links p (length entries + 1) ≡ no_place
-  pub links_size : length links ≡ length entries * 52 + 104
-  pub lasts_size : length lasts ≡ 52

@@ -1,5 +1,5 @@
 -- How a log keeps its entries.
-use Rattle.std.specs.Prelude.{◌≡◌, ◌⊎◌, ℕ, ◌<◌, ◌≤◌, ◌+◌, ◌*◌, Bool, true, false, List, length, Option, None, Some, slice_get, slice_index_or}
+use Rattle.std.specs.Prelude.{◌≡◌, ◌⊎◌, ℕ, ◌<◌, ◌≤◌, ◌+◌, ◌*◌, ◌/◌, Bool, true, false, List, length, Option, None, Some, slice_get, slice_index_or}
 use Rattle.cstn_label.specs.declared.bounds.Bound.{Bound}
 use Rattle.cstn_rules.specs.declared.entries.Entry.{Entry}
 use Rattle.cstn_pool.specs.declared.slot_id.SlotId.{SlotId}
@@ -7,7 +7,8 @@ use Rattle.cstn_pool.specs.Slots.{live_of}
 use Rattle.cstn_minset.specs.Sets.{Entries, IsPlaced, IsCovered}
 use Rattle.cstn_log.specs.Entries.{IsCoveredBy, IsLive, AllNew}
 use Rattle.cstn_log.specs.Cuts.{is_marked, rank, renumbered}
-use Rattle.cstn_log.specs.Chains.{AreMarkChains, AreNodeChains}
+use Rattle.cstn_log.specs.Chains.{AreNodeChains}
+use Rattle.cstn_log.specs.MarkSets.{AreMarkSets}
 
 -- the entry with its premises at the new places, where its list is cut to the marked places
 abbrev pub renewed : List Bool → Entry → Entry
@@ -58,31 +59,29 @@ pub record IsRoom (cap told marks : ℕ) : Type 0 where
   pub for_marks : cap ≤ marks
   pub few : cap ≤ 4194304
 
--- the room for the links of each place in the chains of the propositions and in that of its time-point
-pub record IsChainRoom (cap nodes marks ends stands : ℕ) : Type 0 where
-  pub for_marks : cap * 52 + 52 ≤ marks
-  pub for_ends : 52 ≤ ends
+-- the room for the rows of the sets of the propositions, and for the links of the chains of the time-points
+pub record IsIndexRoom (cap nodes marks stands : ℕ) : Type 0 where
+  pub for_marks : cap / 64 * 52 + 52 ≤ marks
   pub for_nodes : nodes + cap ≤ stands
   pub few : nodes < 65536
 
--- the links of the chains of the propositions and of the time-points, with their ends, and what there is room for
-pub record ChainParts : Type 0 where
-  pub mark_links : List ℕ
-  pub mark_lasts : List ℕ
+-- the words of the sets of the propositions, the links of the chains of the time-points with their ends, and what there is room
+-- for
+pub record IndexParts : Type 0 where
+  pub mark_words : List ℕ
   pub node_links : List ℕ
   pub node_lasts : List ℕ
   pub for_marks : ℕ
-  pub for_ends : ℕ
   pub for_nodes : ℕ
 
--- the chains are those of the entries, and there is room
-pub record IsIndexed (entries : List Entry) (nodes cap : ℕ) (c : ChainParts) : Type 0 where
-  pub marked : AreMarkChains entries c.mark_links c.mark_lasts
+-- the sets and the chains are those of the entries, and there is room
+pub record IsIndexed (entries : List Entry) (nodes cap : ℕ) (c : IndexParts) : Type 0 where
+  pub marked : AreMarkSets entries c.mark_words
   pub stand : AreNodeChains nodes entries c.node_links c.node_lasts
-  pub room : IsChainRoom cap nodes c.for_marks c.for_ends c.for_nodes
+  pub room : IsIndexRoom cap nodes c.for_marks c.for_nodes
 
--- the entries are kept, with the chains through them, and there is room
-pub record IsLog (slots : List (Option (ℕ × Entry))) (births : ℕ) (table : Entries) (entries : List Entry) (ids : List SlotId) (nodes cap for_marks : ℕ) (chains : ChainParts) : Type 0 where
+-- the entries are kept, with the sets of their places and the chains through them, and there is room
+pub record IsLog (slots : List (Option (ℕ × Entry))) (births : ℕ) (table : Entries) (entries : List Entry) (ids : List SlotId) (nodes cap for_marks : ℕ) (index : IndexParts) : Type 0 where
   pub kept : IsKept slots births table entries ids nodes
   pub room : IsRoom (length slots) cap for_marks
-  pub indexed : IsIndexed entries nodes (length slots) chains
+  pub indexed : IsIndexed entries nodes (length slots) index

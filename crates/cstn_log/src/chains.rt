@@ -1,119 +1,18 @@
 // Chains of places through a list of entries, which grow with the list. Places of dead entries may be left out.
-ghost use Rattle.std.specs.Prelude.{ℕ, ◌≡◌, ◌+◌, ◌*◌, ◌<◌, ◌≤◌, ◌++◌, ◌∷◌, [], List, Some, length, slice_get, set, slice_index_or, vec_capacity, IfOk, IsTrue, ◌↔◌};
-ghost use Rattle.cstn_label.specs.Labels.{IsMarked};
-ghost use Rattle.cstn_label.specs.Read.{marks};
+ghost use Rattle.std.specs.Prelude.{ℕ, ◌≡◌, ◌+◌, ◌*◌, ◌/◌, ◌<◌, ◌≤◌, ◌++◌, ◌∷◌, [], List, Some, length, slice_get, slice_index_or, vec_capacity, IfOk, IsTrue, ◌↔◌};
 ghost use Rattle.cstn_rules.specs.declared.entries.Entry.{Entry as TheEntry};
 ghost use Rattle.cstn_log.specs.Entries.{IsLive};
-ghost use Rattle.cstn_log.specs.Chains.{AreMarkChains, AreMarkChainsUpto, AreNodeChains, IsMarkedAt, IsAtNode, IsNext, IsBehind, mark_link, node_cell, node_link};
+ghost use Rattle.cstn_log.specs.Chains.{AreNodeChains, IsAtNode, IsNext, IsBehind, node_cell, node_link};
+ghost use Rattle.cstn_log.specs.MarkSets.{AreMarkSets};
 
-use crate::cells::{LinkCells, NO_PLACE};
 use crate::list::EntryList;
-use cstn_label::{Mark, NodeId, Prop};
+use crate::sets::MarkSets;
+use cstn_label::NodeId;
 use cstn_rules::Entry;
 use std::alloc::{AllocError, Global};
 
-// For each proposition the chain of the places whose labels mark it, in order.
-#[derive(Drop)]
-pub struct MarkChains {
-    // A row of 52 cells, one for each proposition, that lead to the first places of the chains, and then a row for each place,
-    // whose cells lead to the next places.
-    links: LinkCells,
-    // For each proposition one more than the last place of its chain, or 0 where the chain has none.
-    lasts: Vec<u32>,
-}
-
-impl MarkChains {
-    // Chains with no place, and room for this many.
-    pub fn empty(alloc: Global, cap: u32) -> Result<MarkChains, AllocError>
-        requires { cap ≤ 4194304 }
-        ensures chains { IfOk result (λ m. AreMarkChains [] m.links.cells m.lasts.items) }
-        ensures room { IfOk result (λ m. (cap * 52 + 52 ≤ m.links.room) × (52 ≤ vec_capacity m.lasts)) }
-    {
-        let mut links = LinkCells::empty(alloc, cap as usize * 52 + 52)?;
-        let mut lasts = Vec::with_capacity(alloc, 52)?;
-        links.extend(52);
-        lasts.resize(52, 0)?;
-        Ok(MarkChains { links, lasts })
-    }
-
-    // Takes all places out.
-    pub fn clear(&mut self)
-        requires room { (52 ≤ self.old.links.room) × (52 ≤ vec_capacity self.old.lasts) }
-        ensures chains { AreMarkChains [] self.new.links.cells self.new.lasts.items }
-        ensures room { (self.old.links.room ≤ self.new.links.room) × (vec_capacity self.old.lasts ≤ vec_capacity self.new.lasts) }
-    {
-        self.links.clear();
-        self.links.extend(52);
-        self.lasts.clear();
-        self.lasts.resize(52, 0).unwrap();
-    }
-
-    // Puts the next entry of the list, at this place, into the chains of the propositions that its label marks.
-    pub fn append(&mut self, place: u32, e: Entry)
-        requires chains { (entries : List TheEntry) × AreMarkChains entries self.old.links.cells self.old.lasts.items × (length entries ≡ place) }
-        requires room { place * 52 + 104 ≤ self.old.links.room }
-        requires few { place < 4194304 }
-        ensures chains { (entries : List TheEntry) → AreMarkChains entries self.old.links.cells self.old.lasts.items → length entries ≡ place → AreMarkChains (entries ++ e ∷ []) self.new.links.cells self.new.lasts.items }
-        ensures room { (self.old.links.room ≤ self.new.links.room) × (vec_capacity self.old.lasts ≤ vec_capacity self.new.lasts) }
-    {
-        self.links.extend(52);
-        let mut index = 0;
-        while let Some(p) = e.bound.label.first_marked_from(index) {
-            self.append_marked(p, place, e);
-            index = p.index + 1;
-        }
-    }
-
-    // Puts the place at the end of the chain of p, which the label of its entry marks.
-    fn append_marked(&mut self, p: Prop, place: u32, e: Entry)
-        requires marked { IsMarked (marks e.bound.label) p.index }
-        requires upto { (entries : List TheEntry) × AreMarkChainsUpto entries e p.index self.old.links.cells self.old.lasts.items × (length entries ≡ place) }
-        requires few { place < 4194304 }
-        ensures upto { (entries : List TheEntry) → AreMarkChainsUpto entries e p.index self.old.links.cells self.old.lasts.items → length entries ≡ place → AreMarkChainsUpto entries e (p.index + 1) self.new.links.cells self.new.lasts.items }
-        ensures room { (self.old.links.room ≤ self.new.links.room) × (vec_capacity self.old.lasts ≤ vec_capacity self.new.lasts) }
-    {
-        self.append_to(p, place);
-    }
-
-    // Puts the place at the end of the chain of p.
-    fn append_to(&mut self, p: Prop, place: u32)
-        requires lasts { length self.old.lasts.items ≡ 52 }
-        requires inside { slice_index_or self.old.lasts.items p.index 0 * 52 + p.index < length self.old.links.cells }
-        requires few { place < 4194304 }
-        ensures links { self.new.links.cells ≡ set self.old.links.cells (slice_index_or self.old.lasts.items p.index 0 * 52 + p.index) place }
-        ensures lasts { self.new.lasts.items ≡ set self.old.lasts.items p.index (place + 1) }
-        ensures room { (self.old.links.room ≤ self.new.links.room) × (vec_capacity self.old.lasts ≤ vec_capacity self.new.lasts) }
-    {
-        let last = self.lasts[p.index as usize];
-        self.links.set(last as usize * 52 + p.index as usize, place);
-        self.lasts[p.index as usize] = place + 1;
-    }
-
-    // The next place of the chain of p from `from` on, which is 0, its start, or one more than a place of it; NO_PLACE at its
-    // end.
-    pub fn next(&self, p: Prop, from: u32) -> u32
-        ensures { result ≡ mark_link self.now.links.cells p.index from }
-    {
-        self.links.at(from as usize * 52 + p.index as usize)
-    }
-
-    // Lets the chain of p lead from `start` to the place `after`, past the places between.
-    pub fn pass_over(&mut self, p: Prop, start: u32, after: u32)
-        requires { start * 52 + 52 ≤ length self.old.links.cells }
-        ensures chains { (entries : List TheEntry) → AreMarkChains entries self.old.links.cells self.old.lasts.items → IsNext (IsMarkedAt entries p.index) (IsLive entries) start (length entries) after → AreMarkChains entries self.new.links.cells self.new.lasts.items }
-        ensures room { (self.old.links.room ≤ self.new.links.room) × (vec_capacity self.old.lasts ≤ vec_capacity self.new.lasts) }
-    {
-        self.links
-            .set(start as usize * 52 + p.index as usize, after);
-    }
-}
-
-// Whether the label of the entry marks p.
-pub fn is_marked(e: Entry, p: Prop) -> bool
-    ensures { IsTrue result ↔ IsMarked (marks e.bound.label) p.index }
-{
-    e.bound.label.mark(p) != Mark::Absent
-}
+// What stands for no place.
+pub const NO_PLACE: u32 = 4_294_967_295;
 
 // Whether the entry is at the time-point.
 pub fn is_at(e: Entry, x: NodeId) -> bool
@@ -219,16 +118,16 @@ impl NodeChains {
     }
 }
 
-// Puts the entries of a list into empty chains, in order.
-pub fn append_all(marks: &mut MarkChains, nodes: &mut NodeChains, list: &EntryList)
-    requires empty { AreMarkChains [] marks.old.links.cells marks.old.lasts.items × AreNodeChains (length nodes.old.lasts.items) [] nodes.old.links.items nodes.old.lasts.items }
-    requires room { (length list.now.entries * 52 + 52 ≤ marks.old.links.room) × (length nodes.old.lasts.items + length list.now.entries ≤ vec_capacity nodes.old.links) }
+// Puts the places of a list into empty sets and chains, in order.
+pub fn append_all(marks: &mut MarkSets, nodes: &mut NodeChains, list: &EntryList)
+    requires empty { AreMarkSets [] marks.old.words.items × AreNodeChains (length nodes.old.lasts.items) [] nodes.old.links.items nodes.old.lasts.items }
+    requires room { (length list.now.entries / 64 * 52 + 52 ≤ vec_capacity marks.old.words) × (length nodes.old.lasts.items + length list.now.entries ≤ vec_capacity nodes.old.links) }
     requires few { (length list.now.entries ≤ 4194304) × (length nodes.old.lasts.items < 65536) }
     requires inside { (k : ℕ) (e : TheEntry) → slice_get list.now.entries k ≡ Some e → e.bound.node.0 < length nodes.old.lasts.items }
-    ensures marks { AreMarkChains list.now.entries marks.new.links.cells marks.new.lasts.items }
+    ensures marks { AreMarkSets list.now.entries marks.new.words.items }
     ensures nodes { AreNodeChains (length nodes.old.lasts.items) list.now.entries nodes.new.links.items nodes.new.lasts.items }
     ensures size { length nodes.new.lasts.items ≡ length nodes.old.lasts.items }
-    ensures room { (marks.old.links.room ≤ marks.new.links.room) × (vec_capacity marks.old.lasts ≤ vec_capacity marks.new.lasts) × (vec_capacity nodes.old.links ≤ vec_capacity nodes.new.links) }
+    ensures room { (vec_capacity marks.old.words ≤ vec_capacity marks.new.words) × (vec_capacity nodes.old.links ≤ vec_capacity nodes.new.links) }
 {
     for k in 0..list.len() {
         let e = list.entry(k);

@@ -2,7 +2,6 @@
 //! bounds to which the rules add nothing.
 #![tactic(auto)]
 
-mod cells;
 mod chains;
 mod cuts;
 mod cutting;
@@ -11,6 +10,7 @@ mod list;
 mod log;
 mod plans;
 mod putting;
+mod sets;
 
 pub use cuts::{
     cuts_are_derivations, cuts_are_known, dropping_leaves_derivations, parts_are_derivations,

@@ -13,11 +13,11 @@ ghost use Rattle.cstn_log.specs.Cuts.{PremisesBelow, is_marked as is_marked_at, 
 ghost use Rattle.cstn_log.specs.Kept.{IsIdAt};
 ghost use Rattle.cstn_log.specs.Chains.{IsFirstLive, IsNext, IsBehind, IsMarkedAt, IsAtNode};
 
-use crate::cells::NO_PLACE;
-use crate::chains::{MarkChains, NodeChains, append_all, is_at, is_marked};
+use crate::chains::{NO_PLACE, NodeChains, append_all, is_at};
 use crate::cutting::{count_marked, cut, mark_ancestors, mark_staying};
 use crate::list::EntryList;
 use crate::putting::{clear, give_rest, place_all};
+use crate::sets::MarkSets;
 use cstn_label::{Bound, Label, NodeId, Prop, domination_is_an_order};
 use cstn_minset::MinSet;
 use cstn_net::Network;
@@ -31,9 +31,9 @@ use std::marker::Model;
 /// An entry is live while no later one dominates it. A pool has the bound of each entry, and a minimal set those of the live
 /// ones, each under the id that [`Log::slot`] answers. An entry keeps its id while entries before it are taken out, and only
 /// its place changes: premises are kept by slot, and a table tells the place of each. All memory of the log is taken by
-/// [`Log::start`]: 423 bytes for each entry that there may be, so 1,774 MB for the largest cap of 4,194,304, and 816 bytes for
-/// each time-point. Of these, 212 bytes an entry are links of chains: 4 by time-point, written for entries that are pushed, and
-/// 208 by proposition, written only up to the last entry whose label marks something. One more byte an entry is used by
+/// [`Log::start`]: 221.5 bytes for each entry that there may be, so 929 MB for the largest cap of 4,194,304, and 816 bytes for
+/// each time-point. Of these, 4 bytes an entry are links of the chain of its time-point, and 6.5 are for the sets of places whose
+/// labels mark a proposition, written only up to the last entry whose label marks something. One more byte an entry is used by
 /// [`Log::retract`] alone.
 #[derive(Drop)]
 pub struct Log {
@@ -41,7 +41,7 @@ pub struct Log {
     minimal: MinSet,
     list: EntryList,
     // The places whose labels mark each proposition, and those at each time-point.
-    marking: MarkChains,
+    marking: MarkSets,
     standing: NodeChains,
     // Which entries stay when some are taken out.
     marks: Vec<bool>,
@@ -56,7 +56,7 @@ impl Model for Log {
 
     ghost view = { λ l. record { entries = l.list.entries; ids = l.list.ids; births = l.pool.births; cap = l.list.cap; nodes = l.minimal.nodes } };
 
-    ghost invariant = { λ l. IsLog l.pool.slots l.pool.births l.minimal.table l.list.entries l.list.ids l.minimal.nodes l.list.cap (vec_capacity l.marks) (record { mark_links = l.marking.links.cells; mark_lasts = l.marking.lasts.items; node_links = l.standing.links.items; node_lasts = l.standing.lasts.items; for_marks = l.marking.links.room; for_ends = vec_capacity l.marking.lasts; for_nodes = vec_capacity l.standing.links }) };
+    ghost invariant = { λ l. IsLog l.pool.slots l.pool.births l.minimal.table l.list.entries l.list.ids l.minimal.nodes l.list.cap (vec_capacity l.marks) (record { mark_words = l.marking.words.items; node_links = l.standing.links.items; node_lasts = l.standing.lasts.items; for_marks = vec_capacity l.marking.words; for_nodes = vec_capacity l.standing.links }) };
 }
 
 impl Log {
@@ -86,7 +86,7 @@ impl Log {
         let pool = Pool::start(alloc, cap)?;
         let minimal = MinSet::start(alloc, nodes, cap)?;
         let list = EntryList::empty(alloc, cap)?;
-        let marking = MarkChains::empty(alloc, cap)?;
+        let marking = MarkSets::empty(alloc, cap)?;
         let standing = NodeChains::empty(alloc, nodes, cap)?;
         let marks = Vec::with_capacity(alloc, cap as usize)?;
         Ok(Log {
@@ -295,71 +295,40 @@ impl Log {
         self.standing.clear();
     }
 
-    /// The first live place from `from` up to `upto` whose entry's label marks p, or one above `upto` where there is none. To
-    /// save time, the walk starts at `near`, where that is a place before `from` whose label marks p. Links are led past the
-    /// dead places that are met, so that most are met once.
-    pub fn first_marked(&mut self, p: Prop, from: u32, near: u32, upto: u32) -> u32
+    /// The first live place from `from` up to `upto` whose entry's label marks p, or one above `upto` where there is none. Dead
+    /// places that are met are left out from then on, so that most are met once.
+    pub fn first_marked(&mut self, p: Prop, from: u32, upto: u32) -> u32
         requires from { from ≤ length self.old.entries }
         requires upto { upto < length self.old.entries }
         ensures first { IsFirstLive (IsMarkedAt self.old.entries p.index) self.old.entries upto from result }
         ensures stays { self.new ≡ self.old }
     {
         let _room = self.len();
-        let mut start = self.start_marked(p, from, near);
-        let mut place = self.next_marked(p, start);
+        let mut place = self.next_marked(p, from, upto);
         while self.is_passed(place, from, upto) {
-            let after = self.next_marked(p, place + 1);
-            start = self.step_marked(p, start, place, after);
-            place = after;
+            self.leave_out(p, place);
+            place = self.next_marked(p, place + 1, upto);
         }
         place
     }
 
-    // Where the walk to the first place from `from` on that marks p starts: behind `near`, if that is before `from` and marks
-    // p, and else at 0, the start of the chain.
-    fn start_marked(&self, p: Prop, from: u32, near: u32) -> u32
-        requires { from ≤ length self.now.entries }
-        ensures upto { result ≤ from }
-        ensures behind { IsBehind (IsMarkedAt self.now.entries p.index) result }
+    // The first place from `from` up to `upto` in the set of p, or one above `upto` where there is none.
+    fn next_marked(&self, p: Prop, from: u32, upto: u32) -> u32
+        requires upto { upto < length self.now.entries }
+        ensures low { from ≤ result }
+        ensures here { result ≤ upto → IsMarkedAt self.now.entries p.index result }
+        ensures none { (k : ℕ) → from ≤ k → k ≤ upto → k < result → IsLive self.now.entries k → IsMarkedAt self.now.entries p.index k → ⊥ }
     {
-        if near >= from {
-            return 0;
-        }
-        if !is_marked(self.entry(near), p) {
-            return 0;
-        }
-        near + 1
+        self.marking.next(p, from, upto)
     }
 
-    // The next place of the chain of p from `start` on, which is 0, its start, or one more than a place of it; NO_PLACE at its
-    // end.
-    fn next_marked(&self, p: Prop, start: u32) -> u32
-        requires inside { start ≤ length self.now.entries }
-        requires behind { IsBehind (IsMarkedAt self.now.entries p.index) start }
-        ensures { IsNext (IsMarkedAt self.now.entries p.index) (IsLive self.now.entries) start (length self.now.entries) result }
-    {
-        self.marking.next(p, start)
-    }
-
-    // From where the chain of p leads to `after`, its next place behind `place`: from `start`, by a new link, if `place` is
-    // dead and the chain goes on, and else from behind `place`.
-    fn step_marked(&mut self, p: Prop, start: u32, place: u32, after: u32) -> u32
+    // Takes the place of a dead entry out of the set of p.
+    fn leave_out(&mut self, p: Prop, place: u32)
         requires inside { place < length self.old.entries }
-        requires behind { IsBehind (IsMarkedAt self.old.entries p.index) start }
-        requires here { IsNext (IsMarkedAt self.old.entries p.index) (IsLive self.old.entries) start (length self.old.entries) place }
-        requires next { IsNext (IsMarkedAt self.old.entries p.index) (IsLive self.old.entries) (place + 1) (length self.old.entries) after }
+        requires dead { ¬ IsLive self.old.entries place }
         ensures stays { self.new ≡ self.old }
-        ensures behind { IsBehind (IsMarkedAt self.old.entries p.index) result }
-        ensures next { IsNext (IsMarkedAt self.old.entries p.index) (IsLive self.old.entries) result (length self.old.entries) after }
     {
-        if after == NO_PLACE {
-            return place + 1;
-        }
-        if self.live(place) {
-            return place + 1;
-        }
-        self.marking.pass_over(p, start, after);
-        start
+        self.marking.put(p, place, false);
     }
 
     // Whether a walk for the first live place from `from` up to `upto` goes on behind this place: it is before `from`, or is

@@ -3,88 +3,87 @@ use Rattle.std.specs.Prelude.{IfOk, IsErr}
 use Rattle.std.proofs.lemmas.Bool.{false≢true}
 use Rattle.cstn_label.specs.Read.{the_bound}
 use Rattle.cstn_net.specs.Read.{the_network}
-use Rattle.cstn_log.proofs.DerivedLemmas.{wait_follows}
 use Rattle.cstn_check.specs.Growth.Instance.{wait_at}
 use Rattle.cstn_log.specs.Entries.{the_entries}
 use Rattle.cstn_check.specs.Tries.{how_many, concludes}
 use Rattle.cstn_check.specs.Turns.{IsTaken, IsCut}
-use Rattle.cstn_check.proofs.TurnLemmas.{bound_of, idle_dead, idle_none, put_is_step, live_wait, dead_seen, dead_other, wait_concludes, wait_ends}
+use Rattle.cstn_check.proofs.TurnLemmas.{bound_had, idle_dead, idle_none, put_is_step, live_wait, dead_seen, dead_other, wait_follows_from, wait_concludes_from, wait_ends_from}
 use Rattle.cstn_check.proofs.Sequences.{ready_then}
 use Rattle.cstn_check.proofs.turns.try_wait.Goals as goal
 
 pub returns-then-not-live-clause-taken : goal.returns-then-not-live-clause-taken
 returns-then-not-live-clause-taken c =
-    idle_dead (the_network c.args.net.now) c.args.log.now (wait_at c.args.i c.args.j) c.requires.ready
-    (dead_seen _ _ c.network_is_well_formed.ensures c.requires.ready c.args.i c.args.j
+    idle_dead (the_network c.args.net.now) c.args.log.now (wait_at c.args.seen.place c.args.premise.place) c.requires.ready
+    (dead_seen _ _ c.network_is_well_formed.ensures c.requires.ready c.args.seen.place c.args.premise.place
     (λ live. false≢true (c.if-not-live.ensures.live.1 live)))
 
 pub returns-then-not-live-2-clause-taken : goal.returns-then-not-live-2-clause-taken
 returns-then-not-live-2-clause-taken c =
-    idle_dead (the_network c.args.net.now) c.args.log.now (wait_at c.args.i c.args.j) c.requires.ready
-    (dead_other _ _ c.network_is_well_formed.ensures c.requires.ready c.args.i c.args.j
+    idle_dead (the_network c.args.net.now) c.args.log.now (wait_at c.args.seen.place c.args.premise.place) c.requires.ready
+    (dead_other _ _ c.network_is_well_formed.ensures c.requires.ready c.args.seen.place c.args.premise.place
     (λ live. false≢true (c.if-not-live-2.ensures.live.1 live)))
 
 pub returns-then-not-waits-clause-taken : goal.returns-then-not-waits-clause-taken
 returns-then-not-waits-clause-taken c =
-    idle_none (the_network c.args.net.now) c.args.log.now (wait_at c.args.i c.args.j) c.requires.ready
-    (wait_ends _ _ c.network_is_well_formed.ensures c.requires.ready c.args.i c.args.j c.entry.result c.entry-2.result
-    c.entry.ensures.entry c.entry-2.ensures.entry
+    idle_none (the_network c.args.net.now) c.args.log.now (wait_at c.args.seen.place c.args.premise.place) c.requires.ready
+    (wait_ends_from _ _ c.network_is_well_formed.ensures c.requires.ready c.args.seen.place c.args.premise.place (the_bound c.args.seen.bound) (the_bound c.args.premise.bound)
+    c.requires.seen_bound c.requires.bound
     (λ p r w. false≢true (c.if-not-waits.ensures.waits.1 (record { prop = p; observes = w.observes; marked = w.marked }))))
 
 pub wait-requires-clause-seen : goal.wait-requires-clause-seen
 wait-requires-clause-seen c =
-    bound_of (the_network c.args.net.now) c.args.log.now c.args.i c.entry.result c.requires.ready c.entry.ensures.entry
+    bound_had (the_network c.args.net.now) c.args.log.now c.args.seen.place (the_bound c.args.seen.bound) c.requires.ready c.requires.seen_bound
 
 pub wait-requires-clause-bound : goal.wait-requires-clause-bound
 wait-requires-clause-bound c =
-    bound_of (the_network c.args.net.now) c.args.log.now c.args.j c.entry-2.result c.requires.ready c.entry-2.ensures.entry
+    bound_had (the_network c.args.net.now) c.args.log.now c.args.premise.place (the_bound c.args.premise.bound) c.requires.ready c.requires.bound
 
 pub returns-in_default-clause-taken : goal.returns-in_default-clause-taken
 returns-in_default-clause-taken c =
-    idle_none (the_network c.args.net.now) c.args.log.now (wait_at c.args.i c.args.j) c.requires.ready
-    (wait_ends _ _ c.network_is_well_formed.ensures c.requires.ready c.args.i c.args.j c.entry.result c.entry-2.result
-    c.entry.ensures.entry c.entry-2.ensures.entry c.in_default.ensures.none)
+    idle_none (the_network c.args.net.now) c.args.log.now (wait_at c.args.seen.place c.args.premise.place) c.requires.ready
+    (wait_ends_from _ _ c.network_is_well_formed.ensures c.requires.ready c.args.seen.place c.args.premise.place (the_bound c.args.seen.bound) (the_bound c.args.premise.bound)
+    c.requires.seen_bound c.requires.bound c.in_default.ensures.none)
 
 pub returns-in_default-clause-tries : goal.returns-in_default-clause-tries
 returns-in_default-clause-tries c = omega (arith, c.wait.ensures.counted, c.is_in_range.ensures)
 
-pub put-requires-clause-follows : goal.put-requires-clause-follows
-put-requires-clause-follows c =
+pub put-done-requires-clause-follows : goal.put-done-requires-clause-follows
+put-done-requires-clause-follows c =
     let w = c.in-Some.ensures.wait in
-    wait_follows (the_network c.args.net.now) c.args.log.now.entries w.0 c.args.i c.args.j c.entry.result c.entry-2.result
-    (the_bound c.in-Some.bound) c.entry.ensures.entry c.entry-2.ensures.entry w.1
+    wait_follows_from (the_network c.args.net.now) c.args.log.now w.0 c.args.seen.place c.args.premise.place (the_bound c.args.seen.bound) (the_bound c.args.premise.bound)
+    (the_bound c.in-Some.bound) c.requires.seen_bound c.requires.bound w.1
 
 pub returns-clause-taken : goal.returns-clause-taken
 returns-clause-taken c =
     let w = c.in-Some.ensures.wait in
-    subst (λ l. IfOk c.put.result (λ r. IsTaken (the_network c.args.net.now) c.args.log.now c.put.new.log l r))
-    (put_is_step (the_network c.args.net.now) c.args.log.now (wait_at c.args.i c.args.j)
+    subst (λ l. IfOk c.put-done.result (λ r. IsTaken (the_network c.args.net.now) c.args.log.now c.put-done.new.log l r))
+    (put_is_step (the_network c.args.net.now) c.args.log.now (wait_at c.args.seen.place c.args.premise.place)
     (the_bound c.in-Some.bound) c.requires.ready
-    (live_wait _ _ c.network_is_well_formed.ensures c.requires.ready c.args.i c.args.j c.requires.seen c.requires.place
+    (live_wait _ _ c.network_is_well_formed.ensures c.requires.ready c.args.seen.place c.args.premise.place c.requires.seen c.requires.place
     (c.live.ensures.live.0 c.if-not-live.false) (c.live-2.ensures.live.0 c.if-not-live-2.false))
-    (wait_concludes _ _ c.network_is_well_formed.ensures c.requires.ready c.args.i c.args.j c.entry.result c.entry-2.result w.0
-    (the_bound c.in-Some.bound) c.entry.ensures.entry c.entry-2.ensures.entry w.1))
-    c.put.ensures.taken
+    (wait_concludes_from _ _ c.network_is_well_formed.ensures c.requires.ready c.args.seen.place c.args.premise.place (the_bound c.args.seen.bound) (the_bound c.args.premise.bound) w.0
+    (the_bound c.in-Some.bound) c.requires.seen_bound c.requires.bound w.1))
+    c.put-done.ensures.taken
 
 pub returns-clause-cut : goal.returns-clause-cut
 returns-clause-cut c =
     let w = c.in-Some.ensures.wait in
-    subst (λ l. IsErr c.put.result → IsCut c.args.log.now c.put.new.log l)
-    (put_is_step (the_network c.args.net.now) c.args.log.now (wait_at c.args.i c.args.j)
+    subst (λ l. IsErr c.put-done.result → IsCut c.args.log.now c.put-done.new.log l)
+    (put_is_step (the_network c.args.net.now) c.args.log.now (wait_at c.args.seen.place c.args.premise.place)
     (the_bound c.in-Some.bound) c.requires.ready
-    (live_wait _ _ c.network_is_well_formed.ensures c.requires.ready c.args.i c.args.j c.requires.seen c.requires.place
+    (live_wait _ _ c.network_is_well_formed.ensures c.requires.ready c.args.seen.place c.args.premise.place c.requires.seen c.requires.place
     (c.live.ensures.live.0 c.if-not-live.false) (c.live-2.ensures.live.0 c.if-not-live-2.false))
-    (wait_concludes _ _ c.network_is_well_formed.ensures c.requires.ready c.args.i c.args.j c.entry.result c.entry-2.result w.0
-    (the_bound c.in-Some.bound) c.entry.ensures.entry c.entry-2.ensures.entry w.1))
-    c.put.ensures.cut
+    (wait_concludes_from _ _ c.network_is_well_formed.ensures c.requires.ready c.args.seen.place c.args.premise.place (the_bound c.args.seen.bound) (the_bound c.args.premise.bound) w.0
+    (the_bound c.in-Some.bound) c.requires.seen_bound c.requires.bound w.1))
+    c.put-done.ensures.cut
 
 pub returns-clause-tries : goal.returns-clause-tries
 returns-clause-tries c = omega (arith, c.wait.ensures.counted, c.is_in_range.ensures)
 
 pub returns-clause-ready : goal.returns-clause-ready
 returns-clause-ready c =
-    ready_then (the_network c.args.net.now) c.args.log.now c.put.new.log (wait_at c.args.i c.args.j ∷ [])
-    c.put.result c.network_is_well_formed.ensures (tt, tt) c.requires.ready (returns-clause-taken c)
+    ready_then (the_network c.args.net.now) c.args.log.now c.put-done.new.log (wait_at c.args.seen.place c.args.premise.place ∷ [])
+    c.put-done.result c.network_is_well_formed.ensures (tt, tt) c.requires.ready (returns-clause-taken c)
 
 pub returns-in_default-clause-most : goal.returns-in_default-clause-most
 returns-in_default-clause-most c = omega (arith, c.wait.ensures.counted)
@@ -100,7 +99,7 @@ returns-in_default-clause-concluding c =
 pub returns-clause-concluding : goal.returns-clause-concluding
 returns-clause-concluding c =
     let w = c.in-Some.ensures.wait in
-    let one : concludes (the_network c.args.net.now) (the_entries c.args.log.now.entries) c.args.i c.args.j ≡ 1 =
-    ap how_many (wait_concludes _ _ c.network_is_well_formed.ensures c.requires.ready c.args.i c.args.j c.entry.result c.entry-2.result w.0
-    (the_bound c.in-Some.bound) c.entry.ensures.entry c.entry-2.ensures.entry w.1) in
+    let one : concludes (the_network c.args.net.now) (the_entries c.args.log.now.entries) c.args.seen.place c.args.premise.place ≡ 1 =
+    ap how_many (wait_concludes_from _ _ c.network_is_well_formed.ensures c.requires.ready c.args.seen.place c.args.premise.place (the_bound c.args.seen.bound) (the_bound c.args.premise.bound) w.0
+    (the_bound c.in-Some.bound) c.requires.seen_bound c.requires.bound w.1) in
     omega (arith, one, c.wait.ensures.counted)

@@ -24,6 +24,7 @@ loop-i-init c = record {
   most = omega arith;
   concluding = omega arith;
   size = c.next_waiting-i.ensures.size;
+  near = refl;
   passed = rw c.next_waiting-i.ensures.stays (passed_on (the_network c.args.net.now) (the_entries c.args.log.now.entries) (the_entries c.args.log.now.entries) c.args.j 0 c.next_waiting-i.result _ _
       (extends_itself (the_entries c.args.log.now.entries)) (omega (arith, c.requires.place, size_is c.args.log.now)) c.next_waiting-i.ensures.upto.0 c.next_waiting-i.ensures.passed);
 }
@@ -69,6 +70,7 @@ loop-i-preserved c =
       tries = omega (arith, c.loop-i.invariant.tries, c.in-Ok-false.ensures.tries);
       most = omega (arith, c.loop-i.invariant.most, c.in-Ok-false.ensures.most, next.ensures.upto.0);
       size = next.ensures.size;
+      near = c.in-Ok-false.ensures.size;
       passed = rw next.ensures.stays (passed_on (the_network c.args.net.now) (the_entries c.try_both.new.log.entries) (the_entries c.try_both.new.log.entries) c.args.j (c.loop-i.i + 1) next.result _ _
           (extends_itself (the_entries c.try_both.new.log.entries)) (omega (arith, c.requires.place, c.loop-i.invariant.taken.longer.longer, c.in-Ok-false.ensures.taken.longer.longer, size_is c.try_both.new.log))
           next.ensures.upto.0 next.ensures.passed);

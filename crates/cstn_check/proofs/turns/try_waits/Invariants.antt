@@ -15,6 +15,7 @@ invariant-loop-i l = record {
   tries : l.fn.tries.count ≤ l.tries.count;
   most : l.tries.count ≤ l.fn.tries.count + 2 * l.i;
   size : length l.sees ≡ 52;
+  near : length l.near ≡ 52;
   passed : ArePassed (the_network l.fn.net) (the_entries l.log.entries) l.fn.j l.i l.sees l.marking;
   concluding : l.tries.count ≤ l.fn.tries.count + total (concludes_with (the_network l.fn.net) (the_entries l.fn.log.entries) l.fn.j) l.i;
 }

@@ -11,10 +11,9 @@ loop-k-preserved c =
     let taken : length (take k L) ≡ k = length_taken L k (omega (arith, c.loop-k-test.true, was.end)) in
     record {
       end = was.end;
-      marks = rw more (c.append.ensures.chains (take k L) was.marks taken);
+      marks = rw more (c.append.ensures.sets (take k L) was.marks taken);
       nodes = rw (more, ← was.size) (c.append-in-loop-k.ensures.chains (take k L) (rw was.size was.nodes) taken);
       size = c.append-in-loop-k.ensures.size ∙ was.size;
-      for_marks = omega (arith, was.for_marks, c.append.ensures.room.0);
-      for_ends = omega (arith, was.for_ends, c.append.ensures.room.1);
+      for_marks = omega (arith, was.for_marks, c.append.ensures.room);
       for_nodes = omega (arith, was.for_nodes, c.append-in-loop-k.ensures.room);
     }

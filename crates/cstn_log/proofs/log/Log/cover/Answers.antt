@@ -1,5 +1,5 @@
 use Rattle.std.proofs.Common.{subst}
-use Rattle.std.specs.Prelude.{IfSome, IfNone}
+use Rattle.std.specs.Prelude.{IfSome}
 use Rattle.cstn_log.specs.Entries.{State, IsCoveredBy, IsDominator}
 use Rattle.cstn_log.proofs.KeptLemmas.{dominator_at, placed_there}
 use Rattle.cstn_log.proofs.log.Log.cover.Goals as goal

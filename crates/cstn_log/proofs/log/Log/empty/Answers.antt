@@ -13,11 +13,10 @@ invariant_of-result c =
         few = omega (arith, c.requires, length-replicate c.args.cap no_slot);
       };
       indexed = record {
-        marked = c.in_ok-marking.ensures.chains;
+        marked = c.in_ok-marking.ensures.sets;
         stand = c.in_ok-standing.ensures.chains;
         room = record {
-          for_marks = omega (arith, c.in_ok-marking.ensures.room.0, length-replicate c.args.cap no_slot);
-          for_ends = c.in_ok-marking.ensures.room.1;
+          for_marks = rw (length-replicate c.args.cap no_slot) c.in_ok-marking.ensures.room;
           for_nodes = omega (arith, c.in_ok-standing.ensures.room, length-replicate c.args.cap no_slot);
           few = omega (arith, c.ranges.nodes);
         };

@@ -72,20 +72,20 @@ invariant_of-self-2 c =
         few = omega (arith, size, room.few);
       };
       indexed = record {
-        marked = rw longer (c.append.ensures.chains L index.marked long);
+        marked = rw longer (c.append.ensures.sets L index.marked long);
         stand = rw (longer, same, ← ends) (c.append-2.ensures.chains L (rw ends index.stand) long);
         room = record {
-          for_marks = omega (arith, size, index.room.for_marks, c.append.ensures.room.0);
-          for_ends = omega (arith, index.room.for_ends, c.append.ensures.room.1);
+          for_marks = rw size (omega (arith, index.room.for_marks, c.append.ensures.room));
           for_nodes = omega (arith, size, same, index.room.for_nodes, c.append-2.ensures.room);
           few = omega (arith, same, index.room.few);
         };
       };
     }
 
-pub append-requires-clause-chains : goal.append-requires-clause-chains
-append-requires-clause-chains c =
-    (c.self.inside.list.entries, c.self.invariant.indexed.marked, omega (arith, c.len-place.ensures.len))
+pub append-requires : goal.append-requires
+append-requires c =
+    let inside = slice_get_within c.self.inside.pool.slots c.in_ok-id.id.slot None c.in_ok-id.ensures.empty in
+    omega (arith, c.self.invariant.indexed.room.for_marks)
 
 -- the id of a slot and a birth
 abbrev the_id : ℕ → ℕ → SlotId

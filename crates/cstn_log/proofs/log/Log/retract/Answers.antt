@@ -121,7 +121,9 @@ append_all-requires-clause-room c =
     let index = c.self.invariant.indexed in
     let ends : length c.self.inside.standing.lasts.items ≡ c.self.inside.minimal.nodes = index.stand.lasts_size in
     let lasts : length c.clear-4.new.self.lasts.items ≡ length c.self.inside.standing.lasts.items = c.clear-4.ensures.chains.lasts_size in
-    (omega (arith, short, index.room.for_marks, c.clear-3.ensures.room.0), omega (arith, short, lasts, ends, index.room.for_nodes, c.clear-4.ensures.room))
+    let room = index.room.for_marks in
+    let same = c.clear-3.ensures.room in
+    (omega (arith, short, room, same), omega (arith, short, lasts, ends, index.room.for_nodes, c.clear-4.ensures.room))
 
 pub append_all-requires-clause-few : goal.append_all-requires-clause-few
 append_all-requires-clause-few c =
@@ -194,9 +196,8 @@ invariant_of-self-2 c =
         marked = c.append_all.ensures.marks;
         stand = rw (same, ← ends, ← lasts) c.append_all.ensures.nodes;
         room = record {
-          for_marks = omega (arith, size, index.room.for_marks, c.clear-3.ensures.room.0, c.append_all.ensures.room.0);
-          for_ends = omega (arith, index.room.for_ends, c.clear-3.ensures.room.1, c.append_all.ensures.room.1);
-          for_nodes = omega (arith, size, same, index.room.for_nodes, c.clear-4.ensures.room, c.append_all.ensures.room.2);
+          for_marks = rw size (omega (arith, index.room.for_marks, c.clear-3.ensures.room, c.append_all.ensures.room.0));
+          for_nodes = omega (arith, size, same, index.room.for_nodes, c.clear-4.ensures.room, c.append_all.ensures.room.1);
           few = omega (arith, same, index.room.few);
         };
       };

@@ -26,7 +26,6 @@ invariant_of-self c =
         stand = rw (← ends) (c.pass_over.ensures.chains c.self.inside.list.entries (rw ends index.stand) behind found);
         room = record {
           for_marks = index.room.for_marks;
-          for_ends = index.room.for_ends;
           for_nodes = omega (arith, index.room.for_nodes, c.pass_over.ensures.room);
           few = index.room.few;
         };
