@@ -25,12 +25,13 @@ use Rattle.cstn_reply.specs.declared.status.Status.TheVariants.{Good, Bad, Full,
 use Rattle.cstn_run.specs.Meanings.{end_of, WasNamed}
 use Rattle.cstn_top.specs.EditSessions.{network_after, IsNoCheck}
 use Rattle.cstn_top.specs.Told.{IsToldOf}
+use Rattle.cstn_documents.specs.Limits.{most_document}
 
 -- the bytes are a document with the deadline that is asked for, and its parts make a labelled network
 pub record Document : Type 0 where
   pub asked : Asked
   pub bytes : List ℕ
-  pub short : length bytes ≤ 8388608
+  pub short : length bytes ≤ most_document
   pub parts : Parts
   pub reads : document bytes asked.deadline ≡ Ok parts
   pub fit : IsFit parts

@@ -32,6 +32,8 @@ use Rattle.cstn_top.specs.declared.commands.Prepared.{Prepared}
 use Rattle.cstn_top.specs.declared.commands.Prepared.TheVariants.{Says}
 use Rattle.cstn_top.specs.declared.commands.questions.Question.{Question}
 use Rattle.cstn_top.specs.declared.commands.questions.Question.TheVariants.{Check, Closed, Tight, Conflict, Tree, Edit, Run, Save, Replay, Closedcheck, Treecheck, Drill, Host}
+use Rattle.cstn_words.specs.Limits.{most_cap, most_host_cap, most_files}
+use Rattle.cstn_documents.specs.Limits.{most_text}
 
 -- what is said to a question
 abbrev pub the_question : Question → Plan
@@ -64,7 +66,7 @@ pub record TellsInstead (request : Request) (told : Option (List ℕ → Option 
 -- a log may have from 1 to 4,194,304 entries
 pub record IsCap (cap : ℕ) : Type 0 where
   pub some : 1 ≤ cap
-  pub most : cap ≤ 4194304
+  pub most : cap ≤ most_cap
 
 -- what was read is what documents and texts hold
 abbrev pub IsSoundQuestion : Question → Type 0
@@ -76,11 +78,11 @@ IsSoundQuestion (Tree d cap) = IsSound d × IsCap cap
 IsSoundQuestion (Edit d cap) = IsSound d × IsCap cap × All (λ c. c.id < 2 ^ 31) d.network.constraints
 IsSoundQuestion (Run d cap) = AreNamesOf d.names (the_network d.labelled.base) × IsCap cap
 IsSoundQuestion (Save d) = AreNamesOf d.names (the_network d.labelled.base)
-IsSoundQuestion (Replay d text) = IsSound d × (length text.items ≤ 1476395008)
-IsSoundQuestion (Closedcheck d text) = IsSound d × (length text.items ≤ 1476395008)
-IsSoundQuestion (Treecheck d text) = IsSound d × (length text.items ≤ 1476395008)
+IsSoundQuestion (Replay d text) = IsSound d × (length text.items ≤ most_text)
+IsSoundQuestion (Closedcheck d text) = IsSound d × (length text.items ≤ most_text)
+IsSoundQuestion (Treecheck d text) = IsSound d × (length text.items ≤ most_text)
 IsSoundQuestion (Drill number) = Unit {0}
-IsSoundQuestion (Host documents cap) = All IsSound documents.items × (1 ≤ length documents.items) × (length documents.items ≤ 8) × (1 ≤ cap) × (cap ≤ 65536)
+IsSoundQuestion (Host documents cap) = All IsSound documents.items × (1 ≤ length documents.items) × (length documents.items ≤ most_files) × (1 ≤ cap) × (cap ≤ most_host_cap)
 
 abbrev pub kind_of : Question → Kind
 kind_of (Check d cap) = a_text

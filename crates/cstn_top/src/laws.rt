@@ -18,6 +18,7 @@ ghost use Rattle.cstn_lift.specs.WellFormed.{IsLabelled};
 ghost use Rattle.cstn_tight.specs.Deadlines.{at_deadline, IsLeastDeadline};
 ghost use Rattle.cstn_top.specs.LabelledDeadlines.{labelled_at, IsLabelledLeastDeadline};
 ghost use Rattle.cstn_top.specs.EditSessions.{network_after, AnswersCheck, IsAtLastCheck};
+ghost use Rattle.cstn_words.specs.Limits.{most_cap};
 
 use crate::evidence::evidence_is_accepted;
 use cstn_closed::{closed_lists_are_accepted, closed_texts_are_read_back};
@@ -65,13 +66,13 @@ pub fn outputs_are_one()
 /// What `check`, `run` and `closed` write after no passes: `replay` of the same document with that text says `accepted`, and
 /// nothing else. So does `closedcheck` with what `closed` writes after yes.
 pub fn evidence_passes()
-    ensures no_of_check { (asked : Asked) (cap : ℕ) (file bytes live : List ℕ) (said : Said) → cap ≤ 4194304 → IsOutput (plan_at (check asked cap) (bytes ∷ [])) live said
+    ensures no_of_check { (asked : Asked) (cap : ℕ) (file bytes live : List ℕ) (said : Said) → cap ≤ most_cap → IsOutput (plan_at (check asked cap) (bytes ∷ [])) live said
         → said.outcome ≡ Bad → IsAccepted (plan_at (replay asked file) (bytes ∷ said.text ∷ [])) }
-    ensures no_of_run { (asked : Asked) (cap : ℕ) (file bytes live : List ℕ) (said : Said) → cap ≤ 4194304 → IsOutput (plan_at (run asked cap) (bytes ∷ [])) live said
+    ensures no_of_run { (asked : Asked) (cap : ℕ) (file bytes live : List ℕ) (said : Said) → cap ≤ most_cap → IsOutput (plan_at (run asked cap) (bytes ∷ [])) live said
         → said.outcome ≡ Bad → IsAccepted (plan_at (replay asked file) (bytes ∷ said.text ∷ [])) }
-    ensures no_of_closed { (asked : Asked) (cap : ℕ) (file bytes live : List ℕ) (said : Said) → cap ≤ 4194304 → IsOutput (plan_at (closed asked cap) (bytes ∷ [])) live said
+    ensures no_of_closed { (asked : Asked) (cap : ℕ) (file bytes live : List ℕ) (said : Said) → cap ≤ most_cap → IsOutput (plan_at (closed asked cap) (bytes ∷ [])) live said
         → said.outcome ≡ Bad → IsAccepted (plan_at (replay asked file) (bytes ∷ said.text ∷ [])) }
-    ensures yes_of_closed { (asked : Asked) (cap : ℕ) (file bytes live : List ℕ) (said : Said) → cap ≤ 4194304 → IsOutput (plan_at (closed asked cap) (bytes ∷ [])) live said
+    ensures yes_of_closed { (asked : Asked) (cap : ℕ) (file bytes live : List ℕ) (said : Said) → cap ≤ most_cap → IsOutput (plan_at (closed asked cap) (bytes ∷ [])) live said
         → said.outcome ≡ Good → IsAccepted (plan_at (closedcheck asked file) (bytes ∷ said.text ∷ [])) }
 {
     documents_have_one_answer();

@@ -2,6 +2,7 @@
 use Rattle.std.specs.Prelude.{ℕ, ◌≤◌, List, Option, map, length, String, string_bytes}
 use Rattle.cstn_words.specs.Requests.{Asked, Taken, Request, request_of, names_of, check, run, edit, closed, tight, conflict, tree, save, replay, closedcheck, treecheck, drill}
 use Rattle.cstn_words.specs.Requests.{host}
+use Rattle.cstn_words.specs.Limits.{most_cap, most_host_cap, most_files}
 use Rattle.cstn_words.specs.declared.words.Asked.{Asked as AskedWords}
 use Rattle.cstn_words.specs.declared.words.Taken.{Taken as TakenWords}
 use Rattle.cstn_words.specs.declared.words.Request.{Request as RequestWords}
@@ -45,16 +46,16 @@ named_files words = names_of (request_in words)
 
 -- the log may have from 1 to 4,194,304 entries; the log of each of the 1 to 8 files of a host, from 1 to 65,536
 abbrev pub IsCapped : RequestWords → Type 0
-IsCapped (Check asked cap) = (1 ≤ cap) × (cap ≤ 4194304)
-IsCapped (Run asked cap) = (1 ≤ cap) × (cap ≤ 4194304)
-IsCapped (Edit asked cap) = (1 ≤ cap) × (cap ≤ 4194304)
-IsCapped (Closed asked cap) = (1 ≤ cap) × (cap ≤ 4194304)
-IsCapped (Tight asked cap) = (1 ≤ cap) × (cap ≤ 4194304)
-IsCapped (Conflict asked cap) = (1 ≤ cap) × (cap ≤ 4194304)
-IsCapped (Tree asked cap) = (1 ≤ cap) × (cap ≤ 4194304)
+IsCapped (Check asked cap) = (1 ≤ cap) × (cap ≤ most_cap)
+IsCapped (Run asked cap) = (1 ≤ cap) × (cap ≤ most_cap)
+IsCapped (Edit asked cap) = (1 ≤ cap) × (cap ≤ most_cap)
+IsCapped (Closed asked cap) = (1 ≤ cap) × (cap ≤ most_cap)
+IsCapped (Tight asked cap) = (1 ≤ cap) × (cap ≤ most_cap)
+IsCapped (Conflict asked cap) = (1 ≤ cap) × (cap ≤ most_cap)
+IsCapped (Tree asked cap) = (1 ≤ cap) × (cap ≤ most_cap)
 IsCapped (Save asked) = Unit {0}
 IsCapped (Replay asked proof) = Unit {0}
 IsCapped (Closedcheck asked proof) = Unit {0}
 IsCapped (Treecheck asked proof) = Unit {0}
 IsCapped (Drill number) = Unit {0}
-IsCapped (Host files deadline cap) = (1 ≤ cap) × (cap ≤ 65536) × (1 ≤ length files.now) × (length files.now ≤ 8)
+IsCapped (Host files deadline cap) = (1 ≤ cap) × (cap ≤ most_host_cap) × (1 ≤ length files.now) × (length files.now ≤ most_files)

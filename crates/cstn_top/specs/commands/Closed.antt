@@ -15,6 +15,7 @@ use Rattle.cstn_top.specs.Answers.{Answer, of_lowered, on_labelled, on_verdict}
 use Rattle.cstn_top.specs.Accepted.{IsYesText, IsNoText}
 use Rattle.cstn_top.specs.Verdicts.{IsLabelledYes, IsLabelledNo, IsLabelledDecided, IsListed}
 use Rattle.cstn_top.specs.Command.{Command, a_text, file_in, no_lines}
+use Rattle.cstn_words.specs.Limits.{most_cap}
 
 -- what `closed` says of a network: after yes the load, and the bounds of the live entries of its log
 abbrev pub listed : ℕ → Answer
@@ -38,6 +39,6 @@ closed_command asked cap = record {
   bad_text = λ text contents. HasLabelled (file_in contents) asked.deadline (λ names m. IsNoText names (lowered m) text);
   refused = λ told contents. AreThere told (asked.file ∷ []);
   lines = no_lines;
-  ranged = cap ≤ 4194304;
+  ranged = cap ≤ most_cap;
   held = λ contents. CanBeHeld (file_in contents) asked.deadline;
 }

@@ -8,6 +8,7 @@ ghost use Rattle.cstn_closed.specs.Texts.{shown};
 ghost use Rattle.cstn_reply.specs.Read.{the_said};
 ghost use Rattle.cstn_top.specs.commands.Closed.{listed};
 ghost use Rattle.cstn_top.specs.Plans.{says};
+ghost use Rattle.cstn_words.specs.Limits.{most_cap};
 
 use cstn_check::{Check, Judged, growth_is_bounded, judge, live_bounds_are_in_range};
 use cstn_closed::Closed;
@@ -25,7 +26,7 @@ pub(crate) fn closed_text(
     cap: u32,
 ) -> Result<Said, AllocError>
     requires some { 1 ≤ cap }
-    requires most { cap ≤ 4194304 }
+    requires most { cap ≤ most_cap }
     requires well_formed { IsWellFormed (the_network network) }
     requires named { length names.now ≡ count (the_network network) }
     ensures said { IfOk result (λ said. says (the_said said) ≡ listed cap names.now (the_network network)) }
@@ -41,7 +42,7 @@ pub(crate) fn closed_text(
 fn list(alloc: Global, load: u32, check: Check, names: &Names) -> Result<Said, AllocError>
     requires yes { (l : ℕ) × (check.verdict ≡ Some (Yes l)) }
     requires low { 1 ≤ load }
-    requires high { load ≤ 4194304 }
+    requires high { load ≤ most_cap }
     requires load { load ≡ load_of (the_network check.net) }
     requires well_formed { IsWellFormed (the_network check.net) }
     requires named { length names.now ≡ count (the_network check.net) }

@@ -12,6 +12,8 @@ ghost use Rattle.cstn_top.specs.commands.Host.{attended};
 ghost use Rattle.cstn_top.specs.Plans.{ComesTo};
 ghost use Rattle.cstn_top.specs.Prepared.{the_plan, FitsKind};
 ghost use Rattle.cstn_top.specs.Command.{a_host};
+ghost use Rattle.cstn_words.specs.Limits.{most_files, most_host_cap};
+ghost use Rattle.cstn_documents.specs.Limits.{most_time_points};
 
 use super::Prepared;
 use cstn_check::{Judged, judge, yes_line};
@@ -40,7 +42,7 @@ impl Begun {
         names: &Names,
     ) -> Result<(), AllocError>
         requires named { length names.now ≡ count (the_network plan.net) }
-        requires few { count (the_network plan.net) ≤ 1024 }
+        requires few { count (the_network plan.net) ≤ most_time_points }
         ensures opening { OnOk result (self.new.opening.items ≡ self.old.opening.items ++ yes_line load) }
         ensures plans { OnOk result (self.new.plans.items ≡ self.old.plans.items ++ plan ∷ []) }
         ensures names { OnOk result (the_names self.new.names.items ≡ the_names self.old.names.items ++ map printed_name names.now ∷ []) }
@@ -63,10 +65,10 @@ pub(crate) fn host_session(
     cap: u32,
 ) -> Result<Prepared, AllocError>
     requires some_documents { 1 ≤ length documents.items }
-    requires few_documents { length documents.items ≤ 8 }
+    requires few_documents { length documents.items ≤ most_files }
     requires sound { All IsSound documents.items }
     requires some { 1 ≤ cap }
-    requires most { cap ≤ 65536 }
+    requires most { cap ≤ most_host_cap }
     ensures comes { IfOk result (λ prepared. ComesTo (attended cap (map the_named documents.items)) (the_plan prepared)) }
     ensures fits { IfOk result (FitsKind a_host) }
 {
@@ -90,7 +92,7 @@ pub(crate) fn host_session(
 // The ward of the plans, with no id open, after the lines that say yes.
 fn begin(alloc: Global, begun: Begun) -> Result<Prepared, AllocError>
     requires some { 1 ≤ length begun.plans.items }
-    requires few { length begun.plans.items ≤ 8 }
+    requires few { length begun.plans.items ≤ most_files }
     requires named { IsHostSession begun.plans.items (the_names begun.names.items) }
     ensures begins { IfOk result (IsBegin begun) }
 {

@@ -11,6 +11,8 @@ ghost use Rattle.cstn_top.specs.Plans.{ComesTo};
 ghost use Rattle.cstn_top.specs.Prepared.{the_plan, FitsKind};
 ghost use Rattle.cstn_top.specs.Command.{a_run};
 ghost use Rattle.cstn_top.specs.commands.Run.{carried_out};
+ghost use Rattle.cstn_words.specs.Limits.{most_cap};
+ghost use Rattle.cstn_documents.specs.Limits.{most_time_points};
 
 use super::Prepared;
 use cstn_check::{Check, Judged, judge, yes_line};
@@ -29,7 +31,7 @@ pub(crate) fn run_session(
     cap: u32,
 ) -> Result<Prepared, AllocError>
     requires some { 1 ≤ cap }
-    requires most { cap ≤ 4194304 }
+    requires most { cap ≤ most_cap }
     requires named { length names.now ≡ count (the_network labelled.base) }
     ensures comes { IfOk result (λ prepared. ComesTo (carried_out cap names.now (the_labelled labelled)) (the_plan prepared)) }
     ensures fits { IfOk result (FitsKind a_run) }
@@ -55,7 +57,7 @@ fn begin(
     requires verdict { verdict cap (the_network check.net) ≡ Yes (load_of (the_network check.net)) }
     requires load { load ≡ load_of (the_network check.net) }
     requires named { length names.now ≡ count (the_network labels.base) }
-    requires few { length names.now ≤ 1024 }
+    requires few { length names.now ≤ most_time_points }
     ensures comes { IfOk result (λ prepared. ComesTo (carried_out cap names.now (the_labelled labels)) (the_plan prepared)) }
     ensures fits { IfOk result (FitsKind a_run) }
 {

@@ -26,6 +26,8 @@ use Rattle.cstn_top.proofs.Opening.{of_check, of_closed, of_tight, of_conflict, 
 use Rattle.cstn_top.proofs.Drills.{drill_asked}
 use Rattle.cstn_top.proofs.Hosted.{host_asked}
 use Rattle.cstn_top.proofs.Hosts.{host_told}
+use Rattle.cstn_words.specs.Limits.{most_files}
+use Rattle.cstn_documents.specs.Limits.{most_text}
 use Rattle.cstn_top.proofs.commands.questions.ask.Goals as goal
 
 pub returns-in_ok-document-in-Check-clause-asks : goal.returns-in_ok-document-in-Check-clause-asks
@@ -191,7 +193,7 @@ returns-in_ok-text-in-Replay-clause-kind g c =
 pub returns-in_ok-text-in-Replay-clause-sound : goal.returns-in_ok-text-in-Replay-clause-sound
 returns-in_ok-text-in-Replay-clause-sound g c =
     let read = c.in_ok-text-in-Replay.ensures.text.is in
-    (record { well_formed = c.in_ok-document-in-Replay.ensures.opened.is.well_formed; named = c.in_ok-document-in-Replay.ensures.opened.is.names.named }, subst (λ (bytes : List ℕ). length bytes ≤ 1476395008) read.0 read.1)
+    (record { well_formed = c.in_ok-document-in-Replay.ensures.opened.is.well_formed; named = c.in_ok-document-in-Replay.ensures.opened.is.names.named }, subst (λ (bytes : List ℕ). length bytes ≤ most_text) read.0 read.1)
 
 pub returns-in_err-document-in-Replay-clause-refused : goal.returns-in_err-document-in-Replay-clause-refused
 returns-in_err-document-in-Replay-clause-refused g c said e =
@@ -215,7 +217,7 @@ returns-in_ok-text-in-Closedcheck-clause-kind g c =
 pub returns-in_ok-text-in-Closedcheck-clause-sound : goal.returns-in_ok-text-in-Closedcheck-clause-sound
 returns-in_ok-text-in-Closedcheck-clause-sound g c =
     let read = c.in_ok-text-in-Closedcheck.ensures.text.is in
-    (record { well_formed = c.in_ok-document-in-Closedcheck.ensures.opened.is.well_formed; named = c.in_ok-document-in-Closedcheck.ensures.opened.is.names.named }, subst (λ (bytes : List ℕ). length bytes ≤ 1476395008) read.0 read.1)
+    (record { well_formed = c.in_ok-document-in-Closedcheck.ensures.opened.is.well_formed; named = c.in_ok-document-in-Closedcheck.ensures.opened.is.names.named }, subst (λ (bytes : List ℕ). length bytes ≤ most_text) read.0 read.1)
 
 pub returns-in_err-document-in-Closedcheck-clause-refused : goal.returns-in_err-document-in-Closedcheck-clause-refused
 returns-in_err-document-in-Closedcheck-clause-refused g c said e =
@@ -239,7 +241,7 @@ returns-in_ok-text-in-Treecheck-clause-kind g c =
 pub returns-in_ok-text-in-Treecheck-clause-sound : goal.returns-in_ok-text-in-Treecheck-clause-sound
 returns-in_ok-text-in-Treecheck-clause-sound g c =
     let read = c.in_ok-text-in-Treecheck.ensures.text.is in
-    (record { well_formed = c.in_ok-document-in-Treecheck.ensures.opened.is.well_formed; named = c.in_ok-document-in-Treecheck.ensures.opened.is.names.named }, subst (λ (bytes : List ℕ). length bytes ≤ 1476395008) read.0 read.1)
+    (record { well_formed = c.in_ok-document-in-Treecheck.ensures.opened.is.well_formed; named = c.in_ok-document-in-Treecheck.ensures.opened.is.names.named }, subst (λ (bytes : List ℕ). length bytes ≤ most_text) read.0 read.1)
 
 pub returns-in_err-document-in-Treecheck-clause-refused : goal.returns-in_err-document-in-Treecheck-clause-refused
 returns-in_err-document-in-Treecheck-clause-refused g c said e =
@@ -272,7 +274,7 @@ pub returns-in_ok-documents-in-Host-clause-sound : goal.returns-in_ok-documents-
 returns-in_ok-documents-in-Host-clause-sound g c =
     let capped : IsCapped (HostAsked c.in-Host.files c.in-Host.deadline c.in-Host.cap) = subst IsCapped c.in-Host.is c.requires.capped in
     let many = c.in_ok-documents-in-Host.ensures.many in
-    (c.in_ok-documents-in-Host.ensures.sound, subst (λ (n : ℕ). 1 ≤ n) (sym many) capped.2, subst (λ (n : ℕ). n ≤ 8) (sym many) capped.3, capped.0, capped.1)
+    (c.in_ok-documents-in-Host.ensures.sound, subst (λ (n : ℕ). 1 ≤ n) (sym many) capped.2, subst (λ (n : ℕ). n ≤ most_files) (sym many) capped.3, capped.0, capped.1)
 
 pub returns-in_err-documents-in-Host-clause-refused : goal.returns-in_err-documents-in-Host-clause-refused
 returns-in_err-documents-in-Host-clause-refused g c said e =
