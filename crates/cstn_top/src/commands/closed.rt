@@ -15,6 +15,7 @@ use cstn_closed::Closed;
 use cstn_net::Network;
 use cstn_reply::{Outcome, Said};
 use cstn_text::Names;
+use cstn_words::Cap;
 use std::alloc::{AllocError, Global};
 
 /// Says the bounds of the live entries of a network's log, after no what refutes the network, or the cap where the log has more
@@ -23,16 +24,14 @@ pub(crate) fn closed_text(
     alloc: Global,
     network: Network,
     names: &Names,
-    cap: u32,
+    cap: Cap,
 ) -> Result<Said, AllocError>
-    requires some { 1 ≤ cap }
-    requires most { cap ≤ most_cap }
     requires well_formed { IsWellFormed (the_network network) }
     requires named { length names.now ≡ count (the_network network) }
-    ensures said { IfOk result (λ said. says (the_said said) ≡ listed cap names.now (the_network network)) }
+    ensures said { IfOk result (λ said. says (the_said said) ≡ listed cap.entries names.now (the_network network)) }
 {
     growth_is_bounded();
-    match judge(alloc, network, names, cap)? {
+    match judge(alloc, network, names, cap.entries)? {
         Judged::Yes { load, check } => list(alloc, load, check, names),
         Judged::Told(said) => Ok(said),
     }

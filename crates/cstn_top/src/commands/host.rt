@@ -12,7 +12,7 @@ ghost use Rattle.cstn_top.specs.commands.Host.{attended};
 ghost use Rattle.cstn_top.specs.Plans.{ComesTo};
 ghost use Rattle.cstn_top.specs.Prepared.{the_plan, FitsKind};
 ghost use Rattle.cstn_top.specs.Command.{a_host};
-ghost use Rattle.cstn_words.specs.Limits.{most_files, most_host_cap};
+ghost use Rattle.cstn_words.specs.Limits.{most_files};
 ghost use Rattle.cstn_documents.specs.Limits.{most_time_points};
 
 use super::Prepared;
@@ -22,6 +22,7 @@ use cstn_exec::print_names;
 use cstn_host::HostSession;
 use cstn_log::SoundPlan;
 use cstn_text::Names;
+use cstn_words::Cap;
 use std::alloc::{AllocError, Global};
 
 // The lines that say yes, the plans and the printed names of the networks that were checked so far.
@@ -62,14 +63,12 @@ impl Begun {
 pub(crate) fn host_session(
     alloc: Global,
     documents: Vec<NamedNetwork>,
-    cap: u32,
+    cap: Cap,
 ) -> Result<Prepared, AllocError>
     requires some_documents { 1 ≤ length documents.items }
     requires few_documents { length documents.items ≤ most_files }
     requires sound { All IsSound documents.items }
-    requires some { 1 ≤ cap }
-    requires most { cap ≤ most_host_cap }
-    ensures comes { IfOk result (λ prepared. ComesTo (attended cap (map the_named documents.items)) (the_plan prepared)) }
+    ensures comes { IfOk result (λ prepared. ComesTo (attended cap.entries (map the_named documents.items)) (the_plan prepared)) }
     ensures fits { IfOk result (FitsKind a_host) }
 {
     let mut begun = Begun {
@@ -79,7 +78,7 @@ pub(crate) fn host_session(
     };
     for document in documents {
         let NamedNetwork { network, names } = document;
-        match judge(alloc, network, &names, cap)? {
+        match judge(alloc, network, &names, cap.entries)? {
             Judged::Yes { load, check } => {
                 begun.add(alloc, load, check.into_plan(), &names)?;
             }
