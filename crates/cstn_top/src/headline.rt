@@ -5,7 +5,8 @@ ghost use Rattle.cstn_words.specs.Requests.{Request};
 ghost use Rattle.cstn_reply.specs.declared.status.Status.{Status};
 ghost use Rattle.cstn_reply.specs.declared.status.Status.TheVariants.{Good, Bad, Full};
 ghost use Rattle.cstn_top.specs.commands.Run.{AnswersLeast, run_bounds};
-ghost use Rattle.cstn_top.specs.Headline.{Document, network, printed_names, HasStrategy, load, edited, Checked, Ran, Replayed, Edited, Decides, IsEditedVerdict, IsExecutedOver, HasContents, IsCall};
+ghost use Rattle.cstn_top.specs.Headline.{Document, network, printed_names, HasStrategy, load, edited, HasContents, IsCall};
+ghost use Rattle.cstn_top.specs.Headline.{Checked, Ran, Replayed, Edited, Decides, IsEditedVerdict, IsExecutedOver};
 ghost use Rattle.cstn_top.specs.Meanings.{IsStopped};
 ghost use Rattle.cstn_top.specs.Told.{IsTold, view};
 

@@ -1,7 +1,8 @@
 // The words of a request.
 ghost use Rattle.std.specs.Prelude.{◌≡◌, ◌≤◌, IfSome, map, string_bytes};
 ghost use Rattle.std.specs.Option.{option_map, option_and_then, unwrap_or};
-ghost use Rattle.cstn_words.specs.Requests.{number_within, value_at, option_at, deadline_at, cap_at, deadline_of, cap_of, asked_of, capped_of, capped_at, checked_of, drill_of, request_at};
+ghost use Rattle.cstn_words.specs.Requests.{number_within, value_at, option_at, deadline_at, cap_at, deadline_of, cap_of};
+ghost use Rattle.cstn_words.specs.Requests.{asked_of, capped_of, capped_at, checked_of, drill_of, request_at};
 ghost use Rattle.cstn_words.specs.Requests.{hosted_of, host_of};
 ghost use Rattle.cstn_words.specs.Read.{the_asked, the_capped, the_taken, the_request, request_in};
 

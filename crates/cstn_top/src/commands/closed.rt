@@ -2,11 +2,10 @@
 ghost use Rattle.std.specs.Prelude.{ℕ, ◌≡◌, ◌≤◌, Some, length, IfOk};
 ghost use Rattle.cstn_net.specs.Networks.{IsWellFormed, count};
 ghost use Rattle.cstn_net.specs.Read.{the_network};
-ghost use Rattle.cstn_check.specs.Growth.{log_of, load_of, live_bounds};
+ghost use Rattle.cstn_check.specs.Growth.{load_of};
 ghost use Rattle.cstn_check.specs.declared.verdicts.Verdict.TheVariants.{Yes};
-ghost use Rattle.cstn_closed.specs.Texts.{shown};
 ghost use Rattle.cstn_reply.specs.Read.{the_said};
-ghost use Rattle.cstn_top.specs.commands.Closed.{listed};
+ghost use Rattle.cstn_top.specs.commands.Closed.{listed, bounds_said};
 ghost use Rattle.cstn_top.specs.Plans.{says};
 ghost use Rattle.cstn_words.specs.Limits.{most_cap};
 
@@ -45,7 +44,7 @@ fn list(alloc: Global, load: u32, check: Check, names: &Names) -> Result<Said, A
     requires load { load ≡ load_of (the_network check.net) }
     requires well_formed { IsWellFormed (the_network check.net) }
     requires named { length names.now ≡ count (the_network check.net) }
-    ensures said { IfOk result (λ said. the_said said ≡ record { outcome = Outcome.Good; text = shown names.now (load_of (the_network check.net)) (live_bounds (log_of (the_network check.net))) }) }
+    ensures said { IfOk result (λ said. the_said said ≡ bounds_said names.now (the_network check.net)) }
 {
     let plan = check.into_plan();
     live_bounds_are_in_range();
