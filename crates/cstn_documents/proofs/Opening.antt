@@ -36,6 +36,7 @@ use Rattle.cstn_reply.specs.Read.{the_said}
 use Rattle.cstn_reply.specs.declared.output.Said.{Said as SaidText}
 use Rattle.cstn_reply.specs.declared.output.Outcome.TheVariants.{Document, Script}
 use Rattle.cstn_documents.proofs.Contents.{long_content, long_is_there, is_content, is_there}
+use Rattle.cstn_documents.specs.Limits.{most_constraints, most_document, most_text}
 
 -- a refusal by the grammar
 refused_said : (told : Result Parts Refusal) (refusal : Refusal) (said : Said) → told ≡ Err refusal → said ≡ say Document (refusal_text refusal) → IsRefusalOf told said
@@ -82,20 +83,20 @@ told_by (Lift error names) said same = ap (λ (s : Said). s.outcome) same
 told_by (Memory e) said same = absurd same
 
 -- a document that is refused
-pub refused_is : (bytes : List ℕ) (deadline : Option ℕ) (error : DocError) (said : SaidText) → length bytes ≤ 8388608 → RefusesDocument (document bytes deadline) error → IsToldBy error (the_said said) → IsRefusal bytes deadline said
+pub refused_is : (bytes : List ℕ) (deadline : Option ℕ) (error : DocError) (said : SaidText) → length bytes ≤ most_document → RefusesDocument (document bytes deadline) error → IsToldBy error (the_said said) → IsRefusal bytes deadline said
 refused_is bytes deadline error said short is same = (inr (short, error_said (document bytes deadline) error (the_said said) is same), told_by error (the_said said) same)
 
 -- a file that is too long for a document
-pub long_document : (told : Option (List ℕ → Option (List ℕ))) (name : List ℕ) (deadline : Option ℕ) (said : SaidText) → IsLongFile told name 8388608 → the_said said ≡ say Document (codes "document long") → IsFile told name (λ bytes. IsRefusal bytes deadline said)
+pub long_document : (told : Option (List ℕ → Option (List ℕ))) (name : List ℕ) (deadline : Option ℕ) (said : SaidText) → IsLongFile told name most_document → the_said said ≡ say Document (codes "document long") → IsFile told name (λ bytes. IsRefusal bytes deadline said)
 long_document told name deadline said long is =
-    let found = long_content told name 8388608 long in
-    record { bytes = found.0; content = found.1; there = long_is_there told name 8388608 long; is = (inl (found.2, is), ap (λ (s : Said). s.outcome) is) }
+    let found = long_content told name most_document long in
+    record { bytes = found.0; content = found.1; there = long_is_there told name most_document long; is = (inl (found.2, is), ap (λ (s : Said). s.outcome) is) }
 
 -- a file that is too long for a text
-pub long_text : (told : Option (List ℕ → Option (List ℕ))) (name : List ℕ) (said : SaidText) → IsLongFile told name 1476395008 → the_said said ≡ say Script (codes "script long") → IsFile told name (IsLongText said)
+pub long_text : (told : Option (List ℕ → Option (List ℕ))) (name : List ℕ) (said : SaidText) → IsLongFile told name most_text → the_said said ≡ say Script (codes "script long") → IsFile told name (IsLongText said)
 long_text told name said long is =
-    let found = long_content told name 1476395008 long in
-    record { bytes = found.0; content = found.1; there = long_is_there told name 1476395008 long; is = (found.2, is) }
+    let found = long_content told name most_text long in
+    record { bytes = found.0; content = found.1; there = long_is_there told name most_text long; is = (found.2, is) }
 
 -- a file that was read
 pub whole_file : (told : Option (List ℕ → Option (List ℕ))) (name bytes : List ℕ) (holds : List ℕ → Type 0) → IsRead told name bytes → holds bytes → IsFile told name holds
@@ -131,7 +132,7 @@ labels_said told parts said is fit labelled same = subst (λ (r : Result Parts R
 -- the ids of a document's constraints are small
 document_ids : (told : Result Parts Refusal) (net : NetworkParts) (names : List (List ℕ)) → IsPlainDocument told net names → IsWellFormed (the_network net) → All (λ (c : LentConstraint). c.id < 2 ^ 31) net.constraints
 document_ids told net names is good = λ i d inside.
-    let few : length (the_network net).constraints ≤ 16384 = good.few_constraints in
+    let few : length (the_network net).constraints ≤ most_constraints = good.few_constraints in
     let long : length (the_network net).constraints ≡ length net.constraints = length-map net.constraints the_constraint in
     let all : (the_network net).constraints ≡ numbered_drawn 0 is.parts.constraints = ap (λ (n : Network). n.constraints) is.network_is in
     let place = numbered_id 0 is.parts.constraints i (the_constraint d) (omega (arith, inside, long, ap length all)) in

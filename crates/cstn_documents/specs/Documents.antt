@@ -11,6 +11,7 @@ use Rattle.cstn_graphml.specs.Networks.{network_of, labelled_of, IsFit, IsUnfit,
 use Rattle.cstn_reply.specs.Texts.{Said, say}
 use Rattle.cstn_reply.specs.declared.output.Outcome.TheVariants.{Document}
 use Rattle.cstn_documents.specs.Refusals.{refusal_text, fault_text, label_fault_text}
+use Rattle.cstn_documents.specs.Limits.{most_document}
 
 -- each of these labels is empty
 abbrev pub AreEmpty : List Label → Type 0
@@ -35,11 +36,11 @@ HasNetwork bytes deadline holds = IsSomeAnd (parts_of (document bytes deadline))
 
 -- the bytes are no document: they are too many, or have no labelled network
 abbrev pub IsNoDocument : List ℕ → Option ℕ → Type 0
-IsNoDocument bytes deadline = (8388608 < length bytes) ⊎ (HasLabelled bytes deadline (λ names m. Unit {0}) → ⊥)
+IsNoDocument bytes deadline = (most_document < length bytes) ⊎ (HasLabelled bytes deadline (λ names m. Unit {0}) → ⊥)
 
 -- the document of the bytes is refused where no labels are taken: it is too long, or has no network without labels
 abbrev pub IsRefused : List ℕ → Option ℕ → Type 0
-IsRefused bytes deadline = (8388608 < length bytes) ⊎ (HasNetwork bytes deadline (λ names net. Unit {0}) → ⊥)
+IsRefused bytes deadline = (most_document < length bytes) ⊎ (HasNetwork bytes deadline (λ names net. Unit {0}) → ⊥)
 
 -- this is said of what was read as a document, and is refused: by the grammar, or by the lowest fault of the network that the
 -- parts make, or by that of its labels
@@ -52,8 +53,8 @@ IsRefusalOf (Ok parts) said =
 -- this is said of the file with these bytes, which are too many, or whose document is refused
 abbrev pub IsSaidOf : List ℕ → Option ℕ → Said → Type 0
 IsSaidOf bytes deadline said =
-    ((8388608 < length bytes) × (said ≡ say Document (codes "document long")))
-    ⊎ ((length bytes ≤ 8388608) × IsRefusalOf (document bytes deadline) said)
+    ((most_document < length bytes) × (said ≡ say Document (codes "document long")))
+    ⊎ ((length bytes ≤ most_document) × IsRefusalOf (document bytes deadline) said)
 
 -- this is said of what was read as a document, where a time-point has a label
 abbrev pub IsLabelsTold : Result Parts Refusal → Said → Type 0
@@ -62,4 +63,4 @@ IsLabelsTold (Ok parts) said = IsFit parts × (AreEmpty parts.labels → ⊥) ×
 
 -- likewise where labels are refused: this is said of the file, or that a time-point has a label
 abbrev pub IsSaidPlainly : List ℕ → Option ℕ → Said → Type 0
-IsSaidPlainly bytes deadline said = IsSaidOf bytes deadline said ⊎ ((length bytes ≤ 8388608) × IsLabelsTold (document bytes deadline) said)
+IsSaidPlainly bytes deadline said = IsSaidOf bytes deadline said ⊎ ((length bytes ≤ most_document) × IsLabelsTold (document bytes deadline) said)

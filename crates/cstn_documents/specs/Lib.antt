@@ -1,3 +1,4 @@
+pub mod Limits
 pub mod Files
 pub mod Refusals
 pub mod Documents

@@ -24,6 +24,7 @@ use Rattle.cstn_documents.specs.Refusals.{refusal_text, fault_text, label_fault_
 use Rattle.cstn_reply.specs.Texts.{Said, say}
 use Rattle.cstn_documents.specs.Documents.{AreEmpty, AreUnlabelled, IsSaidOf, IsSaidPlainly}
 use Rattle.cstn_reply.specs.Read.{the_said}
+use Rattle.cstn_documents.specs.Limits.{most_document, most_text}
 
 -- what is said of an error; nothing is said for want of memory
 abbrev pub IsToldBy : DocError → Said → Type 0
@@ -58,14 +59,14 @@ pub record AreNamesOf (names : List (List ℕ)) (net : Network) : Type 0 where
 
 -- the bytes are a document of this labelled network, under these names
 pub record IsLabelledOf (bytes : List ℕ) (deadline : Option ℕ) (d : NamedLabelled) : Type 0 where
-  pub short : length bytes ≤ 8388608
+  pub short : length bytes ≤ most_document
   pub is : IsDocument (document bytes deadline) (the_labelled d.labelled) d.names
   pub names : AreNamesOf d.names (the_network d.labelled.base)
 
 -- the bytes are a document of a labelled network under these names, and this is the network that it is lowered to
 pub record IsLoweredOf (bytes : List ℕ) (deadline : Option ℕ) (d : NamedNetwork) : Type 0 where
   pub labelled : LabelledParts
-  pub short : length bytes ≤ 8388608
+  pub short : length bytes ≤ most_document
   pub is : IsDocument (document bytes deadline) (the_labelled labelled) d.names
   pub network : the_network d.network ≡ lowered (the_labelled labelled)
   pub well_formed : IsWellFormed (the_network d.network)
@@ -81,7 +82,7 @@ pub record IsPlainDocument (told : Result Parts Refusal) (network : NetworkParts
 
 -- the bytes are a document of this network, no time-point of which has a label, under these names
 pub record IsPlainOf (bytes : List ℕ) (deadline : Option ℕ) (d : NamedNetwork) : Type 0 where
-  pub short : length bytes ≤ 8388608
+  pub short : length bytes ≤ most_document
   pub is : IsPlainDocument (document bytes deadline) d.network d.names
   pub well_formed : IsWellFormed (the_network d.network)
   pub ids : All (λ c. c.id < 2 ^ 31) d.network.constraints
@@ -109,8 +110,8 @@ TellsLabels l said = (AreEmpty (the_labelled l).labels → ⊥) × (the_said sai
 
 -- the bytes are this text, which isn't too long
 abbrev pub IsTextOf : List ℕ → List ℕ → Type 0
-IsTextOf text bytes = (bytes ≡ text) × (length bytes ≤ 1476395008)
+IsTextOf text bytes = (bytes ≡ text) × (length bytes ≤ most_text)
 
 -- the bytes are a text that is too long, and that is said
 abbrev pub IsLongText : SaidText → List ℕ → Type 0
-IsLongText said bytes = (1476395008 < length bytes) × (the_said said ≡ say Script (codes "script long"))
+IsLongText said bytes = (most_text < length bytes) × (the_said said ≡ say Script (codes "script long"))

@@ -31,7 +31,8 @@ pub fn open<F: Shelf>(
 ) -> Result<NamedNetwork, Unread>
     requires may_ask { IsTrue (F.may_ask shelf.old asked.file.now) }
     ensures opened { IfOk result (λ d. IsAsked (F.files shelf.old) (the_asked asked.entry) (λ bytes deadline. IsPlainOf bytes deadline d)) }
-    ensures refused { (said : SaidText) → result ≡ Err (Unread.Told said) → IsAsked (F.files shelf.old) (the_asked asked.entry) (λ bytes deadline. IsPlainRefusal bytes deadline said) }
+    ensures refused { (said : SaidText) → result ≡ Err (Unread.Told said)
+        → IsAsked (F.files shelf.old) (the_asked asked.entry) (λ bytes deadline. IsPlainRefusal bytes deadline said) }
     ensures names { F.may_ask shelf.new ≡ F.may_ask shelf.old }
     ensures files { F.files shelf.new ≡ F.files shelf.old }
     ensures later { F.faults shelf.old ≤ F.faults shelf.new }
@@ -50,7 +51,8 @@ pub fn open_lowered<F: Shelf>(
 ) -> Result<NamedNetwork, Unread>
     requires may_ask { IsTrue (F.may_ask shelf.old asked.file.now) }
     ensures opened { IfOk result (λ d. IsAsked (F.files shelf.old) (the_asked asked.entry) (λ bytes deadline. IsLoweredOf bytes deadline d)) }
-    ensures refused { (said : SaidText) → result ≡ Err (Unread.Told said) → IsAsked (F.files shelf.old) (the_asked asked.entry) (λ bytes deadline. IsRefusal bytes deadline said) }
+    ensures refused { (said : SaidText) → result ≡ Err (Unread.Told said)
+        → IsAsked (F.files shelf.old) (the_asked asked.entry) (λ bytes deadline. IsRefusal bytes deadline said) }
     ensures names { F.may_ask shelf.new ≡ F.may_ask shelf.old }
     ensures files { F.files shelf.new ≡ F.files shelf.old }
     ensures later { F.faults shelf.old ≤ F.faults shelf.new }
@@ -73,7 +75,8 @@ pub fn open_labelled<F: Shelf>(
 ) -> Result<NamedLabelled, Unread>
     requires may_ask { IsTrue (F.may_ask shelf.old asked.file.now) }
     ensures opened { IfOk result (λ d. IsAsked (F.files shelf.old) (the_asked asked.entry) (λ bytes deadline. IsLabelledOf bytes deadline d)) }
-    ensures refused { (said : SaidText) → result ≡ Err (Unread.Told said) → IsAsked (F.files shelf.old) (the_asked asked.entry) (λ bytes deadline. IsRefusal bytes deadline said) }
+    ensures refused { (said : SaidText) → result ≡ Err (Unread.Told said)
+        → IsAsked (F.files shelf.old) (the_asked asked.entry) (λ bytes deadline. IsRefusal bytes deadline said) }
     ensures names { F.may_ask shelf.new ≡ F.may_ask shelf.old }
     ensures files { F.files shelf.new ≡ F.files shelf.old }
     ensures later { F.faults shelf.old ≤ F.faults shelf.new }

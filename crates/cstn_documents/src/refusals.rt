@@ -102,7 +102,8 @@ fn unobserved(alloc: Global, prop: Prop) -> Result<Vec<u8>, AllocError>
 
 #[tactic(auto, using(crate::proofs::Joining::between))]
 fn twins(alloc: Global, prop: Prop, first: &str, second: &str) -> Result<Vec<u8>, AllocError>
-    ensures line { IfOk result (λ text. text.items ≡ line (codes "document X10 N7 " ++ letter_of prop.index ∷ 32 ∷ printed_name first.now ++ 32 ∷ printed_name second.now)) }
+    ensures line { IfOk result (λ text. text.items ≡ line (codes "document X10 N7 " ++ letter_of prop.index ∷ 32 ∷ printed_name first.now
+        ++ 32 ∷ printed_name second.now)) }
 {
     let first = print_name(alloc, first)?;
     let second = print_name(alloc, second)?;

@@ -1,9 +1,9 @@
 -- What is told of a call.
-use Rattle.std.proofs.Common.{◌≡◌, ℕ, List, sym, subst, inl, inr, arith}
+use Rattle.std.proofs.Common.{◌≡◌, ℕ, List, sym, subst, inl, inr}
 use Rattle.std.specs.Prelude.{◌⊎◌, Option, Some, IfSome}
 use Rattle.cstn_io.specs.Contents.{IsAllOf, with_bytes}
 use Rattle.cstn_words.specs.Requests.{Request}
-use Rattle.cstn_words.specs.Read.{IsCapped, the_request}
+use Rattle.cstn_words.specs.Read.{the_request}
 use Rattle.cstn_top.specs.Plans.{Plan, IsOutput, IsText}
 use Rattle.cstn_top.specs.Dispatch.{plan_at}
 use Rattle.cstn_top.specs.Meanings.{IsStopped}
@@ -20,23 +20,23 @@ use Rattle.cstn_reply.specs.declared.status.Status.TheVariants.{Good as IsGoodSt
 use Rattle.cstn_top.proofs.Dispatch.{proved}
 
 -- a request that the words give has its cap in range
-capped_ranged : (r : RequestWords) → IsCapped r → IsRanged (the_request r)
-capped_ranged (Check asked cap) capped = capped.1
-capped_ranged (Run asked cap) capped = capped.1
-capped_ranged (Closed asked cap) capped = capped.1
-capped_ranged (Tight asked cap) capped = capped.1
-capped_ranged (Conflict asked cap) capped = capped.1
-capped_ranged (Edit asked cap) capped = tt
-capped_ranged (Tree asked cap) capped = capped.1
-capped_ranged (Save asked) capped = tt
-capped_ranged (Replay asked proof) capped = tt
-capped_ranged (Closedcheck asked proof) capped = tt
-capped_ranged (Treecheck asked proof) capped = tt
-capped_ranged (Drill number) capped = tt
-capped_ranged (Host files deadline cap) capped = omega (arith, capped.1)
+request_ranged : (r : RequestWords) → IsRanged (the_request r)
+request_ranged (Check asked cap) = cap.most
+request_ranged (Run asked cap) = cap.most
+request_ranged (Closed asked cap) = cap.most
+request_ranged (Tight asked cap) = cap.most
+request_ranged (Conflict asked cap) = cap.most
+request_ranged (Edit asked cap) = tt
+request_ranged (Tree asked cap) = cap.most
+request_ranged (Save asked) = tt
+request_ranged (Replay asked proof) = tt
+request_ranged (Closedcheck asked proof) = tt
+request_ranged (Treecheck asked proof) = tt
+request_ranged (Drill number) = tt
+request_ranged (Host files deadline cap) = cap.most
 
-pub ranged_as : (words : Option Request) (r : RequestWords) → Some (the_request r) ≡ words → IsCapped r → IfSome words IsRanged
-ranged_as words r is capped = subst (λ (w : Option Request). IfSome w IsRanged) is (capped_ranged r capped)
+pub ranged_as : (words : Option Request) (r : RequestWords) → Some (the_request r) ≡ words → IfSome words IsRanged
+ranged_as words r is = subst (λ (w : Option Request). IfSome w IsRanged) is (request_ranged r)
 
 -- an output of the plan was written whole, with its status
 abbrev pub WroteOutput : Plan → LiveState → Option (List ℕ) → Option (List ℕ) → Status → Type 0

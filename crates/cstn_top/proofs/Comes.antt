@@ -19,6 +19,7 @@ use Rattle.cstn_documents.specs.declared.reading.NamedNetwork.{NamedNetwork}
 use Rattle.cstn_documents.specs.declared.reading.NamedLabelled.{NamedLabelled}
 use Rattle.cstn_top.specs.Plans.{Plan, says, judges, unlabelled, IsOutput, ComesTo}
 use Rattle.cstn_top.specs.Answers.{Answer, LabelledAnswer, of_plain, of_lowered, judged, on_labelled, on_document}
+use Rattle.cstn_documents.specs.Limits.{most_document}
 
 within : (n m : ℕ) (plan other : Plan) → m ≤ n → (if nat_lt n m then plan else other) ≡ other
 within n m plan other le = grind arith
@@ -27,10 +28,10 @@ beyond : (n m : ℕ) (plan other : Plan) → n < m → (if nat_lt n m then plan 
 beyond n m plan other lt = grind arith
 
 -- what is said of a document that isn't too long
-short_document : (answer : LabelledAnswer) (bytes : List ℕ) (deadline : Option ℕ) → length bytes ≤ 8388608 → on_labelled answer bytes deadline ≡ judged answer (document bytes deadline)
-short_document answer bytes deadline short = within 8388608 (length bytes) (says (say Document (codes "document long"))) (judged answer (document bytes deadline)) short
+short_document : (answer : LabelledAnswer) (bytes : List ℕ) (deadline : Option ℕ) → length bytes ≤ most_document → on_labelled answer bytes deadline ≡ judged answer (document bytes deadline)
+short_document answer bytes deadline short = within most_document (length bytes) (says (say Document (codes "document long"))) (judged answer (document bytes deadline)) short
 
-short_output : (answer : LabelledAnswer) (bytes : List ℕ) (deadline : Option ℕ) (live : List ℕ) (said : Said) → length bytes ≤ 8388608 → IsOutput (judged answer (document bytes deadline)) live said → IsOutput (on_labelled answer bytes deadline) live said
+short_output : (answer : LabelledAnswer) (bytes : List ℕ) (deadline : Option ℕ) (live : List ℕ) (said : Said) → length bytes ≤ most_document → IsOutput (judged answer (document bytes deadline)) live said → IsOutput (on_labelled answer bytes deadline) live said
 short_output answer bytes deadline live said short output = subst (λ (plan : Plan). IsOutput plan live said) (sym (short_document answer bytes deadline short)) output
 
 judged_output : (answer : LabelledAnswer) (told : Result Parts Refusal) (live : List ℕ) (said : Said) → IsRefusalOf told said → IsOutput (judged answer told) live said
@@ -44,7 +45,7 @@ labels_output answer (Ok parts) live said (fit, labelled, is) = inl (fit, inr (l
 -- what is said of a file that is refused, whatever would be said of a labelled network
 pub refusal_output : (answer : LabelledAnswer) (bytes : List ℕ) (deadline : Option ℕ) (said : Said) → IsSaidOf bytes deadline said → (live : List ℕ) → IsOutput (on_labelled answer bytes deadline) live said
 refusal_output answer bytes deadline said (inl (long, is)) live =
-    subst (λ (plan : Plan). IsOutput plan live said) (sym (beyond 8388608 (length bytes) (says (say Document (codes "document long"))) (judged answer (document bytes deadline)) long)) is
+    subst (λ (plan : Plan). IsOutput plan live said) (sym (beyond most_document (length bytes) (says (say Document (codes "document long"))) (judged answer (document bytes deadline)) long)) is
 refusal_output answer bytes deadline said (inr (short, is)) live =
     short_output answer bytes deadline live said short (judged_output answer (document bytes deadline) live said is)
 
@@ -102,7 +103,7 @@ fit_comes parts plan other fit comes = record {
 }
 
 -- what is said of a labelled network
-document_comes : (answer : LabelledAnswer) (bytes : List ℕ) (deadline : Option ℕ) (m : Labelled) (names : List (List ℕ)) (plan : Plan) → length bytes ≤ 8388608 → IsDocument (document bytes deadline) m names → ComesTo (answer names m) plan → ComesTo (on_labelled answer bytes deadline) plan
+document_comes : (answer : LabelledAnswer) (bytes : List ℕ) (deadline : Option ℕ) (m : Labelled) (names : List (List ℕ)) (plan : Plan) → length bytes ≤ most_document → IsDocument (document bytes deadline) m names → ComesTo (answer names m) plan → ComesTo (on_labelled answer bytes deadline) plan
 document_comes answer bytes deadline m names plan short is comes =
     let same : on_labelled answer bytes deadline ≡ judges is.parts (answer names m) =
     short_document answer bytes deadline short

@@ -17,10 +17,11 @@ use Rattle.cstn_top.proofs.DocumentNames.{document_names}
 use Rattle.cstn_top.proofs.ReadBack.{numbered_ids}
 use Rattle.cstn_top.proofs.Standing.{IsOfDocument}
 use Rattle.cstn_top.proofs.Edited.{document_named}
+use Rattle.cstn_documents.specs.Limits.{most_document}
 
 -- what is said of a document: it is refused, or this is said of its labelled network
 pub labelled_says : (answer : LabelledAnswer) (bytes : List ℕ) (deadline : Option ℕ) (live : List ℕ) (said : Said) → IsOutput (on_labelled answer bytes deadline) live said → ((said.outcome ≡ Document) × IsNoDocument bytes deadline) ⊎ HasLabelled bytes deadline (λ names m. IsOutput (answer names m) live said)
-labelled_says answer bytes deadline live said output = by_length (nat_lt 8388608 (length bytes)) refl output
+labelled_says answer bytes deadline live said output = by_length (nat_lt most_document (length bytes)) refl output
   where
     by_parts : (told : Result Parts DocumentRefusal) → IsOutput (judged answer told) live said → ((said.outcome ≡ Document) × (IsSomeAnd (parts_of told) (λ parts. IsFit parts × Unit {0}) → ⊥)) ⊎ IsSomeAnd (parts_of told) (λ parts. IsFit parts × IsOutput (answer parts.names (labelled_of parts)) live said)
     by_parts (Err refusal) is = inl (ap (λ (s : Said). s.outcome) is, λ has. has)
@@ -32,7 +33,7 @@ labelled_says answer bytes deadline live said output = by_length (nat_lt 8388608
     by_told (inl refused) = inl (refused.0, inr refused.1)
     by_told (inr has) = inr has
 
-    by_length : (long : Bool) → nat_lt 8388608 (length bytes) ≡ long → IsOutput (if long then says (say Document (codes "document long")) else judged answer (document bytes deadline)) live said → ((said.outcome ≡ Document) × IsNoDocument bytes deadline) ⊎ HasLabelled bytes deadline (λ names m. IsOutput (answer names m) live said)
+    by_length : (long : Bool) → nat_lt most_document (length bytes) ≡ long → IsOutput (if long then says (say Document (codes "document long")) else judged answer (document bytes deadline)) live said → ((said.outcome ≡ Document) × IsNoDocument bytes deadline) ⊎ HasLabelled bytes deadline (λ names m. IsOutput (answer names m) live said)
     by_length true above is = inl (ap (λ (s : Said). s.outcome) is, inl (grind arith))
     by_length false above is = by_told (by_parts (document bytes deadline) is)
 
@@ -63,7 +64,7 @@ document_says answer bytes deadline live said output = by_said (labelled_says (o
 
 -- a session is held over a document only for its labelled network
 pub labelled_talks : (answer : LabelledAnswer) (bytes : List ℕ) (deadline : Option ℕ) → MayTalk (on_labelled answer bytes deadline) → HasLabelled bytes deadline (λ names m. MayTalk (answer names m))
-labelled_talks answer bytes deadline may = by_length (nat_lt 8388608 (length bytes)) may
+labelled_talks answer bytes deadline may = by_length (nat_lt most_document (length bytes)) may
   where
     by_parts : (told : Result Parts DocumentRefusal) → MayTalk (judged answer told) → IsSomeAnd (parts_of told) (λ parts. IsFit parts × MayTalk (answer parts.names (labelled_of parts)))
     by_parts (Err refusal) is = is

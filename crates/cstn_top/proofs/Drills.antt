@@ -16,6 +16,7 @@ use Rattle.cstn_gen.proofs.WellFormed.{well_formed}
 use Rattle.cstn_words.specs.Requests.{drill}
 use Rattle.cstn_top.specs.Plans.{says}
 use Rattle.cstn_top.specs.commands.Drill.{drilled, small, large, is_unrefuted, unrefuted, AreConsistent, none, one_more, no_more}
+use Rattle.cstn_top.specs.declared.commands.drill.TheConstants.{SMALL_CAP}
 use Rattle.cstn_top.specs.Meanings.{files_read}
 use Rattle.cstn_top.specs.Questions.{Asks}
 use Rattle.cstn_check.specs.Decisions.{verdict}
@@ -44,8 +45,8 @@ large_good number = subst IsWellFormed (large_is number) (well_formed number 48 
 small_entries : (number : ℕ) → most_entries (generated number 6) ≡ 10752
 small_entries number = refl
 
-pub few_entries : (number i : ℕ) → most_entries (small number i) ≤ 65536
-few_entries number i = subst (λ (net : Network). most_entries net ≤ 65536) (small_is number i) (omega (arith, small_entries ((number + i) % 2 ^ 64)))
+pub few_entries : (number i : ℕ) → most_entries (small number i) ≤ SMALL_CAP
+few_entries number i = subst (λ (net : Network). most_entries net ≤ SMALL_CAP) (small_is number i) (omega (arith, small_entries ((number + i) % 2 ^ 64)))
 
 small_props : (number : ℕ) → length (observed_props (generated number 6).observes) ≡ 3
 small_props number = refl

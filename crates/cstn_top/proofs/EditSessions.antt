@@ -41,6 +41,8 @@ use Rattle.cstn_top.specs.Lines.{AreAnswered}
 use Rattle.cstn_top.proofs.ReadBack.{StepsBack}
 use Rattle.cstn_top.proofs.EditTexts.{next_small, kept_text}
 use Rattle.cstn_top.specs.EditSessions.{EditedNetwork, unedited, may_add, may_remove, may_change, after_add, after_edit, after_lines, network_after, SaysYes, SaysNo, SaysFull, AnswersCheck, IsNoCheck, IsAtLastCheck}
+use Rattle.cstn_documents.specs.Limits.{most_constraints}
+use Rattle.cstn_top.specs.Limits.{most_edits}
 
 -- ---- the network as edited
 
@@ -80,11 +82,11 @@ add_tests false false true false other why at range = refl
 add_tests false false true true None why at range = refl
 add_tests false false true true (Some p) why at range = refl
 
-add_agrees : (s : Session) (most : ℤ) (a : Label) → may_add (seen s) most a ≡ is_none (add_refusal 16384 s most a)
+add_agrees : (s : Session) (most : ℤ) (a : Label) → may_add (seen s) most a ≡ is_none (add_refusal most_constraints s most a)
 add_agrees s most a =
-    ap (λ b. b && (nat_lt (length s.net.constraints) 16384 && (is_value most && (is_plain a && is_none (unobserved s.net a))))) (below_test s.edits 1000000)
-    ∙ ap (λ b. not (nat_le 1000000 s.edits) && (b && (is_value most && (is_plain a && is_none (unobserved s.net a))))) (below_test (length s.net.constraints) 16384)
-    ∙ add_tests (nat_le 1000000 s.edits) (nat_le 16384 (length s.net.constraints)) (is_value most) (is_plain a) (unobserved s.net a) EditLimit (NoRoom 16384) (ValueRange most)
+    ap (λ b. b && (nat_lt (length s.net.constraints) most_constraints && (is_value most && (is_plain a && is_none (unobserved s.net a))))) (below_test s.edits most_edits)
+    ∙ ap (λ b. not (nat_le most_edits s.edits) && (b && (is_value most && (is_plain a && is_none (unobserved s.net a))))) (below_test (length s.net.constraints) most_constraints)
+    ∙ add_tests (nat_le most_edits s.edits) (nat_le most_constraints (length s.net.constraints)) (is_value most) (is_plain a) (unobserved s.net a) EditLimit (NoRoom most_constraints) (ValueRange most)
 
 remove_tests : (many has : Bool) (why at : Refusal) → (not many && has) ≡ is_none (if many then Some why else if has then None else Some at)
 remove_tests true has why at = refl
@@ -93,8 +95,8 @@ remove_tests false false why at = refl
 
 remove_agrees : (s : Session) (id : ℕ) → may_remove (seen s) id ≡ is_none (remove_refusal s id)
 remove_agrees s id =
-    ap (λ b. b && has_constraint s.net id) (below_test s.edits 1000000)
-    ∙ remove_tests (nat_le 1000000 s.edits) (has_constraint s.net id) EditLimit (NoSuch id)
+    ap (λ b. b && has_constraint s.net id) (below_test s.edits most_edits)
+    ∙ remove_tests (nat_le most_edits s.edits) (has_constraint s.net id) EditLimit (NoSuch id)
 
 change_tests : (many has value : Bool) (why at range : Refusal) → (not many && (has && value)) ≡ is_none (if many then Some why else if not has then Some at else if value then None else Some range)
 change_tests true has value why at range = refl
@@ -104,14 +106,14 @@ change_tests false true false why at range = refl
 
 change_agrees : (s : Session) (id : ℕ) (most : ℤ) → may_change (seen s) id most ≡ is_none (change_refusal s id most)
 change_agrees s id most =
-    ap (λ b. b && (has_constraint s.net id && is_value most)) (below_test s.edits 1000000)
-    ∙ change_tests (nat_le 1000000 s.edits) (has_constraint s.net id) (is_value most) EditLimit (NoSuch id) (ValueRange most)
+    ap (λ b. b && (has_constraint s.net id && is_value most)) (below_test s.edits most_edits)
+    ∙ change_tests (nat_le most_edits s.edits) (has_constraint s.net id) (is_value most) EditLimit (NoSuch id) (ValueRange most)
 
 add_follows : (e : Editing) (from to : List ℕ) (most : ℤ) (a : Label) (x y : Option ℕ) → FollowsAfter e (after_add (seen e.session) most a x y) (answered_add e from to most a x y)
 add_follows e from to most a None y = record { same_cap = refl; same_names = refl; network = refl }
 add_follows e from to most a (Some x) None = record { same_cap = refl; same_names = refl; network = refl }
 add_follows e from to most a (Some x) (Some y) =
-    edit_follows e (add_refusal 16384 e.session most a) (may_add (seen e.session) most a) (codes "added " ++ decimal (next_id e.session.highest)) (with_added e.session x y most a) (add_agrees e.session most a)
+    edit_follows e (add_refusal most_constraints e.session most a) (may_add (seen e.session) most a) (codes "added " ++ decimal (next_id e.session.highest)) (with_added e.session x y most a) (add_agrees e.session most a)
 
 answer_follows : (e : Editing) (o : Option Edit) → FollowsAfter e (after_edit e.names (seen e.session) o) (answered e o)
 answer_follows e None = tt
@@ -215,8 +217,8 @@ add_keeps e from to most a keeps fits = by_numbers (number_of e.names from) (num
     by_numbers None other is also = keeps
     by_numbers (Some x) None is also = keeps
     by_numbers (Some x) (Some y) is also =
-        edit_keeps e (add_refusal 16384 e.session most a) (codes "added " ++ decimal (next_id e.session.highest)) (with_added e.session x y most a) keeps refl refl
-        (λ free. added_is_sound 16384 e.session x y most a (omega arith) fits.3 (inside from x is) (inside to y also) free keeps.sound)
+        edit_keeps e (add_refusal most_constraints e.session most a) (codes "added " ++ decimal (next_id e.session.highest)) (with_added e.session x y most a) keeps refl refl
+        (λ free. added_is_sound most_constraints e.session x y most a (omega arith) fits.3 (inside from x is) (inside to y also) free keeps.sound)
 
 answer_keeps : (e : Editing) (o : Option Edit) → Keeps e → ((line : Edit) → o ≡ Some line → IsEdit line) → KeepsAfter (answered e o)
 answer_keeps e None keeps fits = tt

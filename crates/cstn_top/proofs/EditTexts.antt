@@ -36,20 +36,23 @@ use Rattle.cstn_top.proofs.Listing.{limit_in_time}
 use Rattle.cstn_top.proofs.Lengths.{steps_text_short}
 use Rattle.cstn_top.proofs.ReadBack.{StepsBack, no_refutation}
 use Rattle.cstn_top.specs.EditSessions.{EditedNetwork, unedited, after_adding, after_removing, after_changing, after_add, after_edit, after_lines}
+use Rattle.cstn_words.specs.Limits.{most_cap}
+use Rattle.cstn_documents.specs.Limits.{most_text}
+use Rattle.cstn_top.specs.Limits.{most_edits}
 
 -- ---- ids stay numbers of 32 bits
 
 -- there were few edits, and each of them took one id at most
 record TookFew (e : EditedNetwork) : Type 0 where
-  few : e.edits ≤ 1000000
+  few : e.edits ≤ most_edits
   small : next_id e.highest ≤ 2 ^ 31 + e.edits
 
 -- this stays so after an edit that is made only where fewer than 1,000,000 were made before
-if_made : (e next : EditedNetwork) (rest : Bool) → TookFew e → (e.edits < 1000000 → TookFew next) → TookFew (if nat_lt e.edits 1000000 && rest then next else e)
-if_made e next rest took made = by_test (nat_lt e.edits 1000000) rest refl
+if_made : (e next : EditedNetwork) (rest : Bool) → TookFew e → (e.edits < most_edits → TookFew next) → TookFew (if nat_lt e.edits most_edits && rest then next else e)
+if_made e next rest took made = by_test (nat_lt e.edits most_edits) rest refl
   where
-    by_test : (test other : Bool) → nat_lt e.edits 1000000 ≡ test → TookFew (if test && other then next else e)
-    by_test true true is = made (ltb-true e.edits 1000000 is)
+    by_test : (test other : Bool) → nat_lt e.edits most_edits ≡ test → TookFew (if test && other then next else e)
+    by_test true true is = made (ltb-true e.edits most_edits is)
     by_test true false is = took
     by_test false other is = took
 
@@ -94,8 +97,8 @@ letters_alone : (net : Network) (a : Label) → IsWellFormed net → IsOnObserve
 letters_alone net a good on p above = absent (a p) (λ named. let seen = on p named in let below = good.letters seen.0 p seen.1 in omega (arith, above, below))
 
 -- a text that is short enough isn't refused for its length
-short_text : (speaks : List ℕ → Answer) (text : List ℕ) (names : List (List ℕ)) (net : Network) → length text ≤ 1476395008 → by_text speaks text names net ≡ speaks text names net
-short_text speaks text names net short = within 1476395008 (length text) _ (speaks text names net) short
+short_text : (speaks : List ℕ → Answer) (text : List ℕ) (names : List (List ℕ)) (net : Network) → length text ≤ most_text → by_text speaks text names net ≡ speaks text names net
+short_text speaks text names net short = within most_text (length text) _ (speaks text names net) short
   where
     within : (n m : ℕ) (one other : Plan) → m ≤ n → (if nat_lt n m then one else other) ≡ other
     within n m one other le = grind arith
@@ -108,7 +111,7 @@ replay_accepted net steps refutation live said = (only, λ same. inl (refutation
     only (inr found) = absurd (no_refutation net steps found.0 found.1 refutation)
 
 module _ (names : List (List ℕ)) (net : Network) (good : IsWellFormed net) (named : length names ≡ count net) (ids : HasIds net)
-    (list : List Entry) (kept : IsKept net list) (few : length list ≤ 4194304) (refutation : IsRefutation net list) where
+    (list : List Entry) (kept : IsKept net list) (few : length list ≤ most_cap) (refutation : IsRefutation net list) where
   places_small : (steps : List Entry) (k : ℕ) (why : Why) (r : Bound) → k < 2 ^ 32 → Follows net steps k why r → ArePlaces why
   places_small steps k Base r below follows = tt
   places_small steps k (Chain id i) r below follows =

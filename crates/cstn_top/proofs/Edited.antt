@@ -37,6 +37,7 @@ use Rattle.cstn_reply.specs.Sessions.{Turn, more, last, wrong, on_turn, script, 
 use Rattle.cstn_edit.specs.Editing.{Editing, begun_editing, answered_edit, answered_add, answered_check, answered, edit_turn, edit_ending, ending_by, last_checked}
 use Rattle.cstn_reply.specs.declared.output.Outcome.{Outcome}
 use Rattle.cstn_reply.specs.declared.output.Outcome.TheVariants.{Good, Bad, Words, Document, Full, Unfinished, Script, Wide}
+use Rattle.cstn_documents.specs.Limits.{most_constraints}
 
 -- each time-point of a document has a name
 pub document_named : (bytes : List ℕ) (deadline : Option ℕ) (parts : Parts) → document bytes deadline ≡ Ok parts → length parts.names ≡ length parts.observes
@@ -146,8 +147,8 @@ add_holds cap e checked from to most a holds small = by_numbers (number_of e.nam
     by_numbers None other is also = holds
     by_numbers (Some x) None is also = holds
     by_numbers (Some x) (Some y) is also =
-        edit_holds cap e checked (add_refusal 16384 e.session most a) (codes "added " ++ decimal (next_id e.session.highest)) (with_added e.session x y most a) holds refl refl
-        (λ free. added_is_sound 16384 e.session x y most a (omega arith) small (inside from x is) (inside to y also) free holds.sound)
+        edit_holds cap e checked (add_refusal most_constraints e.session most a) (codes "added " ++ decimal (next_id e.session.highest)) (with_added e.session x y most a) holds refl refl
+        (λ free. added_is_sound most_constraints e.session x y most a (omega arith) small (inside from x is) (inside to y also) free holds.sound)
 
 other_holds : (cap : ℕ) (e : Editing) (checked : Option Network) (o : Option Edit) → Holds cap e checked → IfSome o IsOther → HoldsAfter cap checked (answered e o)
 other_holds cap e checked None holds other = tt

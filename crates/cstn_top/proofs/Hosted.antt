@@ -4,6 +4,7 @@ use Rattle.std.specs.Prelude.{Option, Vec}
 use Rattle.std.specs.Global.{Global}
 use Rattle.std.proofs.lemmas.Grind.{common_steps}
 use Rattle.cstn_words.specs.Requests.{host}
+use Rattle.cstn_words.specs.declared.caps.Cap.{Cap}
 use Rattle.cstn_documents.specs.declared.reading.NamedNetwork.{NamedNetwork}
 use Rattle.cstn_top.specs.Plans.{ComesTo}
 use Rattle.cstn_top.specs.commands.Host.{attended, on_documents}
@@ -15,10 +16,10 @@ nothing_more : (xs : List (List ℕ)) → xs ++ [] ≡ xs
 nothing_more xs = grind (arith, common_steps)
 
 -- all documents were accepted
-pub host_asked : (told : Option (List ℕ → Option (List ℕ))) (cap : ℕ) (deadline : Option ℕ) (files : List (List ℕ)) (documents : Vec NamedNetwork Global) → HasRead told deadline files documents.items → Asks (host files deadline cap) told (Host documents cap)
+pub host_asked : (told : Option (List ℕ → Option (List ℕ))) (cap : Cap) (deadline : Option ℕ) (files : List (List ℕ)) (documents : Vec NamedNetwork Global) → HasRead told deadline files documents.items → Asks (host files deadline cap.entries) told (Host documents cap)
 host_asked told cap deadline files documents read = record {
   contents = read.contents;
   are = read.are;
-  comes = subst (λ (contents : List (List ℕ)). ComesTo (on_documents (attended cap) deadline [] contents) (attended cap (map the_named documents.items))) (nothing_more read.contents) (read.comes (attended cap) []);
+  comes = subst (λ (contents : List (List ℕ)). ComesTo (on_documents (attended cap.entries) deadline [] contents) (attended cap.entries (map the_named documents.items))) (nothing_more read.contents) (read.comes (attended cap.entries) []);
   there = read.there;
 }

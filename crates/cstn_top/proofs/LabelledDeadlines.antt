@@ -11,6 +11,7 @@ use Rattle.cstn_lift.proofs.Equivalent.{equivalent}
 use Rattle.cstn_tight.specs.Deadlines.{at_deadline, IsLeastDeadline}
 use Rattle.cstn_tight.proofs.LeastLemmas.{good_at_deadline}
 use Rattle.cstn_top.specs.LabelledDeadlines.{labelled_at, IsLabelledLeastDeadline}
+use Rattle.cstn_words.specs.Limits.{most_deadline}
 
 pub lowered_at : (m : Labelled) (h : ℕ) → lowered (labelled_at m h) ≡ at_deadline (lowered m) h
 unfolding guards_of
@@ -19,7 +20,7 @@ lowered_at m h = refl
 module _ (m : Labelled) (good : IsLabelled m) where
   labelled_earlier : (h : ℕ) → h ≤ m.base.deadline → IsLabelled (labelled_at m h)
   labelled_earlier h upto =
-      let in_time : m.base.deadline ≤ 1000000 = good.base.in_time in
+      let in_time : m.base.deadline ≤ most_deadline = good.base.in_time in
       record {
         base = good_at_deadline m.base good.base h (omega arith);
         one_each = good.one_each;

@@ -24,9 +24,10 @@ use Rattle.cstn_top.proofs.DocumentNames.{document_names}
 use Rattle.cstn_top.proofs.Standing.{IsOfDocument}
 use Rattle.cstn_top.proofs.Documents.{labelled_says, labelled_talks}
 use Rattle.cstn_top.proofs.Edited.{document_named}
+use Rattle.cstn_documents.specs.Limits.{most_constraints}
 
 -- the ids of the constraints of a lowered network are numbers of 32 bits
-small_ids : (k : ℕ) (cs : List Constraint) → k + length (numbered k cs) ≤ 16384 → All (λ (c : Constraint). c.id < 2 ^ 32) (numbered k cs)
+small_ids : (k : ℕ) (cs : List Constraint) → k + length (numbered k cs) ≤ most_constraints → All (λ (c : Constraint). c.id < 2 ^ 32) (numbered k cs)
 small_ids k [] few = All-nil (λ (c : Constraint). c.id < 2 ^ 32)
 small_ids k (c ∷ cs) few = All-cons (λ (c : Constraint). c.id < 2 ^ 32) (record c { id = k }) (numbered (k + 1) cs) (omega (arith, few)) (small_ids (k + 1) cs (omega (arith, few)))
 
@@ -38,7 +39,7 @@ pub record IsOfLabelled (names : List (List ℕ)) (m : Labelled) : Type 0 where
 of_parts : (bytes : List ℕ) (deadline : Option ℕ) (parts : Parts) → document bytes deadline ≡ Ok parts → IsFit parts → IsOfLabelled parts.names (labelled_of parts)
 of_parts bytes deadline parts is fit =
     let good : IsLabelled (labelled_of parts) = fit.labelled in
-    let few : length (lowered (labelled_of parts)).constraints ≤ 16384 = within (length (lowered (labelled_of parts)).constraints) (fit.faultless TooManyConstraints) in
+    let few : length (lowered (labelled_of parts)).constraints ≤ most_constraints = within (length (lowered (labelled_of parts)).constraints) (fit.faultless TooManyConstraints) in
     let well : IsWellFormed (lowered (labelled_of parts)) = lowered_well_formed (labelled_of parts) good few in
     let named : length parts.names ≡ count (lowered (labelled_of parts)) = document_named bytes deadline parts is ∙ sym (length-map parts.observes observed_prop) in
     record {
@@ -51,7 +52,7 @@ of_parts bytes deadline parts is fit =
       };
     }
   where
-    within : (n : ℕ) → (16384 < n → ⊥) → n ≤ 16384
+    within : (n : ℕ) → (most_constraints < n → ⊥) → n ≤ most_constraints
     within n never = omega (arith, never)
 
 -- what follows of the labelled network of a document

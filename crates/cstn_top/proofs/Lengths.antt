@@ -23,6 +23,8 @@ use Rattle.cstn_refute.specs.Texts.{printed_steps, shown as shown_steps}
 use Rattle.cstn_refute.specs.Written.{ArePlaces, IsPrintableStep as IsWrittenStep, AreWritten as AreWrittenSteps}
 use Rattle.cstn_closed.specs.Texts.{printed_bounds, shown as shown_bounds}
 use Rattle.cstn_closed.specs.Written.{IsPrintableBound as IsWrittenBound, AreWritten as AreWrittenBounds}
+use Rattle.cstn_words.specs.Limits.{most_cap}
+use Rattle.cstn_documents.specs.Limits.{most_text}
 
 mark_short : (letter : ℕ) (m : Mark) → length (printed_mark letter m) ≤ 2
 mark_short letter Absent = omega arith
@@ -81,16 +83,16 @@ bounds_short names (b ∷ bounds) are all =
     within whole l r n is a b = omega arith
 
 -- a text of bounds isn't too long
-pub bounds_text_short : (names : List (List ℕ)) (load : ℕ) (bounds : List Bound) → AreNames names → AreWrittenBounds names load bounds → length (shown_bounds names load bounds) ≤ 1476395008
+pub bounds_text_short : (names : List (List ℕ)) (load : ℕ) (bounds : List Bound) → AreNames names → AreWrittenBounds names load bounds → length (shown_bounds names load bounds) ≤ most_text
 bounds_text_short names load bounds are written =
     within (length (shown_bounds names load bounds)) (length (printed_number load)) (length (printed_bounds names bounds)) (length bounds)
     (front_part (codes "yes ") (printed_number load) (printed_bounds names bounds) 10)
     (load_short load written.load_high) (bounds_short names bounds are written.each) written.few
   where
-    load_short : (load : ℕ) → load ≤ 4194304 → length (printed_number load) ≤ 7
+    load_short : (load : ℕ) → load ≤ most_cap → length (printed_number load) ≤ 7
     load_short load most = length-decimal-le 7 load (omega arith) (omega arith) (omega arith)
 
-    within : (whole l r n : ℕ) → whole ≡ 4 + l + r + 1 → l ≤ 7 → r ≤ 312 * n → n ≤ 4194304 → whole ≤ 1476395008
+    within : (whole l r n : ℕ) → whole ≡ 4 + l + r + 1 → l ≤ 7 → r ≤ 312 * n → n ≤ most_cap → whole ≤ most_text
     within whole l r n is a b few = omega arith
 
 number_short : (n : ℕ) → n < 2 ^ 32 → length (printed_number n) ≤ 10
@@ -108,7 +110,7 @@ why_short (Wait i j) places =
     spaced_short (length (printed_why (Wait i j))) 5 (length (printed_number i)) (length (printed_number j))
     (front_part (codes "wait ") (printed_number i) (printed_number j) 32) (omega arith) (number_short i places.0) (number_short j places.1)
 
-steps_short : (names : List (List ℕ)) (k : ℕ) (steps : List Entry) → AreNames names → All (IsWrittenStep names) steps → k + length steps ≤ 4194304 → length (printed_steps names k steps) ≤ 342 * length steps
+steps_short : (names : List (List ℕ)) (k : ℕ) (steps : List Entry) → AreNames names → All (IsWrittenStep names) steps → k + length steps ≤ most_cap → length (printed_steps names k steps) ≤ 342 * length steps
 steps_short names k [] are all few = omega arith
 steps_short names k (e ∷ steps) are all few =
     let here = All-get_or (IsWrittenStep names) (e ∷ steps) 0 e (omega arith) all in
@@ -118,21 +120,21 @@ steps_short names k (e ∷ steps) are all few =
     (place_short k (omega arith)) (why_short e.why here.places) (bound_short names e.bound are here.node here.low here.high)
     (steps_short names (k + 1) steps are (All-tail (IsWrittenStep names) e steps all) (omega arith))
   where
-    place_short : (k : ℕ) → k < 4194304 → length (printed_number k) ≤ 7
+    place_short : (k : ℕ) → k < most_cap → length (printed_number k) ≤ 7
     place_short k below = length-decimal-le 7 k (omega arith) (omega arith) (omega arith)
 
     within : (whole line p w b r n : ℕ) → whole ≡ line + r + 1 → line ≡ p + w + b + 2 → p ≤ 7 → w ≤ 27 → b ≤ 305 → r ≤ 342 * n → whole ≤ 342 * suc n
     within whole line p w b r n is parts one two three rest = omega arith
 
 -- a text of steps isn't too long
-pub steps_text_short : (names : List (List ℕ)) (load : ℕ) (steps : List Entry) → AreNames names → AreWrittenSteps names load steps → length (shown_steps names load steps) ≤ 1476395008
+pub steps_text_short : (names : List (List ℕ)) (load : ℕ) (steps : List Entry) → AreNames names → AreWrittenSteps names load steps → length (shown_steps names load steps) ≤ most_text
 steps_text_short names load steps are written =
     within (length (shown_steps names load steps)) (length (printed_number load)) (length (printed_steps names 0 steps)) (length steps)
     (front_part (codes "no ") (printed_number load) (printed_steps names 0 steps) 10)
     (load_short load written.load_high) (steps_short names 0 steps are written.each (let few = written.few in omega arith)) written.few
   where
-    load_short : (load : ℕ) → load ≤ 4194304 → length (printed_number load) ≤ 7
+    load_short : (load : ℕ) → load ≤ most_cap → length (printed_number load) ≤ 7
     load_short load most = length-decimal-le 7 load (omega arith) (omega arith) (omega arith)
 
-    within : (whole l r n : ℕ) → whole ≡ 3 + l + r + 1 → l ≤ 7 → r ≤ 342 * n → n ≤ 4194304 → whole ≤ 1476395008
+    within : (whole l r n : ℕ) → whole ≡ 3 + l + r + 1 → l ≤ 7 → r ≤ 342 * n → n ≤ most_cap → whole ≤ most_text
     within whole l r n is a b few = omega arith

@@ -21,6 +21,7 @@ pub mod EditTexts
 pub mod EditSessions
 pub mod LabelledDeadlines
 pub mod HeadlineLemmas
+pub mod HeadlineCalls
 pub mod OneOutput
 pub mod SomeFault
 pub mod SomeOutput

@@ -11,8 +11,9 @@ use Rattle.cstn_net.specs.Networks.{Network, IsWellFormed, count, limit}
 use Rattle.cstn_rules.specs.Rules.{IsBoundOf}
 use Rattle.cstn_check.specs.Growth.{log_of, live_bounds}
 use Rattle.cstn_closed.specs.Written.{IsNamed}
+use Rattle.cstn_words.specs.Limits.{most_deadline}
 
-pub limit_in_time : (net : Network) → IsWellFormed net → (x : ℕ) → limit net x ≤ 1000000
+pub limit_in_time : (net : Network) → IsWellFormed net → (x : ℕ) → limit net x ≤ most_deadline
 limit_in_time net good zero = omega arith
 limit_in_time net good (suc x) = good.in_time
 

@@ -28,6 +28,7 @@ use Rattle.cstn_top.proofs.Documents.{document_says, document_talks}
 use Rattle.cstn_top.proofs.Edited.{document_named}
 use Rattle.cstn_check.specs.Verdicts.{is_consistent}
 use Rattle.cstn_check.proofs.Decides.{decided}
+use Rattle.cstn_documents.specs.Limits.{most_text}
 
 -- what follows of the network of a document, each of whose time-points has a name
 pub network_then : (bytes : List ℕ) (deadline : Option ℕ) (one other : List (List ℕ) → Network → Type 0) → HasNetwork bytes deadline one → ((names : List (List ℕ)) (net : Network) → IsWellFormed net → length names ≡ count net → one names net → other names net) → HasNetwork bytes deadline other
@@ -135,7 +136,7 @@ verdict_silent cap names net text may = by_verdict (verdict cap net) may
     by_verdict IsFullVerdict is = is
 
 pub text_silent : (speaks : List ℕ → Answer) (text : List ℕ) (names : List (List ℕ)) (net : Network) → (MayTalk (speaks text names net) → ⊥) → MayTalk (by_text speaks text names net) → ⊥
-text_silent speaks text names net never may = by_length (nat_lt 1476395008 (length text)) may
+text_silent speaks text names net never may = by_length (nat_lt most_text (length text)) may
   where
     by_length : (long : Bool) → MayTalk (if long then says (say Script (codes "script long")) else speaks text names net) → ⊥
     by_length true is = is

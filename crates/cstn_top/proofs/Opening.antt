@@ -37,6 +37,7 @@ use Rattle.cstn_top.specs.Prepared.{Planned}
 use Rattle.cstn_top.specs.Questions.{Asks, the_question}
 use Rattle.cstn_top.specs.declared.commands.questions.Question.{Question}
 use Rattle.cstn_top.proofs.Comes.{comes_itself, comes_to_text, accepted_comes, told_comes, labelled_comes, lowered_comes, refused_comes}
+use Rattle.cstn_documents.specs.Limits.{most_text}
 
 -- where a file is there, so is what was read of it, whatever the status
 pub one_read : (told : Option (List ℕ → Option (List ℕ))) (name : List ℕ) (status : Status) → AreThere told (name ∷ []) → AreThere told (files_read status (name ∷ []))
@@ -204,9 +205,9 @@ plainly_before_text request asked proof speaks told said two file =
     two_told request asked proof (λ t. of_plain (speaks t)) told file.bytes text.0 said two file.content text.1
     (told_comes (speaks text.0) file.bytes asked.deadline said file.is) (refused_read told asked.file proof (the_said said).outcome file.is.1 file.there)
 
-long_answer : (speaks : List ℕ → Answer) (text : List ℕ) (names : List (List ℕ)) (net : Network) (live : List ℕ) (said : Said) → 1476395008 < length text → said ≡ say Script (codes "script long") → IsOutput (by_text speaks text names net) live said
+long_answer : (speaks : List ℕ → Answer) (text : List ℕ) (names : List (List ℕ)) (net : Network) (live : List ℕ) (said : Said) → most_text < length text → said ≡ say Script (codes "script long") → IsOutput (by_text speaks text names net) live said
 long_answer speaks text names net live said long is =
-    let same : by_text speaks text names net ≡ says (say Script (codes "script long")) = beyond 1476395008 (length text) (says (say Script (codes "script long"))) (speaks text names net) long in
+    let same : by_text speaks text names net ≡ says (say Script (codes "script long")) = beyond most_text (length text) (says (say Script (codes "script long"))) (speaks text names net) long in
     subst (λ (a : Plan). IsOutput a live said) (sym same) is
   where
     beyond : (n m : ℕ) (one other : Plan) → n < m → (if nat_lt n m then one else other) ≡ one

@@ -45,9 +45,11 @@ use Rattle.cstn_reply.specs.declared.output.Outcome.TheVariants.{Good, Script}
 use Rattle.cstn_tight.proofs.ClosedLemmas.{live_short, some_live}
 use Rattle.cstn_top.proofs.Listing.{limit_in_time}
 use Rattle.cstn_top.proofs.Lengths.{bounds_text_short, steps_text_short}
+use Rattle.cstn_words.specs.Limits.{most_cap}
+use Rattle.cstn_documents.specs.Limits.{most_constraints, most_text}
 
 -- the ids of the constraints of a document are numbers of 32 bits
-pub numbered_ids : (k : ℕ) (cs : List DrawnConstraint) → k + length (numbered_drawn k cs) ≤ 16384 → All (λ (c : Constraint). c.id < 2 ^ 32) (numbered_drawn k cs)
+pub numbered_ids : (k : ℕ) (cs : List DrawnConstraint) → k + length (numbered_drawn k cs) ≤ most_constraints → All (λ (c : Constraint). c.id < 2 ^ 32) (numbered_drawn k cs)
 numbered_ids k [] few = All-nil (λ (c : Constraint). c.id < 2 ^ 32)
 numbered_ids k (c ∷ cs) few =
     All-cons (λ (c : Constraint). c.id < 2 ^ 32) (record { id = k; from = c.from; to = c.to; most = c.most; label = c.label }) (numbered_drawn (k + 1) cs)
@@ -67,7 +69,7 @@ some_load : (net : Network) → IsWellFormed net → 1 ≤ load_of net
 some_load net good = omega (arith, load_above net good, good.network.origin)
 
 -- the bounds of a yes can be written
-module _ (names : List (List ℕ)) (net : Network) (good : IsWellFormed net) (named : length names ≡ count net) (few : load_of net ≤ 4194304) where
+module _ (names : List (List ℕ)) (net : Network) (good : IsWellFormed net) (named : length names ≡ count net) (few : load_of net ≤ most_cap) where
   bound_written : IsClosed net (live_bounds (log_of net)) → (b : Bound) → Contains (live_bounds (log_of net)) b → IsWrittenBound names b
   bound_written closed b has =
       let is = live_in_range net good b has in
@@ -155,8 +157,8 @@ no_refutation net steps k (inl first) refutation = first.wrong (λ e there. refu
 no_refutation net steps k (inr vain) refutation = vain.vain refutation
 
 -- a text that is short enough isn't refused for its length
-short_text : (speaks : List ℕ → Answer) (text : List ℕ) (names : List (List ℕ)) (net : Network) → length text ≤ 1476395008 → by_text speaks text names net ≡ speaks text names net
-short_text speaks text names net short = within 1476395008 (length text) (says (say Script (codes "script long"))) (speaks text names net) short
+short_text : (speaks : List ℕ → Answer) (text : List ℕ) (names : List (List ℕ)) (net : Network) → length text ≤ most_text → by_text speaks text names net ≡ speaks text names net
+short_text speaks text names net short = within most_text (length text) (says (say Script (codes "script long"))) (speaks text names net) short
   where
     within : (n m : ℕ) (one other : Plan) → m ≤ n → (if nat_lt n m then one else other) ≡ other
     within n m one other le = grind arith
@@ -183,7 +185,7 @@ abbrev pub StepsBack : Type 0
 StepsBack = (names : List (List ℕ)) (load : ℕ) (steps : List Entry) → AreNames names → AreWrittenSteps names load steps → told_steps names (shown_steps names load steps) ≡ tells_steps load steps
 
 -- the text of a yes is accepted
-pub yes_text : BoundsBack → (names : List (List ℕ)) (net : Network) → IsWellFormed net → AreNames names → length names ≡ count net → load_of net ≤ 4194304 → IsConsistent net → IsYesText names net (shown_bounds names (load_of net) (live_bounds (log_of net)))
+pub yes_text : BoundsBack → (names : List (List ℕ)) (net : Network) → IsWellFormed net → AreNames names → length names ≡ count net → load_of net ≤ most_cap → IsConsistent net → IsYesText names net (shown_bounds names (load_of net) (live_bounds (log_of net)))
 yes_text back names net good are named few consistent =
     let bounds = live_bounds (log_of net) in
     let text = shown_bounds names (load_of net) bounds in
@@ -194,7 +196,7 @@ yes_text back names net good are named few consistent =
     (subst (λ (t : ToldBounds). IsAccepted (certified_bounds names t net)) (sym told) (certificate_accepted names net bounds (listed_faultless net good consistent) closed))
 
 -- and so is the text of a no
-pub no_text : StepsBack → (names : List (List ℕ)) (net : Network) → IsWellFormed net → AreNames names → length names ≡ count net → HasIds net → load_of net ≤ 4194304 → (IsConsistent net → ⊥) → IsNoText names net (shown_steps names (load_of net) (part (log_of net)))
+pub no_text : StepsBack → (names : List (List ℕ)) (net : Network) → IsWellFormed net → AreNames names → length names ≡ count net → HasIds net → load_of net ≤ most_cap → (IsConsistent net → ⊥) → IsNoText names net (shown_steps names (load_of net) (part (log_of net)))
 no_text back names net good are named ids few never =
     let steps = part (log_of net) in
     let text = shown_steps names (load_of net) steps in

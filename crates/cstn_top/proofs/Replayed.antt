@@ -25,17 +25,19 @@ use Rattle.cstn_top.proofs.records.Run.{run_proved}
 use Rattle.cstn_top.proofs.records.Closed.{closed_proved}
 use Rattle.cstn_top.proofs.OneOutput.{OneJudgement}
 use Rattle.cstn_top.proofs.Dispatched.{IsEvidence}
+use Rattle.cstn_words.specs.Limits.{most_cap}
+use Rattle.cstn_documents.specs.Limits.{most_document}
 
 -- a document that isn't refused isn't too long
-not_long : (answer : LabelledAnswer) (bytes : List ℕ) (deadline : Option ℕ) (live : List ℕ) (said : Said) → (said.outcome ≡ Document → ⊥) → IsOutput (on_labelled answer bytes deadline) live said → nat_lt 8388608 (length bytes) ≡ false
-not_long answer bytes deadline live said never output = by_length (nat_lt 8388608 (length bytes)) output
+not_long : (answer : LabelledAnswer) (bytes : List ℕ) (deadline : Option ℕ) (live : List ℕ) (said : Said) → (said.outcome ≡ Document → ⊥) → IsOutput (on_labelled answer bytes deadline) live said → nat_lt most_document (length bytes) ≡ false
+not_long answer bytes deadline live said never output = by_length (nat_lt most_document (length bytes)) output
   where
     by_length : (long : Bool) → IsOutput (if long then says (say Document (codes "document long")) else judged answer (document bytes deadline)) live said → long ≡ false
     by_length true is = absurd (never (ap (λ (s : Said). s.outcome) is))
     by_length false is = refl
 
 -- where the answer of the labelled network of a document is that it is accepted, so is that of the document
-labelled_accepted : OneJudgement → (answer : LabelledAnswer) (bytes : List ℕ) (deadline : Option ℕ) → nat_lt 8388608 (length bytes) ≡ false → HasLabelled bytes deadline (λ names m. IsAccepted (answer names m)) → IsAccepted (on_labelled answer bytes deadline)
+labelled_accepted : OneJudgement → (answer : LabelledAnswer) (bytes : List ℕ) (deadline : Option ℕ) → nat_lt most_document (length bytes) ≡ false → HasLabelled bytes deadline (λ names m. IsAccepted (answer names m)) → IsAccepted (on_labelled answer bytes deadline)
 labelled_accepted one answer bytes deadline short has =
     subst (λ (long : Bool). IsAccepted (if long then says (say Document (codes "document long")) else judged answer (document bytes deadline))) (sym short) (by_told (document bytes deadline) has)
   where
@@ -56,25 +58,25 @@ good_differs : (o : Outcome) → o ≡ Good → o ≡ Document → ⊥
 good_differs o is also = grind arith
 
 module _ (one : OneJudgement) (yes_text : YesAccepted) (no_text : NoAccepted) where
-  pub check_passes : (asked : Asked) (cap : ℕ) (file bytes live : List ℕ) (said : Said) → cap ≤ 4194304 → IsOutput (plan_at (check asked cap) (bytes ∷ [])) live said → said.outcome ≡ Bad → IsAccepted (plan_at (replay asked file) (bytes ∷ said.text ∷ []))
+  pub check_passes : (asked : Asked) (cap : ℕ) (file bytes live : List ℕ) (said : Said) → cap ≤ most_cap → IsOutput (plan_at (check asked cap) (bytes ∷ [])) live said → said.outcome ≡ Bad → IsAccepted (plan_at (replay asked file) (bytes ∷ said.text ∷ []))
   check_passes asked cap file bytes live said capped output no' =
       labelled_accepted one (of_lowered (by_text replayed said.text)) bytes asked.deadline
       (not_long (of_lowered (checked cap)) bytes asked.deadline live said (bad_differs said.outcome no') output)
       (subst (λ (o : Outcome). IsEvidence (check asked cap) (status_of o) said.text (bytes ∷ [])) no' ((check_proved asked cap).evidence yes_text no_text (bytes ∷ []) live said capped output))
 
-  pub run_passes : (asked : Asked) (cap : ℕ) (file bytes live : List ℕ) (said : Said) → cap ≤ 4194304 → IsOutput (plan_at (run asked cap) (bytes ∷ [])) live said → said.outcome ≡ Bad → IsAccepted (plan_at (replay asked file) (bytes ∷ said.text ∷ []))
+  pub run_passes : (asked : Asked) (cap : ℕ) (file bytes live : List ℕ) (said : Said) → cap ≤ most_cap → IsOutput (plan_at (run asked cap) (bytes ∷ [])) live said → said.outcome ≡ Bad → IsAccepted (plan_at (replay asked file) (bytes ∷ said.text ∷ []))
   run_passes asked cap file bytes live said capped output no' =
       labelled_accepted one (of_lowered (by_text replayed said.text)) bytes asked.deadline
       (not_long (carried_out cap) bytes asked.deadline live said (bad_differs said.outcome no') output)
       (subst (λ (o : Outcome). IsEvidence (run asked cap) (status_of o) said.text (bytes ∷ [])) no' ((run_proved asked cap).evidence yes_text no_text (bytes ∷ []) live said capped output))
 
-  pub closed_passes : (asked : Asked) (cap : ℕ) (file bytes live : List ℕ) (said : Said) → cap ≤ 4194304 → IsOutput (plan_at (closed asked cap) (bytes ∷ [])) live said → said.outcome ≡ Bad → IsAccepted (plan_at (replay asked file) (bytes ∷ said.text ∷ []))
+  pub closed_passes : (asked : Asked) (cap : ℕ) (file bytes live : List ℕ) (said : Said) → cap ≤ most_cap → IsOutput (plan_at (closed asked cap) (bytes ∷ [])) live said → said.outcome ≡ Bad → IsAccepted (plan_at (replay asked file) (bytes ∷ said.text ∷ []))
   closed_passes asked cap file bytes live said capped output no' =
       labelled_accepted one (of_lowered (by_text replayed said.text)) bytes asked.deadline
       (not_long (of_lowered (listed cap)) bytes asked.deadline live said (bad_differs said.outcome no') output)
       (subst (λ (o : Outcome). IsEvidence (closed asked cap) (status_of o) said.text (bytes ∷ [])) no' ((closed_proved asked cap).evidence yes_text no_text (bytes ∷ []) live said capped output))
 
-  pub bounds_pass : (asked : Asked) (cap : ℕ) (file bytes live : List ℕ) (said : Said) → cap ≤ 4194304 → IsOutput (plan_at (closed asked cap) (bytes ∷ [])) live said → said.outcome ≡ Good → IsAccepted (plan_at (closedcheck asked file) (bytes ∷ said.text ∷ []))
+  pub bounds_pass : (asked : Asked) (cap : ℕ) (file bytes live : List ℕ) (said : Said) → cap ≤ most_cap → IsOutput (plan_at (closed asked cap) (bytes ∷ [])) live said → said.outcome ≡ Good → IsAccepted (plan_at (closedcheck asked file) (bytes ∷ said.text ∷ []))
   bounds_pass asked cap file bytes live said capped output yes' =
       labelled_accepted one (of_lowered (by_text certified said.text)) bytes asked.deadline
       (not_long (of_lowered (listed cap)) bytes asked.deadline live said (good_differs said.outcome yes') output)

@@ -17,6 +17,7 @@ use Rattle.cstn_top.specs.commands.Check.{checked}
 use Rattle.cstn_top.specs.commands.Tree.{unfolded}
 use Rattle.cstn_top.specs.commands.Replay.{replayed_steps, replayed}
 use Rattle.cstn_top.specs.commands.Closedcheck.{certified_bounds, certified}
+use Rattle.cstn_documents.specs.Limits.{most_text}
 
 said_or : (o : Option Said) (said : Said) → says (or_else o said) ≡ unless_said o (says said)
 said_or None said = refl
@@ -56,9 +57,9 @@ closedcheck_says names text net said is live = by_told (told_bounds names text) 
     by_told (wrong_bound at) tells = tells
 
 -- what is said by a text that isn't too long
-pub text_says : (speaks : List ℕ → Answer) (text : List ℕ) (names : List (List ℕ)) (net : Network) (said : Said) → length text ≤ 1476395008 → ((live : List ℕ) → IsOutput (speaks text names net) live said) → (live : List ℕ) → IsOutput (by_text speaks text names net) live said
+pub text_says : (speaks : List ℕ → Answer) (text : List ℕ) (names : List (List ℕ)) (net : Network) (said : Said) → length text ≤ most_text → ((live : List ℕ) → IsOutput (speaks text names net) live said) → (live : List ℕ) → IsOutput (by_text speaks text names net) live said
 text_says speaks text names net said short is live =
-    let same : by_text speaks text names net ≡ speaks text names net = within 1476395008 (length text) (says (say Script (codes "script long"))) (speaks text names net) short in
+    let same : by_text speaks text names net ≡ speaks text names net = within most_text (length text) (says (say Script (codes "script long"))) (speaks text names net) short in
     subst (λ (a : Plan). IsOutput a live said) (sym same) (is live)
   where
     within : (n m : ℕ) (one other : Plan) → m ≤ n → (if nat_lt n m then one else other) ≡ other

@@ -58,6 +58,9 @@ use Rattle.cstn_host.specs.Files.{Named, the_file, yes_lines}
 use Rattle.cstn_top.proofs.Documents.{of_network}
 use Rattle.cstn_top.proofs.SomeFault.{faultless, faultless_is_closed}
 use Rattle.cstn_log.specs.Asked.{asked}
+use Rattle.cstn_words.specs.Limits.{most_cap}
+use Rattle.cstn_documents.specs.Limits.{most_document, most_text}
+use Rattle.cstn_top.specs.Limits.{most_observed}
 
 -- it can't be that the plan has no output
 abbrev pub HasSome : Plan → List ℕ → Type 0
@@ -111,7 +114,7 @@ verdict_any cap names net after_yes (No load) live later = said_some _ live
 verdict_any cap names net after_yes IsFullVerdict live later = said_some _ live
 
 pub text_some : (speaks : List ℕ → Answer) (text : List ℕ) (names : List (List ℕ)) (net : Network) (live : List ℕ) → HasSome (speaks text names net) live → HasSome (by_text speaks text names net) live
-text_some speaks text names net live some = by_length (nat_lt 1476395008 (length text))
+text_some speaks text names net live some = by_length (nat_lt most_text (length text))
   where
     by_length : (long : Bool) → HasSome (if long then says (say Script (codes "script long")) else speaks text names net) live
     by_length true = said_some _ live
@@ -128,7 +131,7 @@ PartsMade = (bytes : List ℕ) (deadline : Option ℕ) (parts : Parts) → docum
 module _ (made : PartsMade) where
   pub document_some : (answer : LabelledAnswer) (bytes : List ℕ) (deadline : Option ℕ) (live : List ℕ) → CanBeHeld bytes deadline →
       ((parts : Parts) → document bytes deadline ≡ Ok parts → IsFit parts → HasSome (answer parts.names (labelled_of parts)) live) → HasSome (on_labelled answer bytes deadline) live
-  document_some answer bytes deadline live held each = by_length (nat_lt 8388608 (length bytes))
+  document_some answer bytes deadline live held each = by_length (nat_lt most_document (length bytes))
     where
       by_told : (told : Result Parts DocumentRefusal) → document bytes deadline ≡ told → HasSome (judged answer told) live
       by_told (Err refusal) is = said_some _ live
@@ -154,10 +157,10 @@ pub record TreesMade : Type 0 where
   pub good : (net : Network) (bounds : List Bound) (table : Table) → IsWellFormed net → IsEarliest net bounds table → (tree : Tree) → IsTreeOf net bounds tree → IsUnbroken net tree
   pub least : (net : Network) (bounds : List Bound) (table : Table) → IsWellFormed net → IsEarliest net bounds table → (tree : Tree) → IsTreeOf net bounds tree → (s : Scenario) (x : ℕ) → x < count net → IsLeast net s x (table_of tree s x)
   pub written : (names : List (List ℕ)) (load : ℕ) (net : Network) (bounds : List Bound) (table : Table) → IsWellFormed net → IsEarliest net bounds table →
-      length names ≡ count net → 1 ≤ load → load ≤ 4194304 → (tree : Tree) → IsTreeOf net bounds tree → IsWrittenTree names load tree
+      length names ≡ count net → 1 ≤ load → load ≤ most_cap → (tree : Tree) → IsTreeOf net bounds tree → IsWrittenTree names load tree
   pub back : (names : List (List ℕ)) (load : ℕ) (tree : Tree) → AreNames names → IsWrittenTree names load tree → told_tree names (shown_tree names load (tree_lines tree)) ≡ tells_tree (tree_lines tree)
 
-pub tree_some : TreesMade → (cap : ℕ) (names : List (List ℕ)) (net : Network) (live : List ℕ) → IsOfDocument names net → cap ≤ 4194304 → IsYes cap net → HasSome (branches names (load_of net) (live_bounds (log_of net)) net) live
+pub tree_some : TreesMade → (cap : ℕ) (names : List (List ℕ)) (net : Network) (live : List ℕ) → IsOfDocument names net → cap ≤ most_cap → IsYes cap net → HasSome (branches names (load_of net) (live_bounds (log_of net)) net) live
 tree_some trees cap names net live of capped yes' none =
     let bounds : List Bound = live_bounds (log_of net) in
     let table : Table = asked net bounds in
@@ -176,8 +179,8 @@ tree_some trees cap names net live of capped yes' none =
       said_is = refl;
     })
 
-pub unfolded_some : TreesMade → (cap : ℕ) (names : List (List ℕ)) (net : Network) (live : List ℕ) → IsOfDocument names net → cap ≤ 4194304 → HasSome (unfolded cap names net) live
-unfolded_some trees cap names net live of capped = by_width (nat_lt 10 (observed net))
+pub unfolded_some : TreesMade → (cap : ℕ) (names : List (List ℕ)) (net : Network) (live : List ℕ) → IsOfDocument names net → cap ≤ most_cap → HasSome (unfolded cap names net) live
+unfolded_some trees cap names net live of capped = by_width (nat_lt most_observed (observed net))
   where
     by_width : (wide : Bool) → HasSome (if wide then says (say Wide (codes "wide " ++ decimal (observed net))) else on_verdict cap names net (branches names (load_of net) (live_bounds (log_of net)) net) (verdict cap net)) live
     by_width true = said_some _ live

@@ -25,6 +25,8 @@ use Rattle.cstn_check.specs.Decisions.{verdict, IsYes, IsNo}
 use Rattle.cstn_check.proofs.Deciding.{Tells, verdict_tells}
 use Rattle.cstn_tree.specs.Unfolded.{observed}
 use Rattle.cstn_tree.specs.Checked.{told_of_line}
+use Rattle.cstn_documents.specs.Limits.{most_text}
+use Rattle.cstn_top.specs.Limits.{most_observed}
 
 -- ---- `tree`
 
@@ -33,7 +35,7 @@ abbrev pub Unfolds : ℕ → List (List ℕ) → Network → Outcome → Type 0
 Unfolds cap names net Good = IsNarrow net × IsYes cap net × HasTree names net
 Unfolds cap names net Bad = IsNarrow net × IsNo cap net
 Unfolds cap names net Full = IsNarrow net × (cap < load_of net)
-Unfolds cap names net Wide = 10 < observed net
+Unfolds cap names net Wide = most_observed < observed net
 Unfolds cap names net Words = ⊥
 Unfolds cap names net Document = ⊥
 Unfolds cap names net Unfinished = ⊥
@@ -52,17 +54,17 @@ tree_accepted names net said is =
 
 -- so is it where it is handed in again, if it isn't too long
 pub tree_proof : (names : List (List ℕ)) (net : Network) (said : Said) → IsTreeText names (load_of net) (live_bounds (log_of net)) net said → IsTreeProof names net said.text
-tree_proof names net said is short = by_length (nat_lt 1476395008 (length said.text)) refl
+tree_proof names net said is short = by_length (nat_lt most_text (length said.text)) refl
   where
-    above : (n : ℕ) → nat_lt 1476395008 n ≡ true → n ≤ 1476395008 → ⊥
+    above : (n : ℕ) → nat_lt most_text n ≡ true → n ≤ most_text → ⊥
     above n over below = grind arith
 
-    by_length : (long : Bool) → nat_lt 1476395008 (length said.text) ≡ long → IsAccepted (if long then says (say Script (codes "script long")) else tree_checked said.text names net)
+    by_length : (long : Bool) → nat_lt most_text (length said.text) ≡ long → IsAccepted (if long then says (say Script (codes "script long")) else tree_checked said.text names net)
     by_length true over = absurd (above (length said.text) over short)
     by_length false over = subst IsAccepted (sym (tree_accepted names net said is)) (λ live other. ((λ same. same), (λ same. same)))
 
 pub unfolds : (cap : ℕ) (names : List (List ℕ)) (net : Network) (live : List ℕ) (said : Said) → IsWellFormed net → IsOutput (unfolded cap names net) live said → Unfolds cap names net said.outcome
-unfolds cap names net live said good output = by_width (nat_lt 10 (observed net)) refl output
+unfolds cap names net live said good output = by_width (nat_lt most_observed (observed net)) refl output
   where
     by_verdict : (v : Verdict) → IsNarrow net → Tells cap net v → IsOutput (on_verdict cap names net (branches names (load_of net) (live_bounds (log_of net)) net) v) live said → Unfolds cap names net said.outcome
     by_verdict (Yes load) narrow tells' is =
@@ -71,14 +73,14 @@ unfolds cap names net live said good output = by_width (nat_lt 10 (observed net)
     by_verdict (No load) narrow tells' is = outcome_tells (Unfolds cap names net) said _ is (narrow, tells')
     by_verdict IsFullVerdict narrow tells' is = outcome_tells (Unfolds cap names net) said _ is (narrow, tells')
 
-    by_width : (wide : Bool) → nat_lt 10 (observed net) ≡ wide → IsOutput (if wide then says (say Wide (codes "wide " ++ decimal (observed net))) else on_verdict cap names net (branches names (load_of net) (live_bounds (log_of net)) net) (verdict cap net)) live said → Unfolds cap names net said.outcome
+    by_width : (wide : Bool) → nat_lt most_observed (observed net) ≡ wide → IsOutput (if wide then says (say Wide (codes "wide " ++ decimal (observed net))) else on_verdict cap names net (branches names (load_of net) (live_bounds (log_of net)) net) (verdict cap net)) live said → Unfolds cap names net said.outcome
     by_width true above is = outcome_tells (Unfolds cap names net) said _ is (more (observed net) above)
       where
-        more : (n : ℕ) → nat_lt 10 n ≡ true → 10 < n
+        more : (n : ℕ) → nat_lt most_observed n ≡ true → most_observed < n
         more n above = grind arith
     by_width false below is = by_verdict (verdict cap net) (no_more (observed net) below) (verdict_tells cap net good) is
       where
-        no_more : (n : ℕ) → nat_lt 10 n ≡ false → n ≤ 10
+        no_more : (n : ℕ) → nat_lt most_observed n ≡ false → n ≤ most_observed
         no_more n below = grind arith
 
 -- what the outcome of `tree` tells decides the network
@@ -94,7 +96,7 @@ tree_decides cap names net Script is = absurd is
 
 -- no session is held
 pub tree_silent : (cap : ℕ) (names : List (List ℕ)) (net : Network) → MayTalk (unfolded cap names net) → ⊥
-tree_silent cap names net may = by_width (nat_lt 10 (observed net)) may
+tree_silent cap names net may = by_width (nat_lt most_observed (observed net)) may
   where
     by_verdict : (v : Verdict) → MayTalk (on_verdict cap names net (branches names (load_of net) (live_bounds (log_of net)) net) v) → ⊥
     by_verdict (Yes load) is = is
@@ -127,7 +129,7 @@ lines_tell (tells lines) net live said good is = by_line (first_broken net (the_
     by_line (Some line) breaks is = outcome_tells (ChecksTree (tells lines) net) said _ is (line, breaks)
 
 pub tree_tells : (text : List ℕ) (names : List (List ℕ)) (net : Network) (live : List ℕ) (said : Said) → IsWellFormed net → IsOutput (by_text tree_checked text names net) live said → ChecksTree (told_tree names text) net said.outcome
-tree_tells text names net live said good is = by_length (nat_lt 1476395008 (length text)) is
+tree_tells text names net live said good is = by_length (nat_lt most_text (length text)) is
   where
     by_length : (long : Bool) → IsOutput (if long then says (say Script (codes "script long")) else tree_checked text names net) live said → ChecksTree (told_tree names text) net said.outcome
     by_length true is = outcome_tells (ChecksTree (told_tree names text) net) said _ is tt

@@ -12,6 +12,7 @@ use Rattle.cstn_reply.specs.Texts.{Said, say}
 use Rattle.cstn_reply.specs.declared.output.Outcome.TheVariants.{Document, Script}
 use Rattle.cstn_documents.specs.Refusals.{refusal_text}
 use Rattle.cstn_top.specs.Plans.{Plan, says, judges, unlabelled}
+use Rattle.cstn_documents.specs.Limits.{most_document, most_text}
 
 -- what is said of a network under the names of its time-points
 abbrev pub Answer : Type 0
@@ -39,7 +40,7 @@ judged answer (Ok parts) = judges parts (answer parts.names (labelled_of parts))
 -- what is said of a file with these bytes: that it is too long, where they are more than 8,388,608, or else of its document
 abbrev pub on_labelled : LabelledAnswer → List ℕ → Option ℕ → Plan
 on_labelled answer bytes deadline =
-    if nat_lt 8388608 (length bytes) then says (say Document (codes "document long")) else judged answer (document bytes deadline)
+    if nat_lt most_document (length bytes) then says (say Document (codes "document long")) else judged answer (document bytes deadline)
 
 -- likewise where labels are refused, with `answer` of a network without labels
 abbrev pub on_document : Answer → List ℕ → Option ℕ → Plan
@@ -61,4 +62,4 @@ on_verdict cap names net after_yes v = unless_said (unless_yes cap names net v) 
 -- the text is refused where it has more than 1,476,395,008 bytes
 abbrev pub by_text : (List ℕ → Answer) → List ℕ → Answer
 by_text answer text names net =
-    if nat_lt 1476395008 (length text) then says (say Script (codes "script long")) else answer text names net
+    if nat_lt most_text (length text) then says (say Script (codes "script long")) else answer text names net

@@ -18,6 +18,9 @@ use Rattle.cstn_lines.specs.EditLines.{Edit, added, removed, changed, asked, edi
 use Rattle.cstn_reply.specs.Texts.{line, yes_line, full_line}
 use Rattle.cstn_edit.specs.Editing.{begun_editing, edit_turn, edit_ending}
 use Rattle.cstn_reply.specs.Reached.{Says}
+use Rattle.cstn_words.specs.Limits.{most_cap}
+use Rattle.cstn_documents.specs.Limits.{most_constraints}
+use Rattle.cstn_top.specs.Limits.{most_edits}
 
 -- ---- the network as edited
 
@@ -35,15 +38,15 @@ unedited net = record { net = net; highest = highest_of None net.constraints; ed
 -- is in range, and its label is plain and names observed propositions alone
 abbrev pub may_add : EditedNetwork → ℤ → Label → Bool
 may_add e most a =
-    nat_lt e.edits 1000000 && (nat_lt (length e.net.constraints) 16384 && (is_value most && (is_plain a && is_none (unobserved e.net a))))
+    nat_lt e.edits most_edits && (nat_lt (length e.net.constraints) most_constraints && (is_value most && (is_plain a && is_none (unobserved e.net a))))
 
 -- the constraint of this id may be taken out
 abbrev pub may_remove : EditedNetwork → ℕ → Bool
-may_remove e id = nat_lt e.edits 1000000 && has_constraint e.net id
+may_remove e id = nat_lt e.edits most_edits && has_constraint e.net id
 
 -- the constraint of this id may get this value
 abbrev pub may_change : EditedNetwork → ℕ → ℤ → Bool
-may_change e id most = nat_lt e.edits 1000000 && (has_constraint e.net id && is_value most)
+may_change e id most = nat_lt e.edits most_edits && (has_constraint e.net id && is_value most)
 
 -- one edit more, after which these are the constraints and this is the highest id
 abbrev pub edited_to : EditedNetwork → List Constraint → Option ℕ → EditedNetwork
@@ -108,7 +111,7 @@ pub record SaysNo (cap : ℕ) (names : List (List ℕ)) (net : Network) (text : 
   pub steps : IsRefutation net (part list)
   pub text_is : text ≡ shown names (length list) (part list)
   pub inconsistent : IsConsistent net → ⊥
-  pub accepted : AreNames names → HasIds net → cap ≤ 4194304 → IsNoText names net text
+  pub accepted : AreNames names → HasIds net → cap ≤ most_cap → IsNoText names net text
 
 -- the text says that the log is full, and the log of the network has more than `cap` entries
 pub record SaysFull (cap : ℕ) (net : Network) (text : List ℕ) : Type 0 where

@@ -1,5 +1,5 @@
 -- What the headline speaks of: documents and their networks, requests that were answered, and runs that were carried out.
-use Rattle.std.specs.Prelude.{◌≡◌, ◌≤◌, ◌<◌, ◌↔◌, ◌⊎◌, ℕ, List, [], ◌∷◌, ◌++◌, length, map, Some, Ok, codes, pos, ◌-ℤ◌, ◌≤ℤ◌}
+use Rattle.std.specs.Prelude.{◌≡◌, ◌≤◌, ◌<◌, ◌↔◌, ◌⊎◌, ℕ, List, [], ◌∷◌, ◌++◌, length, map, Option, Some, Ok, codes, pos, ◌-ℤ◌, ◌≤ℤ◌}
 use Rattle.std.specs.List.{All, Contains}
 use Rattle.cstn_label.specs.Labels.{Scenario}
 use Rattle.cstn_net.specs.Networks.{Network, Constraint, count}
@@ -13,24 +13,26 @@ use Rattle.cstn_graphml.specs.Document.{Parts, document}
 use Rattle.cstn_graphml.specs.Networks.{labelled_of, IsFit}
 use Rattle.cstn_check.specs.Growth.{load_of}
 use Rattle.cstn_exec.specs.Sound.{AgreesHanded}
-use Rattle.cstn_words.specs.Requests.{Asked, Request, check, run, edit, replay}
+use Rattle.cstn_words.specs.Requests.{Asked, Request, check, run, edit, replay, files_of}
 use Rattle.cstn_reply.specs.Written.{LiveState}
 use Rattle.cstn_top.specs.Plans.{Ends}
 use Rattle.cstn_top.specs.Dispatch.{command_of, plan_at}
 use Rattle.cstn_top.specs.Meanings.{IsStopped}
 use Rattle.cstn_top.specs.commands.Run.{run_bounds}
 use Rattle.cstn_documents.specs.Documents.{AreEmpty}
+use Rattle.cstn_documents.specs.Files.{file_at}
 use Rattle.cstn_reply.specs.declared.status.Status.{Status}
 use Rattle.cstn_reply.specs.declared.status.Status.TheVariants.{Good, Bad, Full, Script}
 use Rattle.cstn_run.specs.Meanings.{end_of, WasNamed}
 use Rattle.cstn_top.specs.EditSessions.{network_after, IsNoCheck}
 use Rattle.cstn_top.specs.Told.{IsToldOf}
+use Rattle.cstn_documents.specs.Limits.{most_document}
 
 -- the bytes are a document with the deadline that is asked for, and its parts make a labelled network
 pub record Document : Type 0 where
   pub asked : Asked
   pub bytes : List ℕ
-  pub short : length bytes ≤ 8388608
+  pub short : length bytes ≤ most_document
   pub parts : Parts
   pub reads : document bytes asked.deadline ≡ Ok parts
   pub fit : IsFit parts
@@ -54,8 +56,8 @@ load d = load_of (lowered (network d))
 abbrev pub edited : Document → List (List ℕ) → Network
 edited d edits = network_after d.parts.names (network d).base edits
 
--- A call answered a request whose files have these contents: it wrote the text and ended with the status, and neither a fault
--- nor want of memory stopped it. The live source has the bytes `live`. It is what `run` tells, where all is told.
+-- A call answered a request whose files have these contents: it wrote the text after the bytes `old` and ended with the status,
+-- and neither a fault nor want of memory stopped it. The live source has the bytes `live`. `IsCall` says it of a call of `run`.
 pub record Call (request : Request) (contents : List (List ℕ)) : Type 0 where
   pub live : List ℕ
   pub status : Status
@@ -67,6 +69,19 @@ pub record Call (request : Request) (contents : List (List ℕ)) : Type 0 where
   pub told : IsToldOf before (Some old) (Some (old ++ text)) status contents (command_of request)
   pub live_is : before.left ≡ Some live
   pub unstopped : IsStopped status → ⊥
+
+-- it is told what files there are, and those that the request names have these contents
+abbrev pub HasContents : Option (List ℕ → Option (List ℕ)) → Request → List (List ℕ) → Type 0
+HasContents told request contents = (files : List ℕ → Option (List ℕ)) × (told ≡ Some files) × (contents ≡ map (file_at files) (files_of request))
+
+-- a call of `run` with this request, over these contents and these bytes of the live source, ended with this status; what the
+-- sink had goes from `old` to `new`
+pub record IsCall (request : Request) (contents : List (List ℕ)) (live old : List ℕ) (new : Option (List ℕ)) (status : Status) : Type 0 where
+  pub call : Call request contents
+  pub live_is : call.live ≡ live
+  pub old_is : call.old ≡ old
+  pub new_is : new ≡ Some (old ++ call.text)
+  pub status_is : call.status ≡ status
 
 -- calls of `check`, `run` and `replay` over a document
 abbrev pub Checked : Document → ℕ → Type 0

@@ -10,6 +10,7 @@ pub mod Headline
 pub mod EditSessions
 pub mod LabelledDeadlines
 -- What the commands share.
+pub mod Limits
 pub mod Plans
 pub mod Answers
 pub mod Verdicts

@@ -32,22 +32,24 @@ use Rattle.cstn_top.specs.declared.commands.Prepared.{Prepared}
 use Rattle.cstn_top.specs.declared.commands.Prepared.TheVariants.{Says}
 use Rattle.cstn_top.specs.declared.commands.questions.Question.{Question}
 use Rattle.cstn_top.specs.declared.commands.questions.Question.TheVariants.{Check, Closed, Tight, Conflict, Tree, Edit, Run, Save, Replay, Closedcheck, Treecheck, Drill, Host}
+use Rattle.cstn_words.specs.Limits.{most_files}
+use Rattle.cstn_documents.specs.Limits.{most_text}
 
 -- what is said to a question
 abbrev pub the_question : Question → Plan
-the_question (Check d cap) = checked cap d.names (the_network d.network)
-the_question (Closed d cap) = listed cap d.names (the_network d.network)
-the_question (Tight d cap) = tightened cap d.names (the_network d.network)
-the_question (Conflict d cap) = blamed cap d.names (the_network d.network)
-the_question (Tree d cap) = unfolded cap d.names (the_network d.network)
-the_question (Edit d cap) = edited cap d.names (the_network d.network)
-the_question (Run d cap) = carried_out cap d.names (the_labelled d.labelled)
+the_question (Check d cap) = checked cap.entries d.names (the_network d.network)
+the_question (Closed d cap) = listed cap.entries d.names (the_network d.network)
+the_question (Tight d cap) = tightened cap.entries d.names (the_network d.network)
+the_question (Conflict d cap) = blamed cap.entries d.names (the_network d.network)
+the_question (Tree d cap) = unfolded cap.entries d.names (the_network d.network)
+the_question (Edit d cap) = edited cap.entries d.names (the_network d.network)
+the_question (Run d cap) = carried_out cap.entries d.names (the_labelled d.labelled)
 the_question (Save d) = saved d.names (the_labelled d.labelled)
 the_question (Replay d text) = by_text replayed text.items d.names (the_network d.network)
 the_question (Closedcheck d text) = by_text certified text.items d.names (the_network d.network)
 the_question (Treecheck d text) = by_text tree_checked text.items d.names (the_network d.network)
 the_question (Drill number) = says (drilled number)
-the_question (Host documents cap) = attended cap (map the_named documents.items)
+the_question (Host documents cap) = attended cap.entries (map the_named documents.items)
 
 -- the question says what the request says of the contents of its files, each of which is there
 pub record Asks (request : Request) (told : Option (List ℕ → Option (List ℕ))) (question : Question) : Type 0 where
@@ -61,26 +63,21 @@ pub record TellsInstead (request : Request) (told : Option (List ℕ → Option 
   pub plan : Planned request told (says (the_said said))
   pub refused : TellsRefused told request (Says said)
 
--- a log may have from 1 to 4,194,304 entries
-pub record IsCap (cap : ℕ) : Type 0 where
-  pub some : 1 ≤ cap
-  pub most : cap ≤ 4194304
-
 -- what was read is what documents and texts hold
 abbrev pub IsSoundQuestion : Question → Type 0
-IsSoundQuestion (Check d cap) = IsSound d × IsCap cap
-IsSoundQuestion (Closed d cap) = IsSound d × IsCap cap
-IsSoundQuestion (Tight d cap) = IsSound d × IsCap cap
-IsSoundQuestion (Conflict d cap) = IsSound d × IsCap cap
-IsSoundQuestion (Tree d cap) = IsSound d × IsCap cap
-IsSoundQuestion (Edit d cap) = IsSound d × IsCap cap × All (λ c. c.id < 2 ^ 31) d.network.constraints
-IsSoundQuestion (Run d cap) = AreNamesOf d.names (the_network d.labelled.base) × IsCap cap
+IsSoundQuestion (Check d cap) = IsSound d
+IsSoundQuestion (Closed d cap) = IsSound d
+IsSoundQuestion (Tight d cap) = IsSound d
+IsSoundQuestion (Conflict d cap) = IsSound d
+IsSoundQuestion (Tree d cap) = IsSound d
+IsSoundQuestion (Edit d cap) = IsSound d × All (λ c. c.id < 2 ^ 31) d.network.constraints
+IsSoundQuestion (Run d cap) = AreNamesOf d.names (the_network d.labelled.base)
 IsSoundQuestion (Save d) = AreNamesOf d.names (the_network d.labelled.base)
-IsSoundQuestion (Replay d text) = IsSound d × (length text.items ≤ 1476395008)
-IsSoundQuestion (Closedcheck d text) = IsSound d × (length text.items ≤ 1476395008)
-IsSoundQuestion (Treecheck d text) = IsSound d × (length text.items ≤ 1476395008)
+IsSoundQuestion (Replay d text) = IsSound d × (length text.items ≤ most_text)
+IsSoundQuestion (Closedcheck d text) = IsSound d × (length text.items ≤ most_text)
+IsSoundQuestion (Treecheck d text) = IsSound d × (length text.items ≤ most_text)
 IsSoundQuestion (Drill number) = Unit {0}
-IsSoundQuestion (Host documents cap) = All IsSound documents.items × (1 ≤ length documents.items) × (length documents.items ≤ 8) × (1 ≤ cap) × (cap ≤ 65536)
+IsSoundQuestion (Host documents cap) = All IsSound documents.items × (1 ≤ length documents.items) × (length documents.items ≤ most_files)
 
 abbrev pub kind_of : Question → Kind
 kind_of (Check d cap) = a_text

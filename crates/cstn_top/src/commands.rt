@@ -3,7 +3,7 @@ ghost use Rattle.std.specs.Prelude.{◌≡◌, ◌≤◌, [], IfOk, IsTrue, IsEr
 ghost use Rattle.std.specs.List.{list_all};
 ghost use Rattle.cstn_io.specs.Causes.{Rose};
 ghost use Rattle.cstn_words.specs.Requests.{files_of};
-ghost use Rattle.cstn_words.specs.Read.{the_request, IsCapped};
+ghost use Rattle.cstn_words.specs.Read.{the_request};
 ghost use Rattle.cstn_top.specs.Prepared.{the_plan, Planned, FitsKind, TellsRefused};
 ghost use Rattle.cstn_top.specs.Questions.{kind_at};
 
@@ -53,7 +53,6 @@ pub(crate) fn prepare<F: Shelf>(
     shelf: &mut F,
 ) -> Result<Prepared, Refused>
     requires may_ask { IsTrue (list_all (F.may_ask shelf.old) (files_of (the_request request))) }
-    requires capped { IsCapped request }
     ensures plan { IfOk result (λ prepared. Planned (the_request request.entry) (F.files shelf.old) (the_plan prepared)) }
     ensures fits { IfOk result (FitsKind (kind_at (the_request request.entry))) }
     ensures refused { IfOk result (TellsRefused (F.files shelf.old) (the_request request.entry)) }

@@ -1,9 +1,16 @@
-// The headline, as one law. The call does nothing: its contract is the law.
-ghost use Rattle.std.specs.Prelude.{◌≡◌, ◌⊎◌, ◌≤◌, ◌<◌, ℕ, List};
+// The headline, as one law, and the law that gives its premises. The calls do nothing: their contracts are the laws.
+ghost use Rattle.std.specs.Prelude.{◌≡◌, ◌⊎◌, ◌≤◌, ◌<◌, ℕ, List, Option, Some};
 ghost use Rattle.cstn_lines.specs.Pieces.{lines_of};
+ghost use Rattle.cstn_words.specs.Requests.{Request};
+ghost use Rattle.cstn_reply.specs.declared.status.Status.{Status};
 ghost use Rattle.cstn_reply.specs.declared.status.Status.TheVariants.{Good, Bad, Full};
 ghost use Rattle.cstn_top.specs.commands.Run.{AnswersLeast, run_bounds};
-ghost use Rattle.cstn_top.specs.Headline.{Document, network, printed_names, HasStrategy, load, edited, Checked, Ran, Replayed, Edited, Decides, IsEditedVerdict, IsExecutedOver};
+ghost use Rattle.cstn_top.specs.Headline.{Document, network, printed_names, HasStrategy, load, edited, HasContents, IsCall};
+ghost use Rattle.cstn_top.specs.Headline.{Checked, Ran, Replayed, Edited, Decides, IsEditedVerdict, IsExecutedOver};
+ghost use Rattle.cstn_top.specs.Meanings.{IsStopped};
+ghost use Rattle.cstn_top.specs.Told.{IsTold, view};
+
+use cstn_io::Source;
 
 /// For every labelled network of a document, `check` ends with Good exactly where a dynamic strategy exists and with Bad exactly
 /// where none does, or with Full, where the log of the lowered network has more entries than the cap. After yes, over any lines,
@@ -20,4 +27,13 @@ pub fn the_headline()
     ensures derivation { (d : Document) (cap : ℕ) (c : Checked d cap) → c.status ≡ Bad → (file : List ℕ) (r : Replayed d file c.text) → r.status ≡ Good }
     ensures replay { (d : Document) (file text : List ℕ) (r : Replayed d file text) → r.status ≡ Good → HasStrategy d → ⊥ }
     ensures edits { (d : Document) (cap : ℕ) (edits : List (List ℕ)) (e : Edited d cap edits) → IsEditedVerdict cap (edited d edits) e.call.status }
+{}
+
+/// What `run` tells makes a call that the headline speaks of. Where files, live source and sink tell their bytes, the words are a
+/// request, and neither a fault nor want of memory stopped the call, it is a call of that request over the contents of its files.
+pub fn calls_are_told<S: Source>()
+    ensures call { (request : Request) (contents : List (List ℕ)) (live had : List ℕ) (words : Option Request) (files : Option (List ℕ → Option (List ℕ)))
+        (before after : S) (old new : Option (List ℕ)) (status : Status) → IsTold words files (view S.left S.faults) before after old new status
+        → words ≡ Some request → HasContents files request contents → S.left before ≡ Some live → old ≡ Some had → (IsStopped status → ⊥)
+        → IsCall request contents live had new status }
 {}

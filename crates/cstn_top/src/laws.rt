@@ -18,6 +18,7 @@ ghost use Rattle.cstn_lift.specs.WellFormed.{IsLabelled};
 ghost use Rattle.cstn_tight.specs.Deadlines.{at_deadline, IsLeastDeadline};
 ghost use Rattle.cstn_top.specs.LabelledDeadlines.{labelled_at, IsLabelledLeastDeadline};
 ghost use Rattle.cstn_top.specs.EditSessions.{network_after, AnswersCheck, IsAtLastCheck};
+ghost use Rattle.cstn_words.specs.Limits.{most_cap};
 
 use crate::evidence::evidence_is_accepted;
 use cstn_closed::{closed_lists_are_accepted, closed_texts_are_read_back};
@@ -30,11 +31,17 @@ use cstn_tree::{made_trees_are_good, networks_have_one_tree, tree_texts_are_read
 /// steps that refute it, and that the log is full only where its log has more than `cap` entries. The network of the last check
 /// is the network as edited by the lines before that check.
 pub fn edit_sessions_are_true()
-    ensures edited { (cap : ℕ) (names : List (List ℕ)) (net : Network) (lines : List (List ℕ)) (e : Editing) → state_after edit_turn (begun_editing cap names net) 0 lines ≡ Some e → e.session.net ≡ network_after names net lines }
-    ensures well_formed { (cap : ℕ) (names : List (List ℕ)) (net : Network) (lines : List (List ℕ)) → IsWellFormed net → length names ≡ count net → AreAnswered edit_turn (begun_editing cap names net) lines → IsWellFormed (network_after names net lines) }
-    ensures ids { (cap : ℕ) (names : List (List ℕ)) (net : Network) (lines : List (List ℕ)) → IsWellFormed net → length names ≡ count net → All (λ (c : Constraint). c.id < 2 ^ 31) net.constraints → AreAnswered edit_turn (begun_editing cap names net) lines → HasIds (network_after names net lines) }
-    ensures checked { (cap : ℕ) (names : List (List ℕ)) (net : Network) (before : List (List ℕ)) → IsWellFormed net → length names ≡ count net → AreAnswered edit_turn (begun_editing cap names net) before → is_past (length before + 1) (codes "check") ≡ false → AnswersCheck cap names net before }
-    ensures last { (cap : ℕ) (names : List (List ℕ)) (net : Network) (lines : List (List ℕ)) → AreAnswered edit_turn (begun_editing cap names net) lines → IsAtLastCheck names net lines (last_checked (begun_editing cap names net) None lines) }
+    ensures edited { (cap : ℕ) (names : List (List ℕ)) (net : Network) (lines : List (List ℕ)) (e : Editing)
+        → state_after edit_turn (begun_editing cap names net) 0 lines ≡ Some e → e.session.net ≡ network_after names net lines }
+    ensures well_formed { (cap : ℕ) (names : List (List ℕ)) (net : Network) (lines : List (List ℕ)) → IsWellFormed net → length names ≡ count net
+        → AreAnswered edit_turn (begun_editing cap names net) lines → IsWellFormed (network_after names net lines) }
+    ensures ids { (cap : ℕ) (names : List (List ℕ)) (net : Network) (lines : List (List ℕ)) → IsWellFormed net → length names ≡ count net
+        → All (λ (c : Constraint). c.id < 2 ^ 31) net.constraints → AreAnswered edit_turn (begun_editing cap names net) lines
+        → HasIds (network_after names net lines) }
+    ensures checked { (cap : ℕ) (names : List (List ℕ)) (net : Network) (before : List (List ℕ)) → IsWellFormed net → length names ≡ count net
+        → AreAnswered edit_turn (begun_editing cap names net) before → is_past (length before + 1) (codes "check") ≡ false → AnswersCheck cap names net before }
+    ensures last { (cap : ℕ) (names : List (List ℕ)) (net : Network) (lines : List (List ℕ))
+        → AreAnswered edit_turn (begun_editing cap names net) lines → IsAtLastCheck names net lines (last_checked (begun_editing cap names net) None lines) }
 {
     texts_are_read_back();
 }
@@ -65,14 +72,18 @@ pub fn outputs_are_one()
 /// What `check`, `run` and `closed` write after no passes: `replay` of the same document with that text says `accepted`, and
 /// nothing else. So does `closedcheck` with what `closed` writes after yes.
 pub fn evidence_passes()
-    ensures no_of_check { (asked : Asked) (cap : ℕ) (file bytes live : List ℕ) (said : Said) → cap ≤ 4194304 → IsOutput (plan_at (check asked cap) (bytes ∷ [])) live said
-        → said.outcome ≡ Bad → IsAccepted (plan_at (replay asked file) (bytes ∷ said.text ∷ [])) }
-    ensures no_of_run { (asked : Asked) (cap : ℕ) (file bytes live : List ℕ) (said : Said) → cap ≤ 4194304 → IsOutput (plan_at (run asked cap) (bytes ∷ [])) live said
-        → said.outcome ≡ Bad → IsAccepted (plan_at (replay asked file) (bytes ∷ said.text ∷ [])) }
-    ensures no_of_closed { (asked : Asked) (cap : ℕ) (file bytes live : List ℕ) (said : Said) → cap ≤ 4194304 → IsOutput (plan_at (closed asked cap) (bytes ∷ [])) live said
-        → said.outcome ≡ Bad → IsAccepted (plan_at (replay asked file) (bytes ∷ said.text ∷ [])) }
-    ensures yes_of_closed { (asked : Asked) (cap : ℕ) (file bytes live : List ℕ) (said : Said) → cap ≤ 4194304 → IsOutput (plan_at (closed asked cap) (bytes ∷ [])) live said
-        → said.outcome ≡ Good → IsAccepted (plan_at (closedcheck asked file) (bytes ∷ said.text ∷ [])) }
+    ensures no_of_check { (asked : Asked) (cap : ℕ) (file bytes live : List ℕ) (said : Said) → cap ≤ most_cap
+        → IsOutput (plan_at (check asked cap) (bytes ∷ [])) live said → said.outcome ≡ Bad
+        → IsAccepted (plan_at (replay asked file) (bytes ∷ said.text ∷ [])) }
+    ensures no_of_run { (asked : Asked) (cap : ℕ) (file bytes live : List ℕ) (said : Said) → cap ≤ most_cap
+        → IsOutput (plan_at (run asked cap) (bytes ∷ [])) live said → said.outcome ≡ Bad
+        → IsAccepted (plan_at (replay asked file) (bytes ∷ said.text ∷ [])) }
+    ensures no_of_closed { (asked : Asked) (cap : ℕ) (file bytes live : List ℕ) (said : Said) → cap ≤ most_cap
+        → IsOutput (plan_at (closed asked cap) (bytes ∷ [])) live said → said.outcome ≡ Bad
+        → IsAccepted (plan_at (replay asked file) (bytes ∷ said.text ∷ [])) }
+    ensures yes_of_closed { (asked : Asked) (cap : ℕ) (file bytes live : List ℕ) (said : Said) → cap ≤ most_cap
+        → IsOutput (plan_at (closed asked cap) (bytes ∷ [])) live said → said.outcome ≡ Good
+        → IsAccepted (plan_at (closedcheck asked file) (bytes ∷ said.text ∷ [])) }
 {
     documents_have_one_answer();
     evidence_is_accepted();

@@ -9,7 +9,7 @@ mod top;
 
 pub use cstn_reply::Status;
 pub use evidence::evidence_is_accepted;
-pub use headline::the_headline;
+pub use headline::{calls_are_told, the_headline};
 pub use laws::{
     edit_sessions_are_true, evidence_passes, least_deadlines_are_lowered, outputs_are_one,
 };

@@ -3,6 +3,7 @@ use Rattle.std.specs.Prelude.{ℕ, Bool, nat_le, nat_eq, ◌&&◌, if◌then◌e
 use Rattle.std.specs.Option.{option_map, option_and_then, unwrap_or}
 use Rattle.std.specs.Cmp.Lexicographic.{pointwise}
 use Rattle.cstn_text.specs.Numbers.{number_read}
+use Rattle.cstn_words.specs.Limits.{most_deadline, most_cap, usual_cap, most_host_cap, most_files}
 
 -- the two texts are the same
 abbrev pub is_same : List ℕ → List ℕ → Bool
@@ -53,11 +54,11 @@ option_at name least most (word ∷ rest) =
 
 -- `[--deadline N]`, with N up to 1,000,000
 abbrev pub deadline_at : List (List ℕ) → Option Taken
-deadline_at words = option_at (codes "--deadline") 0 1000000 words
+deadline_at words = option_at (codes "--deadline") 0 most_deadline words
 
 -- `[--cap CAP]`, with CAP from 1 to 4,194,304
 abbrev pub cap_at : List (List ℕ) → Option Taken
-cap_at words = option_at (codes "--cap") 1 4194304 words
+cap_at words = option_at (codes "--cap") 1 most_cap words
 
 -- the number of an option after which no word is left
 abbrev pub last_value : Taken → Option (Option ℕ)
@@ -69,7 +70,7 @@ deadline_of words = option_and_then last_value (deadline_at words)
 
 -- `[--cap CAP]` and no more; 65,536 where it isn't there
 abbrev pub cap_of : List (List ℕ) → Option ℕ
-cap_of words = option_map (λ cap. unwrap_or cap 65536) (option_and_then last_value (cap_at words))
+cap_of words = option_map (λ cap. unwrap_or cap usual_cap) (option_and_then last_value (cap_at words))
 
 -- a file, and its deadline
 abbrev pub asked_of : List (List ℕ) → Option Asked
@@ -96,12 +97,12 @@ drill_of words = None
 -- the request of a host with the files that stand after its options: 1 to 8, and 65,536 entries where no number is given
 abbrev pub hosted_of : Option ℕ → Taken → Option Request
 hosted_of deadline cap =
-    if nat_le 1 (length cap.rest) && nat_le (length cap.rest) 8 then Some (host cap.rest deadline (unwrap_or cap.value 65536)) else None
+    if nat_le 1 (length cap.rest) && nat_le (length cap.rest) most_files then Some (host cap.rest deadline (unwrap_or cap.value usual_cap)) else None
 
 -- `[--deadline N] [--cap CAP] FILE ..`, with CAP from 1 to 65,536
 abbrev pub host_of : List (List ℕ) → Option Request
 host_of words =
-    option_and_then (λ (deadline : Taken). option_and_then (hosted_of deadline.value) (option_at (codes "--cap") 1 65536 deadline.rest)) (deadline_at words)
+    option_and_then (λ (deadline : Taken). option_and_then (hosted_of deadline.value) (option_at (codes "--cap") 1 most_host_cap deadline.rest)) (deadline_at words)
 
 -- the request of a command with this file and this many entries that a log may have
 abbrev pub capped_at : List ℕ → Asked × ℕ → Option Request

@@ -1,10 +1,12 @@
 // The words of a request.
 ghost use Rattle.std.specs.Prelude.{◌≡◌, ◌≤◌, IfSome, map, string_bytes};
-ghost use Rattle.std.specs.Option.{option_map, option_and_then};
-ghost use Rattle.cstn_words.specs.Requests.{number_within, value_at, option_at, deadline_at, cap_at, deadline_of, cap_of, asked_of, capped_of, capped_at, checked_of, drill_of, request_at};
+ghost use Rattle.std.specs.Option.{option_map, option_and_then, unwrap_or};
+ghost use Rattle.cstn_words.specs.Requests.{number_within, value_at, option_at, deadline_at, cap_at, deadline_of, cap_of};
+ghost use Rattle.cstn_words.specs.Requests.{asked_of, capped_of, capped_at, checked_of, drill_of, request_at};
 ghost use Rattle.cstn_words.specs.Requests.{hosted_of, host_of};
-ghost use Rattle.cstn_words.specs.Read.{the_asked, the_capped, the_taken, the_request, request_in, IsCapped};
+ghost use Rattle.cstn_words.specs.Read.{the_asked, the_capped, the_taken, the_request, request_in};
 
+use crate::{Cap, HostFiles};
 use cstn_text::read_number;
 
 /// `FILE [--deadline N]`: the file of a document, and the deadline in ticks that is to hold, if one is named.
@@ -19,31 +21,31 @@ pub struct Asked<'a> {
 pub enum Request<'a> {
     Check {
         asked: Asked<'a>,
-        cap: u32,
+        cap: Cap,
     },
     Run {
         asked: Asked<'a>,
-        cap: u32,
+        cap: Cap,
     },
     Edit {
         asked: Asked<'a>,
-        cap: u32,
+        cap: Cap,
     },
     Closed {
         asked: Asked<'a>,
-        cap: u32,
+        cap: Cap,
     },
     Tight {
         asked: Asked<'a>,
-        cap: u32,
+        cap: Cap,
     },
     Conflict {
         asked: Asked<'a>,
-        cap: u32,
+        cap: Cap,
     },
     Tree {
         asked: Asked<'a>,
-        cap: u32,
+        cap: Cap,
     },
     Save(Asked<'a>),
     Replay {
@@ -60,9 +62,9 @@ pub enum Request<'a> {
     },
     Drill(u64),
     Host {
-        files: &'a [String],
+        files: HostFiles<'a>,
         deadline: Option<u32>,
-        cap: u32,
+        cap: Cap,
     },
 }
 
@@ -86,7 +88,6 @@ const MAX_FILES: usize = 8;
 /// The request that the words are; none where they are no request.
 pub fn parse(words: &[String]) -> Option<Request<'_>>
     ensures request { option_map the_request result ≡ request_in words.now }
-    ensures capped { IfSome result IsCapped }
 {
     let [command, rest @ ..] = words else {
         return None;
@@ -97,7 +98,6 @@ pub fn parse(words: &[String]) -> Option<Request<'_>>
 // The request of a command with these words after it.
 fn request_at<'a>(command: &str, rest: &'a [String]) -> Option<Request<'a>>
     ensures request { option_map the_request result ≡ request_at command.now (map string_bytes rest.now) }
-    ensures capped { IfSome result IsCapped }
 {
     match command {
         "save" => Some(Request::Save(asked_of(rest)?)),
@@ -122,18 +122,14 @@ fn request_at<'a>(command: &str, rest: &'a [String]) -> Option<Request<'a>>
 // The request of a command that takes a file and a cap, by the words after it. A cap is how many entries a log may have.
 fn capped_request<'a>(command: &str, words: &'a [String]) -> Option<Request<'a>>
     ensures request { option_map the_request result ≡ option_and_then (capped_at command.now) (capped_of (map string_bytes words.now)) }
-    ensures capped { IfSome result IsCapped }
 {
     let (asked, cap) = capped_of(words)?;
     capped_at(command, asked, cap)
 }
 
 // The request of a command with this file and cap; none where the command takes no cap.
-fn capped_at<'a>(command: &str, asked: Asked<'a>, cap: u32) -> Option<Request<'a>>
-    requires some { 1 ≤ cap }
-    requires most { cap ≤ MAX_CAP }
-    ensures request { option_map the_request result ≡ capped_at command.now (the_asked asked.entry, cap) }
-    ensures capped { IfSome result IsCapped }
+fn capped_at<'a>(command: &str, asked: Asked<'a>, cap: Cap) -> Option<Request<'a>>
+    ensures request { option_map the_request result ≡ capped_at command.now (the_asked asked.entry, cap.entries) }
 {
     match command {
         "check" => Some(Request::Check { asked, cap }),
@@ -164,7 +160,6 @@ fn checked_of(words: &[String]) -> Option<(Asked<'_>, &str)>
 
 fn drill_of(words: &[String]) -> Option<Request<'_>>
     ensures request { option_map the_request result ≡ drill_of (map string_bytes words.now) }
-    ensures capped { IfSome result IsCapped }
 {
     let [number] = words else {
         return None;
@@ -175,7 +170,6 @@ fn drill_of(words: &[String]) -> Option<Request<'_>>
 // The request of a host, by its options and the files after them.
 fn host_of(words: &[String]) -> Option<Request<'_>>
     ensures request { option_map the_request result ≡ host_of (map string_bytes words.now) }
-    ensures capped { IfSome result IsCapped }
 {
     let (deadline, rest) = deadline_at(words)?;
     let taken = option_at(rest, "--cap", 1, MAX_HOST_CAP)?;
@@ -185,26 +179,18 @@ fn host_of(words: &[String]) -> Option<Request<'_>>
 // The request of a host with the files that stand after its options; none where they aren't 1 to 8.
 fn hosted_of<'a>(deadline: Option<u32>, taken: Taken<'a>) -> Option<Request<'a>>
     requires least { IfSome taken.value (λ n. 1 ≤ n) }
-    requires most { IfSome taken.value (λ n. n ≤ MAX_HOST_CAP) }
+    requires most { IfSome taken.value (λ n. n ≤ MAX_CAP) }
     ensures request { option_map the_request result ≡ hosted_of deadline (the_taken taken.entry) }
-    ensures capped { IfSome result IsCapped }
 {
-    let files = taken.rest;
-    if files.is_empty() || files.len() > MAX_FILES {
+    let names = taken.rest;
+    if names.is_empty() || names.len() > MAX_FILES {
         return None;
     }
-    match taken.value {
-        None => Some(Request::Host {
-            files,
-            deadline,
-            cap: USUAL_CAP,
-        }),
-        Some(n) => Some(Request::Host {
-            files,
-            deadline,
-            cap: n as u32,
-        }),
-    }
+    Some(Request::Host {
+        files: HostFiles { names },
+        deadline,
+        cap: cap_or_usual(taken.value),
+    })
 }
 
 fn asked_of(words: &[String]) -> Option<Asked<'_>>
@@ -221,10 +207,8 @@ fn asked_of(words: &[String]) -> Option<Asked<'_>>
 }
 
 // A file with its deadline, and how many entries its log may have.
-fn capped_of(words: &[String]) -> Option<(Asked<'_>, u32)>
+fn capped_of(words: &[String]) -> Option<(Asked<'_>, Cap)>
     ensures capped { option_map the_capped result ≡ capped_of (map string_bytes words.now) }
-    ensures some { IfSome result (λ found. 1 ≤ found.1) }
-    ensures most { IfSome result (λ found. found.1 ≤ MAX_CAP) }
 {
     let [file, rest @ ..] = words else {
         return None;
@@ -261,18 +245,25 @@ fn deadline_at(words: &[String]) -> Option<(Option<u32>, &[String])>
 }
 
 // The cap of words that are `[--cap CAP]` and no more, 65,536 where it isn't there; none for other words.
-fn cap_of(words: &[String]) -> Option<u32>
-    ensures cap { result ≡ cap_of (map string_bytes words.now) }
-    ensures some { IfSome result (λ cap. 1 ≤ cap) }
-    ensures most { IfSome result (λ cap. cap ≤ MAX_CAP) }
+fn cap_of(words: &[String]) -> Option<Cap>
+    ensures cap { option_map (λ cap. cap.entries) result ≡ cap_of (map string_bytes words.now) }
 {
     let taken = option_at(words, "--cap", 1, MAX_CAP)?;
     if !taken.rest.is_empty() {
         return None;
     }
-    match taken.value {
-        None => Some(USUAL_CAP),
-        Some(n) => Some(n as u32),
+    Some(cap_or_usual(taken.value))
+}
+
+// The cap of an option, and the usual one where none is named.
+fn cap_or_usual(value: Option<u64>) -> Cap
+    requires some { IfSome value (λ n. 1 ≤ n) }
+    requires most { IfSome value (λ n. n ≤ MAX_CAP) }
+    ensures cap { result.entries ≡ unwrap_or value USUAL_CAP }
+{
+    match value {
+        None => Cap { entries: USUAL_CAP },
+        Some(n) => Cap { entries: n as u32 },
     }
 }
 

@@ -23,6 +23,7 @@ use Rattle.cstn_graphml.specs.Networks.{labelled_of}
 use Rattle.cstn_top.proofs.Proved.{IsRight, IsProved, no_evidence}
 use Rattle.cstn_top.proofs.Meanings.{text_silent}
 use Rattle.cstn_top.proofs.SomeOutput.{text_some, certified_some, document_some}
+use Rattle.cstn_documents.specs.Limits.{most_text}
 
 -- what the outcome of a check of bounds tells of a network
 abbrev Certifies : ToldBounds → Network → Outcome → Type 0
@@ -43,7 +44,7 @@ bounds_tell names (tells_bounds load bounds) net live said good (inr found) =
     subst (λ (o : Outcome). Certifies (tells_bounds load bounds) net o) (sym (ap (λ (s : Said). s.outcome) found.2)) (found.0, found.1)
 
 certificate_tells : (text : List ℕ) (names : List (List ℕ)) (net : Network) (live : List ℕ) (said : Said) → IsWellFormed net → IsOutput (by_text certified text names net) live said → Certifies (told_bounds names text) net said.outcome
-certificate_tells text names net live said good is = by_length (nat_lt 1476395008 (length text)) is
+certificate_tells text names net live said good is = by_length (nat_lt most_text (length text)) is
   where
     by_length : (long : Bool) → IsOutput (if long then says (say Script (codes "script long")) else certified text names net) live said → Certifies (told_bounds names text) net said.outcome
     by_length true is = subst (λ (o : Outcome). Certifies (told_bounds names text) net o) (sym (ap (λ (s : Said). s.outcome) is)) tt

@@ -34,6 +34,7 @@ use Rattle.cstn_top.proofs.Dispatched.{IsEnded}
 use Rattle.cstn_top.proofs.Proved.{IsRight, IsProved, no_evidence}
 use Rattle.cstn_top.proofs.Meanings.{network_then, on_network, none_such}
 use Rattle.cstn_top.proofs.SomeOutput.{plain_some}
+use Rattle.cstn_documents.specs.Limits.{most_constraints}
 
 edit_right : (live : Option (List ℕ)) (asked : Asked) (cap : ℕ) (contents : List (List ℕ)) (o : Outcome) → HasNetwork (get_or contents 0 []) asked.deadline (EditTells live cap o) → IsRight live o (edit asked cap) contents
 edit_right live asked cap contents Good has = has
@@ -52,7 +53,7 @@ edit_is e (Some refusal) text next Unread = tt
 add_is : (e : Editing) (from to : List ℕ) (most : _) (a : Label) (x y : Option ℕ) (Unread : Type 0) → TurnIs Unread (λ outcome. ⊥) (answered_add e from to most a x y)
 add_is e from to most a None y Unread = tt
 add_is e from to most a (Some x) None Unread = tt
-add_is e from to most a (Some x) (Some y) Unread = edit_is e (add_refusal 16384 e.session most a) _ (with_added e.session x y most a) Unread
+add_is e from to most a (Some x) (Some y) Unread = edit_is e (add_refusal most_constraints e.session most a) _ (with_added e.session x y most a) Unread
 
 answer_is : (e : Editing) (o : Option Edit) → TurnIs (o ≡ None) (λ outcome. ⊥) (answered e o)
 answer_is e None = refl

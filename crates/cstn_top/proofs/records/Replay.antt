@@ -25,11 +25,12 @@ use Rattle.cstn_graphml.specs.Networks.{labelled_of}
 use Rattle.cstn_top.proofs.Proved.{IsRight, IsProved, no_evidence}
 use Rattle.cstn_top.proofs.Meanings.{text_silent}
 use Rattle.cstn_top.proofs.SomeOutput.{text_some, replayed_some, document_some}
+use Rattle.cstn_documents.specs.Limits.{most_text}
 
 -- what the outcome of a replay tells of a text and a network
 abbrev Replays : List ℕ → ToldText → Network → Outcome → Type 0
-Replays text told net Good = (length text ≤ 1476395008) × IsRefutedBy told net × (IsConsistent net → ⊥)
-Replays text told net Bad = (length text ≤ 1476395008) × IsNoRefutation told net
+Replays text told net Good = (length text ≤ most_text) × IsRefutedBy told net × (IsConsistent net → ⊥)
+Replays text told net Bad = (length text ≤ most_text) × IsNoRefutation told net
 Replays text told net Script = IsOffGrammar text told
 Replays text told net Words = ⊥
 Replays text told net Document = ⊥
@@ -37,19 +38,19 @@ Replays text told net Full = ⊥
 Replays text told net Unfinished = ⊥
 Replays text told net Wide = ⊥
 
-steps_tell : (text : List ℕ) (told : ToldText) (net : Network) (live : List ℕ) (said : Said) → length text ≤ 1476395008 → IsWellFormed net → IsOutput (replayed_steps told net) live said → Replays text told net said.outcome
+steps_tell : (text : List ℕ) (told : ToldText) (net : Network) (live : List ℕ) (said : Said) → length text ≤ most_text → IsWellFormed net → IsOutput (replayed_steps told net) live said → Replays text told net said.outcome
 steps_tell text (wrong_text at) net live said short good is = subst (λ (o : Outcome). Replays text (wrong_text at) net o) (sym (ap (λ (s : Said). s.outcome) is)) tt
 steps_tell text (tells load steps) net live said short good (inl found) =
     subst (λ (o : Outcome). Replays text (tells load steps) net o) (sym (ap (λ (s : Said). s.outcome) found.1)) (short, found.0, refuted_inconsistent net steps good.network found.0)
 steps_tell text (tells load steps) net live said short good (inr found) =
     subst (λ (o : Outcome). Replays text (tells load steps) net o) (sym (ap (λ (s : Said). s.outcome) found.2)) (short, no_refutation net steps found.0 found.1)
 
-long_off : (text : List ℕ) (told : ToldText) → 1476395008 < length text → IsOffGrammar text told
+long_off : (text : List ℕ) (told : ToldText) → most_text < length text → IsOffGrammar text told
 long_off text (tells load steps) long = long
 long_off text (wrong_text at) long = tt
 
 replay_tells : (text : List ℕ) (names : List (List ℕ)) (net : Network) (live : List ℕ) (said : Said) → IsWellFormed net → IsOutput (by_text replayed text names net) live said → Replays text (told_by names text) net said.outcome
-replay_tells text names net live said good is = by_length (nat_lt 1476395008 (length text)) refl is
+replay_tells text names net live said good is = by_length (nat_lt most_text (length text)) refl is
   where
     above : (n m : ℕ) → nat_lt n m ≡ true → n < m
     above n m is' = grind arith
@@ -57,14 +58,14 @@ replay_tells text names net live said good is = by_length (nat_lt 1476395008 (le
     below : (n m : ℕ) → nat_lt n m ≡ false → m ≤ n
     below n m is' = grind arith
 
-    by_length : (long : Bool) → nat_lt 1476395008 (length text) ≡ long → IsOutput (if long then says (say Script (codes "script long")) else replayed text names net) live said → Replays text (told_by names text) net said.outcome
-    by_length true over is' = subst (λ (o : Outcome). Replays text (told_by names text) net o) (sym (ap (λ (s : Said). s.outcome) is')) (long_off text (told_by names text) (above 1476395008 (length text) over))
-    by_length false over is' = steps_tell text (told_by names text) net live said (below 1476395008 (length text) over) good is'
+    by_length : (long : Bool) → nat_lt most_text (length text) ≡ long → IsOutput (if long then says (say Script (codes "script long")) else replayed text names net) live said → Replays text (told_by names text) net said.outcome
+    by_length true over is' = subst (λ (o : Outcome). Replays text (told_by names text) net o) (sym (ap (λ (s : Said). s.outcome) is')) (long_off text (told_by names text) (above most_text (length text) over))
+    by_length false over is' = steps_tell text (told_by names text) net live said (below most_text (length text) over) good is'
 
 -- what the outcome of a replay on the network that a labelled one is lowered to tells of the labelled one
 abbrev ReplaysLabelled : List ℕ → ToldText → Labelled → Outcome → Type 0
-ReplaysLabelled text told m Good = (length text ≤ 1476395008) × IsRefutedBy told (lowered m) × (IsLabelledConsistent m → ⊥)
-ReplaysLabelled text told m Bad = (length text ≤ 1476395008) × IsNoRefutation told (lowered m)
+ReplaysLabelled text told m Good = (length text ≤ most_text) × IsRefutedBy told (lowered m) × (IsLabelledConsistent m → ⊥)
+ReplaysLabelled text told m Bad = (length text ≤ most_text) × IsNoRefutation told (lowered m)
 ReplaysLabelled text told m Script = IsOffGrammar text told
 ReplaysLabelled text told m Words = ⊥
 ReplaysLabelled text told m Document = ⊥

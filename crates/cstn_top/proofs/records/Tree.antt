@@ -23,6 +23,8 @@ use Rattle.cstn_top.proofs.Proved.{IsRight, IsProved}
 use Rattle.cstn_top.proofs.Meanings.{network_then, on_network, none_such, never_talks}
 use Rattle.cstn_top.proofs.Accepted.{plan_stands, network_shown}
 use Rattle.cstn_top.proofs.SomeOutput.{unfolded_some, plain_some}
+use Rattle.cstn_words.specs.Limits.{most_cap}
+use Rattle.cstn_top.specs.Limits.{most_observed}
 
 tree_right : (live : Option (List ℕ)) (asked : Asked) (cap : ℕ) (contents : List (List ℕ)) (o : Outcome) → HasNetwork (get_or contents 0 []) asked.deadline (λ names net. Unfolds cap names net o) → IsRight live o (tree asked cap) contents
 tree_right live asked cap contents Good has = has
@@ -34,9 +36,9 @@ tree_right live asked cap contents Unfinished has = tt
 tree_right live asked cap contents Script has = tt
 tree_right live asked cap contents Wide has = has
 
-tree_stands : NoAccepted → (cap : ℕ) (names : List (List ℕ)) (net : Network) (live : List ℕ) (said : Said) → IsOfDocument names net → cap ≤ 4194304 →
+tree_stands : NoAccepted → (cap : ℕ) (names : List (List ℕ)) (net : Network) (live : List ℕ) (said : Said) → IsOfDocument names net → cap ≤ most_cap →
     IsOutput (unfolded cap names net) live said → StandsFor (IsTreeProof names net) (IsNoText names net) said
-tree_stands no_text cap names net live said of capped output = by_width (nat_lt 10 (observed net)) output
+tree_stands no_text cap names net live said of capped output = by_width (nat_lt most_observed (observed net)) output
   where
     after_yes : Plan
     after_yes = branches names (load_of net) (live_bounds (log_of net)) net

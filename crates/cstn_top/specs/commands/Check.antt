@@ -15,6 +15,7 @@ use Rattle.cstn_top.specs.Answers.{Answer, of_lowered, on_labelled, on_verdict}
 use Rattle.cstn_top.specs.Accepted.{IsNoText}
 use Rattle.cstn_top.specs.Verdicts.{IsLabelledYes, IsLabelledNo, IsLabelledDecided}
 use Rattle.cstn_top.specs.Command.{Command, a_text, Nothing, file_in, no_lines}
+use Rattle.cstn_words.specs.Limits.{most_cap}
 
 -- what `check` says of a network
 abbrev pub checked : ℕ → Answer
@@ -37,6 +38,6 @@ check_command asked cap = record {
   bad_text = λ text contents. HasLabelled (file_in contents) asked.deadline (λ names m. IsNoText names (lowered m) text);
   refused = λ told contents. AreThere told (asked.file ∷ []);
   lines = no_lines;
-  ranged = cap ≤ 4194304;
+  ranged = cap ≤ most_cap;
   held = λ contents. CanBeHeld (file_in contents) asked.deadline;
 }

@@ -1,11 +1,13 @@
 -- `closed FILE [--deadline N] [--cap CAP]`: the bounds that a yes rests on.
-use Rattle.std.specs.Prelude.{◌≡◌, ◌⊎◌, ◌≤◌, ◌<◌, ℕ, [], ◌∷◌}
+use Rattle.std.specs.Prelude.{◌≡◌, ◌⊎◌, ◌≤◌, ◌<◌, ℕ, List, [], ◌∷◌}
+use Rattle.cstn_net.specs.Networks.{Network}
 use Rattle.cstn_lift.specs.Lowered.{lowered}
 use Rattle.cstn_check.specs.Growth.{log_of, load_of, live_bounds}
 use Rattle.cstn_check.specs.Decisions.{verdict}
 use Rattle.cstn_closed.specs.Texts.{shown}
 use Rattle.cstn_graphml.specs.Answers.{CanBeHeld}
 use Rattle.cstn_words.specs.Requests.{Asked}
+use Rattle.cstn_reply.specs.Texts.{Said}
 use Rattle.cstn_reply.specs.declared.output.Outcome.TheVariants.{Good}
 use Rattle.cstn_reply.specs.declared.status.Status.TheVariants.{Document}
 use Rattle.cstn_documents.specs.Files.{AreThere}
@@ -15,11 +17,15 @@ use Rattle.cstn_top.specs.Answers.{Answer, of_lowered, on_labelled, on_verdict}
 use Rattle.cstn_top.specs.Accepted.{IsYesText, IsNoText}
 use Rattle.cstn_top.specs.Verdicts.{IsLabelledYes, IsLabelledNo, IsLabelledDecided, IsListed}
 use Rattle.cstn_top.specs.Command.{Command, a_text, file_in, no_lines}
+use Rattle.cstn_words.specs.Limits.{most_cap}
 
--- what `closed` says of a network: after yes the load, and the bounds of the live entries of its log
+-- the load of a network, and the bounds of the live entries of its log
+abbrev pub bounds_said : List (List ℕ) → Network → Said
+bounds_said names net = record { outcome = Good; text = shown names (load_of net) (live_bounds (log_of net)) }
+
+-- what `closed` says of a network: these after yes
 abbrev pub listed : ℕ → Answer
-listed cap names net =
-    on_verdict cap names net (says (record { outcome = Good; text = shown names (load_of net) (live_bounds (log_of net)) })) (verdict cap net)
+listed cap names net = on_verdict cap names net (says (bounds_said names net)) (verdict cap net)
 
 abbrev pub closed_command : Asked → ℕ → Command
 closed_command asked cap = record {
@@ -38,6 +44,6 @@ closed_command asked cap = record {
   bad_text = λ text contents. HasLabelled (file_in contents) asked.deadline (λ names m. IsNoText names (lowered m) text);
   refused = λ told contents. AreThere told (asked.file ∷ []);
   lines = no_lines;
-  ranged = cap ≤ 4194304;
+  ranged = cap ≤ most_cap;
   held = λ contents. CanBeHeld (file_in contents) asked.deadline;
 }

@@ -15,6 +15,7 @@ use Rattle.cstn_top.specs.Answers.{Answer, on_document}
 use Rattle.cstn_top.specs.Accepted.{IsNoText}
 use Rattle.cstn_top.specs.Verdicts.{IsRefutedByLog}
 use Rattle.cstn_top.specs.Command.{Command, a_text, Nothing, file_in, no_lines}
+use Rattle.cstn_words.specs.Limits.{most_cap}
 
 -- what `conflict` says of a network
 abbrev pub blamed : ℕ → Answer
@@ -49,6 +50,6 @@ conflict_command asked cap = record {
   bad_text = λ text contents. HasNetwork (file_in contents) asked.deadline (λ names net. IsConflictText names net text);
   refused = λ told contents. AreThere told (asked.file ∷ []);
   lines = no_lines;
-  ranged = cap ≤ 4194304;
+  ranged = cap ≤ most_cap;
   held = λ contents. CanBeHeld (file_in contents) asked.deadline;
 }

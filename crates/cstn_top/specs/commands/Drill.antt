@@ -48,9 +48,13 @@ verdict_text cap (Yes load) = codes "yes " ++ decimal load
 verdict_text cap (No load) = codes "no " ++ decimal load
 verdict_text cap Full = codes "full " ++ decimal cap
 
+-- the cap of the large network
+abbrev pub large_cap : ℕ
+large_cap = 16384
+
 -- the line of the large network
 abbrev pub large_line : Verdict → List ℕ
-large_line v = line (codes "large 48 " ++ verdict_text 16384 v)
+large_line v = line (codes "large 48 " ++ verdict_text large_cap v)
 
 -- `AreConsistent number n k`: of the first n small networks from the number on, k are consistent.
 pub data AreConsistent (number : ℕ) : ℕ → ℕ → Type 0 where
@@ -61,7 +65,7 @@ pub data AreConsistent (number : ℕ) : ℕ → ℕ → Type 0 where
 -- what the drill of a number says: the counts of 64 small networks, and the verdict on the large one
 abbrev pub drilled : ℕ → Said
 drilled number =
-    record { outcome = Good; text = small_line (counts_of number 64) ++ large_line (verdict 16384 (large number)) }
+    record { outcome = Good; text = small_line (counts_of number 64) ++ large_line (verdict large_cap (large number)) }
 
 abbrev pub drill_command : ℕ → Command
 drill_command number = record {

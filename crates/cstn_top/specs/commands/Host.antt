@@ -13,6 +13,7 @@ use Rattle.cstn_top.specs.Plans.{Plan, session}
 use Rattle.cstn_top.specs.Answers.{on_document, on_verdict}
 use Rattle.cstn_top.specs.Accepted.{IsNoText}
 use Rattle.cstn_top.specs.Command.{Command, a_host, Nothing}
+use Rattle.cstn_words.specs.Limits.{most_cap}
 
 -- what is said of files with these contents, whose documents are read one after another: the refusal of the first document that
 -- is refused, or `answer` of all networks
@@ -71,6 +72,6 @@ host_command files deadline cap = record {
     unfinished = λ live old new contents. Nothing;
     ended = λ status live old new contents. Nothing;
   };
-  ranged = cap ≤ 4194304;
+  ranged = cap ≤ most_cap;
   held = λ contents. All (λ bytes. CanBeHeld bytes deadline) contents;
 }

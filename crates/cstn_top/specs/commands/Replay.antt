@@ -15,6 +15,7 @@ use Rattle.cstn_documents.specs.Documents.{HasLabelled, IsNoDocument}
 use Rattle.cstn_top.specs.Plans.{Plan, says, replays}
 use Rattle.cstn_top.specs.Answers.{Answer, of_lowered, on_labelled, by_text}
 use Rattle.cstn_top.specs.Command.{Command, a_text, Nothing, file_in, proof_in, no_lines}
+use Rattle.cstn_documents.specs.Limits.{most_text}
 
 -- the steps of a text are replayed
 abbrev pub replayed_steps : Told → Network → Plan
@@ -37,7 +38,7 @@ IsNoRefutation (wrong at) net = ⊥
 
 -- the text has more than 1,476,395,008 bytes, or a line that is of no grammar
 abbrev pub IsOffGrammar : List ℕ → Told → Type 0
-IsOffGrammar text (tells load steps) = 1476395008 < length text
+IsOffGrammar text (tells load steps) = most_text < length text
 IsOffGrammar text (wrong at) = Unit {0}
 
 -- a text is replayed on a network: Good where its steps are a refutation, Bad where they are none, and Script where the text is
@@ -45,7 +46,7 @@ IsOffGrammar text (wrong at) = Unit {0}
 abbrev pub IsReplayed : List ℕ → Told → Network → Status → Type 0
 IsReplayed text told net status =
     ((status ≡ Script) × IsOffGrammar text told)
-    ⊎ ((length text ≤ 1476395008) × (((status ≡ Good) × IsRefutedBy told net) ⊎ ((status ≡ Bad) × IsNoRefutation told net)))
+    ⊎ ((length text ≤ most_text) × (((status ≡ Good) × IsRefutedBy told net) ⊎ ((status ≡ Bad) × IsNoRefutation told net)))
 
 abbrev pub replay_command : Asked → Command
 replay_command asked = record {

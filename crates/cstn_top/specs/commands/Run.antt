@@ -29,6 +29,7 @@ use Rattle.cstn_top.specs.Accepted.{IsNoText}
 use Rattle.cstn_top.specs.Verdicts.{IsLabelledYes, IsLabelledNo}
 use Rattle.cstn_top.specs.Lines.{AreAnswered, StopsAtLine}
 use Rattle.cstn_top.specs.Command.{Command, a_run, Nothing, file_in}
+use Rattle.cstn_words.specs.Limits.{most_cap}
 
 -- what `run` says of a labelled network: after yes the answers to the live lines, by the bounds of the live entries of its log
 abbrev pub carried_out : ℕ → LabelledAnswer
@@ -116,6 +117,6 @@ run_command asked cap = record {
         ((status ≡ Document) × IsNoDocument (file_in contents) asked.deadline)
         ⊎ HasLabelled (file_in contents) asked.deadline (λ names m. IsDecidedRun cap live old new status names m);
   };
-  ranged = cap ≤ 4194304;
+  ranged = cap ≤ most_cap;
   held = λ contents. CanBeHeld (file_in contents) asked.deadline;
 }

@@ -18,17 +18,20 @@ use Rattle.cstn_top.specs.Accepted.{IsAccepted, IsNoText}
 use Rattle.cstn_top.specs.Verdicts.{IsDecided}
 use Rattle.cstn_top.specs.Command.{Command, a_text, file_in, no_lines}
 use Rattle.cstn_top.specs.commands.Treecheck.{tree_checked}
+use Rattle.cstn_words.specs.Limits.{most_cap}
+use Rattle.cstn_documents.specs.Limits.{most_text}
+use Rattle.cstn_top.specs.Limits.{most_observed}
 
 -- what `tree` says of a network: how many propositions are observed, where they are more than 10; and else after yes the load,
 -- and the tree of what the executive does by the bounds of the live entries of the log
 abbrev pub unfolded : ℕ → Answer
 unfolded cap names net =
-    if nat_lt 10 (observed net) then says (wide_line net)
+    if nat_lt most_observed (observed net) then says (wide_line net)
     else on_verdict cap names net (branches names (load_of net) (live_bounds (log_of net)) net) (verdict cap net)
 
 -- no more propositions are observed than a tree is made for
 abbrev pub IsNarrow : Network → Type 0
-IsNarrow net = observed net ≤ 10
+IsNarrow net = observed net ≤ most_observed
 
 -- a tree is said of a yes, by the bounds of the live entries of the log, and `treecheck` accepts its text
 pub record HasTree (names : List (List ℕ)) (net : Network) : Type 0 where
@@ -38,11 +41,11 @@ pub record HasTree (names : List (List ℕ)) (net : Network) : Type 0 where
 
 -- `treecheck` of the network accepts the text, unless it has more bytes than it takes
 abbrev pub IsTreeProof : List (List ℕ) → Network → List ℕ → Type 0
-IsTreeProof names net text = length text ≤ 1476395008 → IsAccepted (by_text tree_checked text names net)
+IsTreeProof names net text = length text ≤ most_text → IsAccepted (by_text tree_checked text names net)
 
 -- Wide comes where more than 10 propositions are observed, and else the network is decided
 abbrev pub IsDecidedTree : ℕ → Network → Status → Type 0
-IsDecidedTree cap net status = ((status ≡ Wide) × (10 < observed net)) ⊎ (IsNarrow net × IsDecided cap net status)
+IsDecidedTree cap net status = ((status ≡ Wide) × (most_observed < observed net)) ⊎ (IsNarrow net × IsDecided cap net status)
 
 abbrev pub tree_command : Asked → ℕ → Command
 tree_command asked cap = record {
@@ -52,7 +55,7 @@ tree_command asked cap = record {
   good = λ live contents. HasNetwork (file_in contents) asked.deadline (λ names net. IsNarrow net × IsYes cap net × HasTree names net);
   bad = λ live contents. HasNetwork (file_in contents) asked.deadline (λ names net. IsNarrow net × IsNo cap net);
   full = λ live contents. HasNetwork (file_in contents) asked.deadline (λ names net. IsNarrow net × (cap < load_of net));
-  wide = λ contents. HasNetwork (file_in contents) asked.deadline (λ names net. 10 < observed net);
+  wide = λ contents. HasNetwork (file_in contents) asked.deadline (λ names net. most_observed < observed net);
   -- the document is refused, or its network is too wide or decided
   complete = λ status contents.
       ((status ≡ Document) × IsRefused (file_in contents) asked.deadline)
@@ -61,6 +64,6 @@ tree_command asked cap = record {
   bad_text = λ text contents. HasNetwork (file_in contents) asked.deadline (λ names net. IsNoText names net text);
   refused = λ told contents. AreThere told (asked.file ∷ []);
   lines = no_lines;
-  ranged = cap ≤ 4194304;
+  ranged = cap ≤ most_cap;
   held = λ contents. CanBeHeld (file_in contents) asked.deadline;
 }

@@ -12,6 +12,8 @@ ghost use Rattle.cstn_top.specs.commands.Host.{attended};
 ghost use Rattle.cstn_top.specs.Plans.{ComesTo};
 ghost use Rattle.cstn_top.specs.Prepared.{the_plan, FitsKind};
 ghost use Rattle.cstn_top.specs.Command.{a_host};
+ghost use Rattle.cstn_words.specs.Limits.{most_files};
+ghost use Rattle.cstn_documents.specs.Limits.{most_time_points};
 
 use super::Prepared;
 use cstn_check::{Judged, judge, yes_line};
@@ -20,6 +22,7 @@ use cstn_exec::print_names;
 use cstn_host::HostSession;
 use cstn_log::SoundPlan;
 use cstn_text::Names;
+use cstn_words::Cap;
 use std::alloc::{AllocError, Global};
 
 // The lines that say yes, the plans and the printed names of the networks that were checked so far.
@@ -40,7 +43,7 @@ impl Begun {
         names: &Names,
     ) -> Result<(), AllocError>
         requires named { length names.now ≡ count (the_network plan.net) }
-        requires few { count (the_network plan.net) ≤ 1024 }
+        requires few { count (the_network plan.net) ≤ most_time_points }
         ensures opening { OnOk result (self.new.opening.items ≡ self.old.opening.items ++ yes_line load) }
         ensures plans { OnOk result (self.new.plans.items ≡ self.old.plans.items ++ plan ∷ []) }
         ensures names { OnOk result (the_names self.new.names.items ≡ the_names self.old.names.items ++ map printed_name names.now ∷ []) }
@@ -60,14 +63,12 @@ impl Begun {
 pub(crate) fn host_session(
     alloc: Global,
     documents: Vec<NamedNetwork>,
-    cap: u32,
+    cap: Cap,
 ) -> Result<Prepared, AllocError>
     requires some_documents { 1 ≤ length documents.items }
-    requires few_documents { length documents.items ≤ 8 }
+    requires few_documents { length documents.items ≤ most_files }
     requires sound { All IsSound documents.items }
-    requires some { 1 ≤ cap }
-    requires most { cap ≤ 65536 }
-    ensures comes { IfOk result (λ prepared. ComesTo (attended cap (map the_named documents.items)) (the_plan prepared)) }
+    ensures comes { IfOk result (λ prepared. ComesTo (attended cap.entries (map the_named documents.items)) (the_plan prepared)) }
     ensures fits { IfOk result (FitsKind a_host) }
 {
     let mut begun = Begun {
@@ -77,7 +78,7 @@ pub(crate) fn host_session(
     };
     for document in documents {
         let NamedNetwork { network, names } = document;
-        match judge(alloc, network, &names, cap)? {
+        match judge(alloc, network, &names, cap.entries)? {
             Judged::Yes { load, check } => {
                 begun.add(alloc, load, check.into_plan(), &names)?;
             }
@@ -90,7 +91,7 @@ pub(crate) fn host_session(
 // The ward of the plans, with no id open, after the lines that say yes.
 fn begin(alloc: Global, begun: Begun) -> Result<Prepared, AllocError>
     requires some { 1 ≤ length begun.plans.items }
-    requires few { length begun.plans.items ≤ 8 }
+    requires few { length begun.plans.items ≤ most_files }
     requires named { IsHostSession begun.plans.items (the_names begun.names.items) }
     ensures begins { IfOk result (IsBegin begun) }
 {

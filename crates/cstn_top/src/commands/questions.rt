@@ -4,7 +4,7 @@ ghost use Rattle.std.specs.List.{list_all};
 ghost use Rattle.cstn_io.specs.Causes.{Rose};
 ghost use Rattle.cstn_reply.specs.declared.output.Said.{Said as SaidText};
 ghost use Rattle.cstn_words.specs.Requests.{files_of};
-ghost use Rattle.cstn_words.specs.Read.{the_request, IsCapped};
+ghost use Rattle.cstn_words.specs.Read.{the_request};
 ghost use Rattle.cstn_top.specs.Questions.{Asks, TellsInstead, IsSoundQuestion, kind_of, kind_at};
 
 use super::several::open_all;
@@ -12,7 +12,7 @@ use cstn_documents::{
     NamedLabelled, NamedNetwork, Unread, open, open_labelled, open_lowered, read_text,
 };
 use cstn_io::Shelf;
-use cstn_words::Request;
+use cstn_words::{Cap, Request};
 use std::alloc::Global;
 
 /// A request with what was read of its files. A network is that of a document without labels on its time-points, or the one that
@@ -21,31 +21,31 @@ use std::alloc::Global;
 pub(crate) enum Question {
     Check {
         document: NamedNetwork,
-        cap: u32,
+        cap: Cap,
     },
     Closed {
         document: NamedNetwork,
-        cap: u32,
+        cap: Cap,
     },
     Tight {
         document: NamedNetwork,
-        cap: u32,
+        cap: Cap,
     },
     Conflict {
         document: NamedNetwork,
-        cap: u32,
+        cap: Cap,
     },
     Tree {
         document: NamedNetwork,
-        cap: u32,
+        cap: Cap,
     },
     Edit {
         document: NamedNetwork,
-        cap: u32,
+        cap: Cap,
     },
     Run {
         document: NamedLabelled,
-        cap: u32,
+        cap: Cap,
     },
     Save(NamedLabelled),
     Replay {
@@ -63,7 +63,7 @@ pub(crate) enum Question {
     Drill(u64),
     Host {
         documents: Vec<NamedNetwork>,
-        cap: u32,
+        cap: Cap,
     },
 }
 
@@ -75,7 +75,6 @@ pub(crate) fn ask<F: Shelf>(
     shelf: &mut F,
 ) -> Result<Question, Unread>
     requires may_ask { IsTrue (list_all (F.may_ask shelf.old) (files_of (the_request request))) }
-    requires capped { IsCapped request }
     ensures asks { IfOk result (Asks (the_request request.entry) (F.files shelf.old)) }
     ensures sound { IfOk result IsSoundQuestion }
     ensures kind { IfOk result (λ question. kind_of question ≡ kind_at (the_request request.entry)) }
@@ -140,7 +139,7 @@ pub(crate) fn ask<F: Shelf>(
             deadline,
             cap,
         } => {
-            let documents = open_all(alloc, files, deadline, shelf)?;
+            let documents = open_all(alloc, files.names, deadline, shelf)?;
             Ok(Question::Host { documents, cap })
         }
     }

@@ -11,6 +11,7 @@ ghost use Rattle.cstn_top.specs.Plans.{ComesTo};
 ghost use Rattle.cstn_top.specs.Prepared.{the_plan, FitsKind};
 ghost use Rattle.cstn_top.specs.Command.{a_run};
 ghost use Rattle.cstn_top.specs.commands.Run.{carried_out};
+ghost use Rattle.cstn_documents.specs.Limits.{most_time_points};
 
 use super::Prepared;
 use cstn_check::{Check, Judged, judge, yes_line};
@@ -18,6 +19,7 @@ use cstn_exec::Guide;
 use cstn_lift::{Labelled, Labels};
 use cstn_run::RunSession;
 use cstn_text::Names;
+use cstn_words::Cap;
 use std::alloc::{AllocError, Global};
 
 /// What is said of a labelled network: the verdict on the network that it is lowered to, and after yes the session that carries
@@ -26,16 +28,14 @@ pub(crate) fn run_session(
     alloc: Global,
     labelled: Labelled,
     names: &Names,
-    cap: u32,
+    cap: Cap,
 ) -> Result<Prepared, AllocError>
-    requires some { 1 ≤ cap }
-    requires most { cap ≤ 4194304 }
     requires named { length names.now ≡ count (the_network labelled.base) }
-    ensures comes { IfOk result (λ prepared. ComesTo (carried_out cap names.now (the_labelled labelled)) (the_plan prepared)) }
+    ensures comes { IfOk result (λ prepared. ComesTo (carried_out cap.entries names.now (the_labelled labelled)) (the_plan prepared)) }
     ensures fits { IfOk result (FitsKind a_run) }
 {
     let (network, labels) = labelled.split();
-    match judge(alloc, network, names, cap)? {
+    match judge(alloc, network, names, cap.entries)? {
         Judged::Yes { load, check } => begin(alloc, load, check, labels, names, cap),
         Judged::Told(said) => Ok(Prepared::Says(said)),
     }
@@ -48,15 +48,15 @@ fn begin(
     check: Check,
     labels: Labels,
     names: &Names,
-    cap: u32,
+    cap: Cap,
 ) -> Result<Prepared, AllocError>
     requires yes { (load : ℕ) × (check.verdict ≡ Some (Yes load)) }
     requires lowered { the_network check.net ≡ lowered (the_labelled labels) }
-    requires verdict { verdict cap (the_network check.net) ≡ Yes (load_of (the_network check.net)) }
+    requires verdict { verdict cap.entries (the_network check.net) ≡ Yes (load_of (the_network check.net)) }
     requires load { load ≡ load_of (the_network check.net) }
     requires named { length names.now ≡ count (the_network labels.base) }
-    requires few { length names.now ≤ 1024 }
-    ensures comes { IfOk result (λ prepared. ComesTo (carried_out cap names.now (the_labelled labels)) (the_plan prepared)) }
+    requires few { length names.now ≤ most_time_points }
+    ensures comes { IfOk result (λ prepared. ComesTo (carried_out cap.entries names.now (the_labelled labels)) (the_plan prepared)) }
     ensures fits { IfOk result (FitsKind a_run) }
 {
     let opening = yes_line(alloc, load)?;

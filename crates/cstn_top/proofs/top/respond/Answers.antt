@@ -53,10 +53,10 @@ returns-in-Ok-clause-memory g c = λ is.
     memory_is _ (the_request c.in-Some.request) (g.F.Shelf.files c.args.shelf.now) (g.S.Source.left c.args.live.now) c.in-Ok.prepared _ c.in-Some.ensures.request c.in-Ok.ensures.plan c.in-Ok.ensures.fits (c.speak.ensures.memory is)
 
 pub returns-in-Ok-clause-ranged : goal.returns-in-Ok-clause-ranged
-returns-in-Ok-clause-ranged g c = ranged_as _ c.in-Some.request c.in-Some.ensures.request c.in-Some.ensures.capped
+returns-in-Ok-clause-ranged g c = ranged_as _ c.in-Some.request c.in-Some.ensures.request
 
 pub returns-in-Err-ReadFault-clause-ranged : goal.returns-in-Err-ReadFault-clause-ranged
-returns-in-Err-ReadFault-clause-ranged g c = ranged_as _ c.in-Some.request c.in-Some.ensures.request c.in-Some.ensures.capped
+returns-in-Err-ReadFault-clause-ranged g c = ranged_as _ c.in-Some.request c.in-Some.ensures.request
 
 pub returns-in-Err-Memory-clause-ranged : goal.returns-in-Err-Memory-clause-ranged
-returns-in-Err-Memory-clause-ranged g c = ranged_as _ c.in-Some.request c.in-Some.ensures.request c.in-Some.ensures.capped
+returns-in-Err-Memory-clause-ranged g c = ranged_as _ c.in-Some.request c.in-Some.ensures.request

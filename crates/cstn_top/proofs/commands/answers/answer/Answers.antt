@@ -31,32 +31,32 @@ use Rattle.cstn_top.proofs.commands.answers.answer.Goals as goal
 pub returns-in_ok-said-in-Check-clause-comes : goal.returns-in_ok-said-in-Check-clause-comes
 returns-in_ok-said-in-Check-clause-comes c =
     subst (λ (q : Question). ComesTo (the_question q) (says (the_said c.in_ok-said-in-Check.said))) (sym c.in-Check.is)
-    (comes_same (checked c.in-Check.cap c.in-Check.document.names (the_network c.in-Check.document.network)) (says (the_said c.in_ok-said-in-Check.said)) (ap says c.in_ok-said-in-Check.ensures.said ∙ check_says c.in-Check.cap c.in-Check.document.names (the_network c.in-Check.document.network)))
+    (comes_same (checked c.in-Check.cap.entries c.in-Check.document.names (the_network c.in-Check.document.network)) (says (the_said c.in_ok-said-in-Check.said)) (ap says c.in_ok-said-in-Check.ensures.said ∙ check_says c.in-Check.cap.entries c.in-Check.document.names (the_network c.in-Check.document.network)))
 
 pub returns-in_ok-said-in-Closed-clause-comes : goal.returns-in_ok-said-in-Closed-clause-comes
 returns-in_ok-said-in-Closed-clause-comes c =
     subst (λ (q : Question). ComesTo (the_question q) (says (the_said c.in_ok-said-in-Closed.said))) (sym c.in-Closed.is)
-    (comes_same (listed c.in-Closed.cap c.in-Closed.document.names (the_network c.in-Closed.document.network)) (says (the_said c.in_ok-said-in-Closed.said)) (c.in_ok-said-in-Closed.ensures.said))
+    (comes_same (listed c.in-Closed.cap.entries c.in-Closed.document.names (the_network c.in-Closed.document.network)) (says (the_said c.in_ok-said-in-Closed.said)) (c.in_ok-said-in-Closed.ensures.said))
 
 pub returns-in_ok-said-in-Tight-clause-comes : goal.returns-in_ok-said-in-Tight-clause-comes
 returns-in_ok-said-in-Tight-clause-comes c =
     subst (λ (q : Question). ComesTo (the_question q) (says (the_said c.in_ok-said-in-Tight.said))) (sym c.in-Tight.is)
-    (comes_same (tightened c.in-Tight.cap c.in-Tight.document.names (the_network c.in-Tight.document.network)) (says (the_said c.in_ok-said-in-Tight.said)) (ap says c.in_ok-said-in-Tight.ensures.said))
+    (comes_same (tightened c.in-Tight.cap.entries c.in-Tight.document.names (the_network c.in-Tight.document.network)) (says (the_said c.in_ok-said-in-Tight.said)) (ap says c.in_ok-said-in-Tight.ensures.said))
 
 pub returns-in_ok-said-in-Conflict-clause-comes : goal.returns-in_ok-said-in-Conflict-clause-comes
 returns-in_ok-said-in-Conflict-clause-comes c =
     subst (λ (q : Question). ComesTo (the_question q) (says (the_said c.in_ok-said-in-Conflict.said))) (sym c.in-Conflict.is)
-    (comes_same (blamed c.in-Conflict.cap c.in-Conflict.document.names (the_network c.in-Conflict.document.network)) (says (the_said c.in_ok-said-in-Conflict.said)) (ap says c.in_ok-said-in-Conflict.ensures.said))
+    (comes_same (blamed c.in-Conflict.cap.entries c.in-Conflict.document.names (the_network c.in-Conflict.document.network)) (says (the_said c.in_ok-said-in-Conflict.said)) (ap says c.in_ok-said-in-Conflict.ensures.said))
 
 pub returns-in_ok-said-in-Tree-clause-comes : goal.returns-in_ok-said-in-Tree-clause-comes
 returns-in_ok-said-in-Tree-clause-comes c =
     subst (λ (q : Question). ComesTo (the_question q) (says (the_said c.in_ok-said-in-Tree.said))) (sym c.in-Tree.is)
-    (comes_to_text (unfolded c.in-Tree.cap c.in-Tree.document.names (the_network c.in-Tree.document.network)) (the_said c.in_ok-said-in-Tree.said) (tree_says c.in-Tree.cap c.in-Tree.document.names (the_network c.in-Tree.document.network) (the_said c.in_ok-said-in-Tree.said) c.in_ok-said-in-Tree.ensures.said))
+    (comes_to_text (unfolded c.in-Tree.cap.entries c.in-Tree.document.names (the_network c.in-Tree.document.network)) (the_said c.in_ok-said-in-Tree.said) (tree_says c.in-Tree.cap.entries c.in-Tree.document.names (the_network c.in-Tree.document.network) (the_said c.in_ok-said-in-Tree.said) c.in_ok-said-in-Tree.ensures.said))
 
 pub returns-in_ok-session-in-Edit-clause-comes : goal.returns-in_ok-session-in-Edit-clause-comes
 returns-in_ok-session-in-Edit-clause-comes c =
     subst (λ (q : Question). ComesTo (the_question q) (the_plan (Edits c.in_ok-session-in-Edit.session))) (sym c.in-Edit.is)
-    (comes_same (edited c.in-Edit.cap c.in-Edit.document.names (the_network c.in-Edit.document.network)) (session edit_turn edit_ending [] (the_editing c.in_ok-session-in-Edit.session)) (ap (session edit_turn edit_ending []) c.in_ok-session-in-Edit.ensures.start))
+    (comes_same (edited c.in-Edit.cap.entries c.in-Edit.document.names (the_network c.in-Edit.document.network)) (session edit_turn edit_ending [] (the_editing c.in_ok-session-in-Edit.session)) (ap (session edit_turn edit_ending []) c.in_ok-session-in-Edit.ensures.start))
 
 pub returns-in_ok-session-in-Edit-clause-fits : goal.returns-in_ok-session-in-Edit-clause-fits
 returns-in_ok-session-in-Edit-clause-fits c =

@@ -16,17 +16,17 @@ loop-document-init c =
     record {
       documents = sym given.0;
       left = ap length given.0 ∙ sym (given.1 ∙ c.args.documents.ok.0);
-      begun = begun_none c.args.cap _ c.new.ensures.items c.new-2.ensures.items c.new-3.ensures.items;
+      begun = begun_none c.args.cap.entries _ c.new.ensures.items c.new-2.ensures.items c.new-3.ensures.items;
     }
 
 pub returns-in-Told-clause-comes : goal.returns-in-Told-clause-comes
 returns-in-Told-clause-comes c =
     let inv = c.loop-document.invariant in
     let document = c.in-Some.document in
-    told_at c.args.cap c.args.documents.items c.loop-document.yielded (into_iter_items c.next.new.self) document c.loop-document.begun c.in-Told.said
+    told_at c.args.cap.entries c.args.documents.items c.loop-document.yielded (into_iter_items c.next.new.self) document c.loop-document.begun c.in-Told.said
     (inv.documents ∙ ap (λ (ds : List NamedNetwork). c.loop-document.yielded ++ ds) c.in-Some.ensures.steps.0)
     inv.begun
-    (subst (λ (d : Judged). TellsVerdict c.args.cap document.names document.network d) c.in-Told.is c.in_ok-load.ensures.judged)
+    (subst (λ (d : Judged). TellsVerdict c.args.cap.entries document.names document.network d) c.in-Told.is c.in_ok-load.ensures.judged)
 
 pub loop-document-preserved : goal.loop-document-preserved
 loop-document-preserved c =
@@ -35,15 +35,15 @@ loop-document-preserved c =
     let steps = c.in-Some.ensures.steps in
     let front = c.loop-document.yielded in
     let added = c.in_ok-add-in-Yes.ensures in
-    let decided : TellsVerdict c.args.cap document.names document.network (Yes c.in-Yes.load c.in-Yes.check) = subst (λ (d : Judged). TellsVerdict c.args.cap document.names document.network d) c.in-Yes.is c.in_ok-load.ensures.judged in
+    let decided : TellsVerdict c.args.cap.entries document.names document.network (Yes c.in-Yes.load c.in-Yes.check) = subst (λ (d : Judged). TellsVerdict c.args.cap.entries document.names document.network d) c.in-Yes.is c.in_ok-load.ensures.judged in
     record {
       documents =
           inv.documents ∙ ap (λ (ds : List NamedNetwork). front ++ ds) steps.0
           ∙ sym (append_assoc front (document ∷ []) (into_iter_items c.next.new.self));
       left = omega (arith, inv.left, ap length steps.0, steps.1);
       begun =
-          subst (λ (ns : List Named). HasBegun c.args.cap ns c.add.new.self) (sym (map-append the_named front (document ∷ [])))
-          (begun_more c.args.cap (map the_named front) c.loop-document.begun c.add.new.self document.network c.in-Yes.check.net document.names c.in-Yes.load c.into_plan.result inv.begun decided.0 decided.1 decided.2 c.into_plan.ensures.network c.into_plan.ensures.live
+          subst (λ (ns : List Named). HasBegun c.args.cap.entries ns c.add.new.self) (sym (map-append the_named front (document ∷ [])))
+          (begun_more c.args.cap.entries (map the_named front) c.loop-document.begun c.add.new.self document.network c.in-Yes.check.net document.names c.in-Yes.load c.into_plan.result inv.begun decided.0 decided.1 decided.2 c.into_plan.ensures.network c.into_plan.ensures.live
           added.opening added.plans added.names added.short);
     }
 
@@ -68,7 +68,7 @@ pub returns-clause-comes : goal.returns-clause-comes
 returns-clause-comes c =
     let inv = c.loop-document.invariant in
     let all = all_taken c.args.documents.items c.loop-document.yielded (into_iter_items c.loop-document.document-iterator) inv.documents (inv.left ∙ c.in-None.ensures.steps.0) in
-    all_begun c.args.cap c.args.documents.items c.loop-document.yielded c.loop-document.begun c.begin.result all inv.begun c.begin.ensures.begins
+    all_begun c.args.cap.entries c.args.documents.items c.loop-document.yielded c.loop-document.begun c.begin.result all inv.begun c.begin.ensures.begins
 
 pub returns-clause-fits : goal.returns-clause-fits
-returns-clause-fits c = opening_ends c.args.cap (map the_named c.loop-document.yielded) c.loop-document.begun c.begin.result c.loop-document.invariant.begun c.begin.ensures.begins
+returns-clause-fits c = opening_ends c.args.cap.entries (map the_named c.loop-document.yielded) c.loop-document.begun c.begin.result c.loop-document.invariant.begun c.begin.ensures.begins

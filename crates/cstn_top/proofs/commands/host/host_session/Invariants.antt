@@ -7,5 +7,5 @@ abbrev pub invariant-loop-document : goal.invariant-loop-document
 invariant-loop-document l = record {
   documents : l.fn.documents.items ≡ l.yielded ++ into_iter_items l.document-iterator;
   left : length (into_iter_items l.document-iterator) ≡ into_iter_len l.document-iterator;
-  begun : HasBegun l.cap (map the_named l.yielded) l.begun;
+  begun : HasBegun l.cap.entries (map the_named l.yielded) l.begun;
 }

@@ -1,9 +1,8 @@
 use Rattle.std.proofs.Common.{◌≡◌, ◌≤◌, ℕ, List, length, map, string_bytes, refl, ap, sym, subst}
 use Rattle.std.specs.Prelude.{Option, Err, IsErrAnd}
 use Rattle.cstn_words.specs.Requests.{check, run, edit, closed, tight, conflict, tree, save, replay, closedcheck, treecheck}
-use Rattle.cstn_words.specs.Read.{the_asked, the_request, IsCapped}
+use Rattle.cstn_words.specs.Read.{the_asked, the_request}
 use Rattle.cstn_words.specs.declared.words.Request.{Request}
-use Rattle.cstn_words.specs.declared.words.Request.TheVariants.{Check as CheckAsked, Closed as ClosedAsked, Tight as TightAsked, Conflict as ConflictAsked, Tree as TreeAsked, Edit as EditAsked, Run as RunAsked, Host as HostAsked}
 use Rattle.cstn_documents.specs.Opened.{IsFile, IsTextOf, IsLongText}
 use Rattle.cstn_documents.specs.declared.reading.Unread.TheVariants.{Told}
 use Rattle.cstn_documents.proofs.Opening.{handed_on}
@@ -26,12 +25,14 @@ use Rattle.cstn_top.proofs.Opening.{of_check, of_closed, of_tight, of_conflict, 
 use Rattle.cstn_top.proofs.Drills.{drill_asked}
 use Rattle.cstn_top.proofs.Hosted.{host_asked}
 use Rattle.cstn_top.proofs.Hosts.{host_told}
+use Rattle.cstn_words.specs.Limits.{most_files}
+use Rattle.cstn_documents.specs.Limits.{most_text}
 use Rattle.cstn_top.proofs.commands.questions.ask.Goals as goal
 
 pub returns-in_ok-document-in-Check-clause-asks : goal.returns-in_ok-document-in-Check-clause-asks
 returns-in_ok-document-in-Check-clause-asks g c =
     subst (λ (r : Request). Asks (the_request r) (g.F.Shelf.files c.args.shelf.now) (Check c.in_ok-document-in-Check.document c.in-Check.cap)) (sym c.in-Check.is)
-    (lowered_asked (check (the_asked c.in-Check.asked) c.in-Check.cap) (the_asked c.in-Check.asked) (checked c.in-Check.cap) (g.F.Shelf.files c.args.shelf.now) c.in_ok-document-in-Check.document (Check c.in_ok-document-in-Check.document c.in-Check.cap) (of_check (the_asked c.in-Check.asked) c.in-Check.cap) refl c.in_ok-document-in-Check.ensures.opened)
+    (lowered_asked (check (the_asked c.in-Check.asked) c.in-Check.cap.entries) (the_asked c.in-Check.asked) (checked c.in-Check.cap.entries) (g.F.Shelf.files c.args.shelf.now) c.in_ok-document-in-Check.document (Check c.in_ok-document-in-Check.document c.in-Check.cap) (of_check (the_asked c.in-Check.asked) c.in-Check.cap.entries) refl c.in_ok-document-in-Check.ensures.opened)
 
 pub returns-in_ok-document-in-Check-clause-kind : goal.returns-in_ok-document-in-Check-clause-kind
 returns-in_ok-document-in-Check-clause-kind g c =
@@ -39,18 +40,17 @@ returns-in_ok-document-in-Check-clause-kind g c =
 
 pub returns-in_ok-document-in-Check-clause-sound : goal.returns-in_ok-document-in-Check-clause-sound
 returns-in_ok-document-in-Check-clause-sound g c =
-    let capped : IsCapped (CheckAsked c.in-Check.asked c.in-Check.cap) = subst IsCapped c.in-Check.is c.requires.capped in
-    (record { well_formed = c.in_ok-document-in-Check.ensures.opened.is.well_formed; named = c.in_ok-document-in-Check.ensures.opened.is.names.named }, record { some = capped.0; most = capped.1 })
+    record { well_formed = c.in_ok-document-in-Check.ensures.opened.is.well_formed; named = c.in_ok-document-in-Check.ensures.opened.is.names.named }
 
 pub returns-in_err-document-in-Check-clause-refused : goal.returns-in_err-document-in-Check-clause-refused
 returns-in_err-document-in-Check-clause-refused g c said e =
     let told : IsErrAnd c.from_residual.result (λ x. x ≡ c.in_err-document-in-Check.field-0.0) = c.from_residual.ensures.1 in
-    subst (λ (r : Request). TellsInstead (the_request r) (g.F.Shelf.files c.args.shelf.now) said) (sym c.in-Check.is) (record { plan = refused_told (check (the_asked c.in-Check.asked) c.in-Check.cap) (the_asked c.in-Check.asked) (of_lowered (checked c.in-Check.cap)) (g.F.Shelf.files c.args.shelf.now) said (of_check (the_asked c.in-Check.asked) c.in-Check.cap) (c.in_err-document-in-Check.ensures.refused said (ap Err (handed_on c.from_residual.result c.in_err-document-in-Check.field-0.0 (Told said) told e))); refused = tt })
+    subst (λ (r : Request). TellsInstead (the_request r) (g.F.Shelf.files c.args.shelf.now) said) (sym c.in-Check.is) (record { plan = refused_told (check (the_asked c.in-Check.asked) c.in-Check.cap.entries) (the_asked c.in-Check.asked) (of_lowered (checked c.in-Check.cap.entries)) (g.F.Shelf.files c.args.shelf.now) said (of_check (the_asked c.in-Check.asked) c.in-Check.cap.entries) (c.in_err-document-in-Check.ensures.refused said (ap Err (handed_on c.from_residual.result c.in_err-document-in-Check.field-0.0 (Told said) told e))); refused = tt })
 
 pub returns-in_ok-document-in-Closed-clause-asks : goal.returns-in_ok-document-in-Closed-clause-asks
 returns-in_ok-document-in-Closed-clause-asks g c =
     subst (λ (r : Request). Asks (the_request r) (g.F.Shelf.files c.args.shelf.now) (Closed c.in_ok-document-in-Closed.document c.in-Closed.cap)) (sym c.in-Closed.is)
-    (lowered_asked (closed (the_asked c.in-Closed.asked) c.in-Closed.cap) (the_asked c.in-Closed.asked) (listed c.in-Closed.cap) (g.F.Shelf.files c.args.shelf.now) c.in_ok-document-in-Closed.document (Closed c.in_ok-document-in-Closed.document c.in-Closed.cap) (of_closed (the_asked c.in-Closed.asked) c.in-Closed.cap) refl c.in_ok-document-in-Closed.ensures.opened)
+    (lowered_asked (closed (the_asked c.in-Closed.asked) c.in-Closed.cap.entries) (the_asked c.in-Closed.asked) (listed c.in-Closed.cap.entries) (g.F.Shelf.files c.args.shelf.now) c.in_ok-document-in-Closed.document (Closed c.in_ok-document-in-Closed.document c.in-Closed.cap) (of_closed (the_asked c.in-Closed.asked) c.in-Closed.cap.entries) refl c.in_ok-document-in-Closed.ensures.opened)
 
 pub returns-in_ok-document-in-Closed-clause-kind : goal.returns-in_ok-document-in-Closed-clause-kind
 returns-in_ok-document-in-Closed-clause-kind g c =
@@ -58,18 +58,17 @@ returns-in_ok-document-in-Closed-clause-kind g c =
 
 pub returns-in_ok-document-in-Closed-clause-sound : goal.returns-in_ok-document-in-Closed-clause-sound
 returns-in_ok-document-in-Closed-clause-sound g c =
-    let capped : IsCapped (ClosedAsked c.in-Closed.asked c.in-Closed.cap) = subst IsCapped c.in-Closed.is c.requires.capped in
-    (record { well_formed = c.in_ok-document-in-Closed.ensures.opened.is.well_formed; named = c.in_ok-document-in-Closed.ensures.opened.is.names.named }, record { some = capped.0; most = capped.1 })
+    record { well_formed = c.in_ok-document-in-Closed.ensures.opened.is.well_formed; named = c.in_ok-document-in-Closed.ensures.opened.is.names.named }
 
 pub returns-in_err-document-in-Closed-clause-refused : goal.returns-in_err-document-in-Closed-clause-refused
 returns-in_err-document-in-Closed-clause-refused g c said e =
     let told : IsErrAnd c.from_residual-in_err-document-in-Closed.result (λ x. x ≡ c.in_err-document-in-Closed.field-0.0) = c.from_residual-in_err-document-in-Closed.ensures.1 in
-    subst (λ (r : Request). TellsInstead (the_request r) (g.F.Shelf.files c.args.shelf.now) said) (sym c.in-Closed.is) (record { plan = refused_told (closed (the_asked c.in-Closed.asked) c.in-Closed.cap) (the_asked c.in-Closed.asked) (of_lowered (listed c.in-Closed.cap)) (g.F.Shelf.files c.args.shelf.now) said (of_closed (the_asked c.in-Closed.asked) c.in-Closed.cap) (c.in_err-document-in-Closed.ensures.refused said (ap Err (handed_on c.from_residual-in_err-document-in-Closed.result c.in_err-document-in-Closed.field-0.0 (Told said) told e))); refused = tt })
+    subst (λ (r : Request). TellsInstead (the_request r) (g.F.Shelf.files c.args.shelf.now) said) (sym c.in-Closed.is) (record { plan = refused_told (closed (the_asked c.in-Closed.asked) c.in-Closed.cap.entries) (the_asked c.in-Closed.asked) (of_lowered (listed c.in-Closed.cap.entries)) (g.F.Shelf.files c.args.shelf.now) said (of_closed (the_asked c.in-Closed.asked) c.in-Closed.cap.entries) (c.in_err-document-in-Closed.ensures.refused said (ap Err (handed_on c.from_residual-in_err-document-in-Closed.result c.in_err-document-in-Closed.field-0.0 (Told said) told e))); refused = tt })
 
 pub returns-in_ok-document-in-Tight-clause-asks : goal.returns-in_ok-document-in-Tight-clause-asks
 returns-in_ok-document-in-Tight-clause-asks g c =
     subst (λ (r : Request). Asks (the_request r) (g.F.Shelf.files c.args.shelf.now) (Tight c.in_ok-document-in-Tight.document c.in-Tight.cap)) (sym c.in-Tight.is)
-    (lowered_asked (tight (the_asked c.in-Tight.asked) c.in-Tight.cap) (the_asked c.in-Tight.asked) (tightened c.in-Tight.cap) (g.F.Shelf.files c.args.shelf.now) c.in_ok-document-in-Tight.document (Tight c.in_ok-document-in-Tight.document c.in-Tight.cap) (of_tight (the_asked c.in-Tight.asked) c.in-Tight.cap) refl c.in_ok-document-in-Tight.ensures.opened)
+    (lowered_asked (tight (the_asked c.in-Tight.asked) c.in-Tight.cap.entries) (the_asked c.in-Tight.asked) (tightened c.in-Tight.cap.entries) (g.F.Shelf.files c.args.shelf.now) c.in_ok-document-in-Tight.document (Tight c.in_ok-document-in-Tight.document c.in-Tight.cap) (of_tight (the_asked c.in-Tight.asked) c.in-Tight.cap.entries) refl c.in_ok-document-in-Tight.ensures.opened)
 
 pub returns-in_ok-document-in-Tight-clause-kind : goal.returns-in_ok-document-in-Tight-clause-kind
 returns-in_ok-document-in-Tight-clause-kind g c =
@@ -77,18 +76,17 @@ returns-in_ok-document-in-Tight-clause-kind g c =
 
 pub returns-in_ok-document-in-Tight-clause-sound : goal.returns-in_ok-document-in-Tight-clause-sound
 returns-in_ok-document-in-Tight-clause-sound g c =
-    let capped : IsCapped (TightAsked c.in-Tight.asked c.in-Tight.cap) = subst IsCapped c.in-Tight.is c.requires.capped in
-    (record { well_formed = c.in_ok-document-in-Tight.ensures.opened.is.well_formed; named = c.in_ok-document-in-Tight.ensures.opened.is.names.named }, record { some = capped.0; most = capped.1 })
+    record { well_formed = c.in_ok-document-in-Tight.ensures.opened.is.well_formed; named = c.in_ok-document-in-Tight.ensures.opened.is.names.named }
 
 pub returns-in_err-document-in-Tight-clause-refused : goal.returns-in_err-document-in-Tight-clause-refused
 returns-in_err-document-in-Tight-clause-refused g c said e =
     let told : IsErrAnd c.from_residual-in_err-document-in-Tight.result (λ x. x ≡ c.in_err-document-in-Tight.field-0.0) = c.from_residual-in_err-document-in-Tight.ensures.1 in
-    subst (λ (r : Request). TellsInstead (the_request r) (g.F.Shelf.files c.args.shelf.now) said) (sym c.in-Tight.is) (record { plan = refused_told (tight (the_asked c.in-Tight.asked) c.in-Tight.cap) (the_asked c.in-Tight.asked) (of_lowered (tightened c.in-Tight.cap)) (g.F.Shelf.files c.args.shelf.now) said (of_tight (the_asked c.in-Tight.asked) c.in-Tight.cap) (c.in_err-document-in-Tight.ensures.refused said (ap Err (handed_on c.from_residual-in_err-document-in-Tight.result c.in_err-document-in-Tight.field-0.0 (Told said) told e))); refused = tt })
+    subst (λ (r : Request). TellsInstead (the_request r) (g.F.Shelf.files c.args.shelf.now) said) (sym c.in-Tight.is) (record { plan = refused_told (tight (the_asked c.in-Tight.asked) c.in-Tight.cap.entries) (the_asked c.in-Tight.asked) (of_lowered (tightened c.in-Tight.cap.entries)) (g.F.Shelf.files c.args.shelf.now) said (of_tight (the_asked c.in-Tight.asked) c.in-Tight.cap.entries) (c.in_err-document-in-Tight.ensures.refused said (ap Err (handed_on c.from_residual-in_err-document-in-Tight.result c.in_err-document-in-Tight.field-0.0 (Told said) told e))); refused = tt })
 
 pub returns-in_ok-document-in-Conflict-clause-asks : goal.returns-in_ok-document-in-Conflict-clause-asks
 returns-in_ok-document-in-Conflict-clause-asks g c =
     subst (λ (r : Request). Asks (the_request r) (g.F.Shelf.files c.args.shelf.now) (Conflict c.in_ok-document-in-Conflict.document c.in-Conflict.cap)) (sym c.in-Conflict.is)
-    (plain_asked (conflict (the_asked c.in-Conflict.asked) c.in-Conflict.cap) (the_asked c.in-Conflict.asked) (blamed c.in-Conflict.cap) (g.F.Shelf.files c.args.shelf.now) c.in_ok-document-in-Conflict.document (Conflict c.in_ok-document-in-Conflict.document c.in-Conflict.cap) (of_conflict (the_asked c.in-Conflict.asked) c.in-Conflict.cap) refl c.in_ok-document-in-Conflict.ensures.opened)
+    (plain_asked (conflict (the_asked c.in-Conflict.asked) c.in-Conflict.cap.entries) (the_asked c.in-Conflict.asked) (blamed c.in-Conflict.cap.entries) (g.F.Shelf.files c.args.shelf.now) c.in_ok-document-in-Conflict.document (Conflict c.in_ok-document-in-Conflict.document c.in-Conflict.cap) (of_conflict (the_asked c.in-Conflict.asked) c.in-Conflict.cap.entries) refl c.in_ok-document-in-Conflict.ensures.opened)
 
 pub returns-in_ok-document-in-Conflict-clause-kind : goal.returns-in_ok-document-in-Conflict-clause-kind
 returns-in_ok-document-in-Conflict-clause-kind g c =
@@ -96,18 +94,17 @@ returns-in_ok-document-in-Conflict-clause-kind g c =
 
 pub returns-in_ok-document-in-Conflict-clause-sound : goal.returns-in_ok-document-in-Conflict-clause-sound
 returns-in_ok-document-in-Conflict-clause-sound g c =
-    let capped : IsCapped (ConflictAsked c.in-Conflict.asked c.in-Conflict.cap) = subst IsCapped c.in-Conflict.is c.requires.capped in
-    (record { well_formed = c.in_ok-document-in-Conflict.ensures.opened.is.well_formed; named = c.in_ok-document-in-Conflict.ensures.opened.is.names.named }, record { some = capped.0; most = capped.1 })
+    record { well_formed = c.in_ok-document-in-Conflict.ensures.opened.is.well_formed; named = c.in_ok-document-in-Conflict.ensures.opened.is.names.named }
 
 pub returns-in_err-document-in-Conflict-clause-refused : goal.returns-in_err-document-in-Conflict-clause-refused
 returns-in_err-document-in-Conflict-clause-refused g c said e =
     let told : IsErrAnd c.from_residual-in_err-document-in-Conflict.result (λ x. x ≡ c.in_err-document-in-Conflict.field-0.0) = c.from_residual-in_err-document-in-Conflict.ensures.1 in
-    subst (λ (r : Request). TellsInstead (the_request r) (g.F.Shelf.files c.args.shelf.now) said) (sym c.in-Conflict.is) (record { plan = plainly_told (conflict (the_asked c.in-Conflict.asked) c.in-Conflict.cap) (the_asked c.in-Conflict.asked) (blamed c.in-Conflict.cap) (g.F.Shelf.files c.args.shelf.now) said (of_conflict (the_asked c.in-Conflict.asked) c.in-Conflict.cap) (c.in_err-document-in-Conflict.ensures.refused said (ap Err (handed_on c.from_residual-in_err-document-in-Conflict.result c.in_err-document-in-Conflict.field-0.0 (Told said) told e))); refused = tt })
+    subst (λ (r : Request). TellsInstead (the_request r) (g.F.Shelf.files c.args.shelf.now) said) (sym c.in-Conflict.is) (record { plan = plainly_told (conflict (the_asked c.in-Conflict.asked) c.in-Conflict.cap.entries) (the_asked c.in-Conflict.asked) (blamed c.in-Conflict.cap.entries) (g.F.Shelf.files c.args.shelf.now) said (of_conflict (the_asked c.in-Conflict.asked) c.in-Conflict.cap.entries) (c.in_err-document-in-Conflict.ensures.refused said (ap Err (handed_on c.from_residual-in_err-document-in-Conflict.result c.in_err-document-in-Conflict.field-0.0 (Told said) told e))); refused = tt })
 
 pub returns-in_ok-document-in-Tree-clause-asks : goal.returns-in_ok-document-in-Tree-clause-asks
 returns-in_ok-document-in-Tree-clause-asks g c =
     subst (λ (r : Request). Asks (the_request r) (g.F.Shelf.files c.args.shelf.now) (Tree c.in_ok-document-in-Tree.document c.in-Tree.cap)) (sym c.in-Tree.is)
-    (plain_asked (tree (the_asked c.in-Tree.asked) c.in-Tree.cap) (the_asked c.in-Tree.asked) (unfolded c.in-Tree.cap) (g.F.Shelf.files c.args.shelf.now) c.in_ok-document-in-Tree.document (Tree c.in_ok-document-in-Tree.document c.in-Tree.cap) (of_tree (the_asked c.in-Tree.asked) c.in-Tree.cap) refl c.in_ok-document-in-Tree.ensures.opened)
+    (plain_asked (tree (the_asked c.in-Tree.asked) c.in-Tree.cap.entries) (the_asked c.in-Tree.asked) (unfolded c.in-Tree.cap.entries) (g.F.Shelf.files c.args.shelf.now) c.in_ok-document-in-Tree.document (Tree c.in_ok-document-in-Tree.document c.in-Tree.cap) (of_tree (the_asked c.in-Tree.asked) c.in-Tree.cap.entries) refl c.in_ok-document-in-Tree.ensures.opened)
 
 pub returns-in_ok-document-in-Tree-clause-kind : goal.returns-in_ok-document-in-Tree-clause-kind
 returns-in_ok-document-in-Tree-clause-kind g c =
@@ -115,18 +112,17 @@ returns-in_ok-document-in-Tree-clause-kind g c =
 
 pub returns-in_ok-document-in-Tree-clause-sound : goal.returns-in_ok-document-in-Tree-clause-sound
 returns-in_ok-document-in-Tree-clause-sound g c =
-    let capped : IsCapped (TreeAsked c.in-Tree.asked c.in-Tree.cap) = subst IsCapped c.in-Tree.is c.requires.capped in
-    (record { well_formed = c.in_ok-document-in-Tree.ensures.opened.is.well_formed; named = c.in_ok-document-in-Tree.ensures.opened.is.names.named }, record { some = capped.0; most = capped.1 })
+    record { well_formed = c.in_ok-document-in-Tree.ensures.opened.is.well_formed; named = c.in_ok-document-in-Tree.ensures.opened.is.names.named }
 
 pub returns-in_err-document-in-Tree-clause-refused : goal.returns-in_err-document-in-Tree-clause-refused
 returns-in_err-document-in-Tree-clause-refused g c said e =
     let told : IsErrAnd c.from_residual-in_err-document-in-Tree.result (λ x. x ≡ c.in_err-document-in-Tree.field-0.0) = c.from_residual-in_err-document-in-Tree.ensures.1 in
-    subst (λ (r : Request). TellsInstead (the_request r) (g.F.Shelf.files c.args.shelf.now) said) (sym c.in-Tree.is) (record { plan = plainly_told (tree (the_asked c.in-Tree.asked) c.in-Tree.cap) (the_asked c.in-Tree.asked) (unfolded c.in-Tree.cap) (g.F.Shelf.files c.args.shelf.now) said (of_tree (the_asked c.in-Tree.asked) c.in-Tree.cap) (c.in_err-document-in-Tree.ensures.refused said (ap Err (handed_on c.from_residual-in_err-document-in-Tree.result c.in_err-document-in-Tree.field-0.0 (Told said) told e))); refused = tt })
+    subst (λ (r : Request). TellsInstead (the_request r) (g.F.Shelf.files c.args.shelf.now) said) (sym c.in-Tree.is) (record { plan = plainly_told (tree (the_asked c.in-Tree.asked) c.in-Tree.cap.entries) (the_asked c.in-Tree.asked) (unfolded c.in-Tree.cap.entries) (g.F.Shelf.files c.args.shelf.now) said (of_tree (the_asked c.in-Tree.asked) c.in-Tree.cap.entries) (c.in_err-document-in-Tree.ensures.refused said (ap Err (handed_on c.from_residual-in_err-document-in-Tree.result c.in_err-document-in-Tree.field-0.0 (Told said) told e))); refused = tt })
 
 pub returns-in_ok-document-in-Edit-clause-asks : goal.returns-in_ok-document-in-Edit-clause-asks
 returns-in_ok-document-in-Edit-clause-asks g c =
     subst (λ (r : Request). Asks (the_request r) (g.F.Shelf.files c.args.shelf.now) (Edit c.in_ok-document-in-Edit.document c.in-Edit.cap)) (sym c.in-Edit.is)
-    (plain_asked (edit (the_asked c.in-Edit.asked) c.in-Edit.cap) (the_asked c.in-Edit.asked) (edited c.in-Edit.cap) (g.F.Shelf.files c.args.shelf.now) c.in_ok-document-in-Edit.document (Edit c.in_ok-document-in-Edit.document c.in-Edit.cap) (of_edit (the_asked c.in-Edit.asked) c.in-Edit.cap) refl c.in_ok-document-in-Edit.ensures.opened)
+    (plain_asked (edit (the_asked c.in-Edit.asked) c.in-Edit.cap.entries) (the_asked c.in-Edit.asked) (edited c.in-Edit.cap.entries) (g.F.Shelf.files c.args.shelf.now) c.in_ok-document-in-Edit.document (Edit c.in_ok-document-in-Edit.document c.in-Edit.cap) (of_edit (the_asked c.in-Edit.asked) c.in-Edit.cap.entries) refl c.in_ok-document-in-Edit.ensures.opened)
 
 pub returns-in_ok-document-in-Edit-clause-kind : goal.returns-in_ok-document-in-Edit-clause-kind
 returns-in_ok-document-in-Edit-clause-kind g c =
@@ -134,18 +130,17 @@ returns-in_ok-document-in-Edit-clause-kind g c =
 
 pub returns-in_ok-document-in-Edit-clause-sound : goal.returns-in_ok-document-in-Edit-clause-sound
 returns-in_ok-document-in-Edit-clause-sound g c =
-    let capped : IsCapped (EditAsked c.in-Edit.asked c.in-Edit.cap) = subst IsCapped c.in-Edit.is c.requires.capped in
-    (record { well_formed = c.in_ok-document-in-Edit.ensures.opened.is.well_formed; named = c.in_ok-document-in-Edit.ensures.opened.is.names.named }, record { some = capped.0; most = capped.1 }, c.in_ok-document-in-Edit.ensures.opened.is.ids)
+    (record { well_formed = c.in_ok-document-in-Edit.ensures.opened.is.well_formed; named = c.in_ok-document-in-Edit.ensures.opened.is.names.named }, c.in_ok-document-in-Edit.ensures.opened.is.ids)
 
 pub returns-in_err-document-in-Edit-clause-refused : goal.returns-in_err-document-in-Edit-clause-refused
 returns-in_err-document-in-Edit-clause-refused g c said e =
     let told : IsErrAnd c.from_residual-in_err-document-in-Edit.result (λ x. x ≡ c.in_err-document-in-Edit.field-0.0) = c.from_residual-in_err-document-in-Edit.ensures.1 in
-    subst (λ (r : Request). TellsInstead (the_request r) (g.F.Shelf.files c.args.shelf.now) said) (sym c.in-Edit.is) (record { plan = plainly_told (edit (the_asked c.in-Edit.asked) c.in-Edit.cap) (the_asked c.in-Edit.asked) (edited c.in-Edit.cap) (g.F.Shelf.files c.args.shelf.now) said (of_edit (the_asked c.in-Edit.asked) c.in-Edit.cap) (c.in_err-document-in-Edit.ensures.refused said (ap Err (handed_on c.from_residual-in_err-document-in-Edit.result c.in_err-document-in-Edit.field-0.0 (Told said) told e))); refused = tt })
+    subst (λ (r : Request). TellsInstead (the_request r) (g.F.Shelf.files c.args.shelf.now) said) (sym c.in-Edit.is) (record { plan = plainly_told (edit (the_asked c.in-Edit.asked) c.in-Edit.cap.entries) (the_asked c.in-Edit.asked) (edited c.in-Edit.cap.entries) (g.F.Shelf.files c.args.shelf.now) said (of_edit (the_asked c.in-Edit.asked) c.in-Edit.cap.entries) (c.in_err-document-in-Edit.ensures.refused said (ap Err (handed_on c.from_residual-in_err-document-in-Edit.result c.in_err-document-in-Edit.field-0.0 (Told said) told e))); refused = tt })
 
 pub returns-in_ok-document-in-Run-clause-asks : goal.returns-in_ok-document-in-Run-clause-asks
 returns-in_ok-document-in-Run-clause-asks g c =
     subst (λ (r : Request). Asks (the_request r) (g.F.Shelf.files c.args.shelf.now) (Run c.in_ok-document-in-Run.document c.in-Run.cap)) (sym c.in-Run.is)
-    (labelled_asked (run (the_asked c.in-Run.asked) c.in-Run.cap) (the_asked c.in-Run.asked) (carried_out c.in-Run.cap) (g.F.Shelf.files c.args.shelf.now) c.in_ok-document-in-Run.document (Run c.in_ok-document-in-Run.document c.in-Run.cap) (of_run (the_asked c.in-Run.asked) c.in-Run.cap) refl c.in_ok-document-in-Run.ensures.opened)
+    (labelled_asked (run (the_asked c.in-Run.asked) c.in-Run.cap.entries) (the_asked c.in-Run.asked) (carried_out c.in-Run.cap.entries) (g.F.Shelf.files c.args.shelf.now) c.in_ok-document-in-Run.document (Run c.in_ok-document-in-Run.document c.in-Run.cap) (of_run (the_asked c.in-Run.asked) c.in-Run.cap.entries) refl c.in_ok-document-in-Run.ensures.opened)
 
 pub returns-in_ok-document-in-Run-clause-kind : goal.returns-in_ok-document-in-Run-clause-kind
 returns-in_ok-document-in-Run-clause-kind g c =
@@ -153,13 +148,12 @@ returns-in_ok-document-in-Run-clause-kind g c =
 
 pub returns-in_ok-document-in-Run-clause-sound : goal.returns-in_ok-document-in-Run-clause-sound
 returns-in_ok-document-in-Run-clause-sound g c =
-    let capped : IsCapped (RunAsked c.in-Run.asked c.in-Run.cap) = subst IsCapped c.in-Run.is c.requires.capped in
-    (c.in_ok-document-in-Run.ensures.opened.is.names, record { some = capped.0; most = capped.1 })
+    c.in_ok-document-in-Run.ensures.opened.is.names
 
 pub returns-in_err-document-in-Run-clause-refused : goal.returns-in_err-document-in-Run-clause-refused
 returns-in_err-document-in-Run-clause-refused g c said e =
     let told : IsErrAnd c.from_residual-in_err-document-in-Run.result (λ x. x ≡ c.in_err-document-in-Run.field-0.0) = c.from_residual-in_err-document-in-Run.ensures.1 in
-    subst (λ (r : Request). TellsInstead (the_request r) (g.F.Shelf.files c.args.shelf.now) said) (sym c.in-Run.is) (record { plan = refused_told (run (the_asked c.in-Run.asked) c.in-Run.cap) (the_asked c.in-Run.asked) (carried_out c.in-Run.cap) (g.F.Shelf.files c.args.shelf.now) said (of_run (the_asked c.in-Run.asked) c.in-Run.cap) (c.in_err-document-in-Run.ensures.refused said (ap Err (handed_on c.from_residual-in_err-document-in-Run.result c.in_err-document-in-Run.field-0.0 (Told said) told e))); refused = tt })
+    subst (λ (r : Request). TellsInstead (the_request r) (g.F.Shelf.files c.args.shelf.now) said) (sym c.in-Run.is) (record { plan = refused_told (run (the_asked c.in-Run.asked) c.in-Run.cap.entries) (the_asked c.in-Run.asked) (carried_out c.in-Run.cap.entries) (g.F.Shelf.files c.args.shelf.now) said (of_run (the_asked c.in-Run.asked) c.in-Run.cap.entries) (c.in_err-document-in-Run.ensures.refused said (ap Err (handed_on c.from_residual-in_err-document-in-Run.result c.in_err-document-in-Run.field-0.0 (Told said) told e))); refused = tt })
 
 pub returns-in_ok-document-in-Save-clause-asks : goal.returns-in_ok-document-in-Save-clause-asks
 returns-in_ok-document-in-Save-clause-asks g c =
@@ -191,7 +185,7 @@ returns-in_ok-text-in-Replay-clause-kind g c =
 pub returns-in_ok-text-in-Replay-clause-sound : goal.returns-in_ok-text-in-Replay-clause-sound
 returns-in_ok-text-in-Replay-clause-sound g c =
     let read = c.in_ok-text-in-Replay.ensures.text.is in
-    (record { well_formed = c.in_ok-document-in-Replay.ensures.opened.is.well_formed; named = c.in_ok-document-in-Replay.ensures.opened.is.names.named }, subst (λ (bytes : List ℕ). length bytes ≤ 1476395008) read.0 read.1)
+    (record { well_formed = c.in_ok-document-in-Replay.ensures.opened.is.well_formed; named = c.in_ok-document-in-Replay.ensures.opened.is.names.named }, subst (λ (bytes : List ℕ). length bytes ≤ most_text) read.0 read.1)
 
 pub returns-in_err-document-in-Replay-clause-refused : goal.returns-in_err-document-in-Replay-clause-refused
 returns-in_err-document-in-Replay-clause-refused g c said e =
@@ -215,7 +209,7 @@ returns-in_ok-text-in-Closedcheck-clause-kind g c =
 pub returns-in_ok-text-in-Closedcheck-clause-sound : goal.returns-in_ok-text-in-Closedcheck-clause-sound
 returns-in_ok-text-in-Closedcheck-clause-sound g c =
     let read = c.in_ok-text-in-Closedcheck.ensures.text.is in
-    (record { well_formed = c.in_ok-document-in-Closedcheck.ensures.opened.is.well_formed; named = c.in_ok-document-in-Closedcheck.ensures.opened.is.names.named }, subst (λ (bytes : List ℕ). length bytes ≤ 1476395008) read.0 read.1)
+    (record { well_formed = c.in_ok-document-in-Closedcheck.ensures.opened.is.well_formed; named = c.in_ok-document-in-Closedcheck.ensures.opened.is.names.named }, subst (λ (bytes : List ℕ). length bytes ≤ most_text) read.0 read.1)
 
 pub returns-in_err-document-in-Closedcheck-clause-refused : goal.returns-in_err-document-in-Closedcheck-clause-refused
 returns-in_err-document-in-Closedcheck-clause-refused g c said e =
@@ -239,7 +233,7 @@ returns-in_ok-text-in-Treecheck-clause-kind g c =
 pub returns-in_ok-text-in-Treecheck-clause-sound : goal.returns-in_ok-text-in-Treecheck-clause-sound
 returns-in_ok-text-in-Treecheck-clause-sound g c =
     let read = c.in_ok-text-in-Treecheck.ensures.text.is in
-    (record { well_formed = c.in_ok-document-in-Treecheck.ensures.opened.is.well_formed; named = c.in_ok-document-in-Treecheck.ensures.opened.is.names.named }, subst (λ (bytes : List ℕ). length bytes ≤ 1476395008) read.0 read.1)
+    (record { well_formed = c.in_ok-document-in-Treecheck.ensures.opened.is.well_formed; named = c.in_ok-document-in-Treecheck.ensures.opened.is.names.named }, subst (λ (bytes : List ℕ). length bytes ≤ most_text) read.0 read.1)
 
 pub returns-in_err-document-in-Treecheck-clause-refused : goal.returns-in_err-document-in-Treecheck-clause-refused
 returns-in_err-document-in-Treecheck-clause-refused g c said e =
@@ -262,7 +256,7 @@ returns-in-Drill-clause-kind g c =
 pub returns-in_ok-documents-in-Host-clause-asks : goal.returns-in_ok-documents-in-Host-clause-asks
 returns-in_ok-documents-in-Host-clause-asks g c =
     subst (λ (r : Request). Asks (the_request r) (g.F.Shelf.files c.args.shelf.now) (Host c.in_ok-documents-in-Host.documents c.in-Host.cap)) (sym c.in-Host.is)
-    (host_asked (g.F.Shelf.files c.args.shelf.now) c.in-Host.cap c.in-Host.deadline (map string_bytes c.in-Host.files.now) c.in_ok-documents-in-Host.documents c.in_ok-documents-in-Host.ensures.read)
+    (host_asked (g.F.Shelf.files c.args.shelf.now) c.in-Host.cap c.in-Host.deadline (map string_bytes c.in-Host.files.names.now) c.in_ok-documents-in-Host.documents c.in_ok-documents-in-Host.ensures.read)
 
 pub returns-in_ok-documents-in-Host-clause-kind : goal.returns-in_ok-documents-in-Host-clause-kind
 returns-in_ok-documents-in-Host-clause-kind g c =
@@ -270,12 +264,11 @@ returns-in_ok-documents-in-Host-clause-kind g c =
 
 pub returns-in_ok-documents-in-Host-clause-sound : goal.returns-in_ok-documents-in-Host-clause-sound
 returns-in_ok-documents-in-Host-clause-sound g c =
-    let capped : IsCapped (HostAsked c.in-Host.files c.in-Host.deadline c.in-Host.cap) = subst IsCapped c.in-Host.is c.requires.capped in
     let many = c.in_ok-documents-in-Host.ensures.many in
-    (c.in_ok-documents-in-Host.ensures.sound, subst (λ (n : ℕ). 1 ≤ n) (sym many) capped.2, subst (λ (n : ℕ). n ≤ 8) (sym many) capped.3, capped.0, capped.1)
+    (c.in_ok-documents-in-Host.ensures.sound, subst (λ (n : ℕ). 1 ≤ n) (sym many) c.in-Host.files.some, subst (λ (n : ℕ). n ≤ most_files) (sym many) c.in-Host.files.most)
 
 pub returns-in_err-documents-in-Host-clause-refused : goal.returns-in_err-documents-in-Host-clause-refused
 returns-in_err-documents-in-Host-clause-refused g c said e =
     let told : IsErrAnd c.from_residual-in_err-documents-in-Host.result (λ x. x ≡ c.in_err-documents-in-Host.field-0.0) = c.from_residual-in_err-documents-in-Host.ensures.1 in
     subst (λ (r : Request). TellsInstead (the_request r) (g.F.Shelf.files c.args.shelf.now) said) (sym c.in-Host.is)
-    (host_told (g.F.Shelf.files c.args.shelf.now) c.in-Host.cap c.in-Host.deadline (map string_bytes c.in-Host.files.now) said (c.in_err-documents-in-Host.ensures.refused said (ap Err (handed_on c.from_residual-in_err-documents-in-Host.result c.in_err-documents-in-Host.field-0.0 (Told said) told e))))
+    (host_told (g.F.Shelf.files c.args.shelf.now) c.in-Host.cap.entries c.in-Host.deadline (map string_bytes c.in-Host.files.names.now) said (c.in_err-documents-in-Host.ensures.refused said (ap Err (handed_on c.from_residual-in_err-documents-in-Host.result c.in_err-documents-in-Host.field-0.0 (Told said) told e))))

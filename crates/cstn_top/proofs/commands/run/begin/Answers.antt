@@ -15,8 +15,8 @@ start-requires c = record { lowered = ap the_network c.into_plan.ensures.network
 
 pub returns-clause-comes : goal.returns-clause-comes
 returns-clause-comes c =
-    begun c.args.cap c.args.names.now c.args.labels c.in_ok-opening.opening.items c.into_plan.result c.in_ok-guide.guide c.in_ok-session.session
-    (verdict_for c.args.cap (the_network c.args.check.net) (lowered (the_labelled c.args.labels)) c.requires.lowered c.requires.verdict)
+    begun c.args.cap.entries c.args.names.now c.args.labels c.in_ok-opening.opening.items c.into_plan.result c.in_ok-guide.guide c.in_ok-session.session
+    (verdict_for c.args.cap.entries (the_network c.args.check.net) (lowered (the_labelled c.args.labels)) c.requires.lowered c.requires.verdict)
     (c.in_ok-opening.ensures.line ∙ ap yes_line (c.requires.load ∙ ap load_of c.requires.lowered))
     (c.into_plan.ensures.live ∙ ap (λ (n : Network). live_bounds (log_of n)) c.requires.lowered)
     c.in_ok-guide.ensures.start c.in_ok-session.ensures.start

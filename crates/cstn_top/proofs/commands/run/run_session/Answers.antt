@@ -15,14 +15,14 @@ use Rattle.cstn_top.proofs.commands.run.run_session.Goals as goal
 
 pub begin-requires-clause-lowered : goal.begin-requires-clause-lowered
 begin-requires-clause-lowered c =
-    let decided : TellsVerdict c.args.cap c.args.names.now c.split-network.result.0 (Yes c.in-Yes.load c.in-Yes.check) = subst (λ (d : Judged). TellsVerdict c.args.cap c.args.names.now c.split-network.result.0 d) c.in-Yes.is c.in_ok-load.ensures.judged in
+    let decided : TellsVerdict c.args.cap.entries c.args.names.now c.split-network.result.0 (Yes c.in-Yes.load c.in-Yes.check) = subst (λ (d : Judged). TellsVerdict c.args.cap.entries c.args.names.now c.split-network.result.0 d) c.in-Yes.is c.in_ok-load.ensures.judged in
     ap the_network decided.2 ∙ c.split-network.ensures.lowered ∙ ap (λ (l : LabelledParts). lowered (the_labelled l)) (sym c.split-network.ensures.labels)
 
 pub returns-in-Yes-clause-comes : goal.returns-in-Yes-clause-comes
 returns-in-Yes-clause-comes c =
-    subst (λ (l : LabelledParts). IfOk c.begin.result (λ prepared. ComesTo (carried_out c.args.cap c.args.names.now (the_labelled l)) (the_plan prepared))) c.split-network.ensures.labels c.begin.ensures.comes
+    subst (λ (l : LabelledParts). IfOk c.begin.result (λ prepared. ComesTo (carried_out c.args.cap.entries c.args.names.now (the_labelled l)) (the_plan prepared))) c.split-network.ensures.labels c.begin.ensures.comes
 
 pub returns-in-Told-clause-comes : goal.returns-in-Told-clause-comes
 returns-in-Told-clause-comes c =
-    told_for c.args.cap c.args.names.now (the_network c.split-network.result.0) (the_labelled c.args.labelled) (the_said c.in-Told.said) c.split-network.ensures.lowered
-    (subst (λ (d : Judged). TellsVerdict c.args.cap c.args.names.now c.split-network.result.0 d) c.in-Told.is c.in_ok-load.ensures.judged)
+    told_for c.args.cap.entries c.args.names.now (the_network c.split-network.result.0) (the_labelled c.args.labelled) (the_said c.in-Told.said) c.split-network.ensures.lowered
+    (subst (λ (d : Judged). TellsVerdict c.args.cap.entries c.args.names.now c.split-network.result.0 d) c.in-Told.is c.in_ok-load.ensures.judged)

@@ -1,0 +1,22 @@
+-- The limits of what words may ask for.
+use Rattle.std.specs.Prelude.{ℕ}
+
+-- the greatest deadline, in ticks
+abbrev pub most_deadline : ℕ
+most_deadline = 1000000
+
+-- the greatest cap: how many entries a log may have
+abbrev pub most_cap : ℕ
+most_cap = 4194304
+
+-- the cap that holds where none is named
+abbrev pub usual_cap : ℕ
+usual_cap = 65536
+
+-- the greatest cap of a host, which holds for each of its logs
+abbrev pub most_host_cap : ℕ
+most_host_cap = 65536
+
+-- the most files of a host
+abbrev pub most_files : ℕ
+most_files = 8
