@@ -1,26 +1,26 @@
 -- Whoever does what is named when it is named, and tells what is awaited before time passes it, can go on.
-use Rattle.std.proofs.Common.{ℕ, zero, suc, ◌≡◌, ◌⊎◌, inl, inr, ◌+◌, ◌<◌, ◌≤◌, max, Bool, true, false, not, ◌&&◌, List, [], ◌∷◌, Option, Some, None, arith, refl, sym, subst, ap, ◌∙◌}
+use Rattle.std.proofs.Common.{ℕ, zero, suc, ◌≡◌, inl, inr, ◌<◌, ◌≤◌, Bool, true, false, not, List, [], ◌∷◌, Option, Some, None, arith, refl, sym, subst, ◌∙◌}
 use Rattle.std.specs.Prelude.{nat_lt, nat_le, if◌then◌else◌}
-use Rattle.std.proofs.lemmas.Bool.{cases_eq, and_parts}
+use Rattle.std.proofs.lemmas.Bool.{and_parts}
 use Rattle.cstn_label.specs.declared.nodes.NodeId.{NodeId}
 use Rattle.cstn_label.specs.declared.props.Prop.{Prop}
 use Rattle.cstn_label.specs.Labels.{Scenario}
-use Rattle.cstn_net.specs.Networks.{Network, IsWellFormed, count, limit}
+use Rattle.cstn_net.specs.Networks.{IsWellFormed, count, limit}
 use Rattle.cstn_net.specs.Strategies.{Table, IsConsistent}
 use Rattle.cstn_lift.specs.Labelled.{Labelled}
 use Rattle.cstn_lift.specs.Completion.{completed_label}
 use Rattle.cstn_lift.specs.Lowered.{lowered}
-use Rattle.cstn_lift.specs.Strategies.{IsExecuted, IsLabelledStrategy, IsLabelledConsistent}
+use Rattle.cstn_lift.specs.Strategies.{IsExecuted}
 use Rattle.cstn_lift.specs.WellFormed.{IsLabelled}
 use Rattle.cstn_lift.proofs.Equivalent.{equivalent, mixed, mixed_defaulted, to_labelled}
 use Rattle.cstn_lift.proofs.Twins.{defaulted_least}
 use Rattle.cstn_lift.proofs.WellFormed.{lowered_well_formed}
 use Rattle.cstn_check.proofs.Decides.{least_exists}
 use Rattle.cstn_history.specs.declared.errors.FactError.{FactError}
-use Rattle.cstn_history.specs.Histories.{History, IsHistory, IsInTime, IsTimelyHistory, AgreesWith, GoesOn, is_done}
-use Rattle.cstn_history.specs.Continuations.{Continues, Can, IsLeastNow, IsQuietBefore, IsAlwaysAt, IsNamed, IsEventful, IsLeastTable}
-use Rattle.cstn_history.specs.Rest.{is_left, number_of, rest}
-use Rattle.cstn_history.specs.Facts.{settles, is_beyond, observed_since, again_told, told_after, done_refusal, told_refusal, again_refusal, at_now, with_done, with_told}
+use Rattle.cstn_history.specs.Histories.{History, IsHistory, IsTimelyHistory, GoesOn, is_done}
+use Rattle.cstn_history.specs.Continuations.{Continues, Can, IsLeastNow, IsQuietBefore, IsAlwaysAt, IsNamed, IsLeastTable}
+use Rattle.cstn_history.specs.Rest.{number_of, rest}
+use Rattle.cstn_history.specs.Facts.{settles, is_beyond, observed_since, again_told, told_after, done_refusal, told_refusal, with_done}
 use Rattle.cstn_history.proofs.Settled.{as_told, told_agrees, told_itself, holds_allows}
 use Rattle.cstn_history.proofs.Places.{left_coming, new_inside}
 use Rattle.cstn_history.proofs.ToRest.{executed_left}
@@ -30,8 +30,7 @@ use Rattle.cstn_history.proofs.WellFormed.{rest_labelled}
 use Rattle.cstn_history.proofs.Narrows.{narrower}
 use Rattle.cstn_history.proofs.NextMoment.{quiet_upto}
 use Rattle.cstn_history.proofs.Followed.{time_passes, outcome_comes, step_is_done}
-use Rattle.cstn_history.proofs.Recorded.{put_there, put_other, put_from, put_kept, timely_now, timely_done, timely_told}
-use Rattle.cstn_next.specs.Next.{is_ready}
+use Rattle.cstn_history.proofs.Recorded.{put_other, put_from, put_kept, timely_now, timely_done, timely_told}
 use Rattle.cstn_follow.specs.Progress.{HasRoomLeft, IsQuietUpto, IsPassing, IsTelling, IsDoing, IsStep, AreSteps, after}
 use Rattle.cstn_next.proofs.Coming.{ready_from}
 

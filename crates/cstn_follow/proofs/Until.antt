@@ -1,8 +1,7 @@
 -- Until when a time-point can wait is found by halving.
-use Rattle.std.proofs.Common.{ℕ, zero, suc, ◌≡◌, inl, inr, ◌+◌, ◌-◌, ◌*◌, ◌^◌, ◌<◌, ◌≤◌, Bool, true, false, not, List, [], ◌∷◌, ◌++◌, Option, Some, None, length, arith, refl, sym, subst, ap, ◌∙◌}
-use Rattle.std.specs.Prelude.{◌↔◌, ◌/◌, map, slice_index_or, nat_lt, pos, ◌-ℤ◌, if◌then◌else◌}
-use Rattle.std.specs.List.{All, Contains, filter_map, flat_map, range_with_len}
-use Rattle.std.proofs.Math.Path.{fun_ext}
+use Rattle.std.proofs.Common.{ℕ, zero, suc, ◌≡◌, inl, inr, ◌+◌, ◌-◌, ◌*◌, ◌^◌, ◌<◌, ◌≤◌, Bool, true, false, List, [], ◌∷◌, ◌++◌, Option, Some, None, length, arith, refl, sym, subst, ap, ◌∙◌}
+use Rattle.std.specs.Prelude.{◌↔◌, ◌/◌, nat_lt, pos, ◌-ℤ◌, if◌then◌else◌}
+use Rattle.std.specs.List.{All, filter_map}
 use Rattle.std.proofs.Math.Nat.{mul-div-le, two-pow-succ}
 use Rattle.std.proofs.lemmas.Nat.{le-div}
 use Rattle.std.proofs.lemmas.Int.{ints}
@@ -10,31 +9,30 @@ use Rattle.std.proofs.lemmas.Bool.{cases_Bool, cases_lt}
 use Rattle.std.proofs.lemmas.List.{length-append}
 use Rattle.std.proofs.lemmas.List.Quantifiers.{all_pairs_push}
 use Rattle.std.proofs.lemmas.List.Elements.{All-weaker, All-append, All-cons, filter_map-append}
-use Rattle.cstn_label.specs.Labels.{Label, Scenario, Holds, MarkFits, IsPlain, empty, joined}
+use Rattle.cstn_label.specs.Labels.{Label, Scenario, MarkFits, IsPlain, empty, joined}
 use Rattle.cstn_label.proofs.LabelLemmas.{made_true, made_holds, joined_empty}
-use Rattle.cstn_net.specs.Networks.{Network, Constraint, IsNetwork, IsConstraint, IsWellFormed, IsValue, Observes, count, limit}
-use Rattle.cstn_net.specs.Strategies.{Table, IsConsistent}
+use Rattle.cstn_net.specs.Networks.{Network, Constraint, IsConstraint, IsWellFormed, IsValue, count, limit}
 use Rattle.cstn_lift.specs.Labelled.{Labelled, label_of}
 use Rattle.cstn_lift.specs.Completion.{completed, completed_label, full_label}
-use Rattle.cstn_lift.specs.Lowered.{is_plain, with_full_label, full_of, full_constraints, guards_of, guards_with, all_guards, guards, numbered, lowered}
-use Rattle.cstn_lift.specs.Strategies.{IsExecuted, IsLabelledStrategy, IsLabelledConsistent}
+use Rattle.cstn_lift.specs.Lowered.{is_plain, with_full_label, full_of, full_constraints, numbered, lowered}
+use Rattle.cstn_lift.specs.Strategies.{IsExecuted, IsLabelledConsistent}
 use Rattle.cstn_lift.specs.WellFormed.{IsLabelled}
 use Rattle.cstn_lift.proofs.Equivalent.{equivalent}
 use Rattle.cstn_lift.proofs.ListLemmas.{filter_map_all, numbered_length}
 use Rattle.cstn_lift.proofs.LoweredLemmas.{plain_true}
 use Rattle.cstn_lift.proofs.WellFormed.{lowered_well_formed}
-use Rattle.cstn_check.specs.Growth.{load_of}
 use Rattle.cstn_check.specs.Verdicts.{is_consistent}
 use Rattle.cstn_check.proofs.Decides.{decided}
 use Rattle.cstn_history.specs.Histories.{History, IsHistory, IsTimelyHistory, AgreesWith}
-use Rattle.cstn_history.specs.Continuations.{Continues, Can, CanWait}
+use Rattle.cstn_history.specs.Continuations.{Can, CanWait}
 use Rattle.cstn_history.specs.Rest.{is_left, number_of, bare, rest, with_constraint, rest_waiting, moved, constraint_left, constraints_left, added}
-use Rattle.cstn_history.proofs.Edited.{completed_new}
 use Rattle.cstn_history.proofs.Settled.{as_told, told_agrees, told_same, some_or_none}
 use Rattle.cstn_history.proofs.Places.{left_allows, new_inside}
 use Rattle.cstn_history.proofs.WellFormed.{rest_labelled}
 use Rattle.cstn_history.proofs.Waiting.{waits_both, waits_less, strategy_more, strategy_less, met_more}
-use Rattle.cstn_follow.specs.Waiting.{HasRoomToWait, Span, waiting_one, rest_until, said, tried, middle, halved, and_then, halving, waits_until}
+use Rattle.cstn_follow.proofs.Trial.{said_is}
+use Rattle.cstn_follow.proofs.Constraints.{these_labelled, these_long}
+use Rattle.cstn_follow.specs.Waiting.{HasRoomToWait, Span, waiting_one, rest_until, tried, middle, halved, and_then, halving, waits_until}
 
 all_one : (P : Constraint → Type 0) → (d : Constraint) → P d → All P (d ∷ [])
 all_one P d here = All-cons P d [] here (λ i e inside. absurd (omega arith))
@@ -45,34 +43,11 @@ module _ (R : Labelled) (good : IsLabelled R) (fresh k t : ℕ) where
   abbrev d : Constraint
   d = waiting_one fresh k t
 
-  abbrev W : Labelled
-  W = with_constraint R d
+  abbrev cs : List Constraint
+  cs = R.base.constraints ++ d ∷ []
 
-  completed_same : (a : Label) → completed W a ≡ completed R a
-  completed_same a = completed_new R R.base.deadline (R.base.constraints ++ d ∷ []) a
-
-  pub waiting_labelled : IsWellFormed W.base → IsLabelled W
-  waiting_labelled wf = record {
-    base = wf;
-    one_each = good.one_each;
-    origin = good.origin;
-    plain = good.plain;
-    observed = λ x here p marked. let o = good.observed x here p marked in (o.0, record { what = o.1.what });
-    no_circle = λ x p o. ap (λ (a : Label). a p) (completed_same (label_of R x)) ∙ good.no_circle x p (record { what = o.what });
-    completed_plain = λ x here. subst IsPlain (sym (completed_same (label_of R x))) (good.completed_plain x here);
-  }
-
-  full_same : (c : Constraint) → with_full_label W c ≡ with_full_label R c
-  full_same c = ap (λ (a : Label). if is_plain a then Some (record c { label = a }) else None) (completed_same (joined c.label (joined (label_of R c.from) (label_of R c.to))))
-
-  guards_same : (x : ℕ) (a : Label) → guards_of W.base x a ≡ guards_of R.base x a
-  unfolding guards_of
-  guards_same x a = refl
-
-  all_same : guards W ≡ guards R
-  all_same =
-      ap (λ (f : ℕ → List Constraint). flat_map f (range_with_len 0 (count R.base))) (fun_ext (λ x. guards_same x _))
-      ∙ ap (λ (f : Label → Label). all_guards R.base (map f R.labels)) (fun_ext completed_same)
+  pub waiting_labelled : IsWellFormed (with_constraint R d).base → IsLabelled (with_constraint R d)
+  waiting_labelled = these_labelled R cs good
 
   plain_here : k < count R.base → is_plain (full_label R d) ≡ true
   plain_here here =
@@ -80,21 +55,23 @@ module _ (R : Labelled) (good : IsLabelled R) (fresh k t : ℕ) where
       ∙ ap (completed R) (joined_empty (label_of R k)) in
       plain_true (full_label R d) (subst IsPlain (sym empty_there) (good.completed_plain k here))
 
-  pub waiting_long : k < count R.base → length (lowered W).constraints ≡ length (lowered R).constraints + 1
+  pub waiting_long : k < count R.base → length (lowered (with_constraint R d)).constraints ≡ length (lowered R).constraints + 1
   waiting_long here =
-      let cs = R.base.constraints in
-      let more = filter_map-append (with_full_label R) cs (d ∷ []) in
       let last = ap (λ b. if b then Some (record d { label = full_label R d }) else None) (plain_here here) in
-      let one : filter_map (with_full_label R) (d ∷ []) ≡ record d { label = full_label R d } ∷ [] = rw last refl in
-      let full : full_constraints W ≡ full_constraints R ++ record d { label = full_label R d } ∷ [] =
-      ap (λ (f : Constraint → Option Constraint). filter_map f (cs ++ d ∷ [])) (fun_ext full_same) ∙ more ∙ ap (λ l. full_constraints R ++ l) one in
-      let long = ap length full ∙ length-append (full_constraints R) (record d { label = full_label R d } ∷ []) in
-      let guarded = ap length all_same in
-      let both = length-append (full_constraints W) (guards W) in
-      let before = length-append (full_constraints R) (guards R) in
-      let new = numbered_length 0 (full_constraints W ++ guards W) in
-      let old = numbered_length 0 (full_constraints R ++ guards R) in
+      let one : full_of R (d ∷ []) ≡ record d { label = full_label R d } ∷ [] = rw last refl in
+      let more = ap length (filter_map-append (with_full_label R) R.base.constraints (d ∷ []) ∙ ap (λ l. full_constraints R ++ l) one) in
+      let long = length-append (full_constraints R) (record d { label = full_label R d } ∷ []) in
+      let new = these_long R cs in
+      let old = these_long R R.base.constraints in
       omega arith
+
+pub waiting_constraint : (net : Network) (fresh k t : ℕ) → 0 < count net → k < count net → IsConstraint net (waiting_one fresh k t)
+waiting_constraint net fresh k t origin here = record {
+  from = here;
+  to = origin;
+  plain = λ p. tt;
+  observed = λ p marked. absurd (marked refl);
+}
 
 -- ---- what is left, in which x is at t or later
 
@@ -159,12 +136,7 @@ module _ (m : Labelled) (h : History) (fresh x : ℕ) (good : IsLabelled m) (tim
                   plain = is.plain;
                   observed = λ p marked. let o = is.observed p marked in (o.0, record { what = o.1.what });
                 }) cs base.network.constraints)
-                (all_one (IsConstraint new) d (record {
-                  from = k_inside;
-                  to = base.network.origin;
-                  plain = λ p. tt;
-                  observed = λ p marked. absurd (marked refl);
-                }));
+                (all_one (IsConstraint new) d (waiting_constraint new fresh (number_of m h x) t base.network.origin k_inside));
           };
           few_points = base.few_points;
           letters = λ y p o. base.letters y p (record { what = o.what });
@@ -207,12 +179,8 @@ module _ (m : Labelled) (h : History) (fresh x : ℕ) (good : IsLabelled m) (tim
         )
 
     module _ (cap : ℕ) where
-      said_is : (full b v : Bool) → (if full then None else Some b) ≡ Some v → b ≡ v
-      said_is true b v e = absurd (cc)
-      said_is false b v e = let same : b ≡ v = cc in same
-
       tried_is : (t : ℕ) (v : Bool) → tried m h fresh x cap t ≡ Some v → is_consistent (lowered (rest_until m h fresh x t)) ≡ v
-      tried_is t v e = said_is (nat_lt cap (load_of (lowered (rest_until m h fresh x t)))) (is_consistent (lowered (rest_until m h fresh x t))) v e
+      tried_is t v e = said_is cap (lowered (rest_until m h fresh x t)) v e
 
       -- what is left to be tried: x can wait until the lower end, and not beyond the upper one
       record IsSpan (s : Span) : Type 0 where

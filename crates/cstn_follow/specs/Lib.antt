@@ -1,2 +1,4 @@
+pub mod Tries
 pub mod Progress
 pub mod Waiting
+pub mod Blame

@@ -7,7 +7,7 @@ use Rattle.cstn_lift.specs.Labelled.{Labelled}
 use Rattle.cstn_history.specs.Histories.{History}
 use Rattle.cstn_history.specs.Continuations.{IsNamed, IsEventful}
 use Rattle.cstn_history.specs.Rest.{rest}
-use Rattle.cstn_history.specs.Facts.{now_refusal, done_refusal, told_refusal, at_now, with_done, with_told}
+use Rattle.cstn_history.specs.Facts.{now_refusal, told_refusal, at_now, with_done, with_told}
 use Rattle.cstn_history.specs.Handed.{HasRoom}
 
 -- what is left has no more constraints than a network may have, under ids above those of the network

@@ -1,12 +1,11 @@
 -- Until when a time-point can wait, by halving.
 use Rattle.std.specs.Prelude.{ℕ, zero, suc, ◌+◌, ◌-◌, ◌/◌, ◌<◌, Bool, true, false, nat_lt, length, Option, None, Some, pos, ◌-ℤ◌, if◌then◌else◌}
-use Rattle.cstn_net.specs.Networks.{Network, Constraint}
-use Rattle.cstn_check.specs.Growth.{load_of}
-use Rattle.cstn_check.specs.Verdicts.{is_consistent}
+use Rattle.cstn_net.specs.Networks.{Constraint}
 use Rattle.cstn_lift.specs.Labelled.{Labelled}
 use Rattle.cstn_lift.specs.Lowered.{lowered}
 use Rattle.cstn_history.specs.Histories.{History}
 use Rattle.cstn_history.specs.Rest.{number_of, bare, rest, with_constraint}
+use Rattle.cstn_follow.specs.Tries.{said}
 
 -- the time-point with the number k is at t or later; the id is above all ids of what is left, in which what was added has ids from
 -- `fresh` on
@@ -22,13 +21,13 @@ pub record HasRoomToWait (m : Labelled) (h : History) (fresh : ℕ) : Type 0 whe
   pub base : length (rest m h fresh).base.constraints < 16384
   pub lowered : length (lowered (rest m h fresh)).constraints < 16384
 
--- what a check whose log may have `cap` entries says of a network; none where the log is full
-abbrev pub said : ℕ → Network → Option Bool
-said cap net = if nat_lt cap (load_of net) then None else Some (is_consistent net)
+-- what is said of a labelled network in which the time-point with the number k is at t or later
+abbrev pub said_until : Labelled → ℕ → ℕ → ℕ → ℕ → Option Bool
+said_until m fresh k cap t = said cap (lowered (with_constraint m (waiting_one fresh k t)))
 
 -- what is said of what is left with x at t or later
 abbrev pub tried : Labelled → History → ℕ → ℕ → ℕ → ℕ → Option Bool
-tried m h fresh x cap t = said cap (lowered (rest_until m h fresh x t))
+tried m h fresh x cap t = said_until (rest m h fresh) fresh (number_of m h x) cap t
 
 -- the moments that are left to be tried
 pub record Span : Type 0 where

@@ -1,6 +1,6 @@
-// Laws of progress and of waiting.
-ghost use Rattle.std.specs.Prelude.{ℕ, ◌≡◌, ◌+◌, ◌<◌, ◌≤◌, None, Some, List, IsTrue, length};
-ghost use Rattle.std.specs.List.{All};
+// Laws of progress, of waiting and of blame.
+ghost use Rattle.std.specs.Prelude.{ℕ, ◌≡◌, ◌+◌, ◌<◌, ◌≤◌, Bool, None, Some, List, IsTrue, length};
+ghost use Rattle.std.specs.List.{All, AllPairs, Contains};
 ghost use Rattle.cstn_label.specs.declared.nodes.NodeId.{NodeId};
 ghost use Rattle.cstn_net.specs.Networks.{IsWellFormed, count};
 ghost use Rattle.cstn_net.specs.Strategies.{Table};
@@ -11,6 +11,8 @@ ghost use Rattle.cstn_history.specs.Histories.{History, IsHistory, IsTimelyHisto
 ghost use Rattle.cstn_history.specs.Continuations.{Continues, Can, CanWait, IsNamed, IsLeastTable};
 ghost use Rattle.cstn_history.specs.Rest.{is_left, number_of, rest, with_constraint};
 ghost use Rattle.cstn_history.specs.Facts.{done_refusal, with_done};
+ghost use Rattle.cstn_history.specs.Handed.{HasRoom};
+ghost use Rattle.cstn_follow.specs.Blame.{is_of, but, alone, blamed};
 ghost use Rattle.cstn_follow.specs.Progress.{HasRoomLeft, IsQuietUpto, IsStep, AreSteps, after};
 ghost use Rattle.cstn_follow.specs.Waiting.{HasRoomToWait, waiting_one, waits_until};
 
@@ -47,4 +49,29 @@ pub fn waiting_is_found()
         → IsLabelled (with_constraint n (waiting_one fresh k t)) }
     ensures long { (n : Labelled) (fresh k t : ℕ) → IsLabelled n → k < count n.base
         → length (lowered (with_constraint n (waiting_one fresh k t))).constraints ≡ length (lowered n).constraints + 1 }
+{}
+
+/// A labelled network with some of its constraints is one, whose lowered network has no more constraints; and what is left of it
+/// has no more than what was left of the whole.
+pub fn parts_are_labelled()
+    ensures labelled { (m : Labelled) (test : ℕ → Bool) → IsLabelled m → IsLabelled (alone m test) }
+    ensures short { (m : Labelled) (test : ℕ → Bool) → IsLabelled m
+        → length (lowered (alone m test)).constraints ≤ length (lowered m).constraints }
+    ensures above { (m : Labelled) (test : ℕ → Bool) (fresh : ℕ) → All (λ c. c.id < fresh) m.base.constraints
+        → All (λ c. c.id < fresh) (alone m test).base.constraints }
+    ensures room { (m : Labelled) (test : ℕ → Bool) (h : History) (fresh : ℕ) → IsLabelled m → HasRoom (rest m h fresh)
+        → HasRoom (rest (alone m test) h fresh) }
+{}
+
+/// Which constraints are to blame, where a history can't go on, is found by leaving out each in ascending order of their ids without
+/// which it can't go on either: by those that are found it can't go on, and without any one of them it can.
+pub fn blame_is_found()
+    ensures cannot { (m : Labelled) (h : History) (fresh cap : ℕ) (ids : List ℕ) → IsLabelled m → IsTimelyHistory m h
+        → All (λ c. c.id < fresh) m.base.constraints → HasRoom (rest m h fresh) → (Can m h → ⊥) → blamed m h fresh cap ≡ Some ids
+        → Can (alone m (is_of ids)) h → ⊥ }
+    ensures needed { (m : Labelled) (h : History) (fresh cap id : ℕ) (ids : List ℕ) → IsLabelled m → IsTimelyHistory m h
+        → All (λ c. c.id < fresh) m.base.constraints → HasRoom (rest m h fresh) → blamed m h fresh cap ≡ Some ids
+        → Contains ids id → Can (alone m (but id (is_of ids))) h }
+    ensures ascending { (m : Labelled) (h : History) (fresh cap : ℕ) (ids : List ℕ) → IsLabelled m → blamed m h fresh cap ≡ Some ids
+        → AllPairs (λ a b. a < b) ids }
 {}

@@ -1,12 +1,14 @@
 -- What is ready, and what is awaited.
-use Rattle.std.proofs.Common.{ℕ, ◌≡◌, inl, inr, ◌<◌, ◌≤◌, max, Bool, true, false, not, Option, Some, None, arith, refl, subst, ap, ◌∙◌}
+use Rattle.std.proofs.Common.{ℕ, ◌≡◌, inl, inr, ◌<◌, ◌≤◌, max, Bool, true, false, not, Option, Some, None, arith, refl, sym, subst, ap, ◌∙◌}
 use Rattle.std.specs.Prelude.{if◌then◌else◌}
 use Rattle.std.specs.Option.{is_some}
-use Rattle.std.proofs.lemmas.Bool.{and_parts, and_from, leb-true, le-leb}
+use Rattle.std.proofs.lemmas.Bool.{cases_Bool, false_from_ne_true, both_ways, and_parts, and_from, leb-true, le-leb}
 use Rattle.cstn_label.specs.declared.marks.Mark.{Mark}
 use Rattle.cstn_label.specs.declared.marks.Mark.TheVariants.{Absent}
-use Rattle.cstn_label.specs.Labels.{Scenario, MarkFits}
+use Rattle.cstn_label.specs.Labels.{Label, Scenario, MarkFits, IsPlain}
+use Rattle.cstn_label.specs.Marks.{is_plain}
 use Rattle.cstn_label.proofs.MarkLemmas.{absent_or_not}
+use Rattle.cstn_label.proofs.PlainLabels.{plain_true, true_plain}
 use Rattle.cstn_lift.specs.Labelled.{Labelled}
 use Rattle.cstn_lift.specs.Completion.{completed_label}
 use Rattle.cstn_lift.specs.Lowered.{observer_of}
@@ -122,3 +124,10 @@ module _ (m : Labelled) (h : History) (good : IsLabelled m) where
 pub coming_parts : (b : Bool) (n u : ℕ) → (if b then Some n else None) ≡ Some u → (b ≡ true) × (n ≡ u)
 coming_parts true n u e = (refl, (let same : n ≡ u = cc in same))
 coming_parts false n u e = absurd (cc)
+
+-- the test of a label, by whether it is plain
+pub plain_same : (a : Label) (b : Bool) → (b ≡ true → IsPlain a) → (IsPlain a → b ≡ true) → ((p : ℕ) → 52 ≤ p → a p ≡ Absent) → b ≡ is_plain a
+plain_same a b from to above = elim (cases_Bool b) [
+  | inl plain ↦ plain ∙ sym (plain_true a (from plain))
+  | inr not_plain ↦ not_plain ∙ sym (false_from_ne_true (is_plain a) (λ e. both_ways b not_plain (to (true_plain a above e))))
+]

@@ -1,0 +1,24 @@
+-- What a check says of a network.
+use Rattle.std.proofs.Common.{ℕ, ◌≡◌, ◌≤◌, Bool, true, false, Some, None, ap, ◌∙◌}
+use Rattle.std.proofs.lemmas.Bool.{cond-false, le-ltb, false_from_ne_true}
+use Rattle.std.specs.Prelude.{nat_lt, if◌then◌else◌}
+use Rattle.cstn_net.specs.Networks.{Network, IsWellFormed}
+use Rattle.cstn_net.specs.Strategies.{IsConsistent}
+use Rattle.cstn_check.specs.Growth.{load_of}
+use Rattle.cstn_check.specs.Verdicts.{is_consistent}
+use Rattle.cstn_check.proofs.Decides.{decided}
+use Rattle.cstn_follow.specs.Tries.{said}
+
+-- what is said, where the log isn't full, is whether the network is consistent
+pub said_is : (cap : ℕ) (net : Network) (v : Bool) → said cap net ≡ Some v → is_consistent net ≡ v
+said_is cap net v = by (nat_lt cap (load_of net)) (is_consistent net)
+  where
+    by : (full b : Bool) → (if full then None else Some b) ≡ Some v → b ≡ v
+    by true b e = absurd (cc)
+    by false b e = let same : b ≡ v = cc in same
+
+-- where a check says no
+pub said_no : (cap : ℕ) (net : Network) → IsWellFormed net → load_of net ≤ cap → (IsConsistent net → ⊥) → said cap net ≡ Some false
+said_no cap net good upto never =
+    cond-false (nat_lt cap (load_of net)) None (Some (is_consistent net)) (le-ltb cap (load_of net) upto)
+    ∙ ap (λ b. Some b) (false_from_ne_true (is_consistent net) (λ t. never ((decided net good).0 t)))
