@@ -1,2 +1,6 @@
 pub mod Progress
 pub mod Waiting
+pub mod Following
+pub mod FactLines
+pub mod Questions
+pub mod Read

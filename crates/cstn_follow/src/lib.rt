@@ -1,6 +1,14 @@
-//! A labelled network that is carried out while it is followed: whether it can be gone on with, and until when what is next can wait.
+//! A labelled network that is followed while it is carried out: facts are told, and the verdict on what is left is answered; whether it
+//! can be gone on with, and until when what is next can wait.
 #![tactic(auto)]
 
+mod facts;
 mod laws;
+mod sessions;
+mod texts;
+mod truth;
+mod verdicts;
 
 pub use laws::{next_keeps_going, waiting_is_found};
+pub use sessions::Following;
+pub use truth::verdicts_are_true;
