@@ -1,7 +1,14 @@
-//! A labelled network that is carried out while it is followed: whether it can be gone on with, until when what is next can wait,
-//! and which constraints are to blame where it can't.
+//! A labelled network that is followed while it is carried out: facts are told, and the verdict on what is left is answered; whether
+//! it can be gone on with, until when what is next can wait, and which constraints are to blame where it can't.
 #![tactic(auto)]
 
+mod facts;
 mod laws;
+mod sessions;
+mod texts;
+mod truth;
+mod verdicts;
 
 pub use laws::{blame_is_found, next_keeps_going, parts_are_labelled, waiting_is_found};
+pub use sessions::Following;
+pub use truth::verdicts_are_true;

@@ -1,0 +1,79 @@
+-- Edits of a labelled network, and how much of it there may be.
+use Rattle.std.proofs.Common.{ℕ, ◌≡◌, ◌<◌, ◌≤◌, inl, inr, Bool, true, false, List, Some, None, length, refl, sym, subst, ap, ◌∙◌, arith}
+use Rattle.std.specs.Prelude.{◌⊎◌, nat_le, ◌&&◌, if◌then◌else◌}
+use Rattle.cstn_label.specs.Labels.{Label, IsPlain}
+use Rattle.cstn_net.specs.Networks.{Constraint, IsWellFormed}
+use Rattle.cstn_lift.specs.Labelled.{Labelled, label_of}
+use Rattle.cstn_lift.specs.Lowered.{lowered}
+use Rattle.cstn_lift.specs.WellFormed.{IsLabelled}
+use Rattle.cstn_check.specs.Decisions.{verdict}
+use Rattle.cstn_check.specs.declared.verdicts.Verdict.{Verdict}
+use Rattle.cstn_history.specs.Histories.{History, edited}
+use Rattle.cstn_history.specs.Rest.{rest}
+use Rattle.cstn_history.specs.Handed.{HasRoom}
+use Rattle.cstn_history.proofs.Edited.{completed_new}
+use Rattle.cstn_follow.specs.Following.{Following, has_few, fits, verdict_left, verdict_now, verdict_within}
+
+-- labels that were in order are so with other constraints and another deadline
+pub edited_labelled : (m : Labelled) (deadline : ℕ) (cs : List Constraint) → IsLabelled m → IsWellFormed (edited m deadline cs).base → IsLabelled (edited m deadline cs)
+edited_labelled m deadline cs good wf = record {
+  base = wf;
+  one_each = good.one_each;
+  origin = good.origin;
+  plain = good.plain;
+  observed = λ x here p marked. let o = good.observed x here p marked in (o.0, record { what = o.1.what });
+  no_circle = λ x p o. ap (λ (a : Label). a p) (completed_new m deadline cs (label_of m x)) ∙ good.no_circle x p (record { what = o.what });
+  completed_plain = λ x here. subst IsPlain (sym (completed_new m deadline cs (label_of m x))) (good.completed_plain x here);
+}
+
+few_true : (n : ℕ) → n ≤ 16384 → nat_le n 16384 ≡ true
+few_true n few = grind arith
+
+many_false : (n : ℕ) → 16384 < n → nat_le n 16384 ≡ false
+many_false n many = grind arith
+
+-- there is a verdict where there are few enough constraints
+pub left_fits : (m : Labelled) (h : History) (fresh cap : ℕ) → length (lowered m).constraints ≤ 16384 → HasRoom (rest m h fresh)
+    → verdict_left m h fresh cap ≡ Some (verdict cap (lowered (rest m h fresh)))
+left_fits m h fresh cap few room =
+    all_fit (has_few (lowered m)) (has_few (rest m h fresh).base) (has_few (lowered (rest m h fresh)))
+    (few_true (length (lowered m).constraints) few) (few_true (length (rest m h fresh).base.constraints) room.base)
+    (few_true (length (lowered (rest m h fresh)).constraints) room.lowered)
+  where
+    all_fit : (a b c : Bool) → a ≡ true → b ≡ true → c ≡ true
+        → (if a && (b && c) then Some (verdict cap (lowered (rest m h fresh))) else None) ≡ Some (verdict cap (lowered (rest m h fresh)))
+    all_fit true true true p q r = refl
+    all_fit true true false p q r = absurd (cc)
+    all_fit true false c p q r = absurd (cc)
+    all_fit false b c p q r = absurd (cc)
+
+-- and there is none where there are too many
+pub left_many : (m : Labelled) (h : History) (fresh cap : ℕ)
+    → (16384 < length (lowered m).constraints) ⊎ ((16384 < length (rest m h fresh).base.constraints) ⊎ (16384 < length (lowered (rest m h fresh)).constraints))
+    → verdict_left m h fresh cap ≡ None
+left_many m h fresh cap (inl many) =
+    ap (λ b. if b && (has_few (rest m h fresh).base && has_few (lowered (rest m h fresh))) then Some (verdict cap (lowered (rest m h fresh))) else None)
+    (many_false (length (lowered m).constraints) many)
+left_many m h fresh cap (inr (inl many)) =
+    ap (λ b. if has_few (lowered m) && (b && has_few (lowered (rest m h fresh))) then Some (verdict cap (lowered (rest m h fresh))) else None)
+    (many_false (length (rest m h fresh).base.constraints) many) ∙ not_both (has_few (lowered m))
+  where
+    not_both : (a : Bool) → (if a && (false && has_few (lowered (rest m h fresh))) then Some (verdict cap (lowered (rest m h fresh))) else None) ≡ None
+    not_both true = refl
+    not_both false = refl
+left_many m h fresh cap (inr (inr many)) =
+    ap (λ b. if has_few (lowered m) && (has_few (rest m h fresh).base && b) then Some (verdict cap (lowered (rest m h fresh))) else None)
+    (many_false (length (lowered (rest m h fresh)).constraints) many) ∙ not_all (has_few (lowered m)) (has_few (rest m h fresh).base)
+  where
+    not_all : (a b : Bool) → (if a && (b && false) then Some (verdict cap (lowered (rest m h fresh))) else None) ≡ None
+    not_all true true = refl
+    not_all true false = refl
+    not_all false b = refl
+
+-- the verdict within the limits is the verdict
+pub within_is : (s : Following) (v : Verdict) → verdict_within s ≡ Some v → v ≡ verdict_now s
+within_is s v is = by_fit (fits s.network s.history s.fresh) is
+  where
+    by_fit : (b : Bool) → (if b then Some (verdict_now s) else None) ≡ Some v → v ≡ verdict_now s
+    by_fit true here = cc
+    by_fit false here = absurd (cc)

@@ -1,0 +1,68 @@
+-- What a verdict on what is left says of the history.
+use Rattle.std.proofs.Common.{ℕ, ◌≡◌, ◌<◌, ◌≤◌, Bool, true, false, Some, None, length, refl, subst, arith}
+use Rattle.std.specs.Prelude.{nat_le, ◌&&◌, if◌then◌else◌}
+use Rattle.std.specs.List.{All}
+use Rattle.cstn_lift.specs.Labelled.{Labelled}
+use Rattle.cstn_lift.specs.Lowered.{lowered}
+use Rattle.cstn_lift.specs.WellFormed.{IsLabelled}
+use Rattle.cstn_lift.proofs.Equivalent.{equivalent}
+use Rattle.cstn_lift.proofs.WellFormed.{lowered_well_formed}
+use Rattle.cstn_check.specs.Growth.{load_of}
+use Rattle.cstn_check.specs.Decisions.{verdict}
+use Rattle.cstn_check.specs.declared.verdicts.Verdict.{Verdict}
+use Rattle.cstn_check.specs.declared.verdicts.Verdict.TheVariants.{Yes, No, Full}
+use Rattle.cstn_check.proofs.Deciding.{Tells, verdict_tells}
+use Rattle.cstn_history.specs.Histories.{History, IsTimelyHistory}
+use Rattle.cstn_history.specs.Continuations.{Can}
+use Rattle.cstn_history.specs.Rest.{rest}
+use Rattle.cstn_history.specs.Handed.{HasRoom}
+use Rattle.cstn_history.proofs.Decides.{can_both}
+use Rattle.cstn_history.proofs.WellFormed.{rest_labelled}
+use Rattle.cstn_follow.specs.Following.{has_few, verdict_left}
+
+few_is : (n : ℕ) → nat_le n 16384 ≡ true → n ≤ 16384
+few_is n is = grind arith
+
+module _ (m : Labelled) (h : History) (fresh cap : ℕ) (v : Verdict) (is : verdict_left m h fresh cap ≡ Some v) where
+  abbrev Left : Labelled
+  Left = rest m h fresh
+
+  by_few : (a b c : Bool) → has_few Left.base ≡ b → has_few (lowered Left) ≡ c
+      → (if a && (b && c) then Some (verdict cap (lowered Left)) else None) ≡ Some v → HasRoom Left × (verdict cap (lowered Left) ≡ v)
+  by_few true true true few few_lowered says = (
+    record {
+      base = few_is (length Left.base.constraints) few;
+      lowered = few_is (length (lowered Left).constraints) few_lowered;
+    },
+    (cc),
+  )
+  by_few true true false few few_lowered says = absurd (cc)
+  by_few true false c few few_lowered says = absurd (cc)
+  by_few false b c few few_lowered says = absurd (cc)
+
+  pub left_says : HasRoom Left × (verdict cap (lowered Left) ≡ v)
+  left_says = by_few (has_few (lowered m)) (has_few Left.base) (has_few (lowered Left)) refl refl is
+
+  module _ (good : IsLabelled m) (timely : IsTimelyHistory m h) (above : All (λ c. c.id < fresh) m.base.constraints) where
+    left_labelled : IsLabelled Left
+    left_labelled = rest_labelled m h fresh good timely.history timely.in_time above left_says.0.base
+
+    left_tells : Tells cap (lowered Left) v
+    left_tells = subst (Tells cap (lowered Left)) left_says.1 (verdict_tells cap (lowered Left) (lowered_well_formed Left left_labelled left_says.0.lowered))
+
+-- after a yes the history can go on, after a no it can't, and a log that is full has more entries than it may
+pub yes_can : (m : Labelled) (h : History) (fresh cap load : ℕ) → IsLabelled m → IsTimelyHistory m h → All (λ c. c.id < fresh) m.base.constraints
+    → verdict_left m h fresh cap ≡ Some (Yes load) → Can m h
+yes_can m h fresh cap load good timely above is =
+    let tells = left_tells m h fresh cap (Yes load) is good timely above in
+    (can_both m h fresh good timely.history).1 ((equivalent (rest m h fresh) (left_labelled m h fresh cap (Yes load) is good timely above)).consistent.1 tells.0)
+
+pub no_cannot : (m : Labelled) (h : History) (fresh cap load : ℕ) → IsLabelled m → IsTimelyHistory m h → All (λ c. c.id < fresh) m.base.constraints
+    → verdict_left m h fresh cap ≡ Some (No load) → Can m h → ⊥
+no_cannot m h fresh cap load good timely above is can =
+    let tells = left_tells m h fresh cap (No load) is good timely above in
+    tells.0 ((equivalent (rest m h fresh) (left_labelled m h fresh cap (No load) is good timely above)).consistent.0 ((can_both m h fresh good timely.history).0 can))
+
+pub full_is_above : (m : Labelled) (h : History) (fresh cap : ℕ) → IsLabelled m → IsTimelyHistory m h → All (λ c. c.id < fresh) m.base.constraints
+    → verdict_left m h fresh cap ≡ Some Full → cap < load_of (lowered (rest m h fresh))
+full_is_above m h fresh cap good timely above is = left_tells m h fresh cap Full is good timely above

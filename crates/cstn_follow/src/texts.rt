@@ -1,0 +1,136 @@
+// What a session says.
+ghost use Rattle.std.specs.Prelude.{◌≡◌, ◌<◌, ◌++◌, ◌∷◌, [], length, flat_map, map, IfOk, IfSome, codes, decimal, slice_index_or};
+ghost use Rattle.cstn_label.specs.Letters.{letter_of};
+ghost use Rattle.cstn_reply.specs.Texts.{line};
+ghost use Rattle.cstn_follow.specs.Following.{verdict_line, too_many, name_at};
+ghost use Rattle.cstn_follow.specs.FactLines.{refused_fact, unknown_name};
+ghost use Rattle.cstn_text.specs.PrintedNames.{printed_name};
+ghost use Rattle.cstn_lines.specs.LiveLines.{printed_truth};
+
+use cstn_check::Verdict;
+use cstn_history::FactError;
+use cstn_label::{NodeId, Prop};
+use cstn_reply::{put_number, put_outcome, put_prop, put_word};
+use cstn_text::{Names, print_name};
+use itoa::Buffer;
+use std::alloc::{AllocError, Global};
+
+// How many bytes an answer without names has at most.
+const ROOM: usize = 64;
+
+/// The line of a verdict.
+pub fn verdict_line(alloc: Global, cap: u32, verdict: Verdict) -> Result<Vec<u8>, AllocError>
+    ensures line { IfOk result (λ text. text.items ≡ verdict_line cap verdict) }
+{
+    match verdict {
+        Verdict::Yes { load } => number_line(alloc, b"yes ", load),
+        Verdict::No { load } => number_line(alloc, b"no ", load),
+        Verdict::Full => number_line(alloc, b"full ", cap),
+    }
+}
+
+// A line that is a word.
+fn word_line(alloc: Global, word: &[u8]) -> Result<Vec<u8>, AllocError>
+    requires short { length word.now < 20 }
+    ensures line { IfOk result (λ text. text.items ≡ line word.now) }
+{
+    let mut text = Vec::with_capacity(alloc, ROOM)?;
+    put_word(&mut text, word);
+    Ok(text)
+}
+
+// A line that ends with a number.
+fn number_line(alloc: Global, word: &[u8], number: u32) -> Result<Vec<u8>, AllocError>
+    requires short { length word.now < 20 }
+    ensures line { IfOk result (λ text. text.items ≡ line (word.now ++ decimal number)) }
+{
+    let mut text = Vec::with_capacity(alloc, ROOM)?;
+    put_number(&mut text, word, number);
+    Ok(text)
+}
+
+// A line that ends with a proposition.
+fn prop_line(alloc: Global, word: &[u8], prop: Prop) -> Result<Vec<u8>, AllocError>
+    requires short { length word.now < 20 }
+    ensures line { IfOk result (λ text. text.items ≡ line (word.now ++ letter_of prop.index ∷ [])) }
+{
+    let mut text = Vec::with_capacity(alloc, ROOM)?;
+    put_prop(&mut text, word, prop);
+    Ok(text)
+}
+
+/// The line that too many constraints would be left.
+pub fn too_many(alloc: Global) -> Result<Vec<u8>, AllocError>
+    ensures line { IfOk result (λ text. text.items ≡ too_many) }
+{
+    word_line(alloc, b"refused F8")
+}
+
+/// The line that no time-point has the name.
+pub fn unknown_name(alloc: Global, name: &str) -> Result<Vec<u8>, AllocError>
+    ensures line { IfOk result (λ text. text.items ≡ line (unknown_name name.now)) }
+{
+    let text = format!(in alloc; "refused F3 {}\n", print_name(alloc, name)?)?;
+    Ok(text.into_bytes())
+}
+
+// The name of a time-point, or no text where there is none.
+fn name_at(names: &Names, x: NodeId) -> &str
+    ensures { result.now ≡ name_at names.now x.0 }
+{
+    if x.0 as u32 >= names.count() {
+        return "";
+    }
+    names.name(x)
+}
+
+/// The line that refuses a fact.
+pub fn refused_fact(alloc: Global, names: &Names, error: FactError) -> Result<Vec<u8>, AllocError>
+    ensures line { IfOk result (λ text. text.items ≡ line (refused_fact names.now error)) }
+{
+    match error {
+        FactError::Past { now } => number_line(alloc, b"refused F1 ", now),
+        FactError::OutOfRange { moment } => number_line(alloc, b"refused F2 ", moment),
+        FactError::NoSuch { node } => unknown_name(alloc, name_at(names, node)),
+        FactError::Done { node, moment } => done_line(alloc, name_at(names, node), moment),
+        FactError::Undecided { node } => undecided_line(alloc, name_at(names, node)),
+        FactError::NotObserved { prop } => prop_line(alloc, b"refused F6 ", prop),
+        FactError::Told { prop, value } => told_line(alloc, prop, value),
+    }
+}
+
+fn done_line(alloc: Global, name: &str, moment: u32) -> Result<Vec<u8>, AllocError>
+    ensures { IfOk result (λ text. text.items ≡ line (codes "refused F4 " ++ printed_name name.now ++ 32 ∷ decimal moment)) }
+{
+    let mut text = Vec::with_capacity(alloc, ROOM)?;
+    text.extend_from_slice(b"refused F4 ")?;
+    text.extend_from_slice(print_name(alloc, name)?.as_bytes())?;
+    put_moment(&mut text, moment)?;
+    Ok(text)
+}
+
+// Puts a space, a moment and the end of the line.
+fn put_moment(text: &mut Vec<u8>, moment: u32) -> Result<(), AllocError>
+    ensures { IfOk result (λ _. text.new.items ≡ text.old.items ++ 32 ∷ line (decimal moment)) }
+{
+    let mut digits = Buffer::new();
+    text.push(b' ')?;
+    text.extend_from_slice(digits.format(moment).as_bytes())?;
+    text.push(b'\n')?;
+    Ok(())
+}
+
+fn undecided_line(alloc: Global, name: &str) -> Result<Vec<u8>, AllocError>
+    ensures { IfOk result (λ text. text.items ≡ line (codes "refused F5 " ++ printed_name name.now)) }
+{
+    let text = format!(in alloc; "refused F5 {}\n", print_name(alloc, name)?)?;
+    Ok(text.into_bytes())
+}
+
+fn told_line(alloc: Global, prop: Prop, value: bool) -> Result<Vec<u8>, AllocError>
+    ensures { IfOk result (λ text. text.items ≡ line (codes "refused F7 " ++ letter_of prop.index ∷ 32 ∷ printed_truth value)) }
+{
+    let mut text = Vec::with_capacity(alloc, ROOM)?;
+    put_outcome(&mut text, b"refused F7 ", prop, value);
+    Ok(text)
+}
