@@ -4,3 +4,4 @@ pub mod Following
 pub mod FactLines
 pub mod Questions
 pub mod Read
+pub mod NextRead

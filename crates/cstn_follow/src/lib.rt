@@ -1,9 +1,11 @@
-//! A labelled network that is followed while it is carried out: facts are told, and the verdict on what is left is answered; whether it
-//! can be gone on with, and until when what is next can wait.
+//! A labelled network that is followed while it is carried out: facts are told, the verdict on what is left is answered, and it is asked
+//! what is next; whether it can be gone on with, and until when what is next can wait.
 #![tactic(auto)]
 
+mod asking;
 mod facts;
 mod laws;
+mod lists;
 mod sessions;
 mod texts;
 mod truth;
