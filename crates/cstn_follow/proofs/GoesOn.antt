@@ -1,7 +1,8 @@
 -- What a verdict on what is left says of the history.
-use Rattle.std.proofs.Common.{ℕ, ◌≡◌, ◌<◌, ◌≤◌, Bool, true, false, Some, None, length, refl, subst, arith}
+use Rattle.std.proofs.Common.{ℕ, ◌≡◌, ◌<◌, ◌≤◌, Bool, true, false, Some, None, length, refl, sym, subst, ap, ◌∙◌, arith}
 use Rattle.std.specs.Prelude.{nat_le, ◌&&◌, if◌then◌else◌}
 use Rattle.std.specs.List.{All}
+use Rattle.cstn_net.specs.Networks.{Network, IsWellFormed}
 use Rattle.cstn_lift.specs.Labelled.{Labelled}
 use Rattle.cstn_lift.specs.Lowered.{lowered}
 use Rattle.cstn_lift.specs.WellFormed.{IsLabelled}
@@ -44,7 +45,7 @@ module _ (m : Labelled) (h : History) (fresh cap : ℕ) (v : Verdict) (is : verd
   left_says = by_few (has_few (lowered m)) (has_few Left.base) (has_few (lowered Left)) refl refl is
 
   module _ (good : IsLabelled m) (timely : IsTimelyHistory m h) (above : All (λ c. c.id < fresh) m.base.constraints) where
-    left_labelled : IsLabelled Left
+    pub left_labelled : IsLabelled Left
     left_labelled = rest_labelled m h fresh good timely.history timely.in_time above left_says.0.base
 
     left_tells : Tells cap (lowered Left) v

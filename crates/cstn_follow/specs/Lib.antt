@@ -6,3 +6,4 @@ pub mod Following
 pub mod FactLines
 pub mod Questions
 pub mod Read
+pub mod NextRead

@@ -1,9 +1,12 @@
-//! A labelled network that is followed while it is carried out: facts are told, and the verdict on what is left is answered; whether
-//! it can be gone on with, until when what is next can wait, and which constraints are to blame where it can't.
+//! A labelled network that is followed while it is carried out: facts are told, the verdict on what is left is answered, and it is
+//! asked what is next; whether it can be gone on with, until when what is next can wait, and which constraints are to blame where it
+//! can't.
 #![tactic(auto)]
 
+mod asking;
 mod facts;
 mod laws;
+mod lists;
 mod sessions;
 mod texts;
 mod truth;

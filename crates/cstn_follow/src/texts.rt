@@ -15,8 +15,8 @@ use cstn_text::{Names, print_name};
 use itoa::Buffer;
 use std::alloc::{AllocError, Global};
 
-// How many bytes an answer without names has at most.
-const ROOM: usize = 64;
+/// How many bytes an answer without names has at most.
+pub const ROOM: usize = 64;
 
 /// The line of a verdict.
 pub fn verdict_line(alloc: Global, cap: u32, verdict: Verdict) -> Result<Vec<u8>, AllocError>
@@ -29,8 +29,8 @@ pub fn verdict_line(alloc: Global, cap: u32, verdict: Verdict) -> Result<Vec<u8>
     }
 }
 
-// A line that is a word.
-fn word_line(alloc: Global, word: &[u8]) -> Result<Vec<u8>, AllocError>
+/// A line that is a word.
+pub fn word_line(alloc: Global, word: &[u8]) -> Result<Vec<u8>, AllocError>
     requires short { length word.now < 20 }
     ensures line { IfOk result (λ text. text.items ≡ line word.now) }
 {
@@ -74,8 +74,8 @@ pub fn unknown_name(alloc: Global, name: &str) -> Result<Vec<u8>, AllocError>
     Ok(text.into_bytes())
 }
 
-// The name of a time-point, or no text where there is none.
-fn name_at(names: &Names, x: NodeId) -> &str
+/// The name of a time-point, or no text where there is none.
+pub fn name_at(names: &Names, x: NodeId) -> &str
     ensures { result.now ≡ name_at names.now x.0 }
 {
     if x.0 as u32 >= names.count() {
