@@ -11,7 +11,6 @@ use Rattle.cstn_lift.specs.Labelled.{Labelled}
 use Rattle.cstn_lift.specs.Lowered.{lowered}
 use Rattle.cstn_check.specs.Growth.{is_refuted, log_of, load_of}
 use Rattle.cstn_check.specs.Decisions.{verdict}
-use Rattle.cstn_check.specs.declared.verdicts.Verdict.{Verdict}
 use Rattle.cstn_check.specs.declared.verdicts.Verdict.TheVariants.{Yes, No, Full}
 use Rattle.cstn_history.specs.Histories.{History}
 use Rattle.cstn_history.specs.Rest.{is_left, left_upto}
