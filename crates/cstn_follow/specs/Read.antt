@@ -6,7 +6,9 @@ use Rattle.cstn_lift.specs.Read.{LabelledParts, the_labelled}
 use Rattle.cstn_lift.specs.WellFormed.{IsLabelled}
 use Rattle.cstn_check.specs.declared.verdicts.Verdict.{Verdict}
 use Rattle.cstn_history.specs.Read.{HistoryParts, the_history, IsKeptFor}
-use Rattle.cstn_follow.specs.Following.{Following, verdict_within}
+use Rattle.cstn_follow.specs.declared.sessions.Heard.{Heard as HeardText}
+use Rattle.cstn_follow.specs.declared.sessions.Heard.TheVariants.{Text, Rest}
+use Rattle.cstn_follow.specs.Following.{Following, Heard, says, saves, verdict_within}
 
 -- what contracts see of a session: its parts as the program keeps them, and the verdict on what is left
 pub record FollowingParts : Type 0 where
@@ -44,3 +46,8 @@ pub record IsFollowing (f : FollowingParts) : Type 0 where
   pub low : f.fresh ≤ 2 ^ 31 + f.edits
   pub few_lines : f.lines ≤ 16777217
   pub verdict : verdict_within (the_following f) ≡ Some f.verdict
+
+-- what the program says to a line, and the session that follows
+abbrev pub the_heard : FollowingParts → HeardText → Heard
+the_heard f (Text text) = says text.items (the_following f)
+the_heard f (Rest network names) = saves (the_labelled network) names (the_following f)

@@ -34,7 +34,7 @@ impl Following {
 
     // A check of what is left, which has its verdict. There are never too many constraints in a session, so it fails for want of
     // memory alone.
-    fn check_now(&self) -> Result<Check, AllocError>
+    pub(crate) fn check_now(&self) -> Result<Check, AllocError>
         ensures network { IfOk result (λ c. the_network c.net ≡ lowered (left_now (the_following self.now))) }
         ensures verdict { IfOk result (λ c. c.verdict ≡ Some (verdict_now (the_following self.now))) }
     {

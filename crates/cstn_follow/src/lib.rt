@@ -7,11 +7,12 @@ mod asking;
 mod facts;
 mod laws;
 mod lists;
+mod questions;
 mod sessions;
 mod texts;
 mod truth;
 mod verdicts;
 
 pub use laws::{blame_is_found, next_keeps_going, parts_are_labelled, waiting_is_found};
-pub use sessions::Following;
+pub use sessions::{Following, Heard};
 pub use truth::verdicts_are_true;

@@ -22,6 +22,15 @@ use cstn_text::Names;
 use std::alloc::{AllocError, Global};
 use std::marker::Model;
 
+/// What is said to a line.
+#[derive(Drop)]
+pub enum Heard {
+    /// A text of whole lines.
+    Text(Vec<u8>),
+    /// The document of what is left, whose time-points have these names.
+    Rest { network: Labelled, names: Names },
+}
+
 /// A session that follows what happens: the labelled network as edited, the names of its time-points, what has happened, and the
 /// verdict on what is left.
 #[derive(Drop)]
@@ -120,7 +129,7 @@ impl Following {
     }
 
     // Whether a time-point is left to be executed, or its outcome to be told.
-    fn is_open(&self, x: NodeId) -> bool
+    pub(crate) fn is_open(&self, x: NodeId) -> bool
         requires inside { x.0 < count (the_labelled self.now.network).base }
         ensures { result ≡ is_open (the_following self.now).network (the_following self.now).history x.0 }
     {

@@ -1,0 +1,65 @@
+-- What is said where it is asked why, and the names of what is left.
+use Rattle.std.proofs.Common.{ℕ, suc, ◌≡◌, ◌+◌, ◌≤◌, Bool, true, false, List, [], ◌∷◌, ◌++◌, length, arith, refl, ap, sym, ◌∙◌}
+use Rattle.std.specs.Prelude.{map, nat_lt, if◌then◌else◌, codes}
+use Rattle.std.proofs.lemmas.List.{map-append, length-append}
+use Rattle.cstn_net.specs.Networks.{Network}
+use Rattle.cstn_rules.specs.Derivations.{Entry}
+use Rattle.cstn_log.specs.Cuts.{part}
+use Rattle.cstn_refute.specs.Texts.{shown}
+use Rattle.cstn_reply.specs.Texts.{line}
+use Rattle.cstn_lift.specs.Labelled.{Labelled}
+use Rattle.cstn_lift.specs.Lowered.{lowered}
+use Rattle.cstn_check.specs.Growth.{is_refuted, log_of, load_of}
+use Rattle.cstn_check.specs.Decisions.{verdict}
+use Rattle.cstn_check.specs.declared.verdicts.Verdict.TheVariants.{Yes, No, Full}
+use Rattle.cstn_history.specs.Histories.{History}
+use Rattle.cstn_history.specs.Rest.{is_left, left_upto}
+use Rattle.cstn_history.proofs.Lists.{passing_next}
+use Rattle.cstn_follow.specs.Following.{Following, says, left_now, name_at, names_left, verdict_now}
+use Rattle.cstn_follow.specs.Questions.{check_after, on_check}
+
+-- the name of the next time-point, where it is left
+pub names_turn : (m : Labelled) (h : History) (names old new : List (List ℕ)) (x : ℕ) (b : Bool) → old ≡ map (name_at names) (left_upto m h x)
+    → b ≡ is_left m h x → new ≡ old ++ (if b then name_at names x ∷ [] else []) → new ≡ map (name_at names) (left_upto m h (x + 1))
+names_turn m h names old new x b so_far test is =
+    let next : x + 1 ≡ suc x = omega arith in
+    is ∙ ap (λ l. l ++ (if b then name_at names x ∷ [] else [])) so_far ∙ ap (λ l. map (name_at names) (left_upto m h x) ++ l) (one b)
+    ∙ sym (map-append (name_at names) (left_upto m h x) (if b then x ∷ [] else []))
+    ∙ ap (λ t. map (name_at names) (left_upto m h x ++ (if t then x ∷ [] else []))) test
+    ∙ ap (map (name_at names)) (sym (passing_next (is_left m h) x) ∙ ap (left_upto m h) (sym next))
+  where
+    one : (t : Bool) → (if t then name_at names x ∷ [] else []) ≡ map (name_at names) (if t then x ∷ [] else [])
+    one true = refl
+    one false = refl
+
+-- they are one more at most
+pub names_few : (old new : List (List ℕ)) (name : List ℕ) (x : ℕ) (b : Bool) → length old ≤ x → new ≡ old ++ (if b then name ∷ [] else [])
+    → length new ≤ x + 1
+names_few old new name x b few is =
+    let long = ap length is ∙ length-append old (if b then name ∷ [] else []) in
+    let one = one_more b in
+    omega arith
+  where
+    one_more : (t : Bool) → length (if t then name ∷ [] else []) ≤ 1
+    one_more true = omega arith
+    one_more false = omega arith
+
+-- after a no the load is that of the network
+pub no_load : (cap load : ℕ) (net : Network) → verdict cap net ≡ No load → load ≡ load_of net
+no_load cap load net is = by_tests (nat_lt cap (load_of net)) (is_refuted net (log_of net)) is
+  where
+    by_tests : (a b : Bool) → (if a then Full else if b then No (load_of net) else Yes (load_of net)) ≡ No load → load ≡ load_of net
+    by_tests true b here = absurd (cc)
+    by_tests false true here = cc
+    by_tests false false here = absurd (cc)
+
+-- the text of the refutation and `end` are what is said after a no
+pub check_said : (s : Following) (load l : ℕ) (names : List (List ℕ)) (steps : List Entry) (text : List ℕ) → verdict_now s ≡ No load
+    → names ≡ names_left s → l ≡ load_of (lowered (left_now s)) → steps ≡ part (log_of (lowered (left_now s)))
+    → text ≡ shown names l steps ++ line (codes "end") → on_check s ≡ says text s
+check_said s load l names steps text refuted named long taken is =
+    let same : load ≡ l = no_load s.cap load (lowered (left_now s)) refuted ∙ sym long in
+    ap (check_after s) refuted
+    ∙ ap (λ t. says t s) (ap (λ n. shown (names_left s) n (part (log_of (lowered (left_now s)))) ++ line (codes "end")) same
+    ∙ ap (λ n. shown n l (part (log_of (lowered (left_now s)))) ++ line (codes "end")) (sym named)
+    ∙ ap (λ es. shown names l es ++ line (codes "end")) (sym taken) ∙ sym is)
