@@ -72,11 +72,18 @@ impl Check {
     pub fn run(&mut self) -> Verdict
         ensures full { result ≡ Verdict.Full ↔ (self.old.cap < load_of (the_network self.old.net)) }
         ensures bounded { result ≡ Verdict.Full → self.old.cap < most_entries (the_network self.old.net) }
-        ensures no { (load : ℕ) → (result ≡ Verdict.No load ↔ ((load ≡ load_of (the_network self.old.net)) × (load_of (the_network self.old.net) ≤ self.old.cap) × LastRefutes (the_network self.old.net) (log_of (the_network self.old.net)))) }
-        ensures yes { (load : ℕ) → (result ≡ Verdict.Yes load ↔ ((load ≡ load_of (the_network self.old.net)) × (load_of (the_network self.old.net) ≤ self.old.cap) × ¬ LastRefutes (the_network self.old.net) (log_of (the_network self.old.net)))) }
+        ensures no { (load : ℕ) → (result ≡ Verdict.No load
+            ↔ ((load ≡ load_of (the_network self.old.net)) × (load_of (the_network self.old.net) ≤ self.old.cap)
+            × LastRefutes (the_network self.old.net) (log_of (the_network self.old.net)))) }
+        ensures yes { (load : ℕ) → (result ≡ Verdict.Yes load
+            ↔ ((load ≡ load_of (the_network self.old.net)) × (load_of (the_network self.old.net) ≤ self.old.cap)
+            × ¬ LastRefutes (the_network self.old.net) (log_of (the_network self.old.net)))) }
 
-        ensures exactly_yes { (load : ℕ) → (result ≡ Verdict.Yes load ↔ ((load ≡ load_of (the_network self.old.net)) × (load_of (the_network self.old.net) ≤ self.old.cap) × IsConsistent (the_network self.old.net))) }
-        ensures exactly_no { (load : ℕ) → (result ≡ Verdict.No load ↔ ((load ≡ load_of (the_network self.old.net)) × (load_of (the_network self.old.net) ≤ self.old.cap) × ¬ IsConsistent (the_network self.old.net))) }
+        ensures exactly_yes { (load : ℕ) → (result ≡ Verdict.Yes load
+            ↔ ((load ≡ load_of (the_network self.old.net)) × (load_of (the_network self.old.net) ≤ self.old.cap) × IsConsistent (the_network self.old.net))) }
+        ensures exactly_no { (load : ℕ) → (result ≡ Verdict.No load
+            ↔ ((load ≡ load_of (the_network self.old.net)) × (load_of (the_network self.old.net) ≤ self.old.cap)
+            × ¬ IsConsistent (the_network self.old.net))) }
         ensures answered { self.new ≡ record self.old { verdict = Some result; tries = self.new.tries } }
         ensures again { (v : Verdict) → self.old.verdict ≡ Some v → (result ≡ v) × (self.new ≡ self.old) }
 
@@ -108,7 +115,8 @@ impl Check {
     pub fn tries(&self) -> u64
         ensures tries { result ≡ self.now.tries }
         ensures before { self.now.verdict ≡ None → result ≡ 0 }
-        ensures most_tried { (v : Verdict) → self.now.verdict ≡ Some v → (v ≡ Verdict.Full → ⊥) → result ≤ most_tried (the_network self.now.net) (log_of (the_network self.now.net)) }
+        ensures most_tried { (v : Verdict) → self.now.verdict ≡ Some v → (v ≡ Verdict.Full → ⊥)
+            → result ≤ most_tried (the_network self.now.net) (log_of (the_network self.now.net)) }
     {
         self.tries.count
     }
@@ -116,9 +124,11 @@ impl Check {
     /// The log: all of it once the check has answered yes or no, its first `cap` entries after full, and the base bounds before.
     /// It is empty where `cap` is below the number of time-points.
     pub fn kept(&self) -> &Log
-        ensures whole { (v : Verdict) → self.now.verdict ≡ Some v → (v ≡ Verdict.Full → ⊥) → the_entries result.now.entries ≡ log_of (the_network self.now.net) }
+        ensures whole { (v : Verdict) → self.now.verdict ≡ Some v → (v ≡ Verdict.Full → ⊥)
+            → the_entries result.now.entries ≡ log_of (the_network self.now.net) }
         ensures started { self.now.verdict ≡ None → the_entries result.now.entries ≡ first_entries (the_network self.now.net) self.now.cap }
-        ensures full { self.now.verdict ≡ Some Verdict.Full → count (the_network self.now.net) ≤ self.now.cap → the_entries result.now.entries ≡ take self.now.cap (log_of (the_network self.now.net)) }
+        ensures full { self.now.verdict ≡ Some Verdict.Full → count (the_network self.now.net) ≤ self.now.cap
+            → the_entries result.now.entries ≡ take self.now.cap (log_of (the_network self.now.net)) }
         ensures front { IsPrefix (the_entries result.now.entries) (log_of (the_network self.now.net)) }
         ensures empty { self.now.cap < count (the_network self.now.net) → the_entries result.now.entries ≡ [] }
         ensures size { result.now.cap ≡ self.now.cap }

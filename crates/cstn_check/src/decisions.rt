@@ -85,7 +85,8 @@ pub fn check_text(
 fn refuted(alloc: Global, check: &Check, names: &Names) -> Result<Said, AllocError>
     requires no { (load : ℕ) × (check.now.verdict ≡ Some (No load)) }
     requires named { length names.now ≡ count (the_network check.now.net) }
-    ensures said { IfOk result (λ said. the_said said ≡ record { outcome = Outcome.Bad; text = shown names.now (load_of (the_network check.now.net)) (part (log_of (the_network check.now.net))) }) }
+    ensures said { IfOk result (λ said. the_said said
+        ≡ record { outcome = Outcome.Bad; text = shown names.now (load_of (the_network check.now.net)) (part (log_of (the_network check.now.net))) }) }
 {
     let refutation = check.refutation(alloc)?;
     let text = refutation.print(alloc, names)?;

@@ -75,7 +75,9 @@ pub fn grow_on(net: &Network, log: &mut Log, fresh: &[u32], tries: &mut Tries) -
     ensures derivation { IsDerivation (the_network net.now) (the_entries log.new.entries) }
     ensures tries { tries.old.count ≤ tries.new.count }
     ensures most_tried { (result ≡ Grown.Full → ⊥) → tries.new.count ≤ tries.old.count + most_tried (the_network net.now) (the_entries log.new.entries) }
-    ensures most_tries { (result ≡ Grown.Full → ⊥) → tries.new.count ≤ tries.old.count + most_tries (length net.now.constraints) (fresh_count fresh.now (the_network net.now).constraints) (length log.old.entries) (length log.new.entries) }
+    ensures most_tries { (result ≡ Grown.Full → ⊥)
+        → tries.new.count ≤ tries.old.count + most_tries (length net.now.constraints) (fresh_count fresh.now (the_network net.now).constraints)
+        (length log.old.entries) (length log.new.entries) }
 {
     network_is_well_formed(net);
     derivations_move();
@@ -94,7 +96,9 @@ fn grow_open(net: &Network, log: &mut Log, fresh: &[u32], old: u32, tries: &mut 
     ensures full { result ≡ Grown.Full → IsCut log.old log.new (grow (the_network net.now) (the_entries log.old.entries)) }
     ensures tries { tries.old.count ≤ tries.new.count }
     ensures most_tried { (result ≡ Grown.Full → ⊥) → tries.new.count ≤ tries.old.count + most_tried (the_network net.now) (the_entries log.new.entries) }
-    ensures most_tries { (result ≡ Grown.Full → ⊥) → tries.new.count ≤ tries.old.count + most_tries (length net.now.constraints) (fresh_count fresh.now (the_network net.now).constraints) old (length log.new.entries) }
+    ensures most_tries { (result ≡ Grown.Full → ⊥)
+        → tries.new.count ≤ tries.old.count + most_tries (length net.now.constraints) (fresh_count fresh.now (the_network net.now).constraints) old
+        (length log.new.entries) }
 {
     network_is_well_formed(net);
     let mut j = 0;
@@ -123,7 +127,9 @@ fn grow_kept(net: &Network, log: &mut Log, fresh: &[u32], old: u32, tries: &mut 
     ensures full { result ≡ Grown.Full → IsCut log.old log.new (grow (the_network net.now) (the_entries log.old.entries)) }
     ensures tries { tries.old.count ≤ tries.new.count }
     ensures most_tried { (result ≡ Grown.Full → ⊥) → tries.new.count ≤ tries.old.count + most_tried (the_network net.now) (the_entries log.new.entries) }
-    ensures most_tries { (result ≡ Grown.Full → ⊥) → tries.new.count ≤ tries.old.count + most_tries (length net.now.constraints) (fresh_count fresh.now (the_network net.now).constraints) old (length log.new.entries) }
+    ensures most_tries { (result ≡ Grown.Full → ⊥)
+        → tries.new.count ≤ tries.old.count + most_tries (length net.now.constraints) (fresh_count fresh.now (the_network net.now).constraints) old
+        (length log.new.entries) }
 {
     network_is_well_formed(net);
     let count = log.len();

@@ -10,7 +10,8 @@ ghost use Rattle.cstn_rules.specs.Closed.{IsClosed};
 ghost use Rattle.cstn_rules.specs.Derivations.{Entry, IsDerivation};
 ghost use Rattle.cstn_rules.specs.Rules.{Refutes, IsBoundOf, IsChain, IsWait};
 ghost use Rattle.cstn_log.specs.Entries.{bases};
-ghost use Rattle.cstn_check.specs.Examples.{HasLog, Shows, of_two_marks, after, before, prompt, branch_and, crossed_and, unknown_mark, process, drawn, crossed_lines, unknown_mark_lines, process_lines};
+ghost use Rattle.cstn_check.specs.Examples.{HasLog, Shows, of_two_marks, after, before, prompt, branch_and, crossed_and, unknown_mark, process, drawn};
+ghost use Rattle.cstn_check.specs.Examples.{crossed_lines, unknown_mark_lines, process_lines};
 ghost use Rattle.cstn_check.specs.Tests.{is_within, dominates, refutes, chain_of, wait_of};
 ghost use Rattle.cstn_check.specs.Growth.{Instance, grown, grow, log_of, load_of, most_entries, is_covered, is_live, is_refuted, live_bounds};
 ghost use Rattle.cstn_check.specs.Relations.{IsOnLetters, AreOnLetters, IsCovered, IsLive, IsRefuted};
@@ -23,7 +24,8 @@ pub fn tests_decide()
     ensures within { (a b : Label) → IsOnLetters a → (is_within a b ≡ true ↔ IsWithin a b) }
     ensures dominates { (a b : Bound) → IsOnLetters a.label → (dominates a b ≡ true ↔ Dominates a b) }
     ensures refutes { (net : Network) (b : Bound) → IsOnLetters b.label → (refutes net b ≡ true ↔ Refutes net b) }
-    ensures chain { (net : Network) (c : Constraint) (b r : Bound) → IsOnLetters b.label → IsOnLetters c.label → (chain_of net c b ≡ Some r ↔ IsChain net c b r) }
+    ensures chain { (net : Network) (c : Constraint) (b r : Bound) → IsOnLetters b.label → IsOnLetters c.label
+        → (chain_of net c b ≡ Some r ↔ IsChain net c b r) }
     ensures wait { (net : Network) (seen b r : Bound) → (wait_of net seen b ≡ Some r ↔ ((p : ℕ) × IsWait net p seen b r)) }
     ensures letters { (net : Network) (c : Constraint) → IsWellFormed net → Contains net.constraints c → IsOnLetters c.label }
 {}
@@ -34,7 +36,8 @@ pub fn tests_on_lists_decide()
     ensures covered { (list : List Entry) (r : Bound) → AreOnLetters list → (is_covered list r ≡ true ↔ IsCovered list r) }
     ensures live { (list : List Entry) (k : ℕ) → AreOnLetters list → (is_live list k ≡ true ↔ IsLive list k) }
     ensures refuted { (net : Network) (list : List Entry) → AreOnLetters list → (is_refuted net list ≡ true ↔ IsRefuted net list) }
-    ensures live_bounds { (list : List Entry) (b : Bound) → AreOnLetters list → (Contains (live_bounds list) b ↔ ((k : ℕ) × (e : Entry) × (slice_get list k ≡ Some e) × IsLive list k × (e.bound ≡ b))) }
+    ensures live_bounds { (list : List Entry) (b : Bound) → AreOnLetters list
+        → (Contains (live_bounds list) b ↔ ((k : ℕ) × (e : Entry) × (slice_get list k ≡ Some e) × IsLive list k × (e.bound ≡ b))) }
     ensures letters { (net : Network) (list : List Entry) → IsWellFormed net → IsKept net list → AreOnLetters list }
 {}
 
@@ -45,9 +48,12 @@ pub fn kept_lists_grow_to_an_end()
     ensures bases { (net : Network) → IsWellFormed net → IsKept net (bases (count net)) }
     ensures kept { (net : Network) (list : List Entry) (n : ℕ) → IsWellFormed net → IsKept net list → IsKept net (grown net list n) }
     ensures most { (net : Network) (list : List Entry) (n : ℕ) → IsWellFormed net → IsKept net list → length (grown net list n) ≤ most_entries net }
-    ensures goes_on { (net : Network) (list : List Entry) (n : ℕ) → IsWellFormed net → IsKept net list → (more : List Entry) × (grown net list n ++ more ≡ grow net list) }
-    ensures done { (net : Network) (list : List Entry) (n : ℕ) → IsWellFormed net → IsKept net list → length (grow net list) ≤ n → grown net list n ≡ grow net list }
-    ensures refuted { (net : Network) (list : List Entry) (n : ℕ) → IsWellFormed net → IsKept net list → is_refuted net (grown net list n) ≡ true → grown net list n ≡ grow net list }
+    ensures goes_on { (net : Network) (list : List Entry) (n : ℕ) → IsWellFormed net → IsKept net list
+        → (more : List Entry) × (grown net list n ++ more ≡ grow net list) }
+    ensures done { (net : Network) (list : List Entry) (n : ℕ) → IsWellFormed net → IsKept net list → length (grow net list) ≤ n
+        → grown net list n ≡ grow net list }
+    ensures refuted { (net : Network) (list : List Entry) (n : ℕ) → IsWellFormed net → IsKept net list → is_refuted net (grown net list n) ≡ true
+        → grown net list n ≡ grow net list }
 {}
 
 /// The load is at least n and at most n * 4^k * (H + 2): n time-points, k observed propositions, H the deadline.
@@ -61,17 +67,20 @@ pub fn growth_is_bounded()
 pub fn growth_ends()
     ensures goes_on { (net : Network) (n : ℕ) → IsWellFormed net → (more : List Entry) × (grown net (bases (count net)) n ++ more ≡ log_of net) }
     ensures done { (net : Network) (n : ℕ) → IsWellFormed net → load_of net ≤ n → grown net (bases (count net)) n ≡ log_of net }
-    ensures refuted { (net : Network) (n : ℕ) → IsWellFormed net → is_refuted net (grown net (bases (count net)) n) ≡ true → grown net (bases (count net)) n ≡ log_of net }
+    ensures refuted { (net : Network) (n : ℕ) → IsWellFormed net → is_refuted net (grown net (bases (count net)) n) ≡ true
+        → grown net (bases (count net)) n ≡ log_of net }
 {}
 
 /// The log is a derivation in which at most the last entry refutes the network. None does exactly where the network has a
 /// strategy. Then the bounds of the live entries are closed, and one strategy has each time-point at its least moment.
 pub fn growth_decides()
     ensures derivation { (net : Network) → IsWellFormed net → IsDerivation net (log_of net) }
-    ensures last { (net : Network) (e : Entry) → IsWellFormed net → slice_get (log_of net) (length (log_of net) - 1) ≡ Some e → (Refutes net e.bound ↔ (is_refuted net (log_of net) ≡ true)) }
+    ensures last { (net : Network) (e : Entry) → IsWellFormed net → slice_get (log_of net) (length (log_of net) - 1) ≡ Some e
+        → (Refutes net e.bound ↔ (is_refuted net (log_of net) ≡ true)) }
     ensures closed { (net : Network) → IsWellFormed net → is_refuted net (log_of net) ≡ false → IsClosed net (live_bounds (log_of net)) }
     ensures decides { (net : Network) → IsWellFormed net → (IsConsistent net ↔ (is_refuted net (log_of net) ≡ false)) }
-    ensures least { (net : Network) → IsWellFormed net → IsConsistent net → (table : Table) × IsStrategy net table × ((s : Scenario) (x : ℕ) → x < count net → IsLeast net s x (table s x)) }
+    ensures least { (net : Network) → IsWellFormed net → IsConsistent net
+        → (table : Table) × IsStrategy net table × ((s : Scenario) (x : ℕ) → x < count net → IsLeast net s x (table s x)) }
 {}
 
 /// The bounds of the live entries are at time-points of the network, with least values from 0 to the limit + 1.
@@ -87,7 +96,8 @@ pub fn spent_instances_stay_spent()
 
 /// Once a list is grown and no entry refutes the network, each instance on its entries is spent.
 pub fn grown_lists_are_spent()
-    ensures { (net : Network) (list : List Entry) (fresh : List ℕ) → IsWellFormed net → IsKept net list → is_refuted net (grow net list) ≡ false → AreSpent net (grow net list) fresh (length (grow net list)) }
+    ensures { (net : Network) (list : List Entry) (fresh : List ℕ) → IsWellFormed net → IsKept net list → is_refuted net (grow net list) ≡ false
+        → AreSpent net (grow net list) fresh (length (grow net list)) }
 {}
 
 /// The loads of small networks, and whether their logs refute them.

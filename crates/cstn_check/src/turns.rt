@@ -28,8 +28,12 @@ fn put(net: &Network, log: &mut Log, e: Entry, near: &mut u32) -> Result<bool, F
     requires ready { IsOpen (the_network net.now) log.old }
     requires follows { Follows (the_network net.now) (the_entries log.old.entries) (length log.old.entries) e.why (the_bound e.bound) }
     requires node { e.bound.node.0 < count (the_network net.now) }
-    ensures taken { IfOk result (λ r. IsTaken (the_network net.now) log.old log.new (cond (is_covered (the_entries log.old.entries) (the_bound e.bound)) (the_entries log.old.entries) (the_entries log.old.entries ++ the_entry e ∷ [])) r) }
-    ensures cut { IsErr result → IsCut log.old log.new (cond (is_covered (the_entries log.old.entries) (the_bound e.bound)) (the_entries log.old.entries) (the_entries log.old.entries ++ the_entry e ∷ [])) }
+    ensures taken { IfOk result (λ r. IsTaken (the_network net.now) log.old log.new
+        (cond (is_covered (the_entries log.old.entries) (the_bound e.bound)) (the_entries log.old.entries)
+        (the_entries log.old.entries ++ the_entry e ∷ [])) r) }
+    ensures cut { IsErr result → IsCut log.old log.new
+        (cond (is_covered (the_entries log.old.entries) (the_bound e.bound)) (the_entries log.old.entries)
+        (the_entries log.old.entries ++ the_entry e ∷ [])) }
 {
     if covers(log, &e.bound, near) {
         return Ok(false);
@@ -75,7 +79,8 @@ fn try_chain(
     requires ready { IsOpen (the_network net.now) log.old }
     requires constraint { Contains net.now.constraints c.now }
     requires place { j < length log.old.entries }
-    ensures taken { IfOk result (λ r. IsTaken (the_network net.now) log.old log.new (step (the_network net.now) (the_entries log.old.entries) (chain_at (the_constraint c.now) j)) r) }
+    ensures taken { IfOk result (λ r. IsTaken (the_network net.now) log.old log.new
+        (step (the_network net.now) (the_entries log.old.entries) (chain_at (the_constraint c.now) j)) r) }
     ensures cut { IsErr result → IsCut log.old log.new (step (the_network net.now) (the_entries log.old.entries) (chain_at (the_constraint c.now) j)) }
     ensures ready { IfOk result (λ r. r ≡ false → IsOpen (the_network net.now) log.new) }
     ensures tries { tries.old.count ≤ tries.new.count }
@@ -123,7 +128,8 @@ fn try_wait(
     requires node { seen.bound.node.0 < count (the_network net.now) }
     requires seen_bound { HasBound log.old.entries seen.place (the_bound seen.bound) }
     requires bound { HasBound log.old.entries premise.place (the_bound premise.bound) }
-    ensures taken { IfOk result (λ r. IsTaken (the_network net.now) log.old log.new (step (the_network net.now) (the_entries log.old.entries) (wait_at seen.place premise.place)) r) }
+    ensures taken { IfOk result (λ r. IsTaken (the_network net.now) log.old log.new
+        (step (the_network net.now) (the_entries log.old.entries) (wait_at seen.place premise.place)) r) }
     ensures cut { IsErr result → IsCut log.old log.new (step (the_network net.now) (the_entries log.old.entries) (wait_at seen.place premise.place)) }
     ensures ready { IfOk result (λ r. r ≡ false → IsOpen (the_network net.now) log.new) }
     ensures tries { tries.old.count ≤ tries.new.count }
@@ -210,7 +216,8 @@ fn try_fresh(
     requires spent { AreSpent (the_network net.now) (the_entries log.old.entries) fresh.now old }
     requires constraint { Contains net.now.constraints c.now }
     requires place { j < length log.old.entries }
-    ensures taken { IfOk result (λ r. IsTaken (the_network net.now) log.old log.new (step (the_network net.now) (the_entries log.old.entries) (chain_at (the_constraint c.now) j)) r) }
+    ensures taken { IfOk result (λ r. IsTaken (the_network net.now) log.old log.new
+        (step (the_network net.now) (the_entries log.old.entries) (chain_at (the_constraint c.now) j)) r) }
     ensures cut { IsErr result → IsCut log.old log.new (step (the_network net.now) (the_entries log.old.entries) (chain_at (the_constraint c.now) j)) }
     ensures ready { IfOk result (λ r. r ≡ false → IsOpen (the_network net.now) log.new) }
     ensures tries { tries.old.count ≤ tries.new.count }
@@ -241,8 +248,10 @@ fn try_chains(
     requires front { old ≤ length log.old.entries }
     requires spent { AreSpent (the_network net.now) (the_entries log.old.entries) fresh.now old }
     requires place { j < length log.old.entries }
-    ensures taken { IfOk result (λ r. IsTaken (the_network net.now) log.old log.new (tried (the_network net.now) (the_entries log.old.entries) (chains_at (map the_constraint net.now.constraints) j)) r) }
-    ensures cut { IsErr result → IsCut log.old log.new (tried (the_network net.now) (the_entries log.old.entries) (chains_at (map the_constraint net.now.constraints) j)) }
+    ensures taken { IfOk result (λ r. IsTaken (the_network net.now) log.old log.new
+        (tried (the_network net.now) (the_entries log.old.entries) (chains_at (map the_constraint net.now.constraints) j)) r) }
+    ensures cut { IsErr result → IsCut log.old log.new
+        (tried (the_network net.now) (the_entries log.old.entries) (chains_at (map the_constraint net.now.constraints) j)) }
     ensures ready { IfOk result (λ r. r ≡ false → IsOpen (the_network net.now) log.new) }
     ensures tries { tries.old.count ≤ tries.new.count }
     ensures most { tries.new.count ≤ tries.old.count + length net.now.constraints }
@@ -293,7 +302,8 @@ fn next_ending(net: &Network, at: usize) -> usize
     requires { at < length net.now.constraints }
     ensures upto { (at + 1 ≤ result) × (result ≤ length net.now.constraints) }
     ensures here { result < length net.now.constraints → slice_index_or (ends net.now.constraints) result 0 ≡ slice_index_or (ends net.now.constraints) at 0 }
-    ensures none { (k : ℕ) → at + 1 ≤ k → k < result → k < length net.now.constraints → slice_index_or (ends net.now.constraints) k 0 ≡ slice_index_or (ends net.now.constraints) at 0 → ⊥ }
+    ensures none { (k : ℕ) → at + 1 ≤ k → k < result → k < length net.now.constraints
+        → slice_index_or (ends net.now.constraints) k 0 ≡ slice_index_or (ends net.now.constraints) at 0 → ⊥ }
 {
     match net.next_to(at) {
         None => net.constraints().len(),
@@ -314,7 +324,8 @@ fn try_both(
     requires ready { IsOpen (the_network net.now) log.old }
     requires first { i < length log.old.entries }
     requires place { j < length log.old.entries }
-    ensures taken { IfOk result (λ r. IsTaken (the_network net.now) log.old log.new (tried (the_network net.now) (the_entries log.old.entries) (wait_at i j ∷ (wait_at j i ∷ []))) r) }
+    ensures taken { IfOk result (λ r. IsTaken (the_network net.now) log.old log.new
+        (tried (the_network net.now) (the_entries log.old.entries) (wait_at i j ∷ (wait_at j i ∷ []))) r) }
     ensures cut { IsErr result → IsCut log.old log.new (tried (the_network net.now) (the_entries log.old.entries) (wait_at i j ∷ (wait_at j i ∷ []))) }
     ensures ready { IfOk result (λ r. r ≡ false → IsOpen (the_network net.now) log.new) }
     ensures tries { tries.old.count ≤ tries.new.count }
@@ -343,7 +354,8 @@ fn try_both(
 fn try_waits(net: &Network, log: &mut Log, j: u32, tries: &mut Tries) -> Result<bool, Full>
     requires ready { IsOpen (the_network net.now) log.old }
     requires place { j < length log.old.entries }
-    ensures taken { IfOk result (λ r. IsTaken (the_network net.now) log.old log.new (tried (the_network net.now) (the_entries log.old.entries) (waits_below (j + 1) j)) r) }
+    ensures taken { IfOk result (λ r. IsTaken (the_network net.now) log.old log.new
+        (tried (the_network net.now) (the_entries log.old.entries) (waits_below (j + 1) j)) r) }
     ensures cut { IsErr result → IsCut log.old log.new (tried (the_network net.now) (the_entries log.old.entries) (waits_below (j + 1) j)) }
     ensures ready { IfOk result (λ r. r ≡ false → IsOpen (the_network net.now) log.new) }
     ensures tries { tries.old.count ≤ tries.new.count }
@@ -378,7 +390,8 @@ fn try_new_waits(
     requires ready { IsOpen (the_network net.now) log.old }
     requires spent { AreSpent (the_network net.now) (the_entries log.old.entries) fresh.now old }
     requires place { j < length log.old.entries }
-    ensures taken { IfOk result (λ r. IsTaken (the_network net.now) log.old log.new (tried (the_network net.now) (the_entries log.old.entries) (waits_below (j + 1) j)) r) }
+    ensures taken { IfOk result (λ r. IsTaken (the_network net.now) log.old log.new
+        (tried (the_network net.now) (the_entries log.old.entries) (waits_below (j + 1) j)) r) }
     ensures cut { IsErr result → IsCut log.old log.new (tried (the_network net.now) (the_entries log.old.entries) (waits_below (j + 1) j)) }
     ensures ready { IfOk result (λ r. r ≡ false → IsOpen (the_network net.now) log.new) }
     ensures tries { tries.old.count ≤ tries.new.count }
@@ -406,12 +419,14 @@ pub(crate) fn take_turn(
     requires front { old ≤ length log.old.entries }
     requires spent { AreSpent (the_network net.now) (the_entries log.old.entries) fresh.now old }
     requires place { j < length log.old.entries }
-    ensures taken { IfOk result (λ r. IsTaken (the_network net.now) log.old log.new (tried (the_network net.now) (the_entries log.old.entries) (turn (the_network net.now) j)) r) }
+    ensures taken { IfOk result (λ r. IsTaken (the_network net.now) log.old log.new
+        (tried (the_network net.now) (the_entries log.old.entries) (turn (the_network net.now) j)) r) }
     ensures cut { IsErr result → IsCut log.old log.new (tried (the_network net.now) (the_entries log.old.entries) (turn (the_network net.now) j)) }
     ensures ready { IfOk result (λ r. r ≡ false → IsOpen (the_network net.now) log.new) }
     ensures tries { tries.old.count ≤ tries.new.count }
     ensures most { tries.new.count ≤ tries.old.count + (length net.now.constraints + 2 * (j + 1)) }
-    ensures concluding { tries.new.count ≤ tries.old.count + (length net.now.constraints + concludes_upto (the_network net.now) (the_entries log.old.entries) j) }
+    ensures concluding { tries.new.count ≤ tries.old.count +
+        (length net.now.constraints + concludes_upto (the_network net.now) (the_entries log.old.entries) j) }
     ensures most_fresh { j < old → tries.new.count ≤ tries.old.count + fresh_count fresh.now (the_network net.now).constraints }
 {
     network_is_well_formed(net);

@@ -64,7 +64,8 @@ fn next_marking(net: &Network, log: &mut Log, x: NodeId, from: u32, j: u32, next
     requires upto { from ≤ length log.old.entries }
     requires place { j < length log.old.entries }
     ensures upto { from ≤ result }
-    ensures none { NoneMarks (the_network net.now) (the_entries log.old.entries) x.0 j from next → NoneMarks (the_network net.now) (the_entries log.old.entries) x.0 j from result }
+    ensures none { NoneMarks (the_network net.now) (the_entries log.old.entries) x.0 j from next
+        → NoneMarks (the_network net.now) (the_entries log.old.entries) x.0 j from result }
     ensures stays { log.new ≡ log.old }
 {
     if from <= next {
@@ -97,8 +98,10 @@ fn next_seen(net: &Network, log: &mut Log, b: &Bound, from: u32, j: u32, places:
     requires size { length places.old ≡ 52 }
     ensures upto { from ≤ result }
     ensures size { length places.new ≡ 52 }
-    ensures passed { NoneSeesEach (the_network net.now) (the_entries log.old.entries) (marks b.now.label) j from places.old → NoneSeesEach (the_network net.now) (the_entries log.old.entries) (marks b.now.label) j from places.new }
-    ensures none { (p : ℕ) → NoneSeesEach (the_network net.now) (the_entries log.old.entries) (marks b.now.label) j from places.old → IsMarked (marks b.now.label) p → NoneSees (the_network net.now) (the_entries log.old.entries) p j from result }
+    ensures passed { NoneSeesEach (the_network net.now) (the_entries log.old.entries) (marks b.now.label) j from places.old
+        → NoneSeesEach (the_network net.now) (the_entries log.old.entries) (marks b.now.label) j from places.new }
+    ensures none { (p : ℕ) → NoneSeesEach (the_network net.now) (the_entries log.old.entries) (marks b.now.label) j from places.old
+        → IsMarked (marks b.now.label) p → NoneSees (the_network net.now) (the_entries log.old.entries) p j from result }
     ensures stays { log.new ≡ log.old }
 {
     let mut next = u32::MAX;
@@ -133,7 +136,8 @@ fn next_at_observer(net: &Network, log: &mut Log, p: Prop, from: u32, j: u32, ne
     requires upto { from ≤ length log.old.entries }
     requires place { j < length log.old.entries }
     ensures upto { from ≤ result }
-    ensures none { NoneSees (the_network net.now) (the_entries log.old.entries) p.index j from next → NoneSees (the_network net.now) (the_entries log.old.entries) p.index j from result }
+    ensures none { NoneSees (the_network net.now) (the_entries log.old.entries) p.index j from next
+        → NoneSees (the_network net.now) (the_entries log.old.entries) p.index j from result }
     ensures stays { log.new ≡ log.old }
 {
     if from <= next {

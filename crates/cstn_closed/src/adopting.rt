@@ -22,7 +22,8 @@ impl Closed {
         requires low { 1 ≤ load }
         requires high { load ≤ 4194304 }
         ensures of { IfOk result (λ c. c ≡ record { load = load; bounds = plan.now.bounds }) }
-        ensures accepted { ((b : TheBound) → Contains (map the_bound plan.now.bounds) b → IsBoundOf (the_network plan.now.net) b) → IfOk result (λ c. IsFaultless (the_network plan.now.net) (the_bounds c)) }
+        ensures accepted { ((b : TheBound) → Contains (map the_bound plan.now.bounds) b → IsBoundOf (the_network plan.now.net) b)
+            → IfOk result (λ c. IsFaultless (the_network plan.now.net) (the_bounds c)) }
     {
         is_closed(plan);
         let mut bounds = Vec::with_capacity(alloc, plan.count() as usize)?;

@@ -10,7 +10,8 @@ ghost use Rattle.cstn_rules.specs.Rules.{IsBoundOf, IsChain, IsWait, base};
 ghost use Rattle.cstn_rules.specs.Closed.{IsCovered};
 ghost use Rattle.cstn_closed.specs.Closed.{the_bounds};
 ghost use Rattle.cstn_closed.specs.Faults.{IsFit, no_chain, no_wait};
-ghost use Rattle.cstn_closed.specs.Instances.{AreFit, AreChainsCovered, AreWaitsCovered, IsChainCovered, IsWaitCovered, IsFirstThere, IsSoAt, HasUncoveredChain, HasUncoveredWait};
+ghost use Rattle.cstn_closed.specs.Instances.{AreFit, AreChainsCovered, AreWaitsCovered, IsChainCovered, IsWaitCovered, IsFirstThere, IsSoAt};
+ghost use Rattle.cstn_closed.specs.Instances.{HasUncoveredChain, HasUncoveredWait};
 ghost use Rattle.cstn_closed.specs.Places.{IsNext};
 
 use crate::index::Indexed;

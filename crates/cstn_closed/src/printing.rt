@@ -43,7 +43,8 @@ impl Closed {
 
 // Appends the line of a bound; `name` is the printed name of its time-point.
 fn push_bound(text: &mut String, bound: Bound, name: &str) -> Result<(), AllocError>
-    ensures pushed { OnOk result (string_bytes text.new ≡ string_bytes text.old ++ (codes "bound " ++ (name.now ++ 32 ∷ printed_value bound.least ++ 32 ∷ printed_label (marks bound.label)) ++ 10 ∷ [])) }
+    ensures pushed { OnOk result (string_bytes text.new ≡ string_bytes text.old
+        ++ (codes "bound " ++ (name.now ++ 32 ∷ printed_value bound.least ++ 32 ∷ printed_label (marks bound.label)) ++ 10 ∷ [])) }
 {
     text.push_str("bound ")?;
     text.push_str(name)?;

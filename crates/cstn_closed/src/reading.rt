@@ -45,7 +45,8 @@ impl Closed {
 // The list of a load and of the bounds on the lines of `bytes`.
 fn read_bounds(alloc: Global, names: &Names, load: u32, bytes: &[u8]) -> Result<Closed, ClosedError>
     requires few { length names.now ≤ 65536 }
-    ensures accepted { IfOk result (λ c. told_after (bound_lines names.now) load [] (parts_at 10 bytes.now).0 (parts_at 10 bytes.now).1 ≡ tells c.load (the_bounds c)) }
+    ensures accepted { IfOk result (λ c. told_after (bound_lines names.now) load [] (parts_at 10 bytes.now).0 (parts_at 10 bytes.now).1
+        ≡ tells c.load (the_bounds c)) }
     ensures line { IfErr result (IsWrong (told_after (bound_lines names.now) load [] (parts_at 10 bytes.now).0 (parts_at 10 bytes.now).1)) }
 {
     let mut bounds = Vec::new(alloc);

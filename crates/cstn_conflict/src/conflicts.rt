@@ -37,7 +37,8 @@ pub fn smallest(alloc: Global, net: Network, cap: u32) -> Result<Conflict, Confl
     requires some { 1 ≤ cap }
     requires most { cap ≤ 4194304 }
     // But for want of memory, it fails exactly where the network is consistent or a log is full.
-    ensures consistent { (load : ℕ) → IsErrOf result (ConflictError.Consistent load) → (load ≡ load_of (the_network net)) × (load_of (the_network net) ≤ cap) × IsConsistent (the_network net) }
+    ensures consistent { (load : ℕ) → IsErrOf result (ConflictError.Consistent load)
+        → (load ≡ load_of (the_network net)) × (load_of (the_network net) ≤ cap) × IsConsistent (the_network net) }
     ensures full { IsErrOf result ConflictError.Full → is_conflict_full cap (the_network net) ≡ true }
     ensures bounded { IsErrOf result ConflictError.Full → cap < most_entries (the_network net) }
     ensures refused { IsOk result → (IsConsistent (the_network net) → ⊥) × (is_conflict_full cap (the_network net) ≡ false) }

@@ -15,7 +15,8 @@ pub fn sets_are_decided()
     ensures well_formed { (net : Network) (set : List ℕ) → IsWellFormed net → IsWellFormed (with_ids net set) }
     ensures whole { (net : Network) → with_ids net (ids_of net) ≡ net }
     ensures decided { (net : Network) (set : List ℕ) → IsWellFormed net → ((is_consistent (with_ids net set) ≡ true) ↔ IsConsistent (with_ids net set)) }
-    ensures more { (net : Network) (a b : List ℕ) → ((id : ℕ) → has a id ≡ true → has b id ≡ true) → IsConsistent (with_ids net b) → IsConsistent (with_ids net a) }
+    ensures more { (net : Network) (a b : List ℕ) → ((id : ℕ) → has a id ≡ true → has b id ≡ true) → IsConsistent (with_ids net b)
+        → IsConsistent (with_ids net a) }
 {}
 
 /// A refutation of a network stands where a constraint is left out that gave none of its steps. A refutation of the network with

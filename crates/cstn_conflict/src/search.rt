@@ -37,7 +37,8 @@ impl No {
         requires most { cap ≤ 4194304 }
         requires ascending { AllPairs (λ a b. a < b) ids.now }
         requires no { (load : ℕ) × (check.now.verdict ≡ Some (Verdict.No load)) }
-        ensures decides { IfOk result (λ no. (list : List Entry) × Decides cap (the_network check.now.net) no.roomy list × (no.gave.items ≡ givers ids.now list)) }
+        ensures decides { IfOk result (λ no. (list : List Entry) × Decides cap (the_network check.now.net) no.roomy list
+            × (no.gave.items ≡ givers ids.now list)) }
         ensures refutation { IfOk result (λ no. IfSome no.refutation (IsRefutationOf (the_network check.now.net))) }
     {
         let refutation = check.refutation(alloc)?;
@@ -75,7 +76,8 @@ impl No {
 fn refuting_check(alloc: Global, net: Network, cap: u32) -> Result<Check, ConflictError>
     requires some { 1 ≤ cap }
     requires most { cap ≤ 4194304 }
-    ensures consistent { (load : ℕ) → IsErrOf result (ConflictError.Consistent load) → (load ≡ load_of (the_network net)) × (load_of (the_network net) ≤ cap) × IsConsistent (the_network net) }
+    ensures consistent { (load : ℕ) → IsErrOf result (ConflictError.Consistent load)
+        → (load ≡ load_of (the_network net)) × (load_of (the_network net) ≤ cap) × IsConsistent (the_network net) }
     ensures full { IsErrOf result ConflictError.Full → cap < load_of (the_network net) }
     ensures no { IfOk result (λ check. (load : ℕ) × (check.verdict ≡ Some (Verdict.No load))) }
     ensures network { IfOk result (λ check. check.net ≡ net) }
@@ -97,7 +99,8 @@ pub(crate) fn no_on(alloc: Global, net: Network, ids: &[u32], cap: u32) -> Resul
     requires some { 1 ≤ cap }
     requires most { cap ≤ 4194304 }
     requires ascending { AllPairs (λ a b. a < b) ids.now }
-    ensures consistent { (load : ℕ) → IsErrOf result (ConflictError.Consistent load) → (load ≡ load_of (the_network net)) × (load_of (the_network net) ≤ cap) × IsConsistent (the_network net) }
+    ensures consistent { (load : ℕ) → IsErrOf result (ConflictError.Consistent load)
+        → (load ≡ load_of (the_network net)) × (load_of (the_network net) ≤ cap) × IsConsistent (the_network net) }
     ensures full { IsErrOf result ConflictError.Full → cap < load_of (the_network net) }
     ensures no { IfOk result (IsNoOn cap (the_network net) ids.now) }
 {
@@ -117,7 +120,8 @@ fn no_without(
     requires some { 1 ≤ cap }
     requires most { cap ≤ 4194304 }
     requires ascending { AllPairs (λ a b. a < b) ids.now }
-    ensures consistent { (load : ℕ) → IsErrOf result (ConflictError.Consistent load) → (load_of (without id (the_network net.now)) ≤ cap) × IsConsistent (without id (the_network net.now)) }
+    ensures consistent { (load : ℕ) → IsErrOf result (ConflictError.Consistent load)
+        → (load_of (without id (the_network net.now)) ≤ cap) × IsConsistent (without id (the_network net.now)) }
     ensures full { IsErrOf result ConflictError.Full → cap < load_of (without id (the_network net.now)) }
     ensures no { IfOk result (IsNoOn cap (without id (the_network net.now)) ids.now) }
 {

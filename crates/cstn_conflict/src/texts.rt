@@ -53,7 +53,12 @@ fn consistent(alloc: Global, load: u32) -> Result<Said, AllocError>
 
 fn conflict_said(alloc: Global, conflict: &Conflict, names: &Names) -> Result<Said, AllocError>
     requires named { All (λ e. e.bound.node.0 < length names.now) conflict.now.refutation.steps }
-    ensures said { IfOk result (λ said. the_said said ≡ record { outcome = Outcome.Bad; text = ids_line conflict.now.ids ++ shown names.now conflict.now.refutation.load (the_steps conflict.now.refutation) }) }
+    ensures said { IfOk result (λ said. the_said said
+        ≡ record {
+          outcome = Outcome.Bad;
+          text = ids_line conflict.now.ids
+              ++ shown names.now conflict.now.refutation.load (the_steps conflict.now.refutation);
+        }) }
 {
     let refutation = conflict.refutation.print(alloc, names)?;
     let mut text = ids_line(alloc, conflict.ids.as_slice())?;

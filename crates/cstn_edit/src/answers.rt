@@ -31,7 +31,8 @@ pub fn answer(
     requires births { log.old.births < 2 ^ 60 }
     requires spent { settled ≡ true → AreSpent (the_network net.now) (the_entries log.old.entries) fresh.now (length log.old.entries) }
     ensures outcome { result ≡ outcome_of (the_network net.now) log.old.cap (kept_list (the_network net.now) log.old.cap (the_entries log.old.entries)) }
-    ensures list { kept_list (the_network net.now) log.old.cap (the_entries log.new.entries) ≡ kept_after (the_network net.now) log.old.cap (kept_list (the_network net.now) log.old.cap (the_entries log.old.entries)) }
+    ensures list { kept_list (the_network net.now) log.old.cap (the_entries log.new.entries)
+        ≡ kept_after (the_network net.now) log.old.cap (kept_list (the_network net.now) log.old.cap (the_entries log.old.entries)) }
     ensures kept { IsKeptLog (the_network net.now) log.new }
     ensures refuted { Refuted (the_network net.now) log.new (Some result) }
     ensures consistent { Consistent (the_network net.now) (Some result) }
@@ -39,7 +40,9 @@ pub fn answer(
     ensures size { log.new.cap ≡ log.old.cap }
     ensures spent { (load : ℕ) → result.verdict ≡ Verdict.Yes load → AreSpent (the_network net.now) (the_entries log.new.entries) [] (length log.new.entries) }
     ensures tries { tries.old.count ≤ tries.new.count }
-    ensures most_tries { settled ≡ true → result.afresh ≡ false → tries.new.count ≤ tries.old.count + most_tries (length net.now.constraints) (fresh_count fresh.now (the_network net.now).constraints) (length log.old.entries) (length log.new.entries) }
+    ensures most_tries { settled ≡ true → result.afresh ≡ false
+        → tries.new.count ≤ tries.old.count + most_tries (length net.now.constraints) (fresh_count fresh.now (the_network net.now).constraints)
+        (length log.old.entries) (length log.new.entries) }
 {
     network_is_well_formed(net);
     if log.len() == 0 {
@@ -83,7 +86,9 @@ fn grow_further(
     ensures size { (log.new.cap ≡ log.old.cap) × (log.new.nodes ≡ log.old.nodes) }
     ensures derivation { IsDerivation (the_network net.now) (the_entries log.new.entries) }
     ensures tries { tries.old.count ≤ tries.new.count }
-    ensures most_tries { settled ≡ true → (result ≡ Grown.Full → ⊥) → tries.new.count ≤ tries.old.count + most_tries (length net.now.constraints) (fresh_count fresh.now (the_network net.now).constraints) (length log.old.entries) (length log.new.entries) }
+    ensures most_tries { settled ≡ true → (result ≡ Grown.Full → ⊥)
+        → tries.new.count ≤ tries.old.count + most_tries (length net.now.constraints) (fresh_count fresh.now (the_network net.now).constraints)
+        (length log.old.entries) (length log.new.entries) }
 {
     if settled {
         return grow_on(net, log, fresh, tries);
@@ -97,8 +102,10 @@ fn answer_afresh(net: &Network, log: &mut Log, tries: &mut Tries) -> Verdict
     requires nodes { log.old.nodes ≡ count (the_network net.now) }
     requires size { (1 ≤ log.old.cap) × (log.old.cap ≤ 4194304) }
     requires births { log.old.births < 2 ^ 60 + 2 ^ 23 }
-    ensures verdict { result ≡ (if nat_lt log.old.cap (load_of (the_network net.now)) then Verdict.Full else verdict_by (the_network net.now) (log_of (the_network net.now))) }
-    ensures list { the_entries log.new.entries ≡ (if nat_le (load_of (the_network net.now)) log.old.cap then log_of (the_network net.now) else bases (count (the_network net.now))) }
+    ensures verdict { result ≡ (if nat_lt log.old.cap (load_of (the_network net.now)) then Verdict.Full else verdict_by (the_network net.now)
+        (log_of (the_network net.now))) }
+    ensures list { the_entries log.new.entries
+        ≡ (if nat_le (load_of (the_network net.now)) log.old.cap then log_of (the_network net.now) else bases (count (the_network net.now))) }
     ensures kept { IsKeptLog (the_network net.now) log.new }
     ensures no { (load : ℕ) → result ≡ Verdict.No load → (load ≡ length log.new.entries) × LastRefutes (the_network net.now) (the_entries log.new.entries) }
     ensures yes { (load : ℕ) → result ≡ Verdict.Yes load → IsConsistent (the_network net.now) }

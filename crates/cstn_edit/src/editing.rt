@@ -1,5 +1,6 @@
 // Edit sessions: edit lines are answered by a session.
-ghost use Rattle.std.specs.Prelude.{false, ◌≡◌, ◌<◌, ◌≤◌, ◌^◌, ◌++◌, [], ℕ, true, length, vec_capacity, if◌then◌else◌, Some, IfOk, IfSome, OnOk, codes, decimal};
+ghost use Rattle.std.specs.Prelude.{false, ◌≡◌, ◌<◌, ◌≤◌, ◌^◌, ◌++◌, [], ℕ, true, length, vec_capacity, if◌then◌else◌, Some, IfOk, IfSome, OnOk, codes};
+ghost use Rattle.std.specs.Prelude.{decimal};
 ghost use Rattle.std.specs.List.{All};
 ghost use Rattle.std.specs.Option.{option_map};
 ghost use Rattle.cstn_label.specs.Read.{marks};
@@ -9,11 +10,13 @@ ghost use Rattle.cstn_text.specs.Names.{number_of};
 ghost use Rattle.cstn_refute.specs.Texts.{shown};
 ghost use Rattle.cstn_log.specs.Cuts.{part};
 ghost use Rattle.cstn_edit.specs.Sessions.{next_id, kept_of};
-ghost use Rattle.cstn_edit.specs.Edits.{the_refusal, the_session, add_refusal, remove_refusal, change_refusal, with_added, with_removed, with_changed, outcome_at, with_verdict};
+ghost use Rattle.cstn_edit.specs.Edits.{the_refusal, the_session, add_refusal, remove_refusal, change_refusal, with_added, with_removed, with_changed};
+ghost use Rattle.cstn_edit.specs.Edits.{outcome_at, with_verdict};
 ghost use Rattle.cstn_edit.specs.declared.outcomes.Outcome.{Outcome as Answered};
 ghost use Rattle.cstn_reply.specs.Texts.{line};
 ghost use Rattle.cstn_reply.specs.Sessions.{more};
-ghost use Rattle.cstn_edit.specs.Editing.{Editing as State, begun_editing, edit_turn, edit_wants, edit_ending, refused_edit, unknown_name, answered_edit, answered_add, answered_check, ending_by, the_editing};
+ghost use Rattle.cstn_edit.specs.Editing.{Editing as State, begun_editing, edit_turn, edit_wants, edit_ending, refused_edit, unknown_name, answered_edit};
+ghost use Rattle.cstn_edit.specs.Editing.{answered_add, answered_check, ending_by, the_editing};
 
 use crate::{EditError, Session};
 use cstn_check::Verdict;
@@ -89,7 +92,8 @@ impl Editing {
     ) -> Result<(), AllocError>
         requires empty { text.old.items ≡ [] }
         requires room { ROOM ≤ vec_capacity text.old }
-        ensures turn { OnOk result (answered_add (the_editing self.old) from.now to.now most (marks label) (number_of self.old.names from.now) (number_of self.old.names to.now) ≡ more text.new.items (the_editing self.new)) }
+        ensures turn { OnOk result (answered_add (the_editing self.old) from.now to.now most (marks label) (number_of self.old.names from.now)
+            (number_of self.old.names to.now) ≡ more text.new.items (the_editing self.new)) }
         ensures capacity { vec_capacity text.old ≤ vec_capacity text.new }
     {
         let Some(x) = self.node(from) else {
@@ -117,7 +121,9 @@ impl Editing {
         requires to { to.0 < count (the_network self.old.session.net) }
         requires empty { text.old.items ≡ [] }
         requires room { ROOM ≤ vec_capacity text.old }
-        ensures turn { answered_edit (the_editing self.old) (add_refusal 16384 (the_session self.old.session) most (marks label)) (codes "added " ++ decimal (next_id self.old.session.highest)) (with_added (the_session self.old.session) from.0 to.0 most (marks label)) ≡ more text.new.items (the_editing self.new) }
+        ensures turn { answered_edit (the_editing self.old) (add_refusal 16384 (the_session self.old.session) most (marks label))
+            (codes "added " ++ decimal (next_id self.old.session.highest)) (with_added (the_session self.old.session) from.0 to.0 most (marks label))
+            ≡ more text.new.items (the_editing self.new) }
         ensures capacity { vec_capacity text.old ≤ vec_capacity text.new }
     {
         match self.session.add(from, to, most, label) {
@@ -130,7 +136,8 @@ impl Editing {
     fn remove(&mut self, id: u32, text: &mut Vec<u8>)
         requires empty { text.old.items ≡ [] }
         requires room { ROOM ≤ vec_capacity text.old }
-        ensures turn { answered_edit (the_editing self.old) (remove_refusal (the_session self.old.session) id) (codes "removed " ++ decimal id) (with_removed (the_session self.old.session) id) ≡ more text.new.items (the_editing self.new) }
+        ensures turn { answered_edit (the_editing self.old) (remove_refusal (the_session self.old.session) id) (codes "removed " ++ decimal id)
+            (with_removed (the_session self.old.session) id) ≡ more text.new.items (the_editing self.new) }
         ensures capacity { vec_capacity text.old ≤ vec_capacity text.new }
     {
         match self.session.remove(id) {
@@ -143,7 +150,8 @@ impl Editing {
     fn change(&mut self, id: u32, most: i32, text: &mut Vec<u8>)
         requires empty { text.old.items ≡ [] }
         requires room { ROOM ≤ vec_capacity text.old }
-        ensures turn { answered_edit (the_editing self.old) (change_refusal (the_session self.old.session) id most) (codes "changed " ++ decimal id) (with_changed (the_session self.old.session) id most) ≡ more text.new.items (the_editing self.new) }
+        ensures turn { answered_edit (the_editing self.old) (change_refusal (the_session self.old.session) id most) (codes "changed " ++ decimal id)
+            (with_changed (the_session self.old.session) id most) ≡ more text.new.items (the_editing self.new) }
         ensures capacity { vec_capacity text.old ≤ vec_capacity text.new }
     {
         match self.session.change(id, most) {
@@ -156,7 +164,8 @@ impl Editing {
     fn check(&mut self, text: &mut Vec<u8>) -> Result<(), AllocError>
         requires empty { text.old.items ≡ [] }
         requires room { ROOM ≤ vec_capacity text.old }
-        ensures turn { OnOk result (answered_check (the_editing self.old) (outcome_at self.old.session.cap (the_session self.old.session)) (with_verdict self.old.session.cap (the_session self.old.session)) ≡ more text.new.items (the_editing self.new)) }
+        ensures turn { OnOk result (answered_check (the_editing self.old) (outcome_at self.old.session.cap (the_session self.old.session))
+            (with_verdict self.old.session.cap (the_session self.old.session)) ≡ more text.new.items (the_editing self.new)) }
         ensures capacity { vec_capacity text.old ≤ vec_capacity text.new }
     {
         let outcome = self.session.verdict();
@@ -178,7 +187,8 @@ impl Editing {
     // Puts the text of the refutation after a no.
     fn put_refutation(&self, text: &mut Vec<u8>) -> Result<(), AllocError>
         requires no { (o : Answered) × (load : ℕ) × (self.now.session.last ≡ Some o) × (o.verdict ≡ Verdict.No load) }
-        ensures items { OnOk result (text.new.items ≡ text.old.items ++ shown self.now.names (length (kept_of self.now.session)) (part (kept_of self.now.session))) }
+        ensures items { OnOk result (text.new.items ≡ text.old.items
+            ++ shown self.now.names (length (kept_of self.now.session)) (part (kept_of self.now.session))) }
         ensures capacity { vec_capacity text.old ≤ vec_capacity text.new }
     {
         let refutation = self.session.refutation(self.alloc)?;

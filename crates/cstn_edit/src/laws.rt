@@ -13,7 +13,8 @@ ghost use Rattle.cstn_edit.specs.Sound.{IsSound, IsTrueOf};
 /// derivation of it that growth can go on from.
 pub fn sessions_stay_sound()
     ensures begun { (net : Network) → IsWellFormed net → IsSound (begun net) }
-    ensures added { (room : ℕ) (s : Session) (x y : ℕ) (most : ℤ) (a : Label) → room ≤ 16384 → ((p : ℕ) → 52 ≤ p → a p ≡ Absent) → x < count s.net → y < count s.net → add_refusal room s most a ≡ None → IsSound s → IsSound (with_added s x y most a) }
+    ensures added { (room : ℕ) (s : Session) (x y : ℕ) (most : ℤ) (a : Label) → room ≤ 16384 → ((p : ℕ) → 52 ≤ p → a p ≡ Absent) → x < count s.net
+        → y < count s.net → add_refusal room s most a ≡ None → IsSound s → IsSound (with_added s x y most a) }
     ensures removed { (s : Session) (id : ℕ) → IsSound s → IsSound (with_removed s id) }
     ensures changed { (s : Session) (id : ℕ) (most : ℤ) → change_refusal s id most ≡ None → IsSound s → IsSound (with_changed s id most) }
     ensures verdict { (cap : ℕ) (s : Session) → IsSound s → IsSound (with_verdict cap s) }
@@ -24,5 +25,6 @@ pub fn sessions_stay_sound()
 /// it is not. A new verdict is full exactly where both the kept list and the log of the network grow past the cap.
 pub fn verdicts_are_true()
     ensures truth { (cap : ℕ) (s : Session) → IsSound s → IsTrueOf s.net (outcome_at cap s).verdict }
-    ensures full { (cap : ℕ) (s : Session) → s.last ≡ None → ((outcome_at cap s).verdict ≡ Full ↔ ((cap < length (grow s.net s.kept)) × (cap < load_of s.net))) }
+    ensures full { (cap : ℕ) (s : Session) → s.last ≡ None
+        → ((outcome_at cap s).verdict ≡ Full ↔ ((cap < length (grow s.net s.kept)) × (cap < load_of s.net))) }
 {}

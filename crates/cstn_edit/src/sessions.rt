@@ -1,4 +1,5 @@
-ghost use Rattle.std.specs.Prelude.{ℕ, ℤ, true, false, ◌≡◌, ◌≢◌, ◌<◌, ◌≤◌, ◌+◌, ◌-◌, ◌^◌, ◌++◌, ◌∷◌, [], ◌↔◌, List, length, map, Some, None, IfOk, OnErr, IsOk, IsErrOf, IsTrue};
+ghost use Rattle.std.specs.Prelude.{ℕ, ℤ, true, false, ◌≡◌, ◌≢◌, ◌<◌, ◌≤◌, ◌+◌, ◌-◌, ◌^◌, ◌++◌, ◌∷◌, [], ◌↔◌, List, length, map, Some, None, IfOk, OnErr};
+ghost use Rattle.std.specs.Prelude.{IsOk, IsErrOf, IsTrue};
 ghost use Rattle.std.specs.List.{All, Contains};
 ghost use Rattle.cstn_label.specs.declared.props.Prop.{Prop as DeclaredProp};
 ghost use Rattle.cstn_label.specs.Labels.{IsPlain};
@@ -15,7 +16,8 @@ ghost use Rattle.cstn_refute.specs.Refutations.{FitsText, the_steps};
 ghost use Rattle.cstn_check.specs.Spent.{most_tries};
 ghost use Rattle.cstn_edit.specs.Fresh.{fresh_with, ids_of};
 ghost use Rattle.cstn_edit.specs.Sessions.{kept_of, next_id, highest_of, kept_after, outcome_of};
-ghost use Rattle.cstn_edit.specs.Edits.{the_session, refusal_of, begun, add_refusal, remove_refusal, change_refusal, with_added, with_removed, with_changed, outcome_at, with_verdict};
+ghost use Rattle.cstn_edit.specs.Edits.{the_session, refusal_of, begun, add_refusal, remove_refusal, change_refusal, with_added, with_removed, with_changed};
+ghost use Rattle.cstn_edit.specs.Edits.{outcome_at, with_verdict};
 
 use crate::answers::answer;
 use crate::errors::EditError;
@@ -60,9 +62,21 @@ impl Model for Session {
 
     ghost Value = { SessionParts };
 
-    ghost view = { λ s. record { net = s.net; entries = s.log.entries; cap = s.log.cap; room = s.room; edits = s.edits; highest = s.highest; last = s.last; tries = s.tries.count; fresh = s.fresh.items; settled = s.settled } };
+    ghost view = { λ s. record {
+      net = s.net;
+      entries = s.log.entries;
+      cap = s.log.cap;
+      room = s.room;
+      edits = s.edits;
+      highest = s.highest;
+      last = s.last;
+      tries = s.tries.count;
+      fresh = s.fresh.items;
+      settled = s.settled;
+    } };
 
-    ghost invariant = { λ s. IsSession s.net s.log s.room s.edits s.highest s.last × IsFreshened s.net s.log s.room s.fresh.items s.settled (vec_capacity s.fresh) (vec_capacity s.list) };
+    ghost invariant = { λ s. IsSession s.net s.log s.room s.edits s.highest s.last
+        × IsFreshened s.net s.log s.room s.fresh.items s.settled (vec_capacity s.fresh) (vec_capacity s.list) };
 }
 
 impl Session {
@@ -117,13 +131,30 @@ impl Session {
         requires from { from.0 < count (the_network self.old.net) }
         requires to { to.0 < count (the_network self.old.net) }
         ensures limit { IsErrOf result EditError.EditLimit ↔ (self.old.edits ≡ 1000000) }
-        ensures no_room { (room : ℕ) → (IsErrOf result (EditError.NoRoom room) ↔ ((self.old.edits < 1000000) × (length self.old.net.constraints ≡ self.old.room) × (room ≡ self.old.room))) }
-        ensures value { (v : ℤ) → (IsErrOf result (EditError.ValueRange v) ↔ ((self.old.edits < 1000000) × (length self.old.net.constraints < self.old.room) × (IsValue most → ⊥) × (v ≡ most))) }
-        ensures plain { IsErrOf result EditError.NotPlain ↔ ((self.old.edits < 1000000) × (length self.old.net.constraints < self.old.room) × IsValue most × (IsPlain (marks label) → ⊥)) }
-        ensures observed { (p : DeclaredProp) → (IsErrOf result (EditError.NotObserved p) ↔ ((self.old.edits < 1000000) × (length self.old.net.constraints < self.old.room) × IsValue most × IsPlain (marks label) × IsLeastUnobserved (the_network self.old.net) (marks label) p.index)) }
+        ensures no_room { (room : ℕ) → (IsErrOf result (EditError.NoRoom room)
+            ↔ ((self.old.edits < 1000000) × (length self.old.net.constraints ≡ self.old.room) × (room ≡ self.old.room))) }
+        ensures value { (v : ℤ) → (IsErrOf result (EditError.ValueRange v)
+            ↔ ((self.old.edits < 1000000) × (length self.old.net.constraints < self.old.room) × (IsValue most → ⊥) × (v ≡ most))) }
+        ensures plain { IsErrOf result EditError.NotPlain
+            ↔ ((self.old.edits < 1000000) × (length self.old.net.constraints < self.old.room) × IsValue most × (IsPlain (marks label) → ⊥)) }
+        ensures observed { (p : DeclaredProp)
+            → (IsErrOf result (EditError.NotObserved p)
+            ↔ ((self.old.edits < 1000000) × (length self.old.net.constraints < self.old.room) × IsValue most × IsPlain (marks label)
+            × IsLeastUnobserved (the_network self.old.net) (marks label) p.index)) }
         ensures refusal { refusal_of result ≡ add_refusal self.old.room (the_session self.old) most (marks label) }
         ensures id { IfOk result (λ id. id ≡ next_id self.old.highest) }
-        ensures added { IfOk result (λ id. self.new ≡ record self.old { net = record self.old.net { constraints = self.old.net.constraints ++ record { id = id; from = from; to = to; most = most; label = label } ∷ []; spare = self.old.net.spare - 1 }; edits = self.old.edits + 1; highest = Some id; last = None; fresh = self.old.fresh ++ id ∷ [] }) }
+        ensures added { IfOk result (λ id. self.new
+            ≡ record self.old {
+              net = record self.old.net {
+                constraints = self.old.net.constraints
+                    ++ record { id = id; from = from; to = to; most = most; label = label } ∷ [];
+                spare = self.old.net.spare - 1;
+              };
+              edits = self.old.edits + 1;
+              highest = Some id;
+              last = None;
+              fresh = self.old.fresh ++ id ∷ [];
+            }) }
         ensures session { IsOk result → the_session self.new ≡ with_added (the_session self.old) from.0 to.0 most (marks label) }
         ensures refused { OnErr result (self.new ≡ self.old) }
     {
@@ -164,9 +195,18 @@ impl Session {
     /// out of the kept list. Refuses past the limit of edits and where no constraint has the id, and then changes nothing.
     pub fn remove(&mut self, id: u32) -> Result<(), EditError>
         ensures limit { IsErrOf result EditError.EditLimit ↔ (self.old.edits ≡ 1000000) }
-        ensures none { (other : ℕ) → (IsErrOf result (EditError.NoSuch other) ↔ ((self.old.edits < 1000000) × All (λ c. c.id ≢ id) self.old.net.constraints × (other ≡ id))) }
+        ensures none { (other : ℕ) → (IsErrOf result (EditError.NoSuch other)
+            ↔ ((self.old.edits < 1000000) × All (λ c. c.id ≢ id) self.old.net.constraints × (other ≡ id))) }
         ensures refusal { refusal_of result ≡ remove_refusal (the_session self.old) id }
-        ensures removed { IsOk result → self.new ≡ record self.old { net = record self.old.net { constraints = without_id id self.old.net.constraints; spare = self.old.net.spare + 1 }; entries = self.new.entries; edits = self.old.edits + 1; last = None; fresh = fresh_with id self.old.fresh (ids_of self.new.net.constraints); settled = self.new.settled } }
+        ensures removed { IsOk result → self.new
+            ≡ record self.old {
+              net = record self.old.net { constraints = without_id id self.old.net.constraints; spare = self.old.net.spare + 1 };
+              entries = self.new.entries;
+              edits = self.old.edits + 1;
+              last = None;
+              fresh = fresh_with id self.old.fresh (ids_of self.new.net.constraints);
+              settled = self.new.settled;
+            } }
         ensures kept { IsOk result → kept_of self.new ≡ dropped (kept_of self.old) id }
         ensures settled { IsOk result → ((self.new.settled ≡ true) ↔ ((self.old.settled ≡ true) × (self.new.entries ≡ self.old.entries))) }
         ensures session { IsOk result → the_session self.new ≡ with_removed (the_session self.old) id }
@@ -191,10 +231,20 @@ impl Session {
     /// value is out of range, and then changes nothing.
     pub fn change(&mut self, id: u32, most: i32) -> Result<(), EditError>
         ensures limit { IsErrOf result EditError.EditLimit ↔ (self.old.edits ≡ 1000000) }
-        ensures none { (other : ℕ) → (IsErrOf result (EditError.NoSuch other) ↔ ((self.old.edits < 1000000) × All (λ c. c.id ≢ id) self.old.net.constraints × (other ≡ id))) }
-        ensures value { (v : ℤ) → (IsErrOf result (EditError.ValueRange v) ↔ ((self.old.edits < 1000000) × (All (λ c. c.id ≢ id) self.old.net.constraints → ⊥) × (IsValue most → ⊥) × (v ≡ most))) }
+        ensures none { (other : ℕ) → (IsErrOf result (EditError.NoSuch other)
+            ↔ ((self.old.edits < 1000000) × All (λ c. c.id ≢ id) self.old.net.constraints × (other ≡ id))) }
+        ensures value { (v : ℤ) → (IsErrOf result (EditError.ValueRange v)
+            ↔ ((self.old.edits < 1000000) × (All (λ c. c.id ≢ id) self.old.net.constraints → ⊥) × (IsValue most → ⊥) × (v ≡ most))) }
         ensures refusal { refusal_of result ≡ change_refusal (the_session self.old) id most }
-        ensures changed { IsOk result → self.new ≡ record self.old { net = record self.old.net { constraints = map (with_most id most) self.old.net.constraints }; entries = self.new.entries; edits = self.old.edits + 1; last = None; fresh = fresh_with id self.old.fresh (ids_of self.new.net.constraints); settled = self.new.settled } }
+        ensures changed { IsOk result → self.new
+            ≡ record self.old {
+              net = record self.old.net { constraints = map (with_most id most) self.old.net.constraints };
+              entries = self.new.entries;
+              edits = self.old.edits + 1;
+              last = None;
+              fresh = fresh_with id self.old.fresh (ids_of self.new.net.constraints);
+              settled = self.new.settled;
+            } }
         ensures kept { IsOk result → kept_of self.new ≡ dropped (kept_of self.old) id }
         ensures settled { IsOk result → ((self.new.settled ≡ true) ↔ ((self.old.settled ≡ true) × (self.new.entries ≡ self.old.entries))) }
         ensures session { IsOk result → the_session self.new ≡ with_changed (the_session self.old) id most }
@@ -222,7 +272,13 @@ impl Session {
     pub fn verdict(&mut self) -> Outcome
         ensures outcome { self.old.last ≡ None → result ≡ outcome_of (the_network self.old.net) self.old.cap (kept_of self.old) }
         ensures kept { self.old.last ≡ None → kept_of self.new ≡ kept_after (the_network self.old.net) self.old.cap (kept_of self.old) }
-        ensures same { self.new ≡ record self.old { entries = self.new.entries; last = Some result; tries = self.new.tries; fresh = self.new.fresh; settled = self.new.settled } }
+        ensures same { self.new ≡ record self.old {
+          entries = self.new.entries;
+          last = Some result;
+          tries = self.new.tries;
+          fresh = self.new.fresh;
+          settled = self.new.settled;
+        } }
         ensures fresh { self.old.last ≡ None → self.new.fresh ≡ [] }
         ensures settled { self.old.last ≡ None → ((self.new.settled ≡ true) ↔ ((load : ℕ) × (result.verdict ≡ Verdict.Yes load))) }
         ensures by_definition { result ≡ outcome_at self.old.cap (the_session self.old) }
@@ -231,11 +287,15 @@ impl Session {
 
         ensures yes { (load : ℕ) → result.verdict ≡ Verdict.Yes load → IsConsistent (the_network self.old.net) }
         ensures no { (load : ℕ) → result.verdict ≡ Verdict.No load → IsConsistent (the_network self.old.net) → ⊥ }
-        ensures full { self.old.last ≡ None → (result.verdict ≡ Verdict.Full ↔ ((self.old.cap < length (grow (the_network self.old.net) (kept_of self.old))) × (self.old.cap < load_of (the_network self.old.net)))) }
+        ensures full { self.old.last ≡ None →
+            (result.verdict ≡ Verdict.Full ↔
+            ((self.old.cap < length (grow (the_network self.old.net) (kept_of self.old))) × (self.old.cap < load_of (the_network self.old.net)))) }
         ensures load { (load : ℕ) → result.verdict ≡ Verdict.No load → load ≡ length (kept_of self.new) }
         ensures prefix { result.afresh ≡ false → (more : List Entry) × (kept_of self.old ++ more ≡ kept_of self.new) }
         ensures tries { self.old.tries ≤ self.new.tries }
-        ensures most_tries { self.old.last ≡ None → self.old.settled ≡ true → result.afresh ≡ false → self.new.tries ≤ self.old.tries + most_tries (length self.old.net.constraints) (length self.old.fresh) (length self.old.entries) (length self.new.entries) }
+        ensures most_tries { self.old.last ≡ None → self.old.settled ≡ true → result.afresh ≡ false
+            → self.new.tries ≤ self.old.tries + most_tries (length self.old.net.constraints) (length self.old.fresh) (length self.old.entries)
+            (length self.new.entries) }
     {
         network_is_well_formed(&self.net);
         if let Some(outcome) = self.last {

@@ -1,6 +1,7 @@
 //! What holds of reading elements one after the other. The calls do nothing: their contracts are the laws.
 
-ghost use Rattle.cstn_element.specs.InTurn.{GoesOn, IsRefusedInside, IsRefusedNext, IsEnded, LeavesState, GoesOnInDocument, IsRefusedInDocument, PassesBlank, IsRefusedAt, IsFinished};
+ghost use Rattle.cstn_element.specs.InTurn.{GoesOn, IsRefusedInside, IsRefusedNext, IsEnded, LeavesState, GoesOnInDocument, IsRefusedInDocument, PassesBlank};
+ghost use Rattle.cstn_element.specs.InTurn.{IsRefusedAt, IsFinished};
 
 /// A way to read the content of an element or of the document, in which only elements and white space may stand. `State` is the
 /// type of its states, `Found` that of what the end makes of a state, and `Answer` that of the program's answer, seen as a

@@ -51,7 +51,12 @@ impl Model for Executive {
 
     ghost Value = { ExecParts };
 
-    ghost view = { λ e. record { net = e.plan.net; bounds = e.plan.bounds; run = run_of e.last e.moments.items e.outcomes; named = map (λ x. x.0) e.named.items } };
+    ghost view = { λ e. record {
+      net = e.plan.net;
+      bounds = e.plan.bounds;
+      run = run_of e.last e.moments.items e.outcomes;
+      named = map (λ x. x.0) e.named.items;
+    } };
 
     ghost invariant = { λ e. IsExecutive (the_network e.plan.net) (run_of e.last e.moments.items e.outcomes) e.named.capacity };
 }

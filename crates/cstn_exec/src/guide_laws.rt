@@ -13,7 +13,9 @@ ghost use Rattle.cstn_exec.specs.Moves.{NotExecuted, moment_refusal, moved, outc
 ghost use Rattle.cstn_exec.specs.Right.{IsRight, IsDone};
 ghost use Rattle.cstn_exec.specs.Guides.{Guided, begun, named_at, holds_by, named, left_out, advanced, see_refusal, noted};
 ghost use Rattle.cstn_exec.specs.Sound.{IsPlanned, HoldsBy, IsDecided, IsNamedAt, IsLeftAt, IsGuided, IsOnTime, IsLed};
-ghost use Rattle.cstn_exec.specs.GuideExamples.{guide_answers, treatment, treatment_plan, needed_events, needed_answers, spared_events, spared_answers, second_test, second_test_plan, no_second_test_events, no_second_test_answers, second_test_events, second_test_answers, slow_second_test, slow_second_test_plan, slow_events, slow_answers};
+ghost use Rattle.cstn_exec.specs.GuideExamples.{guide_answers, treatment, treatment_plan, needed_events, needed_answers, spared_events, spared_answers};
+ghost use Rattle.cstn_exec.specs.GuideExamples.{second_test, second_test_plan, no_second_test_events, no_second_test_answers, second_test_events};
+ghost use Rattle.cstn_exec.specs.GuideExamples.{second_test_answers, slow_second_test, slow_second_test_plan, slow_events, slow_answers};
 
 use cstn_lift::observers_are_found;
 

@@ -8,7 +8,9 @@ ghost use Rattle.cstn_exec.specs.Runs.{Run, start, called, due, is_awaited};
 ghost use Rattle.cstn_exec.specs.Moves.{Done, Past, Late, Awaiting, moment_refusal, moved, outcome_refusal, handed};
 ghost use Rattle.cstn_exec.specs.Right.{IsPlan, IsRight, IsCalled, IsDue, IsDone, IsFulfilled, IsBetween, IsFirstAwaited};
 ghost use Rattle.cstn_exec.specs.Answers.{answers};
-ghost use Rattle.cstn_exec.specs.Examples.{branch, branch_plan, slow_branch, slow_branch_plan, last_tick_plan, crossed, crossed_plan, process, process_plan, branch_events, branch_answers, true_branch_events, true_branch_answers, last_tick_events, last_tick_answers, slow_events, slow_answers, crossed_events, crossed_answers, process_events, process_answers};
+ghost use Rattle.cstn_exec.specs.Examples.{branch, branch_plan, slow_branch, slow_branch_plan, last_tick_plan, crossed, crossed_plan, process, process_plan};
+ghost use Rattle.cstn_exec.specs.Examples.{branch_events, branch_answers, true_branch_events, true_branch_answers, last_tick_events, last_tick_answers};
+ghost use Rattle.cstn_exec.specs.Examples.{slow_events, slow_answers, crossed_events, crossed_answers, process_events, process_answers};
 
 /// The run of which nothing is executed is right, and accepted moments and outcomes keep a run right.
 pub fn runs_stay_right()

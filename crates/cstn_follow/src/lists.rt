@@ -14,7 +14,8 @@ use std::alloc::{AllocError, Global};
 
 /// The line that tells what is next.
 pub fn next_line(alloc: Global, names: &Names, next: &NextMoment) -> Result<Vec<u8>, AllocError>
-    ensures line { IfOk result (λ text. text.items ≡ line (next_text names.now next.now.moment (map (λ x. x.0) next.now.named.items) (map (λ p. p.index) next.now.awaited.items))) }
+    ensures line { IfOk result (λ text. text.items
+        ≡ line (next_text names.now next.now.moment (map (λ x. x.0) next.now.named.items) (map (λ p. p.index) next.now.awaited.items))) }
 {
     let mut text = Vec::with_capacity(alloc, ROOM)?;
     put_moment(&mut text, next.moment)?;

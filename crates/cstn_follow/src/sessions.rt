@@ -51,9 +51,27 @@ impl Model for Following {
 
     ghost Value = { FollowingParts };
 
-    ghost view = { λ f. record { network = f.network; names = f.names; history = f.history; cap = f.cap; edits = f.edits; fresh = f.fresh; lines = f.lines; verdict = f.verdict } };
+    ghost view = { λ f. record {
+      network = f.network;
+      names = f.names;
+      history = f.history;
+      cap = f.cap;
+      edits = f.edits;
+      fresh = f.fresh;
+      lines = f.lines;
+      verdict = f.verdict;
+    } };
 
-    ghost invariant = { λ f. IsFollowing (record { network = f.network; names = f.names; history = f.history; cap = f.cap; edits = f.edits; fresh = f.fresh; lines = f.lines; verdict = f.verdict }) };
+    ghost invariant = { λ f. IsFollowing (record {
+      network = f.network;
+      names = f.names;
+      history = f.history;
+      cap = f.cap;
+      edits = f.edits;
+      fresh = f.fresh;
+      lines = f.lines;
+      verdict = f.verdict;
+    }) };
 }
 
 impl Following {

@@ -109,7 +109,8 @@ fn add_constraint(builder: &mut Builder, span: &Span, label: Label) -> Result<()
     requires from { span.now.from < length builder.old.points }
     requires to { span.now.to < length builder.old.points }
     requires room { length builder.old.drafts < 2 ^ 32 - 1 }
-    ensures added { IfOk result (λ _. builder.new ≡ record builder.old { drafts = builder.old.drafts ++ record { from = span.now.from; to = span.now.to; most = span.now.most; label = label } ∷ [] }) }
+    ensures added { IfOk result (λ _. builder.new
+        ≡ record builder.old { drafts = builder.old.drafts ++ record { from = span.now.from; to = span.now.to; most = span.now.most; label = label } ∷ [] }) }
     ensures refused { OnErr result (builder.new ≡ builder.old) }
 {
     builder.constrain(span.from, span.to, span.most, label)?;

@@ -6,7 +6,8 @@ ghost use Rattle.cstn_lift.specs.WellFormed.{IsLabelled};
 ghost use Rattle.cstn_lift.specs.Read.{the_labelled};
 ghost use Rattle.cstn_lift.specs.Lowered.{observer_of};
 ghost use Rattle.cstn_history.specs.Read.{the_history, IsKeptFor};
-ghost use Rattle.cstn_history.specs.Facts.{now_refusal, done_refusal, told_refusal, expected_refusal, observed_since, latest_expected, is_beyond, refusal_of, at_now, with_done, with_told, with_expected};
+ghost use Rattle.cstn_history.specs.Facts.{now_refusal, done_refusal, told_refusal, expected_refusal, observed_since, latest_expected, is_beyond, refusal_of};
+ghost use Rattle.cstn_history.specs.Facts.{at_now, with_done, with_told, with_expected};
 
 use crate::completion::completed;
 use crate::errors::FactError;

@@ -7,7 +7,8 @@ ghost use Rattle.cstn_net.specs.Read.{prop_number, the_constraint, IsInRange};
 ghost use Rattle.cstn_lift.specs.Completion.{full_label};
 ghost use Rattle.cstn_lift.specs.Read.{the_labelled};
 ghost use Rattle.cstn_history.specs.Histories.{allows, known_at};
-ghost use Rattle.cstn_history.specs.Rest.{sight_left, is_left, end_left, moment_done, value_left, cut, is_over, constraint_left, awaited_at, reaction_watched, moment_watched};
+ghost use Rattle.cstn_history.specs.Rest.{sight_left, is_left, end_left, moment_done, value_left, cut, is_over, constraint_left, awaited_at};
+ghost use Rattle.cstn_history.specs.Rest.{reaction_watched, moment_watched};
 ghost use Rattle.cstn_history.specs.Read.{the_history, IsKeptFor};
 ghost use Rattle.cstn_history.specs.Handed.{AreNumbers};
 

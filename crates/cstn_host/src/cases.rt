@@ -21,7 +21,9 @@ pub struct Case {
 impl Case {
     // Passes a moment to the executive.
     fn moment(&mut self, t: u32) -> Result<(), HostError>
-        ensures answer { (plans : List PlanParts) → IsOver plans self.old → answer_of (λ _. Told (Names self.new.executive.named)) result ≡ Told (answer_to (net_at plans self.old.file) (bounds_at plans self.old.file) self.old.executive.run (Moment t)) }
+        ensures answer { (plans : List PlanParts) → IsOver plans self.old
+            → answer_of (λ _. Told (Names self.new.executive.named)) result
+            ≡ Told (answer_to (net_at plans self.old.file) (bounds_at plans self.old.file) self.old.executive.run (Moment t)) }
         ensures after { (plans : List PlanParts) → IsOver plans self.old → the_opened self.new ≡ passed plans (the_opened self.old) (Moment t) }
         ensures over { (plans : List PlanParts) → IsOver plans self.old → IsOver plans self.new }
         ensures memory { in_want result ≡ false }
@@ -35,7 +37,9 @@ impl Case {
 
     // Passes an outcome to the executive.
     fn see(&mut self, p: Prop, value: bool) -> Result<(), HostError>
-        ensures answer { (plans : List PlanParts) → IsOver plans self.old → answer_of (λ _. Told Kept) result ≡ Told (answer_to (net_at plans self.old.file) (bounds_at plans self.old.file) self.old.executive.run (See p.index value)) }
+        ensures answer { (plans : List PlanParts) → IsOver plans self.old
+            → answer_of (λ _. Told Kept) result
+            ≡ Told (answer_to (net_at plans self.old.file) (bounds_at plans self.old.file) self.old.executive.run (See p.index value)) }
         ensures after { (plans : List PlanParts) → IsOver plans self.old → the_opened self.new ≡ passed plans (the_opened self.old) (See p.index value) }
         ensures over { (plans : List PlanParts) → IsOver plans self.old → IsOver plans self.new }
         ensures memory { in_want result ≡ false }
@@ -50,8 +54,11 @@ impl Case {
 
 /// Passes a moment, in ticks, to the executive of an id. Refused with `NoSuchPlan` where the id isn't open.
 pub fn pass_moment(case: &mut Option<Case>, id: u32, t: u32) -> Result<(), HostError>
-    ensures answer { (plans : List PlanParts) → IfSome case.old (IsOver plans) → answer_of (λ _. Told (Names (named_in (option_map the_opened case.new)))) result ≡ answer_at plans id (option_map the_opened case.old) (Pass (Moment t)) }
-    ensures after { (plans : List PlanParts) → IfSome case.old (IsOver plans) → option_map the_opened case.new ≡ case_after plans (option_map the_opened case.old) (Pass (Moment t)) }
+    ensures answer { (plans : List PlanParts) → IfSome case.old (IsOver plans)
+        → answer_of (λ _. Told (Names (named_in (option_map the_opened case.new)))) result
+        ≡ answer_at plans id (option_map the_opened case.old) (Pass (Moment t)) }
+    ensures after { (plans : List PlanParts) → IfSome case.old (IsOver plans)
+        → option_map the_opened case.new ≡ case_after plans (option_map the_opened case.old) (Pass (Moment t)) }
     ensures over { (plans : List PlanParts) → IfSome case.old (IsOver plans) → IfSome case.new (IsOver plans) }
     ensures memory { in_want result ≡ false }
     ensures same { OnErr result (case.new ≡ case.old) }
@@ -64,8 +71,10 @@ pub fn pass_moment(case: &mut Option<Case>, id: u32, t: u32) -> Result<(), HostE
 
 /// Passes an outcome to the executive of an id. Refused with `NoSuchPlan` where the id isn't open.
 pub fn pass_outcome(case: &mut Option<Case>, id: u32, p: Prop, value: bool) -> Result<(), HostError>
-    ensures answer { (plans : List PlanParts) → IfSome case.old (IsOver plans) → answer_of (λ _. Told Kept) result ≡ answer_at plans id (option_map the_opened case.old) (Pass (See p.index value)) }
-    ensures after { (plans : List PlanParts) → IfSome case.old (IsOver plans) → option_map the_opened case.new ≡ case_after plans (option_map the_opened case.old) (Pass (See p.index value)) }
+    ensures answer { (plans : List PlanParts) → IfSome case.old (IsOver plans)
+        → answer_of (λ _. Told Kept) result ≡ answer_at plans id (option_map the_opened case.old) (Pass (See p.index value)) }
+    ensures after { (plans : List PlanParts) → IfSome case.old (IsOver plans)
+        → option_map the_opened case.new ≡ case_after plans (option_map the_opened case.old) (Pass (See p.index value)) }
     ensures over { (plans : List PlanParts) → IfSome case.old (IsOver plans) → IfSome case.new (IsOver plans) }
     ensures memory { in_want result ≡ false }
     ensures same { OnErr result (case.new ≡ case.old) }

@@ -175,7 +175,12 @@ fn place_of(id: u32) -> Result<usize, HostError>
 
 // An executive of a copy of the plan.
 fn start_copy(alloc: Global, plan: &SoundPlan) -> Result<Executive, AllocError>
-    ensures { IfOk result (λ e. e ≡ record { net = record plan.now.net { spare = 0 }; bounds = plan.now.bounds; run = start (count (the_network plan.now.net)); named = [] }) }
+    ensures { IfOk result (λ e. e ≡ record {
+      net = record plan.now.net { spare = 0 };
+      bounds = plan.now.bounds;
+      run = start (count (the_network plan.now.net));
+      named = [];
+    }) }
 {
     Executive::start(alloc, plan.copy(alloc)?)
 }

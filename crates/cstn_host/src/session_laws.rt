@@ -9,7 +9,8 @@ ghost use Rattle.cstn_reply.specs.Texts.{line};
 ghost use Rattle.cstn_exec.specs.Running.{run_turn};
 ghost use Rattle.cstn_reply.specs.Reached.{LeadsTo as SessionLeadsTo, Says};
 ghost use Rattle.cstn_host.specs.Sessions.{File, HostSession, begun, file_at, fresh, agreed_text, session_after, host_turn, host_ending};
-ghost use Rattle.cstn_host.specs.Alone.{Own, lines_on, said_to, after_all, said_after, alone_lines, alone_after, alone_said, turn_text, LeadsTo, own_lines, own_file, own_run, said_by};
+ghost use Rattle.cstn_host.specs.Alone.{Own, lines_on, said_to, after_all, said_after, alone_lines, alone_after, alone_said, turn_text, LeadsTo, own_lines};
+ghost use Rattle.cstn_host.specs.Alone.{own_file, own_run, said_by};
 ghost use Rattle.cstn_host.specs.Files.{Named, the_file};
 ghost use Rattle.cstn_host.specs.Least.{HasStrategy, HasPlan, NamesLeast, TellsDue};
 
@@ -19,7 +20,8 @@ use cstn_exec::{due_is_exact, runs_stay_right, the_named_are_called};
 /// Two lists of host lines that have the same lines on an id have the same answers to it, whatever lines on other ids come
 /// between.
 pub fn lines_of_other_ids_make_no_difference()
-    ensures each { (files : List File) (lines others : List Hosted) (id : ℕ) → lines_on id lines ≡ lines_on id others → said_to id (begun files) lines ≡ said_to id (begun files) others }
+    ensures each { (files : List File) (lines others : List Hosted) (id : ℕ) → lines_on id lines ≡ lines_on id others
+        → said_to id (begun files) lines ≡ said_to id (begun files) others }
 {}
 
 /// After any host lines, the answer to a line depends only on the files and on the own lines of its id: those since the last
@@ -70,6 +72,8 @@ pub fn open_ids_name_the_least()
 /// the same lines, and goes on in the same way.
 #[tactic(auto, using(crate::proofs::Apart::alone_text, crate::proofs::Apart::alone_leads))]
 pub fn runs_answer_alone()
-    ensures text { (file : File) (run : Run) (live : Live) (bytes : List ℕ) → live_read bytes ≡ Some live → turn_text (run_turn file.names file.net file.bounds run bytes) ≡ flat_map line (alone_lines file run live) }
-    ensures leads { (file : File) (run : Run) (live : Live) (bytes : List ℕ) → live_read bytes ≡ Some live → LeadsTo file (alone_after file run live) (run_turn file.names file.net file.bounds run bytes) }
+    ensures text { (file : File) (run : Run) (live : Live) (bytes : List ℕ) → live_read bytes ≡ Some live
+        → turn_text (run_turn file.names file.net file.bounds run bytes) ≡ flat_map line (alone_lines file run live) }
+    ensures leads { (file : File) (run : Run) (live : Live) (bytes : List ℕ) → live_read bytes ≡ Some live
+        → LeadsTo file (alone_after file run live) (run_turn file.names file.net file.bounds run bytes) }
 {}

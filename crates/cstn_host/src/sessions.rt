@@ -4,7 +4,8 @@ ghost use Rattle.cstn_lines.specs.LiveLines.{moment_at, seen, due_now, the_live}
 ghost use Rattle.cstn_lines.specs.HostLines.{opened, put_on, closed};
 ghost use Rattle.cstn_exec.specs.Runs.{due};
 ghost use Rattle.cstn_host.specs.Hosts.{Opened, net_at, bounds_at, case_at};
-ghost use Rattle.cstn_host.specs.Sessions.{begun, case_of, due_in, said, unfinished, session_after, host_turn, host_wants, host_ending, HostSession as SessionState};
+ghost use Rattle.cstn_host.specs.Sessions.{begun, case_of, due_in, said, unfinished, session_after, host_turn, host_wants, host_ending};
+ghost use Rattle.cstn_host.specs.Sessions.{HostSession as SessionState};
 ghost use Rattle.cstn_host.specs.SessionRead.{the_files, the_host_session, the_names, IsHostSession};
 
 use crate::Host;
@@ -138,7 +139,8 @@ impl HostSession {
 
     // Whether an id is open and all of its plan is executed.
     fn has_done_all(&self, id: u32) -> bool
-        ensures done { (c : Opened) → nat_lt id 64 ≡ true → case_at self.now.host id ≡ Some c → result ≡ is_none (due (net_at self.now.host.plans c.file) (bounds_at self.now.host.plans c.file) c.run) }
+        ensures done { (c : Opened) → nat_lt id 64 ≡ true → case_at self.now.host id ≡ Some c
+            → result ≡ is_none (due (net_at self.now.host.plans c.file) (bounds_at self.now.host.plans c.file) c.run) }
     {
         match self.host.due(id) {
             Ok(due) => due.is_none(),

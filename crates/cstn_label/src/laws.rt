@@ -35,7 +35,8 @@ pub fn joined_is_the_least_above()
     ensures empty { (a : Label) → joined a empty ≡ a }
     ensures absent { (a b : Label) (p : ℕ) → (joined a b p ≡ Absent) ↔ ((a p ≡ Absent) × (b p ≡ Absent)) }
     ensures holds { (s : Scenario) (a b : Label) → (Holds s (joined a b) ↔ (Holds s a × Holds s b)) }
-    ensures possible { (known : ℕ → Bool) (s : Scenario) (a b : Label) → (IsPossible (λ p. IsTrue (known p)) s (joined a b) ↔ (IsPossible (λ p. IsTrue (known p)) s a × IsPossible (λ p. IsTrue (known p)) s b)) }
+    ensures possible { (known : ℕ → Bool) (s : Scenario) (a b : Label)
+        → (IsPossible (λ p. IsTrue (known p)) s (joined a b) ↔ (IsPossible (λ p. IsTrue (known p)) s a × IsPossible (λ p. IsTrue (known p)) s b)) }
     ensures plain { (a b : Label) → IsPlain (joined a b) → IsPlain a × IsPlain b }
 {}
 
@@ -56,11 +57,16 @@ pub fn one_mark_is_taken_off()
 /// scenario is possible by what is known there. Where all propositions that it marks are known, it is possible only where it
 /// holds. A plain label that is possible holds in some scenario that has the known values.
 pub fn possible_until_ruled_out()
-    ensures within { (known : ℕ → Bool) (s : Scenario) (a b : Label) → IsWithin a b → IsPossible (λ p. IsTrue (known p)) s b → IsPossible (λ p. IsTrue (known p)) s a }
-    ensures earlier { (known later : ℕ → Bool) (r s : Scenario) (a : Label) → ((p : ℕ) → IsTrue (known p) → IsTrue (later p) × (r p ≡ s p)) → IsPossible (λ p. IsTrue (later p)) s a → IsPossible (λ p. IsTrue (known p)) r a }
-    ensures holds { (known : ℕ → Bool) (r s : Scenario) (a : Label) → ((p : ℕ) → IsTrue (known p) → r p ≡ s p) → Holds s a → IsPossible (λ p. IsTrue (known p)) r a }
-    ensures only { (known : ℕ → Bool) (r s : Scenario) (a : Label) → ((p : ℕ) → IsTrue (known p) → r p ≡ s p) → ((p : ℕ) → IsMarked a p → IsTrue (known p)) → IsPossible (λ p. IsTrue (known p)) r a → Holds s a }
-    ensures somewhere { (known : ℕ → Bool) (s : Scenario) (a : Label) → IsPlain a → IsPossible (λ p. IsTrue (known p)) s a → (r : Scenario) × ((p : ℕ) → IsTrue (known p) → r p ≡ s p) × Holds r a }
+    ensures within { (known : ℕ → Bool) (s : Scenario) (a b : Label) → IsWithin a b → IsPossible (λ p. IsTrue (known p)) s b
+        → IsPossible (λ p. IsTrue (known p)) s a }
+    ensures earlier { (known later : ℕ → Bool) (r s : Scenario) (a : Label) → ((p : ℕ) → IsTrue (known p) → IsTrue (later p) × (r p ≡ s p))
+        → IsPossible (λ p. IsTrue (later p)) s a → IsPossible (λ p. IsTrue (known p)) r a }
+    ensures holds { (known : ℕ → Bool) (r s : Scenario) (a : Label) → ((p : ℕ) → IsTrue (known p) → r p ≡ s p) → Holds s a
+        → IsPossible (λ p. IsTrue (known p)) r a }
+    ensures only { (known : ℕ → Bool) (r s : Scenario) (a : Label) → ((p : ℕ) → IsTrue (known p) → r p ≡ s p) → ((p : ℕ) → IsMarked a p → IsTrue (known p))
+        → IsPossible (λ p. IsTrue (known p)) r a → Holds s a }
+    ensures somewhere { (known : ℕ → Bool) (s : Scenario) (a : Label) → IsPlain a → IsPossible (λ p. IsTrue (known p)) s a
+        → (r : Scenario) × ((p : ℕ) → IsTrue (known p) → r p ≡ s p) × Holds r a }
 {}
 
 /// Domination is reflexive and transitive, and of two bounds with one label on one time-point, one dominates the other.

@@ -11,7 +11,8 @@ ghost use Rattle.cstn_lift.specs.Completion.{IsCompleteLabel, IsPlainAndComplete
 ghost use Rattle.cstn_lift.specs.WellFormed.{IsLabelled};
 ghost use Rattle.cstn_lift.specs.Lowered.{lowered, numbered, observer_of, is_plain, full_constraints, guards_of, guards};
 ghost use Rattle.cstn_lift.specs.Kept.{IsOpenIn, IsKnownIn, IsConstraintOf, IsKept, IsLowered, IsFull, IsGuard};
-ghost use Rattle.cstn_lift.specs.Strategies.{IsExecuted, IsLabelledStrategy, IsLabelledConsistent, IsLabelledLeast, IsEquivalent, AreDefaulted, AreTwins, HasLabelledLeasts};
+ghost use Rattle.cstn_lift.specs.Strategies.{IsExecuted, IsLabelledStrategy, IsLabelledConsistent, IsLabelledLeast, IsEquivalent, AreDefaulted, AreTwins};
+ghost use Rattle.cstn_lift.specs.Strategies.{HasLabelledLeasts};
 ghost use Rattle.cstn_lift.specs.Scenarios.{IsOwn, own, IsLabelledStrategyOnObserved, IsLabelledLeastOnObserved, AreAlike};
 
 /// The completed label of a label is the least complete label that the label is within. Completing it again changes nothing.

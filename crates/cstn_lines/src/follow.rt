@@ -4,7 +4,8 @@ ghost use Rattle.std.specs.Option.{option_map};
 ghost use Rattle.cstn_text.specs.Numbers.{number_within};
 ghost use Rattle.cstn_text.specs.PrintedNames.{name_read};
 ghost use Rattle.cstn_lines.specs.EditLines.{edited_read};
-ghost use Rattle.cstn_lines.specs.FollowLines.{the_follow, now_at, edits, ends_by, asks_by, moment_of, names_read, done_read, outcome_read, came_read, awaited_read, followed_read, follow_read, IsNaming};
+ghost use Rattle.cstn_lines.specs.FollowLines.{the_follow, now_at, edits, ends_by, asks_by, moment_of, names_read, done_read, outcome_read, came_read};
+ghost use Rattle.cstn_lines.specs.FollowLines.{awaited_read, followed_read, follow_read, IsNaming};
 
 use crate::edits::{EditLine, NameText, read_edited, read_name_text};
 use crate::live::{cut_at_space, read_prop, read_truth};

@@ -1,5 +1,6 @@
 // The lines of a live source.
-ghost use Rattle.std.specs.Prelude.{◌≡◌, ◌≢◌, ◌⊎◌, ◌≤◌, ◌<◌, ◌+◌, ◌-◌, ◌^◌, ◌++◌, ℕ, List, Some, None, [], true, false, length, take, drop, IfOk, IfSome, IfNone, OnOk, OnErr, MatchResult};
+ghost use Rattle.std.specs.Prelude.{◌≡◌, ◌≢◌, ◌⊎◌, ◌≤◌, ◌<◌, ◌+◌, ◌-◌, ◌^◌, ◌++◌, ℕ, List, Some, None, [], true, false, length, take, drop, IfOk, IfSome};
+ghost use Rattle.std.specs.Prelude.{IfNone, OnOk, OnErr, MatchResult};
 ghost use Rattle.cstn_io.specs.Causes.{Rose, HasCause};
 ghost use Rattle.cstn_io.specs.Contents.{after_bytes, IsAtEnd};
 ghost use Rattle.cstn_lines.specs.Pieces.{IsCut, HasEnd, HasNoEnd, between};
@@ -54,9 +55,16 @@ impl Model for Lines {
 
     ghost Value = { LinesState };
 
-    ghost view = { λ s. record { line = between s.first s.last s.bytes.items; whole = nat_lt s.last s.start; kept = between s.start s.end s.bytes.items; count = s.count; ended = s.ended } };
+    ghost view = { λ s. record {
+      line = between s.first s.last s.bytes.items;
+      whole = nat_lt s.last s.start;
+      kept = between s.start s.end s.bytes.items;
+      count = s.count;
+      ended = s.ended;
+    } };
 
-    ghost invariant = { λ s. (s.first ≤ s.last) × (s.last ≤ s.end) × (s.start ≤ s.searched) × (s.searched ≤ s.end) × (s.end ≤ 4097) × (vec_len s.bytes ≡ 4097) × HasNoEnd (between s.start s.searched s.bytes.items) × (s.count ≤ 2 ^ 24) };
+    ghost invariant = { λ s. (s.first ≤ s.last) × (s.last ≤ s.end) × (s.start ≤ s.searched) × (s.searched ≤ s.end) × (s.end ≤ 4097)
+        × (vec_len s.bytes ≡ 4097) × HasNoEnd (between s.start s.searched s.bytes.items) × (s.count ≤ 2 ^ 24) };
 }
 
 impl Lines {
@@ -188,7 +196,8 @@ impl Lines {
     fn fill<S: Source>(&mut self, source: &mut S) -> Result<usize, Failed>
         requires short { length self.old.kept ≤ 4096 }
         requires ended { self.old.ended ≡ false }
-        ensures taken { (taken : List ℕ) × (self.new.kept ≡ self.old.kept ++ taken) × (S.left source.old ≡ after_bytes taken (S.left source.new)) × MatchResult result (λ n. n ≡ length taken) (λ _. taken ≡ []) }
+        ensures taken { (taken : List ℕ) × (self.new.kept ≡ self.old.kept ++ taken) × (S.left source.old ≡ after_bytes taken (S.left source.new))
+            × MatchResult result (λ n. n ≡ length taken) (λ _. taken ≡ []) }
         ensures count { self.new.count ≡ self.old.count }
         ensures ended { self.new.ended ≡ true → IsAtEnd (S.left source.new) }
         ensures zero { IfOk result (λ n. n ≡ 0 → self.new.ended ≡ true) }
@@ -222,7 +231,9 @@ impl Lines {
         requires short { length self.old.kept ≤ 4096 }
         requires count { 0 < length self.old.kept → self.old.count < 2 ^ 24 }
         requires ended { self.old.ended ≡ false }
-        ensures steps { (taken : List ℕ) × (S.left source.old ≡ after_bytes taken (S.left source.new)) × ReadsOn self.old.kept self.old.count taken (S.reads source.old) (S.reads source.new) × Steps (self.old.kept ++ taken) self.old.count self.new result }
+        ensures steps { (taken : List ℕ) × (S.left source.old ≡ after_bytes taken (S.left source.new))
+            × ReadsOn self.old.kept self.old.count taken (S.reads source.old) (S.reads source.new)
+            × Steps (self.old.kept ++ taken) self.old.count self.new result }
         ensures ended { self.new.ended ≡ true → IsAtEnd (S.left source.new) }
         ensures later { S.faults source.old ≤ S.faults source.new }
         ensures fault { result ≡ Next.Fault → Rose (S.faults source.old) (S.faults source.new) }
@@ -243,7 +254,8 @@ impl Lines {
     /// else reads go on until one brings the end of the line, makes it `Wrong`, answers 0 or fails. After `End` and
     /// `Wrong` each step says the same again.
     pub fn step<S: Source>(&mut self, source: &mut S) -> Next
-        ensures steps { (taken : List ℕ) × (S.left source.old ≡ after_bytes taken (S.left source.new)) × (self.old.ended ≡ true → taken ≡ []) × Steps (self.old.kept ++ taken) self.old.count self.new result }
+        ensures steps { (taken : List ℕ) × (S.left source.old ≡ after_bytes taken (S.left source.new)) × (self.old.ended ≡ true → taken ≡ [])
+            × Steps (self.old.kept ++ taken) self.old.count self.new result }
 
         ensures stays { self.old.ended ≡ true → self.new.ended ≡ true }
         ensures ended { (self.old.ended ≡ true → IsAtEnd (S.left source.old)) → self.new.ended ≡ true → IsAtEnd (S.left source.new) }
@@ -251,7 +263,10 @@ impl Lines {
         ensures idle { self.old.ended ≡ true → source.new ≡ source.old }
         ensures idle_whole { HasEnd self.old.kept → source.new ≡ source.old }
         ensures idle_past { IsPast self.old → source.new ≡ source.old }
-        ensures reads { (source.new ≡ source.old) ⊎ ((taken : List ℕ) × (S.left source.old ≡ after_bytes taken (S.left source.new)) × ReadsOn self.old.kept self.old.count taken (S.reads source.old) (S.reads source.new) × Steps (self.old.kept ++ taken) self.old.count self.new result) }
+        ensures reads { (source.new ≡ source.old)
+            ⊎ ((taken : List ℕ) × (S.left source.old ≡ after_bytes taken (S.left source.new))
+            × ReadsOn self.old.kept self.old.count taken (S.reads source.old) (S.reads source.new)
+            × Steps (self.old.kept ++ taken) self.old.count self.new result) }
 
         ensures end_again { self.old.ended ≡ true → self.old.kept ≡ [] → (result ≡ Next.End) × (self.new ≡ self.old) }
         ensures wrong_again { IsPast self.old → (result ≡ wrong_at (self.old.count + 1)) × (self.new ≡ self.old) }

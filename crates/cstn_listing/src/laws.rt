@@ -14,5 +14,6 @@ pub fn texts_are_their_parts()
 /// line, and then the line of each thing, where the text may end after these.
 pub fn listings_are_their_texts<A>()
     ensures said { (kind : Kind A) (bytes : List ℕ) (load : ℕ) (listed : List A) → told kind bytes ≡ tells load listed → IsTextOf kind load listed bytes }
-    ensures says { (kind : Kind A) (bytes : List ℕ) (load : ℕ) (listed : List A) → IsOnePart kind.word → IsTextOf kind load listed bytes → told kind bytes ≡ tells load listed }
+    ensures says { (kind : Kind A) (bytes : List ℕ) (load : ℕ) (listed : List A) → IsOnePart kind.word → IsTextOf kind load listed bytes
+        → told kind bytes ≡ tells load listed }
 {}

@@ -1,5 +1,6 @@
 // Chains of places through a list of entries, which grow with the list. Places of dead entries may be left out.
-ghost use Rattle.std.specs.Prelude.{ℕ, ◌≡◌, ◌+◌, ◌*◌, ◌/◌, ◌<◌, ◌≤◌, ◌++◌, ◌∷◌, [], List, Some, length, slice_get, slice_index_or, vec_capacity, IfOk, IsTrue, ◌↔◌};
+ghost use Rattle.std.specs.Prelude.{ℕ, ◌≡◌, ◌+◌, ◌*◌, ◌/◌, ◌<◌, ◌≤◌, ◌++◌, ◌∷◌, [], List, Some, length, slice_get, slice_index_or, vec_capacity, IfOk};
+ghost use Rattle.std.specs.Prelude.{IsTrue, ◌↔◌};
 ghost use Rattle.cstn_rules.specs.declared.entries.Entry.{Entry as TheEntry};
 ghost use Rattle.cstn_log.specs.Entries.{IsLive};
 ghost use Rattle.cstn_log.specs.Chains.{AreNodeChains, IsAtNode, IsNext, IsBehind, node_cell, node_link};
@@ -60,10 +61,12 @@ impl NodeChains {
     // Puts the next entry of the list, at this place, into the chain of its time-point.
     pub fn append(&mut self, place: u32, e: Entry)
         requires node { e.bound.node.0 < length self.old.lasts.items }
-        requires chains { (entries : List TheEntry) × AreNodeChains (length self.old.lasts.items) entries self.old.links.items self.old.lasts.items × (length entries ≡ place) }
+        requires chains { (entries : List TheEntry) × AreNodeChains (length self.old.lasts.items) entries self.old.links.items self.old.lasts.items
+            × (length entries ≡ place) }
         requires room { length self.old.lasts.items + place + 1 ≤ vec_capacity self.old.links }
         requires few { (place < 4194304) × (length self.old.lasts.items < 65536) }
-        ensures chains { (entries : List TheEntry) → AreNodeChains (length self.old.lasts.items) entries self.old.links.items self.old.lasts.items → length entries ≡ place → AreNodeChains (length self.old.lasts.items) (entries ++ e ∷ []) self.new.links.items self.new.lasts.items }
+        ensures chains { (entries : List TheEntry) → AreNodeChains (length self.old.lasts.items) entries self.old.links.items self.old.lasts.items
+            → length entries ≡ place → AreNodeChains (length self.old.lasts.items) (entries ++ e ∷ []) self.new.links.items self.new.lasts.items }
         ensures size { length self.new.lasts.items ≡ length self.old.lasts.items }
         ensures room { vec_capacity self.old.links ≤ vec_capacity self.new.links }
     {
@@ -110,7 +113,9 @@ impl NodeChains {
         requires few { length self.old.lasts.items < 65536 }
         requires node { x.0 < length self.old.lasts.items }
         requires inside { length self.old.lasts.items + start ≤ length self.old.links.items }
-        ensures chains { (entries : List TheEntry) → AreNodeChains (length self.old.lasts.items) entries self.old.links.items self.old.lasts.items → IsBehind (IsAtNode entries x.0) start → IsNext (IsAtNode entries x.0) (IsLive entries) start (length entries) after → AreNodeChains (length self.old.lasts.items) entries self.new.links.items self.new.lasts.items }
+        ensures chains { (entries : List TheEntry) → AreNodeChains (length self.old.lasts.items) entries self.old.links.items self.old.lasts.items
+            → IsBehind (IsAtNode entries x.0) start → IsNext (IsAtNode entries x.0) (IsLive entries) start (length entries) after
+            → AreNodeChains (length self.old.lasts.items) entries self.new.links.items self.new.lasts.items }
         ensures room { vec_capacity self.old.links ≤ vec_capacity self.new.links }
     {
         let cell = self.cell(x, start);
@@ -121,7 +126,8 @@ impl NodeChains {
 // Puts the places of a list into empty sets and chains, in order.
 pub fn append_all(marks: &mut MarkSets, nodes: &mut NodeChains, list: &EntryList)
     requires empty { AreMarkSets [] marks.old.words.items × AreNodeChains (length nodes.old.lasts.items) [] nodes.old.links.items nodes.old.lasts.items }
-    requires room { (length list.now.entries / 64 * 52 + 52 ≤ vec_capacity marks.old.words) × (length nodes.old.lasts.items + length list.now.entries ≤ vec_capacity nodes.old.links) }
+    requires room { (length list.now.entries / 64 * 52 + 52 ≤ vec_capacity marks.old.words)
+        × (length nodes.old.lasts.items + length list.now.entries ≤ vec_capacity nodes.old.links) }
     requires few { (length list.now.entries ≤ 4194304) × (length nodes.old.lasts.items < 65536) }
     requires inside { (k : ℕ) (e : TheEntry) → slice_get list.now.entries k ≡ Some e → e.bound.node.0 < length nodes.old.lasts.items }
     ensures marks { AreMarkSets list.now.entries marks.new.words.items }

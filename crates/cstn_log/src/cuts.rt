@@ -8,21 +8,25 @@ ghost use Rattle.cstn_log.specs.CutExamples.{too_late_log, too_late_part, two_at
 
 /// A derivation that is cut to entries which are closed under premises is a derivation.
 pub fn cuts_are_derivations()
-    ensures { (net : Network) (marks : List Bool) (steps : List Entry) → IsDerivation net steps → IsClosedUnder marks steps → IsDerivation net (cut marks steps) }
+    ensures { (net : Network) (marks : List Bool) (steps : List Entry) → IsDerivation net steps → IsClosedUnder marks steps
+        → IsDerivation net (cut marks steps) }
 {}
 
 /// The last entry of a derivation with its ancestors is a derivation that ends in the same bound, and a refutation where the
 /// derivation is one.
 pub fn parts_are_derivations()
     ensures derivation { (net : Network) (steps : List Entry) → IsDerivation net steps → IsDerivation net (part steps) }
-    ensures last { (steps : List Entry) (last : Entry) → slice_get steps (length steps - 1) ≡ Some last → (e : Entry) × (slice_get (part steps) (length (part steps) - 1) ≡ Some e) × (e.bound ≡ last.bound) }
+    ensures last { (steps : List Entry) (last : Entry) → slice_get steps (length steps - 1) ≡ Some last
+        → (e : Entry) × (slice_get (part steps) (length (part steps) - 1) ≡ Some e) × (e.bound ≡ last.bound) }
     ensures refutation { (net : Network) (steps : List Entry) → IsRefutation net steps → IsRefutation net (part steps) }
 {}
 
 /// What is left of a derivation without the entries that a constraint gave, and without their descendants, is a derivation of
 /// each network that has the other constraints.
 pub fn dropping_leaves_derivations()
-    ensures { (net : Network) (constraints : List Constraint) (steps : List Entry) (id : ℕ) → ((c : Constraint) → Contains net.constraints c → (c.id ≡ id → ⊥) → Contains constraints c) → IsDerivation net steps → IsDerivation (record net { constraints = constraints }) (dropped steps id) }
+    ensures { (net : Network) (constraints : List Constraint) (steps : List Entry) (id : ℕ)
+        → ((c : Constraint) → Contains net.constraints c → (c.id ≡ id → ⊥) → Contains constraints c) → IsDerivation net steps
+        → IsDerivation (record net { constraints = constraints }) (dropped steps id) }
 {}
 
 /// The last entry of one list with its ancestors, and what is left of two lists without the entries of a constraint.

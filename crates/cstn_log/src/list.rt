@@ -1,5 +1,6 @@
 // The list of a log: its entries in order, stored with their premises named by slots.
-ghost use Rattle.std.specs.Prelude.{ℕ, ◌≡◌, ◌≢◌, ◌<◌, ◌≤◌, ◌++◌, ◌∷◌, ◌↔◌, [], List, Some, length, map, slice_get, slice_index_or, vec_capacity, IfOk, IfNone, IfSome, IsTrue};
+ghost use Rattle.std.specs.Prelude.{ℕ, ◌≡◌, ◌≢◌, ◌<◌, ◌≤◌, ◌++◌, ◌∷◌, ◌↔◌, [], List, Some, length, map, slice_get, slice_index_or, vec_capacity, IfOk};
+ghost use Rattle.std.specs.Prelude.{IfNone, IfSome, IsTrue};
 ghost use Rattle.cstn_pool.specs.declared.slot_id.SlotId.{SlotId as TheId};
 ghost use Rattle.cstn_log.specs.Entries.{HasId, IsBoundAt, the_entries};
 ghost use Rattle.cstn_log.specs.Kept.{renewed};

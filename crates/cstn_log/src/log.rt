@@ -1,4 +1,5 @@
-ghost use Rattle.std.specs.Prelude.{List, ◌≡◌, ◌⊎◌, ◌<◌, ◌≤◌, ◌+◌, ◌^◌, ◌++◌, ◌∷◌, [], ◌↔◌, ℕ, Some, None, false, length, take, IsTrue, IfNone, IfOk, IfSome, IsErr, IsOk, OnErr, slice_get, slice_index_or};
+ghost use Rattle.std.specs.Prelude.{List, ◌≡◌, ◌⊎◌, ◌<◌, ◌≤◌, ◌+◌, ◌^◌, ◌++◌, ◌∷◌, [], ◌↔◌, ℕ, Some, None, false, length, take, IsTrue, IfNone, IfOk, IfSome};
+ghost use Rattle.std.specs.Prelude.{IsErr, IsOk, OnErr, slice_get, slice_index_or};
 ghost use Rattle.cstn_label.specs.Read.{the_bound};
 ghost use Rattle.std.specs.List.{Contains};
 ghost use Rattle.cstn_net.specs.Networks.{Network as TheNetwork, Constraint, IsNetwork, count};
@@ -56,7 +57,14 @@ impl Model for Log {
 
     ghost view = { λ l. record { entries = l.list.entries; ids = l.list.ids; births = l.pool.births; cap = l.list.cap; nodes = l.minimal.nodes } };
 
-    ghost invariant = { λ l. IsLog l.pool.slots l.pool.births l.minimal.table l.list.entries l.list.ids l.minimal.nodes l.list.cap (vec_capacity l.marks) (record { mark_words = l.marking.words.items; node_links = l.standing.links.items; node_lasts = l.standing.lasts.items; for_marks = vec_capacity l.marking.words; for_nodes = vec_capacity l.standing.links }) };
+    ghost invariant = { λ l. IsLog l.pool.slots l.pool.births l.minimal.table l.list.entries l.list.ids l.minimal.nodes l.list.cap (vec_capacity l.marks)
+        (record {
+          mark_words = l.marking.words.items;
+          node_links = l.standing.links.items;
+          node_lasts = l.standing.lasts.items;
+          for_marks = vec_capacity l.marking.words;
+          for_nodes = vec_capacity l.standing.links;
+        }) };
 }
 
 impl Log {
@@ -129,8 +137,14 @@ impl Log {
         ensures refused { OnErr result (self.new ≡ self.old) }
 
         ensures place { IfOk result (λ k. k ≡ length self.old.entries) }
-        ensures pushed { IsOk result → (slot : ℕ) × (self.new ≡ record self.old { entries = self.old.entries ++ e ∷ []; ids = self.old.ids ++ record { slot = slot; birth = self.old.births } ∷ []; births = self.old.births + 1 }) }
-        ensures derivation { IsDerivation (the_network net.now) (the_entries self.old.entries) → IsDerivation (the_network net.now) (the_entries self.new.entries) }
+        ensures pushed { IsOk result → (slot : ℕ)
+            × (self.new ≡ record self.old {
+              entries = self.old.entries ++ e ∷ [];
+              ids = self.old.ids ++ record { slot = slot; birth = self.old.births } ∷ [];
+              births = self.old.births + 1;
+            }) }
+        ensures derivation { IsDerivation (the_network net.now) (the_entries self.old.entries)
+            → IsDerivation (the_network net.now) (the_entries self.new.entries) }
     {
         domination_is_an_order();
         let count = net.count();
@@ -188,7 +202,8 @@ impl Log {
         ensures entry { slice_get self.now.entries k ≡ Some result }
         ensures node { result.bound.node.0 < self.now.nodes }
         ensures premises { PremisesBelow k result.why }
-        ensures holds { (net : TheNetwork) (table : Table) → IsNetwork net → IsStrategy net table → IsDerivation net (the_entries self.now.entries) → HoldsIn net table (the_bound result.bound) }
+        ensures holds { (net : TheNetwork) (table : Table) → IsNetwork net → IsStrategy net table → IsDerivation net (the_entries self.now.entries)
+            → HoldsIn net table (the_bound result.bound) }
     {
         derivations_are_sound();
         self.list.entry(k as usize)
@@ -208,8 +223,10 @@ impl Log {
     pub fn part(&self, alloc: Global) -> Result<Vec<Entry>, AllocError>
         requires { 0 < length self.now.entries }
         ensures part { IfOk result (λ steps. the_entries steps.items ≡ part (the_entries self.now.entries)) }
-        ensures derivation { (net : TheNetwork) → IsDerivation net (the_entries self.now.entries) → IfOk result (λ steps. IsDerivation net (the_entries steps.items)) }
-        ensures refutation { (net : TheNetwork) → IsRefutation net (the_entries self.now.entries) → IfOk result (λ steps. IsRefutation net (the_entries steps.items)) }
+        ensures derivation { (net : TheNetwork) → IsDerivation net (the_entries self.now.entries)
+            → IfOk result (λ steps. IsDerivation net (the_entries steps.items)) }
+        ensures refutation { (net : TheNetwork) → IsRefutation net (the_entries self.now.entries)
+            → IfOk result (λ steps. IsRefutation net (the_entries steps.items)) }
     {
         self.part_upto(alloc, self.len())
     }
@@ -227,7 +244,8 @@ impl Log {
     fn last_and_ancestors(&self, alloc: Global, count: usize) -> Result<Vec<Entry>, AllocError>
         requires some { 0 < count }
         requires upto { count ≤ length self.now.entries }
-        ensures { IfOk result (λ steps. the_entries steps.items ≡ cut (with_ancestors (the_entries self.now.entries) count (last_marked count)) (the_entries (take count self.now.entries))) }
+        ensures { IfOk result (λ steps. the_entries steps.items
+            ≡ cut (with_ancestors (the_entries self.now.entries) count (last_marked count)) (the_entries (take count self.now.entries))) }
     {
         let mut marks = vec![in alloc; false; count]?;
         marks[count - 1] = true;
@@ -244,12 +262,15 @@ impl Log {
     pub fn retract(&mut self, constraint: u32) -> u32
         ensures dropped { the_entries self.new.entries ≡ dropped (the_entries self.old.entries) constraint }
         ensures ids { self.new.ids ≡ chosen (marked_staying constraint [] (the_entries self.old.entries)) self.old.ids }
-        ensures gone { (k : ℕ) (id : SlotId) → slice_get self.old.ids k ≡ Some id → is_marked_at (marked_staying constraint [] (the_entries self.old.entries)) k ≡ false → ¬ HasId self.new.ids id }
+        ensures gone { (k : ℕ) (id : SlotId) → slice_get self.old.ids k ≡ Some id
+            → is_marked_at (marked_staying constraint [] (the_entries self.old.entries)) k ≡ false → ¬ HasId self.new.ids id }
         ensures answer { result + length self.new.entries ≡ length self.old.entries }
         ensures unchanged { result ≡ 0 → self.new ≡ self.old }
         ensures births { self.new.births ≡ self.old.births }
         ensures size { (self.new.cap ≡ self.old.cap) × (self.new.nodes ≡ self.old.nodes) }
-        ensures derivation { (net : TheNetwork) (constraints : List Constraint) → ((c : Constraint) → Contains net.constraints c → (c.id ≡ constraint → ⊥) → Contains constraints c) → IsDerivation net (the_entries self.old.entries) → IsDerivation (record net { constraints = constraints }) (the_entries self.new.entries) }
+        ensures derivation { (net : TheNetwork) (constraints : List Constraint)
+            → ((c : Constraint) → Contains net.constraints c → (c.id ≡ constraint → ⊥) → Contains constraints c)
+            → IsDerivation net (the_entries self.old.entries) → IsDerivation (record net { constraints = constraints }) (the_entries self.new.entries) }
     {
         self.marks.clear();
         mark_staying(&self.list, constraint, &mut self.marks);
@@ -445,7 +466,9 @@ impl Log {
     /// The pool, which holds the bound of each entry under its id, and nothing else.
     pub fn pool(&self) -> &Pool<Entry>
         ensures births { result.now.births ≡ self.now.births }
-        ensures held { (k : ℕ) (id : SlotId) → slice_get self.now.ids k ≡ Some id → (e : Entry) × (held : Entry) × (slice_get self.now.entries k ≡ Some e) × (slice_index_or result.now.slots id.slot None ≡ Some (id.birth, held)) × (held.bound ≡ e.bound) }
+        ensures held { (k : ℕ) (id : SlotId) → slice_get self.now.ids k ≡ Some id
+            → (e : Entry) × (held : Entry) × (slice_get self.now.entries k ≡ Some e) × (slice_index_or result.now.slots id.slot None ≡ Some (id.birth, held))
+            × (held.bound ≡ e.bound) }
         ensures exactly { (s : ℕ) (e : ℕ × Entry) → slice_index_or result.now.slots s None ≡ Some e → (k : ℕ) × IsIdAt self.now.ids s e.0 k }
     {
         &self.pool
@@ -454,8 +477,10 @@ impl Log {
     /// The minimal set, which holds exactly the bounds of the live entries, each under its id.
     pub fn minimal(&self) -> &MinSet
         ensures nodes { result.now.nodes ≡ self.now.nodes }
-        ensures live { (k : ℕ) (id : SlotId) (e : Entry) → slice_get self.now.ids k ≡ Some id → slice_get self.now.entries k ≡ Some e → IsLive self.now.entries k → IsPlaced result.now.table id.slot (id.birth, e.bound) }
-        ensures exactly { (s : ℕ) (b : ℕ × Bound) → IsPlaced result.now.table s b → (k : ℕ) × (e : Entry) × IsIdAt self.now.ids s b.0 k × (slice_get self.now.entries k ≡ Some e) × IsLive self.now.entries k × (e.bound ≡ b.1) }
+        ensures live { (k : ℕ) (id : SlotId) (e : Entry) → slice_get self.now.ids k ≡ Some id → slice_get self.now.entries k ≡ Some e
+            → IsLive self.now.entries k → IsPlaced result.now.table id.slot (id.birth, e.bound) }
+        ensures exactly { (s : ℕ) (b : ℕ × Bound) → IsPlaced result.now.table s b
+            → (k : ℕ) × (e : Entry) × IsIdAt self.now.ids s b.0 k × (slice_get self.now.entries k ≡ Some e) × IsLive self.now.entries k × (e.bound ≡ b.1) }
     {
         &self.minimal
     }

@@ -40,7 +40,8 @@ pub fn give_rest(pool: &mut Pool<Entry>, list: &EntryList, marks: &[bool])
 // Places the bound of each entry in the empty set, under its id.
 pub fn place_all(minimal: &mut MinSet, list: &EntryList)
     requires empty { (s : ℕ) → slice_index_or minimal.old.table s None ≡ None }
-    requires pooled { (slots : List (Option (ℕ × TheEntry))) × (births : ℕ) × IsPooled slots births list.now.entries list.now.ids × (length slots ≡ length minimal.old.table) }
+    requires pooled { (slots : List (Option (ℕ × TheEntry))) × (births : ℕ) × IsPooled slots births list.now.entries list.now.ids
+        × (length slots ≡ length minimal.old.table) }
     requires new { AllNew list.now.entries }
     requires nodes { (k : ℕ) (e : TheEntry) → slice_get list.now.entries k ≡ Some e → e.bound.node.0 < minimal.old.nodes }
     ensures tabled { IsTabled minimal.new.table list.now.entries list.now.ids }

@@ -1,5 +1,6 @@
 // Sets of places in a list of entries, as bits, which grow with the list. Places of dead entries may be left out.
-ghost use Rattle.std.specs.Prelude.{ℕ, ◌≡◌, ◌⊎◌, ◌<◌, ◌≤◌, ◌+◌, ◌*◌, ◌/◌, ◌%◌, ◌++◌, ◌∷◌, [], true, false, List, length, set, slice_index_or, vec_capacity, IfOk, IfSome, IfNone};
+ghost use Rattle.std.specs.Prelude.{ℕ, ◌≡◌, ◌⊎◌, ◌<◌, ◌≤◌, ◌+◌, ◌*◌, ◌/◌, ◌%◌, ◌++◌, ◌∷◌, [], true, false, List, length, set, slice_index_or, vec_capacity};
+ghost use Rattle.std.specs.Prelude.{IfOk, IfSome, IfNone};
 ghost use Rattle.cstn_label.specs.Words.{has_bit};
 ghost use Rattle.cstn_rules.specs.declared.entries.Entry.{Entry as TheEntry};
 ghost use Rattle.cstn_log.specs.MarkSets.{AreMarkSets, has_place, word_at};
@@ -46,7 +47,8 @@ impl MarkSets {
     // Puts the place of the next entry of the list into the sets of the propositions that its label marks.
     pub fn append(&mut self, place: u32, e: Entry)
         requires room { place / 64 * 52 + 52 ≤ vec_capacity self.old.words }
-        ensures sets { (entries : List TheEntry) → AreMarkSets entries self.old.words.items → length entries ≡ place → AreMarkSets (entries ++ e ∷ []) self.new.words.items }
+        ensures sets { (entries : List TheEntry) → AreMarkSets entries self.old.words.items → length entries ≡ place
+            → AreMarkSets (entries ++ e ∷ []) self.new.words.items }
         ensures room { vec_capacity self.old.words ≤ vec_capacity self.new.words }
     {
         let mut index = 0;

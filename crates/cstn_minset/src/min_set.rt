@@ -1,5 +1,7 @@
-ghost use Rattle.std.specs.Prelude.{◌≡◌, ◌<◌, ◌≤◌, ◌+◌, ◌^◌, ◌↔◌, ℕ, Some, None, false, length, IsTrue, IfOk, IsSome, IfSome, IfNone, slice_set, slice_index_or, replicate, map, if◌then◌else◌};
-ghost use Rattle.cstn_minset.specs.Sets.{Places, Entries, entry_at, IsPlaced, IsThere, IsOver, IsCovered, IsCleared, AllBornBefore, IsAt, IsMarking, IsFirst, IsFirstSlot, IsMinimal};
+ghost use Rattle.std.specs.Prelude.{◌≡◌, ◌<◌, ◌≤◌, ◌+◌, ◌^◌, ◌↔◌, ℕ, Some, None, false, length, IsTrue, IfOk, IsSome, IfSome, IfNone, slice_set};
+ghost use Rattle.std.specs.Prelude.{slice_index_or, replicate, map, if◌then◌else◌};
+ghost use Rattle.cstn_minset.specs.Sets.{Places, Entries, entry_at, IsPlaced, IsThere, IsOver, IsCovered, IsCleared, AllBornBefore, IsAt, IsMarking, IsFirst};
+ghost use Rattle.cstn_minset.specs.Sets.{IsFirstSlot, IsMinimal};
 
 use crate::scan::{place_under, slot_over};
 use crate::table::Table;
@@ -45,7 +47,8 @@ impl MinSet {
     pub fn covers(&self, b: &Bound) -> bool
         ensures covers { IsTrue result ↔ IsCovered self.now.table b.now }
         ensures minimal { IsMinimal self.now.nodes self.now.table }
-        ensures one_for_each { (s t : ℕ) (e f : ℕ × Bound) → IsPlaced self.now.table s e → IsPlaced self.now.table t f → e.1.node.0 ≡ f.1.node.0 → e.1.label ≡ f.1.label → s ≡ t }
+        ensures one_for_each { (s t : ℕ) (e f : ℕ × Bound) → IsPlaced self.now.table s e → IsPlaced self.now.table t f → e.1.node.0 ≡ f.1.node.0
+            → e.1.label ≡ f.1.label → s ≡ t }
     {
         self.cover(b).is_some()
     }
@@ -70,7 +73,8 @@ impl MinSet {
         requires slot { id.slot < length self.old.table }
         requires free { entry_at self.old.table id.slot ≡ None }
         requires birth { AllBornBefore self.old.table id.birth }
-        ensures placed { (cleared : Entries) × IsCleared b.now self.old.table cleared × (self.new ≡ record self.old { table = slice_set cleared id.slot (Some (id.birth, b.now)) }) }
+        ensures placed { (cleared : Entries) × IsCleared b.now self.old.table cleared
+            × (self.new ≡ record self.old { table = slice_set cleared id.slot (Some (id.birth, b.now)) }) }
         ensures covering_grows { (c : Bound) → IsCovered self.old.table c → IsCovered self.new.table c }
     {
         labels_are_their_marks();
@@ -80,7 +84,8 @@ impl MinSet {
 
     // Takes out an entry that the bound dominates; false where it dominates none.
     fn take_under(&mut self, b: &Bound) -> bool
-        ensures taken { IsTrue result → (s : ℕ) × (e : ℕ × Bound) × IsPlaced self.old.table s e × IsOver b.now e.1 × (self.new ≡ record self.old { table = slice_set self.old.table s None }) }
+        ensures taken { IsTrue result → (s : ℕ) × (e : ℕ × Bound) × IsPlaced self.old.table s e × IsOver b.now e.1
+            × (self.new ≡ record self.old { table = slice_set self.old.table s None }) }
         ensures none { result ≡ false → (self.new ≡ self.old) × ((s : ℕ) (e : ℕ × Bound) → IsPlaced self.old.table s e → ¬ IsOver b.now e.1) }
         ensures minimal { IsMinimal self.old.nodes self.old.table }
     {

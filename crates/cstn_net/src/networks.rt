@@ -1,4 +1,5 @@
-ghost use Rattle.std.specs.Prelude.{ℕ, ◌≡◌, ◌≢◌, ◌<◌, ◌≤◌, ◌+◌, ◌-◌, ◌++◌, ◌∷◌, [], ◌↔◌, ◌≤ℤ◌, pos, length, map, None, IsNone, IfNone, IfSome, IsSome, IfOk, OnOk, OnErr, MatchOption, slice_index, slice_index_or, max, vec_capacity, false};
+ghost use Rattle.std.specs.Prelude.{ℕ, ◌≡◌, ◌≢◌, ◌<◌, ◌≤◌, ◌+◌, ◌-◌, ◌++◌, ◌∷◌, [], ◌↔◌, ◌≤ℤ◌, pos, length, map, None, IsNone, IfNone, IfSome, IsSome, IfOk};
+ghost use Rattle.std.specs.Prelude.{OnOk, OnErr, MatchOption, slice_index, slice_index_or, max, vec_capacity, false};
 ghost use Rattle.std.specs.List.{All, AllPairs, Contains, HoldsAt};
 ghost use Rattle.std.specs.Option.{option_map};
 ghost use Rattle.cstn_label.specs.Read.{marks};

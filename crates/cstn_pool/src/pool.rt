@@ -1,4 +1,5 @@
-ghost use Rattle.std.specs.Prelude.{◌≡◌, ◌<◌, ◌≤◌, ◌+◌, ◌^◌, ◌↔◌, Some, None, length, IfOk, OnErr, IsErr, IsOk, IsSome, ℕ, List, IfNone, IfSome, [], slice_set, slice_get, replicate};
+ghost use Rattle.std.specs.Prelude.{◌≡◌, ◌<◌, ◌≤◌, ◌+◌, ◌^◌, ◌↔◌, Some, None, length, IfOk, OnErr, IsErr, IsOk, IsSome, ℕ, List, IfNone, IfSome, []};
+ghost use Rattle.std.specs.Prelude.{slice_set, slice_get, replicate};
 ghost use Rattle.cstn_pool.specs.Slots.{Slots, IsBorn, live_of, value_at};
 ghost use Rattle.cstn_pool.specs.Calls.{Call, AfterCalls};
 
@@ -65,10 +66,12 @@ impl<T: Copy> Pool<T> {
 
         ensures empty { IfOk result (λ id. slice_get self.old.slots id.slot ≡ Some None) }
         ensures birth { IfOk result (λ id. id.birth ≡ self.old.births) }
-        ensures taken { IfOk result (λ id. self.new ≡ record { slots = slice_set self.old.slots id.slot (Some (id.birth, value)); births = self.old.births + 1 }) }
+        ensures taken { IfOk result (λ id. self.new
+            ≡ record { slots = slice_set self.old.slots id.slot (Some (id.birth, value)); births = self.old.births + 1 }) }
 
         // After any calls there is room up to the capacity, whichever slots were given back.
-        ensures after_calls { (capacity : ℕ) (calls : List (Call T)) → AfterCalls calls (record { slots = replicate capacity None; births = 0 }) self.old → (IsOk result ↔ (live_of self.old.slots < capacity)) }
+        ensures after_calls { (capacity : ℕ) (calls : List (Call T)) → AfterCalls calls (record { slots = replicate capacity None; births = 0 }) self.old
+            → (IsOk result ↔ (live_of self.old.slots < capacity)) }
     {
         let birth = self.births;
         if let Some(slot) = self.free.pop() {

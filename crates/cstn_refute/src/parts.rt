@@ -4,7 +4,8 @@ ghost use Rattle.std.specs.Option.{option_map};
 ghost use Rattle.cstn_label.specs.Read.{the_bound};
 ghost use Rattle.cstn_rules.specs.Read.{the_entry};
 ghost use Rattle.cstn_refute.specs.Refutations.{IsStep};
-ghost use Rattle.cstn_refute.specs.Steps.{place_read, places_read, chain_read, wait_read, why_read, is_place, rule_read, bound_read, named_bound_read, step_read};
+ghost use Rattle.cstn_refute.specs.Steps.{place_read, places_read, chain_read, wait_read, why_read, is_place, rule_read, bound_read, named_bound_read};
+ghost use Rattle.cstn_refute.specs.Steps.{step_read};
 
 use crate::limits::{MOST_LEAST, MOST_STEPS};
 use cstn_label::{Bound, NodeId};

@@ -45,7 +45,9 @@ impl Refutation {
 
 // Appends the line of the step at the place k, at the time-point of this printed name.
 fn push_step(text: &mut String, k: usize, step: Entry, name: &str) -> Result<(), AllocError>
-    ensures pushed { OnOk result (string_bytes text.new ≡ string_bytes text.old ++ (printed_number k ++ 32 ∷ printed_why step.why ++ 32 ∷ name.now ++ 32 ∷ printed_value step.bound.least ++ 32 ∷ printed_label (marks step.bound.label) ++ 10 ∷ [])) }
+    ensures pushed { OnOk result (string_bytes text.new ≡ string_bytes text.old
+        ++ (printed_number k ++ 32 ∷ printed_why step.why ++ 32 ∷ name.now ++ 32 ∷ printed_value step.bound.least
+        ++ 32 ∷ printed_label (marks step.bound.label) ++ 10 ∷ [])) }
     ensures places { ArePlaces step.why }
 {
     push_number(text, k as u64)?;
@@ -82,7 +84,8 @@ fn push_places(text: &mut String, word: &str, i: u32, j: u32) -> Result<(), Allo
 
 // Appends a bound's parts and the end of the line.
 fn push_bound(text: &mut String, bound: Bound, name: &str) -> Result<(), AllocError>
-    ensures pushed { OnOk result (string_bytes text.new ≡ string_bytes text.old ++ (name.now ++ 32 ∷ printed_value bound.least ++ 32 ∷ printed_label (marks bound.label) ++ 10 ∷ [])) }
+    ensures pushed { OnOk result (string_bytes text.new ≡ string_bytes text.old
+        ++ (name.now ++ 32 ∷ printed_value bound.least ++ 32 ∷ printed_label (marks bound.label) ++ 10 ∷ [])) }
 {
     text.push_str(name)?;
     text.push(' ')?;

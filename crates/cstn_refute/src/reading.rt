@@ -49,7 +49,8 @@ fn read_steps(
     bytes: &[u8],
 ) -> Result<Refutation, RefuteError>
     requires few { length names.now ≤ 65536 }
-    ensures accepted { IfOk result (λ r. told_after (step_lines names.now) load [] (parts_at 10 bytes.now).0 (parts_at 10 bytes.now).1 ≡ tells r.load (the_steps r)) }
+    ensures accepted { IfOk result (λ r. told_after (step_lines names.now) load [] (parts_at 10 bytes.now).0 (parts_at 10 bytes.now).1
+        ≡ tells r.load (the_steps r)) }
     ensures line { IfErr result (IsWrong (told_after (step_lines names.now) load [] (parts_at 10 bytes.now).0 (parts_at 10 bytes.now).1)) }
 {
     let mut steps = Vec::new(alloc);

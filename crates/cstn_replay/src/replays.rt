@@ -19,7 +19,8 @@ use cstn_rules::{Entry, conclusions_stay_within, derivations_are_sound, refutes}
 pub fn replay(net: &Network, r: &Refutation) -> Answer
     ensures accepted { (result ≡ Answer.Accepted) ↔ IsRefutation (the_network net.now) (the_steps r.now) }
     ensures truth { result ≡ Answer.Accepted → IsConsistent (the_network net.now) → ⊥ }
-    ensures rejected { (k : ℕ) → (result ≡ Answer.Rejected k) ↔ (IsFirstWrong (the_network net.now) (the_steps r.now) k ⊎ EndsInVain (the_network net.now) (the_steps r.now) k) }
+    ensures rejected { (k : ℕ) → (result ≡ Answer.Rejected k)
+        ↔ (IsFirstWrong (the_network net.now) (the_steps r.now) k ⊎ EndsInVain (the_network net.now) (the_steps r.now) k) }
 {
     derivations_are_sound();
     let steps = r.steps();

@@ -1,5 +1,6 @@
 // Lines of the live source, answered one after another.
-ghost use Rattle.std.specs.Prelude.{◌≡◌, ◌≢◌, ◌⊎◌, ◌≤◌, ◌+◌, ◌++◌, ℕ, List, Option, [], Bool, true, false, IsTrue, IfOk, IfSome, IfNone, OnErr, OnOk, vec_capacity, length, codes, decimal};
+ghost use Rattle.std.specs.Prelude.{◌≡◌, ◌≢◌, ◌⊎◌, ◌≤◌, ◌+◌, ◌++◌, ℕ, List, Option, [], Bool, true, false, IsTrue, IfOk, IfSome, IfNone, OnErr, OnOk};
+ghost use Rattle.std.specs.Prelude.{vec_capacity, length, codes, decimal};
 ghost use Rattle.std.specs.Option.{option_map};
 ghost use Rattle.cstn_io.specs.Causes.{Rose};
 ghost use Rattle.cstn_io.specs.Contents.{after_bytes, with_bytes, IsAtEnd};
@@ -122,8 +123,13 @@ fn next<T: Talk, S: Source>(
     requires at_end { lines.old.ended ≡ true → IsAtEnd (S.left live.old) }
     requires room { T.room talk.old ≤ vec_capacity text.old }
     requires script { 40 ≤ vec_capacity text.old }
-    ensures goes_on { IfNone result ((start : T.State) (told : Option (List ℕ)) (taken said : List ℕ) → Progress T.ends T.turn start told (S.left live.old) lines.old (T.state talk.old) taken said → (bytes : List ℕ) × Progress T.ends T.turn start told (S.left live.new) lines.new (T.state talk.new) (taken ++ bytes) (said ++ text.new.items)) }
-    ensures ends { IfSome result (λ status. (start : T.State) (before : LiveState) (taken said opening : List ℕ) → Progress T.ends T.turn start before.left (S.left live.old) lines.old (T.state talk.old) taken said → before.faults ≤ S.faults live.old → EndsLine opening → IsText (session_says T.ends T.turn T.ending opening start) (session_heard T.turn opening start) before (record { left = S.left live.new; faults = S.faults live.new }) status ((opening ++ said) ++ text.new.items)) }
+    ensures goes_on { IfNone result ((start : T.State) (told : Option (List ℕ)) (taken said : List ℕ)
+        → Progress T.ends T.turn start told (S.left live.old) lines.old (T.state talk.old) taken said
+        → (bytes : List ℕ) × Progress T.ends T.turn start told (S.left live.new) lines.new (T.state talk.new) (taken ++ bytes) (said ++ text.new.items)) }
+    ensures ends { IfSome result (λ status. (start : T.State) (before : LiveState) (taken said opening : List ℕ)
+        → Progress T.ends T.turn start before.left (S.left live.old) lines.old (T.state talk.old) taken said → before.faults ≤ S.faults live.old
+        → EndsLine opening → IsText (session_says T.ends T.turn T.ending opening start) (session_heard T.turn opening start) before
+        (record { left = S.left live.new; faults = S.faults live.new }) status ((opening ++ said) ++ text.new.items)) }
     ensures at_end { lines.new.ended ≡ true → IsAtEnd (S.left live.new) }
     ensures count { IfNone result ((lines.new.count ≡ lines.old.count + 1) × (lines.new.count ≤ 16777216)) }
     ensures room { T.room talk.new ≡ T.room talk.old }
@@ -131,7 +137,9 @@ fn next<T: Talk, S: Source>(
     ensures later { S.faults live.old ≤ S.faults live.new }
     ensures read { result ≡ Some Status.ReadFault → Rose (S.faults live.old) (S.faults live.new) }
     ensures write { result ≢ Some Status.WriteFault }
-    ensures memory { result ≡ Some Status.Memory → (start : T.State) (told : Option (List ℕ)) (taken said : List ℕ) → Progress T.ends T.turn start told (S.left live.old) lines.old (T.state talk.old) taken said → MeetsLine T.ends (heard T.turn start) T.may_stop told }
+    ensures memory { result ≡ Some Status.Memory → (start : T.State) (told : Option (List ℕ)) (taken said : List ℕ)
+        → Progress T.ends T.turn start told (S.left live.old) lines.old (T.state talk.old) taken said
+        → MeetsLine T.ends (heard T.turn start) T.may_stop told }
 {
     text.clear();
     match lines.step(live) {
@@ -169,11 +177,14 @@ pub fn converse<T: Talk, S: Source, K: Sink>(
     out: &mut K,
 ) -> Status
     requires { EndsLine opening.now }
-    ensures ends { Ends (session_says T.ends T.turn T.ending opening.now (T.state talk)) (session_heard T.turn opening.now (T.state talk)) (record { left = S.left live.old; faults = S.faults live.old }) (record { left = S.left live.new; faults = S.faults live.new }) (K.written out.old) (K.written out.new) result }
+    ensures ends { Ends (session_says T.ends T.turn T.ending opening.now (T.state talk)) (session_heard T.turn opening.now (T.state talk))
+        (record { left = S.left live.old; faults = S.faults live.old })
+        (record { left = S.left live.new; faults = S.faults live.new }) (K.written out.old) (K.written out.new) result }
     ensures flushed { result ≢ Status.WriteFault → K.flushed out.new ≡ option_map length (K.written out.new) }
     ensures read { result ≡ Status.ReadFault → Rose (S.faults live.old) (S.faults live.new) }
     ensures write { result ≡ Status.WriteFault → Rose (K.faults out.old) (K.faults out.new) }
-    ensures memory { result ≡ Status.Memory → MeetsLine T.ends (heard T.turn (T.state talk)) T.may_stop (S.left live.old) ⊎ ((K.written out.new ≡ with_bytes (K.written out.old) (line (codes "memory"))) × (live.new ≡ live.old)) }
+    ensures memory { result ≡ Status.Memory → MeetsLine T.ends (heard T.turn (T.state talk)) T.may_stop (S.left live.old)
+        ⊎ ((K.written out.new ≡ with_bytes (K.written out.old) (line (codes "memory"))) × (live.new ≡ live.old)) }
     ensures later { (S.faults live.old ≤ S.faults live.new) × (K.faults out.old ≤ K.faults out.new) }
 {
     let Ok(mut lines) = Lines::start(alloc) else {

@@ -100,7 +100,9 @@ impl Links {
         requires slot { slot < self.old.slots }
         requires before { before < self.old.slots + self.old.heads }
         ensures size { SameSize self.old self.new }
-        ensures linked { (table : Table) (head key : ℕ) → AreLinks self.old table → head < self.old.heads → key < 2 ^ 128 → key_of table slot ≡ None → ((u : ℕ) → ¬ IsIn table head u key) → IsPrev table self.old.slots self.old.heads head key before → AreLinks self.new (slice_set table slot (Some (head, key))) }
+        ensures linked { (table : Table) (head key : ℕ) → AreLinks self.old table → head < self.old.heads → key < 2 ^ 128 → key_of table slot ≡ None
+            → ((u : ℕ) → ¬ IsIn table head u key) → IsPrev table self.old.slots self.old.heads head key before
+            → AreLinks self.new (slice_set table slot (Some (head, key))) }
     {
         let after = self.next.at(before);
         self.next.set(slot, after);

@@ -1,4 +1,5 @@
-ghost use Rattle.std.specs.Prelude.{◌≡◌, ◌⊎◌, ◌<◌, ◌≤◌, ◌+◌, ◌++◌, ◌∷◌, [], ℕ, Some, None, length, replicate, IfOk, slice_get, slice_index_or, slice_set, vec_capacity, IsPermutation};
+ghost use Rattle.std.specs.Prelude.{◌≡◌, ◌⊎◌, ◌<◌, ◌≤◌, ◌+◌, ◌++◌, ◌∷◌, [], ℕ, Some, None, length, replicate, IfOk, slice_get, slice_index_or, slice_set};
+ghost use Rattle.std.specs.Prelude.{vec_capacity, IsPermutation};
 ghost use Rattle.cstn_rows.specs.declared.page.Page.{Page as ThePage};
 ghost use Rattle.cstn_rows.specs.declared.page.Record.{Record};
 ghost use Rattle.cstn_rows.specs.Chains.{IsFirstKey};
@@ -135,7 +136,8 @@ impl Rows {
         requires page { (p : ThePage) × (slice_get self.old.pages page ≡ Some p) × (p.head < self.old.heads) × (length p.records.items ≡ 32) }
         requires room { length (held self.old.pages) < self.old.capacity }
         ensures size { SameRows self.old self.new }
-        ensures page { (p : ThePage) → slice_get self.old.pages page ≡ Some p → (q : ThePage) × (slice_get self.new.pages result ≡ Some q) × (q.head ≡ p.head) × (length q.records.items < 32) }
+        ensures page { (p : ThePage) → slice_get self.old.pages page ≡ Some p
+            → (q : ThePage) × (slice_get self.new.pages result ≡ Some q) × (q.head ≡ p.head) × (length q.records.items < 32) }
         ensures same { IsPermutation (held self.old.pages) (held self.new.pages) }
     {
         let upper = self.pages[page as usize].split();
@@ -219,7 +221,8 @@ impl Rows {
         requires page { page < length self.old.pages }
         requires some { (p : ThePage) → slice_get self.old.pages page ≡ Some p → 0 < length p.records.items }
         ensures size { SameRows self.old self.new }
-        ensures front { (p : ThePage) → slice_get self.old.pages page ≡ Some p → (q : ThePage) × (slice_get self.new.pages result ≡ Some q) × (q.head ≡ p.head) × StartsWith p.records.items q.records.items }
+        ensures front { (p : ThePage) → slice_get self.old.pages page ≡ Some p
+            → (q : ThePage) × (slice_get self.new.pages result ≡ Some q) × (q.head ≡ p.head) × StartsWith p.records.items q.records.items }
         ensures spare { (q : ThePage) → slice_get self.new.pages result ≡ Some q → (result < self.new.heads) ⊎ (16 < length q.records.items) }
         ensures same { IsPermutation (held self.old.pages) (held self.new.pages) }
     {
@@ -242,7 +245,9 @@ impl Rows {
         requires page { (p : ThePage) × (slice_get self.old.pages page ≡ Some p) × (p.head ≡ first) × (length p.records.items ≤ 16) }
         requires some { (p : ThePage) → slice_get self.old.pages first ≡ Some p → 0 < length p.records.items }
         ensures size { SameRows self.old self.new }
-        ensures filled { (p : ThePage) → slice_get self.old.pages page ≡ Some p → (q : ThePage) × (moved : Record) × (slice_get self.new.pages page ≡ Some q) × (q.head ≡ p.head) × (q.records.items ≡ p.records.items ++ moved ∷ []) }
+        ensures filled { (p : ThePage) → slice_get self.old.pages page ≡ Some p
+            → (q : ThePage) × (moved : Record) × (slice_get self.new.pages page ≡ Some q) × (q.head ≡ p.head)
+            × (q.records.items ≡ p.records.items ++ moved ∷ []) }
         ensures same { IsPermutation (held self.old.pages) (held self.new.pages) }
     {
         let moved = self.pages[first as usize].take(0);

@@ -24,7 +24,8 @@ pub fn chain(net: &Network, c: &Constraint, b: &Bound, tries: &mut Tries) -> Opt
 
     ensures node { IfSome result (λ r. r.node.0 < count (the_network net.now)) }
     ensures range { IfSome result (λ r. r.least ≤ℤ pos (limit (the_network net.now) r.node.0 + 1)) }
-    ensures sound { IfSome result (λ r. (table : Table) → IsStrategy (the_network net.now) table → HoldsIn (the_network net.now) table (the_bound b.now) → HoldsIn (the_network net.now) table (the_bound r)) }
+    ensures sound { IfSome result (λ r. (table : Table) → IsStrategy (the_network net.now) table → HoldsIn (the_network net.now) table (the_bound b.now)
+        → HoldsIn (the_network net.now) table (the_bound r)) }
 {
     tries.add();
     is_in_range(net, c);
@@ -52,7 +53,8 @@ pub fn wait(net: &Network, seen: &Bound, b: &Bound, tries: &mut Tries) -> Option
     ensures counted { tries.new.count ≡ min (tries.old.count + 1) (2 ^ 64 - 1) }
 
     ensures range { IfSome result (λ r. IsBoundOf (the_network net.now) (the_bound r)) }
-    ensures sound { IfSome result (λ r. (table : Table) → HoldsIn (the_network net.now) table (the_bound seen.now) → HoldsIn (the_network net.now) table (the_bound b.now) → HoldsIn (the_network net.now) table (the_bound r)) }
+    ensures sound { IfSome result (λ r. (table : Table) → HoldsIn (the_network net.now) table (the_bound seen.now)
+        → HoldsIn (the_network net.now) table (the_bound b.now) → HoldsIn (the_network net.now) table (the_bound r)) }
 {
     tries.add();
     network_is_well_formed(net);

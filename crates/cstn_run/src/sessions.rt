@@ -49,7 +49,12 @@ impl RunSession {
     pub fn start(alloc: Global, guide: Guide, names: &Names) -> Result<RunSession, AllocError>
         requires named { length names.now ≡ count (the_labelled guide.labelled).base }
         requires few { length names.now ≤ 1024 }
-        ensures start { IfOk result (λ g. g ≡ record { labelled = guide.labelled; bounds = guide.bounds; state = guide.state; names = map printed_name names.now }) }
+        ensures start { IfOk result (λ g. g ≡ record {
+          labelled = guide.labelled;
+          bounds = guide.bounds;
+          state = guide.state;
+          names = map printed_name names.now;
+        }) }
     {
         let names = print_names(alloc, names)?;
         Ok(RunSession { guide, names })
@@ -59,7 +64,10 @@ impl RunSession {
     fn moment(&mut self, t: u32, text: &mut Vec<u8>) -> Answer
         requires empty { text.old.items ≡ [] }
         requires room { ROOM ≤ vec_capacity text.old }
-        ensures turn { turn_with (with_state self.old) (named_turn self.old.names (the_labelled self.old.labelled) (the_bounds self.old.bounds) self.old.state t (moment_refusal (lowered (the_labelled self.old.labelled)) (the_bounds self.old.bounds) self.old.state.run t)) ≡ the_turn result self.new text.new.items }
+        ensures turn { turn_with (with_state self.old)
+            (named_turn self.old.names (the_labelled self.old.labelled) (the_bounds self.old.bounds) self.old.state t
+            (moment_refusal (lowered (the_labelled self.old.labelled)) (the_bounds self.old.bounds) self.old.state.run t))
+            ≡ the_turn result self.new text.new.items }
         ensures lines { result ≡ Answer.More → EndsLine text.new.items }
         ensures capacity { vec_capacity text.old ≤ vec_capacity text.new }
     {
@@ -79,7 +87,9 @@ impl RunSession {
     fn see(&mut self, prop: Prop, value: bool, text: &mut Vec<u8>)
         requires empty { text.old.items ≡ [] }
         requires room { ROOM ≤ vec_capacity text.old }
-        ensures turn { turn_with (with_state self.old) (noted_turn self.old.state prop.index value (see_refusal (the_labelled self.old.labelled) self.old.state prop.index)) ≡ the_turn Answer.More self.new text.new.items }
+        ensures turn { turn_with (with_state self.old)
+            (noted_turn self.old.state prop.index value (see_refusal (the_labelled self.old.labelled) self.old.state prop.index))
+            ≡ the_turn Answer.More self.new text.new.items }
         ensures lines { EndsLine text.new.items }
         ensures capacity { vec_capacity text.old ≤ vec_capacity text.new }
     {

@@ -28,7 +28,8 @@ pub fn decide(alloc: Global, net: &Network) -> Result<Option<Table>, TableError>
     ensures some { IfOk result (λ o. IsSome o ↔ IsConsistent (the_network net.now)) }
     ensures count { IfOk result (λ o. IfSome o (λ t. t.points ≡ count (the_network net.now))) }
     ensures strategy { IfOk result (λ o. IfSome o (λ t. IsStrategy (the_network net.now) (the_table t))) }
-    ensures least { IfOk result (λ o. IfSome o (λ t. (s : Scenario) (x : ℕ) → x < count (the_network net.now) → IsLeast (the_network net.now) s x (the_table t s x))) }
+    ensures least { IfOk result (λ o. IfSome o
+        (λ t. (s : Scenario) (x : ℕ) → x < count (the_network net.now) → IsLeast (the_network net.now) s x (the_table t s x))) }
 {
     if count_props(net) > MOST_PROPS {
         return Err(TableError::TooManyProps);

@@ -24,7 +24,9 @@ fn told_apart_by(
     requires low { IsLow (the_network net.now) moments.now }
     requires row { row < rows (the_network net.now) }
     requires x { x.0 < count (the_network net.now) }
-    ensures { (t : ℕ) → t < 2 ^ 32 - 1 → (((p : ℕ) → Observes (the_network net.now) x.0 p → row_at (count (the_network net.now)) moments.now row x.0 + (the_network net.now).reaction p ≤ t → the_scenario r p ≡ the_scenario s p) ↔ (t < result)) }
+    ensures { (t : ℕ) → t < 2 ^ 32 - 1 → (((p : ℕ) → Observes (the_network net.now) x.0 p
+        → row_at (count (the_network net.now)) moments.now row x.0 + (the_network net.now).reaction p ≤ t → the_scenario r p ≡ the_scenario s p)
+        ↔ (t < result)) }
 {
     match net.observes(x) {
         Some(p) if s.is_true(p) != r.is_true(p) => {
@@ -38,7 +40,8 @@ fn told_apart_by(
 fn told_apart(net: &Network, moments: &[u32], row: usize, s: Scenario, r: Scenario) -> u32
     requires low { IsLow (the_network net.now) moments.now }
     requires row { row < rows (the_network net.now) }
-    ensures { (t : ℕ) → t < 2 ^ 32 - 1 → (Agrees (the_network net.now) (row_at (count (the_network net.now)) moments.now row) t (the_scenario s) (the_scenario r) ↔ (t < result)) }
+    ensures { (t : ℕ) → t < 2 ^ 32 - 1 → (Agrees (the_network net.now) (row_at (count (the_network net.now)) moments.now row) t (the_scenario s)
+        (the_scenario r) ↔ (t < result)) }
 {
     observers_are_time_points();
     let mut apart = u32::MAX;
@@ -86,7 +89,8 @@ fn raise_row_by_all(net: &Network, props: &[Prop], moments: &mut [u32], row: usi
     requires low { IsLow (the_network net.now) moments.old }
     requires row { row < rows (the_network net.now) }
     ensures none { IfNone result (IsConsistent (the_network net.now) → ⊥) }
-    ensures some { IfSome result (IsWalk (the_network net.now) (λ ts. (other : ℕ) → other < rows (the_network net.now) → IsNoLater (the_network net.now) row other ts) moments.old moments.new) }
+    ensures some { IfSome result (IsWalk (the_network net.now)
+        (λ ts. (other : ℕ) → other < rows (the_network net.now) → IsNoLater (the_network net.now) row other ts) moments.old moments.new) }
 {
     let mut raised = false;
     for other in 0..rows_of(props) {
@@ -100,7 +104,9 @@ pub fn raise_by_scenarios(net: &Network, props: &[Prop], moments: &mut [u32]) ->
     requires props { AreObserved (the_network net.now) props.now }
     requires low { IsLow (the_network net.now) moments.old }
     ensures none { IfNone result (IsConsistent (the_network net.now) → ⊥) }
-    ensures some { IfSome result (IsWalk (the_network net.now) (λ ts. (row : ℕ) → row < rows (the_network net.now) → (other : ℕ) → other < rows (the_network net.now) → IsNoLater (the_network net.now) row other ts) moments.old moments.new) }
+    ensures some { IfSome result (IsWalk (the_network net.now)
+        (λ ts. (row : ℕ) → row < rows (the_network net.now) → (other : ℕ) → other < rows (the_network net.now)
+        → IsNoLater (the_network net.now) row other ts) moments.old moments.new) }
 {
     let mut raised = false;
     for row in 0..rows_of(props) {

@@ -78,7 +78,8 @@ fn raise_starts(net: &Network, props: &[Prop], moments: &mut [u32], c: &Constrai
     requires constraint { Contains (the_network net.now).constraints (the_constraint c.now) }
     requires range { IsInRange (count (the_network net.now)) c.now }
     ensures none { IfNone result (IsConsistent (the_network net.now) → ⊥) }
-    ensures some { IfSome result (IsWalk (the_network net.now) (λ ts. (row : ℕ) → row < rows (the_network net.now) → MeetsIn (the_network net.now) row (the_constraint c.now) ts) moments.old moments.new) }
+    ensures some { IfSome result (IsWalk (the_network net.now)
+        (λ ts. (row : ℕ) → row < rows (the_network net.now) → MeetsIn (the_network net.now) row (the_constraint c.now) ts) moments.old moments.new) }
 {
     let mut raised = false;
     for row in 0..rows_of(props) {
@@ -92,7 +93,9 @@ pub fn raise_by_constraints(net: &Network, props: &[Prop], moments: &mut [u32]) 
     requires props { AreObserved (the_network net.now) props.now }
     requires low { IsLow (the_network net.now) moments.old }
     ensures none { IfNone result (IsConsistent (the_network net.now) → ⊥) }
-    ensures some { IfSome result (IsWalk (the_network net.now) (λ ts. (c : TheConstraint) → Contains (the_network net.now).constraints c → (row : ℕ) → row < rows (the_network net.now) → MeetsIn (the_network net.now) row c ts) moments.old moments.new) }
+    ensures some { IfSome result (IsWalk (the_network net.now)
+        (λ ts. (c : TheConstraint) → Contains (the_network net.now).constraints c → (row : ℕ) → row < rows (the_network net.now)
+        → MeetsIn (the_network net.now) row c ts) moments.old moments.new) }
 {
     let mut raised = false;
     for c in net.constraints() {

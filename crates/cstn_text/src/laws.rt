@@ -53,7 +53,9 @@ pub fn labels_are_read_back()
 #[tactic(auto, using(crate::proofs::AnyOrderLemmas::label_of_marks, crate::proofs::AnyOrderLemmas::label_said))]
 pub fn label_texts_are_marks()
     ensures read { (ms : List (ℕ × Mark)) → AreNew empty ms → 1 ≤ length ms → label_read (marks_text ms) ≡ Some (label_with empty ms) }
-    ensures only { (text : List ℕ) (a : Label) → label_read text ≡ Some a → ((text ≡ 45 ∷ []) × (a ≡ empty)) ⊎ ((ms : List (ℕ × Mark)) × (1 ≤ length ms) × AreNew empty ms × (text ≡ marks_text ms) × (a ≡ label_with empty ms)) }
+    ensures only { (text : List ℕ) (a : Label) → label_read text ≡ Some a
+        → ((text ≡ 45 ∷ []) × (a ≡ empty)) ⊎
+        ((ms : List (ℕ × Mark)) × (1 ≤ length ms) × AreNew empty ms × (text ≡ marks_text ms) × (a ≡ label_with empty ms)) }
 {}
 
 /// Each printed text, and each text that is read as a label, has at least one byte, and none that is a space or below it. So

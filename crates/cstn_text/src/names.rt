@@ -1,6 +1,7 @@
 //! The names of a network's time-points.
 
-ghost use Rattle.std.specs.Prelude.{◌≡◌, ◌<◌, ◌^◌, ◌-◌, ◌++◌, ◌∷◌, ◌↔◌, ◌⊎◌, [], Contains, length, map, string_bytes, IfOk, IsTrue, OnErr, IsErrOf, ◌&&◌, nat_lt, nat_le, slice_get, Some};
+ghost use Rattle.std.specs.Prelude.{◌≡◌, ◌<◌, ◌^◌, ◌-◌, ◌++◌, ◌∷◌, ◌↔◌, ◌⊎◌, [], Contains, length, map, string_bytes, IfOk, IsTrue, OnErr, IsErrOf, ◌&&◌};
+ghost use Rattle.std.specs.Prelude.{nat_lt, nat_le, slice_get, Some};
 ghost use Rattle.std.specs.Option.{option_and_then};
 ghost use Rattle.cstn_text.specs.Names.{AreNames, number_of};
 ghost use Rattle.cstn_text.specs.PrintedNames.{name_read};

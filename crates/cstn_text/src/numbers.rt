@@ -1,6 +1,7 @@
 //! Numbers and values.
 
-ghost use Rattle.std.specs.Prelude.{◌≡◌, ◌≤◌, ◌++◌, ◌&&◌, ◌||◌, not, ◌==◌, ◌^◌, IfSome, OnOk, OnErr, length, nat_le, nat_lt, pos, neg_ℤ, string_bytes, Some, None, if◌then◌else◌};
+ghost use Rattle.std.specs.Prelude.{◌≡◌, ◌≤◌, ◌++◌, ◌&&◌, ◌||◌, not, ◌==◌, ◌^◌, IfSome, OnOk, OnErr, length, nat_le, nat_lt, pos, neg_ℤ, string_bytes, Some};
+ghost use Rattle.std.specs.Prelude.{None, if◌then◌else◌};
 ghost use Rattle.std.specs.Char.{is_ascii_digit};
 ghost use Rattle.std.specs.List.{list_all};
 ghost use Rattle.cstn_text.specs.Numbers.{is_numeral, number_read, number_within, value_read, printed_number, printed_value};

@@ -3,7 +3,8 @@
 ghost use Rattle.std.specs.Prelude.{◌≡◌, ◌<◌, ◌++◌, IfOk, OnOk, OnErr, string_bytes};
 ghost use Rattle.std.specs.Option.{option_map};
 ghost use Rattle.cstn_label.specs.Read.{marks};
-ghost use Rattle.cstn_text.specs.PrintedLabels.{printed_mark, printed_label, marks_below, nothing_read, signed, marked, after_byte, ended, marks_read, label_read};
+ghost use Rattle.cstn_text.specs.PrintedLabels.{printed_mark, printed_label, marks_below, nothing_read, signed, marked, after_byte, ended, marks_read};
+ghost use Rattle.cstn_text.specs.PrintedLabels.{label_read};
 ghost use Rattle.cstn_text.specs.Readings.{the_reading};
 ghost use Rattle.cstn_text.specs.Pushes.{IsLonger};
 

@@ -47,7 +47,8 @@ pub fn tight_text(
 
 fn refuted(alloc: Global, refutation: &Refutation, names: &Names) -> Result<Said, AllocError>
     requires named { All (λ e. e.bound.node.0 < length names.now) refutation.now.steps }
-    ensures said { IfOk result (λ said. the_said said ≡ record { outcome = Outcome.Bad; text = shown names.now refutation.now.load (the_steps refutation.now) }) }
+    ensures said { IfOk result (λ said. the_said said
+        ≡ record { outcome = Outcome.Bad; text = shown names.now refutation.now.load (the_steps refutation.now) }) }
 {
     let text = refutation.print(alloc, names)?;
     Ok(Said {
@@ -59,7 +60,12 @@ fn refuted(alloc: Global, refutation: &Refutation, names: &Names) -> Result<Said
 fn tight_said(alloc: Global, tight: &Tight, names: &Names) -> Result<Said, AllocError>
     requires named { All (IsNamed names.now) tight.now.closed.bounds }
     requires steps { AreStepsNamed names.now tight.now.refutation }
-    ensures said { IfOk result (λ said. the_said said ≡ record { outcome = Outcome.Good; text = line (codes "least " ++ decimal tight.now.deadline) ++ shown_bounds names.now tight.now.closed.load (the_bounds tight.now.closed) ++ told_before names.now tight.now.refutation }) }
+    ensures said { IfOk result (λ said. the_said said
+        ≡ record {
+          outcome = Outcome.Good;
+          text = line (codes "least " ++ decimal tight.now.deadline)
+              ++ shown_bounds names.now tight.now.closed.load (the_bounds tight.now.closed) ++ told_before names.now tight.now.refutation;
+        }) }
 {
     let mut text = format!(in alloc; "least {}\n", tight.deadline)?;
     let bounds = tight.closed.print(alloc, names)?;

@@ -42,7 +42,8 @@ pub fn least(alloc: Global, net: Network, cap: u32) -> Result<Tight, TightError>
     requires most { cap ≤ 4194304 }
 
     // But for want of memory, it fails exactly where the network isn't consistent or a log is full.
-    ensures no { (r : RefutationParts) → IsErrOf result (TightError.No r) → (load_of (the_network net) ≤ cap) × (IsConsistent (the_network net) → ⊥) × IsRefutationOf (the_network net) r }
+    ensures no { (r : RefutationParts) → IsErrOf result (TightError.No r)
+        → (load_of (the_network net) ≤ cap) × (IsConsistent (the_network net) → ⊥) × IsRefutationOf (the_network net) r }
     ensures full { IsErrOf result TightError.Full → is_tight_full cap (the_network net) ≡ true }
     ensures bounded { IsErrOf result TightError.Full → cap < most_entries (the_network net) }
     ensures refused { IsOk result → IsConsistent (the_network net) × (is_tight_full cap (the_network net) ≡ false) }
@@ -58,7 +59,8 @@ pub fn least(alloc: Global, net: Network, cap: u32) -> Result<Tight, TightError>
     ensures accepted { IfOk result (λ tight. IsFaultless (at_deadline (the_network net) tight.deadline) (the_bounds tight.closed)) }
 
     ensures none { IfOk result (λ tight. IsNone tight.refutation ↔ (tight.deadline ≡ 0)) }
-    ensures refutation { IfOk result (λ tight. IfSome tight.refutation (IsRefutationOf (at_deadline (the_network net) (least_deadline (the_network net) - 1)))) }
+    ensures refutation { IfOk result (λ tight.
+        IfSome tight.refutation (IsRefutationOf (at_deadline (the_network net) (least_deadline (the_network net) - 1)))) }
 {
     network_is_well_formed(&net);
     let mut check = Check::start(alloc, net, cap)?;
@@ -109,7 +111,8 @@ fn refutation_before(
     requires yes { (load : ℕ) × (check.now.verdict ≡ Some (Verdict.Yes load)) }
     requires consistent { IsConsistent (the_network check.now.net) }
     requires few { place < 4194304 }
-    requires first { (f : IsFirstGreatest (log_of (the_network check.now.net)) (load_of (the_network check.now.net)) place) × (f.entry.bound.least ≡ pos deadline) }
+    requires first { (f : IsFirstGreatest (log_of (the_network check.now.net)) (load_of (the_network check.now.net)) place)
+        × (f.entry.bound.least ≡ pos deadline) }
     ensures none { IfOk result (λ r. IsNone r ↔ (deadline ≡ 0)) }
     ensures some { IfOk result (λ r. IfSome r (IsRefutationOf (at_deadline (the_network check.now.net) (deadline - 1)))) }
 {

@@ -34,7 +34,8 @@ pub fn run<F: Shelf, S: Source, K: Sink>(
     ensures read_fault { result ≡ ReadFault → Failed F.faults shelf.old shelf.new ⊎ (Reads words.now (F.files shelf.old) × Failed S.faults live.old live.new) }
     ensures write_fault { result ≡ WriteFault → Failed K.faults out.old out.new }
     ensures live { Reads words.now (F.files shelf.old) ⊎ (live.new ≡ live.old) }
-    ensures memory { result ≡ Memory → TellsOf words.now (F.files shelf.old) (MayStop (S.left live.old)) ⊎ (WroteMemory K.written out.old out.new × (live.new ≡ live.old)) }
+    ensures memory { result ≡ Memory → TellsOf words.now (F.files shelf.old) (MayStop (S.left live.old))
+        ⊎ (WroteMemory K.written out.old out.new × (live.new ≡ live.old)) }
     ensures words { IsNone (request_in words.now) → (result ≡ Words) ⊎ (result ≡ WriteFault) }
     ensures words_only { result ≡ Words → IsNone (request_in words.now) }
     ensures unnamed_stand { named_files words.now ≡ [] → shelf.new ≡ shelf.old }
@@ -63,7 +64,8 @@ fn respond<F: Shelf, S: Source, K: Sink>(
     ensures read_fault { result ≡ ReadFault → Failed F.faults shelf.old shelf.new ⊎ (Reads words.now (F.files shelf.old) × Failed S.faults live.old live.new) }
     ensures write_fault { result ≡ WriteFault → Failed K.faults out.old out.new }
     ensures live { Reads words.now (F.files shelf.old) ⊎ (live.new ≡ live.old) }
-    ensures memory { result ≡ Memory → TellsOf words.now (F.files shelf.old) (MayStop (S.left live.old)) ⊎ (WroteMemory K.written out.old out.new × (live.new ≡ live.old)) }
+    ensures memory { result ≡ Memory → TellsOf words.now (F.files shelf.old) (MayStop (S.left live.old))
+        ⊎ (WroteMemory K.written out.old out.new × (live.new ≡ live.old)) }
     ensures words { IsNone (request_in words.now) → (result ≡ Words) ⊎ (result ≡ WriteFault) }
     ensures unnamed_stand { named_files words.now ≡ [] → shelf.new ≡ shelf.old }
     ensures names { F.may_ask shelf.new ≡ F.may_ask shelf.old }

@@ -4,7 +4,8 @@ ghost use Rattle.std.specs.List.{All, list_all};
 ghost use Rattle.std.specs.Option.{option_map};
 ghost use Rattle.cstn_net.specs.Networks.{count, limit};
 ghost use Rattle.cstn_net.specs.Read.{the_network, the_constraint, IsInRange};
-ghost use Rattle.cstn_tree.specs.Good.{start, placed_with, are_new, are_in_time, is_within, is_kept, is_met, fits_at, below_at, observed_on, known_from, fits_ask, below_ask, is_complete};
+ghost use Rattle.cstn_tree.specs.Good.{start, placed_with, are_new, are_in_time, is_within, is_kept, is_met, fits_at, below_at, observed_on, known_from};
+ghost use Rattle.cstn_tree.specs.Good.{fits_ask, below_ask, is_complete};
 ghost use Rattle.cstn_tree.specs.Branches.{the_branch, the_placed, IsBranchOf, numbers};
 ghost use Rattle.cstn_tree.specs.declared.starts.End.{End as TheEnd};
 ghost use Rattle.cstn_tree.specs.Starts.{AreStarts, TellsAt, AllPass, SomeFails};
@@ -178,7 +179,8 @@ impl Branch {
         requires starts { AreStarts (count (the_network net.now)) net.now.constraints starts.now }
         requires inside { x.0 < count (the_network net.now) }
         ensures kept { result ≡ true → (end : TheEnd) → AllPass (is_kept (the_branch self.now).placed (the_branch self.now).asked) end net.now.constraints x.0 }
-        ensures broken { result ≡ false → (end : TheEnd) × SomeFails (is_kept (the_branch self.now).placed (the_branch self.now).asked) end net.now.constraints x.0 }
+        ensures broken { result ≡ false → (end : TheEnd)
+            × SomeFails (is_kept (the_branch self.now).placed (the_branch self.now).asked) end net.now.constraints x.0 }
     {
         if !self.meets_at(net, starts, End::From, x) {
             return false;

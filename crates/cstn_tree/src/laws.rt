@@ -29,10 +29,13 @@ pub fn good_trees_are_strategies()
 /// The tree of a network, by bounds that have a strategy with each time-point at the least moment that they leave it: no line
 /// of it breaks, its table has each time-point at its least moment, and a text can say it with a load and names in their ranges.
 pub fn made_trees_are_good()
-    ensures good { (net : Network) (bounds : List Bound) (table : Table) → IsWellFormed net → IsEarliest net bounds table → (tree : Tree) → IsTreeOf net bounds tree → IsUnbroken net tree }
-    ensures least { (net : Network) (bounds : List Bound) (table : Table) → IsWellFormed net → IsEarliest net bounds table → (tree : Tree) → IsTreeOf net bounds tree → (s : Scenario) (x : ℕ) → x < count net → IsLeast net s x (table_of tree s x) }
+    ensures good { (net : Network) (bounds : List Bound) (table : Table) → IsWellFormed net → IsEarliest net bounds table → (tree : Tree)
+        → IsTreeOf net bounds tree → IsUnbroken net tree }
+    ensures least { (net : Network) (bounds : List Bound) (table : Table) → IsWellFormed net → IsEarliest net bounds table → (tree : Tree)
+        → IsTreeOf net bounds tree → (s : Scenario) (x : ℕ) → x < count net → IsLeast net s x (table_of tree s x) }
     ensures among { (net : Network) (bounds : List Bound) (tree : Tree) → IsTreeOf net bounds tree → IsAmong (count net) tree }
-    ensures fits { (net : Network) (bounds : List Bound) (table : Table) → IsWellFormed net → IsEarliest net bounds table → (tree : Tree) → IsTreeOf net bounds tree → FitsText tree }
+    ensures fits { (net : Network) (bounds : List Bound) (table : Table) → IsWellFormed net → IsEarliest net bounds table → (tree : Tree)
+        → IsTreeOf net bounds tree → FitsText tree }
     ensures written { (names : List (List ℕ)) (load : ℕ) (net : Network) (bounds : List Bound) (table : Table) → IsWellFormed net → IsEarliest net bounds table
         → length names ≡ count net → 1 ≤ load → load ≤ 4194304 → (tree : Tree) → IsTreeOf net bounds tree → AreWritten names load tree }
 {}
@@ -42,7 +45,8 @@ pub fn made_trees_are_good()
 /// else none.
 pub fn networks_have_one_tree()
     ensures one { (net : Network) (bounds : List Bound) (tree other : Tree) → IsTreeOf net bounds tree → IsTreeOf net bounds other → tree ≡ other }
-    ensures some { (net : Network) (bounds : List Bound) (table : Table) → IsWellFormed net → IsEarliest net bounds table → (tree : Tree) × IsTreeOf net bounds tree }
+    ensures some { (net : Network) (bounds : List Bound) (table : Table) → IsWellFormed net → IsEarliest net bounds table
+        → (tree : Tree) × IsTreeOf net bounds tree }
     ensures same { (net : Network) (tree other : Tree) → IsWellFormed net → IsTheTree net tree → IsTheTree net other → tree ≡ other }
     ensures consistent { (net : Network) → IsWellFormed net → (IsConsistent net ↔ ((tree : Tree) × IsTheTree net tree)) }
 {
@@ -52,20 +56,24 @@ pub fn networks_have_one_tree()
 /// The text of the tree of a network in which at most 10 propositions are observed has at most as many bytes as a text of evidence
 /// may have: each of its branches names each time-point once, and it has a branch for each outcome of these propositions at most.
 pub fn made_texts_are_short()
-    ensures short { (names : List (List ℕ)) (load : ℕ) (net : Network) (bounds : List Bound) (table : Table) → AreNames names → length names ≡ count net → load ≤ 4194304
-        → observed net ≤ 10 → IsWellFormed net → IsEarliest net bounds table → (tree : Tree) → IsTreeOf net bounds tree → length (shown names load (lines_of tree)) ≤ 1476395008 }
+    ensures short { (names : List (List ℕ)) (load : ℕ) (net : Network) (bounds : List Bound) (table : Table) → AreNames names → length names ≡ count net
+        → load ≤ 4194304
+        → observed net ≤ 10 → IsWellFormed net → IsEarliest net bounds table → (tree : Tree) → IsTreeOf net bounds tree
+        → length (shown names load (lines_of tree)) ≤ 1476395008 }
 {}
 
 /// The text of a load and a tree is read back as the tree, where each `at` names a time-point, no branch has more than 2,100
 /// lines, the time-points have names and the numbers are in their ranges.
 pub fn tree_texts_are_read_back()
-    ensures back { (names : List (List ℕ)) (load : ℕ) (tree : Tree) → AreNames names → AreWritten names load tree → told names (shown names load (lines_of tree)) ≡ tells (lines_of tree) }
+    ensures back { (names : List (List ℕ)) (load : ℕ) (tree : Tree) → AreNames names → AreWritten names load tree
+        → told names (shown names load (lines_of tree)) ≡ tells (lines_of tree) }
 {}
 
 /// The texts that are read as trees are exactly those that are printed of a load and a tree that can be written.
 pub fn tree_texts_are_the_shown_ones()
     ensures said { (names : List (List ℕ)) (bytes : List ℕ) (lines : List Line) → told names bytes ≡ tells lines → IsTextOfTree names lines bytes }
-    ensures says { (names : List (List ℕ)) (bytes : List ℕ) (lines : List Line) → AreNames names → IsTextOfTree names lines bytes → told names bytes ≡ tells lines }
+    ensures says { (names : List (List ℕ)) (bytes : List ℕ) (lines : List Line) → AreNames names → IsTextOfTree names lines bytes
+        → told names bytes ≡ tells lines }
 {}
 
 /// The lines of a tree are read back as the same tree, so different trees have different lines.

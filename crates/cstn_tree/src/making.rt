@@ -31,7 +31,8 @@ pub fn make(alloc: Global, exec: &mut Executive) -> Result<Tree, AllocError>
     ensures restarted { exec.new ≡ record exec.old { run = start (count (the_network exec.old.net)); named = [] } }
 
     ensures good { IfOk result (λ t. IsUnbroken (the_network exec.old.net) (the_tree t)) }
-    ensures least { IfOk result (λ t. (s : Scenario) (x : ℕ) → x < count (the_network exec.old.net) → IsLeast (the_network exec.old.net) s x (table_of (the_tree t) s x)) }
+    ensures least { IfOk result (λ t. (s : Scenario) (x : ℕ) → x < count (the_network exec.old.net)
+        → IsLeast (the_network exec.old.net) s x (table_of (the_tree t) s x)) }
     ensures among { IfOk result (λ t. IsAmong (count (the_network exec.old.net)) (the_tree t)) }
     ensures fits { IfOk result (λ t. FitsText (the_tree t)) }
 {
@@ -84,7 +85,8 @@ impl Making {
     fn step(&mut self, alloc: Global, exec: &mut Executive) -> Result<bool, AllocError>
         requires making { IsMaking (the_network exec.old.net) (the_bounds exec.old.bounds) exec.old.run self.old }
         ensures goes_on { IfOk result (λ more. more ≡ true → IsMaking (the_network exec.old.net) (the_bounds exec.old.bounds) exec.new.run self.new) }
-        ensures ends { IfOk result (λ more. more ≡ false → IsGrown (the_network exec.old.net) (the_bounds exec.old.bounds) (map the_line self.new.lines.items) []) }
+        ensures ends { IfOk result (λ more. more ≡ false
+            → IsGrown (the_network exec.old.net) (the_bounds exec.old.bounds) (map the_line self.new.lines.items) []) }
         ensures same { exec.new ≡ record exec.old { run = exec.new.run; named = exec.new.named } }
     {
         let Some(t) = exec.due() else {
@@ -101,7 +103,8 @@ impl Making {
         requires making { IsMaking (the_network exec.old.net) (the_bounds exec.old.bounds) exec.old.run self.old }
         requires over { due (the_network exec.old.net) (the_bounds exec.old.bounds) exec.old.run ≡ None }
         ensures goes_on { IfOk result (λ more. more ≡ true → IsMaking (the_network exec.old.net) (the_bounds exec.old.bounds) exec.new.run self.new) }
-        ensures ends { IfOk result (λ more. more ≡ false → IsGrown (the_network exec.old.net) (the_bounds exec.old.bounds) (map the_line self.new.lines.items) []) }
+        ensures ends { IfOk result (λ more. more ≡ false
+            → IsGrown (the_network exec.old.net) (the_bounds exec.old.bounds) (map the_line self.new.lines.items) []) }
         ensures same { exec.new ≡ record exec.old { run = exec.new.run; named = exec.new.named } }
     {
         self.lines.push(Line::Done)?;
@@ -118,7 +121,8 @@ impl Making {
     // Puts an `ask`, and goes on with the tree for true.
     fn ask(&mut self, alloc: Global, exec: &mut Executive, prop: Prop) -> Result<bool, AllocError>
         requires making { IsMaking (the_network exec.old.net) (the_bounds exec.old.bounds) exec.old.run self.old }
-        requires waits { (t : ℕ) × (due (the_network exec.old.net) (the_bounds exec.old.bounds) exec.old.run ≡ Some t) × (moment_refusal (the_network exec.old.net) (the_bounds exec.old.bounds) exec.old.run t ≡ Some (Awaiting prop.index)) }
+        requires waits { (t : ℕ) × (due (the_network exec.old.net) (the_bounds exec.old.bounds) exec.old.run ≡ Some t)
+            × (moment_refusal (the_network exec.old.net) (the_bounds exec.old.bounds) exec.old.run t ≡ Some (Awaiting prop.index)) }
         ensures more { IfOk result (λ more. more ≡ true) }
         ensures making { OnOk result (IsMaking (the_network exec.old.net) (the_bounds exec.old.bounds) exec.new.run self.new) }
         ensures same { exec.new ≡ record exec.old { run = exec.new.run; named = exec.new.named } }
@@ -148,7 +152,8 @@ impl Making {
 // Goes on to the due moment. Where that moment has to wait for an outcome nothing changes, and the proposition is returned.
 fn move_on(exec: &mut Executive, t: u32) -> Option<Prop>
     requires due { due (the_network exec.old.net) (the_bounds exec.old.bounds) exec.old.run ≡ Some t }
-    ensures moves { MatchOption result (moment_refusal (the_network exec.old.net) (the_bounds exec.old.bounds) exec.old.run t ≡ None) (λ p. moment_refusal (the_network exec.old.net) (the_bounds exec.old.bounds) exec.old.run t ≡ Some (Awaiting p.index)) }
+    ensures moves { MatchOption result (moment_refusal (the_network exec.old.net) (the_bounds exec.old.bounds) exec.old.run t ≡ None)
+        (λ p. moment_refusal (the_network exec.old.net) (the_bounds exec.old.bounds) exec.old.run t ≡ Some (Awaiting p.index)) }
     ensures moved { MatchOption result (exec.new ≡ moved_on exec.old t) (λ p. exec.new ≡ exec.old) }
 {
     due_is_exact();

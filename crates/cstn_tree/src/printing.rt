@@ -66,7 +66,8 @@ fn push_names(
     named: &[NodeId],
 ) -> Result<(), AllocError>
     requires named { All (λ x. x.0 < length names.now) named.now }
-    ensures pushed { OnOk result (string_bytes text.new ≡ string_bytes text.old ++ flat_map (λ x. 32 ∷ printed_name (slice_index_or names.now x [])) (numbers named.now)) }
+    ensures pushed { OnOk result (string_bytes text.new ≡ string_bytes text.old
+        ++ flat_map (λ x. 32 ∷ printed_name (slice_index_or names.now x [])) (numbers named.now)) }
 {
     for x in named {
         text.push(' ')?;

@@ -46,8 +46,10 @@ pub fn read(alloc: Global, names: &Names, bytes: &[u8]) -> Result<Tree, TreeErro
 fn read_lines(alloc: Global, names: &Names, bytes: &[u8]) -> Result<Tree, TreeError>
     requires few { length names.now ≤ 65536 }
     requires short { length bytes.now + 2 < 2 ^ 32 }
-    ensures accepted { IfOk result (λ t. (load : ℕ) → without_load (told_after (tree_lines names.now) load [] (parts_at 10 bytes.now).0 (parts_at 10 bytes.now).1) ≡ tells t) }
-    ensures line { IfErr result (λ e. (load : ℕ) → IsWrong (without_load (told_after (tree_lines names.now) load [] (parts_at 10 bytes.now).0 (parts_at 10 bytes.now).1)) e) }
+    ensures accepted { IfOk result (λ t. (load : ℕ)
+        → without_load (told_after (tree_lines names.now) load [] (parts_at 10 bytes.now).0 (parts_at 10 bytes.now).1) ≡ tells t) }
+    ensures line { IfErr result (λ e. (load : ℕ)
+        → IsWrong (without_load (told_after (tree_lines names.now) load [] (parts_at 10 bytes.now).0 (parts_at 10 bytes.now).1)) e) }
     ensures named { IfOk result (λ t. IsAmong (length names.now) (the_tree t)) }
     ensures few { IfOk result (λ t. length t + 1 < 2 ^ 32) }
 {
@@ -93,8 +95,11 @@ impl Reader {
         requires few { length names.now ≤ 65536 }
         requires reader { IsReader (length names.now) self.old }
         requires short { length self.old.lines.items + 2 < 2 ^ 32 }
-        ensures next { OnOk result ((load : ℕ) (texts : List (List ℕ)) (tail : List ℕ) → told_after (tree_lines names.now) load (the_lines self.old) (text.now ∷ texts) tail ≡ told_after (tree_lines names.now) load (the_lines self.new) texts tail) }
-        ensures wrong { IfErr result (λ e. (load : ℕ) (texts : List (List ℕ)) (tail : List ℕ) → IsWrong (without_load (told_after (tree_lines names.now) load (the_lines self.old) (text.now ∷ texts) tail)) e) }
+        ensures next { OnOk result ((load : ℕ) (texts : List (List ℕ)) (tail : List ℕ)
+            → told_after (tree_lines names.now) load (the_lines self.old) (text.now ∷ texts) tail
+            ≡ told_after (tree_lines names.now) load (the_lines self.new) texts tail) }
+        ensures wrong { IfErr result (λ e. (load : ℕ) (texts : List (List ℕ)) (tail : List ℕ)
+            → IsWrong (without_load (told_after (tree_lines names.now) load (the_lines self.old) (text.now ∷ texts) tail)) e) }
         ensures reader { OnOk result (IsReader (length names.now) self.new) }
         ensures count { OnOk result (length self.new.lines.items ≡ length self.old.lines.items + 1) }
     {

@@ -59,7 +59,9 @@ impl Walk {
         requires walk { IsWalkOf (count (the_network net.now)) self.old }
         requires starts { AreStarts (count (the_network net.now)) net.now.constraints starts.now }
         requires inside { All (λ x. x < count (the_network net.now)) (names_on (the_line line.now)) }
-        ensures step { IfOk result (λ s. (ls : List TheLine) (k : ℕ) → first_broken_in (the_network net.now) (the_branches self.old) (the_line line.now ∷ ls) k ≡ after_step (the_step s) (the_network net.now) (the_branches self.new) ls k) }
+        ensures step { IfOk result (λ s. (ls : List TheLine) (k : ℕ)
+            → first_broken_in (the_network net.now) (the_branches self.old) (the_line line.now ∷ ls) k
+            ≡ after_step (the_step s) (the_network net.now) (the_branches self.new) ls k) }
         ensures walk { IfOk result (λ s. s ≡ On → IsWalkOf (count (the_network net.now)) self.new) }
     {
         match line {
@@ -73,7 +75,9 @@ impl Walk {
         requires walk { IsWalkOf (count (the_network net.now)) self.old }
         requires starts { AreStarts (count (the_network net.now)) net.now.constraints starts.now }
         requires inside { All (λ x. x < count (the_network net.now)) named.now }
-        ensures step { (ls : List TheLine) (k : ℕ) → first_broken_in (the_network net.now) (the_branches self.old) (AtLine t named.now ∷ ls) k ≡ after_step (the_step result) (the_network net.now) (the_branches self.new) ls k }
+        ensures step { (ls : List TheLine) (k : ℕ)
+            → first_broken_in (the_network net.now) (the_branches self.old) (AtLine t named.now ∷ ls) k
+            ≡ after_step (the_step result) (the_network net.now) (the_branches self.new) ls k }
         ensures walk { result ≡ On → IsWalkOf (count (the_network net.now)) self.new }
     {
         if self.here.place(net, starts, t, named.as_slice()) {
@@ -85,7 +89,9 @@ impl Walk {
 
     fn step_ask(&mut self, alloc: Global, net: &Network, p: Prop) -> Result<Step, AllocError>
         requires walk { IsWalkOf (count (the_network net.now)) self.old }
-        ensures step { IfOk result (λ s. (ls : List TheLine) (k : ℕ) → first_broken_in (the_network net.now) (the_branches self.old) (AskLine p.index ∷ ls) k ≡ after_step (the_step s) (the_network net.now) (the_branches self.new) ls k) }
+        ensures step { IfOk result (λ s. (ls : List TheLine) (k : ℕ)
+            → first_broken_in (the_network net.now) (the_branches self.old) (AskLine p.index ∷ ls) k
+            ≡ after_step (the_step s) (the_network net.now) (the_branches self.new) ls k) }
         ensures walk { IfOk result (λ s. s ≡ On → IsWalkOf (count (the_network net.now)) self.new) }
     {
         if !self.here.can_ask(net, p) {
@@ -100,7 +106,9 @@ impl Walk {
 
     fn step_done(&mut self, net: &Network) -> Step
         requires walk { IsWalkOf (count (the_network net.now)) self.old }
-        ensures step { (ls : List TheLine) (k : ℕ) → first_broken_in (the_network net.now) (the_branches self.old) (DoneLine ∷ ls) k ≡ after_step (the_step result) (the_network net.now) (the_branches self.new) ls k }
+        ensures step { (ls : List TheLine) (k : ℕ)
+            → first_broken_in (the_network net.now) (the_branches self.old) (DoneLine ∷ ls) k
+            ≡ after_step (the_step result) (the_network net.now) (the_branches self.new) ls k }
         ensures walk { result ≡ On → IsWalkOf (count (the_network net.now)) self.new }
     {
         if !self.here.is_complete(net) {
