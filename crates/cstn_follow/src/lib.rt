@@ -10,9 +10,9 @@ mod lists;
 mod questions;
 mod sessions;
 mod texts;
-mod truth;
+mod verdict_laws;
 mod verdicts;
 
 pub use laws::{blame_is_found, next_keeps_going, parts_are_labelled, waiting_is_found};
 pub use sessions::{Following, Heard};
-pub use truth::verdicts_are_true;
+pub use verdict_laws::verdicts_are_true;

@@ -1,5 +1,5 @@
 use Rattle.cstn_follow.proofs.GoesOn.{yes_can, no_cannot, full_is_above}
-use Rattle.cstn_follow.proofs.truth.verdicts_are_true.Goals as goal
+use Rattle.cstn_follow.proofs.verdict_laws.verdicts_are_true.Goals as goal
 
 pub returns : goal.returns
 returns c = record {
