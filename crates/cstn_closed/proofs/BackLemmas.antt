@@ -8,7 +8,7 @@ use Rattle.cstn_text.specs.Names.{AreNames}
 use Rattle.cstn_text.specs.PrintedLabels.{printed_label, label_read}
 use Rattle.cstn_text.proofs.PrintedLabelLemmas.{label_back}
 use Rattle.cstn_listing.specs.Listings.{AreLines as AreLinesOf}
-use Rattle.cstn_listing.proofs.ReadingLemmas.{word_part, part_back, IsFree, free, spaced}
+use Rattle.cstn_text.proofs.ReadingLemmas.{word_part, part_back, IsFree, free, spaced}
 use Rattle.cstn_listing.proofs.ListingLemmas.{ends_some, text_back as listing_back}
 use Rattle.cstn_refute.specs.Steps.{◌>>=◌, named_bound_read}
 use Rattle.cstn_refute.specs.Orders.{bound_with}

@@ -7,9 +7,9 @@ use Rattle.std.proofs.lemmas.List.Elements.{All-nil, All-cons}
 use Rattle.std.proofs.lemmas.Slice.Eq.{bytes_eq-Decides}
 use Rattle.cstn_label.specs.Bounds.{Bound}
 use Rattle.cstn_text.specs.PrintedLabels.{label_read}
-use Rattle.cstn_listing.specs.Parts.{part}
+use Rattle.cstn_text.specs.Parts.{part}
 use Rattle.cstn_listing.specs.Listings.{AreLines as AreLinesOf}
-use Rattle.cstn_listing.proofs.ReadingLemmas.{then_read, if_read, part_said}
+use Rattle.cstn_text.proofs.ReadingLemmas.{then_read, if_read, part_said}
 use Rattle.cstn_listing.proofs.ListingLemmas.{some_ends, text_said as listing_said}
 use Rattle.cstn_refute.specs.Steps.{named_bound_read}
 use Rattle.cstn_refute.specs.Orders.{bound_with}

@@ -2,7 +2,7 @@
 use Rattle.std.specs.Prelude.{ℕ, ◌++◌, ◌&&◌, nat_lt, if◌then◌else◌, List, [], ◌∷◌, length, Option, None, codes, bytes_eq}
 use Rattle.cstn_label.specs.Bounds.{Bound}
 use Rattle.cstn_text.specs.Numbers.{printed_number}
-use Rattle.cstn_listing.specs.Parts.{part}
+use Rattle.cstn_text.specs.Parts.{part}
 use Rattle.cstn_listing.specs.Listings.{Told as ToldBy, Kind, is_some_listed, told as told_by}
 pub use Rattle.cstn_listing.specs.Listings.{tells, wrong}
 use Rattle.cstn_refute.specs.Steps.{◌>>=◌, named_bound_read, printed_bound}

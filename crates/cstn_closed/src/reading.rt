@@ -4,7 +4,7 @@ ghost use Rattle.std.specs.List.{All};
 ghost use Rattle.std.specs.Option.{option_map};
 ghost use Rattle.cstn_label.specs.Bounds.{Bound as TheBound};
 ghost use Rattle.cstn_label.specs.Read.{the_bound};
-ghost use Rattle.cstn_listing.specs.Parts.{parts_at};
+ghost use Rattle.cstn_text.specs.Parts.{parts_at};
 ghost use Rattle.cstn_listing.specs.Listings.{at_end, is_some_listed, or_wrong, told_after};
 ghost use Rattle.cstn_closed.specs.Closed.{the_bounds};
 ghost use Rattle.cstn_closed.specs.Texts.{Told, tells, wrong, bound_lines, told, line_read};

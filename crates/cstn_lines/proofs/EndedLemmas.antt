@@ -2,7 +2,7 @@
 use Rattle.std.proofs.Common.{◌≡◌, ◌≢◌, ℕ, ◌+◌, ◌<◌, ◌≤◌, List, [], ◌∷◌, ◌++◌, length, take, drop, refl, arith, zero, suc, add-one, sym, ap, ◌∙◌, append-nil, length-append}
 use Rattle.std.specs.Prelude.{Bool, true, false, nat_lt, ◌==◌, if◌then◌else◌}
 use Rattle.std.proofs.lemmas.Bool.{ne_eqb, eq-eqb, eqb-true, false≢true}
-use Rattle.cstn_listing.specs.Parts.{Parts, begun, parts_at}
+use Rattle.cstn_text.specs.Parts.{Parts, begun, parts_at}
 use Rattle.cstn_lines.specs.Pieces.{IsCut, HasNoEnd, unended, with_unended, ended_lines}
 
 -- a line is heard first, whatever comes after it

@@ -16,9 +16,9 @@ use Rattle.cstn_text.specs.PrintedLabels.{printed_label}
 use Rattle.cstn_text.proofs.CutLemmas.{cut_joined}
 use Rattle.cstn_text.proofs.PartLemmas.{name_part, number_part}
 use Rattle.cstn_text.proofs.PrintedNameLemmas.{name_back, name_printed}
-use Rattle.cstn_listing.specs.Parts.{Parts, parts_at, joined}
-use Rattle.cstn_listing.proofs.PartLemmas.{parts_cut, parts_open, parts_joined}
-use Rattle.cstn_listing.proofs.ReadingLemmas.{part_free, part_back, within_back, within_said}
+use Rattle.cstn_text.specs.Parts.{Parts, parts_at, joined}
+use Rattle.cstn_text.proofs.SplitLemmas.{parts_cut, parts_open, parts_joined}
+use Rattle.cstn_text.proofs.ReadingLemmas.{part_free, part_back, within_back, within_said}
 use Rattle.cstn_lines.specs.LiveLines.{cut_at_space, prop_read, truth_read, printed_truth}
 use Rattle.cstn_lines.specs.EditLines.{Edit, added, removed, changed, asked, edited_read, IsEdit, printed_edit}
 use Rattle.cstn_lines.specs.FollowLines.{Follow, done_at, came_at, now_at, awaited_at, edits, ends_by, asks_next, asks_by, asks_blame, asks_rest, moment_of, each_name_read, names_read, done_read, outcome_read, came_read, awaited_read, followed_read, follow_read, IsFollow, printed_follow, IsTextOf}

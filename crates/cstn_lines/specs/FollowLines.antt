@@ -6,7 +6,7 @@ use Rattle.cstn_label.specs.Letters.{letter_of}
 use Rattle.cstn_text.specs.Names.{IsName}
 use Rattle.cstn_text.specs.Numbers.{number_within, printed_number}
 use Rattle.cstn_text.specs.PrintedNames.{name_read, printed_name}
-use Rattle.cstn_listing.specs.Parts.{parts_at}
+use Rattle.cstn_text.specs.Parts.{parts_at}
 use Rattle.cstn_lines.specs.LiveLines.{cut_at_space, prop_read, truth_read, printed_truth}
 use Rattle.cstn_lines.specs.EditLines.{Edit, asked, the_edit, edited_read, IsEdit, printed_edit, IsTextOf as IsTextOfEdit}
 use Rattle.cstn_lines.specs.declared.follow.FollowLine.{FollowLine}

@@ -1,6 +1,6 @@
 -- Bytes as lines.
 use Rattle.std.specs.Prelude.{◌≡◌, ◌≢◌, ℕ, ◌<◌, ◌-◌, ◌^◌, take, drop, Bool, true, false, nat_lt, ◌||◌, ◌==◌, if◌then◌else◌, List, [], ◌∷◌, ◌++◌, length, get_or}
-use Rattle.cstn_listing.specs.Parts.{parts_at}
+use Rattle.cstn_text.specs.Parts.{parts_at}
 
 -- the bytes from the place `start` to the place `end`, without the one at `end`
 abbrev pub between : ℕ → ℕ → List ℕ → List ℕ

@@ -1,3 +1,2 @@
-pub mod PartLemmas
-pub mod ReadingLemmas
+pub mod NameLemmas
 pub mod ListingLemmas

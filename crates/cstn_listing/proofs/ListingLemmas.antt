@@ -7,12 +7,11 @@ use Rattle.std.proofs.lemmas.List.Elements.{All-head, All-tail}
 use Rattle.std.proofs.lemmas.Slice.Eq.{bytes_eq-Decides}
 use Rattle.cstn_text.specs.Cuts.{cut_at}
 use Rattle.cstn_text.specs.Numbers.{number_within, printed_number}
-use Rattle.cstn_text.specs.Parts.{IsOnePart}
+use Rattle.cstn_text.specs.Parts.{IsOnePart, Parts, part, parts_at, joined}
 use Rattle.cstn_text.proofs.CutLemmas.{cut_back}
-use Rattle.cstn_listing.specs.Parts.{Parts, part, parts_at, joined}
 use Rattle.cstn_listing.specs.Listings.{Told, tells, wrong, Kind, load_read, at_end, is_some_listed, or_wrong, told_after, told_lines, told, AreLines, IsTextOf}
-use Rattle.cstn_listing.proofs.PartLemmas.{AreFree, parts_cut, parts_open, parts_joined, parts_free}
-use Rattle.cstn_listing.proofs.ReadingLemmas.{then_read, if_read, within_said, part_said, part_back, within_back, IsFree, free, spaced, number_free}
+use Rattle.cstn_text.proofs.SplitLemmas.{AreFree, parts_cut, parts_open, parts_joined, parts_free}
+use Rattle.cstn_text.proofs.ReadingLemmas.{then_read, if_read, within_said, part_said, part_back, within_back, IsFree, free, spaced, number_free}
 
 -- ---- the first line
 

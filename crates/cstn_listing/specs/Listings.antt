@@ -3,7 +3,7 @@ use Rattle.std.specs.Prelude.{ℕ, ◌≡◌, ◌≢◌, ◌+◌, ◌++◌, ◌�
 use Rattle.std.specs.List.{All}
 use Rattle.std.specs.Option.{option_and_then}
 use Rattle.cstn_text.specs.Numbers.{number_within, printed_number}
-use Rattle.cstn_listing.specs.Parts.{part, parts_at}
+use Rattle.cstn_text.specs.Parts.{part, parts_at}
 
 -- what a text says: a load and the things that it lists, or that a line, counted from 1, is the first that isn't of the grammar
 pub data Told (A : Type 0) : Type 0 where

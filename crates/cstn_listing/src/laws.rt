@@ -1,14 +1,7 @@
 //! Which texts are listings. The calls do nothing: their contracts are the laws.
 ghost use Rattle.std.specs.Prelude.{ℕ, ◌≡◌, List};
 ghost use Rattle.cstn_text.specs.Parts.{IsOnePart};
-ghost use Rattle.cstn_listing.specs.Parts.{parts_at, joined};
 ghost use Rattle.cstn_listing.specs.Listings.{Kind, IsTextOf, told, tells};
-
-/// A text that is split at a byte is joined again.
-#[tactic(auto, using(crate::proofs::PartLemmas::parts_joined))]
-pub fn texts_are_their_parts()
-    ensures joined { (end : ℕ) (bytes : List ℕ) → joined end (parts_at end bytes).0 (parts_at end bytes).1 ≡ bytes }
-{}
 
 /// The texts that say a load and things are exactly those that have the word of their kind and a load in its range on the first
 /// line, and then the line of each thing, where the text may end after these.

@@ -1,9 +1,9 @@
 //! The parts of a line, and the names of time-points.
-ghost use Rattle.std.specs.Prelude.{◌≡◌, ◌<◌, ◌≤◌, IfOk, IfSome, length, map, string_bytes};
+ghost use Rattle.std.specs.Prelude.{◌≡◌, ◌<◌, ◌≤◌, ◌∷◌, [], IfOk, IfSome, IfNone, length, map, string_bytes};
 ghost use Rattle.std.specs.Option.{option_map};
 ghost use Rattle.cstn_text.specs.Names.{AreNames};
 ghost use Rattle.cstn_text.specs.PrintedNames.{printed_name};
-ghost use Rattle.cstn_listing.specs.Parts.{part, node_read};
+ghost use Rattle.cstn_text.specs.Parts.{part, parts_at, node_read};
 
 use cstn_label::NodeId;
 use cstn_text::{Names, cut_at, print_name};
@@ -12,6 +12,9 @@ use std::alloc::{AllocError, Global};
 /// What stands before the first space, and what stands after it; none where there is no space.
 pub fn part(bytes: &[u8]) -> Option<(&[u8], &[u8])>
     ensures part { option_map (λ parts. (parts.0.now, parts.1.now)) result ≡ part bytes.now }
+    ensures parts { IfSome result (λ it. parts_at 32 bytes.now ≡ (it.0.now ∷ (parts_at 32 it.1.now).0, (parts_at 32 it.1.now).1)) }
+    ensures whole { IfNone result (parts_at 32 bytes.now ≡ ([], bytes.now)) }
+    ensures shorter { IfSome result (λ it. length it.1.now < length bytes.now) }
 {
     cut_at(bytes, b' ')
 }

@@ -8,13 +8,12 @@ use Rattle.cstn_rules.specs.declared.entries.Why.TheVariants.{Base, Chain, Wait}
 use Rattle.cstn_rules.specs.Derivations.{Entry}
 use Rattle.cstn_text.specs.Names.{AreNames}
 use Rattle.cstn_text.specs.Numbers.{number_within, printed_number}
-use Rattle.cstn_text.specs.Parts.{IsOnePart}
+use Rattle.cstn_text.specs.Parts.{IsOnePart, part}
 use Rattle.cstn_text.specs.PrintedLabels.{printed_label, label_read}
 use Rattle.cstn_text.proofs.PartLemmas.{number_part}
 use Rattle.cstn_text.proofs.PrintedLabelLemmas.{label_back}
-use Rattle.cstn_listing.specs.Parts.{part}
 use Rattle.cstn_listing.specs.Listings.{AreLines as AreLinesOf}
-use Rattle.cstn_listing.proofs.ReadingLemmas.{word_part, part_back, within_back, IsFree, free, spaced, number_free}
+use Rattle.cstn_text.proofs.ReadingLemmas.{word_part, part_back, within_back, IsFree, free, spaced, number_free}
 use Rattle.cstn_listing.proofs.ListingLemmas.{ends_some, text_back as listing_back}
 use Rattle.cstn_refute.specs.Steps.{◌>>=◌, place_read, places_read, why_read, is_place, rule_read, named_bound_read, step_read, printed_why}
 use Rattle.cstn_refute.specs.Texts.{tells, told, step_lines, printed_steps, shown}

@@ -12,8 +12,8 @@ use Rattle.cstn_text.specs.PrintedLabels.{label_read}
 use Rattle.cstn_text.proofs.AnyOrderLemmas.{label_text_part}
 use Rattle.cstn_text.proofs.LabelReadLemmas.{label_small}
 use Rattle.cstn_text.proofs.PartLemmas.{number_part}
-use Rattle.cstn_listing.specs.Parts.{part, node_read}
-use Rattle.cstn_listing.proofs.ReadingLemmas.{then_read, within_said, part_said, node_said, part_back, within_back, node_back, name_one_part, IsFree, free, spaced, number_free}
+use Rattle.cstn_text.specs.Parts.{part, node_read}
+use Rattle.cstn_text.proofs.ReadingLemmas.{then_read, within_said, part_said, node_said, part_back, within_back, node_back, name_one_part, IsFree, free, spaced, number_free}
 use Rattle.cstn_refute.specs.Steps.{◌>>=◌, bound_read, named_bound_read}
 use Rattle.cstn_refute.specs.Orders.{bound_with}
 use Rattle.cstn_refute.specs.Written.{IsPrintableBound}

@@ -8,9 +8,9 @@ use Rattle.cstn_rules.specs.declared.entries.Why.{Why}
 use Rattle.cstn_rules.specs.declared.entries.Why.TheVariants.{Base, Chain, Wait}
 use Rattle.cstn_rules.specs.Derivations.{Entry}
 use Rattle.cstn_text.specs.Numbers.{number_within}
-use Rattle.cstn_listing.specs.Parts.{part}
+use Rattle.cstn_text.specs.Parts.{part}
 use Rattle.cstn_listing.specs.Listings.{AreLines}
-use Rattle.cstn_listing.proofs.ReadingLemmas.{then_read, if_read, within_said}
+use Rattle.cstn_text.proofs.ReadingLemmas.{then_read, if_read, within_said}
 use Rattle.cstn_listing.proofs.ListingLemmas.{some_ends, text_said as listing_said}
 use Rattle.cstn_refute.specs.Steps.{◌>>=◌, place_read, places_read, chain_read, wait_read, why_read, is_place, rule_read, named_bound_read, step_read}
 use Rattle.cstn_refute.specs.Texts.{tells, told, step_lines}

@@ -8,7 +8,7 @@ use Rattle.cstn_rules.specs.Derivations.{Entry}
 use Rattle.cstn_text.specs.Numbers.{number_within, printed_number, printed_value}
 use Rattle.cstn_text.specs.PrintedNames.{printed_name}
 use Rattle.cstn_text.specs.PrintedLabels.{label_read, printed_label}
-use Rattle.cstn_listing.specs.Parts.{part, node_read}
+use Rattle.cstn_text.specs.Parts.{part, node_read}
 
 infixl 20 ◌>>=◌
 -- what f gives from the value of o, if both are there

@@ -5,7 +5,7 @@ ghost use Rattle.cstn_rules.specs.Derivations.{Entry as TheEntry};
 ghost use Rattle.cstn_rules.specs.Read.{the_entry};
 ghost use Rattle.cstn_refute.specs.Refutations.{IsStep, the_steps};
 ghost use Rattle.cstn_refute.specs.Steps.{step_read};
-ghost use Rattle.cstn_listing.specs.Parts.{parts_at};
+ghost use Rattle.cstn_text.specs.Parts.{parts_at};
 ghost use Rattle.cstn_listing.specs.Listings.{at_end, is_some_listed, or_wrong, told_after};
 ghost use Rattle.cstn_refute.specs.Texts.{Told, tells, wrong, step_lines, told};
 ghost use Rattle.cstn_refute.specs.Written.{AreWritten};

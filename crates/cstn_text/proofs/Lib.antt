@@ -6,3 +6,5 @@ pub mod AnyOrderLemmas
 pub mod LabelReadLemmas
 pub mod PartLemmas
 pub mod CutLemmas
+pub mod SplitLemmas
+pub mod ReadingLemmas

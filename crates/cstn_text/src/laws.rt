@@ -9,7 +9,7 @@ ghost use Rattle.cstn_text.specs.Names.{IsName};
 ghost use Rattle.cstn_text.specs.Numbers.{number_read, printed_number, value_read, printed_value};
 ghost use Rattle.cstn_text.specs.PrintedLabels.{label_read, printed_label, marks_text, label_with, AreNew};
 ghost use Rattle.cstn_text.specs.PrintedNames.{name_read, printed_name};
-ghost use Rattle.cstn_text.specs.Parts.{IsOnePart};
+ghost use Rattle.cstn_text.specs.Parts.{IsOnePart, parts_at, joined};
 
 /// Each number below 2^64 has one text.
 #[tactic(auto, using(crate::proofs::NumberLemmas::number_back, crate::proofs::NumberLemmas::number_printed))]
@@ -67,4 +67,10 @@ pub fn printed_texts_are_parts()
     ensures name { (name : List ℕ) → 1 ≤ length name → IsOnePart (printed_name name) }
     ensures label { (a : Label) → IsOnePart (printed_label a) }
     ensures label_text { (text : List ℕ) (a : Label) → label_read text ≡ Some a → IsOnePart text }
+{}
+
+/// A text that is split at a byte is joined again.
+#[tactic(auto, using(crate::proofs::SplitLemmas::parts_joined))]
+pub fn texts_are_their_parts()
+    ensures joined { (end : ℕ) (bytes : List ℕ) → joined end (parts_at end bytes).0 (parts_at end bytes).1 ≡ bytes }
 {}

@@ -12,7 +12,7 @@ mod printed_names;
 pub use cuts::{cut_at, first_place};
 pub use laws::{
     label_texts_are_marks, labels_are_read_back, names_have_one_text, numbers_have_one_text,
-    printed_names_are_short, printed_texts_are_parts, values_have_one_text,
+    printed_names_are_short, printed_texts_are_parts, texts_are_their_parts, values_have_one_text,
 };
 pub use name_key::NameKey;
 pub use names::{NameError, Names};

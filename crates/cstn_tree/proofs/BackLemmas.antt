@@ -10,10 +10,10 @@ use Rattle.cstn_text.specs.Names.{AreNames}
 use Rattle.cstn_text.specs.Numbers.{number_within, printed_number}
 use Rattle.cstn_text.specs.PrintedNames.{printed_name}
 use Rattle.cstn_text.proofs.PartLemmas.{number_part}
-use Rattle.cstn_listing.specs.Parts.{Parts, parts_at}
+use Rattle.cstn_text.specs.Parts.{Parts, parts_at}
 use Rattle.cstn_listing.specs.Listings.{AreLines}
-use Rattle.cstn_listing.proofs.PartLemmas.{parts_cut}
-use Rattle.cstn_listing.proofs.ReadingLemmas.{word_part, part_free, part_back, within_back, node_back, name_one_part, IsFree, free, space_free, spaced}
+use Rattle.cstn_text.proofs.SplitLemmas.{parts_cut}
+use Rattle.cstn_text.proofs.ReadingLemmas.{word_part, part_free, part_back, within_back, node_back, name_one_part, IsFree, free, space_free, spaced}
 use Rattle.cstn_listing.proofs.ListingLemmas.{text_back}
 use Rattle.cstn_tree.specs.Trees.{Tree, Line, lines_of}
 use Rattle.cstn_tree.specs.Trees.Tree.{at, ask, done}

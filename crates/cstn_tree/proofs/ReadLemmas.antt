@@ -5,9 +5,9 @@ use Rattle.std.specs.List.{All}
 use Rattle.std.proofs.lemmas.List.{map-append, length-map, reverse-append}
 use Rattle.std.proofs.lemmas.List.Elements.{All-push}
 use Rattle.cstn_text.specs.Cuts.{cut_at}
-use Rattle.cstn_listing.specs.Parts.{Parts, parts_at}
+use Rattle.cstn_text.specs.Parts.{Parts, parts_at}
 use Rattle.cstn_listing.specs.Listings.{Told as Listing, tells as tells_with, wrong as wrong_line, at_end, or_wrong, told_after}
-use Rattle.cstn_listing.proofs.PartLemmas.{parts_cut}
+use Rattle.cstn_text.proofs.SplitLemmas.{parts_cut}
 use Rattle.cstn_tree.specs.declared.trees.Line.{Line as ProgramLine}
 use Rattle.cstn_tree.specs.declared.reading.Reader.{Reader}
 use Rattle.cstn_tree.specs.Trees.{Line, names_on}

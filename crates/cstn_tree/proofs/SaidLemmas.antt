@@ -10,10 +10,10 @@ use Rattle.cstn_label.specs.Letters.{letter_of, prop_of}
 use Rattle.cstn_text.specs.Names.{AreNames}
 use Rattle.cstn_text.specs.Numbers.{number_within, printed_number}
 use Rattle.cstn_text.specs.PrintedNames.{printed_name}
-use Rattle.cstn_listing.specs.Parts.{parts_at, joined, part, node_read}
+use Rattle.cstn_text.specs.Parts.{parts_at, joined, part, node_read}
 use Rattle.cstn_listing.specs.Listings.{Told as Listing, tells as tells_with, wrong as wrong_line, told as told_by, AreLines}
-use Rattle.cstn_listing.proofs.PartLemmas.{parts_joined}
-use Rattle.cstn_listing.proofs.ReadingLemmas.{then_read, map_read, if_read, within_said, part_said, node_said}
+use Rattle.cstn_text.proofs.SplitLemmas.{parts_joined}
+use Rattle.cstn_text.proofs.ReadingLemmas.{then_read, map_read, if_read, within_said, part_said, node_said}
 use Rattle.cstn_listing.proofs.ListingLemmas.{text_said as listing_said}
 use Rattle.cstn_tree.specs.Trees.{Tree, Line, lines_of}
 use Rattle.cstn_tree.specs.Trees.Tree.{at, ask, done}

@@ -3,7 +3,7 @@ ghost use Rattle.std.specs.Prelude.{ℕ, ◌≡◌, ◌<◌, ◌≤◌, ◌+◌,
 ghost use Rattle.std.specs.List.{All};
 ghost use Rattle.std.specs.Option.{option_map};
 ghost use Rattle.cstn_tree.specs.Trees.{IsAmong, names_on};
-ghost use Rattle.cstn_listing.specs.Parts.{parts_at};
+ghost use Rattle.cstn_text.specs.Parts.{parts_at};
 ghost use Rattle.cstn_listing.specs.Listings.{at_end, told_after};
 ghost use Rattle.cstn_tree.specs.Texts.{Told, tells, without_load, tree_lines, is_whole, told, line_within, ahead_after};
 ghost use Rattle.cstn_tree.specs.Written.{FitsText};

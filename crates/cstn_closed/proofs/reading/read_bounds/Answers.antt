@@ -4,7 +4,7 @@ use Rattle.std.proofs.lemmas.Grind.{common_steps}
 use Rattle.std.proofs.lemmas.List.{length-map}
 use Rattle.cstn_label.specs.Bounds.{Bound}
 use Rattle.cstn_label.specs.Read.{the_bound}
-use Rattle.cstn_listing.specs.Parts.{parts_at}
+use Rattle.cstn_text.specs.Parts.{parts_at}
 use Rattle.cstn_listing.specs.Listings.{told_after, or_wrong}
 use Rattle.cstn_listing.proofs.ListingLemmas.{told_next, told_viewed, told_last}
 use Rattle.cstn_closed.specs.Closed.{the_bounds}

@@ -6,7 +6,7 @@ use Rattle.std.proofs.lemmas.List.{length-map}
 use Rattle.std.proofs.lemmas.List.Elements.{All-push}
 use Rattle.cstn_rules.specs.Derivations.{Entry as TheEntry}
 use Rattle.cstn_rules.specs.Read.{the_entry}
-use Rattle.cstn_listing.specs.Parts.{parts_at}
+use Rattle.cstn_text.specs.Parts.{parts_at}
 use Rattle.cstn_listing.specs.Listings.{told_after, or_wrong}
 use Rattle.cstn_listing.proofs.ListingLemmas.{told_next, told_viewed, told_last}
 use Rattle.cstn_refute.specs.Refutations.{IsStep, the_steps}

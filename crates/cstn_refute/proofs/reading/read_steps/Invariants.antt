@@ -2,7 +2,7 @@ use Rattle.std.proofs.Common.{◌≡◌, ◌≤◌, [], length, map}
 use Rattle.std.specs.List.{All}
 use Rattle.cstn_rules.specs.Read.{the_entry}
 use Rattle.cstn_refute.specs.Refutations.{IsStep}
-use Rattle.cstn_listing.specs.Parts.{parts_at}
+use Rattle.cstn_text.specs.Parts.{parts_at}
 use Rattle.cstn_listing.specs.Listings.{told_after}
 use Rattle.cstn_refute.specs.Texts.{step_lines}
 use Rattle.cstn_refute.proofs.reading.read_steps.Given as goal

@@ -1,8 +1,7 @@
 use Rattle.std.proofs.Common.{ℕ, List, ◌≡◌, length, arith, sym, subst, ap, ◌∙◌}
 use Rattle.std.proofs.lemmas.Result.{IfOk-weaker, IfErr-weaker}
-use Rattle.cstn_listing.specs.Parts.{parts_at}
+use Rattle.cstn_text.specs.Parts.{parts_at}
 use Rattle.cstn_listing.specs.Listings.{at_end, told_after}
-use Rattle.cstn_listing.proofs.PartLemmas.{cut_shorter}
 use Rattle.cstn_listing.proofs.ListingLemmas.{told_last}
 use Rattle.cstn_tree.specs.Trees.{Line}
 use Rattle.cstn_tree.specs.Texts.{Told, tells, without_load, tree_lines, is_whole}
@@ -26,7 +25,7 @@ loop-line-preserved c =
     let names = c.args.names.now in
     let old = c.loop-line.reader in
     let rest = c.in-Some.rest.now in
-    let shorter = cut_shorter 10 c.loop-line.left.now c.in-Some.line.now rest (sym c.in-Some.ensures.cut) in
+    let shorter = c.in-Some.ensures.shorter in
     record {
       told = λ load.
           sym (told_cut names load (the_lines old) c.loop-line.left.now c.in-Some.line.now rest (sym c.in-Some.ensures.cut)

@@ -7,7 +7,7 @@ use Rattle.cstn_label.specs.Read.{the_bound}
 use Rattle.cstn_text.specs.PrintedNames.{printed_name}
 use Rattle.cstn_closed.specs.Texts.{shown}
 use Rattle.cstn_closed.specs.Written.{IsNamed}
-use Rattle.cstn_listing.proofs.ReadingLemmas.{name_at}
+use Rattle.cstn_listing.proofs.NameLemmas.{name_at}
 use Rattle.cstn_closed.proofs.PrintLemmas.{one_more, line_of, closed_back}
 use Rattle.cstn_closed.proofs.lists.Closed.print.Goals as goal
 

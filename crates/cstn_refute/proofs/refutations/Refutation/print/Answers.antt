@@ -8,7 +8,7 @@ use Rattle.cstn_refute.specs.Refutations.{AreSteps}
 use Rattle.cstn_refute.specs.Texts.{shown}
 use Rattle.std.proofs.lemmas.List.Elements.{All-more, All-get_or}
 use Rattle.cstn_refute.specs.Written.{ArePlaces}
-use Rattle.cstn_listing.proofs.ReadingLemmas.{name_at}
+use Rattle.cstn_listing.proofs.NameLemmas.{name_at}
 use Rattle.cstn_refute.proofs.PrintLemmas.{one_more, line_of}
 use Rattle.cstn_refute.proofs.WrittenLemmas.{refutation_back}
 use Rattle.cstn_refute.proofs.refutations.Refutation.print.Goals as goal

@@ -1,9 +1,7 @@
 -- Words, numbers, names and parts of a line, printed and read.
-use Rattle.std.proofs.Common.{ℕ, ◌≡◌, ◌≢◌, ◌<◌, ◌≤◌, ◌^◌, Bool, true, false, List, [], ◌∷◌, ◌++◌, length, get_or, arith, refl, sym, ap, ◌∙◌, map}
-use Rattle.std.specs.Prelude.{◌&&◌, nat_lt, nat_le, if◌then◌else◌, bytes_eq, Option, Some, None, String, string_bytes}
+use Rattle.std.proofs.Common.{ℕ, ◌≡◌, ◌≢◌, ◌<◌, ◌≤◌, ◌^◌, Bool, true, false, List, [], ◌∷◌, ◌++◌, length, get_or, arith, refl, sym, ap, ◌∙◌}
+use Rattle.std.specs.Prelude.{◌&&◌, nat_lt, nat_le, if◌then◌else◌, bytes_eq, Option, Some, None}
 use Rattle.std.specs.List.{All, list_all}
-use Rattle.std.specs.declared.alloc.Global.{Global}
-use Rattle.std.proofs.lemmas.List.{length-map, get_or-map}
 use Rattle.std.specs.Option.{option_and_then, option_map}
 use Rattle.std.proofs.lemmas.Bool.{and_parts}
 use Rattle.std.proofs.lemmas.Option.{same_Some}
@@ -12,14 +10,13 @@ use Rattle.std.proofs.lemmas.List.Quantifiers.{position-Some}
 use Rattle.std.proofs.lemmas.Slice.Eq.{bytes_eq-Decides}
 use Rattle.cstn_text.specs.Names.{IsName, AreNames, number_of}
 use Rattle.cstn_text.specs.Numbers.{number_read, number_within, printed_number}
-use Rattle.cstn_text.specs.Parts.{IsOnePart}
+use Rattle.cstn_text.specs.Parts.{IsOnePart, part, node_read}
 use Rattle.cstn_text.specs.PrintedNames.{name_read, printed_name}
 use Rattle.cstn_text.proofs.CutLemmas.{cut_back, cut_joined}
 use Rattle.cstn_text.proofs.NameLemmas.{found_back}
 use Rattle.cstn_text.proofs.NumberLemmas.{number_back, number_printed}
 use Rattle.cstn_text.proofs.PartLemmas.{number_part, name_part}
 use Rattle.cstn_text.proofs.PrintedNameLemmas.{name_back, name_printed}
-use Rattle.cstn_listing.specs.Parts.{part, node_read}
 
 -- ---- readings
 
@@ -110,12 +107,3 @@ spaced one other p q = All-append (λ b. b ≢ 10) one (32 ∷ other) p (space_f
 
 pub number_free : (n : ℕ) → n < 2 ^ 64 → IsFree (printed_number n)
 number_free n small = free (printed_number n) (number_part n small)
-
--- ---- printed names
-
--- a name was printed at its place
-pub name_at : (texts : List (String Global)) (names : List (List ℕ)) (i : ℕ) (d : String Global) → map string_bytes texts ≡ map printed_name names → i < length names →
-    string_bytes (get_or texts i d) ≡ printed_name (get_or names i [])
-name_at texts names i d same inside =
-    let long : length texts ≡ length names = sym (length-map texts string_bytes) ∙ ap length same ∙ length-map names printed_name in
-    sym (get_or-map string_bytes texts i d [] (omega arith)) ∙ ap (λ (ts : List (List ℕ)). get_or ts i []) same ∙ get_or-map printed_name names i [] [] inside

@@ -8,7 +8,7 @@ use Rattle.std.proofs.lemmas.List.Quantifiers.{position-Some}
 use Rattle.std.proofs.lemmas.List.Sums.{fails_before_first}
 use Rattle.std.proofs.lemmas.Grind.{common_steps}
 use Rattle.cstn_text.specs.Cuts.{cut_at}
-use Rattle.cstn_listing.specs.Parts.{Parts, begun, parts_at, joined}
+use Rattle.cstn_text.specs.Parts.{Parts, begun, parts_at, joined}
 
 cut_parts : (end : ℕ) (bs : List ℕ) (i : ℕ) → i < length bs → (get_or bs i 0 == end) ≡ true →
     ((k : ℕ) → k < i → (get_or bs k 0 == end) ≡ false) →
