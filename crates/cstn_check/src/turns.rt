@@ -15,7 +15,7 @@ ghost use Rattle.cstn_check.specs.Turns.{IsOpen, IsTaken, IsCut};
 ghost use Rattle.cstn_check.specs.Spent.{AreSpent, IsSpent, is_fresh, fresh_count};
 ghost use Rattle.cstn_check.specs.Waits.{HasBound, Waits};
 
-use crate::walks::{PROPS, next_waiting};
+use crate::walks::{Walk, next_waiting};
 use cstn_label::{Bound, Mark, NodeId};
 use cstn_log::Log;
 use cstn_net::{Constraint, Network, network_is_well_formed};
@@ -364,14 +364,13 @@ fn try_waits(net: &Network, log: &mut Log, j: u32, tries: &mut Tries) -> Result<
 {
     network_is_well_formed(net);
     let _room = log.len();
-    let mut sees = [0; PROPS];
-    let mut marking = 0;
-    let mut near = [0; PROPS];
-    let mut i = next_waiting(net, log, 0, j, &mut sees, &mut marking);
+    let mut walk = Walk::start();
+    let mut near = [0; 52];
+    let mut i = next_waiting(net, log, 0, j, &mut walk);
     while i <= j {
         match try_both(net, log, i, j, tries, &mut near) {
             Ok(true) => return Ok(true),
-            Ok(false) => i = next_waiting(net, log, i + 1, j, &mut sees, &mut marking),
+            Ok(false) => i = next_waiting(net, log, i + 1, j, &mut walk),
             Err(full) => return Err(full),
         }
     }

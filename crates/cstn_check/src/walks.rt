@@ -1,26 +1,220 @@
 // Finds the entries of which wait with a given entry has a conclusion, by the chains of the log, of the places at one
 // time-point, and by its sets, of the places whose labels mark one proposition.
-ghost use Rattle.std.specs.Prelude.{ℕ, ◌≡◌, ◌+◌, ◌<◌, ◌≤◌, length, set, slice_index_or};
+ghost use Rattle.std.specs.Prelude.{ℕ, ◌≡◌, ◌⊎◌, ◌+◌, ◌<◌, ◌≤◌, true, false, List, length, set, slice_index_or};
 ghost use Rattle.cstn_label.specs.Labels.{IsMarked};
 ghost use Rattle.cstn_label.specs.Read.{marks};
-ghost use Rattle.cstn_net.specs.Networks.{Observes, count};
+ghost use Rattle.cstn_net.specs.Networks.{Network as TheNetwork, Observes, count};
 ghost use Rattle.cstn_net.specs.Read.{the_network};
+ghost use Rattle.cstn_rules.specs.declared.entries.Entry.{Entry};
+ghost use Rattle.cstn_log.specs.Blocks.{has_number};
 ghost use Rattle.cstn_log.specs.Chains.{IsMarkedAt, IsAtNode, IsFirstLive};
 ghost use Rattle.cstn_log.specs.Entries.{the_entries};
-ghost use Rattle.cstn_check.specs.Waits.{IsWaiting, NoneSees, NoneMarks, NoneSeesEach, ArePassed};
+ghost use Rattle.cstn_check.specs.Waits.{IsWaiting, NoneSees, NoneMarks, NoneSeesEach, ArePassed, SeenIn, MarksIn, IsAhead};
 
 use cstn_label::{Bound, NodeId, Prop};
-use cstn_log::Log;
+use cstn_log::{Block, Log};
 use cstn_net::{Network, network_is_well_formed};
 
 // How many propositions there may be.
-pub const PROPS: usize = 52;
+const PROPS: usize = 52;
+
+// How many places a stretch of the list has whose partners are found together.
+const SPAN: u32 = 4096;
+
+// The places at which wait with an entry is still to be tried. Those of the next stretch of the list lie in a set, so that each
+// is found in a few steps, however many propositions are marked.
+#[derive(Drop)]
+pub struct Walk {
+    // The places of the stretch from `start` to `end`, each less `start`.
+    block: Block,
+    start: u32,
+    end: u32,
+    // Behind the stretch, the next place at the observer of each proposition, and the next whose label marks what the
+    // time-point of the entry observes.
+    sees: [u32; PROPS],
+    marking: u32,
+}
+
+impl Walk {
+    // The walk before its first place.
+    pub fn start() -> Walk
+        ensures ahead { (net : TheNetwork) (entries : List Entry) (j : ℕ)
+            → IsAhead net entries j 0 result.block result.start result.end result.sees result.marking }
+    {
+        Walk {
+            block: Block::empty(),
+            start: 0,
+            end: 0,
+            sees: [0; PROPS],
+            marking: 0,
+        }
+    }
+}
 
 // The next place from `from` up to `j` at which to try wait with the entry at `j`, in both orders: the places between have no
-// wait with a conclusion. It is `j + 1` where none is left, or the entry at `j` is dead. `sees` keeps the next place at the
-// observer of each proposition, and `marking` the next place whose label marks what the time-point of the entry at `j`
-// observes, so that a walk goes on only once `from` is past that place.
-pub fn next_waiting(
+// wait with a conclusion. It is `j + 1` where none is left.
+pub fn next_waiting(net: &Network, log: &mut Log, from: u32, j: u32, walk: &mut Walk) -> u32
+    requires nodes { log.old.nodes ≡ count (the_network net.now) }
+    requires place { j < length log.old.entries }
+    requires ahead { IsAhead (the_network net.now) log.old.entries j from walk.old.block walk.old.start walk.old.end walk.old.sees walk.old.marking }
+    ensures upto { (from ≤ result) × (result ≤ j + 1) }
+    ensures none { (k : ℕ) → from ≤ k → k < result → IsWaiting (the_network net.now) log.old.entries k j → ⊥ }
+    ensures ahead { result ≤ j → IsAhead (the_network net.now) log.old.entries j (result + 1) walk.new.block walk.new.start walk.new.end walk.new.sees walk.new.marking }
+    ensures stays { log.new ≡ log.old }
+{
+    match walk.block.take_first() {
+        Some(number) => walk.start + number,
+        None => next_behind(net, log, j, walk),
+    }
+}
+
+// The next place behind the stretch, whose set has no place left; the places of the stretch behind it are put into the set.
+fn next_behind(net: &Network, log: &mut Log, j: u32, walk: &mut Walk) -> u32
+    requires nodes { log.old.nodes ≡ count (the_network net.now) }
+    requires place { j < length log.old.entries }
+    requires upto { walk.old.end ≤ j + 1 }
+    requires size { length walk.old.sees ≡ 52 }
+    requires empty { (n : ℕ) → has_number walk.old.block n ≡ false }
+    requires passed { ArePassed (the_network net.now) (the_entries log.old.entries) j walk.old.end walk.old.sees walk.old.marking }
+    ensures upto { (walk.old.end ≤ result) × (result ≤ j + 1) }
+    ensures none { (k : ℕ) → walk.old.end ≤ k → k < result → IsWaiting (the_network net.now) log.old.entries k j → ⊥ }
+    ensures ahead { result ≤ j → IsAhead (the_network net.now) log.old.entries j (result + 1) walk.new.block walk.new.start walk.new.end walk.new.sees walk.new.marking }
+    ensures stays { log.new ≡ log.old }
+{
+    let place = next_place(net, log, walk.end, j, &mut walk.sees, &mut walk.marking);
+    if place <= j {
+        fill(net, log, place, j, walk);
+    }
+    place
+}
+
+// Puts the places of the stretch behind `place` at which wait with the entry at `j` may have a conclusion into the empty set.
+fn fill(net: &Network, log: &mut Log, place: u32, j: u32, walk: &mut Walk)
+    requires nodes { log.old.nodes ≡ count (the_network net.now) }
+    requires place { j < length log.old.entries }
+    requires upto { place ≤ j }
+    requires size { length walk.old.sees ≡ 52 }
+    requires empty { (n : ℕ) → has_number walk.old.block n ≡ false }
+    requires passed { ArePassed (the_network net.now) (the_entries log.old.entries) j place walk.old.sees walk.old.marking }
+    ensures ahead { IsAhead (the_network net.now) log.old.entries j (place + 1) walk.new.block walk.new.start walk.new.end walk.new.sees walk.new.marking }
+    ensures stays { log.new ≡ log.old }
+{
+    let _room = log.len();
+    let b = log.bound(j);
+    let start = place + 1;
+    let end = least(start + SPAN, j + 1);
+    walk.start = start;
+    walk.end = end;
+    walk.marking = gather_marking(
+        net,
+        log,
+        b.node,
+        start,
+        end,
+        j,
+        walk.marking,
+        &mut walk.block,
+    );
+    gather_seen(net, log, &b, start, end, j, &mut walk.sees, &mut walk.block);
+}
+
+// Puts the live places from `start` on, below `end`, whose label marks what the time-point observes into the set, each less
+// `start`, and answers the next such place. `next` is the one that was found before.
+fn gather_marking(
+    net: &Network,
+    log: &mut Log,
+    x: NodeId,
+    start: u32,
+    end: u32,
+    j: u32,
+    next: u32,
+    block: &mut Block,
+) -> u32
+    requires node { x.0 < count (the_network net.now) }
+    requires place { j < length log.old.entries }
+    requires upto { (start ≤ end) × (end ≤ j + 1) × (end ≤ start + 4096) }
+    requires passed { NoneMarks (the_network net.now) (the_entries log.old.entries) x.0 j start next }
+    ensures gathered { MarksIn (the_network net.now) (the_entries log.old.entries) x.0 j start end block.new }
+    ensures passed { NoneMarks (the_network net.now) (the_entries log.old.entries) x.0 j end result }
+    ensures grows { (n : ℕ) → has_number block.old n ≡ true → has_number block.new n ≡ true }
+    ensures within { (n : ℕ) → has_number block.new n ≡ true → (has_number block.old n ≡ true) ⊎ (start + n < end) }
+    ensures stays { log.new ≡ log.old }
+{
+    let mut place = next_marking(net, log, x, start, j, next);
+    while place < end {
+        block.insert(place - start);
+        place = next_marking(net, log, x, place + 1, j, place);
+    }
+    place
+}
+
+// Puts the live places from `start` on, below `end`, at the observers of what the label of the bound marks into the set, each
+// less `start`, and keeps the next place of each proposition.
+fn gather_seen(
+    net: &Network,
+    log: &mut Log,
+    b: &Bound,
+    start: u32,
+    end: u32,
+    j: u32,
+    places: &mut [u32],
+    block: &mut Block,
+)
+    requires nodes { log.old.nodes ≡ count (the_network net.now) }
+    requires place { j < length log.old.entries }
+    requires upto { (start ≤ end) × (end ≤ j + 1) × (end ≤ start + 4096) }
+    requires size { length places.old ≡ 52 }
+    requires passed { NoneSeesEach (the_network net.now) (the_entries log.old.entries) (marks b.now.label) j start places.old }
+    ensures gathered { (p : ℕ) → IsMarked (marks b.now.label) p → SeenIn (the_network net.now) (the_entries log.old.entries) p j start end block.new }
+    ensures passed { NoneSeesEach (the_network net.now) (the_entries log.old.entries) (marks b.now.label) j end places.new }
+    ensures size { length places.new ≡ 52 }
+    ensures grows { (n : ℕ) → has_number block.old n ≡ true → has_number block.new n ≡ true }
+    ensures within { (n : ℕ) → has_number block.new n ≡ true → (has_number block.old n ≡ true) ⊎ (start + n < end) }
+    ensures stays { log.new ≡ log.old }
+{
+    let mut index = 0;
+    while let Some(p) = b.label.first_marked_from(index) {
+        let place = gather_at_observer(net, log, p, start, end, j, place_of(places, p), block);
+        set_place(places, p, place);
+        index = p.index + 1;
+    }
+}
+
+// Puts the live places from `start` on, below `end`, at the observer of p into the set, each less `start`, and answers the next
+// such place. `next` is the one that was found before.
+fn gather_at_observer(
+    net: &Network,
+    log: &mut Log,
+    p: Prop,
+    start: u32,
+    end: u32,
+    j: u32,
+    next: u32,
+    block: &mut Block,
+) -> u32
+    requires nodes { log.old.nodes ≡ count (the_network net.now) }
+    requires place { j < length log.old.entries }
+    requires upto { (start ≤ end) × (end ≤ j + 1) × (end ≤ start + 4096) }
+    requires passed { NoneSees (the_network net.now) (the_entries log.old.entries) p.index j start next }
+    ensures gathered { SeenIn (the_network net.now) (the_entries log.old.entries) p.index j start end block.new }
+    ensures passed { NoneSees (the_network net.now) (the_entries log.old.entries) p.index j end result }
+    ensures grows { (n : ℕ) → has_number block.old n ≡ true → has_number block.new n ≡ true }
+    ensures within { (n : ℕ) → has_number block.new n ≡ true → (has_number block.old n ≡ true) ⊎ (start + n < end) }
+    ensures stays { log.new ≡ log.old }
+{
+    let mut place = next_at_observer(net, log, p, start, j, next);
+    while place < end {
+        block.insert(place - start);
+        place = next_at_observer(net, log, p, place + 1, j, place);
+    }
+    place
+}
+
+// The next place from `from` up to `j` at which to try wait with the entry at `j`, found in the chains and sets of the log: the
+// places between have no wait with a conclusion. It is `j + 1` where none is left, or the entry at `j` is dead. `sees` keeps
+// the next place at the observer of each proposition, and `marking` the next place whose label marks what the time-point of
+// the entry at `j` observes, so that a walk goes on only once `from` is past that place.
+fn next_place(
     net: &Network,
     log: &mut Log,
     from: u32,

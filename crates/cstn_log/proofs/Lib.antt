@@ -1,5 +1,6 @@
 pub mod ChainLemmas
 pub mod BitLemmas
+mod BlockLemmas
 pub mod MarkSetLemmas
 pub mod NodeChainLemmas
 pub mod ListLemmas

@@ -1,6 +1,5 @@
 // Chains of places through a list of entries, which grow with the list. Places of dead entries may be left out.
 ghost use Rattle.std.specs.Prelude.{ℕ, ◌≡◌, ◌+◌, ◌*◌, ◌/◌, ◌<◌, ◌≤◌, ◌++◌, ◌∷◌, [], List, Some, length, slice_get, slice_index_or, vec_capacity, IfOk};
-ghost use Rattle.std.specs.Prelude.{IsTrue, ◌↔◌};
 ghost use Rattle.cstn_rules.specs.declared.entries.Entry.{Entry as TheEntry};
 ghost use Rattle.cstn_log.specs.Entries.{IsLive};
 ghost use Rattle.cstn_log.specs.Chains.{AreNodeChains, IsAtNode, IsNext, IsBehind, node_cell, node_link};
@@ -14,13 +13,6 @@ use std::alloc::{AllocError, Global};
 
 // What stands for no place.
 pub const NO_PLACE: u32 = 4_294_967_295;
-
-// Whether the entry is at the time-point.
-pub fn is_at(e: Entry, x: NodeId) -> bool
-    ensures { IsTrue result ↔ (e.bound.node.0 ≡ x.0) }
-{
-    e.bound.node == x
-}
 
 // For each time-point the chain of the places at it, in order.
 #[derive(Drop)]

@@ -2,6 +2,7 @@
 //! bounds to which the rules add nothing.
 #![tactic(auto)]
 
+mod blocks;
 mod chains;
 mod cuts;
 mod cutting;
@@ -12,6 +13,7 @@ mod plans;
 mod putting;
 mod sets;
 
+pub use blocks::Block;
 pub use cuts::{
     cuts_are_derivations, cuts_are_known, dropping_leaves_derivations, parts_are_derivations,
 };

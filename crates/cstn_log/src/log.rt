@@ -14,7 +14,7 @@ ghost use Rattle.cstn_log.specs.Cuts.{PremisesBelow, is_marked as is_marked_at, 
 ghost use Rattle.cstn_log.specs.Kept.{IsIdAt};
 ghost use Rattle.cstn_log.specs.Chains.{IsFirstLive, IsNext, IsBehind, IsMarkedAt, IsAtNode};
 
-use crate::chains::{NO_PLACE, NodeChains, append_all, is_at};
+use crate::chains::{NO_PLACE, NodeChains, append_all};
 use crate::cutting::{count_marked, cut, mark_ancestors, mark_staying};
 use crate::list::EntryList;
 use crate::putting::{clear, give_rest, place_all};
@@ -399,7 +399,7 @@ impl Log {
         if near >= from {
             return 0;
         }
-        if !is_at(self.entry(near), x) {
+        if self.bound(near).node != x {
             return 0;
         }
         near + 1

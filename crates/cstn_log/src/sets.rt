@@ -11,7 +11,7 @@ use cstn_rules::Entry;
 use std::alloc::{AllocError, Global};
 
 // How many places a word has a bit for.
-const BITS: u32 = 64;
+pub const BITS: u32 = 64;
 
 // How many words a row has, one for each proposition.
 const ROW: usize = 52;
@@ -139,7 +139,7 @@ impl MarkSets {
 }
 
 // The word with bit i set where `on` is true, and clear where it is false.
-fn with_bit(word: u64, i: u32, on: bool) -> u64
+pub fn with_bit(word: u64, i: u32, on: bool) -> u64
     requires { i < 64 }
     ensures here { has_bit result i ≡ on }
     ensures others { (k : ℕ) → k < 64 → (k ≡ i → ⊥) → has_bit result k ≡ has_bit word k }
@@ -148,7 +148,7 @@ fn with_bit(word: u64, i: u32, on: bool) -> u64
 }
 
 // The least bit at i or above that is set; none where none is.
-fn first_bit_from(word: u64, i: u32) -> Option<u32>
+pub fn first_bit_from(word: u64, i: u32) -> Option<u32>
     requires { i < 64 }
     ensures set { IfSome result (λ k. has_bit word k ≡ true) }
     ensures from { IfSome result (λ k. i ≤ k) }

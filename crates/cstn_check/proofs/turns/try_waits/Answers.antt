@@ -10,7 +10,7 @@ use Rattle.cstn_check.specs.Tries.{concludes_with}
 use Rattle.cstn_check.proofs.TryLemmas.{total_upto, pairs_step, taken_on, size_is}
 use Rattle.std.proofs.lemmas.List.{get_or-replicate}
 use Rattle.cstn_check.proofs.Lists.{extends_itself}
-use Rattle.cstn_check.proofs.WalkLemmas.{passed_on, none_yet}
+use Rattle.cstn_check.proofs.WalkLemmas.{ahead_on}
 use Rattle.cstn_check.proofs.turns.try_waits.Goals as goal
 
 pub loop-i-init : goal.loop-i-init
@@ -23,10 +23,8 @@ loop-i-init c = record {
   tries = omega arith;
   most = omega arith;
   concluding = omega arith;
-  size = c.next_waiting-i.ensures.size;
   near = refl;
-  passed = rw c.next_waiting-i.ensures.stays (passed_on (the_network c.args.net.now) (the_entries c.args.log.now.entries) (the_entries c.args.log.now.entries) c.args.j 0 c.next_waiting-i.result _ _
-      (extends_itself (the_entries c.args.log.now.entries)) (omega (arith, c.requires.place, size_is c.args.log.now)) c.next_waiting-i.ensures.upto.0 c.next_waiting-i.ensures.passed);
+  ahead = λ upto. rw c.next_waiting-i.ensures.stays (c.next_waiting-i.ensures.ahead upto);
 }
 
 pub try_both-requires-clause-first : goal.try_both-requires-clause-first
@@ -69,11 +67,8 @@ loop-i-preserved c =
       upto = next.ensures.upto.1;
       tries = omega (arith, c.loop-i.invariant.tries, c.in-Ok-false.ensures.tries);
       most = omega (arith, c.loop-i.invariant.most, c.in-Ok-false.ensures.most, next.ensures.upto.0);
-      size = next.ensures.size;
       near = c.in-Ok-false.ensures.size;
-      passed = rw next.ensures.stays (passed_on (the_network c.args.net.now) (the_entries c.try_both.new.log.entries) (the_entries c.try_both.new.log.entries) c.args.j (c.loop-i.i + 1) next.result _ _
-          (extends_itself (the_entries c.try_both.new.log.entries)) (omega (arith, c.requires.place, c.loop-i.invariant.taken.longer.longer, c.in-Ok-false.ensures.taken.longer.longer, size_is c.try_both.new.log))
-          next.ensures.upto.0 next.ensures.passed);
+      ahead = λ upto. rw next.ensures.stays (next.ensures.ahead upto);
       concluding = pairs_step (the_network c.args.net.now) c.args.log.now c.loop-i.log c.args.j c.loop-i.i next.result (waits_below c.loop-i.i c.args.j) c.args.tries.now.count c.loop-i.tries.count c.try_both.new.tries.count c.loop-i.invariant.taken c.requires.place
           (omega (arith, c.requires.place, c.loop-i-test.true)) c.loop-i.invariant.concluding c.in-Ok-false.ensures.concluding next.ensures.upto.0;
     }
@@ -92,12 +87,11 @@ pub returns-clause-concluding : goal.returns-clause-concluding
 returns-clause-concluding c =
     omega (arith, c.loop-i.invariant.concluding, total_upto (concludes_with (the_network c.args.net.now) (the_entries c.args.log.now.entries) c.args.j) c.loop-i.i (suc c.args.j) (omega (arith, c.loop-i.invariant.upto)))
 
-pub next_waiting-i-requires-clause-passed : goal.next_waiting-i-requires-clause-passed
-next_waiting-i-requires-clause-passed c =
-    none_yet (the_network c.args.net.now) (the_entries c.args.log.now.entries) c.args.j _ (λ p small. get_or-replicate 52 p 0 0 small)
+pub next_waiting-i-requires-clause-ahead : goal.next_waiting-i-requires-clause-ahead
+next_waiting-i-requires-clause-ahead c = c.start-walk.ensures.ahead (the_network c.args.net.now) c.args.log.now.entries c.args.j
 
-pub next_waiting-i-requires-in-Ok-false-clause-passed : goal.next_waiting-i-requires-in-Ok-false-clause-passed
-next_waiting-i-requires-in-Ok-false-clause-passed c =
-    passed_on (the_network c.args.net.now) (the_entries c.loop-i.log.entries) (the_entries c.try_both.new.log.entries) c.args.j c.loop-i.i (c.loop-i.i + 1) c.loop-i.sees c.loop-i.marking
+pub next_waiting-i-requires-in-Ok-false-clause-ahead : goal.next_waiting-i-requires-in-Ok-false-clause-ahead
+next_waiting-i-requires-in-Ok-false-clause-ahead c =
+    ahead_on (the_network c.args.net.now) c.loop-i.log.entries c.try_both.new.log.entries c.args.j (c.loop-i.i + 1) _ _ _ _ _
     (taken_on (the_network c.args.net.now) c.loop-i.log c.try_both.new.log (wait_at c.loop-i.i c.args.j ∷ (wait_at c.args.j c.loop-i.i ∷ [])) _ c.in-Ok-false.ensures.taken)
-    (omega (arith, c.requires.place, c.loop-i.invariant.taken.longer.longer, size_is c.loop-i.log)) (omega arith) c.loop-i.invariant.passed
+    (omega (arith, c.requires.place, c.loop-i.invariant.taken.longer.longer)) (c.loop-i.invariant.ahead c.loop-i-test.true)
