@@ -7,9 +7,7 @@ use Rattle.cstn_check.proofs.Sequences.{taken_as, go_on, go_true, go_cut, waits_
 use Rattle.cstn_check.proofs.Skips.{waits_to}
 use Rattle.cstn_log.specs.Entries.{the_entries}
 use Rattle.cstn_check.specs.Tries.{concludes_with}
-use Rattle.cstn_check.proofs.TryLemmas.{total_upto, pairs_step, taken_on, size_is}
-use Rattle.std.proofs.lemmas.List.{get_or-replicate}
-use Rattle.cstn_check.proofs.Lists.{extends_itself}
+use Rattle.cstn_check.proofs.TryLemmas.{total_upto, pairs_step, taken_on}
 use Rattle.cstn_check.proofs.WalkLemmas.{ahead_on}
 use Rattle.cstn_check.proofs.turns.try_waits.Goals as goal
 

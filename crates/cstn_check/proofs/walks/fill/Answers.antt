@@ -1,6 +1,5 @@
-use Rattle.std.proofs.Common.{inl, inr, ◌≡◌, ◌+◌, ◌≤◌, arith, sym, subst, ◌∙◌}
+use Rattle.std.proofs.Common.{inl, inr, ◌+◌, arith, sym, subst, ◌∙◌}
 use Rattle.std.proofs.lemmas.Bool.{false≢true}
-use Rattle.cstn_label.specs.Read.{marks}
 use Rattle.cstn_net.specs.Read.{the_network}
 use Rattle.cstn_rules.specs.Derivations.{Entry as TheEntry}
 use Rattle.cstn_rules.specs.declared.entries.Entry.{Entry}

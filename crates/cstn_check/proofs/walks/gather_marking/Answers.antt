@@ -1,4 +1,4 @@
-use Rattle.std.proofs.Common.{◌≡◌, inl, inr, ◌+◌, ◌-◌, arith, sym, ap, subst, ◌∙◌}
+use Rattle.std.proofs.Common.{inl, inr, ◌+◌, ◌-◌, arith, ◌∙◌}
 use Rattle.cstn_net.specs.Read.{the_network}
 use Rattle.cstn_log.specs.Entries.{the_entries}
 use Rattle.cstn_check.proofs.WalkLemmas.{marks_later, none_marks_between, marks_in_none, marks_in_grown, marks_in_more, number_stays, number_was}

@@ -4,7 +4,7 @@ use Rattle.cstn_label.specs.Read.{marks}
 use Rattle.cstn_net.specs.Read.{the_network}
 use Rattle.cstn_log.specs.Blocks.{has_number}
 use Rattle.cstn_log.specs.Entries.{the_entries}
-use Rattle.cstn_check.specs.Waits.{NoneSees, NoneSeesEach, SeenIn}
+use Rattle.cstn_check.specs.Waits.{NoneSees, SeenIn}
 use Rattle.cstn_check.proofs.walks.gather_seen.Given as goal
 
 abbrev pub invariant-loop-p : goal.invariant-loop-p
