@@ -15,7 +15,7 @@ ghost use Rattle.cstn_check.specs.Turns.{IsOpen, IsTaken, IsCut};
 ghost use Rattle.cstn_check.specs.Spent.{AreSpent, IsSpent, is_fresh, fresh_count};
 ghost use Rattle.cstn_check.specs.Waits.{HasBound, Waits};
 
-use crate::walks::{Walk, next_waiting};
+use crate::walks::{Walk, may_wait, next_waiting};
 use cstn_label::{Bound, Mark, NodeId};
 use cstn_log::Log;
 use cstn_net::{Constraint, Network, network_is_well_formed};
@@ -258,7 +258,7 @@ fn try_chains(
     ensures most_fresh { j < old → tries.new.count ≤ tries.old.count + fresh_count fresh.now (the_network net.now).constraints }
 {
     network_is_well_formed(net);
-    let x = log.entry(j).bound.node;
+    let x = log.bound(j).node;
     let mut place = first_ending(net, x);
     while place < constraint_count(net) {
         match try_fresh(net, log, fresh, old, constraint_at(net, place), j, tries) {
@@ -363,6 +363,9 @@ fn try_waits(net: &Network, log: &mut Log, j: u32, tries: &mut Tries) -> Result<
     ensures concluding { tries.new.count ≤ tries.old.count + concludes_upto (the_network net.now) (the_entries log.old.entries) j }
 {
     network_is_well_formed(net);
+    if !may_wait(net, log, j) {
+        return Ok(false);
+    }
     let _room = log.len();
     let mut walk = Walk::start();
     let mut near = [0; 52];

@@ -21,6 +21,22 @@ const PROPS: usize = 52;
 // How many places a stretch of the list has whose partners are found together.
 const SPAN: u32 = 4096;
 
+// Whether wait with the entry at `j` may have a conclusion: its label marks something, or its time-point observes something.
+pub fn may_wait(net: &Network, log: &Log, j: u32) -> bool
+    requires nodes { log.now.nodes ≡ count (the_network net.now) }
+    requires place { j < length log.now.entries }
+    ensures none { result ≡ false → (k : ℕ) → IsWaiting (the_network net.now) log.now.entries k j → ⊥ }
+{
+    let b = log.bound(j);
+    let None = net.observes(b.node) else {
+        return true;
+    };
+    match b.label.first_marked_from(0) {
+        Some(_) => true,
+        None => false,
+    }
+}
+
 // The places at which wait with an entry is still to be tried. Those of the next stretch of the list lie in a set, so that each
 // is found in a few steps, however many propositions are marked.
 #[derive(Drop)]

@@ -14,25 +14,27 @@ use Rattle.cstn_check.proofs.ChainSkips.{chains_to}
 use Rattle.cstn_check.proofs.Reading.{entry_at}
 use Rattle.cstn_check.proofs.Sequences.{taken_as, go_on, go_true, go_cut, chains_next, chains_whole}
 use Rattle.cstn_check.proofs.SpentLemmas.{spent_after, count_step, count_upto, count_whole}
-use Rattle.cstn_check.proofs.TurnLemmas.{idle}
+use Rattle.cstn_check.proofs.TurnLemmas.{idle, entry_with}
 use Rattle.cstn_check.proofs.turns.try_chains.Goals as goal
 
 pub loop-place-init : goal.loop-place-init
-loop-place-init c = record {
-  taken = chains_to (the_network c.args.net.now) c.args.log.now c.args.log.now c.args.net.now.constraints c.args.j 0 c.first_ending-place.result
-      (the_entry c.entry.result) (omega arith) c.first_ending-place.ensures.upto
-      (entry_at c.args.log.now.entries c.args.j c.entry.result c.entry.ensures.entry)
-      (λ k low high inside same. c.first_ending-place.ensures.none k high inside same)
-      (idle (the_network c.args.net.now) c.args.log.now _ c.requires.ready refl);
-  ready = c.requires.ready;
-  upto = c.first_ending-place.ensures.upto;
-  here = λ e there h. c.first_ending-place.ensures.here h
-      ∙ ap (λ (y : Entry). y.bound.node.0) (one_there c.args.log.now.entries c.args.j c.entry.result e c.entry.ensures.entry there);
-  tries = omega arith;
-  most = omega arith;
-  most_fresh = λ low. omega arith;
-  spent = c.requires.spent;
-}
+loop-place-init c =
+    let e : Entry = record { bound = c.bound.result; why = c.bound.ensures.bound.entry.why } in
+    let is = entry_with c.args.log.now.entries c.args.j c.bound.result c.bound.ensures.bound in
+    record {
+      taken = chains_to (the_network c.args.net.now) c.args.log.now c.args.log.now c.args.net.now.constraints c.args.j 0 c.first_ending-place.result
+          (the_entry e) (omega arith) c.first_ending-place.ensures.upto (entry_at c.args.log.now.entries c.args.j e is)
+          (λ k low high inside same. c.first_ending-place.ensures.none k high inside same)
+          (idle (the_network c.args.net.now) c.args.log.now _ c.requires.ready refl);
+      ready = c.requires.ready;
+      upto = c.first_ending-place.ensures.upto;
+      here = λ f there h. c.first_ending-place.ensures.here h
+          ∙ ap (λ (y : Entry). y.bound.node.0) (one_there c.args.log.now.entries c.args.j e f is there);
+      tries = omega arith;
+      most = omega arith;
+      most_fresh = λ low. omega arith;
+      spent = c.requires.spent;
+    }
 
 pub try_fresh-requires-clause-spent : goal.try_fresh-requires-clause-spent
 try_fresh-requires-clause-spent c = c.loop-place.invariant.spent
@@ -57,14 +59,16 @@ returns-in-Err-clause-cut c = λ is.
 
 pub loop-place-preserved : goal.loop-place-preserved
 loop-place-preserved c =
+    let e : Entry = record { bound = c.bound.result; why = c.bound.ensures.bound.entry.why } in
+    let is = entry_with c.args.log.now.entries c.args.j c.bound.result c.bound.ensures.bound in
     let inv = c.loop-place.invariant in
     let inside = c.loop-place-test.true in
     let next = c.next_ending-place.ensures in
     record {
       taken = chains_to (the_network c.args.net.now) c.args.log.now c.try_fresh.new.log c.args.net.now.constraints c.args.j (c.loop-place.place + 1) c.next_ending-place.result
-          (the_entry c.entry.result) next.upto.0 next.upto.1
-          (entry_at c.args.log.now.entries c.args.j c.entry.result c.entry.ensures.entry)
-          (λ k low high within same. next.none k low high within (same ∙ sym (inv.here c.entry.result c.entry.ensures.entry (omega (arith, inside, c.constraint_count.ensures)))))
+          (the_entry e) next.upto.0 next.upto.1
+          (entry_at c.args.log.now.entries c.args.j e is)
+          (λ k low high within same. next.none k low high within (same ∙ sym (inv.here e is (omega (arith, inside, c.constraint_count.ensures)))))
           (go_on (the_network c.args.net.now) c.args.log.now c.loop-place.log c.try_fresh.new.log
           (chains_at (map the_constraint (take c.loop-place.place c.args.net.now.constraints)) c.args.j)
           (chain_at (the_constraint c.constraint_at.result.now) c.args.j ∷ []) inv.taken (chains_at (map the_constraint (take (c.loop-place.place + 1) c.args.net.now.constraints)) c.args.j)

@@ -93,3 +93,9 @@ next_waiting-i-requires-in-Ok-false-clause-ahead c =
     ahead_on (the_network c.args.net.now) c.loop-i.log.entries c.try_both.new.log.entries c.args.j (c.loop-i.i + 1) _ _ _ _ _
     (taken_on (the_network c.args.net.now) c.loop-i.log c.try_both.new.log (wait_at c.loop-i.i c.args.j ∷ (wait_at c.args.j c.loop-i.i ∷ [])) _ c.in-Ok-false.ensures.taken)
     (omega (arith, c.requires.place, c.loop-i.invariant.taken.longer.longer)) (c.loop-i.invariant.ahead c.loop-i-test.true)
+
+pub returns-then-not-may_wait-clause-taken : goal.returns-then-not-may_wait-clause-taken
+returns-then-not-may_wait-clause-taken c =
+    waits_to (the_network c.args.net.now) c.args.log.now c.args.log.now c.args.j 0 (c.args.j + 1) c.network_is_well_formed.ensures
+    c.requires.ready c.requires.place (omega arith) (omega arith)
+    (λ k low high. c.may_wait.ensures.none c.if-not-may_wait.true k) (idle (the_network c.args.net.now) c.args.log.now _ c.requires.ready refl)
