@@ -75,7 +75,8 @@ pub fn next_waiting(net: &Network, log: &mut Log, from: u32, j: u32, walk: &mut 
     requires ahead { IsAhead (the_network net.now) log.old.entries j from walk.old.block walk.old.start walk.old.end walk.old.sees walk.old.marking }
     ensures upto { (from ≤ result) × (result ≤ j + 1) }
     ensures none { (k : ℕ) → from ≤ k → k < result → IsWaiting (the_network net.now) log.old.entries k j → ⊥ }
-    ensures ahead { result ≤ j → IsAhead (the_network net.now) log.old.entries j (result + 1) walk.new.block walk.new.start walk.new.end walk.new.sees walk.new.marking }
+    ensures ahead { result ≤ j
+        → IsAhead (the_network net.now) log.old.entries j (result + 1) walk.new.block walk.new.start walk.new.end walk.new.sees walk.new.marking }
     ensures stays { log.new ≡ log.old }
 {
     match walk.block.take_first() {
@@ -94,7 +95,8 @@ fn next_behind(net: &Network, log: &mut Log, j: u32, walk: &mut Walk) -> u32
     requires passed { ArePassed (the_network net.now) (the_entries log.old.entries) j walk.old.end walk.old.sees walk.old.marking }
     ensures upto { (walk.old.end ≤ result) × (result ≤ j + 1) }
     ensures none { (k : ℕ) → walk.old.end ≤ k → k < result → IsWaiting (the_network net.now) log.old.entries k j → ⊥ }
-    ensures ahead { result ≤ j → IsAhead (the_network net.now) log.old.entries j (result + 1) walk.new.block walk.new.start walk.new.end walk.new.sees walk.new.marking }
+    ensures ahead { result ≤ j
+        → IsAhead (the_network net.now) log.old.entries j (result + 1) walk.new.block walk.new.start walk.new.end walk.new.sees walk.new.marking }
     ensures stays { log.new ≡ log.old }
 {
     let place = next_place(net, log, walk.end, j, &mut walk.sees, &mut walk.marking);
