@@ -52,12 +52,20 @@ module _ (m : Labelled) (cs : List Constraint) where
       ap (λ (f : ℕ → List Constraint). flat_map f (range_with_len 0 (count m.base))) (fun_ext (λ x. guards_same x _))
       ∙ ap (λ (f : Label → Label). all_guards m.base (map f m.labels)) (fun_ext completed_same)
 
+  -- the constraints with plain full labels, and the lowered network
+  pub these_full : full_constraints E ≡ full_of m cs
+  these_full = ap (λ (f : Constraint → Option Constraint). filter_map f cs) (fun_ext full_same)
+
+  pub these_lowered : lowered E ≡ record m.base { constraints = numbered 0 (full_of m cs ++ guards m) }
+  these_lowered =
+      ap (λ l. record m.base { constraints = numbered 0 (l ++ guards E) }) these_full
+      ∙ ap (λ l. record m.base { constraints = numbered 0 (full_of m cs ++ l) }) all_same
+
   -- how many constraints the lowered network has
   pub these_long : length (lowered E).constraints ≡ length (full_of m cs) + length (guards m)
   these_long =
-      let full : full_constraints E ≡ full_of m cs = ap (λ (f : Constraint → Option Constraint). filter_map f cs) (fun_ext full_same) in
       numbered_length 0 (full_constraints E ++ guards E) ∙ length-append (full_constraints E) (guards E)
-      ∙ ap (λ l. length l + length (guards E)) full ∙ ap (λ l. length (full_of m cs) + length l) all_same
+      ∙ ap (λ l. length l + length (guards E)) these_full ∙ ap (λ l. length (full_of m cs) + length l) all_same
 
 -- ---- what is left
 

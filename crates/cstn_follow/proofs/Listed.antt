@@ -2,7 +2,7 @@
 use Rattle.std.proofs.Common.{ℕ, ◌≡◌, ◌+◌, ◌<◌, List, [], ◌∷◌, ◌++◌, length, take, map, sym, ap, ◌∙◌}
 use Rattle.std.specs.Prelude.{slice_index_or}
 use Rattle.std.specs.List.{flat_map}
-use Rattle.std.proofs.lemmas.List.{take_more, map-append, append_assoc, append-nil}
+use Rattle.std.proofs.lemmas.List.{take_more, map-append, append_assoc, append-nil, flat_map_more}
 use Rattle.std.proofs.lemmas.Grind.{flat_map-append}
 use Rattle.cstn_label.specs.Letters.{letter_of}
 use Rattle.cstn_label.specs.declared.nodes.NodeId.{NodeId}
@@ -19,6 +19,13 @@ letters_turn ps old before new i p inside is so_far news =
     ∙ ap (λ l. old ++ l) (sym (map-append letter_of first (p.index ∷ [])))
     ∙ ap (λ l. old ++ map letter_of l) (sym (map-append index (take i ps) (p ∷ [])))
     ∙ ap (λ l. old ++ map letter_of (map index l)) (ap (λ e. take i ps ++ e ∷ []) is ∙ sym (take_more ps i p inside))
+
+-- the next of numbers
+pub numbers_turn : (f : ℕ → List ℕ) (xs old before new : List ℕ) (i d : ℕ) → i < length xs → before ≡ old ++ flat_map f (take i xs)
+    → new ≡ before ++ f (slice_index_or xs i d) → new ≡ old ++ flat_map f (take (i + 1) xs)
+numbers_turn f xs old before new i d inside so_far news =
+    news ∙ ap (λ l. l ++ f (slice_index_or xs i d)) so_far ∙ flat_map_more f old (take i xs) (slice_index_or xs i d)
+    ∙ ap (λ l. old ++ flat_map f l) (sym (take_more xs i d inside))
 
 -- the next name
 pub names_turn : (f : ℕ → List ℕ) (xs : List NodeId) (old before new : List ℕ) (i : ℕ) (x : NodeId) → i < length xs → x ≡ slice_index_or xs i x

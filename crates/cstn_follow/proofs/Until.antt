@@ -1,6 +1,6 @@
 -- Until when a time-point can wait is found by halving.
 use Rattle.std.proofs.Common.{ℕ, zero, suc, ◌≡◌, inl, inr, ◌+◌, ◌-◌, ◌*◌, ◌^◌, ◌<◌, ◌≤◌, Bool, true, false, List, [], ◌∷◌, ◌++◌, Option, Some, None, length, arith, refl, sym, subst, ap, ◌∙◌}
-use Rattle.std.specs.Prelude.{◌↔◌, ◌/◌, nat_lt, pos, ◌-ℤ◌, if◌then◌else◌}
+use Rattle.std.specs.Prelude.{◌↔◌, ◌/◌, map, nat_lt, pos, ◌-ℤ◌, if◌then◌else◌}
 use Rattle.std.specs.List.{All, filter_map}
 use Rattle.std.proofs.Math.Nat.{mul-div-le, two-pow-succ}
 use Rattle.std.proofs.lemmas.Nat.{le-div}
@@ -8,10 +8,12 @@ use Rattle.std.proofs.lemmas.Int.{ints}
 use Rattle.std.proofs.lemmas.Bool.{cases_Bool, cases_lt}
 use Rattle.std.proofs.lemmas.List.{length-append}
 use Rattle.std.proofs.lemmas.List.Quantifiers.{all_pairs_push}
-use Rattle.std.proofs.lemmas.List.Elements.{All-weaker, All-append, All-cons, filter_map-append}
+use Rattle.std.proofs.lemmas.List.Elements.{All-weaker, All-append, All-cons, All-head, All-tail, filter_map-append}
 use Rattle.cstn_label.specs.Labels.{Label, Scenario, MarkFits, IsPlain, empty, joined}
 use Rattle.cstn_label.proofs.LabelLemmas.{made_true, made_holds, joined_empty}
 use Rattle.cstn_net.specs.Networks.{Network, Constraint, IsConstraint, IsWellFormed, IsValue, count, limit}
+use Rattle.cstn_net.specs.Read.{the_constraint}
+use Rattle.cstn_net.specs.declared.constraints.Constraint.{Constraint as ReadConstraint}
 use Rattle.cstn_lift.specs.Labelled.{Labelled, label_of}
 use Rattle.cstn_lift.specs.Completion.{completed, completed_label, full_label}
 use Rattle.cstn_lift.specs.Lowered.{is_plain, with_full_label, full_of, full_constraints, numbered, lowered}
@@ -32,10 +34,18 @@ use Rattle.cstn_history.proofs.WellFormed.{rest_labelled}
 use Rattle.cstn_history.proofs.Waiting.{waits_both, waits_less, strategy_more, strategy_less, met_more}
 use Rattle.cstn_follow.proofs.Trial.{said_is}
 use Rattle.cstn_follow.proofs.Constraints.{these_labelled, these_long}
-use Rattle.cstn_follow.specs.Waiting.{HasRoomToWait, Span, waiting_one, rest_until, tried, middle, halved, and_then, halving, waits_until}
+use Rattle.cstn_follow.proofs.Halving.{halving_zero, halving_turn}
+use Rattle.cstn_follow.specs.declared.waits.Span.{Span}
+use Rattle.cstn_follow.specs.Waiting.{HasRoomToWait, waiting_one, rest_until, tried, middle, halved, and_then, halving, waits_until}
 
 all_one : (P : Constraint → Type 0) → (d : Constraint) → P d → All P (d ∷ [])
 all_one P d here = All-cons P d [] here (λ i e inside. absurd (omega arith))
+
+-- the ids of the program's constraints are below what the constraints that they stand for are below
+pub ids_below_read : (n : ℕ) (cs : List ReadConstraint) → All (λ c. c.id < n) (map the_constraint cs) → All (λ c. c.id < n) cs
+ids_below_read n [] all = λ i e inside. absurd (omega arith)
+ids_below_read n (c ∷ cs) all = All-cons (λ c. c.id < n) c cs (All-head (λ c. c.id < n) (the_constraint c) (map the_constraint cs) all)
+    (ids_below_read n cs (All-tail (λ c. c.id < n) (the_constraint c) (map the_constraint cs) all))
 
 -- ---- a labelled network with one constraint more, by which a time-point waits
 
@@ -244,17 +254,20 @@ module _ (m : Labelled) (h : History) (fresh x : ℕ) (good : IsLabelled m) (tim
 
       found_by : (n : ℕ) → Finds n
       found_by zero s t is small e =
+          let end : Some s.low ≡ Some t = sym (halving_zero (tried m h fresh x cap) s) ∙ e in
           let at : s.low ≡ t = cc in
           (subst (CanWait m h x) at is.low, (λ u waits. let upto = is.high u waits in omega arith))
       found_by (suc n) s t is small e = elim (cases_Bool (nat_lt s.low s.high)) [
         | inr stop ↦
             let end : Some s.low ≡ Some t =
-            sym (ap (λ b. if b then and_then (halved s (tried m h fresh x cap (middle s))) (halving (tried m h fresh x cap) n) else Some s.low) stop) ∙ e in
+            sym (ap (λ b. if b then and_then (halved s (tried m h fresh x cap (middle s))) (halving (tried m h fresh x cap) n) else Some s.low) stop)
+            ∙ sym (halving_turn (tried m h fresh x cap) n s) ∙ e in
             let at : s.low ≡ t = cc in
             let over = not_less s.low s.high stop in
             (subst (CanWait m h x) at is.low, (λ u waits. let upto = is.high u waits in omega arith))
         | inl more ↦ turned n (found_by n) s t is small (tried m h fresh x cap (middle s)) refl (middle_is s (is_less s.low s.high more))
-            (sym (ap (λ b. if b then and_then (halved s (tried m h fresh x cap (middle s))) (halving (tried m h fresh x cap) n) else Some s.low) more) ∙ e)
+            (sym (ap (λ b. if b then and_then (halved s (tried m h fresh x cap (middle s))) (halving (tried m h fresh x cap) n) else Some s.low) more)
+            ∙ sym (halving_turn (tried m h fresh x cap) n s) ∙ e)
       ]
 
       -- x is executed in some scenario that agrees with the history

@@ -1,8 +1,8 @@
 -- Which constraints are to blame where a history can't go on.
-use Rattle.std.specs.Prelude.{ℕ, Bool, true, false, not, ◌&&◌, ◌==◌, List, [], ◌∷◌, map, Option, None, Some, option_map}
+use Rattle.std.specs.Prelude.{ℕ, ◌≡◌, Bool, true, false, not, ◌&&◌, ◌==◌, List, [], ◌∷◌, map, Option, None, Some, option_map}
 use Rattle.std.specs.List.{filter, list_any}
 use Rattle.cstn_net.specs.Networks.{Network}
-use Rattle.cstn_check.specs.Givers.{with_some}
+use Rattle.cstn_check.specs.Givers.{with_some, without}
 use Rattle.cstn_lift.specs.Labelled.{Labelled}
 use Rattle.cstn_lift.specs.Lowered.{lowered}
 use Rattle.cstn_history.specs.Histories.{History}
@@ -28,6 +28,10 @@ but id test i = test i && not (i == id)
 -- the labelled network with those of its constraints alone whose ids pass the test
 abbrev pub alone : Labelled → (ℕ → Bool) → Labelled
 alone m test = with_base m (with_some m.base test)
+
+-- a network with some of the constraints of another
+abbrev pub IsPart : Network → Network → Type 0
+IsPart net part = (test : ℕ → Bool) × (part ≡ with_some net test)
 
 -- what is said of what is left by the constraints of this network
 abbrev pub said_by : Labelled → History → ℕ → ℕ → Network → Option Bool
@@ -55,3 +59,9 @@ left_by said (id ∷ ids) test = and_on (kept_by (said (but id test)) id test) (
 -- the ids to blame: those that are left of all once each was tried in ascending order; none where a log that was tried is full
 abbrev pub blamed : Labelled → History → ℕ → ℕ → Option (List ℕ)
 blamed m h fresh cap = option_map (λ test. filter test (ids_of m.base)) (left_by (said_alone m h fresh cap) (ids_of m.base) every)
+
+-- the network by what was said without the constraint of the id
+abbrev pub narrowed : Option Bool → ℕ → Network → Option Network
+narrowed None id net = None
+narrowed (Some true) id net = Some net
+narrowed (Some false) id net = Some (without id net)

@@ -4,6 +4,11 @@ pub mod Waiting
 pub mod Blame
 pub mod Following
 pub mod FactLines
+pub mod PlanLines
+pub mod Refusals
 pub mod Questions
+pub mod Searches
+pub mod Hearing
 pub mod Read
 pub mod NextRead
+pub mod Needs

@@ -1,11 +1,12 @@
 -- How the program's session is read as that of the definitions.
-use Rattle.std.specs.Prelude.{ℕ, ◌≡◌, ◌<◌, ◌≤◌, ◌+◌, ◌^◌, List, length, Some}
+use Rattle.std.specs.Prelude.{ℕ, ◌≡◌, ◌<◌, ◌≤◌, ◌+◌, ◌^◌, List, length, slice_get, Some}
 use Rattle.std.specs.List.{All}
 use Rattle.cstn_net.specs.Networks.{count}
 use Rattle.cstn_lift.specs.Read.{LabelledParts, the_labelled}
 use Rattle.cstn_lift.specs.WellFormed.{IsLabelled}
 use Rattle.cstn_check.specs.declared.verdicts.Verdict.{Verdict}
 use Rattle.cstn_history.specs.Read.{HistoryParts, the_history, IsKeptFor}
+use Rattle.cstn_reply.specs.Written.{EndsLine}
 use Rattle.cstn_follow.specs.declared.sessions.Heard.{Heard as HeardText}
 use Rattle.cstn_follow.specs.declared.sessions.Heard.TheVariants.{Text, Rest}
 use Rattle.cstn_follow.specs.Following.{Following, Heard, says, saves, verdict_within}
@@ -51,3 +52,8 @@ pub record IsFollowing (f : FollowingParts) : Type 0 where
 abbrev pub the_heard : FollowingParts → HeardText → Heard
 the_heard f (Text text) = says text.items (the_following f)
 the_heard f (Rest network names) = saves (the_labelled network) names (the_following f)
+
+-- what is said ends a line, or is a document with a name for each time-point, of which the first is the first of these
+abbrev pub IsSaidFor : List (List ℕ) → HeardText → Type 0
+IsSaidFor names (Text text) = EndsLine text.items
+IsSaidFor names (Rest network kept) = (length kept ≡ count (the_labelled network).base) × (slice_get kept 0 ≡ slice_get names 0)

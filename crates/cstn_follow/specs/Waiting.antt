@@ -1,10 +1,15 @@
 -- Until when a time-point can wait, by halving.
 use Rattle.std.specs.Prelude.{ℕ, zero, suc, ◌+◌, ◌-◌, ◌/◌, ◌<◌, Bool, true, false, nat_lt, length, Option, None, Some, pos, ◌-ℤ◌, if◌then◌else◌}
-use Rattle.cstn_net.specs.Networks.{Constraint}
+use Rattle.std.specs.List.{All}
+use Rattle.cstn_net.specs.Networks.{Constraint, count}
 use Rattle.cstn_lift.specs.Labelled.{Labelled}
 use Rattle.cstn_lift.specs.Lowered.{lowered}
+use Rattle.cstn_lift.specs.WellFormed.{IsLabelled}
 use Rattle.cstn_history.specs.Histories.{History}
 use Rattle.cstn_history.specs.Rest.{number_of, bare, rest, with_constraint}
+use Rattle.cstn_follow.specs.declared.waits.Span.{Span}
+use Rattle.cstn_follow.specs.declared.errors.WaitError.{WaitError}
+use Rattle.cstn_follow.specs.declared.errors.WaitError.TheVariants.{TooManyConstraints, Full, Memory}
 use Rattle.cstn_follow.specs.Tries.{said}
 
 -- the time-point with the number k is at t or later; the id is above all ids of what is left, in which what was added has ids from
@@ -21,6 +26,14 @@ pub record HasRoomToWait (m : Labelled) (h : History) (fresh : ℕ) : Type 0 whe
   pub base : length (rest m h fresh).base.constraints < 16384
   pub lowered : length (lowered (rest m h fresh)).constraints < 16384
 
+-- a labelled network that takes the constraint by which the time-point with the number k waits
+pub record TakesWaiting (m : Labelled) (fresh k : ℕ) : Type 0 where
+  pub labelled : IsLabelled m
+  pub inside : k < count m.base
+  pub below : All (λ c. c.id < fresh + 16384) m.base.constraints
+  pub base : length m.base.constraints < 16384
+  pub lowered : length (lowered m).constraints < 16384
+
 -- what is said of a labelled network in which the time-point with the number k is at t or later
 abbrev pub said_until : Labelled → ℕ → ℕ → ℕ → ℕ → Option Bool
 said_until m fresh k cap t = said cap (lowered (with_constraint m (waiting_one fresh k t)))
@@ -28,11 +41,6 @@ said_until m fresh k cap t = said cap (lowered (with_constraint m (waiting_one f
 -- what is said of what is left with x at t or later
 abbrev pub tried : Labelled → History → ℕ → ℕ → ℕ → ℕ → Option Bool
 tried m h fresh x cap t = said_until (rest m h fresh) fresh (number_of m h x) cap t
-
--- the moments that are left to be tried
-pub record Span : Type 0 where
-  pub low : ℕ
-  pub high : ℕ
 
 -- the moment half-way, rounded up
 abbrev pub middle : Span → ℕ
@@ -49,10 +57,16 @@ and_then None go = None
 and_then (Some s) go = go s
 
 -- the moment that is left once the middle was tried n times, or as often as more than one was left; none where a try says nothing
-abbrev pub halving : (ℕ → Option Bool) → ℕ → Span → Option ℕ
+unfoldable pub halving : (ℕ → Option Bool) → ℕ → Span → Option ℕ
 halving test zero s = Some s.low
 halving test (suc n) s = if nat_lt s.low s.high then and_then (halved s (test (middle s))) (halving test n) else Some s.low
 
 -- until when x can wait, from now up to the deadline, by at most 20 tries; none where a log that was tried is full
 abbrev pub waits_until : Labelled → History → ℕ → ℕ → ℕ → Option ℕ
 waits_until m h fresh x cap = halving (tried m h fresh x cap) 20 (record { low = h.now; high = m.base.deadline })
+
+-- the number of a refusal, and 0 for want of memory
+abbrev pub wait_number : WaitError → ℕ
+wait_number (Memory e) = 0
+wait_number Full = 1
+wait_number TooManyConstraints = 8

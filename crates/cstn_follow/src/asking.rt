@@ -32,23 +32,21 @@ impl Following {
         moment_said(self.alloc, &self.names, found)
     }
 
-    // A check of what is left, which has its verdict. There are never too many constraints in a session, so it fails for want of
-    // memory alone.
+    // A check of what is left, which has its verdict and never too many constraints. Fails for want of memory alone.
     pub(crate) fn check_now(&self) -> Result<Check, AllocError>
         ensures network { IfOk result (λ c. the_network c.net ≡ lowered (left_now (the_following self.now))) }
         ensures verdict { IfOk result (λ c. c.verdict ≡ Some (verdict_now (the_following self.now))) }
     {
-        let checked = check_left(
+        match check_left(
             self.alloc,
             &self.network,
             &self.history,
             self.fresh,
             self.cap,
-        );
-        match checked {
+        ) {
             Ok(check) => Ok(check),
             Err(RestError::Memory(e)) => Err(e),
-            Err(RestError::TooManyConstraints) => Err(AllocError),
+            Err(RestError::TooManyConstraints) => unreachable!(),
         }
     }
 }

@@ -4,6 +4,7 @@ ghost use Rattle.cstn_label.specs.Letters.{letter_of};
 ghost use Rattle.cstn_text.specs.PrintedNames.{printed_name};
 ghost use Rattle.cstn_reply.specs.Texts.{line};
 ghost use Rattle.cstn_follow.specs.Questions.{names_text, steps_text, outcomes_text, next_text};
+ghost use Rattle.cstn_follow.specs.Searches.{by_line, ids_text};
 
 use crate::texts::{ROOM, name_at};
 use cstn_label::{NodeId, Prop};
@@ -90,4 +91,46 @@ fn put_letters(text: &mut Vec<u8>, props: &[Prop]) -> Result<(), AllocError>
         text.push(p.letter())?;
     }
     Ok(())
+}
+
+/// The line of the moment, in ticks, until which a time-point can wait.
+pub fn by_line(alloc: Global, names: &Names, moment: u32, x: NodeId) -> Result<Vec<u8>, AllocError>
+    ensures line { IfOk result (λ text. text.items ≡ by_line names.now moment x.0) }
+{
+    let mut digits = Buffer::new();
+    let mut text = Vec::with_capacity(alloc, ROOM)?;
+    text.extend_from_slice(b"by ")?;
+    text.extend_from_slice(digits.format(moment).as_bytes())?;
+    put_name(alloc, &mut text, name_at(names, x))?;
+    text.push(b'\n')?;
+    Ok(text)
+}
+
+/// The line of the ids of the constraints that are to blame.
+pub fn blame_line(alloc: Global, ids: &[u32]) -> Result<Vec<u8>, AllocError>
+    ensures line { IfOk result (λ text. text.items ≡ line (codes "blame" ++ ids_text ids.now)) }
+{
+    let mut text = Vec::with_capacity(alloc, ROOM)?;
+    text.extend_from_slice(b"blame")?;
+    put_ids(&mut text, ids)?;
+    text.push(b'\n')?;
+    Ok(text)
+}
+
+// Puts ids, each behind a space.
+fn put_ids(text: &mut Vec<u8>, ids: &[u32]) -> Result<(), AllocError>
+    ensures { IfOk result (λ _. text.new.items ≡ text.old.items ++ ids_text ids.now) }
+{
+    for id in ids {
+        put_id(text, *id)?;
+    }
+    Ok(())
+}
+
+fn put_id(text: &mut Vec<u8>, id: u32) -> Result<(), AllocError>
+    ensures { IfOk result (λ _. text.new.items ≡ text.old.items ++ 32 ∷ decimal id) }
+{
+    let mut digits = Buffer::new();
+    text.push(b' ')?;
+    text.extend_from_slice(digits.format(id).as_bytes())
 }

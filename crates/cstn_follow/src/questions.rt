@@ -46,14 +46,14 @@ impl Following {
         Ok(Heard::Rest { network, names })
     }
 
-    // What is left. There are never too many constraints in a session, so it fails for want of memory alone.
-    fn left_now(&self) -> Result<Labelled, AllocError>
+    // What is left, of which there are never too many constraints. Fails for want of memory alone.
+    pub(crate) fn left_now(&self) -> Result<Labelled, AllocError>
         ensures left { IfOk result (λ l. the_labelled l ≡ left_now (the_following self.now)) }
     {
         match rest(self.alloc, &self.network, &self.history, self.fresh) {
             Ok(left) => Ok(left),
             Err(RestError::Memory(e)) => Err(e),
-            Err(RestError::TooManyConstraints) => Err(AllocError),
+            Err(RestError::TooManyConstraints) => unreachable!(),
         }
     }
 

@@ -1,12 +1,15 @@
 // A session that follows what happens.
-ghost use Rattle.std.specs.Prelude.{◌≡◌, ◌<◌, ◌≤◌, ◌^◌, ◌||◌, [], length, vec_capacity, IfOk};
+ghost use Rattle.std.specs.Prelude.{◌≡◌, ◌<◌, ◌≤◌, ◌^◌, ◌||◌, [], length, vec_capacity, IfOk, IfSome};
 ghost use Rattle.std.specs.List.{All};
-ghost use Rattle.std.specs.Option.{is_some};
+ghost use Rattle.std.specs.Option.{is_some, option_map};
 ghost use Rattle.cstn_net.specs.Networks.{count};
 ghost use Rattle.cstn_lift.specs.Read.{the_labelled};
 ghost use Rattle.cstn_net.specs.Read.{the_network};
+ghost use Rattle.cstn_text.specs.Names.{number_of};
 ghost use Rattle.cstn_follow.specs.Questions.{tells_verdict};
 ghost use Rattle.cstn_follow.specs.Following.{says, begun, outcome_by, following_ending, is_open, is_any_open, above, verdict_now};
+ghost use Rattle.cstn_lift.specs.Completion.{completed_label};
+ghost use Rattle.cstn_history.specs.Histories.{allows};
 ghost use Rattle.cstn_history.specs.Rest.{sight_left};
 ghost use Rattle.cstn_follow.specs.Read.{the_following};
 
@@ -135,6 +138,16 @@ impl Following {
         outcome_by(self.verdict())
     }
 
+    // The time-point of a name, if there is one.
+    pub(crate) fn node(&self, name: &str) -> Option<NodeId>
+        ensures node { option_map (λ x. x.0) result ≡ number_of self.now.names name.now }
+        ensures inside { IfSome result (λ x. x.0 < count (the_labelled self.now.network).base) }
+    {
+        self.network.base().count();
+        let number = self.names.find(name)?;
+        Some(NodeId(number as u16))
+    }
+
     // Whether something is left.
     fn is_any_open(&self) -> bool
         ensures { result ≡ is_any_open (the_following self.now) }
@@ -154,6 +167,14 @@ impl Following {
         if self.history.done(x).is_some() {
             return self.is_untold(x);
         }
+        self.is_possible(x)
+    }
+
+    // Whether what is told doesn't contradict the completed label of a time-point.
+    pub(crate) fn is_possible(&self, x: NodeId) -> bool
+        requires inside { x.0 < count (the_labelled self.now.network).base }
+        ensures { result ≡ allows (the_following self.now).history (completed_label (the_following self.now).network x.0) }
+    {
         self.history
             .allows(completed(&self.network, self.network.label(x)))
     }

@@ -4,13 +4,15 @@ ghost use Rattle.cstn_label.specs.Letters.{letter_of};
 ghost use Rattle.cstn_reply.specs.Texts.{line};
 ghost use Rattle.cstn_follow.specs.Following.{verdict_line, too_many, name_at};
 ghost use Rattle.cstn_follow.specs.FactLines.{refused_fact, unknown_name};
+ghost use Rattle.cstn_follow.specs.PlanLines.{unknown_end};
+ghost use Rattle.cstn_text.specs.Numbers.{printed_value};
 ghost use Rattle.cstn_text.specs.PrintedNames.{printed_name};
 ghost use Rattle.cstn_lines.specs.LiveLines.{printed_truth};
 
 use cstn_check::Verdict;
 use cstn_history::FactError;
 use cstn_label::{NodeId, Prop};
-use cstn_reply::{put_number, put_outcome, put_prop, put_word};
+use cstn_reply::{put_number, put_outcome, put_prop, put_value, put_word};
 use cstn_text::{Names, print_name};
 use itoa::Buffer;
 use std::alloc::{AllocError, Global};
@@ -39,8 +41,8 @@ pub fn word_line(alloc: Global, word: &[u8]) -> Result<Vec<u8>, AllocError>
     Ok(text)
 }
 
-// A line that ends with a number.
-fn number_line(alloc: Global, word: &[u8], number: u32) -> Result<Vec<u8>, AllocError>
+/// A line that ends with a number.
+pub fn number_line(alloc: Global, word: &[u8], number: u32) -> Result<Vec<u8>, AllocError>
     requires short { length word.now < 20 }
     ensures line { IfOk result (λ text. text.items ≡ line (word.now ++ decimal number)) }
 {
@@ -49,8 +51,18 @@ fn number_line(alloc: Global, word: &[u8], number: u32) -> Result<Vec<u8>, Alloc
     Ok(text)
 }
 
-// A line that ends with a proposition.
-fn prop_line(alloc: Global, word: &[u8], prop: Prop) -> Result<Vec<u8>, AllocError>
+/// A line that ends with a value.
+pub fn value_line(alloc: Global, word: &[u8], value: i32) -> Result<Vec<u8>, AllocError>
+    requires short { length word.now < 20 }
+    ensures line { IfOk result (λ text. text.items ≡ line (word.now ++ printed_value value)) }
+{
+    let mut text = Vec::with_capacity(alloc, ROOM)?;
+    put_value(&mut text, word, value);
+    Ok(text)
+}
+
+/// A line that ends with a proposition.
+pub fn prop_line(alloc: Global, word: &[u8], prop: Prop) -> Result<Vec<u8>, AllocError>
     requires short { length word.now < 20 }
     ensures line { IfOk result (λ text. text.items ≡ line (word.now ++ letter_of prop.index ∷ [])) }
 {
@@ -71,6 +83,14 @@ pub fn unknown_name(alloc: Global, name: &str) -> Result<Vec<u8>, AllocError>
     ensures line { IfOk result (λ text. text.items ≡ line (unknown_name name.now)) }
 {
     let text = format!(in alloc; "refused F3 {}\n", print_name(alloc, name)?)?;
+    Ok(text.into_bytes())
+}
+
+/// The line that no time-point has the name, which an end of a constraint is to have.
+pub fn unknown_end(alloc: Global, name: &str) -> Result<Vec<u8>, AllocError>
+    ensures line { IfOk result (λ text. text.items ≡ line (unknown_end name.now)) }
+{
+    let text = format!(in alloc; "refused S7 {}\n", print_name(alloc, name)?)?;
     Ok(text.into_bytes())
 }
 

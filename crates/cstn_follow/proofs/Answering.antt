@@ -1,0 +1,253 @@
+-- What a session says ends a line, and its names stay.
+use Rattle.std.proofs.Common.{ℕ, ℤ, zero, suc, ◌≡◌, inl, inr, ◌<◌, Bool, true, false, List, [], ◌∷◌, ◌++◌, Option, Some, None, length, map, arith, refl, sym}
+use Rattle.std.proofs.Common.{subst, ap, ◌∙◌}
+use Rattle.std.specs.Prelude.{◌⊎◌, Result, Ok, Err, IfOk, OnErr, ◌&&◌, not, nat_lt, slice_get, if◌then◌else◌, codes, decimal}
+use Rattle.std.specs.List.{filter, range_with_len}
+use Rattle.std.proofs.lemmas.List.{append_assoc, length-map}
+use Rattle.std.proofs.lemmas.Result.{IfOk-weaker}
+use Rattle.cstn_label.specs.Bounds.{Bound}
+use Rattle.cstn_label.specs.Labels.{Label}
+use Rattle.cstn_net.specs.Networks.{count}
+use Rattle.cstn_log.specs.Cuts.{part}
+use Rattle.cstn_lift.specs.Lowered.{lowered}
+use Rattle.cstn_lift.specs.Completion.{completed_label}
+use Rattle.cstn_refute.specs.Texts.{shown}
+use Rattle.cstn_check.specs.Growth.{log_of, live_bounds}
+use Rattle.cstn_check.specs.declared.verdicts.Verdict.{Verdict}
+use Rattle.cstn_check.specs.declared.verdicts.Verdict.TheVariants.{Yes, No, Full}
+use Rattle.cstn_history.specs.declared.errors.FactError.{FactError}
+use Rattle.cstn_history.specs.declared.errors.FactError.TheVariants.{OutOfRange, Done, Undecided}
+use Rattle.cstn_history.specs.Histories.{History, allows}
+use Rattle.cstn_history.specs.Facts.{is_beyond, now_refusal, at_now, with_told, with_expected}
+use Rattle.cstn_history.specs.Rest.{is_left, left, sight_left}
+use Rattle.cstn_next.specs.Next.{next_moment, named, awaited}
+use Rattle.cstn_text.specs.Names.{number_of}
+use Rattle.cstn_text.specs.PrintedNames.{printed_name}
+use Rattle.cstn_lines.specs.EditLines.{Edit, added, removed, changed, asked}
+use Rattle.cstn_lines.specs.FollowLines.{Follow, done_at, came_at, now_at, awaited_at, edits, ends_by, asks_next, asks_by, asks_blame, asks_rest}
+use Rattle.cstn_reply.specs.Texts.{line}
+use Rattle.cstn_reply.specs.Written.{EndsLine}
+use Rattle.cstn_follow.specs.Following.{Following, Heard, says, saves, left_now, name_at, names_left, verdict_now, verdict_within, verdict_line, on_verdict}
+use Rattle.cstn_follow.specs.FactLines.{refused_fact, unknown_name, refuses, records, on_result, all_done, nodes_of, unknown_of, on_known, on_did, on_fact}
+use Rattle.cstn_follow.specs.FactLines.{on_outcome, saw_refusal, await_refusal, node_of}
+use Rattle.cstn_follow.specs.PlanLines.{add_refusal, remove_refusal, change_refusal, with_added, with_removed, with_changed, replanned, on_edit, unknown_end}
+use Rattle.cstn_follow.specs.PlanLines.{on_ends, on_deadline}
+use Rattle.cstn_follow.specs.Questions.{tells_verdict, next_text, next_at, next_after, check_after, on_rest}
+use Rattle.cstn_follow.specs.Searches.{has_place, by_text, by_refusal, by_after, by_unless, by_number, blame_text, blame_after, ids_text}
+use Rattle.cstn_follow.specs.Waiting.{waits_until}
+use Rattle.cstn_follow.specs.Blame.{blamed}
+use Rattle.cstn_follow.specs.Hearing.{on_plan, on_other, on_line, counted, hear}
+use Rattle.cstn_follow.specs.declared.sessions.Heard.{Heard as HeardText}
+use Rattle.cstn_follow.specs.declared.sessions.Heard.TheVariants.{Text, Rest}
+use Rattle.cstn_follow.specs.Read.{FollowingParts, IsFollowing, the_following, the_heard, IsSaidFor}
+
+-- what is said ends a line, or has a name for each time-point, of which the first is the first of these, and the session that
+-- follows has these names
+abbrev pub Keeps : List (List ℕ) → Heard → Type 0
+Keeps names (says text s) = (s.names ≡ names) × EndsLine text
+Keeps names (saves m kept s) = (s.names ≡ names) × (length kept ≡ count m.base) × (slice_get kept 0 ≡ slice_get names 0)
+
+ends : (front : List ℕ) → EndsLine (line front)
+ends front = inr (front, refl)
+
+verdict_ends : (cap : ℕ) (v : Verdict) → EndsLine (verdict_line cap v)
+verdict_ends cap (Yes load) = ends (codes "yes " ++ decimal load)
+verdict_ends cap (No load) = ends (codes "no " ++ decimal load)
+verdict_ends cap Full = ends (codes "full " ++ decimal cap)
+
+-- ---- facts
+
+module _ (s : Following) where
+  verdict_keeps : (next : Following) (text : Verdict → List ℕ) → next.names ≡ s.names → ((v : Verdict) → EndsLine (text v)) → (o : Option Verdict) →
+      Keeps s.names (on_verdict s next text o)
+  verdict_keeps next text same all None = (refl, ends (codes "refused F8"))
+  verdict_keeps next text same all (Some v) = (same, all v)
+
+  records_keeps : (h : History) → Keeps s.names (records s h)
+  records_keeps h = verdict_keeps (record s { history = h }) (verdict_line s.cap) refl (verdict_ends s.cap) (verdict_within (record s { history = h }))
+
+  refuses_keeps : (e : FactError) → Keeps s.names (refuses s e)
+  refuses_keeps e = (refl, ends (refused_fact s.names e))
+
+  result_keeps : (r : Result History FactError) → Keeps s.names (on_result s r)
+  result_keeps (Err e) = refuses_keeps e
+  result_keeps (Ok h) = records_keeps h
+
+  known_keeps : (t : ℕ) (given : List (List ℕ)) (o : Option (List ℕ)) → Keeps s.names (on_known s t given o)
+  known_keeps t given (Some name) = (refl, ends (unknown_name name))
+  known_keeps t given None = result_keeps (all_done s.network t s.history (nodes_of s.names given))
+
+  did_by : (t : ℕ) (given : List (List ℕ)) (b : Bool) → Keeps s.names (if b then refuses s (OutOfRange t) else on_known s t given (unknown_of s.names given))
+  did_by t given true = refuses_keeps (OutOfRange t)
+  did_by t given false = known_keeps t given (unknown_of s.names given)
+
+  did_keeps : (t : ℕ) (given : List (List ℕ)) → Keeps s.names (on_did s t given)
+  did_keeps t given = did_by t given (is_beyond t)
+
+  fact_keeps : (o : Option FactError) (h : History) → Keeps s.names (on_fact s o h)
+  fact_keeps None h = records_keeps h
+  fact_keeps (Some e) h = refuses_keeps e
+
+  outcome_keeps : (o : Option (List ℕ)) (h : History) → Keeps s.names (on_outcome s o h)
+  outcome_keeps None h = records_keeps h
+  outcome_keeps (Some refusal) h = (refl, ends refusal)
+
+  -- ---- edits
+
+  edit_keeps : (o : Option (List ℕ)) (text : List ℕ) (next : Following) → next.names ≡ s.names → Keeps s.names (on_edit s o text next)
+  edit_keeps (Some refusal) text next same = (refl, ends refusal)
+  edit_keeps None text next same = verdict_keeps next (λ v. line text) same (λ v. ends text) (verdict_within next)
+
+  ends_keeps : (from to : List ℕ) (most : ℤ) (a : Label) (x y : Option ℕ) → Keeps s.names (on_ends s from to most a x y)
+  ends_keeps from to most a None y = (refl, ends (unknown_end from))
+  ends_keeps from to most a (Some x) None = (refl, ends (unknown_end to))
+  ends_keeps from to most a (Some x) (Some y) =
+      edit_keeps (add_refusal s.network.base s.edits most a) (codes "added " ++ decimal s.fresh) (with_added s x y most a) refl
+
+  deadline_keeps : (deadline : ℕ) → Keeps s.names (on_deadline s deadline)
+  deadline_keeps deadline =
+      let next = replanned s deadline s.network.base.constraints s.edits s.fresh in
+      let text = codes "deadline " ++ decimal deadline in
+      verdict_keeps next (λ v. line text) refl (λ v. ends text) (verdict_within next)
+
+  other_keeps : Keeps s.names (on_other s)
+  other_keeps = (refl, ends (codes "refused line " ++ decimal s.lines))
+
+  deadline_by : (deadline : ℕ) (b : Bool) → Keeps s.names (if b then on_other s else on_deadline s deadline)
+  deadline_by deadline true = other_keeps
+  deadline_by deadline false = deadline_keeps deadline
+
+  -- ---- questions
+
+  tells_keeps : Keeps s.names (tells_verdict s)
+  tells_keeps = (refl, verdict_ends s.cap (verdict_now s))
+
+  next_ends : (bounds : List Bound) (o : Option ℕ) → EndsLine (next_at s bounds o)
+  next_ends bounds None = ends (codes "done")
+  next_ends bounds (Some t) = ends (next_text s.names t (named s.network s.history bounds t) (awaited s.network s.history t))
+
+  next_keeps : (v : Verdict) → Keeps s.names (next_after s v)
+  next_keeps (Yes load) =
+      let bounds = live_bounds (log_of (lowered (left_now s))) in
+      (refl, next_ends bounds (next_moment s.network s.history bounds))
+  next_keeps (No load) = tells_keeps
+  next_keeps Full = tells_keeps
+
+  check_keeps : (v : Verdict) → Keeps s.names (check_after s v)
+  check_keeps (Yes load) = tells_keeps
+  check_keeps (No load) =
+      let text = shown (names_left s) load (part (log_of (lowered (left_now s)))) in
+      (refl, inr (text ++ codes "end", sym (append_assoc text (codes "end") (10 ∷ []))))
+  check_keeps Full = tells_keeps
+
+  by_ends : (x : ℕ) (o : Option ℕ) → EndsLine (by_text s x o)
+  by_ends x (Some t) = ends (codes "by " ++ decimal t ++ 32 ∷ printed_name (name_at s.names x))
+  by_ends x None = ends (codes "full " ++ decimal s.cap)
+
+  by_keeps : (x : ℕ) (v : Verdict) → Keeps s.names (by_after s x v)
+  by_keeps x (Yes load) = (refl, by_ends x (waits_until s.network s.history s.fresh x s.cap))
+  by_keeps x (No load) = tells_keeps
+  by_keeps x Full = tells_keeps
+
+  by_place : (x : ℕ) (b : Bool) → Keeps s.names (by_unless s x (if b then None else Some (line (codes "refused F8"))))
+  by_place x true = by_keeps x (verdict_now s)
+  by_place x false = (refl, ends (codes "refused F8"))
+
+  by_possible : (x : ℕ) (b : Bool) → Keeps s.names (by_unless s x (if not b then Some (line (refused_fact s.names (Undecided (node_of x))))
+      else if has_place (left_now s).base && has_place (lowered (left_now s)) then None else Some (line (codes "refused F8"))))
+  by_possible x true = by_place x (has_place (left_now s).base && has_place (lowered (left_now s)))
+  by_possible x false = (refl, ends (refused_fact s.names (Undecided (node_of x))))
+
+  by_refused : (x : ℕ) (o : Option ℕ) → Keeps s.names (by_unless s x (by_refusal s x o))
+  by_refused x (Some t) = (refl, ends (refused_fact s.names (Done (node_of x) t)))
+  by_refused x None = by_possible x (allows s.history (completed_label s.network x))
+
+  by_named : (name : List ℕ) (o : Option ℕ) → Keeps s.names (by_number s name o)
+  by_named name None = (refl, ends (unknown_name name))
+  by_named name (Some x) = by_refused x (s.history.done x)
+
+  blame_ends : (o : Option (List ℕ)) → EndsLine (blame_text s.cap o)
+  blame_ends (Some ids) = ends (codes "blame" ++ ids_text ids)
+  blame_ends None = ends (codes "full " ++ decimal s.cap)
+
+  blame_keeps : (v : Verdict) → Keeps s.names (blame_after s v)
+  blame_keeps (Yes load) = tells_keeps
+  blame_keeps (No load) = (refl, blame_ends (blamed s.network s.history s.fresh s.cap))
+  blame_keeps Full = tells_keeps
+
+  -- ---- what is left
+
+  first_left : (n : ℕ) → 0 < n → n ≡ length s.names →
+      slice_get (map (name_at s.names) (filter (is_left s.network s.history) (range_with_len 0 n))) 0 ≡ slice_get s.names 0
+  first_left zero some long = absurd (omega arith)
+  first_left (suc n) some long = first_of s.names (omega arith)
+    where
+      first_of : (names : List (List ℕ)) → 0 < length names → Some (name_at names 0) ≡ slice_get names 0
+      first_of [] none = absurd (omega arith)
+      first_of (name ∷ names) more = refl
+
+  rest_keeps : 0 < count s.network.base → length s.names ≡ count s.network.base → Keeps s.names (on_rest s)
+  rest_keeps some long = (
+    refl,
+    length-map (left s.network s.history) (name_at s.names) ∙ sym (length-map (left s.network s.history) (sight_left s.network s.history)),
+    first_left (count s.network.base) some (sym long),
+  )
+
+  -- ---- lines
+
+  plan_keeps : (edit : Edit) → Keeps s.names (on_plan s edit)
+  plan_keeps (added from to most a) = ends_keeps from to most a (number_of s.names from) (number_of s.names to)
+  plan_keeps (removed id) = edit_keeps (remove_refusal s.network.base s.edits id) (codes "removed " ++ decimal id) (with_removed s id) refl
+  plan_keeps (changed id most) = edit_keeps (change_refusal s.network.base s.edits id most) (codes "changed " ++ decimal id) (with_changed s id most) refl
+  plan_keeps asked = check_keeps (verdict_now s)
+
+  line_keeps : 0 < count s.network.base → length s.names ≡ count s.network.base → (o : Option Follow) → Keeps s.names (on_line s o)
+  line_keeps some long None = other_keeps
+  line_keeps some long (Some (done_at t names)) = did_keeps t names
+  line_keeps some long (Some (came_at t p v)) = outcome_keeps (saw_refusal s.network s.history t p) (with_told s.history t p v)
+  line_keeps some long (Some (now_at t)) = fact_keeps (now_refusal s.history t) (at_now s.history t)
+  line_keeps some long (Some (awaited_at t p)) = outcome_keeps (await_refusal s.network s.history t p) (with_expected s.history t p)
+  line_keeps some long (Some (edits edit)) = plan_keeps edit
+  line_keeps some long (Some (ends_by deadline)) = deadline_by deadline (nat_lt 1000000 deadline)
+  line_keeps some long (Some asks_next) = next_keeps (verdict_now s)
+  line_keeps some long (Some (asks_by name)) = by_named name (number_of s.names name)
+  line_keeps some long (Some asks_blame) = blame_keeps (verdict_now s)
+  line_keeps some long (Some asks_rest) = rest_keeps some long
+
+-- the names stay, and what is said ends a line
+pub hear_keeps : (s : Following) → 0 < count s.network.base → length s.names ≡ count s.network.base → (o : Option Follow) → Keeps s.names (hear s o)
+hear_keeps s some long o = line_keeps (record s { lines = _ }) some long o
+
+ok_or_err : {A E : Type 0} (r : Result A E) → ((x : A) × (r ≡ Ok x)) ⊎ ((e : E) × (r ≡ Err e))
+ok_or_err (Ok x) = inl (x, refl)
+ok_or_err (Err e) = inr (e, refl)
+
+pub names_kept : (names : List (List ℕ)) (f : FollowingParts) (h : HeardText) → Keeps names (the_heard f h) → f.names ≡ names
+names_kept names f (Text text) keeps = keeps.0
+names_kept names f (Rest network kept) keeps = keeps.0
+
+pub said_kept : (names : List (List ℕ)) (f : FollowingParts) (h : HeardText) → Keeps names (the_heard f h) → IsSaidFor names h
+said_kept names f (Text text) keeps = keeps.1
+said_kept names f (Rest network kept) keeps = (keeps.1, keeps.2)
+
+-- so it is once the line was counted, and the names stay where memory is refused too
+module _ {E : Type 0} (old mid new : FollowingParts) (o : Option Follow) (r : Result HeardText E) (good : IsFollowing old)
+    (is : mid ≡ record old { lines = (counted (the_following old)).lines }) where
+  line_counted : Keeps old.names (on_line (the_following mid) o)
+  line_counted =
+      subst (λ (f : FollowingParts). Keeps old.names (on_line (the_following f) o)) (sym is)
+      (hear_keeps (the_following old) good.labelled.base.network.origin good.named o)
+
+  pub heard_names : OnErr r (new ≡ mid) → IfOk r (λ h. on_line (the_following mid) o ≡ the_heard new h) → new.names ≡ old.names
+  heard_names refused heard = elim (ok_or_err r) [
+    | inl (h, ok) ↦
+        let told = subst (λ p. IfOk p (λ k. on_line (the_following mid) o ≡ the_heard new k)) ok heard in
+        names_kept old.names new h (subst (Keeps old.names) told line_counted)
+    | inr (e, err) ↦ ap (λ (f : FollowingParts). f.names) (subst (λ p. OnErr p (new ≡ mid)) err refused ∙ is)
+  ]
+
+  pub heard_said : IfOk r (λ h. on_line (the_following mid) o ≡ the_heard new h) → IfOk r (IsSaidFor old.names)
+  heard_said heard = IfOk-weaker r _ _ (λ h told. said_kept old.names new h (subst (Keeps old.names) told line_counted)) heard
+
+pub other_ends : (s t : Following) (text : List ℕ) → on_other s ≡ says text t → EndsLine text
+other_ends s t text is = (subst (Keeps s.names) is (other_keeps s)).1

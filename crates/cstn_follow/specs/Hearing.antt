@@ -1,0 +1,47 @@
+-- What a session that follows says to a line.
+use Rattle.std.specs.Prelude.{ℕ, suc, min, ◌++◌, Option, None, Some, codes, decimal, if◌then◌else◌, nat_lt}
+use Rattle.cstn_lines.specs.EditLines.{Edit, added, removed, changed, asked}
+use Rattle.cstn_lines.specs.FollowLines.{Follow, done_at, came_at, now_at, awaited_at, edits, ends_by, asks_next, asks_by, asks_blame, asks_rest}
+use Rattle.cstn_reply.specs.Texts.{line}
+use Rattle.cstn_follow.specs.Following.{Following, Heard, says}
+use Rattle.cstn_follow.specs.FactLines.{on_did, on_saw, on_now, on_await}
+use Rattle.cstn_follow.specs.PlanLines.{on_add, on_remove, on_change, on_deadline}
+use Rattle.cstn_follow.specs.Questions.{on_next, on_check, on_rest}
+use Rattle.cstn_follow.specs.Searches.{on_by, on_blame}
+
+-- what is said to an edit or a check
+abbrev pub on_plan : Following → Edit → Heard
+on_plan s (added from to most a) = on_add s from to most a
+on_plan s (removed id) = on_remove s id
+on_plan s (changed id most) = on_change s id most
+on_plan s asked = on_check s
+
+-- what is said to a line that is no line of the session
+abbrev pub on_other : Following → Heard
+on_other s = says (line (codes "refused line " ++ decimal s.lines)) s
+
+-- what is said to a deadline, which is one of the session up to 1,000,000
+abbrev pub on_ends_by : Following → ℕ → Heard
+on_ends_by s deadline = if nat_lt 1000000 deadline then on_other s else on_deadline s deadline
+
+-- what is said to a line, where it is one of the session
+abbrev pub on_line : Following → Option Follow → Heard
+on_line s None = on_other s
+on_line s (Some (done_at t names)) = on_did s t names
+on_line s (Some (came_at t p v)) = on_saw s t p v
+on_line s (Some (now_at t)) = on_now s t
+on_line s (Some (awaited_at t p)) = on_await s t p
+on_line s (Some (edits edit)) = on_plan s edit
+on_line s (Some (ends_by deadline)) = on_ends_by s deadline
+on_line s (Some asks_next) = on_next s
+on_line s (Some (asks_by name)) = on_by s name
+on_line s (Some asks_blame) = on_blame s
+on_line s (Some asks_rest) = on_rest s
+
+-- the session that has heard one line more; there are never more than 16,777,217
+abbrev pub counted : Following → Following
+counted s = record s { lines = min (suc s.lines) 16777217 }
+
+-- what is said to the next line
+abbrev pub hear : Following → Option Follow → Heard
+hear s said = on_line (counted s) said

@@ -1,0 +1,231 @@
+// Until when a time-point can wait.
+ghost use Rattle.std.specs.Prelude.{ℕ, ◌≡◌, ◌+◌, ◌++◌, ◌∷◌, [], ◌<◌, ◌≤◌, ◌&&◌, nat_lt, IsTrue, None, Some, length, IfOk, IfSome, IsOk, IsErrOf};
+ghost use Rattle.std.specs.List.{All};
+ghost use Rattle.cstn_net.specs.Networks.{IsWellFormed, count};
+ghost use Rattle.cstn_net.specs.Read.{the_network, the_constraint};
+ghost use Rattle.cstn_lift.specs.Lowered.{lowered};
+ghost use Rattle.cstn_lift.specs.Read.{the_labelled};
+ghost use Rattle.cstn_history.specs.Continuations.{Can, CanWait};
+ghost use Rattle.cstn_history.specs.Rest.{is_left, rest, with_constraint};
+ghost use Rattle.cstn_history.specs.Read.{the_history, IsKeptFor};
+ghost use Rattle.cstn_history.specs.Handed.{rest_number};
+ghost use Rattle.cstn_follow.specs.Waiting.{HasRoomToWait, TakesWaiting, waiting_one, said_until, middle, halved, halving, waits_until, wait_number};
+
+use crate::errors::WaitError;
+use crate::laws::waiting_is_found;
+use crate::tries::{said, with_base};
+use cstn_history::{History, RestError, numbers_left, rest};
+use cstn_label::{Label, NodeId};
+use cstn_lift::Labelled;
+use cstn_net::{Constraint, MAX_CONSTRAINTS, Network};
+use std::alloc::{AllocError, Global};
+
+// The most checks that a search takes, by which 1,000,001 moments come down to one.
+const MAX_TRIES: u32 = 20;
+
+/// Until when a time-point that is left and isn't done can wait, in ticks: the greatest moment at which or after which some table
+/// that continues the history has it in each scenario in which it is executed. Found by at most 20 checks of what is left, each
+/// of a log that may have `cap` entries. The ids of the network are below `fresh`, which is at most 4,294,000,000.
+pub fn by(
+    alloc: Global,
+    network: &Labelled,
+    history: &History,
+    fresh: u32,
+    x: NodeId,
+    cap: u32,
+) -> Result<u32, WaitError>
+    requires some { 1 ≤ cap }
+    requires most { cap ≤ 4194304 }
+    requires kept { IsKeptFor (the_labelled network.now) history.now }
+    requires above { All (λ c. c.id < fresh) (the_labelled network.now).base.constraints }
+    requires room { fresh ≤ 4294000000 }
+    requires inside { x.0 < count (the_labelled network.now).base }
+    requires coming { (the_history history.now).done x.0 ≡ None }
+    requires left { IsTrue (is_left (the_labelled network.now) (the_history history.now) x.0) }
+    requires can { Can (the_labelled network.now) (the_history history.now) }
+    ensures waits { IfOk result (λ t. CanWait (the_labelled network.now) (the_history history.now) x.0 t) }
+    ensures last { IfOk result (λ t. (u : ℕ) → CanWait (the_labelled network.now) (the_history history.now) x.0 u → u ≤ t) }
+    ensures until { IfOk result (λ t. waits_until (the_labelled network.now) (the_history history.now) fresh x.0 cap ≡ Some t) }
+
+    // Unless memory is refused, it is refused exactly where there are too many constraints, and else where a log is full.
+    ensures few { IsOk result → HasRoomToWait (the_labelled network.now) (the_history history.now) fresh }
+    ensures many { IsErrOf result WaitError.TooManyConstraints → HasRoomToWait (the_labelled network.now) (the_history history.now) fresh → ⊥ }
+    ensures full { IsErrOf result WaitError.Full → HasRoomToWait (the_labelled network.now) (the_history history.now) fresh
+        × (waits_until (the_labelled network.now) (the_history history.now) fresh x.0 cap ≡ None) }
+{
+    waiting_is_found();
+    network.base();
+    let remaining = match rest(alloc, network, history, fresh) {
+        Ok(remaining) => remaining,
+        Err(e) => return Err(error_of(e)),
+    };
+    let numbers = match numbers_left(alloc, network, history) {
+        Ok(numbers) => numbers,
+        Err(e) => return Err(WaitError::Memory(e)),
+    };
+    if !has_room(&remaining) {
+        return Err(WaitError::TooManyConstraints);
+    }
+    let span = Span {
+        low: history.now(),
+        high: network.base().deadline(),
+    };
+    match halve(alloc, &remaining, fresh, numbers[x.index()], span, cap) {
+        Ok(Some(moment)) => Ok(moment),
+        Ok(None) => Err(WaitError::Full),
+        Err(e) => Err(WaitError::Memory(e)),
+    }
+}
+
+// The refusal that a refusal of what is left stands for.
+fn error_of(error: RestError) -> WaitError
+    ensures memory { rest_number error ≡ 0 → wait_number result ≡ 0 }
+    ensures many { (rest_number error ≡ 0 → ⊥) → result ≡ WaitError.TooManyConstraints }
+    ensures never { result ≡ WaitError.Full → ⊥ }
+{
+    match error {
+        RestError::Memory(e) => WaitError::Memory(e),
+        RestError::TooManyConstraints => WaitError::TooManyConstraints,
+    }
+}
+
+/// Whether a labelled network, and its lowered network, has room for one constraint more.
+pub(crate) fn has_room(network: &Labelled) -> bool
+    ensures { result ≡ (nat_lt (length (the_labelled network.now).base.constraints) 16384
+        && nat_lt (length (lowered (the_labelled network.now)).constraints) 16384) }
+{
+    network.base().constraints().len() < MAX_CONSTRAINTS
+        && network.lowered().constraints().len() < MAX_CONSTRAINTS
+}
+
+/// The moments that are left to be tried, in ticks.
+#[derive(Clone, Copy)]
+pub(crate) struct Span {
+    pub low: u32,
+    pub high: u32,
+}
+
+impl Span {
+    // The moment half-way, rounded up.
+    fn middle(self) -> u32
+        requires range { self.high ≤ 1000000 }
+        requires several { self.low < self.high }
+        ensures middle { result ≡ middle self }
+        ensures range { result ≤ 1000000 }
+    {
+        (self.low + self.high + 1) / 2
+    }
+
+    // What is left to be tried once the middle was.
+    fn halved(self, said: Option<bool>) -> Option<Span>
+        requires range { self.high ≤ 1000000 }
+        requires several { self.low < self.high }
+        ensures halved { result ≡ halved self said }
+        ensures range { IfSome result (λ s. s.high ≤ 1000000) }
+    {
+        let middle = self.middle();
+        let is_yes = said?;
+        if is_yes {
+            Some(Span {
+                low: middle,
+                high: self.high,
+            })
+        } else {
+            Some(Span {
+                low: self.low,
+                high: middle - 1,
+            })
+        }
+    }
+}
+
+// The moment that is left by halving; none where a log that is tried is full.
+fn halve(
+    alloc: Global,
+    remaining: &Labelled,
+    fresh: u32,
+    number: u16,
+    span: Span,
+    cap: u32,
+) -> Result<Option<u32>, AllocError>
+    requires some { 1 ≤ cap }
+    requires most { cap ≤ 4194304 }
+    requires range { span.high ≤ 1000000 }
+    requires low { fresh ≤ 4294000000 }
+    requires takes { TakesWaiting (the_labelled remaining.now) fresh number }
+    ensures { IfOk result (λ o. o ≡ halving (said_until (the_labelled remaining.now) fresh number cap) 20 span) }
+{
+    let mut span = span;
+    for _turn in 0..MAX_TRIES {
+        if span.low >= span.high {
+            return Ok(Some(span.low));
+        }
+        let said = said_until(alloc, remaining, fresh, number, span.middle(), cap)?;
+        let Some(half) = span.halved(said) else {
+            return Ok(None);
+        };
+        span = half;
+    }
+    Ok(Some(span.low))
+}
+
+// What a check says of a labelled network with a time-point at this moment or later.
+fn said_until(
+    alloc: Global,
+    remaining: &Labelled,
+    fresh: u32,
+    number: u16,
+    moment: u32,
+    cap: u32,
+) -> Result<Option<bool>, AllocError>
+    requires some { 1 ≤ cap }
+    requires most { cap ≤ 4194304 }
+    requires range { moment ≤ 1000000 }
+    requires low { fresh ≤ 4294000000 }
+    requires takes { TakesWaiting (the_labelled remaining.now) fresh number }
+    ensures { IfOk result (λ o. o ≡ said_until (the_labelled remaining.now) fresh number cap moment) }
+{
+    waiting_is_found();
+    let base = base_until(alloc, remaining.base(), fresh, number, moment)?;
+    let waiting = with_base(alloc, remaining, base)?;
+    let (net, _) = waiting.split();
+    said(alloc, net, cap)
+}
+
+// The network with the constraint by which a time-point is at this moment or later.
+fn base_until(
+    alloc: Global,
+    net: &Network,
+    fresh: u32,
+    number: u16,
+    moment: u32,
+) -> Result<Network, AllocError>
+    requires range { moment ≤ 1000000 }
+    requires low { fresh ≤ 4294000000 }
+    requires inside { number < count (the_network net.now) }
+    requires above { All (λ c. c.id < fresh + 16384) (the_network net.now).constraints }
+    requires few { length (the_network net.now).constraints < 16384 }
+    ensures base { IfOk result (λ n. the_network n
+        ≡ record (the_network net.now) { constraints = (the_network net.now).constraints ++ waiting_one fresh number moment ∷ [] }) }
+    ensures well_formed { IfOk result (λ n. IsWellFormed (the_network n)) }
+{
+    let mut base = net.copy(alloc)?;
+    base.reserve(base.constraints().len() as u32 + 1)?;
+    base.insert(waiting_one(fresh, number, moment));
+    Ok(base)
+}
+
+// The constraint by which a time-point is at this moment or later.
+fn waiting_one(fresh: u32, number: u16, moment: u32) -> Constraint
+    requires range { moment ≤ 1000000 }
+    requires low { fresh ≤ 4294000000 }
+    ensures { the_constraint result ≡ waiting_one fresh number moment }
+{
+    Constraint {
+        id: fresh + MAX_CONSTRAINTS as u32,
+        from: NodeId(number),
+        to: NodeId(0),
+        most: -(moment as i32),
+        label: Label::empty(),
+    }
+}
