@@ -32,7 +32,7 @@ use Rattle.cstn_host.specs.SessionRead.{the_planned, the_files, the_names, the_h
 use Rattle.cstn_top.specs.Begun.{HasBegun, the_named, IsBegin, IsSound}
 use Rattle.cstn_documents.specs.declared.reading.NamedNetwork.{NamedNetwork}
 use Rattle.cstn_top.specs.declared.commands.Prepared.{Prepared}
-use Rattle.cstn_top.specs.declared.commands.Prepared.TheVariants.{Says, Runs, Edits, Hosts}
+use Rattle.cstn_top.specs.declared.commands.Prepared.TheVariants.{Says, Runs, Edits, Follows, Hosts}
 use Rattle.cstn_top.specs.declared.commands.host.Begun.{Begun}
 use Rattle.cstn_host.proofs.PutLines.{nothing_after}
 
@@ -148,6 +148,7 @@ all_begun cap all front begun (Err e) all_is so_far is = tt
 all_begun cap all front begun (Ok (Says said)) all_is so_far is = absurd is
 all_begun cap all front begun (Ok (Runs opening run)) all_is so_far is = absurd is
 all_begun cap all front begun (Ok (Edits editing)) all_is so_far is = absurd is
+all_begun cap all front begun (Ok (Follows opening session')) all_is so_far is = absurd is
 all_begun cap all front begun (Ok (Hosts opening ward)) all_is so_far is =
     let named : List Named = map the_named front in
     let same : attended cap (map the_named all) ≡ session host_turn host_ending opening.items (the_host_session ward) =
@@ -172,4 +173,5 @@ opening_ends cap all begun (Err e) so_far is = tt
 opening_ends cap all begun (Ok (Says said)) so_far is = absurd is
 opening_ends cap all begun (Ok (Runs opening run)) so_far is = absurd is
 opening_ends cap all begun (Ok (Edits editing)) so_far is = absurd is
+opening_ends cap all begun (Ok (Follows opening session')) so_far is = absurd is
 opening_ends cap all begun (Ok (Hosts opening ward)) so_far is = (subst EndsLine (sym (ap (λ (v : Vec ℕ Global). v.items) is.0 ∙ so_far.opening)) (yes_ends all), refl)

@@ -8,7 +8,7 @@ use Rattle.cstn_top.specs.Plans.{Plan, IsOutput, IsText}
 use Rattle.cstn_top.specs.Dispatch.{plan_at}
 use Rattle.cstn_top.specs.Meanings.{IsStopped}
 use Rattle.cstn_words.specs.declared.words.Request.{Request as RequestWords}
-use Rattle.cstn_words.specs.declared.words.Request.TheVariants.{Check, Run, Edit, Closed, Tight, Conflict, Tree, Save, Replay, Closedcheck, Treecheck, Drill, Host}
+use Rattle.cstn_words.specs.declared.words.Request.TheVariants.{Check, Run, Edit, Follow, Closed, Tight, Conflict, Tree, Save, Replay, Closedcheck, Treecheck, Drill, Host}
 use Rattle.cstn_reply.specs.Texts.{Said}
 use Rattle.cstn_reply.specs.Written.{LiveState, is_output, is_file_fault, is_live_fault, is_memory, IsWritten}
 use Rattle.cstn_reply.specs.Statuses.{status_of}
@@ -27,6 +27,7 @@ request_ranged (Closed asked cap) = cap.most
 request_ranged (Tight asked cap) = cap.most
 request_ranged (Conflict asked cap) = cap.most
 request_ranged (Edit asked cap) = tt
+request_ranged (Follow asked cap) = tt
 request_ranged (Tree asked cap) = cap.most
 request_ranged (Save asked) = tt
 request_ranged (Replay asked proof) = tt

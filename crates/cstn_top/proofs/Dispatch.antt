@@ -1,14 +1,15 @@
 -- What is proved of each request, by its command.
-use Rattle.std.proofs.Common.{◌≡◌, ℕ, Bool, false, List, refl}
-use Rattle.cstn_words.specs.Requests.{Request, check, run, edit, closed, tight, conflict, tree, save, replay, closedcheck, treecheck, drill, host}
+use Rattle.std.proofs.Common.{◌≡◌, ℕ, Bool, true, false, List, refl}
+use Rattle.cstn_words.specs.Requests.{Request, check, run, edit, follow, closed, tight, conflict, tree, save, replay, closedcheck, treecheck, drill, host}
 use Rattle.cstn_edit.specs.Editing.{edit_wants}
 use Rattle.cstn_host.specs.Sessions.{host_wants}
-use Rattle.cstn_top.specs.Command.{Kind, a_text, a_run, an_edit, a_host}
+use Rattle.cstn_top.specs.Command.{Kind, a_text, a_run, an_edit, a_host, a_follow}
 use Rattle.cstn_top.specs.Dispatch.{command_of}
 use Rattle.cstn_top.proofs.Proved.{IsProved}
 use Rattle.cstn_top.proofs.records.Check.{check_proved}
 use Rattle.cstn_top.proofs.records.Run.{run_proved}
 use Rattle.cstn_top.proofs.records.Edit.{edit_proved}
+use Rattle.cstn_top.proofs.records.Follow.{follow_proved}
 use Rattle.cstn_top.proofs.records.Closed.{closed_proved}
 use Rattle.cstn_top.proofs.records.Tight.{tight_proved}
 use Rattle.cstn_top.proofs.records.Conflict.{conflict_proved}
@@ -24,6 +25,7 @@ pub proved : (request : Request) → IsProved request
 proved (check asked cap) = check_proved asked cap
 proved (run asked cap) = run_proved asked cap
 proved (edit asked cap) = edit_proved asked cap
+proved (follow asked cap) = follow_proved asked cap
 proved (closed asked cap) = closed_proved asked cap
 proved (tight asked cap) = tight_proved asked cap
 proved (conflict asked cap) = conflict_proved asked cap
@@ -40,12 +42,14 @@ abbrev pub kind_wants : Kind → List ℕ → Bool
 kind_wants a_text = λ line. false
 kind_wants a_run = λ line. false
 kind_wants an_edit = edit_wants
+kind_wants a_follow = λ line. true
 kind_wants a_host = host_wants
 
 pub wants_by : (request : Request) → (command_of request).lines.wants_at ≡ kind_wants (command_of request).kind
 wants_by (check asked cap) = refl
 wants_by (run asked cap) = refl
 wants_by (edit asked cap) = refl
+wants_by (follow asked cap) = refl
 wants_by (closed asked cap) = refl
 wants_by (tight asked cap) = refl
 wants_by (conflict asked cap) = refl

@@ -7,7 +7,7 @@ use Rattle.cstn_reply.specs.Texts.{line}
 use Rattle.cstn_words.specs.Requests.{Request, files_of, names_of}
 use Rattle.cstn_documents.specs.Files.{AreContents, AreThere}
 use Rattle.cstn_reply.specs.Texts.{Said, say}
-use Rattle.cstn_top.specs.Plans.{Plan, says, before_fault, IsOutput, MayTalk, IsText, Ends, ComesTo, Untouched, session}
+use Rattle.cstn_top.specs.Plans.{Plan, says, before_fault, IsOutput, MayTalk, IsText, Ends, ComesTo, Untouched, session, ended_session}
 use Rattle.cstn_top.specs.Dispatch.{plan_of, plan_at}
 use Rattle.cstn_top.specs.Prepared.{the_plan, Planned, IsLined, MayWant, TellsRefused}
 use Rattle.cstn_top.specs.Meanings.{HoldsOf, IsStopped, files_read, RefusedIsThere, ReadsLive, MayStop}
@@ -22,7 +22,7 @@ use Rattle.cstn_reply.specs.Read.{the_said}
 use Rattle.cstn_top.specs.Told.{Answers}
 use Rattle.cstn_reply.specs.Statuses.{status_of}
 use Rattle.cstn_top.specs.declared.commands.Prepared.{Prepared}
-use Rattle.cstn_top.specs.declared.commands.Prepared.TheVariants.{Says, Runs, Edits, Hosts}
+use Rattle.cstn_top.specs.declared.commands.Prepared.TheVariants.{Says, Runs, Edits, Follows, Hosts}
 use Rattle.cstn_lines.specs.Pieces.{lines_of, whole_lines}
 use Rattle.cstn_host.proofs.Plays.{IsEnd, plays}
 use Rattle.cstn_reply.specs.declared.status.Status.{Status}
@@ -34,7 +34,9 @@ use Rattle.cstn_documents.proofs.Contents.{some_contents, none_there}
 use Rattle.cstn_top.proofs.Proved.{IsRight}
 use Rattle.cstn_top.proofs.Dispatch.{proved, kind_wants, wants_by}
 use Rattle.cstn_top.proofs.Dispatched.{IsComplete}
-use Rattle.cstn_top.specs.Command.{Kind, WantsMemory}
+use Rattle.cstn_top.specs.commands.Follow.{follow_turn}
+use Rattle.cstn_follow.specs.Read.{the_following}
+use Rattle.cstn_top.specs.Command.{Kind, WantsMemory, wants_ends, an_edit, a_follow, a_host}
 use Rattle.cstn_top.specs.Dispatch.{command_of}
 use Rattle.cstn_top.specs.Prepared.{FitsKind}
 
@@ -75,6 +77,9 @@ text_end said text seen old new status result same at written =
 -- a session with an equal opening ends likewise, and so does what equals what was prepared
 pub opened_ends : {S : Type 0} (turn : S → List ℕ → Turn S) (ending : S → Said) (state : S) (opening other : List ℕ) (before after : LiveState) (old new : Option (List ℕ)) (result : Status) → other ≡ opening → Ends (session turn ending other state) before after old new result → Ends (session turn ending opening state) before after old new result
 opened_ends turn ending state opening other before after old new result same ends = subst (λ (o : List ℕ). Ends (session turn ending o state) before after old new result) same ends
+
+pub opened_ended : {S : Type 0} (turn : S → List ℕ → Turn S) (ending : S → Said) (state : S) (opening other : List ℕ) (before after : LiveState) (old new : Option (List ℕ)) (result : Status) → other ≡ opening → Ends (ended_session turn ending other state) before after old new result → Ends (ended_session turn ending opening state) before after old new result
+opened_ended turn ending state opening other before after old new result same ends = subst (λ (o : List ℕ). Ends (ended_session turn ending o state) before after old new result) same ends
 
 pub ends_as : (p q : Prepared) (before after : LiveState) (old new : Option (List ℕ)) (result : Status) → p ≡ q → Ends (the_plan q) before after old new result → Ends (the_plan p) before after old new result
 ends_as p q before after old new result same ends = subst (λ (x : Prepared). Ends (the_plan x) before after old new result) (sym same) ends
@@ -117,6 +122,7 @@ spoken words r told seen source now (Says said) old new result there planned end
     )
 spoken words r told seen source now (Runs opening guiding) old new result there planned ends touched = talks_end words r told source now _ (seen source) (seen now) old new result there planned tt ends
 spoken words r told seen source now (Edits editing) old new result there planned ends touched = talks_end words r told source now _ (seen source) (seen now) old new result there planned tt ends
+spoken words r told seen source now (Follows opening session') old new result there planned ends touched = talks_end words r told source now _ (seen source) (seen now) old new result there planned tt ends
 spoken words r told seen source now (Hosts opening ward) old new result there planned ends touched = talks_end words r told source now _ (seen source) (seen now) old new result there planned tt ends
 
 -- a call ends with the status of an output
@@ -182,8 +188,8 @@ live_is words r told plan source now there planned (inl may) = inl (reads_live w
 live_is words r told plan source now there planned (inr same) = inr same
 
 -- a session that comes to a line of a kind comes to it also by what is said with an opening
-meets : (heard other : List (List ℕ) → Option (List ℕ)) (opening : List ℕ) (kind : List ℕ → Bool) (told : Option (List ℕ)) → ((lines : List (List ℕ)) → option_map (λ (xs : List ℕ). opening ++ xs) (heard lines) ≡ other lines) → MeetsLine false heard kind told → MeetsLine false other kind told
-meets heard other opening kind told same (live, all, found) = (
+meets : (ends : Bool) (heard other : List (List ℕ) → Option (List ℕ)) (opening : List ℕ) (kind : List ℕ → Bool) (told : Option (List ℕ)) → ((lines : List (List ℕ)) → option_map (λ (xs : List ℕ). opening ++ xs) (heard lines) ≡ other lines) → MeetsLine ends heard kind told → MeetsLine ends other kind told
+meets ends heard other opening kind told same (live, all, found) = (
   live,
   all,
   record {
@@ -199,20 +205,30 @@ meets heard other opening kind told same (live, all, found) = (
 )
 
 -- an answer may want memory only where that is asked for
-may_stop : (words : Option Request) (r : Request) (told : Option (List ℕ → Option (List ℕ))) (live : Option (List ℕ)) (plan : Plan) → Some r ≡ words → Planned r told plan → WantsMemory (command_of r).kind → MayTalk plan → ((contents : List (List ℕ)) → ComesTo (plan_at r contents) plan → MeetsLine false (before_fault (plan_at r contents)) (command_of r).lines.wants_at live) → HoldsOf words told (MayStop live)
+may_stop : (words : Option Request) (r : Request) (told : Option (List ℕ → Option (List ℕ))) (live : Option (List ℕ)) (plan : Plan) → Some r ≡ words → Planned r told plan → WantsMemory (command_of r).kind → MayTalk plan → ((contents : List (List ℕ)) → ComesTo (plan_at r contents) plan → MeetsLine (wants_ends (command_of r).kind) (before_fault (plan_at r contents)) (command_of r).lines.wants_at live) → HoldsOf words told (MayStop live)
 may_stop words r told live plan there planned wants may at =
     subst (λ (w : Option Request). HoldsOf w told (MayStop live)) there
     (planned.contents, planned.are, ((proved r).wants planned.contents wants (planned.comes.talks may), at planned.contents planned.comes))
+
+-- a session of a kind comes to a line that may want memory
+kinded : (r : Request) (contents : List (List ℕ)) (live : Option (List ℕ)) (kind : Kind) → (command_of r).kind ≡ kind → MeetsLine (wants_ends kind) (before_fault (plan_at r contents)) (kind_wants kind) live →
+    MeetsLine (wants_ends (command_of r).kind) (before_fault (plan_at r contents)) (command_of r).lines.wants_at live
+kinded r contents live kind fits meets_line =
+    subst (λ (w : List ℕ → Bool). MeetsLine (wants_ends (command_of r).kind) (before_fault (plan_at r contents)) w live) (sym (wants_by r))
+    (subst (λ (k : Kind). MeetsLine (wants_ends k) (before_fault (plan_at r contents)) (kind_wants k) live) (sym fits) meets_line)
 
 wants : (words : Option Request) (r : Request) (told : Option (List ℕ → Option (List ℕ))) (live : Option (List ℕ)) (p : Prepared) → Some r ≡ words → Planned r told (the_plan p) → FitsKind (command_of r).kind p → MayWant live p → HoldsOf words told (MayStop live)
 wants words r told live (Says said) there planned fits want = absurd want
 wants words r told live (Runs opening guiding) there planned fits want = absurd want
 wants words r told live (Edits editing) there planned fits want =
     may_stop words r told live _ there planned (subst WantsMemory (sym fits) tt) tt
-    (λ contents comes. subst (λ (k : List ℕ → Bool). MeetsLine false (before_fault (plan_at r contents)) k live) (ap kind_wants (sym fits) ∙ sym (wants_by r)) (meets (heard edit_turn (the_editing editing)) (before_fault (plan_at r contents)) [] edit_wants live (comes.fault tt) want))
+    (λ contents comes. kinded r contents live an_edit fits (meets false (heard edit_turn (the_editing editing)) (before_fault (plan_at r contents)) [] edit_wants live (comes.fault tt) want))
+wants words r told live (Follows opening session') there planned fits want =
+    may_stop words r told live _ there planned (subst WantsMemory (sym fits.1) tt) tt
+    (λ contents comes. kinded r contents live a_follow fits.1 (meets true (heard follow_turn (the_following session')) (before_fault (plan_at r contents)) opening.items (λ line. true) live (comes.fault tt) want))
 wants words r told live (Hosts opening ward) there planned fits want =
     may_stop words r told live _ there planned (subst WantsMemory (sym fits.1) tt) tt
-    (λ contents comes. subst (λ (k : List ℕ → Bool). MeetsLine false (before_fault (plan_at r contents)) k live) (ap kind_wants (sym fits.1) ∙ sym (wants_by r)) (meets (heard host_turn (the_host_session ward)) (before_fault (plan_at r contents)) opening.items host_wants live (comes.fault tt) want))
+    (λ contents comes. kinded r contents live a_host fits.1 (meets false (heard host_turn (the_host_session ward)) (before_fault (plan_at r contents)) opening.items host_wants live (comes.fault tt) want))
 
 -- where no answer may want memory, none is wanted
 pub unasked : (heard : List (List ℕ) → Option (List ℕ)) (told : Option (List ℕ)) (Want Alone : Type 0) → MeetsLine false heard (λ line. false) told ⊎ Alone → Want ⊎ Alone
@@ -232,6 +248,7 @@ pub lined : (kind : Kind) (p : Prepared) → FitsKind kind p → IsLined p
 lined kind (Says said) fits = tt
 lined kind (Runs opening guiding) fits = fits.0
 lined kind (Edits editing) fits = tt
+lined kind (Follows opening session') fits = fits.0
 lined kind (Hosts opening ward) fits = fits.0
 
 -- a call that was stopped tells of no file
@@ -263,6 +280,7 @@ refused_is words r told p before after old new result there planned tells ends i
     by_request (host files deadline cap) (Says text) planned tells (live, (said, output, same)) = tells (sym (ap (λ (s : Said). s.outcome) output) ∙ same)
     by_request (host files deadline cap) (Runs opening guiding) planned tells output = absurd tells
     by_request (host files deadline cap) (Edits editing) planned tells output = absurd tells
+    by_request (host files deadline cap) (Follows opening session') planned tells output = absurd tells
     by_request (host files deadline cap) (Hosts opening ward) planned tells (live, (said, output, same)) =
         absurd (subst IsEnd (sym (ap (λ (s : Said). s.outcome) output) ∙ same) (plays (the_host_session ward) 0 (lines_of live)))
     by_request r p planned tells (live, (said, output, same)) =

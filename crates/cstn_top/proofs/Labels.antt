@@ -33,6 +33,7 @@ small_ids k (c ∷ cs) few = All-cons (λ (c : Constraint). c.id < 2 ^ 32) (reco
 
 -- the labelled network of a document, under the names of its time-points: the network that it is lowered to is equivalent to it
 pub record IsOfLabelled (names : List (List ℕ)) (m : Labelled) : Type 0 where
+  pub labelled : IsLabelled m
   pub same : IsEquivalent m (lowered m)
   pub plain : IsOfDocument names (lowered m)
 
@@ -43,6 +44,7 @@ of_parts bytes deadline parts is fit =
     let well : IsWellFormed (lowered (labelled_of parts)) = lowered_well_formed (labelled_of parts) good few in
     let named : length parts.names ≡ count (lowered (labelled_of parts)) = document_named bytes deadline parts is ∙ sym (length-map parts.observes observed_prop) in
     record {
+      labelled = good;
       same = equivalent (labelled_of parts) good;
       plain = record {
         good = well;

@@ -39,3 +39,9 @@ pub mod BegunHosts
 pub mod Hosted
 pub mod Sayings
 pub mod Preparing
+pub mod FollowedDocuments
+pub mod FollowedLines
+pub mod FollowedStates
+pub mod FollowedPoints
+pub mod LeftDocuments
+pub mod LeftReplayed

@@ -102,7 +102,7 @@ module _ (judgement : OneJudgement) (fault : OneFault) (tree : OneTree) where
   one_output (replays steps net) live a b x y = one_replay net steps a b x y
   one_output (certifies printed bounds net) live a b x y = one_certificate fault printed bounds net a b x y
   one_output (branches printed load bounds net) live a b x y = one_text tree printed load bounds net a b x y
-  one_output (talks opening whole heard) live a b x y = x ∙ sym y
+  one_output (talks ends opening whole heard) live a b x y = x ∙ sym y
   one_output (judges parts plan) live a b x y = one_judged judgement parts plan live a b (one_output plan live a b) x y
   one_output (unlabelled labels plan) live a b (inl x) (inl y) = one_output plan live a b x.1 y.1
   one_output (unlabelled labels plan) live a b (inl x) (inr y) = absurd (y.0 x.0)

@@ -4,7 +4,7 @@ use Rattle.std.specs.Prelude.{nat_lt, if◌then◌else◌, Option, codes}
 use Rattle.cstn_net.specs.Networks.{Network}
 use Rattle.cstn_net.specs.Read.{the_network}
 use Rattle.cstn_lift.specs.Read.{the_labelled}
-use Rattle.cstn_words.specs.Requests.{Asked, Request, check, run, edit, closed, tight, conflict, tree, save, replay, closedcheck, treecheck, files_of}
+use Rattle.cstn_words.specs.Requests.{Asked, Request, check, run, edit, follow, closed, tight, conflict, tree, save, replay, closedcheck, treecheck, files_of}
 use Rattle.cstn_reply.specs.Texts.{Said, say}
 use Rattle.cstn_reply.specs.Statuses.{status_of}
 use Rattle.cstn_reply.specs.Read.{the_said}
@@ -30,6 +30,7 @@ use Rattle.cstn_top.specs.commands.Closedcheck.{certified}
 use Rattle.cstn_top.specs.commands.Treecheck.{tree_checked}
 use Rattle.cstn_top.specs.commands.Run.{carried_out}
 use Rattle.cstn_top.specs.commands.Edit.{edited}
+use Rattle.cstn_top.specs.commands.Follow.{followed}
 use Rattle.cstn_top.specs.commands.Save.{saved}
 use Rattle.cstn_top.specs.Dispatch.{plan_at}
 use Rattle.cstn_top.specs.Meanings.{files_read}
@@ -63,6 +64,9 @@ of_check asked cap = record { files = refl; plan = λ bytes. refl }
 
 pub of_run : (asked : Asked) (cap : ℕ) → IsOfOne (run asked cap) asked (carried_out cap)
 of_run asked cap = record { files = refl; plan = λ bytes. refl }
+
+pub of_follow : (asked : Asked) (cap : ℕ) → IsOfOne (follow asked cap) asked (followed cap)
+of_follow asked cap = record { files = refl; plan = λ bytes. refl }
 
 pub of_edit : (asked : Asked) (cap : ℕ) → IsOfOne (edit asked cap) asked (of_plain (edited cap))
 of_edit asked cap = record { files = refl; plan = λ bytes. refl }

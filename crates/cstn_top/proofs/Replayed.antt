@@ -37,7 +37,7 @@ not_long answer bytes deadline live said never output = by_length (nat_lt most_d
     by_length false is = refl
 
 -- where the answer of the labelled network of a document is that it is accepted, so is that of the document
-labelled_accepted : OneJudgement → (answer : LabelledAnswer) (bytes : List ℕ) (deadline : Option ℕ) → nat_lt most_document (length bytes) ≡ false → HasLabelled bytes deadline (λ names m. IsAccepted (answer names m)) → IsAccepted (on_labelled answer bytes deadline)
+pub labelled_accepted : OneJudgement → (answer : LabelledAnswer) (bytes : List ℕ) (deadline : Option ℕ) → nat_lt most_document (length bytes) ≡ false → HasLabelled bytes deadline (λ names m. IsAccepted (answer names m)) → IsAccepted (on_labelled answer bytes deadline)
 labelled_accepted one answer bytes deadline short has =
     subst (λ (long : Bool). IsAccepted (if long then says (say Document (codes "document long")) else judged answer (document bytes deadline))) (sym short) (by_told (document bytes deadline) has)
   where

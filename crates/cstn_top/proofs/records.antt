@@ -1,6 +1,7 @@
 pub mod Check
 pub mod Run
 pub mod Edit
+pub mod Follow
 pub mod Closed
 pub mod Tight
 pub mod Conflict

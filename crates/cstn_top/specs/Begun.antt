@@ -15,7 +15,7 @@ use Rattle.cstn_host.specs.SessionRead.{the_names, the_files, the_host_session, 
 use Rattle.cstn_documents.specs.declared.reading.NamedNetwork.{NamedNetwork}
 use Rattle.cstn_reply.specs.declared.output.Said.{Said as SaidText}
 use Rattle.cstn_top.specs.declared.commands.Prepared.{Prepared}
-use Rattle.cstn_top.specs.declared.commands.Prepared.TheVariants.{Says, Runs, Edits, Hosts}
+use Rattle.cstn_top.specs.declared.commands.Prepared.TheVariants.{Says, Runs, Edits, Follows, Hosts}
 use Rattle.cstn_top.specs.declared.commands.host.Begun.{Begun}
 
 -- the network of a document
@@ -54,6 +54,7 @@ abbrev pub IsBegin : Begun → Prepared → Type 0
 IsBegin begun (Says said) = ⊥
 IsBegin begun (Runs opening run) = ⊥
 IsBegin begun (Edits session) = ⊥
+IsBegin begun (Follows opening session) = ⊥
 IsBegin begun (Hosts opening session) = (opening ≡ begun.opening) × (the_host_session session ≡ begun_session (the_files begun.plans.items (the_names begun.names.items)))
 
 -- The networks were checked one after another, and each verdict was yes. `begun` has the lines that say so, the plans, and the

@@ -1,5 +1,5 @@
 -- What a command is. Each has a record of its own in `commands`; `Dispatch` gives that of a request.
-use Rattle.std.specs.Prelude.{ℕ, Bool, false, List, [], get_or, Option}
+use Rattle.std.specs.Prelude.{ℕ, Bool, true, false, List, [], get_or, Option}
 use Rattle.cstn_reply.specs.declared.status.Status.{Status}
 use Rattle.cstn_top.specs.Plans.{Plan}
 
@@ -8,6 +8,7 @@ pub data Kind : Type 0 where
   a_text : Kind
   a_run : Kind
   an_edit : Kind
+  a_follow : Kind
   a_host : Kind
 
 -- the answers to some lines may want memory
@@ -15,7 +16,16 @@ abbrev pub WantsMemory : Kind → Type 0
 WantsMemory a_text = ⊥
 WantsMemory a_run = ⊥
 WantsMemory an_edit = Unit {0}
+WantsMemory a_follow = Unit {0}
 WantsMemory a_host = Unit {0}
+
+-- each line of the session has to have its LF
+abbrev pub wants_ends : Kind → Bool
+wants_ends a_text = false
+wants_ends a_run = false
+wants_ends an_edit = false
+wants_ends a_follow = true
+wants_ends a_host = false
 
 -- nothing is promised
 abbrev pub Nothing : Type 0

@@ -1,6 +1,6 @@
 -- The command of each request, and its plan.
 use Rattle.std.specs.Prelude.{ℕ, List, Option, None, Some, codes}
-use Rattle.cstn_words.specs.Requests.{Request, check, run, edit, closed, tight, conflict, tree, save, replay, closedcheck, treecheck, drill, host}
+use Rattle.cstn_words.specs.Requests.{Request, check, run, edit, follow, closed, tight, conflict, tree, save, replay, closedcheck, treecheck, drill, host}
 use Rattle.cstn_reply.specs.Texts.{say}
 use Rattle.cstn_reply.specs.declared.output.Outcome.TheVariants.{Words}
 use Rattle.cstn_top.specs.Plans.{Plan, says}
@@ -8,6 +8,7 @@ use Rattle.cstn_top.specs.Command.{Command}
 use Rattle.cstn_top.specs.commands.Check.{check_command}
 use Rattle.cstn_top.specs.commands.Run.{run_command}
 use Rattle.cstn_top.specs.commands.Edit.{edit_command}
+use Rattle.cstn_top.specs.commands.Follow.{follow_command}
 use Rattle.cstn_top.specs.commands.Host.{host_command}
 use Rattle.cstn_top.specs.commands.Closed.{closed_command}
 use Rattle.cstn_top.specs.commands.Closedcheck.{closedcheck_command}
@@ -24,6 +25,7 @@ abbrev pub command_of : Request → Command
 command_of (check asked cap) = check_command asked cap
 command_of (run asked cap) = run_command asked cap
 command_of (edit asked cap) = edit_command asked cap
+command_of (follow asked cap) = follow_command asked cap
 command_of (closed asked cap) = closed_command asked cap
 command_of (tight asked cap) = tight_command asked cap
 command_of (conflict asked cap) = conflict_command asked cap

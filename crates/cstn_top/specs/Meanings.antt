@@ -1,11 +1,12 @@
 -- How a call with a request ends.
-use Rattle.std.specs.Prelude.{false, ◌≡◌, ◌⊎◌, ℕ, List, [], take, Option, None, Some}
+use Rattle.std.specs.Prelude.{◌≡◌, ◌⊎◌, ℕ, List, [], take, Option, None, Some}
 use Rattle.cstn_words.specs.Requests.{Request, files_of}
 use Rattle.cstn_documents.specs.Files.{AreContents}
 use Rattle.cstn_reply.specs.declared.status.Status.{Status}
 use Rattle.cstn_reply.specs.declared.status.Status.TheVariants.{Good, Bad, Words, Document, Full, ReadFault, WriteFault, Memory, Unfinished, Script, Wide}
 use Rattle.cstn_reply.specs.Reached.{MeetsLine}
 use Rattle.cstn_top.specs.Plans.{before_fault}
+use Rattle.cstn_top.specs.Command.{wants_ends}
 use Rattle.cstn_top.specs.Dispatch.{command_of, plan_at}
 
 -- the words are a request, and it holds of the request and the contents of its files
@@ -42,4 +43,5 @@ ReadsLive request contents = (command_of request).lines.reads contents
 -- the session over the lines of the live source, which has these bytes, comes to a line whose answer may want memory
 abbrev pub MayStop : Option (List ℕ) → Request → List (List ℕ) → Type 0
 MayStop live request contents =
-    (command_of request).lines.wants contents × MeetsLine false (before_fault (plan_at request contents)) (command_of request).lines.wants_at live
+    (command_of request).lines.wants contents
+    × MeetsLine (wants_ends (command_of request).kind) (before_fault (plan_at request contents)) (command_of request).lines.wants_at live

@@ -1,12 +1,12 @@
 -- What a request says, and what is written for it, also after a fault.
-use Rattle.std.specs.Prelude.{◌≡◌, ◌⊎◌, ℕ, List, ◌++◌, Option, None, codes}
+use Rattle.std.specs.Prelude.{◌≡◌, ◌⊎◌, ℕ, Bool, true, false, List, ◌++◌, Option, None, codes}
 use Rattle.std.specs.Option.{option_map}
 use Rattle.cstn_label.specs.Bounds.{Bound}
 use Rattle.cstn_label.specs.Labels.{Label}
 use Rattle.cstn_net.specs.Networks.{Network}
 use Rattle.cstn_net.specs.declared.errors.NetError.{NetError}
 use Rattle.cstn_lift.specs.declared.errors.LiftError.{LiftError}
-use Rattle.cstn_lines.specs.Pieces.{lines_of, whole_lines}
+use Rattle.cstn_lines.specs.Pieces.{whole_lines, heard_lines}
 use Rattle.cstn_graphml.specs.Document.{Parts}
 use Rattle.cstn_graphml.specs.Networks.{IsUnfit, IsMislabelled, IsFit}
 use Rattle.cstn_rules.specs.Derivations.{Entry}
@@ -24,15 +24,15 @@ use Rattle.cstn_documents.specs.Documents.{AreEmpty}
 
 -- What a request says: a text and no more; what the replay of steps on a network says; what the check of a list of bounds says,
 -- under the names of the time-points; the tree of a network, by a load and bounds; an opening and then a session over the lines
--- of the live source, by what it says of all lines and what it answers to some of them alone, where each of these leads on; what
--- another plan says, where the parts of a document make a labelled network; or what another plan says, where the labels of the
--- time-points are empty.
+-- of the live source, by whether each has to have its LF, by what it says of all lines and what it answers to some of them
+-- alone, where each of these leads on; what another plan says, where the parts of a document make a labelled network; or what
+-- another plan says, where the labels of the time-points are empty.
 pub data Plan : Type 0 where
   says : Said → Plan
   replays : List Entry → Network → Plan
   certifies : List (List ℕ) → List Bound → Network → Plan
   branches : List (List ℕ) → ℕ → List Bound → Network → Plan
-  talks : List ℕ → (List (List ℕ) → Said) → (List (List ℕ) → Option (List ℕ)) → Plan
+  talks : (ends : Bool) → List ℕ → (List (List ℕ) → Said) → (List (List ℕ) → Option (List ℕ)) → Plan
   judges : Parts → Plan → Plan
   unlabelled : List Label → Plan → Plan
 
@@ -43,7 +43,7 @@ IsOutput (says text) live said = said ≡ text
 IsOutput (replays steps net) live said = IsReplay steps net said
 IsOutput (certifies names bounds net) live said = IsCertificate names bounds net said
 IsOutput (branches names load bounds net) live said = IsTreeText names load bounds net said
-IsOutput (talks opening whole heard) live said = said ≡ after_text opening (whole (lines_of live))
+IsOutput (talks ends opening whole heard) live said = said ≡ after_text opening (whole (heard_lines ends live))
 IsOutput (judges parts plan) live said =
     (IsFit parts × IsOutput plan live said)
     ⊎ (((error : NetError) × IsUnfit parts error × (said ≡ say Document (fault_text parts.names error)))
@@ -57,7 +57,7 @@ before_fault (says said) lines = None
 before_fault (replays steps net) lines = None
 before_fault (certifies names bounds net) lines = None
 before_fault (branches names load bounds net) lines = None
-before_fault (talks opening whole heard) lines = option_map (λ said. opening ++ said) (heard lines)
+before_fault (talks ends opening whole heard) lines = option_map (λ said. opening ++ said) (heard lines)
 before_fault (judges parts plan) lines = before_fault plan lines
 before_fault (unlabelled labels plan) lines = before_fault plan lines
 
@@ -67,7 +67,7 @@ MayTalk (says said) = ⊥
 MayTalk (replays steps net) = ⊥
 MayTalk (certifies names bounds net) = ⊥
 MayTalk (branches names load bounds net) = ⊥
-MayTalk (talks opening whole heard) = Unit {0}
+MayTalk (talks ends opening whole heard) = Unit {0}
 MayTalk (judges parts plan) = IsFit parts × MayTalk plan
 MayTalk (unlabelled labels plan) = AreEmpty labels × MayTalk plan
 
@@ -83,7 +83,11 @@ pub record ComesTo (plan other : Plan) : Type 0 where
 
 -- an opening, and then a session from a state on
 abbrev pub session : {S : Type 0} → (S → List ℕ → Turn S) → (S → Said) → List ℕ → S → Plan
-session turn ending opening state = talks opening (play turn ending state 0) (heard turn state)
+session turn ending opening state = talks false opening (play turn ending state 0) (heard turn state)
+
+-- likewise where each line has to have its LF
+abbrev pub ended_session : {S : Type 0} → (S → List ℕ → Turn S) → (S → Said) → List ℕ → S → Plan
+ended_session turn ending opening state = talks true opening (play turn ending state 0) (heard turn state)
 
 -- what is said before a fault of the live source that has given these bytes, by the whole lines of them
 abbrev pub after_taken : Plan → List ℕ → Option (List ℕ)

@@ -1,5 +1,5 @@
 -- What is prepared for a request.
-use Rattle.std.specs.Prelude.{false, ◌≡◌, ℕ, List, [], Option, Some}
+use Rattle.std.specs.Prelude.{true, false, ◌≡◌, ℕ, List, [], Option, Some}
 use Rattle.cstn_words.specs.Requests.{Request, files_of}
 use Rattle.cstn_documents.specs.Files.{AreContents, AreThere}
 use Rattle.cstn_reply.specs.Texts.{Said}
@@ -12,18 +12,22 @@ use Rattle.cstn_run.specs.Sessions.{guided_turn, guided_ending}
 use Rattle.cstn_edit.specs.Editing.{the_editing, edit_turn, edit_wants, edit_ending}
 use Rattle.cstn_host.specs.Sessions.{host_turn, host_wants, host_ending}
 use Rattle.cstn_host.specs.SessionRead.{the_host_session}
-use Rattle.cstn_top.specs.Plans.{Plan, says, ComesTo, IsOutput, session}
-use Rattle.cstn_top.specs.Command.{Kind, a_text, a_run, an_edit, a_host}
+use Rattle.cstn_follow.specs.Following.{following_ending}
+use Rattle.cstn_follow.specs.Read.{the_following}
+use Rattle.cstn_top.specs.Plans.{Plan, says, ComesTo, IsOutput, session, ended_session}
+use Rattle.cstn_top.specs.Command.{Kind, a_text, a_run, an_edit, a_follow, a_host}
+use Rattle.cstn_top.specs.commands.Follow.{follow_turn}
 use Rattle.cstn_top.specs.Dispatch.{command_of, plan_at}
 use Rattle.cstn_top.specs.Meanings.{HoldsOf, files_read, RefusedIsThere}
 use Rattle.cstn_top.specs.declared.commands.Prepared.{Prepared}
-use Rattle.cstn_top.specs.declared.commands.Prepared.TheVariants.{Says, Runs, Edits, Hosts}
+use Rattle.cstn_top.specs.declared.commands.Prepared.TheVariants.{Says, Runs, Edits, Follows, Hosts}
 
 -- the plan that is carried out
 abbrev pub the_plan : Prepared → Plan
 the_plan (Says said) = says (the_said said)
 the_plan (Runs opening session') = session guided_turn guided_ending opening.items session'
 the_plan (Edits editing) = session edit_turn edit_ending [] (the_editing editing)
+the_plan (Follows opening session') = ended_session follow_turn following_ending opening.items (the_following session')
 the_plan (Hosts opening session') = session host_turn host_ending opening.items (the_host_session session')
 
 -- an opening is whole lines
@@ -31,6 +35,7 @@ abbrev pub IsLined : Prepared → Type 0
 IsLined (Says said) = Unit {0}
 IsLined (Runs opening session') = EndsLine opening.items
 IsLined (Edits editing) = Unit {0}
+IsLined (Follows opening session') = EndsLine opening.items
 IsLined (Hosts opening session') = EndsLine opening.items
 
 -- the session over the lines of the live source, which has these bytes, comes to a line whose answer may want memory
@@ -38,6 +43,7 @@ abbrev pub MayWant : Option (List ℕ) → Prepared → Type 0
 MayWant live (Says said) = ⊥
 MayWant live (Runs opening session') = ⊥
 MayWant live (Edits editing) = MeetsLine false (heard edit_turn (the_editing editing)) edit_wants live
+MayWant live (Follows opening session') = MeetsLine true (heard follow_turn (the_following session')) (λ line. true) live
 MayWant live (Hosts opening session') = MeetsLine false (heard host_turn (the_host_session session')) host_wants live
 
 -- a session is prepared only where it is asked for, and its opening is whole lines
@@ -45,18 +51,21 @@ abbrev pub FitsKind : Kind → Prepared → Type 0
 FitsKind kind (Says said) = Unit {0}
 FitsKind kind (Runs opening session') = EndsLine opening.items × (kind ≡ a_run)
 FitsKind kind (Edits editing) = kind ≡ an_edit
+FitsKind kind (Follows opening session') = EndsLine opening.items × (kind ≡ a_follow)
 FitsKind kind (Hosts opening session') = EndsLine opening.items × (kind ≡ a_host)
 
--- Where it is told that a document of a host is refused, this holds. A run or an edit session is prepared for no host. Of the
--- other commands, which read one document, nothing is told beside.
+-- Where it is told that a document of a host is refused, this holds. A run, an edit session or one that follows is prepared for no
+-- host. Of the other commands, which read one document, nothing is told beside.
 abbrev pub TellsOfKind : Kind → Type 0 → Prepared → Type 0
 TellsOfKind a_host holds (Says said) = said.outcome ≡ Document → holds
 TellsOfKind a_host holds (Runs opening session') = ⊥
 TellsOfKind a_host holds (Edits editing) = ⊥
+TellsOfKind a_host holds (Follows opening session') = ⊥
 TellsOfKind a_host holds (Hosts opening session') = Unit {0}
 TellsOfKind a_text holds prepared = Unit {0}
 TellsOfKind a_run holds prepared = Unit {0}
 TellsOfKind an_edit holds prepared = Unit {0}
+TellsOfKind a_follow holds prepared = Unit {0}
 
 -- where it is told that a document of a host is refused, it is there, and so is each file before it
 abbrev pub TellsRefused : Option (List ℕ → Option (List ℕ)) → Request → Prepared → Type 0

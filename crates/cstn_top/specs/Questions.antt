@@ -1,11 +1,11 @@
 -- What a request asks, once its files are read.
-use Rattle.std.specs.Prelude.{◌≡◌, ◌≤◌, ◌<◌, ◌^◌, ℕ, List, length, map, Option}
+use Rattle.std.specs.Prelude.{◌≤◌, ◌<◌, ◌^◌, ℕ, List, length, map, Option}
 use Rattle.std.specs.List.{All}
+use Rattle.cstn_net.specs.Networks.{Constraint}
 use Rattle.cstn_net.specs.Read.{the_network}
 use Rattle.cstn_lift.specs.Read.{the_labelled}
 use Rattle.cstn_words.specs.Requests.{Request, files_of}
 use Rattle.cstn_reply.specs.Read.{the_said}
-use Rattle.cstn_reply.specs.Written.{EndsLine}
 use Rattle.cstn_reply.specs.declared.output.Said.{Said as SaidText}
 use Rattle.cstn_documents.specs.Files.{AreContents, AreThere}
 use Rattle.cstn_documents.specs.Opened.{AreNamesOf}
@@ -21,17 +21,18 @@ use Rattle.cstn_top.specs.commands.Closedcheck.{certified}
 use Rattle.cstn_top.specs.commands.Treecheck.{tree_checked}
 use Rattle.cstn_top.specs.commands.Run.{carried_out}
 use Rattle.cstn_top.specs.commands.Edit.{edited}
+use Rattle.cstn_top.specs.commands.Follow.{followed}
 use Rattle.cstn_top.specs.commands.Host.{attended}
 use Rattle.cstn_top.specs.commands.Save.{saved}
 use Rattle.cstn_top.specs.commands.Drill.{drilled}
-use Rattle.cstn_top.specs.Command.{Kind, a_text, a_run, an_edit, a_host}
+use Rattle.cstn_top.specs.Command.{Kind, a_text, a_run, an_edit, a_follow, a_host}
 use Rattle.cstn_top.specs.Dispatch.{command_of, plan_at}
 use Rattle.cstn_top.specs.Prepared.{Planned, TellsRefused}
 use Rattle.cstn_top.specs.Begun.{the_named, IsSound}
-use Rattle.cstn_top.specs.declared.commands.Prepared.{Prepared}
 use Rattle.cstn_top.specs.declared.commands.Prepared.TheVariants.{Says}
 use Rattle.cstn_top.specs.declared.commands.questions.Question.{Question}
 use Rattle.cstn_top.specs.declared.commands.questions.Question.TheVariants.{Check, Closed, Tight, Conflict, Tree, Edit, Run, Save, Replay, Closedcheck, Treecheck, Drill, Host}
+use Rattle.cstn_top.specs.declared.commands.questions.Question.TheVariants.{Follow}
 use Rattle.cstn_words.specs.Limits.{most_files}
 use Rattle.cstn_documents.specs.Limits.{most_text}
 
@@ -43,6 +44,7 @@ the_question (Tight d cap) = tightened cap.entries d.names (the_network d.networ
 the_question (Conflict d cap) = blamed cap.entries d.names (the_network d.network)
 the_question (Tree d cap) = unfolded cap.entries d.names (the_network d.network)
 the_question (Edit d cap) = edited cap.entries d.names (the_network d.network)
+the_question (Follow d cap) = followed cap.entries d.names (the_labelled d.labelled)
 the_question (Run d cap) = carried_out cap.entries d.names (the_labelled d.labelled)
 the_question (Save d) = saved d.names (the_labelled d.labelled)
 the_question (Replay d text) = by_text replayed text.items d.names (the_network d.network)
@@ -71,6 +73,8 @@ IsSoundQuestion (Tight d cap) = IsSound d
 IsSoundQuestion (Conflict d cap) = IsSound d
 IsSoundQuestion (Tree d cap) = IsSound d
 IsSoundQuestion (Edit d cap) = IsSound d × All (λ c. c.id < 2 ^ 31) d.network.constraints
+IsSoundQuestion (Follow d cap) =
+    AreNamesOf d.names (the_network d.labelled.base) × All (λ (c : Constraint). c.id < 2 ^ 31) (the_labelled d.labelled).base.constraints
 IsSoundQuestion (Run d cap) = AreNamesOf d.names (the_network d.labelled.base)
 IsSoundQuestion (Save d) = AreNamesOf d.names (the_network d.labelled.base)
 IsSoundQuestion (Replay d text) = IsSound d × (length text.items ≤ most_text)
@@ -86,6 +90,7 @@ kind_of (Tight d cap) = a_text
 kind_of (Conflict d cap) = a_text
 kind_of (Tree d cap) = a_text
 kind_of (Edit d cap) = an_edit
+kind_of (Follow d cap) = a_follow
 kind_of (Run d cap) = a_run
 kind_of (Save d) = a_text
 kind_of (Replay d text) = a_text

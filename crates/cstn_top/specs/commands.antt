@@ -2,6 +2,7 @@
 pub mod Check
 pub mod Run
 pub mod Edit
+pub mod Follow
 pub mod Host
 pub mod Closed
 pub mod Closedcheck

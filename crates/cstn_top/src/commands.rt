@@ -10,6 +10,7 @@ ghost use Rattle.cstn_top.specs.Questions.{kind_at};
 mod answers;
 mod closed;
 mod drill;
+mod follow;
 mod host;
 mod questions;
 mod run;
@@ -24,6 +25,7 @@ use cstn_io::Shelf;
 use cstn_reply::{Refused, Said};
 use cstn_run::RunSession;
 use cstn_words::Request;
+use follow::Follower;
 use questions::ask;
 use std::alloc::Global;
 
@@ -39,6 +41,11 @@ pub(crate) enum Prepared {
     },
     /// The answers to the edit lines.
     Edits(Editing),
+    /// The version of the lines and the verdict, and then the answers to the lines of a session that follows.
+    Follows {
+        opening: Vec<u8>,
+        session: Follower,
+    },
     /// The lines that say yes, and then the answers to the host lines.
     Hosts {
         opening: Vec<u8>,

@@ -1,16 +1,24 @@
-// Laws of edit sessions, of the least deadlines of labelled networks, of outputs and of evidence. The calls do nothing: their contracts are the laws.
-ghost use Rattle.std.specs.Prelude.{ℕ, ◌≡◌, ◌<◌, ◌≤◌, ◌↔◌, ◌+◌, ◌^◌, List, [], ◌∷◌, length, None, Some, codes, false};
+// Laws of edit sessions and of sessions that follow, of the least deadlines of labelled networks, of outputs and of evidence. The
+// calls do nothing: their contracts are the laws.
+ghost use Rattle.std.specs.Prelude.{ℕ, ◌≡◌, ◌<◌, ◌≤◌, ◌↔◌, ◌⊎◌, ◌+◌, ◌^◌, ◌++◌, List, [], ◌∷◌, length, None, Some, codes, false};
 ghost use Rattle.std.specs.List.{All};
-ghost use Rattle.cstn_net.specs.Networks.{Network, Constraint, IsWellFormed, count};
+ghost use Rattle.cstn_net.specs.Networks.{Network, Constraint, IsWellFormed, Observes, count};
 ghost use Rattle.cstn_lines.specs.Pieces.{is_past};
+ghost use Rattle.cstn_lines.specs.FollowLines.{Follow, follow_read};
+ghost use Rattle.cstn_check.specs.declared.verdicts.Verdict.{Verdict};
+ghost use Rattle.cstn_check.specs.declared.verdicts.Verdict.TheVariants.{No};
+ghost use Rattle.cstn_save.specs.ReadBack.{AreNamesOf};
+ghost use Rattle.cstn_follow.specs.Following.{Following, begun, verdict_now, verdict_line};
+ghost use Rattle.cstn_follow.specs.Hearing.{counted};
 ghost use Rattle.cstn_edit.specs.Editing.{Editing, begun_editing, edit_turn, last_checked};
+ghost use Rattle.cstn_reply.specs.Sessions.{more};
 ghost use Rattle.cstn_reply.specs.Reached.{state_after};
 ghost use Rattle.cstn_top.specs.Accepted.{HasIds, IsAccepted};
 ghost use Rattle.cstn_top.specs.Plans.{Plan, IsOutput};
 ghost use Rattle.cstn_top.specs.Lines.{AreAnswered};
 ghost use Rattle.cstn_top.specs.Dispatch.{command_of, plan_at};
 ghost use Rattle.cstn_words.specs.Requests.{Asked, Request, check, run, closed, replay, closedcheck};
-ghost use Rattle.cstn_reply.specs.Texts.{Said};
+ghost use Rattle.cstn_reply.specs.Texts.{Said, line};
 ghost use Rattle.cstn_reply.specs.declared.output.Outcome.TheVariants.{Good, Bad};
 ghost use Rattle.cstn_lift.specs.Labelled.{Labelled};
 ghost use Rattle.cstn_lift.specs.Lowered.{lowered};
@@ -18,12 +26,15 @@ ghost use Rattle.cstn_lift.specs.WellFormed.{IsLabelled};
 ghost use Rattle.cstn_tight.specs.Deadlines.{at_deadline, IsLeastDeadline};
 ghost use Rattle.cstn_top.specs.LabelledDeadlines.{labelled_at, IsLabelledLeastDeadline};
 ghost use Rattle.cstn_top.specs.EditSessions.{network_after, AnswersCheck, IsAtLastCheck};
+ghost use Rattle.cstn_top.specs.commands.Follow.{IsFact, IsTrueOf, follow_turn};
 ghost use Rattle.cstn_words.specs.Limits.{most_cap};
+ghost use Rattle.cstn_documents.specs.Limits.{most_constraints, most_document};
 
 use crate::evidence::evidence_is_accepted;
 use cstn_closed::{closed_lists_are_accepted, closed_texts_are_read_back};
 use cstn_graphml::documents_have_one_answer;
 use cstn_refute::texts_are_read_back;
+use cstn_save::documents_are_read_back;
 use cstn_tree::{made_trees_are_good, networks_have_one_tree, tree_texts_are_read_back};
 
 /// After any edit lines that are answered, the session's network is the network as edited by them, which is well-formed. The
@@ -87,4 +98,32 @@ pub fn evidence_passes()
 {
     documents_have_one_answer();
     evidence_is_accepted();
+}
+
+/// In each state that lines lead a session that follows to, the verdict is true: yes is said only where some table continues what has
+/// happened, no only where none does, and that the log is full only where the log of what is left has more entries than it may. A fact
+/// is refused, and nothing but the count of lines changes, or its answer is the line of such a verdict on what has happened then.
+pub fn followed_verdicts_are_true()
+    ensures states { (cap : ℕ) (names : List (List ℕ)) (m : Labelled) (lines : List (List ℕ)) (s : Following) → IsLabelled m
+        → length (lowered m).constraints ≤ most_constraints → length names ≡ count m.base
+        → state_after follow_turn (begun cap names m) 0 lines ≡ Some s → IsTrueOf s (verdict_now s) }
+    ensures facts { (cap : ℕ) (names : List (List ℕ)) (m : Labelled) (before : List (List ℕ)) (s next : Following) (bytes text : List ℕ) (fact : Follow)
+        → IsLabelled m → length (lowered m).constraints ≤ most_constraints → length names ≡ count m.base
+        → state_after follow_turn (begun cap names m) 0 before ≡ Some s → follow_read bytes ≡ Some fact → IsFact fact → follow_turn s bytes ≡ more text next
+        → (next ≡ counted s) ⊎ ((v : Verdict) × (text ≡ verdict_line s.cap v) × IsTrueOf next v) }
+{}
+
+/// After no, the refutation that `check` answers, less its line `end`, passes: `replay` accepts it on the document that `rest` answers
+/// in the same state, where that has at most 8,388,608 bytes. What nothing observes has a reaction of 1 tick, as in each document.
+pub fn followed_refutations_pass()
+    ensures { (cap : ℕ) (names : List (List ℕ)) (m : Labelled) (lines : List (List ℕ)) (s t u : Following) (load : ℕ) (text bytes file : List ℕ) (asked : Asked)
+        → IsLabelled m → length (lowered m).constraints ≤ most_constraints → AreNamesOf m.base names
+        → ((p : ℕ) → ((x : ℕ) → Observes m.base x p → ⊥) → m.base.reaction p ≡ 1) → cap ≤ most_cap
+        → state_after follow_turn (begun cap names m) 0 lines ≡ Some s → verdict_now s ≡ No load
+        → follow_turn s (codes "check") ≡ more (text ++ line (codes "end")) t → follow_turn s (codes "rest") ≡ more bytes u
+        → length bytes ≤ most_document → asked.deadline ≡ None → IsAccepted (plan_at (replay asked file) (bytes ∷ text ∷ [])) }
+{
+    documents_have_one_answer();
+    evidence_is_accepted();
+    documents_are_read_back();
 }

@@ -97,6 +97,7 @@ fn speak<S: Source, K: Sink>(alloc: Global, prepared: Prepared, live: &mut S, ou
         Prepared::Says(said) => finish(out, &said.text, said.outcome.status()),
         Prepared::Runs { opening, session } => converse(alloc, session, &opening, live, out),
         Prepared::Edits(session) => converse(alloc, session, b"", live, out),
+        Prepared::Follows { opening, session } => converse(alloc, session, &opening, live, out),
         Prepared::Hosts { opening, session } => converse(alloc, session, &opening, live, out),
     }
 }

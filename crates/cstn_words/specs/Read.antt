@@ -1,12 +1,12 @@
 -- How values of the program are read.
 use Rattle.std.specs.Prelude.{ℕ, List, Option, map, String, string_bytes}
-use Rattle.cstn_words.specs.Requests.{Asked, Taken, Request, request_of, names_of, check, run, edit, closed, tight, conflict, tree, save, replay, closedcheck, treecheck, drill}
+use Rattle.cstn_words.specs.Requests.{Asked, Taken, Request, request_of, names_of, check, run, edit, follow, closed, tight, conflict, tree, save, replay, closedcheck, treecheck, drill}
 use Rattle.cstn_words.specs.Requests.{host}
 use Rattle.cstn_words.specs.declared.caps.Cap.{Cap}
 use Rattle.cstn_words.specs.declared.words.Asked.{Asked as AskedWords}
 use Rattle.cstn_words.specs.declared.words.Taken.{Taken as TakenWords}
 use Rattle.cstn_words.specs.declared.words.Request.{Request as RequestWords}
-use Rattle.cstn_words.specs.declared.words.Request.TheVariants.{Check, Run, Edit, Closed, Tight, Conflict, Tree, Save, Replay, Closedcheck, Treecheck, Drill}
+use Rattle.cstn_words.specs.declared.words.Request.TheVariants.{Check, Run, Edit, Follow, Closed, Tight, Conflict, Tree, Save, Replay, Closedcheck, Treecheck, Drill}
 use Rattle.cstn_words.specs.declared.words.Request.TheVariants.{Host}
 
 -- the file and the deadline that are asked for
@@ -25,6 +25,7 @@ abbrev pub the_request : RequestWords → Request
 the_request (Check asked cap) = check (the_asked asked) cap.entries
 the_request (Run asked cap) = run (the_asked asked) cap.entries
 the_request (Edit asked cap) = edit (the_asked asked) cap.entries
+the_request (Follow asked cap) = follow (the_asked asked) cap.entries
 the_request (Closed asked cap) = closed (the_asked asked) cap.entries
 the_request (Tight asked cap) = tight (the_asked asked) cap.entries
 the_request (Conflict asked cap) = conflict (the_asked asked) cap.entries

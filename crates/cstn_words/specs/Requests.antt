@@ -21,6 +21,7 @@ pub data Request : Type 0 where
   check : Asked → ℕ → Request
   run : Asked → ℕ → Request
   edit : Asked → ℕ → Request
+  follow : Asked → ℕ → Request
   closed : Asked → ℕ → Request
   tight : Asked → ℕ → Request
   conflict : Asked → ℕ → Request
@@ -110,6 +111,7 @@ capped_at command found =
     if is_same command (codes "check") then Some (check found.0 found.1)
     else if is_same command (codes "run") then Some (run found.0 found.1)
     else if is_same command (codes "edit") then Some (edit found.0 found.1)
+    else if is_same command (codes "follow") then Some (follow found.0 found.1)
     else if is_same command (codes "closed") then Some (closed found.0 found.1)
     else if is_same command (codes "tight") then Some (tight found.0 found.1)
     else if is_same command (codes "conflict") then Some (conflict found.0 found.1)
@@ -136,6 +138,7 @@ abbrev pub files_of : Request → List (List ℕ)
 files_of (check asked cap) = asked.file ∷ []
 files_of (run asked cap) = asked.file ∷ []
 files_of (edit asked cap) = asked.file ∷ []
+files_of (follow asked cap) = asked.file ∷ []
 files_of (closed asked cap) = asked.file ∷ []
 files_of (tight asked cap) = asked.file ∷ []
 files_of (conflict asked cap) = asked.file ∷ []

@@ -31,6 +31,10 @@ pub enum Request<'a> {
         asked: Asked<'a>,
         cap: Cap,
     },
+    Follow {
+        asked: Asked<'a>,
+        cap: Cap,
+    },
     Closed {
         asked: Asked<'a>,
         cap: Cap,
@@ -135,6 +139,7 @@ fn capped_at<'a>(command: &str, asked: Asked<'a>, cap: Cap) -> Option<Request<'a
         "check" => Some(Request::Check { asked, cap }),
         "run" => Some(Request::Run { asked, cap }),
         "edit" => Some(Request::Edit { asked, cap }),
+        "follow" => Some(Request::Follow { asked, cap }),
         "closed" => Some(Request::Closed { asked, cap }),
         "tight" => Some(Request::Tight { asked, cap }),
         "conflict" => Some(Request::Conflict { asked, cap }),

@@ -68,6 +68,39 @@ pub(crate) const CIRCLE: &str =
     "<graphml><graph><node id=\"Z\"/><node id=\"P\"><data key=\"Obs\">p</data><data key=\"Label\">q</data></node>\
     <node id=\"Q\"><data key=\"Obs\">q</data><data key=\"Label\">p</data></node></graph></graphml>";
 
+/// The pathway of a fever: a sample with a result an hour later, and an antibiotic where it shows an infection.
+pub(crate) const PATHWAY: &str = "<graphml><graph><data key=\"Deadline\">360</data>\
+    <node id=\"Z\"/>\
+    <node id=\"Sample\"><data key=\"Obs\">i</data><data key=\"Reaction\">60</data></node>\
+    <node id=\"Antibiotic\"><data key=\"Label\">i</data></node>\
+    <node id=\"Review\"/>\
+    <node id=\"Discharge\"/>\
+    <edge source=\"Z\" target=\"Sample\"><data key=\"LabeledValues\">{(15, ⊡)}</data></edge>\
+    <edge source=\"Antibiotic\" target=\"Sample\"><data key=\"LabeledValues\">{(-65, i)}</data></edge>\
+    <edge source=\"Sample\" target=\"Antibiotic\"><data key=\"LabeledValues\">{(90, i)}</data></edge>\
+    <edge source=\"Review\" target=\"Antibiotic\"><data key=\"LabeledValues\">{(-120, i)}</data></edge>\
+    <edge source=\"Review\" target=\"Sample\"><data key=\"LabeledValues\">{(-80, ¬i)}</data></edge>\
+    <edge source=\"Sample\" target=\"Review\"><data key=\"LabeledValues\">{(120, ¬i)}</data></edge>\
+    <edge source=\"Discharge\" target=\"Review\"><data key=\"LabeledValues\">{(-10, ⊡)}</data></edge>\
+    <edge source=\"Z\" target=\"Discharge\"><data key=\"LabeledValues\">{(360, ⊡)}</data></edge></graph></graphml>";
+
+/// The pathway of a stroke.
+pub(crate) const STROKE: &str = "<graphml><graph><data key=\"Deadline\">240</data>\
+    <node id=\"Z\"/>\
+    <node id=\"Scan\"><data key=\"Obs\">b</data><data key=\"Reaction\">5</data></node>\
+    <node id=\"Drip\"/>\
+    <node id=\"Swallow\"><data key=\"Obs\">s</data></node>\
+    <node id=\"Meal\"/>\
+    <edge source=\"Z\" target=\"Scan\"><data key=\"LabeledValues\">{(25, ⊡)}</data></edge>\
+    <edge source=\"Z\" target=\"Drip\"><data key=\"LabeledValues\">{(60, ¬b)}</data></edge>\
+    <edge source=\"Drip\" target=\"Scan\"><data key=\"LabeledValues\">{(-10, ¬b)}</data></edge>\
+    <edge source=\"Swallow\" target=\"Drip\"><data key=\"LabeledValues\">{(-30, ¬b)}</data></edge>\
+    <edge source=\"Swallow\" target=\"Z\"><data key=\"LabeledValues\">{(-90, b)}</data></edge>\
+    <edge source=\"Swallow\" target=\"Meal\"><data key=\"LabeledValues\">{(20, s)}</data></edge>\
+    <edge source=\"Meal\" target=\"Swallow\"><data key=\"LabeledValues\">{(-60, ¬s)}</data></edge>\
+    <edge source=\"Meal\" target=\"Swallow\"><data key=\"LabeledValues\">{(-1, ⊡)}</data></edge>\
+    <edge source=\"Drip\" target=\"Scan\"><data key=\"LabeledValues\">{(-5, ⊡)}</data></edge></graph></graphml>";
+
 /// The canonical document of the branch.
 pub(crate) const SAVED: &str = "<?xml version=\"1.0\" encoding=\"UTF-8\"?>
 <graphml>

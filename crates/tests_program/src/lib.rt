@@ -9,6 +9,8 @@ mod documents;
 #[cfg(test)]
 mod faults;
 #[cfg(test)]
+mod following;
+#[cfg(test)]
 mod requests;
 #[cfg(test)]
 mod sessions;

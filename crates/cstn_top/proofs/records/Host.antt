@@ -17,9 +17,9 @@ use Rattle.cstn_top.specs.Plans.{ComesTo}
 use Rattle.cstn_top.specs.Prepared.{the_plan, TellsRefused, FitsKind}
 use Rattle.cstn_reply.specs.Read.{the_said}
 use Rattle.cstn_top.specs.declared.commands.Prepared.{Prepared}
-use Rattle.cstn_top.specs.declared.commands.Prepared.TheVariants.{Says, Runs, Edits, Hosts}
+use Rattle.cstn_top.specs.declared.commands.Prepared.TheVariants.{Says, Runs, Edits, Follows, Hosts}
 use Rattle.cstn_top.specs.declared.commands.questions.Question.{Question}
-use Rattle.cstn_top.specs.Command.{a_run, an_edit, a_host}
+use Rattle.cstn_top.specs.Command.{a_run, an_edit, a_host, a_follow}
 use Rattle.cstn_top.specs.Questions.{Asks, the_question, kind_at}
 use Rattle.cstn_top.proofs.Preparing.{whole}
 use Rattle.cstn_top.proofs.Proved.{IsRight, IsProved}
@@ -70,6 +70,7 @@ host_refusal files deadline cap told question (Says said) asks comes fits = λ o
     (λ live. (whole (host files deadline cap) told question (Says said) asks comes).output live (the_said said) refl) outcome
 host_refusal files deadline cap told question (Runs opening session') asks comes fits = absurd (let same : a_host ≡ a_run = fits.1 in cc)
 host_refusal files deadline cap told question (Edits session') asks comes fits = absurd (let same : a_host ≡ an_edit = fits in cc)
+host_refusal files deadline cap told question (Follows opening session') asks comes fits = absurd (let same : a_host ≡ a_follow = fits.1 in cc)
 host_refusal files deadline cap told question (Hosts opening session') asks comes fits = tt
 
 pub host_proved : (files : List (List ℕ)) (deadline : Option ℕ) (cap : ℕ) → IsProved (host files deadline cap)

@@ -7,6 +7,7 @@ ghost use Rattle.cstn_top.specs.Questions.{the_question, IsSoundQuestion, kind_o
 use super::Prepared;
 use super::closed::closed_text;
 use super::drill::drill;
+use super::follow::follow_session;
 use super::host::host_session;
 use super::questions::Question;
 use super::run::run_session;
@@ -50,6 +51,9 @@ pub(crate) fn answer(alloc: Global, question: Question) -> Result<Prepared, Allo
         Question::Edit { document, cap } => {
             let session = Editing::start(alloc, document.network, document.names, cap.entries)?;
             Ok(Prepared::Edits(session))
+        }
+        Question::Follow { document, cap } => {
+            follow_session(alloc, document.labelled, document.names, cap)
         }
         Question::Run { document, cap } => {
             run_session(alloc, document.labelled, &document.names, cap)

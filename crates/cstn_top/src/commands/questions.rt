@@ -43,6 +43,10 @@ pub(crate) enum Question {
         document: NamedNetwork,
         cap: Cap,
     },
+    Follow {
+        document: NamedLabelled,
+        cap: Cap,
+    },
     Run {
         document: NamedLabelled,
         cap: Cap,
@@ -109,6 +113,10 @@ pub(crate) fn ask<F: Shelf>(
         Request::Edit { asked, cap } => {
             let document = open(alloc, asked, shelf)?;
             Ok(Question::Edit { document, cap })
+        }
+        Request::Follow { asked, cap } => {
+            let document = open_labelled(alloc, asked, shelf)?;
+            Ok(Question::Follow { document, cap })
         }
         Request::Run { asked, cap } => {
             let document = open_labelled(alloc, asked, shelf)?;

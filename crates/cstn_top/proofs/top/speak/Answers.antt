@@ -2,10 +2,13 @@ use Rattle.cstn_reply.specs.Written.{LiveState}
 use Rattle.cstn_reply.specs.Read.{the_said}
 use Rattle.cstn_host.specs.Sessions.{host_turn, host_ending}
 use Rattle.cstn_host.specs.SessionRead.{the_host_session}
+use Rattle.cstn_follow.specs.Following.{following_ending}
+use Rattle.cstn_follow.specs.Read.{the_following}
 use Rattle.cstn_run.specs.Sessions.{guided_turn, guided_ending}
-use Rattle.cstn_top.specs.declared.commands.Prepared.TheVariants.{Says, Runs, Edits, Hosts}
+use Rattle.cstn_top.specs.declared.commands.Prepared.TheVariants.{Says, Runs, Edits, Follows, Hosts}
+use Rattle.cstn_top.specs.commands.Follow.{follow_turn}
 use Rattle.cstn_top.specs.Told.{view}
-use Rattle.cstn_top.proofs.Endings.{text_end, opened_ends, ends_as, unasked, wants_as}
+use Rattle.cstn_top.proofs.Endings.{text_end, opened_ends, opened_ended, ends_as, unasked, wants_as}
 use Rattle.cstn_top.proofs.top.speak.Goals as goal
 
 pub returns-in-Says-clause-ends : goal.returns-in-Says-clause-ends
@@ -22,6 +25,11 @@ returns-in-Runs-clause-ends g c =
 pub returns-in-Edits-clause-ends : goal.returns-in-Edits-clause-ends
 returns-in-Edits-clause-ends g c = ends_as _ (Edits c.in-Edits.session) _ _ _ _ _ c.in-Edits.is c.converse-in-Edits.ensures.ends
 
+pub returns-in-Follows-clause-ends : goal.returns-in-Follows-clause-ends
+returns-in-Follows-clause-ends g c =
+    ends_as _ (Follows c.in-Follows.opening c.in-Follows.session) _ _ _ _ _ c.in-Follows.is
+    (opened_ended follow_turn following_ending (the_following c.in-Follows.session) _ _ _ _ _ _ _ c.deref-in-Follows.ensures.value c.converse-in-Follows.ensures.ends)
+
 pub returns-in-Hosts-clause-ends : goal.returns-in-Hosts-clause-ends
 returns-in-Hosts-clause-ends g c =
     ends_as _ (Hosts c.in-Hosts.opening c.in-Hosts.session) _ _ _ _ _ c.in-Hosts.is
@@ -32,6 +40,9 @@ returns-in-Runs-clause-memory g c is = unasked _ _ _ _ (c.converse.ensures.memor
 
 pub returns-in-Edits-clause-memory : goal.returns-in-Edits-clause-memory
 returns-in-Edits-clause-memory g c is = wants_as _ _ (Edits c.in-Edits.session) _ c.in-Edits.is (c.converse-in-Edits.ensures.memory is)
+
+pub returns-in-Follows-clause-memory : goal.returns-in-Follows-clause-memory
+returns-in-Follows-clause-memory g c is = wants_as _ _ (Follows c.in-Follows.opening c.in-Follows.session) _ c.in-Follows.is (c.converse-in-Follows.ensures.memory is)
 
 pub returns-in-Hosts-clause-memory : goal.returns-in-Hosts-clause-memory
 returns-in-Hosts-clause-memory g c is = wants_as _ _ (Hosts c.in-Hosts.opening c.in-Hosts.session) _ c.in-Hosts.is (c.converse-in-Hosts.ensures.memory is)

@@ -70,6 +70,14 @@ pub returns-in-Run-clause-fits : goal.returns-in-Run-clause-fits
 returns-in-Run-clause-fits c =
     subst (λ (q : Question). IfOk c.run_session.result (FitsKind (kind_of q))) (sym c.in-Run.is) c.run_session.ensures.fits
 
+pub returns-in-Follow-clause-comes : goal.returns-in-Follow-clause-comes
+returns-in-Follow-clause-comes c =
+    subst (λ (q : Question). IfOk c.follow_session.result (λ prepared. ComesTo (the_question q) (the_plan prepared))) (sym c.in-Follow.is) c.follow_session.ensures.comes
+
+pub returns-in-Follow-clause-fits : goal.returns-in-Follow-clause-fits
+returns-in-Follow-clause-fits c =
+    subst (λ (q : Question). IfOk c.follow_session.result (FitsKind (kind_of q))) (sym c.in-Follow.is) c.follow_session.ensures.fits
+
 pub returns-in-Host-clause-comes : goal.returns-in-Host-clause-comes
 returns-in-Host-clause-comes c =
     subst (λ (q : Question). IfOk c.host_session.result (λ prepared. ComesTo (the_question q) (the_plan prepared))) (sym c.in-Host.is) c.host_session.ensures.comes

@@ -1,6 +1,6 @@
 use Rattle.std.proofs.Common.{◌≡◌, ◌≤◌, ℕ, List, length, map, string_bytes, refl, ap, sym, subst}
 use Rattle.std.specs.Prelude.{Option, Err, IsErrAnd}
-use Rattle.cstn_words.specs.Requests.{check, run, edit, closed, tight, conflict, tree, save, replay, closedcheck, treecheck}
+use Rattle.cstn_words.specs.Requests.{check, run, edit, follow, closed, tight, conflict, tree, save, replay, closedcheck, treecheck}
 use Rattle.cstn_words.specs.Read.{the_asked, the_request}
 use Rattle.cstn_words.specs.declared.words.Request.{Request}
 use Rattle.cstn_documents.specs.Opened.{IsFile, IsTextOf, IsLongText}
@@ -17,11 +17,13 @@ use Rattle.cstn_top.specs.commands.Closedcheck.{certified}
 use Rattle.cstn_top.specs.commands.Treecheck.{tree_checked}
 use Rattle.cstn_top.specs.commands.Run.{carried_out}
 use Rattle.cstn_top.specs.commands.Edit.{edited}
+use Rattle.cstn_top.specs.commands.Follow.{followed}
 use Rattle.cstn_top.specs.commands.Save.{saved}
 use Rattle.cstn_top.specs.Questions.{Asks, TellsInstead, kind_at}
-use Rattle.cstn_top.specs.Command.{a_text, a_run, an_edit, a_host}
-use Rattle.cstn_top.specs.declared.commands.questions.Question.TheVariants.{Check, Closed, Tight, Conflict, Tree, Edit, Run, Save, Replay, Closedcheck, Treecheck, Drill, Host}
-use Rattle.cstn_top.proofs.Opening.{of_check, of_closed, of_tight, of_conflict, of_tree, of_edit, of_run, of_save, of_replay, of_closedcheck, of_treecheck, plain_asked, lowered_asked, labelled_asked, refused_told, plainly_told, lowered_with_text, plain_with_text, refused_before_text, plainly_before_text, long_after_lowered, long_after_plain}
+use Rattle.cstn_top.specs.Command.{a_text, a_run, an_edit, a_follow, a_host}
+use Rattle.cstn_top.specs.declared.commands.questions.Question.TheVariants.{Check, Closed, Tight, Conflict, Tree, Edit, Follow, Run, Save, Replay, Closedcheck, Treecheck, Drill, Host}
+use Rattle.cstn_top.proofs.Opening.{of_check, of_closed, of_tight, of_conflict, of_tree, of_edit, of_follow, of_run, of_save, of_replay, of_closedcheck, of_treecheck, plain_asked, lowered_asked, labelled_asked, refused_told, plainly_told, lowered_with_text, plain_with_text, refused_before_text, plainly_before_text, long_after_lowered, long_after_plain}
+use Rattle.cstn_top.proofs.FollowedDocuments.{labelled_ids}
 use Rattle.cstn_top.proofs.Drills.{drill_asked}
 use Rattle.cstn_top.proofs.Hosted.{host_asked}
 use Rattle.cstn_top.proofs.Hosts.{host_told}
@@ -136,6 +138,24 @@ pub returns-in_err-document-in-Edit-clause-refused : goal.returns-in_err-documen
 returns-in_err-document-in-Edit-clause-refused g c said e =
     let told : IsErrAnd c.from_residual-in_err-document-in-Edit.result (λ x. x ≡ c.in_err-document-in-Edit.field-0.0) = c.from_residual-in_err-document-in-Edit.ensures.1 in
     subst (λ (r : Request). TellsInstead (the_request r) (g.F.Shelf.files c.args.shelf.now) said) (sym c.in-Edit.is) (record { plan = plainly_told (edit (the_asked c.in-Edit.asked) c.in-Edit.cap.entries) (the_asked c.in-Edit.asked) (edited c.in-Edit.cap.entries) (g.F.Shelf.files c.args.shelf.now) said (of_edit (the_asked c.in-Edit.asked) c.in-Edit.cap.entries) (c.in_err-document-in-Edit.ensures.refused said (ap Err (handed_on c.from_residual-in_err-document-in-Edit.result c.in_err-document-in-Edit.field-0.0 (Told said) told e))); refused = tt })
+
+pub returns-in_ok-document-in-Follow-clause-asks : goal.returns-in_ok-document-in-Follow-clause-asks
+returns-in_ok-document-in-Follow-clause-asks g c =
+    subst (λ (r : Request). Asks (the_request r) (g.F.Shelf.files c.args.shelf.now) (Follow c.in_ok-document-in-Follow.document c.in-Follow.cap)) (sym c.in-Follow.is)
+    (labelled_asked (follow (the_asked c.in-Follow.asked) c.in-Follow.cap.entries) (the_asked c.in-Follow.asked) (followed c.in-Follow.cap.entries) (g.F.Shelf.files c.args.shelf.now) c.in_ok-document-in-Follow.document (Follow c.in_ok-document-in-Follow.document c.in-Follow.cap) (of_follow (the_asked c.in-Follow.asked) c.in-Follow.cap.entries) refl c.in_ok-document-in-Follow.ensures.opened)
+
+pub returns-in_ok-document-in-Follow-clause-kind : goal.returns-in_ok-document-in-Follow-clause-kind
+returns-in_ok-document-in-Follow-clause-kind g c =
+    subst (λ (r : Request). a_follow ≡ kind_at (the_request r)) (sym c.in-Follow.is) refl
+
+pub returns-in_ok-document-in-Follow-clause-sound : goal.returns-in_ok-document-in-Follow-clause-sound
+returns-in_ok-document-in-Follow-clause-sound g c =
+    (c.in_ok-document-in-Follow.ensures.opened.is.names, labelled_ids _ _ c.in_ok-document-in-Follow.document c.in_ok-document-in-Follow.ensures.opened.is)
+
+pub returns-in_err-document-in-Follow-clause-refused : goal.returns-in_err-document-in-Follow-clause-refused
+returns-in_err-document-in-Follow-clause-refused g c said e =
+    let told : IsErrAnd c.from_residual-in_err-document-in-Follow.result (λ x. x ≡ c.in_err-document-in-Follow.field-0.0) = c.from_residual-in_err-document-in-Follow.ensures.1 in
+    subst (λ (r : Request). TellsInstead (the_request r) (g.F.Shelf.files c.args.shelf.now) said) (sym c.in-Follow.is) (record { plan = refused_told (follow (the_asked c.in-Follow.asked) c.in-Follow.cap.entries) (the_asked c.in-Follow.asked) (followed c.in-Follow.cap.entries) (g.F.Shelf.files c.args.shelf.now) said (of_follow (the_asked c.in-Follow.asked) c.in-Follow.cap.entries) (c.in_err-document-in-Follow.ensures.refused said (ap Err (handed_on c.from_residual-in_err-document-in-Follow.result c.in_err-document-in-Follow.field-0.0 (Told said) told e))); refused = tt })
 
 pub returns-in_ok-document-in-Run-clause-asks : goal.returns-in_ok-document-in-Run-clause-asks
 returns-in_ok-document-in-Run-clause-asks g c =

@@ -1,0 +1,139 @@
+-- `follow FILE [--deadline N] [--cap CAP]`: what happens while a plan is carried out is told by the lines of the live source.
+use Rattle.std.specs.Prelude.{◌≡◌, ◌⊎◌, ◌<◌, ℕ, true, false, List, [], ◌∷◌, ◌++◌, Option, Some, codes}
+use Rattle.cstn_io.specs.Contents.{with_bytes, IsAllOf}
+use Rattle.cstn_lift.specs.Labelled.{Labelled}
+use Rattle.cstn_lift.specs.Lowered.{lowered}
+use Rattle.cstn_lift.specs.Read.{the_labelled}
+use Rattle.cstn_graphml.specs.Answers.{CanBeHeld}
+use Rattle.cstn_save.specs.Canonical.{canonical}
+use Rattle.cstn_check.specs.Growth.{load_of}
+use Rattle.cstn_check.specs.declared.verdicts.Verdict.{Verdict}
+use Rattle.cstn_check.specs.declared.verdicts.Verdict.TheVariants.{Yes, No, Full as IsFullVerdict}
+use Rattle.cstn_history.specs.Continuations.{Can}
+use Rattle.cstn_lines.specs.Pieces.{heard_lines}
+use Rattle.cstn_lines.specs.FollowLines.{Follow, follow_read, done_at, came_at, now_at, awaited_at, edits, ends_by, asks_next, asks_by, asks_blame, asks_rest}
+use Rattle.cstn_follow.specs.Following.{Following, Heard, says, saves, begun, left_now, verdict_now, verdict_line, is_any_open, following_ending}
+use Rattle.cstn_follow.specs.Hearing.{hear}
+use Rattle.cstn_follow.specs.declared.sessions.Heard.{Heard as HeardText}
+use Rattle.cstn_follow.specs.declared.sessions.Heard.TheVariants.{Text, Rest}
+use Rattle.cstn_words.specs.Requests.{Asked}
+use Rattle.cstn_reply.specs.Texts.{Said, line}
+use Rattle.cstn_reply.specs.Sessions.{Turn, more, play}
+use Rattle.cstn_reply.specs.Reached.{state_after}
+use Rattle.cstn_reply.specs.declared.status.Status.{Status}
+use Rattle.cstn_reply.specs.declared.status.Status.TheVariants.{Good, Bad, Document, Full, Unfinished, Script}
+use Rattle.cstn_documents.specs.Files.{AreThere}
+use Rattle.cstn_documents.specs.Documents.{HasLabelled, IsNoDocument}
+use Rattle.cstn_top.specs.Plans.{ended_session}
+use Rattle.cstn_top.specs.Answers.{LabelledAnswer, on_labelled}
+use Rattle.cstn_top.specs.Lines.{StopsAtLine}
+use Rattle.cstn_top.specs.Command.{Command, a_follow, Nothing, file_in}
+
+-- what is said to a line is a text, or the canonical document of what is left
+abbrev pub heard_turn : Heard → Turn Following
+heard_turn (says text next) = more text next
+heard_turn (saves m names next) = more (canonical m names) next
+
+-- the text of what the program says to a line
+abbrev pub heard_text : HeardText → List ℕ
+heard_text (Text text) = text.items
+heard_text (Rest network names) = canonical (the_labelled network) names
+
+-- the answer to a line, which may be none of the session
+abbrev pub follow_turn : Following → List ℕ → Turn Following
+follow_turn s text = heard_turn (hear s (follow_read text))
+
+-- the version of the lines, and the first verdict
+abbrev pub follow_opening : Following → List ℕ
+follow_opening s = line (codes "follow 1") ++ verdict_line s.cap (verdict_now s)
+
+-- what `follow` says of a labelled network
+abbrev pub followed : ℕ → LabelledAnswer
+followed cap names m = ended_session follow_turn following_ending (follow_opening (begun cap names m)) (begun cap names m)
+
+-- what is said to lines, after the opening
+abbrev pub said_to_lines : ℕ → List (List ℕ) → Labelled → List (List ℕ) → Said
+said_to_lines cap names m lines = play follow_turn following_ending (begun cap names m) 0 lines
+
+-- the line tells what has happened, or what is expected
+abbrev pub IsFact : Follow → Type 0
+IsFact (done_at t names) = Unit {0}
+IsFact (came_at t p value) = Unit {0}
+IsFact (now_at t) = Unit {0}
+IsFact (awaited_at t p) = Unit {0}
+IsFact (edits edit) = ⊥
+IsFact (ends_by deadline) = ⊥
+IsFact asks_next = ⊥
+IsFact (asks_by name) = ⊥
+IsFact asks_blame = ⊥
+IsFact asks_rest = ⊥
+
+-- what a verdict says of what has happened: some table continues it, or none does, or the log of what is left is too long
+abbrev pub IsTrueOf : Following → Verdict → Type 0
+IsTrueOf s (Yes load) = Can s.network s.history
+IsTrueOf s (No load) = Can s.network s.history → ⊥
+IsTrueOf s IsFullVerdict = s.cap < load_of (lowered (left_now s))
+
+-- the lines of the live source, which has these bytes, lead to a state in which nothing is left, and of which this holds
+pub record EndsWith (told : Option (List ℕ)) (cap : ℕ) (names : List (List ℕ)) (m : Labelled) (holds : Following → Type 0) : Type 0 where
+  pub live : List ℕ
+  pub all : IsAllOf told live
+  pub reached : Following
+  pub leads : state_after follow_turn (begun cap names m) 0 (heard_lines true live) ≡ Some reached
+  pub over : is_any_open reached ≡ false
+  pub is : holds reached
+
+-- the status says that some table continues what has happened, or that none does, or that the log of what is left is too long
+abbrev pub IsVerdictOn : Status → Following → Type 0
+IsVerdictOn status s =
+    ((status ≡ Good) × Can s.network s.history)
+    ⊎ (((status ≡ Bad) × (Can s.network s.history → ⊥))
+    ⊎ ((status ≡ Full) × (s.cap < load_of (lowered (left_now s)))))
+
+-- how a session ends over its lines: in the state that they lead to, while something is left or by the verdict on what has happened,
+-- or at a line that is too long or too late
+abbrev pub FollowEnds : ℕ → Status → List (List ℕ) → Labelled → List (List ℕ) → Type 0
+FollowEnds cap status names m lines =
+    ((reached : Following) × (state_after follow_turn (begun cap names m) 0 lines ≡ Some reached)
+    × (((status ≡ Unfinished) × (is_any_open reached ≡ true)) ⊎ ((is_any_open reached ≡ false) × IsVerdictOn status reached)))
+    ⊎ ((status ≡ Script) × StopsAtLine follow_turn (begun cap names m) (λ text. ⊥) lines (said_to_lines cap names m lines).text)
+
+-- what is said to the lines was written after the opening, and the session ends by them
+pub record WroteFollowing (cap : ℕ) (told old new : Option (List ℕ)) (status : Status) (names : List (List ℕ)) (m : Labelled) : Type 0 where
+  pub live : List ℕ
+  pub all : IsAllOf told live
+  pub wrote : new ≡ with_bytes old (follow_opening (begun cap names m) ++ (said_to_lines cap names m (heard_lines true live)).text)
+  pub ends : FollowEnds cap status names m (heard_lines true live)
+
+abbrev pub follow_command : Asked → ℕ → Command
+follow_command asked cap = record {
+  plan = λ contents. on_labelled (followed cap) (file_in contents) asked.deadline;
+  kind = a_follow;
+  -- nothing is left, and some table continues what has happened; or none does; or the log of what is left has more entries than it may
+  good = λ live contents. HasLabelled (file_in contents) asked.deadline (λ names m. EndsWith live cap names m (λ s. Can s.network s.history));
+  bad = λ live contents. HasLabelled (file_in contents) asked.deadline (λ names m. EndsWith live cap names m (λ s. Can s.network s.history → ⊥));
+  full = λ live contents.
+      HasLabelled (file_in contents) asked.deadline (λ names m. EndsWith live cap names m (λ s. s.cap < load_of (lowered (left_now s))));
+  wide = λ contents. ⊥;
+  -- how a session ends is told of its lines
+  complete = λ status contents. Nothing;
+  good_text = λ text contents. Nothing;
+  bad_text = λ text contents. Nothing;
+  refused = λ told contents. AreThere told (asked.file ∷ []);
+  lines = record {
+    -- where the document has a labelled network
+    reads = λ contents. HasLabelled (file_in contents) asked.deadline (λ names m. Nothing);
+    wants = λ contents. HasLabelled (file_in contents) asked.deadline (λ names m. Nothing);
+    -- to every line
+    wants_at = λ line. true;
+    least = λ contents. Nothing;
+    carried_out = λ live old new contents. Nothing;
+    unfinished = λ live old new contents. Nothing;
+    -- the document is refused, or the session ends by the labelled network and the lines
+    ended = λ status live old new contents.
+        ((status ≡ Document) × IsNoDocument (file_in contents) asked.deadline)
+        ⊎ HasLabelled (file_in contents) asked.deadline (λ names m. WroteFollowing cap live old new status names m);
+  };
+  ranged = Nothing;
+  held = λ contents. CanBeHeld (file_in contents) asked.deadline;
+}

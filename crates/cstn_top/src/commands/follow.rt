@@ -1,0 +1,133 @@
+// `follow FILE [--deadline N] [--cap CAP]`
+ghost use Rattle.std.specs.Prelude.{ℕ, List, ◌≡◌, ◌≤◌, ◌<◌, ◌^◌, ◌++◌, [], true, length, slice_get, vec_capacity, Some, IfOk, OnOk, codes};
+ghost use Rattle.std.specs.List.{All};
+ghost use Rattle.cstn_net.specs.Networks.{count};
+ghost use Rattle.cstn_lift.specs.Read.{the_labelled};
+ghost use Rattle.cstn_follow.specs.Following.{Following as FollowingState, following_ending, verdict_line};
+ghost use Rattle.cstn_follow.specs.Read.{the_following, IsSaidFor};
+ghost use Rattle.cstn_reply.specs.Texts.{line};
+ghost use Rattle.cstn_reply.specs.Written.{EndsLine};
+ghost use Rattle.cstn_top.specs.Plans.{ComesTo};
+ghost use Rattle.cstn_top.specs.Prepared.{the_plan, FitsKind};
+ghost use Rattle.cstn_top.specs.Command.{a_follow};
+ghost use Rattle.cstn_top.specs.commands.Follow.{heard_text, follow_turn, followed};
+
+use super::Prepared;
+use cstn_check::Verdict;
+use cstn_follow::{Following, Heard};
+use cstn_lift::Labelled;
+use cstn_lines::read_follow;
+use cstn_reply::{Answer, Outcome, Talk};
+use cstn_save::write;
+use cstn_text::Names;
+use cstn_words::Cap;
+use std::alloc::{AllocError, Global};
+use std::marker::Model;
+
+// How many bytes the opening, or what is said where the lines end, has at most.
+const ROOM: usize = 64;
+
+/// A session that follows what happens, over the lines of the live source.
+#[derive(Drop)]
+pub(crate) struct Follower {
+    alloc: Global,
+    following: Following,
+}
+
+impl Model for Follower {
+    ghost use Rattle.std.specs.Prelude.{◌≡◌, slice_get, Some, codes};
+    ghost use Rattle.cstn_follow.specs.Read.{FollowingParts};
+
+    ghost Value = { FollowingParts };
+
+    ghost view = { λ f. f.following };
+
+    ghost invariant = { λ f. slice_get f.following.names 0 ≡ Some (codes "Z") };
+}
+
+impl Talk for Follower {
+    ghost State = { FollowingState };
+
+    ghost state = { the_following };
+
+    ghost turn = { follow_turn };
+
+    ghost ending = { following_ending };
+
+    ghost room = { λ _. 64 };
+
+    ghost ends = { true };
+
+    ghost may_stop = { λ _. true };
+
+    fn room(&self) -> usize {
+        ROOM
+    }
+
+    fn ends(&self) -> bool {
+        true
+    }
+
+    fn answer(&mut self, line: &[u8], text: &mut Vec<u8>) -> Result<Answer, AllocError> {
+        let said = read_follow(self.alloc, line)?;
+        let heard = self.following.hear(said)?;
+        put_heard(self.alloc, heard, text)?;
+        Ok(Answer::More)
+    }
+
+    fn ending(&self, text: &mut Vec<u8>) -> Outcome {
+        self.following.ending(text)
+    }
+}
+
+// Puts what is said to a line: a text, or the canonical document of what is left.
+fn put_heard(alloc: Global, heard: Heard, text: &mut Vec<u8>) -> Result<(), AllocError>
+    requires empty { text.old.items ≡ [] }
+    requires said { (names : List (List ℕ)) × (slice_get names 0 ≡ Some (codes "Z")) × IsSaidFor names heard }
+    ensures text { OnOk result (text.new.items ≡ heard_text heard) }
+    ensures lines { OnOk result (EndsLine text.new.items) }
+    ensures capacity { vec_capacity text.old ≤ vec_capacity text.new }
+{
+    match heard {
+        Heard::Text(bytes) => text.extend_from_slice(&bytes),
+        Heard::Rest { network, names } => {
+            let document = write(alloc, &network, &names)?;
+            text.extend_from_slice(&document)?;
+            Ok(())
+        }
+    }
+}
+
+/// What is said of a labelled network: the version of the lines, the verdict, and then the answers to the lines. Fails for want
+/// of memory alone.
+pub(crate) fn follow_session(
+    alloc: Global,
+    labelled: Labelled,
+    names: Names,
+    cap: Cap,
+) -> Result<Prepared, AllocError>
+    requires named { length names ≡ count (the_labelled labelled).base }
+    requires origin { slice_get names 0 ≡ Some (codes "Z") }
+    requires ids { All (λ c. c.id < 2 ^ 31) (the_labelled labelled).base.constraints }
+    ensures comes { IfOk result (λ prepared. ComesTo (followed cap.entries names (the_labelled labelled)) (the_plan prepared)) }
+    ensures fits { IfOk result (FitsKind a_follow) }
+{
+    let following = Following::start(alloc, labelled, names, cap.entries)?;
+    let opening = opening(alloc, following.verdict(), cap.entries)?;
+    Ok(Prepared::Follows {
+        opening,
+        session: Follower { alloc, following },
+    })
+}
+
+// The version of the lines, and the line of a verdict.
+fn opening(alloc: Global, verdict: Verdict, cap: u32) -> Result<Vec<u8>, AllocError>
+    ensures opening { IfOk result (λ text. text.items ≡ line (codes "follow 1") ++ verdict_line cap verdict) }
+{
+    let text = match verdict {
+        Verdict::Yes { load } => format!(in alloc; "follow 1\nyes {load}\n")?,
+        Verdict::No { load } => format!(in alloc; "follow 1\nno {load}\n")?,
+        Verdict::Full => format!(in alloc; "follow 1\nfull {cap}\n")?,
+    };
+    Ok(text.into_bytes())
+}

@@ -1,0 +1,61 @@
+#!/usr/bin/env python3
+"""Follows a plan whose events come late and early, is killed halfway, and goes on from its journal.
+
+    examples/follow.py PROGRAM          PROGRAM is crates/cstn/out/cstn
+
+What happens is told line by line. Each line that is accepted is put into the journal before anything rests on it: said
+again, the journal brings the session back.
+"""
+import os
+import subprocess
+import sys
+import tempfile
+
+DOCUMENT = os.path.join(os.path.dirname(os.path.abspath(__file__)), "clinical-pathway.graphml")
+
+# What happens at the bedside: the sample is in time, its result is late at first and then earlier than was said, the antibiotic
+# is late too, and the rest is done when it is named.
+EVENTS = ["did 5 Sample", "now 65", "await 90 i", "saw 80 i true", "did 91 Antibiotic", "did 211 Review", "did 221 Discharge"]
+
+
+class Followed:
+    """A session over a document, with the journal of the lines that it accepted."""
+
+    def __init__(self, program, document, journal):
+        self.child = subprocess.Popen([program, "follow", document], stdin=subprocess.PIPE, stdout=subprocess.PIPE, text=True, encoding="utf-8")
+        assert self.child.stdout.readline() == "follow 1\n"
+        self.verdict = self.child.stdout.readline().rstrip("\n")
+        self.journal = open(journal, "a+", encoding="utf-8", newline="\n")
+        self.journal.seek(0)
+        for line in self.journal.readlines():
+            self.verdict = self.ask(line.rstrip("\n"))
+
+    def ask(self, line):
+        self.child.stdin.write(line + "\n")
+        self.child.stdin.flush()
+        return self.child.stdout.readline().rstrip("\n")
+
+    def tell(self, line):
+        self.verdict = self.ask(line)
+        if not self.verdict.startswith("refused "):
+            self.journal.write(line + "\n")
+            self.journal.flush()
+            os.fsync(self.journal.fileno())
+        return self.verdict
+
+
+def follow(program, journal, events):
+    session = Followed(program, DOCUMENT, journal)
+    print(f"{session.verdict}, {session.ask('next')}")
+    for line in events:
+        print(f"  {line}: {session.tell(line)}, {session.ask('next')}")
+    return session
+
+
+if __name__ == "__main__":
+    with tempfile.TemporaryDirectory() as folder:
+        journal = os.path.join(folder, "journal")
+        follow(sys.argv[1], journal, EVENTS[:4]).child.kill()
+        print("killed")
+        session = follow(sys.argv[1], journal, EVENTS[4:])
+        print(session.child.communicate()[0].rstrip("\n"), session.child.returncode)
