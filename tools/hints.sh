@@ -10,8 +10,8 @@ tell_commands() {
   echo "./cstn COMMAND ..: exact forms, answers and statuses are in docs/commands.md"
   commands '  \1\n      \2'
   echo "./cstn --version says which kit is needed, the sum of the sources and the version of the lines"
-  echo "tools/explain FILE [PROOF] says a document, a no or a tree in words, what of FILE was passed over, and why it is refused"
-  echo "What \`refused ..\` means in run, edit and host, and what to do: docs/guide.md, under \"Every refusal\""
+  echo "tools/explain FILE [PROOF] says a document, a no, a tree or what follow answers in words, what of FILE was passed over, and why it is refused"
+  echo "What \`refused ..\` means in run, edit, follow and host, and what to do: docs/guide.md, under \"Every refusal\""
   echo "The one file to install is crates/cstn/out/cstn; CSTN_NO_BUILD=1 ./cstn COMMAND .. never begins a build"
 }
 
@@ -86,14 +86,16 @@ lines_of() {
   case $1 in
     run) echo "moment T, see P true, see P false, due" ;;
     edit) echo "add FROM TO W LABEL (LABEL is - or as in p!q, never with ¬; W is from -1000000000 to 1000000000 and has no +; a space in a name is %20), remove ID, change ID W, check" ;;
+    follow) echo "did T NAME NAME .. (done at T), saw T P true, saw T P false (an outcome at T), now T, await T P (expected at T), next, by NAME, check, blame, rest, deadline N, and add FROM TO W LABEL, remove ID, change ID W" ;;
     host) echo "open ID K, on ID moment T, on ID see P true, on ID see P false, on ID due, close ID" ;;
   esac
 }
 
-# What the refusals of a run mean.
+# What the refusals of a run, and of a session that follows, mean.
 refusals_of() {
   case $1 in
     run | host) echo "E1 the moment is not above the last one, E2 another moment is due before, E3 an outcome is awaited by then, E4 not observed yet, or never, E5 told already" ;;
+    follow) echo "F1 it is later already, F2 a moment out of range, F3 no such time-point, F4 done already, F5 its label is not decided, F6 nobody who was done observes it, F7 told already, F8 too many constraints, \`line N\` none of these lines" ;;
   esac
 }
 
@@ -112,7 +114,7 @@ tell_copies() {
       [ -t 0 ] || return 0
       warning="has edges that stand there for a label. Do not remove or change their ids: the document has no such constraint"
       ;;
-    *) warning="names time-points also where their labels do not hold. Do not carry it out: run the document itself" ;;
+    *) warning="names time-points also where their labels do not hold. Do not carry it out: run or follow the document itself" ;;
   esac
   files "$@" | while IFS= read -r file; do
     [ -f "$file" ] && head -n 5 "$file" 2>/dev/null | grep -qF '<!-- A copy without labels on time-points' || continue
@@ -128,6 +130,7 @@ tell_lines() {
       echo "cstn: that line is none of: $(lines_of "$1"). Words are lower case, and an empty line, or one with a CR at its end, is none"
       echo "cstn: everything ended at that line; N counts the lines from 1. Begin again, say the lines that were accepted, and go on"
       ;;
+    follow) echo "cstn: a line has 4096 bytes at most, and a session 16777216 lines. Begin again, say the lines that were accepted, and go on" ;;
     replay) echo "cstn: PROOF is no text of a no of FILE, from its line no LOAD to its last step, or has a name that FILE lacks. Of what conflict wrote leave out the first line, of what tight wrote all lines above no" ;;
     closedcheck) echo "cstn: PROOF is no text that closed wrote after a yes: of what tight wrote take the lines from yes up to no" ;;
     treecheck) echo "cstn: PROOF is no text that tree wrote after a yes" ;;
@@ -171,6 +174,7 @@ save_says() (
 labels_of() {
   case $1 in
     conflict) echo "conflict takes no labels on time-points; tools/explain --conflict FILE asks it of a copy without them, and tells the answer with the lines of FILE" ;;
+    edit) echo "edit takes no labels on time-points; follow has the same edits, and takes them" ;;
     host) echo "host takes no labels on time-points; carry out such a document by run, once for each plan" ;;
     tree) echo "tree takes no labels on time-points; tools/explain --plain FILE writes a copy without them, to be checked and edited; tools/explain --tree FILE says its tree in words" ;;
     *) echo "$1 takes no labels on time-points; tools/explain --plain FILE writes a copy without them, to be checked and edited" ;;
@@ -182,7 +186,7 @@ tell_document() {
   [ -z "${CSTN_EXPLAINED-}" ] || return 0
   why="the document is refused; tools/explain FILE says why, and shows the line"
   case $1 in
-    check | run | save | replay | closed | closedcheck | tight) said=refused ;;
+    check | run | follow | save | replay | closed | closedcheck | tight) said=refused ;;
     *) said=$(save_says "$@") ;;
   esac
   case $said in

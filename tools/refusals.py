@@ -78,6 +78,7 @@ class Reader:
             self.note(f"data with the key {attributes.get('key')} in {above} is passed over{self.near(attributes.get('key'), above)}")
         elif name == "node":
             self.nodes.append(attributes.get("id"))
+            self.lines[attributes.get("id"), "id"] = self.parser.CurrentLineNumber
         elif name == "edge":
             self.edge, self.type = {"line": self.parser.CurrentLineNumber, "ends": (attributes.get("source"), attributes.get("target")), "values": ""}, "requirement"
         self.key = attributes.get("key") if name == "data" else None

@@ -1,0 +1,91 @@
+"""Answers of `follow` in words, with the lines of the document: what is next, until when a step can wait, and what is to blame."""
+import re
+
+from networks import constraint, counts_where, network_data, printed, ticks
+
+# The answers that are put into words.
+ANSWER = re.compile(r"next (?P<next>\d+)(?: do (?P<do>\S+(?: \S+)*?))?(?: wait (?P<wait>[A-Za-z]+))?|by (?P<by>\d+) (?P<name>\S+)|blame(?P<blame>(?: \d+)*)")
+
+
+def is_answer(text):
+    """Whether a word is an answer that is put into words."""
+    return bool(ANSWER.fullmatch(text))
+
+
+def is_followed(text):
+    """Whether a text is what `follow` wrote, from its start or from such an answer on."""
+    return bool(re.match(r"follow \d+\n", text) or is_answer(text.split("\n")[0]))
+
+
+def lacking(net, answer):
+    """What an answer names that the document lacks, in words."""
+    names = [printed(name) for name in (answer["do"] or answer["name"] or "").split()]
+    lacks = [f"no time-point {name}" for name in names if name not in net.names]
+    return lacks + [f"nobody who observes {letter}" for letter in answer["wait"] or "" if letter not in net.observed.values()]
+
+
+def placed(net, name):
+    """A time-point with its line in the document, as data and in words."""
+    line = net.lines.get((name, "id"))
+    return {"name": name, "line": line}, f"{name} (line {line})" if line else name
+
+
+def tell_next(net, answer):
+    """What is to be executed at the next moment and what is awaited at it, as data and in words."""
+    moment, says, awaited = answer["next"], [], []
+    points = [placed(net, printed(name)) for name in (answer["do"] or "").split()]
+    if points:
+        says.append(f"At {moment} {' and '.join(words for _, words in points)} {'is' if len(points) == 1 else 'are'} to be executed.")
+    for letter in answer["wait"] or "":
+        point, words = placed(net, next(name for name, observed in net.observed.items() if observed == letter))
+        says.append(f"At {moment} the outcome of {letter} is awaited: {words} observes it, and its reaction is {ticks(net.reaction(point['name']))}.")
+        awaited.append({"letter": letter, "observer": point["name"], "line": point["line"]})
+    return {"answer": "next", "moment": int(moment), "do": [point for point, _ in points], "wait": awaited, "says": says}
+
+
+def tell_by(net, answer):
+    """Until when a time-point can wait, as data and in words."""
+    point, words = placed(net, printed(answer["name"]))
+    return {"answer": "by", "moment": int(answer["by"]), **point, "says": [f"{words} can wait until {answer['by']}, and no longer."]}
+
+
+def tell_blame(net, answer, changed):
+    """The constraints that are to blame, by the lines of the document, as data and in words; some were changed by edits."""
+    numbers, known = [int(number) for number in answer["blame"].split()], network_data(net)["constraints"]
+    says = ["No constraint is to blame: what has happened leaves nothing even without them, as after the deadline, or where a label cannot be known by then."]
+    if numbers:
+        says = ["After what has happened this cannot be met:" if len(numbers) == 1 else "After what has happened these cannot be met together; with any one of them less the others can:"]
+    for number in numbers:
+        if number < len(known):
+            edited = ", as FILE has it; an edit has changed it" if number in changed else ""
+            says.append(f"{net.called(number)}: {constraint(*net.constraints[number])}{counts_where(net, number)}{edited}")
+        else:
+            says.append(f"{number}: a constraint that FILE lacks, so an edit has added it")
+    return {"answer": "blame", "constraints": [known[it] if it < len(known) else {"id": it, "line": None} for it in numbers], "says": says}
+
+
+def tell_answer(net, answer, changed):
+    """An answer as data and in words."""
+    if answer["next"]:
+        return tell_next(net, answer)
+    return tell_by(net, answer) if answer["by"] else tell_blame(net, answer, changed)
+
+
+def tell_followed(net, text):
+    """The answers of a text that `follow` wrote: the status, data and lines."""
+    told, says, lacks, changed = [], [], [], set()
+    for line in text.split("\n"):
+        answer, edit = ANSWER.fullmatch(line), re.fullmatch(r"changed (\d+)", line)
+        if edit:
+            changed.add(int(edit[1]))
+        if answer:
+            lacks += lacking(net, answer)
+        if answer and not lacks:
+            told.append(tell_answer(net, answer, changed))
+            says += [f"{line}: {told[-1]['says'][0]}", *told[-1]["says"][1:]]
+    if lacks:
+        says = [f"These answers are of another document: FILE has {' and '.join(sorted(set(lacks)))}."]
+        return 1, {"answer": "rejected", "says": says}, says
+    if re.search(r"^\d+ (base|chain|wait) ", text, re.M):
+        says.append("The steps after `no` are of the document that `rest` writes: keep that in a file, and explain them over it.")
+    return 0, {"answer": "follow", "answers": told}, says or ["There is no answer to `next`, `by` or `blame`."]
