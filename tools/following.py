@@ -6,6 +6,9 @@ from networks import constraint, counts_where, network_data, printed, ticks
 # The answers that are put into words.
 ANSWER = re.compile(r"next (?P<next>\d+)(?: do (?P<do>\S+(?: \S+)*?))?(?: wait (?P<wait>[A-Za-z]+))?|by (?P<by>\d+) (?P<name>\S+)|blame(?P<blame>(?: \d+)*)")
 
+# Lines that are typed, and are no answers.
+TYPED = re.compile(r"(did|saw|now|await|add|remove|change) .*|next|check|rest")
+
 
 def is_answer(text):
     """Whether a word is an answer that is put into words."""
@@ -71,10 +74,22 @@ def tell_answer(net, answer, changed):
     return tell_by(net, answer) if answer["by"] else tell_blame(net, answer, changed)
 
 
+def without_questions(lines):
+    """The lines of a session without each `blame` that somebody typed, where the typed lines stand among them."""
+    if not any(TYPED.fullmatch(line) for line in lines):
+        return lines
+    kept, asked = [], False
+    for line in lines:
+        asked = line == "blame" and not asked
+        if not asked:
+            kept.append(line)
+    return kept
+
+
 def tell_followed(net, text):
     """The answers of a text that `follow` wrote: the status, data and lines."""
     told, says, lacks, changed = [], [], [], set()
-    for line in text.split("\n"):
+    for line in without_questions(text.split("\n")):
         answer, edit = ANSWER.fullmatch(line), re.fullmatch(r"changed (\d+)", line)
         if edit:
             changed.add(int(edit[1]))

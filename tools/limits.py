@@ -16,12 +16,30 @@ def uncovered(case, covers):
     return [case] if left == [[halves[0]], [halves[1]]] else left[0] + left[1]
 
 
+def limited_from_start(edges):
+    """For each time-point the cases in which constraints, one after another, limit it from the origin on."""
+    limits, grown = {}, {"Z": [{}]}
+    while grown != limits:
+        limits, grown = grown, {name: list(cases) for name, cases in grown.items()}
+        for source, target, _, marks in edges:
+            for case in limits.get(source, []):
+                both = {**case, **marks}
+                fits = all(both[letter] == value for letter, value in case.items())
+                if fits and not any(it.items() <= both.items() for it in grown.setdefault(target, [])):
+                    grown[target] = [it for it in grown[target] if not both.items() <= it.items()] + [both]
+    return limits
+
+
 def unlimited(net):
-    """Each time-point but the origin with the cases in which nothing but the deadline limits it from above."""
-    limits = {}
-    for number, (source, target, most, _) in enumerate(net.constraints):
-        marks = net.in_force(number)
-        if most >= 0 and source != target and None not in marks.values():
+    """Each time-point but the origin with the cases in which nothing but the deadline limits it from above.
+
+    What is at most some ticks after a step is not listed, nor what comes before a step that is limited itself.
+    """
+    edges = [(source, target, most, net.in_force(number)) for number, (source, target, most, _) in enumerate(net.constraints) if source != target]
+    edges = [it for it in edges if None not in it[3].values()]
+    limits = limited_from_start(edges)
+    for _, target, most, marks in edges:
+        if most >= 0:
             limits.setdefault(target, []).append(marks)
     found = []
     for name in net.names:
