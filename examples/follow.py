@@ -25,20 +25,27 @@ class Followed:
         self.child = subprocess.Popen([program, "follow", document], stdin=subprocess.PIPE, stdout=subprocess.PIPE, text=True, encoding="utf-8")
         assert self.child.stdout.readline() == "follow 1\n"
         self.verdict = self.child.stdout.readline().rstrip("\n")
-        self.journal = open(journal, "a+", encoding="utf-8", newline="\n")
+        self.journal = open(journal, "ab+")
         self.journal.seek(0)
-        for line in self.journal.readlines():
-            self.verdict = self.ask(line.rstrip("\n"))
+        whole, end, torn = self.journal.read().rpartition(b"\n")
+        if torn:
+            self.journal.truncate(len(whole + end))
+        for line in whole.decode().split("\n") if end else []:
+            self.verdict = self.ask(line)
+            if self.verdict.startswith("refused "):
+                sys.exit(f"{journal}: {line}: {self.verdict}")
 
     def ask(self, line):
-        self.child.stdin.write(line + "\n")
-        self.child.stdin.flush()
-        return self.child.stdout.readline().rstrip("\n")
+        print(line, file=self.child.stdin, flush=True)
+        answer = self.child.stdout.readline()
+        if answer in ("", "memory\n"):
+            sys.exit(f"no answer to: {line}")
+        return answer.rstrip("\n")
 
     def tell(self, line):
         self.verdict = self.ask(line)
         if not self.verdict.startswith("refused "):
-            self.journal.write(line + "\n")
+            self.journal.write(line.encode() + b"\n")
             self.journal.flush()
             os.fsync(self.journal.fileno())
         return self.verdict
