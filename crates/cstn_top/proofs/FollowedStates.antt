@@ -83,7 +83,7 @@ records_sound s h sound timely = follows_sound s (record s { history = h }) (ver
 abbrev recorded : History → Result History FactError
 recorded h = Ok h
 
-same_history : (h g : History) → recorded h ≡ recorded g → h ≡ g
+pub same_history : (h g : History) → recorded h ≡ recorded g → h ≡ g
 same_history h g is = cc
 
 -- time-points that are done one after the other

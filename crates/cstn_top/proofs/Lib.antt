@@ -43,5 +43,6 @@ pub mod FollowedDocuments
 pub mod FollowedLines
 pub mod FollowedStates
 pub mod FollowedPoints
+pub mod FollowedPlans
 pub mod LeftDocuments
 pub mod LeftReplayed

@@ -9,6 +9,7 @@ pub mod Evidence
 pub mod Headline
 pub mod EditSessions
 pub mod LabelledDeadlines
+pub mod FollowedPlans
 -- What the commands share.
 pub mod Limits
 pub mod Plans

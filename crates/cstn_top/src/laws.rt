@@ -23,9 +23,11 @@ ghost use Rattle.cstn_reply.specs.declared.output.Outcome.TheVariants.{Good, Bad
 ghost use Rattle.cstn_lift.specs.Labelled.{Labelled};
 ghost use Rattle.cstn_lift.specs.Lowered.{lowered};
 ghost use Rattle.cstn_lift.specs.WellFormed.{IsLabelled};
+ghost use Rattle.cstn_history.specs.Continuations.{Can};
 ghost use Rattle.cstn_tight.specs.Deadlines.{at_deadline, IsLeastDeadline};
 ghost use Rattle.cstn_top.specs.LabelledDeadlines.{labelled_at, IsLabelledLeastDeadline};
 ghost use Rattle.cstn_top.specs.EditSessions.{network_after, AnswersCheck, IsAtLastCheck};
+ghost use Rattle.cstn_top.specs.FollowedPlans.{KeepToNext, KeepGoing};
 ghost use Rattle.cstn_top.specs.commands.Follow.{IsFact, IsTrueOf, follow_turn};
 ghost use Rattle.cstn_words.specs.Limits.{most_cap};
 ghost use Rattle.cstn_documents.specs.Limits.{most_constraints, most_document};
@@ -111,6 +113,16 @@ pub fn followed_verdicts_are_true()
         → IsLabelled m → length (lowered m).constraints ≤ most_constraints → length names ≡ count m.base
         → state_after follow_turn (begun cap names m) 0 before ≡ Some s → follow_read bytes ≡ Some fact → IsFact fact → follow_turn s bytes ≡ more text next
         → (next ≡ counted s) ⊎ ((v : Verdict) × (text ≡ verdict_line s.cap v) × IsTrueOf next v) }
+{}
+
+/// Where what has happened can go on, as after yes, whoever does what is named when it is named, tells what is awaited before time passes
+/// it, and lets time pass at most up to the next moment, is never answered no. Each such line is refused, with nothing changed but the
+/// count of lines, or answered with yes, or that the log is full; and after any list of them some table still continues what has
+/// happened.
+pub fn followed_plans_go_on()
+    ensures { (cap : ℕ) (names : List (List ℕ)) (m : Labelled) (before lines : List (List ℕ)) (s : Following) → IsLabelled m
+        → length (lowered m).constraints ≤ most_constraints → length names ≡ count m.base
+        → state_after follow_turn (begun cap names m) 0 before ≡ Some s → Can s.network s.history → KeepToNext s lines → KeepGoing s lines }
 {}
 
 /// After no, the refutation that `check` answers, less its line `end`, passes: `replay` accepts it on the document that `rest` answers
