@@ -216,6 +216,26 @@ def broken_streams():
         check(name, (done.returncode, done.stdout.decode()), wanted)
 
 
+# What the client of the examples prints, which is killed halfway and goes on from its journal.
+CLIENT = """yes 16, next 0 do Sample
+  did 5 Sample: yes 17, next 65 wait i
+  now 65: yes 15, next 65 wait i
+  await 90 i: yes 20, next 90 wait i
+  saw 80 i true: yes 10, next 80 do Antibiotic
+killed
+yes 10, next 80 do Antibiotic
+  did 91 Antibiotic: yes 6, next 211 do Review
+  did 211 Review: yes 3, next 221 do Discharge
+  did 221 Discharge: yes 1, done
+done 0
+"""
+
+
+def client():
+    child = subprocess.run([os.path.join(TOP, "examples", "follow.py"), PROGRAM], stdout=subprocess.PIPE, timeout=SECONDS, check=False)
+    check("a client that is killed, and goes on", (child.returncode, child.stdout.decode()), (GOOD, CLIENT))
+
+
 def followings(folder):
     """What happens is told: the sessions above, what is left of each, lines that are none, and how sessions end."""
     for name, document, status, shown in FOLLOWED:
@@ -244,4 +264,5 @@ def followings(folder):
     case("no file", ["follow", folder.at("not there")], READ_FAULT, "read fault\n", "now 5\n")
     for words in (["--cap", "0"], ["--cap", "4194305"], ["--deadline", "05"], ["--cap", "5", "--deadline", "5"]):
         case(f"the words {words}", ["follow", folder.put("f", TWO_POINTS), *words], WORDS, "words\n")
+    client()
     broken_streams()
