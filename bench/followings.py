@@ -1,12 +1,13 @@
 """Sessions that follow a plan, which bench/hostile holds: what is typed, what is answered, and how they end.
 
 A session is said as it is typed, stopped at each of its lines and begun again, and torn in the middle of each. What is left after
-each line is written as a document, and checked.
+each line is written as a document, and checked. Sessions over drawn plans are in continuations.py.
 """
 import os
 import subprocess
 import threading
 
+from continuations import continuations
 from runs import (BAD, BRANCH, DOCUMENT, FULL, GOOD, PROGRAM, READ_FAULT, SCRIPT, SECONDS, TOP, TWO_POINTS, UNFINISHED, WORDS, WRITE_FAULT,
                   case, check, compact, examples, first_line, run)
 
@@ -245,3 +246,4 @@ def followings(folder):
     for words in (["--cap", "0"], ["--cap", "4194305"], ["--deadline", "05"], ["--cap", "5", "--deadline", "5"]):
         case(f"the words {words}", ["follow", folder.put("f", TWO_POINTS), *words], WORDS, "words\n")
     broken_streams()
+    continuations(folder)
