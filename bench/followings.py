@@ -1,12 +1,13 @@
 """Sessions that follow a plan, which bench/hostile holds: what is typed, what is answered, and how they end.
 
 A session is said as it is typed, stopped at each of its lines and begun again, and torn in the middle of each. What is left after
-each line is written as a document, and checked.
+each line is written as a document, and checked. Sessions over drawn plans are in continuations.py.
 """
 import os
 import subprocess
 import threading
 
+from continuations import continuations
 from runs import (BAD, BRANCH, DOCUMENT, FULL, GOOD, PROGRAM, READ_FAULT, SCRIPT, SECONDS, TOP, TWO_POINTS, UNFINISHED, WORDS, WRITE_FAULT,
                   case, check, compact, examples, first_line, run)
 
@@ -266,3 +267,4 @@ def followings(folder):
         case(f"the words {words}", ["follow", folder.put("f", TWO_POINTS), *words], WORDS, "words\n")
     client()
     broken_streams()
+    continuations(folder)
