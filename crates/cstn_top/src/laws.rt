@@ -104,7 +104,7 @@ pub fn evidence_passes()
 
 /// In each state that lines lead a session that follows to, the verdict is true: yes is said only where some table continues what has
 /// happened, no only where none does, and that the log is full only where the log of what is left has more entries than it may. A fact
-/// is refused, and nothing but the count of lines changes, or its answer is the line of such a verdict on what has happened then.
+/// changes nothing but the count of lines, or its answer is the line of a verdict that is true of the state after it.
 pub fn followed_verdicts_are_true()
     ensures states { (cap : ℕ) (names : List (List ℕ)) (m : Labelled) (lines : List (List ℕ)) (s : Following) → IsLabelled m
         → length (lowered m).constraints ≤ most_constraints → length names ≡ count m.base
