@@ -58,6 +58,24 @@ zero_apart a b e i set =
     let none : bit_at (bit_and a b) i ≡ 0 = rw e (bit_at-zero i) in
     ne_eqb (bit_at b i) 1 (λ one. omega arith)
 
+-- a word that two words make together is 0 exactly where both are
+pub or_zero_left : (a b : ℕ) → bit_or a b ≡ 0 → a ≡ 0
+or_zero_left a b e = same_from_bits a 0 (λ i.
+    let both = bit_at_or a b i in
+    let none : bit_at (bit_or a b) i ≡ 0 = rw e (bit_at-zero i) in
+    let zero = bit_at-zero i in
+    omega arith)
+
+pub or_zero_right : (a b : ℕ) → bit_or a b ≡ 0 → b ≡ 0
+or_zero_right a b e = same_from_bits b 0 (λ i.
+    let both = bit_at_or a b i in
+    let none : bit_at (bit_or a b) i ≡ 0 = rw e (bit_at-zero i) in
+    let zero = bit_at-zero i in
+    omega arith)
+
+pub zeros_or : (a b : ℕ) → a ≡ 0 → b ≡ 0 → bit_or a b ≡ 0
+zeros_or a b e f = rw (e, f) (λ i. 0)
+
 pub inside_zero : (a b : ℕ) → a < 2 ^ 64 → b < 2 ^ 64 → IsInside a b → bit_and a (bit_not w64 b) ≡ 0
 inside_zero a b a_fits b_fits h = same_from_bits (bit_and a (bit_not w64 b)) 0 (λ i.
     let both = bit_at_and a (bit_not w64 b) i in

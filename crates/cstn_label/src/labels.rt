@@ -1,6 +1,6 @@
 ghost use Rattle.std.specs.Prelude.{ℕ, ◌≡◌, ◌<◌, ◌≤◌, ◌^◌, ◌↔◌, IsTrue, IfSome, IfNone};
 
-use crate::words::{are_apart, first_bit_from, has_bit, is_inside, with_bit};
+use crate::words::{are_apart, are_inside, first_bit_from, has_bit, is_inside, with_bit};
 use crate::{Known, Mark, Prop, Scenario};
 
 /// A mark for each proposition. Bit p of `yes` alone is yes, of `no` alone is no, of both is unknown, of neither is absent.
@@ -96,7 +96,7 @@ impl Label {
     pub fn is_within(self, other: Label) -> bool
         ensures within { IsTrue result ↔ IsWithin (marks self) (marks other) }
     {
-        is_inside(self.yes, other.yes) && is_inside(self.no, other.no)
+        are_inside(self.yes, other.yes, self.no, other.no)
     }
 
     /// Whether each literal is true in the scenario. The label has no unknown mark; ask `is_plain` first.

@@ -21,6 +21,13 @@ pub fn is_inside(a: u64, b: u64) -> bool
     a & !b == 0
 }
 
+// Each bit that is set in a is set in b, and each that is set in c is set in d.
+pub fn are_inside(a: u64, b: u64, c: u64, d: u64) -> bool
+    ensures { IsTrue result ↔ (IsInside a b × IsInside c d) }
+{
+    (a & !b) | (c & !d) == 0
+}
+
 // Bit i is set.
 pub fn has_bit(word: u64, i: u8) -> bool
     requires { i < 52 }
