@@ -178,7 +178,8 @@ fn read_ends(
     }))
 }
 
-// The name that a text prints; none where it prints none.
+/// The name of a time-point that these bytes print, for a line that is made and not read; none where they print none. Fails for want of
+/// memory alone.
 pub fn read_name_text(alloc: Global, bytes: &[u8]) -> Result<Option<NameText>, AllocError>
     ensures { IfOk result (λ name. option_map (λ n. n) name ≡ name_read bytes.now) }
 {

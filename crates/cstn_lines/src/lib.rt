@@ -9,7 +9,7 @@ mod lines;
 mod live;
 mod places;
 
-pub use edits::{EditLine, NameText, read_edit};
+pub use edits::{EditLine, NameText, read_edit, read_name_text};
 pub use follow::{FollowLine, read_follow};
 pub use hosts::{HostLine, read_host};
 pub use laws::{

@@ -143,8 +143,8 @@ pub fn late_has_no_strategy()
     ensures strategy { IsConsistent late → ⊥ }
 {}
 
-/// Whole ticks are stricter than dense time: the network `coarse`, which has a strategy in dense time, has none on ticks, and
-/// `fine`, the same network with every value doubled, has one.
+/// Halves of ticks would allow more: the network `coarse` has no strategy on ticks, and `fine`, the same network with the deadline and
+/// every value doubled and the reactions left, has one.
 pub fn ticks_are_not_dense()
     ensures networks { IsWellFormed coarse × IsWellFormed fine }
     ensures coarse { IsConsistent coarse → ⊥ }

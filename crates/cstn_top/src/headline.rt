@@ -17,9 +17,9 @@ use cstn_io::Source;
 /// each moment that `run` accepts is answered with exactly the time-points whose label holds and whose least moment it is in any
 /// dynamic strategy; and where a run ends with Good, each time-point whose label holds was executed at its least moment, and
 /// every constraint whose label holds is met, in every scenario that agrees with the outcomes that were handed in. After no the
-/// written derivation passes `replay`, whose Good implies that no strategy exists. After any edit lines, none of which is off the
-/// grammar, the verdict of the last check is that of the network as edited by the lines before it, or Full, where its log has more
-/// entries than the cap.
+/// written derivation passes `replay`, whose Good implies that no strategy exists. After any edit lines, each of the grammar and
+/// none too long or too late, the verdict of the last check is that of the network as edited by the lines before it, or Full,
+/// where its log has more entries than the cap.
 pub fn the_headline()
     ensures check { (d : Document) (cap : ℕ) (c : Checked d cap) → ((c.status ≡ Full) × (cap < load d)) ⊎ (Decides c.status (HasStrategy d) × (load d ≤ cap)) }
     ensures least { (d : Document) (cap : ℕ) → Ran d cap → HasStrategy d → load d ≤ cap → AnswersLeast (printed_names d) (network d) (run_bounds (network d)) }
