@@ -44,9 +44,23 @@ scanned_end rows h Kind (Some k) not scan = absurd (not k refl)
 abbrev pub IsNoneUpto : List Record → ℕ → (Record → Type 0) → Type 0
 IsNoneUpto rs n Kind = (i : ℕ) (r : Record) → i < n → slice_get rs i ≡ Some r → ¬ Kind r
 
-pub none_more : (rs : List Record) (n : ℕ) (Kind : Record → Type 0) (x : Record) (test : Bool) → IsNoneUpto rs n Kind → slice_get rs n ≡ Some x → (IsTrue test ↔ Kind x) → test ≡ false → IsNoneUpto rs (n + 1) Kind
-none_more rs n Kind x test none here is no' = λ i r less there kind.
+pub none_next : (rs : List Record) (n : ℕ) (Kind : Record → Type 0) (x : Record) → IsNoneUpto rs n Kind → slice_get rs n ≡ Some x → ¬ Kind x → IsNoneUpto rs (n + 1) Kind
+none_next rs n Kind x none here not = λ i r less there kind.
     elim (cases_eq i n) [
-      | inl same ↦ (let sure = is.1 (subst Kind (sym (same_Some x r (sym here ∙ rw same at there))) kind) in cc)
+      | inl same ↦ not (subst Kind (sym (same_Some x r (sym here ∙ rw same at there))) kind)
       | inr other ↦ none i r (omega (arith, less, other)) there kind
+    ]
+
+pub none_more : (rs : List Record) (n : ℕ) (Kind : Record → Type 0) (x : Record) (test : Bool) → IsNoneUpto rs n Kind → slice_get rs n ≡ Some x → (IsTrue test ↔ Kind x) → test ≡ false → IsNoneUpto rs (n + 1) Kind
+none_more rs n Kind x test none here is no' = none_next rs n Kind x none here (λ kind. (let sure = is.1 kind in cc))
+
+-- no record of the first n pages is of the kind
+abbrev pub AreNoneUpto : List Page → ℕ → (Record → Type 0) → Type 0
+AreNoneUpto pages n Kind = (k : ℕ) (p : Page) → k < n → slice_get pages k ≡ Some p → IsNoneOn p Kind
+
+pub are_none_more : (pages : List Page) (n : ℕ) (Kind : Record → Type 0) (x : Page) → AreNoneUpto pages n Kind → slice_get pages n ≡ Some x → IsNoneOn x Kind → AreNoneUpto pages (n + 1) Kind
+are_none_more pages n Kind x none here last = λ k p less there.
+    elim (cases_eq k n) [
+      | inl same ↦ subst (λ q. IsNoneOn q Kind) (same_Some x p (sym here ∙ rw same at there)) last
+      | inr other ↦ none k p (omega (arith, less, other)) there
     ]

@@ -68,23 +68,23 @@ held_count rows nodes T is = omega (arith, is.same (λ x. 1), size_is (held rows
 pub count_less : (T : Entries) (s : ℕ) (e : ℕ × Bound) → IsPlaced T s e → placed_count (set T s None) < placed_count T
 count_less T s e is = omega (arith, records_emptied (λ x. 1) 0 s T e is, size_is (records_from 0 T), size_is (records_from 0 (set T s None)))
 
-abbrev weight : {A : Type 0} → A ⊎ ¬ A → ℕ
+abbrev pub weight : {A : Type 0} → A ⊎ ¬ A → ℕ
 weight (inl a) = 1
 weight (inr not) = 0
 
-weight_yes : {A : Type 0} (d : A ⊎ ¬ A) → A → weight d ≡ 1
+pub weight_yes : {A : Type 0} (d : A ⊎ ¬ A) → A → weight d ≡ 1
 weight_yes (inl a) is = refl
 weight_yes (inr not) is = absurd (not is)
 
-weight_no : {A : Type 0} (d : A ⊎ ¬ A) → ¬ A → weight d ≡ 0
+pub weight_no : {A : Type 0} (d : A ⊎ ¬ A) → ¬ A → weight d ≡ 0
 weight_no (inl a) is = absurd (is a)
 weight_no (inr not) is = refl
 
-eq_or_not : (m n : ℕ) → (m ≡ n) ⊎ ¬ (m ≡ n)
+pub eq_or_not : (m n : ℕ) → (m ≡ n) ⊎ ¬ (m ≡ n)
 eq_or_not m n = elim (cases_eq m n) [ inl same ↦ inl same | inr other ↦ inr other ]
 
 -- how many times the slot is that of the record
-abbrev at_slot : ℕ → ℕ × Record → ℕ
+abbrev pub at_slot : ℕ → ℕ × Record → ℕ
 at_slot s x = weight (eq_or_not x.1.slot s)
 
 past_slot : (m n : ℕ) (T : Entries) → m < n → sum_by (at_slot m) (records_from n T) ≡ 0
@@ -109,10 +109,10 @@ pub all_cons : {X : Type 0} (P : X → Type 0) (x : X) (xs : List X) → P x →
 all_cons P x xs p all zero d inside = p
 all_cons P x xs p all (suc k) d inside = all k d (omega (arith, inside))
 
-all_head : {X : Type 0} (P : X → Type 0) (x : X) (xs : List X) → All P (x ∷ xs) → P x
+pub all_head : {X : Type 0} (P : X → Type 0) (x : X) (xs : List X) → All P (x ∷ xs) → P x
 all_head P x xs all = all 0 x (omega arith)
 
-all_tail : {X : Type 0} (P : X → Type 0) (x : X) (xs : List X) → All P (x ∷ xs) → All P xs
+pub all_tail : {X : Type 0} (P : X → Type 0) (x : X) (xs : List X) → All P (x ∷ xs) → All P xs
 all_tail P x xs all k d inside = all (suc k) d (omega (arith, inside))
 
 all_left : {X : Type 0} (P : X → Type 0) (xs ys : List X) → All P (xs ++ ys) → All P xs
@@ -151,7 +151,7 @@ hit_or_not h Kind dec x = elim (cases_eq x.0 h) [
   | inl same ↦ elim (dec x.1) [ inl is ↦ inl (same, is) | inr not ↦ inr (λ hit. not hit.1) ]
 ]
 
-sum_zero : (f : ℕ × Record → ℕ) (xs : List (ℕ × Record)) → All (λ x. f x ≡ 0) xs → sum_by f xs ≡ 0
+pub sum_zero : (f : ℕ × Record → ℕ) (xs : List (ℕ × Record)) → All (λ x. f x ≡ 0) xs → sum_by f xs ≡ 0
 sum_zero f [] all = refl
 sum_zero f (x ∷ xs) all =
     let rest = sum_zero f xs (all_tail (λ y. f y ≡ 0) x xs all) in

@@ -1,5 +1,5 @@
 -- Minimal sets of bounds, each bound in a slot with its birth.
-use Rattle.std.specs.Prelude.{◌≡◌, ◌≢◌, ◌⊎◌, ℕ, suc, ◌+◌, ◌<◌, ◌≤◌, ◌^◌, ◌≤ℤ◌, List, [], ◌∷◌, length, Option, None, Some, slice_index_or, MatchOption, All, sum_by, slice_get}
+use Rattle.std.specs.Prelude.{◌≡◌, ◌≢◌, ◌⊎◌, ℕ, suc, ◌+◌, ◌<◌, ◌≤◌, ◌^◌, ◌≤ℤ◌, List, [], ◌∷◌, length, Option, None, Some, slice_index_or, MatchOption, option_map, All, sum_by, slice_get, ◌==◌, if◌then◌else◌}
 use Rattle.cstn_label.specs.declared.bounds.Bound.{Bound}
 use Rattle.cstn_label.specs.Bounds.{Dominates}
 use Rattle.cstn_label.specs.Labels.{IsMarked, IsWithin}
@@ -82,6 +82,14 @@ IsWalk table Kind low (id ∷ ids) = IsFirst table Kind low (Some id) × IsWalk 
 abbrev pub IsFirstSlot : Entries → (Bound → Type 0) → ℕ → Option ℕ → Type 0
 IsFirstSlot table Kind low answer = MatchOption answer (IsNone table Kind low) (λ slot. (birth : ℕ) × IsLeast table Kind low slot birth)
 
+-- the birth that stands for none
+abbrev pub no_birth : ℕ
+no_birth = 18446744073709551615
+
+-- the birth of a slot
+abbrev pub birth_at : List ℕ → ℕ → ℕ
+birth_at births slot = slice_index_or births slot no_birth
+
 -- no entry dominates another, no two have the same birth, and each is at a time-point of the set
 pub record IsMinimal (nodes : ℕ) (table : Entries) : Type 0 where
   pub minimal : (s t : ℕ) (e f : ℕ × Bound) → IsPlaced table s e → IsPlaced table t f → s ≢ t → ¬ IsOver e.1 f.1
@@ -102,6 +110,24 @@ records_from n (Some entry ∷ table) = record_of n entry.1 ∷ records_from (su
 abbrev pub IsListed : Entries → ℕ × Record → Type 0
 IsListed table x = (birth : ℕ) × (b : Bound) × IsPlaced table x.1.slot (birth, b) × (record_of x.1.slot b ≡ x)
 
+-- the bound of a record, with its time-point
+abbrev pub bound_of : ℕ × Record → Bound
+bound_of x = record { node = record { 0 = x.0 }; least = x.1.least; label = x.1.label }
+
+-- the bound of the first record of a slot
+abbrev pub recorded : ℕ → List (ℕ × Record) → Option Bound
+recorded slot [] = None
+recorded slot (x ∷ records) = if x.1.slot == slot then Some (bound_of x) else recorded slot records
+
+-- what the slots from n on hold: the bound of each one's record, under its birth
+abbrev pub entries_from : List (ℕ × Record) → ℕ → List ℕ → Entries
+entries_from records n [] = []
+entries_from records n (birth ∷ births) = option_map (λ b. (birth, b)) (recorded n records) ∷ entries_from records (suc n) births
+
+-- what each slot holds
+abbrev pub table_of : List ℕ → Paged → Entries
+table_of births rows = entries_from (held rows.pages) 0 births
+
 -- the record is that of a bound that dominates this one, where both are of one time-point
 abbrev pub IsRecordOver : Bound → Record → Type 0
 IsRecordOver b r = (b.least ≤ℤ r.least) × IsWithin (marks r.label) (marks b.label)
@@ -121,6 +147,20 @@ IsNoneOf pages h Kind = (k i : ℕ) (r : Record) → IsRecordAt pages h k i r �
 abbrev pub IsNoneOn : Page → (Record → Type 0) → Type 0
 IsNoneOn page Kind = (i : ℕ) (r : Record) → slice_get page.records.items i ≡ Some r → ¬ Kind r
 
+-- no record of any page is of the slot
+abbrev pub IsNoneInSlot : List Page → ℕ → Type 0
+IsNoneInSlot pages slot = (h k i : ℕ) (r : Record) → IsRecordAt pages h k i r → ¬ (r.slot ≡ slot)
+
+-- the bound is that of a record of the slot
+pub record IsInSlot (pages : List Page) (slot : ℕ) (b : Bound) : Type 0 where
+  pub head : ℕ
+  pub page : ℕ
+  pub place : ℕ
+  pub record_is : Record
+  pub there : IsRecordAt pages head page place record_is
+  pub slot_is : record_is.slot ≡ slot
+  pub bound_is : b ≡ bound_of (head, record_is)
+
 -- a minimal set whose rows have exactly the records of its bounds
 pub record IsKept (rows : Paged) (nodes : ℕ) (table : Entries) : Type 0 where
   pub heads : rows.heads ≡ nodes
@@ -128,3 +168,13 @@ pub record IsKept (rows : Paged) (nodes : ℕ) (table : Entries) : Type 0 where
   pub listed : All (IsListed table) (held rows.pages)
   pub same : (f : ℕ × Record → ℕ) → sum_by f (held rows.pages) ≡ sum_by f (records_from 0 table)
   pub minimal : IsMinimal nodes table
+
+-- each slot has the birth of its entry, and none where it holds nothing
+pub record AreBirths (births : List ℕ) (table : Entries) : Type 0 where
+  pub size : length births ≡ length table
+  pub born : (slot : ℕ) (entry : ℕ × Bound) → IsPlaced table slot entry → birth_at births slot ≡ entry.0
+  pub unborn : (slot : ℕ) → entry_at table slot ≡ None → birth_at births slot ≡ no_birth
+
+-- the rows and the births are those of the table
+abbrev pub IsStored : List ℕ → Paged → ℕ → Entries → Type 0
+IsStored births rows nodes table = IsKept rows nodes table × AreBirths births table

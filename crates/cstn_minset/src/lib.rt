@@ -2,10 +2,10 @@
 //! once.
 #![tactic(auto)]
 
+mod births;
 mod laws;
 mod min_set;
 mod scan;
-mod table;
 
 pub use laws::{placing_leaves_what_nothing_later_dominates, walks_meet_each_once};
 pub use min_set::MinSet;

@@ -3,8 +3,8 @@ ghost use Rattle.std.specs.Prelude.{slice_index_or, replicate, map, if◌then◌
 ghost use Rattle.cstn_minset.specs.Sets.{Places, Entries, entry_at, IsPlaced, IsThere, IsOver, IsCovered, IsCleared, AllBornBefore, IsAt, IsMarking, IsFirst};
 ghost use Rattle.cstn_minset.specs.Sets.{IsFirstSlot, IsMinimal};
 
-use crate::scan::{place_under, slot_over};
-use crate::table::Table;
+use crate::births::{Births, NO_BIRTH};
+use crate::scan::{bound_in, place_under, slot_over};
 use cstn_label::{Bound, Mark, NodeId, Prop, labels_are_their_marks};
 use cstn_pool::SlotId;
 use cstn_rows::{Record, Rows};
@@ -13,24 +13,25 @@ use std::marker::Model;
 
 /// Bounds of which none dominates another, each under the id of a pool's slot.
 ///
-/// All memory is taken by [`MinSet::start`]: 90 bytes a slot, of which 50 are for the rows of records in which the bounds of a
-/// time-point are looked for, and 808 for each time-point. No other call takes any.
+/// All memory is taken by [`MinSet::start`]: 58 bytes a slot, of which 50 are for the rows of records in which the bounds of a
+/// time-point are looked for and 8 for the birth, and 808 for each time-point. No other call takes any.
 #[derive(Drop)]
 pub struct MinSet {
-    table: Table,
     // For each time-point a record of each of its bounds.
     rows: Rows,
+    // The birth of the bound in each slot, and NO_BIRTH where there is none.
+    births: Births,
     nodes: u16,
 }
 
 impl Model for MinSet {
-    ghost use Rattle.cstn_minset.specs.Sets.{Places, IsKept};
+    ghost use Rattle.cstn_minset.specs.Sets.{Places, IsStored, table_of};
 
     ghost Value = { Places };
 
-    ghost view = { λ m. record { nodes = m.nodes; table = m.table } };
+    ghost view = { λ m. record { nodes = m.nodes; table = table_of m.births m.rows } };
 
-    ghost invariant = { λ m. IsKept m.rows m.nodes m.table };
+    ghost invariant = { λ m. IsStored m.births m.rows m.nodes (table_of m.births m.rows) };
 }
 
 impl MinSet {
@@ -38,9 +39,13 @@ impl MinSet {
     pub fn start(alloc: Global, nodes: u16, capacity: u32) -> Result<MinSet, AllocError>
         ensures empty { IfOk result (λ set. set ≡ record { nodes = nodes; table = replicate capacity None }) }
     {
-        let table = Table::start(alloc, capacity)?;
+        let births = Births::start(alloc, capacity)?;
         let rows = Rows::start(alloc, nodes, capacity)?;
-        Ok(MinSet { table, rows, nodes })
+        Ok(MinSet {
+            rows,
+            births,
+            nodes,
+        })
     }
 
     /// Whether some entry dominates the bound.
@@ -93,7 +98,7 @@ impl MinSet {
         match place_under(&self.rows, b) {
             Some((page, index)) => {
                 let kept = self.rows.take(page, index);
-                self.table.set(kept.slot, None);
+                self.births.set(kept.slot, NO_BIRTH);
                 true
             }
             None => false,
@@ -115,7 +120,7 @@ impl MinSet {
             slot,
         };
         self.rows.put(b.node.0 as u32, record);
-        self.table.set(slot, Some((birth, b)));
+        self.births.set(slot, birth);
     }
 
     // The bound in a slot.
@@ -124,20 +129,18 @@ impl MinSet {
         ensures bound { (e : ℕ × Bound) → IsPlaced self.now.table slot e → result ≡ e.1 }
         ensures minimal { IsMinimal self.now.nodes self.now.table }
     {
-        self.table.at(slot).unwrap().1
+        self.entry(slot).unwrap().1
     }
 
     // The id of the entry in a slot.
     fn id(&self, slot: u32) -> SlotId
-        requires { slot < length self.now.table }
         ensures slot { result.slot ≡ slot }
         ensures birth { (e : ℕ × Bound) → IsPlaced self.now.table slot e → result.birth ≡ e.0 }
     {
-        let birth = match self.table.at(slot) {
-            Some((birth, _)) => birth,
-            None => 0,
-        };
-        SlotId { slot, birth }
+        SlotId {
+            slot,
+            birth: self.births.at(slot),
+        }
     }
 
     /// The id of the time-point's entry with the least birth; None where it has no entry.
@@ -160,12 +163,12 @@ impl MinSet {
     }
 
     /// The id of the time-point's entry with the least birth that is at least this one; None where
-    /// there is none. Looks at every slot up to the last that was used since the set was last empty.
+    /// there is none. Looks for the bound of every slot.
     pub fn first_from(&self, node: NodeId, birth: u64) -> Option<SlotId>
         ensures first { IsFirst self.now.table (IsAt node.0) birth result }
     {
         let mut best = None;
-        for slot in 0..self.table.used() {
+        for slot in 0..self.births.len() {
             if let Some((born, b)) = self.entry(slot) {
                 let is_at = b.node == node;
                 if is_at && born >= birth && is_before(born, best) {
@@ -177,13 +180,13 @@ impl MinSet {
     }
 
     /// Of the entries of all time-points, those whose label marks the proposition: the id of the one
-    /// with the least birth that is at least this one; None where there is none. Looks at every slot up
-    /// to the last that was used since the set was last empty.
+    /// with the least birth that is at least this one; None where there is none. Looks for the bound of
+    /// every slot.
     pub fn marked_from(&self, p: Prop, birth: u64) -> Option<SlotId>
         ensures first { IsFirst self.now.table (IsMarking p.index) birth result }
     {
         let mut best = None;
-        for slot in 0..self.table.used() {
+        for slot in 0..self.births.len() {
             if let Some((born, b)) = self.entry(slot) {
                 let is_marked = b.label.mark(p) != Mark::Absent;
                 if is_marked && born >= birth && is_before(born, best) {
@@ -213,10 +216,15 @@ impl MinSet {
         ensures holds { IsTrue result ↔ IsThere self.now.table id }
         ensures minimal { IsMinimal self.now.nodes self.now.table }
     {
-        match self.entry(id.slot) {
-            Some((birth, _)) => birth == id.birth,
-            None => false,
+        let birth = self.births.at(id.slot);
+        if birth != id.birth {
+            return false;
         }
+        if birth != NO_BIRTH {
+            return true;
+        }
+        // A bound may have the birth that stands for none.
+        self.entry(id.slot).is_some()
     }
 
     // The birth and the bound in a slot. Any number may be asked for; past the table it is None.
@@ -224,7 +232,10 @@ impl MinSet {
         ensures entry { result ≡ entry_at self.now.table slot }
         ensures minimal { IsMinimal self.now.nodes self.now.table }
     {
-        self.table.at(slot)
+        match bound_in(&self.rows, slot) {
+            Some(b) => Some((self.births.at(slot), b)),
+            None => None,
+        }
     }
 
     /// Takes all bounds out.
@@ -232,7 +243,7 @@ impl MinSet {
         ensures { self.new ≡ record self.old { table = replicate (length self.old.table) None } }
     {
         self.rows.clear();
-        self.table.clear();
+        self.births.clear();
     }
 }
 

@@ -1,10 +1,10 @@
 //! Looking through the rows of records for one that dominates a bound, or that a bound dominates.
-ghost use Rattle.std.specs.Prelude.{◌≡◌, ◌↔◌, ℕ, Some, IsTrue, IfSome, IfNone, slice_get};
+ghost use Rattle.std.specs.Prelude.{◌≡◌, ◌<◌, ◌↔◌, ℕ, Some, IsTrue, IfSome, IfNone, slice_get};
 ghost use Rattle.cstn_rows.specs.declared.page.Record.{Record as TheRecord};
 ghost use Rattle.cstn_rows.specs.Pages.{IsPage};
-ghost use Rattle.cstn_minset.specs.Sets.{IsRecordOver, IsRecordUnder, IsRecordAt, IsNoneOf, IsNoneOn};
+ghost use Rattle.cstn_minset.specs.Sets.{IsRecordOver, IsRecordUnder, IsRecordAt, IsNoneOf, IsNoneOn, IsNoneInSlot, IsInSlot, bound_of};
 
-use cstn_label::Bound;
+use cstn_label::{Bound, NodeId};
 use cstn_rows::{Page, Record, Rows};
 
 /// The slot of a record that dominates the bound; None exactly where none does.
@@ -33,6 +33,38 @@ pub fn place_under(rows: &Rows, b: &Bound) -> Option<(u32, usize)>
             return Some((number, index));
         }
         place = rows.next(number);
+    }
+    None
+}
+
+/// The bound of the record of a slot; None exactly where no record is of it. Looks at all records.
+pub fn bound_in(rows: &Rows, slot: u32) -> Option<Bound>
+    ensures some { IfSome result (IsInSlot rows.now.pages slot) }
+    ensures none { IfNone result (IsNoneInSlot rows.now.pages slot) }
+{
+    for page in rows.pages() {
+        if let Some(b) = bound_on_page(page, slot) {
+            return Some(b);
+        }
+    }
+    None
+}
+
+// The bound of the record of a slot on a page.
+fn bound_on_page(page: &Page, slot: u32) -> Option<Bound>
+    requires { page.now.head < 65536 }
+    ensures some { IfSome result (λ b. (i : ℕ) × (r : TheRecord) × (slice_get page.now.records.items i ≡ Some r) × (r.slot ≡ slot)
+        × (b ≡ bound_of (page.now.head, r))) }
+    ensures none { IfNone result (IsNoneOn page.now (λ r. r.slot ≡ slot)) }
+{
+    for kept in page.records.as_slice() {
+        if kept.slot == slot {
+            return Some(Bound {
+                node: NodeId(page.head as u16),
+                least: kept.least,
+                label: kept.label,
+            });
+        }
     }
     None
 }

@@ -1,8 +1,8 @@
-use Rattle.std.proofs.Common.{◌≡◌, ◌≢◌, inl, inr, ℕ, zero, suc, ◌+◌, ◌<◌, ◌≤◌, nat_eq, false, List, [], ◌∷◌, length, replicate, set, Option, None, Some, cond, refl, ap, sym, subst, ◌∙◌, arith, length-set}
+use Rattle.std.proofs.Common.{◌≡◌, inl, inr, ℕ, zero, suc, ◌<◌, ◌≤◌, nat_eq, false, List, [], ◌∷◌, length, replicate, set, Option, None, Some, cond, refl, ap, sym, ◌∙◌, arith, length-set}
 use Rattle.std.proofs.lemmas.List.{length-replicate}
 use Rattle.cstn_pool.specs.Slots.{Slots, value_at}
 use Rattle.cstn_pool.proofs.PaddedLemmas.{none_held}
-use Rattle.cstn_pool.specs.Calls.{Call, filled, emptied_at, AfterCall, AfterCalls}
+use Rattle.cstn_pool.specs.Calls.{Call, AfterCall, AfterCalls}
 use Rattle.cstn_pool.specs.Calls.Call.{Take, Give, Clear}
 
 -- a call leaves the number of slots as it is

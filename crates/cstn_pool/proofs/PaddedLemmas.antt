@@ -5,7 +5,7 @@ use Rattle.std.proofs.lemmas.List.{length-replicate, length-set, set-append_left
 use Rattle.std.proofs.lemmas.List.Sums.{sum_by-append}
 use Rattle.std.proofs.lemmas.Option.{slice_get-get_or}
 use Rattle.std.proofs.Math.Seq.{set-append_seam}
-use Rattle.cstn_pool.specs.Slots.{Slots, IsFree, IsBorn, live_of, padded, held, value_at}
+use Rattle.cstn_pool.specs.Slots.{Slots, IsFree, IsBorn, live_of, padded, value_at}
 use Rattle.cstn_pool.proofs.PoolLemmas.{none_live}
 
 pub padded_length : {A : Type 0} (blank : A) (n : ℕ) (written : List A) → length written ≤ n → length (padded blank n written) ≡ n

@@ -1,5 +1,5 @@
 -- A pool as its slots.
-use Rattle.std.specs.Prelude.{◌≡◌, ◌≢◌, ℕ, ◌+◌, ◌-◌, ◌<◌, ◌≤◌, ◌^◌, ◌++◌, is_some, List, length, replicate, Option, None, Some, slice_get, slice_index_or, All, AllPairs, count_by, ◌==◌, if◌then◌else◌}
+use Rattle.std.specs.Prelude.{◌≡◌, ◌≢◌, ℕ, ◌+◌, ◌-◌, ◌<◌, ◌≤◌, ◌^◌, ◌++◌, is_some, List, [], ◌∷◌, length, replicate, Option, None, Some, slice_get, slice_index_or, All, AllPairs, count_by, ◌==◌, if◌then◌else◌}
 
 -- what contracts see of a pool: what each slot holds, a birth and a value, and how many births there were
 pub record Slots (T : Type 0) : Type 0 where
@@ -35,11 +35,34 @@ pub record IsFree {T : Type 0} (slots : List (Option (ℕ × T))) (free : List �
 abbrev pub padded : {A : Type 0} → A → ℕ → List A → List A
 padded blank count written = written ++ replicate (count - length written) blank
 
+-- the birth that stands for none
+abbrev pub no_birth : ℕ
+no_birth = 18446744073709551615
+
+-- what a slot of this birth and value holds
+abbrev pub entry_of : {T : Type 0} → ℕ → T → Option (ℕ × T)
+entry_of birth value = if birth == no_birth then None else Some (birth, value)
+
+-- what the slots of these births and values hold
+abbrev pub joined : {T : Type 0} → List ℕ → List T → List (Option (ℕ × T))
+joined [] values = []
+joined (birth ∷ born) [] = []
+joined (birth ∷ born) (value ∷ values) = entry_of birth value ∷ joined born values
+
+-- how many slots there is room for
+pub record Room : Type 0 where
+  pub born : ℕ
+  pub values : ℕ
+  pub free : ℕ
+
 -- a pool that is in order: its free list has all empty slots of those that were used, and there is room for every slot
-pub record IsPool {T : Type 0} (capacity : ℕ) (used : List (Option (ℕ × T))) (free : List ℕ) (room free_room births : ℕ) : Type 0 where
-  pub empty : IsFree used free
-  pub within : length used ≤ capacity
-  pub room_for_all : capacity ≤ room
-  pub room_for_free : capacity ≤ free_room
+pub record IsPool {T : Type 0} (capacity : ℕ) (born : List ℕ) (values : List T) (free : List ℕ) (births : ℕ) (room : Room) : Type 0 where
+  pub same : length born ≡ length values
+  pub empty : IsFree (joined born values) free
+  pub within : length born ≤ capacity
+  pub room_for_born : capacity ≤ room.born
+  pub room_for_values : capacity ≤ room.values
+  pub room_for_free : capacity ≤ room.free
   pub short : capacity < 2 ^ 32
-  pub born : IsBorn births used
+  pub few : births ≤ 2 ^ 63
+  pub in_order : IsBorn births (joined born values)

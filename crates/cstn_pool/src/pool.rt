@@ -1,12 +1,15 @@
 ghost use Rattle.std.specs.Prelude.{◌≡◌, ◌<◌, ◌≤◌, ◌+◌, ◌^◌, ◌↔◌, Some, None, length, IfOk, OnErr, IsErr, IsOk, IsSome, ℕ, List, IfNone, IfSome, []};
-ghost use Rattle.std.specs.Prelude.{slice_set, slice_get, replicate};
-ghost use Rattle.cstn_pool.specs.Slots.{Slots, IsBorn, live_of, value_at};
+ghost use Rattle.std.specs.Prelude.{slice_set, slice_get, slice_index_or, replicate};
+ghost use Rattle.cstn_pool.specs.Slots.{Slots, IsBorn, live_of, value_at, joined};
 ghost use Rattle.cstn_pool.specs.Calls.{Call, AfterCalls};
 
 use crate::slot_id::SlotId;
 use std::alloc::{AllocError, Global};
 use std::marker::Model;
 use thiserror::Error;
+
+// The birth of a slot that came back.
+const FREE: u64 = u64::MAX;
 
 /// Every slot of the pool is in use.
 #[derive(Clone, Copy, Debug, PartialEq, Eq, Error)]
@@ -15,15 +18,16 @@ pub struct Full;
 
 /// A fixed number of slots, each free or holding one value under its [`SlotId`].
 ///
-/// All memory is taken by [`Pool::start`]: a slot takes the bytes of `Option<(u64, T)>` and 4
+/// All memory is taken by [`Pool::start`]: a slot takes the bytes of a `T`, 8 for its birth and 4
 /// for the free list. Every other call takes none. `take`, `get` and `give` cost the same however
 /// full the pool is; `start` and `clear` cost nothing for a slot that was never used.
 #[derive(Drop)]
 pub struct Pool<T: Copy> {
-    // The slots that were used since the pool was empty. The others are empty and not yet written,
-    // and a new slot is the next of them.
-    slots: Vec<Option<(u64, T)>>,
-    // Those of the used slots that came back.
+    // The births and the values of the slots that were used since the pool was empty. The others
+    // are empty and not yet written, and a new slot is the next of them.
+    born: Vec<u64>,
+    values: Vec<T>,
+    // Those of the used slots that came back. What `values` has for them means nothing.
     free: Vec<u32>,
     capacity: u32,
     births: u64,
@@ -31,13 +35,14 @@ pub struct Pool<T: Copy> {
 
 impl<T: Copy> Model for Pool<T> {
     ghost use Rattle.std.specs.Prelude.{vec_capacity, None};
-    ghost use Rattle.cstn_pool.specs.Slots.{Slots, IsPool, padded};
+    ghost use Rattle.cstn_pool.specs.Slots.{Slots, IsPool, joined, padded};
 
     ghost Value = { Slots T };
 
-    ghost view = { λ p. record { slots = padded None p.capacity p.slots.items; births = p.births } };
+    ghost view = { λ p. record { slots = padded None p.capacity (joined p.born.items p.values.items); births = p.births } };
 
-    ghost invariant = { λ p. IsPool p.capacity p.slots.items p.free.items (vec_capacity p.slots) (vec_capacity p.free) p.births };
+    ghost invariant = { λ p. IsPool p.capacity p.born.items p.values.items p.free.items p.births
+        (record { born = vec_capacity p.born; values = vec_capacity p.values; free = vec_capacity p.free }) };
 }
 
 impl<T: Copy> Pool<T> {
@@ -45,10 +50,12 @@ impl<T: Copy> Pool<T> {
     pub fn start(alloc: Global, capacity: u32) -> Result<Pool<T>, AllocError>
         ensures empty { IfOk result (λ pool. pool ≡ record { slots = replicate capacity None; births = 0 }) }
     {
-        let slots = Vec::with_capacity(alloc, capacity as usize)?;
+        let born = Vec::with_capacity(alloc, capacity as usize)?;
+        let values = Vec::with_capacity(alloc, capacity as usize)?;
         let free = Vec::with_capacity(alloc, capacity as usize)?;
         Ok(Pool {
-            slots,
+            born,
+            values,
             free,
             capacity,
             births: 0,
@@ -76,15 +83,17 @@ impl<T: Copy> Pool<T> {
         let birth = self.births;
         if let Some(slot) = self.free.pop() {
             self.births += 1;
-            self.slots[slot as usize] = Some((birth, value));
+            self.born[slot as usize] = birth;
+            self.values[slot as usize] = value;
             return Ok(SlotId { slot, birth });
         }
-        let slot = self.slots.len() as u32;
+        let slot = self.born.len() as u32;
         if slot == self.capacity {
             return Err(Full);
         }
         self.births += 1;
-        self.slots.push_reserved(Some((birth, value)));
+        self.born.push_reserved(birth);
+        self.values.push_reserved(value);
         Ok(SlotId { slot, birth })
     }
 
@@ -93,7 +102,27 @@ impl<T: Copy> Pool<T> {
         ensures value { result ≡ value_at self.now.slots id.slot id.birth }
         ensures births { IsBorn self.now.births self.now.slots }
     {
-        value_in(&self.slots, id)
+        value_in(&self.born, &self.values, id)
+    }
+
+    /// The value in a slot that holds one.
+    pub fn at(&self, slot: u32) -> &T
+        requires { IsSome (slice_index_or self.now.slots slot None) }
+        ensures { (birth : ℕ) × (slice_index_or self.now.slots slot None ≡ Some (birth, result.now)) }
+    {
+        &self.values[slot as usize]
+    }
+
+    /// The id of the value in a slot that holds one.
+    pub fn id(&self, slot: u32) -> SlotId
+        requires { IsSome (slice_index_or self.now.slots slot None) }
+        ensures slot { result.slot ≡ slot }
+        ensures birth { (value : T) × (slice_index_or self.now.slots slot None ≡ Some (result.birth, value)) }
+    {
+        SlotId {
+            slot,
+            birth: self.born[slot as usize],
+        }
     }
 
     /// Gives the slot back and returns the value; `None`, and nothing changes, exactly where `get`
@@ -105,7 +134,7 @@ impl<T: Copy> Pool<T> {
         ensures given { IsSome result → self.new ≡ record self.old { slots = slice_set self.old.slots id.slot None } }
     {
         let value = self.get(id)?;
-        self.slots[id.slot as usize] = None;
+        self.born[id.slot as usize] = FREE;
         self.free.push_reserved(id.slot);
         Some(value)
     }
@@ -115,7 +144,7 @@ impl<T: Copy> Pool<T> {
         ensures live { result ≡ live_of self.now.slots }
         ensures at_most { result ≤ length self.now.slots }
     {
-        (self.slots.len() - self.free.len()) as u32
+        (self.born.len() - self.free.len()) as u32
     }
 
     /// Empties the pool. Births go on from where they were.
@@ -123,17 +152,19 @@ impl<T: Copy> Pool<T> {
         ensures cleared { self.new ≡ record self.old { slots = replicate (length self.old.slots) None } }
         ensures births { self.old.births ≤ self.new.births }
     {
-        self.slots.clear();
+        self.born.clear();
+        self.values.clear();
         self.free.clear();
     }
 }
 
 // The value under this id among the used slots.
-fn value_in<T: Copy>(slots: &[Option<(u64, T)>], id: SlotId) -> Option<T>
-    ensures { result ≡ value_at slots.now id.slot id.birth }
+fn value_in<T: Copy>(born: &[u64], values: &[T], id: SlotId) -> Option<T>
+    requires { length born.now ≡ length values.now }
+    ensures { result ≡ value_at (joined born.now values.now) id.slot id.birth }
 {
-    match slots.get(id.slot as usize) {
-        Some(Some((birth, value))) if *birth == id.birth => Some(*value),
+    match born.get(id.slot as usize) {
+        Some(birth) if *birth == id.birth && *birth != FREE => Some(values[id.slot as usize]),
         _ => None,
     }
 }

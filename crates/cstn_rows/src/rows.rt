@@ -1,5 +1,5 @@
 ghost use Rattle.std.specs.Prelude.{◌≡◌, ◌⊎◌, ◌<◌, ◌≤◌, ◌+◌, ◌++◌, ◌∷◌, [], ℕ, Some, None, length, replicate, IfOk, slice_get, slice_index_or, slice_set};
-ghost use Rattle.std.specs.Prelude.{vec_capacity, IsPermutation};
+ghost use Rattle.std.specs.Prelude.{vec_capacity, IsPermutation, All};
 ghost use Rattle.cstn_rows.specs.declared.page.Page.{Page as ThePage};
 ghost use Rattle.cstn_rows.specs.declared.page.Record.{Record};
 ghost use Rattle.cstn_rows.specs.Chains.{IsFirstKey};
@@ -81,6 +81,14 @@ impl Rows {
         ensures is { IsPage result.now }
     {
         &self.pages[page as usize]
+    }
+
+    /// All pages by their numbers: those of every row, and those of none, which are empty.
+    pub fn pages(&self) -> &[Page]
+        ensures pages { result.now ≡ self.now.pages }
+        ensures few { All (λ p. p.head < 65536) result.now }
+    {
+        &self.pages
     }
 
     /// Puts a record into the head's row.
