@@ -85,21 +85,21 @@ module _ (through : IsThrough) (table cleared : Entries) (entries : List Entry) 
         ];
       }
 
--- one more entry in the pool
-pub pooled_more : (slots : List (Option (ℕ × Entry))) (births : ℕ) (entries : List Entry) (ids : List SlotId) (slot : ℕ) (x : Entry) → IsPooled slots births entries ids → length entries ≡ length ids → slot < length slots → get_or slots slot None ≡ None →
-    IsPooled (set slots slot (Some (births, x))) (births + 1) (entries ++ x ∷ []) (ids ++ record { slot = slot; birth = births } ∷ [])
-pooled_more slots births entries ids slot x is size inside free =
+-- one more entry in the pool, which holds another one with its bound
+pub pooled_more : (slots : List (Option (ℕ × Entry))) (births : ℕ) (entries : List Entry) (ids : List SlotId) (slot : ℕ) (x held : Entry) → held.bound ≡ x.bound → IsPooled slots births entries ids → length entries ≡ length ids → slot < length slots → get_or slots slot None ≡ None →
+    IsPooled (set slots slot (Some (births, held))) (births + 1) (entries ++ x ∷ []) (ids ++ record { slot = slot; birth = births } ∷ [])
+pooled_more slots births entries ids slot x held bound is size inside free =
     let id : SlotId = record { slot = slot; birth = births } in
     record {
       held = λ k jd there. elim (get_more ids id k jd there) [
-        | inl p ↦ (let h = is.held k jd p in (h.0, h.1, get_left entries x k h.0 h.2, get_or-set_other slots slot jd.slot (Some (births, x)) None (other_slot slots births entries ids slot is free k jd p) ∙ h.3, h.4))
-        | inr p ↦ rw (← p.1, p.0) (x, x, last_of ids entries x size, get_or-set_same slots slot (Some (births, x)) None inside, refl)
+        | inl p ↦ (let h = is.held k jd p in (h.0, h.1, get_left entries x k h.0 h.2, get_or-set_other slots slot jd.slot (Some (births, held)) None (other_slot slots births entries ids slot is free k jd p) ∙ h.3, h.4))
+        | inr p ↦ rw (← p.1, p.0) (x, held, last_of ids entries x size, get_or-set_same slots slot (Some (births, held)) None inside, bound)
       ];
-      used = omega (arith, count_filled slots slot (births, x) inside free, is.used, length-append ids (id ∷ []));
+      used = omega (arith, count_filled slots slot (births, held) inside free, is.used, length-append ids (id ∷ []));
       found = λ s e there. elim (cases_eq s slot) [
-        | inl same ↦ (let this : (births, x) ≡ e = same_Some (births, x) e (sym (get_or-set_same slots slot (Some (births, x)) None inside) ∙ rw same at there) in
+        | inl same ↦ (let this : (births, held) ≡ e = same_Some (births, held) e (sym (get_or-set_same slots slot (Some (births, held)) None inside) ∙ rw same at there) in
             rw (same, ← this) (length ids, record { there = get_last ids id }))
-        | inr other ↦ (let f = is.found s e (sym (get_or-set_other slots slot s (Some (births, x)) None other) ∙ there) in (f.0, record { there = get_left ids id f.0 (record { slot = s; birth = e.0 }) f.1.there }))
+        | inr other ↦ (let f = is.found s e (sym (get_or-set_other slots slot s (Some (births, held)) None other) ∙ there) in (f.0, record { there = get_left ids id f.0 (record { slot = s; birth = e.0 }) f.1.there }))
       ];
       ascending = λ k j jd kd less a c. elim (get_more ids id k jd a) [
         | inl p ↦ elim (get_more ids id j kd c) [ inl q ↦ is.ascending k j jd kd less p q | inr q ↦ rw (← q.1) (is.before k jd p) ]
@@ -109,14 +109,14 @@ pooled_more slots births entries ids slot x is size inside free =
     }
 
 -- one more entry in the pool and in the minimal set
-pub kept_more : IsThrough → (slots : List (Option (ℕ × Entry))) (births : ℕ) (table cleared : Entries) (entries : List Entry) (ids : List SlotId) (nodes slot : ℕ) (x : Entry) → IsKept slots births table entries ids nodes → slot < length slots → get_or slots slot None ≡ None → IsCleared x.bound table cleared → ¬ IsCoveredBy entries x.bound → x.bound.node.0 < nodes →
-    IsKept (set slots slot (Some (births, x))) (births + 1) (set cleared slot (Some (births, x.bound))) (entries ++ x ∷ []) (ids ++ record { slot = slot; birth = births } ∷ []) nodes
-kept_more through slots births table cleared entries ids nodes slot x is inside free clear uncovered node =
+pub kept_more : IsThrough → (slots : List (Option (ℕ × Entry))) (births : ℕ) (table cleared : Entries) (entries : List Entry) (ids : List SlotId) (nodes slot : ℕ) (x held : Entry) → held.bound ≡ x.bound → IsKept slots births table entries ids nodes → slot < length slots → get_or slots slot None ≡ None → IsCleared x.bound table cleared → ¬ IsCoveredBy entries x.bound → x.bound.node.0 < nodes →
+    IsKept (set slots slot (Some (births, held))) (births + 1) (set cleared slot (Some (births, x.bound))) (entries ++ x ∷ []) (ids ++ record { slot = slot; birth = births } ∷ []) nodes
+kept_more through slots births table cleared entries ids nodes slot x held bound is inside free clear uncovered node =
     let id : SlotId = record { slot = slot; birth = births } in
     record {
-      pooled = pooled_more slots births entries ids slot x is.pooled is.size inside free;
+      pooled = pooled_more slots births entries ids slot x held bound is.pooled is.size inside free;
       tabled = tabled_more through table cleared entries ids id x is.tabled is.size (other_slot slots births entries ids slot is.pooled free) (omega (arith, inside, is.room)) clear;
-      room = length-set cleared slot (Some (births, x.bound)) ∙ clear.size ∙ is.room ∙ sym (length-set slots slot (Some (births, x)));
+      room = length-set cleared slot (Some (births, x.bound)) ∙ clear.size ∙ is.room ∙ sym (length-set slots slot (Some (births, held)));
       size = omega (arith, length-append entries (x ∷ []), length-append ids (id ∷ []), is.size);
       fresh = new_more entries x is.fresh uncovered;
       inside = λ k e there. elim (get_more entries x k e there) [ inl p ↦ is.inside k e p | inr p ↦ rw (← p.1) node ];
@@ -130,11 +130,11 @@ abbrev the_id : ℕ → ℕ → SlotId
 the_id s n = record { slot = s; birth = n }
 
 -- the calls of `push` leave what a log keeps
-pub push_step : IsThrough → (slots : List (Option (ℕ × Entry))) (births : ℕ) (minimal : Places) (cleared : Entries) (entries longer : List Entry) (ids : List SlotId) (id : SlotId) (x : Entry) (pool : Slots Entry) (placed : Places) (new : List SlotId) → IsKept slots births minimal.table entries ids minimal.nodes → slice_get slots id.slot ≡ Some None → id.birth ≡ births → pool ≡ record { slots = set slots id.slot (Some (id.birth, x)); births = births + 1 } → IsCleared x.bound minimal.table cleared → placed ≡ record minimal { table = set cleared id.slot (Some (id.birth, x.bound)) } → longer ≡ entries ++ x ∷ [] → new ≡ ids ++ id ∷ [] → ¬ IsCoveredBy entries x.bound → x.bound.node.0 < minimal.nodes → IsKept pool.slots pool.births placed.table longer new placed.nodes
-push_step through slots births minimal cleared entries longer ids id x pool placed new is empty same taken clear placed_is longer_is new_is uncovered node =
+pub push_step : IsThrough → (slots : List (Option (ℕ × Entry))) (births : ℕ) (minimal : Places) (cleared : Entries) (entries longer : List Entry) (ids : List SlotId) (id : SlotId) (x held : Entry) (pool : Slots Entry) (placed : Places) (new : List SlotId) → held.bound ≡ x.bound → IsKept slots births minimal.table entries ids minimal.nodes → slice_get slots id.slot ≡ Some None → id.birth ≡ births → pool ≡ record { slots = set slots id.slot (Some (id.birth, held)); births = births + 1 } → IsCleared x.bound minimal.table cleared → placed ≡ record minimal { table = set cleared id.slot (Some (id.birth, x.bound)) } → longer ≡ entries ++ x ∷ [] → new ≡ ids ++ id ∷ [] → ¬ IsCoveredBy entries x.bound → x.bound.node.0 < minimal.nodes → IsKept pool.slots pool.births placed.table longer new placed.nodes
+push_step through slots births minimal cleared entries longer ids id x held pool placed new bound is empty same taken clear placed_is longer_is new_is uncovered node =
     let e = empty_in slots id.slot empty in
     let id_is : record { slot = id.slot; birth = births } ≡ id = ap (λ (n : ℕ). the_id id.slot n) (sym same) in
-    rw (taken, placed_is, longer_is, new_is) (subst (λ (y : SlotId). IsKept (set slots id.slot (Some (y.birth, x))) (births + 1) (set cleared id.slot (Some (y.birth, x.bound))) (entries ++ x ∷ []) (ids ++ y ∷ []) minimal.nodes) id_is (kept_more through slots births minimal.table cleared entries ids minimal.nodes id.slot x is e.0 e.1 clear uncovered node))
+    rw (taken, placed_is, longer_is, new_is) (subst (λ (y : SlotId). IsKept (set slots id.slot (Some (y.birth, held))) (births + 1) (set cleared id.slot (Some (y.birth, x.bound))) (entries ++ x ∷ []) (ids ++ y ∷ []) minimal.nodes) id_is (kept_more through slots births minimal.table cleared entries ids minimal.nodes id.slot x held bound is e.0 e.1 clear uncovered node))
 
 pub slot_empty : (slots : List (Option (ℕ × Entry))) (births : ℕ) (entries : List Entry) (ids : List SlotId) (id : SlotId) → IsPooled slots births entries ids → slice_get slots id.slot ≡ Some None → (k : ℕ) (jd : SlotId) → slice_get ids k ≡ Some jd → jd.slot ≢ id.slot
 slot_empty slots births entries ids id is empty = other_slot slots births entries ids id.slot is (empty_in slots id.slot empty).1

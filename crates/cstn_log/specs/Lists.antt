@@ -1,57 +1,81 @@
 -- Lists that store their entries with premises named by slots.
-use Rattle.std.specs.Prelude.{ℕ, ◌≡◌, ◌<◌, ◌≤◌, List, length, map, Some, slice_get, slice_index_or, ⊤}
+use Rattle.std.specs.Prelude.{ℕ, ◌≡◌, ◌<◌, ◌≤◌, List, [], ◌∷◌, length, map, Option, Some, None, IsSome, slice_get, slice_index_or, ⊤}
 use Rattle.cstn_rules.specs.declared.entries.Entry.{Entry}
 use Rattle.cstn_rules.specs.declared.entries.Why.{Why}
 use Rattle.cstn_rules.specs.declared.entries.Why.TheVariants.{Base, Chain, Wait}
 use Rattle.cstn_pool.specs.declared.slot_id.SlotId.{SlotId}
+use Rattle.cstn_pool.specs.Slots.{Slots, live_of}
 use Rattle.cstn_log.specs.Entries.{the_entries}
 use Rattle.cstn_log.specs.Cuts.{AllEarlier, replaced}
 
--- what contracts see of a list: its entries, with premises as places, their ids, and how many there may be
+-- what contracts see of a list: its entries, with premises as places, their ids, how many there may be, and the pool that has
+-- their bounds
 pub record Listing : Type 0 where
   pub entries : List Entry
   pub ids : List SlotId
   pub cap : ℕ
+  pub pool : Slots Entry
 
 -- the entry with its premises at the places that the table tells
 abbrev pub placed : List ℕ → Entry → Entry
 placed places e = record { bound = e.bound; why = replaced places e.why }
 
--- the slot of each id
-abbrev pub slots_of : List SlotId → List ℕ
-slots_of ids = map (λ id. id.slot) ids
+-- the entries, with the one in a slot before them, if it holds one
+abbrev pub with_held : Option (ℕ × Entry) → List Entry → List Entry
+with_held None entries = entries
+with_held (Some e) entries = e.1 ∷ entries
 
--- the table tells the place of each id by its slot
-pub record IsFiled (places : List ℕ) (ids : List SlotId) : Type 0 where
-  pub inside : (k : ℕ) (id : SlotId) → slice_get ids k ≡ Some id → id.slot < length places
-  pub at : (k : ℕ) (id : SlotId) → slice_get ids k ≡ Some id → slice_index_or places id.slot 0 ≡ k
+-- the entries in the slots
+abbrev pub stored_in : List (Option (ℕ × Entry)) → List ℕ → List Entry
+stored_in pool [] = []
+stored_in pool (s ∷ slots) = with_held (slice_index_or pool s None) (stored_in pool slots)
 
--- no two ids have the same slot
-abbrev pub AreApart : List SlotId → Type 0
-AreApart ids = (j k : ℕ) (jd kd : SlotId) → slice_get ids j ≡ Some jd → slice_get ids k ≡ Some kd → jd.slot ≡ kd.slot → j ≡ k
+-- the birth of what is in a slot
+abbrev pub birth_of : Option (ℕ × Entry) → ℕ
+birth_of None = 0
+birth_of (Some e) = e.0
 
--- one of the ids has the slot
-pub record IsSlot (ids : List SlotId) (slot : ℕ) : Type 0 where
+-- the id of what is in a slot
+abbrev pub id_in : List (Option (ℕ × Entry)) → ℕ → SlotId
+id_in pool slot = record { slot = slot; birth = birth_of (slice_index_or pool slot None) }
+
+-- the ids of what is in the slots
+abbrev pub ids_in : List (Option (ℕ × Entry)) → List ℕ → List SlotId
+ids_in pool slots = map (id_in pool) slots
+
+-- the pool holds an entry in each of the slots, and in as many slots as these
+pub record AreHeldIn (pool : List (Option (ℕ × Entry))) (slots : List ℕ) : Type 0 where
+  pub held : (k s : ℕ) → slice_get slots k ≡ Some s → IsSome (slice_index_or pool s None)
+  pub count : live_of pool ≡ length slots
+
+-- the table tells the place of each slot
+pub record IsFiled (places slots : List ℕ) : Type 0 where
+  pub inside : (k s : ℕ) → slice_get slots k ≡ Some s → s < length places
+  pub at : (k s : ℕ) → slice_get slots k ≡ Some s → slice_index_or places s 0 ≡ k
+
+-- no slot stands twice in the list
+abbrev pub AreApart : List ℕ → Type 0
+AreApart slots = (j k s : ℕ) → slice_get slots j ≡ Some s → slice_get slots k ≡ Some s → j ≡ k
+
+-- the slot is one of these
+pub record IsSlot (slots : List ℕ) (slot : ℕ) : Type 0 where
   pub place : ℕ
-  pub id : SlotId
-  pub there : slice_get ids place ≡ Some id
-  pub slot_is : id.slot ≡ slot
+  pub there : slice_get slots place ≡ Some slot
 
--- the premises are slots of the ids
-abbrev pub AreSlots : List SlotId → Why → Type 0
-AreSlots ids Base = ⊤
-AreSlots ids (Chain by s) = IsSlot ids s
-AreSlots ids (Wait s t) = IsSlot ids s × IsSlot ids t
+-- the premises are some of the slots
+abbrev pub AreSlots : List ℕ → Why → Type 0
+AreSlots slots Base = ⊤
+AreSlots slots (Chain by s) = IsSlot slots s
+AreSlots slots (Wait s t) = IsSlot slots s × IsSlot slots t
 
--- stored entries name their premises by slots of the ids, a table tells the place of each, and there is room
-pub record IsListed (places : List ℕ) (stored : List Entry) (ids : List SlotId) (cap for_entries for_ids for_places : ℕ) : Type 0 where
-  pub size : length stored ≡ length ids
-  pub filed : IsFiled places ids
-  pub named : (k : ℕ) (e : Entry) → slice_get stored k ≡ Some e → AreSlots ids e.why
-  pub earlier : AllEarlier (the_entries (map (placed places) stored))
-  pub most : length stored ≤ cap
+-- the pool has entries that name their premises by slots of the list, a table tells the place of each, and there is room
+pub record IsListed (places slots : List ℕ) (pool : List (Option (ℕ × Entry))) (cap for_slots for_places : ℕ) : Type 0 where
+  pub filed : IsFiled places slots
+  pub named : (k : ℕ) (e : Entry) → slice_get (stored_in pool slots) k ≡ Some e → AreSlots slots e.why
+  pub earlier : AllEarlier (the_entries (map (placed places) (stored_in pool slots)))
+  pub held : AreHeldIn pool slots
+  pub size : length pool ≡ cap
   pub upto : length places ≤ cap
   pub few : cap ≤ 4194304
-  pub for_entries_is : cap ≤ for_entries
-  pub for_ids_is : cap ≤ for_ids
+  pub for_slots_is : cap ≤ for_slots
   pub for_places_is : cap ≤ for_places

@@ -1,26 +1,28 @@
-// The list of a log: its entries in order, stored with their premises named by slots.
-ghost use Rattle.std.specs.Prelude.{ℕ, ◌≡◌, ◌≢◌, ◌<◌, ◌≤◌, ◌++◌, ◌∷◌, ◌↔◌, [], List, Some, length, map, slice_get, slice_index_or, vec_capacity, IfOk};
-ghost use Rattle.std.specs.Prelude.{IfNone, IfSome, IsTrue};
-ghost use Rattle.cstn_pool.specs.declared.slot_id.SlotId.{SlotId as TheId};
+// The list of a log: its entries in order, kept in a pool with their premises named by slots.
+ghost use Rattle.std.specs.Prelude.{ℕ, ◌≡◌, ◌≢◌, ◌<◌, ◌≤◌, ◌+◌, ◌^◌, ◌++◌, ◌∷◌, ◌↔◌, [], List, Some, None, length, map, replicate, slice_get, slice_index_or};
+ghost use Rattle.std.specs.Prelude.{slice_set, vec_capacity, IfOk, IfNone, IfSome, IsErr, IsTrue, OnErr};
+ghost use Rattle.cstn_rules.specs.declared.entries.Entry.{Entry as TheEntry};
+ghost use Rattle.cstn_pool.specs.Slots.{live_of};
 ghost use Rattle.cstn_log.specs.Entries.{HasId, IsBoundAt, the_entries};
-ghost use Rattle.cstn_log.specs.Kept.{renewed};
+ghost use Rattle.cstn_log.specs.Kept.{AreLeft, IsPooled, renewed};
 ghost use Rattle.cstn_log.specs.Cuts.{PremisesBelow, AllEarlier, IsClosedUnder, replaced, chosen};
-ghost use Rattle.cstn_log.specs.Lists.{Listing, AreApart, IsFiled, slots_of};
+ghost use Rattle.cstn_log.specs.Lists.{Listing, AreApart, IsFiled, ids_in};
 
 use cstn_label::Bound;
-use cstn_pool::SlotId;
+use cstn_pool::{Full, Pool, SlotId};
 use cstn_rules::{Entry, Why};
 use std::alloc::{AllocError, Global};
 use std::marker::Model;
 
-// Entries in order, each with an id whose slot no other has.
+// Entries in order, each in a slot of a pool.
 //
-// Places change when entries are taken out, and slots don't. So premises are stored as slots, and a
-// table tells the place of the entry in each.
+// Places change when entries are taken out, and slots don't. So the pool's entries name their premises by slots, and a table
+// tells the place of the entry in each.
 #[derive(Drop)]
 pub struct EntryList {
-    stored: Vec<Entry>,
-    ids: Vec<SlotId>,
+    pool: Pool<Entry>,
+    // The slot of each entry.
+    slots: Vec<u32>,
     // The place of the entry in each slot, up to the highest slot that was used. What it has for a slot without an entry means
     // nothing.
     places: Vec<u32>,
@@ -29,27 +31,32 @@ pub struct EntryList {
 
 impl Model for EntryList {
     ghost use Rattle.std.specs.Prelude.{map, vec_capacity};
-    ghost use Rattle.cstn_log.specs.Lists.{Listing, IsListed, placed};
+    ghost use Rattle.cstn_log.specs.Lists.{Listing, IsListed, placed, stored_in, ids_in};
 
     ghost Value = { Listing };
 
-    ghost view = { λ l. record { entries = map (placed l.places.items) l.stored.items; ids = l.ids.items; cap = l.cap } };
+    ghost view = { λ l. record {
+      entries = map (placed l.places.items) (stored_in l.pool.slots l.slots.items);
+      ids = ids_in l.pool.slots l.slots.items;
+      cap = l.cap;
+      pool = l.pool;
+    } };
 
-    ghost invariant = { λ l. IsListed l.places.items l.stored.items l.ids.items l.cap (vec_capacity l.stored) (vec_capacity l.ids) (vec_capacity l.places) };
+    ghost invariant = { λ l. IsListed l.places.items l.slots.items l.pool.slots l.cap (vec_capacity l.slots) (vec_capacity l.places) };
 }
 
 impl EntryList {
     // A list with no entry, and room for this many.
     pub fn empty(alloc: Global, cap: u32) -> Result<EntryList, AllocError>
         requires { cap ≤ 4194304 }
-        ensures { IfOk result (λ list. list ≡ record { entries = []; ids = []; cap = cap }) }
+        ensures { IfOk result (λ list. list ≡ record { entries = []; ids = []; cap = cap; pool = record { slots = replicate cap None; births = 0 } }) }
     {
-        let stored = Vec::with_capacity(alloc, cap as usize)?;
-        let ids = Vec::with_capacity(alloc, cap as usize)?;
+        let pool = Pool::start(alloc, cap)?;
+        let slots = Vec::with_capacity(alloc, cap as usize)?;
         let places = Vec::with_capacity(alloc, cap as usize)?;
         Ok(EntryList {
-            stored,
-            ids,
+            pool,
+            slots,
             places,
             cap,
         })
@@ -62,6 +69,13 @@ impl EntryList {
         self.cap
     }
 
+    // The pool, which holds each entry under its id, with its premises named by slots.
+    pub fn pool(&self) -> &Pool<Entry>
+        ensures { result.now ≡ self.now.pool }
+    {
+        &self.pool
+    }
+
     // How many entries there are.
     pub fn len(&self) -> usize
         ensures len { result ≡ length self.now.entries }
@@ -70,7 +84,7 @@ impl EntryList {
         ensures few { self.now.cap ≤ 4194304 }
         ensures earlier { AllEarlier (the_entries self.now.entries) }
     {
-        self.stored.len()
+        self.slots.len()
     }
 
     // The entry at a place.
@@ -79,7 +93,8 @@ impl EntryList {
         ensures entry { slice_get self.now.entries k ≡ Some result }
         ensures premises { PremisesBelow k result.why }
     {
-        placed(self.stored[k], &self.places)
+        let stored = *self.pool.at(self.slots[k]);
+        placed(stored, &self.places)
     }
 
     // The bound of the entry at a place.
@@ -87,7 +102,7 @@ impl EntryList {
         requires { k < length self.now.entries }
         ensures { IsBoundAt self.now.entries k result }
     {
-        self.stored[k].bound
+        self.pool.at(self.slots[k]).bound
     }
 
     // The id of the entry at a place.
@@ -95,7 +110,7 @@ impl EntryList {
         requires { k < length self.now.entries }
         ensures { slice_get self.now.ids k ≡ Some result }
     {
-        self.ids[k]
+        self.pool.id(self.slots[k])
     }
 
     // The place of the entry with this id, if one has it.
@@ -113,52 +128,70 @@ impl EntryList {
     fn is_id(&self, k: u32, id: SlotId) -> bool
         ensures { IsTrue result ↔ (slice_get self.now.ids k ≡ Some id) }
     {
-        match self.ids.get(k as usize) {
-            Some(held) => *held == id,
+        match self.slots.get(k as usize) {
+            Some(slot) => self.pool.id(*slot) == id,
             None => false,
         }
     }
 
-    // Appends an entry under an id.
-    pub fn push(&mut self, e: Entry, id: SlotId)
+    // Appends an entry under a new id. Where the pool is full, refuses it and stays as it was.
+    pub fn push(&mut self, e: Entry) -> Result<SlotId, Full>
         requires premises { PremisesBelow (length self.old.entries) e.why }
-        requires room { length self.old.entries < self.old.cap }
-        requires slot { id.slot < self.old.cap }
-        requires free { (k : ℕ) (jd : TheId) → slice_get self.old.ids k ≡ Some jd → jd.slot ≢ id.slot }
-        ensures { self.new ≡ record self.old { entries = self.old.entries ++ e ∷ []; ids = self.old.ids ++ id ∷ [] } }
+        requires births { self.old.pool.births < 2 ^ 63 }
+        ensures full { IsErr result ↔ (live_of self.old.pool.slots ≡ length self.old.pool.slots) }
+        ensures refused { OnErr result (self.new ≡ self.old) }
+        ensures empty { IfOk result (λ id. slice_get self.old.pool.slots id.slot ≡ Some None) }
+        ensures birth { IfOk result (λ id. id.birth ≡ self.old.pool.births) }
+        ensures pushed { IfOk result (λ id. (x : TheEntry) × (x.bound ≡ e.bound) × (self.new ≡ record self.old {
+          entries = self.old.entries ++ e ∷ [];
+          ids = self.old.ids ++ id ∷ [];
+          pool = record { slots = slice_set self.old.pool.slots id.slot (Some (id.birth, x)); births = self.old.pool.births + 1 };
+        })) }
     {
-        let place = self.ids.len() as u32;
-        self.stored.push(named(e, &self.ids)).unwrap();
-        self.ids.push(id).unwrap();
+        let place = self.slots.len() as u32;
+        let id = self.pool.take(placed(e, &self.slots))?;
+        self.slots.push(id.slot).unwrap();
         write_place(&mut self.places, id.slot, place);
+        Ok(id)
     }
 
-    // Keeps the marked entries alone.
+    // Keeps the marked entries alone, and gives the slots of the others back.
     pub fn keep(&mut self, marks: &[bool])
+        requires pooled { IsPooled self.old.pool.slots self.old.pool.births self.old.entries self.old.ids }
         requires size { length marks.now ≡ length self.old.entries }
         requires closed { IsClosedUnder marks.now (the_entries self.old.entries) }
-        ensures { self.new ≡ record self.old { entries = chosen marks.now (map (renewed marks.now) self.old.entries); ids = chosen marks.now self.old.ids } }
+        ensures kept { self.new ≡ record self.old {
+          entries = chosen marks.now (map (renewed marks.now) self.old.entries);
+          ids = chosen marks.now self.old.ids;
+          pool = self.new.pool;
+        } }
+        ensures left { AreLeft marks.now self.old.ids (length self.old.ids) self.old.pool.slots self.new.pool.slots }
+        ensures births { self.new.pool.births ≡ self.old.pool.births }
     {
-        choose(&mut self.stored, marks);
-        choose(&mut self.ids, marks);
-        write_places(&mut self.places, &self.ids);
+        give_rest(&mut self.pool, &self.slots, marks);
+        choose(&mut self.slots, marks);
+        write_places(&mut self.places, &self.slots);
     }
 
     // Takes every entry out.
     pub fn clear(&mut self)
-        ensures { self.new ≡ record self.old { entries = []; ids = [] } }
+        ensures { self.new ≡ record self.old {
+          entries = [];
+          ids = [];
+          pool = record { slots = replicate (length self.old.pool.slots) None; births = self.old.pool.births };
+        } }
     {
-        self.stored.clear();
-        self.ids.clear();
+        self.pool.clear();
+        self.slots.clear();
         self.places.clear();
     }
 }
 
-// The entry, with each premise replaced by the place that a table has for it.
-pub fn placed(e: Entry, places: &[u32]) -> Entry
-    requires { PremisesBelow (length places.now) e.why }
+// The entry, with each premise replaced by what a table has for it.
+pub fn placed(e: Entry, table: &[u32]) -> Entry
+    requires { PremisesBelow (length table.now) e.why }
     ensures bound { result.bound ≡ e.bound }
-    ensures why { result.why ≡ replaced places.now e.why }
+    ensures why { result.why ≡ replaced table.now e.why }
 {
     let why = match e.why {
         Why::Base => Why::Base,
@@ -167,11 +200,11 @@ pub fn placed(e: Entry, places: &[u32]) -> Entry
             premise,
         } => Why::Chain {
             constraint,
-            premise: places[premise as usize],
+            premise: table[premise as usize],
         },
         Why::Wait { seen, premise } => Why::Wait {
-            seen: places[seen as usize],
-            premise: places[premise as usize],
+            seen: table[seen as usize],
+            premise: table[premise as usize],
         },
     };
     Entry {
@@ -180,38 +213,19 @@ pub fn placed(e: Entry, places: &[u32]) -> Entry
     }
 }
 
-// The entry with its premises named by their slots.
-fn named(e: Entry, ids: &[SlotId]) -> Entry
-    requires { PremisesBelow (length ids.now) e.why }
-    ensures bound { result.bound ≡ e.bound }
-    ensures why { result.why ≡ replaced (slots_of ids.now) e.why }
+// Gives back the slots of the entries that aren't marked.
+fn give_rest(pool: &mut Pool<Entry>, slots: &[u32], marks: &[bool])
+    requires pooled { (entries : List TheEntry) × IsPooled pool.old.slots pool.old.births entries (ids_in pool.old.slots slots.now) }
+    requires size { length marks.now ≡ length slots.now }
+    ensures left { AreLeft marks.now (ids_in pool.old.slots slots.now) (length slots.now) pool.old.slots pool.new.slots }
+    ensures births { pool.new.births ≡ pool.old.births }
 {
-    let why = match e.why {
-        Why::Base => Why::Base,
-        Why::Chain {
-            constraint,
-            premise,
-        } => Why::Chain {
-            constraint,
-            premise: slot_at(ids, premise),
-        },
-        Why::Wait { seen, premise } => Why::Wait {
-            seen: slot_at(ids, seen),
-            premise: slot_at(ids, premise),
-        },
-    };
-    Entry {
-        bound: e.bound,
-        why,
+    for k in 0..slots.len() {
+        if !marks[k] {
+            let id = pool.id(slots[k]);
+            pool.give(id);
+        }
     }
-}
-
-// The slot of the entry at a place.
-fn slot_at(ids: &[SlotId], k: u32) -> u32
-    requires { k < length ids.now }
-    ensures { result ≡ slice_index_or (slots_of ids.now) k 0 }
-{
-    ids[k as usize].slot
 }
 
 // Writes the place of the entry in a slot.
@@ -229,16 +243,16 @@ fn write_place(places: &mut Vec<u32>, slot: u32, place: u32)
 }
 
 // Writes the place of each entry under its slot.
-fn write_places(places: &mut Vec<u32>, ids: &[SlotId])
-    requires inside { (k : ℕ) (id : TheId) → slice_get ids.now k ≡ Some id → id.slot < length places.old.items }
-    requires apart { AreApart ids.now }
-    requires few { length ids.now ≤ 4194304 }
-    ensures filed { IsFiled places.new.items ids.now }
+fn write_places(places: &mut Vec<u32>, slots: &[u32])
+    requires inside { (k s : ℕ) → slice_get slots.now k ≡ Some s → s < length places.old.items }
+    requires apart { AreApart slots.now }
+    requires few { length slots.now ≤ 4194304 }
+    ensures filed { IsFiled places.new.items slots.now }
     ensures size { length places.new.items ≡ length places.old.items }
     ensures room { vec_capacity places.old ≤ vec_capacity places.new }
 {
-    for k in 0..ids.len() {
-        places[ids[k].slot as usize] = k as u32;
+    for k in 0..slots.len() {
+        places[slots[k] as usize] = k as u32;
     }
 }
 

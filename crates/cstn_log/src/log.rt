@@ -17,7 +17,7 @@ ghost use Rattle.cstn_log.specs.Chains.{IsFirstLive, IsNext, IsBehind, IsMarkedA
 use crate::chains::{NO_PLACE, NodeChains, append_all};
 use crate::cutting::{count_marked, cut, mark_ancestors, mark_staying};
 use crate::list::EntryList;
-use crate::putting::{clear, give_rest, place_all};
+use crate::putting::{clear, place_all};
 use crate::sets::MarkSets;
 use cstn_label::{Bound, Label, NodeId, Prop, domination_is_an_order};
 use cstn_minset::MinSet;
@@ -32,13 +32,12 @@ use std::marker::Model;
 /// An entry is live while no later one dominates it. A pool has the bound of each entry, and a minimal set those of the live
 /// ones, each under the id that [`Log::slot`] answers. An entry keeps its id while entries before it are taken out, and only
 /// its place changes: premises are kept by slot, and a table tells the place of each. All memory of the log is taken by
-/// [`Log::start`]: 221.5 bytes for each entry that there may be, so 929 MB for the largest cap of 4,194,304, and 816 bytes for
+/// [`Log::start`]: 129.5 bytes for each entry that there may be, so 543 MB for the largest cap of 4,194,304, and 816 bytes for
 /// each time-point. Of these, 4 bytes an entry are links of the chain of its time-point, and 6.5 are for the sets of places whose
 /// labels mark a proposition, written only up to the last entry whose label marks something. One more byte an entry is used by
 /// [`Log::retract`] alone.
 #[derive(Drop)]
 pub struct Log {
-    pool: Pool<Entry>,
     minimal: MinSet,
     list: EntryList,
     // The places whose labels mark each proposition, and those at each time-point.
@@ -55,9 +54,9 @@ impl Model for Log {
 
     ghost Value = { State };
 
-    ghost view = { λ l. record { entries = l.list.entries; ids = l.list.ids; births = l.pool.births; cap = l.list.cap; nodes = l.minimal.nodes } };
+    ghost view = { λ l. record { entries = l.list.entries; ids = l.list.ids; births = l.list.pool.births; cap = l.list.cap; nodes = l.minimal.nodes } };
 
-    ghost invariant = { λ l. IsLog l.pool.slots l.pool.births l.minimal.table l.list.entries l.list.ids l.minimal.nodes l.list.cap (vec_capacity l.marks)
+    ghost invariant = { λ l. IsLog l.list.pool.slots l.list.pool.births l.minimal.table l.list.entries l.list.ids l.minimal.nodes l.list.cap (vec_capacity l.marks)
         (record {
           mark_words = l.marking.words.items;
           node_links = l.standing.links.items;
@@ -91,14 +90,12 @@ impl Log {
         requires { cap ≤ 4194304 }
         ensures { IfOk result (λ log. log ≡ record { entries = []; ids = []; births = 0; cap = cap; nodes = nodes }) }
     {
-        let pool = Pool::start(alloc, cap)?;
         let minimal = MinSet::start(alloc, nodes, cap)?;
         let list = EntryList::empty(alloc, cap)?;
         let marking = MarkSets::empty(alloc, cap)?;
         let standing = NodeChains::empty(alloc, nodes, cap)?;
         let marks = Vec::with_capacity(alloc, cap as usize)?;
         Ok(Log {
-            pool,
             minimal,
             list,
             marking,
@@ -148,12 +145,11 @@ impl Log {
     {
         domination_is_an_order();
         let count = net.count();
-        let id = self.pool.take(e)?;
+        let place = self.list.len() as u32;
+        let id = self.list.push(e)?;
         // A bound that follows by a rule is at a time-point of the network.
         prove!(e.bound.node.0 < count);
         self.minimal.place(&e.bound, id);
-        let place = self.list.len() as u32;
-        self.list.push(e, id);
         self.marking.append(place, e);
         self.standing.append(place, e);
         Ok(place)
@@ -279,7 +275,6 @@ impl Log {
         if staying == before {
             return 0;
         }
-        give_rest(&mut self.pool, &self.list, &self.marks);
         self.list.keep(&self.marks);
         self.minimal.clear();
         place_all(&mut self.minimal, &self.list);
@@ -311,7 +306,7 @@ impl Log {
         ensures empty { self.new ≡ record self.old { entries = []; ids = [] } }
         ensures born { (id : SlotId) → HasId self.old.ids id → id.birth < self.old.births }
     {
-        clear(&mut self.pool, &mut self.minimal, &mut self.list);
+        clear(&mut self.minimal, &mut self.list);
         self.marking.clear();
         self.standing.clear();
     }
@@ -471,7 +466,7 @@ impl Log {
             × (held.bound ≡ e.bound) }
         ensures exactly { (s : ℕ) (e : ℕ × Entry) → slice_index_or result.now.slots s None ≡ Some e → (k : ℕ) × IsIdAt self.now.ids s e.0 k }
     {
-        &self.pool
+        self.list.pool()
     }
 
     /// The minimal set, which holds exactly the bounds of the live entries, each under its id.

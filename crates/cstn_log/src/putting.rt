@@ -1,40 +1,23 @@
-// Empties the pool and the minimal set of a log, and fills the set with the bounds of the entries that are left.
+// Empties the list and the minimal set of a log, and fills the set with the bounds of the entries that are left.
 ghost use Rattle.std.specs.Prelude.{ℕ, ◌≡◌, ◌<◌, [], List, Option, Some, length, slice_get, slice_index_or, None};
 ghost use Rattle.cstn_rules.specs.declared.entries.Entry.{Entry as TheEntry};
 ghost use Rattle.cstn_log.specs.Entries.{AllNew};
-ghost use Rattle.cstn_log.specs.Kept.{AreLeft, IsKept, IsPooled, IsTabled};
+ghost use Rattle.cstn_log.specs.Kept.{IsKept, IsPooled, IsTabled};
 
 use crate::list::EntryList;
 use cstn_label::domination_is_an_order;
 use cstn_minset::MinSet;
-use cstn_pool::Pool;
-use cstn_rules::Entry;
 
 // Takes every entry out.
-pub fn clear(pool: &mut Pool<Entry>, minimal: &mut MinSet, list: &mut EntryList)
-    requires { length minimal.old.table ≡ length pool.old.slots }
-    ensures kept { IsKept pool.new.slots pool.new.births minimal.new.table list.new.entries list.new.ids minimal.new.nodes }
-    ensures empty { list.new ≡ record list.old { entries = []; ids = [] } }
-    ensures births { pool.new.births ≡ pool.old.births }
-    ensures size { (length pool.new.slots ≡ length pool.old.slots) × (minimal.new.nodes ≡ minimal.old.nodes) }
+pub fn clear(minimal: &mut MinSet, list: &mut EntryList)
+    requires { length minimal.old.table ≡ length list.old.pool.slots }
+    ensures kept { IsKept list.new.pool.slots list.new.pool.births minimal.new.table list.new.entries list.new.ids minimal.new.nodes }
+    ensures empty { list.new ≡ record list.old { entries = []; ids = []; pool = list.new.pool } }
+    ensures births { list.new.pool.births ≡ list.old.pool.births }
+    ensures size { (length list.new.pool.slots ≡ length list.old.pool.slots) × (minimal.new.nodes ≡ minimal.old.nodes) }
 {
-    pool.clear();
     minimal.clear();
     list.clear();
-}
-
-// Gives back the slots of the entries that aren't marked.
-pub fn give_rest(pool: &mut Pool<Entry>, list: &EntryList, marks: &[bool])
-    requires pooled { IsPooled pool.old.slots pool.old.births list.now.entries list.now.ids }
-    requires size { length marks.now ≡ length list.now.entries }
-    ensures left { AreLeft marks.now list.now.ids (length list.now.ids) pool.old.slots pool.new.slots }
-    ensures births { pool.new.births ≡ pool.old.births }
-{
-    for k in 0..list.len() {
-        if !marks[k] {
-            pool.give(list.id(k));
-        }
-    }
 }
 
 // Places the bound of each entry in the empty set, under its id.

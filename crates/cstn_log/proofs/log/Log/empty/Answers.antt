@@ -5,7 +5,7 @@ use Rattle.cstn_log.proofs.log.Log.empty.Goals as goal
 
 pub invariant_of-result : goal.invariant_of-result
 invariant_of-result c =
-    rw (c.in_ok-pool.ensures.empty, c.in_ok-minimal.ensures.empty, c.in_ok-list.ensures) (record {
+    rw (c.in_ok-minimal.ensures.empty, c.in_ok-list.ensures) (record {
       kept = kept_empty c.args.cap 0 c.args.nodes;
       room = record {
         size = omega (arith, length-replicate c.args.cap no_slot);

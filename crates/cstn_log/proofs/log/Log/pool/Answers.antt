@@ -6,9 +6,10 @@ use Rattle.cstn_log.proofs.log.Log.pool.Goals as goal
 
 pub returns-clause-held : goal.returns-clause-held
 returns-clause-held c =
-    subst (λ (v : State). AreHeld c.self.inside.pool.slots v.entries v.ids) c.self.view_is c.self.invariant.kept.pooled.held
+    rw c.pool.ensures (subst (λ (v : State). AreHeld c.self.inside.list.pool.slots v.entries v.ids) c.self.view_is c.self.invariant.kept.pooled.held)
 
 pub returns-clause-exactly : goal.returns-clause-exactly
 returns-clause-exactly c =
-    subst (λ (v : State). (s : ℕ) (e : ℕ × Entry) → get_or c.self.inside.pool.slots s None ≡ Some e → (k : ℕ) × IsIdAt v.ids s e.0 k) c.self.view_is
-    c.self.invariant.kept.pooled.found
+    rw c.pool.ensures
+    (subst (λ (v : State). (s : ℕ) (e : ℕ × Entry) → get_or c.self.inside.list.pool.slots s None ≡ Some e → (k : ℕ) × IsIdAt v.ids s e.0 k) c.self.view_is
+    c.self.invariant.kept.pooled.found)

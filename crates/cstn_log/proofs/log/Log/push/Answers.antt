@@ -21,7 +21,8 @@ prove-unreachable-requires c =
 
 pub returns-in_err-id-clause-derivation : goal.returns-in_err-id-clause-derivation
 returns-in_err-id-clause-derivation c =
-    subst (λ (v : State). IsDerivation (the_network c.args.net.now) (the_entries v.entries) → IsDerivation (the_network c.args.net.now) (the_entries c.self.inside.list.entries)) c.self.view_is (λ derivation. derivation)
+    rw c.in_err-id.ensures.refused
+    (subst (λ (v : State). IsDerivation (the_network c.args.net.now) (the_entries v.entries) → IsDerivation (the_network c.args.net.now) (the_entries c.self.inside.list.entries)) c.self.view_is (λ derivation. derivation))
 
 pub place-requires-clause-uncovered : goal.place-requires-clause-uncovered
 place-requires-clause-uncovered c =
@@ -29,7 +30,7 @@ place-requires-clause-uncovered c =
 
 pub place-requires-clause-slot : goal.place-requires-clause-slot
 place-requires-clause-slot c =
-    omega (arith, slice_get_within c.self.inside.pool.slots c.in_ok-id.id.slot None c.in_ok-id.ensures.empty, c.self.invariant.kept.room)
+    omega (arith, slice_get_within c.self.inside.list.pool.slots c.in_ok-id.id.slot None c.in_ok-id.ensures.empty, c.self.invariant.kept.room)
 
 pub place-requires-clause-free : goal.place-requires-clause-free
 place-requires-clause-free c =
@@ -37,10 +38,7 @@ place-requires-clause-free c =
 
 pub place-requires-clause-birth : goal.place-requires-clause-birth
 place-requires-clause-birth c =
-    rw c.in_ok-id.ensures.birth (born_before _ _ _ c.self.inside.pool.births c.self.invariant.kept.tabled c.self.invariant.kept.pooled.before)
-
-pub push-requires-clause-free : goal.push-requires-clause-free
-push-requires-clause-free c = slot_empty _ _ _ _ c.in_ok-id.id c.self.invariant.kept.pooled c.in_ok-id.ensures.empty
+    rw c.in_ok-id.ensures.birth (born_before _ _ _ c.self.inside.list.pool.births c.self.invariant.kept.tabled c.self.invariant.kept.pooled.before)
 
 pub overflow_cast-place : goal.overflow_cast-place
 overflow_cast-place c =
@@ -50,11 +48,12 @@ overflow_cast-place c =
 pub invariant_of-self-2 : goal.invariant_of-self-2
 invariant_of-self-2 c =
     let id = c.in_ok-id.id in
-    let taken = c.in_ok-id.ensures in
+    let more = c.in_ok-id.ensures.pushed in
     let placed = c.place.ensures.placed in
-    let longer = ap (λ v. v.entries) c.push.ensures in
-    let pushed = ap (λ v. v.ids) c.push.ensures in
-    let size : length c.take.new.self.slots ≡ length c.self.inside.pool.slots = ap (λ v. length v.slots) taken.taken ∙ length-set c.self.inside.pool.slots id.slot _ in
+    let longer = ap (λ v. v.entries) more.2 in
+    let pushed = ap (λ v. v.ids) more.2 in
+    let taken = ap (λ v. v.pool) more.2 in
+    let size : length c.push.new.self.pool.slots ≡ length c.self.inside.list.pool.slots = ap (λ v. length v.pool.slots) more.2 ∙ length-set c.self.inside.list.pool.slots id.slot (Some (id.birth, more.0)) in
     let uncovered = subst (λ (v : State). ¬ IsCoveredBy v.entries c.args.e.bound) (sym c.self.view_is) c.requires.uncovered in
     let nodes = ap (λ v. v.nodes) c.self.view_is in
     let room = c.self.invariant.room in
@@ -65,9 +64,9 @@ invariant_of-self-2 c =
     let same : c.place.new.self.nodes ≡ c.self.inside.minimal.nodes = ap (λ v. v.nodes) placed.2 in
     let long : length L ≡ c.len-place.result = omega (arith, c.len-place.ensures.len) in
     record {
-      kept = push_step c.domination_is_an_order.ensures.transitive c.self.inside.pool.slots c.self.inside.pool.births c.self.inside.minimal placed.0 L c.push.new.self.entries c.self.inside.list.ids id c.args.e c.take.new.self c.place.new.self c.push.new.self.ids c.self.invariant.kept taken.empty taken.birth taken.taken placed.1 placed.2 longer pushed uncovered (omega (arith, nodes, c.requires.net, c.if-prove.false, c.count-count.ensures.count));
+      kept = push_step c.domination_is_an_order.ensures.transitive c.self.inside.list.pool.slots c.self.inside.list.pool.births c.self.inside.minimal placed.0 L c.push.new.self.entries c.self.inside.list.ids id c.args.e more.0 c.push.new.self.pool c.place.new.self c.push.new.self.ids more.1 c.self.invariant.kept c.in_ok-id.ensures.empty c.in_ok-id.ensures.birth taken placed.1 placed.2 longer pushed uncovered (omega (arith, nodes, c.requires.net, c.if-prove.false, c.count-count.ensures.count));
       room = record {
-        size = ap (λ v. v.cap) c.push.ensures ∙ room.size ∙ sym size;
+        size = ap (λ v. v.cap) more.2 ∙ room.size ∙ sym size;
         for_marks = omega (arith, size, room.for_marks);
         few = omega (arith, size, room.few);
       };
@@ -84,7 +83,7 @@ invariant_of-self-2 c =
 
 pub append-requires : goal.append-requires
 append-requires c =
-    let inside = slice_get_within c.self.inside.pool.slots c.in_ok-id.id.slot None c.in_ok-id.ensures.empty in
+    let inside = slice_get_within c.self.inside.list.pool.slots c.in_ok-id.id.slot None c.in_ok-id.ensures.empty in
     omega (arith, c.self.invariant.indexed.room.for_marks)
 
 -- the id of a slot and a birth
@@ -97,17 +96,17 @@ the_state v births e id = record v { entries = v.entries ++ e ∷ []; ids = v.id
 pub returns-clause-pushed : goal.returns-clause-pushed
 returns-clause-pushed c = λ _.
     let id = c.in_ok-id.id in
-    let taken = c.in_ok-id.ensures in
-    let longer = ap (λ v. v.entries) c.push.ensures in
-    let pushed = ap (λ v. v.ids) c.push.ensures in
+    let more = c.in_ok-id.ensures.pushed in
+    let longer = ap (λ v. v.entries) more.2 in
+    let pushed = ap (λ v. v.ids) more.2 in
     let nodes = ap (λ v. v.nodes) c.place.ensures.placed.2 in
-    let cap = ap (λ v. v.cap) c.push.ensures in
-    let births = ap (λ v. v.births) taken.taken in
-    let id_is : id ≡ record { slot = id.slot; birth = c.self.inside.pool.births } = ap (λ (n : ℕ). the_id id.slot n) taken.birth in
-    (id.slot, rw (← c.self.view_is, longer, pushed, cap, nodes, births) (ap (λ (y : SlotId). the_state (record { entries = c.self.inside.list.entries; ids = c.self.inside.list.ids; births = c.self.inside.pool.births; cap = c.self.inside.list.cap; nodes = c.self.inside.minimal.nodes }) (c.self.inside.pool.births + 1) c.args.e y) id_is))
+    let cap = ap (λ v. v.cap) more.2 in
+    let births = ap (λ v. v.pool.births) more.2 in
+    let id_is : id ≡ record { slot = id.slot; birth = c.self.inside.list.pool.births } = ap (λ (n : ℕ). the_id id.slot n) c.in_ok-id.ensures.birth in
+    (id.slot, rw (← c.self.view_is, longer, pushed, cap, nodes, births) (ap (λ (y : SlotId). the_state (record { entries = c.self.inside.list.entries; ids = c.self.inside.list.ids; births = c.self.inside.list.pool.births; cap = c.self.inside.list.cap; nodes = c.self.inside.minimal.nodes }) (c.self.inside.list.pool.births + 1) c.args.e y) id_is))
 
 pub returns-clause-derivation : goal.returns-clause-derivation
 returns-clause-derivation c =
-    let longer = ap (λ v. v.entries) c.push.ensures in
+    let longer = ap (λ v. v.entries) c.in_ok-id.ensures.pushed.2 in
     let back = subst (λ (v : State). c.push.new.self.entries ≡ v.entries ++ c.args.e ∷ []) c.self.view_is longer in
     pushed_derivation (the_network c.args.net.now) c.args.self.now.entries _ c.args.e back c.requires.follows

@@ -79,26 +79,26 @@ returns-then-staying-before-clause-derivation c = λ net constraints others deri
 
 pub keep-requires-clause-closed : goal.keep-requires-clause-closed
 keep-requires-clause-closed c =
-    rw (c.deref-3.ensures.value, c.mark_staying.ensures.marked) (staying_closed (the_entries c.self.inside.list.entries) c.args.constraint c.len-before.ensures.earlier)
+    rw (c.deref-2.ensures.value, c.mark_staying.ensures.marked) (staying_closed (the_entries c.self.inside.list.entries) c.args.constraint c.len-before.ensures.earlier)
 
 pub place_all-requires-clause-pooled : goal.place_all-requires-clause-pooled
 place_all-requires-clause-pooled c =
     let E = c.self.inside.list.entries in
     let I = c.self.inside.list.ids in
     let M = c.mark_staying.new.marks.items in
-    let chose : c.keep.new.self.ids ≡ chosen M I = ap (λ v. v.ids) (rw c.deref-3.ensures.value at c.keep.ensures) in
-    let kept : c.keep.new.self.entries ≡ chosen M (map (renewed M) E) = ap (λ v. v.entries) (rw c.deref-3.ensures.value at c.keep.ensures) in
-    let left : AreLeft M I (length I) c.self.inside.pool.slots c.give_rest.new.pool.slots = rw c.deref-2.ensures.value at c.give_rest.ensures.left in
-    let pooled : IsPooled c.give_rest.new.pool.slots c.self.inside.pool.births (chosen M (map (renewed M) E)) (chosen M I) = left_pooled M c.self.inside.pool.births E I c.self.inside.pool.slots c.give_rest.new.pool.slots c.self.invariant.kept.pooled c.self.invariant.kept.size left in
+    let chose : c.keep.new.self.ids ≡ chosen M I = ap (λ v. v.ids) (rw c.deref-2.ensures.value at c.keep.ensures.kept) in
+    let kept : c.keep.new.self.entries ≡ chosen M (map (renewed M) E) = ap (λ v. v.entries) (rw c.deref-2.ensures.value at c.keep.ensures.kept) in
+    let left : AreLeft M I (length I) c.self.inside.list.pool.slots c.keep.new.self.pool.slots = rw c.deref-2.ensures.value at c.keep.ensures.left in
+    let pooled : IsPooled c.keep.new.self.pool.slots c.self.inside.list.pool.births (chosen M (map (renewed M) E)) (chosen M I) = left_pooled M c.self.inside.list.pool.births E I c.self.inside.list.pool.slots c.keep.new.self.pool.slots c.self.invariant.kept.pooled c.self.invariant.kept.size left in
     let cleared : length c.clear-2.new.self.table ≡ length c.self.inside.minimal.table = ap (λ v. length v.table) c.clear-2.ensures ∙ length-replicate _ _ in
-    (c.give_rest.new.pool.slots, c.self.inside.pool.births, rw (kept, chose) pooled, omega (arith, left.size, cleared, c.self.invariant.kept.room))
+    (c.keep.new.self.pool.slots, c.self.inside.list.pool.births, rw (kept, chose) pooled, omega (arith, left.size, cleared, c.self.invariant.kept.room))
 
 pub place_all-requires-clause-new : goal.place_all-requires-clause-new
 place_all-requires-clause-new c =
     let E = c.self.inside.list.entries in
     let I = c.self.inside.list.ids in
     let M = c.mark_staying.new.marks.items in
-    let kept : c.keep.new.self.entries ≡ chosen M (map (renewed M) E) = ap (λ v. v.entries) (rw c.deref-3.ensures.value at c.keep.ensures) in
+    let kept : c.keep.new.self.entries ≡ chosen M (map (renewed M) E) = ap (λ v. v.entries) (rw c.deref-2.ensures.value at c.keep.ensures.kept) in
     let cut_is : the_entries c.keep.new.self.entries ≡ cut M (the_entries E) = ap the_entries kept ∙ renewed_cut M E in
     (cut_new M E c.keep.new.self.entries cut_is c.self.invariant.kept.fresh)
 
@@ -107,7 +107,7 @@ place_all-requires-clause-nodes c =
     let E = c.self.inside.list.entries in
     let I = c.self.inside.list.ids in
     let M = c.mark_staying.new.marks.items in
-    let kept : c.keep.new.self.entries ≡ chosen M (map (renewed M) E) = ap (λ v. v.entries) (rw c.deref-3.ensures.value at c.keep.ensures) in
+    let kept : c.keep.new.self.entries ≡ chosen M (map (renewed M) E) = ap (λ v. v.entries) (rw c.deref-2.ensures.value at c.keep.ensures.kept) in
     let cut_is : the_entries c.keep.new.self.entries ≡ cut M (the_entries E) = ap the_entries kept ∙ renewed_cut M E in
     rw (ap (λ v. v.nodes) c.clear-2.ensures) (cut_inside M E c.keep.new.self.entries c.self.inside.minimal.nodes cut_is c.self.invariant.kept.inside)
 
@@ -116,8 +116,8 @@ append_all-requires-clause-room c =
     let E = c.self.inside.list.entries in
     let I = c.self.inside.list.ids in
     let M = c.mark_staying.new.marks.items in
-    let kept : c.keep.new.self.entries ≡ chosen M (map (renewed M) E) = ap (λ v. v.entries) (rw c.deref-3.ensures.value at c.keep.ensures) in
-    let short : length c.keep.new.self.entries ≤ length c.self.inside.pool.slots = omega (arith, ap length kept, length_left M E, rank_upto M (length E), c.self.invariant.kept.size, few _ _ _ _ c.self.invariant.kept.pooled) in
+    let kept : c.keep.new.self.entries ≡ chosen M (map (renewed M) E) = ap (λ v. v.entries) (rw c.deref-2.ensures.value at c.keep.ensures.kept) in
+    let short : length c.keep.new.self.entries ≤ length c.self.inside.list.pool.slots = omega (arith, ap length kept, length_left M E, rank_upto M (length E), c.self.invariant.kept.size, few _ _ _ _ c.self.invariant.kept.pooled) in
     let index = c.self.invariant.indexed in
     let ends : length c.self.inside.standing.lasts.items ≡ c.self.inside.minimal.nodes = index.stand.lasts_size in
     let lasts : length c.clear-4.new.self.lasts.items ≡ length c.self.inside.standing.lasts.items = c.clear-4.ensures.chains.lasts_size in
@@ -130,8 +130,8 @@ append_all-requires-clause-few c =
     let E = c.self.inside.list.entries in
     let I = c.self.inside.list.ids in
     let M = c.mark_staying.new.marks.items in
-    let kept : c.keep.new.self.entries ≡ chosen M (map (renewed M) E) = ap (λ v. v.entries) (rw c.deref-3.ensures.value at c.keep.ensures) in
-    let short : length c.keep.new.self.entries ≤ length c.self.inside.pool.slots = omega (arith, ap length kept, length_left M E, rank_upto M (length E), c.self.invariant.kept.size, few _ _ _ _ c.self.invariant.kept.pooled) in
+    let kept : c.keep.new.self.entries ≡ chosen M (map (renewed M) E) = ap (λ v. v.entries) (rw c.deref-2.ensures.value at c.keep.ensures.kept) in
+    let short : length c.keep.new.self.entries ≤ length c.self.inside.list.pool.slots = omega (arith, ap length kept, length_left M E, rank_upto M (length E), c.self.invariant.kept.size, few _ _ _ _ c.self.invariant.kept.pooled) in
     let index = c.self.invariant.indexed in
     let ends : length c.self.inside.standing.lasts.items ≡ c.self.inside.minimal.nodes = index.stand.lasts_size in
     let lasts : length c.clear-4.new.self.lasts.items ≡ length c.self.inside.standing.lasts.items = c.clear-4.ensures.chains.lasts_size in
@@ -142,7 +142,7 @@ append_all-requires-clause-inside c =
     let E = c.self.inside.list.entries in
     let I = c.self.inside.list.ids in
     let M = c.mark_staying.new.marks.items in
-    let kept : c.keep.new.self.entries ≡ chosen M (map (renewed M) E) = ap (λ v. v.entries) (rw c.deref-3.ensures.value at c.keep.ensures) in
+    let kept : c.keep.new.self.entries ≡ chosen M (map (renewed M) E) = ap (λ v. v.entries) (rw c.deref-2.ensures.value at c.keep.ensures.kept) in
     let cut_is : the_entries c.keep.new.self.entries ≡ cut M (the_entries E) = ap the_entries kept ∙ renewed_cut M E in
     let index = c.self.invariant.indexed in
     let ends : length c.self.inside.standing.lasts.items ≡ c.self.inside.minimal.nodes = index.stand.lasts_size in
@@ -165,11 +165,11 @@ invariant_of-self-2 c =
     let I = c.self.inside.list.ids in
     let M = c.mark_staying.new.marks.items in
     let marks : M ≡ marked_staying c.args.constraint [] (the_entries E) = c.mark_staying.ensures.marked in
-    let chose : c.keep.new.self.ids ≡ chosen M I = ap (λ v. v.ids) (rw c.deref-3.ensures.value at c.keep.ensures) in
-    let kept : c.keep.new.self.entries ≡ chosen M (map (renewed M) E) = ap (λ v. v.entries) (rw c.deref-3.ensures.value at c.keep.ensures) in
+    let chose : c.keep.new.self.ids ≡ chosen M I = ap (λ v. v.ids) (rw c.deref-2.ensures.value at c.keep.ensures.kept) in
+    let kept : c.keep.new.self.entries ≡ chosen M (map (renewed M) E) = ap (λ v. v.entries) (rw c.deref-2.ensures.value at c.keep.ensures.kept) in
     let cut_is : the_entries c.keep.new.self.entries ≡ cut M (the_entries E) = ap the_entries kept ∙ renewed_cut M E in
-    let left : AreLeft M I (length I) c.self.inside.pool.slots c.give_rest.new.pool.slots = rw c.deref-2.ensures.value at c.give_rest.ensures.left in
-    let pooled : IsPooled c.give_rest.new.pool.slots c.self.inside.pool.births (chosen M (map (renewed M) E)) (chosen M I) = left_pooled M c.self.inside.pool.births E I c.self.inside.pool.slots c.give_rest.new.pool.slots c.self.invariant.kept.pooled c.self.invariant.kept.size left in
+    let left : AreLeft M I (length I) c.self.inside.list.pool.slots c.keep.new.self.pool.slots = rw c.deref-2.ensures.value at c.keep.ensures.left in
+    let pooled : IsPooled c.keep.new.self.pool.slots c.self.inside.list.pool.births (chosen M (map (renewed M) E)) (chosen M I) = left_pooled M c.self.inside.list.pool.births E I c.self.inside.list.pool.slots c.keep.new.self.pool.slots c.self.invariant.kept.pooled c.self.invariant.kept.size left in
     let cleared : length c.clear-2.new.self.table ≡ length c.self.inside.minimal.table = ap (λ v. length v.table) c.clear-2.ensures ∙ length-replicate _ _ in
     let index = c.self.invariant.indexed in
     let ends : length c.self.inside.standing.lasts.items ≡ c.self.inside.minimal.nodes = index.stand.lasts_size in
@@ -180,7 +180,7 @@ invariant_of-self-2 c =
     let same : c.place_all.new.minimal.nodes ≡ c.self.inside.minimal.nodes = c.place_all.ensures.size.1 ∙ ap (λ v. v.nodes) c.clear-2.ensures in
     record {
       kept = record {
-        pooled = rw (c.give_rest.ensures.births, kept, chose) pooled;
+        pooled = rw (c.keep.ensures.births, kept, chose) pooled;
         tabled = c.place_all.ensures.tabled;
         room = omega (arith, c.place_all.ensures.size.0, cleared, c.self.invariant.kept.room, size);
         size = omega (arith, ap length kept, ap length chose, length_left M E, length_chosen M I, ap (rank M) c.self.invariant.kept.size);
@@ -188,7 +188,7 @@ invariant_of-self-2 c =
         inside = rw same (cut_inside M E c.keep.new.self.entries c.self.inside.minimal.nodes cut_is c.self.invariant.kept.inside);
       };
       room = record {
-        size = ap (λ v. v.cap) c.keep.ensures ∙ room.size ∙ sym size;
+        size = ap (λ v. v.cap) c.keep.ensures.kept ∙ room.size ∙ sym size;
         for_marks = omega (arith, size, room.for_marks, c.mark_staying.ensures.room, c.clear.ensures.capacity);
         few = omega (arith, size, room.few);
       };
@@ -209,7 +209,7 @@ returns-clause-dropped c =
     let I = c.self.inside.list.ids in
     let M = c.mark_staying.new.marks.items in
     let marks : M ≡ marked_staying c.args.constraint [] (the_entries E) = c.mark_staying.ensures.marked in
-    let kept : c.keep.new.self.entries ≡ chosen M (map (renewed M) E) = ap (λ v. v.entries) (rw c.deref-3.ensures.value at c.keep.ensures) in
+    let kept : c.keep.new.self.entries ≡ chosen M (map (renewed M) E) = ap (λ v. v.entries) (rw c.deref-2.ensures.value at c.keep.ensures.kept) in
     let cut_is : the_entries c.keep.new.self.entries ≡ cut M (the_entries E) = ap the_entries kept ∙ renewed_cut M E in
     subst (λ (v : State). the_entries c.keep.new.self.entries ≡ dropped (the_entries v.entries) c.args.constraint) c.self.view_is (cut_is ∙ ap (λ m. cut m (the_entries E)) marks)
 
@@ -219,7 +219,7 @@ returns-clause-ids c =
     let I = c.self.inside.list.ids in
     let M = c.mark_staying.new.marks.items in
     let marks : M ≡ marked_staying c.args.constraint [] (the_entries E) = c.mark_staying.ensures.marked in
-    let chose : c.keep.new.self.ids ≡ chosen M I = ap (λ v. v.ids) (rw c.deref-3.ensures.value at c.keep.ensures) in
+    let chose : c.keep.new.self.ids ≡ chosen M I = ap (λ v. v.ids) (rw c.deref-2.ensures.value at c.keep.ensures.kept) in
     subst (λ (v : State). c.keep.new.self.ids ≡ chosen (marked_staying c.args.constraint [] (the_entries v.entries)) v.ids) c.self.view_is (chose ∙ ap (λ m. chosen m I) marks)
 
 pub returns-clause-gone : goal.returns-clause-gone
@@ -228,9 +228,9 @@ returns-clause-gone c =
     let I = c.self.inside.list.ids in
     let M = c.mark_staying.new.marks.items in
     let marks : M ≡ marked_staying c.args.constraint [] (the_entries E) = c.mark_staying.ensures.marked in
-    let chose : c.keep.new.self.ids ≡ chosen M I = ap (λ v. v.ids) (rw c.deref-3.ensures.value at c.keep.ensures) in
+    let chose : c.keep.new.self.ids ≡ chosen M I = ap (λ v. v.ids) (rw c.deref-2.ensures.value at c.keep.ensures.kept) in
     subst (λ (v : State). (k : ℕ) (id : SlotId) → slice_get v.ids k ≡ Some id → is_marked (marked_staying c.args.constraint [] (the_entries v.entries)) k ≡ false → ¬ HasId c.keep.new.self.ids id) c.self.view_is
-    (λ k id there unmarked has. none_gone M c.self.inside.pool.slots c.self.inside.pool.births E I k id c.self.invariant.kept.pooled there (rw (← marks) at unmarked) (rw chose at has))
+    (λ k id there unmarked has. none_gone M c.self.inside.list.pool.slots c.self.inside.list.pool.births E I k id c.self.invariant.kept.pooled there (rw (← marks) at unmarked) (rw chose at has))
 
 pub returns-clause-answer : goal.returns-clause-answer
 returns-clause-answer c =
@@ -240,7 +240,7 @@ returns-clause-answer c =
     let size : length M ≡ length E = c.mark_staying.ensures.size in
     let staying : c.count_marked-staying.result ≡ rank M (length E) = (rw c.deref.ensures.value at c.count_marked-staying.ensures) ∙ ap (rank M) size in
     let before : c.len-before.result ≡ length E = c.len-before.ensures.len in
-    let kept : c.keep.new.self.entries ≡ chosen M (map (renewed M) E) = ap (λ v. v.entries) (rw c.deref-3.ensures.value at c.keep.ensures) in
+    let kept : c.keep.new.self.entries ≡ chosen M (map (renewed M) E) = ap (λ v. v.entries) (rw c.deref-2.ensures.value at c.keep.ensures.kept) in
     subst (λ (v : State). c.len-before.result - c.count_marked-staying.result + length c.keep.new.self.entries ≡ length v.entries) c.self.view_is
     (omega (arith, staying, before, ap length kept, length_left M E, rank_upto M (length E)))
 
@@ -260,7 +260,7 @@ returns-clause-derivation c = λ net constraints others derivation.
     let I = c.self.inside.list.ids in
     let M = c.mark_staying.new.marks.items in
     let marks : M ≡ marked_staying c.args.constraint [] (the_entries E) = c.mark_staying.ensures.marked in
-    let kept : c.keep.new.self.entries ≡ chosen M (map (renewed M) E) = ap (λ v. v.entries) (rw c.deref-3.ensures.value at c.keep.ensures) in
+    let kept : c.keep.new.self.entries ≡ chosen M (map (renewed M) E) = ap (λ v. v.entries) (rw c.deref-2.ensures.value at c.keep.ensures.kept) in
     let cut_is : the_entries c.keep.new.self.entries ≡ cut M (the_entries E) = ap the_entries kept ∙ renewed_cut M E in
     let whole : the_entries c.keep.new.self.entries ≡ dropped (the_entries E) c.args.constraint = cut_is ∙ ap (λ m. cut m (the_entries E)) marks in
     let was : IsDerivation net (the_entries E) = subst (λ (v : State). IsDerivation net (the_entries v.entries)) (sym c.self.view_is) derivation in
