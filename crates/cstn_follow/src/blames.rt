@@ -24,8 +24,8 @@ use std::alloc::{AllocError, Global};
 /// The ids of the constraints that are to blame where a history can't go on, in ascending order: those that are left when, of all
 /// constraints, each is left out for good without which the history can't go on either, in ascending order of their ids. None
 /// where what has happened can't be gone on with even without constraints. Takes a check of what is left, and one more for each
-/// constraint that gave an entry of the last log by which it can't go on: without any other one the log is the same. A log may have
-/// `cap` entries. The ids of the network are below `fresh`, which is at most 4,294,000,000.
+/// constraint that gave a step of the last refutation, or, where a log can be full, an entry of the last log: without any other one
+/// there is a no as well. A log may have `cap` entries. The ids of the network are below `fresh`, which is at most 4,294,000,000.
 pub fn blame(
     alloc: Global,
     network: &Labelled,
