@@ -88,10 +88,14 @@ module _ (net : Network) (test : ℕ → Bool) where
   unfolding IsIdle
   log_same idle = grown_same (bases (count net)) _ idle
 
+-- where a constraint gave no entry, none did that another id leaves out
+pub none_but : (id : ℕ) (list : List Entry) → gave id list ≡ false → (i : ℕ) → not (eqb i id) ≡ false → gave i list ≡ false
+none_but id list none i fails = by (eqb i id) refl fails
+  where
+    by : (b : Bool) → eqb i id ≡ b → not b ≡ false → gave i list ≡ false
+    by true same fails = subst (λ k. gave k list ≡ false) (sym (eqb-true i id same)) none
+    by false other fails = absurd (both_ways true fails refl)
+
 -- a constraint that gave no entry can be taken out
 pub log_without : (net : Network) (id : ℕ) → gave id (log_of net) ≡ false → log_of (without id net) ≡ log_of net
-log_without net id none = log_same net (λ i. not (eqb i id)) (λ i fails. by i (eqb i id) refl fails)
-  where
-    by : (i : ℕ) (b : Bool) → eqb i id ≡ b → not b ≡ false → gave i (log_of net) ≡ false
-    by i true same fails = subst (λ k. gave k (log_of net) ≡ false) (sym (eqb-true i id same)) none
-    by i false other fails = absurd (both_ways true fails refl)
+log_without net id none = log_same net (λ i. not (eqb i id)) (none_but id (log_of net) none)

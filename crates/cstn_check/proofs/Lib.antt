@@ -31,3 +31,6 @@ pub mod TryLemmas
 pub mod DeadlineLemmas
 pub mod Idle
 pub mod Deciding
+pub mod RoomLemmas
+pub mod Fewer
+pub mod Standing

@@ -12,3 +12,4 @@ pub mod Checks
 pub mod Deadlines
 pub mod Verdicts
 pub mod Decisions
+pub mod Room

@@ -1,6 +1,7 @@
-// The law of constraints that gave no entry.
-ghost use Rattle.std.specs.Prelude.{ℕ, ◌≡◌, Bool, false};
+// The laws of constraints that gave no entry.
+ghost use Rattle.std.specs.Prelude.{ℕ, ◌≡◌, Bool, false, List};
 ghost use Rattle.cstn_net.specs.Networks.{Network};
+ghost use Rattle.cstn_rules.specs.Derivations.{Entry, IsRefutation};
 ghost use Rattle.cstn_check.specs.Growth.{log_of};
 ghost use Rattle.cstn_check.specs.Givers.{gave, with_some, without};
 
@@ -9,4 +10,10 @@ ghost use Rattle.cstn_check.specs.Givers.{gave, with_some, without};
 pub fn logs_stay_without_idle_constraints()
     ensures one { (net : Network) (id : ℕ) → gave id (log_of net) ≡ false → log_of (without id net) ≡ log_of net }
     ensures some { (net : Network) (test : ℕ → Bool) → ((id : ℕ) → test id ≡ false → gave id (log_of net) ≡ false) → log_of (with_some net test) ≡ log_of net }
+{}
+
+/// A refutation of a network stands where all constraints are left out that gave none of its steps, or some of these.
+pub fn refutations_stand_without_idle_constraints()
+    ensures { (net : Network) (test : ℕ → Bool) (steps : List Entry) → ((id : ℕ) → test id ≡ false → gave id steps ≡ false) → IsRefutation net steps
+        → IsRefutation (with_some net test) steps }
 {}

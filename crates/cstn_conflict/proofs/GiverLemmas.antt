@@ -1,21 +1,15 @@
 -- The marks of ids whose constraints gave entries.
-use Rattle.std.proofs.Common.{ℕ, zero, suc, ◌≡◌, ◌≢◌, ◌<◌, ◌+◌, inl, inr, Bool, true, false, ◌||◌, Some, Err, List, [], ◌∷◌, ◌++◌, length, get_or, set, take, replicate, arith, refl, sym, ap, ◌∙◌}
-use Rattle.std.specs.Prelude.{slice_get}
+use Rattle.std.proofs.Common.{ℕ, zero, suc, ◌≡◌, ◌≢◌, ◌<◌, inl, inr, Bool, true, false, ◌||◌, Err, List, [], ◌∷◌, ◌++◌, length, get_or, set, replicate, arith, refl, sym, ap, ◌∙◌}
 use Rattle.std.specs.List.{All, AllPairs}
 use Rattle.std.specs.List.Sorted.{IsBinarySearchResult, IsNonDecreasingBy}
 use Rattle.std.specs.Ordering.{nat_cmp, ordering_index}
 use Rattle.std.proofs.lemmas.Bool.{cases_lt, eq-eqb, ne_eqb, or_right}
 use Rattle.std.proofs.lemmas.Bool.Decides.{nat_tests}
 use Rattle.std.proofs.lemmas.Cmp.{ranked}
-use Rattle.std.proofs.lemmas.List.{take_more, map_push}
 use Rattle.std.proofs.lemmas.List.Elements.{All-head, All-tail}
 use Rattle.std.proofs.lemmas.List.Folds.{list_any-append}
-use Rattle.std.proofs.lemmas.Option.{slice_get_within, slice_get-get_or}
-use Rattle.cstn_rules.specs.declared.entries.Entry.{Entry as DeclaredEntry}
 use Rattle.cstn_rules.specs.declared.entries.Why.TheVariants.{Chain}
 use Rattle.cstn_rules.specs.Derivations.{Entry}
-use Rattle.cstn_rules.specs.Read.{the_entry}
-use Rattle.cstn_log.specs.Entries.{the_entries}
 use Rattle.cstn_check.specs.Givers.{is_by, gave}
 use Rattle.cstn_conflict.specs.Trials.{givers}
 
@@ -85,17 +79,3 @@ module _ (list : List Entry) (e : Entry) where
 pub none_gave : (ids : List ℕ) → replicate (length ids) false ≡ givers ids []
 none_gave [] = refl
 none_gave (i ∷ is) = ap (λ bs. false ∷ bs) (none_gave is)
-
--- the first entries and one more
-pub entry_next : (list : List DeclaredEntry) (k : ℕ) (e : DeclaredEntry) → k < length list → e ≡ get_or list k e →
-    the_entries (take (k + 1) list) ≡ the_entries (take k list) ++ the_entry e ∷ []
-entry_next list k e inside here =
-    ap the_entries (take_more list k e inside) ∙ map_push the_entry (take k list) (get_or list k e)
-    ∙ ap (λ x. the_entries (take k list) ++ the_entry x ∷ []) (sym here)
-
-pub entries_next : (list : List DeclaredEntry) (k : ℕ) (e : DeclaredEntry) → slice_get list k ≡ Some e →
-    the_entries (take (k + 1) list) ≡ the_entries (take k list) ++ the_entry e ∷ []
-entries_next list k e there =
-    let inside = slice_get_within list k e there in
-    let here : e ≡ get_or list k e = let at = slice_get-get_or list k e inside in cc in
-    entry_next list k e inside here

@@ -5,6 +5,5 @@ pub mod ConflictLemmas
 pub mod GiverLemmas
 pub mod SearchLemmas
 pub mod StandLemmas
-pub mod RoomLemmas
 mod Saying
 pub mod IdLines

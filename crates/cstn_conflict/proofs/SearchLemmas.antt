@@ -1,27 +1,30 @@
 -- Trials of the search, and constraints that are left out with no trial.
-use Rattle.std.proofs.Common.{ℕ, ◌≡◌, ◌<◌, ◌≤◌, Bool, true, false, not, List, Option, Some, None, length, get_or, arith, refl, sym, subst, ap, ◌∙◌}
+use Rattle.std.proofs.Common.{ℕ, ◌≡◌, ◌<◌, ◌≤◌, Bool, true, false, not, eqb, List, Option, Some, None, length, get_or, arith, refl, sym, subst, ap, ◌∙◌}
 use Rattle.std.specs.Prelude.{IfSome}
-use Rattle.std.proofs.lemmas.Bool.{cond-true, cond-false, false_from_ne_true}
+use Rattle.std.proofs.lemmas.Bool.{cond-true, cond-false}
 use Rattle.std.proofs.lemmas.List.{get_or-map}
-use Rattle.cstn_net.specs.Networks.{Network, IsNetwork, IsWellFormed}
+use Rattle.cstn_net.specs.Networks.{Network, IsWellFormed}
 use Rattle.cstn_net.specs.Strategies.{IsConsistent}
 use Rattle.cstn_net.specs.Read.{NetworkParts, the_network}
 use Rattle.cstn_rules.specs.Derivations.{Entry, IsRefutation}
 use Rattle.cstn_log.specs.Cuts.{part}
 use Rattle.cstn_log.proofs.MarkLemmas.{part_refutation}
 use Rattle.cstn_refute.specs.Refutations.{RefutationParts, the_steps}
-use Rattle.cstn_check.specs.Growth.{is_refuted, log_of, load_of, most_entries}
+use Rattle.cstn_check.specs.Growth.{is_refuted, log_of, load_of}
 use Rattle.cstn_check.specs.Givers.{gave, without}
-use Rattle.cstn_check.proofs.Answering.{log_refutes_last}
-use Rattle.cstn_check.proofs.PartLemmas.{log_refutation}
+use Rattle.cstn_check.specs.Room.{Decides}
 use Rattle.cstn_check.specs.Verdicts.{is_consistent, IsRefutationOf}
+use Rattle.cstn_check.proofs.Answering.{log_refutes_last}
+use Rattle.cstn_check.proofs.Decides.{decided, not_consistent}
+use Rattle.cstn_check.proofs.Fewer.{copied}
+use Rattle.cstn_check.proofs.Idle.{none_but, log_without}
+use Rattle.cstn_check.proofs.PartLemmas.{log_refutation}
+use Rattle.cstn_check.proofs.Standing.{no_stands}
 use Rattle.cstn_conflict.specs.declared.search.No.{No}
 use Rattle.cstn_conflict.specs.Sets.{with_ids}
 use Rattle.cstn_conflict.specs.Conflicts.{conflict_set}
-use Rattle.cstn_conflict.specs.Trials.{Decides, IsNoOn, givers, smaller}
-use Rattle.cstn_check.proofs.Decides.{decided, not_consistent}
+use Rattle.cstn_conflict.specs.Trials.{IsNoOn, givers, smaller}
 use Rattle.cstn_conflict.proofs.SetLemmas.{without_well_formed}
-use Rattle.cstn_conflict.proofs.TrialLemmas.{copied}
 
 -- the part of the log of a network that isn't consistent refutes it
 part_refutes : (net : Network) → IsWellFormed net → is_consistent net ≡ false → IsRefutation net (part (log_of net))
@@ -49,40 +52,18 @@ pub idle_at : (cap : ℕ) (net : Network) (ids : List ℕ) (one : No) (k : ℕ) 
 idle_at cap net ids one k last inside unmarked =
     sym (ap (λ ms. get_or ms k false) last.givers ∙ get_or-map (λ id. gave id last.list) ids k 0 false inside) ∙ unmarked
 
--- the laws that are needed here
-abbrev pub Idle : Type 0
-Idle = (net : Network) (id : ℕ) → gave id (log_of net) ≡ false → log_of (without id net) ≡ log_of net
-
-abbrev pub Stands : Type 0
-Stands = (net : Network) (id : ℕ) (steps : List Entry) → gave id steps ≡ false → IsRefutation net steps → IsRefutation (without id net) steps
-
-abbrev pub Sound : Type 0
-Sound = (net : Network) (steps : List Entry) → IsNetwork net → IsRefutation net steps → IsConsistent net → ⊥
-
-abbrev pub Bounded : Type 0
-Bounded = (net : Network) → IsWellFormed net → load_of net ≤ most_entries net
-
-module _ (idle : Idle) (stands : Stands) (sound : Sound) (bounded : Bounded) (cap id : ℕ) (net : Network) (good : IsWellFormed net) where
+module _ (cap id : ℕ) (net : Network) (good : IsWellFormed net) where
   -- a constraint that gave no entry of a list that decides may be left out, and the list still decides
   stays : (b : Bool) (list : List Entry) → gave id list ≡ false → Decides cap net b list → is_consistent net ≡ false → load_of net ≤ cap →
       (is_consistent (without id net) ≡ false) × (load_of (without id net) ≤ cap) × Decides cap (without id net) b list
-  stays true list none decides refuted within =
-      let small = without_well_formed id net good in
-      let again = stands net id list none decides.0 in (
-        false_from_ne_true (is_consistent (without id net)) (λ t. sound (without id net) list small.network again ((decided (without id net) small).0 t)),
-        (let most = bounded (without id net) small in let room : most_entries (without id net) ≤ cap = decides.1 in omega arith),
-        (again, decides.1),
-      )
-  stays false list none is refuted within =
-      let same = idle net id (subst (λ l. gave id l ≡ false) is none) in
-      (ap (λ l. not (is_refuted net l)) same ∙ refuted, (let size = ap length same in omega arith), is ∙ sym same)
+  stays b list none decides refuted within = no_stands net (λ i. not (eqb i id)) list (none_but id list none) good cap refuted within b decides
 
   -- the refutation of a network whose log stays is one of the network without the constraint
   kept : (list : List Entry) (o : Option RefutationParts) → gave id list ≡ false → list ≡ log_of net → is_consistent net ≡ false → load_of net ≤ cap →
       IfSome o (IsRefutationOf net) → IfSome o (IsRefutationOf (without id net))
   kept list None none is refuted within r = tt
   kept list (Some r) none is refuted within refutation =
-      let same = idle net id (subst (λ l. gave id l ≡ false) is none) in
+      let same = log_without net id (subst (λ l. gave id l ≡ false) is none) in
       let same_part : the_steps r ≡ part (log_of (without id net)) = refutation.part ∙ ap part (sym same) in
       record {
         part = same_part;

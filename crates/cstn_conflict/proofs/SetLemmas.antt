@@ -1,18 +1,14 @@
 -- Networks with some of their constraints.
-use Rattle.std.proofs.Common.{ℕ, zero, suc, ◌≡◌, ◌<◌, Bool, true, false, not, cond, eqb, ◌&&◌, ◌||◌, inl, inr, List, [], ◌∷◌, length, get_or, map, arith, refl, sym, ap, ◌∙◌}
-use Rattle.std.specs.List.{AllPairs, Contains, filter}
+use Rattle.std.proofs.Common.{ℕ, ◌≡◌, ◌<◌, true, false, not, eqb, ◌&&◌, ◌||◌, inl, inr, List, [], ◌∷◌, map, refl, sym, ap, ◌∙◌}
+use Rattle.std.specs.List.{AllPairs, filter}
 use Rattle.std.proofs.lemmas.Bool.{cases_Bool, or_left, or_right, and_from, and_right, cond-true, cond-false, eqb-true, eq-eqb, not_from_true, not_from_false}
-use Rattle.std.proofs.lemmas.List.Elements.{All-filter, filter_agree}
-use Rattle.std.proofs.lemmas.List.Filters.{length-filter_both}
-use Rattle.std.proofs.lemmas.List.Kept.{AllPairs-filter}
-use Rattle.cstn_net.specs.Networks.{Network, Constraint, IsConstraint, IsValue, IsWellFormed}
-use Rattle.cstn_net.specs.declared.constraints.Constraint.{Constraint as DeclaredConstraint}
-use Rattle.cstn_net.specs.Read.{the_constraint}
+use Rattle.std.proofs.lemmas.List.Elements.{filter_agree}
+use Rattle.cstn_net.specs.Networks.{Network, Constraint, IsWellFormed}
 use Rattle.cstn_net.specs.Strategies.{IsConsistent}
 use Rattle.cstn_net.proofs.ListLemmas.{pairs_map}
 use Rattle.cstn_net.proofs.Kept.{fewer_constraints}
-use Rattle.cstn_net.proofs.WellFormed.{well_formed_with}
 use Rattle.cstn_check.specs.Givers.{without}
+use Rattle.cstn_check.proofs.Fewer.{contains_more, filter_twice, some_well_formed}
 use Rattle.cstn_conflict.specs.Sets.{ids_of, has, less, with_ids}
 
 -- the set without an id has the others
@@ -46,13 +42,6 @@ less_has id x (i ∷ is) = elim (cases_Bool (eqb i id)) [
           ap (λ b. b || (has is x && not (eqb x id))) there ∙ ap (λ b. (b || has is x) && not (eqb x id)) (sym there)
     ]
 
-pub filter_twice : {X : Type 0} (p q : X → Bool) (xs : List X) → filter p (filter q xs) ≡ filter (λ x. q x && p x) xs
-filter_twice p q [] = refl
-filter_twice p q (x ∷ xs) = elim (cases_Bool (q x)) [
-  | inl t ↦ rw (t, filter_twice p q xs) refl
-  | inr f ↦ rw (f, filter_twice p q xs) refl
-]
-
 -- taking the constraint of an id out of the network with a set leaves the network with the set without the id
 pub without_is : (net : Network) (set : List ℕ) (id : ℕ) → without id (with_ids net set) ≡ with_ids net (less id set)
 without_is net set id = ap (λ cs. record net { constraints = cs })
@@ -83,41 +72,11 @@ whole_is net = ap (λ cs. record net { constraints = cs }) (go net.constraints (
         ∙ ap (λ ds. c ∷ ds) (go cs (λ id h. among id (or_right (eqb c.id id) (has (map (λ (d : Constraint). d.id) cs) id) h)))
 
 -- a network with some of its constraints is well-formed
-some_well_formed : (net : Network) (test : Constraint → Bool) → IsWellFormed net → IsWellFormed (record net { constraints = filter test net.constraints })
-some_well_formed net test h =
-    let cs = net.constraints in
-    well_formed_with net (filter test cs) h
-    (let few = h.few_constraints in
-    let both = length-filter_both test (λ c. not (test c)) (λ c. refl) cs in omega arith)
-    (All-filter test (IsConstraint net) cs h.network.constraints)
-    (AllPairs-filter (λ b c. b.id < c.id) test cs h.ascending)
-    (All-filter test (λ c. IsValue c.most) cs h.values)
-
 pub set_well_formed : (net : Network) (set : List ℕ) → IsWellFormed net → IsWellFormed (with_ids net set)
 set_well_formed net set = some_well_formed net (λ c. has set c.id)
 
 pub without_well_formed : (id : ℕ) (net : Network) → IsWellFormed net → IsWellFormed (without id net)
 without_well_formed id net = some_well_formed net (λ c. not (eqb c.id id))
-
--- an element of a list is still one where another may be put before the list
-pub contains_behind : {X : Type 0} (y : X) (ys : List X) (b : Bool) (x : X) → Contains ys x → Contains (cond b (y ∷ ys) ys) x
-contains_behind y ys true x h = (suc h.0, (let less = h.1 in omega arith), h.2)
-contains_behind y ys false x h = h
-
-contains_first : {X : Type 0} (p q : X → Bool) (y : X) (ys : List X) (x : X) → (Contains (filter p ys) x → Contains (filter q ys) x) → q y ≡ true →
-    (k : ℕ) → k < length (y ∷ filter p ys) → get_or (y ∷ filter p ys) k x ≡ x → Contains (filter q (y ∷ ys)) x
-contains_first p q y ys x rest passes zero inside at = rw passes (0, omega arith, at)
-contains_first p q y ys x rest passes (suc k) inside at = contains_behind y (filter q ys) (q y) x (rest (k, omega arith, at))
-
--- what passes a test passes a weaker one
-contains_more : {X : Type 0} (p q : X → Bool) → ((x : X) → p x ≡ true → q x ≡ true) → (xs : List X) (x : X) →
-    Contains (filter p xs) x → Contains (filter q xs) x
-contains_more p q more [] x h = h
-contains_more p q more (y ∷ ys) x h = go (contains_more p q more ys x) (p y) refl h
-  where
-    go : (Contains (filter p ys) x → Contains (filter q ys) x) → (b : Bool) → p y ≡ b → Contains (cond b (y ∷ filter p ys) (filter p ys)) x → Contains (filter q (y ∷ ys)) x
-    go rest true t g = contains_first p q y ys x rest (more y t) g.0 g.1 g.2
-    go rest false f g = contains_behind y (filter q ys) (q y) x (rest g)
 
 -- the ids ascend
 pub ids_ascend : (net : Network) → IsWellFormed net → AllPairs (λ a b. a < b) (ids_of net)
@@ -131,9 +90,3 @@ fewer_ids net a b among consistent = (
   fewer_constraints (with_ids net b) consistent.0 (filter (λ c. has a c.id) net.constraints)
       (contains_more (λ c. has a c.id) (λ c. has b c.id) (λ c. among c.id) net.constraints) consistent.1,
 )
-
--- the log decides whether a network is consistent
--- the ids of the program's constraints
-pub the_ids : (cs : List DeclaredConstraint) → map (λ (c : Constraint). c.id) (map the_constraint cs) ≡ map (λ (c : DeclaredConstraint). c.id) cs
-the_ids [] = refl
-the_ids (c ∷ cs) = ap (λ ids. c.id ∷ ids) (the_ids cs)

@@ -1,10 +1,11 @@
 -- The networks and refutations in the search for a conflict set.
-use Rattle.std.specs.Prelude.{ℕ, ◌≡◌, ◌≤◌, Bool, true, false, if◌then◌else◌, List, map, Option, None, Some, IfSome}
+use Rattle.std.specs.Prelude.{ℕ, ◌≡◌, ◌≤◌, Bool, false, if◌then◌else◌, List, map, IfSome}
 use Rattle.std.specs.List.{list_any}
 use Rattle.cstn_net.specs.Networks.{Network}
-use Rattle.cstn_rules.specs.Derivations.{Entry, IsRefutation}
-use Rattle.cstn_check.specs.Growth.{log_of, load_of, most_entries}
+use Rattle.cstn_rules.specs.Derivations.{Entry}
+use Rattle.cstn_check.specs.Growth.{load_of}
 use Rattle.cstn_check.specs.Givers.{gave, without}
+use Rattle.cstn_check.specs.Room.{Decides}
 use Rattle.cstn_check.specs.Verdicts.{is_consistent, IsRefutationOf}
 use Rattle.cstn_conflict.specs.Sets.{ids_of}
 use Rattle.cstn_conflict.specs.Conflicts.{is_above, tried_from}
@@ -21,17 +22,6 @@ is_any_above cap net = list_any (is_above cap net) (tried_from net (ids_of net) 
 -- for each id whether its constraint gave an entry of the list
 abbrev pub givers : List ℕ → List Entry → List Bool
 givers ids list = map (λ id. gave id list) ids
-
--- how many marks a label may have of what a time-point observes: four of a proposition, one where nothing is observed
-abbrev pub factor : Option ℕ → ℕ
-factor None = 1
-factor (Some p) = 4
-
--- a constraint that gave no entry of the list may be left out: where no log can have more than `cap` entries, the list refutes
--- the network, and else it is the network's log
-abbrev pub Decides : ℕ → Network → Bool → List Entry → Type 0
-Decides cap net true list = IsRefutation net list × (most_entries net ≤ cap)
-Decides cap net false list = list ≡ log_of net
 
 -- what a check of a network that isn't consistent leaves for the search: for each id whether its constraint gave an entry of a
 -- list that decides, and the refutation, if the log is still that of the check; the load is at most the cap

@@ -7,8 +7,6 @@ ghost use Rattle.cstn_check.specs.Givers.{gave, without};
 ghost use Rattle.cstn_check.specs.Verdicts.{is_consistent};
 ghost use Rattle.cstn_conflict.specs.Sets.{ids_of, has, with_ids};
 
-use cstn_rules::derivations_move;
-
 /// A well-formed network with some of its constraints is well-formed, and its log decides whether it is consistent. With all of
 /// its constraints it is the network itself. A network that is consistent stays so with fewer constraints.
 pub fn sets_are_decided()
@@ -24,6 +22,4 @@ pub fn sets_are_decided()
 pub fn refutations_stand()
     ensures fewer { (net : Network) (id : ℕ) (steps : List Entry) → gave id steps ≡ false → IsRefutation net steps → IsRefutation (without id net) steps }
     ensures more { (net : Network) (set : List ℕ) (steps : List Entry) → IsRefutation (with_ids net set) steps → IsRefutation net steps }
-{
-    derivations_move();
-}
+{}

@@ -6,7 +6,6 @@ mod errors;
 mod givers;
 mod ids;
 mod laws;
-mod room;
 mod search;
 mod texts;
 

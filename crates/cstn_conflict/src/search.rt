@@ -6,17 +6,15 @@ ghost use Rattle.cstn_net.specs.Strategies.{IsConsistent};
 ghost use Rattle.cstn_rules.specs.Derivations.{Entry};
 ghost use Rattle.cstn_check.specs.Growth.{load_of};
 ghost use Rattle.cstn_check.specs.Givers.{without};
+ghost use Rattle.cstn_check.specs.Room.{Decides};
 ghost use Rattle.cstn_check.specs.Verdicts.{is_consistent, IsRefutationOf};
-ghost use Rattle.cstn_conflict.specs.Trials.{Decides, IsNoOn, givers, smaller};
+ghost use Rattle.cstn_conflict.specs.Trials.{IsNoOn, givers, smaller};
 
 use crate::errors::ConflictError;
 use crate::givers::{givers_of_log, givers_of_steps};
-use crate::laws::refutations_stand;
-use crate::room::is_never_full;
-use cstn_check::{Check, Verdict, growth_is_bounded, logs_stay_without_idle_constraints};
+use cstn_check::{Check, Verdict, is_never_full};
 use cstn_net::{Network, network_is_well_formed};
 use cstn_refute::Refutation;
-use cstn_rules::derivations_are_sound;
 use std::alloc::{AllocError, Global};
 
 /// What a check that said no leaves for the search.
@@ -154,10 +152,6 @@ pub(crate) fn leave_out(
     ensures last { IsOk result → IsNoOn cap (the_network net.new) ids.now last.new }
 {
     network_is_well_formed(net);
-    logs_stay_without_idle_constraints();
-    refutations_stand();
-    derivations_are_sound();
-    growth_is_bounded();
     let id = ids[k];
     if !last.gave[k] {
         net.take_out(id);

@@ -1,14 +1,12 @@
 -- A labelled network with some of its constraints.
-use Rattle.std.proofs.Common.{ℕ, ◌≡◌, inl, inr, ◌<◌, ◌≤◌, Bool, true, not, List, [], ◌∷◌, ◌++◌, Option, Some, None, cond, length, arith, refl, sym, subst, ap, ◌∙◌}
+use Rattle.std.proofs.Common.{ℕ, ◌≡◌, inl, inr, ◌<◌, ◌≤◌, Bool, true, List, [], ◌∷◌, ◌++◌, Option, Some, None, cond, length, arith, refl, sym, subst, ap, ◌∙◌}
 use Rattle.std.specs.List.{All, Contains, filter, filter_map, cons_option}
 use Rattle.std.proofs.lemmas.Bool.{cases_Bool}
 use Rattle.std.proofs.lemmas.List.{length-append}
 use Rattle.std.proofs.lemmas.List.Elements.{All-contains, All-contains_itself, All-filter, filter_passes, filter_map-append}
-use Rattle.std.proofs.lemmas.List.Filters.{length-filter_both}
-use Rattle.std.proofs.lemmas.List.Kept.{AllPairs-filter}
-use Rattle.cstn_net.specs.Networks.{Constraint, IsConstraint, IsValue, IsWellFormed}
-use Rattle.cstn_net.proofs.WellFormed.{well_formed_with}
+use Rattle.cstn_net.specs.Networks.{Constraint, IsWellFormed}
 use Rattle.cstn_check.specs.Givers.{with_some}
+use Rattle.cstn_check.proofs.Fewer.{some_well_formed}
 use Rattle.cstn_lift.specs.Labelled.{Labelled}
 use Rattle.cstn_lift.specs.Lowered.{with_full_label, lowered, numbered}
 use Rattle.cstn_lift.specs.WellFormed.{IsLabelled}
@@ -24,9 +22,6 @@ use Rattle.cstn_follow.specs.Blame.{alone}
 use Rattle.cstn_follow.proofs.Constraints.{these_labelled, these_long, rest_same}
 
 -- ---- lists
-
-pub filter_short : {X : Type 0} (p : X → Bool) (xs : List X) → length (filter p xs) ≤ length xs
-filter_short p xs = let both = length-filter_both p (λ x. not (p x)) (λ x. refl) xs in omega arith
 
 -- fewer items leave fewer
 module _ {X Y : Type 0} (f : X → Option Y) (p : X → Bool) where
@@ -86,12 +81,7 @@ module _ (m : Labelled) (test : ℕ → Bool) (good : IsLabelled m) where
   some c = test c.id
 
   part_well_formed : IsWellFormed (with_some m.base test)
-  part_well_formed =
-      let wf = good.base in
-      well_formed_with m.base (filter some cs) wf (let few = wf.few_constraints in let less = filter_short some cs in omega arith)
-      (All-filter some (IsConstraint m.base) cs wf.network.constraints)
-      (AllPairs-filter (λ b c. b.id < c.id) some cs wf.ascending)
-      (All-filter some (λ c. IsValue c.most) cs wf.values)
+  part_well_formed = some_well_formed m.base some good.base
 
   pub part_labelled : IsLabelled (alone m test)
   part_labelled = these_labelled m (filter some cs) good part_well_formed

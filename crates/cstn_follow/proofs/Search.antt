@@ -1,11 +1,12 @@
 -- How far the search for the constraints to blame has come.
-use Rattle.std.proofs.Common.{ℕ, suc, ◌≡◌, inl, inr, ◌+◌, ◌<◌, Bool, true, false, not, eqb, ◌&&◌, List, [], ◌∷◌, Option, Some, None, Vec, Global, length, map, drop, get_or, arith, refl, sym, ap, ◌∙◌}
+use Rattle.std.proofs.Common.{ℕ, suc, ◌≡◌, inl, inr, ◌+◌, ◌<◌, Bool, true, false, not, eqb, List, [], ◌∷◌, Option, Some, None, Vec, Global, length, map, drop, get_or, arith, refl, sym, ap, ◌∙◌}
 use Rattle.std.specs.Prelude.{option_map, IfSome}
 use Rattle.std.specs.List.{filter}
 use Rattle.std.proofs.Math.Seq.{drop-cons}
 use Rattle.std.proofs.lemmas.Bool.{cases_Bool, and_parts, and_from, ne_eqb, both_ways}
 use Rattle.cstn_net.specs.Networks.{Network, Constraint}
 use Rattle.cstn_check.specs.Givers.{with_some, without}
+use Rattle.cstn_check.proofs.Fewer.{filter_twice}
 use Rattle.cstn_lift.specs.Labelled.{Labelled}
 use Rattle.cstn_history.specs.Histories.{History}
 use Rattle.cstn_follow.specs.Needs.{Stands, StandsBy, is_idle}
@@ -15,16 +16,9 @@ all_pass : {X : Type 0} (xs : List X) → filter (λ x. true) xs ≡ xs
 all_pass [] = refl
 all_pass (x ∷ xs) = ap (λ l. x ∷ l) (all_pass xs)
 
-both_tests : {X : Type 0} (p q : X → Bool) (xs : List X) → filter p (filter q xs) ≡ filter (λ x. q x && p x) xs
-both_tests p q [] = refl
-both_tests p q (x ∷ xs) = elim (cases_Bool (q x)) [
-  | inl t ↦ rw (t, both_tests p q xs) refl
-  | inr f ↦ rw (f, both_tests p q xs) refl
-]
-
 -- the network without an id, of those that pass a test
 pub without_one : (net : Network) (test : ℕ → Bool) (id : ℕ) → without id (with_some net test) ≡ with_some net (but id test)
-without_one net test id = ap (λ cs. record net { constraints = cs }) (both_tests (λ c. not (eqb c.id id)) (λ c. test c.id) net.constraints)
+without_one net test id = ap (λ cs. record net { constraints = cs }) (filter_twice (λ c. not (eqb c.id id)) (λ c. test c.id) net.constraints)
 
 -- the ids of those that pass
 ids_some : (net : Network) (test : ℕ → Bool) → ids_of (with_some net test) ≡ filter test (ids_of net)

@@ -17,8 +17,11 @@ said_is cap net v = by (nat_lt cap (load_of net)) (is_consistent net)
     by true b e = absurd (cc)
     by false b e = let same : b ≡ v = cc in same
 
+-- what a check says where the log isn't full
+pub said_so : (cap : ℕ) (net : Network) (v : Bool) → load_of net ≤ cap → is_consistent net ≡ v → said cap net ≡ Some v
+said_so cap net v upto is =
+    cond-false (nat_lt cap (load_of net)) None (Some (is_consistent net)) (le-ltb cap (load_of net) upto) ∙ ap (λ b. Some b) is
+
 -- where a check says no
 pub said_no : (cap : ℕ) (net : Network) → IsWellFormed net → load_of net ≤ cap → (IsConsistent net → ⊥) → said cap net ≡ Some false
-said_no cap net good upto never =
-    cond-false (nat_lt cap (load_of net)) None (Some (is_consistent net)) (le-ltb cap (load_of net) upto)
-    ∙ ap (λ b. Some b) (false_from_ne_true (is_consistent net) (λ t. never ((decided net good).0 t)))
+said_no cap net good upto never = said_so cap net false upto (false_from_ne_true (is_consistent net) (λ t. never ((decided net good).0 t)))

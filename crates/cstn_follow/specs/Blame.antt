@@ -1,12 +1,14 @@
 -- Which constraints are to blame where a history can't go on.
-use Rattle.std.specs.Prelude.{ℕ, ◌≡◌, Bool, true, false, not, ◌&&◌, ◌==◌, List, [], ◌∷◌, map, Option, None, Some, option_map}
-use Rattle.std.specs.List.{filter, list_any}
+use Rattle.std.specs.Prelude.{ℕ, ◌≡◌, ◌<◌, ◌≤◌, Bool, true, false, not, ◌&&◌, ◌==◌, List, [], ◌∷◌, map, Option, None, Some, option_map}
+use Rattle.std.specs.List.{All, filter, list_any}
 use Rattle.cstn_net.specs.Networks.{Network}
 use Rattle.cstn_check.specs.Givers.{with_some, without}
 use Rattle.cstn_lift.specs.Labelled.{Labelled}
 use Rattle.cstn_lift.specs.Lowered.{lowered}
 use Rattle.cstn_history.specs.Histories.{History}
 use Rattle.cstn_history.specs.Rest.{rest}
+use Rattle.cstn_history.specs.Handed.{HasRoom}
+use Rattle.cstn_history.specs.Read.{HistoryParts, the_history, IsKeptFor}
 use Rattle.cstn_follow.specs.Tries.{said, with_base}
 
 -- the ids of the constraints, in order
@@ -28,6 +30,16 @@ but id test i = test i && not (i == id)
 -- the labelled network with those of its constraints alone whose ids pass the test
 abbrev pub alone : Labelled → (ℕ → Bool) → Labelled
 alone m test = with_base m (with_some m.base test)
+
+-- what each try asks: a log may have an entry, what has happened is a history of the network, its ids are below `fresh`, and what
+-- is left has no more constraints than it may
+pub record TakesTries (m : Labelled) (h : HistoryParts) (fresh cap : ℕ) : Type 0 where
+  pub some : 1 ≤ cap
+  pub most : cap ≤ 4194304
+  pub kept : IsKeptFor m h
+  pub above : All (λ c. c.id < fresh) m.base.constraints
+  pub low : fresh ≤ 4294000000
+  pub room : HasRoom (rest m (the_history h) fresh)
 
 -- a network with some of the constraints of another
 abbrev pub IsPart : Network → Network → Type 0

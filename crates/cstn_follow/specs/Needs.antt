@@ -3,6 +3,7 @@ use Rattle.std.specs.Prelude.{ℕ, ◌≡◌, ◌<◌, Bool, true, false, List, 
 use Rattle.cstn_net.specs.Networks.{Network}
 use Rattle.cstn_rules.specs.Derivations.{Entry}
 use Rattle.cstn_check.specs.Givers.{gave, with_some}
+use Rattle.cstn_check.specs.Room.{Decides}
 use Rattle.cstn_lift.specs.Labelled.{Labelled}
 use Rattle.cstn_lift.specs.Lowered.{full_constraints}
 use Rattle.cstn_history.specs.Histories.{History}
@@ -18,6 +19,13 @@ sources m = map (λ c. c.id) (full_constraints m)
 -- the constraints whose numbers aren't marked gave no entry of the list
 abbrev pub AreMarked : List Bool → List Entry → Type 0
 AreMarked marks list = (k : ℕ) → k < length marks → get_or marks k true ≡ false → gave k list ≡ false
+
+-- what a check that said no needs of its numbered constraints, by their sources: the others gave no entry of a list that decides
+pub record IsNeeded (cap : ℕ) (net : Network) (sources needed : List ℕ) : Type 0 where
+  pub roomy : Bool
+  pub list : List Entry
+  pub decides : Decides cap net roomy list
+  pub idle : (k : ℕ) → k < length sources → is_of needed (get_or sources k 0) ≡ false → gave k list ≡ false
 
 -- a check says no of a network without any of those of its numbered constraints whose sources aren't needed
 abbrev pub Settles : ℕ → Network → List ℕ → List ℕ → Type 0

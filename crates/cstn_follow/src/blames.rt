@@ -9,7 +9,7 @@ ghost use Rattle.cstn_history.specs.Continuations.{Can};
 ghost use Rattle.cstn_history.specs.Rest.{rest};
 ghost use Rattle.cstn_history.specs.Read.{the_history, IsKeptFor};
 ghost use Rattle.cstn_history.specs.Handed.{HasRoom};
-ghost use Rattle.cstn_follow.specs.Blame.{IsPart, ids_of, is_of, but, alone, said_by, narrowed, blamed};
+ghost use Rattle.cstn_follow.specs.Blame.{TakesTries, IsPart, ids_of, is_of, but, alone, said_by, narrowed, blamed};
 ghost use Rattle.cstn_follow.specs.Needs.{is_idle, StandsBy, answer, IfNo};
 
 use crate::errors::BlameError;
@@ -24,8 +24,8 @@ use std::alloc::{AllocError, Global};
 /// The ids of the constraints that are to blame where a history can't go on, in ascending order: those that are left when, of all
 /// constraints, each is left out for good without which the history can't go on either, in ascending order of their ids. None
 /// where what has happened can't be gone on with even without constraints. Takes a check of what is left, and one more for each
-/// constraint that gave an entry of the last log by which it can't go on: without any other one the log is the same. A log may have
-/// `cap` entries. The ids of the network are below `fresh`, which is at most 4,294,000,000.
+/// constraint that gave a step of the last refutation, or, where a log can be full, an entry of the last log: without any other one
+/// there is a no as well. A log may have `cap` entries. The ids of the network are below `fresh`, which is at most 4,294,000,000.
 pub fn blame(
     alloc: Global,
     network: &Labelled,
@@ -68,12 +68,7 @@ fn blamed(
     fresh: u32,
     cap: u32,
 ) -> Result<Option<Vec<u32>>, AllocError>
-    requires some { 1 ≤ cap }
-    requires most { cap ≤ 4194304 }
-    requires kept { IsKeptFor (the_labelled network.now) history.now }
-    requires above { All (λ c. c.id < fresh) (the_labelled network.now).base.constraints }
-    requires low { fresh ≤ 4294000000 }
-    requires room { HasRoom (rest (the_labelled network.now) (the_history history.now) fresh) }
+    requires tries { TakesTries (the_labelled network.now) history.now fresh cap }
     ensures { IfOk result (λ o. option_map (λ ids. ids.items) o ≡ blamed (the_labelled network.now) (the_history history.now) fresh cap) }
 {
     let ids = ids_of(alloc, network.base())?;
@@ -139,12 +134,7 @@ fn all_left(
     fresh: u32,
     cap: u32,
 ) -> Result<Left, AllocError>
-    requires some { 1 ≤ cap }
-    requires most { cap ≤ 4194304 }
-    requires kept { IsKeptFor (the_labelled network.now) history.now }
-    requires above { All (λ c. c.id < fresh) (the_labelled network.now).base.constraints }
-    requires low { fresh ≤ 4294000000 }
-    requires room { HasRoom (rest (the_labelled network.now) (the_history history.now) fresh) }
+    requires tries { TakesTries (the_labelled network.now) history.now fresh cap }
     ensures base { IfOk result (λ l. the_network l.base ≡ (the_labelled network.now).base) }
     ensures stands { IfOk result (λ l. IfSome l.needed (λ v.
         StandsBy (the_labelled network.now) (the_history history.now) fresh cap (the_network l.base) v.items)) }
@@ -172,12 +162,7 @@ fn narrowed(
     id: u32,
     cap: u32,
 ) -> Result<Option<Left>, AllocError>
-    requires some { 1 ≤ cap }
-    requires most { cap ≤ 4194304 }
-    requires kept { IsKeptFor (the_labelled network.now) history.now }
-    requires above { All (λ c. c.id < fresh) (the_labelled network.now).base.constraints }
-    requires low { fresh ≤ 4294000000 }
-    requires room { HasRoom (rest (the_labelled network.now) (the_history history.now) fresh) }
+    requires tries { TakesTries (the_labelled network.now) history.now fresh cap }
     requires part { IsPart (the_labelled network.now).base (the_network left.base) }
     requires stands { IfSome left.needed (λ v. StandsBy (the_labelled network.now) (the_history history.now) fresh cap (the_network left.base) v.items) }
     ensures narrowed { IfOk result (λ o. option_map (λ l. the_network l.base) o
@@ -220,12 +205,7 @@ fn said_by(
     base: Network,
     cap: u32,
 ) -> Result<Said, AllocError>
-    requires some { 1 ≤ cap }
-    requires most { cap ≤ 4194304 }
-    requires kept { IsKeptFor (the_labelled network.now) history.now }
-    requires above { All (λ c. c.id < fresh) (the_labelled network.now).base.constraints }
-    requires low { fresh ≤ 4294000000 }
-    requires room { HasRoom (rest (the_labelled network.now) (the_history history.now) fresh) }
+    requires tries { TakesTries (the_labelled network.now) history.now fresh cap }
     requires part { IsPart (the_labelled network.now).base (the_network base) }
     ensures said { IfOk result (λ o. answer o ≡ said_by (the_labelled network.now) (the_history history.now) fresh cap (the_network base)) }
     ensures stands { IfOk result (λ o. IfNo o (StandsBy (the_labelled network.now) (the_history history.now) fresh cap (the_network base))) }

@@ -1,20 +1,19 @@
 // Which constraints a no needs.
-ghost use Rattle.std.specs.Prelude.{ℕ, ◌≡◌, ◌<◌, ◌≤◌, ◌++◌, ◌∷◌, [], true, false, List, length, get_or, IfOk, if◌then◌else◌};
+ghost use Rattle.std.specs.Prelude.{ℕ, ◌≡◌, ◌<◌, ◌≤◌, ◌++◌, ◌∷◌, [], true, false, List, length, map, get_or, Some, IfOk, if◌then◌else◌};
 ghost use Rattle.cstn_net.specs.Networks.{count};
 ghost use Rattle.cstn_net.specs.Read.{the_network, the_constraint, IsInRange};
 ghost use Rattle.cstn_rules.specs.Derivations.{Entry as TheEntry};
 ghost use Rattle.cstn_rules.specs.Read.{the_entry};
 ghost use Rattle.cstn_log.specs.Entries.{the_entries};
-ghost use Rattle.cstn_check.specs.Givers.{gave};
 ghost use Rattle.cstn_lift.specs.Completion.{full_label};
 ghost use Rattle.cstn_lift.specs.Kept.{IsConstraintOf};
 ghost use Rattle.cstn_lift.specs.Lowered.{is_plain};
 ghost use Rattle.cstn_lift.specs.Read.{the_labelled};
 ghost use Rattle.cstn_follow.specs.Blame.{is_of};
-ghost use Rattle.cstn_follow.specs.Needs.{sources, AreMarked, Settles, answer, IfNo};
+ghost use Rattle.cstn_follow.specs.Needs.{sources, AreMarked, IsNeeded, Settles, answer, IfNo};
 ghost use Rattle.cstn_follow.specs.Tries.{said};
 
-use cstn_check::{Check, Verdict, growth_decides, logs_stay_without_idle_constraints};
+use cstn_check::{Check, Verdict, growth_decides, is_never_full};
 use cstn_history::completed;
 use cstn_lift::{Labelled, plain_constraints_are_kept};
 use cstn_log::Log;
@@ -46,14 +45,13 @@ pub(crate) fn said_of(
     ensures needed { IfOk result (λ o. IfNo o (Settles cap (the_network net) sources.now)) }
 {
     growth_decides();
-    logs_stay_without_idle_constraints();
     network_is_well_formed(&net);
     let mut check = Check::start(alloc, net, cap)?;
     match check.run() {
         Verdict::Yes { .. } => Ok(Said::Yes),
         Verdict::Full => Ok(Said::Full),
         Verdict::No { .. } => {
-            let needed = needed_by(alloc, check.kept(), sources)?;
+            let needed = needed_by(alloc, &check, sources, cap)?;
             Ok(Said::No(needed))
         }
     }
@@ -91,17 +89,43 @@ fn is_plain(network: &Labelled, c: &Constraint) -> bool
     completed(network, c.label.join(ends)).is_plain()
 }
 
-// The ids of the constraints that gave an entry of the log.
-fn needed_by(alloc: Global, log: &Log, sources: &[u32]) -> Result<Vec<u32>, AllocError>
-    ensures { IfOk result (λ v. (k : ℕ) → k < length sources.now → is_of v.items (get_or sources.now k 0) ≡ false
-        → gave k (the_entries log.now.entries) ≡ false) }
+// The ids of the constraints that a check that said no needs: of those that gave a step of the refutation, where no log can be
+// full, and else of those that gave an entry of the log.
+fn needed_by(
+    alloc: Global,
+    check: &Check,
+    sources: &[u32],
+    cap: u32,
+) -> Result<Vec<u32>, AllocError>
+    requires most { cap ≤ 4194304 }
+    requires no { (load : ℕ) × (check.now.verdict ≡ Some (Verdict.No load)) }
+    ensures needed { IfOk result (λ v. IsNeeded cap (the_network check.now.net) sources.now v.items) }
 {
-    let marks = marks_of(alloc, log, sources.len())?;
-    marked(alloc, sources, &marks)
+    if is_never_full(check.network(), cap) {
+        let refutation = check.refutation(alloc)?;
+        let marks = marks_of_steps(alloc, refutation.steps(), sources.len())?;
+        let needed = marked(alloc, sources, &marks)?;
+        return Ok(needed);
+    }
+    let marks = marks_of_log(alloc, check.kept(), sources.len())?;
+    let needed = marked(alloc, sources, &marks)?;
+    Ok(needed)
+}
+
+// For each number below this, whether the constraint that has it gave one of the steps.
+fn marks_of_steps(alloc: Global, steps: &[Entry], count: usize) -> Result<Vec<bool>, AllocError>
+    ensures size { IfOk result (λ marks. length marks.items ≡ count) }
+    ensures marked { IfOk result (λ marks. AreMarked marks.items (map the_entry steps.now)) }
+{
+    let mut marks = vec![in alloc; false; count]?;
+    for k in 0..steps.len() {
+        mark(steps[k], &mut marks);
+    }
+    Ok(marks)
 }
 
 // For each number below this, whether the constraint that has it gave an entry of the log.
-fn marks_of(alloc: Global, log: &Log, count: usize) -> Result<Vec<bool>, AllocError>
+fn marks_of_log(alloc: Global, log: &Log, count: usize) -> Result<Vec<bool>, AllocError>
     ensures size { IfOk result (λ marks. length marks.items ≡ count) }
     ensures marked { IfOk result (λ marks. AreMarked marks.items (the_entries log.now.entries)) }
 {

@@ -1,5 +1,5 @@
 // Facts that are recorded in a history, and those that are refused.
-ghost use Rattle.std.specs.Prelude.{◌≡◌, ◌<◌, ◌≤◌, ◌↔◌, IsTrue, length, OnOk, OnErr};
+ghost use Rattle.std.specs.Prelude.{◌≡◌, ◌<◌, ◌≤◌, ◌↔◌, IfSome, IsTrue, length, OnOk, OnErr};
 ghost use Rattle.cstn_net.specs.Networks.{count};
 ghost use Rattle.cstn_lift.specs.Labelled.{Labelled as TheLabelled};
 ghost use Rattle.cstn_lift.specs.WellFormed.{IsLabelled};
@@ -162,10 +162,11 @@ impl History {
         }
     }
 
-    // When the observer of a proposition was done; none where it isn't done.
-    fn observed_since(&self, network: &Labelled, p: Prop) -> Option<u32>
+    /// When the observer of a proposition was done, in ticks; none where it isn't done.
+    pub fn observed_since(&self, network: &Labelled, p: Prop) -> Option<u32>
         requires kept { IsKeptFor (the_labelled network.now) self.now }
         ensures since { result ≡ observed_since (the_labelled network.now) (the_history self.now) p.index }
+        ensures range { IfSome result (λ t. t ≤ 1000000) }
         ensures labelled { IsLabelled (the_labelled network.now) }
     {
         observers_are_found();

@@ -1,5 +1,5 @@
 // When what is ready comes, by the bounds of a plan, and from when outcomes are awaited.
-ghost use Rattle.std.specs.Prelude.{ℕ, ◌≡◌, ◌<◌, ◌≤◌, ◌==◌, ◌&&◌, cond, max, slice_index, Some, None, if◌then◌else◌, IfOk, IfSome};
+ghost use Rattle.std.specs.Prelude.{ℕ, ◌≡◌, ◌<◌, ◌≤◌, ◌==◌, ◌&&◌, cond, max, slice_index, Some, None, if◌then◌else◌, IfOk};
 ghost use Rattle.cstn_label.specs.Marks.{is_plain};
 ghost use Rattle.cstn_label.specs.Read.{marks};
 ghost use Rattle.cstn_net.specs.Networks.{count};
@@ -7,12 +7,11 @@ ghost use Rattle.cstn_log.specs.Asked.{moment_of};
 ghost use Rattle.cstn_log.specs.Plans.{the_bounds};
 ghost use Rattle.cstn_lift.specs.Read.{the_labelled};
 ghost use Rattle.cstn_history.specs.Read.{the_history, IsKeptFor};
-ghost use Rattle.cstn_history.specs.Facts.{observed_since};
 ghost use Rattle.cstn_next.specs.Next.{latest, is_ready, coming_at, coming_moments, awaited_from, awaited_moments};
 
 use cstn_history::{History, completed, known_at, numbers_left};
 use cstn_label::{Bound, Label, NodeId, Prop, labels_are_their_marks};
-use cstn_lift::{Labelled, observers_are_found};
+use cstn_lift::Labelled;
 use cstn_log::SoundPlan;
 use std::alloc::{AllocError, Global};
 
@@ -133,23 +132,10 @@ fn awaited_from(network: &Labelled, history: &History, p: Prop) -> Option<u32>
     requires kept { IsKeptFor (the_labelled network.now) history.now }
     ensures { result ≡ awaited_from (the_labelled network.now) (the_history history.now) p.index }
 {
-    let done = observed_since(network, history, p)?;
+    let done = history.observed_since(network, p)?;
     if history.told(p).is_some() {
         None
     } else {
         Some(history.now().max(known_at(network, history, p, done)))
-    }
-}
-
-// When the observer of a proposition was done; none where it isn't done.
-fn observed_since(network: &Labelled, history: &History, p: Prop) -> Option<u32>
-    requires kept { IsKeptFor (the_labelled network.now) history.now }
-    ensures since { result ≡ observed_since (the_labelled network.now) (the_history history.now) p.index }
-    ensures range { IfSome result (λ t. t ≤ 1000000) }
-{
-    observers_are_found();
-    match network.base().observer(p) {
-        Some(x) => history.done(x),
-        None => None,
     }
 }

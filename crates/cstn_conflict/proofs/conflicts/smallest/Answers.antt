@@ -7,7 +7,7 @@ use Rattle.cstn_net.specs.Strategies.{IsConsistent}
 use Rattle.cstn_check.specs.Growth.{load_of}
 use Rattle.cstn_conflict.specs.declared.errors.ConflictError.TheVariants.{Full}
 use Rattle.cstn_conflict.specs.Sets.{with_ids, less}
-use Rattle.cstn_conflict.proofs.TrialLemmas.{copied}
+use Rattle.cstn_check.proofs.Fewer.{copied}
 use Rattle.cstn_conflict.proofs.SearchLemmas.{whole_no, refutes_whole}
 use Rattle.cstn_conflict.proofs.ConflictLemmas.{full_bounded, whole_full, whole_bounded, not_full, some, inconsistent, needed, handed_on}
 use Rattle.cstn_conflict.proofs.conflicts.smallest.Goals as goal

@@ -1,9 +1,11 @@
-use Rattle.std.proofs.Common.{◌≡◌, length, map, take, rules, ap, sym, ◌∙◌}
+use Rattle.std.proofs.Common.{◌≡◌, length, map, take, rules, refl, ap, sym, ◌∙◌}
 use Rattle.std.proofs.lemmas.List.{take_all, length-map, with_items_is}
+use Rattle.std.proofs.lemmas.Option.{slice_get_read}
 use Rattle.cstn_rules.specs.Read.{the_entry}
 use Rattle.cstn_check.specs.Givers.{gave}
+use Rattle.cstn_check.proofs.Fewer.{map_next}
 use Rattle.cstn_conflict.specs.Trials.{givers}
-use Rattle.cstn_conflict.proofs.GiverLemmas.{none_gave, entry_next}
+use Rattle.cstn_conflict.proofs.GiverLemmas.{none_gave}
 use Rattle.cstn_conflict.proofs.givers.givers_of_steps.Goals as goal
 
 pub loop-k-init : goal.loop-k-init
@@ -13,7 +15,8 @@ pub loop-k-preserved : goal.loop-k-preserved
 loop-k-preserved c =
     let steps = c.args.steps.now in
     let before = map the_entry (take c.loop-k.k steps) in
-    let next = entry_next steps c.loop-k.k c.index-steps-k.result (search rules) c.index-steps-k.is in
+    let there = slice_get_read steps (length steps) c.loop-k.k c.index-steps-k.result refl (search rules) c.index-steps-k.is in
+    let next = map_next the_entry steps c.loop-k.k c.index-steps-k.result there in
     let size : length (givers c.args.ids.now before) ≡ length c.args.ids.now = length-map c.args.ids.now (λ id. gave id before) in
     record {
       end = c.loop-k.invariant.end;

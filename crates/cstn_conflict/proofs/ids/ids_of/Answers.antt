@@ -4,7 +4,8 @@ use Rattle.std.proofs.lemmas.List.{map_more, take_all}
 use Rattle.cstn_net.specs.declared.constraints.Constraint.{Constraint}
 use Rattle.cstn_net.specs.Read.{the_network}
 use Rattle.cstn_conflict.specs.Sets.{ids_of}
-use Rattle.cstn_conflict.proofs.SetLemmas.{the_ids, ids_ascend}
+use Rattle.cstn_check.proofs.Fewer.{the_ids}
+use Rattle.cstn_conflict.proofs.SetLemmas.{ids_ascend}
 use Rattle.cstn_conflict.proofs.ids.ids_of.Goals as goal
 
 pub loop-constraint-init : goal.loop-constraint-init

@@ -1,8 +1,11 @@
-use Rattle.cstn_conflict.proofs.StandLemmas.{stands_without, stands_within}
+use Rattle.std.proofs.Common.{not, eqb}
+use Rattle.cstn_check.proofs.Idle.{none_but}
+use Rattle.cstn_check.proofs.Standing.{refutation_stands}
+use Rattle.cstn_conflict.proofs.StandLemmas.{stands_within}
 use Rattle.cstn_conflict.proofs.laws.refutations_stand.Goals as goal
 
 pub returns-clause-fewer : goal.returns-clause-fewer
-returns-clause-fewer c = stands_without c.derivations_move.ensures.elsewhere
+returns-clause-fewer c net id steps none = refutation_stands net (λ i. not (eqb i id)) steps (none_but id steps none)
 
 pub returns-clause-more : goal.returns-clause-more
-returns-clause-more c = stands_within c.derivations_move.ensures.elsewhere
+returns-clause-more c = stands_within

@@ -2,7 +2,7 @@ use Rattle.std.proofs.Common.{get_or, rules, sym, subst, ◌∙◌}
 use Rattle.cstn_net.specs.Networks.{Network}
 use Rattle.cstn_net.specs.Read.{the_network}
 use Rattle.cstn_conflict.specs.Trials.{IsNoOn}
-use Rattle.cstn_conflict.proofs.TrialLemmas.{taken_out}
+use Rattle.cstn_check.proofs.Fewer.{taken_out}
 use Rattle.cstn_conflict.proofs.SearchLemmas.{idle_at, skip_within, skip_smaller, skip_no, out_smaller, in_smaller}
 use Rattle.cstn_conflict.proofs.search.leave_out.Goals as goal
 
@@ -10,8 +10,7 @@ pub returns-then-not-index-clause-within : goal.returns-then-not-index-clause-wi
 returns-then-not-index-clause-within c ok =
     let net = the_network c.args.net.now in
     let id = get_or c.args.ids.now c.args.k 0 in
-    skip_within c.logs_stay_without_idle_constraints.ensures.one c.refutations_stand.ensures.fewer c.derivations_are_sound.ensures.refuted c.growth_is_bounded.ensures.load
-    c.args.cap id net c.network_is_well_formed.ensures c.args.ids.now c.args.last.now c.requires.last
+    skip_within c.args.cap id net c.network_is_well_formed.ensures c.args.ids.now c.args.last.now c.requires.last
     (idle_at c.args.cap net c.args.ids.now c.args.last.now c.args.k c.requires.last c.requires.inside (search rules))
 
 pub returns-then-not-index-clause-left : goal.returns-then-not-index-clause-left
@@ -19,8 +18,7 @@ returns-then-not-index-clause-left c ok =
     let net = the_network c.args.net.now in
     let id = get_or c.args.ids.now c.args.k 0 in
     taken_out id c.args.net.now c.take_out.new.self c.take_out.result c.take_out.ensures.none c.take_out.ensures.same c.take_out.ensures.gone
-    ∙ skip_smaller c.logs_stay_without_idle_constraints.ensures.one c.refutations_stand.ensures.fewer c.derivations_are_sound.ensures.refuted c.growth_is_bounded.ensures.load
-    c.args.cap id net c.network_is_well_formed.ensures c.args.ids.now c.args.last.now c.requires.last
+    ∙ skip_smaller c.args.cap id net c.network_is_well_formed.ensures c.args.ids.now c.args.last.now c.requires.last
     (idle_at c.args.cap net c.args.ids.now c.args.last.now c.args.k c.requires.last c.requires.inside (search rules))
 
 pub returns-then-not-index-clause-last : goal.returns-then-not-index-clause-last
@@ -29,8 +27,7 @@ returns-then-not-index-clause-last c ok =
     let id = get_or c.args.ids.now c.args.k 0 in
     subst (λ (n : Network). IsNoOn c.args.cap n c.args.ids.now c.leave_idle.new.self)
     (sym (taken_out id c.args.net.now c.take_out.new.self c.take_out.result c.take_out.ensures.none c.take_out.ensures.same c.take_out.ensures.gone))
-    (skip_no c.logs_stay_without_idle_constraints.ensures.one c.refutations_stand.ensures.fewer c.derivations_are_sound.ensures.refuted c.growth_is_bounded.ensures.load
-    c.args.cap id net c.network_is_well_formed.ensures c.args.ids.now c.args.last.now c.requires.last
+    (skip_no c.args.cap id net c.network_is_well_formed.ensures c.args.ids.now c.args.last.now c.requires.last
     (idle_at c.args.cap net c.args.ids.now c.args.last.now c.args.k c.requires.last c.requires.inside (search rules))
     c.leave_idle.new.self c.leave_idle.ensures.roomy c.leave_idle.ensures.gave c.leave_idle.ensures.forgotten c.leave_idle.ensures.kept)
 

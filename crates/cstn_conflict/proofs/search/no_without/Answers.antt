@@ -5,7 +5,7 @@ use Rattle.cstn_net.specs.Strategies.{IsConsistent}
 use Rattle.cstn_check.specs.Growth.{load_of}
 use Rattle.cstn_check.specs.Givers.{without}
 use Rattle.cstn_conflict.specs.Trials.{IsNoOn}
-use Rattle.cstn_conflict.proofs.TrialLemmas.{taken_out, copied}
+use Rattle.cstn_check.proofs.Fewer.{taken_out, copied}
 use Rattle.cstn_conflict.proofs.search.no_without.Goals as goal
 
 pub returns-clause-consistent : goal.returns-clause-consistent

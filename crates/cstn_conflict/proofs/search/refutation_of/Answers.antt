@@ -6,7 +6,7 @@ use Rattle.cstn_net.specs.Strategies.{IsConsistent}
 use Rattle.cstn_check.proofs.Decides.{not_consistent}
 use Rattle.cstn_conflict.specs.declared.errors.ConflictError.TheVariants.{Consistent}
 use Rattle.cstn_conflict.proofs.ConflictLemmas.{handed_on}
-use Rattle.cstn_conflict.proofs.TrialLemmas.{copied}
+use Rattle.cstn_check.proofs.Fewer.{copied}
 use Rattle.cstn_conflict.proofs.search.refutation_of.Goals as goal
 
 pub returns-in_err-check-clause-never : goal.returns-in_err-check-clause-never

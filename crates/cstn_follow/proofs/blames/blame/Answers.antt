@@ -5,6 +5,18 @@ use Rattle.cstn_history.specs.Histories.{IsTimelyHistory}
 use Rattle.cstn_history.specs.Read.{the_history}
 use Rattle.cstn_follow.proofs.blames.blame.Goals as goal
 
+pub blamed-requires : goal.blamed-requires
+blamed-requires c = record {
+  tries = record {
+    some = c.requires.some;
+    most = c.requires.most;
+    kept = c.requires.kept;
+    above = c.requires.above;
+    low = c.requires.low;
+    room = c.requires.room;
+  };
+}
+
 pub returns-in-Ok-Some-clause-cannot : goal.returns-in-Ok-Some-clause-cannot
 returns-in-Ok-Some-clause-cannot c =
     let m = the_labelled c.args.network.now in

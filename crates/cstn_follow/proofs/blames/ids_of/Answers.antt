@@ -1,7 +1,7 @@
 use Rattle.std.proofs.Common.{◌∷◌, ◌++◌, [], map, take, ap, sym, ◌∙◌}
 use Rattle.std.proofs.lemmas.List.{map_more, take_all}
 use Rattle.cstn_net.specs.declared.constraints.Constraint.{Constraint}
-use Rattle.cstn_follow.proofs.Taken.{the_ids}
+use Rattle.cstn_check.proofs.Fewer.{the_ids}
 use Rattle.cstn_follow.proofs.blames.ids_of.Goals as goal
 
 pub loop-constraint-init : goal.loop-constraint-init

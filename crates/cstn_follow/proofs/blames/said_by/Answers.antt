@@ -33,7 +33,7 @@ pub rest-requires-clause-kept : goal.rest-requires-clause-kept
 rest-requires-clause-kept c =
     let m = the_labelled c.args.network.now in
     let h = the_history c.args.history.now in
-    let kept = c.requires.kept in
+    let kept = c.requires.tries.kept in
     let part = alone m c.requires.part.0 in
     let timely = c.edits_keep_histories.ensures.history m h m.base.deadline part.base.constraints kept.history kept.in_time in
     subst (λ (l : Labelled). IsKeptFor l c.args.history.now) (sym (c.in_ok-less.ensures.base ∙ ap (with_base m) c.requires.part.1))
@@ -44,7 +44,10 @@ rest-requires-clause-above c =
     let m = the_labelled c.args.network.now in
     subst (λ (l : Labelled). All (λ d. d.id < c.args.fresh) l.base.constraints)
     (sym (c.in_ok-less.ensures.base ∙ ap (with_base m) c.requires.part.1))
-    (c.parts_are_labelled.ensures.above m c.requires.part.0 c.args.fresh c.requires.above)
+    (c.parts_are_labelled.ensures.above m c.requires.part.0 c.args.fresh c.requires.tries.above)
+
+pub rest-requires-clause-room : goal.rest-requires-clause-room
+rest-requires-clause-room c = c.requires.tries.low
 
 pub unreachable-requires : goal.unreachable-requires
 unreachable-requires c =
@@ -52,8 +55,14 @@ unreachable-requires c =
     let h = the_history c.args.history.now in
     let left = rest (the_labelled c.in_ok-less.less) h c.args.fresh in
     let room = subst (λ (l : Labelled). HasRoom (rest l h c.args.fresh)) (sym (c.in_ok-less.ensures.base ∙ ap (with_base m) c.requires.part.1))
-    (c.parts_are_labelled.ensures.room m c.requires.part.0 h c.args.fresh c.base.ensures.labelled c.requires.room) in
+    (c.parts_are_labelled.ensures.room m c.requires.part.0 h c.args.fresh c.base.ensures.labelled c.requires.tries.room) in
     not_too_many left c.in-Err-TooManyConstraints.field-0 room c.in-Err-TooManyConstraints.ensures.refused c.in-Err-TooManyConstraints.field-0-is
+
+pub said_of-requires-clause-some : goal.said_of-requires-clause-some
+said_of-requires-clause-some c = c.requires.tries.some
+
+pub said_of-requires-clause-most : goal.said_of-requires-clause-most
+said_of-requires-clause-most c = c.requires.tries.most
 
 pub returns-clause-said : goal.returns-clause-said
 returns-clause-said c =

@@ -1,6 +1,6 @@
 use Rattle.std.proofs.Common.{ap, ◌∙◌}
 use Rattle.cstn_check.specs.Givers.{without}
-use Rattle.cstn_follow.proofs.Taken.{taken_out, copied}
+use Rattle.cstn_check.proofs.Fewer.{taken_out, copied}
 use Rattle.cstn_follow.proofs.blames.without.Goals as goal
 
 pub returns : goal.returns

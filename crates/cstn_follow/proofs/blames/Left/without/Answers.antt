@@ -1,4 +1,4 @@
-use Rattle.cstn_follow.proofs.Taken.{taken_out}
+use Rattle.cstn_check.proofs.Fewer.{taken_out}
 use Rattle.cstn_follow.proofs.blames.Left.without.Goals as goal
 
 pub returns-clause-base : goal.returns-clause-base

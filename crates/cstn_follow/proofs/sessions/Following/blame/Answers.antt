@@ -9,6 +9,7 @@ use Rattle.cstn_reply.specs.Texts.{line}
 use Rattle.cstn_follow.specs.Following.{says, verdict_now}
 use Rattle.cstn_follow.specs.Searches.{ids_text, on_blame}
 use Rattle.cstn_follow.specs.Read.{FollowingParts, the_following}
+use Rattle.cstn_follow.proofs.Kept.{parts}
 use Rattle.cstn_follow.proofs.AskedBy.{blame_told}
 use Rattle.cstn_follow.proofs.Edited.{within_is}
 use Rattle.cstn_follow.proofs.GoesOn.{left_says, no_cannot}
@@ -22,16 +23,7 @@ blame-requires-clause-room c =
 pub blame-requires-clause-cannot : goal.blame-requires-clause-cannot
 blame-requires-clause-cannot c =
     let w = c.self.inside in
-    let f : FollowingParts = record {
-      network = w.network;
-      names = w.names;
-      history = w.history;
-      cap = w.cap;
-      edits = w.edits;
-      fresh = w.fresh;
-      lines = w.lines;
-      verdict = w.verdict;
-    } in
+    let f = parts w in
     let good = c.self.invariant in
     let timely : IsTimelyHistory (the_labelled w.network) (the_history w.history) = record { history = good.kept.history; in_time = good.kept.in_time } in
     let said : w.verdict ≡ No c.in-No.load = within_is (the_following f) w.verdict good.verdict
@@ -40,17 +32,7 @@ blame-requires-clause-cannot c =
 
 pub returns-in-Ok : goal.returns-in-Ok
 returns-in-Ok c =
-    let w = c.self.inside in
-    let f : FollowingParts = record {
-      network = w.network;
-      names = w.names;
-      history = w.history;
-      cap = w.cap;
-      edits = w.edits;
-      fresh = w.fresh;
-      lines = w.lines;
-      verdict = w.verdict;
-    } in
+    let f = parts c.self.inside in
     let said_no = ap (λ (v : FollowingParts). verdict_now (the_following v)) c.self.view_is ∙ sym c.in-No.ensures.verdict in
     record {
       says = IfOk-weaker c.blame_line.result _ _
@@ -61,17 +43,7 @@ returns-in-Ok c =
 
 pub returns-in-Err-Full : goal.returns-in-Err-Full
 returns-in-Err-Full c =
-    let w = c.self.inside in
-    let f : FollowingParts = record {
-      network = w.network;
-      names = w.names;
-      history = w.history;
-      cap = w.cap;
-      edits = w.edits;
-      fresh = w.fresh;
-      lines = w.lines;
-      verdict = w.verdict;
-    } in
+    let f = parts c.self.inside in
     let said_no = ap (λ (v : FollowingParts). verdict_now (the_following v)) c.self.view_is ∙ sym c.in-No.ensures.verdict in
     record {
       says = IfOk-weaker c.verdict_line-in-Err-Full.result _ _

@@ -9,6 +9,7 @@ use Rattle.cstn_follow.specs.Following.{says, verdict_now}
 use Rattle.cstn_follow.specs.Waiting.{HasRoomToWait}
 use Rattle.cstn_follow.specs.Searches.{by_after}
 use Rattle.cstn_follow.specs.Read.{FollowingParts, the_following}
+use Rattle.cstn_follow.proofs.Kept.{parts}
 use Rattle.cstn_follow.proofs.AskedBy.{by_told}
 use Rattle.cstn_follow.proofs.Edited.{within_is}
 use Rattle.cstn_follow.proofs.GoesOn.{yes_can}
@@ -17,16 +18,7 @@ use Rattle.cstn_follow.proofs.sessions.Following.by_now.Goals as goal
 pub by-requires-clause-can : goal.by-requires-clause-can
 by-requires-clause-can c =
     let w = c.self.inside in
-    let f : FollowingParts = record {
-      network = w.network;
-      names = w.names;
-      history = w.history;
-      cap = w.cap;
-      edits = w.edits;
-      fresh = w.fresh;
-      lines = w.lines;
-      verdict = w.verdict;
-    } in
+    let f = parts w in
     let good = c.self.invariant in
     let timely : IsTimelyHistory (the_labelled w.network) (the_history w.history) = record { history = good.kept.history; in_time = good.kept.in_time } in
     let said : w.verdict ≡ Yes c.in-Yes.load = within_is (the_following f) w.verdict good.verdict
@@ -41,17 +33,7 @@ unreachable-requires c =
 
 pub returns-in-Ok : goal.returns-in-Ok
 returns-in-Ok c =
-    let w = c.self.inside in
-    let f : FollowingParts = record {
-      network = w.network;
-      names = w.names;
-      history = w.history;
-      cap = w.cap;
-      edits = w.edits;
-      fresh = w.fresh;
-      lines = w.lines;
-      verdict = w.verdict;
-    } in
+    let f = parts c.self.inside in
     let said_yes = ap (λ (v : FollowingParts). verdict_now (the_following v)) c.self.view_is ∙ sym c.in-Yes.ensures.verdict in
     record {
       says = IfOk-weaker c.by_line.result _ _
@@ -62,17 +44,7 @@ returns-in-Ok c =
 
 pub returns-in-Err-Full : goal.returns-in-Err-Full
 returns-in-Err-Full c =
-    let w = c.self.inside in
-    let f : FollowingParts = record {
-      network = w.network;
-      names = w.names;
-      history = w.history;
-      cap = w.cap;
-      edits = w.edits;
-      fresh = w.fresh;
-      lines = w.lines;
-      verdict = w.verdict;
-    } in
+    let f = parts c.self.inside in
     let said_yes = ap (λ (v : FollowingParts). verdict_now (the_following v)) c.self.view_is ∙ sym c.in-Yes.ensures.verdict in
     record {
       says = IfOk-weaker c.verdict_line-in-Err-Full.result _ _

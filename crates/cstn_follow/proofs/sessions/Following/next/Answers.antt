@@ -10,6 +10,7 @@ use Rattle.cstn_history.specs.Read.{the_history}
 use Rattle.cstn_follow.specs.Following.{says, left_now, verdict_now}
 use Rattle.cstn_follow.specs.Questions.{on_next}
 use Rattle.cstn_follow.specs.Read.{FollowingParts, the_following}
+use Rattle.cstn_follow.proofs.Kept.{parts}
 use Rattle.cstn_follow.proofs.GoesOn.{left_labelled}
 use Rattle.cstn_follow.proofs.WhatIsNext.{next_said}
 use Rattle.cstn_follow.proofs.sessions.Following.next.Goals as goal
@@ -27,8 +28,7 @@ next-requires-clause-planned c =
 
 pub returns : goal.returns
 returns c =
-    let w = c.self.inside in
-    let f : FollowingParts = record { network = w.network; names = w.names; history = w.history; cap = w.cap; edits = w.edits; fresh = w.fresh; lines = w.lines; verdict = w.verdict } in
+    let f = parts c.self.inside in
     let said_yes = ap (λ (v : FollowingParts). verdict_now (the_following v)) c.self.view_is ∙ sym c.in-Yes.ensures.verdict in
     let planned = c.into_plan-plan.ensures.live
     ∙ ap (λ (net : Network). live_bounds (log_of net)) (c.in_ok-check.ensures.network ∙ ap (λ (v : FollowingParts). lowered (left_now (the_following v))) (sym c.self.view_is)) in

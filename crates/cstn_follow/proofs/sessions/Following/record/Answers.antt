@@ -4,13 +4,13 @@ use Rattle.cstn_history.specs.Read.{the_history}
 use Rattle.cstn_follow.specs.Following.{says, too_many}
 use Rattle.cstn_follow.specs.FactLines.{records}
 use Rattle.cstn_follow.specs.Read.{FollowingParts, the_following}
+use Rattle.cstn_follow.proofs.Kept.{parts}
 use Rattle.cstn_follow.proofs.Recording.{recorded_none, recorded_some}
 use Rattle.cstn_follow.proofs.sessions.Following.record.Goals as goal
 
 pub returns-in_default-clause-says : goal.returns-in_default-clause-says
 returns-in_default-clause-says c =
-    let w = c.self.inside in
-    let f : FollowingParts = record { network = w.network; names = w.names; history = w.history; cap = w.cap; edits = w.edits; fresh = w.fresh; lines = w.lines; verdict = w.verdict } in
+    let f = parts c.self.inside in
     let h = the_history c.args.later in
     IfOk-weaker c.too_many.result (λ text. text.items ≡ too_many) _
     (λ text is. subst (λ (v : FollowingParts). records (the_following v) h ≡ says text.items (the_following v)) c.self.view_is
@@ -18,8 +18,7 @@ returns-in_default-clause-says c =
 
 pub returns-clause-says : goal.returns-clause-says
 returns-clause-says c =
-    let w = c.self.inside in
-    let f : FollowingParts = record { network = w.network; names = w.names; history = w.history; cap = w.cap; edits = w.edits; fresh = w.fresh; lines = w.lines; verdict = w.verdict } in
+    let f = parts c.self.inside in
     let h = the_history c.args.later in
     let text = c.in_ok-text.text.items in
     subst (λ (v : FollowingParts). records (the_following v) h ≡ says text (the_following (record f { history = c.args.later; verdict = c.in-Some.verdict }))) c.self.view_is

@@ -10,6 +10,7 @@ use Rattle.cstn_history.specs.Read.{the_history, IsKeptFor}
 use Rattle.cstn_follow.specs.Following.{says, too_many, verdict_left}
 use Rattle.cstn_follow.specs.PlanLines.{becomes}
 use Rattle.cstn_follow.specs.Read.{FollowingParts, the_following}
+use Rattle.cstn_follow.proofs.Kept.{parts}
 use Rattle.cstn_follow.proofs.Edited.{left_many}
 use Rattle.cstn_follow.proofs.Replanned.{kept_edited, becomes_none, becomes_some}
 use Rattle.cstn_follow.proofs.sessions.Following.replan.Goals as goal
@@ -17,16 +18,7 @@ use Rattle.cstn_follow.proofs.sessions.Following.replan.Goals as goal
 pub returns-in_default-clause-says : goal.returns-in_default-clause-says
 returns-in_default-clause-says c =
     let w = c.self.inside in
-    let f : FollowingParts = record {
-      network = w.network;
-      names = w.names;
-      history = w.history;
-      cap = w.cap;
-      edits = w.edits;
-      fresh = w.fresh;
-      lines = w.lines;
-      verdict = w.verdict;
-    } in
+    let f = parts w in
     let net = c.args.base in
     let cs = (the_network net).constraints in
     let many = rw c.in_default.is at c.in_ok-network.ensures.many in
@@ -55,16 +47,7 @@ verdict_left-requires-clause-above c =
 pub returns-in_default-left-clause-says : goal.returns-in_default-left-clause-says
 returns-in_default-left-clause-says c =
     let w = c.self.inside in
-    let f : FollowingParts = record {
-      network = w.network;
-      names = w.names;
-      history = w.history;
-      cap = w.cap;
-      edits = w.edits;
-      fresh = w.fresh;
-      lines = w.lines;
-      verdict = w.verdict;
-    } in
+    let f = parts w in
     let net = c.args.base in
     let cs = (the_network net).constraints in
     let is = rw c.in-Some.is at c.in_ok-network.ensures.edited in
@@ -100,17 +83,7 @@ invariant_of-self c =
 
 pub returns-clause-says : goal.returns-clause-says
 returns-clause-says c =
-    let w = c.self.inside in
-    let f : FollowingParts = record {
-      network = w.network;
-      names = w.names;
-      history = w.history;
-      cap = w.cap;
-      edits = w.edits;
-      fresh = w.fresh;
-      lines = w.lines;
-      verdict = w.verdict;
-    } in
+    let f = parts c.self.inside in
     let net = c.args.base in
     let cs = (the_network net).constraints in
     let l = c.in-Some.network in

@@ -1,9 +1,10 @@
 use Rattle.std.proofs.Common.{◌+◌, ◌≤◌, length, take, arith, rules, refl, ap, sym, subst, ◌∙◌}
 use Rattle.std.proofs.lemmas.List.{take_all, with_items_is}
+use Rattle.cstn_rules.specs.Read.{the_entry}
 use Rattle.cstn_log.specs.Entries.{the_entries}
+use Rattle.cstn_check.proofs.Fewer.{map_next}
 use Rattle.cstn_follow.specs.Needs.{AreMarked}
-use Rattle.cstn_follow.proofs.Needed.{entries_next}
-use Rattle.cstn_follow.proofs.needs.marks_of.Goals as goal
+use Rattle.cstn_follow.proofs.needs.marks_of_log.Goals as goal
 
 pub loop-k-init : goal.loop-k-init
 loop-k-init c = record {
@@ -15,7 +16,7 @@ loop-k-init c = record {
 pub loop-k-preserved : goal.loop-k-preserved
 loop-k-preserved c =
     let entries = c.args.log.now.entries in
-    let next = entries_next entries c.loop-k.k c.entry.result c.entry.ensures.entry in
+    let next = map_next the_entry entries c.loop-k.k c.entry.result c.entry.ensures.entry in
     let before = the_entries (take c.loop-k.k entries) in
     let same = with_items_is c.loop-k.marks c.mark.new.marks (c.mark.ensures.size ∙ c.deref_mut.ensures.len) in
     record {

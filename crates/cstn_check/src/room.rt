@@ -3,13 +3,13 @@ ghost use Rattle.std.specs.Prelude.{◌≡◌, ◌≤◌, true};
 ghost use Rattle.std.specs.Option.{option_map};
 ghost use Rattle.cstn_net.specs.Read.{the_network};
 ghost use Rattle.cstn_check.specs.Growth.{most_entries};
-ghost use Rattle.cstn_conflict.specs.Trials.{factor};
+ghost use Rattle.cstn_check.specs.Room.{factor};
 
 use cstn_label::{NodeId, Prop};
 use cstn_net::Network;
 
 /// No log of the network, or of the network with fewer constraints, can have more than `cap` entries.
-pub(crate) fn is_never_full(net: &Network, cap: u32) -> bool
+pub fn is_never_full(net: &Network, cap: u32) -> bool
     requires most { cap ≤ 4194304 }
     ensures within { result ≡ true → most_entries (the_network net.now) ≤ cap }
 {

@@ -1,8 +1,8 @@
 use Rattle.std.proofs.Common.{◌≡◌}
 use Rattle.cstn_net.specs.Networks.{count}
 use Rattle.cstn_net.specs.Read.{the_network}
-use Rattle.cstn_conflict.proofs.RoomLemmas.{most_by}
-use Rattle.cstn_conflict.proofs.room.is_never_full.Given as goal
+use Rattle.cstn_check.proofs.RoomLemmas.{most_by}
+use Rattle.cstn_check.proofs.room.is_never_full.Given as goal
 
 abbrev pub invariant-loop-x : goal.invariant-loop-x
 invariant-loop-x l = record {

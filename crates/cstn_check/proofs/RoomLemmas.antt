@@ -4,7 +4,7 @@ use Rattle.std.specs.Prelude.{slice_index_or}
 use Rattle.std.proofs.Math.Nat.{mul_assoc, pow-suc}
 use Rattle.std.proofs.lemmas.Nat.{mul-le}
 use Rattle.cstn_check.specs.Growth.{observed}
-use Rattle.cstn_conflict.specs.Trials.{factor}
+use Rattle.cstn_check.specs.Room.{factor}
 
 plus_one : (n : ℕ) → n + 1 ≡ suc n
 plus_one n = omega arith

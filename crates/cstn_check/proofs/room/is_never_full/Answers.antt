@@ -1,9 +1,9 @@
 use Rattle.std.proofs.Common.{ℕ, ◌*◌, ap, sym, ◌∙◌, rules}
 use Rattle.cstn_net.specs.Networks.{count}
 use Rattle.cstn_net.specs.Read.{the_network}
-use Rattle.cstn_conflict.specs.Trials.{factor}
-use Rattle.cstn_conflict.proofs.RoomLemmas.{most_by, most_next}
-use Rattle.cstn_conflict.proofs.room.is_never_full.Goals as goal
+use Rattle.cstn_check.specs.Room.{factor}
+use Rattle.cstn_check.proofs.RoomLemmas.{most_by, most_next}
+use Rattle.cstn_check.proofs.room.is_never_full.Goals as goal
 
 pub loop-x-preserved : goal.loop-x-preserved
 loop-x-preserved c =
