@@ -11,4 +11,4 @@ pub use answers::{accepted, wrong_line};
 pub use output::{Outcome, Refused, Said, finish};
 pub use session::{Answer, Talk, converse};
 pub use status::Status;
-pub use texts::AnswerText;
+pub use texts::{AnswerText, truth_word};

@@ -1,5 +1,5 @@
 // Texts of answers, put into room that was taken before.
-ghost use Rattle.std.specs.Prelude.{◌≡◌, ◌≤◌, ◌+◌, ◌++◌, ◌∷◌, [], length, decimal, IfOk, OnOk};
+ghost use Rattle.std.specs.Prelude.{◌≡◌, ◌≤◌, ◌+◌, ◌++◌, ◌∷◌, [], length, decimal, IfOk, OnErr, OnOk};
 ghost use Rattle.cstn_label.specs.Letters.{letter_of};
 ghost use Rattle.cstn_text.specs.Numbers.{printed_value};
 ghost use Rattle.cstn_lines.specs.LiveLines.{printed_truth};
@@ -61,9 +61,10 @@ impl AnswerText {
         self.bytes.extend_from_slice(bytes).unwrap();
     }
 
-    /// Puts any number of bytes. Fails for want of memory alone.
+    /// Puts any number of bytes. Fails for want of memory alone, and puts none then.
     pub fn extend(&mut self, bytes: &[u8]) -> Result<(), AllocError>
-        ensures { OnOk result (self.new ≡ self.old ++ bytes.now) }
+        ensures whole { OnOk result (self.new ≡ self.old ++ bytes.now) }
+        ensures kept { OnErr result (self.new ≡ self.old) }
     {
         self.bytes.extend_from_slice(bytes)
     }
@@ -122,11 +123,12 @@ impl AnswerText {
     {
         self.put(word);
         self.put(&[prop.letter(), b' ']);
-        self.put_word(truth(value));
+        self.put_word(truth_word(value));
     }
 }
 
-fn truth(value: bool) -> &'static [u8]
+/// The word for a value of a proposition, of at most 5 bytes.
+pub fn truth_word(value: bool) -> &'static [u8]
     ensures truth { result.now ≡ printed_truth value }
     ensures short { length result.now ≤ 5 }
 {
