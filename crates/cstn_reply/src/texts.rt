@@ -69,10 +69,11 @@ impl AnswerText {
         self.bytes.extend_from_slice(bytes)
     }
 
-    /// Puts a number.
+    /// Puts the digits of a number, of at most 40 bytes.
     pub fn put_decimal(&mut self, number: u32)
         requires room { HasRoom self.old 40 }
-        ensures { self.new ≡ self.old ++ decimal number }
+        ensures digits { self.new ≡ self.old ++ decimal number }
+        ensures short { length self.new ≤ length self.old + 40 }
     {
         let mut digits = Buffer::new();
         self.put(digits.format(number).as_bytes());
