@@ -1,10 +1,10 @@
 // Lines of the live source, answered one after another.
-ghost use Rattle.std.specs.Prelude.{◌≡◌, ◌≢◌, ◌⊎◌, ◌≤◌, ◌+◌, ◌++◌, ℕ, List, Option, [], Bool, true, false, IsTrue, IfOk, IfSome, IfNone, OnErr, OnOk};
-ghost use Rattle.std.specs.Prelude.{length, codes, decimal};
+ghost use Rattle.std.specs.Prelude.{◌≡◌, ◌≢◌, ◌⊎◌, ◌≤◌, ◌+◌, ◌++◌, ℕ, List, Option, [], Bool, true, IsTrue, IfOk, IfSome, IfNone, OnErr};
+ghost use Rattle.std.specs.Prelude.{length, codes};
 ghost use Rattle.std.specs.Option.{option_map};
 ghost use Rattle.cstn_io.specs.Causes.{Rose};
-ghost use Rattle.cstn_io.specs.Contents.{after_bytes, with_bytes, IsAtEnd};
-ghost use Rattle.cstn_lines.specs.Steps.{LinesState, heard_line};
+ghost use Rattle.cstn_io.specs.Contents.{with_bytes, IsAtEnd};
+ghost use Rattle.cstn_lines.specs.Steps.{heard_line};
 ghost use Rattle.cstn_reply.specs.Room.{HasRoom};
 ghost use Rattle.cstn_reply.specs.Texts.{Said, line};
 ghost use Rattle.cstn_reply.specs.Written.{EndsLine, LiveState, IsText, Ends};
