@@ -1,5 +1,5 @@
 // Edit sessions: edit lines are answered by a session.
-ghost use Rattle.std.specs.Prelude.{false, ◌≡◌, ◌<◌, ◌≤◌, ◌^◌, ◌++◌, [], ℕ, true, length, vec_capacity, if◌then◌else◌, Some, IfOk, IfSome, OnOk, codes};
+ghost use Rattle.std.specs.Prelude.{false, ◌≡◌, ◌<◌, ◌≤◌, ◌^◌, ◌++◌, [], ℕ, length, if◌then◌else◌, Some, IfOk, IfSome, OnOk, codes};
 ghost use Rattle.std.specs.Prelude.{decimal};
 ghost use Rattle.std.specs.List.{All};
 ghost use Rattle.std.specs.Option.{option_map};
@@ -23,13 +23,10 @@ use cstn_check::Verdict;
 use cstn_label::{Label, NodeId};
 use cstn_lines::{EditLine, read_edit};
 use cstn_net::Network;
-use cstn_reply::{Answer, Outcome, Talk, put_number, put_prop, put_value, put_word};
+use cstn_reply::{Answer, AnswerText, Outcome, Talk};
 use cstn_text::{Names, print_name};
 use std::alloc::{AllocError, Global};
 use std::marker::Model;
-
-// How many bytes an answer has at most, unless it holds a refutation or a name.
-const ROOM: usize = 64;
 
 // How many constraints a session may have.
 const MAX_CONSTRAINTS: u32 = 16_384;
@@ -88,13 +85,11 @@ impl Editing {
         to: &str,
         most: i32,
         label: Label,
-        text: &mut Vec<u8>,
+        text: &mut AnswerText,
     ) -> Result<(), AllocError>
-        requires empty { text.old.items ≡ [] }
-        requires room { ROOM ≤ vec_capacity text.old }
+        requires empty { text.old ≡ [] }
         ensures turn { OnOk result (answered_add (the_editing self.old) from.now to.now most (marks label) (number_of self.old.names from.now)
-            (number_of self.old.names to.now) ≡ more text.new.items (the_editing self.new)) }
-        ensures capacity { vec_capacity text.old ≤ vec_capacity text.new }
+            (number_of self.old.names to.now) ≡ more text.new (the_editing self.new)) }
     {
         let Some(x) = self.node(from) else {
             return put_unknown(self.alloc, text, from);
@@ -116,84 +111,82 @@ impl Editing {
     }
 
     // Adds a constraint between two time-points.
-    fn add_between(&mut self, from: NodeId, to: NodeId, most: i32, label: Label, text: &mut Vec<u8>)
+    fn add_between(
+        &mut self,
+        from: NodeId,
+        to: NodeId,
+        most: i32,
+        label: Label,
+        text: &mut AnswerText,
+    )
         requires from { from.0 < count (the_network self.old.session.net) }
         requires to { to.0 < count (the_network self.old.session.net) }
-        requires empty { text.old.items ≡ [] }
-        requires room { ROOM ≤ vec_capacity text.old }
-        ensures turn { answered_edit (the_editing self.old) (add_refusal 16384 (the_session self.old.session) most (marks label))
+        requires empty { text.old ≡ [] }
+        ensures { answered_edit (the_editing self.old) (add_refusal 16384 (the_session self.old.session) most (marks label))
             (codes "added " ++ decimal (next_id self.old.session.highest)) (with_added (the_session self.old.session) from.0 to.0 most (marks label))
-            ≡ more text.new.items (the_editing self.new) }
-        ensures capacity { vec_capacity text.old ≤ vec_capacity text.new }
+            ≡ more text.new (the_editing self.new) }
     {
         match self.session.add(from, to, most, label) {
-            Ok(id) => put_number(text, b"added ", id),
+            Ok(id) => text.put_number(b"added ", id),
             Err(error) => put_refusal(text, error),
         }
     }
 
     // Takes a constraint out.
-    fn remove(&mut self, id: u32, text: &mut Vec<u8>)
-        requires empty { text.old.items ≡ [] }
-        requires room { ROOM ≤ vec_capacity text.old }
+    fn remove(&mut self, id: u32, text: &mut AnswerText)
+        requires empty { text.old ≡ [] }
         ensures turn { answered_edit (the_editing self.old) (remove_refusal (the_session self.old.session) id) (codes "removed " ++ decimal id)
-            (with_removed (the_session self.old.session) id) ≡ more text.new.items (the_editing self.new) }
-        ensures capacity { vec_capacity text.old ≤ vec_capacity text.new }
+            (with_removed (the_session self.old.session) id) ≡ more text.new (the_editing self.new) }
     {
         match self.session.remove(id) {
-            Ok(()) => put_number(text, b"removed ", id),
+            Ok(()) => text.put_number(b"removed ", id),
             Err(error) => put_refusal(text, error),
         }
     }
 
     // Gives a constraint another value.
-    fn change(&mut self, id: u32, most: i32, text: &mut Vec<u8>)
-        requires empty { text.old.items ≡ [] }
-        requires room { ROOM ≤ vec_capacity text.old }
+    fn change(&mut self, id: u32, most: i32, text: &mut AnswerText)
+        requires empty { text.old ≡ [] }
         ensures turn { answered_edit (the_editing self.old) (change_refusal (the_session self.old.session) id most) (codes "changed " ++ decimal id)
-            (with_changed (the_session self.old.session) id most) ≡ more text.new.items (the_editing self.new) }
-        ensures capacity { vec_capacity text.old ≤ vec_capacity text.new }
+            (with_changed (the_session self.old.session) id most) ≡ more text.new (the_editing self.new) }
     {
         match self.session.change(id, most) {
-            Ok(()) => put_number(text, b"changed ", id),
+            Ok(()) => text.put_number(b"changed ", id),
             Err(error) => put_refusal(text, error),
         }
     }
 
     // Answers with the verdict, which is kept for the end.
-    fn check(&mut self, text: &mut Vec<u8>) -> Result<(), AllocError>
-        requires empty { text.old.items ≡ [] }
-        requires room { ROOM ≤ vec_capacity text.old }
+    fn check(&mut self, text: &mut AnswerText) -> Result<(), AllocError>
+        requires empty { text.old ≡ [] }
         ensures turn { OnOk result (answered_check (the_editing self.old) (outcome_at self.old.session.cap (the_session self.old.session))
-            (with_verdict self.old.session.cap (the_session self.old.session)) ≡ more text.new.items (the_editing self.new)) }
-        ensures capacity { vec_capacity text.old ≤ vec_capacity text.new }
+            (with_verdict self.old.session.cap (the_session self.old.session)) ≡ more text.new (the_editing self.new)) }
     {
         let outcome = self.session.verdict();
         self.verdict = Some(outcome.verdict);
         put_afresh(text, outcome.afresh);
         match outcome.verdict {
             Verdict::Yes { load } => {
-                put_number(text, b"yes ", load);
+                text.put_number(b"yes ", load);
                 Ok(())
             }
             Verdict::No { .. } => self.put_refutation(text),
             Verdict::Full => {
-                put_number(text, b"full ", self.cap);
+                text.put_number(b"full ", self.cap);
                 Ok(())
             }
         }
     }
 
     // Puts the text of the refutation after a no.
-    fn put_refutation(&self, text: &mut Vec<u8>) -> Result<(), AllocError>
+    fn put_refutation(&self, text: &mut AnswerText) -> Result<(), AllocError>
         requires no { (o : Answered) × (load : ℕ) × (self.now.session.last ≡ Some o) × (o.verdict ≡ Verdict.No load) }
-        ensures items { OnOk result (text.new.items ≡ text.old.items
+        ensures { OnOk result (text.new ≡ text.old
             ++ shown self.now.names (length (kept_of self.now.session)) (part (kept_of self.now.session))) }
-        ensures capacity { vec_capacity text.old ≤ vec_capacity text.new }
     {
         let refutation = self.session.refutation(self.alloc)?;
         let printed = refutation.print(self.alloc, &self.names)?;
-        text.extend_from_slice(printed.as_bytes())
+        text.extend(printed.as_bytes())
     }
 }
 
@@ -206,21 +199,15 @@ impl Talk for Editing {
 
     ghost ending = { edit_ending };
 
-    ghost room = { λ _. 64 };
-
     ghost ends = { false };
 
     ghost may_stop = { edit_wants };
-
-    fn room(&self) -> usize {
-        ROOM
-    }
 
     fn ends(&self) -> bool {
         false
     }
 
-    fn answer(&mut self, line: &[u8], text: &mut Vec<u8>) -> Result<Answer, AllocError> {
+    fn answer(&mut self, line: &[u8], text: &mut AnswerText) -> Result<Answer, AllocError> {
         match read_edit(self.alloc, line)? {
             Some(
                 EditLine::Add {
@@ -249,7 +236,7 @@ impl Talk for Editing {
         }
     }
 
-    fn ending(&self, text: &mut Vec<u8>) -> Outcome {
+    fn ending(&self, text: &mut AnswerText) -> Outcome {
         ending_by(self.verdict)
     }
 }
@@ -273,41 +260,36 @@ fn has_few_points(network: &Network)
 }
 
 // Puts that no time-point has the name.
-fn put_unknown(alloc: Global, text: &mut Vec<u8>, name: &str) -> Result<(), AllocError>
-    requires empty { text.old.items ≡ [] }
-    ensures items { OnOk result (text.new.items ≡ line (unknown_name name.now)) }
-    ensures capacity { vec_capacity text.old ≤ vec_capacity text.new }
+fn put_unknown(alloc: Global, text: &mut AnswerText, name: &str) -> Result<(), AllocError>
+    requires empty { text.old ≡ [] }
+    ensures { OnOk result (text.new ≡ line (unknown_name name.now)) }
 {
     let line = format!(in alloc; "refused S7 {}\n", print_name(alloc, name)?)?;
-    text.extend_from_slice(line.as_bytes())
+    text.extend(line.as_bytes())
 }
 
 // Puts why an edit is refused.
-fn put_refusal(text: &mut Vec<u8>, error: EditError)
-    requires empty { text.old.items ≡ [] }
-    requires room { ROOM ≤ vec_capacity text.old }
-    ensures items { text.new.items ≡ line (refused_edit (the_refusal error)) }
-    ensures capacity { vec_capacity text.old ≤ vec_capacity text.new }
+fn put_refusal(text: &mut AnswerText, error: EditError)
+    requires empty { text.old ≡ [] }
+    ensures { text.new ≡ line (refused_edit (the_refusal error)) }
 {
     match error {
-        EditError::EditLimit => put_word(text, b"refused S6"),
-        EditError::NoRoom { room } => put_number(text, b"refused S1 ", room),
-        EditError::NoSuch { id } => put_number(text, b"refused S2 ", id),
-        EditError::ValueRange { most } => put_value(text, b"refused S3 ", most),
-        EditError::NotPlain => put_word(text, b"refused S4"),
-        EditError::NotObserved { prop } => put_prop(text, b"refused S5 ", prop),
+        EditError::EditLimit => text.put_word(b"refused S6"),
+        EditError::NoRoom { room } => text.put_number(b"refused S1 ", room),
+        EditError::NoSuch { id } => text.put_number(b"refused S2 ", id),
+        EditError::ValueRange { most } => text.put_value(b"refused S3 ", most),
+        EditError::NotPlain => text.put_word(b"refused S4"),
+        EditError::NotObserved { prop } => text.put_prop(b"refused S5 ", prop),
     }
 }
 
 // Puts the line `afresh` where the check grew its kept list afresh.
-fn put_afresh(text: &mut Vec<u8>, afresh: bool)
-    requires empty { text.old.items ≡ [] }
-    requires room { ROOM ≤ vec_capacity text.old }
-    ensures items { text.new.items ≡ (if afresh then line (codes "afresh") else []) }
-    ensures short { length text.new.items ≤ 7 }
-    ensures capacity { vec_capacity text.old ≤ vec_capacity text.new }
+fn put_afresh(text: &mut AnswerText, afresh: bool)
+    requires empty { text.old ≡ [] }
+    ensures items { text.new ≡ (if afresh then line (codes "afresh") else []) }
+    ensures short { length text.new ≤ 7 }
 {
     if afresh {
-        put_word(text, b"afresh");
+        text.put_word(b"afresh");
     }
 }

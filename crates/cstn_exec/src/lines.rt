@@ -1,58 +1,54 @@
 // Lines of a run.
-ghost use Rattle.std.specs.Prelude.{◌≡◌, ◌≤◌, ◌<◌, ◌+◌, ◌*◌, ◌++◌, ◌∷◌, map, string_bytes, vec_capacity, length, IfOk};
+ghost use Rattle.std.specs.Prelude.{◌≡◌, ◌≤◌, ◌<◌, ◌+◌, ◌*◌, ◌++◌, ◌∷◌, map, string_bytes, length, IfOk};
 ghost use Rattle.std.specs.List.{All};
 ghost use Rattle.cstn_exec.specs.Read.{the_refusal};
 ghost use Rattle.cstn_text.specs.PrintedNames.{printed_name};
+ghost use Rattle.cstn_reply.specs.Room.{HasRoom};
 ghost use Rattle.cstn_reply.specs.Texts.{line};
 ghost use Rattle.cstn_exec.specs.Running.{the_nodes, moment_line, spaced, refused_text};
 
 use crate::ExecError;
 use cstn_label::NodeId;
-use cstn_reply::{put_number, put_outcome, put_prop, put_word};
+use cstn_reply::AnswerText;
 use cstn_text::{Names, print_name, printed_names_are_short};
-use itoa::Buffer;
 use std::alloc::{AllocError, Global};
 
 /// Puts why a moment or an outcome is refused.
-pub fn put_refusal(text: &mut Vec<u8>, error: ExecError)
-    requires room { length text.old.items + 60 ≤ vec_capacity text.old }
-    ensures items { text.new.items ≡ text.old.items ++ line (refused_text (the_refusal error)) }
-    ensures capacity { vec_capacity text.old ≤ vec_capacity text.new }
+pub fn put_refusal(text: &mut AnswerText, error: ExecError)
+    requires room { HasRoom text.old 60 }
+    ensures { text.new ≡ text.old ++ line (refused_text (the_refusal error)) }
 {
     match error {
-        ExecError::Past { now } => put_number(text, b"refused E1 ", now),
-        ExecError::Late { due } => put_number(text, b"refused E2 ", due),
-        ExecError::Awaiting { prop } => put_prop(text, b"refused E3 ", prop),
-        ExecError::NotExecuted { prop } => put_prop(text, b"refused E4 ", prop),
-        ExecError::Known { prop, value } => put_outcome(text, b"refused E5 ", prop, value),
-        ExecError::Done => put_word(text, b"refused E6"),
+        ExecError::Past { now } => text.put_number(b"refused E1 ", now),
+        ExecError::Late { due } => text.put_number(b"refused E2 ", due),
+        ExecError::Awaiting { prop } => text.put_prop(b"refused E3 ", prop),
+        ExecError::NotExecuted { prop } => text.put_prop(b"refused E4 ", prop),
+        ExecError::Known { prop, value } => text.put_outcome(b"refused E5 ", prop, value),
+        ExecError::Done => text.put_word(b"refused E6"),
     }
 }
 
 /// Puts the line of a moment, with the names of time-points.
-pub fn put_moment(text: &mut Vec<u8>, t: u32, named: &[NodeId], names: &[String])
+pub fn put_moment(text: &mut AnswerText, t: u32, named: &[NodeId], names: &[String])
     requires inside { All (λ x. x.0 < length names.now) named.now }
     requires short { All (λ name. length name ≤ 192) (map string_bytes names.now) }
-    requires room { length text.old.items + (193 * length named.now + 60) ≤ vec_capacity text.old }
-    ensures items { text.new.items ≡ text.old.items ++ moment_line (map string_bytes names.now) t (the_nodes named.now) }
-    ensures short { length text.new.items ≤ length text.old.items + (193 * length named.now + 60) }
-    ensures capacity { vec_capacity text.old ≤ vec_capacity text.new }
+    requires room { HasRoom text.old (193 * length named.now + 60) }
+    ensures items { text.new ≡ text.old ++ moment_line (map string_bytes names.now) t (the_nodes named.now) }
+    ensures short { length text.new ≤ length text.old + (193 * length named.now + 60) }
 {
-    let mut digits = Buffer::new();
-    text.extend_from_slice(b"at ").unwrap();
-    text.extend_from_slice(digits.format(t).as_bytes()).unwrap();
+    text.put(b"at ");
+    text.put_decimal(t);
     put_names(text, named, names);
-    text.extend_from_slice(b"\n").unwrap();
+    text.put(b"\n");
 }
 
 // Puts the names of time-points, each after a space.
-fn put_names(text: &mut Vec<u8>, named: &[NodeId], names: &[String])
+fn put_names(text: &mut AnswerText, named: &[NodeId], names: &[String])
     requires inside { All (λ x. x.0 < length names.now) named.now }
     requires short { All (λ name. length name ≤ 192) (map string_bytes names.now) }
-    requires room { length text.old.items + 193 * length named.now ≤ vec_capacity text.old }
-    ensures items { text.new.items ≡ text.old.items ++ spaced (map string_bytes names.now) (the_nodes named.now) }
-    ensures length { length text.new.items ≤ length text.old.items + 193 * length named.now }
-    ensures capacity { vec_capacity text.old ≤ vec_capacity text.new }
+    requires room { HasRoom text.old (193 * length named.now) }
+    ensures items { text.new ≡ text.old ++ spaced (map string_bytes names.now) (the_nodes named.now) }
+    ensures length { length text.new ≤ length text.old + 193 * length named.now }
 {
     for x in named {
         put_name(text, names[x.index()].as_str());
@@ -60,13 +56,12 @@ fn put_names(text: &mut Vec<u8>, named: &[NodeId], names: &[String])
 }
 
 // Puts a name after a space.
-fn put_name(text: &mut Vec<u8>, name: &str)
-    requires room { length text.old.items + length name.now + 1 ≤ vec_capacity text.old }
-    ensures items { text.new.items ≡ text.old.items ++ 32 ∷ name.now }
-    ensures capacity { vec_capacity text.old ≤ vec_capacity text.new }
+fn put_name(text: &mut AnswerText, name: &str)
+    requires room { HasRoom text.old (length name.now + 1) }
+    ensures { text.new ≡ text.old ++ 32 ∷ name.now }
 {
-    text.push(b' ').unwrap();
-    text.extend_from_slice(name.as_bytes()).unwrap();
+    text.put(b" ");
+    text.put(name.as_bytes());
 }
 
 /// The printed names of all time-points, each of at most 192 bytes. Fails for want of memory alone.

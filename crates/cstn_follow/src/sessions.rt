@@ -1,5 +1,5 @@
 // A session that follows what happens.
-ghost use Rattle.std.specs.Prelude.{◌≡◌, ◌<◌, ◌≤◌, ◌^◌, ◌||◌, [], length, vec_capacity, IfOk, IfSome};
+ghost use Rattle.std.specs.Prelude.{◌≡◌, ◌<◌, ◌≤◌, ◌^◌, ◌||◌, [], length, IfOk, IfSome};
 ghost use Rattle.std.specs.List.{All};
 ghost use Rattle.std.specs.Option.{is_some, option_map};
 ghost use Rattle.cstn_net.specs.Networks.{count};
@@ -20,7 +20,7 @@ use cstn_history::{History, completed};
 use cstn_label::NodeId;
 use cstn_lift::Labelled;
 use cstn_net::Network;
-use cstn_reply::{Outcome, put_number, put_word};
+use cstn_reply::{AnswerText, Outcome};
 use cstn_text::Names;
 use std::alloc::{AllocError, Global};
 use std::marker::Model;
@@ -125,16 +125,15 @@ impl Following {
     }
 
     /// How the session ends, and what is said then.
-    pub fn ending(&self, text: &mut Vec<u8>) -> Outcome
-        requires empty { text.old.items ≡ [] }
-        requires room { 64 ≤ vec_capacity text.old }
-        ensures ending { following_ending (the_following self.now) ≡ record { outcome = result; text = text.new.items } }
+    pub fn ending(&self, text: &mut AnswerText) -> Outcome
+        requires empty { text.old ≡ [] }
+        ensures ending { following_ending (the_following self.now) ≡ record { outcome = result; text = text.new } }
     {
         if self.is_any_open() {
-            put_number(text, b"unfinished ", self.history.now());
+            text.put_number(b"unfinished ", self.history.now());
             return Outcome::Unfinished;
         }
-        put_word(text, b"done");
+        text.put_word(b"done");
         outcome_by(self.verdict())
     }
 

@@ -1,5 +1,5 @@
 // What a session says.
-ghost use Rattle.std.specs.Prelude.{◌≡◌, ◌<◌, ◌++◌, ◌∷◌, [], length, flat_map, map, IfOk, IfSome, codes, decimal, slice_index_or};
+ghost use Rattle.std.specs.Prelude.{◌≡◌, ◌++◌, ◌∷◌, [], IfOk, codes, decimal};
 ghost use Rattle.cstn_label.specs.Letters.{letter_of};
 ghost use Rattle.cstn_reply.specs.Texts.{line};
 ghost use Rattle.cstn_follow.specs.Following.{verdict_line, too_many, name_at};
@@ -12,7 +12,7 @@ ghost use Rattle.cstn_lines.specs.LiveLines.{printed_truth};
 use cstn_check::Verdict;
 use cstn_history::FactError;
 use cstn_label::{NodeId, Prop};
-use cstn_reply::{put_number, put_outcome, put_prop, put_value, put_word};
+use cstn_reply::truth_word;
 use cstn_text::{Names, print_name};
 use itoa::Buffer;
 use std::alloc::{AllocError, Global};
@@ -33,41 +33,42 @@ pub fn verdict_line(alloc: Global, cap: u32, verdict: Verdict) -> Result<Vec<u8>
 
 /// A line that is a word.
 pub fn word_line(alloc: Global, word: &[u8]) -> Result<Vec<u8>, AllocError>
-    requires short { length word.now < 20 }
     ensures line { IfOk result (λ text. text.items ≡ line word.now) }
 {
-    let mut text = Vec::with_capacity(alloc, ROOM)?;
-    put_word(&mut text, word);
-    Ok(text)
+    line_of(alloc, word, b"")
 }
 
 /// A line that ends with a number.
 pub fn number_line(alloc: Global, word: &[u8], number: u32) -> Result<Vec<u8>, AllocError>
-    requires short { length word.now < 20 }
     ensures line { IfOk result (λ text. text.items ≡ line (word.now ++ decimal number)) }
 {
-    let mut text = Vec::with_capacity(alloc, ROOM)?;
-    put_number(&mut text, word, number);
-    Ok(text)
+    let mut digits = Buffer::new();
+    line_of(alloc, word, digits.format(number).as_bytes())
 }
 
 /// A line that ends with a value.
 pub fn value_line(alloc: Global, word: &[u8], value: i32) -> Result<Vec<u8>, AllocError>
-    requires short { length word.now < 20 }
     ensures line { IfOk result (λ text. text.items ≡ line (word.now ++ printed_value value)) }
 {
-    let mut text = Vec::with_capacity(alloc, ROOM)?;
-    put_value(&mut text, word, value);
-    Ok(text)
+    let mut digits = Buffer::new();
+    line_of(alloc, word, digits.format(value).as_bytes())
 }
 
 /// A line that ends with a proposition.
 pub fn prop_line(alloc: Global, word: &[u8], prop: Prop) -> Result<Vec<u8>, AllocError>
-    requires short { length word.now < 20 }
     ensures line { IfOk result (λ text. text.items ≡ line (word.now ++ letter_of prop.index ∷ [])) }
 {
+    line_of(alloc, word, &[prop.letter()])
+}
+
+// A line of a word and what follows it.
+fn line_of(alloc: Global, word: &[u8], rest: &[u8]) -> Result<Vec<u8>, AllocError>
+    ensures { IfOk result (λ text. text.items ≡ line (word.now ++ rest.now)) }
+{
     let mut text = Vec::with_capacity(alloc, ROOM)?;
-    put_prop(&mut text, word, prop);
+    text.extend_from_slice(word)?;
+    text.extend_from_slice(rest)?;
+    text.push(b'\n')?;
     Ok(text)
 }
 
@@ -151,6 +152,10 @@ fn told_line(alloc: Global, prop: Prop, value: bool) -> Result<Vec<u8>, AllocErr
     ensures { IfOk result (λ text. text.items ≡ line (codes "refused F7 " ++ letter_of prop.index ∷ 32 ∷ printed_truth value)) }
 {
     let mut text = Vec::with_capacity(alloc, ROOM)?;
-    put_outcome(&mut text, b"refused F7 ", prop, value);
+    text.extend_from_slice(b"refused F7 ")?;
+    text.push(prop.letter())?;
+    text.push(b' ')?;
+    text.extend_from_slice(truth_word(value))?;
+    text.push(b'\n')?;
     Ok(text)
 }

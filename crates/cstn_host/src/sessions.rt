@@ -1,5 +1,5 @@
 // Sessions of a host: host lines are answered under the names of each file.
-ghost use Rattle.std.specs.Prelude.{false, ◌≡◌, ◌≤◌, ◌<◌, [], true, length, vec_capacity, is_none, nat_lt, Some, IfOk, OnErr, OnOk};
+ghost use Rattle.std.specs.Prelude.{false, ◌≡◌, ◌≤◌, ◌<◌, [], true, length, is_none, nat_lt, Some, IfOk, OnErr, OnOk};
 ghost use Rattle.cstn_lines.specs.LiveLines.{moment_at, seen, due_now, the_live};
 ghost use Rattle.cstn_lines.specs.HostLines.{opened, put_on, closed};
 ghost use Rattle.cstn_exec.specs.Runs.{due};
@@ -14,12 +14,9 @@ use cstn_exec::put_moment;
 use cstn_label::Prop;
 use cstn_lines::{HostLine, LiveLine, read_host};
 use cstn_log::SoundPlan;
-use cstn_reply::{Answer, Outcome, Talk, put_number, put_outcome, put_word};
+use cstn_reply::{Answer, AnswerText, Outcome, Talk};
 use std::alloc::{AllocError, Global};
 use std::marker::Model;
-
-// How much room an answer wants, in bytes: the names of 1,024 time-points, each after a space, and the words beside.
-const ROOM: usize = 200_000;
 
 /// How many ids there are, from 0.
 const IDS: u32 = 64;
@@ -59,16 +56,14 @@ impl HostSession {
     }
 
     // Opens an id over a file.
-    fn open(&mut self, id: u32, file: u32, text: &mut Vec<u8>) -> Result<(), AllocError>
-        requires empty { text.old.items ≡ [] }
-        requires room { ROOM ≤ vec_capacity text.old }
-        ensures said { OnOk result (said (the_host_session self.old) (opened id file) ≡ text.new.items) }
+    fn open(&mut self, id: u32, file: u32, text: &mut AnswerText) -> Result<(), AllocError>
+        requires empty { text.old ≡ [] }
+        ensures said { OnOk result (said (the_host_session self.old) (opened id file) ≡ text.new) }
         ensures after { OnOk result (session_after (the_host_session self.old) (opened id file) ≡ the_host_session self.new) }
-        ensures capacity { vec_capacity text.old ≤ vec_capacity text.new }
     {
         match self.host.open(id, file) {
             Ok(()) => {
-                put_number(text, b"opened ", id);
+                text.put_number(b"opened ", id);
                 Ok(())
             }
             Err(error) => put_error(text, id, error),
@@ -76,17 +71,15 @@ impl HostSession {
     }
 
     // Closes an id.
-    fn close(&mut self, id: u32, text: &mut Vec<u8>) -> Result<(), AllocError>
-        requires empty { text.old.items ≡ [] }
-        requires room { ROOM ≤ vec_capacity text.old }
-        ensures said { OnOk result (said (the_host_session self.old) (closed id) ≡ text.new.items) }
+    fn close(&mut self, id: u32, text: &mut AnswerText) -> Result<(), AllocError>
+        requires empty { text.old ≡ [] }
+        ensures said { OnOk result (said (the_host_session self.old) (closed id) ≡ text.new) }
         ensures after { OnOk result (session_after (the_host_session self.old) (closed id) ≡ the_host_session self.new) }
-        ensures capacity { vec_capacity text.old ≤ vec_capacity text.new }
         ensures memory { OnErr result ⊥ }
     {
         match self.host.close(id) {
             Ok(()) => {
-                put_number(text, b"closed ", id);
+                text.put_number(b"closed ", id);
                 Ok(())
             }
             Err(error) => put_error(text, id, error),
@@ -94,12 +87,10 @@ impl HostSession {
     }
 
     // Answers a live line on an id.
-    fn pass(&mut self, id: u32, line: LiveLine, text: &mut Vec<u8>) -> Result<(), AllocError>
-        requires empty { text.old.items ≡ [] }
-        requires room { ROOM ≤ vec_capacity text.old }
-        ensures said { OnOk result (said (the_host_session self.old) (put_on id (the_live line)) ≡ text.new.items) }
+    fn pass(&mut self, id: u32, line: LiveLine, text: &mut AnswerText) -> Result<(), AllocError>
+        requires empty { text.old ≡ [] }
+        ensures said { OnOk result (said (the_host_session self.old) (put_on id (the_live line)) ≡ text.new) }
         ensures after { OnOk result (session_after (the_host_session self.old) (put_on id (the_live line)) ≡ the_host_session self.new) }
-        ensures capacity { vec_capacity text.old ≤ vec_capacity text.new }
         ensures memory { OnErr result ⊥ }
     {
         match line {
@@ -110,12 +101,10 @@ impl HostSession {
     }
 
     // Answers a moment of an id.
-    fn moment(&mut self, id: u32, t: u32, text: &mut Vec<u8>) -> Result<(), AllocError>
-        requires empty { text.old.items ≡ [] }
-        requires room { ROOM ≤ vec_capacity text.old }
-        ensures said { OnOk result (said (the_host_session self.old) (put_on id (moment_at t)) ≡ text.new.items) }
+    fn moment(&mut self, id: u32, t: u32, text: &mut AnswerText) -> Result<(), AllocError>
+        requires empty { text.old ≡ [] }
+        ensures said { OnOk result (said (the_host_session self.old) (put_on id (moment_at t)) ≡ text.new) }
         ensures after { OnOk result (session_after (the_host_session self.old) (put_on id (moment_at t)) ≡ the_host_session self.new) }
-        ensures capacity { vec_capacity text.old ≤ vec_capacity text.new }
         ensures memory { OnErr result ⊥ }
     {
         if let Err(error) = self.host.moment(id, t) {
@@ -133,7 +122,7 @@ impl HostSession {
             return Ok(());
         }
         put_id(text, id);
-        put_word(text, b"done");
+        text.put_word(b"done");
         Ok(())
     }
 
@@ -154,19 +143,17 @@ impl HostSession {
         id: u32,
         prop: Prop,
         value: bool,
-        text: &mut Vec<u8>,
+        text: &mut AnswerText,
     ) -> Result<(), AllocError>
-        requires empty { text.old.items ≡ [] }
-        requires room { ROOM ≤ vec_capacity text.old }
-        ensures said { OnOk result (said (the_host_session self.old) (put_on id (seen prop.index value)) ≡ text.new.items) }
+        requires empty { text.old ≡ [] }
+        ensures said { OnOk result (said (the_host_session self.old) (put_on id (seen prop.index value)) ≡ text.new) }
         ensures after { OnOk result (session_after (the_host_session self.old) (put_on id (seen prop.index value)) ≡ the_host_session self.new) }
-        ensures capacity { vec_capacity text.old ≤ vec_capacity text.new }
         ensures memory { OnErr result ⊥ }
     {
         match self.host.see(id, prop, value) {
             Ok(()) => {
                 put_id(text, id);
-                put_outcome(text, b"seen ", prop, value);
+                text.put_outcome(b"seen ", prop, value);
                 Ok(())
             }
             Err(error) => put_error(text, id, error),
@@ -174,22 +161,20 @@ impl HostSession {
     }
 
     // Answers what is due of an id.
-    fn due(&self, id: u32, text: &mut Vec<u8>) -> Result<(), AllocError>
-        requires empty { text.old.items ≡ [] }
-        requires room { ROOM ≤ vec_capacity text.old }
-        ensures said { OnOk result (said (the_host_session self.now) (put_on id due_now) ≡ text.new.items) }
-        ensures capacity { vec_capacity text.old ≤ vec_capacity text.new }
+    fn due(&self, id: u32, text: &mut AnswerText) -> Result<(), AllocError>
+        requires empty { text.old ≡ [] }
+        ensures said { OnOk result (said (the_host_session self.now) (put_on id due_now) ≡ text.new) }
         ensures memory { OnErr result ⊥ }
     {
         match self.host.due(id) {
             Ok(Some(t)) => {
                 put_id(text, id);
-                put_number(text, b"due ", t);
+                text.put_number(b"due ", t);
                 Ok(())
             }
             Ok(None) => {
                 put_id(text, id);
-                put_word(text, b"done");
+                text.put_word(b"done");
                 Ok(())
             }
             Err(error) => put_error(text, id, error),
@@ -230,21 +215,15 @@ impl Talk for HostSession {
 
     ghost ending = { host_ending };
 
-    ghost room = { λ _. 200000 };
-
     ghost ends = { false };
 
     ghost may_stop = { host_wants };
-
-    fn room(&self) -> usize {
-        ROOM
-    }
 
     fn ends(&self) -> bool {
         false
     }
 
-    fn answer(&mut self, line: &[u8], text: &mut Vec<u8>) -> Result<Answer, AllocError> {
+    fn answer(&mut self, line: &[u8], text: &mut AnswerText) -> Result<Answer, AllocError> {
         match read_host(line) {
             Some(HostLine::Open { id, file }) => {
                 self.open(id, file, text)?;
@@ -262,7 +241,7 @@ impl Talk for HostSession {
         }
     }
 
-    fn ending(&self, text: &mut Vec<u8>) -> Outcome {
+    fn ending(&self, text: &mut AnswerText) -> Outcome {
         let Some((id, t)) = self.unfinished() else {
             return Outcome::Good;
         };

@@ -1,4 +1,5 @@
 pub mod Texts
+pub mod Room
 pub mod Statuses
 pub mod Read
 pub mod Written

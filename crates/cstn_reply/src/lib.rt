@@ -2,13 +2,13 @@
 #![tactic(auto)]
 
 mod answers;
-mod lines;
 mod output;
 mod session;
 mod status;
+mod texts;
 
 pub use answers::{accepted, wrong_line};
-pub use lines::{put_number, put_outcome, put_prop, put_value, put_word};
 pub use output::{Outcome, Refused, Said, finish};
 pub use session::{Answer, Talk, converse};
 pub use status::Status;
+pub use texts::{AnswerText, truth_word};

@@ -1,20 +1,20 @@
 // Lines of the live source, answered one after another.
-ghost use Rattle.std.specs.Prelude.{◌≡◌, ◌≢◌, ◌⊎◌, ◌≤◌, ◌+◌, ◌++◌, ℕ, List, Option, [], Bool, true, false, IsTrue, IfOk, IfSome, IfNone, OnErr, OnOk};
-ghost use Rattle.std.specs.Prelude.{vec_capacity, length, codes, decimal};
+ghost use Rattle.std.specs.Prelude.{◌≡◌, ◌≢◌, ◌⊎◌, ◌≤◌, ◌+◌, ◌++◌, ℕ, List, Option, [], Bool, true, IsTrue, IfOk, IfSome, IfNone, OnErr};
+ghost use Rattle.std.specs.Prelude.{length, codes};
 ghost use Rattle.std.specs.Option.{option_map};
 ghost use Rattle.cstn_io.specs.Causes.{Rose};
-ghost use Rattle.cstn_io.specs.Contents.{after_bytes, with_bytes, IsAtEnd};
-ghost use Rattle.cstn_lines.specs.Steps.{LinesState, heard_line};
+ghost use Rattle.cstn_io.specs.Contents.{with_bytes, IsAtEnd};
+ghost use Rattle.cstn_lines.specs.Steps.{heard_line};
+ghost use Rattle.cstn_reply.specs.Room.{HasRoom};
 ghost use Rattle.cstn_reply.specs.Texts.{Said, line};
 ghost use Rattle.cstn_reply.specs.Written.{EndsLine, LiveState, IsText, Ends};
 ghost use Rattle.cstn_reply.specs.Sessions.{Turn, script, session_says, the_turn};
 ghost use Rattle.cstn_reply.specs.Reached.{heard, session_heard, MeetsLine, Progress};
 
-use crate::Status;
 use crate::output::{Outcome, finish, send};
+use crate::{AnswerText, Status};
 use cstn_io::{Sink, Source};
 use cstn_lines::{Lines, Next};
-use itoa::Buffer;
 use std::alloc::{AllocError, Global};
 
 /// How a session goes on after a line: more lines are read, the answer is the last one, or the line is of no grammar.
@@ -42,64 +42,44 @@ pub trait Talk: Drop {
     /// What is said where the lines end.
     ghost ending: { State → Said };
 
-    /// How much room an answer wants, in bytes.
-    ghost room: { Self → ℕ };
-
     /// Whether each line has to have its LF.
     ghost ends: { Bool };
 
     /// Whether the answer to a line may want memory.
     ghost may_stop: { List ℕ → Bool };
 
-    /// How many bytes an answer may have, and what is said where the lines end.
-    fn room(&self) -> usize
-        ensures { result ≡ room self.now };
-
     /// Whether each line has to have its LF. Where it has, a last line that lacks it is heard as an empty one.
     fn ends(&self) -> bool
         ensures { result ≡ ends };
 
     /// Answers a line: its answer stands in `text` then. Fails for want of memory alone, and only at a line that may want it.
-    fn answer(&mut self, line: &[u8], text: &mut Vec<u8>) -> Result<Answer, AllocError>
-        requires empty { text.old.items ≡ [] }
-        requires room { room self.old ≤ vec_capacity text.old }
-        ensures turn { IfOk result (λ answer. turn (state self.old) line.now ≡ the_turn answer (state self.new) text.new.items) }
-        ensures lines { IfOk result (λ answer. answer ≡ Answer.More → EndsLine text.new.items) }
-        ensures room { room self.new ≡ room self.old }
-        ensures capacity { vec_capacity text.old ≤ vec_capacity text.new }
+    fn answer(&mut self, line: &[u8], text: &mut AnswerText) -> Result<Answer, AllocError>
+        requires empty { text.old ≡ [] }
+        ensures turn { IfOk result (λ answer. turn (state self.old) line.now ≡ the_turn answer (state self.new) text.new) }
+        ensures lines { IfOk result (λ answer. answer ≡ Answer.More → EndsLine text.new) }
         ensures memory { OnErr result (IsTrue (may_stop line.now)) };
 
     /// What is said where the lines end stands in `text` then, and the outcome is returned.
-    fn ending(&self, text: &mut Vec<u8>) -> Outcome
-        requires empty { text.old.items ≡ [] }
-        requires room { room self.now ≤ vec_capacity text.old }
-        ensures { ending (state self.now) ≡ record { outcome = result; text = text.new.items } };
+    fn ending(&self, text: &mut AnswerText) -> Outcome
+        requires empty { text.old ≡ [] }
+        ensures { ending (state self.now) ≡ record { outcome = result; text = text.new } };
 }
 
-// Room for each text that a session says by itself, as `script N` or `read fault`, in bytes.
-const ROOM: usize = 40;
-
 // Puts a text in place of what was there.
-fn put(text: &mut Vec<u8>, bytes: &[u8])
-    requires { length bytes.now ≤ vec_capacity text.old }
-    ensures items { text.new.items ≡ bytes.now }
-    ensures capacity { vec_capacity text.old ≤ vec_capacity text.new }
+fn put(text: &mut AnswerText, bytes: &[u8])
+    requires { HasRoom [] (length bytes.now) }
+    ensures { text.new ≡ bytes.now }
 {
     text.clear();
-    text.extend_from_slice(bytes).unwrap();
+    text.put(bytes);
 }
 
 // Puts `script N` in place of what was there: the line of this number is of no grammar.
-fn put_script(text: &mut Vec<u8>, number: u32)
-    requires { 40 ≤ vec_capacity text.old }
-    ensures items { text.new.items ≡ (script number).text }
-    ensures capacity { vec_capacity text.old ≤ vec_capacity text.new }
+fn put_script(text: &mut AnswerText, number: u32)
+    ensures { text.new ≡ (script number).text }
 {
-    put(text, b"script ");
-    let mut digits = Buffer::new();
-    text.extend_from_slice(digits.format(number).as_bytes())
-        .unwrap();
-    text.extend_from_slice(b"\n").unwrap();
+    text.clear();
+    text.put_number(b"script ", number);
 }
 
 // The line that the last step handed out, as the session hears it.
@@ -118,22 +98,18 @@ fn next<T: Talk, S: Source>(
     talk: &mut T,
     lines: &mut Lines,
     live: &mut S,
-    text: &mut Vec<u8>,
+    text: &mut AnswerText,
 ) -> Option<Status>
     requires at_end { lines.old.ended ≡ true → IsAtEnd (S.left live.old) }
-    requires room { T.room talk.old ≤ vec_capacity text.old }
-    requires script { 40 ≤ vec_capacity text.old }
     ensures goes_on { IfNone result ((start : T.State) (told : Option (List ℕ)) (taken said : List ℕ)
         → Progress T.ends T.turn start told (S.left live.old) lines.old (T.state talk.old) taken said
-        → (bytes : List ℕ) × Progress T.ends T.turn start told (S.left live.new) lines.new (T.state talk.new) (taken ++ bytes) (said ++ text.new.items)) }
+        → (bytes : List ℕ) × Progress T.ends T.turn start told (S.left live.new) lines.new (T.state talk.new) (taken ++ bytes) (said ++ text.new)) }
     ensures ends { IfSome result (λ status. (start : T.State) (before : LiveState) (taken said opening : List ℕ)
         → Progress T.ends T.turn start before.left (S.left live.old) lines.old (T.state talk.old) taken said → before.faults ≤ S.faults live.old
         → EndsLine opening → IsText (session_says T.ends T.turn T.ending opening start) (session_heard T.turn opening start) before
-        (record { left = S.left live.new; faults = S.faults live.new }) status ((opening ++ said) ++ text.new.items)) }
+        (record { left = S.left live.new; faults = S.faults live.new }) status ((opening ++ said) ++ text.new)) }
     ensures at_end { lines.new.ended ≡ true → IsAtEnd (S.left live.new) }
     ensures count { IfNone result ((lines.new.count ≡ lines.old.count + 1) × (lines.new.count ≤ 16777216)) }
-    ensures room { T.room talk.new ≡ T.room talk.old }
-    ensures capacity { IfNone result (vec_capacity text.old ≤ vec_capacity text.new) }
     ensures later { S.faults live.old ≤ S.faults live.new }
     ensures read { result ≡ Some Status.ReadFault → Rose (S.faults live.old) (S.faults live.new) }
     ensures write { result ≢ Some Status.WriteFault }
@@ -190,7 +166,7 @@ pub fn converse<T: Talk, S: Source, K: Sink>(
     let Ok(mut lines) = Lines::start(alloc) else {
         return finish(out, b"memory\n", Status::Memory);
     };
-    let Ok(mut text) = Vec::with_capacity(alloc, talk.room().max(ROOM)) else {
+    let Ok(mut text) = AnswerText::new(alloc) else {
         return finish(out, b"memory\n", Status::Memory);
     };
     let Ok(()) = send(out, opening) else {
@@ -199,11 +175,11 @@ pub fn converse<T: Talk, S: Source, K: Sink>(
     'session: loop {
         match next(&mut talk, &mut lines, live, &mut text) {
             None => {
-                let Ok(()) = send(out, &text) else {
+                let Ok(()) = send(out, text.as_bytes()) else {
                     return Status::WriteFault;
                 };
             }
-            Some(status) => return finish(out, &text, status),
+            Some(status) => return finish(out, text.as_bytes(), status),
         }
     }
 }

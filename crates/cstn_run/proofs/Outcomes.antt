@@ -7,7 +7,7 @@ use Rattle.cstn_lift.specs.Labelled.{Labelled}
 use Rattle.cstn_lift.specs.Lowered.{lowered}
 use Rattle.cstn_exec.specs.Runs.{executed_at, outcome_of, observed_at}
 use Rattle.cstn_exec.specs.Moves.{NotExecuted, Known, outcome_refusal, unless_unseen, unless_known}
-use Rattle.cstn_exec.specs.Guides.{Guided, is_left, named_at, is_among, is_denied, see_refusal}
+use Rattle.cstn_exec.specs.Guides.{Guided, is_left, is_among, is_denied, see_refusal}
 use Rattle.cstn_exec.proofs.Knowing.{observer_at, observed_where, observed_from}
 use Rattle.cstn_run.specs.Meanings.{IsObserved}
 

@@ -1,5 +1,5 @@
 // Guided sessions: live lines are answered by a guide.
-ghost use Rattle.std.specs.Prelude.{◌≡◌, ◌≤◌, [], false, map, vec_capacity, length, IfOk};
+ghost use Rattle.std.specs.Prelude.{◌≡◌, ◌≤◌, [], false, map, length, IfOk};
 ghost use Rattle.cstn_net.specs.Networks.{count};
 ghost use Rattle.cstn_log.specs.Plans.{the_bounds};
 ghost use Rattle.cstn_lift.specs.Lowered.{lowered};
@@ -17,13 +17,10 @@ ghost use Rattle.cstn_run.specs.Sessions.{RunSessionParts, with_state, named_tur
 use cstn_exec::{Guide, print_names, put_moment, put_refusal};
 use cstn_label::Prop;
 use cstn_lines::{LiveLine, read_live};
-use cstn_reply::{Answer, Outcome, Talk, put_number, put_outcome, put_word};
+use cstn_reply::{Answer, AnswerText, Outcome, Talk};
 use cstn_text::Names;
 use std::alloc::{AllocError, Global};
 use std::marker::Model;
-
-// How much room an answer wants, in bytes: the names of 1,024 time-points, each after a space, and the words beside.
-const ROOM: usize = 200_000;
 
 /// A guide, and the printed names of its time-points.
 #[derive(Drop)]
@@ -61,15 +58,13 @@ impl RunSession {
     }
 
     // Answers a moment.
-    fn moment(&mut self, t: u32, text: &mut Vec<u8>) -> Answer
-        requires empty { text.old.items ≡ [] }
-        requires room { ROOM ≤ vec_capacity text.old }
+    fn moment(&mut self, t: u32, text: &mut AnswerText) -> Answer
+        requires empty { text.old ≡ [] }
         ensures turn { turn_with (with_state self.old)
             (named_turn self.old.names (the_labelled self.old.labelled) (the_bounds self.old.bounds) self.old.state t
             (moment_refusal (lowered (the_labelled self.old.labelled)) (the_bounds self.old.bounds) self.old.state.run t))
-            ≡ the_turn result self.new text.new.items }
-        ensures lines { result ≡ Answer.More → EndsLine text.new.items }
-        ensures capacity { vec_capacity text.old ≤ vec_capacity text.new }
+            ≡ the_turn result self.new text.new }
+        ensures lines { result ≡ Answer.More → EndsLine text.new }
     {
         if let Err(error) = self.guide.moment(t) {
             put_refusal(text, error);
@@ -77,39 +72,35 @@ impl RunSession {
         }
         put_moment(text, t, self.guide.named(), &self.names);
         let Some(_) = self.guide.due() else {
-            put_word(text, b"done");
+            text.put_word(b"done");
             return Answer::Last(Outcome::Good);
         };
         Answer::More
     }
 
     // Answers an outcome.
-    fn see(&mut self, prop: Prop, value: bool, text: &mut Vec<u8>)
-        requires empty { text.old.items ≡ [] }
-        requires room { ROOM ≤ vec_capacity text.old }
+    fn see(&mut self, prop: Prop, value: bool, text: &mut AnswerText)
+        requires empty { text.old ≡ [] }
         ensures turn { turn_with (with_state self.old)
             (noted_turn self.old.state prop.index value (see_refusal (the_labelled self.old.labelled) self.old.state prop.index))
-            ≡ the_turn Answer.More self.new text.new.items }
-        ensures lines { EndsLine text.new.items }
-        ensures capacity { vec_capacity text.old ≤ vec_capacity text.new }
+            ≡ the_turn Answer.More self.new text.new }
+        ensures lines { EndsLine text.new }
     {
         if let Err(error) = self.guide.see(prop, value) {
             put_refusal(text, error);
             return;
         }
-        put_outcome(text, b"seen ", prop, value);
+        text.put_outcome(b"seen ", prop, value);
     }
 
     // Answers what is due.
-    fn due(&self, text: &mut Vec<u8>)
-        requires empty { text.old.items ≡ [] }
-        requires room { ROOM ≤ vec_capacity text.old }
-        ensures items { text.new.items ≡ line (due_text (due (lowered (the_labelled self.now.labelled)) (the_bounds self.now.bounds) self.now.state.run)) }
-        ensures capacity { vec_capacity text.old ≤ vec_capacity text.new }
+    fn due(&self, text: &mut AnswerText)
+        requires empty { text.old ≡ [] }
+        ensures { text.new ≡ line (due_text (due (lowered (the_labelled self.now.labelled)) (the_bounds self.now.bounds) self.now.state.run)) }
     {
         match self.guide.due() {
-            Some(t) => put_number(text, b"due ", t),
-            None => put_word(text, b"done"),
+            Some(t) => text.put_number(b"due ", t),
+            None => text.put_word(b"done"),
         }
     }
 }
@@ -123,21 +114,15 @@ impl Talk for RunSession {
 
     ghost ending = { guided_ending };
 
-    ghost room = { λ _. 200000 };
-
     ghost ends = { false };
 
     ghost may_stop = { λ _. false };
-
-    fn room(&self) -> usize {
-        ROOM
-    }
 
     fn ends(&self) -> bool {
         false
     }
 
-    fn answer(&mut self, line: &[u8], text: &mut Vec<u8>) -> Result<Answer, AllocError> {
+    fn answer(&mut self, line: &[u8], text: &mut AnswerText) -> Result<Answer, AllocError> {
         match read_live(line) {
             Some(LiveLine::Moment { t }) => Ok(self.moment(t, text)),
             Some(LiveLine::See { prop, value }) => {
@@ -152,14 +137,14 @@ impl Talk for RunSession {
         }
     }
 
-    fn ending(&self, text: &mut Vec<u8>) -> Outcome {
+    fn ending(&self, text: &mut AnswerText) -> Outcome {
         match self.guide.due() {
             Some(t) => {
-                put_number(text, b"unfinished ", t);
+                text.put_number(b"unfinished ", t);
                 Outcome::Unfinished
             }
             None => {
-                put_word(text, b"done");
+                text.put_word(b"done");
                 Outcome::Good
             }
         }

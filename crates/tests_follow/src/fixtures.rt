@@ -6,7 +6,7 @@ use cstn_follow::{Following, Heard};
 use cstn_graphml::read;
 use cstn_lines::read_follow;
 use cstn_net::Network;
-use cstn_reply::Outcome;
+use cstn_reply::{AnswerText, Outcome};
 use std::alloc::Global;
 use std::process::Abort;
 
@@ -104,9 +104,9 @@ pub(super) fn ends(
     outcome: Outcome,
     answer: &str,
 ) {
-    let mut text = Vec::with_capacity(alloc, 64).expect(rt, "memory");
+    let mut text = AnswerText::new(alloc).expect(rt, "memory");
     let ended = session.ending(&mut text);
-    assert!(rt; text.as_slice() == answer.as_bytes());
+    assert!(rt; text.as_bytes() == answer.as_bytes());
     assert!(rt; ended == outcome);
     drop(text);
     drop(session);

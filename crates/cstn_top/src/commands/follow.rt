@@ -1,5 +1,5 @@
 // `follow FILE [--deadline N] [--cap CAP]`
-ghost use Rattle.std.specs.Prelude.{ℕ, List, ◌≡◌, ◌≤◌, ◌<◌, ◌^◌, ◌++◌, [], true, length, slice_get, vec_capacity, Some, IfOk, OnOk, codes};
+ghost use Rattle.std.specs.Prelude.{ℕ, List, ◌≡◌, ◌<◌, ◌^◌, ◌++◌, [], true, length, slice_get, Some, IfOk, OnOk, codes};
 ghost use Rattle.std.specs.List.{All};
 ghost use Rattle.cstn_net.specs.Networks.{count};
 ghost use Rattle.cstn_lift.specs.Read.{the_labelled};
@@ -17,15 +17,12 @@ use cstn_check::Verdict;
 use cstn_follow::{Following, Heard};
 use cstn_lift::Labelled;
 use cstn_lines::read_follow;
-use cstn_reply::{Answer, Outcome, Talk};
+use cstn_reply::{Answer, AnswerText, Outcome, Talk};
 use cstn_save::write;
 use cstn_text::Names;
 use cstn_words::Cap;
 use std::alloc::{AllocError, Global};
 use std::marker::Model;
-
-// How many bytes the opening, or what is said where the lines end, has at most.
-const ROOM: usize = 64;
 
 /// A session that follows what happens, over the lines of the live source.
 #[derive(Drop)]
@@ -54,45 +51,38 @@ impl Talk for Follower {
 
     ghost ending = { following_ending };
 
-    ghost room = { λ _. 64 };
-
     ghost ends = { true };
 
     ghost may_stop = { λ _. true };
-
-    fn room(&self) -> usize {
-        ROOM
-    }
 
     fn ends(&self) -> bool {
         true
     }
 
-    fn answer(&mut self, line: &[u8], text: &mut Vec<u8>) -> Result<Answer, AllocError> {
+    fn answer(&mut self, line: &[u8], text: &mut AnswerText) -> Result<Answer, AllocError> {
         let said = read_follow(self.alloc, line)?;
         let heard = self.following.hear(said)?;
         put_heard(self.alloc, heard, text)?;
         Ok(Answer::More)
     }
 
-    fn ending(&self, text: &mut Vec<u8>) -> Outcome {
+    fn ending(&self, text: &mut AnswerText) -> Outcome {
         self.following.ending(text)
     }
 }
 
 // Puts what is said to a line: a text, or the canonical document of what is left.
-fn put_heard(alloc: Global, heard: Heard, text: &mut Vec<u8>) -> Result<(), AllocError>
-    requires empty { text.old.items ≡ [] }
+fn put_heard(alloc: Global, heard: Heard, text: &mut AnswerText) -> Result<(), AllocError>
+    requires empty { text.old ≡ [] }
     requires said { (names : List (List ℕ)) × (slice_get names 0 ≡ Some (codes "Z")) × IsSaidFor names heard }
-    ensures text { OnOk result (text.new.items ≡ heard_text heard) }
-    ensures lines { OnOk result (EndsLine text.new.items) }
-    ensures capacity { vec_capacity text.old ≤ vec_capacity text.new }
+    ensures text { OnOk result (text.new ≡ heard_text heard) }
+    ensures lines { OnOk result (EndsLine text.new) }
 {
     match heard {
-        Heard::Text(bytes) => text.extend_from_slice(&bytes),
+        Heard::Text(bytes) => text.extend(&bytes),
         Heard::Rest { network, names } => {
             let document = write(alloc, &network, &names)?;
-            text.extend_from_slice(&document)?;
+            text.extend(&document)?;
             Ok(())
         }
     }

@@ -8,17 +8,16 @@ put_name-requires c =
     let inside = c.requires.inside c.loop-x.x-index (record { 0 = 0 }) c.loop-x-test.true in
     let shown = name_at c.args.names.now c.args.named.now c.loop-x.x-index c.index.result c.index-names-index.result c.as_str.result.now c.index.ensures.index c.index-names-index.is inside c.as_str.ensures.value in
     let short = shown_short c.args.names.now _ c.as_str.result.now c.requires.short inside shown in
-    record { room = omega (arith, short, c.loop-x-test.true, c.loop-x.invariant.short, c.loop-x.invariant.capacity, c.requires.room) }
+    record { room = omega (arith, short, c.loop-x-test.true, c.loop-x.invariant.short, c.requires.room) }
 
 pub loop-x-preserved : goal.loop-x-preserved
 loop-x-preserved c =
     let inside = c.requires.inside c.loop-x.x-index (record { 0 = 0 }) c.loop-x-test.true in
     let shown = name_at c.args.names.now c.args.named.now c.loop-x.x-index c.index.result c.index-names-index.result c.as_str.result.now c.index.ensures.index c.index-names-index.is inside c.as_str.ensures.value in
     let short = shown_short c.args.names.now _ c.as_str.result.now c.requires.short inside shown in
-    let items = c.put_name.ensures.items in
+    let items = c.put_name.ensures in
     let size = ap length items in
     record {
-      items = next_name (map string_bytes c.args.names.now) c.args.named.now c.loop-x.x-index c.args.text.now.items c.loop-x.text.items c.put_name.new.text.items c.as_str.result.now c.loop-x.invariant.items items c.loop-x-test.true shown;
-      short = omega (arith, short, size, length-append {A = ℕ} c.loop-x.text.items (32 ∷ c.as_str.result.now), c.loop-x.invariant.short);
-      capacity = omega (arith, c.loop-x.invariant.capacity, c.put_name.ensures.capacity);
+      items = next_name (map string_bytes c.args.names.now) c.args.named.now c.loop-x.x-index c.args.text.now c.loop-x.text c.put_name.new.text c.as_str.result.now c.loop-x.invariant.items items c.loop-x-test.true shown;
+      short = omega (arith, short, size, length-append {A = ℕ} c.loop-x.text (32 ∷ c.as_str.result.now), c.loop-x.invariant.short);
     }

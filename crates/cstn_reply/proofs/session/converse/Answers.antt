@@ -13,10 +13,10 @@ returns-in_default-clause-ends g c =
     let seen : LiveState = record { left = g.S.Source.left c.args.live.now; faults = g.S.Source.faults c.args.live.now } in
     no_memory (session_says g.T.Talk.ends g.T.Talk.turn g.T.Talk.ending c.args.opening.now (g.T.Talk.state c.args.talk)) (session_heard g.T.Talk.turn c.args.opening.now (g.T.Talk.state c.args.talk)) seen seen _ _ _ c.finish.ensures.written
 
-pub returns-in_default-with_capacity-clause-ends : goal.returns-in_default-with_capacity-clause-ends
-returns-in_default-with_capacity-clause-ends g c =
+pub returns-in_default-new-clause-ends : goal.returns-in_default-new-clause-ends
+returns-in_default-new-clause-ends g c =
     let seen : LiveState = record { left = g.S.Source.left c.args.live.now; faults = g.S.Source.faults c.args.live.now } in
-    no_memory (session_says g.T.Talk.ends g.T.Talk.turn g.T.Talk.ending c.args.opening.now (g.T.Talk.state c.args.talk)) (session_heard g.T.Talk.turn c.args.opening.now (g.T.Talk.state c.args.talk)) seen seen _ _ _ c.finish-in_default-with_capacity.ensures.written
+    no_memory (session_says g.T.Talk.ends g.T.Talk.turn g.T.Talk.ending c.args.opening.now (g.T.Talk.state c.args.talk)) (session_heard g.T.Talk.turn c.args.opening.now (g.T.Talk.state c.args.talk)) seen seen _ _ _ c.finish-in_default-new.ensures.written
 
 pub returns-in_default-send-clause-ends : goal.returns-in_default-send-clause-ends
 returns-in_default-send-clause-ends g c =
@@ -29,10 +29,8 @@ session-preserved g c =
     let now = c.in-None.ensures.goes_on (g.T.Talk.state c.args.talk) (g.S.Source.left c.args.live.now) was.0 was.1 was.2 in
     let wrote = c.in-Ok-send-2.ensures.whole in
     record {
-      progress = (was.0 ++ now.0, was.1 ++ c.next.new.text.items, now.1, regroup _ _ _ c.args.opening.now was.1 _ _ was.3 wrote c.deref.ensures.value);
+      progress = (was.0 ++ now.0, was.1 ++ c.next.new.text, now.1, regroup _ _ _ c.args.opening.now was.1 _ _ was.3 wrote c.as_bytes.ensures);
       at_end = c.in-None.ensures.at_end;
-      room = omega (arith, c.in-None.ensures.capacity, c.in-None.ensures.room, c.session.invariant.room);
-      script = omega (arith, c.in-None.ensures.capacity, c.session.invariant.script);
       count = omega (arith, c.in-None.ensures.count.1);
       live = omega (arith, c.in-None.ensures.later, c.session.invariant.live);
       out = omega (arith, c.in-Ok-send-2.ensures.later, c.session.invariant.out);
@@ -43,8 +41,8 @@ returns-in_default-send-2-clause-ends g c =
     let was = c.session.invariant.progress in
     let now = c.in-None.ensures.goes_on (g.T.Talk.state c.args.talk) (g.S.Source.left c.args.live.now) was.0 was.1 was.2 in
     let failed = c.in_default-send-2.ensures.prefix in
-    cut_short g.T.Talk.ends g.T.Talk.turn g.T.Talk.ending c.args.opening.now (g.T.Talk.state c.args.talk) _ _ _ _ _ (was.0 ++ now.0) (was.1 ++ c.next.new.text.items) _ _ _ now.1 c.in-None.ensures.at_end
-    (regroup_cut _ _ _ c.args.opening.now was.1 _ _ failed.0 was.3 failed.1 c.deref.ensures.value)
+    cut_short g.T.Talk.ends g.T.Talk.turn g.T.Talk.ending c.args.opening.now (g.T.Talk.state c.args.talk) _ _ _ _ _ (was.0 ++ now.0) (was.1 ++ c.next.new.text) _ _ _ now.1 c.in-None.ensures.at_end
+    (regroup_cut _ _ _ c.args.opening.now was.1 _ _ failed.0 was.3 failed.1 c.as_bytes.ensures)
 
 pub returns-in-Some-clause-ends : goal.returns-in-Some-clause-ends
 returns-in-Some-clause-ends g c =
@@ -52,7 +50,7 @@ returns-in-Some-clause-ends g c =
     let after : LiveState = record { left = g.S.Source.left c.next.new.live; faults = g.S.Source.faults c.next.new.live } in
     finishes _ _ _ after _ _ _ (c.args.opening.now ++ was.1) _ _ _
     (c.in-Some.ensures.ends (g.T.Talk.state c.args.talk) _ was.0 was.1 c.args.opening.now was.2 c.session.invariant.live c.requires)
-    was.3 (shown _ _ _ _ _ _ c.finish-in-Some.ensures.written c.deref-in-Some.ensures.value)
+    was.3 (shown _ _ _ _ _ _ c.finish-in-Some.ensures.written c.as_bytes-in-Some.ensures)
 
 pub returns-in-Some-clause-memory : goal.returns-in-Some-clause-memory
 returns-in-Some-clause-memory g c is =
@@ -65,8 +63,6 @@ session-init g c =
     record {
       progress = ([], [], starts g.T.Talk.ends g.T.Talk.turn (g.T.Talk.state c.args.talk) _ _ (ap (λ (s : LinesState). s.kept) lines_are) (ap (λ (s : LinesState). s.count) lines_are), c.in-Ok-send.ensures.whole ∙ ap (with_bytes _) (sym (nothing_more c.args.opening.now)));
       at_end = λ e. absurd (not_both _ (ap (λ (s : LinesState). s.ended) lines_are) e);
-      room = search rules;
-      script = search rules;
       count = search rules;
       live = search rules;
       out = search rules;

@@ -1,4 +1,4 @@
-use Rattle.std.proofs.Common.{◌≡◌, ◌≤◌, ◌-◌, ◌++◌, List, ℕ, true, vec_capacity}
+use Rattle.std.proofs.Common.{◌≡◌, ◌≤◌, ◌-◌, ◌++◌, List, ℕ, true}
 use Rattle.cstn_io.specs.Contents.{with_bytes, IsAtEnd}
 use Rattle.cstn_reply.specs.Reached.{Progress}
 use Rattle.cstn_reply.proofs.session.converse.Given as goal
@@ -7,8 +7,6 @@ abbrev pub invariant-session : goal.invariant-session
 invariant-session g l = record {
   progress : (taken said : List ℕ) × Progress g.T.Talk.ends g.T.Talk.turn (g.T.Talk.state l.fn.talk) (g.S.Source.left l.fn.live) (g.S.Source.left l.live) l.lines (g.T.Talk.state l.talk) taken said × (g.K.Sink.written l.out ≡ with_bytes (g.K.Sink.written l.fn.out) (l.opening ++ said));
   at_end : l.lines.ended ≡ true → IsAtEnd (g.S.Source.left l.live);
-  room : g.T.Talk.room l.talk ≤ vec_capacity l.text;
-  script : 40 ≤ vec_capacity l.text;
   count : l.lines.count ≤ 16777216;
   live : g.S.Source.faults l.fn.live ≤ g.S.Source.faults l.live;
   out : g.K.Sink.faults l.fn.out ≤ g.K.Sink.faults l.out;

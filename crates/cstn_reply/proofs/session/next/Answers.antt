@@ -30,7 +30,7 @@ returns-in-Ok-Wrong-clause-ends g c start before taken said opening so_far earli
     let turn = turned g.T.Talk.turn (g.T.Talk.state c.args.talk.now) (g.T.Talk.state c.answer.new.self) _ (heard_line g.T.Talk.ends c.step.new.self) _ _ _ c.in-Ok-Wrong.ensures.turn c.heard_line.ensures c.in-Ok-Wrong.field-0-is in
     wrong_line g.T.Talk.ends g.T.Talk.turn g.T.Talk.ending opening start before _ _ _ _ _ _ taken said bytes _ c.in-Line.number _
     (record { so_far = so_far; reads = step.steps.1; idle = step.steps.2; stays = step.stays; at_end = step.ended c.requires.at_end })
-    step.steps.3 turn c.put_script.ensures.items refl
+    step.steps.3 turn c.put_script.ensures refl
 
 pub returns-in-Err-clause-ends : goal.returns-in-Err-clause-ends
 returns-in-Err-clause-ends g c start before taken said opening so_far earlier opens =
@@ -38,7 +38,7 @@ returns-in-Err-clause-ends g c start before taken said opening so_far earlier op
     let bytes = step.steps.0 in
     memory_line g.T.Talk.ends g.T.Talk.turn g.T.Talk.ending opening start before _ _ _ _ c.step.new.self _ taken said bytes _ _
     (record { so_far = so_far; reads = step.steps.1; idle = step.steps.2; stays = step.stays; at_end = step.ended c.requires.at_end })
-    opens c.put.ensures.items refl
+    opens c.put.ensures refl
 
 pub returns-in-End-clause-ends : goal.returns-in-End-clause-ends
 returns-in-End-clause-ends g c start before taken said opening so_far earlier opens =
@@ -54,7 +54,7 @@ returns-in-Wrong-clause-ends g c start before taken said opening so_far earlier 
     let bytes = step.steps.0 in
     past_line g.T.Talk.ends g.T.Talk.turn g.T.Talk.ending opening start before _ _ _ _ _ _ taken said bytes _ c.in-Wrong.number _
     (record { so_far = so_far; reads = step.steps.1; idle = step.steps.2; stays = step.stays; at_end = step.ended c.requires.at_end })
-    step.steps.3 c.put_script-in-Wrong.ensures.items refl
+    step.steps.3 c.put_script-in-Wrong.ensures refl
 
 pub returns-in-Fault-clause-ends : goal.returns-in-Fault-clause-ends
 returns-in-Fault-clause-ends g c start before taken said opening so_far earlier opens =
@@ -62,7 +62,7 @@ returns-in-Fault-clause-ends g c start before taken said opening so_far earlier 
     let bytes = step.steps.0 in
     fault_line g.T.Talk.ends g.T.Talk.turn g.T.Talk.ending opening start before _ _ _ _ _ _ _ taken said bytes _ _
     (record { so_far = so_far; reads = step.steps.1; idle = step.steps.2; stays = step.stays; at_end = step.ended c.requires.at_end })
-    step.steps.3 earlier (step.fault refl) c.put-in-Fault.ensures.items refl
+    step.steps.3 earlier (step.fault refl) c.put-in-Fault.ensures refl
 
 pub returns-in-Err-clause-memory : goal.returns-in-Err-clause-memory
 returns-in-Err-clause-memory g c is start told taken said so_far =

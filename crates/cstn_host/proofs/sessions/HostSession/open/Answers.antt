@@ -1,4 +1,4 @@
-use Rattle.std.proofs.Common.{ℕ, Vec, Global, ap, ◌∙◌}
+use Rattle.std.proofs.Common.{◌∙◌}
 use Rattle.std.specs.Prelude.{◌++◌, codes, decimal}
 use Rattle.cstn_lines.specs.HostLines.{opened}
 use Rattle.cstn_host.specs.SessionRead.{the_names}
@@ -14,11 +14,11 @@ returns-clause-said c =
     elim c.match-open.branch [
       | in-Ok w ↦
           on_any c.match-open.result _
-          (agreed_said c.args.self.now host names c.self.view_is c.self.invariant.as_many (opened c.args.id c.args.file) c.match-open.text.items w.in-Ok.ensures.answer
-          (ap (λ (t : Vec ℕ Global). t.items) w.text-is ∙ only_line _ _ (codes "opened " ++ decimal c.args.id) c.requires.empty w.put_number.ensures.items))
+          (agreed_said c.args.self.now host names c.self.view_is c.self.invariant.as_many (opened c.args.id c.args.file) c.match-open.text w.in-Ok.ensures.answer
+          (w.text-is ∙ only_line _ _ (codes "opened " ++ decimal c.args.id) c.requires.empty w.put_number.ensures))
       | in-Err w ↦
-          on_same c.match-open.result w.put_error.result _ c.match-open.text.items w.put_error.new.text.items w.result-is (ap (λ (t : Vec ℕ Global). t.items) w.text-is)
-          (open_said c.args.self.now host names c.self.view_is c.self.invariant.as_many w.put_error.result c.args.id c.args.file w.in-Err.error w.put_error.new.text.items w.in-Err.ensures.answer w.put_error.ensures.items w.put_error.ensures.wanted)
+          on_same c.match-open.result w.put_error.result _ c.match-open.text w.put_error.new.text w.result-is w.text-is
+          (open_said c.args.self.now host names c.self.view_is c.self.invariant.as_many w.put_error.result c.args.id c.args.file w.in-Err.error w.put_error.new.text w.in-Err.ensures.answer w.put_error.ensures.items w.put_error.ensures.wanted)
     ]
 
 pub returns-clause-after : goal.returns-clause-after

@@ -1,4 +1,4 @@
-use Rattle.std.proofs.Common.{ℕ, Vec, Global, ap, ◌∙◌}
+use Rattle.std.proofs.Common.{◌∙◌}
 use Rattle.cstn_lines.specs.LiveLines.{seen}
 use Rattle.cstn_lines.specs.HostLines.{put_on}
 use Rattle.cstn_host.specs.SessionRead.{the_names}
@@ -14,11 +14,11 @@ returns-clause-said c =
     elim c.match-see.branch [
       | in-Ok w ↦
           on_any c.match-see.result _
-          (seen_said c.args.self.now host names c.self.view_is c.self.invariant.as_many c.args.id c.args.prop.index c.args.value c.match-see.text.items w.in-Ok.ensures.answer
-          (ap (λ (t : Vec ℕ Global). t.items) w.text-is ∙ first_line _ _ _ c.args.id _ c.requires.empty w.put_id.ensures.items w.put_outcome.ensures.items))
+          (seen_said c.args.self.now host names c.self.view_is c.self.invariant.as_many c.args.id c.args.prop.index c.args.value c.match-see.text w.in-Ok.ensures.answer
+          (w.text-is ∙ first_line _ _ _ c.args.id _ c.requires.empty w.put_id.ensures.items w.put_outcome.ensures))
       | in-Err w ↦
-          on_same c.match-see.result w.put_error.result _ c.match-see.text.items w.put_error.new.text.items w.result-is (ap (λ (t : Vec ℕ Global). t.items) w.text-is)
-          (refused_said c.args.self.now host names c.self.view_is c.self.invariant.as_many w.put_error.result (put_on c.args.id (seen c.args.prop.index c.args.value)) w.in-Err.error w.put_error.new.text.items w.in-Err.ensures.answer w.put_error.ensures.items)
+          on_same c.match-see.result w.put_error.result _ c.match-see.text w.put_error.new.text w.result-is w.text-is
+          (refused_said c.args.self.now host names c.self.view_is c.self.invariant.as_many w.put_error.result (put_on c.args.id (seen c.args.prop.index c.args.value)) w.in-Err.error w.put_error.new.text w.in-Err.ensures.answer w.put_error.ensures.items)
     ]
 
 pub returns-clause-after : goal.returns-clause-after

@@ -5,6 +5,6 @@ use Rattle.cstn_run.proofs.sessions.RunSession.see.Goals as goal
 
 pub returns-clause-lines : goal.returns-clause-lines
 returns-clause-lines c =
-    let old = c.args.text.now.items in
+    let old = c.args.text.now in
     let front = codes "seen " ++ letter_of c.args.prop.index ∷ 32 ∷ printed_truth c.args.value in
-    inr (old ++ front, c.put_outcome.ensures.items ∙ sym (append_assoc old front (10 ∷ [])))
+    inr (old ++ front, c.put_outcome.ensures ∙ sym (append_assoc old front (10 ∷ [])))
