@@ -9,8 +9,10 @@ mod givers;
 mod growth;
 mod laws;
 mod plans;
+mod puts;
 mod turns;
 mod verdicts;
+mod waits;
 mod walks;
 
 pub use checks::Check;
