@@ -28,6 +28,7 @@ pub mod PartLemmas
 pub mod SpentLemmas
 pub mod CostLemmas
 pub mod TryLemmas
+pub mod FloorLemmas
 pub mod DeadlineLemmas
 pub mod Idle
 pub mod Deciding

@@ -68,7 +68,7 @@ own_off o a p e = rw e (grind arith)
 own_finished : (net : Network) (b : Bound) (p : ℕ) → slice_index_or net.observes b.node None ≡ Some p → (finished net b).label p ≡ Absent
 own_finished net b p e = own_off (slice_index_or net.observes b.node None) b.label p e
 
-own_follows : (net : Network) (steps : List Entry) (k : ℕ) (why : Why) (r : Bound) (p : ℕ) → Follows net steps k why r →
+pub own_follows : (net : Network) (steps : List Entry) (k : ℕ) (why : Why) (r : Bound) (p : ℕ) → Follows net steps k why r →
     slice_index_or net.observes r.node None ≡ Some p → r.label p ≡ Absent
 own_follows net steps k Base r p follows e = ap (λ (b : Bound). b.label p) follows.gives
 own_follows net steps k (Chain id i) r p (c, b, has, is, at, chain) e =

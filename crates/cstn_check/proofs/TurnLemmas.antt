@@ -100,7 +100,7 @@ bound_of net s k e ready there =
     let ranged = ready.kept.ranged k (the_entry e) at in
     record { node = good.node; low = ranged.low; high = ranged.high }
 
-step_on : (net : Network) (L : List TheEntry) (i : Instance) → is_refuted net L ≡ false →
+pub step_on : (net : Network) (L : List TheEntry) (i : Instance) → is_refuted net L ≡ false →
     step net L i ≡ with_conclusion L i (conclusion net L i)
 unfolding step
 step_on net L i on = cond-false _ _ _ on

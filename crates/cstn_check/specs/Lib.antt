@@ -8,6 +8,7 @@ pub mod Examples
 pub mod Kept
 pub mod Turns
 pub mod Waits
+pub mod Floors
 pub mod Checks
 pub mod Deadlines
 pub mod Verdicts

@@ -9,9 +9,11 @@ mod givers;
 mod growth;
 mod laws;
 mod plans;
+mod puts;
 mod room;
 mod turns;
 mod verdicts;
+mod waits;
 mod walks;
 
 pub use checks::Check;

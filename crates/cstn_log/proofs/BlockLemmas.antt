@@ -1,6 +1,6 @@
 -- Sets of numbers below 4,096 and the words that have them.
-use Rattle.std.proofs.Common.{ℕ, zero, ◌≡◌, ◌⊎◌, inl, inr, ◌/◌, ◌%◌, ◌<◌, Bool, true, false, List, length, get_or, set, replicate, arith, refl, sym, subst, ap, ◌∙◌, length-set}
-use Rattle.std.proofs.lemmas.Bool.{cases_lt, cases_Bool, false≢true}
+use Rattle.std.proofs.Common.{ℕ, zero, ◌≡◌, ◌⊎◌, inl, inr, ◌/◌, ◌%◌, ◌<◌, true, false, List, get_or, set, replicate, arith, sym, subst, ap, ◌∙◌, length-set}
+use Rattle.std.proofs.lemmas.Bool.{cases_lt, false≢true}
 use Rattle.std.proofs.lemmas.List.{get_or-replicate, get_or_past, length-replicate, get_or-set_same, get_or-set_other}
 use Rattle.cstn_label.specs.Words.{has_bit}
 use Rattle.cstn_log.specs.Blocks.{has_number, AreSummed}

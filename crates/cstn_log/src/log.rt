@@ -27,13 +27,16 @@ use cstn_rules::{Entry, Why, derivations_are_sound};
 use std::alloc::{AllocError, Global};
 use std::marker::Model;
 
+// How many places may be remembered.
+const HINTS: usize = 16384;
+
 /// Entries in the order in which they were pushed. None is dominated by an earlier one.
 ///
 /// An entry is live while no later one dominates it. A pool has the bound of each entry, and a minimal set those of the live
 /// ones, each under the id that [`Log::slot`] answers. An entry keeps its id while entries before it are taken out, and only
 /// its place changes: premises are kept by slot, and a table tells the place of each. All memory of the log is taken by
-/// [`Log::start`]: 129.5 bytes for each entry that there may be, so 543 MB for the largest cap of 4,194,304, and 816 bytes for
-/// each time-point. Of these, 4 bytes an entry are links of the chain of its time-point, and 6.5 are for the sets of places whose
+/// [`Log::start`]: 129.5 bytes for each entry that there may be, so 543 MB for the largest cap of 4,194,304, 816 bytes for each
+/// time-point, and 64 KB. Of these, 4 bytes an entry are links of the chain of its time-point, and 6.5 are for the sets of places whose
 /// labels mark a proposition, written only up to the last entry whose label marks something. One more byte an entry is used by
 /// [`Log::retract`] alone.
 #[derive(Drop)]
@@ -45,6 +48,8 @@ pub struct Log {
     standing: NodeChains,
     // Which entries stay when some are taken out.
     marks: Vec<bool>,
+    // Places that were remembered. No answer of another call depends on them.
+    hints: Vec<u32>,
 }
 
 impl Model for Log {
@@ -95,12 +100,14 @@ impl Log {
         let marking = MarkSets::empty(alloc, cap)?;
         let standing = NodeChains::empty(alloc, nodes, cap)?;
         let marks = Vec::with_capacity(alloc, cap as usize)?;
+        let hints = vec![in alloc; 0; HINTS]?;
         Ok(Log {
             minimal,
             list,
             marking,
             standing,
             marks,
+            hints,
         })
     }
 
@@ -179,6 +186,21 @@ impl Log {
         ensures live { IsTrue result ↔ IsLive self.now.entries k }
     {
         self.minimal.holds(self.list.id(k as usize))
+    }
+
+    /// The place that was remembered last for a place and a time-point, or any other number. It may be of an entry that was taken
+    /// out since.
+    pub fn hint(&self, k: u32, x: NodeId) -> u32 {
+        self.hints.get(hint_cell(k, x)).copied().unwrap_or(0)
+    }
+
+    /// Remembers a place for a place and a time-point.
+    pub fn remember(&mut self, k: u32, x: NodeId, place: u32)
+        ensures stays { self.new ≡ self.old }
+    {
+        if let Some(hint) = self.hints.get_mut(hint_cell(k, x)) {
+            *hint = place;
+        }
     }
 
     /// How many entries there are.
@@ -479,6 +501,11 @@ impl Log {
     {
         &self.minimal
     }
+}
+
+// The cell of what is remembered for a place and a time-point.
+fn hint_cell(k: u32, x: NodeId) -> usize {
+    (k as usize * 1021 + x.0 as usize) % HINTS
 }
 
 // The base bound of a time-point.

@@ -2,14 +2,16 @@ use Rattle.std.proofs.Common.{suc, ◌+◌, [], ◌∷◌, false, arith, refl, s
 use Rattle.cstn_net.specs.Read.{the_network}
 use Rattle.cstn_check.specs.Growth.{waits_below}
 use Rattle.cstn_check.specs.Growth.Instance.{wait_at}
-use Rattle.cstn_check.proofs.TurnLemmas.{idle}
+use Rattle.cstn_check.proofs.TurnLemmas.{idle, has_bound, bound_on}
 use Rattle.cstn_check.proofs.Sequences.{taken_as, go_on, go_true, go_cut, waits_next, waits_whole}
 use Rattle.cstn_check.proofs.Skips.{waits_to}
 use Rattle.cstn_log.specs.Entries.{the_entries}
 use Rattle.cstn_check.specs.Tries.{concludes_with}
-use Rattle.cstn_check.proofs.TryLemmas.{total_upto, pairs_step, taken_on}
+use Rattle.cstn_check.proofs.TryLemmas.{total_upto, pairs_step, taken_on, size_is}
+use Rattle.cstn_label.specs.Read.{the_bound}
+use Rattle.cstn_check.proofs.FloorLemmas.{floors_at_ground}
 use Rattle.cstn_check.proofs.WalkLemmas.{ahead_on}
-use Rattle.cstn_check.proofs.turns.try_waits.Goals as goal
+use Rattle.cstn_check.proofs.waits.try_waits.Goals as goal
 
 pub loop-i-init : goal.loop-i-init
 loop-i-init c = record {
@@ -21,7 +23,9 @@ loop-i-init c = record {
   tries = omega arith;
   most = omega arith;
   concluding = omega arith;
-  near = refl;
+  bound = rw c.next_waiting-i.ensures.stays (has_bound c.args.log.now.entries c.args.j c.bound.result c.bound.ensures.bound);
+  floors = rw c.next_waiting-i.ensures.stays (floors_at_ground (the_network c.args.net.now) c.args.log.now (the_bound c.bound.result) c.requires.ready
+      (omega (arith, c.bound.ensures.node, c.requires.ready.nodes)));
   ahead = λ upto. rw c.next_waiting-i.ensures.stays (c.next_waiting-i.ensures.ahead upto);
 }
 
@@ -65,7 +69,10 @@ loop-i-preserved c =
       upto = next.ensures.upto.1;
       tries = omega (arith, c.loop-i.invariant.tries, c.in-Ok-false.ensures.tries);
       most = omega (arith, c.loop-i.invariant.most, c.in-Ok-false.ensures.most, next.ensures.upto.0);
-      near = c.in-Ok-false.ensures.size;
+      bound = rw next.ensures.stays (bound_on c.loop-i.log.entries c.try_both.new.log.entries c.args.j (the_bound c.bound.result)
+          (taken_on (the_network c.args.net.now) c.loop-i.log c.try_both.new.log (wait_at c.loop-i.i c.args.j ∷ (wait_at c.args.j c.loop-i.i ∷ [])) _ c.in-Ok-false.ensures.taken)
+          (omega (arith, size_is c.loop-i.log, c.requires.place, c.loop-i.invariant.taken.longer.longer)) c.loop-i.invariant.bound);
+      floors = rw next.ensures.stays (c.in-Ok-false.ensures.floors c.in-Ok-false.field-0-test);
       ahead = λ upto. rw next.ensures.stays (next.ensures.ahead upto);
       concluding = pairs_step (the_network c.args.net.now) c.args.log.now c.loop-i.log c.args.j c.loop-i.i next.result (waits_below c.loop-i.i c.args.j) c.args.tries.now.count c.loop-i.tries.count c.try_both.new.tries.count c.loop-i.invariant.taken c.requires.place
           (omega (arith, c.requires.place, c.loop-i-test.true)) c.loop-i.invariant.concluding c.in-Ok-false.ensures.concluding next.ensures.upto.0;

@@ -2,7 +2,7 @@ use Rattle.std.proofs.Common.{refl, sym, subst}
 use Rattle.std.proofs.lemmas.Bool.{false≢true}
 use Rattle.cstn_label.specs.Bounds.{Dominates}
 use Rattle.cstn_label.specs.Read.{the_bound}
-use Rattle.cstn_check.proofs.turns.covers.Goals as goal
+use Rattle.cstn_check.proofs.puts.covers.Goals as goal
 
 pub returns-then-is_over : goal.returns-then-is_over
 returns-then-is_over c = record { covered = (λ sure. c.is_over.ensures.covered c.if-is_over.true, λ some. refl) }

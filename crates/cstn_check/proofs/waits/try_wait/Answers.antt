@@ -9,7 +9,8 @@ use Rattle.cstn_check.specs.Tries.{how_many, concludes}
 use Rattle.cstn_check.specs.Turns.{IsTaken, IsCut}
 use Rattle.cstn_check.proofs.TurnLemmas.{bound_had, idle_dead, idle_none, put_is_step, live_wait, dead_seen, dead_other, wait_follows_from, wait_concludes_from, wait_ends_from}
 use Rattle.cstn_check.proofs.Sequences.{ready_then}
-use Rattle.cstn_check.proofs.turns.try_wait.Goals as goal
+use Rattle.cstn_check.proofs.FloorLemmas.{idle_covered, floor_rose, own_absent}
+use Rattle.cstn_check.proofs.waits.try_wait.Goals as goal
 
 pub returns-then-not-live-clause-taken : goal.returns-then-not-live-clause-taken
 returns-then-not-live-clause-taken c =
@@ -56,33 +57,33 @@ put-done-requires-clause-follows c =
 pub returns-clause-taken : goal.returns-clause-taken
 returns-clause-taken c =
     let w = c.in-Some.ensures.wait in
-    subst (λ l. IfOk c.put-done.result (λ r. IsTaken (the_network c.args.net.now) c.args.log.now c.put-done.new.log l r))
+    rw c.remember.ensures.stays (subst (λ l. IfOk c.put-done.result (λ r. IsTaken (the_network c.args.net.now) c.args.log.now c.put-done.new.log l r))
     (put_is_step (the_network c.args.net.now) c.args.log.now (wait_at c.args.seen.place c.args.premise.place)
     (the_bound c.in-Some.bound) c.requires.ready
     (live_wait _ _ c.network_is_well_formed.ensures c.requires.ready c.args.seen.place c.args.premise.place c.requires.seen c.requires.place
     (c.live.ensures.live.0 c.if-not-live.false) (c.live-2.ensures.live.0 c.if-not-live-2.false))
     (wait_concludes_from _ _ c.network_is_well_formed.ensures c.requires.ready c.args.seen.place c.args.premise.place (the_bound c.args.seen.bound) (the_bound c.args.premise.bound) w.0
     (the_bound c.in-Some.bound) c.requires.seen_bound c.requires.bound w.1))
-    c.put-done.ensures.taken
+    c.put-done.ensures.taken)
 
 pub returns-clause-cut : goal.returns-clause-cut
 returns-clause-cut c =
     let w = c.in-Some.ensures.wait in
-    subst (λ l. IsErr c.put-done.result → IsCut c.args.log.now c.put-done.new.log l)
+    rw c.remember.ensures.stays (subst (λ l. IsErr c.put-done.result → IsCut c.args.log.now c.put-done.new.log l)
     (put_is_step (the_network c.args.net.now) c.args.log.now (wait_at c.args.seen.place c.args.premise.place)
     (the_bound c.in-Some.bound) c.requires.ready
     (live_wait _ _ c.network_is_well_formed.ensures c.requires.ready c.args.seen.place c.args.premise.place c.requires.seen c.requires.place
     (c.live.ensures.live.0 c.if-not-live.false) (c.live-2.ensures.live.0 c.if-not-live-2.false))
     (wait_concludes_from _ _ c.network_is_well_formed.ensures c.requires.ready c.args.seen.place c.args.premise.place (the_bound c.args.seen.bound) (the_bound c.args.premise.bound) w.0
     (the_bound c.in-Some.bound) c.requires.seen_bound c.requires.bound w.1))
-    c.put-done.ensures.cut
+    c.put-done.ensures.cut)
 
 pub returns-clause-tries : goal.returns-clause-tries
 returns-clause-tries c = omega (arith, c.wait.ensures.counted, c.is_in_range.ensures)
 
 pub returns-clause-ready : goal.returns-clause-ready
 returns-clause-ready c =
-    ready_then (the_network c.args.net.now) c.args.log.now c.put-done.new.log (wait_at c.args.seen.place c.args.premise.place ∷ [])
+    ready_then (the_network c.args.net.now) c.args.log.now c.remember.new.self (wait_at c.args.seen.place c.args.premise.place ∷ [])
     c.put-done.result c.network_is_well_formed.ensures (tt, tt) c.requires.ready (returns-clause-taken c)
 
 pub returns-in_default-clause-most : goal.returns-in_default-clause-most
@@ -98,6 +99,47 @@ returns-in_default-clause-concluding c =
 
 pub returns-clause-concluding : goal.returns-clause-concluding
 returns-clause-concluding c =
+    let w = c.in-Some.ensures.wait in
+    let one : concludes (the_network c.args.net.now) (the_entries c.args.log.now.entries) c.args.seen.place c.args.premise.place ≡ 1 =
+    ap how_many (wait_concludes_from _ _ c.network_is_well_formed.ensures c.requires.ready c.args.seen.place c.args.premise.place (the_bound c.args.seen.bound) (the_bound c.args.premise.bound) w.0
+    (the_bound c.in-Some.bound) c.requires.seen_bound c.requires.bound w.1) in
+    omega (arith, one, c.wait.ensures.counted)
+
+pub returns-then-is_upto-clause-taken : goal.returns-then-is_upto-clause-taken
+returns-then-is_upto-clause-taken c =
+    let w = c.in-Some.ensures.wait in
+    idle_covered (the_network c.args.net.now) c.args.log.now (wait_at c.args.seen.place c.args.premise.place) (the_bound c.in-Some.bound) c.requires.ready
+    (wait_concludes_from _ _ c.network_is_well_formed.ensures c.requires.ready c.args.seen.place c.args.premise.place (the_bound c.args.seen.bound) (the_bound c.args.premise.bound) w.0
+    (the_bound c.in-Some.bound) c.requires.seen_bound c.requires.bound w.1)
+    ((c.requires.floor w.0 w.1.observes).covered (the_bound c.args.seen.bound) (the_bound c.in-Some.bound) w.1 (c.is_upto.ensures c.if-is_upto.true))
+
+pub raise-requires-clause-clean : goal.raise-requires-clause-clean
+raise-requires-clause-clean c = λ p own.
+    own_absent (the_network c.args.net.now) c.args.log.now c.args.premise.place (the_bound c.args.premise.bound) c.requires.ready c.requires.bound p own
+
+pub returns-clause-floor : goal.returns-clause-floor
+returns-clause-floor c =
+    floor_rose (the_network c.args.net.now) c.args.log.now c.remember.new.self (wait_at c.args.seen.place c.args.premise.place) (the_bound c.args.premise.bound)
+    c.args.seen.bound.node.0 c.args.floor.now c.raise.new.floor c.put-done.result (returns-clause-taken c) c.requires.floor c.raise.ensures.floor
+
+pub returns-then-is_upto-clause-concluding : goal.returns-then-is_upto-clause-concluding
+returns-then-is_upto-clause-concluding c =
+    let w = c.in-Some.ensures.wait in
+    let one : concludes (the_network c.args.net.now) (the_entries c.args.log.now.entries) c.args.seen.place c.args.premise.place ≡ 1 =
+    ap how_many (wait_concludes_from _ _ c.network_is_well_formed.ensures c.requires.ready c.args.seen.place c.args.premise.place (the_bound c.args.seen.bound) (the_bound c.args.premise.bound) w.0
+    (the_bound c.in-Some.bound) c.requires.seen_bound c.requires.bound w.1) in
+    omega (arith, one, c.wait.ensures.counted)
+
+pub returns-then-not-live-clause-concluding : goal.returns-then-not-live-clause-concluding
+returns-then-not-live-clause-concluding c =
+    let w = c.in-Some.ensures.wait in
+    let one : concludes (the_network c.args.net.now) (the_entries c.args.log.now.entries) c.args.seen.place c.args.premise.place ≡ 1 =
+    ap how_many (wait_concludes_from _ _ c.network_is_well_formed.ensures c.requires.ready c.args.seen.place c.args.premise.place (the_bound c.args.seen.bound) (the_bound c.args.premise.bound) w.0
+    (the_bound c.in-Some.bound) c.requires.seen_bound c.requires.bound w.1) in
+    omega (arith, one, c.wait.ensures.counted)
+
+pub returns-then-not-live-2-clause-concluding : goal.returns-then-not-live-2-clause-concluding
+returns-then-not-live-2-clause-concluding c =
     let w = c.in-Some.ensures.wait in
     let one : concludes (the_network c.args.net.now) (the_entries c.args.log.now.entries) c.args.seen.place c.args.premise.place ≡ 1 =
     ap how_many (wait_concludes_from _ _ c.network_is_well_formed.ensures c.requires.ready c.args.seen.place c.args.premise.place (the_bound c.args.seen.bound) (the_bound c.args.premise.bound) w.0

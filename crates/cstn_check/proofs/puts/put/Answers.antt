@@ -1,7 +1,7 @@
 use Rattle.std.proofs.Common.{refl, sym, ◌∙◌}
 use Rattle.std.proofs.lemmas.Bool.{false≢true}
 use Rattle.cstn_check.proofs.TurnLemmas.{put_nothing, put_last, put_cut}
-use Rattle.cstn_check.proofs.turns.put.Goals as goal
+use Rattle.cstn_check.proofs.puts.put.Goals as goal
 
 pub returns-then-covers-clause-taken : goal.returns-then-covers-clause-taken
 returns-then-covers-clause-taken c =

@@ -1,7 +1,7 @@
 use Rattle.std.proofs.Common.{sym, subst}
 use Rattle.cstn_label.specs.Bounds.{Dominates}
 use Rattle.cstn_label.specs.Read.{the_bound}
-use Rattle.cstn_check.proofs.turns.is_over.Goals as goal
+use Rattle.cstn_check.proofs.puts.is_over.Goals as goal
 
 pub returns : goal.returns
 returns c = record {

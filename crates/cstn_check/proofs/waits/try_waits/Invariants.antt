@@ -1,11 +1,13 @@
-use Rattle.std.proofs.Common.{◌≤◌, ◌+◌, ◌*◌, ◌≡◌, ◌-◌, false, length}
+use Rattle.std.proofs.Common.{◌≤◌, ◌+◌, ◌*◌, ◌-◌, false}
 use Rattle.cstn_net.specs.Read.{the_network}
 use Rattle.cstn_log.specs.Entries.{the_entries}
 use Rattle.cstn_check.specs.Growth.{tried, waits_below}
 use Rattle.cstn_check.specs.Tries.{total, concludes_with}
-use Rattle.cstn_check.specs.Waits.{IsAhead}
+use Rattle.cstn_label.specs.Read.{the_bound}
+use Rattle.cstn_check.specs.Floors.{AreFloors}
+use Rattle.cstn_check.specs.Waits.{HasBound, IsAhead}
 use Rattle.cstn_check.specs.Turns.{IsOpen, IsTaken}
-use Rattle.cstn_check.proofs.turns.try_waits.Given as goal
+use Rattle.cstn_check.proofs.waits.try_waits.Given as goal
 
 abbrev pub invariant-loop-i : goal.invariant-loop-i
 invariant-loop-i l = record {
@@ -14,7 +16,8 @@ invariant-loop-i l = record {
   upto : l.i ≤ l.fn.j + 1;
   tries : l.fn.tries.count ≤ l.tries.count;
   most : l.tries.count ≤ l.fn.tries.count + 2 * l.i;
-  near : length l.near ≡ 52;
+  bound : HasBound l.log.entries l.fn.j (the_bound l.own.bound);
+  floors : AreFloors (the_network l.fn.net) (the_entries l.log.entries) (the_bound l.own.bound) l.floors;
   ahead : l.i ≤ l.fn.j → IsAhead (the_network l.fn.net) l.log.entries l.fn.j (l.i + 1) l.walk.block l.walk.start l.walk.end l.walk.sees l.walk.marking;
   concluding : l.tries.count ≤ l.fn.tries.count + total (concludes_with (the_network l.fn.net) (the_entries l.fn.log.entries) l.fn.j) l.i;
 }
