@@ -1,11 +1,10 @@
 -- Whoever does what is named when it is named, and tells what is awaited before time passes it, is never answered no.
 use Rattle.std.proofs.Common.{ℕ, ◌≡◌, ◌<◌, ◌≤◌, Bool, true, false, List, [], ◌∷◌, ◌++◌, length, Option, Some, None, arith, refl, sym, subst, ap, ◌∙◌, inl, inr}
-use Rattle.std.specs.Prelude.{◌⊎◌, Result, Ok, Err, nat_le, if◌then◌else◌, codes, decimal}
+use Rattle.std.specs.Prelude.{◌⊎◌, Result, Ok, Err, if◌then◌else◌, codes}
 use Rattle.std.specs.List.{All}
 use Rattle.std.specs.Option.{option_map}
 use Rattle.std.proofs.lemmas.Bool.{cases_eq}
 use Rattle.std.proofs.lemmas.List.Elements.{All-head, All-tail, All-weaker}
-use Rattle.cstn_label.specs.Letters.{letter_of}
 use Rattle.cstn_label.specs.declared.nodes.NodeId.{NodeId}
 use Rattle.cstn_label.specs.declared.props.Prop.{Prop}
 use Rattle.cstn_net.specs.Networks.{count}
@@ -17,19 +16,18 @@ use Rattle.cstn_lift.specs.WellFormed.{IsLabelled}
 use Rattle.cstn_check.specs.declared.verdicts.Verdict.{Verdict}
 use Rattle.cstn_check.specs.declared.verdicts.Verdict.TheVariants.{Yes, No, Full}
 use Rattle.cstn_history.specs.declared.errors.FactError.{FactError}
-use Rattle.cstn_history.specs.declared.errors.FactError.TheVariants.{Past, OutOfRange, NoSuch, Done, Undecided, NotObserved, Told}
+use Rattle.cstn_history.specs.declared.errors.FactError.TheVariants.{OutOfRange}
 use Rattle.cstn_history.specs.Histories.{History, IsTimelyHistory}
 use Rattle.cstn_history.specs.Continuations.{Continues, Can, IsLeastTable, IsNamed, IsAlwaysAt, IsQuietBefore}
-use Rattle.cstn_history.specs.Facts.{is_beyond, again_refusal, now_refusal, done_refusal, told_refusal, at_now, with_done, with_told}
+use Rattle.cstn_history.specs.Facts.{is_beyond, now_refusal, done_refusal, told_refusal, at_now, with_done, with_told}
 use Rattle.cstn_history.proofs.Followed.{step_is_done}
 use Rattle.cstn_history.proofs.NextMoment.{quiet_upto}
 use Rattle.cstn_history.proofs.Recorded.{put_there, put_other, timely_done}
 use Rattle.cstn_lines.specs.FollowLines.{Follow, follow_read, IsFollow, done_at, came_at, now_at, awaited_at, edits, ends_by, asks_next, asks_by, asks_blame, asks_rest}
-use Rattle.cstn_lines.specs.LiveLines.{printed_truth}
 use Rattle.cstn_lines.proofs.FollowLemmas.{follow_is}
 use Rattle.cstn_reply.specs.Texts.{line, full_line}
 use Rattle.cstn_reply.specs.Reached.{state_after}
-use Rattle.cstn_follow.specs.Following.{Following, Heard, says, saves, begun, name_at, verdict_now, verdict_within, on_verdict, verdict_line}
+use Rattle.cstn_follow.specs.Following.{Following, Heard, says, saves, begun, verdict_now, verdict_within, on_verdict, verdict_line}
 use Rattle.cstn_follow.specs.FactLines.{records, refuses, refused_fact, unless_refused, all_done, on_result, on_known, on_did, nodes_of, unknown_of, on_fact, on_now, on_outcome, on_saw}
 use Rattle.cstn_follow.specs.Hearing.{on_line, counted, hear}
 use Rattle.cstn_follow.specs.Progress.{HasRoomLeft, IsQuietUpto}
@@ -38,19 +36,8 @@ use Rattle.cstn_follow.proofs.GoesOn.{left_says, no_cannot}
 use Rattle.cstn_follow.proofs.Recording.{saw_said}
 use Rattle.cstn_top.specs.FollowedPlans.{KeepsToNext, KeepToNext, AreNamed, IsYes, KeepsGoing, KeepGoing}
 use Rattle.cstn_top.specs.commands.Follow.{heard_turn, follow_turn}
-use Rattle.cstn_top.proofs.FollowedStates.{IsSound, same_history, counted_sound, next_sound, lines_sound, begun_sound}
-
--- a time-point that is accepted as done wasn't done
-undone_here : (m : Labelled) (h : History) (t : ℕ) (x : NodeId) → done_refusal m h t x ≡ None → h.done x.0 ≡ None
-undone_here m h t x e = free (h.done x.0) (passed (nat_le (count m.base) x.0) _ _ (passed (is_beyond t) _ _ e))
-  where
-    passed : (b : Bool) (f : FactError) (o : Option FactError) → (if b then Some f else o) ≡ None → o ≡ None
-    passed true f o is = absurd (cc)
-    passed false f o is = is
-
-    free : (o : Option ℕ) → again_refusal m h x o ≡ None → o ≡ None
-    free None f = refl
-    free (Some u) f = absurd (cc)
+use Rattle.cstn_top.proofs.FollowedFacts.{fact_refusal, undone_here, same_history}
+use Rattle.cstn_top.proofs.FollowedStates.{IsSound, counted_sound, next_sound, lines_sound, begun_sound}
 
 -- ---- time-points that a table has at a moment are done at it one after the other
 
@@ -123,13 +110,7 @@ module _ (s : Following) (sound : IsSound s) (can : Can s.network s.history) whe
   refused why = (inl (refl, (why, refl)), can)
 
   refuses_fact : (e : FactError) → Answer s (refuses s e)
-  refuses_fact (Past now) = refused (codes "F1 " ++ decimal now)
-  refuses_fact (OutOfRange moment) = refused (codes "F2 " ++ decimal moment)
-  refuses_fact (NoSuch x) = refused (codes "F3 " ++ printed_name (name_at s.names x.0))
-  refuses_fact (Done x moment) = refused (codes "F4 " ++ printed_name (name_at s.names x.0) ++ 32 ∷ decimal moment)
-  refuses_fact (Undecided x) = refused (codes "F5 " ++ printed_name (name_at s.names x.0))
-  refuses_fact (NotObserved p) = refused (codes "F6 " ++ letter_of p.index ∷ [])
-  refuses_fact (Told p v) = refused (codes "F7 " ++ letter_of p.index ∷ 32 ∷ printed_truth v)
+  refuses_fact e = (inl (refl, fact_refusal s.names e), can)
 
   records_fact : (h : History) → IsTimelyHistory s.network h × Can s.network h → Answer s (records s h)
   records_fact h later = by_verdict (verdict_within (record s { history = h })) refl

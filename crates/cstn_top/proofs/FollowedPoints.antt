@@ -15,8 +15,8 @@ use Rattle.cstn_follow.specs.Following.{Following, Heard, says, saves, verdict_n
 use Rattle.cstn_follow.specs.FactLines.{records}
 use Rattle.cstn_follow.specs.PlanLines.{add_refusal, remove_refusal, change_refusal, on_edit, on_ends, on_deadline, with_added, with_removed, with_changed, replanned}
 use Rattle.cstn_follow.specs.Hearing.{on_plan, on_other, on_line, counted, hear}
-use Rattle.cstn_top.specs.commands.Follow.{heard_turn, follow_turn}
-use Rattle.cstn_top.proofs.FollowedStates.{IsSound, next_of, did_is, now_is, saw_is, await_is, next_keeps, check_keeps, blame_keeps, by_keeps, hear_sound, counted_sound, next_sound}
+use Rattle.cstn_top.specs.commands.Follow.{IsFact, heard_turn, follow_turn}
+use Rattle.cstn_top.proofs.FollowedStates.{IsSound, next_of, fact_is, next_keeps, check_keeps, blame_keeps, by_keeps, counted_sound, next_sound}
 
 -- the time-points, their names and the cap are as they were
 pub record KeepsPoints (s next : Following) : Type 0 where
@@ -62,12 +62,15 @@ deadline_keeps s deadline true = same s
 deadline_keeps s deadline false =
     edit_keeps s (replanned s deadline s.network.base.constraints s.edits s.fresh) None (codes "deadline " ++ decimal deadline) (record { names = refl; observes = refl; reaction = refl; cap = refl })
 
+fact_keeps : (s : Following) (fact : Follow) → IsSound s → IsFact fact → IsFollow fact → KeepsPoints s (next_of (on_line s (Some fact)))
+fact_keeps s fact sound = fact_is s sound (λ fact heard. KeepsPoints s (next_of heard)) (λ fact text why. same s) (λ fact h timely is. records_keeps s h) fact
+
 line_keeps : (s : Following) (o : Option Follow) → IsSound s → ((l : Follow) → o ≡ Some l → IsFollow l) → KeepsPoints s (next_of (on_line s o))
 line_keeps s None sound is = same s
-line_keeps s (Some (done_at t names)) sound is = did_is s sound (λ heard. KeepsPoints s (next_of heard)) (λ text. same s) (λ h timely. records_keeps s h) t names
-line_keeps s (Some (came_at t p v)) sound is = saw_is s sound (λ heard. KeepsPoints s (next_of heard)) (λ text. same s) (λ h timely. records_keeps s h) t p v (is (came_at t p v) refl).1
-line_keeps s (Some (now_at t)) sound is = now_is s sound (λ heard. KeepsPoints s (next_of heard)) (λ text. same s) (λ h timely. records_keeps s h) t
-line_keeps s (Some (awaited_at t p)) sound is = await_is s sound (λ heard. KeepsPoints s (next_of heard)) (λ text. same s) (λ h timely. records_keeps s h) t p (is (awaited_at t p) refl).1
+line_keeps s (Some (done_at t names)) sound is = fact_keeps s (done_at t names) sound tt (is (done_at t names) refl)
+line_keeps s (Some (came_at t p v)) sound is = fact_keeps s (came_at t p v) sound tt (is (came_at t p v) refl)
+line_keeps s (Some (now_at t)) sound is = fact_keeps s (now_at t) sound tt (is (now_at t) refl)
+line_keeps s (Some (awaited_at t p)) sound is = fact_keeps s (awaited_at t p) sound tt (is (awaited_at t p) refl)
 line_keeps s (Some (edits edit)) sound is = plan_keeps s edit
 line_keeps s (Some (ends_by deadline)) sound is = deadline_keeps s deadline (nat_lt 1000000 deadline)
 line_keeps s (Some asks_next) sound is = subst (KeepsPoints s) (sym (next_keeps s (verdict_now s))) (same s)

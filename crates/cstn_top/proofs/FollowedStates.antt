@@ -8,6 +8,7 @@ use Rattle.std.proofs.lemmas.List.Elements.{All-filter, All-map, All-push, All-w
 use Rattle.std.proofs.lemmas.List.FromFn.{get_or-range_with_len, length-range_with_len}
 use Rattle.std.proofs.lemmas.List.Quantifiers.{all_pairs_push, position-Some}
 use Rattle.cstn_label.specs.declared.nodes.NodeId.{NodeId}
+use Rattle.cstn_label.specs.declared.props.Prop.{Prop}
 use Rattle.cstn_label.specs.declared.marks.Mark.{Mark}
 use Rattle.cstn_label.specs.declared.marks.Mark.TheVariants.{Absent, Yes as YesMark, No as NoMark, Unknown}
 use Rattle.cstn_label.specs.Labels.{Label}
@@ -16,6 +17,7 @@ use Rattle.cstn_net.specs.Networks.{Network, Constraint, IsConstraint, IsOnObser
 use Rattle.cstn_net.proofs.ListLemmas.{none_passes}
 use Rattle.cstn_net.proofs.WellFormed.{well_formed_by, well_formed_with}
 use Rattle.cstn_text.specs.Names.{number_of}
+use Rattle.cstn_text.specs.PrintedNames.{printed_name}
 use Rattle.cstn_lift.specs.Labelled.{Labelled}
 use Rattle.cstn_lift.specs.Lowered.{lowered, is_plain, observer_of}
 use Rattle.cstn_lift.specs.WellFormed.{IsLabelled}
@@ -41,7 +43,7 @@ use Rattle.cstn_reply.specs.Sessions.{Turn, more, last, wrong}
 use Rattle.cstn_reply.specs.Reached.{state_after}
 use Rattle.cstn_reply.proofs.Sessions.{first_leads, same_state}
 use Rattle.cstn_follow.specs.Following.{Following, Heard, says, saves, above, begun, verdict_now, verdict_within, on_verdict, follows, verdict_line}
-use Rattle.cstn_follow.specs.FactLines.{on_result, records, refuses, unless_refused, all_done, on_known, on_did, nodes_of, unknown_of, on_fact, on_now, on_outcome, on_saw, saw_refusal, on_await, await_refusal}
+use Rattle.cstn_follow.specs.FactLines.{on_result, records, refuses, refused_fact, unknown_name, unless_refused, all_done, on_known, on_did, nodes_of, unknown_of, on_fact, on_now, on_outcome, on_saw, saw_refusal, on_await, await_refusal}
 use Rattle.cstn_follow.specs.PlanLines.{is_value, unobserved, has_constraint, add_refusal, remove_refusal, change_refusal, at_limit, on_edit, on_ends, on_add, on_remove, on_change, on_deadline, with_value, with_added, with_removed, with_changed}
 use Rattle.cstn_follow.specs.Questions.{next_after, check_after}
 use Rattle.cstn_follow.specs.Searches.{by_number, by_unless, by_after, by_refusal, blame_after}
@@ -51,6 +53,9 @@ use Rattle.cstn_follow.proofs.GoesOn.{yes_can, no_cannot, full_is_above}
 use Rattle.cstn_follow.proofs.Recording.{saw_said, await_said}
 use Rattle.cstn_follow.proofs.Starting.{above_all}
 use Rattle.cstn_top.specs.commands.Follow.{IsFact, IsTrueOf, heard_turn, follow_turn}
+use Rattle.cstn_top.specs.FollowedPlans.{IsRefusedBy}
+use Rattle.cstn_top.specs.FollowedAnswers.{IsReached, IsRecorded, Accepts}
+use Rattle.cstn_top.proofs.FollowedFacts.{IsRefusal, fact_refusal, outcome_refusal, same_history, are_done}
 
 -- the network is labelled and each of its time-points has a name, what has happened is a history of it, its ids are below the
 -- next one, and there is a verdict on what is left
@@ -80,12 +85,6 @@ follows_sound s next text sound labelled named timely above = by_verdict (verdic
 records_sound : (s : Following) (h : History) → IsSound s → IsTimelyHistory s.network h → IsSound (next_of (records s h))
 records_sound s h sound timely = follows_sound s (record s { history = h }) (verdict_line s.cap) sound sound.labelled sound.named timely sound.above
 
-abbrev recorded : History → Result History FactError
-recorded h = Ok h
-
-pub same_history : (h g : History) → recorded h ≡ recorded g → h ≡ g
-same_history h g is = cc
-
 -- time-points that are done one after the other
 all_timely : (m : Labelled) (t : ℕ) (h g : History) (xs : List NodeId) → IsLabelled m → IsTimelyHistory m h → all_done m t h xs ≡ Ok g → IsTimelyHistory m g
 all_timely m t h g [] good timely is = subst (IsTimelyHistory m) (same_history h g is) timely
@@ -101,42 +100,62 @@ none_mapped : {X Y : Type 0} (f : X → Y) (o : Option X) → option_map f o ≡
 none_mapped f None e = refl
 none_mapped f (Some x) e = cc
 
--- a fact is refused with some text, or it is recorded
-module _ (s : Following) (sound : IsSound s) (Is : Heard → Type 0) (refused : (text : List ℕ) → Is (says text s)) (accepted : (h : History) → IsTimelyHistory s.network h → Is (records s h)) where
-  pub did_is : (t : ℕ) (given : List (List ℕ)) → Is (on_did s t given)
-  did_is t given = by_moment (is_beyond t) (unknown_of s.names given)
+-- a fact is refused, or it is recorded
+module _ (s : Following) (sound : IsSound s) (Is : Follow → Heard → Type 0) (refused : (fact : Follow) (text : List ℕ) → IsRefusal text → Is fact (says text s))
+    (accepted : (fact : Follow) (h : History) → IsTimelyHistory s.network h → IsRecorded s.names s.history fact h → Is fact (records s h)) where
+  refuses_is : (fact : Follow) (e : FactError) → Is fact (refuses s e)
+  refuses_is fact e = refused fact (line (refused_fact s.names e)) (fact_refusal s.names e)
+
+  did_is : (t : ℕ) (given : List (List ℕ)) → 1 ≤ length given → Is (done_at t given) (on_did s t given)
+  did_is t given some = by_moment (is_beyond t) (unknown_of s.names given) refl
     where
-      by_result : (r : Result History FactError) → all_done s.network t s.history (nodes_of s.names given) ≡ r → Is (on_result s r)
-      by_result (Ok h) is = accepted h (all_timely s.network t s.history h (nodes_of s.names given) sound.labelled sound.timely is)
-      by_result (Err e) is = refused _
+      by_result : unknown_of s.names given ≡ None → (r : Result History FactError) → all_done s.network t s.history (nodes_of s.names given) ≡ r
+          → Is (done_at t given) (on_result s r)
+      by_result known (Ok h) is = accepted (done_at t given) h (all_timely s.network t s.history h (nodes_of s.names given) sound.labelled sound.timely is)
+          (are_done s.names s.network s.history h t given some known is)
+      by_result known (Err e) is = refuses_is (done_at t given) e
 
-      by_moment : (late : Bool) (o : Option (List ℕ)) → Is (if late then refuses s (OutOfRange t) else on_known s t given o)
-      by_moment true o = refused _
-      by_moment false (Some name) = refused _
-      by_moment false None = by_result (all_done s.network t s.history (nodes_of s.names given)) refl
+      by_moment : (late : Bool) (o : Option (List ℕ)) → unknown_of s.names given ≡ o
+          → Is (done_at t given) (if late then refuses s (OutOfRange t) else on_known s t given o)
+      by_moment true o is = refuses_is (done_at t given) (OutOfRange t)
+      by_moment false (Some name) is = refused (done_at t given) (line (unknown_name name)) (codes "F3 " ++ printed_name name, refl)
+      by_moment false None is = by_result is (all_done s.network t s.history (nodes_of s.names given)) refl
 
-  pub now_is : (t : ℕ) → Is (on_now s t)
+  now_is : (t : ℕ) → Is (now_at t) (on_now s t)
   now_is t = by_refusal (now_refusal s.history t) refl
     where
-      by_refusal : (o : Option FactError) → now_refusal s.history t ≡ o → Is (on_fact s o (at_now s.history t))
-      by_refusal None none = accepted (at_now s.history t) (timely_now s.network s.history t sound.timely.history sound.timely.in_time none)
-      by_refusal (Some e) some = refused _
+      by_refusal : (o : Option FactError) → now_refusal s.history t ≡ o → Is (now_at t) (on_fact s o (at_now s.history t))
+      by_refusal None none = accepted (now_at t) (at_now s.history t) (timely_now s.network s.history t sound.timely.history sound.timely.in_time none) refl
+      by_refusal (Some e) some = refuses_is (now_at t) e
 
-  outcome_is : (refusal : Option (List ℕ)) (h : History) → (refusal ≡ None → IsTimelyHistory s.network h) → Is (on_outcome s refusal h)
-  outcome_is None h timely = accepted h (timely refl)
-  outcome_is (Some refusal) h timely = refused _
+  outcome_is : (fact : Follow) (o : Option FactError) (refusal : Option (List ℕ)) (h : History) → option_map (refused_fact []) o ≡ refusal
+      → (o ≡ None → IsTimelyHistory s.network h) → IsRecorded s.names s.history fact h → Is fact (on_outcome s refusal h)
+  outcome_is fact o None h same timely recorded = accepted fact h (timely (none_mapped _ o same)) recorded
+  outcome_is fact o (Some refusal) h same timely recorded = refused fact (line refusal) (outcome_refusal [] o refusal same)
 
-  pub saw_is : (t p : ℕ) (v : Bool) → p < 52 → Is (on_saw s t p v)
+  saw_is : (t p : ℕ) (v : Bool) → p < 52 → Is (came_at t p v) (on_saw s t p v)
   saw_is t p v letter =
-      outcome_is (saw_refusal s.network s.history t p) (with_told s.history t p v)
-      (λ none. timely_told s.network s.history sound.labelled sound.timely.history sound.timely.in_time t (record { index = p; in_range = letter }) v
-      (none_mapped _ (told_refusal s.network s.history t (record { index = p; in_range = letter })) (saw_said [] t (record { index = p; in_range = letter }) s.network s.history ∙ none)))
+      let prop : Prop = record { index = p; in_range = letter } in
+      outcome_is (came_at t p v) (told_refusal s.network s.history t prop) (saw_refusal s.network s.history t p) (with_told s.history t p v)
+      (saw_said [] t prop s.network s.history) (timely_told s.network s.history sound.labelled sound.timely.history sound.timely.in_time t prop v) refl
 
-  pub await_is : (t p : ℕ) → p < 52 → Is (on_await s t p)
+  await_is : (t p : ℕ) → p < 52 → Is (awaited_at t p) (on_await s t p)
   await_is t p letter =
-      outcome_is (await_refusal s.network s.history t p) (with_expected s.history t p)
-      (λ none. timely_expected s.network s.history sound.labelled sound.timely.history sound.timely.in_time t (record { index = p; in_range = letter })
-      (none_mapped _ (expected_refusal s.network s.history t (record { index = p; in_range = letter })) (await_said [] t (record { index = p; in_range = letter }) s.network s.history ∙ none)))
+      let prop : Prop = record { index = p; in_range = letter } in
+      outcome_is (awaited_at t p) (expected_refusal s.network s.history t prop) (await_refusal s.network s.history t p) (with_expected s.history t p)
+      (await_said [] t prop s.network s.history) (timely_expected s.network s.history sound.labelled sound.timely.history sound.timely.in_time t prop) refl
+
+  pub fact_is : (fact : Follow) → IsFact fact → IsFollow fact → Is fact (on_line s (Some fact))
+  fact_is (done_at t given) is fits = did_is t given fits.1
+  fact_is (came_at t p v) is fits = saw_is t p v fits.1
+  fact_is (now_at t) is fits = now_is t
+  fact_is (awaited_at t p) is fits = await_is t p fits.1
+  fact_is (edits edit) is fits = absurd is
+  fact_is (ends_by deadline) is fits = absurd is
+  fact_is asks_next is fits = absurd is
+  fact_is (asks_by name) is fits = absurd is
+  fact_is asks_blame is fits = absurd is
+  fact_is asks_rest is fits = absurd is
 
 -- ---- edits
 
@@ -308,12 +327,15 @@ deadline_line_sound : (s : Following) (deadline : ℕ) (b : Bool) → IsSound s 
 deadline_line_sound s deadline true sound within = sound
 deadline_line_sound s deadline false sound within = deadline_sound s deadline sound within
 
+fact_sound : (s : Following) (fact : Follow) → IsSound s → IsFact fact → IsFollow fact → IsSound (next_of (on_line s (Some fact)))
+fact_sound s fact sound = fact_is s sound (λ fact heard. IsSound (next_of heard)) (λ fact text why. sound) (λ fact h timely is. records_sound s h sound timely) fact
+
 line_sound : (s : Following) (o : Option Follow) → IsSound s → ((l : Follow) → o ≡ Some l → IsFollow l) → IsSound (next_of (on_line s o))
 line_sound s None sound is = sound
-line_sound s (Some (done_at t names)) sound is = did_is s sound (λ heard. IsSound (next_of heard)) (λ text. sound) (λ h. records_sound s h sound) t names
-line_sound s (Some (came_at t p v)) sound is = saw_is s sound (λ heard. IsSound (next_of heard)) (λ text. sound) (λ h. records_sound s h sound) t p v (is (came_at t p v) refl).1
-line_sound s (Some (now_at t)) sound is = now_is s sound (λ heard. IsSound (next_of heard)) (λ text. sound) (λ h. records_sound s h sound) t
-line_sound s (Some (awaited_at t p)) sound is = await_is s sound (λ heard. IsSound (next_of heard)) (λ text. sound) (λ h. records_sound s h sound) t p (is (awaited_at t p) refl).1
+line_sound s (Some (done_at t names)) sound is = fact_sound s (done_at t names) sound tt (is (done_at t names) refl)
+line_sound s (Some (came_at t p v)) sound is = fact_sound s (came_at t p v) sound tt (is (came_at t p v) refl)
+line_sound s (Some (now_at t)) sound is = fact_sound s (now_at t) sound tt (is (now_at t) refl)
+line_sound s (Some (awaited_at t p)) sound is = fact_sound s (awaited_at t p) sound tt (is (awaited_at t p) refl)
 line_sound s (Some (edits edit)) sound is = plan_sound s edit sound (is (edits edit) refl)
 line_sound s (Some (ends_by deadline)) sound is = deadline_line_sound s deadline (nat_lt 1000000 deadline) sound (is (ends_by deadline) refl)
 line_sound s (Some asks_next) sound is = subst IsSound (sym (next_keeps s (verdict_now s))) sound
@@ -373,57 +395,58 @@ verdict_true s (Yes load) sound is = yes_can s.network s.history s.fresh s.cap l
 verdict_true s (No load) sound is = no_cannot s.network s.history s.fresh s.cap load sound.labelled sound.timely sound.above (sound.verdict ∙ ap Some is)
 verdict_true s Full sound is = full_is_above s.network s.history s.fresh s.cap sound.labelled sound.timely sound.above (sound.verdict ∙ ap Some is)
 
--- the verdict in each state that lines lead to is true of what has happened
-pub states_true : (cap : ℕ) (names : List (List ℕ)) (m : Labelled) (lines : List (List ℕ)) (s : Following) → IsLabelled m → length (lowered m).constraints ≤ 16384 → length names ≡ count m.base
-    → state_after follow_turn (begun cap names m) 0 lines ≡ Some s → IsTrueOf s (verdict_now s)
-states_true cap names m lines s good few named leads =
-    verdict_true s (verdict_now s) (lines_sound (begun cap names m) s 0 lines (begun_sound cap names m good few named) leads) refl
+-- a state that lines lead to is sound
+pub reached_sound : (s : Following) → IsReached s → IsSound s
+reached_sound s r = lines_sound (begun r.cap r.names r.network) s 0 r.lines (begun_sound r.cap r.names r.network r.labelled r.few r.named) r.leads
+
+pub states_true : (s : Following) → IsReached s → IsTrueOf s (verdict_now s)
+states_true s r = verdict_true s (verdict_now s) (reached_sound s r) refl
 
 -- ---- the answers to facts
 
--- a fact is refused, and the session stays as it is, or this is the line of a verdict that is true of what has happened then
-abbrev FactAnswer : Following → Heard → Type 0
-FactAnswer s (says text next) = (next ≡ s) ⊎ ((v : Verdict) × (text ≡ verdict_line s.cap v) × IsTrueOf next v)
-FactAnswer s (saves m names next) = ⊥
+-- a fact is refused, and nothing else but the count of lines changes, or it is accepted
+abbrev FactAnswer : Following → Follow → Heard → Type 0
+FactAnswer s fact (says text next) = IsRefusedBy s text next ⊎ Accepts s fact text next
+FactAnswer s fact (saves m names next) = ⊥
 
-records_answer : (s : Following) (h : History) → IsSound s → IsTimelyHistory s.network h → FactAnswer s (records s h)
-records_answer s h sound timely = by_verdict (verdict_within (record s { history = h })) refl
+records_answer : (s : Following) (fact : Follow) (h : History) → IsSound s → IsTimelyHistory s.network h → IsRecorded s.names s.history fact h
+    → FactAnswer s fact (records (counted s) h)
+records_answer s fact h sound timely recorded = by_verdict (verdict_within next) refl
   where
-    by_verdict : (o : Option Verdict) → verdict_within (record s { history = h }) ≡ o → FactAnswer s (on_verdict s (record s { history = h }) (verdict_line s.cap) o)
-    by_verdict None is = inl refl
-    by_verdict (Some v) is =
-        let same = within_is (record s { history = h }) v is in
-        let next_sound : IsSound (record s { history = h }) =
-        record { labelled = sound.labelled; named = sound.named; timely = timely; above = sound.above; verdict = is ∙ ap Some same } in
-        inr (v, refl, verdict_true (record s { history = h }) v next_sound (sym same))
+    next : Following
+    next = record (counted s) { history = h }
 
-line_answer : (s : Following) (fact : Follow) → IsSound s → IsFact fact → IsFollow fact → FactAnswer s (on_line s (Some fact))
-line_answer s (done_at t names) sound is fits = did_is s sound (FactAnswer s) (λ text. inl refl) (λ h. records_answer s h sound) t names
-line_answer s (came_at t p v) sound is fits = saw_is s sound (FactAnswer s) (λ text. inl refl) (λ h. records_answer s h sound) t p v fits.1
-line_answer s (now_at t) sound is fits = now_is s sound (FactAnswer s) (λ text. inl refl) (λ h. records_answer s h sound) t
-line_answer s (awaited_at t p) sound is fits = await_is s sound (FactAnswer s) (λ text. inl refl) (λ h. records_answer s h sound) t p fits.1
-line_answer s (edits edit) sound is fits = absurd is
-line_answer s (ends_by deadline) sound is fits = absurd is
-line_answer s asks_next sound is fits = absurd is
-line_answer s (asks_by name) sound is fits = absurd is
-line_answer s asks_blame sound is fits = absurd is
-line_answer s asks_rest sound is fits = absurd is
+    by_verdict : (o : Option Verdict) → verdict_within next ≡ o → FactAnswer s fact (on_verdict (counted s) next (verdict_line s.cap) o)
+    by_verdict None is = inl (refl, (codes "F8", refl))
+    by_verdict (Some v) is =
+        let same = within_is next v is in
+        let next_sound : IsSound next =
+        record { labelled = sound.labelled; named = sound.named; timely = timely; above = sound.above; verdict = is ∙ ap Some same } in
+        inr (record {
+          later = h;
+          recorded = recorded;
+          next_is = refl;
+          text_is = ap (verdict_line s.cap) same;
+          is_true = verdict_true next (verdict_now next) next_sound refl;
+        })
+
+line_answer : (s : Following) (fact : Follow) → IsSound s → IsFact fact → IsFollow fact → FactAnswer s fact (on_line (counted s) (Some fact))
+line_answer s fact sound =
+    fact_is (counted s) (counted_sound s sound) (FactAnswer s) (λ fact text why. inl (refl, why)) (λ fact h timely is. records_answer s fact h sound timely is) fact
 
 -- what a turn says to a fact
-abbrev TurnAnswer : Following → Turn Following → Type 0
-TurnAnswer s (more text next) = (next ≡ s) ⊎ ((v : Verdict) × (text ≡ verdict_line s.cap v) × IsTrueOf next v)
-TurnAnswer s (last said) = ⊥
-TurnAnswer s wrong = ⊥
+abbrev TurnAnswer : Following → Follow → Turn Following → Type 0
+TurnAnswer s fact (more text next) = IsRefusedBy s text next ⊎ Accepts s fact text next
+TurnAnswer s fact (last said) = ⊥
+TurnAnswer s fact wrong = ⊥
 
-turn_answer : (s : Following) (heard : Heard) → FactAnswer s heard → TurnAnswer s (heard_turn heard)
-turn_answer s (says text next) answer = answer
-turn_answer s (saves m names next) answer = absurd answer
+turn_answer : (s : Following) (fact : Follow) (heard : Heard) → FactAnswer s fact heard → TurnAnswer s fact (heard_turn heard)
+turn_answer s fact (says text next) answer = answer
+turn_answer s fact (saves m names next) answer = absurd answer
 
 -- the answer to a fact
-pub fact_answered : (cap : ℕ) (names : List (List ℕ)) (m : Labelled) (before : List (List ℕ)) (s next : Following) (bytes text : List ℕ) (fact : Follow) → IsLabelled m → length (lowered m).constraints ≤ 16384
-    → length names ≡ count m.base → state_after follow_turn (begun cap names m) 0 before ≡ Some s → follow_read bytes ≡ Some fact → IsFact fact → follow_turn s bytes ≡ more text next
-    → (next ≡ counted s) ⊎ ((v : Verdict) × (text ≡ verdict_line s.cap v) × IsTrueOf next v)
-fact_answered cap names m before s next bytes text fact good few named leads reads is answered =
-    let sound = lines_sound (begun cap names m) s 0 before (begun_sound cap names m good few named) leads in
-    let one : FactAnswer (counted s) (hear s (Some fact)) = line_answer (counted s) fact (counted_sound s sound) is (follow_is bytes fact reads) in
-    subst (TurnAnswer (counted s)) (ap (λ (o : Option Follow). heard_turn (hear s o)) (sym reads) ∙ answered) (turn_answer (counted s) (hear s (Some fact)) one)
+pub fact_answered : (s next : Following) (bytes text : List ℕ) (fact : Follow) → IsReached s → follow_read bytes ≡ Some fact → IsFact fact
+    → follow_turn s bytes ≡ more text next → IsRefusedBy s text next ⊎ Accepts s fact text next
+fact_answered s next bytes text fact reached reads is answered =
+    let one : FactAnswer s fact (hear s (Some fact)) = line_answer s fact (reached_sound s reached) is (follow_is bytes fact reads) in
+    subst (TurnAnswer s fact) (ap (λ (o : Option Follow). heard_turn (hear s o)) (sym reads) ∙ answered) (turn_answer s fact (hear s (Some fact)) one)

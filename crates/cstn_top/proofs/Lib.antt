@@ -41,8 +41,11 @@ pub mod Sayings
 pub mod Preparing
 pub mod FollowedDocuments
 pub mod FollowedLines
+pub mod FollowedFacts
 pub mod FollowedStates
 pub mod FollowedPoints
 pub mod FollowedPlans
+pub mod FollowedAnswers
+pub mod FollowedRefusals
 pub mod LeftDocuments
 pub mod LeftReplayed

@@ -10,6 +10,7 @@ pub mod Headline
 pub mod EditSessions
 pub mod LabelledDeadlines
 pub mod FollowedPlans
+pub mod FollowedAnswers
 -- What the commands share.
 pub mod Limits
 pub mod Plans

@@ -4,11 +4,13 @@ ghost use Rattle.std.specs.Prelude.{ℕ, ◌≡◌, ◌<◌, ◌≤◌, ◌↔�
 ghost use Rattle.std.specs.List.{All};
 ghost use Rattle.cstn_net.specs.Networks.{Network, Constraint, IsWellFormed, Observes, count};
 ghost use Rattle.cstn_lines.specs.Pieces.{is_past};
-ghost use Rattle.cstn_lines.specs.FollowLines.{Follow, follow_read};
+ghost use Rattle.cstn_text.specs.Names.{number_of};
+ghost use Rattle.cstn_lines.specs.FollowLines.{Follow, follow_read, asks_next, asks_by, asks_blame};
 ghost use Rattle.cstn_check.specs.declared.verdicts.Verdict.{Verdict};
 ghost use Rattle.cstn_check.specs.declared.verdicts.Verdict.TheVariants.{No};
 ghost use Rattle.cstn_save.specs.ReadBack.{AreNamesOf};
-ghost use Rattle.cstn_follow.specs.Following.{Following, begun, verdict_now, verdict_line};
+ghost use Rattle.cstn_next.specs.Next.{IsAllDone};
+ghost use Rattle.cstn_follow.specs.Following.{Following, begun, verdict_now, is_any_open};
 ghost use Rattle.cstn_follow.specs.Hearing.{counted};
 ghost use Rattle.cstn_edit.specs.Editing.{Editing, begun_editing, edit_turn, last_checked};
 ghost use Rattle.cstn_reply.specs.Sessions.{more};
@@ -27,7 +29,8 @@ ghost use Rattle.cstn_history.specs.Continuations.{Can};
 ghost use Rattle.cstn_tight.specs.Deadlines.{at_deadline, IsLeastDeadline};
 ghost use Rattle.cstn_top.specs.LabelledDeadlines.{labelled_at, IsLabelledLeastDeadline};
 ghost use Rattle.cstn_top.specs.EditSessions.{network_after, AnswersCheck, IsAtLastCheck};
-ghost use Rattle.cstn_top.specs.FollowedPlans.{KeepToNext, KeepGoing};
+ghost use Rattle.cstn_top.specs.FollowedPlans.{IsRefusedBy, KeepToNext, KeepGoing};
+ghost use Rattle.cstn_top.specs.FollowedAnswers.{IsReached, Accepts, AnswersNext, AnswersBy, AnswersBlame};
 ghost use Rattle.cstn_top.specs.commands.Follow.{IsFact, IsTrueOf, follow_turn};
 ghost use Rattle.cstn_words.specs.Limits.{most_cap};
 ghost use Rattle.cstn_documents.specs.Limits.{most_constraints, most_document};
@@ -104,15 +107,30 @@ pub fn evidence_passes()
 
 /// In each state that lines lead a session that follows to, the verdict is true: yes is said only where some table continues what has
 /// happened, no only where none does, and that the log is full only where the log of what is left has more entries than it may. A fact
-/// changes nothing but the count of lines, or its answer is the line of a verdict that is true of the state after it.
+/// is refused, with nothing changed but the count of lines; or it is in the history then, nothing else is changed, and the answer is the
+/// line of the verdict on what is left then, which is true.
 pub fn followed_verdicts_are_true()
-    ensures states { (cap : ℕ) (names : List (List ℕ)) (m : Labelled) (lines : List (List ℕ)) (s : Following) → IsLabelled m
-        → length (lowered m).constraints ≤ most_constraints → length names ≡ count m.base
-        → state_after follow_turn (begun cap names m) 0 lines ≡ Some s → IsTrueOf s (verdict_now s) }
-    ensures facts { (cap : ℕ) (names : List (List ℕ)) (m : Labelled) (before : List (List ℕ)) (s next : Following) (bytes text : List ℕ) (fact : Follow)
-        → IsLabelled m → length (lowered m).constraints ≤ most_constraints → length names ≡ count m.base
-        → state_after follow_turn (begun cap names m) 0 before ≡ Some s → follow_read bytes ≡ Some fact → IsFact fact → follow_turn s bytes ≡ more text next
-        → (next ≡ counted s) ⊎ ((v : Verdict) × (text ≡ verdict_line s.cap v) × IsTrueOf next v) }
+    ensures states { (s : Following) → IsReached s → IsTrueOf s (verdict_now s) }
+    ensures facts { (s next : Following) (bytes text : List ℕ) (fact : Follow) → IsReached s → follow_read bytes ≡ Some fact → IsFact fact
+        → follow_turn s bytes ≡ more text next → IsRefusedBy s text next ⊎ Accepts s fact text next }
+{}
+
+/// In each state that lines lead a session that follows to, a question changes nothing but the count of lines, and its answer is true.
+/// After yes `next` is answered by `done` where nothing is left, and else by the next moment with exactly the names of the time-points
+/// that are named and the outcomes that are awaited at it; `by`, unless it is refused, by the last moment until which the time-point can
+/// wait. After no `blame` is answered by the ids of constraints by which alone no table continues what has happened, while without any
+/// one of them some table does. That a log is full is said only where one that was tried is. The lines end with `done` exactly where
+/// nothing is left. And a line that is refused changes nothing but the count of lines.
+pub fn followed_answers_are_true()
+    ensures next { (s t : Following) (bytes text : List ℕ) → IsReached s → follow_read bytes ≡ Some asks_next → follow_turn s bytes ≡ more text t
+        → (t ≡ counted s) × AnswersNext s (verdict_now s) text }
+    ensures by { (s t : Following) (bytes text name : List ℕ) → IsReached s → follow_read bytes ≡ Some (asks_by name)
+        → follow_turn s bytes ≡ more text t → (t ≡ counted s) × AnswersBy s name (number_of s.names name) text }
+    ensures blame { (s t : Following) (bytes text : List ℕ) → IsReached s → follow_read bytes ≡ Some asks_blame → follow_turn s bytes ≡ more text t
+        → (t ≡ counted s) × AnswersBlame s (verdict_now s) text }
+    ensures over { (s : Following) → IsReached s → (is_any_open s ≡ false ↔ IsAllDone s.network s.history) }
+    ensures refused { (s next : Following) (bytes why : List ℕ) → IsReached s
+        → follow_turn s bytes ≡ more (line (codes "refused " ++ why)) next → next ≡ counted s }
 {}
 
 /// Where what has happened can go on, as after yes, whoever does what is named when it is named, tells what is awaited before time passes
