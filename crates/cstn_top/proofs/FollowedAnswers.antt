@@ -37,7 +37,6 @@ use Rattle.cstn_next.proofs.Lists.{passing_ascends}
 use Rattle.cstn_lines.specs.FollowLines.{Follow, follow_read, asks_next, asks_by, asks_blame}
 use Rattle.cstn_reply.specs.Texts.{line}
 use Rattle.cstn_reply.specs.Sessions.{Turn, more, last, wrong}
-use Rattle.cstn_follow.specs.declared.waits.Span.{Span}
 use Rattle.cstn_history.specs.declared.errors.FactError.TheVariants.{Undecided}
 use Rattle.cstn_follow.specs.Following.{Following, Heard, says, saves, left_now, verdict_now, verdict_within, verdict_line, too_many, is_open, any_below, is_any_open}
 use Rattle.cstn_follow.specs.FactLines.{refused_fact, node_of}
@@ -49,7 +48,6 @@ use Rattle.cstn_follow.specs.Waiting.{HasRoomToWait, rest_until, tried, middle, 
 use Rattle.cstn_follow.specs.Blame.{ids_of, every, but, alone, kept_by, and_on, left_by, said_alone, blamed}
 use Rattle.cstn_follow.proofs.Blamed.{found_stops, found_needed, found_ascend}
 use Rattle.cstn_follow.proofs.GoesOn.{left_says, left_labelled, yes_can, no_cannot}
-use Rattle.cstn_follow.proofs.Halving.{halving_zero, halving_turn}
 use Rattle.cstn_follow.proofs.Until.{last_found}
 use Rattle.cstn_top.specs.commands.Follow.{heard_turn, follow_turn}
 use Rattle.cstn_top.specs.FollowedAnswers.{IsReached, AnswersNext, AnswersWait, UnlessRefused, AnswersBy, IsBlameFull, AnswersBlame}
@@ -121,19 +119,24 @@ above cap net = by_load (nat_lt cap (load_of net)) refl (is_consistent net)
     by_load false is b none = absurd (cc)
 
 -- where halving finds nothing, some try said nothing
-tried_none : (test : ℕ → Option Bool) (n : ℕ) (s : Span) → halving test n s ≡ None → (t : ℕ) × (test t ≡ None)
-tried_none test zero s none = let some = sym none ∙ halving_zero test s in absurd (cc)
-tried_none test (suc n) s none = by_more (nat_lt s.low s.high) (tried_none test n) (sym (halving_turn test n s) ∙ none)
+tried_none : (test : ℕ → Option Bool) (n low high : ℕ) → halving test n (record { low = low; high = high }) ≡ None → (t : ℕ) × (test t ≡ None)
+unfolding halving
+tried_none test zero low high none = let some : ◌≡◌ {A = Option ℕ} (Some low) None = none in absurd (cc)
+tried_none test (suc n) low high none = by_more (nat_lt low high) (tried_none test n) none
   where
-    by_test : (o : Option Bool) → test (middle s) ≡ o → ((r : Span) → halving test n r ≡ None → (t : ℕ) × (test t ≡ None))
-        → and_then (halved s o) (halving test n) ≡ None → (t : ℕ) × (test t ≡ None)
-    by_test None is later go = (middle s, is)
-    by_test (Some true) is later go = later (record { low = middle s; high = s.high }) go
-    by_test (Some false) is later go = later (record { low = s.low; high = middle s - 1 }) go
+    half : ℕ
+    half = middle (record { low = low; high = high })
 
-    by_more : (b : Bool) → ((r : Span) → halving test n r ≡ None → (t : ℕ) × (test t ≡ None))
-        → (if b then and_then (halved s (test (middle s))) (halving test n) else Some s.low) ≡ None → (t : ℕ) × (test t ≡ None)
-    by_more true later go = by_test (test (middle s)) refl later go
+    by_test : (o : Option Bool) → test half ≡ o → ((l k : ℕ) → halving test n (record { low = l; high = k }) ≡ None → (t : ℕ) × (test t ≡ None))
+        → and_then (halved (record { low = low; high = high }) o) (halving test n) ≡ None → (t : ℕ) × (test t ≡ None)
+    by_test None is later go = (half, is)
+    by_test (Some true) is later go = later half high go
+    by_test (Some false) is later go = later low (half - 1) go
+
+    by_more : (b : Bool) → ((l k : ℕ) → halving test n (record { low = l; high = k }) ≡ None → (t : ℕ) × (test t ≡ None))
+        → (if b then and_then (halved (record { low = low; high = high }) (test half)) (halving test n) else Some low) ≡ None
+        → (t : ℕ) × (test t ≡ None)
+    by_more true later go = by_test (test half) refl later go
     by_more false later go = absurd (cc)
 
 module _ (s : Following) (sound : IsSound s) (x : ℕ) (here : x < count s.network.base) where
@@ -156,7 +159,7 @@ module _ (s : Following) (sound : IsSound s) (x : ℕ) (here : x < count s.netwo
             s.cap can t found in
             inl (t, record { can = both.0; last = both.1 }, refl)
         by_moment None full =
-            let t = tried_none (tried s.network s.history s.fresh x s.cap) 20 (record { low = s.history.now; high = s.network.base.deadline }) full in
+            let t = tried_none (tried s.network s.history s.fresh x s.cap) 20 s.history.now s.network.base.deadline full in
             inr ((t.0, above s.cap (lowered (rest_until s.network s.history s.fresh x t.0)) t.1), refl)
 
   abbrev refusal : Bool → Bool → Option (List ℕ)
