@@ -1,8 +1,8 @@
 -- Lists whose entries name their premises by slots.
-use Rattle.std.proofs.Common.{ℕ, zero, suc, ◌≡◌, ◌≢◌, ◌⊎◌, inl, inr, ◌+◌, ◌<◌, ◌≤◌, Bool, true, Option, Some, None, List, [], ◌∷◌, ◌++◌, length, map, get_or, set, arith, refl, sym, subst, ap, ◌∙◌, length-append}
+use Rattle.std.proofs.Common.{ℕ, zero, suc, ◌≡◌, ◌≢◌, inl, inr, ◌+◌, ◌<◌, ◌≤◌, Bool, true, Option, Some, None, List, [], ◌∷◌, ◌++◌, length, map, get_or, set, arith, refl, sym, subst, ap, ◌∙◌, length-append}
 use Rattle.std.specs.Prelude.{slice_get, IsSome}
 use Rattle.std.proofs.lemmas.Bool.{cases_Bool}
-use Rattle.std.proofs.lemmas.List.{map-append, map-id, get_or-set_other, get_or-set_same, length-set, length-map}
+use Rattle.std.proofs.lemmas.List.{map-append, map-id, get_or-set_other, get_or-set_same, length-map}
 use Rattle.std.proofs.lemmas.List.Sums.{count_by-le-length}
 use Rattle.std.proofs.lemmas.Option.{slice_get-get_or, slice_get-map, none-some, same_Some}
 use Rattle.std.specs.Option.{is_some}
@@ -11,13 +11,13 @@ use Rattle.cstn_rules.specs.declared.entries.Entry.{Entry}
 use Rattle.cstn_rules.specs.declared.entries.Why.{Why}
 use Rattle.cstn_rules.specs.declared.entries.Why.TheVariants.{Base, Chain, Wait}
 use Rattle.cstn_pool.specs.declared.slot_id.SlotId.{SlotId}
-use Rattle.cstn_pool.specs.Slots.{Slots, live_of}
-use Rattle.cstn_pool.proofs.PoolLemmas.{count_filled}
+use Rattle.cstn_pool.specs.Slots.{Slots}
 use Rattle.cstn_log.specs.Cuts.{PremisesBelow, PremisesMarked, is_marked, rank, renumbered, replaced, chosen_from, chosen}
 use Rattle.cstn_log.specs.Lists.{Listing, IsFiled, IsSlot, AreSlots, AreApart, AreHeldIn, placed, with_held, stored_in, birth_of, id_in, ids_in}
 use Rattle.cstn_log.specs.Kept.{AreLeft}
 use Rattle.cstn_log.proofs.ListLemmas.{get_left, get_more, get_map, map_same}
 use Rattle.cstn_log.proofs.KeptLemmas.{one_read}
+use Rattle.cstn_log.proofs.PushLemmas.{count_filled}
 use Rattle.cstn_log.proofs.ChoiceLemmas.{chosen_marked, chosen_unmarked, chosen_comes, chosen_goes, length_chosen}
 
 abbrev pub of_rule : Bound → Why → Entry

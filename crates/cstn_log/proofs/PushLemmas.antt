@@ -34,7 +34,7 @@ placed_more table slot u x e inside is = elim (cases_eq u slot) [
 ]
 
 -- filling an empty slot puts one slot more in use
-count_filled : (slots : List (Option (ℕ × Entry))) (slot : ℕ) (entry : ℕ × Entry) → slot < length slots → get_or slots slot None ≡ None → live_of (set slots slot (Some entry)) ≡ live_of slots + 1
+pub count_filled : (slots : List (Option (ℕ × Entry))) (slot : ℕ) (entry : ℕ × Entry) → slot < length slots → get_or slots slot None ≡ None → live_of (set slots slot (Some entry)) ≡ live_of slots + 1
 count_filled slots slot entry inside none =
     let one : live_of (set slots slot (Some entry)) + cond (is_some (get_or slots slot None)) 1 0 ≡ live_of slots + 1 = sum_by-set (λ x. cond (is_some x) 1 0) slots slot (Some entry) None inside in
     let two = rw none at one in omega arith

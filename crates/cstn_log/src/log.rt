@@ -61,7 +61,8 @@ impl Model for Log {
 
     ghost view = { λ l. record { entries = l.list.entries; ids = l.list.ids; births = l.list.pool.births; cap = l.list.cap; nodes = l.minimal.nodes } };
 
-    ghost invariant = { λ l. IsLog l.list.pool.slots l.list.pool.births l.minimal.table l.list.entries l.list.ids l.minimal.nodes l.list.cap (vec_capacity l.marks)
+    ghost invariant = { λ l. IsLog l.list.pool.slots l.list.pool.births l.minimal.table l.list.entries l.list.ids l.minimal.nodes
+        l.list.cap (vec_capacity l.marks)
         (record {
           mark_words = l.marking.words.items;
           node_links = l.standing.links.items;

@@ -1,4 +1,4 @@
-use Rattle.std.proofs.Common.{◌≡◌, length}
+use Rattle.std.proofs.Common.{◌≡◌}
 use Rattle.cstn_log.specs.Kept.{AreLeft}
 use Rattle.cstn_log.specs.Lists.{ids_in}
 use Rattle.cstn_log.proofs.list.give_rest.Given as goal

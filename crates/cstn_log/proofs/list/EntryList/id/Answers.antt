@@ -1,7 +1,7 @@
-use Rattle.std.proofs.Common.{◌≡◌, ◌<◌, ◌∙◌, Some, None, length, map, arith, refl, ap, sym, subst}
+use Rattle.std.proofs.Common.{◌≡◌, ◌∙◌, Some, arith, ap, subst}
 use Rattle.std.specs.Prelude.{slice_get}
 use Rattle.std.proofs.lemmas.Option.{slice_get-map}
-use Rattle.cstn_log.specs.Lists.{Listing, id_in, ids_in}
+use Rattle.cstn_log.specs.Lists.{Listing, id_in}
 use Rattle.cstn_log.proofs.ListedLemmas.{slot_there, listed_length, id_read}
 use Rattle.cstn_log.proofs.list.EntryList.id.Goals as goal
 

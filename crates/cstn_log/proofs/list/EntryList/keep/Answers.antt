@@ -1,9 +1,9 @@
-use Rattle.std.proofs.Common.{◌≡◌, ◌∙◌, ℕ, true, Some, List, length, map, arith, refl, ap, sym, subst}
+use Rattle.std.proofs.Common.{◌≡◌, ◌∙◌, ℕ, true, Some, length, map, arith, refl, ap, sym, subst}
 use Rattle.std.specs.Prelude.{slice_get}
 use Rattle.std.proofs.lemmas.Option.{slice_get-map}
 use Rattle.cstn_rules.specs.declared.entries.Entry.{Entry}
 use Rattle.cstn_rules.specs.Read.{the_entry}
-use Rattle.cstn_log.specs.Cuts.{PremisesMarked, IsClosedUnder, is_marked, rank, replaced, chosen, cut}
+use Rattle.cstn_log.specs.Cuts.{PremisesMarked, IsClosedUnder, is_marked, replaced, chosen, cut}
 use Rattle.cstn_log.specs.Entries.{the_entries}
 use Rattle.cstn_log.specs.Kept.{AreLeft, renewed}
 use Rattle.cstn_log.specs.Lists.{Listing, IsFiled, placed, stored_in, ids_in}

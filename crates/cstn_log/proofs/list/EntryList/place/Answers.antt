@@ -2,7 +2,6 @@ use Rattle.std.proofs.Common.{◌≡◌, ◌<◌, ℕ, Bool, true, false, Option
 use Rattle.std.specs.Prelude.{slice_get, IsTrue, is_some}
 use Rattle.std.proofs.lemmas.Grind.{get_or_default_zero}
 use Rattle.cstn_log.specs.Lists.{Listing}
-use Rattle.cstn_log.specs.Entries.{HasId}
 use Rattle.cstn_log.proofs.ListedLemmas.{id_filed}
 use Rattle.cstn_log.proofs.list.EntryList.place.Goals as goal
 

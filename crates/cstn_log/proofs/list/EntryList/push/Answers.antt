@@ -1,11 +1,9 @@
-use Rattle.std.proofs.Common.{◌≡◌, ◌≢◌, ◌<◌, ◌+◌, ◌++◌, ◌∷◌, [], ℕ, Some, None, Option, List, length, map, get_or, set, arith, refl, ap, sym, ◌∙◌, subst, length-append, length-set}
-use Rattle.std.specs.Prelude.{slice_get}
+use Rattle.std.proofs.Common.{◌≡◌, ◌<◌, ◌+◌, ◌++◌, ◌∷◌, [], Some, None, length, map, get_or, set, arith, refl, ap, sym, ◌∙◌, subst, length-set}
 use Rattle.std.proofs.lemmas.Option.{slice_get_within, get_or_from_slice_get}
 use Rattle.cstn_rules.specs.declared.entries.Entry.{Entry}
 use Rattle.cstn_pool.specs.Slots.{Slots}
-use Rattle.cstn_pool.specs.declared.slot_id.SlotId.{SlotId}
 use Rattle.cstn_log.specs.Cuts.{PremisesBelow}
-use Rattle.cstn_log.specs.Lists.{Listing, placed, stored_in, ids_in}
+use Rattle.cstn_log.specs.Lists.{Listing, placed, stored_in}
 use Rattle.cstn_log.proofs.ListedLemmas.{IsPushed, listing, listed_length, filed_more, named_more, placed_more, free_slot, stored_more, ids_more, held_more}
 use Rattle.cstn_log.proofs.MarkLemmas.{more_earlier}
 use Rattle.cstn_log.proofs.list.EntryList.push.Goals as goal
