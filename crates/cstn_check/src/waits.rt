@@ -74,9 +74,11 @@ fn try_wait(
         return Ok(false);
     }
     if !log.live(seen.place) {
+        log.leave_out(seen.place);
         return Ok(false);
     }
     if !log.live(premise.place) {
+        log.leave_out(premise.place);
         return Ok(false);
     }
     let why = Why::Wait {

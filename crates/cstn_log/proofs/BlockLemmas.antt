@@ -1,11 +1,12 @@
 -- Sets of numbers below 4,096 and the words that have them.
-use Rattle.std.proofs.Common.{ℕ, zero, ◌≡◌, ◌⊎◌, inl, inr, ◌/◌, ◌%◌, ◌<◌, true, false, List, get_or, set, replicate, arith, sym, subst, ap, ◌∙◌, length-set}
-use Rattle.std.proofs.lemmas.Bool.{cases_lt, false≢true}
+use Rattle.std.proofs.Common.{ℕ, zero, ◌≡◌, ◌⊎◌, inl, inr, ◌/◌, ◌%◌, ◌<◌, true, false, List, get_or, set, replicate, arith, sym, subst, ap, ◌∙◌, length-set, bit_or, length}
+use Rattle.std.proofs.lemmas.Bool.{cases_lt, false≢true, or_left, or_right}
 use Rattle.std.proofs.lemmas.List.{get_or-replicate, get_or_past, length-replicate, get_or-set_same, get_or-set_other}
 use Rattle.cstn_label.specs.Words.{has_bit}
+use Rattle.cstn_label.proofs.WordLemmas.{has_bit_or}
 use Rattle.cstn_log.specs.Blocks.{has_number, AreSummed}
 use Rattle.cstn_log.proofs.BitLemmas.{none_in_zero}
-use Rattle.cstn_log.proofs.ChainLemmas.{cases_same}
+use Rattle.cstn_log.proofs.ListLemmas.{cases_same}
 
 zero_at : (n k : ℕ) → get_or (replicate n zero) k zero ≡ zero
 zero_at n k = elim (cases_lt k n) [
@@ -54,3 +55,25 @@ set_summed rows new row word words inside was others this = record {
 
     other : (r : ℕ) → (r ≡ row → ⊥) → get_or (set words row word) r 0 ≡ get_or words r 0
     other r ne = get_or-set_other words row r word 0 ne
+
+-- a word is put into a row, beside the bits that are there
+module _ (row word : ℕ) (old new : List ℕ) (inside : row < length old) (is : new ≡ set old row (bit_or (get_or old row 0) word)) where
+  row_is : get_or new row 0 ≡ bit_or (get_or old row 0) word
+  row_is = ap (λ l. get_or l row 0) is ∙ get_or-set_same old row (bit_or (get_or old row 0) word) 0 inside
+
+  pub or_kept : (k : ℕ) → has_number old k ≡ true → has_number new k ≡ true
+  or_kept k has = elim (cases_same (k / 64) row) [
+    | inl at ↦
+        ap (λ r. has_bit (get_or new r 0) (k % 64)) at ∙ ap (λ w. has_bit w (k % 64)) row_is ∙ has_bit_or (get_or old row 0) word (k % 64)
+        ∙ or_left (has_bit (get_or old row 0) (k % 64)) (has_bit word (k % 64)) (ap (λ r. has_bit (get_or old r 0) (k % 64)) (sym at) ∙ has)
+    | inr ne ↦
+        ap (λ w. has_bit w (k % 64)) (ap (λ l. get_or l (k / 64) 0) is ∙ get_or-set_other old row (k / 64) (bit_or (get_or old row 0) word) 0 ne) ∙ has
+  ]
+
+  pub or_added : (k : ℕ) → k / 64 ≡ row → has_bit word (k % 64) ≡ true → has_number new k ≡ true
+  or_added k at has =
+      ap (λ r. has_bit (get_or new r 0) (k % 64)) at ∙ ap (λ w. has_bit w (k % 64)) row_is ∙ has_bit_or (get_or old row 0) word (k % 64)
+      ∙ or_right (has_bit (get_or old row 0) (k % 64)) (has_bit word (k % 64)) has
+
+pub or_bit : (a b i : ℕ) → has_bit b i ≡ true → has_bit (bit_or a b) i ≡ true
+or_bit a b i has = has_bit_or a b i ∙ or_right (has_bit a i) (has_bit b i) has

@@ -1,8 +1,6 @@
-pub mod ChainLemmas
 pub mod BitLemmas
 mod BlockLemmas
-pub mod MarkSetLemmas
-pub mod NodeChainLemmas
+pub mod PlaceSetLemmas
 pub mod ListLemmas
 pub mod LiveLemmas
 pub mod KeptLemmas

@@ -3,6 +3,7 @@ use Rattle.std.proofs.Common.{◌≡◌, ◌⊎◌, inl, inr, ℕ, zero, suc, �
 use Rattle.std.proofs.Math.ListN.{get_or-map}
 use Rattle.std.proofs.lemmas.List.{length-map}
 use Rattle.std.specs.List.{Contains}
+use Rattle.std.proofs.lemmas.Bool.{cases_lt}
 use Rattle.std.specs.Prelude.{Some, slice_get}
 use Rattle.std.proofs.lemmas.Option.{none-some, same_Some}
 
@@ -81,3 +82,12 @@ drop_step (y ∷ ys) (suc k) x there = drop_step ys k x there
 pub set_seam : {X : Type 0} (xs ys : List X) (x y : X) → set (xs ++ x ∷ ys) (length xs) y ≡ xs ++ y ∷ ys
 set_seam [] ys x y = refl
 set_seam (z ∷ xs) ys x y = ap (λ zs. z ∷ zs) (set_seam xs ys x y)
+
+pub cases_same : (a b : ℕ) → (a ≡ b) ⊎ (a ≡ b → ⊥)
+cases_same a b = elim (cases_lt a b) [
+  | inl less ↦ inr (λ s. omega (arith, s, less))
+  | inr more ↦ elim (cases_lt b a) [
+    | inl above ↦ inr (λ s. omega (arith, s, above))
+    | inr upto ↦ inl (omega (arith, more, upto))
+  ]
+]

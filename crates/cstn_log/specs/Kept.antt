@@ -7,8 +7,8 @@ use Rattle.cstn_pool.specs.Slots.{live_of}
 use Rattle.cstn_minset.specs.Sets.{Entries, IsPlaced, IsCovered}
 use Rattle.cstn_log.specs.Entries.{IsCoveredBy, IsLive, AllNew}
 use Rattle.cstn_log.specs.Cuts.{is_marked, rank, renumbered}
-use Rattle.cstn_log.specs.Chains.{AreNodeChains}
-use Rattle.cstn_log.specs.MarkSets.{AreMarkSets}
+use Rattle.cstn_label.specs.declared.props.Prop.{Prop}
+use Rattle.cstn_log.specs.PlaceSets.{AreMarked, AreStanding}
 
 -- the entry with its premises at the new places, where its list is cut to the marked places
 abbrev pub renewed : List Bool → Entry → Entry
@@ -59,29 +59,28 @@ pub record IsRoom (cap told marks : ℕ) : Type 0 where
   pub for_marks : cap ≤ marks
   pub few : cap ≤ 4194304
 
--- the room for the rows of the sets of the propositions, and for the links of the chains of the time-points
-pub record IsIndexRoom (cap nodes marks stands : ℕ) : Type 0 where
-  pub for_marks : cap / 64 * 52 + 52 ≤ marks
-  pub for_nodes : nodes + cap ≤ stands
-  pub few : nodes < 65536
+-- the room for the blocks of the sets of places
+pub record IsIndexRoom (cap marks stands : ℕ) : Type 0 where
+  pub for_marks : cap / 4096 * 52 + 52 ≤ marks
+  pub for_nodes : cap / 4096 * 52 + 52 ≤ stands
 
--- the words of the sets of the propositions, the links of the chains of the time-points with their ends, and what there is room
--- for
+-- the sets of the places that mark a proposition, those of the places at a time-point, the proposition of the time-points that
+-- have one, and how many blocks there is room for
 pub record IndexParts : Type 0 where
-  pub mark_words : List ℕ
-  pub node_links : List ℕ
-  pub node_lasts : List ℕ
+  pub marking : List (List ℕ)
+  pub standing : List (List ℕ)
+  pub watched : List (Option Prop)
   pub for_marks : ℕ
   pub for_nodes : ℕ
 
--- the sets and the chains are those of the entries, and there is room
-pub record IsIndexed (entries : List Entry) (nodes cap : ℕ) (c : IndexParts) : Type 0 where
-  pub marked : AreMarkSets entries c.mark_words
-  pub stand : AreNodeChains nodes entries c.node_links c.node_lasts
-  pub room : IsIndexRoom cap nodes c.for_marks c.for_nodes
+-- the sets have the live places of the entries, and there is room
+pub record IsIndexed (entries : List Entry) (cap : ℕ) (c : IndexParts) : Type 0 where
+  pub marked : AreMarked entries c.marking
+  pub stand : AreStanding c.watched entries c.standing
+  pub room : IsIndexRoom cap c.for_marks c.for_nodes
 
--- the entries are kept, with the sets of their places and the chains through them, and there is room
+-- the entries are kept, with the sets of their places, and there is room
 pub record IsLog (slots : List (Option (ℕ × Entry))) (births : ℕ) (table : Entries) (entries : List Entry) (ids : List SlotId) (nodes cap for_marks : ℕ) (index : IndexParts) : Type 0 where
   pub kept : IsKept slots births table entries ids nodes
   pub room : IsRoom (length slots) cap for_marks
-  pub indexed : IsIndexed entries nodes (length slots) index
+  pub indexed : IsIndexed entries (length slots) index

@@ -2,8 +2,8 @@
 //! bounds to which the rules add nothing.
 #![tactic(auto)]
 
+mod bits;
 mod blocks;
-mod chains;
 mod cuts;
 mod cutting;
 mod laws;
@@ -12,6 +12,7 @@ mod log;
 mod plans;
 mod putting;
 mod sets;
+mod watched;
 
 pub use blocks::Block;
 pub use cuts::{

@@ -1,4 +1,4 @@
-ghost use Rattle.std.specs.Prelude.{List, ◌≡◌, ◌⊎◌, ◌<◌, ◌≤◌, ◌+◌, ◌^◌, ◌++◌, ◌∷◌, [], ◌↔◌, ℕ, Some, None, false, length, take, IsTrue, IfNone, IfOk, IfSome};
+ghost use Rattle.std.specs.Prelude.{List, ◌≡◌, ◌⊎◌, ◌<◌, ◌≤◌, ◌+◌, ◌^◌, ◌++◌, ◌∷◌, [], ◌↔◌, ◌/◌, ◌%◌, ℕ, Some, None, true, false, length, take, IsTrue, IfNone, IfOk, IfSome};
 ghost use Rattle.std.specs.Prelude.{IsErr, IsOk, OnErr, slice_get, slice_index_or};
 ghost use Rattle.cstn_label.specs.Read.{the_bound};
 ghost use Rattle.std.specs.List.{Contains};
@@ -12,13 +12,16 @@ ghost use Rattle.cstn_minset.specs.Sets.{IsPlaced};
 ghost use Rattle.cstn_log.specs.Entries.{State, HasId, AreBornFrom, the_entries, IsBoundAt, IsDominator, IsCoveredBy, IsLive, AllNew, bases, first_entries};
 ghost use Rattle.cstn_log.specs.Cuts.{PremisesBelow, is_marked as is_marked_at, chosen, marked_staying, with_ancestors, last_marked, cut, part, dropped};
 ghost use Rattle.cstn_log.specs.Kept.{IsIdAt};
-ghost use Rattle.cstn_log.specs.Chains.{IsFirstLive, IsNext, IsBehind, IsMarkedAt, IsAtNode};
+ghost use Rattle.cstn_label.specs.declared.props.Prop.{Prop as TheProp};
+ghost use Rattle.cstn_log.specs.Blocks.{has_number};
+ghost use Rattle.cstn_log.specs.PlaceSets.{IsMarkedAt, IsAtNode, AreMarked, AreStanding};
 
-use crate::chains::{NO_PLACE, NodeChains, append_all};
+use crate::blocks::Block;
 use crate::cutting::{count_marked, cut, mark_ancestors, mark_staying};
 use crate::list::EntryList;
 use crate::putting::{clear, place_all};
-use crate::sets::MarkSets;
+use crate::sets::PlaceSets;
+use crate::watched::{all_watched, put_all, put_standing, watched_at};
 use cstn_label::{Bound, Label, NodeId, Prop, domination_is_an_order};
 use cstn_minset::MinSet;
 use cstn_net::Network;
@@ -35,17 +38,18 @@ const HINTS: usize = 16384;
 /// An entry is live while no later one dominates it. A pool has the bound of each entry, and a minimal set those of the live
 /// ones, each under the id that [`Log::slot`] answers. An entry keeps its id while entries before it are taken out, and only
 /// its place changes: premises are kept by slot, and a table tells the place of each. All memory of the log is taken by
-/// [`Log::start`]: 129.5 bytes for each entry that there may be, so 543 MB for the largest cap of 4,194,304, 816 bytes for each
-/// time-point, and 64 KB. Of these, 4 bytes an entry are links of the chain of its time-point, and 6.5 are for the sets of places whose
-/// labels mark a proposition, written only up to the last entry whose label marks something. One more byte an entry is used by
-/// [`Log::retract`] alone.
+/// [`Log::start`]: 132.2 bytes for each entry that there may be, so 555 MB for the largest cap of 4,194,304, 810 bytes for each
+/// time-point, and 64 KB. Of these, 13.2 bytes an entry are for the sets of places that mark a proposition and of those at its
+/// observer, written only up to the last place that is in one. One more byte an entry is used by [`Log::retract`] alone.
 #[derive(Drop)]
 pub struct Log {
     minimal: MinSet,
     list: EntryList,
-    // The places whose labels mark each proposition, and those at each time-point.
-    marking: MarkSets,
-    standing: NodeChains,
+    // The places whose labels mark each proposition, and those at the observer of each.
+    marking: PlaceSets,
+    standing: PlaceSets,
+    // For each time-point the proposition whose set has the places at it, if one has.
+    watched: Vec<Option<Prop>>,
     // Which entries stay when some are taken out.
     marks: Vec<bool>,
     // Places that were remembered. No answer of another call depends on them.
@@ -64,11 +68,11 @@ impl Model for Log {
     ghost invariant = { λ l. IsLog l.list.pool.slots l.list.pool.births l.minimal.table l.list.entries l.list.ids l.minimal.nodes
         l.list.cap (vec_capacity l.marks)
         (record {
-          mark_words = l.marking.words.items;
-          node_links = l.standing.links.items;
-          node_lasts = l.standing.lasts.items;
-          for_marks = vec_capacity l.marking.words;
-          for_nodes = vec_capacity l.standing.links;
+          marking = l.marking.parts.items;
+          standing = l.standing.parts.items;
+          watched = l.watched.items;
+          for_marks = vec_capacity l.marking.parts;
+          for_nodes = vec_capacity l.standing.parts;
         }) };
 }
 
@@ -84,7 +88,8 @@ impl Log {
         ensures derivation { IfOk result (λ log. IsDerivation (the_network net.now) (the_entries log.entries)) }
     {
         let nodes = net.count();
-        let mut log = Log::empty(alloc, nodes, cap)?;
+        let watched = all_watched(alloc, net)?;
+        let mut log = Log::empty(alloc, nodes, cap, watched)?;
         if nodes as u32 <= cap {
             log.push_bases(net);
         }
@@ -92,14 +97,19 @@ impl Log {
     }
 
     // A log with no entry.
-    fn empty(alloc: Global, nodes: u16, cap: u32) -> Result<Log, AllocError>
+    fn empty(
+        alloc: Global,
+        nodes: u16,
+        cap: u32,
+        watched: Vec<Option<Prop>>,
+    ) -> Result<Log, AllocError>
         requires { cap ≤ 4194304 }
         ensures { IfOk result (λ log. log ≡ record { entries = []; ids = []; births = 0; cap = cap; nodes = nodes }) }
     {
         let minimal = MinSet::start(alloc, nodes, cap)?;
         let list = EntryList::empty(alloc, cap)?;
-        let marking = MarkSets::empty(alloc, cap)?;
-        let standing = NodeChains::empty(alloc, nodes, cap)?;
+        let marking = PlaceSets::empty(alloc, cap)?;
+        let standing = PlaceSets::empty(alloc, cap)?;
         let marks = Vec::with_capacity(alloc, cap as usize)?;
         let hints = vec![in alloc; 0; HINTS]?;
         Ok(Log {
@@ -107,6 +117,7 @@ impl Log {
             list,
             marking,
             standing,
+            watched,
             marks,
             hints,
         })
@@ -158,8 +169,8 @@ impl Log {
         // A bound that follows by a rule is at a time-point of the network.
         prove!(e.bound.node.0 < count);
         self.minimal.place(&e.bound, id);
-        self.marking.append(place, e);
-        self.standing.append(place, e);
+        self.marking.put_marked(e.bound.label, place);
+        put_standing(&mut self.standing, &self.watched, e.bound.node, place);
         Ok(place)
     }
 
@@ -303,7 +314,12 @@ impl Log {
         place_all(&mut self.minimal, &self.list);
         self.marking.clear();
         self.standing.clear();
-        append_all(&mut self.marking, &mut self.standing, &self.list);
+        put_all(
+            &mut self.marking,
+            &mut self.standing,
+            &self.watched,
+            &self.list,
+        );
         (before - staying) as u32
     }
 
@@ -334,126 +350,39 @@ impl Log {
         self.standing.clear();
     }
 
-    /// The first live place from `from` up to `upto` whose entry's label marks p, or one above `upto` where there is none. Dead
-    /// places that are met are left out from then on, so that most are met once.
-    pub fn first_marked(&mut self, p: Prop, from: u32, upto: u32) -> u32
-        requires from { from ≤ length self.old.entries }
-        requires upto { upto < length self.old.entries }
-        ensures first { IsFirstLive (IsMarkedAt self.old.entries p.index) self.old.entries upto from result }
+    /// Puts into a block the live places whose entry's label marks p, of the stretch of 4,096 places with this number, each less
+    /// the first place of the stretch. It may put in places of dead entries too, and of others.
+    pub fn add_marking(&self, p: Prop, stretch: u32, block: &mut Block)
+        ensures kept { (k : ℕ) → has_number block.old k ≡ true → has_number block.new k ≡ true }
+        ensures added { (k : ℕ) → k / 4096 ≡ stretch → IsMarkedAt self.now.entries p.index k → IsLive self.now.entries k → has_number block.new (k % 4096) ≡ true }
+    {
+        self.marking.add_to(p, stretch, block);
+    }
+
+    /// Puts into a block the live places whose entry is at the time-point, as [`Log::add_marking`] does. It takes few steps where
+    /// the time-point is an observer.
+    pub fn add_standing(&self, x: NodeId, stretch: u32, block: &mut Block)
+        ensures kept { (k : ℕ) → has_number block.old k ≡ true → has_number block.new k ≡ true }
+        ensures added { (k : ℕ) → k / 4096 ≡ stretch → IsAtNode self.now.entries x.0 k → IsLive self.now.entries k → has_number block.new (k % 4096) ≡ true }
+    {
+        match watched_at(&self.watched, x) {
+            Some(p) => self.standing.add_to(p, stretch, block),
+            None => block.insert_all(),
+        }
+    }
+
+    /// Lets the place of a dead entry out of the sets of places, so that it is put into no block from then on, unless it is put
+    /// in for another place.
+    pub fn leave_out(&mut self, k: u32)
+        requires inside { k < length self.old.entries }
+        requires dead { ¬ IsLive self.old.entries k }
         ensures stays { self.new ≡ self.old }
     {
-        let _room = self.len();
-        let mut place = self.next_marked(p, from, upto);
-        while self.is_passed(place, from, upto) {
-            self.leave_out(p, place);
-            place = self.next_marked(p, place + 1, upto);
+        let b = self.list.bound(k as usize);
+        self.marking.remove_marked(b.label, k);
+        if let Some(p) = watched_at(&self.watched, b.node) {
+            self.standing.remove(p, k);
         }
-        place
-    }
-
-    // The first place from `from` up to `upto` in the set of p, or one above `upto` where there is none.
-    fn next_marked(&self, p: Prop, from: u32, upto: u32) -> u32
-        requires upto { upto < length self.now.entries }
-        ensures low { from ≤ result }
-        ensures here { result ≤ upto → IsMarkedAt self.now.entries p.index result }
-        ensures none { (k : ℕ) → from ≤ k → k ≤ upto → k < result → IsLive self.now.entries k → IsMarkedAt self.now.entries p.index k → ⊥ }
-    {
-        self.marking.next(p, from, upto)
-    }
-
-    // Takes the place of a dead entry out of the set of p.
-    fn leave_out(&mut self, p: Prop, place: u32)
-        requires inside { place < length self.old.entries }
-        requires dead { ¬ IsLive self.old.entries place }
-        ensures stays { self.new ≡ self.old }
-    {
-        self.marking.put(p, place, false);
-    }
-
-    // Whether a walk for the first live place from `from` up to `upto` goes on behind this place: it is before `from`, or is
-    // dead and not above `upto`.
-    fn is_passed(&self, place: u32, from: u32, upto: u32) -> bool
-        requires { upto < length self.now.entries }
-        ensures yes { IsTrue result → (place < from) ⊎ ((place ≤ upto) × ¬ IsLive self.now.entries place) }
-        ensures no { result ≡ false → (from ≤ place) × (place ≤ upto → IsLive self.now.entries place) }
-    {
-        if place < from {
-            return true;
-        }
-        if place > upto {
-            return false;
-        }
-        !self.live(place)
-    }
-
-    /// The first live place from `from` up to `upto` whose entry is at the time-point, or one above `upto` where there is none.
-    /// To save time, the walk starts at `near`, where that is a place before `from` at the time-point. Links are led past the
-    /// dead places that are met, so that most are met once.
-    pub fn first_at(&mut self, x: NodeId, from: u32, near: u32, upto: u32) -> u32
-        requires from { from ≤ length self.old.entries }
-        requires upto { upto < length self.old.entries }
-        requires node { x.0 < self.old.nodes }
-        ensures first { IsFirstLive (IsAtNode self.old.entries x.0) self.old.entries upto from result }
-        ensures stays { self.new ≡ self.old }
-    {
-        let _room = self.len();
-        let mut start = self.start_at(x, from, near);
-        let mut place = self.next_at(x, start);
-        while self.is_passed(place, from, upto) {
-            let after = self.next_at(x, place + 1);
-            start = self.step_at(x, start, place, after);
-            place = after;
-        }
-        place
-    }
-
-    // Where the walk to the first place from `from` on at the time-point starts: behind `near`, if that is before `from` and at
-    // the time-point, and else at 0, the start of the chain.
-    fn start_at(&self, x: NodeId, from: u32, near: u32) -> u32
-        requires { from ≤ length self.now.entries }
-        ensures upto { result ≤ from }
-        ensures behind { IsBehind (IsAtNode self.now.entries x.0) result }
-    {
-        if near >= from {
-            return 0;
-        }
-        if self.bound(near).node != x {
-            return 0;
-        }
-        near + 1
-    }
-
-    // The next place of the chain of x from `start` on, which is 0, its start, or one more than a place of it; NO_PLACE at its
-    // end.
-    fn next_at(&self, x: NodeId, start: u32) -> u32
-        requires node { x.0 < self.now.nodes }
-        requires inside { start ≤ length self.now.entries }
-        requires behind { IsBehind (IsAtNode self.now.entries x.0) start }
-        ensures { IsNext (IsAtNode self.now.entries x.0) (IsLive self.now.entries) start (length self.now.entries) result }
-    {
-        self.standing.next(x, start)
-    }
-
-    // From where the chain of x leads to `after`, its next place behind `place`: from `start`, by a new link, if `place` is
-    // dead and the chain goes on, and else from behind `place`.
-    fn step_at(&mut self, x: NodeId, start: u32, place: u32, after: u32) -> u32
-        requires node { x.0 < self.old.nodes }
-        requires inside { place < length self.old.entries }
-        requires behind { IsBehind (IsAtNode self.old.entries x.0) start }
-        requires here { IsNext (IsAtNode self.old.entries x.0) (IsLive self.old.entries) start (length self.old.entries) place }
-        requires next { IsNext (IsAtNode self.old.entries x.0) (IsLive self.old.entries) (place + 1) (length self.old.entries) after }
-        ensures stays { self.new ≡ self.old }
-        ensures behind { IsBehind (IsAtNode self.old.entries x.0) result }
-        ensures next { IsNext (IsAtNode self.old.entries x.0) (IsLive self.old.entries) result (length self.old.entries) after }
-    {
-        if after == NO_PLACE {
-            return place + 1;
-        }
-        if self.live(place) {
-            return place + 1;
-        }
-        self.standing.pass_over(x, start, after);
-        start
     }
 
     /// The id under which the pool keeps the entry at a place. A later entry has an id of a greater birth.

@@ -14,15 +14,27 @@ use Rattle.cstn_check.proofs.waits.try_wait.Goals as goal
 
 pub returns-then-not-live-clause-taken : goal.returns-then-not-live-clause-taken
 returns-then-not-live-clause-taken c =
-    idle_dead (the_network c.args.net.now) c.args.log.now (wait_at c.args.seen.place c.args.premise.place) c.requires.ready
+    rw c.leave_out.ensures.stays (idle_dead (the_network c.args.net.now) c.args.log.now (wait_at c.args.seen.place c.args.premise.place) c.requires.ready
     (dead_seen _ _ c.network_is_well_formed.ensures c.requires.ready c.args.seen.place c.args.premise.place
-    (λ live. false≢true (c.if-not-live.ensures.live.1 live)))
+    (λ live. false≢true (c.if-not-live.ensures.live.1 live))))
+
+pub returns-then-not-live-clause-ready : goal.returns-then-not-live-clause-ready
+returns-then-not-live-clause-ready c = rw c.leave_out.ensures.stays (λ e. c.requires.ready)
+
+pub returns-then-not-live-clause-floor : goal.returns-then-not-live-clause-floor
+returns-then-not-live-clause-floor c = rw c.leave_out.ensures.stays c.requires.floor
 
 pub returns-then-not-live-2-clause-taken : goal.returns-then-not-live-2-clause-taken
 returns-then-not-live-2-clause-taken c =
-    idle_dead (the_network c.args.net.now) c.args.log.now (wait_at c.args.seen.place c.args.premise.place) c.requires.ready
+    rw c.leave_out-then-not-live-2.ensures.stays (idle_dead (the_network c.args.net.now) c.args.log.now (wait_at c.args.seen.place c.args.premise.place) c.requires.ready
     (dead_other _ _ c.network_is_well_formed.ensures c.requires.ready c.args.seen.place c.args.premise.place
-    (λ live. false≢true (c.if-not-live-2.ensures.live.1 live)))
+    (λ live. false≢true (c.if-not-live-2.ensures.live.1 live))))
+
+pub returns-then-not-live-2-clause-ready : goal.returns-then-not-live-2-clause-ready
+returns-then-not-live-2-clause-ready c = rw c.leave_out-then-not-live-2.ensures.stays (λ e. c.requires.ready)
+
+pub returns-then-not-live-2-clause-floor : goal.returns-then-not-live-2-clause-floor
+returns-then-not-live-2-clause-floor c = rw c.leave_out-then-not-live-2.ensures.stays c.requires.floor
 
 pub returns-then-not-waits-clause-taken : goal.returns-then-not-waits-clause-taken
 returns-then-not-waits-clause-taken c =

@@ -15,18 +15,18 @@ use Rattle.cstn_check.proofs.waits.try_waits.Goals as goal
 
 pub loop-i-init : goal.loop-i-init
 loop-i-init c = record {
-  taken = rw c.next_waiting-i.ensures.stays (waits_to (the_network c.args.net.now) c.args.log.now c.args.log.now c.args.j 0 c.next_waiting-i.result c.network_is_well_formed.ensures
+  taken = waits_to (the_network c.args.net.now) c.args.log.now c.args.log.now c.args.j 0 c.next_waiting-i.result c.network_is_well_formed.ensures
       c.requires.ready c.requires.place c.next_waiting-i.ensures.upto.1 c.next_waiting-i.ensures.upto.0
-      c.next_waiting-i.ensures.none (idle (the_network c.args.net.now) c.args.log.now _ c.requires.ready refl));
-  ready = rw c.next_waiting-i.ensures.stays c.requires.ready;
+      c.next_waiting-i.ensures.none (idle (the_network c.args.net.now) c.args.log.now _ c.requires.ready refl);
+  ready = c.requires.ready;
   upto = c.next_waiting-i.ensures.upto.1;
   tries = omega arith;
   most = omega arith;
   concluding = omega arith;
-  bound = rw c.next_waiting-i.ensures.stays (has_bound c.args.log.now.entries c.args.j c.bound.result c.bound.ensures.bound);
-  floors = rw c.next_waiting-i.ensures.stays (floors_at_ground (the_network c.args.net.now) c.args.log.now (the_bound c.bound.result) c.requires.ready
-      (omega (arith, c.bound.ensures.node, c.requires.ready.nodes)));
-  ahead = λ upto. rw c.next_waiting-i.ensures.stays (c.next_waiting-i.ensures.ahead upto);
+  bound = has_bound c.args.log.now.entries c.args.j c.bound.result c.bound.ensures.bound;
+  floors = floors_at_ground (the_network c.args.net.now) c.args.log.now (the_bound c.bound.result) c.requires.ready
+      (omega (arith, c.bound.ensures.node, c.requires.ready.nodes));
+  ahead = c.next_waiting-i.ensures.ahead;
 }
 
 pub try_both-requires-clause-first : goal.try_both-requires-clause-first
@@ -57,23 +57,23 @@ loop-i-preserved c =
     let ready = c.in-Ok-false.ensures.ready c.in-Ok-false.field-0-test in
     let next = c.next_waiting-i-in-Ok-false in
     record {
-      taken = rw next.ensures.stays (waits_to (the_network c.args.net.now) c.args.log.now c.try_both.new.log c.args.j (c.loop-i.i + 1) next.result
+      taken = waits_to (the_network c.args.net.now) c.args.log.now c.try_both.new.log c.args.j (c.loop-i.i + 1) next.result
           c.network_is_well_formed.ensures ready
           (omega (arith, c.requires.place, c.loop-i.invariant.taken.longer.longer, c.in-Ok-false.ensures.taken.longer.longer))
           next.ensures.upto.1 next.ensures.upto.0 next.ensures.none
           (go_on (the_network c.args.net.now) c.args.log.now c.loop-i.log c.try_both.new.log (waits_below c.loop-i.i c.args.j)
           (wait_at c.loop-i.i c.args.j ∷ (wait_at c.args.j c.loop-i.i ∷ [])) c.loop-i.invariant.taken
           (waits_below (c.loop-i.i + 1) c.args.j) false (sym (waits_next c.loop-i.i c.args.j))
-          (taken_as c.in-Ok-false.field-0-test c.in-Ok-false.ensures.taken)));
-      ready = rw next.ensures.stays ready;
+          (taken_as c.in-Ok-false.field-0-test c.in-Ok-false.ensures.taken));
+      ready = ready;
       upto = next.ensures.upto.1;
       tries = omega (arith, c.loop-i.invariant.tries, c.in-Ok-false.ensures.tries);
       most = omega (arith, c.loop-i.invariant.most, c.in-Ok-false.ensures.most, next.ensures.upto.0);
-      bound = rw next.ensures.stays (bound_on c.loop-i.log.entries c.try_both.new.log.entries c.args.j (the_bound c.bound.result)
+      bound = bound_on c.loop-i.log.entries c.try_both.new.log.entries c.args.j (the_bound c.bound.result)
           (taken_on (the_network c.args.net.now) c.loop-i.log c.try_both.new.log (wait_at c.loop-i.i c.args.j ∷ (wait_at c.args.j c.loop-i.i ∷ [])) _ c.in-Ok-false.ensures.taken)
-          (omega (arith, size_is c.loop-i.log, c.requires.place, c.loop-i.invariant.taken.longer.longer)) c.loop-i.invariant.bound);
-      floors = rw next.ensures.stays (c.in-Ok-false.ensures.floors c.in-Ok-false.field-0-test);
-      ahead = λ upto. rw next.ensures.stays (next.ensures.ahead upto);
+          (omega (arith, size_is c.loop-i.log, c.requires.place, c.loop-i.invariant.taken.longer.longer)) c.loop-i.invariant.bound;
+      floors = c.in-Ok-false.ensures.floors c.in-Ok-false.field-0-test;
+      ahead = next.ensures.ahead;
       concluding = pairs_step (the_network c.args.net.now) c.args.log.now c.loop-i.log c.args.j c.loop-i.i next.result (waits_below c.loop-i.i c.args.j) c.args.tries.now.count c.loop-i.tries.count c.try_both.new.tries.count c.loop-i.invariant.taken c.requires.place
           (omega (arith, c.requires.place, c.loop-i-test.true)) c.loop-i.invariant.concluding c.in-Ok-false.ensures.concluding next.ensures.upto.0;
     }
@@ -97,7 +97,7 @@ next_waiting-i-requires-clause-ahead c = c.start-walk.ensures.ahead (the_network
 
 pub next_waiting-i-requires-in-Ok-false-clause-ahead : goal.next_waiting-i-requires-in-Ok-false-clause-ahead
 next_waiting-i-requires-in-Ok-false-clause-ahead c =
-    ahead_on (the_network c.args.net.now) c.loop-i.log.entries c.try_both.new.log.entries c.args.j (c.loop-i.i + 1) _ _ _ _ _
+    ahead_on (the_network c.args.net.now) c.loop-i.log.entries c.try_both.new.log.entries c.args.j (c.loop-i.i + 1) _ _ _
     (taken_on (the_network c.args.net.now) c.loop-i.log c.try_both.new.log (wait_at c.loop-i.i c.args.j ∷ (wait_at c.args.j c.loop-i.i ∷ [])) _ c.in-Ok-false.ensures.taken)
     (omega (arith, c.requires.place, c.loop-i.invariant.taken.longer.longer)) (c.loop-i.invariant.ahead c.loop-i-test.true)
 

@@ -18,7 +18,7 @@ invariant-loop-i l = record {
   most : l.tries.count ≤ l.fn.tries.count + 2 * l.i;
   bound : HasBound l.log.entries l.fn.j (the_bound l.own.bound);
   floors : AreFloors (the_network l.fn.net) (the_entries l.log.entries) (the_bound l.own.bound) l.floors;
-  ahead : l.i ≤ l.fn.j → IsAhead (the_network l.fn.net) l.log.entries l.fn.j (l.i + 1) l.walk.block l.walk.start l.walk.end l.walk.sees l.walk.marking;
+  ahead : l.i ≤ l.fn.j → IsAhead (the_network l.fn.net) l.log.entries l.fn.j (l.i + 1) l.walk.block l.walk.start l.walk.end;
   concluding : l.tries.count ≤ l.fn.tries.count + total (concludes_with (the_network l.fn.net) (the_entries l.fn.log.entries) l.fn.j) l.i;
 }
 

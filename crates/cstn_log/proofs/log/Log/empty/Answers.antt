@@ -1,6 +1,7 @@
 use Rattle.std.proofs.Common.{arith}
 use Rattle.std.proofs.lemmas.List.{length-replicate}
 use Rattle.cstn_log.proofs.KeptLemmas.{kept_empty, no_slot}
+use Rattle.cstn_log.proofs.PlaceSetLemmas.{none_marked, none_standing}
 use Rattle.cstn_log.proofs.log.Log.empty.Goals as goal
 
 pub invariant_of-result : goal.invariant_of-result
@@ -13,12 +14,11 @@ invariant_of-result c =
         few = omega (arith, c.requires, length-replicate c.args.cap no_slot);
       };
       indexed = record {
-        marked = c.in_ok-marking.ensures.sets;
-        stand = c.in_ok-standing.ensures.chains;
+        marked = none_marked c.in_ok-marking.marking.parts.items;
+        stand = none_standing c.args.watched.items c.in_ok-standing.standing.parts.items;
         room = record {
           for_marks = rw (length-replicate c.args.cap no_slot) c.in_ok-marking.ensures.room;
-          for_nodes = omega (arith, c.in_ok-standing.ensures.room, length-replicate c.args.cap no_slot);
-          few = omega (arith, c.ranges.nodes);
+          for_nodes = rw (length-replicate c.args.cap no_slot) c.in_ok-standing.ensures.room;
         };
       };
     })

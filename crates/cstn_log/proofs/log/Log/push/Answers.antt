@@ -10,6 +10,7 @@ use Rattle.cstn_log.specs.Entries.{State, the_entries, IsCoveredBy}
 use Rattle.cstn_log.proofs.KeptLemmas.{few, unplaced, uncovered_there, born_before}
 use Rattle.cstn_log.proofs.PushLemmas.{push_step, slot_empty}
 use Rattle.cstn_log.proofs.DerivedLemmas.{follows_inside, pushed_derivation}
+use Rattle.cstn_log.proofs.PlaceSetLemmas.{marked_more, standing_more}
 use Rattle.cstn_log.proofs.log.Log.push.Goals as goal
 
 pub prove-unreachable-requires : goal.prove-unreachable-requires
@@ -60,7 +61,6 @@ invariant_of-self-2 c =
     let L = c.self.inside.list.entries in
     let follows = subst (λ (v : State). Follows (the_network c.args.net.now) (the_entries v.entries) (length v.entries) c.args.e.why (the_bound c.args.e.bound)) (sym c.self.view_is) c.requires.follows in
     let index = c.self.invariant.indexed in
-    let ends : length c.self.inside.standing.lasts.items ≡ c.self.inside.minimal.nodes = index.stand.lasts_size in
     let same : c.place.new.self.nodes ≡ c.self.inside.minimal.nodes = ap (λ v. v.nodes) placed.2 in
     let long : length L ≡ c.len-place.result = omega (arith, c.len-place.ensures.len) in
     record {
@@ -71,20 +71,27 @@ invariant_of-self-2 c =
         few = omega (arith, size, room.few);
       };
       indexed = record {
-        marked = rw longer (c.append.ensures.sets L index.marked long);
-        stand = rw (longer, same, ← ends) (c.append-2.ensures.chains L (rw ends index.stand) long);
+        marked = rw longer (marked_more L c.args.e c.self.inside.marking.parts.items c.put_marked.new.self.parts.items c.put_marked.ensures.kept
+            (rw (← long) at c.put_marked.ensures.here) index.marked);
+        stand = rw longer (standing_more L c.args.e c.self.inside.standing.parts.items c.put_standing.new.standing.parts.items c.put_standing.ensures.kept c.self.inside.watched.items
+            (rw (← long, c.deref.ensures.value) at c.put_standing.ensures.here) index.stand);
         room = record {
-          for_marks = rw size (omega (arith, index.room.for_marks, c.append.ensures.room));
-          for_nodes = omega (arith, size, same, index.room.for_nodes, c.append-2.ensures.room);
-          few = omega (arith, same, index.room.few);
+          for_marks = rw size (omega (arith, index.room.for_marks, c.put_marked.ensures.room));
+          for_nodes = rw size (omega (arith, index.room.for_nodes, c.put_standing.ensures.room));
         };
       };
     }
 
-pub append-requires : goal.append-requires
-append-requires c =
+pub put_marked-requires : goal.put_marked-requires
+put_marked-requires c =
     let inside = slice_get_within c.self.inside.list.pool.slots c.in_ok-id.id.slot None c.in_ok-id.ensures.empty in
-    omega (arith, c.self.invariant.indexed.room.for_marks)
+    let room = few _ _ _ _ c.self.invariant.kept.pooled in
+    omega (arith, inside, room, c.self.invariant.kept.size, c.len-place.ensures.len, c.self.invariant.indexed.room.for_marks)
+
+pub put_standing-requires : goal.put_standing-requires
+put_standing-requires c =
+    let room = few _ _ _ _ c.self.invariant.kept.pooled in
+    omega (arith, room, c.self.invariant.kept.size, c.len-place.ensures.len, c.self.invariant.indexed.room.for_nodes)
 
 -- the id of a slot and a birth
 abbrev the_id : ℕ → ℕ → SlotId

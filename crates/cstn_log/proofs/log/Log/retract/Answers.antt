@@ -111,43 +111,27 @@ place_all-requires-clause-nodes c =
     let cut_is : the_entries c.keep.new.self.entries ≡ cut M (the_entries E) = ap the_entries kept ∙ renewed_cut M E in
     rw (ap (λ v. v.nodes) c.clear-2.ensures) (cut_inside M E c.keep.new.self.entries c.self.inside.minimal.nodes cut_is c.self.invariant.kept.inside)
 
-pub append_all-requires-clause-room : goal.append_all-requires-clause-room
-append_all-requires-clause-room c =
+pub put_all-requires-clause-room : goal.put_all-requires-clause-room
+put_all-requires-clause-room c =
     let E = c.self.inside.list.entries in
     let I = c.self.inside.list.ids in
     let M = c.mark_staying.new.marks.items in
     let kept : c.keep.new.self.entries ≡ chosen M (map (renewed M) E) = ap (λ v. v.entries) (rw c.deref-2.ensures.value at c.keep.ensures.kept) in
     let short : length c.keep.new.self.entries ≤ length c.self.inside.list.pool.slots = omega (arith, ap length kept, length_left M E, rank_upto M (length E), c.self.invariant.kept.size, few _ _ _ _ c.self.invariant.kept.pooled) in
     let index = c.self.invariant.indexed in
-    let ends : length c.self.inside.standing.lasts.items ≡ c.self.inside.minimal.nodes = index.stand.lasts_size in
-    let lasts : length c.clear-4.new.self.lasts.items ≡ length c.self.inside.standing.lasts.items = c.clear-4.ensures.chains.lasts_size in
     let room = index.room.for_marks in
     let same = c.clear-3.ensures.room in
-    (omega (arith, short, room, same), omega (arith, short, lasts, ends, index.room.for_nodes, c.clear-4.ensures.room))
+    (omega (arith, short, room, same), omega (arith, short, index.room.for_nodes, c.clear-4.ensures.room))
 
-pub append_all-requires-clause-few : goal.append_all-requires-clause-few
-append_all-requires-clause-few c =
+pub put_all-requires-clause-few : goal.put_all-requires-clause-few
+put_all-requires-clause-few c =
     let E = c.self.inside.list.entries in
     let I = c.self.inside.list.ids in
     let M = c.mark_staying.new.marks.items in
     let kept : c.keep.new.self.entries ≡ chosen M (map (renewed M) E) = ap (λ v. v.entries) (rw c.deref-2.ensures.value at c.keep.ensures.kept) in
     let short : length c.keep.new.self.entries ≤ length c.self.inside.list.pool.slots = omega (arith, ap length kept, length_left M E, rank_upto M (length E), c.self.invariant.kept.size, few _ _ _ _ c.self.invariant.kept.pooled) in
     let index = c.self.invariant.indexed in
-    let ends : length c.self.inside.standing.lasts.items ≡ c.self.inside.minimal.nodes = index.stand.lasts_size in
-    let lasts : length c.clear-4.new.self.lasts.items ≡ length c.self.inside.standing.lasts.items = c.clear-4.ensures.chains.lasts_size in
-    (omega (arith, short, c.self.invariant.room.few), omega (arith, lasts, ends, index.room.few))
-
-pub append_all-requires-clause-inside : goal.append_all-requires-clause-inside
-append_all-requires-clause-inside c =
-    let E = c.self.inside.list.entries in
-    let I = c.self.inside.list.ids in
-    let M = c.mark_staying.new.marks.items in
-    let kept : c.keep.new.self.entries ≡ chosen M (map (renewed M) E) = ap (λ v. v.entries) (rw c.deref-2.ensures.value at c.keep.ensures.kept) in
-    let cut_is : the_entries c.keep.new.self.entries ≡ cut M (the_entries E) = ap the_entries kept ∙ renewed_cut M E in
-    let index = c.self.invariant.indexed in
-    let ends : length c.self.inside.standing.lasts.items ≡ c.self.inside.minimal.nodes = index.stand.lasts_size in
-    let lasts : length c.clear-4.new.self.lasts.items ≡ length c.self.inside.standing.lasts.items = c.clear-4.ensures.chains.lasts_size in
-    rw (lasts, ends) (cut_inside M E c.keep.new.self.entries c.self.inside.minimal.nodes cut_is c.self.invariant.kept.inside)
+    omega (arith, short, c.self.invariant.room.few)
 
 pub overflow_sub-result : goal.overflow_sub-result
 overflow_sub-result c =
@@ -172,8 +156,6 @@ invariant_of-self-2 c =
     let pooled : IsPooled c.keep.new.self.pool.slots c.self.inside.list.pool.births (chosen M (map (renewed M) E)) (chosen M I) = left_pooled M c.self.inside.list.pool.births E I c.self.inside.list.pool.slots c.keep.new.self.pool.slots c.self.invariant.kept.pooled c.self.invariant.kept.size left in
     let cleared : length c.clear-2.new.self.table ≡ length c.self.inside.minimal.table = ap (λ v. length v.table) c.clear-2.ensures ∙ length-replicate _ _ in
     let index = c.self.invariant.indexed in
-    let ends : length c.self.inside.standing.lasts.items ≡ c.self.inside.minimal.nodes = index.stand.lasts_size in
-    let lasts : length c.clear-4.new.self.lasts.items ≡ length c.self.inside.standing.lasts.items = c.clear-4.ensures.chains.lasts_size in
     let whole : the_entries c.keep.new.self.entries ≡ dropped (the_entries E) c.args.constraint = cut_is ∙ ap (λ m. cut m (the_entries E)) marks in
     let room = c.self.invariant.room in
     let size = left.size in
@@ -193,12 +175,11 @@ invariant_of-self-2 c =
         few = omega (arith, size, room.few);
       };
       indexed = record {
-        marked = c.append_all.ensures.marks;
-        stand = rw (same, ← ends, ← lasts) c.append_all.ensures.nodes;
+        marked = c.put_all.ensures.marking;
+        stand = rw c.deref-4.ensures.value at c.put_all.ensures.standing;
         room = record {
-          for_marks = rw size (omega (arith, index.room.for_marks, c.clear-3.ensures.room, c.append_all.ensures.room.0));
-          for_nodes = omega (arith, size, same, index.room.for_nodes, c.clear-4.ensures.room, c.append_all.ensures.room.1);
-          few = omega (arith, same, index.room.few);
+          for_marks = rw size (omega (arith, index.room.for_marks, c.clear-3.ensures.room, c.put_all.ensures.room.0));
+          for_nodes = rw size (omega (arith, index.room.for_nodes, c.clear-4.ensures.room, c.put_all.ensures.room.1));
         };
       };
     }
