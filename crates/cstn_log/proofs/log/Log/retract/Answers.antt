@@ -176,7 +176,7 @@ invariant_of-self-2 c =
       };
       indexed = record {
         marked = c.put_all.ensures.marking;
-        stand = rw c.deref-4.ensures.value at c.put_all.ensures.standing;
+        stand = rw c.deref-3.ensures.value at c.put_all.ensures.standing;
         room = record {
           for_marks = rw size (omega (arith, index.room.for_marks, c.clear-3.ensures.room, c.put_all.ensures.room.0));
           for_nodes = rw size (omega (arith, index.room.for_nodes, c.clear-4.ensures.room, c.put_all.ensures.room.1));
