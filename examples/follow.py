@@ -13,13 +13,16 @@ import tempfile
 
 DOCUMENT = os.path.join(os.path.dirname(os.path.abspath(__file__)), "clinical-pathway.graphml")
 
+# How the answer to a line begins that was accepted.
+ACCEPTED = ("yes ", "no ", "full ", "added ", "removed ", "changed ", "deadline ")
+
 # What happens at the bedside: the sample is in time, its result is late at first and then earlier than was said, the antibiotic
 # is late too, and the rest is done when it is named.
 EVENTS = ["did 5 Sample", "now 65", "await 90 i", "saw 80 i true", "did 91 Antibiotic", "did 211 Review", "did 221 Discharge"]
 
 
 class Followed:
-    """A session over a document, with the journal of the lines that it accepted."""
+    """A session over a document, with the journal of the lines that it accepted. It asks no line whose answer has more than one."""
 
     def __init__(self, program, document, journal):
         self.child = subprocess.Popen([program, "follow", document], stdin=subprocess.PIPE, stdout=subprocess.PIPE, text=True, encoding="utf-8")
@@ -32,19 +35,19 @@ class Followed:
             self.journal.truncate(len(whole + end))
         for line in whole.decode().split("\n") if end else []:
             self.verdict = self.ask(line)
-            if self.verdict.startswith("refused "):
+            if not self.verdict.startswith(ACCEPTED):
                 sys.exit(f"{journal}: {line}: {self.verdict}")
 
     def ask(self, line):
         print(line, file=self.child.stdin, flush=True)
         answer = self.child.stdout.readline()
-        if answer in ("", "memory\n"):
+        if not answer.endswith("\n") or answer.startswith(("memory", "script ", "read fault")):
             sys.exit(f"no answer to: {line}")
         return answer.rstrip("\n")
 
     def tell(self, line):
         self.verdict = self.ask(line)
-        if not self.verdict.startswith("refused "):
+        if self.verdict.startswith(ACCEPTED):
             self.journal.write(line.encode() + b"\n")
             self.journal.flush()
             os.fsync(self.journal.fileno())
