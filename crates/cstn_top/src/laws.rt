@@ -119,8 +119,9 @@ pub fn followed_verdicts_are_true()
 /// After yes `next` is answered by `done` where nothing is left, and else by the next moment with exactly the names of the time-points
 /// that are named and the outcomes that are awaited at it; `by`, unless it is refused, by the last moment until which the time-point can
 /// wait. After no `blame` is answered by the ids of constraints by which alone no table continues what has happened, while without any
-/// one of them some table does. That a log is full is said only where one that was tried is. The lines end with `done` exactly where
-/// nothing is left. And a line that is refused changes nothing but the count of lines.
+/// one of them some table does. That a log is full is said only where that of what is left with the time-point at some moment or later,
+/// or of what is left by some of the constraints alone, has more entries than it may. The lines end with `done` exactly where nothing is
+/// left. And a line that is refused changes nothing but the count of lines.
 pub fn followed_answers_are_true()
     ensures next { (s t : Following) (bytes text : List ℕ) → IsReached s → follow_read bytes ≡ Some asks_next → follow_turn s bytes ≡ more text t
         → (t ≡ counted s) × AnswersNext s (verdict_now s) text }
