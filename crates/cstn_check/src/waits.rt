@@ -67,18 +67,18 @@ fn try_wait(
     if !waits(net, &seen.bound, &premise.bound) {
         return Ok(false);
     }
-    let Some(bound) = wait(net, &seen.bound, &premise.bound, tries) else {
-        return Ok(false);
-    };
-    if is_upto(&bound, *floor) {
-        return Ok(false);
-    }
     if !log.live(seen.place) {
         log.leave_out(seen.place);
         return Ok(false);
     }
     if !log.live(premise.place) {
         log.leave_out(premise.place);
+        return Ok(false);
+    }
+    let Some(bound) = wait(net, &seen.bound, &premise.bound, tries) else {
+        return Ok(false);
+    };
+    if is_upto(&bound, *floor) {
         return Ok(false);
     }
     let why = Why::Wait {

@@ -141,19 +141,3 @@ returns-then-is_upto-clause-concluding c =
     ap how_many (wait_concludes_from _ _ c.network_is_well_formed.ensures c.requires.ready c.args.seen.place c.args.premise.place (the_bound c.args.seen.bound) (the_bound c.args.premise.bound) w.0
     (the_bound c.in-Some.bound) c.requires.seen_bound c.requires.bound w.1) in
     omega (arith, one, c.wait.ensures.counted)
-
-pub returns-then-not-live-clause-concluding : goal.returns-then-not-live-clause-concluding
-returns-then-not-live-clause-concluding c =
-    let w = c.in-Some.ensures.wait in
-    let one : concludes (the_network c.args.net.now) (the_entries c.args.log.now.entries) c.args.seen.place c.args.premise.place ≡ 1 =
-    ap how_many (wait_concludes_from _ _ c.network_is_well_formed.ensures c.requires.ready c.args.seen.place c.args.premise.place (the_bound c.args.seen.bound) (the_bound c.args.premise.bound) w.0
-    (the_bound c.in-Some.bound) c.requires.seen_bound c.requires.bound w.1) in
-    omega (arith, one, c.wait.ensures.counted)
-
-pub returns-then-not-live-2-clause-concluding : goal.returns-then-not-live-2-clause-concluding
-returns-then-not-live-2-clause-concluding c =
-    let w = c.in-Some.ensures.wait in
-    let one : concludes (the_network c.args.net.now) (the_entries c.args.log.now.entries) c.args.seen.place c.args.premise.place ≡ 1 =
-    ap how_many (wait_concludes_from _ _ c.network_is_well_formed.ensures c.requires.ready c.args.seen.place c.args.premise.place (the_bound c.args.seen.bound) (the_bound c.args.premise.bound) w.0
-    (the_bound c.in-Some.bound) c.requires.seen_bound c.requires.bound w.1) in
-    omega (arith, one, c.wait.ensures.counted)
