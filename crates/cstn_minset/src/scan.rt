@@ -104,16 +104,17 @@ fn under_on_page(page: &Page, b: &Bound) -> Option<usize>
     None
 }
 
-// Whether the record dominates the bound, where both are of one time-point.
+// Whether the record dominates the bound, where both are of one time-point. Of the records on a page that is looked at, most
+// are told by the label.
 fn is_over(kept: Record, b: &Bound) -> bool
     ensures { IsTrue result ↔ IsRecordOver b.now kept }
 {
-    b.least <= kept.least && kept.label.is_within(b.label)
+    kept.label.is_within(b.label) && b.least <= kept.least
 }
 
 // Whether the bound dominates the record, where both are of one time-point.
 fn is_under(kept: Record, b: &Bound) -> bool
     ensures { IsTrue result ↔ IsRecordUnder b.now kept }
 {
-    kept.least <= b.least && b.label.is_within(kept.label)
+    b.label.is_within(kept.label) && kept.least <= b.least
 }
