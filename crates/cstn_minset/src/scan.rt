@@ -104,7 +104,8 @@ fn under_on_page(page: &Page, b: &Bound) -> Option<usize>
     None
 }
 
-// Whether the record dominates the bound, where both are of one time-point.
+// Whether the record dominates the bound, where both are of one time-point. Of the records on a page that is looked at, most
+// are told by the label.
 fn is_over(kept: Record, b: &Bound) -> bool
     ensures { IsTrue result ↔ IsRecordOver b.now kept }
 {
