@@ -1,8 +1,8 @@
 -- Edits of the network that a session follows.
-use Rattle.std.proofs.Common.{ℕ, ◌≡◌, ◌≢◌, ◌+◌, ◌<◌, ◌≤◌, inl, inr, true, false, not, List, [], ◌∷◌, ◌++◌, Option, None, Some, length, map, arith, refl, ap, sym, subst, ◌∙◌}
+use Rattle.std.proofs.Common.{ℕ, suc, ◌≡◌, ◌≢◌, ◌+◌, ◌<◌, ◌≤◌, inl, inr, true, false, not, List, [], ◌∷◌, ◌++◌, Option, None, Some, length, map, arith, refl, ap, sym, subst, ◌∙◌}
 use Rattle.std.specs.Prelude.{ℤ, ◌==◌, ◌↔◌, if◌then◌else◌, IsNone, IfNone, IfSome}
 use Rattle.std.specs.List.{All, filter}
-use Rattle.std.proofs.lemmas.Bool.{cases_Bool, cases_lt}
+use Rattle.std.proofs.lemmas.Bool.{cases_Bool, cases_lt, ne_eqb}
 use Rattle.std.proofs.lemmas.List.{length-map, get_or-map, map-append}
 use Rattle.std.proofs.lemmas.List.Elements.{All-filter, All-map, All-push, All-weaker}
 use Rattle.cstn_label.specs.declared.labels.Label.{Label as Words}
@@ -12,7 +12,6 @@ use Rattle.cstn_net.specs.declared.constraints.Constraint.{Constraint}
 use Rattle.cstn_net.specs.declared.points.TimePoint.{TimePoint}
 use Rattle.cstn_net.specs.Networks.{Constraint as TheConstraint}
 use Rattle.cstn_net.specs.Read.{NetworkParts, the_network, the_constraint, observed, reaction_of, has_id, without_id, with_most}
-use Rattle.cstn_net.proofs.ChangeLemmas.{none_taken}
 use Rattle.cstn_lift.specs.declared.errors.LiftError.{LiftError}
 use Rattle.cstn_lift.specs.Faults.{HasLiftFault, IsLiftRefusal, lift_number}
 use Rattle.cstn_lift.specs.Labelled.{Labelled}
@@ -117,6 +116,12 @@ with_most_seen id most (c ∷ cs) =
     ap (λ d. d ∷ map the_constraint (map (with_most id most) cs)) (one_with_seen id most c)
     ∙ ap (λ ds. with_value id most (the_constraint c) ∷ ds) (with_most_seen id most cs)
 
+others_stay : (id : ℕ) (cs : List Constraint) → All (λ c. c.id ≢ id) cs → without_id id cs ≡ cs
+others_stay id [] others = refl
+others_stay id (c ∷ cs) others =
+    let here : has_id id c ≡ false = ne_eqb c.id id (others 0 c (omega arith)) in
+    rw here (ap (λ ds. c ∷ ds) (others_stay id cs (λ k d inside. others (suc k) d (omega arith))))
+
 pub constraint_taken : (old new : NetworkParts) (id : ℕ) (o : Option Constraint) → IsNone o ↔ All (λ c. c.id ≢ id) old.constraints → IfNone o (new ≡ old)
     → IfSome o (λ c. new ≡ record old { constraints = without_id id old.constraints; spare = old.spare + 1 })
     → IsEdited old new (filter (λ c. not (c.id == id)) (the_network old).constraints)
@@ -124,7 +129,7 @@ constraint_taken old new id None none same gone = record {
   points = ap (λ (n : NetworkParts). n.points) same;
   deadline = ap (λ (n : NetworkParts). n.deadline) same;
   constraints = ap (λ (n : NetworkParts). (the_network n).constraints) same
-      ∙ ap (map the_constraint) (sym (none_taken id old.constraints (none.0 refl))) ∙ map_without id old.constraints;
+      ∙ ap (map the_constraint) (sym (others_stay id old.constraints (none.0 refl))) ∙ map_without id old.constraints;
 }
 constraint_taken old new id (Some c) none same gone = record {
   points = ap (λ (n : NetworkParts). n.points) gone;

@@ -3,9 +3,8 @@ use Rattle.std.proofs.Common.{ℕ, zero, ◌≡◌, ◌⊎◌, inl, inr, ◌/◌
 use Rattle.std.proofs.lemmas.Bool.{cases_lt, false≢true, or_left, or_right}
 use Rattle.std.proofs.lemmas.List.{get_or-replicate, get_or_past, length-replicate, get_or-set_same, get_or-set_other}
 use Rattle.cstn_label.specs.Words.{has_bit}
-use Rattle.cstn_label.proofs.WordLemmas.{has_bit_or}
 use Rattle.cstn_log.specs.Blocks.{has_number, AreSummed}
-use Rattle.cstn_log.proofs.BitLemmas.{none_in_zero}
+use Rattle.cstn_log.proofs.BitLemmas.{none_in_zero, has_bit_or}
 use Rattle.cstn_log.proofs.ListLemmas.{cases_same}
 
 zero_at : (n k : ℕ) → get_or (replicate n zero) k zero ≡ zero
