@@ -1,11 +1,20 @@
 ghost use Rattle.std.specs.Prelude.{◌≡◌, length, IfOk};
 
 use crate::bottling::{SOUR, point};
-use cstn_label::{Label, Mark};
+use cstn_label::{Label, Mark, NodeId};
 use cstn_lift::{Labelled, lift};
 use cstn_net::Builder;
 use cstn_text::{NameKey, Names};
 use std::alloc::{AllocError, Global};
+
+/// The time-points of `heating` after the origin, in the order in which it adds them. Here the sample is taken.
+pub const SAMPLE: NodeId = NodeId(1);
+
+/// Heating begins.
+pub const HEAT: NodeId = NodeId(2);
+
+/// The batch is filled.
+pub const FILL: NodeId = NodeId(3);
 
 /// The network of bottling a batch that is heated before where its sample is sour, in minutes from its start, and the names
 /// of its time-points.

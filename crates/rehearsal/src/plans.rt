@@ -8,8 +8,8 @@ use cstn_log::SoundPlan;
 use cstn_net::Network;
 use std::alloc::{AllocError, Global};
 
-// How many bounds a check may derive.
-const CAP: u32 = 65_536;
+/// How many bounds a check may derive.
+pub const CAP: u32 = 65_536;
 
 /// The plan of a network. There is none where the network has no strategy, or where a check derives more than `CAP` bounds.
 pub fn plan_of(alloc: Global, net: Network) -> Result<Option<SoundPlan>, AllocError>

@@ -1,4 +1,7 @@
+use crate::events::Event;
+use crate::outlooks::Outlook;
 use cstn_label::{NodeId, Prop};
+use cstn_next::NextMoment;
 use cstn_text::Names;
 use std::io;
 
@@ -9,16 +12,58 @@ pub fn print_named(rt: &impl Print, t: u32, named: &[NodeId], names: &Names) -> 
         return Ok(());
     }
     print!(rt; "{t}")?;
+    print_names(rt, named, names)?;
+    println!(rt)
+}
+
+// Prints the names of time-points, a space before each; the number of one that has no name.
+fn print_names(rt: &impl Print, named: &[NodeId], names: &Names) -> io::Result<()> {
     for x in named {
         match names.as_slice().get(x.index()) {
             Some(name) => print!(rt; " {name}")?,
             None => print!(rt; " {}", x.number())?,
         }
     }
-    println!(rt)
+    Ok(())
 }
 
 /// Prints a moment, and an outcome that is handed in before it.
 pub fn print_outcome(rt: &impl Print, t: u32, prop: Prop, value: bool) -> io::Result<()> {
     println!(rt; "{t} {} is {value}", prop.letter() as char)
+}
+
+/// Prints a moment, and what happens at it.
+pub fn print_event(rt: &impl Print, t: u32, event: Event, names: &Names) -> io::Result<()> {
+    match event {
+        Event::Passed => println!(rt; "{t} now"),
+        Event::Executed(x) => print_named(rt, t, &[x], names),
+        Event::Observed(p, value) => print_outcome(rt, t, p, value),
+        Event::Expected(p) => println!(rt; "{t} {} is expected", p.letter() as char),
+    }
+}
+
+/// Prints whether a plan can still be carried out, and what is next then.
+pub fn print_outlook(rt: &impl Print, outlook: &Outlook, names: &Names) -> io::Result<()> {
+    match outlook {
+        Outlook::Next(next) => print_next(rt, next, names),
+        Outlook::Finished => println!(rt; "yes, all is done"),
+        Outlook::Impossible => println!(rt; "no"),
+        Outlook::Unknown => println!(rt; "not known"),
+    }
+}
+
+// Prints the next moment, the names of the time-points to be executed then, and the outcomes that are awaited then.
+fn print_next(rt: &impl Print, next: &NextMoment, names: &Names) -> io::Result<()> {
+    print!(rt; "yes, next {}", next.moment)?;
+    print_names(rt, &next.named, names)?;
+    print_awaited(rt, &next.awaited)?;
+    println!(rt)
+}
+
+// Prints the outcomes that are awaited, each as a question.
+fn print_awaited(rt: &impl Print, awaited: &[Prop]) -> io::Result<()> {
+    for prop in awaited {
+        print!(rt; " {}?", prop.letter() as char)?;
+    }
+    Ok(())
 }

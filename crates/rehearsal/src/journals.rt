@@ -1,0 +1,129 @@
+ghost use Rattle.std.specs.Prelude.{◌≡◌, ◌<◌, ◌↔◌, IsTrue, IfOk, OnOk, OnErr};
+ghost use Rattle.std.specs.List.{All};
+ghost use Rattle.cstn_net.specs.Read.{the_network};
+ghost use Rattle.cstn_net.specs.Strategies.{IsConsistent};
+ghost use Rattle.cstn_lift.specs.Lowered.{lowered};
+ghost use Rattle.cstn_lift.specs.Read.{the_labelled};
+ghost use Rattle.cstn_lift.specs.WellFormed.{IsLabelled};
+ghost use Rattle.cstn_check.specs.Growth.{load_of};
+ghost use Rattle.cstn_history.specs.Continuations.{Can};
+ghost use Rattle.cstn_history.specs.Facts.{refusal_of};
+ghost use Rattle.cstn_history.specs.Histories.{nothing_yet};
+ghost use Rattle.cstn_history.specs.Read.{the_history};
+ghost use Rattle.rehearsal.specs.Journals.{IsRight, after, left, refusal};
+
+use crate::events::Event;
+use crate::outlooks::Outlook;
+use crate::plans::CAP;
+use anyhow::bail;
+use cstn_check::{Check, Verdict};
+use cstn_history::{FactError, History, rest, rest_decides};
+use cstn_lift::Labelled;
+use cstn_log::SoundPlan;
+use cstn_net::Network;
+use cstn_next::next;
+use std::alloc::{AllocError, Global};
+use std::marker::Model;
+
+// The constraints that are added to what is left have ids from here on.
+const FRESH: u32 = 4_294_000_000;
+
+/// A labelled network that is carried out, and what has happened so far.
+#[derive(Drop)]
+pub struct Journal {
+    network: Labelled,
+    history: History,
+}
+
+impl Model for Journal {
+    ghost use Rattle.rehearsal.specs.Journals.{JournalParts, IsJournal};
+
+    ghost Value = { JournalParts };
+
+    ghost view = { λ j. record { network = j.network; history = j.history } };
+
+    ghost invariant = { λ j. IsJournal (record { network = j.network; history = j.history }) };
+}
+
+impl Journal {
+    /// The journal of a labelled network of which nothing has happened yet. Refused where the network has an id of `FRESH` or
+    /// above.
+    pub fn start(alloc: Global, network: Labelled) -> anyhow::Result<Journal>
+        ensures network { IfOk result (λ journal. journal.network ≡ network) }
+        ensures nothing { IfOk result (λ journal. the_history journal.history ≡ nothing_yet) }
+    {
+        if !has_low_ids(network.base()) {
+            bail!("the network has an id of {FRESH} or above");
+        }
+        let history = History::new(alloc, &network)?;
+        Ok(Journal { network, history })
+    }
+
+    /// Records what happens at a moment, in ticks. What is refused changes nothing.
+    pub fn record(&mut self, moment: u32, event: Event) -> Result<(), FactError>
+        ensures recorded { OnOk result (the_history self.new.history ≡ after (the_history self.old.history) moment event) }
+        ensures refused { refusal_of result ≡ refusal (the_labelled self.old.network) (the_history self.old.history) moment event }
+        ensures same { OnErr result (self.new ≡ self.old) }
+        ensures network { self.new.network ≡ self.old.network }
+    {
+        match event {
+            Event::Passed => self.history.pass(moment),
+            Event::Executed(x) => self.history.execute(&self.network, moment, x),
+            Event::Observed(p, value) => self.history.observe(&self.network, moment, p, value),
+            Event::Expected(p) => self.history.expect(&self.network, moment, p),
+        }
+    }
+
+    /// Whether the plan can still be carried out after what has happened: yes, with what is next, exactly where some table
+    /// continues the history, unless a check of what is left derives more than `CAP` bounds.
+    pub fn outlook(&self, alloc: Global) -> anyhow::Result<Outlook>
+        ensures right { IfOk result (IsRight (the_labelled self.now.network) (the_history self.now.history)) }
+        ensures unknown { IfOk result (λ outlook. outlook ≡ Outlook.Unknown ↔ (CAP < load_of (lowered (left self.now)))) }
+    {
+        let mut check = self.check_left(alloc)?;
+        match check.run() {
+            Verdict::Yes { .. } => {
+                let plan = check.into_plan();
+                Ok(self.next_by(alloc, &plan)?)
+            }
+            Verdict::No { .. } => Ok(Outlook::Impossible),
+            Verdict::Full => Ok(Outlook::Unknown),
+        }
+    }
+
+    // A check of what is left, whose network has a strategy exactly where some table continues the history.
+    fn check_left(&self, alloc: Global) -> anyhow::Result<Check>
+        ensures decides { IfOk result (λ check. IsConsistent (the_network check.net)
+            ↔ Can (the_labelled self.now.network) (the_history self.now.history)) }
+        ensures left { IfOk result (λ check. the_network check.net ≡ lowered (left self.now)) }
+        ensures labelled { IfOk result (λ _. IsLabelled (left self.now)) }
+        ensures cap { IfOk result (λ check. check.cap ≡ CAP) }
+    {
+        rest_decides();
+        self.network.base();
+        let left = rest(alloc, &self.network, &self.history, FRESH)?;
+        let (net, _) = left.split();
+        Ok(Check::start(alloc, net, CAP)?)
+    }
+
+    // What is next by a plan of what is left.
+    fn next_by(&self, alloc: Global, plan: &SoundPlan) -> Result<Outlook, AllocError>
+        requires can { Can (the_labelled self.now.network) (the_history self.now.history) }
+        requires labelled { IsLabelled (left self.now) }
+        requires planned { the_network plan.now.net ≡ lowered (left self.now) }
+        ensures right { IfOk result (IsRight (the_labelled self.now.network) (the_history self.now.history)) }
+        ensures known { IfOk result (λ outlook. outlook ≡ Outlook.Unknown → ⊥) }
+    {
+        match next(alloc, &self.network, &self.history, plan)? {
+            Some(next) => Ok(Outlook::Next(next)),
+            None => Ok(Outlook::Finished),
+        }
+    }
+}
+
+// Whether the ids of all constraints are below `FRESH`.
+fn has_low_ids(net: &Network) -> bool
+    ensures { IsTrue result ↔ All (λ c. c.id < FRESH) net.now.constraints }
+{
+    net.constraints().iter().all(|c| c.id < FRESH)
+}
