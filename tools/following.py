@@ -8,6 +8,11 @@ ANSWER = re.compile(r"next (?P<next>\d+)(?: do (?P<do>\S+(?: \S+)*?))?(?: wait (
 
 # Lines that are typed, and are no answers.
 TYPED = re.compile(r"(did|saw|now|await|add|remove|change) .*|next|check|rest")
+DID = re.compile(r"(?:> )?did \d+ (\S+(?: \S+)*)")
+
+# What `check` writes after a no, and what `rest` writes.
+STEPS = re.compile(r"^no \d+\n(?:\d+ (?:base|chain|wait) .*\n)+", re.M)
+REST = re.compile(r"^<\?xml .*?^</graphml>\n", re.M | re.S)
 
 
 def is_answer(text):
@@ -52,8 +57,11 @@ def tell_by(net, answer):
     return {"answer": "by", "moment": int(answer["by"]), **point, "says": [f"{words} can wait until {answer['by']}, and no longer."]}
 
 
-def tell_blame(net, answer, changed):
-    """The constraints that are to blame, by the lines of the document, as data and in words; some were changed by edits."""
+def tell_blame(net, answer, changed, done):
+    """The constraints that are to blame, by the lines of the document, as data and in words; some were changed by edits.
+
+    Where it is known what was done, the steps of these constraints of which nothing was told are named.
+    """
     numbers, known = [int(number) for number in answer["blame"].split()], network_data(net)["constraints"]
     says = ["No constraint is to blame: what has happened leaves nothing even without them, as after the deadline, or where a label cannot be known by then."]
     if numbers:
@@ -64,14 +72,35 @@ def tell_blame(net, answer, changed):
             says.append(f"{net.called(number)}: {constraint(*net.constraints[number])}{counts_where(net, number)}{edited}")
         else:
             says.append(f"{number}: a constraint that FILE lacks, so an edit has added it")
+    ends = {name for number in numbers if number < len(known) for name in net.constraints[number][:2]}
+    open_ = [name for name in net.names if name in ends - done] if done else []
+    if open_:
+        says.append(f"Of their steps nothing was told of {', '.join(open_)}: tell what was done, with its moment, by `did`.")
     return {"answer": "blame", "constraints": [known[it] if it < len(known) else {"id": it, "line": None} for it in numbers], "says": says}
 
 
-def tell_answer(net, answer, changed):
+def tell_answer(net, answer, changed, done):
     """An answer as data and in words."""
     if answer["next"]:
         return tell_next(net, answer)
-    return tell_by(net, answer) if answer["by"] else tell_blame(net, answer, changed)
+    return tell_by(net, answer) if answer["by"] else tell_blame(net, answer, changed, done)
+
+
+def done_by(lines):
+    """The time-points that are done after these lines, or none where no line that was typed stands among them."""
+    done = set()
+    for line, behind in zip(lines, [*lines[1:], ""]):
+        did = DID.fullmatch(line)
+        if did and not behind.startswith("refused"):
+            done |= {"Z", *(printed(name) for name in did[1].split())}
+    return done
+
+
+def stuck(text):
+    """Each refutation that `check` wrote, and the document that `rest` wrote behind it, or none."""
+    for found in STEPS.finditer(text):
+        rest = REST.search(text, found.end())
+        yield found[0], rest[0] if rest else ""
 
 
 def without_questions(lines):
@@ -89,18 +118,17 @@ def without_questions(lines):
 def tell_followed(net, text):
     """The answers of a text that `follow` wrote: the status, data and lines."""
     told, says, lacks, changed = [], [], [], set()
-    for line in without_questions(text.split("\n")):
+    lines = without_questions(text.split("\n"))
+    for at, line in enumerate(lines):
         answer, edit = ANSWER.fullmatch(line), re.fullmatch(r"changed (\d+)", line)
         if edit:
             changed.add(int(edit[1]))
         if answer:
             lacks += lacking(net, answer)
         if answer and not lacks:
-            told.append(tell_answer(net, answer, changed))
+            told.append(tell_answer(net, answer, changed, done_by(lines[:at])))
             says += [f"{line}: {told[-1]['says'][0]}", *told[-1]["says"][1:]]
     if lacks:
         says = [f"These answers are of another document: FILE has {' and '.join(sorted(set(lacks)))}."]
         return 1, {"answer": "rejected", "says": says}, says
-    if re.search(r"^\d+ (base|chain|wait) ", text, re.M):
-        says.append("The steps after `no` are of the document that `rest` writes: keep that in a file, and explain them over it.")
-    return 0, {"answer": "follow", "answers": told}, says or ["There is no answer to `next`, `by` or `blame`."]
+    return 0, {"answer": "follow", "answers": told}, says

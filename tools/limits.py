@@ -3,17 +3,22 @@ reactions that are written again by hand."""
 from networks import literals, ticks, where, written
 
 
-def uncovered(case, covers):
-    """The cases within a case that none of these labels covers, as few as come of splitting it at the letters of the labels."""
-    near = [it for it in covers if all(case.get(letter, value) == value for letter, value in it.items())]
-    if not near:
-        return [case]
-    if any(it.keys() <= case.keys() for it in near):
-        return []
-    letter = min(near[0].keys() - case.keys())
-    halves = [{**case, letter: value} for value in (True, False)]
-    left = [uncovered(half, near) for half in halves]
-    return [case] if left == [[halves[0]], [halves[1]]] else left[0] + left[1]
+MOST_CASES = 16
+
+
+def uncovered(net, own, covers):
+    """The cases within a case that none of these labels covers: each as wide as can be, with what has to hold for its letters to be asked."""
+    cases = [own]
+    for cover in covers:
+        grown = []
+        for case in cases:
+            denied = any(case.get(letter, value) != value for letter, value in cover.items())
+            near = [case] if denied else [net.completed(written({**case, letter: not value})) for letter, value in cover.items() if letter not in case]
+            grown += [it for it in near if None not in it.values() and it not in grown]
+        cases = [it for it in grown if not any(other.items() < it.items() for other in grown)]
+        if len(cases) > MOST_CASES:
+            return []
+    return cases
 
 
 def limited_from_start(edges):
@@ -31,12 +36,11 @@ def limited_from_start(edges):
 
 
 def unlimited(net):
-    """Each time-point but the origin with the cases in which nothing but the deadline limits it from above.
+    """Each time-point but the origin with the cases in which no constraint and no label limits it from above.
 
     What is at most some ticks after a step is not listed, nor what comes before a step that is limited itself.
     """
-    edges = [(source, target, most, net.in_force(number)) for number, (source, target, most, _) in enumerate(net.constraints) if source != target]
-    edges = [it for it in edges if None not in it[3].values()]
+    edges = [(source, target, most, literals(label)) for _, source, target, most, label in net.lowered() if source != target]
     limits = limited_from_start(edges)
     for _, target, most, marks in edges:
         if most >= 0:
@@ -45,16 +49,23 @@ def unlimited(net):
     for name in net.names:
         own = net.completed(net.labels.get(name, ""))
         if name != "Z" and None not in own.values():
-            found += [(name, case, case == own) for case in uncovered(own, limits.get(name, []))]
+            found += [(name, case, case == own) for case in uncovered(net, own, limits.get(name, []))]
     return found
 
 
-def tell_unlimited(net):
-    """The steps without an upper limit, as data and in words."""
+def tell_unlimited(net, tried):
+    """The steps without an upper limit, as data and in words; `tried` says of each whether it can come after the deadline, or nothing where that is too much to try."""
     found = unlimited(net)
-    names = [name + ("" if whole else f" ({where(written(case))[2:]})") for name, case, whole in found]
+    beyond = tried([(name, case) for name, case, _ in found])
+    if beyond is not None:
+        found = [it for it, can in zip(found, beyond) if can]
+    cases = {}
+    for name, case, whole in found:
+        cases.setdefault(name, []).extend([] if whole else [where(written(case))[2:]])
+    names = [name + (f" ({', or '.join(each)})" if each else "") for name, each in cases.items()]
     data = [{"time_point": name, "where": written(case)} for name, case, _ in found]
-    return data, [f"No upper limit but the deadline: {'; '.join(names)}."] if names else []
+    head = "No upper limit but the deadline" if beyond is not None else "No upper limit written on these steps but the deadline"
+    return data, [f"{head}: {'; '.join(names)}."] if names else []
 
 
 def ranges(net):
@@ -145,3 +156,20 @@ def tell_disagreeing(net):
         lines.insert(0, "Reactions that seem to be written again on an edge, and do not agree:")
     data = [{"constraint": number, "observer": observer, "reaction": net.reaction(observer), "at_least": least} for number, observer, least in found]
     return data, lines
+
+
+def repeating(net):
+    """The constraints by which a time-point waits for an outcome for which its label makes it wait anyhow, and as long."""
+    for number, (source, target, most, _) in enumerate(net.constraints):
+        letter = net.observed.get(target)
+        if letter and letter in net.completed(net.labels.get(source, "")) and most == -net.reaction(target) and None not in net.in_force(number).values():
+            yield number, source, target
+
+
+def tell_repeating(net):
+    """The constraints that only repeat what a label asks for, as data and in words."""
+    found = list(repeating(net))
+    lines = [f"{net.called(number)}: the label of {source} makes it wait until {net.observed[target]} is known" for number, source, target in found]
+    if lines:
+        lines.insert(0, "Edges that only repeat what a label asks for. In `follow` they count also where the outcome comes early: leave them out where that is not meant.")
+    return [{"constraint": number, "observer": target} for number, _, target in found], lines

@@ -226,3 +226,8 @@ def plain_copy(net):
 
 def printed(name):
     return bytes(re.sub(rb"%([0-9A-F]{2})", lambda found: bytes([int(found[1], 16)]), name.encode())).decode()
+
+
+def typed(name):
+    """A name as lines have it."""
+    return re.sub(r"[\x00-\x20%\x7f]", lambda found: f"%{ord(found[0]):02X}", name)

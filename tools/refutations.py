@@ -4,13 +4,16 @@ import re
 from networks import FOR_A_LABEL, constraint, literals, printed, ticks, where
 
 
+STEP = re.compile(r"\d+ (base|chain|wait) ")
+
+
 def steps_of(text):
-    """The lines of the first refutation in a text, or none."""
+    """The lines of the first refutation in a text, or none; a line `no LOAD` without steps behind it is a verdict alone."""
     lines = text.split("\n")
-    first = next((at for at, line in enumerate(lines) if re.fullmatch(r"no \d+", line)), len(lines))
+    first = next((at for at, line in enumerate(lines[:-1]) if re.fullmatch(r"no \d+", line) and STEP.match(lines[at + 1])), len(lines))
     found = []
     for line in lines[first + 1 :]:
-        if not re.match(r"\d+ (base|chain|wait) ", line):
+        if not STEP.match(line):
             break
         found.append(line)
     return found
@@ -188,6 +191,6 @@ def rejected_no(refutation, replay):
     words = refutation.in_words(int(wrong[1]) if wrong else len(steps))
     edited = any(it >= len(refutation.constraints) for it in refutation.numbers())
     hint = ("PROOF is of another document, or of edits: write these into a copy of FILE, check that, and explain its no." if edited
-            else "Say the `--deadline N` of the check, where it had one; of a no of `edit`, write the edits into a copy of FILE first.")
+            else "Say the `--deadline N` of the check, where it had one; of a no of `edit`, write the edits into a copy of FILE first; of one of `follow`, name as FILE what `rest` wrote.")
     lines = [*words, f"But these steps do not refute FILE with the deadline {net.deadline}: `replay` says {replay}. {hint}"]
     return {"answer": "rejected", "replay": replay, "deadline": net.deadline, "says": lines}, lines
