@@ -218,7 +218,8 @@ fn try_both(
     requires floors { AreFloors (the_network net.now) (the_entries log.old.entries) (the_bound own.bound) floors.old }
     ensures taken { IfOk result (λ r. IsTaken (the_network net.now) log.old log.new
         (tried (the_network net.now) (the_entries log.old.entries) (wait_at i own.place ∷ (wait_at own.place i ∷ []))) r) }
-    ensures cut { IsErr result → IsCut log.old log.new (tried (the_network net.now) (the_entries log.old.entries) (wait_at i own.place ∷ (wait_at own.place i ∷ []))) }
+    ensures cut { IsErr result → IsCut log.old log.new
+        (tried (the_network net.now) (the_entries log.old.entries) (wait_at i own.place ∷ (wait_at own.place i ∷ []))) }
     ensures ready { IfOk result (λ r. r ≡ false → IsOpen (the_network net.now) log.new) }
     ensures tries { tries.old.count ≤ tries.new.count }
     ensures most { tries.new.count ≤ tries.old.count + 2 }

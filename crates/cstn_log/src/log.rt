@@ -354,7 +354,8 @@ impl Log {
     /// the first place of the stretch. It may put in places of dead entries too, and of others.
     pub fn add_marking(&self, p: Prop, stretch: u32, block: &mut Block)
         ensures kept { (k : ℕ) → has_number block.old k ≡ true → has_number block.new k ≡ true }
-        ensures added { (k : ℕ) → k / 4096 ≡ stretch → IsMarkedAt self.now.entries p.index k → IsLive self.now.entries k → has_number block.new (k % 4096) ≡ true }
+        ensures added { (k : ℕ) → k / 4096 ≡ stretch → IsMarkedAt self.now.entries p.index k → IsLive self.now.entries k
+            → has_number block.new (k % 4096) ≡ true }
     {
         self.marking.add_to(p, stretch, block);
     }
@@ -363,7 +364,8 @@ impl Log {
     /// the time-point is an observer.
     pub fn add_standing(&self, x: NodeId, stretch: u32, block: &mut Block)
         ensures kept { (k : ℕ) → has_number block.old k ≡ true → has_number block.new k ≡ true }
-        ensures added { (k : ℕ) → k / 4096 ≡ stretch → IsAtNode self.now.entries x.0 k → IsLive self.now.entries k → has_number block.new (k % 4096) ≡ true }
+        ensures added { (k : ℕ) → k / 4096 ≡ stretch → IsAtNode self.now.entries x.0 k → IsLive self.now.entries k
+            → has_number block.new (k % 4096) ≡ true }
     {
         match watched_at(&self.watched, x) {
             Some(p) => self.standing.add_to(p, stretch, block),
