@@ -1,5 +1,5 @@
-ghost use Rattle.std.specs.Prelude.{List, ◌≡◌, ◌⊎◌, ◌<◌, ◌≤◌, ◌+◌, ◌^◌, ◌++◌, ◌∷◌, [], ◌↔◌, ◌/◌, ◌%◌, ℕ, Some, None, true, false, length, take, IsTrue, IfNone, IfOk, IfSome};
-ghost use Rattle.std.specs.Prelude.{IsErr, IsOk, OnErr, slice_get, slice_index_or};
+ghost use Rattle.std.specs.Prelude.{List, ◌≡◌, ◌⊎◌, ◌<◌, ◌≤◌, ◌+◌, ◌^◌, ◌++◌, ◌∷◌, [], ◌↔◌, ◌/◌, ◌%◌, ℕ, Some, None, true, false, length, take, IsTrue};
+ghost use Rattle.std.specs.Prelude.{IfNone, IfOk, IfSome, IsErr, IsOk, OnErr, slice_get, slice_index_or};
 ghost use Rattle.cstn_label.specs.Read.{the_bound};
 ghost use Rattle.std.specs.List.{Contains};
 ghost use Rattle.cstn_net.specs.Networks.{Network as TheNetwork, Constraint, IsNetwork, count};
