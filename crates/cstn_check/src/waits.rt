@@ -62,9 +62,48 @@ fn try_wait(
     ensures floor { IfOk result (λ r. (p : ℕ) → Observes (the_network net.now) seen.bound.node.0 p
         → IsFloor (the_network net.now) (the_entries log.new.entries) (the_bound premise.bound) p floor.new.least) }
 {
+    if !waits(net, &seen.bound, &premise.bound) {
+        network_is_well_formed(net);
+        return Ok(false);
+    }
+    try_concluding(net, log, seen, premise, tries, floor)
+}
+
+// Tries wait of two entries of which it has a conclusion, if they are live.
+fn try_concluding(
+    net: &Network,
+    log: &mut Log,
+    seen: Placed,
+    premise: Placed,
+    tries: &mut Tries,
+    floor: &mut Floor,
+) -> Result<bool, Full>
+    requires waits { Waits (the_network net.now) (the_bound seen.bound) (the_bound premise.bound) }
+    requires ready { IsOpen (the_network net.now) log.old }
+    requires seen { seen.place < length log.old.entries }
+    requires place { premise.place < length log.old.entries }
+    requires node { seen.bound.node.0 < count (the_network net.now) }
+    requires seen_bound { HasBound log.old.entries seen.place (the_bound seen.bound) }
+    requires bound { HasBound log.old.entries premise.place (the_bound premise.bound) }
+    requires floor { (p : ℕ) → Observes (the_network net.now) seen.bound.node.0 p
+        → IsFloor (the_network net.now) (the_entries log.old.entries) (the_bound premise.bound) p floor.old.least }
+    ensures taken { IfOk result (λ r. IsTaken (the_network net.now) log.old log.new
+        (step (the_network net.now) (the_entries log.old.entries) (wait_at seen.place premise.place)) r) }
+    ensures cut { IsErr result → IsCut log.old log.new (step (the_network net.now) (the_entries log.old.entries) (wait_at seen.place premise.place)) }
+    ensures ready { IfOk result (λ r. r ≡ false → IsOpen (the_network net.now) log.new) }
+    ensures tries { tries.old.count ≤ tries.new.count }
+    ensures most { tries.new.count ≤ tries.old.count + 1 }
+    ensures concluding { tries.new.count ≤ tries.old.count + concludes (the_network net.now) (the_entries log.old.entries) seen.place premise.place }
+    ensures floor { IfOk result (λ r. (p : ℕ) → Observes (the_network net.now) seen.bound.node.0 p
+        → IsFloor (the_network net.now) (the_entries log.new.entries) (the_bound premise.bound) p floor.new.least) }
+{
     network_is_well_formed(net);
     is_in_range(tries);
-    if !waits(net, &seen.bound, &premise.bound) {
+    let mut counted = *tries;
+    let Some(bound) = wait(net, &seen.bound, &premise.bound, &mut counted) else {
+        return Ok(false);
+    };
+    if is_upto(&bound, *floor) {
         return Ok(false);
     }
     if !log.live(seen.place) {
@@ -75,12 +114,7 @@ fn try_wait(
         log.leave_out(premise.place);
         return Ok(false);
     }
-    let Some(bound) = wait(net, &seen.bound, &premise.bound, tries) else {
-        return Ok(false);
-    };
-    if is_upto(&bound, *floor) {
-        return Ok(false);
-    }
+    *tries = counted;
     let why = Why::Wait {
         seen: seen.place,
         premise: premise.place,
