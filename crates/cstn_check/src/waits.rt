@@ -34,8 +34,7 @@ pub struct Floor {
 }
 
 // Tries wait of the entry `seen`, as the one at the observer, and the entry `premise`, and says whether the list is refuted
-// then. A conclusion up to `floor` is dominated, and isn't looked for. The entry that dominated the last conclusion of `seen` at
-// its time-point is asked first: it often dominates the next one too.
+// then. A conclusion up to `floor` is dominated, and isn't looked for.
 fn try_wait(
     net: &Network,
     log: &mut Log,
@@ -69,7 +68,8 @@ fn try_wait(
     try_concluding(net, log, seen, premise, tries, floor)
 }
 
-// Tries wait of two entries of which it has a conclusion, if they are live.
+// Tries wait of two entries of which it has a conclusion, if they are live. The entry that dominated the last conclusion of `seen`
+// at the same time-point is asked first: it often dominates the next one too.
 fn try_concluding(
     net: &Network,
     log: &mut Log,

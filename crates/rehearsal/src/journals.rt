@@ -1,3 +1,4 @@
+// A labelled network, and what has happened in it.
 ghost use Rattle.std.specs.Prelude.{◌≡◌, ◌<◌, ◌↔◌, IsTrue, IfOk, OnOk, OnErr};
 ghost use Rattle.std.specs.List.{All};
 ghost use Rattle.cstn_net.specs.Read.{the_network};
@@ -75,7 +76,8 @@ impl Journal {
     }
 
     /// Whether the plan can still be carried out after what has happened: yes, with what is next, exactly where some table
-    /// continues the history, unless a check of what is left derives more than `CAP` bounds.
+    /// continues the history, unless a check of what is left derives more than `CAP` bounds. Fails for want of memory, or where what
+    /// is left has more than 16,384 constraints.
     pub fn outlook(&self, alloc: Global) -> anyhow::Result<Outlook>
         ensures right { IfOk result (IsRight (the_labelled self.now.network) (the_history self.now.history)) }
         ensures unknown { IfOk result (λ outlook. outlook ≡ Outlook.Unknown ↔ (CAP < load_of (lowered (left self.now)))) }
