@@ -1,8 +1,9 @@
-use Rattle.std.proofs.Common.{◌≡◌, inl, inr, ℕ, zero, suc, ◌<◌, ◌≤◌, nat_eq, false, List, [], ◌∷◌, length, replicate, set, Option, None, Some, cond, refl, ap, sym, ◌∙◌, arith, length-set}
+use Rattle.std.proofs.Common.{◌≡◌, inl, inr, ℕ, zero, suc, ◌+◌, ◌<◌, ◌≤◌, nat_eq, false, List, [], ◌∷◌, length, replicate, set, Option, None, Some, cond, slice_get, refl, ap, subst, sym, ◌∙◌, arith, length-set}
+use Rattle.std.specs.Prelude.{IsSome}
 use Rattle.std.proofs.lemmas.List.{length-replicate}
 use Rattle.cstn_pool.specs.Slots.{Slots, value_at}
 use Rattle.cstn_pool.proofs.PaddedLemmas.{none_held}
-use Rattle.cstn_pool.specs.Calls.{Call, AfterCall, AfterCalls}
+use Rattle.cstn_pool.specs.Calls.{Call, AfterCall, AfterCalls, emptied_at}
 use Rattle.cstn_pool.specs.Calls.Call.{Take, Give, Clear}
 
 -- a call leaves the number of slots as it is
@@ -74,3 +75,13 @@ pub calls_leave_gone : {T : Type 0} (calls : List (Call T)) (before after : Slot
 calls_leave_gone [] before after s birth is less none = ap (λ p. value_at p.slots s birth) (sym is) ∙ none
 calls_leave_gone (call ∷ calls) before after s birth is less none =
     calls_leave_gone calls is.0 after s birth is.2 (omega (arith, call_keeps_births call before is.0 is.1, less)) (call_leaves_gone call before is.0 s birth is.1 less none)
+
+-- an empty slot that is filled under the next birth
+pub takes : {T : Type 0} (before after : Slots T) (slot birth : ℕ) (value : T) → slice_get before.slots slot ≡ Some None → birth ≡ before.births →
+    after ≡ record { slots = set before.slots slot (Some (birth, value)); births = before.births + 1 } → AfterCall (Take value) before after
+takes before after slot birth value empty next taken = inr (slot, empty, rw next at taken)
+
+-- a slot that held a value of the birth, and is emptied
+pub gives : {T : Type 0} (before after : Slots T) (slot birth : ℕ) (value : T) → Some value ≡ value_at before.slots slot birth →
+    after ≡ emptied_at before slot → AfterCall (Give slot birth) before after
+gives before after slot birth value there given = inr (subst IsSome there refl, given)

@@ -1,7 +1,7 @@
 ghost use Rattle.std.specs.Prelude.{◌≡◌, ◌<◌, ◌≤◌, ◌+◌, ◌^◌, ◌↔◌, Some, None, length, IfOk, OnErr, IsErr, IsOk, IsSome, ℕ, List, IfNone, IfSome, []};
 ghost use Rattle.std.specs.Prelude.{slice_set, slice_get, slice_index_or, replicate};
 ghost use Rattle.cstn_pool.specs.Slots.{Slots, IsBorn, live_of, value_at, joined};
-ghost use Rattle.cstn_pool.specs.Calls.{Call, AfterCalls};
+ghost use Rattle.cstn_pool.specs.Calls.{Call, Take, Give, Clear, AfterCall, AfterCalls};
 
 use crate::slot_id::SlotId;
 use std::alloc::{AllocError, Global};
@@ -75,6 +75,7 @@ impl<T: Copy> Pool<T> {
         ensures birth { IfOk result (λ id. id.birth ≡ self.old.births) }
         ensures taken { IfOk result (λ id. self.new
             ≡ record { slots = slice_set self.old.slots id.slot (Some (id.birth, value)); births = self.old.births + 1 }) }
+        ensures step { AfterCall (Take value) self.old self.new }
 
         // After any calls there is room up to the capacity, whichever slots were given back.
         ensures after_calls { (capacity : ℕ) (calls : List (Call T)) → AfterCalls calls (record { slots = replicate capacity None; births = 0 }) self.old
@@ -132,6 +133,7 @@ impl<T: Copy> Pool<T> {
         ensures none { IfNone result (self.new ≡ self.old) }
         ensures births { self.old.births ≤ self.new.births }
         ensures given { IsSome result → self.new ≡ record self.old { slots = slice_set self.old.slots id.slot None } }
+        ensures step { AfterCall (Give id.slot id.birth) self.old self.new }
     {
         let value = self.get(id)?;
         self.born[id.slot as usize] = FREE;
@@ -150,6 +152,7 @@ impl<T: Copy> Pool<T> {
     /// Empties the pool. Births go on from where they were.
     pub fn clear(&mut self)
         ensures cleared { self.new ≡ record self.old { slots = replicate (length self.old.slots) None } }
+        ensures step { AfterCall Clear self.old self.new }
         ensures births { self.old.births ≤ self.new.births }
     {
         self.born.clear();

@@ -7,3 +7,6 @@ pub returns-clause-cleared : goal.returns-clause-cleared
 returns-clause-cleared g c =
     let long = joined_length c.self.inside.born.items c.self.inside.values.items c.self.invariant.same in
     rw c.clear.ensures.items (shown_clear c.self.inside.capacity c.self.inside.births (joined c.self.inside.born.items c.self.inside.values.items) _ c.self.view_is (omega (arith, long, c.self.invariant.within)))
+
+pub returns-clause-step : goal.returns-clause-step
+returns-clause-step g c = returns-clause-cleared g c

@@ -1,8 +1,9 @@
-use Rattle.std.proofs.Common.{◌∙◌, arith, sym, length-set}
+use Rattle.std.proofs.Common.{◌∙◌, arith, refl, sym, length-set}
 use Rattle.cstn_pool.specs.Slots.{joined, no_birth}
 use Rattle.cstn_pool.proofs.PoolLemmas.{given_born, given_free, held_live, room_left}
 use Rattle.cstn_pool.proofs.PaddedLemmas.{shown_value, shown_given}
 use Rattle.cstn_pool.proofs.JoinedLemmas.{joined_length, joined_freed}
+use Rattle.cstn_pool.proofs.CallLemmas.{gives}
 use Rattle.cstn_pool.proofs.pool.Pool.give.Goals as goal
 
 pub index_mut-requires : goal.index_mut-requires
@@ -46,3 +47,6 @@ returns-clause-given g c =
     let used = joined c.self.inside.born.items c.self.inside.values.items in
     let held = held_live used c.args.id.slot c.args.id.birth c.in_ok-value.value (c.in_ok-value.ensures.value ∙ sym (shown_value _ _ c.args.id.slot c.args.id.birth used _ c.self.view_is)) in
     λ _. rw (joined_freed c.self.inside.born.items c.self.inside.values.items c.args.id.slot c.self.invariant.same) (shown_given _ _ c.args.id.slot used _ c.self.view_is held.0)
+
+pub returns-clause-step : goal.returns-clause-step
+returns-clause-step g c = gives c.args.self.now _ c.args.id.slot c.args.id.birth c.in_ok-value.value c.in_ok-value.ensures.value (returns-clause-given g c refl)

@@ -1,9 +1,9 @@
-use Rattle.std.proofs.Common.{◌≡◌, ◌<◌, ◌≤◌, ◌^◌, ◌∷◌, [], arith, ap, length, length-set, length-append, refl}
+use Rattle.std.proofs.Common.{◌≡◌, ◌<◌, ◌≤◌, ◌^◌, ◌∷◌, [], inl, arith, ap, length, length-set, length-append, refl}
 use Rattle.cstn_pool.specs.Slots.{joined}
 use Rattle.cstn_pool.proofs.PoolLemmas.{taken_free, taken_born, new_free, new_born, last_inside, last_empty}
 use Rattle.cstn_pool.proofs.PaddedLemmas.{past_used, shown_empty, shown_count, shown_taken, shown_new}
 use Rattle.cstn_pool.proofs.JoinedLemmas.{joined_length, refilled, extended}
-use Rattle.cstn_pool.proofs.CallLemmas.{calls_keep_capacity}
+use Rattle.cstn_pool.proofs.CallLemmas.{calls_keep_capacity, takes}
 use Rattle.cstn_pool.proofs.pool.Pool.take.Goals as goal
 
 pub index_mut-requires : goal.index_mut-requires
@@ -53,6 +53,10 @@ returns-in-Some-clause-taken g c =
     rw (refilled born values c.in-Some.slot c.self.inside.births c.args.value c.self.invariant.same birth)
     (shown_taken c.self.inside.capacity c.self.inside.births c.in-Some.slot c.args.value (joined born values) _ c.self.view_is (last_inside _ _ _ (rw c.in-Some.ensures.items at c.self.invariant.empty)))
 
+pub returns-in-Some-clause-step : goal.returns-in-Some-clause-step
+returns-in-Some-clause-step g c =
+    takes c.args.self.now _ c.in-Some.slot c.self.inside.births c.args.value (returns-in-Some-clause-empty g c) (ap (λ p. p.births) c.self.view_is) (returns-in-Some-clause-taken g c)
+
 pub returns-in-Some-clause-after_calls : goal.returns-in-Some-clause-after_calls
 returns-in-Some-clause-after_calls g c = λ capacity calls after.
     let inv = c.self.invariant in
@@ -70,6 +74,9 @@ returns-then-slot-self-clause-full g c =
     let long = joined_length c.self.inside.born.items c.self.inside.values.items inv.same in
     let count = shown_count c.self.inside.capacity c.self.inside.births used c.self.inside.free.items _ c.self.view_is (omega (arith, long, inv.within)) inv.empty in
     (λ _. omega (arith, count, long, c.in_default.ensures.cases, c.self.inside.free.ok, c.self.inside.born.ok, c.if-slot-self.true, c.len-slot.ensures), λ _. refl)
+
+pub returns-then-slot-self-clause-step : goal.returns-then-slot-self-clause-step
+returns-then-slot-self-clause-step g c = inl ((returns-then-slot-self-clause-full g c).0 refl, c.self.view_is)
 
 pub returns-then-slot-self-clause-after_calls : goal.returns-then-slot-self-clause-after_calls
 returns-then-slot-self-clause-after_calls g c = λ capacity calls after.
@@ -132,6 +139,10 @@ returns-clause-taken g c =
     let last : c.len-slot.result ≡ length (joined born values) = omega (arith, c.len-slot.ensures, c.self.inside.born.ok, long) in
     rw (c.push_reserved.ensures.items, c.push_reserved-2.ensures.items, extended born values c.self.inside.births c.args.value inv.same birth, last)
     (shown_new c.self.inside.capacity c.self.inside.births c.args.value (joined born values) _ c.self.view_is (omega (arith, c.if-slot-self.false, last, long, inv.within)))
+
+pub returns-clause-step : goal.returns-clause-step
+returns-clause-step g c =
+    takes c.args.self.now _ c.len-slot.result c.self.inside.births c.args.value (returns-clause-empty g c) (ap (λ p. p.births) c.self.view_is) (returns-clause-taken g c)
 
 pub returns-clause-after_calls : goal.returns-clause-after_calls
 returns-clause-after_calls g c = λ capacity calls after.
