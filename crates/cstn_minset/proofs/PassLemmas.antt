@@ -1,62 +1,154 @@
--- A pass through the slots that keeps the bound of a kind with the least birth so far.
-use Rattle.std.proofs.Common.{◌≡◌, ◌⊎◌, inl, inr, ℕ, ◌+◌, ◌<◌, ◌≤◌, ap, sym, ◌∙◌, arith}
-use Rattle.std.specs.Prelude.{Option, None, Some, IfSome, MatchOption}
+-- A pass through the records that keeps the earliest so far.
+use Rattle.std.proofs.Common.{◌≡◌, ◌⊎◌, inl, inr, ℕ, ◌+◌, ◌<◌, ◌≤◌, List, length, Bool, true, false, cond, refl, ap, sym, ◌∙◌, subst, arith}
+use Rattle.std.specs.Prelude.{Option, None, Some, slice_get, nat_lt}
 use Rattle.std.proofs.lemmas.Bool.{cases_lt, cases_eq}
-use Rattle.std.proofs.lemmas.Option.{none-some, same_Some}
+use Rattle.std.proofs.lemmas.Option.{none-some, same_Some, slice_get_within}
 use Rattle.cstn_label.specs.declared.bounds.Bound.{Bound}
 use Rattle.cstn_pool.specs.declared.slot_id.SlotId.{SlotId}
-use Rattle.cstn_minset.specs.Sets.{Entries, entry_at, IsPlaced, IsFirst}
+use Rattle.cstn_rows.specs.declared.page.Record.{Record}
+use Rattle.cstn_rows.specs.declared.page.Page.{Page}
+use Rattle.cstn_rows.specs.Pages.{Paged}
+use Rattle.cstn_minset.specs.Sets.{Entries, entry_at, IsPlaced, IsListed, IsInSlot, IsRecordAt, IsFirst, IsStored, record_of, bound_of, birth_at}
+use Rattle.cstn_minset.specs.Passes.{IsCandidate, IsOnPage, IsOnPages, IsEarliest, earlier}
+use Rattle.cstn_minset.proofs.SetLemmas.{held_at}
+use Rattle.cstn_minset.proofs.StoredLemmas.{entry_in_slot, no_entry}
 
--- a bound of the kind is placed under the id, with a birth from `low` on
-pub record IsOne (T : Entries) (Kind : Bound → Type 0) (low : ℕ) (id : SlotId) : Type 0 where
-  pub bound : Bound
-  pub there : IsPlaced T id.slot (id.birth, bound)
-  pub kind : Kind bound
-  pub above : low ≤ id.birth
+-- the earliest of a group is that of one with the same members
+earliest_as : (A B : ℕ → ℕ → Type 0) (o : Option SlotId) → ((s n : ℕ) → A s n → B s n) → ((s n : ℕ) → B s n → A s n) → IsEarliest A o → IsEarliest B o
+earliest_as A B None to from none = λ s n b. none s n (from s n b)
+earliest_as A B (Some id) to from is = (to id.slot id.birth is.0, λ s n b. is.1 s n (from s n b))
 
--- the birth is below `low`, or the best so far is no later
-abbrev pub IsBeaten : ℕ → Option SlotId → ℕ → Type 0
-IsBeaten low best birth = (birth < low) ⊎ MatchOption best ⊥ (λ id. id.birth ≤ birth)
+-- the earlier of two is the earliest of both groups
+module _ (A B C : ℕ → ℕ → Type 0) (left : (s n : ℕ) → A s n → C s n) (right : (s n : ℕ) → B s n → C s n) (split : (s n : ℕ) → C s n → A s n ⊎ B s n) where
+  earliest_of : (a b : Option SlotId) → IsEarliest A a → IsEarliest B b → IsEarliest C (earlier a b)
+  earliest_of None b none is = earliest_as B C b right (λ s n c. elim (split s n c) [ inl x ↦ absurd (none s n x) | inr y ↦ y ]) is
+  earliest_of (Some i) None is none = earliest_as A C (Some i) left (λ s n c. elim (split s n c) [ inl x ↦ x | inr y ↦ absurd (none s n y) ]) is
+  earliest_of (Some i) (Some j) one other = go (nat_lt j.birth i.birth) refl
+    where
+      go : (t : Bool) → nat_lt j.birth i.birth ≡ t → IsEarliest C (cond t (Some j) (Some i))
+      go true less = (
+        right j.slot j.birth other.0,
+        λ s n c. elim (split s n c) [ inl x ↦ (let upto = one.1 s n x in grind arith) | inr y ↦ other.1 s n y ],
+      )
+      go false more = (
+        left i.slot i.birth one.0,
+        λ s n c. elim (split s n c) [ inl x ↦ one.1 s n x | inr y ↦ (let upto = other.1 s n y in grind arith) ],
+      )
 
--- the best of the first n slots: of the bounds of the kind, the one with the least birth from `low` on
-pub record IsBest (T : Entries) (Kind : Bound → Type 0) (low n : ℕ) (best : Option SlotId) : Type 0 where
-  pub one : IfSome best (IsOne T Kind low)
-  pub beats : (u : ℕ) (e : ℕ × Bound) → u < n → IsPlaced T u e → Kind e.1 → IsBeaten low best e.0
+module _ (births : List ℕ) (Kind : Bound → Type 0) (low : ℕ) where
+  -- the slot and the birth are those of one of the first n records of row h
+  abbrev pub IsUpto : ℕ → List Record → ℕ → ℕ → ℕ → Type 0
+  IsUpto h rs n slot birth = (i : ℕ) × (r : Record) × (i < n) × (slice_get rs i ≡ Some r) × IsCandidate births Kind low h r slot birth
 
--- where the next slot has nothing better, the best stays
-pub best_stays : (T : Entries) (Kind : Bound → Type 0) (low n : ℕ) (best : Option SlotId) → IsBest T Kind low n best → ((e : ℕ × Bound) → IsPlaced T n e → Kind e.1 → IsBeaten low best e.0) → IsBest T Kind low (n + 1) best
-best_stays T Kind low n best is beaten = record {
-  one = is.one;
-  beats = λ u e less there kind. elim (cases_eq u n) [ inl same ↦ beaten e (rw same at there) kind | inr other ↦ is.beats u e (omega (arith, less, other)) there kind ];
-}
+  pub none_upto : (h : ℕ) (rs : List Record) → IsEarliest (IsUpto h rs 0) None
+  none_upto h rs = λ s n it. absurd (omega (arith, it.2))
 
--- what the best so far beats, an earlier one beats too
-beats_more : (low birth born : ℕ) (slot : ℕ) (best : Option SlotId) → IfSome best (λ id. birth < id.birth) → IsBeaten low best born → IsBeaten low (Some (record { slot = slot; birth = birth })) born
-beats_more low birth born slot best before (inl early) = inl early
-beats_more low birth born slot None before (inr none) = absurd none
-beats_more low birth born slot (Some id) before (inr le) = inr (omega (arith, before, le))
+  pub upto_more : (h : ℕ) (rs : List Record) (n : ℕ) (x : Record) (best one : Option SlotId) → slice_get rs n ≡ Some x → IsEarliest (IsUpto h rs n) best → IsEarliest (IsCandidate births Kind low h x) one → IsEarliest (IsUpto h rs (n + 1)) (earlier best one)
+  upto_more h rs n x best one here before is =
+      earliest_of (IsUpto h rs n) (IsCandidate births Kind low h x) (IsUpto h rs (n + 1))
+      (λ s b it. (it.0, it.1, omega (arith, it.2), it.3, it.4))
+      (λ s b it. (n, x, omega arith, here, it))
+      (λ s b it. elim (cases_eq it.0 n) [
+        | inl same ↦ inr (subst (λ r. IsCandidate births Kind low h r s b) (sym (same_Some x it.1 (sym here ∙ rw same at it.3))) it.4)
+        | inr other ↦ inl (it.0, it.1, omega (arith, it.2, other), it.3, it.4)
+      ])
+      best one before is
 
--- where the next slot has a better one, that is the best
-pub best_more : (T : Entries) (Kind : Bound → Type 0) (low n birth : ℕ) (b : Bound) (best : Option SlotId) → IsBest T Kind low n best → IsPlaced T n (birth, b) → Kind b → low ≤ birth → IfSome best (λ id. birth < id.birth) → IsBest T Kind low (n + 1) (Some (record { slot = n; birth = birth }))
-best_more T Kind low n birth b best is here kind above before = record {
-  one = record { bound = b; there = here; kind = kind; above = above };
-  beats = λ u e less there of_kind.
-      elim (cases_eq u n) [
-        | inl same ↦ (let is_it = same_Some (birth, b) e (sym here ∙ rw same at there) in inr (omega (arith, ap (λ x. x.0) is_it)))
-        | inr other ↦ beats_more low birth e.0 n best before (is.beats u e (omega (arith, less, other)) there of_kind)
-      ];
-}
+  pub upto_all : (page : Page) (rs : List Record) (n : ℕ) (best : Option SlotId) → rs ≡ page.records.items → (length rs ≤ n) → IsEarliest (IsUpto page.head rs n) best → IsEarliest (IsOnPage births Kind low page) best
+  upto_all page rs n best same past is =
+      earliest_as (IsUpto page.head rs n) (IsOnPage births Kind low page) best
+      (λ s b it. (it.0, it.1, rw same at it.3, it.4))
+      (λ s b it. (let there = rw (← same) at it.2 in (it.0, it.1, omega (arith, past, slice_get_within rs it.0 it.1 there), there, it.3)))
+      is
 
--- where no slot past the first n holds a bound, the best is the best of all
-beats_all : (T : Entries) (Kind : Bound → Type 0) (low n : ℕ) (best : Option SlotId) → IsBest T Kind low n best → ((u : ℕ) → n ≤ u → entry_at T u ≡ None) → (u : ℕ) (e : ℕ × Bound) → IsPlaced T u e → Kind e.1 → IsBeaten low best e.0
-beats_all T Kind low n best is past u e there kind = elim (cases_lt u n) [ inl less ↦ is.beats u e less there kind | inr more ↦ absurd (none-some e (sym (past u more) ∙ there)) ]
+  -- the slot and the birth are those of a record of one of the first n pages
+  abbrev pub AreUpto : List Page → ℕ → ℕ → ℕ → Type 0
+  AreUpto pages n slot birth = (k : ℕ) × (page : Page) × (k < n) × (slice_get pages k ≡ Some page) × IsOnPage births Kind low page slot birth
 
-pub best_end : (T : Entries) (Kind : Bound → Type 0) (low n : ℕ) (best : Option SlotId) → IsBest T Kind low n best → ((u : ℕ) → n ≤ u → entry_at T u ≡ None) → IsFirst T Kind low best
-best_end T Kind low n None is past = λ u e there kind. elim (beats_all T Kind low n None is past u e there kind) [ inl early ↦ early | inr none ↦ absurd none ]
-best_end T Kind low n (Some id) is past = record {
-  bound = is.one.bound;
-  there = is.one.there;
-  kind = is.one.kind;
-  above = is.one.above;
-  least = beats_all T Kind low n (Some id) is past;
-}
+  pub none_are_upto : (pages : List Page) → IsEarliest (AreUpto pages 0) None
+  none_are_upto pages = λ s n it. absurd (omega (arith, it.2))
+
+  pub are_upto_more : (pages : List Page) (n : ℕ) (x : Page) (best one : Option SlotId) → slice_get pages n ≡ Some x → IsEarliest (AreUpto pages n) best → IsEarliest (IsOnPage births Kind low x) one → IsEarliest (AreUpto pages (n + 1)) (earlier best one)
+  are_upto_more pages n x best one here before is =
+      earliest_of (AreUpto pages n) (IsOnPage births Kind low x) (AreUpto pages (n + 1))
+      (λ s b it. (it.0, it.1, omega (arith, it.2), it.3, it.4))
+      (λ s b it. (n, x, omega arith, here, it))
+      (λ s b it. elim (cases_eq it.0 n) [
+        | inl same ↦ inr (subst (λ p. IsOnPage births Kind low p s b) (sym (same_Some x it.1 (sym here ∙ rw same at it.3))) it.4)
+        | inr other ↦ inl (it.0, it.1, omega (arith, it.2, other), it.3, it.4)
+      ])
+      best one before is
+
+  pub are_upto_all : (pages all : List Page) (n : ℕ) (best : Option SlotId) → pages ≡ all → (length pages ≤ n) → IsEarliest (AreUpto pages n) best → IsEarliest (IsOnPages births Kind low all) best
+  are_upto_all pages all n best same past is =
+      earliest_as (AreUpto pages n) (IsOnPages births Kind low all) best
+      (λ s b it. (it.0, it.1, rw same at it.3, it.4))
+      (λ s b it. (let there = rw (← same) at it.2 in (it.0, it.1, omega (arith, past, slice_get_within pages it.0 it.1 there), there, it.3)))
+      is
+
+module _ (births : List ℕ) (rows : Paged) (nodes : ℕ) (T : Entries) (Kind : Bound → Type 0) (low : ℕ) (is : IsStored births rows nodes T) where
+  -- an entry of the kind with a birth from `low` on has a record, which is not later than none
+  placed_on_pages : (u : ℕ) (e : ℕ × Bound) → IsPlaced T u e → Kind e.1 → low ≤ e.0 → (IsOnPages births Kind low rows.pages u e.0 → ⊥) → ⊥
+  placed_on_pages u e there kind above not =
+      none-some e (no_entry births rows nodes u T is none ∙ there)
+    where
+      none : (h k i : ℕ) (r : Record) → IsRecordAt rows.pages h k i r → r.slot ≡ u → ⊥
+      none h k i r at slot =
+          let listed = held_at (IsListed T) rows.pages h k i r is.0.listed at in
+          let same : (listed.0, listed.1) ≡ e = same_Some (listed.0, listed.1) e (sym (subst (λ (s : ℕ). IsPlaced T s (listed.0, listed.1)) slot listed.2) ∙ there) in
+          let bound : e.1 ≡ bound_of (at.0.head, r) = sym (ap (λ (x : ℕ × Bound). x.1) same) ∙ ap bound_of listed.3 ∙ ap (λ n. bound_of (n, r)) (sym at.2) in
+          not (
+            k,
+            at.0,
+            at.1,
+            (
+              i,
+              r,
+              at.3,
+              record {
+                slot_is = slot;
+                birth_is = is.1.born u e there;
+                kind = subst Kind bound kind;
+                above = above;
+              },
+            ),
+          )
+
+  -- a record of the kind is that of an entry
+  on_pages_placed : (u n : ℕ) → IsOnPages births Kind low rows.pages u n → (b : Bound) × IsPlaced T u (n, b) × Kind b × (low ≤ n)
+  on_pages_placed u n it =
+      let page : Page = it.1 in
+      let one : Record = it.3.1 in
+      let candidate = it.3.3 in
+      let b : Bound = bound_of (page.head, one) in
+      let told = entry_in_slot births rows nodes u T b is (record {
+        head = page.head;
+        page = it.0;
+        place = it.3.0;
+        record_is = one;
+        there = (page, it.2, refl, it.3.2);
+        slot_is = candidate.slot_is;
+        bound_is = refl;
+      }) in
+      (b, subst (λ (m : ℕ). IsPlaced T u (m, b)) candidate.birth_is (sym told), candidate.kind, candidate.above)
+
+  pub earliest_first : (answer : Option SlotId) → IsEarliest (IsOnPages births Kind low rows.pages) answer → IsFirst T Kind low answer
+  earliest_first None none = λ u e there kind. elim (cases_lt e.0 low) [
+    | inl less ↦ less
+    | inr above ↦ absurd (placed_on_pages u e there kind above (none u e.0))
+  ]
+  earliest_first (Some id) one =
+      let found = on_pages_placed id.slot id.birth one.0 in
+      record {
+        bound = found.0;
+        there = found.1;
+        kind = found.2;
+        above = found.3;
+        least = λ u e there kind. elim (cases_lt e.0 low) [
+          | inl less ↦ inl less
+          | inr above ↦ elim (cases_lt e.0 id.birth) [
+            | inl before ↦ absurd (placed_on_pages u e there kind above (λ it. (let upto = one.1 u e.0 it in omega (arith, upto, before))))
+            | inr upto ↦ inr upto
+          ]
+        ];
+      }

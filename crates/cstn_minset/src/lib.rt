@@ -5,6 +5,7 @@
 mod births;
 mod laws;
 mod min_set;
+mod passes;
 mod scan;
 
 pub use laws::{placing_leaves_what_nothing_later_dominates, walks_meet_each_once};

@@ -4,8 +4,9 @@ ghost use Rattle.cstn_minset.specs.Sets.{Places, Entries, entry_at, IsPlaced, Is
 ghost use Rattle.cstn_minset.specs.Sets.{IsFirstSlot, IsMinimal};
 
 use crate::births::{Births, NO_BIRTH};
+use crate::passes::{Sought, earliest};
 use crate::scan::{bound_in, place_under, slot_over};
-use cstn_label::{Bound, Mark, NodeId, Prop, labels_are_their_marks};
+use cstn_label::{Bound, NodeId, Prop, labels_are_their_marks};
 use cstn_pool::SlotId;
 use cstn_rows::{Record, Rows};
 use std::alloc::{AllocError, Global};
@@ -163,38 +164,20 @@ impl MinSet {
     }
 
     /// The id of the time-point's entry with the least birth that is at least this one; None where
-    /// there is none. Looks for the bound of every slot.
+    /// there is none. Looks at every bound once.
     pub fn first_from(&self, node: NodeId, birth: u64) -> Option<SlotId>
         ensures first { IsFirst self.now.table (IsAt node.0) birth result }
     {
-        let mut best = None;
-        for slot in 0..self.births.len() {
-            if let Some((born, b)) = self.entry(slot) {
-                let is_at = b.node == node;
-                if is_at && born >= birth && is_before(born, best) {
-                    best = Some(SlotId { slot, birth: born });
-                }
-            }
-        }
-        best
+        earliest(&self.rows, &self.births, Sought::At(node), birth)
     }
 
     /// Of the entries of all time-points, those whose label marks the proposition: the id of the one
-    /// with the least birth that is at least this one; None where there is none. Looks for the bound of
-    /// every slot.
+    /// with the least birth that is at least this one; None where there is none. Looks at every
+    /// bound once.
     pub fn marked_from(&self, p: Prop, birth: u64) -> Option<SlotId>
         ensures first { IsFirst self.now.table (IsMarking p.index) birth result }
     {
-        let mut best = None;
-        for slot in 0..self.births.len() {
-            if let Some((born, b)) = self.entry(slot) {
-                let is_marked = b.label.mark(p) != Mark::Absent;
-                if is_marked && born >= birth && is_before(born, best) {
-                    best = Some(SlotId { slot, birth: born });
-                }
-            }
-        }
-        best
+        earliest(&self.rows, &self.births, Sought::Marking(p), birth)
     }
 
     /// Takes out the bound under this id; false where none is placed under it.
@@ -244,15 +227,5 @@ impl MinSet {
     {
         self.rows.clear();
         self.births.clear();
-    }
-}
-
-// Whether the birth is below that of the id; true where there is no id.
-fn is_before(birth: u64, id: Option<SlotId>) -> bool
-    ensures { IsTrue result ↔ IfSome id (λ i. birth < i.birth) }
-{
-    match id {
-        Some(id) => birth < id.birth,
-        None => true,
     }
 }
