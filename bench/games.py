@@ -8,9 +8,10 @@ whose reaction is over comes out as it likes. A play is won where in the end all
 force is met. So a plan can be carried out where some choice at the start wins whatever comes, and a least moment is the least over all
 choices that win. This knows no bound and no rule, and raises no moments: it goes back from the ends of all plays to their start.
 
-The program is to say yes of just these plans, and to name each time-point at its least moment in each case; and it is asked again
-with one tick less than the greatest of these. Plans that observe nothing are drawn larger, and decided by Bellman and Ford: yes where
-no loop of constraints, the limits among them, is negative. What is drawn goes by a number from FIRST on. bench/hostile holds the first.
+The program is to say yes of just these plans, and to name each time-point at its least moment in each case. The greatest of these is
+to be the least deadline, and the program is asked again with one tick less. Plans that observe nothing are drawn larger, and decided by
+Bellman and Ford: yes where no loop of constraints, the limits among them, is negative. What is drawn goes by a number, from FIRST on.
+bench/hostile has the first ones.
 """
 import dataclasses
 import itertools
@@ -18,7 +19,7 @@ import random
 import sys
 
 from continuations import Constraint, Plan, drawn_label, joined
-from runs import BAD, GOOD, NAME, carried_out, check, count, run
+from runs import BAD, GOOD, NAME, carried_out, check, count, first_line, run
 
 # How many plans bench/hostile plays, and how many are played where no number is said; of each five one more observes nothing.
 FEW, MANY = 15, 150
@@ -181,13 +182,15 @@ def compared(folder, name, plan, rows):
 
 
 def decided(folder, name, plan, decide):
-    """Compares a plan, and after yes the same with one tick less than the greatest least moment. What came."""
+    """Compares a plan, and after yes its least deadline, and the same plan with one tick less than that. What came."""
     rows = decide(plan)
     came = [compared(folder, f"{name} by {plan.deadline}", plan, rows)]
-    greatest = max((moment for _, least in rows or () for moment in least.values()), default=0)
-    if greatest > 0:
-        shorter = dataclasses.replace(plan, deadline=greatest - 1)
-        came.append(compared(folder, f"{name} by {greatest - 1}", shorter, decide(shorter)))
+    if rows is not None:
+        greatest = max(moment for _, least in rows for moment in least.values())
+        check(f"{name}: the least deadline", first_line(run(["tight", folder.at("drawn")])), (GOOD, f"least {greatest}".encode()))
+        if greatest > 0:
+            shorter = dataclasses.replace(plan, deadline=greatest - 1)
+            came.append(compared(folder, f"{name} by {shorter.deadline}", shorter, decide(shorter)))
     return came
 
 
