@@ -140,9 +140,9 @@ def by_ways(plan):
 # What is drawn.
 
 
-def drawn_plan(draw):
+def drawn_plan(draw, sizes=SIZES):
     """A plan of a few time-points, in some of which the origin observes or time-points have labels; its bounds are near moments that are drawn."""
-    size, observed, most = draw.choice(SIZES)
+    size, observed, most = draw.choice(sizes)
     letters, names = "pqr"[:observed], ["Z"] + [f"X{number}" for number in range(1, size + 1)]
     observers = dict(zip(letters, draw.sample(names if draw.random() < 0.1 else names[1:], observed)))
     share = draw.choice((0, 0, 0.4))
@@ -153,7 +153,7 @@ def drawn_plan(draw):
         source, target = (moments.setdefault((end, *list(label.items())[:1]), draw.randint(0, deadline) if end != "Z" else 0) for end in ends)
         constraints[number] = Constraint(*ends, target - source + draw.choice((-1, 0, 0, 0, 1, 2)), label)
     plan = Plan(deadline, labels, observers, {letter: draw.choice((1, 1, 1, 2, 3)) for letter in letters}, constraints)
-    return plan if plan.is_sound() else drawn_plan(draw)
+    return plan if plan.is_sound() else drawn_plan(draw, sizes)
 
 
 def drawn_plain(draw):
