@@ -97,10 +97,12 @@ def solved(plan):
 
 
 def example(name):
-    """An example as a plan, with its least deadline."""
+    """An example as a plan with its least deadline, and with numbers for its names."""
     tables = Tables(os.path.join(TOP, "examples", name + ".graphml"))
-    constraints = {number: Constraint(*it) for number, it in enumerate(tables.constraints)}
-    return Plan(EXAMPLES[name + ".graphml"][2], {it: tables.labels[it] for it in tables.names}, tables.observers, tables.reactions, constraints)
+    names = {it: "Z" if it == "Z" else f"X{place}" for place, it in enumerate(tables.names)}
+    constraints = {number: Constraint(names[source], names[target], *more) for number, (source, target, *more) in enumerate(tables.constraints)}
+    observers = {letter: names[it] for letter, it in tables.observers.items()}
+    return Plan(EXAMPLES[name + ".graphml"][2], {names[it]: label for it, label in tables.labels.items()}, observers, tables.reactions, constraints)
 
 
 def asked(folder):
