@@ -6,8 +6,8 @@
 z3 is called by the name in Z3, or as `z3`. Of each drawn plan it gets the definition of a strategy in docs/definitions.md, written out as
 SMT-LIB: a moment for each time-point that is executed, in each case, within its limit; each constraint in force is met; and where a
 case agrees with another in what is known at a moment, who has that moment in the one has it in the other. It says whether there is such
-a table, and, asked by halves, how early each moment may be in one. The program is compared as by bench/games.py; so are the small examples. No other
-script calls this one, since z3 need not be there.
+a table, and, asked by halves, how early each moment may be in one. The program is compared as by bench/games.py; so are the small
+examples. No other script calls this one, since z3 need not be there.
 """
 import itertools
 import os
@@ -21,7 +21,7 @@ from runs import EXAMPLES, NAME, TOP, count
 from tables import Tables
 
 SOLVER = os.environ.get("Z3", "z3")
-MANY = 40
+MANY = 100
 
 # Of a drawn plan the time-points besides the origin, the letters, and the greatest deadline.
 SIZES = ((4, 1, 30), (5, 2, 20), (6, 2, 30), (6, 3, 12), (7, 2, 40), (8, 1, 60), (8, 3, 20))
