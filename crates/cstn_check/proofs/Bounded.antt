@@ -21,7 +21,7 @@ use Rattle.cstn_label.specs.Marks.{is_absent, is_plain}
 use Rattle.cstn_rules.specs.Rules.{finished}
 use Rattle.cstn_rules.specs.Derivations.{Entry}
 use Rattle.cstn_check.specs.Kept.{AllGood, IsBoundOf, IsKept, IsRanged}
-use Rattle.cstn_log.proofs.FinishLemmas.{limit_deadline}
+use Rattle.cstn_plan.proofs.FinishLemmas.{limit_deadline}
 use Rattle.cstn_check.specs.Tests.{dominates, chain_of, wait_for as wait_by, wait_of}
 use Rattle.cstn_check.specs.Growth.{Instance, why_of, is_covered, is_refuted, of_one, of_two, conclusion, grown, log_of, observed, most_entries}
 use Rattle.cstn_log.specs.Entries.{bases}

@@ -17,8 +17,8 @@ use Rattle.cstn_rules.proofs.Derived.{each_holds}
 use Rattle.cstn_rules.specs.Closed.{IsClosed}
 use Rattle.cstn_check.specs.Kept.{IsKept}
 use Rattle.cstn_check.specs.Turns.{IsRefutedLast, LastRefutes}
-use Rattle.cstn_log.specs.Asked.{AllSound, asked}
-use Rattle.cstn_log.proofs.Strategies.{asked_strategy, asked_least}
+use Rattle.cstn_plan.specs.Asked.{AllSound, asked}
+use Rattle.cstn_plan.proofs.Strategies.{asked_strategy, asked_least}
 use Rattle.cstn_check.specs.Tests.{refutes}
 use Rattle.cstn_check.specs.Verdicts.{is_consistent}
 use Rattle.cstn_check.specs.Growth.{is_refuted, live_bounds, log_of, load_of, grown, grow, most_entries}

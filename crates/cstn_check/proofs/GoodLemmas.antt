@@ -15,7 +15,7 @@ use Rattle.cstn_label.specs.Marks.{is_absent, is_plain}
 use Rattle.cstn_rules.specs.Rules.{finished}
 use Rattle.cstn_rules.specs.Derivations.{Entry}
 use Rattle.cstn_check.specs.Kept.{AllGood, IsBoundOf}
-use Rattle.cstn_log.proofs.FinishLemmas.{kept_own}
+use Rattle.cstn_plan.proofs.FinishLemmas.{kept_own}
 use Rattle.cstn_check.specs.Tests.{chain_of, wait_for as wait_by, wait_of}
 use Rattle.cstn_check.specs.Growth.{Instance, why_of, is_covered, is_refuted, premises_live, of_one, of_two, conclusion, with_conclusion, step, tried, turn, grown}
 use Rattle.cstn_log.specs.Entries.{bases}

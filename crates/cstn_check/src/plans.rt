@@ -1,6 +1,6 @@
 ghost use Rattle.std.specs.Prelude.{◌≡◌, ◌≤◌, [], length, vec_capacity};
 ghost use Rattle.cstn_log.specs.Entries.{the_entries};
-ghost use Rattle.cstn_log.specs.Plans.{the_bounds};
+ghost use Rattle.cstn_plan.specs.Plans.{the_bounds};
 ghost use Rattle.cstn_check.specs.Growth.{live_bounds};
 
 use cstn_label::Bound;

@@ -13,10 +13,9 @@ use Rattle.cstn_label.specs.declared.marks.Mark.{Mark}
 use Rattle.cstn_label.specs.Labels.{IsMarkWithin}
 use Rattle.cstn_label.specs.Bounds.{Bound, Dominates}
 use Rattle.cstn_label.specs.Read.{the_bound}
-use Rattle.cstn_log.proofs.ListLemmas.{get_map, contains_map}
 use Rattle.cstn_rules.specs.Closed.{IsCovered}
 use Rattle.cstn_closed.specs.Minimal.{held, kept_at, AreKept, IsPut}
-use Rattle.cstn_closed.proofs.ListLemmas.{there_is, is_there}
+use Rattle.cstn_closed.proofs.ListLemmas.{there_is, is_there, get_map, image_there}
 
 pub dominates_through : (a b c : Bound) → Dominates a b → Dominates b c → Dominates a c
 dominates_through a b c one two = record {
@@ -77,7 +76,9 @@ covering bounds r covered =
     (from.0, is_there bounds there.0 from.0 from.1, subst (λ x. Dominates x r) (sym from.2) covered.dominates)
 
 pub covered_by : (bounds : List Declared) (r : Bound) (c : Declared) → Contains bounds c → Dominates (the_bound c) r → IsCovered (map the_bound bounds) r
-covered_by bounds r c has over = record { by = the_bound c; in_list = contains_map the_bound bounds c has; dominates = over }
+covered_by bounds r c has over =
+    let there = there_is bounds c has in
+    record { by = the_bound c; in_list = is_there (map the_bound bounds) there.0 (the_bound c) (image_there bounds there.0 c there.1); dominates = over }
 
 -- a test that says `false` only of what d dominates leaves each of the others, and adds none
 module _ {F : Type 0} (R : F → Declared → Bool → F → Type 0) (d : Bound) (f : F)

@@ -1,10 +1,10 @@
 -- Chains of the constraints that end at a time-point, and waits.
-use Rattle.std.proofs.Common.{ℕ, ◌≡◌, ◌≤◌, ◌<◌, List, Some, length, get_or, map, arith, inl, inr, refl, sym, subst, ap, ◌∙◌, zero, suc, [], ◌∷◌}
+use Rattle.std.proofs.Common.{ℕ, ◌≡◌, ◌≤◌, ◌<◌, List, Some, length, get_or, map, arith, inl, inr, refl, sym, subst, ap, ◌∙◌}
 use Rattle.std.specs.Prelude.{slice_get, option_map}
 use Rattle.std.specs.List.{AllPairs}
 use Rattle.std.proofs.lemmas.Bool.{cases_lt, cases_eq}
 use Rattle.std.proofs.lemmas.List.{get_or-map, get_or_default, length-map}
-use Rattle.std.proofs.lemmas.Option.{slice_get-map, slice_get_within, get_or_from_slice_get, none-some, same_Some}
+use Rattle.std.proofs.lemmas.Option.{slice_get-map, slice_get_within, get_or_from_slice_get, same_Some}
 use Rattle.cstn_label.specs.declared.bounds.Bound.{Bound as DeclaredBound}
 use Rattle.cstn_label.specs.Bounds.{Bound}
 use Rattle.cstn_label.specs.Labels.{IsMarked}
@@ -18,18 +18,9 @@ use Rattle.cstn_rules.specs.Closed.{IsCovered}
 use Rattle.cstn_closed.specs.Faults.{Fault, bad, no_base, no_chain, no_wait, IsFault, kind, place, other}
 use Rattle.cstn_closed.specs.Instances.{IsChainCovered, AreChainsCovered, IsWaitCovered, AreWaitsCovered, IsSoBefore, IsFirstThere}
 use Rattle.cstn_closed.specs.Marking.{marking}
-use Rattle.cstn_closed.proofs.ListLemmas.{there_is, is_there}
+use Rattle.cstn_closed.proofs.ListLemmas.{there_is, is_there, one_there, get_map}
 use Rattle.cstn_closed.proofs.MarkingLemmas.{place_inside, marked_at, marked_before}
 use Rattle.cstn_closed.proofs.WalkLemmas.{IsWalked}
-
-one_there : {X : Type 0} (xs : List X) (k : ℕ) (x y : X) → slice_get xs k ≡ Some x → slice_get xs k ≡ Some y → x ≡ y
-one_there xs k x y is also = same_Some x y (sym is ∙ also)
-
--- an element of the mapped list is the image of the element at the same place
-from_image : (cs : List Declared) (k : ℕ) (y : Constraint) → slice_get (map the_constraint cs) k ≡ Some y → (x : Declared) × (slice_get cs k ≡ Some x) × (the_constraint x ≡ y)
-from_image [] k y is = absurd (none-some y is)
-from_image (x ∷ xs) zero y is = (x, refl, same_Some (the_constraint x) y is)
-from_image (x ∷ xs) (suc k) y is = from_image xs k y is
 
 -- what chain derives from the constraint at the place k and the bound is covered
 abbrev pub IsChainedAt : NetworkParts → List Bound → Bound → ℕ → Type 0
@@ -54,7 +45,7 @@ pub all_chained : (net : NetworkParts) (bounds : List Bound) (b : Bound) (p : �
     length net.constraints ≤ p → AreChainsCovered (the_network net) bounds b
 all_chained net bounds b p walked ended c has r is =
     let there = there_is (map the_constraint net.constraints) c has in
-    let from = from_image net.constraints there.0 c there.1 in
+    let from = get_map the_constraint net.constraints there.0 c there.1 in
     let within = slice_get_within net.constraints there.0 from.0 from.1 in
     walked.done there.0 (omega arith) (omega (arith, length-map net.constraints (λ (d : Declared). d.to.0))) from.0 from.1 r
     (subst (λ x. IsChain (the_network net) x b r) (sym from.2) is)
@@ -89,7 +80,7 @@ first_chained net bounds b i p c wf walked at here gives = record {
     earlier (no_wait j k) same there less fault = omega arith
     earlier (no_chain id j) same there less fault =
         let found = there_is (map the_constraint net.constraints) fault.0 fault.3 in
-        let from = from_image net.constraints found.0 fault.0 found.1 in
+        let from = get_map the_constraint net.constraints found.0 fault.0 found.1 in
         let within = slice_get_within net.constraints found.0 from.0 from.1 in
         let its : from.0.id ≡ id = ap {A = Constraint} (λ x. x.id) from.2 ∙ fault.4 in
         let its_bound : fault.1 ≡ b = one_there bounds i fault.1 b (subst (λ n. slice_get bounds n ≡ Some fault.1) there fault.5) at in

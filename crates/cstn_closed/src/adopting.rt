@@ -10,8 +10,8 @@ ghost use Rattle.cstn_closed.specs.Closed.{the_bounds};
 ghost use Rattle.cstn_closed.specs.Faults.{IsFaultless};
 
 use crate::lists::Closed;
-use cstn_log::{Plan, SoundPlan};
 use cstn_net::Network;
+use cstn_plan::{Plan, SoundPlan};
 use std::alloc::{AllocError, Global};
 
 impl Closed {

@@ -9,8 +9,8 @@ use Rattle.cstn_label.specs.Bounds.{Bound}
 use Rattle.cstn_label.specs.declared.bounds.Bound.{Bound as ProgramBound}
 use Rattle.cstn_label.specs.Read.{the_bound, known_value}
 use Rattle.cstn_net.specs.Networks.{Network}
-use Rattle.cstn_log.specs.Asked.{greatest, moment_of}
-use Rattle.cstn_log.specs.Plans.{the_bounds}
+use Rattle.cstn_plan.specs.Asked.{greatest, moment_of}
+use Rattle.cstn_plan.specs.Plans.{the_bounds}
 use Rattle.cstn_exec.specs.Runs.{Run, known, is_possible, earliest}
 
 -- a test of one bound and that of another may be made in either order

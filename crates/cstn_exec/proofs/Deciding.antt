@@ -8,8 +8,8 @@ use Rattle.cstn_label.specs.Bounds.{Bound}
 use Rattle.cstn_net.specs.Networks.{Network, IsWellFormed}
 use Rattle.cstn_net.specs.Strategies.{Table, IsKnown}
 use Rattle.cstn_net.proofs.Knowledge.{observer_within}
-use Rattle.cstn_log.specs.Plans.{IsEarliest}
-use Rattle.cstn_log.proofs.AskedLemmas.{true_fits}
+use Rattle.cstn_plan.specs.Plans.{IsEarliest}
+use Rattle.cstn_plan.proofs.AskedLemmas.{true_fits}
 use Rattle.cstn_lift.specs.Labelled.{Labelled}
 use Rattle.cstn_lift.specs.Completion.{completed_label}
 use Rattle.cstn_lift.specs.WellFormed.{IsLabelled}

@@ -10,7 +10,7 @@ use Rattle.cstn_label.specs.Labels.{Scenario}
 use Rattle.cstn_label.specs.Bounds.{Bound}
 use Rattle.cstn_net.specs.Networks.{Network, IsWellFormed, count, limit}
 use Rattle.cstn_net.specs.Strategies.{Table}
-use Rattle.cstn_log.specs.Plans.{IsEarliest}
+use Rattle.cstn_plan.specs.Plans.{IsEarliest}
 use Rattle.cstn_exec.specs.Runs.{Run, next, is_done, executed_at, outcome_of, awaited, is_free, has_work, due}
 use Rattle.cstn_exec.specs.Moves.{moment_refusal, moved}
 use Rattle.cstn_exec.specs.Right.{AgreesKnown, IsRight, HasWork, IsDue, IsDone, IsFulfilled}

@@ -10,7 +10,7 @@ use Rattle.std.proofs.lemmas.List.Sums.{position_or_len_is}
 use Rattle.cstn_label.specs.Labels.{Label, MarkFits}
 use Rattle.cstn_net.specs.Networks.{Network, IsNetwork, Observes, is_prop}
 use Rattle.cstn_net.proofs.Knowledge.{observer_within}
-use Rattle.cstn_log.proofs.AskedLemmas.{fits_true, true_fits}
+use Rattle.cstn_plan.proofs.AskedLemmas.{fits_true, true_fits}
 use Rattle.cstn_exec.specs.Runs.{Run, executed_at, outcome_of, observed_at, is_before, is_ready, known, is_awaited, fits_known, is_possible}
 use Rattle.cstn_exec.proofs.Options.{is_none-true}
 use Rattle.cstn_exec.proofs.Ranges.{each_passes, all_pass}

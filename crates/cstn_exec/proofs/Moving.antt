@@ -9,7 +9,7 @@ use Rattle.cstn_net.specs.Networks.{Network, IsWellFormed, count}
 use Rattle.cstn_net.specs.Strategies.{Table, IsLeast}
 use Rattle.cstn_net.proofs.Dynamic.{one_least}
 use Rattle.cstn_net.proofs.Knowledge.{observer_within}
-use Rattle.cstn_log.specs.Plans.{IsEarliest}
+use Rattle.cstn_plan.specs.Plans.{IsEarliest}
 use Rattle.cstn_exec.specs.Runs.{Run, start, next, executed_at, outcome_of, observed_at, is_awaited, earliest, is_free, called}
 use Rattle.cstn_exec.specs.Moves.{executed, moved, handed}
 use Rattle.cstn_exec.specs.Right.{AgreesKnown, IsRight, IsCalled}

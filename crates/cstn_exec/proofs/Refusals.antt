@@ -7,7 +7,7 @@ use Rattle.std.proofs.lemmas.Bool.{or_parts}
 use Rattle.cstn_label.specs.Bounds.{Bound}
 use Rattle.cstn_net.specs.Networks.{Network, IsWellFormed, count}
 use Rattle.cstn_net.specs.Strategies.{Table}
-use Rattle.cstn_log.specs.Plans.{IsEarliest}
+use Rattle.cstn_plan.specs.Plans.{IsEarliest}
 use Rattle.cstn_exec.specs.Runs.{Run, observed_at, outcome_of, awaited, is_free, called, due}
 use Rattle.cstn_exec.specs.Moves.{Done, Past, Late, Awaiting, moment_refusal, outcome_refusal, unless_unseen, unless_known, handed}
 use Rattle.cstn_exec.specs.Right.{IsRight, IsCalled, IsDue, IsDone, IsBetween, IsFirstAwaited}

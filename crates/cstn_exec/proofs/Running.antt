@@ -10,8 +10,8 @@ use Rattle.cstn_net.specs.Networks.{Network, IsNetwork, IsWellFormed, count}
 use Rattle.cstn_net.specs.Strategies.{Table, IsKnown}
 use Rattle.cstn_net.proofs.Dynamic.{one_least}
 use Rattle.cstn_net.proofs.Knowledge.{observer_within}
-use Rattle.cstn_log.specs.Plans.{IsEarliest}
-use Rattle.cstn_log.proofs.AskedLemmas.{greatest_upper, greatest_attained}
+use Rattle.cstn_plan.specs.Plans.{IsEarliest}
+use Rattle.cstn_plan.proofs.AskedLemmas.{greatest_upper, greatest_attained}
 use Rattle.cstn_exec.specs.Runs.{Run, next, executed_at, outcome_of, known, is_awaited, awaited, is_possible, earliest, is_free, has_work}
 use Rattle.cstn_exec.specs.Right.{AgreesKnown, IsRight}
 use Rattle.cstn_exec.proofs.Options.{cases_option, is_some-false}

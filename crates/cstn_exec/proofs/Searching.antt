@@ -7,8 +7,8 @@ use Rattle.std.proofs.lemmas.Bool.{cases_Bool, cases_lt, cases_eq, cond-false, t
 use Rattle.cstn_label.specs.Bounds.{Bound}
 use Rattle.cstn_net.specs.Networks.{Network, IsWellFormed, count}
 use Rattle.cstn_net.specs.Strategies.{Table}
-use Rattle.cstn_log.specs.Asked.{greatest}
-use Rattle.cstn_log.specs.Plans.{IsEarliest}
+use Rattle.cstn_plan.specs.Asked.{greatest}
+use Rattle.cstn_plan.specs.Plans.{IsEarliest}
 use Rattle.cstn_exec.specs.Runs.{Run, next, is_done, executed_at, outcome_of, is_ready, is_awaited, awaited, is_possible, earliest, is_free, has_work, due}
 use Rattle.cstn_exec.specs.Right.{IsRight}
 use Rattle.cstn_exec.proofs.Options.{is_none-true}

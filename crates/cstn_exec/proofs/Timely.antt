@@ -8,7 +8,7 @@ use Rattle.cstn_label.specs.Labels.{Scenario, IsMarked, MarkFits}
 use Rattle.cstn_label.proofs.MarkLemmas.{absent_or_not, fits_absent, mark_fits_within}
 use Rattle.cstn_net.specs.Networks.{Network, IsWellFormed, Observes, count}
 use Rattle.cstn_net.specs.Strategies.{Table}
-use Rattle.cstn_log.specs.Plans.{IsEarliest}
+use Rattle.cstn_plan.specs.Plans.{IsEarliest}
 use Rattle.cstn_lift.specs.Labelled.{Labelled}
 use Rattle.cstn_lift.specs.Completion.{completed_label}
 use Rattle.cstn_lift.specs.WellFormed.{IsLabelled}

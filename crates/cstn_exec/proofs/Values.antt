@@ -11,7 +11,7 @@ use Rattle.cstn_label.specs.Labels.{MarkFits, IsPossible}
 use Rattle.cstn_label.specs.Read.{marks, is_known, the_values, known_value}
 use Rattle.cstn_label.specs.Words.{has_bit}
 use Rattle.cstn_net.specs.Networks.{Network, IsWellFormed}
-use Rattle.cstn_log.specs.Asked.{fits}
+use Rattle.cstn_plan.specs.Asked.{fits}
 use Rattle.cstn_exec.specs.Runs.{Run, known, fits_known, is_possible}
 use Rattle.cstn_exec.proofs.Ranges.{each_passes, all_pass}
 use Rattle.cstn_exec.proofs.Knowing.{some_within, known_from}

@@ -5,7 +5,7 @@ use Rattle.cstn_label.specs.Labels.{Scenario, Holds}
 use Rattle.cstn_label.specs.Bounds.{Bound}
 use Rattle.cstn_net.specs.Networks.{Network, Constraint, IsWellFormed, count}
 use Rattle.cstn_net.specs.Strategies.{Table, IsStrategy, IsLeast}
-use Rattle.cstn_log.specs.Plans.{IsEarliest}
+use Rattle.cstn_plan.specs.Plans.{IsEarliest}
 use Rattle.cstn_exec.specs.Runs.{Run, next, executed_at, outcome_of, observed_at, known, is_awaited}
 
 -- the bounds are those of a plan of a network that has a strategy: they ask for the least moments

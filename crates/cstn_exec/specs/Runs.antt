@@ -6,7 +6,7 @@ use Rattle.cstn_label.specs.declared.marks.Mark.{Mark}
 use Rattle.cstn_label.specs.Labels.{Label}
 use Rattle.cstn_label.specs.Bounds.{Bound}
 use Rattle.cstn_net.specs.Networks.{Network, count, is_prop}
-use Rattle.cstn_log.specs.Asked.{fits, greatest}
+use Rattle.cstn_plan.specs.Asked.{fits, greatest}
 
 -- the state of a run: the last accepted moment, if any, the moment of each time-point that was executed, and the outcome of
 -- each proposition that was seen

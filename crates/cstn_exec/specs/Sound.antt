@@ -5,7 +5,7 @@ use Rattle.cstn_label.specs.Labels.{Label, Scenario, IsMarked, MarkFits}
 use Rattle.cstn_label.specs.Bounds.{Bound}
 use Rattle.cstn_net.specs.Networks.{Constraint, IsWellFormed, Observes, count}
 use Rattle.cstn_net.specs.Strategies.{Table}
-use Rattle.cstn_log.specs.Plans.{IsEarliest}
+use Rattle.cstn_plan.specs.Plans.{IsEarliest}
 use Rattle.cstn_lift.specs.Labelled.{Labelled}
 use Rattle.cstn_lift.specs.Completion.{completed_label}
 use Rattle.cstn_lift.specs.WellFormed.{IsLabelled}

@@ -7,7 +7,7 @@ use Rattle.std.proofs.lemmas.List.{map-set, get_or_default, get_or-set_same, len
 use Rattle.std.proofs.lemmas.List.Elements.{All-set, All-replicate}
 use Rattle.cstn_net.specs.Networks.{count}
 use Rattle.cstn_net.specs.Read.{the_network}
-use Rattle.cstn_log.specs.Plans.{PlanParts}
+use Rattle.cstn_plan.specs.Plans.{PlanParts}
 use Rattle.cstn_exec.specs.Runs.{start}
 use Rattle.cstn_exec.specs.Read.{ExecParts}
 use Rattle.cstn_host.specs.declared.cases.Case.{Case}

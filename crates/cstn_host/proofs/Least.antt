@@ -6,8 +6,8 @@ use Rattle.std.specs.List.Sorted.{IsStrictlyIncreasing}
 use Rattle.std.proofs.lemmas.List.Elements.{All-map, All-weaker}
 use Rattle.cstn_net.specs.Networks.{IsWellFormed}
 use Rattle.cstn_net.specs.Strategies.{IsConsistent}
-use Rattle.cstn_log.specs.Asked.{asked}
-use Rattle.cstn_log.proofs.PlanLemmas.{asked_earliest}
+use Rattle.cstn_plan.specs.Asked.{asked}
+use Rattle.cstn_plan.proofs.PlanLemmas.{asked_earliest}
 use Rattle.cstn_check.specs.Growth.{is_refuted, log_of, live_bounds}
 use Rattle.cstn_check.proofs.Decides.{log_closed, log_sound}
 use Rattle.cstn_exec.specs.Runs.{Run, due, called, observed_at, outcome_of}

@@ -5,7 +5,7 @@ use Rattle.std.specs.Option.{option_map}
 use Rattle.std.proofs.Math.ListN.{get_or-map}
 use Rattle.std.proofs.lemmas.List.{map-set}
 use Rattle.cstn_net.specs.Networks.{count}
-use Rattle.cstn_log.specs.Plans.{PlanParts}
+use Rattle.cstn_plan.specs.Plans.{PlanParts}
 use Rattle.cstn_lines.specs.HostLines.{Hosted, opened, put_on, closed}
 use Rattle.cstn_exec.specs.Runs.{start}
 use Rattle.cstn_exec.specs.Answers.{Answer, answer_to, run_after}

@@ -2,7 +2,7 @@
 use Rattle.std.specs.Prelude.{ℕ, Bool, true, false, ◌==◌, nat_lt, if◌then◌else◌, List, [], ◌∷◌, Option, Some, None, length, slice_set}
 use Rattle.cstn_label.specs.Bounds.{Bound}
 use Rattle.cstn_net.specs.Networks.{Network}
-use Rattle.cstn_log.specs.Plans.{PlanParts}
+use Rattle.cstn_plan.specs.Plans.{PlanParts}
 use Rattle.cstn_exec.specs.Runs.{Run, called}
 use Rattle.cstn_exec.specs.Moves.{Refusal, moment_refusal}
 use Rattle.cstn_exec.specs.Answers.{Event, Moment, See, AskDue, Answer, Names, answer_to, run_after}

@@ -4,7 +4,7 @@ use Rattle.std.proofs.Common.{lit<}
 use Rattle.cstn_label.specs.declared.props.Prop.{Prop}
 use Rattle.cstn_label.specs.declared.labels.Label.{Label}
 use Rattle.cstn_label.specs.declared.bounds.Bound.{Bound}
-use Rattle.cstn_log.specs.Plans.{PlanParts}
+use Rattle.cstn_plan.specs.Plans.{PlanParts}
 use Rattle.cstn_exec.specs.Moves.{Done}
 use Rattle.cstn_exec.specs.Answers.{Moment, See, AskDue, Names, Kept, Refused, DueAt}
 use Rattle.cstn_host.specs.Calls.{Call, CallOn, Open, AskFile, AskNamed, Pass, Close, HostAnswer, Agreed, FileIs, Told, Denied, InUse, NotOpen, OutOfRange, NotAFile, NoMemory}

@@ -3,7 +3,7 @@ use Rattle.std.specs.Prelude.{ℕ, List, [], Option, Some, None, replicate, slic
 use Rattle.cstn_label.specs.Bounds.{Bound}
 use Rattle.cstn_net.specs.Networks.{Network, count}
 use Rattle.cstn_net.specs.Read.{the_network}
-use Rattle.cstn_log.specs.Plans.{PlanParts, the_bounds}
+use Rattle.cstn_plan.specs.Plans.{PlanParts, the_bounds}
 use Rattle.cstn_exec.specs.Runs.{Run, start}
 
 -- what an id is open over: the number of a plan, called a file, the run of that plan, and the time-points that were named at

@@ -2,7 +2,7 @@
 use Rattle.std.specs.Prelude.{ℕ, Bool, nat_lt, ◌==◌, ◌&&◌, not, if◌then◌else◌, List, [], ◌∷◌, ◌++◌, Option, Some, None}
 use Rattle.std.specs.List.{filter}
 use Rattle.cstn_net.specs.Read.{the_network}
-use Rattle.cstn_log.specs.Plans.{PlanParts, the_bounds}
+use Rattle.cstn_plan.specs.Plans.{PlanParts, the_bounds}
 use Rattle.cstn_exec.specs.Answers.{Event, Answer, Names, Kept, Refused, DueAt, answers}
 use Rattle.cstn_host.specs.Hosts.{plan_of_file}
 use Rattle.cstn_host.specs.Calls.{Call, Open, AskFile, AskNamed, Pass, Close, CallOn, HostAnswer, FileIs, Told, Agreed, Denied, NotOpen, InUse, OutOfRange, opening_answer}

@@ -4,7 +4,7 @@ use Rattle.std.specs.List.{All}
 use Rattle.std.specs.Option.{option_map}
 use Rattle.std.specs.Prelude.{IfSome}
 use Rattle.cstn_label.specs.declared.nodes.NodeId.{NodeId}
-use Rattle.cstn_log.specs.Plans.{PlanParts}
+use Rattle.cstn_plan.specs.Plans.{PlanParts}
 use Rattle.cstn_exec.specs.Read.{the_refusal}
 use Rattle.cstn_exec.specs.Answers.{Refused}
 use Rattle.cstn_host.specs.declared.cases.Case.{Case}

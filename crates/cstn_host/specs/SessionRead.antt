@@ -3,7 +3,7 @@ use Rattle.std.specs.Prelude.{◌≡◌, ◌<◌, ℕ, List, [], ◌∷◌, leng
 use Rattle.std.specs.Global.{Global}
 use Rattle.std.specs.Option.{option_map}
 use Rattle.cstn_net.specs.Read.{the_network}
-use Rattle.cstn_log.specs.Plans.{PlanParts, the_bounds}
+use Rattle.cstn_plan.specs.Plans.{PlanParts, the_bounds}
 use Rattle.cstn_exec.specs.Answers.{Answer, Names, Kept, Refused, DueAt}
 use Rattle.cstn_host.specs.Hosts.{HostParts, Opened, plan_of_file}
 use Rattle.cstn_host.specs.Calls.{HostAnswer, Agreed, FileIs, Told, Denied}

@@ -1,7 +1,7 @@
 // What an open id holds.
 ghost use Rattle.std.specs.Prelude.{◌≡◌, false, List, IfSome, OnErr};
 ghost use Rattle.std.specs.Option.{option_map};
-ghost use Rattle.cstn_log.specs.Plans.{PlanParts};
+ghost use Rattle.cstn_plan.specs.Plans.{PlanParts};
 ghost use Rattle.cstn_exec.specs.Answers.{Moment, See, Names, Kept, answer_to};
 ghost use Rattle.cstn_host.specs.Hosts.{net_at, bounds_at, named_in};
 ghost use Rattle.cstn_host.specs.Calls.{Pass, Told, answer_at, passed, case_after};

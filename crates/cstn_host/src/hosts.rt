@@ -11,7 +11,7 @@ use crate::cases::{Case, pass_moment, pass_outcome};
 use crate::errors::HostError;
 use cstn_exec::Executive;
 use cstn_label::{NodeId, Prop};
-use cstn_log::SoundPlan;
+use cstn_plan::SoundPlan;
 use std::alloc::{AllocError, Global};
 use std::marker::Model;
 

@@ -1,7 +1,7 @@
 //! Laws of hosts. The functions here do nothing: their contracts are the laws. What they say of lists of calls holds of every
 //! host, since the clauses *answer* and *after* of its calls say just what `answer_on` and `host_after` say.
 ghost use Rattle.std.specs.Prelude.{ℕ, ◌≡◌, ◌≢◌, ◌<◌, ◌++◌, [], ◌∷◌, List, Bool, Some, false, length};
-ghost use Rattle.cstn_log.specs.Plans.{PlanParts};
+ghost use Rattle.cstn_plan.specs.Plans.{PlanParts};
 ghost use Rattle.cstn_host.specs.Hosts.{HostParts, nothing_open, case_at};
 ghost use Rattle.cstn_host.specs.Calls.{Call, CallOn, Open, Close, answer_on, host_after, host_after_all, answers_on, answers_to};
 ghost use Rattle.cstn_host.specs.Own.{own_calls, calls_on, answer_by};

@@ -13,7 +13,7 @@ use crate::texts::{put_error, put_id, put_unfinished};
 use cstn_exec::put_moment;
 use cstn_label::Prop;
 use cstn_lines::{HostLine, LiveLine, read_host};
-use cstn_log::SoundPlan;
+use cstn_plan::SoundPlan;
 use cstn_reply::{Answer, AnswerText, Outcome, Talk};
 use std::alloc::{AllocError, Global};
 use std::marker::Model;

@@ -15,7 +15,3 @@ pub mod AncestorLemmas
 pub mod StepLemmas
 pub mod ListedLemmas
 pub mod PutLemmas
-pub mod FinishLemmas
-pub mod AskedLemmas
-pub mod Strategies
-pub mod PlanLemmas

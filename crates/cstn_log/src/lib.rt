@@ -1,5 +1,4 @@
-//! The log: the list of bounds that follow by the rules, in order, each with the rule that gave it; and plans, lists of
-//! bounds to which the rules add nothing.
+//! The log: the list of bounds that follow by the rules, in order, each with the rule that gave it.
 #![tactic(auto)]
 
 mod bits;
@@ -9,7 +8,6 @@ mod cutting;
 mod laws;
 mod list;
 mod log;
-mod plans;
 mod putting;
 mod sets;
 mod watched;
@@ -18,6 +16,5 @@ pub use blocks::Block;
 pub use cuts::{
     cuts_are_derivations, cuts_are_known, dropping_leaves_derivations, parts_are_derivations,
 };
-pub use laws::{closed_lists_have_strategies, cut_lists_follow_ancestors};
+pub use laws::cut_lists_follow_ancestors;
 pub use log::Log;
-pub use plans::{Plan, SoundPlan};

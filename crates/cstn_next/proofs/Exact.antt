@@ -19,9 +19,9 @@ use Rattle.cstn_lift.specs.Lowered.{lowered}
 use Rattle.cstn_lift.specs.Strategies.{IsExecuted}
 use Rattle.cstn_lift.specs.WellFormed.{IsLabelled}
 use Rattle.cstn_lift.proofs.Equivalent.{equivalent}
-use Rattle.cstn_log.specs.Asked.{asked}
-use Rattle.cstn_log.proofs.AskedLemmas.{greatest_upper, greatest_attained, asked_attained, asked_upper}
-use Rattle.cstn_log.proofs.Strategies.{asked_least}
+use Rattle.cstn_plan.specs.Asked.{asked}
+use Rattle.cstn_plan.proofs.AskedLemmas.{greatest_upper, greatest_attained, asked_attained, asked_upper}
+use Rattle.cstn_plan.proofs.Strategies.{asked_least}
 use Rattle.cstn_history.specs.Histories.{History, IsHistory, AgreesWith, known_at}
 use Rattle.cstn_history.specs.Continuations.{IsLeastNow, IsAwaited, IsNamed, IsEventful, IsNext}
 use Rattle.cstn_history.specs.Rest.{is_left, number_of, rest}

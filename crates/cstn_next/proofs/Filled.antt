@@ -15,8 +15,8 @@ use Rattle.cstn_label.specs.Read.{the_bound}
 use Rattle.cstn_label.specs.Marks.{is_plain}
 use Rattle.cstn_net.specs.Networks.{count}
 use Rattle.cstn_lift.specs.Labelled.{Labelled}
-use Rattle.cstn_log.specs.Asked.{moment_of}
-use Rattle.cstn_log.specs.Plans.{the_bounds}
+use Rattle.cstn_plan.specs.Asked.{moment_of}
+use Rattle.cstn_plan.specs.Plans.{the_bounds}
 use Rattle.cstn_history.specs.Histories.{History}
 use Rattle.cstn_history.specs.Rest.{number_of, is_left}
 use Rattle.cstn_history.specs.Handed.{AreNumbers}

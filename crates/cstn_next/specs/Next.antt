@@ -6,7 +6,7 @@ use Rattle.cstn_label.specs.Marks.{is_plain}
 use Rattle.cstn_label.specs.Bounds.{Bound}
 use Rattle.cstn_net.specs.Networks.{IsWellFormed, count}
 use Rattle.cstn_rules.specs.Closed.{IsClosed}
-use Rattle.cstn_log.specs.Asked.{AllSound, greatest}
+use Rattle.cstn_plan.specs.Asked.{AllSound, greatest}
 use Rattle.cstn_lift.specs.Labelled.{Labelled}
 use Rattle.cstn_lift.specs.Completion.{completed_label}
 use Rattle.cstn_lift.specs.Lowered.{lowered}

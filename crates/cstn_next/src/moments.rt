@@ -2,7 +2,7 @@ ghost use Rattle.std.specs.Prelude.{ℕ, ◌≡◌, ◌<◌, ◌≤◌, ◌↔�
 ghost use Rattle.std.specs.List.{Contains, filter, range_with_len};
 ghost use Rattle.std.specs.List.Sorted.{IsStrictlyIncreasing};
 ghost use Rattle.cstn_net.specs.Read.{the_network};
-ghost use Rattle.cstn_log.specs.Plans.{the_bounds};
+ghost use Rattle.cstn_plan.specs.Plans.{the_bounds};
 ghost use Rattle.cstn_lift.specs.Lowered.{lowered};
 ghost use Rattle.cstn_lift.specs.WellFormed.{IsLabelled};
 ghost use Rattle.cstn_lift.specs.Read.{the_labelled};
@@ -16,7 +16,7 @@ use crate::ready::{awaited_moments, coming_moments};
 use cstn_history::History;
 use cstn_label::{NodeId, Prop};
 use cstn_lift::Labelled;
-use cstn_log::SoundPlan;
+use cstn_plan::SoundPlan;
 use std::alloc::{AllocError, Global};
 
 /// What is next: the moment, in ticks, the time-points that are named at it, which are to be executed, and the propositions whose

@@ -3,8 +3,8 @@ ghost use Rattle.std.specs.Prelude.{ℕ, ◌≡◌, ◌<◌, ◌≤◌, ◌==◌
 ghost use Rattle.cstn_label.specs.Marks.{is_plain};
 ghost use Rattle.cstn_label.specs.Read.{marks};
 ghost use Rattle.cstn_net.specs.Networks.{count};
-ghost use Rattle.cstn_log.specs.Asked.{moment_of};
-ghost use Rattle.cstn_log.specs.Plans.{the_bounds};
+ghost use Rattle.cstn_plan.specs.Asked.{moment_of};
+ghost use Rattle.cstn_plan.specs.Plans.{the_bounds};
 ghost use Rattle.cstn_lift.specs.Read.{the_labelled};
 ghost use Rattle.cstn_history.specs.Read.{the_history, IsKeptFor};
 ghost use Rattle.cstn_next.specs.Next.{latest, is_ready, coming_at, coming_moments, awaited_from, awaited_moments};
@@ -12,7 +12,7 @@ ghost use Rattle.cstn_next.specs.Next.{latest, is_ready, coming_at, coming_momen
 use cstn_history::{History, completed, known_at, numbers_left};
 use cstn_label::{Bound, Label, NodeId, Prop, labels_are_their_marks};
 use cstn_lift::Labelled;
-use cstn_log::SoundPlan;
+use cstn_plan::SoundPlan;
 use std::alloc::{AllocError, Global};
 
 // A moment for each of the 1,024 time-points that there may be.

@@ -2,8 +2,8 @@
 use Rattle.std.proofs.Common.{◌≡◌, ℕ, Bool, true, false, refl}
 use Rattle.std.specs.Prelude.{nat_lt, if◌then◌else◌}
 use Rattle.cstn_net.specs.Networks.{Network, IsWellFormed}
-use Rattle.cstn_log.specs.Asked.{asked}
-use Rattle.cstn_log.proofs.PlanLemmas.{asked_earliest}
+use Rattle.cstn_plan.specs.Asked.{asked}
+use Rattle.cstn_plan.proofs.PlanLemmas.{asked_earliest}
 use Rattle.cstn_lift.specs.Labelled.{Labelled}
 use Rattle.cstn_lift.specs.WellFormed.{IsLabelled}
 use Rattle.cstn_lift.specs.Lowered.{lowered}

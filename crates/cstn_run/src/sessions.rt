@@ -1,7 +1,7 @@
 // Guided sessions: live lines are answered by a guide.
 ghost use Rattle.std.specs.Prelude.{◌≡◌, ◌≤◌, [], false, map, length, IfOk};
 ghost use Rattle.cstn_net.specs.Networks.{count};
-ghost use Rattle.cstn_log.specs.Plans.{the_bounds};
+ghost use Rattle.cstn_plan.specs.Plans.{the_bounds};
 ghost use Rattle.cstn_lift.specs.Lowered.{lowered};
 ghost use Rattle.cstn_lift.specs.Read.{the_labelled};
 ghost use Rattle.cstn_exec.specs.Runs.{due};

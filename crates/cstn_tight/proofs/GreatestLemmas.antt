@@ -11,7 +11,7 @@ use Rattle.cstn_rules.specs.declared.entries.Entry.{Entry as DeclaredEntry}
 use Rattle.cstn_rules.specs.Derivations.{Entry}
 use Rattle.cstn_rules.specs.Read.{the_entry}
 use Rattle.cstn_log.specs.Entries.{the_entries}
-use Rattle.cstn_log.proofs.FinishLemmas.{limit_deadline}
+use Rattle.cstn_plan.proofs.FinishLemmas.{limit_deadline}
 use Rattle.cstn_check.specs.Growth.{log_of, load_of}
 use Rattle.cstn_check.specs.Deadlines.{is_late, past_limit}
 use Rattle.cstn_check.proofs.Bounded.{log_kept}

@@ -9,7 +9,7 @@ use Rattle.cstn_label.specs.Bounds.{Bound}
 use Rattle.cstn_net.specs.Networks.{Network}
 use Rattle.cstn_net.specs.Read.{NetworkParts, the_network}
 use Rattle.cstn_text.specs.PrintedNames.{printed_name}
-use Rattle.cstn_log.specs.Plans.{PlanParts, the_bounds}
+use Rattle.cstn_plan.specs.Plans.{PlanParts, the_bounds}
 use Rattle.cstn_check.specs.Growth.{log_of, load_of, live_bounds}
 use Rattle.cstn_check.specs.declared.verdicts.Verdict.{Verdict}
 use Rattle.cstn_check.specs.declared.verdicts.Verdict.TheVariants.{Yes}

@@ -22,8 +22,8 @@ use Rattle.cstn_refute.specs.Texts.{Told as ToldSteps, tells as tells_steps, wro
 use Rattle.cstn_refute.specs.Written.{AreWritten as AreWrittenSteps}
 use Rattle.cstn_closed.specs.Texts.{Told as ToldBounds, tells as tells_bounds, wrong as wrong_bound, told as told_bounds}
 use Rattle.cstn_closed.specs.Written.{IsPrintableBound, AreWritten as AreWrittenBounds}
-use Rattle.cstn_log.specs.Plans.{IsEarliest}
-use Rattle.cstn_log.proofs.PlanLemmas.{asked_earliest}
+use Rattle.cstn_plan.specs.Plans.{IsEarliest}
+use Rattle.cstn_plan.proofs.PlanLemmas.{asked_earliest}
 use Rattle.cstn_check.specs.Growth.{log_of, load_of, live_bounds}
 use Rattle.cstn_check.specs.declared.verdicts.Verdict.{Verdict}
 use Rattle.cstn_check.specs.declared.verdicts.Verdict.TheVariants.{Yes, No, Full as IsFullVerdict}
@@ -57,7 +57,7 @@ use Rattle.cstn_host.specs.Sessions.{begun as begun_host, host_turn, host_ending
 use Rattle.cstn_host.specs.Files.{Named, the_file, yes_lines}
 use Rattle.cstn_top.proofs.Documents.{of_network}
 use Rattle.cstn_top.proofs.SomeFault.{faultless, faultless_is_closed}
-use Rattle.cstn_log.specs.Asked.{asked}
+use Rattle.cstn_plan.specs.Asked.{asked}
 use Rattle.cstn_words.specs.Limits.{most_cap}
 use Rattle.cstn_documents.specs.Limits.{most_document, most_text}
 use Rattle.cstn_top.specs.Limits.{most_observed}

@@ -7,7 +7,7 @@ use Rattle.std.proofs.lemmas.List.{map-append, length-map}
 use Rattle.std.proofs.lemmas.List.Elements.{All-nil, All-cons, All-append}
 use Rattle.cstn_label.specs.Labels.{Label}
 use Rattle.cstn_net.specs.Networks.{Network, IsWellFormed, Constraint, Observes, count, limit}
-use Rattle.cstn_log.proofs.AskedLemmas.{fits_true, true_fits}
+use Rattle.cstn_plan.proofs.AskedLemmas.{fits_true, true_fits}
 use Rattle.cstn_exec.specs.Runs.{is_possible, fits_known}
 use Rattle.cstn_exec.proofs.Options.{is_none-true, is_some-false}
 use Rattle.cstn_exec.proofs.Ranges.{each_passes, all_pass}

@@ -12,9 +12,9 @@ use Rattle.cstn_label.specs.Labels.{Label, Scenario, Holds, MarkFits, IsPlain, I
 use Rattle.cstn_label.specs.Bounds.{Bound}
 use Rattle.cstn_net.specs.Networks.{Network, Constraint, IsConstraint, IsWellFormed, count, limit}
 use Rattle.cstn_net.specs.Strategies.{Table}
-use Rattle.cstn_log.specs.Asked.{greatest}
-use Rattle.cstn_log.specs.Plans.{IsEarliest}
-use Rattle.cstn_log.proofs.AskedLemmas.{fits_true}
+use Rattle.cstn_plan.specs.Asked.{greatest}
+use Rattle.cstn_plan.specs.Plans.{IsEarliest}
+use Rattle.cstn_plan.proofs.AskedLemmas.{fits_true}
 use Rattle.cstn_exec.specs.Runs.{Run, start, next, executed_at, outcome_of, is_ready, known, is_awaited, awaited, is_possible, fits_known, is_free, has_work, called, due}
 use Rattle.cstn_exec.specs.Moves.{Awaiting, moment_refusal, moved, handed, executed}
 use Rattle.cstn_exec.specs.Right.{AgreesKnown, IsRight}

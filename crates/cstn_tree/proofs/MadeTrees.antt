@@ -8,7 +8,7 @@ use Rattle.cstn_label.specs.Labels.{Scenario}
 use Rattle.cstn_label.specs.Bounds.{Bound}
 use Rattle.cstn_net.specs.Networks.{Network, IsWellFormed, count}
 use Rattle.cstn_net.specs.Strategies.{Table, IsLeast}
-use Rattle.cstn_log.specs.Plans.{IsEarliest}
+use Rattle.cstn_plan.specs.Plans.{IsEarliest}
 use Rattle.cstn_exec.specs.Runs.{Run, start, is_free, called, due}
 use Rattle.cstn_exec.specs.Moves.{Awaiting, moment_refusal, moved, handed, executed}
 use Rattle.cstn_exec.proofs.Ranges.{all_pass}

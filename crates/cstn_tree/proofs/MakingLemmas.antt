@@ -8,7 +8,7 @@ use Rattle.cstn_label.specs.declared.props.Prop.{Prop}
 use Rattle.cstn_label.specs.Bounds.{Bound}
 use Rattle.cstn_net.specs.Networks.{Network, count}
 use Rattle.cstn_net.specs.Read.{the_network}
-use Rattle.cstn_log.specs.Plans.{the_bounds}
+use Rattle.cstn_plan.specs.Plans.{the_bounds}
 use Rattle.cstn_exec.specs.Runs.{Run, start, due, called}
 use Rattle.cstn_exec.specs.Moves.{Refusal, Awaiting, moment_refusal, moved, handed, outcome_refusal}
 use Rattle.cstn_exec.specs.Read.{ExecParts, IsRunOf}

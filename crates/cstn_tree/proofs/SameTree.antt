@@ -5,9 +5,9 @@ use Rattle.std.proofs.lemmas.Bool.{cases_lt}
 use Rattle.cstn_label.specs.Bounds.{Bound}
 use Rattle.cstn_net.specs.Networks.{Network, IsWellFormed, count}
 use Rattle.cstn_net.specs.Strategies.{Table, IsConsistent}
-use Rattle.cstn_log.specs.Asked.{asked}
-use Rattle.cstn_log.specs.Plans.{IsEarliest}
-use Rattle.cstn_log.proofs.PlanLemmas.{asked_earliest}
+use Rattle.cstn_plan.specs.Asked.{asked}
+use Rattle.cstn_plan.specs.Plans.{IsEarliest}
+use Rattle.cstn_plan.proofs.PlanLemmas.{asked_earliest}
 use Rattle.cstn_check.specs.Growth.{log_of, live_bounds}
 use Rattle.cstn_check.proofs.Decides.{log_decides, log_closed, log_sound}
 use Rattle.cstn_exec.specs.Runs.{Run, start, called, due, is_done, is_free, awaited}

@@ -6,7 +6,7 @@ use Rattle.std.proofs.lemmas.Int.{ints}
 use Rattle.std.proofs.lemmas.List.Elements.{All-contains}
 use Rattle.std.proofs.lemmas.Bool.{cases_Bool, cond-true, cond-false, eqb-true}
 use Rattle.cstn_label.specs.Labels.{Label, Scenario, Holds, MarkFits}
-use Rattle.cstn_log.proofs.AskedLemmas.{true_fits}
+use Rattle.cstn_plan.proofs.AskedLemmas.{true_fits}
 use Rattle.cstn_net.specs.Networks.{Network, IsNetwork, IsConstraint, Constraint, count, limit}
 use Rattle.cstn_net.specs.Strategies.{IsStrategy}
 use Rattle.cstn_exec.specs.Runs.{fits_known, is_possible}

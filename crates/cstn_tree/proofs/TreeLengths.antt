@@ -10,7 +10,7 @@ use Rattle.std.proofs.lemmas.List.Sums.{sum_by-cons}
 use Rattle.cstn_label.specs.Bounds.{Bound}
 use Rattle.cstn_net.specs.Networks.{Network, IsWellFormed, count}
 use Rattle.cstn_net.specs.Strategies.{Table}
-use Rattle.cstn_log.specs.Plans.{IsEarliest}
+use Rattle.cstn_plan.specs.Plans.{IsEarliest}
 use Rattle.cstn_text.specs.Names.{AreNames}
 use Rattle.cstn_text.specs.Numbers.{printed_number}
 use Rattle.cstn_text.specs.PrintedNames.{printed_name}

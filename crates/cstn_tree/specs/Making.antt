@@ -4,7 +4,7 @@ use Rattle.std.specs.List.{All}
 use Rattle.cstn_label.specs.Bounds.{Bound}
 use Rattle.cstn_net.specs.Networks.{Network}
 use Rattle.cstn_net.specs.Read.{the_network}
-use Rattle.cstn_log.specs.Plans.{the_bounds}
+use Rattle.cstn_plan.specs.Plans.{the_bounds}
 use Rattle.cstn_exec.specs.Runs.{Run, due}
 use Rattle.cstn_exec.specs.Moves.{moment_refusal, outcome_refusal, handed}
 use Rattle.cstn_exec.specs.Read.{ExecParts, IsRunOf, moved_on}

@@ -5,7 +5,7 @@ ghost use Rattle.cstn_label.specs.Bounds.{Bound};
 ghost use Rattle.cstn_net.specs.Networks.{Network, IsNetwork, IsWellFormed, count};
 ghost use Rattle.cstn_net.specs.Strategies.{Table, IsStrategy, IsConsistent, IsLeast};
 ghost use Rattle.cstn_net.specs.Examples.{branch};
-ghost use Rattle.cstn_log.specs.Plans.{IsEarliest};
+ghost use Rattle.cstn_plan.specs.Plans.{IsEarliest};
 ghost use Rattle.cstn_text.specs.Names.{AreNames};
 ghost use Rattle.cstn_tree.specs.Trees.{Tree, Line, IsAmong, at, done, lines_of, table_of};
 ghost use Rattle.cstn_tree.specs.Good.{first_broken, IsUnbroken};

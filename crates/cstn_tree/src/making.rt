@@ -6,7 +6,7 @@ ghost use Rattle.cstn_label.specs.Labels.{Scenario};
 ghost use Rattle.cstn_net.specs.Networks.{count};
 ghost use Rattle.cstn_net.specs.Strategies.{IsLeast};
 ghost use Rattle.cstn_net.specs.Read.{the_network};
-ghost use Rattle.cstn_log.specs.Plans.{the_bounds};
+ghost use Rattle.cstn_plan.specs.Plans.{the_bounds};
 ghost use Rattle.cstn_exec.specs.Runs.{start, due};
 ghost use Rattle.cstn_exec.specs.Moves.{Awaiting, moment_refusal, outcome_refusal, handed};
 ghost use Rattle.cstn_tree.specs.Trees.{IsAmong, table_of};

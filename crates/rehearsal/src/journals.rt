@@ -20,9 +20,9 @@ use anyhow::bail;
 use cstn_check::{Check, Verdict};
 use cstn_history::{FactError, History, rest, rest_decides};
 use cstn_lift::Labelled;
-use cstn_log::SoundPlan;
 use cstn_net::Network;
 use cstn_next::next;
+use cstn_plan::SoundPlan;
 use std::alloc::{AllocError, Global};
 use std::marker::Model;
 

@@ -9,7 +9,7 @@ use crate::plans::plan_of;
 use crate::printing::{print_named, print_outcome};
 use anyhow::bail;
 use cstn_exec::{ExecError, Executive};
-use cstn_log::SoundPlan;
+use cstn_plan::SoundPlan;
 use cstn_text::Names;
 use std::alloc::Global;
 

@@ -4,8 +4,8 @@ ghost use Rattle.cstn_net.specs.Read.{the_network};
 ghost use Rattle.cstn_check.specs.Growth.{load_of};
 
 use cstn_check::{Check, Verdict};
-use cstn_log::SoundPlan;
 use cstn_net::Network;
+use cstn_plan::SoundPlan;
 use std::alloc::{AllocError, Global};
 
 /// How many bounds a check may derive.

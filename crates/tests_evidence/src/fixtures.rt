@@ -3,8 +3,8 @@ ghost use Rattle.std.specs.Prelude.{◌≡◌, ◌≤◌, [], length};
 
 use cstn_check::{Check, Verdict};
 use cstn_label::{Bound, Label, Mark, NodeId, Prop};
-use cstn_log::SoundPlan;
 use cstn_net::{Builder, Network};
+use cstn_plan::SoundPlan;
 use cstn_text::{NameKey, Names};
 use std::alloc::Global;
 use std::process::Abort;

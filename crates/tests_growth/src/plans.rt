@@ -4,12 +4,12 @@ ghost use Rattle.cstn_label.specs.Read.{the_bound};
 ghost use Rattle.cstn_net.specs.Networks.{count};
 ghost use Rattle.cstn_net.specs.Read.{the_network};
 ghost use Rattle.cstn_rules.specs.Rules.{base};
-ghost use Rattle.cstn_log.specs.Plans.{the_bounds};
+ghost use Rattle.cstn_plan.specs.Plans.{the_bounds};
 
 use crate::networks::alone;
 use cstn_label::{Bound, Label, NodeId};
-use cstn_log::{Plan, SoundPlan};
 use cstn_net::Network;
+use cstn_plan::{Plan, SoundPlan};
 use std::alloc::Global;
 use std::process::Abort;
 

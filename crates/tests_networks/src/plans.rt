@@ -5,8 +5,8 @@ use crate::fixtures::same;
 use cstn_check::{Check, Verdict};
 use cstn_exec::ExecError;
 use cstn_label::{NodeId, Prop};
-use cstn_log::SoundPlan;
 use cstn_net::Network;
+use cstn_plan::SoundPlan;
 use std::alloc::Global;
 use std::process::Abort;
 

@@ -1,7 +1,7 @@
 // Which moments are accepted.
 ghost use Rattle.std.specs.Prelude.{◌≡◌, Some, IfOk};
 ghost use Rattle.cstn_net.specs.Read.{the_network};
-ghost use Rattle.cstn_log.specs.Plans.{the_bounds};
+ghost use Rattle.cstn_plan.specs.Plans.{the_bounds};
 ghost use Rattle.cstn_exec.specs.Runs.{AreAskedUnlessAwaited, due};
 ghost use Rattle.cstn_exec.specs.Moves.{moment_refusal};
 ghost use Rattle.cstn_exec.specs.Read.{refusal_of};

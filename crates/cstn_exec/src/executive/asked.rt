@@ -1,12 +1,12 @@
 // The moments that the bounds of a plan ask for.
 ghost use Rattle.std.specs.Prelude.{ℕ, ◌≡◌, ◌<◌, ◌==◌, ◌&&◌, cond, max, slice_index};
 ghost use Rattle.cstn_label.specs.Read.{marks, known_value};
-ghost use Rattle.cstn_log.specs.Asked.{moment_of, greatest};
-ghost use Rattle.cstn_log.specs.Plans.{the_bounds};
+ghost use Rattle.cstn_plan.specs.Asked.{moment_of, greatest};
+ghost use Rattle.cstn_plan.specs.Plans.{the_bounds};
 ghost use Rattle.cstn_exec.specs.Runs.{is_possible};
 
 use cstn_label::{Bound, Known, Label, labels_are_their_marks};
-use cstn_log::SoundPlan;
+use cstn_plan::SoundPlan;
 
 /// A moment for each of the 1,024 time-points that there may be.
 pub type Moments = [u32; 1024];

@@ -3,7 +3,7 @@ ghost use Rattle.std.specs.Prelude.{ℕ, ◌≡◌, ◌<◌, ◌≤◌, ◌+◌,
 ghost use Rattle.cstn_net.specs.Networks.{Observes, IsWellFormed, count};
 ghost use Rattle.cstn_net.specs.Strategies.{Table};
 ghost use Rattle.cstn_net.specs.Read.{the_network};
-ghost use Rattle.cstn_log.specs.Plans.{the_bounds, IsEarliest};
+ghost use Rattle.cstn_plan.specs.Plans.{the_bounds, IsEarliest};
 ghost use Rattle.cstn_exec.specs.Runs.{next, is_done, executed_at, outcome_of};
 ghost use Rattle.cstn_exec.specs.Right.{IsRight};
 

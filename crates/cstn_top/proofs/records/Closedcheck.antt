@@ -16,8 +16,8 @@ use Rattle.cstn_documents.specs.Documents.{HasLabelled}
 use Rattle.cstn_reply.specs.declared.output.Outcome.{Outcome}
 use Rattle.cstn_reply.specs.declared.output.Outcome.TheVariants.{Good, Bad, Words, Document, Full, Unfinished, Script, Wide}
 use Rattle.cstn_top.proofs.Labels.{IsOfLabelled, none_labelled, on_labels, labels_silent}
-use Rattle.cstn_log.specs.Asked.{asked as table_of}
-use Rattle.cstn_log.proofs.Strategies.{asked_strategy}
+use Rattle.cstn_plan.specs.Asked.{asked as table_of}
+use Rattle.cstn_plan.proofs.Strategies.{asked_strategy}
 use Rattle.cstn_closed.specs.Texts.{Told as ToldBounds, tells as tells_bounds, wrong as wrong_bound, told as told_bounds}
 use Rattle.cstn_graphml.specs.Networks.{labelled_of}
 use Rattle.cstn_top.proofs.Proved.{IsRight, IsProved, no_evidence}

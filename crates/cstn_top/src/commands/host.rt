@@ -20,7 +20,7 @@ use cstn_check::{Judged, judge, yes_line};
 use cstn_documents::NamedNetwork;
 use cstn_exec::print_names;
 use cstn_host::HostSession;
-use cstn_log::SoundPlan;
+use cstn_plan::SoundPlan;
 use cstn_text::Names;
 use cstn_words::Cap;
 use std::alloc::{AllocError, Global};

@@ -1,7 +1,7 @@
 use Rattle.std.proofs.Common.{refl}
 use Rattle.cstn_net.specs.Read.{the_network}
-use Rattle.cstn_log.specs.Asked.{asked}
-use Rattle.cstn_log.proofs.Strategies.{asked_strategy}
+use Rattle.cstn_plan.specs.Asked.{asked}
+use Rattle.cstn_plan.proofs.Strategies.{asked_strategy}
 use Rattle.cstn_closed.specs.Closed.{the_bounds}
 use Rattle.cstn_closed.specs.Faults.{bad, no_base, no_chain, no_wait}
 use Rattle.cstn_closed.specs.declared.answers.ClosedAnswer.TheVariants.{Bad, NoBase, NoChain, NoWait}

@@ -3,8 +3,8 @@ use Rattle.std.proofs.lemmas.Result.{IfOk-weaker}
 use Rattle.cstn_net.specs.Networks.{IsWellFormed}
 use Rattle.cstn_net.specs.Read.{the_network}
 use Rattle.cstn_rules.specs.Closed.{IsClosed}
-use Rattle.cstn_log.specs.Asked.{AllSound}
-use Rattle.cstn_log.specs.Plans.{the_bounds}
+use Rattle.cstn_plan.specs.Asked.{AllSound}
+use Rattle.cstn_plan.specs.Plans.{the_bounds}
 use Rattle.cstn_lift.specs.Lowered.{lowered}
 use Rattle.cstn_lift.specs.Read.{the_labelled}
 use Rattle.cstn_history.specs.Rest.{rest}

@@ -1,6 +1,6 @@
 use Rattle.std.proofs.Common.{ℕ, ◌≡◌, Some, Option, length, arith, sym, ap, ◌∙◌}
 use Rattle.cstn_net.specs.Networks.{count}
-use Rattle.cstn_log.specs.Plans.{the_bounds}
+use Rattle.cstn_plan.specs.Plans.{the_bounds}
 use Rattle.cstn_lift.specs.Read.{the_labelled}
 use Rattle.cstn_history.specs.Read.{the_history}
 use Rattle.cstn_next.specs.Next.{coming_at, coming_moments, awaited_from, earlier, earliest, next_moment}

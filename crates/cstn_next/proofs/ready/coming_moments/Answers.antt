@@ -5,7 +5,7 @@ use Rattle.std.proofs.lemmas.List.FromFn.{map-range_with_len_more}
 use Rattle.cstn_net.specs.Networks.{count}
 use Rattle.cstn_net.specs.Read.{NetworkParts, the_network}
 use Rattle.cstn_lift.specs.Read.{the_labelled}
-use Rattle.cstn_log.specs.Plans.{the_bounds}
+use Rattle.cstn_plan.specs.Plans.{the_bounds}
 use Rattle.cstn_history.specs.Read.{the_history}
 use Rattle.cstn_next.specs.Next.{is_ready, latest, coming_at}
 use Rattle.cstn_next.proofs.Filled.{number_at, number_upto, numbers_long}

@@ -1,7 +1,7 @@
 use Rattle.std.proofs.Common.{◌≡◌, map}
 use Rattle.std.specs.List.{range_with_len}
 use Rattle.cstn_lift.specs.Read.{the_labelled}
-use Rattle.cstn_log.specs.Plans.{the_bounds}
+use Rattle.cstn_plan.specs.Plans.{the_bounds}
 use Rattle.cstn_history.specs.Read.{the_history}
 use Rattle.cstn_next.specs.Next.{coming_at}
 use Rattle.cstn_next.proofs.ready.coming_moments.Given as goal

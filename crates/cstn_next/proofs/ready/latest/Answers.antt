@@ -1,6 +1,6 @@
 use Rattle.std.proofs.Common.{ℕ, ◌≡◌, ◌+◌, ◌-◌, drop, arith, subst}
 use Rattle.std.specs.Prelude.{slice_index}
-use Rattle.cstn_log.specs.Plans.{the_bounds}
+use Rattle.cstn_plan.specs.Plans.{the_bounds}
 use Rattle.cstn_next.specs.Next.{latest}
 use Rattle.cstn_next.proofs.Filled.{latest_more}
 use Rattle.cstn_next.proofs.ready.latest.Goals as goal

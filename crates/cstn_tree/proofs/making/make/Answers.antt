@@ -5,7 +5,7 @@ use Rattle.cstn_label.specs.Labels.{Scenario}
 use Rattle.cstn_net.specs.Networks.{count}
 use Rattle.cstn_net.specs.Strategies.{IsLeast}
 use Rattle.cstn_net.specs.Read.{the_network}
-use Rattle.cstn_log.specs.Plans.{the_bounds}
+use Rattle.cstn_plan.specs.Plans.{the_bounds}
 use Rattle.cstn_exec.specs.Read.{ExecParts}
 use Rattle.cstn_tree.specs.Trees.{IsAmong, table_of}
 use Rattle.cstn_tree.specs.Good.{IsUnbroken}

@@ -3,7 +3,7 @@ use Rattle.std.specs.Prelude.{Option}
 use Rattle.std.specs.Option.{MatchOption}
 use Rattle.cstn_label.specs.declared.props.Prop.{Prop}
 use Rattle.cstn_net.specs.Read.{the_network}
-use Rattle.cstn_log.specs.Plans.{the_bounds}
+use Rattle.cstn_plan.specs.Plans.{the_bounds}
 use Rattle.cstn_exec.specs.Moves.{Awaiting, moment_refusal}
 use Rattle.cstn_exec.specs.Read.{the_refusal, refusal_of, moved_on}
 use Rattle.cstn_tree.proofs.MakingLemmas.{waits_for}

@@ -2,7 +2,7 @@ use Rattle.std.proofs.Common.{◌≡◌, ◌∙◌, ℕ, List, Vec, Global, ap, 
 use Rattle.std.specs.Prelude.{string_bytes}
 use Rattle.cstn_label.specs.Bounds.{Bound}
 use Rattle.cstn_net.specs.Read.{NetworkParts, the_network}
-use Rattle.cstn_log.specs.Plans.{the_bounds}
+use Rattle.cstn_plan.specs.Plans.{the_bounds}
 use Rattle.cstn_check.specs.Growth.{log_of, live_bounds}
 use Rattle.cstn_exec.specs.Read.{ExecParts}
 use Rattle.cstn_tree.specs.Read.{the_tree}

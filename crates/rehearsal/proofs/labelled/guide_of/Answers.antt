@@ -1,7 +1,7 @@
 use Rattle.std.proofs.Common.{Option, ◌≡◌, ◌∙◌, ap, sym, subst}
 use Rattle.std.specs.Prelude.{IfSome}
 use Rattle.cstn_net.specs.Read.{the_network}
-use Rattle.cstn_log.specs.Plans.{PlanParts}
+use Rattle.cstn_plan.specs.Plans.{PlanParts}
 use Rattle.cstn_lift.specs.Lowered.{lowered}
 use Rattle.cstn_lift.specs.Read.{LabelledParts, the_labelled}
 use Rattle.rehearsal.proofs.labelled.guide_of.Goals as goal

@@ -1,7 +1,7 @@
 use Rattle.std.proofs.Common.{sym, subst, ap, ◌∙◌}
 use Rattle.cstn_net.specs.Read.{the_network}
 use Rattle.cstn_rules.specs.Closed.{IsClosed}
-use Rattle.cstn_log.specs.Asked.{AllSound}
+use Rattle.cstn_plan.specs.Asked.{AllSound}
 use Rattle.cstn_check.specs.Checks.{CheckParts}
 use Rattle.cstn_check.specs.Growth.{live_bounds}
 use Rattle.cstn_check.proofs.Decides.{log_closed, log_sound}

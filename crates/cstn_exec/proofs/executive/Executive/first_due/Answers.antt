@@ -2,7 +2,7 @@ use Rattle.std.proofs.Common.{ℕ, arith, sym, ap, ◌∙◌}
 use Rattle.std.specs.Prelude.{is_some}
 use Rattle.std.specs.Option.{option_map}
 use Rattle.cstn_net.specs.Read.{the_network}
-use Rattle.cstn_log.specs.Plans.{the_bounds}
+use Rattle.cstn_plan.specs.Plans.{the_bounds}
 use Rattle.cstn_exec.proofs.Dues.{someone_waits, upto_deadline}
 use Rattle.cstn_exec.proofs.Searching.{due_is, earliest_same, quiet_on, work_awaited, work_then}
 use Rattle.cstn_exec.proofs.executive.Executive.first_due.Goals as goal

@@ -1,6 +1,6 @@
 use Rattle.std.proofs.Common.{◌≤◌, ◌-◌}
 use Rattle.cstn_net.specs.Read.{the_network}
-use Rattle.cstn_log.specs.Plans.{the_bounds}
+use Rattle.cstn_plan.specs.Plans.{the_bounds}
 use Rattle.cstn_exec.specs.Runs.{next}
 use Rattle.cstn_exec.proofs.Running.{IsQuiet}
 use Rattle.cstn_exec.proofs.executive.Executive.first_due.Given as goal

@@ -2,7 +2,7 @@ use Rattle.std.proofs.Common.{rules, ℕ, Option, List, None, replicate, arith, 
 use Rattle.cstn_net.specs.Networks.{IsWellFormed}
 use Rattle.cstn_net.specs.Strategies.{Table}
 use Rattle.cstn_net.specs.Read.{the_network}
-use Rattle.cstn_log.specs.Plans.{IsEarliest, the_bounds}
+use Rattle.cstn_plan.specs.Plans.{IsEarliest, the_bounds}
 use Rattle.cstn_exec.specs.Right.{IsRight}
 use Rattle.cstn_exec.specs.Read.{ExecParts}
 use Rattle.cstn_exec.proofs.Moving.{start_right}

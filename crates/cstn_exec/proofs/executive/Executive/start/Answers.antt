@@ -1,7 +1,7 @@
 use Rattle.std.proofs.Common.{ℕ, Option, List, None, replicate, arith, sym, subst, ap, ◌∙◌}
 use Rattle.cstn_net.specs.Networks.{count}
 use Rattle.cstn_net.specs.Read.{NetworkParts, the_network}
-use Rattle.cstn_log.specs.Plans.{the_bounds}
+use Rattle.cstn_plan.specs.Plans.{the_bounds}
 use Rattle.cstn_exec.specs.Runs.{start}
 use Rattle.cstn_exec.specs.Right.{IsRight}
 use Rattle.cstn_exec.proofs.Moving.{start_right}

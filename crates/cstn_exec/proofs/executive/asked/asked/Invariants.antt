@@ -1,8 +1,8 @@
 use Rattle.std.proofs.Common.{ℕ, ◌≡◌, ◌<◌, ◌&&◌, take}
 use Rattle.std.specs.Prelude.{slice_index, ◌==◌}
 use Rattle.cstn_label.specs.Read.{known_value}
-use Rattle.cstn_log.specs.Asked.{greatest}
-use Rattle.cstn_log.specs.Plans.{the_bounds}
+use Rattle.cstn_plan.specs.Asked.{greatest}
+use Rattle.cstn_plan.specs.Plans.{the_bounds}
 use Rattle.cstn_exec.specs.Runs.{is_possible}
 use Rattle.cstn_exec.proofs.executive.asked.asked.Given as goal
 

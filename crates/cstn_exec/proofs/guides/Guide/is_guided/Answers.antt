@@ -1,7 +1,7 @@
 use Rattle.std.proofs.Common.{subst}
 use Rattle.cstn_net.specs.Networks.{Network, IsWellFormed}
 use Rattle.cstn_net.specs.Strategies.{Table}
-use Rattle.cstn_log.specs.Plans.{IsEarliest, the_bounds}
+use Rattle.cstn_plan.specs.Plans.{IsEarliest, the_bounds}
 use Rattle.cstn_lift.specs.Read.{the_labelled}
 use Rattle.cstn_exec.specs.Sound.{IsPlanned}
 use Rattle.cstn_exec.specs.GuideRead.{GuideParts}

@@ -6,7 +6,7 @@ use Rattle.std.proofs.Math.Path.{fun_ext}
 use Rattle.cstn_label.specs.Read.{known_value}
 use Rattle.cstn_net.specs.Networks.{Network, IsWellFormed}
 use Rattle.cstn_net.specs.Read.{the_network}
-use Rattle.cstn_log.specs.Plans.{the_bounds}
+use Rattle.cstn_plan.specs.Plans.{the_bounds}
 use Rattle.cstn_lift.specs.Labelled.{Labelled}
 use Rattle.cstn_lift.specs.Lowered.{lowered}
 use Rattle.cstn_lift.specs.Read.{the_labelled}

@@ -2,7 +2,7 @@ use Rattle.std.proofs.Common.{ℕ, ◌≡◌, Bool, List, false, replicate, arit
 use Rattle.cstn_net.specs.Networks.{Network, IsWellFormed, count}
 use Rattle.cstn_net.specs.Strategies.{Table}
 use Rattle.cstn_net.specs.Read.{NetworkParts, the_network}
-use Rattle.cstn_log.specs.Plans.{IsEarliest, the_bounds}
+use Rattle.cstn_plan.specs.Plans.{IsEarliest, the_bounds}
 use Rattle.cstn_lift.specs.Lowered.{lowered}
 use Rattle.cstn_lift.specs.Read.{the_labelled}
 use Rattle.cstn_exec.specs.Runs.{Run, start}

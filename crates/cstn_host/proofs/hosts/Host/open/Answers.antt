@@ -2,7 +2,7 @@ use Rattle.std.proofs.Common.{ap, sym, subst, ◌∙◌, Some, false, List}
 use Rattle.std.specs.Prelude.{slice_index_or, length, ◌<◌, []}
 use Rattle.cstn_net.specs.Networks.{count}
 use Rattle.cstn_net.specs.Read.{the_network}
-use Rattle.cstn_log.specs.Plans.{PlanParts}
+use Rattle.cstn_plan.specs.Plans.{PlanParts}
 use Rattle.cstn_exec.specs.Runs.{start}
 use Rattle.cstn_host.specs.Hosts.{HostParts, no_plan}
 use Rattle.cstn_host.specs.Calls.{Open, host_after}

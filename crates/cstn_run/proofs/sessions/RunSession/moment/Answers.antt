@@ -1,5 +1,5 @@
 use Rattle.std.proofs.Common.{length, map, string_bytes, arith, ap, sym, ◌∙◌, ◌++◌, codes, decimal}
-use Rattle.cstn_log.specs.Plans.{the_bounds}
+use Rattle.cstn_plan.specs.Plans.{the_bounds}
 use Rattle.cstn_lift.specs.Read.{the_labelled}
 use Rattle.cstn_exec.specs.GuideRead.{GuideParts}
 use Rattle.cstn_exec.specs.Read.{the_refusal}

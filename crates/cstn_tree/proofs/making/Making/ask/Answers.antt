@@ -1,7 +1,7 @@
 use Rattle.std.proofs.Common.{[], ◌∷◌, ◌++◌, subst, ap, ◌∙◌, ◌+◌}
 use Rattle.cstn_net.specs.Networks.{IsWellFormed}
 use Rattle.cstn_net.specs.Read.{NetworkParts, the_network}
-use Rattle.cstn_log.specs.Plans.{the_bounds}
+use Rattle.cstn_plan.specs.Plans.{the_bounds}
 use Rattle.cstn_exec.specs.Runs.{Run}
 use Rattle.cstn_exec.specs.Read.{ExecParts, IsRunOf}
 use Rattle.cstn_tree.proofs.MakingLemmas.{making_ask}

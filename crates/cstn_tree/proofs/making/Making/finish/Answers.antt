@@ -1,6 +1,6 @@
 use Rattle.std.proofs.Common.{sym, ap, ◌∙◌}
 use Rattle.cstn_net.specs.Read.{the_network}
-use Rattle.cstn_log.specs.Plans.{the_bounds}
+use Rattle.cstn_plan.specs.Plans.{the_bounds}
 use Rattle.cstn_exec.specs.Moves.{handed}
 use Rattle.cstn_exec.specs.Read.{ExecParts}
 use Rattle.cstn_tree.proofs.TreeLemmas.{no_items}

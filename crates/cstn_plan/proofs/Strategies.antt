@@ -15,11 +15,11 @@ use Rattle.cstn_net.specs.Strategies.{Meets, IsStrategy, IsLeast, IsNeverLater}
 use Rattle.cstn_label.specs.Bounds.{Bound}
 use Rattle.cstn_rules.specs.Rules.{finished}
 use Rattle.cstn_rules.specs.Closed.{IsClosed}
-use Rattle.cstn_log.specs.Asked.{AllSound, IsHeldBack, asked}
+use Rattle.cstn_plan.specs.Asked.{AllSound, IsHeldBack, asked}
 use Rattle.cstn_net.proofs.Knowledge.{observer_within, known_or_not}
-use Rattle.cstn_log.proofs.FinishLemmas.{kept_own}
+use Rattle.cstn_plan.proofs.FinishLemmas.{kept_own}
 use Rattle.cstn_net.proofs.Dynamic.{one_sided}
-use Rattle.cstn_log.proofs.AskedLemmas.{asked_upper, asked_attained, holds_from}
+use Rattle.cstn_plan.proofs.AskedLemmas.{asked_upper, asked_attained, holds_from}
 
 module _ (net : Network) (bounds : List Bound) (wf : IsNetwork net) (closed : IsClosed net bounds) where
   -- a bound whose label holds doesn't refute, so no moment is above its limit

@@ -1,8 +1,8 @@
 use Rattle.cstn_net.specs.Read.{the_network}
-use Rattle.cstn_log.specs.Asked.{asked}
-use Rattle.cstn_log.specs.Plans.{the_bounds}
-use Rattle.cstn_log.proofs.Strategies.{asked_strategy}
-use Rattle.cstn_log.proofs.plans.Plan.network.Goals as goal
+use Rattle.cstn_plan.specs.Asked.{asked}
+use Rattle.cstn_plan.specs.Plans.{the_bounds}
+use Rattle.cstn_plan.proofs.Strategies.{asked_strategy}
+use Rattle.cstn_plan.proofs.plans.Plan.network.Goals as goal
 
 pub returns-clause-consistent : goal.returns-clause-consistent
 returns-clause-consistent c =

@@ -1,10 +1,10 @@
 use Rattle.std.proofs.Common.{subst, sym}
 use Rattle.cstn_net.specs.Strategies.{Table}
 use Rattle.cstn_net.specs.Read.{NetworkParts, the_network}
-use Rattle.cstn_log.specs.Asked.{AllSound, asked}
-use Rattle.cstn_log.specs.Plans.{PlanParts, the_bounds, IsEarliest}
-use Rattle.cstn_log.proofs.PlanLemmas.{asked_earliest}
-use Rattle.cstn_log.proofs.plans.SoundPlan.network.Goals as goal
+use Rattle.cstn_plan.specs.Asked.{AllSound, asked}
+use Rattle.cstn_plan.specs.Plans.{PlanParts, the_bounds, IsEarliest}
+use Rattle.cstn_plan.proofs.PlanLemmas.{asked_earliest}
+use Rattle.cstn_plan.proofs.plans.SoundPlan.network.Goals as goal
 
 pub returns-clause-earliest : goal.returns-clause-earliest
 returns-clause-earliest c =

@@ -8,7 +8,7 @@ use Rattle.cstn_net.specs.Networks.{Network, IsWellFormed, count}
 use Rattle.cstn_net.specs.Strategies.{Table, IsStrategy, IsLeast}
 use Rattle.cstn_net.specs.Read.{NetworkParts, the_network}
 use Rattle.cstn_rules.specs.Closed.{IsClosed}
-use Rattle.cstn_log.specs.Asked.{IsHeldBack}
+use Rattle.cstn_plan.specs.Asked.{IsHeldBack}
 
 -- what contracts see of a plan: its network and its bounds
 pub record PlanParts : Type 0 where

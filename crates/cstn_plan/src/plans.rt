@@ -5,8 +5,8 @@ ghost use Rattle.cstn_net.specs.Strategies.{Table, IsStrategy, IsConsistent};
 ghost use Rattle.cstn_net.specs.Bounds.{HoldsIn};
 ghost use Rattle.cstn_net.specs.Read.{the_network};
 ghost use Rattle.cstn_rules.specs.Closed.{IsClosed};
-ghost use Rattle.cstn_log.specs.Asked.{AllSound};
-ghost use Rattle.cstn_log.specs.Plans.{PlanParts, the_bounds, IsEarliest};
+ghost use Rattle.cstn_plan.specs.Asked.{AllSound};
+ghost use Rattle.cstn_plan.specs.Plans.{PlanParts, the_bounds, IsEarliest};
 
 use cstn_label::Bound;
 use cstn_net::Network;
@@ -22,7 +22,7 @@ pub struct Plan {
 }
 
 impl Model for Plan {
-    ghost use Rattle.cstn_log.specs.Plans.{PlanParts, IsPlan};
+    ghost use Rattle.cstn_plan.specs.Plans.{PlanParts, IsPlan};
 
     ghost Value = { PlanParts };
 
@@ -89,8 +89,8 @@ pub struct SoundPlan {
 
 impl Model for SoundPlan {
     ghost use Rattle.cstn_net.specs.Read.{the_network};
-    ghost use Rattle.cstn_log.specs.Asked.{AllSound};
-    ghost use Rattle.cstn_log.specs.Plans.{PlanParts, the_bounds};
+    ghost use Rattle.cstn_plan.specs.Asked.{AllSound};
+    ghost use Rattle.cstn_plan.specs.Plans.{PlanParts, the_bounds};
 
     ghost Value = { PlanParts };
 

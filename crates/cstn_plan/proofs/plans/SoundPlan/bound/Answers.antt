@@ -3,9 +3,9 @@ use Rattle.cstn_label.specs.Read.{the_bound}
 use Rattle.cstn_net.specs.Strategies.{Table, IsStrategy}
 use Rattle.cstn_net.specs.Bounds.{HoldsIn}
 use Rattle.cstn_net.specs.Read.{the_network}
-use Rattle.cstn_log.specs.Plans.{PlanParts}
-use Rattle.cstn_log.proofs.PlanLemmas.{bound_there}
-use Rattle.cstn_log.proofs.plans.SoundPlan.bound.Goals as goal
+use Rattle.cstn_plan.specs.Plans.{PlanParts}
+use Rattle.cstn_plan.proofs.PlanLemmas.{bound_there}
+use Rattle.cstn_plan.proofs.plans.SoundPlan.bound.Goals as goal
 
 pub returns-clause-holds : goal.returns-clause-holds
 returns-clause-holds c =

@@ -3,9 +3,9 @@ use Rattle.std.proofs.lemmas.Option.{slice_get_read}
 use Rattle.cstn_label.specs.Read.{marks, the_bound}
 use Rattle.cstn_net.specs.Networks.{IsOnObserved, count}
 use Rattle.cstn_net.specs.Read.{the_network}
-use Rattle.cstn_log.specs.Plans.{PlanParts}
-use Rattle.cstn_log.proofs.PlanLemmas.{bound_there}
-use Rattle.cstn_log.proofs.plans.Plan.bound.Goals as goal
+use Rattle.cstn_plan.specs.Plans.{PlanParts}
+use Rattle.cstn_plan.proofs.PlanLemmas.{bound_there}
+use Rattle.cstn_plan.proofs.plans.Plan.bound.Goals as goal
 
 pub returns-clause-node : goal.returns-clause-node
 returns-clause-node c =

@@ -1,5 +1,5 @@
-use Rattle.cstn_log.proofs.Strategies.{asked_strategy, asked_least, held_before, held_then}
-use Rattle.cstn_log.proofs.laws.closed_lists_have_strategies.Goals as goal
+use Rattle.cstn_plan.proofs.Strategies.{asked_strategy, asked_least, held_before, held_then}
+use Rattle.cstn_plan.proofs.laws.closed_lists_have_strategies.Goals as goal
 
 pub returns-clause-strategy : goal.returns-clause-strategy
 returns-clause-strategy c = asked_strategy

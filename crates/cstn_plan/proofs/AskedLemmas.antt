@@ -10,7 +10,7 @@ use Rattle.cstn_label.specs.declared.marks.Mark.TheVariants.{Absent}
 use Rattle.cstn_label.proofs.MarkLemmas.{absent_or_not, fits_absent, mark_within_absent}
 use Rattle.cstn_net.specs.Networks.{Network, IsNetwork, Observes, IsOnObserved, count}
 use Rattle.cstn_label.specs.Bounds.{Bound}
-use Rattle.cstn_log.specs.Asked.{fits, fits_seen, fits_upto, moment_of, greatest, asked}
+use Rattle.cstn_plan.specs.Asked.{fits, fits_seen, fits_upto, moment_of, greatest, asked}
 use Rattle.cstn_rules.specs.Closed.{IsClosed}
 use Rattle.cstn_net.proofs.Knowledge.{observer_within}
 

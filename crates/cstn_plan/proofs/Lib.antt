@@ -1,0 +1,4 @@
+pub mod FinishLemmas
+pub mod AskedLemmas
+pub mod Strategies
+pub mod PlanLemmas
