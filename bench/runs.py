@@ -1,13 +1,16 @@
-"""What bench/hostile and bench/scripts share: documents, calls of the program, and the count of cases.
+"""What the scripts of this folder share that run the built program: documents, calls of the program, and the count of cases.
 
-Both are called as NAME [PROGRAM]; PROGRAM is crates/cstn/out/cstn where none is named.
+Each is called as NAME [PROGRAM]; PROGRAM is crates/cstn/out/cstn where none is named.
 """
+import contextlib
 import os
 import re
 import subprocess
 import sys
 import tempfile
+import threading
 import time
+from urllib.parse import unquote
 
 TOP = os.path.dirname(os.path.dirname(os.path.abspath(__file__)))
 NAME = os.path.basename(sys.argv[0])
@@ -96,6 +99,32 @@ def case(name, words, status, wrote, live=b"", **how):
 def first_line(found):
     status, wrote = found
     return status, wrote.split(b"\n", 1)[0]
+
+
+def carried_out(words, outcomes, observers, reactions):
+    """The moments at which a run names the time-points, where these are the outcomes, each told when its reaction is over."""
+    child = subprocess.Popen([PROGRAM, *words], stdin=subprocess.PIPE, stdout=subprocess.PIPE, stderr=subprocess.DEVNULL, text=True, encoding="utf-8")
+    stop = threading.Timer(SECONDS, child.kill)
+    stop.start()
+    found, told = {}, set()
+
+    def answer(line):
+        with contextlib.suppress(BrokenPipeError):
+            child.stdin.write(line + "\n")
+            child.stdin.flush()
+        return child.stdout.readline().split()
+
+    child.stdout.readline()
+    while (due := answer("due"))[:1] == ["due"]:
+        for letter in sorted(outcomes.keys() - told):
+            if observers[letter] in found and found[observers[letter]] + reactions[letter] <= int(due[1]):
+                told.add(letter)
+                answer(f"see {letter} {str(outcomes[letter]).lower()}")
+        at, moment, *names = answer(f"moment {due[1]}")
+        found |= {unquote(it): int(moment) for it in names if at == "at"}
+    child.communicate()
+    stop.cancel()
+    return found if due == ["done"] and child.returncode == GOOD else (due, child.returncode, found)
 
 
 # Of each example the further words, how many time-points it has, and the least deadline with which it can be carried out: of the small
