@@ -232,9 +232,16 @@ done 0
 """
 
 
-def client():
-    child = subprocess.run([os.path.join(TOP, "examples", "follow.py"), PROGRAM], stdout=subprocess.PIPE, timeout=SECONDS, check=False)
-    check("a client that is killed, and goes on", (child.returncode, child.stdout.decode()), (GOOD, CLIENT))
+def client(folder):
+    def ended(program):
+        child = subprocess.run([os.path.join(TOP, "examples", "follow.py"), program], capture_output=True, timeout=SECONDS, check=False)
+        return child.returncode, child.stdout.decode(), child.stderr.decode()
+
+    check("a client that is killed, and goes on", ended(PROGRAM), (GOOD, CLIENT, ""))
+    for name, lines, says in (("has no memory left", "'follow 1' 'yes 16' memory", "no answer to: next: memory"), ("refuses the document", "'document X9'", "no session: document X9")):
+        gone = folder.put("gone", f"#!/bin/sh\nprintf '%s\\n' {lines}\n")
+        os.chmod(gone, 0o755)
+        check(f"a client whose program {name}", ended(gone), (BAD, "", says + "\n"))
 
 
 def followings(folder):
@@ -265,6 +272,6 @@ def followings(folder):
     case("no file", ["follow", folder.at("not there")], READ_FAULT, "read fault\n", "now 5\n")
     for words in (["--cap", "0"], ["--cap", "4194305"], ["--deadline", "05"], ["--cap", "5", "--deadline", "5"]):
         case(f"the words {words}", ["follow", folder.put("f", TWO_POINTS), *words], WORDS, "words\n")
-    client()
+    client(folder)
     broken_streams()
     continuations(folder)
