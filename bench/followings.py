@@ -267,6 +267,11 @@ def followings(folder):
     status, wrote = run(["follow", PATHWAY], BROKEN)
     check("all is done, and a limit was broken", (status, wrote.endswith(b"\ndone\n")), (BAD, True))
     case("the origin alone", ["follow", folder.put("f", compact(["Z"], [])), "--deadline", "0"], GOOD, "follow 1\nyes 1\ndone\n")
+    result = folder.put("result", compact(["Z", "Sample:i:60", "Result:::i", "Antibiotic:::i"], ["Antibiotic->Result -5"], '<data key="Deadline">360</data>'))
+    for moment in (45, 125):
+        lines = f"did 10 Sample\nsaw {moment} i true\nnext\ndid {moment} Result\nnext\n"
+        case(f"5 ticks after a result at {moment}", ["follow", result], UNFINISHED,
+             f"follow 1\nyes 9\nyes 11\nyes 6\nnext {moment} do Result\nyes 3\nnext {moment + 5} do Antibiotic\nunfinished {moment}\n", lines)
     case("no deadline", ["follow", folder.put("f", BRANCH)], DOCUMENT, "document X9\n", "now 5\n")
     case("no document", ["follow", folder.put("f", b"\xff")], DOCUMENT, "document X1 at 0\n", "now 5\n")
     case("no file", ["follow", folder.at("not there")], READ_FAULT, "read fault\n", "now 5\n")
