@@ -26,8 +26,8 @@ def is_followed(text):
 
 
 def is_typed(text):
-    """Whether a text begins with a line that is typed into a session."""
-    return bool(re.match(r"(?:> )?(?:(?:did|saw|now|await) \d+\b|(?:add|remove|change|deadline|by) \S|(?:next|check|rest)$)", text.split("\n")[0]))
+    """Whether a text begins with a line that is typed into a session, or with the call behind `$ `."""
+    return bool(re.match(r"\$ |(?:> )?(?:(?:did|saw|now|await) \d+\b|(?:add|remove|change|deadline|by) \S|(?:next|check|rest)$)", text.split("\n")[0]))
 
 
 def lacking(net, answer):
