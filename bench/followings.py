@@ -232,9 +232,16 @@ done 0
 """
 
 
-def client():
-    child = subprocess.run([os.path.join(TOP, "examples", "follow.py"), PROGRAM], stdout=subprocess.PIPE, timeout=SECONDS, check=False)
-    check("a client that is killed, and goes on", (child.returncode, child.stdout.decode()), (GOOD, CLIENT))
+def client(folder):
+    def ended(program):
+        child = subprocess.run([os.path.join(TOP, "examples", "follow.py"), program], capture_output=True, timeout=SECONDS, check=False)
+        return child.returncode, child.stdout.decode(), child.stderr.decode()
+
+    check("a client that is killed, and goes on", ended(PROGRAM), (GOOD, CLIENT, ""))
+    for name, lines, says in (("has no memory left", "'follow 1' 'yes 16' memory", "no answer to: next: memory"), ("refuses the document", "'document X9'", "no session: document X9")):
+        gone = folder.put("gone", f"#!/bin/sh\nprintf '%s\\n' {lines}\n")
+        os.chmod(gone, 0o755)
+        check(f"a client whose program {name}", ended(gone), (BAD, "", says + "\n"))
 
 
 def followings(folder):
@@ -260,11 +267,16 @@ def followings(folder):
     status, wrote = run(["follow", PATHWAY], BROKEN)
     check("all is done, and a limit was broken", (status, wrote.endswith(b"\ndone\n")), (BAD, True))
     case("the origin alone", ["follow", folder.put("f", compact(["Z"], [])), "--deadline", "0"], GOOD, "follow 1\nyes 1\ndone\n")
+    result = folder.put("result", compact(["Z", "Sample:i:60", "Result:::i", "Antibiotic:::i"], ["Antibiotic->Result -5"], '<data key="Deadline">360</data>'))
+    for moment in (45, 125):
+        lines = f"did 10 Sample\nsaw {moment} i true\nnext\ndid {moment} Result\nnext\n"
+        case(f"5 ticks after a result at {moment}", ["follow", result], UNFINISHED,
+             f"follow 1\nyes 9\nyes 11\nyes 6\nnext {moment} do Result\nyes 3\nnext {moment + 5} do Antibiotic\nunfinished {moment}\n", lines)
     case("no deadline", ["follow", folder.put("f", BRANCH)], DOCUMENT, "document X9\n", "now 5\n")
     case("no document", ["follow", folder.put("f", b"\xff")], DOCUMENT, "document X1 at 0\n", "now 5\n")
     case("no file", ["follow", folder.at("not there")], READ_FAULT, "read fault\n", "now 5\n")
     for words in (["--cap", "0"], ["--cap", "4194305"], ["--deadline", "05"], ["--cap", "5", "--deadline", "5"]):
         case(f"the words {words}", ["follow", folder.put("f", TWO_POINTS), *words], WORDS, "words\n")
-    client()
+    client(folder)
     broken_streams()
     continuations(folder)

@@ -6,6 +6,7 @@
 What happens is told line by line. Each line that is accepted is put into the journal before anything rests on it: said
 again, the journal brings the session back.
 """
+import contextlib
 import os
 import subprocess
 import sys
@@ -26,7 +27,9 @@ class Followed:
 
     def __init__(self, program, document, journal):
         self.child = subprocess.Popen([program, "follow", document], stdin=subprocess.PIPE, stdout=subprocess.PIPE, text=True, encoding="utf-8")
-        assert self.child.stdout.readline() == "follow 1\n"
+        opening = self.child.stdout.readline()
+        if opening != "follow 1\n":
+            sys.exit(f"no session: {opening.strip()}")
         self.verdict = self.child.stdout.readline().rstrip("\n")
         self.journal = open(journal, "ab+")
         self.journal.seek(0)
@@ -39,10 +42,12 @@ class Followed:
                 sys.exit(f"{journal}: {line}: {self.verdict}")
 
     def ask(self, line):
-        print(line, file=self.child.stdin, flush=True)
+        """The answer to a line. Where the program is gone, what it wrote last has the reason."""
+        with contextlib.suppress(BrokenPipeError):
+            os.write(self.child.stdin.fileno(), f"{line}\n".encode())
         answer = self.child.stdout.readline()
         if not answer.endswith("\n") or answer.startswith(("memory", "script ", "read fault")):
-            sys.exit(f"no answer to: {line}")
+            sys.exit(f"no answer to: {line}: {answer.strip()}")
         return answer.rstrip("\n")
 
     def tell(self, line):
@@ -63,6 +68,8 @@ def follow(program, journal, events):
 
 
 if __name__ == "__main__":
+    if len(sys.argv) != 2:
+        sys.exit(__doc__)
     with tempfile.TemporaryDirectory() as folder:
         journal = os.path.join(folder, "journal")
         follow(sys.argv[1], journal, EVENTS[:4]).child.kill()

@@ -25,6 +25,11 @@ def is_followed(text):
     return bool(re.match(r"follow \d+\n", text) or is_answer(text.split("\n")[0]))
 
 
+def is_typed(text):
+    """Whether a text begins with a line that is typed into a session, or with the call behind `$ `."""
+    return bool(re.match(r"\$ |(?:> )?(?:(?:did|saw|now|await) \d+\b|(?:add|remove|change|deadline|by) \S|(?:next|check|rest)$)", text.split("\n")[0]))
+
+
 def lacking(net, answer):
     """What an answer names that the document lacks, in words."""
     names = [printed(name) for name in (answer["do"] or answer["name"] or "").split()]

@@ -136,7 +136,15 @@ def tell_passed_over(reader, refused):
         lines.append(f"(what was passed over is told up to {reader.error})")
     if "Z" not in reader.nodes and not refused:
         lines.append("Z, the start, was added, since no node has this name: nothing ties it to the others but what the constraints below say of Z." + (" There is a node z." if "z" in reader.nodes else ""))
-    return [{"line": line, "says": what} for line, what in notes], lines + [f"line {line}: {what}" for line, what in notes]
+    return [{"line": line, "says": what} for line, what in notes], lines + folded(notes)
+
+
+def folded(notes):
+    """Each note with its line; one that comes again is said once, with how often it does, but for a key that may be mistyped."""
+    found = {}
+    for line, what in notes:
+        found.setdefault((what, line if "did you mean" in what else None), []).append(line)
+    return [(f"line {each[0]}: " if len(each) == 1 else f"lines {each[0]} to {each[-1]}, {len(each)} times: ") + what for (what, _), each in found.items()]
 
 
 def tell_line(text, place):

@@ -97,6 +97,11 @@ class Refutation:
     def reactions(self):
         return [name for name in self.net.names if name in self.used and self.net.reaction(name) > 1]
 
+    def uses_in_words(self):
+        """Each constraint and each reaction of more than a tick that the steps use, in words."""
+        known = [f"They use the reaction of {name}: {self.net.observed[name]} is known {ticks(self.net.reaction(name))} after it." for name in self.reactions()]
+        return [self.says(number) for number in self.numbers()] + known
+
     def unknown_to(self, name, letter, label, labels):
         """That a bound on an observer counts in every case of what it observes, where these labels have the letter and its own has not."""
         return f" (in every case of {letter}, which {name} does not know yet)" if letter and letter not in label and dropped(letter, labels) else ""
@@ -165,8 +170,7 @@ def accepted_no(refutation, text, missing):
         lines = lines + [f"These cannot be met together by the deadline {net.deadline}; with any one of them less, so says `conflict`, the others can:"]
     else:
         lines = lines + ["The steps below use these constraints:"]
-    lines += [refutation.says(number) for number in numbers]
-    lines += [f"They use the reaction of {name}: {net.observed[name]} is known {ticks(net.reaction(name))} after it." for name in refutation.reactions()]
+    lines += refutation.uses_in_words()
     if blamed:
         lines.append("There may be other such sets: check again after each change. The steps that refute this one:")
     name, _, label = refutation.last
