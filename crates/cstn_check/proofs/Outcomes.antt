@@ -13,7 +13,7 @@ use Rattle.cstn_rules.specs.Read.{the_entry}
 use Rattle.cstn_log.specs.Entries.{State, the_entries}
 use Rattle.cstn_check.specs.Growth.{is_refuted, grow, most_entries}
 use Rattle.cstn_check.specs.Kept.{IsKept}
-use Rattle.cstn_check.specs.Turns.{IsOpen, IsTaken, IsCut, IsLonger, IsRefutedLast, LastRefutes}
+use Rattle.cstn_check.specs.Turns.{IsOpen, IsTaken, IsCut, IsLonger, IsGrown, IsRefutedLast, LastRefutes}
 use Rattle.cstn_check.specs.declared.growth.Grown.{Grown}
 use Rattle.cstn_check.specs.declared.growth.Grown.TheVariants.{Closed, Refuted, Full}
 use Rattle.cstn_check.proofs.Decided.{refutes_true}
@@ -59,7 +59,7 @@ pub record Outcome (net : Network) (old new : State) (r : Grown) : Type 0 where
   pub full : r ≡ Full → IsCut old new (grow net (the_entries old.entries))
 
 module _ (net : Network) (old new : State) where
-  pub longer_of : (r : Grown) → Outcome net old new r → IsLonger old new
+  longer_of : (r : Grown) → Outcome net old new r → IsLonger old new
   longer_of Closed o = (o.closed refl).longer
   longer_of Refuted o = (o.refuted refl).longer
   longer_of Full o = (o.full refl).longer
@@ -89,15 +89,15 @@ module _ (net : Network) (old new : State) where
       ∙ ap (λ n. take n (the_entries new.entries ++ k.front.next ∷ k.front.rest)) (sym long)
       ∙ take-append_seam (the_entries new.entries) (k.front.next ∷ k.front.rest))
 
-  pub full_is : (r : Grown) → Outcome net old new r → (r ≡ Full ↔ (old.cap < length (grow net (the_entries old.entries))))
+  full_is : (r : Grown) → Outcome net old new r → (r ≡ Full ↔ (old.cap < length (grow net (the_entries old.entries))))
   full_is Closed o = (λ e. cc, λ more. let s = taken_short (grow net (the_entries old.entries)) false (o.closed refl) in absurd (omega arith))
   full_is Refuted o = (λ e. cc, λ more. let s = taken_short (grow net (the_entries old.entries)) true (o.refuted refl) in absurd (omega arith))
   full_is Full o = (λ e. cut_long (grow net (the_entries old.entries)) (o.full refl), λ more. refl)
 
-  pub cut_is : (r : Grown) → Outcome net old new r → r ≡ Full → the_entries new.entries ≡ take old.cap (grow net (the_entries old.entries))
+  cut_is : (r : Grown) → Outcome net old new r → r ≡ Full → the_entries new.entries ≡ take old.cap (grow net (the_entries old.entries))
   cut_is r o e = cut_take (grow net (the_entries old.entries)) (o.full e)
 
-  pub grown_is : (r : Grown) → Outcome net old new r → (r ≡ Full → ⊥) → the_entries new.entries ≡ grow net (the_entries old.entries)
+  grown_is : (r : Grown) → Outcome net old new r → (r ≡ Full → ⊥) → the_entries new.entries ≡ grow net (the_entries old.entries)
   grown_is Closed o not = (o.closed refl).entries
   grown_is Refuted o not = (o.refuted refl).entries
   grown_is Full o not = absurd (not refl)
@@ -114,13 +114,13 @@ module _ (net : Network) (old new : State) where
   stands t l =
       false≢true (t.refuted_is ∙ ap (is_refuted net) (sym t.entries) ∙ last_refuted net (the_entries new.entries) l)
 
-  pub refuted_is : (r : Grown) → IsRefutedLast net (the_entries old.entries) → Outcome net old new r →
+  refuted_is : (r : Grown) → IsRefutedLast net (the_entries old.entries) → Outcome net old new r →
       (r ≡ Refuted ↔ ((r ≡ Full → ⊥) × LastRefutes net (the_entries new.entries)))
   refuted_is Closed last o = (λ e. cc, λ p. absurd (stands (o.closed refl) p.1))
   refuted_is Refuted last o = (λ e. (λ f. cc, refutes_last last (o.refuted refl)), λ p. refl)
   refuted_is Full last o = (λ e. cc, λ p. absurd (p.0 refl))
 
-  pub births_most : (r : Grown) → Outcome net old new r → new.births ≤ old.births + old.cap
+  births_most : (r : Grown) → Outcome net old new r → new.births ≤ old.births + old.cap
   births_most r o =
       let l = longer_of r o in
       let births = l.births in
@@ -132,7 +132,7 @@ abbrev pub FirstDerive : Type 0
 FirstDerive = (net : Network) (steps more : List Entry) → IsDerivation net (steps ++ more) → IsDerivation net steps
 
 -- after growth, however it ended, the list of the log is a derivation
-pub derived_after : FirstDerive → (net : Network) (old new : State) (r : Grown) → IsWellFormed net → IsDerivation net (the_entries old.entries) →
+derived_after : FirstDerive → (net : Network) (old new : State) (r : Grown) → IsWellFormed net → IsDerivation net (the_entries old.entries) →
     IsKept net (the_entries old.entries) → Outcome net old new r → IsDerivation net (the_entries new.entries)
 derived_after first net old new r good derivation kept o = by_answer r o
   where
@@ -146,3 +146,20 @@ derived_after first net old new r good derivation kept o = by_answer r o
     by_answer Full o =
         let f = (o.full refl).front in
         first net (the_entries new.entries) (f.next ∷ f.rest) (subst (λ l. IsDerivation net l) (sym f.is) whole)
+
+-- and it is what the answer says
+pub is_grown : FirstDerive → (net : Network) (old new : State) (r : Grown) → IsWellFormed net → IsDerivation net (the_entries old.entries) →
+    IsKept net (the_entries old.entries) → IsRefutedLast net (the_entries old.entries) → Outcome net old new r → IsGrown net old new r
+is_grown first net old new r good derivation kept last o =
+    let longer = longer_of net old new r o in
+    record {
+      full = full_is net old new r o;
+      cut = cut_is net old new r o;
+      whole = grown_is net old new r o;
+      refuted = refuted_is net old new r last o;
+      derivation = derived_after first net old new r good derivation kept o;
+      ids = longer.ids;
+      births = births_most net old new r o;
+      cap = longer.cap;
+      nodes = longer.nodes;
+    }

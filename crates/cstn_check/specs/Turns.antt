@@ -1,11 +1,13 @@
 -- What the turns of growth make of a log.
-use Rattle.std.specs.Prelude.{ℕ, ◌≡◌, ◌<◌, ◌≤◌, ◌+◌, ◌-◌, ◌^◌, Bool, false, List, ◌∷◌, ◌++◌, length, Some, slice_get}
+use Rattle.std.specs.Prelude.{ℕ, ◌≡◌, ◌<◌, ◌≤◌, ◌+◌, ◌-◌, ◌^◌, ◌↔◌, Bool, false, List, ◌∷◌, ◌++◌, length, take, Some, slice_get}
 use Rattle.cstn_net.specs.Networks.{Network, count}
 use Rattle.cstn_rules.specs.Rules.{Refutes}
 use Rattle.cstn_rules.specs.Derivations.{Entry, IsDerivation}
 use Rattle.cstn_pool.specs.declared.slot_id.SlotId.{SlotId}
 use Rattle.cstn_log.specs.Entries.{State, the_entries}
-use Rattle.cstn_check.specs.Growth.{is_refuted}
+use Rattle.cstn_check.specs.declared.growth.Grown.{Grown}
+use Rattle.cstn_check.specs.declared.growth.Grown.TheVariants.{Refuted, Full}
+use Rattle.cstn_check.specs.Growth.{is_refuted, grow}
 use Rattle.cstn_check.specs.Kept.{IsKept}
 
 -- the log is a derivation of the network with no refuting entry, and the pool has births left for all entries that its cap
@@ -60,3 +62,16 @@ pub record LastRefutes (net : Network) (list : List Entry) : Type 0 where
   pub last : Entry
   pub is_last : slice_get list (length list - 1) ≡ Some last
   pub refutes : Refutes net last.bound
+
+-- growth has made the new log of the old one: its list is the grown list, or as much of it as the cap allows where that is longer,
+-- which is what full says; refuted says that the last entry refutes the network; and the old entries have kept their ids
+pub record IsGrown (net : Network) (old new : State) (grown : Grown) : Type 0 where
+  pub full : grown ≡ Full ↔ (old.cap < length (grow net (the_entries old.entries)))
+  pub cut : grown ≡ Full → the_entries new.entries ≡ take old.cap (grow net (the_entries old.entries))
+  pub whole : (grown ≡ Full → ⊥) → the_entries new.entries ≡ grow net (the_entries old.entries)
+  pub refuted : grown ≡ Refuted ↔ ((grown ≡ Full → ⊥) × LastRefutes net (the_entries new.entries))
+  pub derivation : IsDerivation net (the_entries new.entries)
+  pub ids : KeepIds old.ids new.ids
+  pub births : new.births ≤ old.births + old.cap
+  pub cap : new.cap ≡ old.cap
+  pub nodes : new.nodes ≡ old.nodes

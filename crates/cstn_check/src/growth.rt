@@ -1,14 +1,13 @@
-ghost use Rattle.std.specs.Prelude.{◌≡◌, ◌+◌, ◌<◌, ◌≤◌, ◌^◌, ◌++◌, ◌↔◌, true, false, length, take, List};
+ghost use Rattle.std.specs.Prelude.{◌≡◌, ◌+◌, ◌<◌, ◌≤◌, ◌^◌, ◌++◌, true, false, length, List};
 ghost use Rattle.cstn_check.specs.Spent.{AreSpent, fresh_count, most_tries};
 ghost use Rattle.cstn_net.specs.Networks.{count};
 ghost use Rattle.cstn_net.specs.Read.{the_network};
 ghost use Rattle.cstn_rules.specs.Derivations.{Entry as TheEntry, IsDerivation};
-ghost use Rattle.cstn_pool.specs.declared.slot_id.SlotId.{SlotId};
 ghost use Rattle.cstn_log.specs.Entries.{the_entries, bases};
 ghost use Rattle.cstn_check.specs.Growth.{grow};
 ghost use Rattle.cstn_check.specs.Kept.{IsKept};
 ghost use Rattle.cstn_check.specs.Tries.{most_tried};
-ghost use Rattle.cstn_check.specs.Turns.{IsOpen, IsTaken, IsCut, IsRefutedLast, LastRefutes};
+ghost use Rattle.cstn_check.specs.Turns.{IsOpen, IsTaken, IsCut, IsGrown, IsRefutedLast};
 
 use crate::turns::take_turn;
 use cstn_log::Log;
@@ -35,15 +34,7 @@ pub fn grow(net: &Network, log: &mut Log, tries: &mut Tries) -> Grown
     requires last { IsRefutedLast (the_network net.now) (the_entries log.old.entries) }
     requires births { log.old.births < 2 ^ 61 }
 
-    ensures full { result ≡ Grown.Full ↔ (log.old.cap < length (grow (the_network net.now) (the_entries log.old.entries))) }
-    ensures cut { result ≡ Grown.Full → the_entries log.new.entries ≡ take log.old.cap (grow (the_network net.now) (the_entries log.old.entries)) }
-    ensures grown { (result ≡ Grown.Full → ⊥) → the_entries log.new.entries ≡ grow (the_network net.now) (the_entries log.old.entries) }
-    ensures refuted { result ≡ Grown.Refuted ↔ ((result ≡ Grown.Full → ⊥) × LastRefutes (the_network net.now) (the_entries log.new.entries)) }
-
-    ensures ids { (more : List SlotId) × (log.old.ids ++ more ≡ log.new.ids) }
-    ensures births { log.new.births ≤ log.old.births + log.old.cap }
-    ensures size { (log.new.cap ≡ log.old.cap) × (log.new.nodes ≡ log.old.nodes) }
-    ensures derivation { IsDerivation (the_network net.now) (the_entries log.new.entries) }
+    ensures grown { IsGrown (the_network net.now) log.old log.new result }
     ensures tries { tries.old.count ≤ tries.new.count }
     ensures most_tried { (result ≡ Grown.Full → ⊥) → tries.new.count ≤ tries.old.count + most_tried (the_network net.now) (the_entries log.new.entries) }
 {
@@ -64,15 +55,7 @@ pub fn grow_on(net: &Network, log: &mut Log, fresh: &[u32], tries: &mut Tries) -
     requires births { log.old.births < 2 ^ 61 }
     requires spent { AreSpent (the_network net.now) (the_entries log.old.entries) fresh.now (length log.old.entries) }
 
-    ensures full { result ≡ Grown.Full ↔ (log.old.cap < length (grow (the_network net.now) (the_entries log.old.entries))) }
-    ensures cut { result ≡ Grown.Full → the_entries log.new.entries ≡ take log.old.cap (grow (the_network net.now) (the_entries log.old.entries)) }
-    ensures grown { (result ≡ Grown.Full → ⊥) → the_entries log.new.entries ≡ grow (the_network net.now) (the_entries log.old.entries) }
-    ensures refuted { result ≡ Grown.Refuted ↔ ((result ≡ Grown.Full → ⊥) × LastRefutes (the_network net.now) (the_entries log.new.entries)) }
-
-    ensures ids { (more : List SlotId) × (log.old.ids ++ more ≡ log.new.ids) }
-    ensures births { log.new.births ≤ log.old.births + log.old.cap }
-    ensures size { (log.new.cap ≡ log.old.cap) × (log.new.nodes ≡ log.old.nodes) }
-    ensures derivation { IsDerivation (the_network net.now) (the_entries log.new.entries) }
+    ensures grown { IsGrown (the_network net.now) log.old log.new result }
     ensures tries { tries.old.count ≤ tries.new.count }
     ensures most_tried { (result ≡ Grown.Full → ⊥) → tries.new.count ≤ tries.old.count + most_tried (the_network net.now) (the_entries log.new.entries) }
     ensures most_tries { (result ≡ Grown.Full → ⊥)

@@ -8,7 +8,7 @@ ghost use Rattle.cstn_check.specs.declared.verdicts.Verdict.{Verdict};
 ghost use Rattle.cstn_check.specs.Growth.{grow, log_of, load_of};
 ghost use Rattle.cstn_check.specs.declared.growth.Grown.{Grown};
 ghost use Rattle.cstn_check.specs.Spent.{AreSpent, fresh_count, most_tries};
-ghost use Rattle.cstn_check.specs.Turns.{IsRefutedLast, LastRefutes};
+ghost use Rattle.cstn_check.specs.Turns.{IsGrown, IsRefutedLast, LastRefutes};
 ghost use Rattle.cstn_rules.specs.Derivations.{Entry, IsDerivation};
 ghost use Rattle.cstn_edit.specs.Sessions.{IsKeptLog, Refuted, Consistent, kept_list, kept_after, outcome_of, verdict_by};
 
@@ -78,13 +78,7 @@ fn grow_further(
     requires last { IsRefutedLast (the_network net.now) (the_entries log.old.entries) }
     requires births { log.old.births < 2 ^ 61 }
     requires spent { settled ≡ true → AreSpent (the_network net.now) (the_entries log.old.entries) fresh.now (length log.old.entries) }
-    ensures full { result ≡ Grown.Full ↔ (log.old.cap < length (grow (the_network net.now) (the_entries log.old.entries))) }
-    ensures cut { result ≡ Grown.Full → the_entries log.new.entries ≡ take log.old.cap (grow (the_network net.now) (the_entries log.old.entries)) }
-    ensures grown { (result ≡ Grown.Full → ⊥) → the_entries log.new.entries ≡ grow (the_network net.now) (the_entries log.old.entries) }
-    ensures refuted { result ≡ Grown.Refuted ↔ ((result ≡ Grown.Full → ⊥) × LastRefutes (the_network net.now) (the_entries log.new.entries)) }
-    ensures births { log.new.births ≤ log.old.births + log.old.cap }
-    ensures size { (log.new.cap ≡ log.old.cap) × (log.new.nodes ≡ log.old.nodes) }
-    ensures derivation { IsDerivation (the_network net.now) (the_entries log.new.entries) }
+    ensures grown { IsGrown (the_network net.now) log.old log.new result }
     ensures tries { tries.old.count ≤ tries.new.count }
     ensures most_tries { settled ≡ true → (result ≡ Grown.Full → ⊥)
         → tries.new.count ≤ tries.old.count + most_tries (length net.now.constraints) (fresh_count fresh.now (the_network net.now).constraints)

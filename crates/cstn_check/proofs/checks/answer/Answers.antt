@@ -24,8 +24,8 @@ returns-clause-verdict c =
     c.len-load.result c.network_is_well_formed.ensures
     (has_bases (the_network c.args.net.now) c.args.log.now c.network_is_well_formed.ensures c.requires.started
     (λ none. omega (arith, none, c.if-len-eq0.false, c.len.ensures.len)))
-    c.grow-grown.ensures.full c.grow-grown.ensures.cut c.grow-grown.ensures.grown c.grow-grown.ensures.refuted
-    c.len-load.ensures.len (omega (arith, c.len-load.ensures.at_most, c.grow-grown.ensures.size.0))
+    c.grow-grown.ensures.grown.full c.grow-grown.ensures.grown.cut c.grow-grown.ensures.grown.whole c.grow-grown.ensures.grown.refuted
+    c.len-load.ensures.len (omega (arith, c.len-load.ensures.at_most, c.grow-grown.ensures.grown.cap))
     (has_room (the_network c.args.net.now) c.args.log.now c.network_is_well_formed.ensures c.requires.started
     (λ none. omega (arith, none, c.if-len-eq0.false, c.len.ensures.len)))
     c.verdict_of.ensures.closed c.verdict_of.ensures.refuted c.verdict_of.ensures.full

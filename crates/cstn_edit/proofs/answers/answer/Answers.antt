@@ -37,14 +37,14 @@ not_full : (c : goal.After-verdict_of) → c.grow_further-grown.result ≡ Full 
 not_full c = λ full. search (rules, full, c.if-eq.ensures)
 
 list : (c : goal.After-verdict_of) → the_entries c.grow_further-grown.new.log.entries ≡ grow (the_network c.args.net.now) (the_entries c.args.log.now.entries)
-list c = c.grow_further-grown.ensures.grown (not_full c)
+list c = c.grow_further-grown.ensures.grown.whole (not_full c)
 
 verdict : (c : goal.After-verdict_of) →
     c.verdict_of.result ≡ verdict_by (the_network c.args.net.now) (grow (the_network c.args.net.now) (the_entries c.args.log.now.entries))
 verdict c =
     verdict_is (the_network c.args.net.now) c.network_is_well_formed.ensures (the_entries c.args.log.now.entries) (on c)
     (the_entries c.grow_further-grown.new.log.entries) c.grow_further-grown.result c.verdict_of.result c.len-2.result (not_full c) (list c)
-    c.grow_further-grown.ensures.refuted (c.len-2.ensures.len ∙ sym (length-map c.grow_further-grown.new.log.entries the_entry))
+    c.grow_further-grown.ensures.grown.refuted (c.len-2.ensures.len ∙ sym (length-map c.grow_further-grown.new.log.entries the_entry))
     c.verdict_of.ensures.closed c.verdict_of.ensures.refuted
 
 pub returns-clause-outcome : goal.returns-clause-outcome
@@ -53,7 +53,7 @@ returns-clause-outcome c =
     let long = ap length (list c) in
     let same : length (the_entries c.grow_further-grown.new.log.entries) ≡ length c.grow_further-grown.new.log.entries = length-map c.grow_further-grown.new.log.entries the_entry in
     grown_outcome net c.args.log.now.cap (the_entries c.args.log.now.entries) c.verdict_of.result (room c)
-    (omega (arith, long, same, c.len-2.ensures.len, c.len-2.ensures.at_most, c.grow_further-grown.ensures.size.0)) (verdict c)
+    (omega (arith, long, same, c.len-2.ensures.len, c.len-2.ensures.at_most, c.grow_further-grown.ensures.grown.cap)) (verdict c)
 
 pub returns-clause-kept : goal.returns-clause-kept
 returns-clause-kept c =
@@ -61,10 +61,10 @@ returns-clause-kept c =
     let based = c.requires.kept.based (room c) in
     grown_log net (the_entries c.args.log.now.entries) c.grow_further-grown.new.log c.network_is_well_formed.ensures (on c)
     (record { more = based.0; is = based.1 }) (list c)
-    (c.grow_further-grown.ensures.size.1 ∙ c.requires.kept.nodes)
-    (omega (arith, room c, c.grow_further-grown.ensures.size.0))
-    (omega (arith, c.requires.kept.some, c.grow_further-grown.ensures.size.0))
-    (omega (arith, c.requires.kept.most, c.grow_further-grown.ensures.size.0))
+    (c.grow_further-grown.ensures.grown.nodes ∙ c.requires.kept.nodes)
+    (omega (arith, room c, c.grow_further-grown.ensures.grown.cap))
+    (omega (arith, c.requires.kept.some, c.grow_further-grown.ensures.grown.cap))
+    (omega (arith, c.requires.kept.most, c.grow_further-grown.ensures.grown.cap))
 
 pub returns-clause-consistent : goal.returns-clause-consistent
 returns-clause-consistent c = λ load said.

@@ -28,7 +28,7 @@ returns-clause-verdict c =
     afresh_verdict net c.args.log.now.cap (the_entries c.restart.new.self.entries) (the_entries c.grow-grown.new.log.entries)
     c.grow-grown.result c.verdict_of.result c.len.result c.network_is_well_formed.ensures
     (c.restart.ensures.restart ∙ first_bases net c.args.log.now.cap c.requires.room)
-    (rw c.restart.ensures.size.0 at c.grow-grown.ensures.full) c.grow-grown.ensures.grown c.grow-grown.ensures.refuted
+    (rw c.restart.ensures.size.0 at c.grow-grown.ensures.grown.full) c.grow-grown.ensures.grown.whole c.grow-grown.ensures.grown.refuted
     (λ not. elim c.if-eq.branch [
       | then-eq w ↦ absurd (not (search (rules, w.if-eq.ensures)))
       | else-eq w ↦ c.len.ensures.len ∙ ap (λ (s : State). length s.entries) w.log-is ∙ sym (length-map c.grow-grown.new.log.entries the_entry)
@@ -41,20 +41,20 @@ returns-clause-kept c =
     elim c.if-eq.branch [
       | then-eq w ↦ subst (λ (s : State). IsKeptLog net s) (sym w.log-is)
           (bases_log net w.restart-then-eq.new.self c.network_is_well_formed.ensures
-          (w.restart-then-eq.ensures.restart ∙ first_bases net c.grow-grown.new.log.cap (omega (arith, c.requires.room, c.restart.ensures.size.0, c.grow-grown.ensures.size.0)))
-          (w.restart-then-eq.ensures.size.1 ∙ c.grow-grown.ensures.size.1 ∙ c.restart.ensures.size.1 ∙ c.requires.nodes)
-          (omega (arith, c.requires.room, c.restart.ensures.size.0, c.grow-grown.ensures.size.0, w.restart-then-eq.ensures.size.0))
-          (omega (arith, c.requires.size.0, c.restart.ensures.size.0, c.grow-grown.ensures.size.0, w.restart-then-eq.ensures.size.0))
-          (omega (arith, c.requires.size.1, c.restart.ensures.size.0, c.grow-grown.ensures.size.0, w.restart-then-eq.ensures.size.0)))
+          (w.restart-then-eq.ensures.restart ∙ first_bases net c.grow-grown.new.log.cap (omega (arith, c.requires.room, c.restart.ensures.size.0, c.grow-grown.ensures.grown.cap)))
+          (w.restart-then-eq.ensures.size.1 ∙ c.grow-grown.ensures.grown.nodes ∙ c.restart.ensures.size.1 ∙ c.requires.nodes)
+          (omega (arith, c.requires.room, c.restart.ensures.size.0, c.grow-grown.ensures.grown.cap, w.restart-then-eq.ensures.size.0))
+          (omega (arith, c.requires.size.0, c.restart.ensures.size.0, c.grow-grown.ensures.grown.cap, w.restart-then-eq.ensures.size.0))
+          (omega (arith, c.requires.size.1, c.restart.ensures.size.0, c.grow-grown.ensures.grown.cap, w.restart-then-eq.ensures.size.0)))
       | else-eq w ↦ subst (λ (s : State). IsKeptLog net s) (sym w.log-is)
           (grown_log net (bases (count net)) c.grow-grown.new.log c.network_is_well_formed.ensures (bases_go_on net c.network_is_well_formed.ensures.network c.network_is_well_formed.ensures.letters)
           (extends_itself (bases (count net)))
-          (c.grow-grown.ensures.grown (λ full. search (rules, full, w.if-eq.ensures))
+          (c.grow-grown.ensures.grown.whole (λ full. search (rules, full, w.if-eq.ensures))
           ∙ ap (grow net) (c.restart.ensures.restart ∙ first_bases net c.args.log.now.cap c.requires.room))
-          (c.grow-grown.ensures.size.1 ∙ c.restart.ensures.size.1 ∙ c.requires.nodes)
-          (omega (arith, c.requires.room, c.restart.ensures.size.0, c.grow-grown.ensures.size.0))
-          (omega (arith, c.requires.size.0, c.restart.ensures.size.0, c.grow-grown.ensures.size.0))
-          (omega (arith, c.requires.size.1, c.restart.ensures.size.0, c.grow-grown.ensures.size.0)))
+          (c.grow-grown.ensures.grown.nodes ∙ c.restart.ensures.size.1 ∙ c.requires.nodes)
+          (omega (arith, c.requires.room, c.restart.ensures.size.0, c.grow-grown.ensures.grown.cap))
+          (omega (arith, c.requires.size.0, c.restart.ensures.size.0, c.grow-grown.ensures.grown.cap))
+          (omega (arith, c.requires.size.1, c.restart.ensures.size.0, c.grow-grown.ensures.grown.cap)))
     ]
 
 pub returns-clause-yes : goal.returns-clause-yes
@@ -71,7 +71,7 @@ returns-clause-spent c = λ load said.
           let clash : ⊥ = cc in absurd clash
       | else-eq w ↦ subst (λ (s : State). AreSpent net (the_entries s.entries) [] (length s.entries)) (sym w.log-is)
           (spent_entries net c.grow-grown.new.log.entries (log_of net) []
-          (c.grow-grown.ensures.grown (λ full. search (rules, full, w.if-eq.ensures))
+          (c.grow-grown.ensures.grown.whole (λ full. search (rules, full, w.if-eq.ensures))
           ∙ ap (grow net) (c.restart.ensures.restart ∙ first_bases net c.args.log.now.cap c.requires.room))
           (afresh_spent net c.args.log.now.cap load c.verdict_of.result c.network_is_well_formed.ensures (returns-clause-verdict c) said))
     ]
