@@ -1,15 +1,14 @@
 -- The sets of places, as the list of entries grows.
-use Rattle.std.proofs.Common.{ℕ, ◌≡◌, inl, inr, ◌+◌, ◌*◌, ◌/◌, ◌%◌, ◌<◌, ◌≤◌, true, List, [], ◌∷◌, ◌++◌, length, get_or, set, Option, Some, None, arith, sym, subst, ap, ◌∙◌, length-append}
+use Rattle.std.proofs.Common.{ℕ, zero, suc, refl, ◌≡◌, inl, inr, ◌+◌, ◌<◌, ◌≤◌, List, [], ◌∷◌, ◌++◌, length, get_or, Option, Some, None, arith, sym, subst, ap, ◌∙◌, length-append}
 use Rattle.std.specs.Prelude.{slice_get}
 use Rattle.std.proofs.lemmas.Bool.{cases_lt}
-use Rattle.std.proofs.lemmas.List.{get_or-set_same, get_or-set_other}
 use Rattle.std.proofs.lemmas.Option.{none-some, slice_get_within}
 use Rattle.cstn_label.specs.Labels.{IsMarked}
 use Rattle.cstn_label.specs.Read.{marks}
 use Rattle.cstn_label.specs.declared.props.Prop.{Prop}
 use Rattle.cstn_rules.specs.declared.entries.Entry.{Entry}
-use Rattle.cstn_log.specs.Blocks.{has_number}
-use Rattle.cstn_log.specs.PlaceSets.{IsMarkedAt, IsAtNode, has_place, AreMarked, AreStanding}
+use Rattle.cstn_log.specs.declared.sets.PlaceSets.{PlaceSets}
+use Rattle.cstn_log.specs.PlaceSets.{IsMarkedAt, IsAtNode, no_block, number_at, HasInCell, HasPlace, AreMarked, AreStanding}
 use Rattle.cstn_log.specs.Entries.{IsLive}
 use Rattle.cstn_log.proofs.LiveLemmas.{live_less}
 use Rattle.cstn_log.proofs.ListLemmas.{get_last, get_more, one_there, cases_same}
@@ -35,20 +34,20 @@ last_node entries e x m =
     ap (λ (y : Entry). y.bound.node.0) (one_there (entries ++ e ∷ []) (length entries) e m.entry (get_last entries e) m.there) ∙ m.node
 
 -- no sets have all places of no entries
-pub none_marked : (blocks : List (List ℕ)) → AreMarked [] blocks
-none_marked blocks = record { has = λ p k small m live. absurd (none-some m.entry m.there) }
+pub none_marked : (sets : PlaceSets) → AreMarked [] sets
+none_marked sets = record { has = λ p k small m live. absurd (none-some m.entry m.there) }
 
-pub none_standing : (watched : List (Option Prop)) (blocks : List (List ℕ)) → AreStanding watched [] blocks
-none_standing watched blocks = record { has = λ x k p set m live. absurd (none-some m.entry m.there) }
+pub none_standing : (watched : List (Option Prop)) (sets : PlaceSets) → AreStanding watched [] sets
+none_standing watched sets = record { has = λ x k p set m live. absurd (none-some m.entry m.there) }
 
 -- the sets keep their places, and have that of one more entry
-module _ (entries : List Entry) (e : Entry) (old new : List (List ℕ)) (kept : (q k : ℕ) → has_place old q k ≡ true → has_place new q k ≡ true) where
+module _ (entries : List Entry) (e : Entry) (old new : PlaceSets) (kept : (q k : ℕ) → HasPlace old q k → HasPlace new q k) where
   last_is : (k : ℕ) (x : Entry) → length entries ≤ k → slice_get (entries ++ e ∷ []) k ≡ Some x → k ≡ length entries
   last_is k x upto there =
       let within = slice_get_within (entries ++ e ∷ []) k x there in
       omega (arith, within, upto, length-append entries (e ∷ []))
 
-  pub marked_more : ((p : ℕ) → IsMarked (marks e.bound.label) p → has_place new p (length entries) ≡ true) → AreMarked entries old → AreMarked (entries ++ e ∷ []) new
+  pub marked_more : ((p : ℕ) → IsMarked (marks e.bound.label) p → HasPlace new p (length entries)) → AreMarked entries old → AreMarked (entries ++ e ∷ []) new
   marked_more here was = record {
     has = λ p k small m live. elim (cases_lt k (length entries)) [
       | inl below ↦
@@ -56,11 +55,11 @@ module _ (entries : List Entry) (e : Entry) (old new : List (List ℕ)) (kept : 
           kept p k (was.has p k small back (live_less entries e k back.entry back.there live))
       | inr upto ↦
           let last = last_is k m.entry upto m.there in
-          subst (λ n. has_place new p n ≡ true) (sym last) (here p (last_marked entries e p (subst (λ n. IsMarkedAt (entries ++ e ∷ []) p n) last m)))
+          subst (λ n. HasPlace new p n) (sym last) (here p (last_marked entries e p (subst (λ n. IsMarkedAt (entries ++ e ∷ []) p n) last m)))
     ];
   }
 
-  pub standing_more : (watched : List (Option Prop)) → ((p : Prop) → get_or watched e.bound.node.0 None ≡ Some p → has_place new p.index (length entries) ≡ true) →
+  pub standing_more : (watched : List (Option Prop)) → ((p : Prop) → get_or watched e.bound.node.0 None ≡ Some p → HasPlace new p.index (length entries)) →
       AreStanding watched entries old → AreStanding watched (entries ++ e ∷ []) new
   standing_more watched here was = record {
     has = λ x k p set m live. elim (cases_lt k (length entries)) [
@@ -70,13 +69,13 @@ module _ (entries : List Entry) (e : Entry) (old new : List (List ℕ)) (kept : 
       | inr upto ↦
           let last = last_is k m.entry upto m.there in
           let node = last_node entries e x (subst (λ n. IsAtNode (entries ++ e ∷ []) x n) last m) in
-          subst (λ n. has_place new p.index n ≡ true) (sym last) (here p (ap (λ n. get_or watched n None) node ∙ set))
+          subst (λ n. HasPlace new p.index n) (sym last) (here p (ap (λ n. get_or watched n None) node ∙ set))
     ];
   }
 
 -- the sets lose the place of a dead entry alone
-module _ (entries : List Entry) (place : ℕ) (dead : IsLive entries place → ⊥) (old new : List (List ℕ))
-    (others : (q k : ℕ) → q < 52 → (k ≡ place → ⊥) → has_place old q k ≡ true → has_place new q k ≡ true) where
+module _ (entries : List Entry) (place : ℕ) (dead : IsLive entries place → ⊥) (old new : PlaceSets)
+    (others : (q k : ℕ) → q < 52 → (k ≡ place → ⊥) → HasPlace old q k → HasPlace new q k) where
   pub marked_less : AreMarked entries old → AreMarked entries new
   marked_less was = record {
     has = λ p k small m live. elim (cases_same k place) [
@@ -93,37 +92,18 @@ module _ (entries : List Entry) (place : ℕ) (dead : IsLive entries place → �
     ];
   }
 
--- ---- one block is replaced
+-- ---- a cell without a block is appended
 
-module _ (p place : ℕ) (old new : List (List ℕ)) (after : List ℕ) (inside : place / 4096 * 52 + p < length old)
-    (is : new ≡ set old (place / 4096 * 52 + p) after) where
-  replaced : get_or new (place / 4096 * 52 + p) [] ≡ after
-  replaced = ap (λ l. get_or l (place / 4096 * 52 + p) []) is ∙ get_or-set_same old (place / 4096 * 52 + p) after [] inside
+number_more : (xs : List ℕ) (c : ℕ) → get_or (xs ++ no_block ∷ []) c no_block ≡ get_or xs c no_block
+number_more [] zero = refl
+number_more [] (suc c) = refl
+number_more (x ∷ xs) zero = refl
+number_more (x ∷ xs) (suc c) = number_more xs c
 
-  other_block : (i : ℕ) → (i ≡ place / 4096 * 52 + p → ⊥) → get_or new i [] ≡ get_or old i []
-  other_block i ne = ap (λ l. get_or l i []) is ∙ get_or-set_other old (place / 4096 * 52 + p) i after [] ne
-
-  pub place_here : has_number after (place % 4096) ≡ true → has_place new p place ≡ true
-  place_here here = ap (λ b. has_number b (place % 4096)) replaced ∙ here
-
-  -- the block has no number less than it had
-  pub places_kept : ((m : ℕ) → has_number (get_or old (place / 4096 * 52 + p) []) m ≡ true → has_number after m ≡ true) →
-      (q k : ℕ) → has_place old q k ≡ true → has_place new q k ≡ true
-  places_kept kept q k has = elim (cases_same (k / 4096 * 52 + q) (place / 4096 * 52 + p)) [
-    | inl at ↦
-        ap (λ i. has_number (get_or new i []) (k % 4096)) at ∙ ap (λ b. has_number b (k % 4096)) replaced
-        ∙ kept (k % 4096) (ap (λ i. has_number (get_or old i []) (k % 4096)) (sym at) ∙ has)
-    | inr ne ↦ ap (λ b. has_number b (k % 4096)) (other_block (k / 4096 * 52 + q) ne) ∙ has
-  ]
-
-  -- the block has no number less, but for that of the place
-  pub places_others : p < 52 → ((m : ℕ) → (m ≡ place % 4096 → ⊥) → has_number after m ≡ has_number (get_or old (place / 4096 * 52 + p) []) m) →
-      (q k : ℕ) → q < 52 → (k ≡ place → ⊥) → has_place old q k ≡ true → has_place new q k ≡ true
-  places_others small others q k below other has = elim (cases_same (k / 4096 * 52 + q) (place / 4096 * 52 + p)) [
-    | inl at ↦
-        let row : k / 4096 ≡ place / 4096 = omega (arith, at, below, small) in
-        let ne : k % 4096 ≡ place % 4096 → ⊥ = λ e. other (omega (arith, row, e)) in
-        ap (λ i. has_number (get_or new i []) (k % 4096)) at ∙ ap (λ b. has_number b (k % 4096)) replaced ∙ others (k % 4096) ne
-        ∙ ap (λ i. has_number (get_or old i []) (k % 4096)) (sym at) ∙ has
-    | inr ne ↦ ap (λ b. has_number b (k % 4096)) (other_block (k / 4096 * 52 + q) ne) ∙ has
-  ]
+pub cell_more : (old new : PlaceSets) → new.numbers.items ≡ old.numbers.items ++ no_block ∷ [] → new.parts.items ≡ old.parts.items →
+    (c k : ℕ) → HasInCell old c k → HasInCell new c k
+cell_more old new numbers parts c k has =
+    let same : number_at new c ≡ number_at old c = ap (λ l. get_or l c no_block) numbers ∙ number_more old.numbers.items c in (
+      λ none. has.0 (sym same ∙ none),
+      λ part is. has.1 part (sym (ap (λ l. slice_get l (number_at old c)) parts) ∙ ap (λ i. slice_get new.parts.items i) (sym same) ∙ is.0, is.1),
+    )

@@ -8,6 +8,7 @@ use Rattle.cstn_minset.specs.Sets.{Entries, IsPlaced, IsCovered}
 use Rattle.cstn_log.specs.Entries.{IsCoveredBy, IsLive, AllNew}
 use Rattle.cstn_log.specs.Cuts.{is_marked, rank, renumbered}
 use Rattle.cstn_label.specs.declared.props.Prop.{Prop}
+use Rattle.cstn_log.specs.declared.sets.PlaceSets.{PlaceSets}
 use Rattle.cstn_log.specs.PlaceSets.{AreMarked, AreStanding}
 
 -- the entry with its premises at the new places, where its list is cut to the marked places
@@ -67,8 +68,8 @@ pub record IsIndexRoom (cap marks stands : ℕ) : Type 0 where
 -- the sets of the places that mark a proposition, those of the places at a time-point, the proposition of the time-points that
 -- have one, and how many blocks there is room for
 pub record IndexParts : Type 0 where
-  pub marking : List (List ℕ)
-  pub standing : List (List ℕ)
+  pub marking : PlaceSets
+  pub standing : PlaceSets
   pub watched : List (Option Prop)
   pub for_marks : ℕ
   pub for_nodes : ℕ

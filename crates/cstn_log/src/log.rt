@@ -38,9 +38,9 @@ const HINTS: usize = 16384;
 /// An entry is live while no later one dominates it. A pool has the bound of each entry, and a minimal set those of the live
 /// ones, each under the id that [`Log::slot`] answers. An entry keeps its id while entries before it are taken out, and only
 /// its place changes: premises are kept by slot, and a table tells the place of each. All memory of the log is taken by
-/// [`Log::start`]: 132.2 bytes for each entry that there may be, so 555 MB for the largest cap of 4,194,304, 810 bytes for each
-/// time-point, and 64 KB. Of these, 13.2 bytes an entry are for the sets of places that mark a proposition and of those at its
-/// observer, written only up to the last place that is in one. One more byte an entry is used by [`Log::retract`] alone.
+/// [`Log::start`]: 132.5 bytes for each entry that there may be, so 556 MB for the largest cap of 4,194,304, 810 bytes for each
+/// time-point, and 64 KB. Of these, 13.5 bytes an entry are for the sets of places that mark a proposition and of those at its
+/// observer, written only where a set has a place. One more byte an entry is used by [`Log::retract`] alone.
 #[derive(Drop)]
 pub struct Log {
     minimal: MinSet,
@@ -60,6 +60,7 @@ impl Model for Log {
     ghost use Rattle.std.specs.Prelude.{vec_capacity};
     ghost use Rattle.cstn_log.specs.Entries.{State};
     ghost use Rattle.cstn_log.specs.Kept.{IsLog};
+    ghost use Rattle.cstn_log.specs.PlaceSets.{room_of};
 
     ghost Value = { State };
 
@@ -68,11 +69,11 @@ impl Model for Log {
     ghost invariant = { λ l. IsLog l.list.pool.slots l.list.pool.births l.minimal.table l.list.entries l.list.ids l.minimal.nodes
         l.list.cap (vec_capacity l.marks)
         (record {
-          marking = l.marking.parts.items;
-          standing = l.standing.parts.items;
+          marking = l.marking;
+          standing = l.standing;
           watched = l.watched.items;
-          for_marks = vec_capacity l.marking.parts;
-          for_nodes = vec_capacity l.standing.parts;
+          for_marks = room_of l.marking;
+          for_nodes = room_of l.standing;
         }) };
 }
 

@@ -1,9 +1,9 @@
 // The sets of the places at observers.
-ghost use Rattle.std.specs.Prelude.{ℕ, ◌≡◌, ◌<◌, ◌≤◌, ◌+◌, ◌*◌, ◌/◌, [], true, None, Some, Option, List, length, slice_index_or, vec_capacity};
+ghost use Rattle.std.specs.Prelude.{ℕ, ◌≡◌, ◌<◌, ◌≤◌, ◌+◌, ◌*◌, ◌/◌, [], true, None, Some, Option, List, length, slice_index_or};
 ghost use Rattle.cstn_label.specs.declared.props.Prop.{Prop as TheProp};
 ghost use Rattle.cstn_net.specs.Networks.{count};
 ghost use Rattle.cstn_net.specs.Read.{the_network};
-ghost use Rattle.cstn_log.specs.PlaceSets.{has_place, AreMarked, AreStanding};
+ghost use Rattle.cstn_log.specs.PlaceSets.{HasPlace, room_of, AreMarked, AreStanding};
 
 use crate::list::EntryList;
 use crate::sets::PlaceSets;
@@ -33,10 +33,10 @@ pub fn watched_at(watched: &[Option<Prop>], x: NodeId) -> Option<Prop>
 
 // Puts the place of an entry at the time-point into the set that has the places there, if one has.
 pub fn put_standing(standing: &mut PlaceSets, watched: &[Option<Prop>], x: NodeId, place: u32)
-    requires room { place / 4096 * 52 + 52 ≤ vec_capacity standing.old.parts }
-    ensures here { (p : TheProp) → slice_index_or watched.now x.0 None ≡ Some p → has_place standing.new.parts.items p.index place ≡ true }
-    ensures kept { (q k : ℕ) → has_place standing.old.parts.items q k ≡ true → has_place standing.new.parts.items q k ≡ true }
-    ensures room { vec_capacity standing.old.parts ≤ vec_capacity standing.new.parts }
+    requires room { place / 4096 * 52 + 52 ≤ room_of standing.old }
+    ensures here { (p : TheProp) → slice_index_or watched.now x.0 None ≡ Some p → HasPlace standing.new p.index place }
+    ensures kept { (q k : ℕ) → HasPlace standing.old q k → HasPlace standing.new q k }
+    ensures room { room_of standing.old ≤ room_of standing.new }
 {
     if let Some(p) = watched_at(watched, x) {
         standing.put(p, place);
@@ -50,13 +50,13 @@ pub fn put_all(
     watched: &[Option<Prop>],
     list: &EntryList,
 )
-    requires empty { (marking.old.parts.items ≡ []) × (standing.old.parts.items ≡ []) }
-    requires room { (length list.now.entries / 4096 * 52 + 52 ≤ vec_capacity marking.old.parts)
-        × (length list.now.entries / 4096 * 52 + 52 ≤ vec_capacity standing.old.parts) }
+    requires empty { (marking.old.numbers.items ≡ []) × (standing.old.numbers.items ≡ []) }
+    requires room { (length list.now.entries / 4096 * 52 + 52 ≤ room_of marking.old)
+        × (length list.now.entries / 4096 * 52 + 52 ≤ room_of standing.old) }
     requires few { length list.now.entries ≤ 4194304 }
-    ensures marking { AreMarked list.now.entries marking.new.parts.items }
-    ensures standing { AreStanding watched.now list.now.entries standing.new.parts.items }
-    ensures room { (vec_capacity marking.old.parts ≤ vec_capacity marking.new.parts) × (vec_capacity standing.old.parts ≤ vec_capacity standing.new.parts) }
+    ensures marking { AreMarked list.now.entries marking.new }
+    ensures standing { AreStanding watched.now list.now.entries standing.new }
+    ensures room { (room_of marking.old ≤ room_of marking.new) × (room_of standing.old ≤ room_of standing.new) }
 {
     for k in 0..list.len() {
         let b = list.entry(k).bound;

@@ -13,9 +13,9 @@ loop-k-preserved c =
     let taken : length (take k L) ≡ k = length_taken L k (omega (arith, c.loop-k-test.true, was.end)) in
     record {
       end = was.end;
-      marking = rw more (marked_more (take k L) e c.loop-k.marking.parts.items c.put_marked.new.self.parts.items c.put_marked.ensures.kept
+      marking = rw more (marked_more (take k L) e c.loop-k.marking c.put_marked.new.self c.put_marked.ensures.kept
           (rw taken c.put_marked.ensures.here) was.marking);
-      standing = rw more (standing_more (take k L) e c.loop-k.standing.parts.items c.put_standing.new.standing.parts.items c.put_standing.ensures.kept c.args.watched.now
+      standing = rw more (standing_more (take k L) e c.loop-k.standing c.put_standing.new.standing c.put_standing.ensures.kept c.args.watched.now
           (rw taken c.put_standing.ensures.here) was.standing);
       for_marks = omega (arith, was.for_marks, c.put_marked.ensures.room);
       for_nodes = omega (arith, was.for_nodes, c.put_standing.ensures.room);

@@ -14,8 +14,8 @@ invariant_of-result c =
         few = omega (arith, c.requires, length-replicate c.args.cap no_slot);
       };
       indexed = record {
-        marked = none_marked c.in_ok-marking.marking.parts.items;
-        stand = none_standing c.args.watched.items c.in_ok-standing.standing.parts.items;
+        marked = none_marked c.in_ok-marking.marking;
+        stand = none_standing c.args.watched.items c.in_ok-standing.standing;
         room = record {
           for_marks = rw (length-replicate c.args.cap no_slot) c.in_ok-marking.ensures.room;
           for_nodes = rw (length-replicate c.args.cap no_slot) c.in_ok-standing.ensures.room;

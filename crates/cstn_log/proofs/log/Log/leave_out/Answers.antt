@@ -12,8 +12,8 @@ invariant_of-self c =
       kept = c.self.invariant.kept;
       room = c.self.invariant.room;
       indexed = record {
-        marked = marked_less L c.args.k dead c.self.inside.marking.parts.items c.remove_marked.new.self.parts.items c.remove_marked.ensures.others index.marked;
-        stand = standing_less L c.args.k dead c.self.inside.standing.parts.items c.remove.new.self.parts.items c.remove.ensures.others c.self.inside.watched.items index.stand;
+        marked = marked_less L c.args.k dead c.self.inside.marking c.remove_marked.new.self c.remove_marked.ensures.others index.marked;
+        stand = standing_less L c.args.k dead c.self.inside.standing c.remove.new.self c.remove.ensures.others c.self.inside.watched.items index.stand;
         room = record {
           for_marks = omega (arith, index.room.for_marks, c.remove_marked.ensures.room);
           for_nodes = omega (arith, index.room.for_nodes, c.remove.ensures.room);
@@ -30,7 +30,7 @@ invariant_of-self-in_default c =
       kept = c.self.invariant.kept;
       room = c.self.invariant.room;
       indexed = record {
-        marked = marked_less L c.args.k dead c.self.inside.marking.parts.items c.remove_marked.new.self.parts.items c.remove_marked.ensures.others index.marked;
+        marked = marked_less L c.args.k dead c.self.inside.marking c.remove_marked.new.self c.remove_marked.ensures.others index.marked;
         stand = index.stand;
         room = record { for_marks = omega (arith, index.room.for_marks, c.remove_marked.ensures.room); for_nodes = index.room.for_nodes };
       };

@@ -71,9 +71,9 @@ invariant_of-self-2 c =
         few = omega (arith, size, room.few);
       };
       indexed = record {
-        marked = rw longer (marked_more L c.args.e c.self.inside.marking.parts.items c.put_marked.new.self.parts.items c.put_marked.ensures.kept
+        marked = rw longer (marked_more L c.args.e c.self.inside.marking c.put_marked.new.self c.put_marked.ensures.kept
             (rw (← long) at c.put_marked.ensures.here) index.marked);
-        stand = rw longer (standing_more L c.args.e c.self.inside.standing.parts.items c.put_standing.new.standing.parts.items c.put_standing.ensures.kept c.self.inside.watched.items
+        stand = rw longer (standing_more L c.args.e c.self.inside.standing c.put_standing.new.standing c.put_standing.ensures.kept c.self.inside.watched.items
             (rw (← long, c.deref.ensures.value) at c.put_standing.ensures.here) index.stand);
         room = record {
           for_marks = rw size (omega (arith, index.room.for_marks, c.put_marked.ensures.room));

@@ -1,12 +1,12 @@
-use Rattle.std.proofs.Common.{ℕ, ◌≡◌, ◌≤◌, ◌-◌, true, length, vec_capacity}
-use Rattle.cstn_log.specs.PlaceSets.{has_place}
+use Rattle.std.proofs.Common.{ℕ, ◌≡◌, ◌≤◌, ◌-◌, length}
+use Rattle.cstn_log.specs.PlaceSets.{HasInCell, room_of}
 use Rattle.cstn_log.proofs.sets.PlaceSets.extend.Given as goal
 
 abbrev pub invariant-loop-index : goal.invariant-loop-index
 invariant-loop-index l = record {
-  size : length l.self.parts.items ≡ l.index;
-  kept : (q k : ℕ) → has_place l.fn.self.parts.items q k ≡ true → has_place l.self.parts.items q k ≡ true;
-  room : vec_capacity l.fn.self.parts ≤ vec_capacity l.self.parts;
+  size : length l.self.numbers.items ≡ l.index;
+  kept : (c k : ℕ) → HasInCell l.fn.self c k → HasInCell l.self c k;
+  room : room_of l.fn.self ≤ room_of l.self;
 }
 
 abbrev pub decreases-loop-index : goal.decreases-loop-index

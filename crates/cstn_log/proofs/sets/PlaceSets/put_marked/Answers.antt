@@ -1,6 +1,6 @@
-use Rattle.std.proofs.Common.{◌≡◌, inl, inr, true, arith, sym, subst}
+use Rattle.std.proofs.Common.{◌≡◌, inl, inr, arith, sym, subst}
 use Rattle.std.proofs.lemmas.Bool.{cases_lt}
-use Rattle.cstn_log.specs.PlaceSets.{has_place}
+use Rattle.cstn_log.specs.PlaceSets.{HasPlace}
 use Rattle.cstn_log.proofs.ListLemmas.{cases_same}
 use Rattle.cstn_log.proofs.sets.PlaceSets.put_marked.Goals as goal
 
@@ -11,7 +11,7 @@ loop-p-preserved c =
     record {
       within = omega (arith, c.in-Some.p.in_range);
       here = λ q below m. elim (cases_same q p) [
-        | inl same ↦ subst (λ n. has_place c.put.new.self.parts.items n c.args.place ≡ true) (sym same) c.put.ensures.here
+        | inl same ↦ subst (λ n. HasPlace c.put.new.self n c.args.place) (sym same) c.put.ensures.here
         | inr ne ↦ elim (cases_lt q c.loop-p.index) [
           | inl before ↦ c.put.ensures.kept q c.args.place (was.here q before m)
           | inr past ↦ absurd (m (c.in-Some.ensures.least q past (omega (arith, below, ne))))
