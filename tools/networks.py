@@ -11,12 +11,15 @@ change it. Only the label, or the reaction of the observer, can change what it s
 
 
 class Network:
-    """The network of a canonical document: its deadline, its time-points, and its constraints by their ids."""
+    """The network of a canonical document: its deadline, its time-points, and its constraints by their ids.
+
+    Of one that `rest` wrote in a session, `awaited` has until when each outcome is awaited whose observer was done.
+    """
 
     def __init__(self, text):
         self.deadline = int(re.search(r'<data key="Deadline">(\d+)</data>', text)[1])
         self.names, self.observed, self.reactions, self.labels, self.constraints, self.rows = [], {}, {}, {}, [], []
-        self.lines, self.waits = {}, set()
+        self.lines, self.waits, self.awaited = {}, set(), None
         for line in text.split("\n"):
             node = re.match(r'<node id="([^"]*)"', line)
             edge = re.match(r'<edge source="([^"]*)" target="([^"]*)">.*\{\((-?\d+), ([^)]*)\)\}', line)
