@@ -128,11 +128,6 @@ def stuck(text):
         yield found[0], rest[0] if rest else "", Heard(text[: found.start()].split("\n")).done.keys()
 
 
-def pinned(net, name):
-    """The moment at which a document has a time-point, where it says one, or none."""
-    return next((most for source, target, most, label in net.constraints if (source, target) == ("Z", name) and (name, "Z", -most, label) in net.constraints), None)
-
-
 def awaited(net, own, done):
     """For each observer that was done before `rest` wrote a document, the moment until which it has the outcome awaited.
 
@@ -140,8 +135,8 @@ def awaited(net, own, done):
     """
     found = {}
     for name in net.observed:
-        moment = pinned(net, name)
-        if moment is not None and (name in done or net.reaction(name) != own.reaction(name) or pinned(own, name) is None):
+        moment = net.pinned(name)
+        if moment is not None and (name in done or net.reaction(name) != own.reaction(name) or own.pinned(name) is None):
             found[name] = moment + net.reaction(name)
     return found
 

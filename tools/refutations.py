@@ -78,9 +78,10 @@ class Refutation:
             return FOR_A_LABEL if number in self.net.waits else ""
         if target in self.done:
             return f": the outcome of {self.net.observed[target]} is awaited until {self.until(target)} ({target} was done). What may help: an earlier `await`, or its value by `saw`"
+        left = f"; where `rest` wrote FILE and {target} was done, an earlier `await`, or its value by `saw`" if self.net.is_canonical and self.net.pinned(target) is not None else ""
         shorter = f", a shorter reaction of {target}" if self.net.reaction(target) > 1 else ""
         return (f" (no constraint of FILE: {self.net.told_at(source, 'Label')} waits for its label, and {self.net.told_at(target, 'Obs')} tells {self.net.observed[target]}; "
-                f"what may help is another label{shorter}, or an earlier {target}, if the other constraints let it)")
+                f"what may help is another label{shorter}, or an earlier {target}, if the other constraints let it{left})")
 
     def says(self, number):
         """A constraint that the steps use, in words."""
