@@ -110,7 +110,7 @@ def tell_blame(net, answer, changed, done):
     ends = {name for number in numbers if number < len(known) for name in net.constraints[number][:2]}
     open_ = [name for name in net.names if name in ends - done] if done else []
     if open_:
-        says.append(f"Of their steps nothing was told of {', '.join(open_)}: tell what was done, with its moment, by `did`.")
+        says.append(f"Of their steps nothing was told of {', '.join(open_)}: where one was done, tell it, with its moment, by `did`.")
     return {"answer": "blame", "constraints": [known[it] if it < len(known) else {"id": it, "line": None} for it in numbers], "says": says}
 
 
