@@ -217,6 +217,14 @@ def broken_streams():
         check(name, (done.returncode, done.stdout.decode()), wanted)
 
 
+def kept_edits(folder):
+    """What edits leave is kept in a file as the guide says, and is the document that `rest` wrote."""
+    lines, command = "change 2 120\nadd Discharge Review 100 i\n", """"$1" follow "$2" | sed -n '/^<?xml/,/^<\\/graphml>/p'"""
+    done = subprocess.run(["bash", "-c", command, "", PROGRAM, PATHWAY], input=f"{lines}rest\n".encode(), stdout=subprocess.PIPE, timeout=SECONDS, check=False)
+    check("edits that are kept", done.stdout, said_to(["follow", PATHWAY], lines, "rest\n"))
+    check("edits that are kept: the verdict", first_line(run(["check", folder.put("kept", done.stdout)])), (GOOD, b"yes 16"))
+
+
 # What the client of the examples prints, which is killed halfway and goes on from its journal.
 CLIENT = """yes 16, next 0 do Sample
   did 5 Sample: yes 17, next 65 wait i
@@ -278,5 +286,6 @@ def followings(folder):
     for words in (["--cap", "0"], ["--cap", "4194305"], ["--deadline", "05"], ["--cap", "5", "--deadline", "5"]):
         case(f"the words {words}", ["follow", folder.put("f", TWO_POINTS), *words], WORDS, "words\n")
     client(folder)
+    kept_edits(folder)
     broken_streams()
     continuations(folder)

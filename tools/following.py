@@ -8,7 +8,7 @@ ANSWER = re.compile(r"next (?P<next>\d+)(?: do (?P<do>\S+(?: \S+)*?))?(?: wait (
 
 # Lines that are typed, and are no answers.
 TYPED = re.compile(r"(did|saw|now|await|add|remove|change) .*|next|check|rest")
-DID = re.compile(r"(?:> )?did \d+ (\S+(?: \S+)*)")
+FACT = re.compile(r"(?:> )?(?P<kind>did|saw|now|await) (?P<moment>\d+)(?: (?P<rest>\S+(?: \S+)*))?")
 
 # What `check` writes after a no, and what `rest` writes.
 STEPS = re.compile(r"^no \d+\n(?:\d+ (?:base|chain|wait) .*\n)+", re.M)
@@ -43,7 +43,37 @@ def placed(net, name):
     return {"name": name, "line": line}, f"{name} (line {line})" if line else name
 
 
-def tell_next(net, answer):
+class Heard:
+    """What typed lines tell: what was done when, at what moment each outcome was last awaited, and how late it is. Refused lines tell nothing."""
+
+    def __init__(self, lines):
+        self.typed, self.done, self.awaited, self.now = False, {}, {}, 0
+        for line, behind in zip(lines, [*lines[1:], ""]):
+            fact = FACT.fullmatch(line)
+            self.typed = self.typed or bool(fact or TYPED.fullmatch(line))
+            if fact and not behind.startswith("refused"):
+                self.take(fact["kind"], int(fact["moment"]), (fact["rest"] or "").split())
+
+    def take(self, kind, moment, words):
+        if kind == "await":
+            self.awaited.update(dict.fromkeys(words, moment))
+            return
+        self.now = max(self.now, moment)
+        if kind == "did":
+            self.done.update({"Z": 0, **dict.fromkeys(map(printed, words), moment)})
+
+
+def told_of(net, name, heard):
+    """Since when the outcome that a time-point observes is awaited, in words, and what to do where it should have come."""
+    letter, reaction = net.observed[name], net.reaction(name)
+    moment = heard.awaited.get(letter, heard.done[name] + reaction if name in heard.done else None)
+    says = f"; it was last awaited at {moment} (`await {moment} {letter}`)" if letter in heard.awaited else f", and its reaction is {ticks(reaction)}"
+    if not heard.typed:
+        return says + ", unless `await` told another moment"
+    return says + (", so it should be here now: say `saw`, or `await` a later moment" if moment is not None and heard.now >= moment else "")
+
+
+def tell_next(net, answer, heard):
     """What is to be executed at the next moment and what is awaited at it, as data and in words."""
     moment, says, awaited = answer["next"], [], []
     points = [placed(net, printed(name)) for name in (answer["do"] or "").split()]
@@ -51,7 +81,7 @@ def tell_next(net, answer):
         says.append(f"At {moment} {' and '.join(words for _, words in points)} {'is' if len(points) == 1 else 'are'} to be executed.")
     for letter in answer["wait"] or "":
         point, words = placed(net, next(name for name, observed in net.observed.items() if observed == letter))
-        says.append(f"At {moment} the outcome of {letter} is awaited: {words} observes it, and its reaction is {ticks(net.reaction(point['name']))}.")
+        says.append(f"At {moment} the outcome of {letter} is awaited: {words} observes it{told_of(net, point['name'], heard)}.")
         awaited.append({"letter": letter, "observer": point["name"], "line": point["line"]})
     return {"answer": "next", "moment": int(moment), "do": [point for point, _ in points], "wait": awaited, "says": says}
 
@@ -80,32 +110,35 @@ def tell_blame(net, answer, changed, done):
     ends = {name for number in numbers if number < len(known) for name in net.constraints[number][:2]}
     open_ = [name for name in net.names if name in ends - done] if done else []
     if open_:
-        says.append(f"Of their steps nothing was told of {', '.join(open_)}: tell what was done, with its moment, by `did`.")
+        says.append(f"Of their steps nothing was told of {', '.join(open_)}: where one was done, tell it, with its moment, by `did`.")
     return {"answer": "blame", "constraints": [known[it] if it < len(known) else {"id": it, "line": None} for it in numbers], "says": says}
 
 
-def tell_answer(net, answer, changed, done):
+def tell_answer(net, answer, changed, heard):
     """An answer as data and in words."""
     if answer["next"]:
-        return tell_next(net, answer)
-    return tell_by(net, answer) if answer["by"] else tell_blame(net, answer, changed, done)
-
-
-def done_by(lines):
-    """The time-points that are done after these lines, or none where no line that was typed stands among them."""
-    done = set()
-    for line, behind in zip(lines, [*lines[1:], ""]):
-        did = DID.fullmatch(line)
-        if did and not behind.startswith("refused"):
-            done |= {"Z", *(printed(name) for name in did[1].split())}
-    return done
+        return tell_next(net, answer, heard)
+    return tell_by(net, answer) if answer["by"] else tell_blame(net, answer, changed, heard.done.keys())
 
 
 def stuck(text):
-    """Each refutation that `check` wrote, and the document that `rest` wrote behind it, or none."""
+    """Each refutation that `check` wrote, the document that `rest` wrote behind it, or none, and what was done before."""
     for found in STEPS.finditer(text):
         rest = REST.search(text, found.end())
-        yield found[0], rest[0] if rest else ""
+        yield found[0], rest[0] if rest else "", Heard(text[: found.start()].split("\n")).done.keys()
+
+
+def awaited(net, own, done):
+    """For each observer that was done before `rest` wrote a document, the moment until which it has the outcome awaited.
+
+    Where the lines that were typed are not at hand, an observer was done where `rest` gave it another reaction, or its moment.
+    """
+    found = {}
+    for name in net.observed:
+        moment = net.pinned(name)
+        if moment is not None and (name in done or net.reaction(name) != own.reaction(name) or own.pinned(name) is None):
+            found[name] = moment + net.reaction(name)
+    return found
 
 
 def without_questions(lines):
@@ -131,7 +164,7 @@ def tell_followed(net, text):
         if answer:
             lacks += lacking(net, answer)
         if answer and not lacks:
-            told.append(tell_answer(net, answer, changed, done_by(lines[:at])))
+            told.append(tell_answer(net, answer, changed, Heard(lines[:at])))
             says += [f"{line}: {told[-1]['says'][0]}", *told[-1]["says"][1:]]
     if lacks:
         says = [f"These answers are of another document: FILE has {' and '.join(sorted(set(lacks)))}."]

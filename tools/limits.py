@@ -1,6 +1,6 @@
-"""What a document leaves open, or says twice: steps without an upper limit, ranges that a plan takes at their shortest, and
-reactions that are written again by hand."""
-from networks import literals, ticks, where, written
+"""What a document leaves open, or says twice: steps without an upper limit, ranges that a plan takes at their shortest,
+reactions that are written again by hand, and constraints that are never in force."""
+from networks import constraint, literals, ticks, where, written
 
 
 MOST_CASES = 16
@@ -156,6 +156,15 @@ def tell_disagreeing(net):
         lines.insert(0, "Reactions that seem to be written again on an edge, and do not agree:")
     data = [{"constraint": number, "observer": observer, "reaction": net.reaction(observer), "at_least": least} for number, observer, least in found]
     return data, lines
+
+
+def tell_never(net):
+    """The constraints that are never in force, since their labels exclude each other, as data and in words."""
+    found = [number for number in range(len(net.constraints)) if None in net.in_force(number).values()]
+    lines = [f"{net.called(number)}: {constraint(*net.constraints[number])}" for number in found]
+    if lines:
+        lines.insert(0, "Never in force, since the label of each and those of its time-points exclude each other:")
+    return found, lines
 
 
 def repeating(net):

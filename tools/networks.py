@@ -11,12 +11,15 @@ change it. Only the label, or the reaction of the observer, can change what it s
 
 
 class Network:
-    """The network of a canonical document: its deadline, its time-points, and its constraints by their ids."""
+    """The network of a canonical document: its deadline, its time-points, and its constraints by their ids.
+
+    Of one that `rest` wrote in a session, `awaited` has until when each outcome is awaited whose observer was done.
+    """
 
     def __init__(self, text):
         self.deadline = int(re.search(r'<data key="Deadline">(\d+)</data>', text)[1])
         self.names, self.observed, self.reactions, self.labels, self.constraints, self.rows = [], {}, {}, {}, [], []
-        self.lines, self.waits = {}, set()
+        self.lines, self.waits, self.awaited, self.is_canonical = {}, set(), None, False
         for line in text.split("\n"):
             node = re.match(r'<node id="([^"]*)"', line)
             edge = re.match(r'<edge source="([^"]*)" target="([^"]*)">.*\{\((-?\d+), ([^)]*)\)\}', line)
@@ -33,6 +36,10 @@ class Network:
 
     def reaction(self, name):
         return int(self.reactions.get(name, 1))
+
+    def pinned(self, name):
+        """The moment at which constraints have a time-point, where they say one, or none."""
+        return next((most for source, target, most, label in self.constraints if (source, target) == ("Z", name) and (name, "Z", -most, label) in self.constraints), None)
 
     def called(self, number):
         """The id of a constraint, with its line in the document where that was found."""

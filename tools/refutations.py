@@ -56,7 +56,7 @@ class Refutation:
     def __init__(self, net, text):
         self.net, self.constraints, self.steps = net, net.lowered(), steps_of(text)
         self.bounds, self.used, self.last = {}, set(), None
-        self.turns = turns(self.steps)
+        self.turns, self.done = turns(self.steps), net.awaited or {}
 
     def numbers(self):
         """The constraints that the steps use, by their places in the network without labels."""
@@ -76,13 +76,33 @@ class Refutation:
         own, source, target = self.constraints[number][:3]
         if own is not None:
             return FOR_A_LABEL if number in self.net.waits else ""
+        if target in self.done:
+            return f": the outcome of {self.net.observed[target]} is awaited until {self.until(target)} ({target} was done). What may help: an earlier `await`, or its value by `saw`"
+        left = f"; where `rest` wrote FILE and {target} was done, an earlier `await`, or its value by `saw`" if self.net.is_canonical and self.net.pinned(target) is not None else ""
         shorter = f", a shorter reaction of {target}" if self.net.reaction(target) > 1 else ""
         return (f" (no constraint of FILE: {self.net.told_at(source, 'Label')} waits for its label, and {self.net.told_at(target, 'Obs')} tells {self.net.observed[target]}; "
-                f"what may help is another label{shorter}, or an earlier {target}, if the other constraints let it)")
+                f"what may help is another label{shorter}, or an earlier {target}, if the other constraints let it{left})")
 
     def says(self, number):
         """A constraint that the steps use, in words."""
-        return f"{self.called(number, True)}: {constraint(*self.constraints[number][1:])}{self.beside(number)}"
+        return f"{self.called(number, True)}: {self.constraint(number)}{self.beside(number)}"
+
+    def constraint(self, number):
+        """What a constraint says; where it waits for an outcome whose observer was done, until when."""
+        own, source, target, most, label = self.constraints[number]
+        return constraint(source, "Z", -self.done[target], label) if own is None and target in self.done else constraint(source, target, most, label)
+
+    def until(self, name):
+        """Until when the outcome of an observer is awaited that was done, in words."""
+        return "after the deadline" if self.done[name] > self.net.deadline else str(self.done[name])
+
+    def advice(self):
+        """What may be done about the steps, in words."""
+        if self.net.awaited is None:
+            return "change a constraint that the steps use, or shorten a reaction"
+        self.in_words(None)
+        waits = any(it in self.done if isinstance(it, str) else self.constraints[it][0] is None and self.constraints[it][2] in self.done for it in self.used)
+        return "change a constraint that the steps use" + (", or `await` an earlier moment" if waits else "")
 
     def uses(self):
         """Each constraint and each reaction of more than a tick that the steps use, as data."""
@@ -91,7 +111,7 @@ class Refutation:
             own, source, target, most, label = self.constraints[number]
             line = self.net.rows[own] if own is not None and len(self.net.rows) == len(self.net.constraints) else None
             found.append({"constraint": own, "line": line, "for_label_of": source if own is None else None,
-                          "from": source, "to": target, "at_most": most, "label": label, "says": constraint(source, target, most, label)})
+                          "from": source, "to": target, "at_most": most, "label": label, "says": self.constraint(number)})
         return found
 
     def reactions(self):
@@ -99,7 +119,8 @@ class Refutation:
 
     def uses_in_words(self):
         """Each constraint and each reaction of more than a tick that the steps use, in words."""
-        known = [f"They use the reaction of {name}: {self.net.observed[name]} is known {ticks(self.net.reaction(name))} after it." for name in self.reactions()]
+        known = [f"They use that the outcome of {self.net.observed[name]} is awaited until {self.until(name)} ({name} was done)." if name in self.done else
+                 f"They use the reaction of {name}: {self.net.observed[name]} is known {ticks(self.net.reaction(name))} after it." for name in self.reactions()]
         return [self.says(number) for number in self.numbers()] + known
 
     def unknown_to(self, name, letter, label, labels):
@@ -114,7 +135,7 @@ class Refutation:
         self.last = self.bounds[number] = (name, int(least), label)
         says, letter = f"{name} at {least} or later{where(label)}", net.observed.get(name)
         if rule == "base":
-            return f"{says}: nothing is executed before 0"
+            return f"{says}: {'it was done, and stands early in what `rest` wrote' if name in self.done else 'nothing is executed before 0'}"
         premise = self.bounds[int(parts[3])]
         if rule == "chain":
             by = int(parts[2])
@@ -126,7 +147,8 @@ class Refutation:
         says += self.unknown_to(name, letter, label, [beside_seen, premise[2]])
         value = dropped(net.observed.get(seen, ""), [premise[2]])
         until = f"until then {name} waits as if {net.observed[seen]} were {value}" if value else f"until then {name} has to wait"
-        return f"{says}: from {parts[3]} and {parts[2]}: what {seen} tells is known {ticks(net.reaction(seen))} after it; {until}"
+        known = f"is awaited until {self.until(seen)}" if seen in self.done else f"is known {ticks(net.reaction(seen))} after it"
+        return f"{says}: from {parts[3]} and {parts[2]}: what {seen} tells {known}; {until}"
 
     def in_words(self, wrong):
         """Each step in words, turns that repeat once, and which is wrong."""
@@ -148,15 +170,15 @@ class Refutation:
         return words
 
 
-def missing_ticks(deadline, tight, tried):
-    """How many ticks a plan lacks by what `tight` answers with a later deadline, as data and in words."""
+def missing_ticks(deadline, tight, tried, advice):
+    """How many ticks a plan lacks by what `tight` answers with a later deadline, or else what may be done, as data and in words."""
     least = re.match(r"least (\d+)\n", tight)
     if least and int(least[1]) > deadline:
         lacks = int(least[1]) - deadline
         return ({"missing": lacks, "least": int(least[1])},
                 [f"{ticks(lacks)} {'is' if lacks == 1 else 'are'} missing: with the deadline {least[1]} the plan can be carried out, and with none before it."])
     if re.match(r"no \d+\n", tight):
-        return {"missing": None, "none_up_to": tried}, [f"No deadline up to {tried} would do: change a constraint that the steps use, or shorten a reaction."]
+        return {"missing": None, "none_up_to": tried}, [f"No deadline up to {tried} would do: {advice}."]
     return {"missing": None}, []
 
 
@@ -177,8 +199,7 @@ def accepted_no(refutation, text, missing):
     end = "the start is at 0" if name == "Z" else f"the deadline is {net.limit(name)}"
     lines += [*steps, f"But {end}, so no plan can be carried out{where(label)}."]
     if any(refutation.turns) and not lacks:
-        lines.append("The turns go on until they meet the deadline or a constraint. Where `tight` with a larger deadline says no too, none helps: "
-                     "change a constraint that the steps use, or shorten a reaction.")
+        lines.append(f"The turns go on until they meet the deadline or a constraint. Where `tight` with a larger deadline says no too, none helps: {refutation.advice()}.")
     data = {"answer": "no", "deadline": net.deadline, "each_needed": blamed, **lacks, "constraints": refutation.uses(),
             "reactions": refutation.reactions(), "steps": steps, "where": label.strip("-")}
     return data, lines
