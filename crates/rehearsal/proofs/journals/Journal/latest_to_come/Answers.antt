@@ -1,0 +1,25 @@
+use Rattle.std.proofs.Common.{ℕ, ◌≡◌, ◌≤◌, refl, subst, ◌∙◌}
+use Rattle.cstn_net.specs.Networks.{Network}
+use Rattle.cstn_net.specs.Read.{the_network}
+use Rattle.cstn_lift.specs.Lowered.{lowered}
+use Rattle.cstn_check.specs.Growth.{load_of}
+use Rattle.rehearsal.specs.Journals.{left}
+use Rattle.rehearsal.proofs.Unknown.{by_full, by_search, by_answer}
+use Rattle.rehearsal.proofs.journals.Journal.latest_to_come.Goals as goal
+
+pub latest_by-requires-clause-can : goal.latest_by-requires-clause-can
+latest_by-requires-clause-can c =
+    let yes = (c.in-Yes.ensures.exactly_yes c.in-Yes.load).0 refl in
+    c.in_ok-check.ensures.decides.0 yes.2
+
+pub returns-in-No-clause-right : goal.returns-in-No-clause-right
+returns-in-No-clause-right c =
+    let no = (c.in-No.ensures.exactly_no c.in-No.load).0 refl in
+    (c.requires.to_come, (λ can. no.2 (c.in_ok-check.ensures.decides.1 can)))
+
+pub returns-in-No-clause-unknown : goal.returns-in-No-clause-unknown
+returns-in-No-clause-unknown c =
+    let no = (c.in-No.ensures.exactly_no c.in-No.load).0 refl in
+    let within = subst (λ (cap : ℕ). load_of (the_network c.in_ok-check.check.net) ≤ cap) c.in_ok-check.ensures.cap no.1 in
+    let few = subst (λ (net : Network). load_of net ≤ 65536) c.in_ok-check.ensures.left within in
+    by_answer _ _ _ _ _ few (λ can. no.2 (c.in_ok-check.ensures.decides.1 can)) (λ is. let f : ⊥ = cc in f)
