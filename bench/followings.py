@@ -238,8 +238,13 @@ def client(folder):
         return child.returncode, child.stdout.decode(), child.stderr.decode()
 
     check("a client that is killed, and goes on", ended(PROGRAM), (GOOD, CLIENT, ""))
-    for name, lines, says in (("has no memory left", "'follow 1' 'yes 16' memory", "no answer to: next: memory"), ("refuses the document", "'document X9'", "no session: document X9")):
-        gone = folder.put("gone", f"#!/bin/sh\nprintf '%s\\n' {lines}\n")
+    for name, lines, status, says in (
+        ("has no memory left", "'follow 1' 'yes 16' memory", 7, "no answer to check: memory, status 7"),
+        ("has none to begin", "memory", 7, "no answer to the start: memory, status 7"),
+        ("refuses the document", "'document X9'", 3, "no session: document X9, status 3"),
+        ("writes other lines", "'follow 2' 'yes 16'", 0, "no session: follow 2, status 0"),
+    ):
+        gone = folder.put("gone", f"#!/bin/sh\nprintf '%s\\n' {lines}\nexit {status}\n")
         os.chmod(gone, 0o755)
         check(f"a client whose program {name}", ended(gone), (BAD, "", says + "\n"))
 
