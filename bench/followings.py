@@ -5,6 +5,7 @@ each line is written as a document, and checked. Sessions over drawn plans are i
 """
 import os
 import subprocess
+import sys
 import threading
 
 from continuations import continuations
@@ -239,6 +240,31 @@ yes 10, next 80 do Antibiotic
 done 0
 """
 
+# What is asked of the client after a no, then over its journal, and at last over the journal of other options.
+ASKING = """import sys
+sys.path.insert(0, sys.argv[1])
+from follow import DOCUMENT, Followed
+session = Followed(sys.argv[2], DOCUMENT, [], sys.argv[3])
+for line in "did 5 Sample", "saw 45 i true", "did 112 Antibiotic":
+    session.tell(line)
+print(session.verdict(), session.ask("check"), session.ask("rest").count("\\n"), session.ask("blame"), session.tell("remove 2"), session.verdict(), sep="\\n")
+session.child.kill()
+print(Followed(sys.argv[2], DOCUMENT, [], sys.argv[3]).ask("next"))
+Followed(sys.argv[2], DOCUMENT, ["--cap", "9"], sys.argv[3])
+"""
+
+ASKED = """no 4
+no 4
+0 base Z 0 -
+1 chain 0 0 Z 1 -
+end
+14
+blame 2
+removed 2
+yes 6
+next 232 do Review
+"""
+
 
 def client(folder):
     def ended(program):
@@ -246,8 +272,17 @@ def client(folder):
         return child.returncode, child.stdout.decode(), child.stderr.decode()
 
     check("a client that is killed, and goes on", ended(PROGRAM), (GOOD, CLIENT, ""))
-    for name, lines, says in (("has no memory left", "'follow 1' 'yes 16' memory", "no answer to: next: memory"), ("refuses the document", "'document X9'", "no session: document X9")):
-        gone = folder.put("gone", f"#!/bin/sh\nprintf '%s\\n' {lines}\n")
+    journal = folder.at("journal")
+    child = subprocess.run([sys.executable, "-B", "-c", ASKING, os.path.join(TOP, "examples"), PROGRAM, journal], capture_output=True, timeout=SECONDS, check=False)
+    check("a client that asks after a no", (child.returncode, child.stdout.decode()), (BAD, ASKED))
+    check("a client with other options", child.stderr.decode().partition(": of another document, version or options: follow 1 ")[0], journal)
+    for name, lines, status, says in (
+        ("has no memory left", "'follow 1' 'yes 16' memory", 7, "no answer to check: memory, status 7"),
+        ("has none to begin", "memory", 7, "no answer to the start: memory, status 7"),
+        ("refuses the document", "'document X9'", 3, "no session: document X9, status 3"),
+        ("writes other lines", "'follow 2' 'yes 16'", 0, "no session: follow 2, status 0"),
+    ):
+        gone = folder.put("gone", f"#!/bin/sh\nprintf '%s\\n' {lines}\nexit {status}\n")
         os.chmod(gone, 0o755)
         check(f"a client whose program {name}", ended(gone), (BAD, "", says + "\n"))
 

@@ -4,18 +4,21 @@
     examples/follow.py PROGRAM          PROGRAM is crates/cstn/out/cstn
 
 What happens is told line by line. Each line that is accepted is put into the journal before anything rests on it: said
-again, the journal brings the session back.
+again, the journal brings the session back. Its first line says to what it belongs, and is not told.
 """
 import contextlib
+import hashlib
 import os
 import subprocess
 import sys
 import tempfile
 
 DOCUMENT = os.path.join(os.path.dirname(os.path.abspath(__file__)), "clinical-pathway.graphml")
+OPTIONS = ["--cap", "65536"]
 
-# How the answer to a line begins that was accepted.
+# How the answer to a line begins that was accepted; and where an answer of several lines ends.
 ACCEPTED = ("yes ", "no ", "full ", "added ", "removed ", "changed ", "deadline ")
+LAST = {"check": "end", "rest": "</graphml>"}
 
 # What happens at the bedside: the sample is in time, its result is late at first and then earlier than was said, the antibiotic
 # is late too, and the rest is done when it is named.
@@ -23,45 +26,68 @@ EVENTS = ["did 5 Sample", "now 65", "await 90 i", "saw 80 i true", "did 91 Antib
 
 
 class Followed:
-    """A session over a document, with the journal of the lines that it accepted. It asks no line whose answer has more than one."""
+    """A session over a document, with the journal of the lines that it accepted."""
 
-    def __init__(self, program, document, journal):
-        self.child = subprocess.Popen([program, "follow", document], stdin=subprocess.PIPE, stdout=subprocess.PIPE, text=True, encoding="utf-8")
-        opening = self.child.stdout.readline()
-        if opening != "follow 1\n":
-            sys.exit(f"no session: {opening.strip()}")
-        self.verdict = self.child.stdout.readline().rstrip("\n")
-        self.journal = open(journal, "ab+")
+    def __init__(self, program, document, options, journal):
+        self.child = subprocess.Popen([program, "follow", document, *options], stdin=subprocess.PIPE, stdout=subprocess.PIPE, text=True, encoding="utf-8")
+        version = self.read("the start")
+        if version != "follow 1":
+            self.end(f"no session: {version}")
+        self.read("the start")
+        with open(document, "rb") as file:
+            head = " ".join([version, hashlib.sha256(file.read()).hexdigest(), *options])
+        self.journal = open(journal, "ab+", buffering=0)
         self.journal.seek(0)
         whole, end, torn = self.journal.read().rpartition(b"\n")
         if torn:
             self.journal.truncate(len(whole + end))
-        for line in whole.decode().split("\n") if end else []:
-            self.verdict = self.ask(line)
-            if not self.verdict.startswith(ACCEPTED):
-                sys.exit(f"{journal}: {line}: {self.verdict}")
+        first, *lines = whole.decode().split("\n") if end else [self.keep(head)]
+        if first != head:
+            sys.exit(f"{journal}: of another document, version or options: {first}")
+        for line in lines:
+            answer = self.ask(line)
+            if not answer.startswith(ACCEPTED):
+                sys.exit(f"{journal}: {line}: {answer}")
 
-    def ask(self, line):
-        """The answer to a line. Where the program is gone, what it wrote last has the reason."""
-        with contextlib.suppress(BrokenPipeError):
-            os.write(self.child.stdin.fileno(), f"{line}\n".encode())
+    def read(self, line):
+        """A line of the answer to a line. Where the program is gone, what it wrote last has the reason."""
         answer = self.child.stdout.readline()
         if not answer.endswith("\n") or answer.startswith(("memory", "script ", "read fault")):
-            sys.exit(f"no answer to: {line}: {answer.strip()}")
+            self.end(f"no answer to {line}: {answer.strip()}")
         return answer.rstrip("\n")
 
+    def end(self, reason):
+        self.child.communicate()
+        sys.exit(f"{reason}, status {self.child.returncode}")
+
+    def ask(self, line):
+        """The answer to a line: of `check` after a no, and of `rest`, all of its lines."""
+        with contextlib.suppress(BrokenPipeError):
+            os.write(self.child.stdin.fileno(), f"{line}\n".encode())
+        answer = [self.read(line)]
+        while line in LAST and answer[0].startswith(("no ", "<")) and answer[-1] != LAST[line]:
+            answer.append(self.read(line))
+        return "\n".join(answer)
+
+    def verdict(self):
+        """The verdict as it stands, which an edit changes without saying it."""
+        return self.ask("check").partition("\n")[0]
+
+    def keep(self, line):
+        self.journal.write(line.encode() + b"\n")
+        os.fsync(self.journal.fileno())
+        return line
+
     def tell(self, line):
-        self.verdict = self.ask(line)
-        if self.verdict.startswith(ACCEPTED):
-            self.journal.write(line.encode() + b"\n")
-            self.journal.flush()
-            os.fsync(self.journal.fileno())
-        return self.verdict
+        answer = self.ask(line)
+        if answer.startswith(ACCEPTED):
+            self.keep(line)
+        return answer
 
 
 def follow(program, journal, events):
-    session = Followed(program, DOCUMENT, journal)
-    print(f"{session.verdict}, {session.ask('next')}")
+    session = Followed(program, DOCUMENT, OPTIONS, journal)
+    print(f"{session.verdict()}, {session.ask('next')}")
     for line in events:
         print(f"  {line}: {session.tell(line)}, {session.ask('next')}")
     return session
