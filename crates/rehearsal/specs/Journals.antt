@@ -1,5 +1,5 @@
 -- Journals of labelled networks: what is recorded, and what is answered.
-use Rattle.std.specs.Prelude.{ℕ, ◌≡◌, ◌<◌, ◌↔◌, List, [], ◌∷◌, Option, map}
+use Rattle.std.specs.Prelude.{ℕ, ◌<◌, ◌↔◌, List, [], ◌∷◌, Option, map}
 use Rattle.std.specs.List.{All, Contains}
 use Rattle.cstn_lift.specs.Labelled.{Labelled}
 use Rattle.cstn_lift.specs.Read.{LabelledParts, the_labelled}

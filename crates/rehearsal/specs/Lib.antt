@@ -1,1 +1,3 @@
 pub mod Journals
+pub mod Waits
+pub mod Blames

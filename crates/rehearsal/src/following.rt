@@ -7,7 +7,9 @@ use crate::bottling::SOUR;
 use crate::events::Event;
 use crate::heating::{FILL, HEAT, SAMPLE, heating};
 use crate::journals::Journal;
-use crate::printing::{print_event, print_outlook};
+use crate::outlooks::Outlook;
+use crate::printing::{print_blame, print_event, print_latest, print_outlook};
+use cstn_label::NodeId;
 use cstn_text::Names;
 use std::alloc::Global;
 
@@ -53,8 +55,7 @@ fn follow_from_start(
 ) -> anyhow::Result<()> {
     let (network, names) = heating(alloc)?;
     let mut journal = Journal::start(alloc, network)?;
-    let outlook = journal.outlook(alloc)?;
-    print_outlook(rt, &outlook, &names)?;
+    tell(rt, alloc, &journal, &names)?;
     follow(rt, alloc, &mut journal, &names, course)
 }
 
@@ -90,7 +91,38 @@ fn turn(
 {
     journal.record(moment, event)?;
     print_event(rt, moment, event, names)?;
+    tell(rt, alloc, journal, names)
+}
+
+// Tells how the plan stands: what is next, and until when each time-point that is named can wait; or what is to blame.
+fn tell(rt: &impl Print, alloc: Global, journal: &Journal, names: &Names) -> anyhow::Result<()> {
     let outlook = journal.outlook(alloc)?;
     print_outlook(rt, &outlook, names)?;
+    match outlook {
+        Outlook::Next(next) => tell_latest(rt, alloc, journal, names, &next.named),
+        Outlook::Impossible => tell_blame(rt, alloc, journal),
+        Outlook::Finished | Outlook::Unknown => Ok(()),
+    }
+}
+
+// Tells until when each of these time-points can wait.
+fn tell_latest(
+    rt: &impl Print,
+    alloc: Global,
+    journal: &Journal,
+    names: &Names,
+    named: &[NodeId],
+) -> anyhow::Result<()> {
+    for x in named {
+        let latest = journal.latest(alloc, *x)?;
+        print_latest(rt, latest, *x, names)?;
+    }
+    Ok(())
+}
+
+// Tells which constraints are to blame.
+fn tell_blame(rt: &impl Print, alloc: Global, journal: &Journal) -> anyhow::Result<()> {
+    let blame = journal.blame(alloc)?;
+    print_blame(rt, &blame)?;
     Ok(())
 }

@@ -1,5 +1,5 @@
 // A labelled network, and what has happened in it.
-ghost use Rattle.std.specs.Prelude.{◌≡◌, ◌<◌, ◌↔◌, IsTrue, IfOk, OnOk, OnErr};
+ghost use Rattle.std.specs.Prelude.{◌≡◌, ◌<◌, ◌↔◌, None, IsTrue, IfOk, OnOk, OnErr};
 ghost use Rattle.std.specs.List.{All};
 ghost use Rattle.cstn_net.specs.Read.{the_network};
 ghost use Rattle.cstn_net.specs.Strategies.{IsConsistent};
@@ -9,16 +9,24 @@ ghost use Rattle.cstn_lift.specs.WellFormed.{IsLabelled};
 ghost use Rattle.cstn_check.specs.Growth.{load_of};
 ghost use Rattle.cstn_history.specs.Continuations.{Can};
 ghost use Rattle.cstn_history.specs.Facts.{refusal_of};
+ghost use Rattle.cstn_history.specs.Handed.{HasRoom};
 ghost use Rattle.cstn_history.specs.Histories.{nothing_yet};
 ghost use Rattle.cstn_history.specs.Read.{the_history};
+ghost use Rattle.cstn_follow.specs.Blame.{blamed};
+ghost use Rattle.cstn_follow.specs.Waiting.{waits_until};
+ghost use Rattle.rehearsal.specs.Blames.{IsRightBlame, IsBlameUnknown};
 ghost use Rattle.rehearsal.specs.Journals.{IsRight, after, left, refusal};
+ghost use Rattle.rehearsal.specs.Waits.{IsToCome, IsRightLatest, IsWaitUnknown};
 
+use crate::answers::{Blame, Latest};
 use crate::events::Event;
 use crate::outlooks::Outlook;
 use crate::plans::CAP;
 use anyhow::bail;
 use cstn_check::{Check, Verdict};
-use cstn_history::{FactError, History, rest, rest_decides};
+use cstn_follow::{BlameError, WaitError, blame, by};
+use cstn_history::{FactError, History, completed, rest, rest_decides, rest_is_labelled};
+use cstn_label::NodeId;
 use cstn_lift::Labelled;
 use cstn_net::Network;
 use cstn_next::next;
@@ -93,12 +101,95 @@ impl Journal {
         }
     }
 
+    /// Until when a time-point can wait: the greatest moment at which or after which it can still be executed, wherever it is
+    /// executed, so that the plan can be carried out. There is none exactly where no time-point has the number, where it was executed
+    /// or is ruled out, where the plan can't be carried out any more, or where a check on the way derives more than `CAP` bounds.
+    /// Fails for want of memory, or where what is left, with one constraint more, has more than 16,384 constraints.
+    pub fn latest(&self, alloc: Global, x: NodeId) -> anyhow::Result<Latest>
+        ensures right { IfOk result (IsRightLatest (the_labelled self.now.network) (the_history self.now.history) x.0) }
+        ensures unknown { IfOk result (λ latest. latest ≡ Latest.Unknown
+            ↔ (IsToCome (the_labelled self.now.network) (the_history self.now.history) x.0 × IsWaitUnknown CAP self.now x.0)) }
+    {
+        rest_is_labelled();
+        if x.0 >= self.network.base().count() {
+            return Ok(Latest::NoTimePoint);
+        }
+        if let Some(moment) = self.history.done(x) {
+            return Ok(Latest::Executed(moment));
+        }
+        let label = completed(&self.network, self.network.label(x));
+        if !self.history.allows(label) {
+            return Ok(Latest::RuledOut);
+        }
+        self.latest_to_come(alloc, x)
+    }
+
+    // Until when a time-point that is still to come can wait.
+    fn latest_to_come(&self, alloc: Global, x: NodeId) -> anyhow::Result<Latest>
+        requires to_come { IsToCome (the_labelled self.now.network) (the_history self.now.history) x.0 }
+        ensures right { IfOk result (IsRightLatest (the_labelled self.now.network) (the_history self.now.history) x.0) }
+        ensures unknown { IfOk result (λ latest. latest ≡ Latest.Unknown ↔ IsWaitUnknown CAP self.now x.0) }
+    {
+        let mut check = self.check_left(alloc)?;
+        match check.run() {
+            Verdict::Yes { .. } => self.latest_by(alloc, x),
+            Verdict::No { .. } => Ok(Latest::Impossible),
+            Verdict::Full => Ok(Latest::Unknown),
+        }
+    }
+
+    // Until when a time-point that is still to come can wait, where the plan can still be carried out.
+    fn latest_by(&self, alloc: Global, x: NodeId) -> anyhow::Result<Latest>
+        requires to_come { IsToCome (the_labelled self.now.network) (the_history self.now.history) x.0 }
+        requires can { Can (the_labelled self.now.network) (the_history self.now.history) }
+        ensures right { IfOk result (IsRightLatest (the_labelled self.now.network) (the_history self.now.history) x.0) }
+        ensures unknown { IfOk result (λ latest. latest ≡ Latest.Unknown
+            ↔ (waits_until (the_labelled self.now.network) (the_history self.now.history) FRESH x.0 CAP ≡ None)) }
+    {
+        self.network.base();
+        match by(alloc, &self.network, &self.history, FRESH, x, CAP) {
+            Ok(moment) => Ok(Latest::Until(moment)),
+            Err(WaitError::Full) => Ok(Latest::Unknown),
+            Err(error) => Err(error.into()),
+        }
+    }
+
+    /// Which constraints are to blame where the plan can't be carried out any more: nothing exactly where it still can, and not
+    /// known exactly where a check on the way derives more than `CAP` bounds. Fails as `outlook` does.
+    pub fn blame(&self, alloc: Global) -> anyhow::Result<Blame>
+        ensures right { IfOk result (IsRightBlame (the_labelled self.now.network) (the_history self.now.history)) }
+        ensures unknown { IfOk result (λ blame. blame ≡ Blame.Unknown ↔ IsBlameUnknown CAP self.now) }
+    {
+        let mut check = self.check_left(alloc)?;
+        match check.run() {
+            Verdict::Yes { .. } => Ok(Blame::Nothing),
+            Verdict::No { .. } => Ok(self.blame_left(alloc)?),
+            Verdict::Full => Ok(Blame::Unknown),
+        }
+    }
+
+    // Which constraints are to blame, where the plan can't be carried out any more.
+    fn blame_left(&self, alloc: Global) -> Result<Blame, AllocError>
+        requires room { HasRoom (left self.now) }
+        requires cannot { Can (the_labelled self.now.network) (the_history self.now.history) → ⊥ }
+        ensures right { IfOk result (IsRightBlame (the_labelled self.now.network) (the_history self.now.history)) }
+        ensures unknown { IfOk result (λ b. b ≡ Blame.Unknown
+            ↔ (blamed (the_labelled self.now.network) (the_history self.now.history) FRESH CAP ≡ None)) }
+    {
+        match blame(alloc, &self.network, &self.history, FRESH, CAP) {
+            Ok(ids) => Ok(Blame::Constraints(ids)),
+            Err(BlameError::Full) => Ok(Blame::Unknown),
+            Err(BlameError::Memory(e)) => Err(e),
+        }
+    }
+
     // A check of what is left, whose network has a strategy exactly where some table continues the history.
     fn check_left(&self, alloc: Global) -> anyhow::Result<Check>
         ensures decides { IfOk result (λ check. IsConsistent (the_network check.net)
             ↔ Can (the_labelled self.now.network) (the_history self.now.history)) }
         ensures left { IfOk result (λ check. the_network check.net ≡ lowered (left self.now)) }
         ensures labelled { IfOk result (λ _. IsLabelled (left self.now)) }
+        ensures room { IfOk result (λ _. HasRoom (left self.now)) }
         ensures cap { IfOk result (λ check. check.cap ≡ CAP) }
     {
         rest_decides();

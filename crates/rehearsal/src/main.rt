@@ -1,7 +1,9 @@
 //! Rehearses a plan before it is carried out. For each course that the plan can take, it prints what is done when. And for
-//! courses that leave the plan, it prints after each event whether the plan can still be carried out, and what is next.
+//! courses that leave the plan, it prints after each event whether the plan can still be carried out, what is next and until when
+//! that can wait, or which constraints are to blame.
 #![tactic(auto)]
 
+mod answers;
 mod bottling;
 mod courses;
 mod events;

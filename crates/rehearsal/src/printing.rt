@@ -1,3 +1,4 @@
+use crate::answers::{Blame, Latest};
 use crate::events::Event;
 use crate::outlooks::Outlook;
 use cstn_label::{NodeId, Prop};
@@ -66,4 +67,36 @@ fn print_awaited(rt: &impl Print, awaited: &[Prop]) -> io::Result<()> {
         print!(rt; " {}?", prop.letter() as char)?;
     }
     Ok(())
+}
+
+/// Prints until when a time-point can wait, or why there is no such moment.
+pub fn print_latest(rt: &impl Print, latest: Latest, x: NodeId, names: &Names) -> io::Result<()> {
+    match latest {
+        Latest::Until(moment) => print!(rt; "by {moment}")?,
+        Latest::Executed(moment) => print!(rt; "done at {moment}")?,
+        Latest::RuledOut => print!(rt; "ruled out")?,
+        Latest::NoTimePoint => print!(rt; "no time-point")?,
+        Latest::Impossible => print!(rt; "no")?,
+        Latest::Unknown => print!(rt; "not known")?,
+    }
+    print_names(rt, &[x], names)?;
+    println!(rt)
+}
+
+/// Prints the ids of the constraints that are to blame, or why there are none.
+pub fn print_blame(rt: &impl Print, blame: &Blame) -> io::Result<()> {
+    match blame {
+        Blame::Constraints(ids) => print_ids(rt, ids),
+        Blame::Nothing => println!(rt; "nothing to blame"),
+        Blame::Unknown => println!(rt; "not known"),
+    }
+}
+
+// Prints ids behind a word.
+fn print_ids(rt: &impl Print, ids: &[u32]) -> io::Result<()> {
+    print!(rt; "blame")?;
+    for id in ids {
+        print!(rt; " {id}")?;
+    }
+    println!(rt)
 }

@@ -9,6 +9,7 @@ use Rattle.cstn_lift.specs.Strategies.{IsLabelledConsistent}
 use Rattle.cstn_lift.specs.WellFormed.{IsLabelled}
 use Rattle.cstn_check.specs.Checks.{CheckParts}
 use Rattle.cstn_history.specs.Continuations.{Can}
+use Rattle.cstn_history.specs.Handed.{HasRoom}
 use Rattle.cstn_history.specs.Read.{the_history}
 use Rattle.rehearsal.specs.Journals.{JournalParts, left}
 use Rattle.rehearsal.proofs.journals.Journal.check_left.Goals as goal
@@ -33,3 +34,6 @@ returns-clause-left c =
 
 pub returns-clause-labelled : goal.returns-clause-labelled
 returns-clause-labelled c = subst IsLabelled (c.in_ok-left.ensures.rest ∙ ap left c.self.view_is) c.in_ok-left.ensures.labelled
+
+pub returns-clause-room : goal.returns-clause-room
+returns-clause-room c = subst (λ (j : JournalParts). HasRoom (left j)) c.self.view_is c.in_ok-left.ensures.few
