@@ -41,8 +41,8 @@ returns-in-No-clause-unknown c =
     let few = subst (λ (net : Network). load_of net ≤ 65536) c.in_ok-check.ensures.left within in
     by_answer _ _ _ _ _ few (λ can. no.2 (c.in_ok-check.ensures.decides.1 can)) (λ is. let f : ⊥ = cc in f)
 
-pub returns-in-Full-clause-unknown : goal.returns-in-Full-clause-unknown
-returns-in-Full-clause-unknown c =
+pub returns-clause-unknown : goal.returns-clause-unknown
+returns-clause-unknown c =
     let over = c.in-Full.ensures.full.0 refl in
     let above = subst (λ (cap : ℕ). cap < load_of (the_network c.in_ok-check.check.net)) c.in_ok-check.ensures.cap over in
     by_full _ _ _ _ _ refl (subst (λ (net : Network). 65536 < load_of net) c.in_ok-check.ensures.left above)
