@@ -1,4 +1,4 @@
-use Rattle.std.proofs.Common.{ℕ, ◌≡◌, ◌≤◌, ◌<◌, refl, subst}
+use Rattle.std.proofs.Common.{ℕ, ◌≤◌, ◌<◌, refl, subst}
 use Rattle.cstn_net.specs.Networks.{Network}
 use Rattle.cstn_net.specs.Read.{the_network}
 use Rattle.cstn_check.specs.Growth.{load_of}

@@ -1,7 +1,7 @@
 use Rattle.std.proofs.Common.{ℕ, ◌≡◌, ◌<◌, ◌∙◌, None, false, ap, sym, subst}
 use Rattle.cstn_net.specs.Networks.{count}
 use Rattle.cstn_net.specs.Read.{NetworkParts, the_network}
-use Rattle.cstn_lift.specs.Completion.{completed, completed_label}
+use Rattle.cstn_lift.specs.Completion.{completed}
 use Rattle.cstn_lift.specs.Read.{the_labelled}
 use Rattle.cstn_label.specs.Labels.{Label}
 use Rattle.cstn_history.specs.Histories.{allows}
@@ -19,10 +19,12 @@ returns-then-not-allows-clause-right c =
     let x = c.args.x.0 in
     let coming : h.done x ≡ None = sym c.done.ensures.done ∙ c.in_default.is in
     let label = c.completed-label.ensures.completed ∙ ap (λ (a : Label). completed m a) c.label.ensures.label in
+    let inside = subst (λ (net : NetworkParts). x < count (the_network net)) c.base.ensures.base
+    (subst (λ (n : ℕ). x < n) c.count.ensures.count c.if-x-count.false) in
     let gone : is_left m h x ≡ false = not_left m h x c.self.invariant.kept.history.origin coming
     (ap (λ (a : Label). allows h a) (sym label) ∙ sym c.allows.ensures.allows ∙ c.if-not-allows.true) in
     subst (λ (j : JournalParts). IsRuledOut (the_labelled j.network) (the_history j.history) x) c.self.view_is (record {
-      here = subst (λ (net : NetworkParts). x < count (the_network net)) c.base.ensures.base (subst (λ (n : ℕ). x < n) c.count.ensures.count c.if-x-count.false);
+      here = inside;
       coming = coming;
       gone = gone;
       never = λ s agrees executed.

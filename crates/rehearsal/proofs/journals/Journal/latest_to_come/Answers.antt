@@ -26,8 +26,8 @@ returns-in-Yes-clause-unknown c =
     let m = the_labelled c.args.self.now.network in
     let h = the_history c.args.self.now.history in
     IfOk-weaker c.latest_by.result _ _
-    (λ latest is. by_search 65536 (load_of (lowered (left c.args.self.now))) (Can m h) (waits_until m h 4294000000 c.args.x.0 65536 ≡ None) (latest ≡ Unknown) few
-    (c.in_ok-check.ensures.decides.0 yes.2) is) c.latest_by.ensures.unknown
+    (λ latest is. by_search 65536 (load_of (lowered (left c.args.self.now))) (Can m h)
+    (waits_until m h 4294000000 c.args.x.0 65536 ≡ None) (latest ≡ Unknown) few (c.in_ok-check.ensures.decides.0 yes.2) is) c.latest_by.ensures.unknown
 
 pub returns-in-No-clause-right : goal.returns-in-No-clause-right
 returns-in-No-clause-right c =
