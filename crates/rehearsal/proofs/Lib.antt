@@ -1,1 +1,2 @@
 mod Unknown
+mod RuledOut

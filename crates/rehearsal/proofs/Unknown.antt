@@ -1,5 +1,5 @@
 -- When an answer that takes several checks isn't known.
-use Rattle.std.proofs.Common.{ℕ, ◌≡◌, ◌<◌, ◌≤◌, ◌⊎◌, ◌↔◌, inl, inr, arith}
+use Rattle.std.proofs.Common.{ℕ, ◌<◌, ◌≤◌, ◌⊎◌, ◌↔◌, inl, inr, arith}
 
 module _ (cap load : ℕ) (P N A : Type 0) where
   -- the first check was full

@@ -1,4 +1,4 @@
-use Rattle.std.proofs.Common.{ℕ, ◌≡◌, ◌≤◌, ◌<◌, refl, subst}
+use Rattle.std.proofs.Common.{ℕ, ◌≤◌, ◌<◌, refl, subst}
 use Rattle.cstn_net.specs.Networks.{Network}
 use Rattle.cstn_net.specs.Read.{the_network}
 use Rattle.cstn_check.specs.Growth.{load_of}
@@ -27,10 +27,10 @@ returns-in-No-clause-unknown c =
     let no = (c.in-No.ensures.exactly_no c.in-No.load).0 refl in
     let within = subst (λ (cap : ℕ). load_of (the_network c.in_ok-check.check.net) ≤ cap) c.in_ok-check.ensures.cap no.1 in
     let few = subst (λ (net : Network). load_of net ≤ 65536) c.in_ok-check.ensures.left within in
-    by_search _ _ _ _ _ few (λ can. no.2 (c.in_ok-check.ensures.decides.1 can)) c.in_ok-blame_left.ensures.unknown
+    by_search _ _ _ _ _ few (λ can. no.2 (c.in_ok-check.ensures.decides.1 can)) c.in_ok-blame_left-in-No.ensures.unknown
 
-pub returns-in-Full-clause-unknown : goal.returns-in-Full-clause-unknown
-returns-in-Full-clause-unknown c =
+pub returns-clause-unknown : goal.returns-clause-unknown
+returns-clause-unknown c =
     let over = c.in-Full.ensures.full.0 refl in
     let above = subst (λ (cap : ℕ). cap < load_of (the_network c.in_ok-check.check.net)) c.in_ok-check.ensures.cap over in
     by_full _ _ _ _ _ refl (subst (λ (net : Network). 65536 < load_of net) c.in_ok-check.ensures.left above)

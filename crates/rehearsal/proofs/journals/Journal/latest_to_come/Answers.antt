@@ -26,8 +26,8 @@ returns-in-Yes-clause-unknown c =
     let m = the_labelled c.args.self.now.network in
     let h = the_history c.args.self.now.history in
     IfOk-weaker c.latest_by.result _ _
-    (λ latest is. by_search 65536 (load_of (lowered (left c.args.self.now))) (Can m h) (waits_until m h 4294000000 c.args.x.0 65536 ≡ None) (latest ≡ Unknown) few
-    (c.in_ok-check.ensures.decides.0 yes.2) is) c.latest_by.ensures.unknown
+    (λ latest is. by_search 65536 (load_of (lowered (left c.args.self.now))) (Can m h)
+    (waits_until m h 4294000000 c.args.x.0 65536 ≡ None) (latest ≡ Unknown) few (c.in_ok-check.ensures.decides.0 yes.2) is) c.latest_by.ensures.unknown
 
 pub returns-in-No-clause-right : goal.returns-in-No-clause-right
 returns-in-No-clause-right c =
@@ -41,8 +41,8 @@ returns-in-No-clause-unknown c =
     let few = subst (λ (net : Network). load_of net ≤ 65536) c.in_ok-check.ensures.left within in
     by_answer _ _ _ _ _ few (λ can. no.2 (c.in_ok-check.ensures.decides.1 can)) (λ is. let f : ⊥ = cc in f)
 
-pub returns-in-Full-clause-unknown : goal.returns-in-Full-clause-unknown
-returns-in-Full-clause-unknown c =
+pub returns-clause-unknown : goal.returns-clause-unknown
+returns-clause-unknown c =
     let over = c.in-Full.ensures.full.0 refl in
     let above = subst (λ (cap : ℕ). cap < load_of (the_network c.in_ok-check.check.net)) c.in_ok-check.ensures.cap over in
     by_full _ _ _ _ _ refl (subst (λ (net : Network). 65536 < load_of net) c.in_ok-check.ensures.left above)
