@@ -154,8 +154,8 @@ impl Journal {
         }
     }
 
-    /// Which constraints are to blame where the plan can't be carried out any more: nothing exactly where it still can, and not
-    /// known exactly where a check on the way derives more than `CAP` bounds. Fails as `outlook` does.
+    /// Which constraints are to blame where the plan can't be carried out any more, and nothing where it still can; not known exactly
+    /// where a check on the way derives more than `CAP` bounds. Fails as `outlook` does.
     pub fn blame(&self, alloc: Global) -> anyhow::Result<Blame>
         ensures right { IfOk result (IsRightBlame (the_labelled self.now.network) (the_history self.now.history)) }
         ensures unknown { IfOk result (λ blame. blame ≡ Blame.Unknown ↔ IsBlameUnknown CAP self.now) }
