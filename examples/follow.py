@@ -30,7 +30,8 @@ class Followed:
     """A session over a document, with the journal of the lines that it accepted."""
 
     def __init__(self, program, document, deadline, cap, journal):
-        self.child = subprocess.Popen([program, "follow", document, *deadline, *cap], stdin=subprocess.PIPE, stdout=subprocess.PIPE, text=True, encoding="utf-8")
+        words = [program, "follow", document, *deadline, *cap]
+        self.child = subprocess.Popen(words, stdin=subprocess.PIPE, stdout=subprocess.PIPE, text=True, encoding="utf-8")
         version = self.read("the start")
         if version != "follow 1":
             self.end(f"no session: {version}")
