@@ -240,17 +240,33 @@ yes 10, next 80 do Antibiotic
 done 0
 """
 
-# What is asked of the client after a no, then over its journal, and at last over the journal of other options.
-ASKING = """import sys
+# What is asked of the client after a no, over its journal with a cap that is too small, and with a larger one, where the journal
+# takes a part of a line alone. At last it is begun over the journal with another deadline.
+ASKING = """import os, resource, sys
 sys.path.insert(0, sys.argv[1])
 from follow import DOCUMENT, Followed
-session = Followed(sys.argv[2], DOCUMENT, [], sys.argv[3])
+session = Followed(sys.argv[2], DOCUMENT, [], [], sys.argv[3])
 for line in "did 5 Sample", "saw 45 i true", "did 112 Antibiotic":
     session.tell(line)
 print(session.verdict(), session.ask("check"), session.ask("rest").count("\\n"), session.ask("blame"), session.tell("remove 2"), session.verdict(), sep="\\n")
 session.child.kill()
-print(Followed(sys.argv[2], DOCUMENT, [], sys.argv[3]).ask("next"))
-Followed(sys.argv[2], DOCUMENT, ["--cap", "9"], sys.argv[3])
+session = Followed(sys.argv[2], DOCUMENT, [], ["--cap", "5"], sys.argv[3])
+print(session.tell("next"), session.tell("now 120"), sep="\\n")
+session.child.kill()
+session = Followed(sys.argv[2], DOCUMENT, [], ["--cap", "65536"], sys.argv[3])
+print(session.ask("next"))
+most = resource.getrlimit(resource.RLIMIT_FSIZE)[1]
+resource.setrlimit(resource.RLIMIT_FSIZE, (os.path.getsize(sys.argv[3]) + 5, most))
+try:
+    session.tell("did 232 Review")
+except OSError as error:
+    print(error)
+resource.setrlimit(resource.RLIMIT_FSIZE, (most, most))
+session.child.kill()
+session = Followed(sys.argv[2], DOCUMENT, [], [], sys.argv[3])
+print(session.ask("next"), session.tell("did 232 Review"), sep="\\n")
+session.child.kill()
+Followed(sys.argv[2], DOCUMENT, ["--deadline", "400"], [], sys.argv[3])
 """
 
 ASKED = """no 4
@@ -262,7 +278,12 @@ end
 blame 2
 removed 2
 yes 6
+full 5
+full 5
 next 232 do Review
+journal: short write
+next 232 do Review
+yes 3
 """
 
 
@@ -275,7 +296,7 @@ def client(folder):
     journal = folder.at("journal")
     child = subprocess.run([sys.executable, "-B", "-c", ASKING, os.path.join(TOP, "examples"), PROGRAM, journal], capture_output=True, timeout=SECONDS, check=False)
     check("a client that asks after a no", (child.returncode, child.stdout.decode()), (BAD, ASKED))
-    check("a client with other options", child.stderr.decode().partition(": of another document, version or options: follow 1 ")[0], journal)
+    check("a client with another deadline", child.stderr.decode().partition(": of another document, version or deadline: follow 1 ")[0], journal)
     for name, lines, status, says in (
         ("has no memory left", "'follow 1' 'yes 16' memory", 7, "no answer to check: memory, status 7"),
         ("has none to begin", "memory", 7, "no answer to the start: memory, status 7"),

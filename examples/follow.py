@@ -3,8 +3,8 @@
 
     examples/follow.py PROGRAM          PROGRAM is crates/cstn/out/cstn
 
-What happens is told line by line. Each line that is accepted is put into the journal before anything rests on it: said
-again, the journal brings the session back. Its first line says to what it belongs, and is not told.
+What happens is told line by line. Each fact and edit that is accepted is put into the journal before anything rests on it:
+said again, the journal brings the session back, also with a larger cap. Its first line says to what it belongs, and is not told.
 """
 import contextlib
 import hashlib
@@ -14,9 +14,10 @@ import sys
 import tempfile
 
 DOCUMENT = os.path.join(os.path.dirname(os.path.abspath(__file__)), "clinical-pathway.graphml")
-OPTIONS = ["--cap", "65536"]
+DEADLINE, CAP = [], ["--cap", "65536"]
 
-# How the answer to a line begins that was accepted; and where an answer of several lines ends.
+# How a fact or an edit begins, and the answer to one that was accepted; and where an answer of several lines ends.
+FACTS = ("did ", "saw ", "now ", "await ", "add ", "remove ", "change ", "deadline ")
 ACCEPTED = ("yes ", "no ", "full ", "added ", "removed ", "changed ", "deadline ")
 LAST = {"check": "end", "rest": "</graphml>"}
 
@@ -28,14 +29,15 @@ EVENTS = ["did 5 Sample", "now 65", "await 90 i", "saw 80 i true", "did 91 Antib
 class Followed:
     """A session over a document, with the journal of the lines that it accepted."""
 
-    def __init__(self, program, document, options, journal):
-        self.child = subprocess.Popen([program, "follow", document, *options], stdin=subprocess.PIPE, stdout=subprocess.PIPE, text=True, encoding="utf-8")
+    def __init__(self, program, document, deadline, cap, journal):
+        words = [program, "follow", document, *deadline, *cap]
+        self.child = subprocess.Popen(words, stdin=subprocess.PIPE, stdout=subprocess.PIPE, text=True, encoding="utf-8")
         version = self.read("the start")
         if version != "follow 1":
             self.end(f"no session: {version}")
         self.read("the start")
         with open(document, "rb") as file:
-            head = " ".join([version, hashlib.sha256(file.read()).hexdigest(), *options])
+            head = " ".join([version, hashlib.sha256(file.read()).hexdigest(), *deadline])
         self.journal = open(journal, "ab+", buffering=0)
         self.journal.seek(0)
         whole, end, torn = self.journal.read().rpartition(b"\n")
@@ -43,7 +45,7 @@ class Followed:
             self.journal.truncate(len(whole + end))
         first, *lines = whole.decode().split("\n") if end else [self.keep(head)]
         if first != head:
-            sys.exit(f"{journal}: of another document, version or options: {first}")
+            sys.exit(f"{journal}: of another document, version or deadline: {first}")
         for line in lines:
             answer = self.ask(line)
             if not answer.startswith(ACCEPTED):
@@ -74,19 +76,21 @@ class Followed:
         return self.ask("check").partition("\n")[0]
 
     def keep(self, line):
-        self.journal.write(line.encode() + b"\n")
+        data = line.encode() + b"\n"
+        if self.journal.write(data) != len(data):
+            raise OSError("journal: short write")
         os.fsync(self.journal.fileno())
         return line
 
     def tell(self, line):
         answer = self.ask(line)
-        if answer.startswith(ACCEPTED):
+        if line.startswith(FACTS) and answer.startswith(ACCEPTED):
             self.keep(line)
         return answer
 
 
 def follow(program, journal, events):
-    session = Followed(program, DOCUMENT, OPTIONS, journal)
+    session = Followed(program, DOCUMENT, DEADLINE, CAP, journal)
     print(f"{session.verdict()}, {session.ask('next')}")
     for line in events:
         print(f"  {line}: {session.tell(line)}, {session.ask('next')}")
