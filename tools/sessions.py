@@ -1,4 +1,5 @@
 """A session of `follow` told again, to try which other value of a limit, or which earlier moment of an outcome, would do."""
+import os
 import re
 import subprocess
 
@@ -9,7 +10,7 @@ class Live:
     """A session that was told the lines of another, and can be told more."""
 
     def __init__(self, words, lines, now):
-        self.child = subprocess.Popen(words, stdin=subprocess.PIPE, stdout=subprocess.PIPE, stderr=subprocess.DEVNULL)
+        self.child = subprocess.Popen(words, stdin=subprocess.PIPE, stdout=subprocess.PIPE, stderr=subprocess.DEVNULL, env={**os.environ, "CSTN_EXPLAINED": "yes"})
         self.now = now
         self.read()
         self.read()
@@ -20,7 +21,6 @@ class Live:
         return self
 
     def __exit__(self, *_):
-        self.child.kill()
         self.child.communicate()
 
     def read(self):
@@ -54,7 +54,7 @@ def nearest(met, fails, holds):
     return holds
 
 
-def giving_way(live, heard, values, deadline):
+def giving_way(live, values, deadline):
     """For each limit of a value above 0, twelve at most, the least value with which a yes stands if all else stays, as data and in words."""
     found, lines = [], []
     for number, value in [it for it in values.items() if it[1] > 0][:MOST_LIMITS]:
@@ -72,7 +72,7 @@ def giving_way(live, heard, values, deadline):
 
 
 def awaiting(live, heard):
-    """For each outcome that is awaited later than now, the latest moment before that with which a yes stands, as data and in words; none where there is none."""
+    """For each outcome that is awaited later than now, the latest moment before that with which a yes stands, as data and in words."""
     found, lines = [], []
     for letter, moment in heard.awaited.items():
         if letter in heard.known or moment <= heard.now:
@@ -81,7 +81,8 @@ def awaiting(live, heard):
         def met(tried, letter=letter):
             return live.is_met(f"await {tried} {letter}")
 
-        latest = nearest(met, moment, heard.now) if met(heard.now) else None
+        first = next((it for it in (heard.now, heard.now + 1) if it < moment and met(it)), None)
+        latest = nearest(met, moment, first) if first is not None else None
         live.say(f"await {moment} {letter}")
         if latest is not None:
             found.append({"letter": letter, "awaited": moment, "latest": latest})
