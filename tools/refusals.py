@@ -57,10 +57,10 @@ class Reader:
         self.parser.CharacterDataHandler = self.characters
         self.parser.CommentHandler = self.comment
 
-    def near(self, key, above):
-        """A used key that this one may have been meant for, in words."""
-        found = difflib.get_close_matches((key or "").lower(), [it.lower() for it in USED[above]], 1, 0.7)
-        return next(f"; did you mean {it}?" for it in USED[above] if it.lower() == found[0]) if found else ""
+    def near(self, key, used):
+        """A used key, or element, that this one may have been meant for, in words."""
+        found = difflib.get_close_matches((key or "").lower(), [it.lower() for it in used], 1, 0.7)
+        return next(f"; did you mean {it}?" for it in used if it.lower() == found[0]) if found else ""
 
     def note(self, what, line=None):
         self.notes.append((line or self.parser.CurrentLineNumber, what))
@@ -73,9 +73,9 @@ class Reader:
         if above == "":
             return
         if above in PLACES and name not in PLACES[above]:
-            self.note(f"the element {name} in {above} is passed over")
+            self.note(f"the element {name} in {above} is passed over{self.near(name, PLACES[above])}")
         elif name == "data" and above in USED and attributes.get("key") not in USED[above]:
-            self.note(f"data with the key {attributes.get('key')} in {above} is passed over{self.near(attributes.get('key'), above)}")
+            self.note(f"data with the key {attributes.get('key')} in {above} is passed over{self.near(attributes.get('key'), USED[above])}")
         elif name == "node":
             self.nodes.append(attributes.get("id"))
             self.lines[attributes.get("id"), "id"] = self.parser.CurrentLineNumber

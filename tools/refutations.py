@@ -215,7 +215,7 @@ def rejected_no(refutation, replay):
     wrong = re.fullmatch(r"rejected (\d+)", replay)
     words = refutation.in_words(int(wrong[1]) if wrong else len(steps))
     edited = any(it >= len(refutation.constraints) for it in refutation.numbers())
-    hint = ("PROOF is of another document, or of edits: write these into a copy of FILE, check that, and explain its no." if edited
+    hint = ("PROOF is of another document, or of edits: write these into a copy of FILE, check that, and explain its no, or tell the edits to `follow`, keep what `rest` writes as NEW, and call `tools/explain --conflict NEW`." if edited
             else "Say the `--deadline N` of the check, where it had one; of a no of `edit`, write the edits into a copy of FILE first; of one of `follow`, name as FILE what `rest` wrote.")
     lines = [*words, f"But these steps do not refute FILE with the deadline {net.deadline}: `replay` says {replay}. {hint}"]
     return {"answer": "rejected", "replay": replay, "deadline": net.deadline, "says": lines}, lines
