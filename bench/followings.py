@@ -241,32 +241,48 @@ done 0
 """
 
 # What is asked of the client after a no, over its journal with a cap that is too small, and with a larger one, where the journal
-# takes a part of a line alone. At last it is begun over the journal with another deadline.
+# takes a part of a line alone. A second client is refused meanwhile, and two lines as one. At last it is begun over the journal with
+# another deadline.
 ASKING = """import os, resource, sys
 sys.path.insert(0, sys.argv[1])
-from follow import DOCUMENT, Followed
+from follow import DOCUMENT, Followed, Gone
+def verdict(session):
+    return session.ask("check").partition("\\n")[0]
+def stop(session):
+    session.child.kill()
+    session.journal.close()
 session = Followed(sys.argv[2], DOCUMENT, [], [], sys.argv[3])
 for line in "did 5 Sample", "saw 45 i true", "did 112 Antibiotic":
     session.tell(line)
-print(session.verdict(), session.ask("check"), session.ask("rest").count("\\n"), session.ask("blame"), session.tell("remove 2"), session.verdict(), sep="\\n")
-session.child.kill()
+print(verdict(session), session.ask("check"), session.ask("rest").count("\\n"), session.ask("blame"), session.tell("remove 2"), verdict(session), sep="\\n")
+try:
+    Followed(sys.argv[2], DOCUMENT, [], [], sys.argv[3])
+except BlockingIOError:
+    print("held")
+try:
+    session.tell("now 120\\nnow 121")
+except ValueError:
+    print("two lines")
+stop(session)
 session = Followed(sys.argv[2], DOCUMENT, [], ["--cap", "5"], sys.argv[3])
 print(session.tell("next"), session.tell("now 120"), sep="\\n")
-session.child.kill()
+stop(session)
 session = Followed(sys.argv[2], DOCUMENT, [], ["--cap", "65536"], sys.argv[3])
 print(session.ask("next"))
 most = resource.getrlimit(resource.RLIMIT_FSIZE)[1]
 resource.setrlimit(resource.RLIMIT_FSIZE, (os.path.getsize(sys.argv[3]) + 5, most))
 try:
     session.tell("did 232 Review")
-except OSError as error:
-    print(error)
+except Gone as gone:
+    print(gone)
 resource.setrlimit(resource.RLIMIT_FSIZE, (most, most))
-session.child.kill()
 session = Followed(sys.argv[2], DOCUMENT, [], [], sys.argv[3])
 print(session.ask("next"), session.tell("did 232 Review"), sep="\\n")
-session.child.kill()
-Followed(sys.argv[2], DOCUMENT, ["--deadline", "400"], [], sys.argv[3])
+stop(session)
+try:
+    Followed(sys.argv[2], DOCUMENT, ["--deadline", "400"], [], sys.argv[3])
+except Gone as gone:
+    sys.exit(str(gone))
 """
 
 ASKED = """no 4
@@ -278,10 +294,12 @@ end
 blame 2
 removed 2
 yes 6
+held
+two lines
 full 5
 full 5
 next 232 do Review
-journal: short write
+journal: short write, status 8
 next 232 do Review
 yes 3
 """

@@ -7,6 +7,7 @@ What happens is told line by line. Each fact and edit that is accepted is put in
 said again, the journal brings the session back, also with a larger cap. Its first line says to what it belongs, and is not told.
 """
 import contextlib
+import fcntl
 import hashlib
 import os
 import subprocess
@@ -14,7 +15,6 @@ import sys
 import tempfile
 
 DOCUMENT = os.path.join(os.path.dirname(os.path.abspath(__file__)), "clinical-pathway.graphml")
-DEADLINE, CAP = [], ["--cap", "65536"]
 
 # How a fact or an edit begins, and the answer to one that was accepted; and where an answer of several lines ends.
 FACTS = ("did ", "saw ", "now ", "await ", "add ", "remove ", "change ", "deadline ")
@@ -26,44 +26,49 @@ LAST = {"check": "end", "rest": "</graphml>"}
 EVENTS = ["did 5 Sample", "now 65", "await 90 i", "saw 80 i true", "did 91 Antibiotic", "did 211 Review", "did 221 Discharge"]
 
 
+class Gone(Exception):
+    """Why a session ended, with the status of its program."""
+
+
 class Followed:
-    """A session over a document, with the journal of the lines that it accepted."""
+    """A session over a document, with the journal of the lines that it accepted, which no second client may have meanwhile."""
 
     def __init__(self, program, document, deadline, cap, journal):
-        words = [program, "follow", document, *deadline, *cap]
-        self.child = subprocess.Popen(words, stdin=subprocess.PIPE, stdout=subprocess.PIPE, text=True, encoding="utf-8")
+        self.journal = open(journal, "ab+", buffering=0)
+        fcntl.flock(self.journal, fcntl.LOCK_EX | fcntl.LOCK_NB)
+        os.fsync(folder := os.open(os.path.dirname(os.path.abspath(journal)), os.O_RDONLY))
+        os.close(folder)
+        self.child = subprocess.Popen([program, "follow", document, *deadline, *cap], stdin=subprocess.PIPE, stdout=subprocess.PIPE, encoding="utf-8")
         version = self.read("the start")
         if version != "follow 1":
             self.end(f"no session: {version}")
         self.read("the start")
         with open(document, "rb") as file:
             head = " ".join([version, hashlib.sha256(file.read()).hexdigest(), *deadline])
-        self.journal = open(journal, "ab+", buffering=0)
-        self.journal.seek(0)
-        whole, end, torn = self.journal.read().rpartition(b"\n")
-        if torn:
-            self.journal.truncate(len(whole + end))
-        first, *lines = whole.decode().split("\n") if end else [self.keep(head)]
+        whole, end, _ = os.pread(self.journal.fileno(), os.fstat(self.journal.fileno()).st_size, 0).rpartition(b"\n")
+        self.journal.truncate(len(whole + end))
+        first, *lines = whole.decode().split("\n") if end else [self.keep(head) or head]
         if first != head:
-            sys.exit(f"{journal}: of another document, version or deadline: {first}")
+            self.end(f"{journal}: of another document, version or deadline: {first}")
         for line in lines:
-            answer = self.ask(line)
-            if not answer.startswith(ACCEPTED):
-                sys.exit(f"{journal}: {line}: {answer}")
+            if not (answer := self.ask(line)).startswith(ACCEPTED):
+                self.end(f"{journal}: {line}: {answer}")
 
     def read(self, line):
         """A line of the answer to a line. Where the program is gone, what it wrote last has the reason."""
-        answer = self.child.stdout.readline()
-        if not answer.endswith("\n") or answer.startswith(("memory", "script ", "read fault")):
+        if not (answer := self.child.stdout.readline()).endswith("\n") or answer.startswith(("memory", "script ", "read fault")):
             self.end(f"no answer to {line}: {answer.strip()}")
         return answer.rstrip("\n")
 
     def end(self, reason):
+        """Ends the program, and lets go of the journal."""
         self.child.communicate()
-        sys.exit(f"{reason}, status {self.child.returncode}")
+        self.journal.close()
+        raise Gone(f"{reason}, status {self.child.returncode}")
 
     def ask(self, line):
-        """The answer to a line: of `check` after a no, and of `rest`, all of its lines."""
+        """The answer to a line: of `check` after a no, and of `rest`, all of its lines. An edit alone says no verdict."""
+        [line] = line.split("\n")  # A ValueError where it is more than one line.
         with contextlib.suppress(BrokenPipeError):
             os.write(self.child.stdin.fileno(), f"{line}\n".encode())
         answer = [self.read(line)]
@@ -71,16 +76,16 @@ class Followed:
             answer.append(self.read(line))
         return "\n".join(answer)
 
-    def verdict(self):
-        """The verdict as it stands, which an edit changes without saying it."""
-        return self.ask("check").partition("\n")[0]
-
     def keep(self, line):
-        data = line.encode() + b"\n"
-        if self.journal.write(data) != len(data):
-            raise OSError("journal: short write")
-        os.fsync(self.journal.fileno())
-        return line
+        """Puts a line into the journal. Where that fails the journal is as before, and the program, which knows more, is ended."""
+        data, before = line.encode() + b"\n", os.fstat(self.journal.fileno()).st_size
+        try:
+            if self.journal.write(data) != len(data):
+                raise OSError("journal: short write")
+            os.fsync(self.journal.fileno())
+        except OSError as error:
+            self.journal.truncate(before)
+            self.end(error)
 
     def tell(self, line):
         answer = self.ask(line)
@@ -90,8 +95,8 @@ class Followed:
 
 
 def follow(program, journal, events):
-    session = Followed(program, DOCUMENT, DEADLINE, CAP, journal)
-    print(f"{session.verdict()}, {session.ask('next')}")
+    session = Followed(program, DOCUMENT, [], ["--cap", "65536"], journal)
+    print(f"{session.ask('check')}, {session.ask('next')}")
     for line in events:
         print(f"  {line}: {session.tell(line)}, {session.ask('next')}")
     return session
@@ -102,7 +107,10 @@ if __name__ == "__main__":
         sys.exit(__doc__)
     with tempfile.TemporaryDirectory() as folder:
         journal = os.path.join(folder, "journal")
-        follow(sys.argv[1], journal, EVENTS[:4]).child.kill()
-        print("killed")
-        session = follow(sys.argv[1], journal, EVENTS[4:])
+        try:
+            follow(sys.argv[1], journal, EVENTS[:4]).child.kill()
+            print("killed")
+            session = follow(sys.argv[1], journal, EVENTS[4:])
+        except Gone as gone:
+            sys.exit(str(gone))
         print(session.child.communicate()[0].rstrip("\n"), session.child.returncode)
