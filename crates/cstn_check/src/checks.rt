@@ -1,5 +1,6 @@
 ghost use Rattle.std.specs.Prelude.{ℕ, ◌≡◌, ◌<◌, ◌≤◌, ◌↔◌, IfOk, Some, None, List, [], take};
 ghost use Rattle.std.specs.List.{All};
+ghost use Rattle.cstn_net.specs.Limits.{most_load};
 ghost use Rattle.cstn_net.specs.Networks.{count};
 ghost use Rattle.cstn_net.specs.Strategies.{IsConsistent};
 ghost use Rattle.cstn_net.specs.Read.{the_network};
@@ -53,7 +54,7 @@ impl Check {
     /// fails only where memory is refused, and drops the network then.
     pub fn start(alloc: Global, net: Network, cap: u32) -> Result<Check, AllocError>
         requires some { 1 ≤ cap }
-        requires most { cap ≤ 4194304 }
+        requires most { cap ≤ most_load }
         ensures start { IfOk result (λ check. check ≡ record { net = net; cap = cap; verdict = None; tries = 0 }) }
     {
         let log = Log::start(alloc, &net, cap)?;

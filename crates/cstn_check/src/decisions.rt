@@ -1,5 +1,6 @@
 // What is said of the verdict on a network.
 ghost use Rattle.std.specs.Prelude.{ℕ, ◌≡◌, ◌≤◌, ◌++◌, IfOk, Some, length, codes, decimal};
+ghost use Rattle.cstn_net.specs.Limits.{most_load};
 ghost use Rattle.cstn_net.specs.Networks.{IsWellFormed, count};
 ghost use Rattle.cstn_net.specs.Read.{the_network};
 ghost use Rattle.cstn_check.specs.Growth.{log_of, load_of};
@@ -28,7 +29,7 @@ pub enum Judged {
 /// Checks a network, whose log may have `cap` entries. Fails for want of memory alone.
 pub fn judge(alloc: Global, network: Network, names: &Names, cap: u32) -> Result<Judged, AllocError>
     requires some { 1 ≤ cap }
-    requires most { cap ≤ 4194304 }
+    requires most { cap ≤ most_load }
     requires well_formed { IsWellFormed (the_network network) }
     requires named { length names.now ≡ count (the_network network) }
     ensures judged { IfOk result (TellsVerdict cap names.now network) }
@@ -64,7 +65,7 @@ pub fn check_text(
     cap: u32,
 ) -> Result<Said, AllocError>
     requires some { 1 ≤ cap }
-    requires most { cap ≤ 4194304 }
+    requires most { cap ≤ most_load }
     requires well_formed { IsWellFormed (the_network network) }
     requires named { length names.now ≡ count (the_network network) }
     ensures said { IfOk result (λ said. the_said said ≡ checked cap names.now (the_network network)) }

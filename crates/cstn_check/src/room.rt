@@ -1,6 +1,7 @@
 // Whether a log can be full at all.
 ghost use Rattle.std.specs.Prelude.{◌≡◌, ◌≤◌, true};
 ghost use Rattle.std.specs.Option.{option_map};
+ghost use Rattle.cstn_net.specs.Limits.{most_load};
 ghost use Rattle.cstn_net.specs.Read.{the_network};
 ghost use Rattle.cstn_check.specs.Growth.{most_entries};
 ghost use Rattle.cstn_check.specs.Room.{factor};
@@ -10,7 +11,7 @@ use cstn_net::Network;
 
 /// No log of the network, or of the network with fewer constraints, can have more than `cap` entries.
 pub fn is_never_full(net: &Network, cap: u32) -> bool
-    requires most { cap ≤ 4194304 }
+    requires most { cap ≤ most_load }
     ensures within { result ≡ true → most_entries (the_network net.now) ≤ cap }
 {
     let mut most = net.count() as u64 * (net.deadline() as u64 + 2);

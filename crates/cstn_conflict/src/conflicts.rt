@@ -1,6 +1,7 @@
 // The conflict set of a network. A set is checked only where the last no leaves open whether it is refuted within the cap.
 ghost use Rattle.std.specs.Prelude.{ℕ, ◌≡◌, ◌<◌, ◌≤◌, true, false, IfOk, IsOk, IsErrOf, length};
 ghost use Rattle.std.specs.List.{All, AllPairs, Contains};
+ghost use Rattle.cstn_net.specs.Limits.{most_load};
 ghost use Rattle.cstn_net.specs.Networks.{count};
 ghost use Rattle.cstn_net.specs.Strategies.{IsConsistent};
 ghost use Rattle.cstn_net.specs.Read.{the_network};
@@ -35,7 +36,7 @@ pub struct Conflict {
 /// The refutation is that of the check of the network with the conflict set. The network is dropped, also on failure.
 pub fn smallest(alloc: Global, net: Network, cap: u32) -> Result<Conflict, ConflictError>
     requires some { 1 ≤ cap }
-    requires most { cap ≤ 4194304 }
+    requires most { cap ≤ most_load }
     // But for want of memory, it fails exactly where the network is consistent or a log is full.
     ensures consistent { (load : ℕ) → IsErrOf result (ConflictError.Consistent load)
         → (load ≡ load_of (the_network net)) × (load_of (the_network net) ≤ cap) × IsConsistent (the_network net) }
@@ -76,7 +77,7 @@ fn left_over(
     cap: u32,
 ) -> Result<(Network, Refutation), ConflictError>
     requires some { 1 ≤ cap }
-    requires most { cap ≤ 4194304 }
+    requires most { cap ≤ most_load }
     requires ids { ids.now ≡ ids_of (the_network net) }
     requires ascending { AllPairs (λ a b. a < b) ids.now }
     requires first { IsNoOn cap (the_network net) ids.now first }

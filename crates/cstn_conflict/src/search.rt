@@ -1,6 +1,7 @@
 // The search for a conflict set: what a no leaves for it, and one trial.
 ghost use Rattle.std.specs.Prelude.{ℕ, ◌≡◌, ◌<◌, ◌≤◌, true, false, length, get_or, Some, None, IsOk, IsErrOf, IfOk, IfSome, List};
 ghost use Rattle.std.specs.List.{AllPairs};
+ghost use Rattle.cstn_net.specs.Limits.{most_load};
 ghost use Rattle.cstn_net.specs.Read.{the_network};
 ghost use Rattle.cstn_net.specs.Strategies.{IsConsistent};
 ghost use Rattle.cstn_rules.specs.Derivations.{Entry};
@@ -32,7 +33,7 @@ pub(crate) struct No {
 impl No {
     // What the check leaves; a log may have `cap` entries.
     fn of(alloc: Global, check: &Check, ids: &[u32], cap: u32) -> Result<No, AllocError>
-        requires most { cap ≤ 4194304 }
+        requires most { cap ≤ most_load }
         requires ascending { AllPairs (λ a b. a < b) ids.now }
         requires no { (load : ℕ) × (check.now.verdict ≡ Some (Verdict.No load)) }
         ensures decides { IfOk result (λ no. (list : List Entry) × Decides cap (the_network check.now.net) no.roomy list
@@ -73,7 +74,7 @@ impl No {
 // full. The network is dropped then.
 fn refuting_check(alloc: Global, net: Network, cap: u32) -> Result<Check, ConflictError>
     requires some { 1 ≤ cap }
-    requires most { cap ≤ 4194304 }
+    requires most { cap ≤ most_load }
     ensures consistent { (load : ℕ) → IsErrOf result (ConflictError.Consistent load)
         → (load ≡ load_of (the_network net)) × (load_of (the_network net) ≤ cap) × IsConsistent (the_network net) }
     ensures full { IsErrOf result ConflictError.Full → cap < load_of (the_network net) }
@@ -95,7 +96,7 @@ fn refuting_check(alloc: Global, net: Network, cap: u32) -> Result<Check, Confli
 /// The network is dropped.
 pub(crate) fn no_on(alloc: Global, net: Network, ids: &[u32], cap: u32) -> Result<No, ConflictError>
     requires some { 1 ≤ cap }
-    requires most { cap ≤ 4194304 }
+    requires most { cap ≤ most_load }
     requires ascending { AllPairs (λ a b. a < b) ids.now }
     ensures consistent { (load : ℕ) → IsErrOf result (ConflictError.Consistent load)
         → (load ≡ load_of (the_network net)) × (load_of (the_network net) ≤ cap) × IsConsistent (the_network net) }
@@ -116,7 +117,7 @@ fn no_without(
     cap: u32,
 ) -> Result<No, ConflictError>
     requires some { 1 ≤ cap }
-    requires most { cap ≤ 4194304 }
+    requires most { cap ≤ most_load }
     requires ascending { AllPairs (λ a b. a < b) ids.now }
     ensures consistent { (load : ℕ) → IsErrOf result (ConflictError.Consistent load)
         → (load_of (without id (the_network net.now)) ≤ cap) × IsConsistent (without id (the_network net.now)) }
@@ -141,7 +142,7 @@ pub(crate) fn leave_out(
     cap: u32,
 ) -> Result<(), ConflictError>
     requires some { 1 ≤ cap }
-    requires most { cap ≤ 4194304 }
+    requires most { cap ≤ most_load }
     requires ascending { AllPairs (λ a b. a < b) ids.now }
     requires inside { k < length ids.now }
     requires last { IsNoOn cap (the_network net.old) ids.now last.old }
@@ -178,7 +179,7 @@ pub(crate) fn refutation_of(
     cap: u32,
 ) -> Result<Refutation, ConflictError>
     requires some { 1 ≤ cap }
-    requires most { cap ≤ 4194304 }
+    requires most { cap ≤ most_load }
     requires refuted { is_consistent (the_network net.now) ≡ false }
     requires within { load_of (the_network net.now) ≤ cap }
     requires kept { IfSome kept (IsRefutationOf (the_network net.now)) }

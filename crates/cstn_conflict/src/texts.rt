@@ -1,6 +1,7 @@
 // The constraints to blame for a no.
 ghost use Rattle.std.specs.Prelude.{◌≡◌, ◌≤◌, ◌<◌, ◌++◌, ◌∷◌, IfOk, length, flat_map, decimal, OnOk};
 ghost use Rattle.std.specs.List.{All};
+ghost use Rattle.cstn_net.specs.Limits.{most_load};
 ghost use Rattle.cstn_net.specs.Networks.{IsWellFormed, count};
 ghost use Rattle.cstn_net.specs.Read.{the_network};
 ghost use Rattle.cstn_refute.specs.Refutations.{the_steps};
@@ -27,7 +28,7 @@ pub fn conflict_text(
     cap: u32,
 ) -> Result<Said, AllocError>
     requires some { 1 ≤ cap }
-    requires most { cap ≤ 4194304 }
+    requires most { cap ≤ most_load }
     requires well_formed { IsWellFormed (the_network network) }
     requires named { length names.now ≡ count (the_network network) }
     ensures said { IfOk result (λ said. the_said said ≡ blamed cap names.now (the_network network)) }

@@ -2,6 +2,7 @@ ghost use Rattle.std.specs.Prelude.{List, ◌≡◌, ◌⊎◌, ◌<◌, ◌≤�
 ghost use Rattle.std.specs.Prelude.{IfNone, IfOk, IfSome, IsErr, IsOk, OnErr, slice_get, slice_index_or};
 ghost use Rattle.cstn_label.specs.Read.{the_bound};
 ghost use Rattle.std.specs.List.{Contains};
+ghost use Rattle.cstn_net.specs.Limits.{most_load};
 ghost use Rattle.cstn_net.specs.Networks.{Network as TheNetwork, Constraint, IsNetwork, count};
 ghost use Rattle.cstn_net.specs.Strategies.{Table, IsStrategy};
 ghost use Rattle.cstn_net.specs.Bounds.{HoldsIn};
@@ -82,7 +83,7 @@ impl Log {
     /// number. Fails for want of memory alone.
     pub fn start(alloc: Global, net: &Network, cap: u32) -> Result<Log, AllocError>
         requires some { 1 ≤ cap }
-        requires most { cap ≤ 4194304 }
+        requires most { cap ≤ most_load }
         ensures start { IfOk result (λ log. the_entries log.entries ≡ first_entries (the_network net.now) cap) }
         ensures size { IfOk result (λ log. (log.cap ≡ cap) × (log.nodes ≡ count (the_network net.now))) }
         ensures births { IfOk result (λ log. log.births ≤ count (the_network net.now)) }
@@ -104,7 +105,7 @@ impl Log {
         cap: u32,
         watched: Vec<Option<Prop>>,
     ) -> Result<Log, AllocError>
-        requires { cap ≤ 4194304 }
+        requires { cap ≤ most_load }
         ensures { IfOk result (λ log. log ≡ record { entries = []; ids = []; births = 0; cap = cap; nodes = nodes }) }
     {
         let minimal = MinSet::start(alloc, nodes, cap)?;
@@ -220,7 +221,7 @@ impl Log {
     pub fn len(&self) -> u32
         ensures len { result ≡ length self.now.entries }
         ensures at_most { result ≤ self.now.cap }
-        ensures largest { self.now.cap ≤ 4194304 }
+        ensures largest { self.now.cap ≤ most_load }
         ensures all_new { AllNew self.now.entries }
     {
         self.list.len() as u32

@@ -3,6 +3,7 @@
 ghost use Rattle.std.specs.Prelude.{ℕ, ◌≡◌, ◌⊎◌, ◌<◌, ◌≤◌, ◌+◌, ◌*◌, ◌/◌, ◌%◌, [], Some, true, length, slice_get, IfOk, IfSome, IfNone};
 ghost use Rattle.cstn_label.specs.Labels.{IsMarked};
 ghost use Rattle.cstn_label.specs.Read.{marks};
+ghost use Rattle.cstn_net.specs.Limits.{most_load};
 ghost use Rattle.cstn_log.specs.Blocks.{has_number};
 ghost use Rattle.cstn_log.specs.PlaceSets.{no_block, number_at, HasInCell, HasPlace, IsPartOf, room_of};
 ghost use Rattle.cstn_log.specs.declared.sets.Part.{Part as ThePart};
@@ -40,7 +41,7 @@ pub struct PlaceSets {
 impl PlaceSets {
     // Sets with no place, and room for places below this.
     pub fn empty(alloc: Global, cap: u32) -> Result<PlaceSets, AllocError>
-        requires { cap ≤ 4194304 }
+        requires { cap ≤ most_load }
         ensures none { IfOk result (λ s. s.numbers.items ≡ []) }
         ensures room { IfOk result (λ s. cap / 4096 * 52 + 52 ≤ room_of s) }
     {

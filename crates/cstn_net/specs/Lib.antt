@@ -1,3 +1,4 @@
+pub mod Limits
 pub mod Networks
 pub mod Strategies
 pub mod Scenarios

@@ -1,3 +1,4 @@
+pub mod Limits
 pub mod Refutations
 pub mod Steps
 pub mod Texts

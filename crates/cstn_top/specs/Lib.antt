@@ -12,7 +12,6 @@ pub mod LabelledDeadlines
 pub mod FollowedPlans
 pub mod FollowedAnswers
 -- What the commands share.
-pub mod Limits
 pub mod Plans
 pub mod Answers
 pub mod Verdicts
