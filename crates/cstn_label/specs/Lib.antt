@@ -1,6 +1,8 @@
-pub mod Marks
+-- Labels and bounds, and the letters of propositions.
 pub mod Labels
+pub mod Marks
 pub mod Bounds
 pub mod Letters
+-- How the program has them: as words.
 pub mod Words
 pub mod Read
