@@ -1,37 +1,45 @@
+-- The tests, and lists that grow at the end.
 pub mod Decided
 pub mod Lists
+-- What growth makes: a derivation that is closed at its end.
 pub mod Grows
 pub mod GoodLemmas
 pub mod Derives
 pub mod Closes
 pub mod Bounded
-pub mod Last
-pub mod Decides
 pub mod InRange
-mod Examples
+pub mod Last
+-- How far growth has come, and what its list decides.
+pub mod Starts
 pub mod Ends
+pub mod Decides
+mod Examples
+-- Turns as the program takes them.
 pub mod TestLemmas
 pub mod Reading
 pub mod TurnLemmas
+pub mod WalkLemmas
+pub mod Outcomes
+-- Instances that are passed over.
 pub mod Sequences
+pub mod Growing
 pub mod Skips
 pub mod ChainSkips
-pub mod WalkLemmas
-pub mod Growing
-pub mod Starts
-pub mod Outcomes
-pub mod Answering
+pub mod SpentLemmas
+-- How many rules are tried.
+pub mod CostLemmas
+pub mod TryLemmas
+pub mod FloorLemmas
+-- Checks and their verdicts.
 pub mod VerdictLemmas
 pub mod Keeping
 pub mod PlanLemmas
 pub mod PartLemmas
-pub mod SpentLemmas
-pub mod CostLemmas
-pub mod TryLemmas
-pub mod FloorLemmas
+pub mod Answering
+pub mod Deciding
+-- Laws: lower deadlines, fewer constraints, room.
 pub mod DeadlineLemmas
 pub mod Idle
-pub mod Deciding
-pub mod RoomLemmas
 pub mod Fewer
 pub mod Standing
+pub mod RoomLemmas

@@ -1,16 +1,20 @@
+-- How a list of bounds is grown, and by which tests.
 pub mod Tests
-pub mod Growth
 pub mod Relations
-pub mod Spent
-pub mod Givers
-pub mod Tries
+pub mod Growth
 pub mod Examples
+-- What its turns make of a list, and how many rules they try.
 pub mod Kept
 pub mod Turns
+pub mod Spent
 pub mod Waits
 pub mod Floors
+pub mod Tries
+-- Checks, and what their verdicts say.
 pub mod Checks
-pub mod Deadlines
 pub mod Verdicts
 pub mod Decisions
+-- What a list tells beyond its verdict.
+pub mod Givers
+pub mod Deadlines
 pub mod Room

@@ -1,10 +1,14 @@
+-- One token at a time.
 pub mod Places
 pub mod PassedOver
+-- One element at a time.
 pub mod Folds
 pub mod ChildLemmas
-pub mod DatumRead
 pub mod Wholes
 pub mod Judging
 pub mod Tops
+-- Data elements.
+pub mod DatumRead
 pub mod TextsRead
+-- Laws of reading in turn.
 pub mod InTurn

@@ -1,9 +1,12 @@
+-- Refusals, and what the elements of a document mean.
 pub mod Results
 pub mod Contents
 pub mod Elements
-pub mod DataElementSeen
+-- How the program reads them.
 pub mod Faults
 pub mod Reads
 pub mod Children
 pub mod Passing
+pub mod DataElementSeen
+-- What the laws say of reading in turn.
 pub mod InTurn

@@ -1,7 +1,10 @@
+-- What has happened, and how it may go on.
 pub mod Histories
 pub mod Continuations
-pub mod Rest
-pub mod Examples
-pub mod Read
 pub mod Facts
+-- What is left of the network.
+pub mod Rest
 pub mod Handed
+pub mod Examples
+-- How the program's history is read.
+pub mod Read

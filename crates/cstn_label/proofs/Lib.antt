@@ -1,6 +1,8 @@
+-- Words, marks and labels.
 pub mod WordLemmas
 pub mod MarkLemmas
 pub mod LabelLemmas
-pub mod PlainLabels
+-- What the program has.
 pub mod ReadLemmas
 pub mod KnownLemmas
+pub mod PlainLabels

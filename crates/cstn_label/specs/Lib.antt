@@ -1,7 +1,10 @@
+-- The limits.
 pub mod Limits
+-- Labels and bounds, and the letters of propositions.
 pub mod Marks
 pub mod Labels
 pub mod Bounds
 pub mod Letters
+-- How the program has them: as words.
 pub mod Words
 pub mod Read

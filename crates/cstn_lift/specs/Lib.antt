@@ -1,10 +1,15 @@
+-- Networks whose time-points have labels.
 pub mod Labelled
 pub mod Completion
 pub mod WellFormed
-pub mod Lowered
+-- Their strategies.
 pub mod Strategies
 pub mod Scenarios
+-- The plain network that is made of one.
+pub mod Lowered
 pub mod Kept
-pub mod Faults
-pub mod Read
+-- What a builder holds, and what keeps it from being a labelled network.
 pub mod Handed
+pub mod Faults
+-- How the program's values are read.
+pub mod Read

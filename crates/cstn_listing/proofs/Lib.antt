@@ -1,2 +1,3 @@
+-- Their lines, and names that were printed.
 pub mod NameLemmas
 pub mod ListingLemmas

@@ -1,1 +1,2 @@
+-- Texts that list things.
 pub mod Listings

@@ -1,17 +1,22 @@
+-- Words as sets, and lists.
 pub mod BitLemmas
+pub mod ListLemmas
+pub mod ChoiceLemmas
+-- A log that grows.
+pub mod LiveLemmas
 mod BlockLemmas
 pub mod PlaceSetLemmas
-pub mod ListLemmas
-pub mod LiveLemmas
 pub mod KeptLemmas
 pub mod PushLemmas
-pub mod LeftLemmas
+-- Its entries as a derivation.
 pub mod BornLemmas
 pub mod DerivedLemmas
-pub mod ChoiceLemmas
+-- Logs that are cut.
+pub mod LeftLemmas
 pub mod CutLemmas
 pub mod MarkLemmas
 pub mod AncestorLemmas
 pub mod StepLemmas
+-- Lists that are kept, and put in again.
 pub mod ListedLemmas
 pub mod PutLemmas

@@ -1,12 +1,16 @@
+-- The limits.
 pub mod Limits
+-- Networks and their strategies.
 pub mod Networks
 pub mod Strategies
 pub mod Scenarios
 pub mod Bounds
-pub mod Read
-pub mod Observers
 pub mod Examples
+-- Networks as the program has them.
+pub mod Read
+pub mod Links
+pub mod Observers
+-- What a builder holds, and what keeps it from being a network.
 pub mod Faults
 pub mod Drafts
-pub mod Links
 pub mod Handed

@@ -1,5 +1,7 @@
+-- What is next, in the terms of bounds.
 pub mod Lists
 pub mod Coming
 pub mod Exact
+-- How the program finds it.
 mod Filled
 mod Told

@@ -1,1 +1,2 @@
+-- What is next, by the bounds of a plan.
 pub mod Next

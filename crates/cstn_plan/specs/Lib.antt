@@ -1,2 +1,3 @@
+-- The moments that bounds ask for, and plans.
 pub mod Asked
 pub mod Plans

@@ -1,2 +1,3 @@
+-- Pools, and calls on them.
 pub mod Slots
 pub mod Calls

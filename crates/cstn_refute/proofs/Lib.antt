@@ -1,6 +1,8 @@
-mod OrderLemmas
+-- Texts, printed and read back.
 mod PrintLemmas
 pub mod BoundLemmas
 mod BackLemmas
-mod SaidLemmas
 mod WrittenLemmas
+-- What a text says.
+mod SaidLemmas
+mod OrderLemmas

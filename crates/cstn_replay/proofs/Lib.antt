@@ -1,5 +1,7 @@
+-- One step.
 mod SameLemmas
 mod IdLemmas
 mod StepLemmas
+-- All steps, and what is said.
 mod ReplayLemmas
 mod Saying

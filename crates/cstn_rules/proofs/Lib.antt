@@ -1,4 +1,6 @@
+-- Where conclusions are.
+mod OptionLemmas
+pub mod Shapes
+-- The rules are sound.
 pub mod Sound
 pub mod Derived
-pub mod Shapes
-mod OptionLemmas

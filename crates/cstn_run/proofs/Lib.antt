@@ -1,9 +1,12 @@
+-- What a guide names.
 pub mod Names
 pub mod Runs
+pub mod Planned
+-- What is accepted.
 pub mod Moments
 pub mod Accepting
+pub mod Outcomes
+-- Whole sessions.
 pub mod Carrying
 pub mod Ending
 pub mod Plain
-pub mod Planned
-pub mod Outcomes

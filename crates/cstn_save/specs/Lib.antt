@@ -1,2 +1,3 @@
+-- The canonical document, and what is read of it.
 pub mod Canonical
 pub mod ReadBack

@@ -1,10 +1,14 @@
+-- The limits.
 pub mod Limits
+-- What stands in a line: names, numbers, labels.
 pub mod Names
 pub mod Numbers
 pub mod PrintedNames
 pub mod PrintedLabels
 pub mod Readings
-pub mod Parts
+-- How a text is cut, and how it grows.
 pub mod Cuts
+pub mod Parts
 pub mod Pushes
+-- How names are found.
 pub mod NameKeys

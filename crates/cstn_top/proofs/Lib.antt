@@ -1,44 +1,33 @@
-pub mod Dispatched
-pub mod Documents
-pub mod Labels
-pub mod Drills
-pub mod Edited
-pub mod EvidenceLemmas
-pub mod Hosts
-pub mod Meanings
-pub mod Opening
-pub mod Trees
-pub mod Endings
-pub mod Runs
-pub mod Accepted
-pub mod Played
-pub mod Proved
-pub mod records
-pub mod Dispatch
-pub mod Calls
-pub mod Told
-pub mod EditTexts
-pub mod EditSessions
-pub mod LabelledDeadlines
-pub mod HeadlineLemmas
-pub mod HeadlineCalls
-pub mod OneOutput
-pub mod SomeFault
-pub mod SomeOutput
-pub mod Replayed
-pub mod Comes
-pub mod DocumentNames
+-- Texts that are written, and read back.
 pub mod Lengths
 pub mod Listing
 pub mod ReadBack
+-- What is said of a network stands for it.
 pub mod Standing
-pub mod GuidedRuns
-pub mod ReadAll
-pub mod ReadFiles
-pub mod BegunHosts
-pub mod Hosted
+pub mod SomeFault
+pub mod Trees
 pub mod Sayings
+pub mod Edited
+-- Documents, and what is told of their networks.
+pub mod DocumentNames
+pub mod Documents
+pub mod Labels
+pub mod Accepted
+pub mod Meanings
+-- What a request asks, and what is prepared for it.
+pub mod Comes
+pub mod Opening
+pub mod ReadFiles
+pub mod ReadAll
+pub mod Drills
+pub mod Hosts
+pub mod Hosted
+pub mod BegunHosts
+pub mod Runs
+pub mod GuidedRuns
+pub mod Played
 pub mod Preparing
+-- Sessions that follow.
 pub mod FollowedDocuments
 pub mod FollowedLines
 pub mod FollowedFacts
@@ -47,5 +36,25 @@ pub mod FollowedPoints
 pub mod FollowedPlans
 pub mod FollowedAnswers
 pub mod FollowedRefusals
+-- What is proved of each request.
+pub mod EvidenceLemmas
+pub mod Dispatched
+pub mod SomeOutput
+pub mod Proved
+pub mod records
+pub mod Dispatch
+-- How a call ends, and what it tells.
+pub mod Endings
+pub mod Calls
+pub mod Told
+-- The headline, and what it says of edit sessions and deadlines.
+pub mod EditTexts
+pub mod EditSessions
+pub mod LabelledDeadlines
+pub mod HeadlineCalls
+pub mod HeadlineLemmas
+-- What is written is accepted when it is handed in again.
+pub mod OneOutput
+pub mod Replayed
 pub mod LeftDocuments
 pub mod LeftReplayed

@@ -1,23 +1,24 @@
--- What the clauses of `run` cite, in reading order.
-pub mod Told
-pub mod Command
-pub mod commands
-pub mod Dispatch
-pub mod Meanings
-pub mod Evidence
--- What the laws cite.
-pub mod Headline
-pub mod EditSessions
-pub mod LabelledDeadlines
-pub mod FollowedPlans
-pub mod FollowedAnswers
--- What the commands share.
+-- What is said and written for a request, as a plan.
 pub mod Plans
+pub mod Lines
 pub mod Answers
 pub mod Verdicts
 pub mod Accepted
-pub mod Lines
--- What the proofs use beside.
+-- What each command is.
+pub mod Command
+pub mod commands
+pub mod Dispatch
+-- What the clauses of `run` say.
+pub mod Meanings
+pub mod Evidence
+pub mod Told
+-- What the laws say.
+pub mod EditSessions
+pub mod Headline
+pub mod LabelledDeadlines
+pub mod FollowedPlans
+pub mod FollowedAnswers
+-- What is asked on the way to an answer.
 pub mod Prepared
 pub mod Begun
 pub mod Questions

@@ -1,21 +1,25 @@
+-- Trees, and the strategies that good ones stand for.
 pub mod TreeLemmas
 mod Standing
 mod Ways
 pub mod Strategies
+-- Lines that break.
 mod BranchLemmas
+mod Following
+mod StartLemmas
+mod BreakLemmas
 mod Checks
-mod PrintLemmas
-mod PartLemmas
-mod ReadLemmas
+-- The tree of a network.
 mod MakeLemmas
 mod MakingLemmas
-mod Following
 mod MadeTrees
 mod OneTree
 mod SameTree
 mod TreeLengths
+-- Texts of trees.
+mod PrintLemmas
+mod PartLemmas
+mod ReadLemmas
 mod BackLemmas
-mod StartLemmas
 mod SaidLemmas
-mod BreakLemmas
 mod SayingTrees

@@ -1,3 +1,4 @@
+-- Which words are a request.
 pub mod Limits
 pub mod Requests
 pub mod Read

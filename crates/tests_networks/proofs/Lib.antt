@@ -1,1 +1,2 @@
+-- The ids of constraints.
 pub mod Ids
