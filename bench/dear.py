@@ -22,7 +22,8 @@ def dear(letters, steps, unmet=False):
             its = [next(drawn) for _ in range(letters)]
             text += [node(f"o{letter}", letter) for letter in its]
             text += [node(name, seen if name == end else ""), after(name, "Z", 1)]
-            text.append(after(name, before, 2 if before == "Z" else 1, *(sign + it for it in its for sign in ("", "!"))))
+            signed = [sign + letter for letter in its for sign in ("", "!")]
+            text.append(after(name, before, 2 if before == "Z" else 1, *signed))
     text += [node("X"), after("X", "Z", 1), after("X", "D", 10, r + q, "!" + r + q), after("X", "Q", 2, r, "!" + r)]
     if unmet:
         text += [node("W"), after("W", "Z", 1), after("W", "W", 1)]
