@@ -1,5 +1,5 @@
 -- A reaction that was read is from 1 to 1,000 ticks.
-use Rattle.std.proofs.Common.{◌≡◌, ℕ, ◌<◌, List, [], ◌∷◌, Some, subst, arith}
+use Rattle.std.proofs.Common.{◌≡◌, ◌+◌, ℕ, ◌<◌, List, [], ◌∷◌, Some, subst, arith}
 use Rattle.std.specs.Prelude.{nat_lt, nat_le, length, ◌&&◌}
 use Rattle.std.proofs.lemmas.Bool.{ltb-true}
 use Rattle.cstn_net.specs.Limits.{most_reaction}

@@ -1,5 +1,5 @@
 -- Numbers as texts.
-use Rattle.std.specs.Prelude.{ℕ, ◌<◌, ◌≤◌, ◌&&◌, nat_lt, nat_le, List, ◌∷◌, [], length, drop, Option, Some, None, if◌then◌else◌, codes, ℤ, pos, neg_ℤ}
+use Rattle.std.specs.Prelude.{ℕ, ◌+◌, ◌<◌, ◌≤◌, ◌&&◌, nat_lt, nat_le, List, ◌∷◌, [], length, drop, Option, Some, None, if◌then◌else◌, codes, ℤ, pos, neg_ℤ}
 use Rattle.cstn_net.specs.Limits.{most_reaction}
 use Rattle.cstn_markup.specs.Bytes.{◌>>=◌, when, begins, past, number_after}
 

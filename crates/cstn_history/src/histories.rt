@@ -24,6 +24,7 @@ pub struct History {
 
 impl Model for History {
     ghost use Rattle.std.specs.Prelude.{◌≤◌};
+    ghost use Rattle.cstn_net.specs.Limits.{most_deadline};
     ghost use Rattle.cstn_history.specs.Read.{HistoryParts};
 
     ghost Value = { HistoryParts };

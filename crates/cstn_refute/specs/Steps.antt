@@ -1,5 +1,5 @@
 -- Steps as lines.
-use Rattle.std.specs.Prelude.{ℕ, ◌++◌, Bool, min, is_some, if◌then◌else◌, List, [], ◌∷◌, Option, None, Some, codes, bytes_eq, pos, slice_index_or}
+use Rattle.std.specs.Prelude.{ℕ, ◌-◌, ◌++◌, Bool, min, is_some, if◌then◌else◌, List, [], ◌∷◌, Option, None, Some, codes, bytes_eq, pos, slice_index_or}
 use Rattle.std.specs.Option.{option_and_then}
 use Rattle.cstn_label.specs.Bounds.{Bound}
 use Rattle.cstn_net.specs.Limits.{most_load}
