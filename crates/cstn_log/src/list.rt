@@ -9,6 +9,7 @@ ghost use Rattle.cstn_log.specs.Kept.{AreLeft, IsPooled, renewed};
 ghost use Rattle.cstn_log.specs.Cuts.{PremisesBelow, AllEarlier, IsClosedUnder, replaced, chosen};
 ghost use Rattle.cstn_log.specs.Lists.{Listing, AreApart, IsFiled, ids_in};
 
+use crate::caps::Cap;
 use cstn_label::Bound;
 use cstn_pool::{Full, Pool, SlotId};
 use cstn_rules::{Entry, Why};
@@ -48,18 +49,22 @@ impl Model for EntryList {
 
 impl EntryList {
     // A list with no entry, and room for this many.
-    pub fn empty(alloc: Global, cap: u32) -> Result<EntryList, AllocError>
-        requires { cap ≤ most_load }
-        ensures { IfOk result (λ list. list ≡ record { entries = []; ids = []; cap = cap; pool = record { slots = replicate cap None; births = 0 } }) }
+    pub fn empty(alloc: Global, cap: Cap) -> Result<EntryList, AllocError>
+        ensures { IfOk result (λ list. list ≡ record {
+          entries = [];
+          ids = [];
+          cap = cap.entries;
+          pool = record { slots = replicate cap.entries None; births = 0 };
+        }) }
     {
-        let pool = Pool::start(alloc, cap)?;
-        let slots = Vec::with_capacity(alloc, cap as usize)?;
-        let places = Vec::with_capacity(alloc, cap as usize)?;
+        let pool = Pool::start(alloc, cap.entries)?;
+        let slots = Vec::with_capacity(alloc, cap.entries as usize)?;
+        let places = Vec::with_capacity(alloc, cap.entries as usize)?;
         Ok(EntryList {
             pool,
             slots,
             places,
-            cap,
+            cap: cap.entries,
         })
     }
 

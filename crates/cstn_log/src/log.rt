@@ -18,6 +18,7 @@ ghost use Rattle.cstn_log.specs.Blocks.{has_number};
 ghost use Rattle.cstn_log.specs.PlaceSets.{IsMarkedAt, IsAtNode, AreMarked, AreStanding};
 
 use crate::blocks::Block;
+use crate::caps::Cap;
 use crate::cutting::{count_marked, cut, mark_ancestors, mark_staying};
 use crate::list::EntryList;
 use crate::putting::{clear, place_all};
@@ -81,18 +82,16 @@ impl Model for Log {
 impl Log {
     /// The log that has the base bounds of the network, or nothing where `cap` is below their
     /// number. Fails for want of memory alone.
-    pub fn start(alloc: Global, net: &Network, cap: u32) -> Result<Log, AllocError>
-        requires some { 1 ≤ cap }
-        requires most { cap ≤ most_load }
-        ensures start { IfOk result (λ log. the_entries log.entries ≡ first_entries (the_network net.now) cap) }
-        ensures size { IfOk result (λ log. (log.cap ≡ cap) × (log.nodes ≡ count (the_network net.now))) }
+    pub fn start(alloc: Global, net: &Network, cap: Cap) -> Result<Log, AllocError>
+        ensures start { IfOk result (λ log. the_entries log.entries ≡ first_entries (the_network net.now) cap.entries) }
+        ensures size { IfOk result (λ log. (log.cap ≡ cap.entries) × (log.nodes ≡ count (the_network net.now))) }
         ensures births { IfOk result (λ log. log.births ≤ count (the_network net.now)) }
         ensures derivation { IfOk result (λ log. IsDerivation (the_network net.now) (the_entries log.entries)) }
     {
         let nodes = net.count();
         let watched = all_watched(alloc, net)?;
         let mut log = Log::empty(alloc, nodes, cap, watched)?;
-        if nodes as u32 <= cap {
+        if nodes as u32 <= cap.entries {
             log.push_bases(net);
         }
         Ok(log)
@@ -102,17 +101,16 @@ impl Log {
     fn empty(
         alloc: Global,
         nodes: u16,
-        cap: u32,
+        cap: Cap,
         watched: Vec<Option<Prop>>,
     ) -> Result<Log, AllocError>
-        requires { cap ≤ most_load }
-        ensures { IfOk result (λ log. log ≡ record { entries = []; ids = []; births = 0; cap = cap; nodes = nodes }) }
+        ensures { IfOk result (λ log. log ≡ record { entries = []; ids = []; births = 0; cap = cap.entries; nodes = nodes }) }
     {
-        let minimal = MinSet::start(alloc, nodes, cap)?;
+        let minimal = MinSet::start(alloc, nodes, cap.entries)?;
         let list = EntryList::empty(alloc, cap)?;
         let marking = PlaceSets::empty(alloc, cap)?;
         let standing = PlaceSets::empty(alloc, cap)?;
-        let marks = Vec::with_capacity(alloc, cap as usize)?;
+        let marks = Vec::with_capacity(alloc, cap.entries as usize)?;
         let hints = vec![in alloc; 0; HINTS]?;
         Ok(Log {
             minimal,

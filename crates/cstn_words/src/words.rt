@@ -5,9 +5,11 @@ ghost use Rattle.cstn_net.specs.Limits.{most_load};
 ghost use Rattle.cstn_words.specs.Requests.{number_within, value_at, option_at, deadline_at, cap_at, deadline_of, cap_of};
 ghost use Rattle.cstn_words.specs.Requests.{asked_of, capped_of, capped_at, checked_of, drill_of, request_at};
 ghost use Rattle.cstn_words.specs.Requests.{hosted_of, host_of};
+ghost use Rattle.cstn_words.specs.Limits.{usual_cap};
 ghost use Rattle.cstn_words.specs.Read.{the_asked, the_capped, the_taken, the_request, request_in};
 
-use crate::{Cap, HostFiles};
+use crate::HostFiles;
+use cstn_log::Cap;
 use cstn_net::{MAX_DEADLINE, MAX_LOAD};
 use cstn_text::read_number;
 
@@ -80,8 +82,6 @@ struct Taken<'a> {
     value: Option<u64>,
     rest: &'a [String],
 }
-
-const USUAL_CAP: u32 = 65_536;
 
 const MAX_HOST_CAP: u64 = 65_536;
 
@@ -262,10 +262,10 @@ fn cap_of(words: &[String]) -> Option<Cap>
 fn cap_or_usual(value: Option<u64>) -> Cap
     requires some { IfSome value (λ n. 1 ≤ n) }
     requires most { IfSome value (λ n. n ≤ most_load) }
-    ensures cap { result.entries ≡ unwrap_or value USUAL_CAP }
+    ensures cap { result.entries ≡ unwrap_or value usual_cap }
 {
     match value {
-        None => Cap { entries: USUAL_CAP },
+        None => Cap::USUAL,
         Some(n) => Cap { entries: n as u32 },
     }
 }
