@@ -156,9 +156,9 @@ def plain_examples():
                 yield name, path
 
 
-def count(tables):
+def count(tables, needs_program=True):
     """Gives each table a folder of its own, tells its seconds, and says last how many cases passed."""
-    if not os.path.isfile(PROGRAM):
+    if needs_program and not os.path.isfile(PROGRAM):
         print(f"{NAME}: there is no program {PROGRAM}")
         print(f"{NAME}: 0 passed, 1 failed")
         return 1

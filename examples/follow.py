@@ -1,7 +1,7 @@
 #!/usr/bin/env python3
 """Follows a plan whose events come late and early, is killed halfway, and goes on from its journal.
 
-    examples/follow.py PROGRAM          PROGRAM is crates/cstn/out/cstn
+    examples/follow.py PROGRAM          PROGRAM is what `./cstn --program` writes
 
 What happens is told line by line. Each fact and edit that is accepted is put into the journal before anything rests on it:
 said again, the journal brings the session back, also with a larger cap. Its first line says to what it belongs, and is not told.
