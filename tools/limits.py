@@ -219,7 +219,7 @@ def waits(net, observer):
     letter = net.observed[observer]
     for number in net.ties[observer]:
         source, target, most, _ = net.constraints[number]
-        is_wait = target == observer and most < 0 and source != observer and net.is_ever(number)
+        is_wait = target == observer and most < 0 and source != observer and number not in net.never
         if is_wait and letter not in net.executed[source]:
             yield number, source, -most
 
@@ -265,7 +265,7 @@ def tell_disagreeing(net):
 
 def tell_never(net):
     """The constraints that are never in force, since their labels exclude each other, as data and in words."""
-    found = [number for number in range(len(net.constraints)) if not net.is_ever(number)]
+    found = sorted(net.never)
     lines = [f"{net.called(number)}: {constraint(*net.constraints[number])}" for number in found]
     if lines:
         lines.insert(0, "Never in force, since the label of each and those of its time-points exclude each other:")
@@ -276,7 +276,8 @@ def repeating(net):
     """The constraints by which a time-point waits for an outcome for which its label makes it wait anyhow, as long."""
     for number, (source, target, most, _) in enumerate(net.constraints):
         letter = net.observed.get(target)
-        if letter and letter in net.executed[source] and most == -net.reaction(target) and net.is_ever(number):
+        repeats = letter and letter in net.executed[source] and most == -net.reaction(target)
+        if repeats and number not in net.never:
             yield number, source, target
 
 

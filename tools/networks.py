@@ -108,16 +108,17 @@ class Network:
         return [self.completed(literals(label + self.labels.get(source, "") + self.labels.get(target, "")))
                 for source, target, _, label in self.constraints]
 
-    def is_ever(self, number):
-        """Whether a constraint is ever in force."""
-        return None not in self.forces[number].values()
+    @functools.cached_property
+    def never(self):
+        """The constraints that are never in force."""
+        return {number for number, marks in enumerate(self.forces) if None in marks.values()}
 
     @functools.cached_property
     def marks(self):
         """For each time-point the labels of the constraints that say when it may come, after or before another."""
         found = {}
         for number, (source, target, most, _) in enumerate(self.constraints):
-            if self.is_ever(number):
+            if number not in self.never:
                 marks = self.forces[number]
                 found.setdefault(source if most < 0 else target, {})[written(marks)] = marks
         return {name: list(each.values()) for name, each in found.items()}
@@ -135,7 +136,7 @@ class Network:
         if not self.labels:
             return [(number, *parts) for number, parts in enumerate(self.constraints)]
         found = [(number, source, target, most, written(self.forces[number]))
-                 for number, (source, target, most, _) in enumerate(self.constraints) if self.is_ever(number)]
+                 for number, (source, target, most, _) in enumerate(self.constraints) if number not in self.never]
         for name in self.names:
             marks = self.executed[name]
             for letter in sorted(marks):
@@ -152,7 +153,7 @@ class Network:
                    "label": self.labels.get(name, "")} for name in self.names]
         constraints = [{"id": number, "line": rows[number], "from": source, "to": target, "at_most": most,
                         "label": label, "says": constraint(source, target, most, label),
-                        "counts": written(self.forces[number]) if self.is_ever(number) else None,
+                        "counts": None if number in self.never else written(self.forces[number]),
                         "for_a_label": number in self.waits}
                        for number, (source, target, most, label) in enumerate(self.constraints)]
         return {"deadline": self.deadline, "time_points": points, "constraints": constraints}
@@ -226,11 +227,15 @@ def network_in_words(net):
 def tied_to_one_case(net):
     """Each time-point without a label that is tied to time-points of one case alone, by their labels, with it."""
     for name in [it for it in net.names if it != "Z" and it not in net.labels]:
-        marks = [{it for it in net.forces[number].items() if it[0] not in literals(net.constraints[number][3])}
-                 for number in net.ties[name]]
-        common = dict(set.intersection(*marks)) if marks else {}
-        if common and None not in common.values():
-            yield name, written(common)
+        common = None
+        for number in net.ties[name]:
+            own = literals(net.constraints[number][3])
+            marks = {it for it in net.forces[number].items() if it[0] not in own}
+            common = marks if common is None else common & marks
+            if not common:
+                break
+        if common and None not in dict(common).values():
+            yield name, written(dict(common))
 
 
 def tell_unlabelled(net):
@@ -248,7 +253,7 @@ def counts_where(net, number):
         return ""
     source, target, _, label = net.constraints[number]
     marks, own = net.forces[number], literals(label)
-    if None in marks.values():
+    if number in net.never:
         return " (never in force: its label and those of its time-points exclude each other)"
     added = {letter: value for letter, value in marks.items() if letter not in own}
     near = {source, target, *(net.observers[letter] for letter in marks if letter in net.observers)}

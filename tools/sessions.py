@@ -4,7 +4,7 @@ import re
 
 from asking import MOST_TRIED, Asked, kept
 from conflicts import tell_giving_way
-from following import REST, awaited, rests, stuck, tell_followed
+from following import awaited, rests, stuck, tell_followed
 from networks import Network, ticks
 from refutations import Refutation, accepted_no
 from tries import CHECKS_OF_A_LIMIT, MOST_LIMITS, awaiting, giving_way
@@ -75,12 +75,21 @@ def tell_left(rest):
     return {"limits_left": limits}, missed + lines
 
 
+def documents_by_line(text):
+    """The documents that `rest` wrote, by the lines at which they begin."""
+    found, line, at = {}, 0, 0
+    for first, last in rests(text):
+        line += text.count("\n", at, first)
+        found[line], at = text[first:last], first
+    return found
+
+
 class HowFar:
     """By how much what is to blame was missed, as long as that is not much for the whole session."""
 
     def __init__(self, asked, text):
         self.asked, self.rows, self.spent = asked, text.split("\n"), 0
-        self.documents = {text.count("\n", 0, first): text[first:last] for first, last in rests(text)}
+        self.documents = documents_by_line(text)
 
     def tell(self, heard, numbers, at):
         """By the typed lines, or else by what `rest` wrote right behind the answer on this line, as data and words."""

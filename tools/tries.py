@@ -75,6 +75,8 @@ def instead(value, least, said, deadline):
     """The least value of a limit that would do, in words."""
     if least is not None:
         return f"{least} in place of {value}"
+    if value >= deadline:
+        return f"not tried, since the deadline, {deadline}, limits as much: say a later one by `--deadline N`"
     if said is False:
         return f"none up to the deadline, {deadline}: without this limit there is still a no, for another reason"
     return "not known, since a check could not be ended"
